@@ -1,4 +1,4 @@
-use Rattle.std.proofs.Common.{◌≡◌, ◌∙◌, Bool, Result, Ok, Err, sym, ap, subst}
+use Rattle.std.proofs.Common.{◌≡◌, ◌∙◌, Bool, true, Result, Ok, Err, List, sym, ap, subst}
 use Rattle.std.specs.Prelude.{IfOk, OnOk}
 use Rattle.std.specs.declared.alloc.AllocError.{AllocError}
 use Rattle.mac_words.specs.Told.{Told}
@@ -6,6 +6,8 @@ use Rattle.mac_words.specs.declared.resource_call.ResourceCall.{ResourceCall}
 use Rattle.res_calls.specs.Fetch.{Managers, Answer}
 use Rattle.res_calls.specs.Asked.{Served, served, telling}
 use Rattle.res_calls.specs.Fetching.{fetches}
+use Rattle.heap_calls.specs.Gone.{Gone, Tells}
+use Rattle.res_calls.specs.Gone.{gone_for}
 use Rattle.applications.specs.Trying.{resource_asked}
 use Rattle.applications.specs.Names.{Bindings}
 use Rattle.applications.specs.Replies.{TellsServed}
@@ -57,3 +59,14 @@ arm_after tell (Err e) P a after call x names s says is table called = tt
 arm_after tell (Ok tried) P a after call x names s says is table called =
     sym (says a after is) ∙ ap (λ (s : Served). s.after) table
     ∙ ap (λ (c : ResourceCall). (served (resource_asked c names) s).after) (sym called)
+
+-- and what the sink is told of it
+pub arm_purged : {K W : Type 0} (result : Result Tried AllocError) (call x : ResourceCall) (names : Bindings)
+    (s : Managers) (listens : K → Bool) (told : K → List Gone → Type 0) (old new : K) (gone : List Gone)
+    → OnOk result (W → ⊥) → ((W → ⊥) → listens old ≡ true → Tells told gone old new)
+    → gone ≡ gone_for (resource_asked x names) s → call ≡ x
+    → OnOk result (listens old ≡ true → Tells told (gone_for (resource_asked call names) s) old new)
+arm_purged (Err e) call x names s listens told old new gone host tells table called = tt
+arm_purged (Ok tried) call x names s listens told old new gone host tells table called = λ on.
+    subst (λ (purged : List Gone). Tells told purged old new)
+    (table ∙ ap (λ (c : ResourceCall). gone_for (resource_asked c names) s) (sym called)) (tells host on)

@@ -11,22 +11,30 @@ use Rattle.block_store.specs.Block.{sizes, free, fresh}
 use Rattle.heap_calls.specs.State.{Memory, fresh_memory}
 use Rattle.mac_words.specs.Told.{Told}
 use Rattle.heap_calls.specs.Asked.{Asked}
+use Rattle.heap_calls.specs.Busy.{served}
+use Rattle.heap_calls.specs.GoneBy.{gone_in}
 use Rattle.heap_calls.specs.Naming.{first_named, second_named}
-use Rattle.heap_calls.proofs.Tries.Elsewhere.{elsewhere, served-elsewhere}
+use Rattle.heap_calls.proofs.Tries.Elsewhere.{elsewhere, served-elsewhere, gone-elsewhere as heap-gone-elsewhere}
 use Rattle.script_text.specs.declared.script.Line.{Line}
 use Rattle.res_calls.specs.Files.{Resources}
 use Rattle.res_calls.specs.Fetch.{Managers, Reads}
 use Rattle.res_calls.specs.Own.{own_datum}
 use Rattle.res_calls.specs.Asked.{Served, named}
+use Rattle.res_calls.specs.Asked as finds
+use Rattle.res_calls.specs.Gone as purges
+use Rattle.res_calls.proofs.GoneElsewhere.{gone-elsewhere}
 use Rattle.segments.specs.Table.{table_in}
 use Rattle.segments.specs.Calls.{code_type}
 use Rattle.segments.specs.Asked.{Served as Jumped}
+use Rattle.segments.specs.Asked as jumps
+use Rattle.segments.specs.Gone as jump_purges
+use Rattle.segments.proofs.Purging.{gone-elsewhere as jump-gone-elsewhere}
 use Rattle.applications.specs.Trying.{Running, Blocks, Tried, once, asked, resource_asked, managers_of, program_of}
-use Rattle.applications.specs.Trying.{launched_with, nowhere, heap_tried, resource_tried, segment_tried}
+use Rattle.applications.specs.Trying.{launched_with, nowhere, heap_tried, resource_tried, segment_tried, with_stored}
 use Rattle.applications.specs.Trying.{code_told}
-use Rattle.res_calls.proofs.Walks.Place.{served-elsewhere as found-elsewhere}
+use Rattle.res_calls.proofs.Walks.Place.{served-elsewhere as found-elsewhere, served_moved}
 use Rattle.res_calls.proofs.Walks.Launching.{preloaded-elsewhere}
-use Rattle.segments.proofs.Laws.{served-elsewhere as jumped-elsewhere}
+use Rattle.segments.proofs.Laws.{served-elsewhere as jumped-elsewhere, served_moved as jumped_moved}
 use Rattle.applications.specs.Step.{Event, LineEnd, Course, joined, event_of, marked, marked_for, grown_line, grown}
 use Rattle.applications.specs.Step.{grown_for, asked_for, kept_anew, ended, stands, Round, Ends, Again, made_room, after_asking}
 use Rattle.applications.specs.Step.{after_try, round, continued, step_in, step, most_rounds, unless_over, course_of}
@@ -42,12 +50,23 @@ tried_elsewhere site t = record t { after = moved site t.after }
 once-elsewhere : (site : Site) (blocks : Blocks) (c : Call) (r : Running)
     → once blocks c (moved site r) ≡ tried_elsewhere site (once blocks c r)
 once-elsewhere site blocks (call.Heap c) r =
-    ap (λ (x : Told × Memory). heap_tried x (moved site r)) (served-elsewhere site (asked c r.names) r.memory)
+    ap (λ (x : Told × Memory). with_stored r (gone_in (asked c r.names) (elsewhere site r.memory))
+    (heap_tried x (moved site r))) (served-elsewhere site (asked c r.names) r.memory)
+    ∙ ap (λ purged. with_stored r purged
+    (heap_tried ((served (asked c r.names) r.memory).0, elsewhere site (served (asked c r.names) r.memory).1) (moved site r)))
+    (heap-gone-elsewhere site (asked c r.names) r.memory)
 once-elsewhere site blocks (call.Resource c) r =
-    ap (λ (x : Served). resource_tried x (moved site r))
-    (found-elsewhere site (resource_asked c r.names) (managers_of r))
+    ap (λ (x : Served). with_stored r (purges.gone_for (resource_asked c r.names) (managers_of (moved site r)))
+    (resource_tried x (moved site r))) (found-elsewhere site (resource_asked c r.names) (managers_of r))
+    ∙ ap (λ purged. with_stored r purged (resource_tried
+    (served_moved site (finds.served (resource_asked c r.names) (managers_of r))) (moved site r)))
+    (gone-elsewhere site (resource_asked c r.names) (managers_of r))
 once-elsewhere site blocks (call.Segment c) r =
-    ap (λ (x : Jumped). segment_tried x (moved site r)) (jumped-elsewhere site c (program_of r))
+    ap (λ (x : Jumped). with_stored r (jump_purges.gone_for c (program_of (moved site r)))
+    (segment_tried x (moved site r))) (jumped-elsewhere site c (program_of r))
+    ∙ ap (λ purged. with_stored r purged (segment_tried
+    (jumped_moved site (jumps.served c (program_of r))) (moved site r)))
+    (jump-gone-elsewhere site c (program_of r))
 once-elsewhere site blocks (call.Control (control.SetGrowZone name)) r = refl
 once-elsewhere site blocks (call.Control control.WaitNextEvent) r = refl
 once-elsewhere site blocks (call.Control control.ExitToShell) r = refl

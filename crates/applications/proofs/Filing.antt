@@ -15,7 +15,6 @@ use Rattle.mac_words.specs.declared.reply.Reply.{Reply}
 use Rattle.mac_words.specs.Told.{Told, Done, Given, Fetched, Number, Numbers, Code, Bytes, Kind, Info, Entry, Refused}
 use Rattle.heap_calls.specs.Asked.{told_as}
 use Rattle.heap_calls.specs.declared.refusal.Refusal.{Refusal}
-use Rattle.heap_calls.specs.declared.refusal.Refusal.TheVariants as Refusal
 use Rattle.heap_calls.specs.declared.refusal.Refusal.TheVariants.{HostMemory}
 use Rattle.res_calls.specs.Fetch.{Managers, Answer}
 use Rattle.res_calls.specs.Given.{IsAnswered}
@@ -23,6 +22,13 @@ use Rattle.res_calls.specs.Files.{File, Resources}
 use Rattle.res_calls.specs.Asked.{ResourceAsked}
 use Rattle.res_calls.specs.Asked as finds
 use Rattle.res_calls.specs.Writing.{writes}
+use Rattle.mac_words.specs.declared.segment_call.SegmentCall.{SegmentCall}
+use Rattle.heap_calls.specs.GoneBy.{gone_in}
+use Rattle.res_calls.specs.Gone as purges
+use Rattle.res_calls.specs.Purging.{heard}
+use Rattle.res_calls.proofs.Storing.{gone-files}
+use Rattle.segments.specs.Asked as jumps
+use Rattle.segments.specs.Gone as jump_purges
 use Rattle.res_calls.proofs.Walks.Laws as laws
 use Rattle.segments.proofs.Laws as jumping
 use Rattle.script_text.specs.Call.{is_allowed}
@@ -30,7 +36,7 @@ use Rattle.script_text.specs.Script.{are_allowed}
 use Rattle.script_text.specs.declared.script.Line.{Line}
 use Rattle.script_text.specs.Transcript.{Shown, Number as Count, values_of, type_shown, name_shown, bytes_shown}
 use Rattle.applications.specs.Names.{Bindings}
-use Rattle.applications.specs.Trying.{Running, Blocks, once, resource_asked, managers_of, program_of, code_told, is_full}
+use Rattle.applications.specs.Trying.{Running, Blocks, once, asked, resource_asked, managers_of, program_of, code_told, is_full}
 use Rattle.applications.specs.Step.{deed_of, kept_anew, number_given}
 use Rattle.applications.specs.Laws.{writes_files}
 use Rattle.applications.specs.Application.{bytes_told}
@@ -41,12 +47,20 @@ use Rattle.applications.proofs.TryLaws.{of-try}
 
 -- What a try leaves of the files, and what the calls that write them tell.
 
+-- a call on a segment leaves the files
+jump-files : (c : SegmentCall) (r : Running) → (once [] (call.Segment c) r).after.resources.files ≡ r.resources.files
+jump-files c r =
+    gone-files (heard r.resources.purging (jump_purges.gone_for c (program_of r)))
+    (jumps.served c (program_of r)).after.managers.resources ∙ jumping.served-files c (program_of r)
+
 -- a try that writes no file leaves the files
 pub try_keeps : (blocks : Blocks) (c : Call) (r : Running) → writes_files (deed_of c r.names) ≡ false
     → (once blocks c r).after.resources.files ≡ r.resources.files
 try_keeps blocks c r = of-try (λ d told reads after. writes_files d ≡ false → after.resources.files ≡ r.resources.files)
-    blocks c r (λ a is. refl) (λ a. laws.served-files a (managers_of r))
-    (λ c is. jumping.served-files c (program_of r)) (λ k grow is. refl)
+    blocks c r (λ a is. gone-files (heard r.resources.purging (gone_in a r.memory)) r.resources)
+    (λ a is. gone-files (heard r.resources.purging (purges.gone_for a (managers_of r)))
+    (finds.served a (managers_of r)).after.resources ∙ laws.served-files a (managers_of r) is)
+    (λ c is. jump-files c r) (λ k grow is. refl)
 
 -- the files are kept, whether a try was done or wanted host memory
 pub either_keeps : {T E : Type 0} (result : Result T E) (new after : Running) (files : List File)
@@ -85,12 +99,14 @@ full-refused (Entry segment flag) full = let no : false ≡ true = full in cc
 -- a try that finds no room leaves the files
 pub full_keeps : (blocks : Blocks) (c : Call) (r : Running) → (once blocks c r).wants ≡ true
     → (once blocks c r).after.resources.files ≡ r.resources.files
-full_keeps blocks (call.Heap c) r full = refl
+full_keeps blocks (call.Heap c) r full =
+    gone-files (heard r.resources.purging (gone_in (asked c r.names) r.memory)) r.resources
 full_keeps blocks (call.Resource c) r full =
     let s = finds.served (resource_asked c r.names) (managers_of r) in
     let refused = full-refused s.told full in
-    ap (λ (x : Resources). x.files) (laws.served-refused (resource_asked c r.names) (managers_of r) refused.0 refused.1).1
-full_keeps blocks (call.Segment c) r full = jumping.served-files c (program_of r)
+    gone-files (heard r.resources.purging (purges.gone_for (resource_asked c r.names) (managers_of r))) s.after.resources
+    ∙ ap (λ (x : Resources). x.files) (laws.served-refused (resource_asked c r.names) (managers_of r) refused.0 refused.1).1
+full_keeps blocks (call.Segment c) r full = jump-files c r
 full_keeps blocks (call.Control (control.SetGrowZone name)) r full = refl
 full_keeps blocks (call.Control control.WaitNextEvent) r full = refl
 full_keeps blocks (call.Control control.ExitToShell) r full = refl
@@ -98,9 +114,10 @@ full_keeps blocks (call.Control control.ExitToShell) r full = refl
 -- a try with which the application ends leaves the files
 pub over_keeps : (blocks : Blocks) (c : Call) (r : Running) → (once blocks c r).over ≡ true
     → (once blocks c r).after.resources.files ≡ r.resources.files
-over_keeps blocks (call.Heap c) r over = refl
+over_keeps blocks (call.Heap c) r over =
+    gone-files (heard r.resources.purging (gone_in (asked c r.names) r.memory)) r.resources
 over_keeps blocks (call.Resource c) r over = let no : false ≡ true = over in cc
-over_keeps blocks (call.Segment c) r over = jumping.served-files c (program_of r)
+over_keeps blocks (call.Segment c) r over = jump-files c r
 over_keeps blocks (call.Control (control.SetGrowZone name)) r over = refl
 over_keeps blocks (call.Control control.WaitNextEvent) r over = refl
 over_keeps blocks (call.Control control.ExitToShell) r over = refl
@@ -154,6 +171,7 @@ allowed_keeps (call.Resource (resource.SetResInfo name id text)) names is = refl
 allowed_keeps (call.Resource (resource.GetResAttrs name)) names is = refl
 allowed_keeps (call.Resource (resource.SetResAttrs name attrs)) names is = refl
 allowed_keeps (call.Resource (resource.GetResourceSizeOnDisk name)) names is = refl
+allowed_keeps (call.Resource (resource.SetResPurge on)) names is = refl
 allowed_keeps (call.Resource (resource.SetResLoad on)) names is = refl
 allowed_keeps (call.Resource resource.ResError) names is = refl
 allowed_keeps (call.Segment c) names is = refl
@@ -224,6 +242,7 @@ found-tells (finds.SetResInfo handle id name) s is = cc
 found-tells (finds.GetResAttrs handle) s is = cc
 found-tells (finds.SetResAttrs handle attrs) s is = cc
 found-tells (finds.GetResourceSizeOnDisk handle) s is = cc
+found-tells (finds.SetResPurge on) s is = cc
 found-tells (finds.SetResLoad on) s is = cc
 found-tells finds.ResError s is = cc
 

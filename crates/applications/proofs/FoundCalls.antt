@@ -63,6 +63,7 @@ found-shows-none (asks.SetResInfo handle id name) s = told-none {T = Unit {0}} (
 found-shows-none (asks.GetResAttrs handle) s = told-none {T = ℕ} Number (λ x. refl) _
 found-shows-none (asks.SetResAttrs handle attrs) s = told-none {T = Unit {0}} (λ x. Done) (λ x. refl) _
 found-shows-none (asks.GetResourceSizeOnDisk handle) s = told-none {T = ℕ} Number (λ x. refl) _
+found-shows-none (asks.SetResPurge on) s = refl
 found-shows-none (asks.SetResLoad on) s = refl
 found-shows-none asks.ResError s = refl
 
@@ -176,6 +177,7 @@ reads-again (asks.GetResAttrs handle) s = sym (on_found-none (resource_of handle
 reads-again (asks.SetResAttrs handle attrs) s = sym (on_found-none (resource_of handle s.resources) s _ (λ at. refl))
 reads-again (asks.GetResourceSizeOnDisk handle) s =
     sym (on_found-none (resource_of handle s.resources) s _ (λ at. refl))
+reads-again (asks.SetResPurge on) s = refl
 reads-again (asks.SetResLoad on) s = refl
 reads-again asks.ResError s = refl
 

@@ -6,6 +6,7 @@ mod FoundCalls
 mod JumpCalls
 mod OwnFork
 pub mod Quits
+mod Hearing
 mod TryLaws
 mod Carrying
 pub mod Counting

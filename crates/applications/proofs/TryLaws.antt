@@ -36,19 +36,26 @@ use Rattle.segments.specs.Asked as jumps
 use Rattle.script_text.specs.Script.{block_of}
 use Rattle.script_text.specs.declared.script.Line.{Line}
 use Rattle.heap_calls.specs.Path.{put_reads}
-use Rattle.applications.specs.Trying.{Running, Blocks, once, asked, resource_asked, managers_of, program_of, nowhere}
+use Rattle.applications.specs.Trying.{Running, Blocks, once, storing, asked, resource_asked, managers_of, program_of}
+use Rattle.applications.specs.Trying.{nowhere}
+use Rattle.heap_calls.specs.GoneBy.{gone_in}
+use Rattle.res_calls.specs.Gone as purges
+use Rattle.res_calls.specs.Purging.{heard, stored_gone}
+use Rattle.res_calls.proofs.Storing.{gone-files, heard-none}
+use Rattle.segments.specs.Gone as jump_purges
 use Rattle.applications.specs.Trying.{launched_with}
 use Rattle.applications.specs.Step.{Deed, Ask, Find, Jump, Steer, deed_of, event_of}
 use Rattle.applications.specs.Laws.{put_found, put_deed, put_event, ShowsPut, HoldsPut, frees, drops, deed_takes_block}
 use Rattle.applications.specs.Laws.{opens, Kept}
 use Rattle.applications.specs.Laws.{KeepsLocked, KeepsNonrelocatable, PurgesOnlyPurgeable, SearchesFew, RefusedLeaves}
-use Rattle.applications.specs.Laws.{keeps_resources}
+use Rattle.applications.specs.Laws.{OnlyStores}
 use Rattle.applications.specs.Laws.{KeepsResources, writes_files, KeepsFiles, KeepsTable, is_answered, StayPut}
 use Rattle.applications.specs.Laws.{put_at_launch, jumps as is_jump}
 use Rattle.res_calls.proofs.Walks.Laws as laws
 use Rattle.res_calls.proofs.Walks.Launching.{preloaded-known, preloaded-masters, preloaded-fits}
 use Rattle.res_calls.proofs.Walks.Taking.{served-stays as found-stays, served-empties as found-empties}
 use Rattle.segments.proofs.Laws as jumping
+use Rattle.segments.proofs.Purging.{refused-gone}
 use Rattle.segments.proofs.Taking.{served-stays as jumped-stays}
 
 -- The laws of one try, by any application that a run reaches.
@@ -78,20 +85,20 @@ sound-launched resources n =
 
 -- an application after a call of the heap's table, of the Resource Manager's, or of the Segment Manager's
 abbrev pub asked_after : Asked → Running → Running
-asked_after a r = record r { memory = (served a r.memory).1 }
+asked_after a r = storing r.resources.purging (gone_in a r.memory) (record r { memory = (served a r.memory).1 })
 
 abbrev pub found_after : ResourceAsked → Running → Running
-found_after a r = record r {
+found_after a r = storing r.resources.purging (purges.gone_for a (managers_of r)) (record r {
   memory = (finds.served a (managers_of r)).after.memory;
   resources = (finds.served a (managers_of r)).after.resources;
-}
+})
 
 abbrev pub jumped_after : SegmentCall → Running → Running
-jumped_after c r = record r {
+jumped_after c r = storing r.resources.purging (jump_purges.gone_for c (program_of r)) (record r {
   memory = (jumps.served c (program_of r)).after.managers.memory;
   resources = (jumps.served c (program_of r)).after.managers.resources;
   table = (jumps.served c (program_of r)).after.table;
-}
+})
 
 -- what holds of each call of the heap's table, of each of the Resource Manager's, of each of the Segment Manager's, and
 -- of one that leaves them all, holds of each try
@@ -316,8 +323,13 @@ pub once-refused : (blocks : Blocks) (l : Line) (r : Running) (bytes : ℕ → L
 once-refused blocks l r bytes sound code tells = (
   of-try (λ d told reads after. told ≡ Refused code → Kept d code r after) blocks l.call r
       (λ a is. ((served-refused a r.memory code is).0, refl))
-      (λ a. laws.served-refused a (managers_of r) code)
-      (λ c is other. ap (λ (p : Program). kept p) (jumping.served-refused c (program_of r) code is other))
+      (λ a is. let left = laws.served-refused a (managers_of r) code is in
+      (left.0, ap (stored_gone (heard r.resources.purging (purges.gone_for a (managers_of r)))) left.1))
+      (λ c is other.
+      ap (λ (p : Program). storing r.resources.purging (jump_purges.gone_for c (program_of r)) (kept p))
+      (jumping.served-refused c (program_of r) code is other)
+      ∙ ap (λ l. storing r.resources.purging l r) (refused-gone c (program_of r) code is other)
+      ∙ ap (λ l. record r { resources = stored_gone l r.resources }) (heard-none r.resources.purging))
       (λ k grow is. (refl, refl)) tells,
   once-names blocks l.call r,
 )
@@ -325,20 +337,24 @@ once-refused blocks l r bytes sound code tells = (
     kept : Program → Running
     kept p = record r { memory = p.managers.memory; resources = p.managers.resources; table = p.table }
 
--- a call of the heap's table leaves the resources
+-- a call of the heap's table only stores what it purges
 pub once-keeps-resources : (blocks : Blocks) (l : Line) (r : Running) (bytes : ℕ → List ℕ) → Sound r.memory bytes
     → KeepsResources bytes (event_of l r (once blocks l.call r))
 once-keeps-resources blocks l r bytes sound = of-try
-    (λ d told reads after. keeps_resources d ≡ true → after.resources ≡ r.resources) blocks l.call r
-    (λ a is. refl) (λ a is. cc) (λ c is. cc) (λ k grow is. refl)
+    (λ d told reads after. OnlyStores d r after) blocks l.call r
+    (λ a. refl) (λ a. tt) (λ c. tt) (λ k grow. refl)
 
 -- and each try that makes or updates no file the files
 pub once-keeps-files : (blocks : Blocks) (l : Line) (r : Running) (bytes : ℕ → List ℕ) → Sound r.memory bytes
     → KeepsFiles bytes (event_of l r (once blocks l.call r))
 once-keeps-files blocks l r bytes sound = of-try
     (λ d told reads after. writes_files d ≡ false → after.resources.files ≡ r.resources.files) blocks l.call r
-    (λ a is. refl) (λ a. laws.served-files a (managers_of r))
-    (λ c is. jumping.served-files c (program_of r)) (λ k grow is. refl)
+    (λ a is. gone-files (heard r.resources.purging (gone_in a r.memory)) r.resources)
+    (λ a is. gone-files (heard r.resources.purging (purges.gone_for a (managers_of r)))
+    (finds.served a (managers_of r)).after.resources ∙ laws.served-files a (managers_of r) is)
+    (λ c is. gone-files (heard r.resources.purging (jump_purges.gone_for c (program_of r)))
+    (jumps.served c (program_of r)).after.managers.resources
+    ∙ jumping.served-files c (program_of r)) (λ k grow is. refl)
 
 -- and each but those of the Segment Manager's calls the jump table
 pub once-keeps-table : (blocks : Blocks) (l : Line) (r : Running) (bytes : ℕ → List ℕ) → Sound r.memory bytes

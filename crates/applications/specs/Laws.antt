@@ -14,6 +14,7 @@ use Rattle.heap_calls.specs.Standing.{pointer_place, disposes}
 use Rattle.heap_calls.specs.Emptying.{has_purgeable, takes_block}
 use Rattle.heap_calls.specs.Refused.{refused_zone}
 use Rattle.heap_calls.specs.Busy.{idle}
+use Rattle.heap_calls.specs.GoneBy.{gone_in}
 use Rattle.script_text.specs.declared.script.Line.{Line}
 use Rattle.heap_calls.specs.Path.{put_reads}
 use Rattle.heap_calls.specs.Answer.{nothing}
@@ -22,6 +23,8 @@ use Rattle.res_calls.specs.Fetch.{Reads}
 use Rattle.res_calls.specs.Disposing.{disposes_of, opens_file}
 use Rattle.res_calls.specs.Writing.{writes}
 use Rattle.res_calls.specs.Files.{Resources}
+use Rattle.res_calls.specs.Gone.{gone_for}
+use Rattle.res_calls.specs.Purging.{heard, stored_gone}
 use Rattle.segments.specs.Asked.{unlocks}
 use Rattle.applications.specs.Trying.{Running, Blocks, managers_of, read_at_launch, nowhere}
 use Rattle.applications.specs.Step.{Deed, Ask, Find, Jump, Steer, deed_of, Event, Shown, LineEnd, step, step_by_rule}
@@ -188,15 +191,17 @@ SearchesFew bytes e =
 
 -- What a refused try leaves. A call of the heap's table leaves the heap as it was, except the zone, which is as a
 -- refused call leaves it. A call of the Resource Manager leaves its code, and may leave a master pointer block that was
--- made for a new handle. A call on a segment leaves everything as it was, unless a system error ends the application.
+-- made for a new handle. What either purged is stored while SetResPurge is on. A call on a segment leaves everything as
+-- it was, unless a system error ends the application.
 abbrev pub Kept : Deed → OsErr → Running → Running → Type 0
 Kept (Ask asked) code r after =
     (after.memory.heap ≡ record r.memory.heap { zone = refused_zone asked r.memory })
-    × (after.resources ≡ r.resources)
+    × (after.resources ≡ stored_gone (heard r.resources.purging (gone_in asked r.memory)) r.resources)
 Kept (Find asked) code r after =
     ((after.memory.heap ≡ r.memory.heap)
     ⊎ (after.memory.heap ≡ record r.memory.heap { zone = slotted_zone nothing r.memory.heap }))
-    × (after.resources ≡ record r.resources { error = code })
+    × (after.resources ≡ stored_gone (heard r.resources.purging (gone_for asked (managers_of r)))
+    (record r.resources { error = code }))
 Kept (Jump call) code r after = code ≢ SYSTEM_ERROR → after ≡ r
 Kept (Steer control) code r after = (after.memory.heap ≡ r.memory.heap) × (after.resources ≡ r.resources)
 
@@ -205,15 +210,17 @@ abbrev pub RefusedLeaves : (ℕ → List ℕ) → Event → Type 0
 RefusedLeaves bytes e =
     (code : OsErr) → e.told ≡ Refused code → Kept e.deed code e.before e.after × (e.after.names ≡ e.before.names)
 
--- Holds of a call of the heap's table, which changes nothing of the resources, whatever blocks the call purges.
-abbrev pub keeps_resources : Deed → Bool
-keeps_resources (Ask asked) = true
-keeps_resources (Find asked) = false
-keeps_resources (Jump call) = false
-keeps_resources (Steer control) = true
+-- What a call of the heap's table does to the resources: it stores what was changed of the blocks that it purges, while
+-- SetResPurge is on, and changes nothing else. A call that steers the application changes nothing of them.
+abbrev pub OnlyStores : Deed → Running → Running → Type 0
+OnlyStores (Ask asked) before after =
+    after.resources ≡ stored_gone (heard before.resources.purging (gone_in asked before.memory)) before.resources
+OnlyStores (Find asked) before after = Unit {0}
+OnlyStores (Jump call) before after = Unit {0}
+OnlyStores (Steer control) before after = after.resources ≡ before.resources
 
 abbrev pub KeepsResources : (ℕ → List ℕ) → Event → Type 0
-KeepsResources bytes e = keeps_resources e.deed ≡ true → e.after.resources ≡ e.before.resources
+KeepsResources bytes e = OnlyStores e.deed e.before e.after
 
 -- Holds of a call that may write the fork of a file: the call creates a file, or updates one.
 abbrev pub writes_files : Deed → Bool

@@ -19,6 +19,8 @@ use Rattle.mac_words.specs.Told.{Told, Done, Given, Fetched, Number, Numbers, Co
 use Rattle.heap_calls.specs.Asked.{Asked}
 use Rattle.heap_calls.specs.Asked as asks
 use Rattle.heap_calls.specs.Busy.{served}
+use Rattle.heap_calls.specs.Gone.{Gone}
+use Rattle.heap_calls.specs.GoneBy.{gone_in}
 use Rattle.fork_format.specs.Content.{Content}
 use Rattle.fork_format.specs.Canonical.{canon}
 use Rattle.res_map.specs.Map.{map_of}
@@ -26,12 +28,15 @@ use Rattle.res_calls.specs.Files.{File, Resources, fresh_resources}
 use Rattle.res_calls.specs.Fetch.{Managers, Reads}
 use Rattle.res_calls.specs.Asked.{ResourceAsked, Served}
 use Rattle.res_calls.specs.Asked as finds
+use Rattle.res_calls.specs.Gone as purges
 use Rattle.res_calls.specs.Own.{own_datum}
+use Rattle.res_calls.specs.Purging.{heard, stored_gone}
 use Rattle.res_calls.specs.Rows.{preloaded}
 use Rattle.segments.specs.Table as jumps
 use Rattle.segments.specs.Table.{table_in}
 use Rattle.segments.specs.Calls.{Program, code_type}
 use Rattle.segments.specs.Asked as segments
+use Rattle.segments.specs.Gone as jump_purges
 use Rattle.script_text.specs.Script.{block_of}
 use Rattle.script_text.specs.declared.script.Line.{Line}
 use Rattle.applications.specs.Names.{Bindings, bound_to}
@@ -175,6 +180,7 @@ resource_asked (resource.GetResAttrs name) names = finds.GetResAttrs (bound_to n
 resource_asked (resource.SetResAttrs name attrs) names = finds.SetResAttrs (bound_to name.0.items names) attrs
 resource_asked (resource.GetResourceSizeOnDisk name) names =
     finds.GetResourceSizeOnDisk (bound_to name.0.items names)
+resource_asked (resource.SetResPurge on) names = finds.SetResPurge on
 resource_asked (resource.SetResLoad on) names = finds.SetResLoad on
 resource_asked resource.ResError names = finds.ResError
 
@@ -265,9 +271,21 @@ control_tried blocks (control.SetGrowZone name) r = steered false (record r { gr
 control_tried blocks control.WaitNextEvent r = steered false r
 control_tried blocks control.ExitToShell r = steered true r
 
+-- An application whose resources store what they are to store of the blocks that were purged. `on` is what SetResPurge
+-- had set before.
+abbrev pub storing : Bool → List Gone → Running → Running
+storing on purged r = record r { resources = stored_gone (heard on purged) r.resources }
+
+-- A try with what is stored of the blocks that it purged, of an application as it was before.
+abbrev pub with_stored : Running → List Gone → Tried → Tried
+with_stored before purged t = record t { after = storing before.resources.purging purged t.after }
+
 -- One try of a call.
 abbrev pub once : Blocks → Call → Running → Tried
-once blocks (call.Heap c) r = heap_tried (served (asked c r.names) r.memory) r
-once blocks (call.Resource c) r = resource_tried (finds.served (resource_asked c r.names) (managers_of r)) r
-once blocks (call.Segment c) r = segment_tried (segments.served c (program_of r)) r
+once blocks (call.Heap c) r = with_stored r (gone_in (asked c r.names) r.memory)
+    (heap_tried (served (asked c r.names) r.memory) r)
+once blocks (call.Resource c) r = with_stored r (purges.gone_for (resource_asked c r.names) (managers_of r))
+    (resource_tried (finds.served (resource_asked c r.names) (managers_of r)) r)
+once blocks (call.Segment c) r = with_stored r (jump_purges.gone_for c (program_of r))
+    (segment_tried (segments.served c (program_of r)) r)
 once blocks (call.Control c) r = control_tried blocks c r

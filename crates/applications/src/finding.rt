@@ -1,19 +1,21 @@
 //! One try of a call of the Resource Manager.
 
-ghost use Rattle.std.specs.Prelude.{◌≡◌, IfOk, OnOk, OnErr};
+ghost use Rattle.std.specs.Prelude.{◌≡◌, true, IfOk, OnOk, OnErr};
+ghost use Rattle.heap_calls.specs.Gone.{Tells, IsIdle};
 ghost use Rattle.res_calls.specs.Asked as finds;
 ghost use Rattle.res_calls.specs.Fetching.{fetches};
 ghost use Rattle.res_calls.specs.Given.{managers};
-ghost use Rattle.applications.specs.Trying.{resource_asked, resource_tried, managers_of};
+ghost use Rattle.res_calls.specs.Gone.{gone_for};
+ghost use Rattle.applications.specs.Trying.{resource_asked, resource_tried, storing, managers_of};
 ghost use Rattle.applications.specs.Replies.{TellsServed, IsTried};
 
 use crate::application::Application;
 use crate::names::Names;
 use crate::tried::{Tried, attributes, counted, done_on_resource, fetched, info, kind, sized};
 use block_store::BlockStore;
-use heap_calls::Heap;
+use heap_calls::{Heap, PurgeSink};
 use mac_words::{Attrs, Reply, ResourceCall};
-use res_calls::Resources;
+use res_calls::{Purges, Resources};
 use std::alloc::{AllocError, Global};
 
 impl<'s, S: BlockStore> Application<'s, S> {
@@ -21,20 +23,34 @@ impl<'s, S: BlockStore> Application<'s, S> {
     pub(crate) fn find(&mut self, call: &ResourceCall) -> Result<Tried, AllocError>
         ensures tried { IfOk result (λ tried. IsTried tried (resource_tried (finds.served (resource_asked call.now
             self.old.names) (managers_of self.old)) self.old)) }
-        ensures after { OnOk result (self.new ≡ (resource_tried (finds.served (resource_asked call.now self.old.names)
-            (managers_of self.old)) self.old).after) }
+        ensures after { OnOk result (self.new ≡ storing self.old.resources.purging
+            (gone_for (resource_asked call.now self.old.names) (managers_of self.old))
+            (resource_tried (finds.served (resource_asked call.now self.old.names) (managers_of self.old))
+            self.old).after) }
         ensures files { OnErr result (self.new.resources.files ≡ self.old.resources.files) }
         ensures lies { self.new.memory.window ≡ self.old.memory.window }
     {
-        self.answer_resource(call)
+        let mut purges = Purges::new(self.alloc, self.resources.purging());
+        let tried = self.answer_resource(call, &mut purges);
+        self.resources.store_purged(purges.into_told());
+        tried
     }
 
-    /// Tries a call of the Resource Manager over the heap and the resources of the application.
-    fn answer_resource(&mut self, call: &ResourceCall) -> Result<Tried, AllocError>
+    /// Tries a call of the Resource Manager over the heap and the resources of the application. The sink is told of the
+    /// blocks that the call purges, if it is to be told.
+    fn answer_resource<K: PurgeSink>(
+        &mut self,
+        call: &ResourceCall,
+        sink: &mut K,
+    ) -> Result<Tried, AllocError>
+        requires idle { IsIdle K.told K.waits sink.old }
         ensures told { IfOk result (λ tried. TellsServed tried (finds.served (resource_asked call.now self.old.names)
             (managers_of self.old)) (fetches (resource_asked call.now self.old.names))) }
         ensures after { OnOk result (self.new ≡ (resource_tried (finds.served (resource_asked call.now self.old.names)
             (managers_of self.old)) self.old).after) }
+        ensures purged { OnOk result (K.listens sink.old ≡ true → Tells K.told
+            (gone_for (resource_asked call.now self.old.names) (managers_of self.old)) sink.old sink.new) }
+        ensures listens { K.listens sink.new ≡ K.listens sink.old }
         ensures files { OnErr result (self.new.resources.files ≡ self.old.resources.files) }
         ensures lies { self.new.memory.window ≡ self.old.memory.window }
     {
@@ -44,27 +60,37 @@ impl<'s, S: BlockStore> Application<'s, S> {
             &mut self.heap,
             &self.names,
             call,
+            sink,
         )
     }
 }
 
-/// Answers a call of the Resource Manager in `resources` and `heap`; the names of the call are bound as `names` says.
-fn answered<S: BlockStore>(
+/// Answers a call of the Resource Manager in `resources` and `heap`; the names of the call are bound as `names` says. The
+/// sink is told of the blocks that the call purges, if it is to be told.
+#[tactic(auto, using(crate::proofs::Hearing::told_nothing))]
+fn answered<S: BlockStore, K: PurgeSink>(
     alloc: Global,
     resources: &mut Resources,
     heap: &mut Heap<S>,
     names: &Names,
     call: &ResourceCall,
+    sink: &mut K,
 ) -> Result<Tried, AllocError>
+    requires idle { IsIdle K.told K.waits sink.old }
     ensures told { IfOk result (λ tried. TellsServed tried (finds.served (resource_asked call.now names.now)
         (managers resources.old heap.old)) (fetches (resource_asked call.now names.now))) }
     ensures after { OnOk result (managers resources.new heap.new ≡ (finds.served (resource_asked call.now names.now)
         (managers resources.old heap.old)).after) }
+    ensures purged { OnOk result (K.listens sink.old ≡ true → Tells K.told
+        (gone_for (resource_asked call.now names.now) (managers resources.old heap.old)) sink.old sink.new) }
+    ensures listens { K.listens sink.new ≡ K.listens sink.old }
     ensures files { OnErr result (resources.new.files ≡ resources.old.files) }
     ensures lies { heap.new.window ≡ heap.old.window }
 {
     match call {
-        ResourceCall::OpenResFile(name) => counted(resources.open_res_file(alloc, heap, name)),
+        ResourceCall::OpenResFile(name) => counted(resources.open_res_file(
+            alloc, heap, name, sink,
+        )),
         ResourceCall::CreateResFile(name) => done_on_resource(resources.create_res_file(
             alloc, name,
         )),
@@ -77,27 +103,34 @@ fn answered<S: BlockStore>(
         ResourceCall::UseResFile(number) => done_on_resource(resources.use_res_file(*number)),
         ResourceCall::CurResFile => counted(Ok(resources.cur_res_file())),
         ResourceCall::HomeResFile(name) => counted(resources.home_res_file(names.number(name))),
-        ResourceCall::GetResource(_, ty, id) => fetched(resources.get_resource(heap, *ty, *id)),
-        ResourceCall::Get1Resource(_, ty, id) => fetched(resources.get1_resource(heap, *ty, *id)),
+        ResourceCall::GetResource(_, ty, id) => fetched(resources.get_resource(
+            heap, *ty, *id, sink,
+        )),
+        ResourceCall::Get1Resource(_, ty, id) => fetched(resources.get1_resource(
+            heap, *ty, *id, sink,
+        )),
         ResourceCall::GetNamedResource(_, ty, text) => fetched(resources.get_named_resource(
             heap,
             *ty,
             text.0.as_slice(),
+            sink,
         )),
         ResourceCall::Get1NamedResource(_, ty, text) => fetched(resources.get1_named_resource(
             heap,
             *ty,
             text.0.as_slice(),
+            sink,
         )),
         ResourceCall::Count1Types => sized(Ok(resources.count1_types())),
         ResourceCall::Get1IndType(index) => kind(resources.get1_ind_type(*index)),
         ResourceCall::Count1Resources(ty) => sized(Ok(resources.count1_resources(*ty))),
         ResourceCall::Get1IndResource(_, ty, index) => fetched(resources.get1_ind_resource(
-            heap, *ty, *index,
+            heap, *ty, *index, sink,
         )),
         ResourceCall::LoadResource(name) => fetched(resources.load_resource(
             heap,
             names.number(name),
+            sink,
         )),
         ResourceCall::ReleaseResource(name) => done_on_resource(resources.release_resource(
             heap,
@@ -142,6 +175,10 @@ fn answered<S: BlockStore>(
         ResourceCall::GetResourceSizeOnDisk(name) => sized(resources.get_resource_size_on_disk(
             names.number(name),
         )),
+        ResourceCall::SetResPurge(on) => {
+            resources.set_res_purge(*on);
+            done_on_resource(Ok(()))
+        }
         ResourceCall::SetResLoad(on) => {
             resources.set_res_load(*on);
             done_on_resource(Ok(()))

@@ -1,20 +1,23 @@
 //! One try of a call on a segment.
 
-ghost use Rattle.std.specs.Prelude.{◌≡◌, None, false, IfOk, OnOk, OnErr};
+ghost use Rattle.std.specs.Prelude.{◌≡◌, None, true, false, IfOk, OnOk, OnErr};
 ghost use Rattle.mac_words.specs.Told.{Done};
 ghost use Rattle.res_calls.specs.Fetch as fetch;
 ghost use Rattle.segments.specs.Calls.{Program, Answer};
 ghost use Rattle.segments.specs.Calls as calls;
 ghost use Rattle.segments.specs.Given.{IsLoaded, IsCalled, WantsHost, shown_as};
+ghost use Rattle.heap_calls.specs.Gone.{Tells, IsIdle};
+ghost use Rattle.segments.specs.Gone.{gone_for};
 ghost use Rattle.segments.specs.Asked.{served, telling, tell_loaded, tell_called, tell_shown};
-ghost use Rattle.applications.specs.Trying.{Running, segment_tried, program_of, is_fatal};
+ghost use Rattle.applications.specs.Trying.{Running, segment_tried, storing, program_of, is_fatal};
 ghost use Rattle.applications.specs.Replies.{IsTried, Settled};
 
 use crate::application::Application;
 use crate::tried::Tried;
 use block_store::BlockStore;
-use heap_calls::Refusal;
+use heap_calls::{PurgeSink, Refusal};
 use mac_words::{OsErr, Reply, SegmentCall};
+use res_calls::Purges;
 use segments::{Called, Shown, Unloaded};
 use std::alloc::AllocError;
 
@@ -43,6 +46,7 @@ fn loaded(answer: Result<bool, Unloaded>) -> Result<Tried, AllocError>
     ensures after { OnOk result ((a : Answer fetch.Fetched) (after : Program) → IsLoaded a answer after
         → a.after ≡ after) }
     ensures wants { OnErr result (WantsHost answer) }
+    ensures host { OnOk result (¬ (WantsHost answer)) }
 {
     match answer {
         Ok(read) => Ok(tried_as(Reply::number(u32::from(read)), None, false)),
@@ -69,6 +73,7 @@ fn called(answer: Result<Called, Unloaded>) -> Result<Tried, AllocError>
     ensures after { OnOk result ((a : Answer calls.Called) (after : Program) → IsCalled a answer after
         → a.after ≡ after) }
     ensures wants { OnErr result (WantsHost answer) }
+    ensures host { OnOk result (¬ (WantsHost answer)) }
 {
     match answer {
         Ok(called) => Ok(tried_as(Reply::entry(called.segment, called.read), None, false)),
@@ -115,21 +120,48 @@ impl<'s, S: BlockStore> Application<'s, S> {
     pub(crate) fn jump(&mut self, call: &SegmentCall) -> Result<Tried, AllocError>
         ensures tried { IfOk result (λ tried. IsTried tried (segment_tried (served call.now (program_of self.old))
             self.old)) }
+        ensures after { OnOk result (self.new ≡ storing self.old.resources.purging
+            (gone_for call.now (program_of self.old))
+            (segment_tried (served call.now (program_of self.old)) self.old).after) }
+        ensures files { OnErr result (self.new.resources.files ≡ self.old.resources.files) }
+        ensures lies { self.new.memory.window ≡ self.old.memory.window }
+    {
+        let mut purges = Purges::new(self.alloc, self.resources.purging());
+        let tried = self.answer_segment(call, &mut purges);
+        self.resources.store_purged(purges.into_told());
+        tried
+    }
+
+    /// Tries a call of the Segment Manager, or a call through the jump table. The sink is told of the blocks that the
+    /// call purges, if it is to be told.
+    #[tactic(auto, using(crate::proofs::Hearing::told_nothing))]
+    fn answer_segment<K: PurgeSink>(
+        &mut self,
+        call: &SegmentCall,
+        sink: &mut K,
+    ) -> Result<Tried, AllocError>
+        requires idle { IsIdle K.told K.waits sink.old }
+        ensures tried { IfOk result (λ tried. IsTried tried (segment_tried (served call.now (program_of self.old))
+            self.old)) }
         ensures after { OnOk result (self.new ≡ (segment_tried (served call.now (program_of self.old))
             self.old).after) }
+        ensures purged { OnOk result (K.listens sink.old ≡ true → Tells K.told
+            (gone_for call.now (program_of self.old)) sink.old sink.new) }
+        ensures listens { K.listens sink.new ≡ K.listens sink.old }
         ensures files { OnErr result (self.new.resources.files ≡ self.old.resources.files) }
         ensures lies { self.new.memory.window ≡ self.old.memory.window }
     {
         match call {
             SegmentCall::LoadSeg(segment) => loaded(
                 self.table
-                    .load(&mut self.heap, &mut self.resources, *segment),
+                    .load(&mut self.heap, &mut self.resources, *segment, sink),
             ),
             SegmentCall::UnloadSeg(segment) => Ok(unloaded(
                 self.table.unload(&mut self.heap, &self.resources, *segment),
             )),
             SegmentCall::CallEntry(index) => called(
-                self.table.call(&mut self.heap, &mut self.resources, *index),
+                self.table
+                    .call(&mut self.heap, &mut self.resources, *index, sink),
             ),
             SegmentCall::ShowEntry(index) => Ok(shown(self.table.show(*index))),
         }

@@ -87,6 +87,7 @@ pub fn named_resource(call: &ResourceCall, names: &Names) -> Option<usize>
         | ResourceCall::Get1IndType(_)
         | ResourceCall::Count1Resources(_)
         | ResourceCall::Get1IndResource(..)
+        | ResourceCall::SetResPurge(_)
         | ResourceCall::SetResLoad(_)
         | ResourceCall::ResError => None,
     }

@@ -114,6 +114,7 @@ pub fn done(answer: Result<(), Refusal>) -> Result<Tried, AllocError>
 /// Returns the try of a call that returns a number.
 pub fn number(answer: Result<u32, Refusal>) -> Result<Tried, AllocError>
     ensures tried { IfOk result (λ tried. (told : Told) → GivenAs Number answer told → TellsTold tried told) }
+    ensures host { OnOk result (answer ≢ Err Refusal.HostMemory) }
 {
     match answer {
         Ok(number) => Ok(Tried::told(Reply::number(number))),
@@ -147,6 +148,7 @@ pub fn fetched(answer: Result<Fetched, Unread>) -> Result<Tried, AllocError>
     ensures after { OnOk result ((a : Answer fetch.Fetched) (after : Managers) → IsFetched a answer after
         → a.after ≡ after) }
     ensures wants { OnErr result (WantsHost answer) }
+    ensures host { OnOk result (¬ (WantsHost answer)) }
 {
     match answer {
         Ok(fetched) => Ok(Tried {
@@ -201,6 +203,7 @@ pub fn counted(answer: Result<u32, Refusal>) -> Result<Tried, AllocError>
     ensures after { OnOk result ((a : Answer ℕ) (after : Managers) → IsAnswered (λ (n : ℕ). n) a answer after
         → a.after ≡ after) }
     ensures wants { OnErr result (answer ≡ Err Refusal.HostMemory) }
+    ensures host { OnOk result (answer ≢ Err Refusal.HostMemory) }
 {
     match answer {
         Ok(value) => Ok(Tried::told(Reply::number(value))),

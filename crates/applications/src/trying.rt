@@ -1,9 +1,11 @@
 //! One try of a call.
 
-ghost use Rattle.std.specs.Prelude.{◌≡◌, [], false, IfOk, OnOk, OnErr};
+ghost use Rattle.std.specs.Prelude.{◌≡◌, [], true, false, IfOk, OnOk, OnErr};
 ghost use Rattle.std.specs.Option.{option_map};
 ghost use Rattle.heap_calls.specs.Busy.{served};
-ghost use Rattle.applications.specs.Trying.{asked, once, control_tried};
+ghost use Rattle.heap_calls.specs.Gone.{Tells, IsIdle};
+ghost use Rattle.heap_calls.specs.GoneBy.{gone_in};
+ghost use Rattle.applications.specs.Trying.{asked, once, storing, control_tried};
 ghost use Rattle.applications.specs.Step.{deed_of};
 ghost use Rattle.applications.specs.Laws.{writes_files};
 ghost use Rattle.applications.specs.Application.{bytes_told};
@@ -14,8 +16,9 @@ use crate::names::Names;
 use crate::naming::named;
 use crate::tried::{Tried, done, given, number, shown, space, state};
 use block_store::BlockStore;
-use heap_calls::{Heap, NoSink};
+use heap_calls::{Heap, PurgeSink};
 use mac_words::{Call, ControlCall, HeapCall, OsErr, Reply};
+use res_calls::Purges;
 use script_text::Script;
 use std::alloc::AllocError;
 
@@ -57,53 +60,70 @@ impl<'s, S: BlockStore> Application<'s, S> {
         ensures { option_map (λ bytes. bytes.now) result ≡ bytes_told (once [] call.now self.now).told }
     {
         match call {
-            Call::Heap(HeapCall::Show(name)) => self.heap.show(self.names.number(name)).ok(),
-            Call::Heap(HeapCall::ShowPtr(name)) => {
-                self.heap.show_pointer(self.names.number(name)).ok()
-            }
+            Call::Heap(call) => shown_in(&self.heap, &self.names, call),
             Call::Resource(_) => None,
             Call::Segment(_) => None,
-            _ => None,
+            Call::Control(_) => None,
         }
     }
 
-    /// Tries a call of the Memory Manager.
+    /// Tries a call of the Memory Manager, and stores what is to be stored of the blocks that it purges.
     fn answer(&mut self, call: &HeapCall) -> Result<Tried, AllocError>
         ensures told { IfOk result (λ tried. TellsTold tried (served (asked call.now self.old.names)
             self.old.memory).0) }
-        ensures after { OnOk result (self.new ≡ record self.old {
-          memory = (served (asked call.now self.old.names)
-              self.old.memory).1;
-        }) }
-        ensures resources { self.new.resources ≡ self.old.resources }
+        ensures after { OnOk result (self.new ≡ storing self.old.resources.purging
+            (gone_in (asked call.now self.old.names) self.old.memory)
+            (record self.old { memory = (served (asked call.now self.old.names) self.old.memory).1 })) }
+        ensures files { self.new.resources.files ≡ self.old.resources.files }
         ensures lies { self.new.memory.window ≡ self.old.memory.window }
     {
-        answered(&mut self.heap, &self.names, call)
+        let mut purges = Purges::new(self.alloc, self.resources.purging());
+        let tried = answered(&mut self.heap, &self.names, call, &mut purges);
+        self.resources.store_purged(purges.into_told());
+        tried
     }
 }
 
-/// Answers a call of the Memory Manager in `heap`; the names of the call are bound as `names` says.
-fn answered<S: BlockStore>(
+/// Returns the bytes that a call of the Memory Manager shows of `heap`.
+fn shown_in<'a, S: BlockStore>(
+    heap: &'a Heap<S>,
+    names: &Names,
+    call: &HeapCall,
+) -> Option<&'a [u8]>
+    ensures { option_map (λ bytes. bytes.now) result ≡ bytes_told (served (asked call.now names.now) heap.now).0 }
+{
+    match call {
+        HeapCall::Show(name) => heap.show(names.number(name)).ok(),
+        HeapCall::ShowPtr(name) => heap.show_pointer(names.number(name)).ok(),
+        _ => None,
+    }
+}
+
+/// Answers a call of the Memory Manager in `heap`; the names of the call are bound as `names` says. The sink is told of
+/// the blocks that the call purges, if it is to be told.
+#[tactic(auto, using(crate::proofs::Hearing::told_nothing))]
+fn answered<S: BlockStore, K: PurgeSink>(
     heap: &mut Heap<S>,
     names: &Names,
     call: &HeapCall,
+    sink: &mut K,
 ) -> Result<Tried, AllocError>
+    requires idle { IsIdle K.told K.waits sink.old }
     ensures told { IfOk result (λ tried. TellsTold tried (served (asked call.now names.now) heap.old).0) }
     ensures after { OnOk result (heap.new ≡ (served (asked call.now names.now) heap.old).1) }
+    ensures purged { OnOk result (K.listens sink.old ≡ true
+        → Tells K.told (gone_in (asked call.now names.now) heap.old) sink.old sink.new) }
+    ensures listens { K.listens sink.new ≡ K.listens sink.old }
     ensures lies { heap.new.window ≡ heap.old.window }
 {
     let (first, second) = named(call, names);
     match call {
-        HeapCall::NewHandle(_, size) => given(heap.new_handle(*size, &mut NoSink)),
-        HeapCall::NewEmptyHandle(_) => given(heap.new_empty_handle(&mut NoSink)),
+        HeapCall::NewHandle(_, size) => given(heap.new_handle(*size, sink)),
+        HeapCall::NewEmptyHandle(_) => given(heap.new_empty_handle(sink)),
         HeapCall::DisposeHandle(_) => done(heap.dispose_handle(first)),
         HeapCall::GetHandleSize(_) => number(heap.get_handle_size(first)),
-        HeapCall::SetHandleSize(_, size) => done(heap.set_handle_size(first, *size, &mut NoSink)),
-        HeapCall::ReallocateHandle(_, size) => done(heap.reallocate_handle(
-            first,
-            *size,
-            &mut NoSink,
-        )),
+        HeapCall::SetHandleSize(_, size) => done(heap.set_handle_size(first, *size, sink)),
+        HeapCall::ReallocateHandle(_, size) => done(heap.reallocate_handle(first, *size, sink)),
         HeapCall::EmptyHandle(_) => done(heap.empty_handle(first)),
         HeapCall::HLock(_) => done(heap.h_lock(first)),
         HeapCall::HUnlock(_) => done(heap.h_unlock(first)),
@@ -113,21 +133,21 @@ fn answered<S: BlockStore>(
         HeapCall::HSetState(_, state) => done(heap.h_set_state(first, *state)),
         HeapCall::MoveHHi(_) => done(heap.move_h_hi(first)),
         HeapCall::HLockHi(_) => done(heap.h_lock_hi(first)),
-        HeapCall::HandToHand(..) => given(heap.hand_to_hand(first, &mut NoSink)),
-        HeapCall::HandAndHand(..) => done(heap.hand_and_hand(first, second, &mut NoSink)),
-        HeapCall::PtrAndHand(_, bytes) => done(heap.pointer_and_hand(first, bytes, &mut NoSink)),
-        HeapCall::NewPtr(_, size) => given(heap.new_pointer(*size, &mut NoSink)),
+        HeapCall::HandToHand(..) => given(heap.hand_to_hand(first, sink)),
+        HeapCall::HandAndHand(..) => done(heap.hand_and_hand(first, second, sink)),
+        HeapCall::PtrAndHand(_, bytes) => done(heap.pointer_and_hand(first, bytes, sink)),
+        HeapCall::NewPtr(_, size) => given(heap.new_pointer(*size, sink)),
         HeapCall::DisposePtr(_) => done(heap.dispose_pointer(first)),
         HeapCall::GetPtrSize(_) => number(heap.get_pointer_size(first)),
-        HeapCall::SetPtrSize(_, size) => done(heap.set_pointer_size(first, *size, &mut NoSink)),
+        HeapCall::SetPtrSize(_, size) => done(heap.set_pointer_size(first, *size, sink)),
         HeapCall::FreeMem => Ok(Tried::told(Reply::number(heap.free_mem()))),
         HeapCall::MaxBlock => Ok(Tried::told(Reply::number(heap.max_block()))),
         HeapCall::PurgeSpace => Ok(space(heap.purge_space())),
         HeapCall::CompactMem(size) => Ok(Tried::told(Reply::number(heap.compact_mem(*size)))),
-        HeapCall::PurgeMem(size) => done(heap.purge_mem(*size, &mut NoSink)),
-        HeapCall::MaxMem => number(heap.max_mem(&mut NoSink)),
-        HeapCall::ReserveMem(size) => done(heap.reserve_mem(*size, &mut NoSink)),
-        HeapCall::MoreMasters => done(heap.more_masters(&mut NoSink)),
+        HeapCall::PurgeMem(size) => done(heap.purge_mem(*size, sink)),
+        HeapCall::MaxMem => number(heap.max_mem(sink)),
+        HeapCall::ReserveMem(size) => done(heap.reserve_mem(*size, sink)),
+        HeapCall::MoreMasters => done(heap.more_masters(sink)),
         HeapCall::MemError => Ok(Tried::told(Reply::telling(heap.mem_error()))),
         HeapCall::Put(_, from, bytes) => done(heap.put(first, *from, bytes)),
         HeapCall::Show(_) => shown(heap.show(first)),

@@ -3,3 +3,5 @@ pub mod Named
 pub mod Owned
 pub mod Refilled
 pub mod Adding
+pub mod Several
+pub mod Unmade

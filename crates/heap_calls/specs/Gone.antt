@@ -2,17 +2,19 @@ use Rattle.std.specs.Prelude.{ℕ, ◌-◌, ◌+◌, Bool, ◌||◌, Option, Som
 use Rattle.std.specs.Prelude.{◌++◌, length, replicate, nat_lt, nat_le, if◌then◌else◌, zero, suc}
 use Rattle.mac_words.specs.Size.{phys}
 use Rattle.mac_words.specs.declared.code.OsErr.{OsErr}
+use Rattle.block_store.specs.declared.flags.Flags.{Flags}
 use Rattle.block_store.specs.Block.{Block, Free, Nonrelocatable, Masters, Relocatable, size, is_mover, is_relocatable}
 use Rattle.block_store.specs.Block.{is_nonrelocatable, content_of, no_flags}
 use Rattle.block_store.specs.Run.{has_free, segments}
 use Rattle.block_store.specs.Room.{Spot, spot, may_be_purged, put_at_base, put_in_place, room}
 use Rattle.block_store.specs.Grow.{growth, grow_up, grow_mover, freed}
-use Rattle.heap_calls.specs.State.{State, used_slots, all_slots}
+use Rattle.heap_calls.specs.State.{Resource, State, Memory, used_slots, all_slots}
 use Rattle.heap_calls.specs.Slots.{slotted}
 use Rattle.heap_calls.specs.Answer.{look_up, handle_at, nothing}
 use Rattle.heap_calls.specs.Pointers.{pointed_at, reserved}
 use Rattle.heap_calls.specs.Purging.{is_loose, purgeable, blocks_purged}
 use Rattle.heap_calls.specs.Searches.{room_searches, resized_at}
+use Rattle.heap_calls.specs.Inside.{new_inside}
 
 -- What a call purges for room: each block's handle and bytes, the lowest block first. Inside Macintosh: Memory, chapter
 -- 1, "Purging and Reallocating Memory Blocks".
@@ -168,6 +170,12 @@ abbrev pub refill_gone : ℕ → ℕ → State → List Gone
 refill_gone h n s =
     found_gone (handle_at (Some h) s) (λ k. if is_some (phys n) then room_gone (length s.names)
     (put_in_place (Relocatable k.number no_flags (replicate n 0))) nothing s.zone else [])
+
+-- The blocks that are purged for new resources with these flags and bytes, one after another: for each in turn, those
+-- for its master pointer, and then those for its block.
+abbrev pub all_gone : List (Flags × List ℕ) → Memory → List Gone
+all_gone [] m = []
+all_gone (w ∷ wanted) m = made_gone nothing w.1 m.heap ++ all_gone wanted (new_inside Resource w.0 w.1 m).1
 
 -- A sink is told of these blocks behind those that it was told of; `told` says what a sink was told of.
 abbrev pub Tells : {A : Type 0} → (A → List Gone → Type 0) → List Gone → A → A → Type 0

@@ -24,6 +24,8 @@ pub mod Shown
 pub mod Staying
 pub mod Inside
 pub mod Path
+pub mod GoneBy
+pub mod Preloaded
 pub mod Owned
 pub mod Contents
 pub mod Stored

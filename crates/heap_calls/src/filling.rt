@@ -6,8 +6,11 @@ ghost use Rattle.std.specs.Prelude.{vec_len, vec_capacity};
 ghost use Rattle.heap_calls.specs.State.{Plain};
 ghost use Rattle.heap_calls.specs.Inside.{inside, has_block, new_inside, new_empty_inside, refill_inside};
 ghost use Rattle.heap_calls.specs.Inside.{resource_role, new_all};
-ghost use Rattle.heap_calls.specs.Gone.{Tells, TellsNothing, IsIdle, refill_gone};
-ghost use Rattle.heap_calls.specs.Inner.Telling.{renewed_gone};
+ghost use Rattle.heap_calls.specs.Answer.{nothing};
+ghost use Rattle.heap_calls.specs.Refused.{LeavesMasters};
+ghost use Rattle.heap_calls.specs.Gone.{Tells, TellsNothing, IsIdle, slot_gone, made_gone, all_gone, refill_gone};
+ghost use Rattle.heap_calls.specs.Preloaded.{LeavesUnmade, Stops};
+ghost use Rattle.heap_calls.specs.Inner.Telling.{new_gone, renewed_gone, LeavesSlot};
 ghost use Rattle.heap_calls.specs.Inner.Given.{IsAnswer, KeepsMoves, KeepsNames};
 ghost use Rattle.heap_calls.specs.Inner.Filling.{IsSizeOf, IsFresh, IsReplaced, IsFilling, IsRefilled, refilled_moves};
 ghost use Rattle.heap_calls.specs.Inner.Filling.{owned_by, wanted_as, IsNext};
@@ -31,9 +34,9 @@ use crate::log::Log;
 use crate::new_block::new_block;
 use crate::refusal::Refusal;
 use crate::search::Room;
-use crate::sink::{NoSink, PurgeSink};
+use crate::sink::PurgeSink;
 use block_store::{BlockStore, Flags, Sparing};
-use std::alloc::{AllocError, Global};
+use std::alloc::AllocError;
 
 /// What a new resource's block is to hold: its bytes, and its properties.
 #[derive(Clone, Copy, Debug)]
@@ -45,65 +48,101 @@ pub struct Filling<'a> {
 impl<S: BlockStore> Heap<S> {
     /// Makes a new handle of a resource, with a block of these bytes and properties, and returns the handle's number.
     /// Returns -108 (memFullErr) where the zone has no room for the block, or where all master pointers are used and
-    /// there is no room for a block of more. Where the host is out of memory, all but the zone and the count of moves
-    /// stays as it was, and the whole heap does over a store that takes no host memory.
+    /// there is no room for a block of more. The sink is told of the blocks that are purged for that, and then of those
+    /// for the block, if it is to be told. Where the host is out of memory, all but the zone and the count of moves stays
+    /// as it was; over a store that takes no host memory the whole heap and the sink do, but where the sink found the
+    /// host out of memory behind a new master pointer block, which then stays.
     ///
     /// *More Macintosh Toolbox*, chapter 1, "Using the Resource Manager".
-    pub fn new_resource(
+    pub fn new_resource<K: PurgeSink>(
         &mut self,
         bytes: &[u8],
         flags: Flags,
         guarded: bool,
+        sink: &mut K,
     ) -> Result<usize, Refusal>
+        requires idle { IsIdle K.told K.waits sink.old }
         ensures answer { IsAnswer (new_inside (resource_role guarded) flags bytes.now self.old) result self.new }
-        ensures host { result ≡ Err Refusal.HostMemory → IsTrue S.TAKES_HOST ⊎ (self.new ≡ self.old) }
-        ensures reserved { result ≡ Err Refusal.HostMemory
-            → IsTrue S.TAKES_HOST ⊎ (self.old.log.reserved ≤ length self.old.heap.names) }
+        ensures told { result ≢ Err Refusal.HostMemory → K.listens sink.old ≡ true
+            → Tells K.told (made_gone nothing bytes.now self.old.heap) sink.old sink.new }
+        ensures untold { result ≡ Err Refusal.HostMemory → IsTrue S.TAKES_HOST
+            ⊎ (((self.new ≡ self.old) × TellsNothing K.told sink.old sink.new)
+            ⊎ (LeavesMasters nothing self.old self.new × Tells K.told (slot_gone nothing self.old.heap) sink.old sink.new)) }
+        ensures idle { IsIdle K.told K.waits sink.new }
+        ensures listens { K.listens sink.new ≡ K.listens sink.old }
+        ensures host { result ≡ Err Refusal.HostMemory
+            → IsTrue S.TAKES_HOST ⊎ ((self.new ≡ self.old) ⊎ (K.listens sink.old ≡ true)) }
+        ensures reserved { result ≡ Err Refusal.HostMemory → IsTrue S.TAKES_HOST
+            ⊎ ((self.old.log.reserved ≤ length self.old.heap.names) ⊎ (K.listens sink.old ≡ true)) }
         ensures kept { result ≡ Err Refusal.HostMemory → KeepsNames self.old self.new }
         ensures lies { self.new.window ≡ self.old.window }
     {
-        let answer = self.fill_handle(bytes, flags);
+        let answer = self.fill_handle(bytes, flags, sink);
         self.own(answer, guarded)
     }
 
     /// Makes a new handle of a resource, with no block, and returns the handle's number. Returns -108 (memFullErr)
-    /// where all master pointers are used and there is no room for a block of more. Where the host is out of memory,
-    /// all but the zone stays as it was, and the whole heap does over a store that takes no host memory.
-    pub fn new_empty_resource(&mut self, guarded: bool) -> Result<usize, Refusal>
+    /// where all master pointers are used and there is no room for a block of more. The sink is told of the blocks that
+    /// are purged for it, if it is to be told. Where the host is out of memory, all but the zone stays as it was, and the
+    /// whole heap and the sink do over a store that takes no host memory.
+    pub fn new_empty_resource<K: PurgeSink>(
+        &mut self,
+        guarded: bool,
+        sink: &mut K,
+    ) -> Result<usize, Refusal>
+        requires idle { IsIdle K.told K.waits sink.old }
         ensures answer { IsAnswer (new_empty_inside (resource_role guarded) self.old) result self.new }
+        ensures told { result ≢ Err Refusal.HostMemory → K.listens sink.old ≡ true
+            → Tells K.told (slot_gone nothing self.old.heap) sink.old sink.new }
+        ensures untold { result ≡ Err Refusal.HostMemory
+            → IsTrue S.TAKES_HOST ⊎ TellsNothing K.told sink.old sink.new }
+        ensures idle { IsIdle K.told K.waits sink.new }
+        ensures listens { K.listens sink.new ≡ K.listens sink.old }
         ensures host { result ≡ Err Refusal.HostMemory → IsTrue S.TAKES_HOST ⊎ (self.new ≡ self.old) }
-        ensures reserved { result ≡ Err Refusal.HostMemory
-            → IsTrue S.TAKES_HOST ⊎ (self.old.log.reserved ≤ length self.old.heap.names) }
+        ensures reserved { result ≡ Err Refusal.HostMemory → IsTrue S.TAKES_HOST
+            ⊎ ((self.old.log.reserved ≤ length self.old.heap.names) ⊎ (K.listens sink.old ≡ true)) }
         ensures kept { result ≡ Err Refusal.HostMemory → KeepsMoves self.old self.new }
         ensures lies { self.new.window ≡ self.old.window }
     {
-        let answer = self.make_empty_handle(&mut NoSink);
+        let answer = self.make_empty_handle(sink);
         self.own(answer, guarded)
     }
 
-    /// Makes new handles of resources, one after another and none of them guarded, and returns the number of each,
-    /// `None` for each whose block finds no room. Host memory for the numbers and for the answer is allocated before
-    /// the first handle is made, so that nothing changes where the host is out of memory, over a store that takes no
-    /// host memory. The answer takes host memory also where the numbers are reserved.
-    pub fn new_resources(
+    /// Makes new handles of resources, one after another and none of them guarded, and puts the number of each into
+    /// `numbers`, in place of what was there: `None` for each whose block finds no room. The sink is told of the blocks
+    /// that are purged for each in turn, if it is to be told. Host memory for the numbers and for the answer is allocated
+    /// before the first handle is made; the answer takes some also where the numbers are reserved. Over a store that takes
+    /// no host memory, nothing changes where it cannot be had; and where the sink finds the host out of memory, the
+    /// handles that were made stay, and `numbers` has the number of each.
+    pub fn new_resources<K: PurgeSink>(
         &mut self,
-        alloc: Global,
         wanted: &[Filling<'_>],
-    ) -> Result<Vec<Option<usize>>, AllocError>
-        ensures answer { IfOk result (λ v. new_all (map wanted_as wanted.now) self.old ≡ (v.items, self.new)) }
-        ensures host { IsErr result → IsTrue S.TAKES_HOST ⊎ (self.new ≡ self.old) }
+        numbers: &mut Vec<Option<usize>>,
+        sink: &mut K,
+    ) -> Result<(), AllocError>
+        requires idle { IsIdle K.told K.waits sink.old }
+        ensures answer { OnOk result (new_all (map wanted_as wanted.now) self.old ≡ (numbers.new.items, self.new)) }
+        ensures told { OnOk result (K.listens sink.old ≡ true
+            → Tells K.told (all_gone (map wanted_as wanted.now) self.old) sink.old sink.new) }
+        ensures untold { OnErr result (IsTrue S.TAKES_HOST
+            ⊎ Stops K.told (map wanted_as wanted.now) self.old numbers.new.items self.new sink.old sink.new) }
+        ensures idle { IsIdle K.told K.waits sink.new }
+        ensures listens { K.listens sink.new ≡ K.listens sink.old }
+        ensures host { IsErr result
+            → IsTrue S.TAKES_HOST ⊎ ((self.new ≡ self.old) ⊎ (K.listens sink.old ≡ true)) }
         ensures lies { self.new.window ≡ self.old.window }
     {
-        let mut numbers = Vec::with_capacity(alloc, wanted.len())?;
+        numbers.clear();
+        numbers.reserve(wanted.len())?;
         self.names.reserve(wanted.len())?;
         add_resources(
             &mut self.store,
             &mut self.names,
             &mut self.log,
             wanted,
-            &mut numbers,
-        )?;
-        Ok(numbers)
+            numbers,
+            sink,
+        )
     }
 
     /// Gives an empty handle a block of these bytes and properties. Returns -108 (memFullErr) where there is no room
@@ -139,18 +178,32 @@ impl<S: BlockStore> Heap<S> {
         })
     }
 
-    /// Makes a new handle, an application's own, with a block of these bytes and properties, and counts the searches
-    /// for room.
-    fn fill_handle(&mut self, bytes: &[u8], flags: Flags) -> Result<usize, Refusal>
+    /// Makes a new handle, an application's own, with a block of these bytes and properties, counts the searches for
+    /// room, and tells a sink of the blocks that are purged, if it is to be told.
+    fn fill_handle<K: PurgeSink>(
+        &mut self,
+        bytes: &[u8],
+        flags: Flags,
+        sink: &mut K,
+    ) -> Result<usize, Refusal>
+        requires idle { IsIdle K.told K.waits sink.old }
         ensures answer { IsAnswer (new_inside Plain flags bytes.now self.old) result self.new }
-        ensures host { result ≡ Err Refusal.HostMemory → IsTrue S.TAKES_HOST ⊎ (self.new ≡ self.old) }
-        ensures reserved { result ≡ Err Refusal.HostMemory
-            → IsTrue S.TAKES_HOST ⊎ (self.old.log.reserved ≤ length self.old.heap.names) }
+        ensures told { result ≢ Err Refusal.HostMemory → K.listens sink.old ≡ true
+            → Tells K.told (made_gone nothing bytes.now self.old.heap) sink.old sink.new }
+        ensures untold { result ≡ Err Refusal.HostMemory → IsTrue S.TAKES_HOST
+            ⊎ (((self.new ≡ self.old) × TellsNothing K.told sink.old sink.new)
+            ⊎ (LeavesMasters nothing self.old self.new × Tells K.told (slot_gone nothing self.old.heap) sink.old sink.new)) }
+        ensures idle { IsIdle K.told K.waits sink.new }
+        ensures listens { K.listens sink.new ≡ K.listens sink.old }
+        ensures host { result ≡ Err Refusal.HostMemory
+            → IsTrue S.TAKES_HOST ⊎ ((self.new ≡ self.old) ⊎ (K.listens sink.old ≡ true)) }
+        ensures reserved { result ≡ Err Refusal.HostMemory → IsTrue S.TAKES_HOST
+            ⊎ ((self.old.log.reserved ≤ length self.old.heap.names) ⊎ (K.listens sink.old ≡ true)) }
         ensures kept { result ≡ Err Refusal.HostMemory → KeepsNames self.old self.new }
         ensures lies { self.new.window ≡ self.old.window }
     {
         self.names.reserve(1)?;
-        let made = fill_block(&mut self.store, bytes, flags)?;
+        let made = fill_block(&mut self.store, &self.names, bytes, flags, sink)?;
         self.log.count(made.searches);
         name_handle(&mut self.names, made.slot)
     }
@@ -192,8 +245,21 @@ fn fill_new<S: BlockStore>(store: &mut S, slot: u32, bytes: &[u8], flags: Flags)
 
 /// Puts a new block of as many bytes as `bytes` has, all 0, where there is room, under a new slot, and returns that
 /// slot; `None` where there is no unused slot and no room for more, where the block would be too large, or where
-/// there is no room for the block.
-fn new_block_for<S: BlockStore>(store: &mut S, bytes: &[u8]) -> Result<Taken, AllocError>
+/// there is no room for the block. A sink is told of the blocks that are purged for the slot, and then for the block,
+/// if it is to be told.
+fn new_block_for<S: BlockStore, K: PurgeSink>(
+    store: &mut S,
+    names: &[Anchor],
+    bytes: &[u8],
+    sink: &mut K,
+) -> Result<Taken, AllocError>
+    requires idle { IsIdle K.told K.waits sink.old }
+    ensures told { OnOk result (K.listens sink.old ≡ true → Tells K.told
+        (new_gone names.now Nothing (length bytes.now) (S.rest store.old).unused (S.zone store.old)) sink.old sink.new) }
+    ensures left { OnErr result (IsTrue S.TAKES_HOST ⊎ LeavesSlot K.told names.now Nothing (S.zone store.old)
+        (S.rest store.old) (S.zone store.new) (S.rest store.new) sink.old sink.new) }
+    ensures idle { IsIdle K.told K.waits sink.new }
+    ensures listens { K.listens sink.new ≡ K.listens sink.old }
     ensures answer { IfOk result (λ r. IsNewBlock Nothing (length bytes.now) (S.zone store.old) (S.rest store.old)
         r.slot (S.zone store.new) (S.rest store.new)) }
     ensures kept { OnErr result (HasMore (S.rest store.old) (S.rest store.new)) }
@@ -202,20 +268,30 @@ fn new_block_for<S: BlockStore>(store: &mut S, bytes: &[u8]) -> Result<Taken, Al
         (S.rest store.old).unused (S.zone store.old)) }
     ensures moves { IfOk result (λ _. Packs (new_moves Nothing (length bytes.now) (S.rest store.old).unused
         (S.zone store.old)) (S.rest store.old) (S.rest store.new)) }
-    ensures host { IsErr result → IsTrue S.TAKES_HOST }
+    ensures host { IsErr result → IsTrue S.TAKES_HOST ⊎ (K.listens sink.old ≡ true) }
 {
     let size = size_of(bytes);
-    new_block(store, &[], size, Sparing::Nothing, &mut NoSink)
+    new_block(store, names, size, Sparing::Nothing, sink)
 }
 
 /// Puts a new block of these bytes and properties where there is room, under a new slot, and returns that slot;
 /// `None` where there is no unused slot and no room for more, where the block would be too large, or where there is
-/// no room for the block.
-pub fn fill_block<S: BlockStore>(
+/// no room for the block. A sink is told of the blocks that are purged for the slot, and then for the block, if it is
+/// to be told.
+pub fn fill_block<S: BlockStore, K: PurgeSink>(
     store: &mut S,
+    names: &[Anchor],
     bytes: &[u8],
     flags: Flags,
+    sink: &mut K,
 ) -> Result<Taken, AllocError>
+    requires idle { IsIdle K.told K.waits sink.old }
+    ensures told { OnOk result (K.listens sink.old ≡ true → Tells K.told
+        (new_gone names.now Nothing (length bytes.now) (S.rest store.old).unused (S.zone store.old)) sink.old sink.new) }
+    ensures left { OnErr result (IsTrue S.TAKES_HOST ⊎ LeavesSlot K.told names.now Nothing (S.zone store.old)
+        (S.rest store.old) (S.zone store.new) (S.rest store.new) sink.old sink.new) }
+    ensures idle { IsIdle K.told K.waits sink.new }
+    ensures listens { K.listens sink.new ≡ K.listens sink.old }
     ensures answer { IfOk result (λ r. IsFilling flags bytes.now (S.zone store.old) (S.rest store.old) r.slot
         (S.zone store.new) (S.rest store.new)) }
     ensures kept { OnErr result (HasMore (S.rest store.old) (S.rest store.new)) }
@@ -224,9 +300,9 @@ pub fn fill_block<S: BlockStore>(
         (S.rest store.old).unused (S.zone store.old)) }
     ensures moves { IfOk result (λ _. Packs (new_moves Nothing (length bytes.now) (S.rest store.old).unused
         (S.zone store.old)) (S.rest store.old) (S.rest store.new)) }
-    ensures host { IsErr result → IsTrue S.TAKES_HOST }
+    ensures host { IsErr result → IsTrue S.TAKES_HOST ⊎ (K.listens sink.old ≡ true) }
 {
-    let made = new_block_for(store, bytes)?;
+    let made = new_block_for(store, names, bytes, sink)?;
     let Some(slot) = made.slot else {
         return Ok(made);
     };
@@ -300,16 +376,26 @@ fn refill_block<S: BlockStore>(
 }
 
 /// Makes a new handle of a resource, unguarded, under the next number, for which `names` has room, and returns the
-/// number; `None` where the block finds no room.
-fn add_resource<S: BlockStore>(
+/// number; `None` where the block finds no room. A sink is told of the blocks that are purged for it, if it is to be
+/// told.
+fn add_resource<S: BlockStore, K: PurgeSink>(
     store: &mut S,
     names: &mut Vec<Anchor>,
     log: &mut Log,
     bytes: &[u8],
     flags: Flags,
+    sink: &mut K,
 ) -> Result<Option<usize>, AllocError>
     requires agrees { Agrees (S.zone store.old) (S.rest store.old) names.old.items }
     requires room { vec_len names.old < vec_capacity names.old }
+    requires idle { IsIdle K.told K.waits sink.old }
+    ensures told { OnOk result (K.listens sink.old ≡ true → Tells K.told (made_gone nothing bytes.now
+        (memory_of (S.zone store.old) (S.rest store.old) names.old.items log.old).heap) sink.old sink.new) }
+    ensures left { OnErr result (IsTrue S.TAKES_HOST ⊎ LeavesUnmade K.told
+        (memory_of (S.zone store.old) (S.rest store.old) names.old.items log.old)
+        (memory_of (S.zone store.new) (S.rest store.new) names.new.items log.new) sink.old sink.new) }
+    ensures idle { IsIdle K.told K.waits sink.new }
+    ensures listens { K.listens sink.new ≡ K.listens sink.old }
     ensures agrees { Agrees (S.zone store.new) (S.rest store.new) names.new.items }
     ensures next { IfOk result (λ number. IsNext flags bytes.now
         (memory_of (S.zone store.old) (S.rest store.old) names.old.items log.old) number
@@ -318,9 +404,9 @@ fn add_resource<S: BlockStore>(
     ensures capacity { vec_capacity names.new ≡ vec_capacity names.old }
     ensures reserved { log.new.reserved ≡ log.old.reserved }
     ensures lies { (S.rest store.new).window ≡ (S.rest store.old).window }
-    ensures host { IsErr result → IsTrue S.TAKES_HOST }
+    ensures host { IsErr result → IsTrue S.TAKES_HOST ⊎ (K.listens sink.old ≡ true) }
 {
-    let made = fill_block(store, bytes, flags)?;
+    let made = fill_block(store, names, bytes, flags, sink)?;
     log.count(made.searches);
     let Some(slot) = made.slot else {
         return Ok(None);
@@ -335,29 +421,38 @@ fn add_resource<S: BlockStore>(
 }
 
 /// Makes new handles of resources in order, and adds the number of each, or `None`, to `numbers`; `names` and
-/// `numbers` have room for all.
-fn add_resources<S: BlockStore>(
+/// `numbers` have room for all. A sink is told of the blocks that are purged for each in turn, if it is to be told.
+fn add_resources<S: BlockStore, K: PurgeSink>(
     store: &mut S,
     names: &mut Vec<Anchor>,
     log: &mut Log,
     wanted: &[Filling<'_>],
     numbers: &mut Vec<Option<usize>>,
+    sink: &mut K,
 ) -> Result<(), AllocError>
     requires agrees { Agrees (S.zone store.old) (S.rest store.old) names.old.items }
     requires room { vec_len names.old + length wanted.now ≤ vec_capacity names.old }
     requires numbers { vec_len numbers.old + length wanted.now ≤ vec_capacity numbers.old }
     requires first { numbers.old.items ≡ [] }
+    requires idle { IsIdle K.told K.waits sink.old }
+    ensures told { OnOk result (K.listens sink.old ≡ true → Tells K.told (all_gone (map wanted_as wanted.now)
+        (memory_of (S.zone store.old) (S.rest store.old) names.old.items log.old)) sink.old sink.new) }
+    ensures left { OnErr result (IsTrue S.TAKES_HOST ⊎ Stops K.told (map wanted_as wanted.now)
+        (memory_of (S.zone store.old) (S.rest store.old) names.old.items log.old) numbers.new.items
+        (memory_of (S.zone store.new) (S.rest store.new) names.new.items log.new) sink.old sink.new) }
+    ensures idle { IsIdle K.told K.waits sink.new }
+    ensures listens { K.listens sink.new ≡ K.listens sink.old }
     ensures agrees { Agrees (S.zone store.new) (S.rest store.new) names.new.items }
-    ensures answer { IfOk result (λ _. new_all (map wanted_as wanted.now)
+    ensures answer { OnOk result (new_all (map wanted_as wanted.now)
         (memory_of (S.zone store.old) (S.rest store.old) names.old.items log.old)
         ≡ (numbers.new.items, memory_of (S.zone store.new) (S.rest store.new) names.new.items log.new)) }
     ensures lies { (S.rest store.new).window ≡ (S.rest store.old).window }
     ensures capacity { vec_capacity names.new ≡ vec_capacity names.old }
     ensures reserved { log.new.reserved ≡ log.old.reserved }
-    ensures host { IsErr result → IsTrue S.TAKES_HOST }
+    ensures host { IsErr result → IsTrue S.TAKES_HOST ⊎ (K.listens sink.old ≡ true) }
 {
     for filling in wanted {
-        let number = add_resource(store, names, log, filling.bytes, filling.flags)?;
+        let number = add_resource(store, names, log, filling.bytes, filling.flags, sink)?;
         numbers.push_reserved(number);
     }
     Ok(())

@@ -29,6 +29,10 @@ pub enum Call {
     IsBusy(usize),
     /// Makes a handle the handle of a System resource.
     Guard(usize),
+    /// Writes bytes at the beginning of a handle's block.
+    Put(Name, &'static [u8]),
+    /// Makes this many empty handles.
+    NewEmptyHandles(u32),
     Ask(Question),
 }
 
@@ -75,28 +79,36 @@ pub const B: Name = Some(1);
 
 pub const C: Name = Some(2);
 
-fn refused(refusal: Refusal) -> Answer {
+pub const D: Name = Some(3);
+
+pub const E: Name = Some(4);
+
+/// Returns the result of a call that is refused.
+pub fn refused(refusal: Refusal) -> Answer {
     match refusal {
         Refusal::Code(code) => Answer::Refused(code),
         Refusal::HostMemory => Answer::HostMemory,
     }
 }
 
-fn done(answer: Result<(), Refusal>) -> Answer {
+/// Returns the result of a call that makes nothing.
+pub fn done(answer: Result<(), Refusal>) -> Answer {
     match answer {
         Ok(()) => Answer::Done,
         Err(refusal) => refused(refusal),
     }
 }
 
-fn made(answer: Result<usize, Refusal>) -> Answer {
+/// Returns the result of a call that makes a handle or a pointer.
+pub fn made(answer: Result<usize, Refusal>) -> Answer {
     match answer {
         Ok(number) => Answer::Made(number),
         Err(refusal) => refused(refusal),
     }
 }
 
-fn number(answer: Result<u32, Refusal>) -> Answer {
+/// Returns the result of a call that counts bytes.
+pub fn number(answer: Result<u32, Refusal>) -> Answer {
     match answer {
         Ok(number) => Answer::Number(u64::from(number)),
         Err(refusal) => refused(refusal),
@@ -114,6 +126,16 @@ fn answer_about(heap: &Heap<ListStore>, question: Question) -> Answer {
 fn guard(heap: &mut Heap<ListStore>, number: usize) {
     heap.set_resource(number, true);
     heap.set_guard(number, true);
+}
+
+/// Makes this many empty handles, if there is room for their master pointers.
+fn new_empty_handles(heap: &mut Heap<ListStore>, count: u32) -> Answer {
+    for _ in 0..count {
+        if let Err(refusal) = heap.new_empty_handle(&mut NoSink) {
+            return refused(refusal);
+        }
+    }
+    Answer::Done
 }
 
 /// Makes a call, and returns its result.
@@ -141,13 +163,32 @@ fn answer_to(heap: &mut Heap<ListStore>, call: Call) -> Answer {
             guard(heap, number);
             Answer::Done
         }
+        Call::Put(handle, bytes) => done(heap.put(handle, 0, bytes)),
+        Call::NewEmptyHandles(count) => new_empty_handles(heap, count),
         Call::Ask(question) => answer_about(heap, question),
     }
 }
 
 /// Returns a heap over a zone of 1024 bytes.
-fn heap_of(alloc: Global) -> Result<Heap<ListStore>, AllocError> {
+pub fn heap_of(alloc: Global) -> Result<Heap<ListStore>, AllocError> {
     Ok(Heap::new(alloc, ListStore::new(alloc, 1024)?))
+}
+
+/// Makes calls one after another, and asserts that each has its expected result. Where `again` is set, a call for which
+/// the host was out of memory is made once more.
+pub fn assert_rows(
+    rt: &impl Abort,
+    heap: &mut Heap<ListStore>,
+    rows: &[(Call, Answer)],
+    again: bool,
+) {
+    for (call, expected) in rows {
+        let mut found = answer_to(heap, *call);
+        if again && found == Answer::HostMemory {
+            found = answer_to(heap, *call);
+        }
+        assert_eq!(rt; found, *expected);
+    }
 }
 
 /// Makes calls one after another in a zone of 1024 bytes, and asserts that each has its expected result. Where `again`
@@ -159,12 +200,6 @@ pub fn assert_answers(
     again: bool,
 ) -> Result<(), AllocError> {
     let mut heap = heap_of(alloc)?;
-    for (call, expected) in rows {
-        let mut found = answer_to(&mut heap, *call);
-        if again && found == Answer::HostMemory {
-            found = answer_to(&mut heap, *call);
-        }
-        assert_eq!(rt; found, *expected);
-    }
+    assert_rows(rt, &mut heap, rows, again);
     Ok(())
 }

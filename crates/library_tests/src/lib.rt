@@ -11,3 +11,9 @@ mod forks;
 mod heaps;
 #[cfg(test)]
 mod memory;
+#[cfg(test)]
+mod recorder;
+#[cfg(test)]
+mod room_calls;
+#[cfg(test)]
+mod sinks;

@@ -66,6 +66,8 @@ pub enum ResourceCall {
     SetResAttrs(Label, u8),
     /// Returns the size in bytes of a resource's stored data.
     GetResourceSizeOnDisk(Label),
+    /// Sets whether what was changed of a resource is stored as its block is purged.
+    SetResPurge(bool),
     /// Sets whether the calls that return a handle also read the resource's stored data.
     SetResLoad(bool),
     /// Returns the result code of the last Resource Manager call before this one; `ResError` itself sets no code.

@@ -3,6 +3,7 @@ mod Worked
 pub mod Finding
 pub mod Standing
 pub mod Fetches
+pub mod FetchGone
 pub mod Noting
 pub mod Lookups
 pub mod LettingGo
@@ -12,6 +13,10 @@ pub mod OpeningForks
 pub mod Owning
 pub mod Soundness
 pub mod Preloads
+pub mod OpeningGone
+pub mod Stopping
+pub mod Storing
+pub mod GoneElsewhere
 pub mod Following
 pub mod Keeping
 pub mod Joining

@@ -1,5 +1,5 @@
 use Rattle.std.proofs.Common.{◌≡◌, ◌≢◌, ℕ, Bool, true, false, Some, None, Result, Ok, Err, refl, sym, ◌∙◌, ap, List, [], ◌∷◌}
-use Rattle.std.proofs.Common.{◌<◌, ◌≤◌, arith, get_or, length, map}
+use Rattle.std.proofs.Common.{◌<◌, ◌≤◌, arith, get_or, length, map, subst}
 use Rattle.std.proofs.lemmas.Bool.{le-ltb, ne_eqb}
 use Rattle.std.proofs.lemmas.List.{length-map}
 use Rattle.std.specs.Prelude.{option_map, slice_get, IfSome, nat_lt, bytes_eq}
@@ -73,6 +73,34 @@ open_already name i j r m fs xs x files chain called already inside is =
       ap (λ (a : Answer ℕ). a.after) done_so,
     )
 
+-- the file of a name, which is not open; what holds of its place and fork
+pub record Anew (name : List ℕ) (r : Resources) (holds : ℕ → List ℕ → Type 0) : Type 0 where
+  pub file : Split File
+  pub named : split (λ (f : File). bytes_eq f.name name) r.files ≡ Some file
+  pub closed : split (λ (f : OpenFile). is_at (place file) f.file) r.chain ≡ None
+  pub here : holds (place file) file.here.fork
+
+pub file_anew : (name : List ℕ) (i : ℕ) (r : Resources) (holds : ℕ → List ℕ → Type 0) (fs : List StoredFile)
+    (xs : List StoredOpenFile) → map view_file fs ≡ r.files → map view_open xs ≡ r.chain
+    → Some i ≡ option_map place (split (λ (f : File). bytes_eq f.name name) (map view_file fs))
+    → None ≡ option_map place (split (λ (f : OpenFile). is_at i f.file) (map view_open xs))
+    → IfSome (slice_get r.files i) (λ f. holds i f.fork) → Anew name r holds
+file_anew name i r holds fs xs files chain called closed opening =
+    let file = found-place (split (λ (f : File). bytes_eq f.name name) (map view_file fs)) i called in
+    let none = found-none (split (λ (f : OpenFile). is_at i f.file) (map view_open xs)) closed in
+    let found : split (λ (f : File). bytes_eq f.name name) r.files ≡ Some file.0 =
+    ap (λ l. split (λ (f : File). bytes_eq f.name name) l) (sym files) ∙ file.1.0 in
+    let here : slice_get r.files i ≡ Some file.0.here =
+    ap (slice_get r.files) file.1.1 ∙ split-get (λ (f : File). bytes_eq f.name name) r.files file.0 found in
+    let opens : holds i file.0.here.fork = rw here at opening in
+    record {
+      file = file.0;
+      named = found;
+      closed = ap (λ l. split (λ (f : OpenFile). is_at (place file.0) f.file) l) (sym chain)
+          ∙ ap (λ k. split (λ (f : OpenFile). is_at k f.file) (map view_open xs)) (sym file.1.1) ∙ none;
+      here = subst (λ k. holds k file.0.here.fork) file.1.1 opens;
+    }
+
 pub open_anew : (name : List ℕ) (i : ℕ) (r : Resources) (m : Memory) (fs : List StoredFile)
     (xs : List StoredOpenFile) (result : Result ℕ Refusal) (after : Managers)
     → map view_file fs ≡ r.files → map view_open xs ≡ r.chain
@@ -81,17 +109,9 @@ pub open_anew : (name : List ℕ) (i : ℕ) (r : Resources) (m : Memory) (fs : L
     → IfSome (slice_get r.files i) (λ f. IsAnswered (λ (n : ℕ). n) (open_fork i f.fork (managers r m)) result after)
     → IsAnswered (λ (n : ℕ). n) (open_res_file name (managers r m)) result after
 open_anew name i r m fs xs result after files chain called closed opening =
-    let file = found-place (split (λ (f : File). bytes_eq f.name name) (map view_file fs)) i called in
-    let none = found-none (split (λ (f : OpenFile). is_at i f.file) (map view_open xs)) closed in
-    let found : split (λ (f : File). bytes_eq f.name name) r.files ≡ Some file.0 =
-    ap (λ l. split (λ (f : File). bytes_eq f.name name) l) (sym files) ∙ file.1.0 in
-    let here : slice_get r.files i ≡ Some file.0.here =
-    ap (slice_get r.files) file.1.1 ∙ split-get (λ (f : File). bytes_eq f.name name) r.files file.0 found in
-    let opens = rw here at opening in
-    let same = anew_at name r m file.0 found
-    (ap (λ l. split (λ (f : OpenFile). is_at (place file.0) f.file) l) (sym chain)
-    ∙ ap (λ k. split (λ (f : OpenFile). is_at k f.file) (map view_open xs)) (sym file.1.1) ∙ none) in
-    rw (same, ← file.1.1) opens
+    let at = file_anew name i r (λ k fork. IsAnswered (λ (n : ℕ). n) (open_fork k fork (managers r m)) result after) fs
+    xs files chain called closed opening in
+    rw (anew_at name r m at.file at.named at.closed) at.here
 
 -- the file at a place, and a number that can be given
 pub file_here : (r : Resources) (fs : List StoredFile) (i : ℕ) (x : StoredFile) → map view_file fs ≡ r.files

@@ -6,11 +6,14 @@ use Rattle.std.proofs.lemmas.List.{length-set}
 use Rattle.mac_words.specs.declared.code.OsErr.{OsErr}
 use Rattle.block_store.specs.declared.flags.Flags.{Flags}
 use Rattle.heap_calls.specs.State.{Memory, Resource}
+use Rattle.heap_calls.specs.Answer.{nothing}
+use Rattle.heap_calls.specs.Gone.{Gone, Tells, made_gone, all_gone}
 use Rattle.heap_calls.specs.Inside.{new_inside, new_all, number_if}
 use Rattle.heap_calls.specs.Inner.Filling.{wanted_as}
 use Rattle.heap_calls.specs.declared.filling.Filling.{Filling}
 use Rattle.res_map.specs.Map.{Reference, Map, is_preload, with_handle}
 use Rattle.res_calls.specs.Fetch.{Loaded, flags_of, given, preload_one, preload, loaded_both}
+use Rattle.res_calls.specs.Gone.{preload_gone}
 use Rattle.res_calls.specs.Preloading.{filling_of, wanted_of, next_number, numbered, given_to}
 
 -- A file's references are read as it is opened: making all handles first and then giving them out comes to the same.
@@ -232,3 +235,47 @@ pub loaded_memory : (references : List Reference) (m after : Memory) (numbers : 
     → new_all (wanted_of references) m ≡ (numbers, after) → after ≡ (preload references m).memory
 loaded_memory references m after numbers made =
     sym ((loads references m).1 ∙ ap (λ (p : List (Option ℕ) × Memory). p.1) made)
+
+-- what is purged for the references in order is what is purged for all handles
+gone_wanted : (x : Reference) (references : List Reference) (m : Memory) → is_preload x ≡ true
+    → preload_gone references (new_inside Resource (flags_of x) x.stored.datum m).1
+    ≡ all_gone (wanted_of references) (new_inside Resource (flags_of x) x.stored.datum m).1
+    → preload_gone (x ∷ references) m ≡ all_gone (wanted_of (x ∷ references)) m
+gone_wanted x references m is again =
+    let p = new_inside Resource (flags_of x) x.stored.datum m in
+    let first : List Gone = made_gone nothing x.stored.datum m.heap in
+    let one : preload_one x m ≡ given x p = rw is refl in
+    ap (λ (t : Bool). cond t first [] ++ preload_gone references (preload_one x m).memory) is
+    ∙ ap (λ (l : Loaded). first ++ preload_gone references l.memory) (one ∙ one_read x p)
+    ∙ ap (λ (l : List Gone). first ++ l) again
+    ∙ sym (ap (λ w. all_gone w m) (wanted_cons x references true is))
+
+gone_other : (x : Reference) (references : List Reference) (m : Memory) → is_preload x ≡ false
+    → preload_gone references m ≡ all_gone (wanted_of references) m
+    → preload_gone (x ∷ references) m ≡ all_gone (wanted_of (x ∷ references)) m
+gone_other x references m is again =
+    let first : List Gone = made_gone nothing x.stored.datum m.heap in
+    let alone : Loaded = record { references = x ∷ []; memory = m; reads = [] } in
+    let one : preload_one x m ≡ alone = rw is refl in
+    ap (λ (t : Bool). cond t first [] ++ preload_gone references (preload_one x m).memory) is
+    ∙ ap (λ (l : Loaded). preload_gone references l.memory) one ∙ again
+    ∙ sym (ap (λ w. all_gone w m) (wanted_cons x references false is))
+
+gone_all : (references : List Reference) (m : Memory)
+    → preload_gone references m ≡ all_gone (wanted_of references) m
+gone_all [] m = refl
+gone_all (x ∷ references) m =
+    cases (is_preload x) refl (gone_all references (new_inside Resource (flags_of x) x.stored.datum m).1)
+    (gone_all references m)
+  where
+    cases : (is : Bool) → is_preload x ≡ is
+        → preload_gone references (new_inside Resource (flags_of x) x.stored.datum m).1
+        ≡ all_gone (wanted_of references) (new_inside Resource (flags_of x) x.stored.datum m).1
+        → preload_gone references m ≡ all_gone (wanted_of references) m
+        → preload_gone (x ∷ references) m ≡ all_gone (wanted_of (x ∷ references)) m
+    cases true is read passed = gone_wanted x references m is read
+    cases false is read passed = gone_other x references m is passed
+
+pub tells_loaded : {A : Type 0} (told : A → List Gone → Type 0) (references : List Reference) (m : Memory) (s s' : A)
+    → Tells told (all_gone (wanted_of references) m) s s' → Tells told (preload_gone references m) s s'
+tells_loaded told references m s s' tells = subst (λ l. Tells told l s s') (sym (gone_all references m)) tells

@@ -37,6 +37,7 @@ pub data ResourceAsked : Type 0 where
   GetResAttrs : (handle : Option ℕ) → ResourceAsked
   SetResAttrs : (handle : Option ℕ) (attrs : ℕ) → ResourceAsked
   GetResourceSizeOnDisk : (handle : Option ℕ) → ResourceAsked
+  SetResPurge : (on : Bool) → ResourceAsked
   SetResLoad : (on : Bool) → ResourceAsked
   ResError : ResourceAsked
 
@@ -88,6 +89,7 @@ served (SetResInfo handle id name) s = telling (λ _. Done) (noting (changing.se
 served (GetResAttrs handle) s = telling Number (noting (rows.get_res_attrs handle) s)
 served (SetResAttrs handle attrs) s = telling (λ _. Done) (noting (changing.set_res_attrs handle attrs) s)
 served (GetResourceSizeOnDisk handle) s = telling Number (noting (rows.get_resource_size_on_disk handle) s)
+served (SetResPurge on) s = telling (λ _. Done) (noting (rows.set_res_purge on) s)
 served (SetResLoad on) s = telling (λ _. Done) (noting (rows.set_res_load on) s)
 served ResError s = record { told = Code s.resources.error; reads = []; reading = None; after = s }
 

@@ -1,4 +1,4 @@
-use Rattle.std.specs.Prelude.{ℕ, ℤ, true, false, not, ◌&&◌, ◌||◌, ◌==◌, nat_le, Option, Some, None, Result, Ok, Err, List, []}
+use Rattle.std.specs.Prelude.{ℕ, ℤ, Bool, true, false, not, ◌&&◌, ◌||◌, ◌==◌, nat_le, Option, Some, None, Result, Ok, Err, List, []}
 use Rattle.std.specs.Prelude.{◌∷◌, ◌++◌, length, replicate, if◌then◌else◌}
 use Rattle.mac_words.specs.Attributes.{changed, set}
 use Rattle.mac_words.specs.declared.code.OsErr.{OsErr}
@@ -144,10 +144,14 @@ abbrev pub stored_if : Option (List ℕ) → Found → Managers → Managers
 stored_if None at s = s
 stored_if (Some bytes) at s = with_changed (stored_anew (Some bytes) at.reference.here) at s
 
+-- A resource of which WriteResource stores the bytes of its handle: it was changed, and is not protected.
+abbrev pub is_to_write : Reference → Bool
+is_to_write x = is_changed x && not (is_protected x)
+
 -- WriteResource: stores the bytes of a changed resource's handle, unless the resource is protected or the handle is
 -- empty. The next update of the file writes them into the fork.
 abbrev pub write_found : Option ℕ → Managers → Found → Answer (Unit {0})
-write_found handle s at = if is_changed at.reference.here && not (is_protected at.reference.here)
+write_found handle s at = if is_to_write at.reference.here
     then done tt (stored_if (bytes_held handle s.memory.heap) at s) else done tt s
 
 abbrev pub write_resource : Option ℕ → Managers → Answer (Unit {0})

@@ -24,13 +24,15 @@ pub record OpenFile : Type 0 where
   pub touched : Bool
 
 -- The resources of an application: its files; the open files, the file opened last first; the number of the current
--- file; the number that the next opened file gets; whether loading is on; and the code that ResError returns.
+-- file; the number that the next opened file gets; whether loading is on; whether purging stores what was changed; and
+-- the code that ResError returns.
 pub record Resources : Type 0 where
   pub files : List File
   pub chain : List OpenFile
   pub current : ℕ
   pub next : ℕ
   pub loading : Bool
+  pub purging : Bool
   pub error : OsErr
 
 -- A reference that was found in an open file.
@@ -108,5 +110,6 @@ fresh_resources files own system = record {
   current = 2;
   next = 3;
   loading = true;
+  purging = false;
   error = NO_ERR;
 }

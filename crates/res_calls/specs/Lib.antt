@@ -4,6 +4,7 @@ pub mod Update
 pub mod Updating
 pub mod Rows
 pub mod Changing
+pub mod Purging
 pub mod Sound
 pub mod Asked
 pub mod View
@@ -13,8 +14,10 @@ pub mod Writing
 pub mod Forks
 pub mod Places
 pub mod Own
+pub mod Gone
 pub mod Owning
 pub mod Preloading
+pub mod Stopped
 pub mod Leaving
 pub mod Undoing
 pub mod Fetching

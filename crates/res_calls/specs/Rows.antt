@@ -295,6 +295,11 @@ get_resource_size_on_disk handle s = on_resource handle s (λ at. done (length a
 abbrev pub set_res_load : Bool → Managers → Answer (Unit {0})
 set_res_load on s = done tt (with_resources (record s.resources { loading = on }) s)
 
+-- SetResPurge: turns on or off the storing of changed resources whose blocks are purged. More Macintosh Toolbox, chapter
+-- 1, "SetResPurge".
+abbrev pub set_res_purge : Bool → Managers → Answer (Unit {0})
+set_res_purge on s = done tt (with_resources (record s.resources { purging = on }) s)
+
 -- The managers where ResError returns the given code.
 abbrev pub keep_error : OsErr → Managers → Managers
 keep_error code s = record s { resources = record s.resources { error = code } }

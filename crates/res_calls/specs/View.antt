@@ -12,12 +12,13 @@ abbrev pub view_open : StoredOpenFile → OpenFile
 view_open f = record { number = f.number; file = f.file; map = f.map; touched = f.touched }
 
 -- The resources made of these files and open files; the file opened last comes first.
-abbrev pub resources_of : List StoredFile → List StoredOpenFile → ℕ → ℕ → Bool → OsErr → Resources
-resources_of files chain current next loading error = record {
+abbrev pub resources_of : List StoredFile → List StoredOpenFile → ℕ → ℕ → Bool → Bool → OsErr → Resources
+resources_of files chain current next loading purging error = record {
   files = map view_file files;
   chain = map view_open chain;
   current = current;
   next = next;
   loading = loading;
+  purging = purging;
   error = error;
 }

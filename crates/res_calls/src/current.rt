@@ -136,6 +136,18 @@ impl Resources {
         count_resources(&self.chain, self.current, ty)
     }
 
+    /// `SetResPurge`: turns on or off the storing of what was changed: while it is on, the bytes of a block that is purged
+    /// are stored of the block's resource, as `WriteResource` stores them.
+    ///
+    /// *More Macintosh Toolbox*, chapter 1, "SetResPurge".
+    pub fn set_res_purge(&mut self, on: bool)
+        ensures { (m : Memory) → IsAnswered (λ (u : Unit {0}). u) (noting (rows.set_res_purge on)
+            (managers self.old m)) (Ok tt) (managers self.new m) }
+    {
+        self.purging = on;
+        self.error = OsErr::NO_ERR;
+    }
+
     /// `SetResLoad`: turns on or off the reading of stored data by the calls that return a resource's handle and by
     /// `OpenResFile`.
     pub fn set_res_load(&mut self, on: bool)

@@ -2,7 +2,10 @@
 //!
 //! *More Macintosh Toolbox*, chapter 1, "Reading Resources into Memory".
 
-ghost use Rattle.std.specs.Prelude.{◌≡◌, ◌⊎◌, IsTrue, map, is_some, true, Some, Err};
+ghost use Rattle.std.specs.Prelude.{◌≡◌, ◌≢◌, ◌⊎◌, IsTrue, map, is_some, true, Some, None, Err};
+ghost use Rattle.heap_calls.specs.Answer.{nothing};
+ghost use Rattle.heap_calls.specs.Gone.{Tells, TellsNothing, IsIdle, slot_gone};
+ghost use Rattle.heap_calls.specs.Refused.{LeavesMasters};
 ghost use Rattle.heap_calls.specs.Inner.Given.{IsAnswer, KeepsNames};
 ghost use Rattle.res_map.specs.View.{view_lent};
 ghost use Rattle.res_calls.specs.Files.{Found, Resources as ResourcesValue};
@@ -11,7 +14,8 @@ ghost use Rattle.res_calls.specs.Fetch.{is_system};
 ghost use Rattle.res_calls.specs.Rows.{noting};
 ghost use Rattle.res_calls.specs.Given.{IsFetched, managers};
 ghost use Rattle.res_calls.specs.Places.{found_at, found_from, chained, made_for, fetch_wanted};
-ghost use Rattle.res_calls.specs.Places.{last_fetched};
+ghost use Rattle.res_calls.specs.Gone.{fetch_gone_as, fetch_gone};
+ghost use Rattle.res_calls.specs.Places.{last_fetched, handle_gone};
 ghost use Rattle.res_calls.specs.Places.{WantsHost};
 ghost use Rattle.res_calls.specs.View.{view_open};
 ghost use Rattle.res_calls.specs.Rows.{fetched_as};
@@ -20,7 +24,7 @@ use crate::fetched::{Fetched, Unread};
 use crate::files::{OpenFile, Resources};
 use crate::find::{Spot, Wanted, Within, entry_at, number_at, set_handle};
 use block_store::{BlockStore, Flags};
-use heap_calls::{Heap, NoSink, Refusal};
+use heap_calls::{Heap, PurgeSink, Refusal};
 use mac_words::{Attrs, OsErr};
 use res_map::LentReference;
 
@@ -36,44 +40,69 @@ pub(crate) fn flags_of(entry: &LentReference<'_>) -> Flags
 }
 
 /// Makes a new handle for a resource: a handle to a block that holds the stored data where `loading` is on, and an
-/// empty handle otherwise. `guarded` says that the resource is the System file's.
-fn make_handle<S: BlockStore>(
+/// empty handle otherwise. `guarded` says that the resource is the System file's. The sink is told of the blocks that
+/// are purged for it, if it is to be told.
+fn make_handle<S: BlockStore, K: PurgeSink>(
     heap: &mut Heap<S>,
     entry: &LentReference<'_>,
     guarded: bool,
     loading: bool,
+    sink: &mut K,
 ) -> Result<usize, Refusal>
+    requires idle { IsIdle K.told K.waits sink.old }
     ensures answer { IsAnswer (made_for loading guarded (view_lent entry.now) heap.old) result heap.new }
-    ensures host { result ≡ Err Refusal.HostMemory → IsTrue S.TAKES_HOST ⊎ (heap.new ≡ heap.old) }
+    ensures told { result ≢ Err Refusal.HostMemory → K.listens sink.old ≡ true
+        → Tells K.told (handle_gone loading (view_lent entry.now) heap.old) sink.old sink.new }
+    ensures untold { result ≡ Err Refusal.HostMemory → IsTrue S.TAKES_HOST
+        ⊎ (((heap.new ≡ heap.old) × TellsNothing K.told sink.old sink.new)
+        ⊎ (LeavesMasters nothing heap.old heap.new
+        × Tells K.told (slot_gone nothing heap.old.heap) sink.old sink.new)) }
+    ensures idle { IsIdle K.told K.waits sink.new }
+    ensures listens { K.listens sink.new ≡ K.listens sink.old }
+    ensures host { result ≡ Err Refusal.HostMemory
+        → IsTrue S.TAKES_HOST ⊎ ((heap.new ≡ heap.old) ⊎ (K.listens sink.old ≡ true)) }
     ensures kept { result ≡ Err Refusal.HostMemory → KeepsNames heap.old heap.new }
     ensures lies { heap.new.window ≡ heap.old.window }
 {
     if loading {
-        heap.new_resource(entry.stored.datum, flags_of(entry), guarded)
+        heap.new_resource(entry.stored.datum, flags_of(entry), guarded, sink)
     } else {
-        heap.new_empty_resource(guarded)
+        heap.new_empty_resource(guarded, sink)
     }
 }
 
-/// Fetches the reference at `at`, which has no handle.
-fn fetch_new<S: BlockStore>(
+/// Fetches the reference at `at`, which has no handle. The sink is told of the blocks that are purged for it, if it is
+/// to be told.
+fn fetch_new<S: BlockStore, K: PurgeSink>(
     files: &mut Vec<OpenFile>,
     heap: &mut Heap<S>,
     at: Spot,
     loading: bool,
+    sink: &mut K,
 ) -> Result<Fetched, Unread>
-    requires { is_some (found_at at (map view_open files.old.items)) ≡ true }
+    requires place { is_some (found_at at (map view_open files.old.items)) ≡ true }
+    requires idle { IsIdle K.told K.waits sink.old }
     ensures answer { (r : ResourcesValue) (f : Found) → found_at at (map view_open files.old.items) ≡ Some f
         → IsFetched (fetch.fetch_new loading f (managers (chained files.old.items r) heap.old)) result
         (managers (chained files.new.items r) heap.new) }
+    ensures told { (r : ResourcesValue) (f : Found) → found_at at (map view_open files.old.items) ≡ Some f
+        → ¬ (WantsHost result) → K.listens sink.old ≡ true → Tells K.told
+        (fetch_gone_as loading f None (managers (chained files.old.items r) heap.old)) sink.old sink.new }
     ensures left { WantsHost result → map view_open files.new.items ≡ map view_open files.old.items }
-    ensures host { WantsHost result → IsTrue S.TAKES_HOST ⊎ (heap.new ≡ heap.old) }
+    ensures untold { WantsHost result → IsTrue S.TAKES_HOST
+        ⊎ (((heap.new ≡ heap.old) × TellsNothing K.told sink.old sink.new)
+        ⊎ (LeavesMasters nothing heap.old heap.new
+        × Tells K.told (slot_gone nothing heap.old.heap) sink.old sink.new)) }
+    ensures idle { IsIdle K.told K.waits sink.new }
+    ensures listens { K.listens sink.new ≡ K.listens sink.old }
+    ensures host { WantsHost result → IsTrue S.TAKES_HOST
+        ⊎ ((heap.new ≡ heap.old) ⊎ (K.listens sink.old ≡ true)) }
     ensures kept { WantsHost result → KeepsNames heap.old heap.new }
     ensures lies { heap.new.window ≡ heap.old.window }
 {
     let guarded = number_at(files, at) == 0;
     let entry = entry_at(files, at);
-    match make_handle(heap, &entry, guarded, loading) {
+    match make_handle(heap, &entry, guarded, loading, sink) {
         Err(refusal) => Err(Unread {
             refusal,
             reading: None,
@@ -89,16 +118,28 @@ fn fetch_new<S: BlockStore>(
 }
 
 /// Fetches a reference whose handle is `handle`: where `loading` is on and the handle is empty, reads the stored data
-/// into a new block of the handle.
-fn fetch_again<S: BlockStore>(
+/// into a new block of the handle. The sink is told of the blocks that are purged for it, if it is to be told.
+fn fetch_again<S: BlockStore, K: PurgeSink>(
     heap: &mut Heap<S>,
     entry: &LentReference<'_>,
     handle: usize,
     loading: bool,
+    sink: &mut K,
 ) -> Result<Fetched, Unread>
+    requires idle { IsIdle K.told K.waits sink.old }
     ensures answer { (r : ResourcesValue) (f : Found) → f.reference.here ≡ view_lent entry.now
         → IsFetched (fetch.fetch_again loading f handle (managers r heap.old)) result (managers r heap.new) }
-    ensures host { WantsHost result → IsTrue S.TAKES_HOST ⊎ (heap.new ≡ heap.old) }
+    ensures told { (r : ResourcesValue) (f : Found) → f.reference.here ≡ view_lent entry.now
+        → ¬ (WantsHost result) → K.listens sink.old ≡ true → Tells K.told
+        (fetch_gone_as loading f (Some handle) (managers r heap.old)) sink.old sink.new }
+    ensures untold { WantsHost result → IsTrue S.TAKES_HOST
+        ⊎ (((heap.new ≡ heap.old) × TellsNothing K.told sink.old sink.new)
+        ⊎ (LeavesMasters nothing heap.old heap.new
+        × Tells K.told (slot_gone nothing heap.old.heap) sink.old sink.new)) }
+    ensures idle { IsIdle K.told K.waits sink.new }
+    ensures listens { K.listens sink.new ≡ K.listens sink.old }
+    ensures host { WantsHost result → IsTrue S.TAKES_HOST
+        ⊎ ((heap.new ≡ heap.old) ⊎ (K.listens sink.old ≡ true)) }
     ensures kept { WantsHost result → KeepsNames heap.old heap.new }
     ensures lies { heap.new.window ≡ heap.old.window }
 {
@@ -108,7 +149,7 @@ fn fetch_again<S: BlockStore>(
             read: false,
         });
     }
-    match heap.refill(handle, entry.stored.datum, flags_of(entry), &mut NoSink) {
+    match heap.refill(handle, entry.stored.datum, flags_of(entry), sink) {
         Err(refusal) => Err(Unread {
             refusal,
             reading: Some(handle),
@@ -117,44 +158,70 @@ fn fetch_again<S: BlockStore>(
     }
 }
 
-/// Fetches the reference at `at`.
-fn fetch_in<S: BlockStore>(
+/// Fetches the reference at `at`. The sink is told of the blocks that are purged for it, if it is to be told.
+fn fetch_in<S: BlockStore, K: PurgeSink>(
     files: &mut Vec<OpenFile>,
     heap: &mut Heap<S>,
     at: Spot,
     loading: bool,
+    sink: &mut K,
 ) -> Result<Fetched, Unread>
-    requires { is_some (found_at at (map view_open files.old.items)) ≡ true }
+    requires place { is_some (found_at at (map view_open files.old.items)) ≡ true }
+    requires idle { IsIdle K.told K.waits sink.old }
     ensures answer { (r : ResourcesValue) (f : Found) → found_at at (map view_open files.old.items) ≡ Some f
         → IsFetched (fetch.fetch loading f (managers (chained files.old.items r) heap.old)) result
         (managers (chained files.new.items r) heap.new) }
+    ensures told { (r : ResourcesValue) (f : Found) → found_at at (map view_open files.old.items) ≡ Some f
+        → ¬ (WantsHost result) → K.listens sink.old ≡ true → Tells K.told
+        (fetch_gone_as loading f f.reference.here.handle (managers (chained files.old.items r) heap.old))
+        sink.old sink.new }
     ensures left { WantsHost result → map view_open files.new.items ≡ map view_open files.old.items }
-    ensures host { WantsHost result → IsTrue S.TAKES_HOST ⊎ (heap.new ≡ heap.old) }
+    ensures untold { WantsHost result → IsTrue S.TAKES_HOST
+        ⊎ (((heap.new ≡ heap.old) × TellsNothing K.told sink.old sink.new)
+        ⊎ (LeavesMasters nothing heap.old heap.new
+        × Tells K.told (slot_gone nothing heap.old.heap) sink.old sink.new)) }
+    ensures idle { IsIdle K.told K.waits sink.new }
+    ensures listens { K.listens sink.new ≡ K.listens sink.old }
+    ensures host { WantsHost result → IsTrue S.TAKES_HOST
+        ⊎ ((heap.new ≡ heap.old) ⊎ (K.listens sink.old ≡ true)) }
     ensures kept { WantsHost result → KeepsNames heap.old heap.new }
     ensures lies { heap.new.window ≡ heap.old.window }
 {
     let entry = entry_at(files, at);
     match entry.handle {
-        None => fetch_new(files, heap, at, loading),
-        Some(handle) => fetch_again(heap, &entry, handle, loading),
+        None => fetch_new(files, heap, at, loading, sink),
+        Some(handle) => fetch_again(heap, &entry, handle, loading, sink),
     }
 }
 
 impl Resources {
     /// Fetches the reference at `found`. Returns -192 (resNotFound) where `found` is `None`, and -108 (memFullErr)
-    /// where the zone has no room. Where the host is out of memory, the resources stay as they were, and so does the
-    /// heap over a store that uses no host memory.
-    pub(crate) fn fetch_found<S: BlockStore>(
+    /// where the zone has no room. The sink is told of the blocks that are purged for it, if it is to be told. Where
+    /// the host is out of memory, the resources stay as they were, and so do the heap and the sink over a store that
+    /// uses no host memory, but where the sink found the host out of memory behind a new master pointer block, which
+    /// then stays.
+    pub(crate) fn fetch_found<S: BlockStore, K: PurgeSink>(
         &mut self,
         heap: &mut Heap<S>,
         found: Option<Spot>,
         loading: bool,
+        sink: &mut K,
     ) -> Result<Fetched, Unread>
-        requires { is_some (found_from found self.old.chain) ≡ is_some found }
+        requires placed { is_some (found_from found self.old.chain) ≡ is_some found }
+        requires idle { IsIdle K.told K.waits sink.old }
         ensures answer { IsFetched (fetched_as loading (found_from found self.old.chain) (managers self.old heap.old))
             result (managers self.new heap.new) }
+        ensures told { ¬ (WantsHost result) → K.listens sink.old ≡ true → Tells K.told
+            (fetch_gone loading (found_from found self.old.chain) (managers self.old heap.old)) sink.old sink.new }
         ensures left { WantsHost result → self.new ≡ self.old }
-        ensures host { WantsHost result → IsTrue S.TAKES_HOST ⊎ (heap.new ≡ heap.old) }
+        ensures untold { WantsHost result → IsTrue S.TAKES_HOST
+            ⊎ (((heap.new ≡ heap.old) × TellsNothing K.told sink.old sink.new)
+            ⊎ (LeavesMasters nothing heap.old heap.new
+            × Tells K.told (slot_gone nothing heap.old.heap) sink.old sink.new)) }
+        ensures idle { IsIdle K.told K.waits sink.new }
+        ensures listens { K.listens sink.new ≡ K.listens sink.old }
+        ensures host { WantsHost result → IsTrue S.TAKES_HOST
+            ⊎ ((heap.new ≡ heap.old) ⊎ (K.listens sink.old ≡ true)) }
         ensures kept { WantsHost result → KeepsNames heap.old heap.new }
         ensures lies { heap.new.window ≡ heap.old.window }
     {
@@ -163,7 +230,7 @@ impl Resources {
                 refusal: Refusal::Code(OsErr::RES_NOT_FOUND),
                 reading: None,
             }),
-            Some(at) => fetch_in(&mut self.chain, heap, at, loading),
+            Some(at) => fetch_in(&mut self.chain, heap, at, loading, sink),
         }
     }
 

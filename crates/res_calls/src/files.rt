@@ -46,6 +46,8 @@ pub struct Resources {
     pub(crate) next: u32,
     /// Whether a fetch reads the stored data of a resource (`SetResLoad`).
     pub(crate) loading: bool,
+    /// Whether what was changed is stored as its block is purged (`SetResPurge`).
+    pub(crate) purging: bool,
     /// The code that `ResError` returns.
     pub(crate) error: OsErr,
 }
@@ -57,7 +59,7 @@ impl Model for Resources {
 
     ghost Value = { ResourcesValue };
 
-    ghost view = { λ r. resources_of r.files.items r.chain.items r.current r.next r.loading r.error };
+    ghost view = { λ r. resources_of r.files.items r.chain.items r.current r.next r.loading r.purging r.error };
 
-    ghost invariant = { λ r. Sound (resources_of r.files.items r.chain.items r.current r.next r.loading r.error) };
+    ghost invariant = { λ r. Sound (resources_of r.files.items r.chain.items r.current r.next r.loading r.purging r.error) };
 }

@@ -1,14 +1,20 @@
 //! The calls that find a resource and fetch the resource.
 
-ghost use Rattle.std.specs.Prelude.{◌≡◌, ◌⊎◌, ◌==◌, IsTrue, is_some, map};
+ghost use Rattle.std.specs.Prelude.{◌≡◌, ◌⊎◌, ◌==◌, IsTrue, is_some, map, true};
 ghost use Rattle.byteorder.specs.Endian.{big_number};
+ghost use Rattle.heap_calls.specs.Answer.{nothing};
+ghost use Rattle.heap_calls.specs.Gone.{Tells, TellsNothing, IsIdle, slot_gone};
+ghost use Rattle.heap_calls.specs.Refused.{LeavesMasters};
 ghost use Rattle.heap_calls.specs.Inner.Given.{KeepsNames};
 ghost use Rattle.res_map.specs.Split.{split};
-ghost use Rattle.res_calls.specs.Files.{OpenFile as OpenFileValue, file_of};
+ghost use Rattle.res_calls.specs.Asked.{GetResource, Get1Resource, GetNamedResource};
+ghost use Rattle.res_calls.specs.Asked.{Get1NamedResource, Get1IndResource, LoadResource};
+ghost use Rattle.res_calls.specs.Files.{OpenFile as OpenFileValue, file_of, find};
+ghost use Rattle.res_calls.specs.Gone.{fetch_gone, gone_for};
 ghost use Rattle.res_calls.specs.Rows as rows;
 ghost use Rattle.res_calls.specs.Rows.{noting};
 ghost use Rattle.res_calls.specs.Given.{IsFetched, managers};
-ghost use Rattle.res_calls.specs.Places.{WantsHost, found_from, fetch_wanted};
+ghost use Rattle.res_calls.specs.Places.{WantsHost, found_from, fetch_wanted, is_searched, is_wanted};
 ghost use Rattle.res_calls.specs.View.{view_open};
 
 use crate::chain::place_numbered;
@@ -16,7 +22,7 @@ use crate::fetched::{Fetched, Unread};
 use crate::files::{OpenFile, Resources};
 use crate::find::{Spot, Wanted, Within};
 use block_store::BlockStore;
-use heap_calls::Heap;
+use heap_calls::{Heap, PurgeSink};
 use mac_words::OsType;
 
 /// Returns the place of the `n`-th reference of a type, counted from 1, in the open file whose number is `number`.
@@ -41,158 +47,243 @@ impl Resources {
         nth_spot(&self.chain, self.current, ty, n)
     }
 
-    /// Finds a reference, fetches the reference, and sets the code that `ResError` returns.
-    fn fetch_wanted<S: BlockStore>(
+    /// Finds a reference, fetches the reference, and sets the code that `ResError` returns. The sink is told of the
+    /// blocks that are purged for it, if it is to be told.
+    fn fetch_wanted<S: BlockStore, K: PurgeSink>(
         &mut self,
         heap: &mut Heap<S>,
         within: Within,
         wanted: Wanted<'_>,
         loading: bool,
+        sink: &mut K,
     ) -> Result<Fetched, Unread>
+        requires idle { IsIdle K.told K.waits sink.old }
         ensures answer { IsFetched (noting (fetch_wanted within wanted.entry loading) (managers self.old heap.old))
             result (managers self.new heap.new) }
+        ensures told { ¬ (WantsHost result) → K.listens sink.old ≡ true → Tells K.told
+            (fetch_gone loading (find (is_searched within) (is_wanted wanted.entry) self.old.chain)
+            (managers self.old heap.old)) sink.old sink.new }
         ensures left { WantsHost result → self.new ≡ self.old }
-        ensures host { WantsHost result → IsTrue S.TAKES_HOST ⊎ (heap.new ≡ heap.old) }
+        ensures untold { WantsHost result → IsTrue S.TAKES_HOST
+            ⊎ (((heap.new ≡ heap.old) × TellsNothing K.told sink.old sink.new)
+            ⊎ (LeavesMasters nothing heap.old heap.new
+            × Tells K.told (slot_gone nothing heap.old.heap) sink.old sink.new)) }
+        ensures idle { IsIdle K.told K.waits sink.new }
+        ensures listens { K.listens sink.new ≡ K.listens sink.old }
+        ensures host { WantsHost result → IsTrue S.TAKES_HOST
+            ⊎ ((heap.new ≡ heap.old) ⊎ (K.listens sink.old ≡ true)) }
         ensures kept { WantsHost result → KeepsNames heap.old heap.new }
         ensures lies { heap.new.window ≡ heap.old.window }
     {
         let found = self.find(within, wanted);
-        let answer = self.fetch_found(heap, found, loading);
+        let answer = self.fetch_found(heap, found, loading, sink);
         self.note_fetch(answer)
     }
 
     /// `GetResource`: finds the first resource of the given type and ID on the search path, fetches the resource, and
     /// returns its handle; where loading is off, nothing is read, and a resource without a handle gets an empty handle.
     /// Returns -192 (resNotFound) where no file on the search path has the resource, and -108 (memFullErr) where the
-    /// zone has no room.
-    pub fn get_resource<S: BlockStore>(
+    /// zone has no room. The sink is told of the blocks that are purged for it, if it is to be told.
+    pub fn get_resource<S: BlockStore, K: PurgeSink>(
         &mut self,
         heap: &mut Heap<S>,
         ty: OsType,
         id: i16,
+        sink: &mut K,
     ) -> Result<Fetched, Unread>
+        requires idle { IsIdle K.told K.waits sink.old }
         ensures answer { IsFetched (noting (rows.get_resource (big_number 4 ty.0) id) (managers self.old heap.old))
             result (managers self.new heap.new) }
+        ensures told { ¬ (WantsHost result) → K.listens sink.old ≡ true → Tells K.told
+            (gone_for (GetResource (big_number 4 ty.0) id) (managers self.old heap.old)) sink.old sink.new }
         ensures left { WantsHost result → self.new ≡ self.old }
-        ensures host { WantsHost result → IsTrue S.TAKES_HOST ⊎ (heap.new ≡ heap.old) }
+        ensures untold { WantsHost result → IsTrue S.TAKES_HOST
+            ⊎ (((heap.new ≡ heap.old) × TellsNothing K.told sink.old sink.new)
+            ⊎ (LeavesMasters nothing heap.old heap.new
+            × Tells K.told (slot_gone nothing heap.old.heap) sink.old sink.new)) }
+        ensures idle { IsIdle K.told K.waits sink.new }
+        ensures listens { K.listens sink.new ≡ K.listens sink.old }
+        ensures host { WantsHost result → IsTrue S.TAKES_HOST
+            ⊎ ((heap.new ≡ heap.old) ⊎ (K.listens sink.old ≡ true)) }
         ensures kept { WantsHost result → KeepsNames heap.old heap.new }
         ensures lies { heap.new.window ≡ heap.old.window }
     {
-        let (current, loading) = (self.current, self.loading);
-        self.fetch_wanted(heap, Within::UpTo(current), Wanted::Id(ty, id), loading)
+        let (current, load) = (self.current, self.loading);
+        self.fetch_wanted(heap, Within::UpTo(current), Wanted::Id(ty, id), load, sink)
     }
 
     /// `Get1Resource`: finds the first resource of the given type and ID in the current file, fetches the resource, and
     /// returns its handle. Returns -192 (resNotFound) where the current file has no such resource, and -108
-    /// (memFullErr) where the zone has no room.
-    pub fn get1_resource<S: BlockStore>(
+    /// (memFullErr) where the zone has no room. The sink is told of the blocks that are purged for it, if it is to be
+    /// told.
+    pub fn get1_resource<S: BlockStore, K: PurgeSink>(
         &mut self,
         heap: &mut Heap<S>,
         ty: OsType,
         id: i16,
+        sink: &mut K,
     ) -> Result<Fetched, Unread>
+        requires idle { IsIdle K.told K.waits sink.old }
         ensures answer { IsFetched (noting (rows.get1_resource (big_number 4 ty.0) id) (managers self.old heap.old))
             result (managers self.new heap.new) }
+        ensures told { ¬ (WantsHost result) → K.listens sink.old ≡ true → Tells K.told
+            (gone_for (Get1Resource (big_number 4 ty.0) id) (managers self.old heap.old)) sink.old sink.new }
         ensures left { WantsHost result → self.new ≡ self.old }
-        ensures host { WantsHost result → IsTrue S.TAKES_HOST ⊎ (heap.new ≡ heap.old) }
+        ensures untold { WantsHost result → IsTrue S.TAKES_HOST
+            ⊎ (((heap.new ≡ heap.old) × TellsNothing K.told sink.old sink.new)
+            ⊎ (LeavesMasters nothing heap.old heap.new
+            × Tells K.told (slot_gone nothing heap.old.heap) sink.old sink.new)) }
+        ensures idle { IsIdle K.told K.waits sink.new }
+        ensures listens { K.listens sink.new ≡ K.listens sink.old }
+        ensures host { WantsHost result → IsTrue S.TAKES_HOST
+            ⊎ ((heap.new ≡ heap.old) ⊎ (K.listens sink.old ≡ true)) }
         ensures kept { WantsHost result → KeepsNames heap.old heap.new }
         ensures lies { heap.new.window ≡ heap.old.window }
     {
-        let (current, loading) = (self.current, self.loading);
-        self.fetch_wanted(heap, Within::Only(current), Wanted::Id(ty, id), loading)
+        let (current, load) = (self.current, self.loading);
+        self.fetch_wanted(heap, Within::Only(current), Wanted::Id(ty, id), load, sink)
     }
 
     /// `GetNamedResource`: finds the first resource of the given type and name on the search path, fetches the
     /// resource, and returns its handle. Uppercase and lowercase ASCII letters match each other. Returns -192
     /// (resNotFound) where no file on the search path has the resource, and -108 (memFullErr) where the zone has no
-    /// room.
-    pub fn get_named_resource<S: BlockStore>(
+    /// room. The sink is told of the blocks that are purged for it, if it is to be told.
+    pub fn get_named_resource<S: BlockStore, K: PurgeSink>(
         &mut self,
         heap: &mut Heap<S>,
         ty: OsType,
         name: &[u8],
+        sink: &mut K,
     ) -> Result<Fetched, Unread>
+        requires idle { IsIdle K.told K.waits sink.old }
         ensures answer { IsFetched (noting (rows.get_named_resource (big_number 4 ty.0) name.now)
             (managers self.old heap.old)) result (managers self.new heap.new) }
+        ensures told { ¬ (WantsHost result) → K.listens sink.old ≡ true → Tells K.told
+            (gone_for (GetNamedResource (big_number 4 ty.0) name.now) (managers self.old heap.old)) sink.old sink.new }
         ensures left { WantsHost result → self.new ≡ self.old }
-        ensures host { WantsHost result → IsTrue S.TAKES_HOST ⊎ (heap.new ≡ heap.old) }
+        ensures untold { WantsHost result → IsTrue S.TAKES_HOST
+            ⊎ (((heap.new ≡ heap.old) × TellsNothing K.told sink.old sink.new)
+            ⊎ (LeavesMasters nothing heap.old heap.new
+            × Tells K.told (slot_gone nothing heap.old.heap) sink.old sink.new)) }
+        ensures idle { IsIdle K.told K.waits sink.new }
+        ensures listens { K.listens sink.new ≡ K.listens sink.old }
+        ensures host { WantsHost result → IsTrue S.TAKES_HOST
+            ⊎ ((heap.new ≡ heap.old) ⊎ (K.listens sink.old ≡ true)) }
         ensures kept { WantsHost result → KeepsNames heap.old heap.new }
         ensures lies { heap.new.window ≡ heap.old.window }
     {
-        let (current, loading) = (self.current, self.loading);
+        let (current, load) = (self.current, self.loading);
         self.fetch_wanted(
             heap,
             Within::UpTo(current),
             Wanted::Named(ty, name),
-            loading,
+            load,
+            sink,
         )
     }
 
     /// `Get1NamedResource`: finds the first resource of the given type and name in the current file, fetches the
     /// resource, and returns its handle. Names are compared as by `GetNamedResource`. Returns -192 (resNotFound) where
-    /// the current file has no such resource, and -108 (memFullErr) where the zone has no room.
-    pub fn get1_named_resource<S: BlockStore>(
+    /// the current file has no such resource, and -108 (memFullErr) where the zone has no room. The sink is told of the
+    /// blocks that are purged for it, if it is to be told.
+    pub fn get1_named_resource<S: BlockStore, K: PurgeSink>(
         &mut self,
         heap: &mut Heap<S>,
         ty: OsType,
         name: &[u8],
+        sink: &mut K,
     ) -> Result<Fetched, Unread>
+        requires idle { IsIdle K.told K.waits sink.old }
         ensures answer { IsFetched (noting (rows.get1_named_resource (big_number 4 ty.0) name.now)
             (managers self.old heap.old)) result (managers self.new heap.new) }
+        ensures told { ¬ (WantsHost result) → K.listens sink.old ≡ true → Tells K.told
+            (gone_for (Get1NamedResource (big_number 4 ty.0) name.now) (managers self.old heap.old)) sink.old sink.new }
         ensures left { WantsHost result → self.new ≡ self.old }
-        ensures host { WantsHost result → IsTrue S.TAKES_HOST ⊎ (heap.new ≡ heap.old) }
+        ensures untold { WantsHost result → IsTrue S.TAKES_HOST
+            ⊎ (((heap.new ≡ heap.old) × TellsNothing K.told sink.old sink.new)
+            ⊎ (LeavesMasters nothing heap.old heap.new
+            × Tells K.told (slot_gone nothing heap.old.heap) sink.old sink.new)) }
+        ensures idle { IsIdle K.told K.waits sink.new }
+        ensures listens { K.listens sink.new ≡ K.listens sink.old }
+        ensures host { WantsHost result → IsTrue S.TAKES_HOST
+            ⊎ ((heap.new ≡ heap.old) ⊎ (K.listens sink.old ≡ true)) }
         ensures kept { WantsHost result → KeepsNames heap.old heap.new }
         ensures lies { heap.new.window ≡ heap.old.window }
     {
-        let (current, loading) = (self.current, self.loading);
+        let (current, load) = (self.current, self.loading);
         self.fetch_wanted(
             heap,
             Within::Only(current),
             Wanted::Named(ty, name),
-            loading,
+            load,
+            sink,
         )
     }
 
     /// `Get1IndResource`: finds the `n`-th resource of a type in the current file, counted from 1, fetches the
     /// resource, and returns its handle. Returns -192 (resNotFound) where the current file has no `n`-th resource of
-    /// the type, and -108 (memFullErr) where the zone has no room.
+    /// the type, and -108 (memFullErr) where the zone has no room. The sink is told of the blocks that are purged for
+    /// it, if it is to be told.
     #[tactic(auto, using(crate::proofs::Fetches::ind_noted))]
-    pub fn get1_ind_resource<S: BlockStore>(
+    pub fn get1_ind_resource<S: BlockStore, K: PurgeSink>(
         &mut self,
         heap: &mut Heap<S>,
         ty: OsType,
         n: u32,
+        sink: &mut K,
     ) -> Result<Fetched, Unread>
+        requires idle { IsIdle K.told K.waits sink.old }
         ensures answer { IsFetched (noting (rows.get1_ind_resource (big_number 4 ty.0) n)
             (managers self.old heap.old)) result (managers self.new heap.new) }
+        ensures told { ¬ (WantsHost result) → K.listens sink.old ≡ true → Tells K.told
+            (gone_for (Get1IndResource (big_number 4 ty.0) n) (managers self.old heap.old)) sink.old sink.new }
         ensures left { WantsHost result → self.new ≡ self.old }
-        ensures host { WantsHost result → IsTrue S.TAKES_HOST ⊎ (heap.new ≡ heap.old) }
+        ensures untold { WantsHost result → IsTrue S.TAKES_HOST
+            ⊎ (((heap.new ≡ heap.old) × TellsNothing K.told sink.old sink.new)
+            ⊎ (LeavesMasters nothing heap.old heap.new
+            × Tells K.told (slot_gone nothing heap.old.heap) sink.old sink.new)) }
+        ensures idle { IsIdle K.told K.waits sink.new }
+        ensures listens { K.listens sink.new ≡ K.listens sink.old }
+        ensures host { WantsHost result → IsTrue S.TAKES_HOST
+            ⊎ ((heap.new ≡ heap.old) ⊎ (K.listens sink.old ≡ true)) }
         ensures kept { WantsHost result → KeepsNames heap.old heap.new }
         ensures lies { heap.new.window ≡ heap.old.window }
     {
         let loading = self.loading;
         let found = self.find_nth(ty, n);
-        let answer = self.fetch_found(heap, found, loading);
+        let answer = self.fetch_found(heap, found, loading, sink);
         self.note_fetch(answer)
     }
 
     /// `LoadResource`: reads the stored data of a resource into a new block of its handle where the handle is empty,
     /// whether loading is on or off. Returns -192 (resNotFound) where the handle is not a resource's, and -108
-    /// (memFullErr) where the zone has no room.
-    pub fn load_resource<S: BlockStore>(
+    /// (memFullErr) where the zone has no room. The sink is told of the blocks that are purged for it, if it is to be
+    /// told.
+    pub fn load_resource<S: BlockStore, K: PurgeSink>(
         &mut self,
         heap: &mut Heap<S>,
         handle: Option<usize>,
+        sink: &mut K,
     ) -> Result<Fetched, Unread>
+        requires idle { IsIdle K.told K.waits sink.old }
         ensures answer { IsFetched (noting (rows.load_resource handle) (managers self.old heap.old)) result
             (managers self.new heap.new) }
+        ensures told { ¬ (WantsHost result) → K.listens sink.old ≡ true → Tells K.told
+            (gone_for (LoadResource handle) (managers self.old heap.old)) sink.old sink.new }
         ensures left { WantsHost result → self.new ≡ self.old }
-        ensures host { WantsHost result → IsTrue S.TAKES_HOST ⊎ (heap.new ≡ heap.old) }
+        ensures untold { WantsHost result → IsTrue S.TAKES_HOST
+            ⊎ (((heap.new ≡ heap.old) × TellsNothing K.told sink.old sink.new)
+            ⊎ (LeavesMasters nothing heap.old heap.new
+            × Tells K.told (slot_gone nothing heap.old.heap) sink.old sink.new)) }
+        ensures idle { IsIdle K.told K.waits sink.new }
+        ensures listens { K.listens sink.new ≡ K.listens sink.old }
+        ensures host { WantsHost result → IsTrue S.TAKES_HOST
+            ⊎ ((heap.new ≡ heap.old) ⊎ (K.listens sink.old ≡ true)) }
         ensures kept { WantsHost result → KeepsNames heap.old heap.new }
         ensures lies { heap.new.window ≡ heap.old.window }
     {
         let found = self.find_handle(handle);
-        let answer = self.fetch_found(heap, found, true);
+        let answer = self.fetch_found(heap, found, true, sink);
         self.note_fetch(answer)
     }
 }

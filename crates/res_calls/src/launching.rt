@@ -75,6 +75,7 @@ impl Resources {
             current: OWN_FILE,
             next: OWN_FILE + 1,
             loading: true,
+            purging: false,
             error: OsErr::NO_ERR,
         })
     }

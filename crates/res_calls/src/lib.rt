@@ -19,6 +19,7 @@ mod leaving;
 mod opening;
 mod own;
 mod preloading;
+mod purging;
 mod releasing;
 mod renaming;
 mod undoing;
@@ -34,3 +35,4 @@ pub use laws::{
     only_a_fetch_or_an_opening_purges, only_an_update_or_a_creation_writes_a_fork,
     the_current_file_is_open, the_first_reference_is_found, the_open_files_stay_sound,
 };
+pub use purging::{Purged, Purges};

@@ -1,19 +1,24 @@
 //! The call that opens a file, and the preloading of an application's resources.
 
 ghost use Rattle.std.specs.Prelude.{◌≡◌, ◌<◌, ◌≤◌, ◌⊎◌, ◌∷◌, IsTrue, IsErr, IfOk, OnOk, OnErr, IfSome, map, length};
-ghost use Rattle.std.specs.Prelude.{slice_get, Some, Ok, Err, ℕ};
+ghost use Rattle.std.specs.Prelude.{◌≢◌, slice_get, Some, Ok, Err, ℕ, true, false};
+ghost use Rattle.heap_calls.specs.Gone.{Tells, TellsNothing, IsIdle};
+ghost use Rattle.res_calls.specs.Asked.{OpenResFile};
 ghost use Rattle.res_calls.specs.Files.{opened};
 ghost use Rattle.res_calls.specs.Given.{IsAnswered, IsLoadedFirst, managers};
+ghost use Rattle.res_calls.specs.Gone.{gone_for, fork_gone, load_gone};
+ghost use Rattle.res_calls.specs.Preloading.{StopsFirst, StopsPreloading};
 ghost use Rattle.res_calls.specs.Rows as rows;
 ghost use Rattle.res_calls.specs.Rows.{noting, loaded_if, with_loaded, map_in, preloaded};
+ghost use Rattle.res_calls.specs.Stopped.{LeavesOpen, LeavesOpened, fork_opens};
 ghost use Rattle.res_calls.specs.View.{view_open};
 
 use crate::chain::{place_called, place_of_file};
 use crate::files::{OpenFile, Resources};
 use crate::launching::open_map;
-use crate::preloading::preload;
+use crate::preloading::{preload, preload_told};
 use block_store::BlockStore;
-use heap_calls::{Heap, Refusal};
+use heap_calls::{Heap, PurgeSink, Refusal};
 use mac_words::{FileName, OsErr};
 use res_map::ResFile;
 use std::alloc::{AllocError, Global};
@@ -42,27 +47,78 @@ fn load_into<S: BlockStore>(
     preload(alloc, heap, file)
 }
 
-/// Puts `file` before the other open files, and preloads its resources where `loading` is on. Where the host is out of
-/// memory, the open files stay as they were.
-fn put_first<S: BlockStore>(
+/// Preloads the resources of a file that have resPreload, where `loading` is on, and returns whether all was preloaded.
+/// The sink is told of the blocks that are purged for it, if it is to be told. Where the host is out of memory as the
+/// handles are made, and the sink is to be told, the resources that were preloaded so far have their handles, and the
+/// others have none; where the host is out of memory otherwise, the file stays as it was.
+fn load_told<S: BlockStore, K: PurgeSink>(
+    alloc: Global,
+    heap: &mut Heap<S>,
+    file: &mut ResFile,
+    loading: bool,
+    sink: &mut K,
+) -> Result<bool, AllocError>
+    requires idle { IsIdle K.told K.waits sink.old }
+    ensures file { result ≡ Ok true → file.new ≡ record file.old {
+      references = (loaded_if loading file.old.references heap.old).references;
+    } }
+    ensures heap { result ≡ Ok true → heap.new ≡ (loaded_if loading file.old.references heap.old).memory }
+    ensures told { result ≡ Ok true → K.listens sink.old ≡ true
+        → Tells K.told (load_gone loading file.old.references heap.old) sink.old sink.new }
+    ensures stopped { result ≡ Ok false
+        → StopsPreloading K.told S.TAKES_HOST file.old file.new heap.old heap.new sink.old sink.new }
+    ensures loads { result ≡ Ok false → loading ≡ true }
+    ensures hears { result ≡ Ok false → K.listens sink.old ≡ true }
+    ensures kept { OnErr result (file.new ≡ file.old) }
+    ensures untold { OnErr result (TellsNothing K.told sink.old sink.new) }
+    ensures host { IsErr result → IsTrue S.TAKES_HOST ⊎ (heap.new ≡ heap.old) }
+    ensures idle { IsIdle K.told K.waits sink.new }
+    ensures listens { K.listens sink.new ≡ K.listens sink.old }
+    ensures lies { heap.new.window ≡ heap.old.window }
+{
+    if !sink.listens() {
+        load_into(alloc, heap, file, loading)?;
+        return Ok(true);
+    }
+    if !loading {
+        return Ok(true);
+    }
+    preload_told(alloc, heap, file, sink)
+}
+
+/// Puts `file` before the other open files, preloads its resources where `loading` is on, and returns whether all was
+/// preloaded. The sink is told of the blocks that are purged for it, if it is to be told. Where the host is out of
+/// memory as the handles are made, and the sink is to be told, the file is put there with those that were made so far;
+/// where the host is out of memory otherwise, the open files stay as they were.
+fn put_first<S: BlockStore, K: PurgeSink>(
     alloc: Global,
     heap: &mut Heap<S>,
     chain: &mut Vec<OpenFile>,
     file: OpenFile,
     loading: bool,
-) -> Result<(), AllocError>
-    ensures chain { OnOk result (map view_open chain.new.items ≡ with_loaded (loaded_if loading file.map.references
-        heap.old) (view_open file) ∷ map view_open chain.old.items) }
-    ensures heap { OnOk result (heap.new ≡ (loaded_if loading file.map.references heap.old).memory) }
+    sink: &mut K,
+) -> Result<bool, AllocError>
+    requires idle { IsIdle K.told K.waits sink.old }
+    ensures chain { result ≡ Ok true → map view_open chain.new.items ≡ with_loaded (loaded_if loading
+        file.map.references heap.old) (view_open file) ∷ map view_open chain.old.items }
+    ensures heap { result ≡ Ok true → heap.new ≡ (loaded_if loading file.map.references heap.old).memory }
+    ensures told { result ≡ Ok true → K.listens sink.old ≡ true
+        → Tells K.told (load_gone loading file.map.references heap.old) sink.old sink.new }
+    ensures stopped { result ≡ Ok false → StopsFirst K.told S.TAKES_HOST loading (view_open file)
+        (map view_open chain.old.items) (map view_open chain.new.items) heap.old heap.new sink.old sink.new }
+    ensures hears { result ≡ Ok false → K.listens sink.old ≡ true }
     ensures kept { OnErr result (chain.new.items ≡ chain.old.items) }
+    ensures untold { OnErr result (TellsNothing K.told sink.old sink.new) }
     ensures host { IsErr result → IsTrue S.TAKES_HOST ⊎ (heap.new ≡ heap.old) }
+    ensures idle { IsIdle K.told K.waits sink.new }
+    ensures listens { K.listens sink.new ≡ K.listens sink.old }
     ensures lies { heap.new.window ≡ heap.old.window }
 {
     chain.reserve(1)?;
     let mut file = file;
-    load_into(alloc, heap, &mut file.map, loading)?;
+    let whole = load_told(alloc, heap, &mut file.map, loading, sink)?;
     match chain.insert(0, file) {
-        Ok(()) => Ok(()),
+        Ok(()) => Ok(whole),
         Err(_) => unreachable!(),
     }
 }
@@ -108,37 +164,60 @@ impl Resources {
     /// loading is on, and returns the number of the open file. Where the file is already open, the call returns the
     /// file's number and changes neither the file nor the current file. Returns -43 (fnfErr) where the application has
     /// no such file, -30001 (profileErr) where the number 2,147,483,647 was already given to a file, -39 (eofErr) where
-    /// the fork has no bytes, and -199 (mapReadErr) where the bytes are not a resource fork. Where the host is out of
-    /// memory, the resources stay as they were.
+    /// the fork has no bytes, and -199 (mapReadErr) where the bytes are not a resource fork. The sink is told of the
+    /// blocks that are purged for it, if it is to be told. Where the host is out of memory as the handles of preloaded
+    /// resources are made, and the sink is to be told, the file stays open and current: the resources that were
+    /// preloaded so far have their handles, and the others have none. Where the host is out of memory otherwise, the
+    /// resources stay as they were.
     ///
     /// *More Macintosh Toolbox*, chapter 1, "Opening Resource Forks".
-    pub fn open_res_file<S: BlockStore>(
+    pub fn open_res_file<S: BlockStore, K: PurgeSink>(
         &mut self,
         alloc: Global,
         heap: &mut Heap<S>,
         name: &FileName,
+        sink: &mut K,
     ) -> Result<u32, Refusal>
+        requires idle { IsIdle K.told K.waits sink.old }
         ensures answer { IsAnswered (λ (n : ℕ). n) (noting (rows.open_res_file name.now.0.items)
             (managers self.old heap.old)) result (managers self.new heap.new) }
-        ensures kept { result ≡ Err Refusal.HostMemory → self.new ≡ self.old }
-        ensures host { result ≡ Err Refusal.HostMemory → IsTrue S.TAKES_HOST ⊎ (heap.new ≡ heap.old) }
+        ensures told { result ≢ Err Refusal.HostMemory → K.listens sink.old ≡ true
+            → Tells K.told (gone_for (OpenResFile name.now.0.items) (managers self.old heap.old)) sink.old sink.new }
+        ensures stopped { result ≡ Err Refusal.HostMemory → IsTrue S.TAKES_HOST ⊎ LeavesOpen K.told name.now.0.items
+            (managers self.old heap.old) (managers self.new heap.new) sink.old sink.new }
+        ensures idle { IsIdle K.told K.waits sink.new }
+        ensures listens { K.listens sink.new ≡ K.listens sink.old }
+        ensures kept { result ≡ Err Refusal.HostMemory → (K.listens sink.old ≡ false) → self.new ≡ self.old }
+        ensures files { result ≡ Err Refusal.HostMemory → self.new.files ≡ self.old.files }
+        ensures host { result ≡ Err Refusal.HostMemory
+            → IsTrue S.TAKES_HOST ⊎ ((heap.new ≡ heap.old) ⊎ (K.listens sink.old ≡ true)) }
         ensures lies { heap.new.window ≡ heap.old.window }
     {
-        let answer = self.open_named(alloc, heap, name);
+        let answer = self.open_named(alloc, heap, name, sink);
         self.note(answer)
     }
 
     /// Does the work of `OpenResFile` without setting the code that `ResError` returns.
-    fn open_named<S: BlockStore>(
+    fn open_named<S: BlockStore, K: PurgeSink>(
         &mut self,
         alloc: Global,
         heap: &mut Heap<S>,
         name: &FileName,
+        sink: &mut K,
     ) -> Result<u32, Refusal>
+        requires idle { IsIdle K.told K.waits sink.old }
         ensures answer { IsAnswered (λ (n : ℕ). n) (rows.open_res_file name.now.0.items (managers self.old heap.old))
             result (managers self.new heap.new) }
-        ensures kept { result ≡ Err Refusal.HostMemory → self.new ≡ self.old }
-        ensures host { result ≡ Err Refusal.HostMemory → IsTrue S.TAKES_HOST ⊎ (heap.new ≡ heap.old) }
+        ensures told { result ≢ Err Refusal.HostMemory → K.listens sink.old ≡ true
+            → Tells K.told (gone_for (OpenResFile name.now.0.items) (managers self.old heap.old)) sink.old sink.new }
+        ensures stopped { result ≡ Err Refusal.HostMemory → IsTrue S.TAKES_HOST ⊎ LeavesOpen K.told name.now.0.items
+            (managers self.old heap.old) (managers self.new heap.new) sink.old sink.new }
+        ensures idle { IsIdle K.told K.waits sink.new }
+        ensures listens { K.listens sink.new ≡ K.listens sink.old }
+        ensures kept { result ≡ Err Refusal.HostMemory → (K.listens sink.old ≡ false) → self.new ≡ self.old }
+        ensures files { result ≡ Err Refusal.HostMemory → self.new.files ≡ self.old.files }
+        ensures host { result ≡ Err Refusal.HostMemory
+            → IsTrue S.TAKES_HOST ⊎ ((heap.new ≡ heap.old) ⊎ (K.listens sink.old ≡ true)) }
         ensures lies { heap.new.window ≡ heap.old.window }
     {
         let Some(at) = place_called(&self.files, name) else {
@@ -146,22 +225,34 @@ impl Resources {
         };
         match place_of_file(&self.chain, at) {
             Some(open) => Ok(self.chain[open].number),
-            None => self.open_at(alloc, heap, at),
+            None => self.open_at(alloc, heap, at, sink),
         }
     }
 
     /// Opens the file at the place `at`, which is not open, with the codes of `OpenResFile`.
-    fn open_at<S: BlockStore>(
+    fn open_at<S: BlockStore, K: PurgeSink>(
         &mut self,
         alloc: Global,
         heap: &mut Heap<S>,
         at: usize,
+        sink: &mut K,
     ) -> Result<u32, Refusal>
-        requires { at < length self.old.files }
+        requires place { at < length self.old.files }
+        requires idle { IsIdle K.told K.waits sink.old }
         ensures answer { IfSome (slice_get self.old.files at) (λ f. IsAnswered (λ (n : ℕ). n)
             (rows.open_fork at f.fork (managers self.old heap.old)) result (managers self.new heap.new)) }
-        ensures kept { result ≡ Err Refusal.HostMemory → self.new ≡ self.old }
-        ensures host { result ≡ Err Refusal.HostMemory → IsTrue S.TAKES_HOST ⊎ (heap.new ≡ heap.old) }
+        ensures told { IfSome (slice_get self.old.files at) (λ f. result ≢ Err Refusal.HostMemory
+            → K.listens sink.old ≡ true
+            → Tells K.told (fork_gone f.fork (managers self.old heap.old)) sink.old sink.new) }
+        ensures stopped { IfSome (slice_get self.old.files at) (λ f. result ≡ Err Refusal.HostMemory
+            → IsTrue S.TAKES_HOST ⊎ LeavesOpened K.told (fork_opens at f.fork (managers self.old heap.old))
+            (managers self.old heap.old) (managers self.new heap.new) sink.old sink.new) }
+        ensures idle { IsIdle K.told K.waits sink.new }
+        ensures listens { K.listens sink.new ≡ K.listens sink.old }
+        ensures kept { result ≡ Err Refusal.HostMemory → (K.listens sink.old ≡ false) → self.new ≡ self.old }
+        ensures files { result ≡ Err Refusal.HostMemory → self.new.files ≡ self.old.files }
+        ensures host { result ≡ Err Refusal.HostMemory
+            → IsTrue S.TAKES_HOST ⊎ ((heap.new ≡ heap.old) ⊎ (K.listens sink.old ≡ true)) }
         ensures lies { heap.new.window ≡ heap.old.window }
     {
         if self.next > GREATEST_NUMBER {
@@ -171,25 +262,36 @@ impl Resources {
             Ok(read) => read,
             Err(refusal) => return Err(refusal),
         };
-        Ok(self.open_read(alloc, heap, at, read)?)
+        Ok(self.open_read(alloc, heap, at, read, sink)?)
     }
 
     /// Opens the file at the place `at`, whose fork has the resource map `read`, and makes the file current.
-    fn open_read<S: BlockStore>(
+    fn open_read<S: BlockStore, K: PurgeSink>(
         &mut self,
         alloc: Global,
         heap: &mut Heap<S>,
         at: usize,
         read: ResFile,
+        sink: &mut K,
     ) -> Result<u32, AllocError>
         requires next { self.old.next ≤ rows.greatest_number }
         requires place { at < length self.old.files }
         requires read { IfSome (slice_get self.old.files at) (λ f. map_in f.fork ≡ Ok read) }
+        requires idle { IsIdle K.told K.waits sink.old }
         ensures answer { IfOk result (λ n. n ≡ self.old.next) }
         ensures after { OnOk result ((rows.open_as (opened self.old.next (Some at) read)
             (managers self.old heap.old)).after ≡ managers self.new heap.new) }
-        ensures kept { OnErr result (self.new ≡ self.old) }
-        ensures host { IsErr result → IsTrue S.TAKES_HOST ⊎ (heap.new ≡ heap.old) }
+        ensures told { OnOk result (K.listens sink.old ≡ true
+            → Tells K.told (load_gone self.old.loading read.references heap.old) sink.old sink.new) }
+        ensures stopped { OnErr result (IsTrue S.TAKES_HOST ⊎ LeavesOpened K.told
+            (Some (opened self.old.next (Some at) read)) (managers self.old heap.old) (managers self.new heap.new)
+            sink.old sink.new) }
+        ensures idle { IsIdle K.told K.waits sink.new }
+        ensures listens { K.listens sink.new ≡ K.listens sink.old }
+        ensures kept { OnErr result (K.listens sink.old ≡ false → self.new ≡ self.old) }
+        ensures files { OnErr result (self.new.files ≡ self.old.files) }
+        ensures host { IsErr result
+            → IsTrue S.TAKES_HOST ⊎ ((heap.new ≡ heap.old) ⊎ (K.listens sink.old ≡ true)) }
         ensures lies { heap.new.window ≡ heap.old.window }
     {
         let number = self.next;
@@ -199,9 +301,12 @@ impl Resources {
             map: read,
             touched: false,
         };
-        put_first(alloc, heap, &mut self.chain, file, self.loading)?;
+        let whole = put_first(alloc, heap, &mut self.chain, file, self.loading, sink)?;
         self.current = number;
         self.next = number + 1;
+        if !whole {
+            return Err(AllocError);
+        }
         Ok(number)
     }
 }

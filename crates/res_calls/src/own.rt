@@ -2,11 +2,15 @@
 //!
 //! *Processes*, chapter 7, "The Segment Manager".
 
-ghost use Rattle.std.specs.Prelude.{◌≡◌, ◌⊎◌, IsTrue, is_some, option_map};
+ghost use Rattle.std.specs.Prelude.{◌≡◌, ◌⊎◌, IsTrue, is_some, option_map, true};
 ghost use Rattle.byteorder.specs.Endian.{big_number};
+ghost use Rattle.heap_calls.specs.Answer.{nothing};
+ghost use Rattle.heap_calls.specs.Gone.{Tells, TellsNothing, IsIdle, slot_gone};
+ghost use Rattle.heap_calls.specs.Refused.{LeavesMasters};
 ghost use Rattle.heap_calls.specs.Inner.Given.{KeepsNames};
 ghost use Rattle.res_map.specs.View.{view_lent};
 ghost use Rattle.res_calls.specs.Files.{Found};
+ghost use Rattle.res_calls.specs.Gone.{own_gone};
 ghost use Rattle.res_calls.specs.Own as own;
 ghost use Rattle.res_calls.specs.Given.{IsFetched, managers};
 ghost use Rattle.res_calls.specs.Places.{WantsHost, found_from};
@@ -15,7 +19,7 @@ use crate::fetched::{Fetched, Unread};
 use crate::files::Resources;
 use crate::find::{Spot, Wanted, Within, entry_at};
 use block_store::BlockStore;
-use heap_calls::Heap;
+use heap_calls::{Heap, PurgeSink};
 use mac_words::OsType;
 use res_map::LentReference;
 
@@ -66,21 +70,33 @@ impl Resources {
     /// Fetches the first resource of a type and ID in the application's own fork, under whatever number the fork is
     /// open and whichever file is current. The stored data is read whether loading is on or off, and the code that
     /// `ResError` returns stays as it was. Returns -192 (resNotFound) where the fork is not open or has no such
-    /// resource, and -108 (memFullErr) where the zone has no room.
-    pub fn fetch_own<S: BlockStore>(
+    /// resource, and -108 (memFullErr) where the zone has no room. The sink is told of the blocks that are purged for
+    /// it, if it is to be told.
+    pub fn fetch_own<S: BlockStore, K: PurgeSink>(
         &mut self,
         heap: &mut Heap<S>,
         ty: OsType,
         id: i16,
+        sink: &mut K,
     ) -> Result<Fetched, Unread>
+        requires idle { IsIdle K.told K.waits sink.old }
         ensures answer { IsFetched (own.fetch_own (big_number 4 ty.0) id (managers self.old heap.old)) result
             (managers self.new heap.new) }
+        ensures told { ¬ (WantsHost result) → K.listens sink.old ≡ true → Tells K.told
+            (own_gone (big_number 4 ty.0) id (managers self.old heap.old)) sink.old sink.new }
         ensures left { WantsHost result → self.new ≡ self.old }
-        ensures host { WantsHost result → IsTrue S.TAKES_HOST ⊎ (heap.new ≡ heap.old) }
+        ensures untold { WantsHost result → IsTrue S.TAKES_HOST
+            ⊎ (((heap.new ≡ heap.old) × TellsNothing K.told sink.old sink.new)
+            ⊎ (LeavesMasters nothing heap.old heap.new
+            × Tells K.told (slot_gone nothing heap.old.heap) sink.old sink.new)) }
+        ensures idle { IsIdle K.told K.waits sink.new }
+        ensures listens { K.listens sink.new ≡ K.listens sink.old }
+        ensures host { WantsHost result → IsTrue S.TAKES_HOST
+            ⊎ ((heap.new ≡ heap.old) ⊎ (K.listens sink.old ≡ true)) }
         ensures kept { WantsHost result → KeepsNames heap.old heap.new }
         ensures lies { heap.new.window ≡ heap.old.window }
     {
         let found = self.find_own(ty, id);
-        self.fetch_found(heap, found, true)
+        self.fetch_found(heap, found, true, sink)
     }
 }

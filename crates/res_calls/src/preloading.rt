@@ -2,17 +2,21 @@
 //!
 //! *More Macintosh Toolbox*, chapter 1, "Resource Attributes".
 
-ghost use Rattle.std.specs.Prelude.{◌≡◌, ◌⊎◌, ◌<◌, IsTrue, IsErr, IfOk, OnOk, OnErr, map, drop, length};
+ghost use Rattle.std.specs.Prelude.{◌≡◌, ◌⊎◌, ◌<◌, IsTrue, IsErr, IfOk, OnOk, OnErr, Ok, true, false, map, drop};
+ghost use Rattle.std.specs.Prelude.{length};
+ghost use Rattle.heap_calls.specs.Gone.{Tells, TellsNothing, IsIdle, all_gone};
 ghost use Rattle.heap_calls.specs.Inside.{new_all};
 ghost use Rattle.heap_calls.specs.Inner.Filling.{wanted_as};
+ghost use Rattle.heap_calls.specs.Preloaded.{Stops};
 ghost use Rattle.res_map.specs.Map.{is_preload};
 ghost use Rattle.res_map.specs.View.{view_lent};
 ghost use Rattle.res_calls.specs.Fetch as fetch;
-ghost use Rattle.res_calls.specs.Preloading.{filling_of, wanted_of, next_number, given_to};
+ghost use Rattle.res_calls.specs.Gone.{preload_gone};
+ghost use Rattle.res_calls.specs.Preloading.{filling_of, wanted_of, next_number, given_to, StopsPreloading};
 
 use crate::fetching::flags_of;
 use block_store::BlockStore;
-use heap_calls::{Filling, Heap};
+use heap_calls::{Filling, Heap, NoSink, PurgeSink};
 use mac_words::Attrs;
 use res_map::{LentReference, ResFile};
 use std::alloc::{AllocError, Global};
@@ -61,7 +65,36 @@ fn make_all<S: BlockStore>(
     ensures lies { heap.new.window ≡ heap.old.window }
 {
     let wanted = gather(alloc, file)?;
-    heap.new_resources(alloc, &wanted)
+    let mut numbers = Vec::new(alloc);
+    heap.new_resources(&wanted, &mut numbers, &mut NoSink)?;
+    Ok(numbers)
+}
+
+/// Makes a new handle for each reference that has resPreload, in order, puts the number of each into `numbers`, and
+/// returns whether all were made; a number is `None` where the zone had no room. The sink is told of the blocks that
+/// are purged for it, if it is to be told. Where the host is out of memory as the handles are made, `numbers` has the
+/// numbers of those that were made so far.
+fn make_told<S: BlockStore, K: PurgeSink>(
+    alloc: Global,
+    heap: &mut Heap<S>,
+    file: &ResFile,
+    numbers: &mut Vec<Option<usize>>,
+    sink: &mut K,
+) -> Result<bool, AllocError>
+    requires idle { IsIdle K.told K.waits sink.old }
+    ensures all { result ≡ Ok true → new_all (wanted_of file.now.references) heap.old ≡ (numbers.new.items, heap.new) }
+    ensures told { result ≡ Ok true → K.listens sink.old ≡ true
+        → Tells K.told (all_gone (wanted_of file.now.references) heap.old) sink.old sink.new }
+    ensures some { result ≡ Ok false → IsTrue S.TAKES_HOST ⊎ Stops K.told (wanted_of file.now.references) heap.old
+        numbers.new.items heap.new sink.old sink.new }
+    ensures heap { OnErr result (heap.new ≡ heap.old) }
+    ensures untold { OnErr result (TellsNothing K.told sink.old sink.new) }
+    ensures idle { IsIdle K.told K.waits sink.new }
+    ensures listens { K.listens sink.new ≡ K.listens sink.old }
+    ensures lies { heap.new.window ≡ heap.old.window }
+{
+    let wanted = gather(alloc, file)?;
+    Ok(heap.new_resources(&wanted, numbers, sink).is_ok())
 }
 
 /// Returns the number at the place `at`, or `None` past the last number.
@@ -109,4 +142,36 @@ pub fn preload<S: BlockStore>(
     let numbers = make_all(alloc, heap, file)?;
     give_all(file, &numbers);
     Ok(())
+}
+
+/// Preloads the resources of a file that have resPreload, in order, and returns whether all were preloaded. A resource
+/// for which the zone has no room gets no handle. The sink is told of the blocks that are purged for it, if it is to be
+/// told. Where the host is out of memory as the handles are made, the resources that were preloaded so far have their
+/// handles, and the others have none.
+pub fn preload_told<S: BlockStore, K: PurgeSink>(
+    alloc: Global,
+    heap: &mut Heap<S>,
+    file: &mut ResFile,
+    sink: &mut K,
+) -> Result<bool, AllocError>
+    requires idle { IsIdle K.told K.waits sink.old }
+    ensures file { result ≡ Ok true → file.new ≡ record file.old {
+      references = (fetch.preload file.old.references heap.old).references;
+    } }
+    ensures heap { result ≡ Ok true → heap.new ≡ (fetch.preload file.old.references heap.old).memory }
+    ensures told { result ≡ Ok true → K.listens sink.old ≡ true
+        → Tells K.told (preload_gone file.old.references heap.old) sink.old sink.new }
+    ensures stopped { result ≡ Ok false
+        → StopsPreloading K.told S.TAKES_HOST file.old file.new heap.old heap.new sink.old sink.new }
+    ensures kept { OnErr result (file.new ≡ file.old) }
+    ensures unfilled { OnErr result (heap.new ≡ heap.old) }
+    ensures untold { OnErr result (TellsNothing K.told sink.old sink.new) }
+    ensures idle { IsIdle K.told K.waits sink.new }
+    ensures listens { K.listens sink.new ≡ K.listens sink.old }
+    ensures lies { heap.new.window ≡ heap.old.window }
+{
+    let mut numbers = Vec::new(alloc);
+    let whole = make_told(alloc, heap, file, &mut numbers, sink)?;
+    give_all(file, &numbers);
+    Ok(whole)
 }

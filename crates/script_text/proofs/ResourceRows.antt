@@ -47,9 +47,9 @@ changes : script_of (codes "CreateResFile \"D\"\nAddResource h 'STR ' -1 \"\"\nS
 unfolding script_of read_at with_token word_spelled argument token_at after_blanks
 changes = refl
 
-switches : script_of (codes "SetResLoad FALSE\nSetResLoad\tTRUE\n") ≡ Ok (record {
+switches : script_of (codes "SetResLoad FALSE\nSetResPurge\tTRUE\n") ≡ Ok (record {
   blocks = [];
-  steps = says 1 word.SetResLoad (Flag false ∷ []) ∷ says 2 word.SetResLoad (Flag true ∷ []) ∷ [];
+  steps = says 1 word.SetResLoad (Flag false ∷ []) ∷ says 2 word.SetResPurge (Flag true ∷ []) ∷ [];
 })
 unfolding script_of read_at with_token word_spelled argument token_at after_blanks
 switches = refl

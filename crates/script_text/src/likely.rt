@@ -57,7 +57,7 @@ static OF_TEN: [CallWord; 13] = [
     CallWord::SetResLoad,
 ];
 
-static OF_ELEVEN: [CallWord; 13] = [
+static OF_ELEVEN: [CallWord; 14] = [
     CallWord::GetResource,
     CallWord::EmptyHandle,
     CallWord::HandAndHand,
@@ -70,6 +70,7 @@ static OF_ELEVEN: [CallWord; 13] = [
     CallWord::AddResource,
     CallWord::GetResAttrs,
     CallWord::SetResAttrs,
+    CallWord::SetResPurge,
     CallWord::ExitToShell,
 ];
 

@@ -74,6 +74,7 @@ pub enum CallWord {
     GetResAttrs,
     SetResAttrs,
     GetResourceSizeOnDisk,
+    SetResPurge,
     SetResLoad,
     ResError,
     LoadSeg,
@@ -219,6 +220,8 @@ macro_rules! calls {
                     "sets the attributes of the resource, except resChanged (2)";
                 GetResourceSizeOnDisk = Resource ResourceCall one(h)
                     "returns the number of bytes of the stored data";
+                SetResPurge = Resource ResourceCall one(switch)
+                    "turns the storing of changed resources as they are purged on (TRUE) or off (FALSE)";
                 SetResLoad = Resource ResourceCall one(switch)
                     "turns the reading of stored data on (TRUE) or off (FALSE)";
                 ResError = Resource ResourceCall none()
@@ -364,7 +367,7 @@ macro_rules! is_held {
 /// the part of the toolbox. Then the lines that make a grow-zone script and the calls that it may hold, and the result codes.
 pub const CALLS: &str = calls!(listed);
 
-pub(crate) static WORDS: [CallWord; 72] = calls!(words);
+pub(crate) static WORDS: [CallWord; 73] = calls!(words);
 
 /// Returns the word that a token spells, if the word is one of the few of the token's length that are tried first.
 fn likely_word(token: &[u8]) -> Option<CallWord>

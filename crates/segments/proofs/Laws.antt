@@ -367,16 +367,17 @@ abbrev is_refusal : Told → Bool
 is_refusal (Refused code) = true
 is_refusal told = false
 
+pub told-refused : {T : Type 0} (tell : T → Told) → ((value : T) → is_refusal (tell value) ≡ false)
+    → (code : OsErr) (r : Result T OsErr) → told_as tell r ≡ Refused code → r ≡ Err code
+told-refused tell quiet code (Ok value) e = absurd (true≢false (sym (ap is_refusal e) ∙ quiet value))
+told-refused tell quiet code (Err why) e =
+    let told : Refused why ≡ Refused code = e in
+    let same : why ≡ code = cc in ap (λ (c : OsErr). Err c) same
+
 telling-leaves : {T : Type 0} (tell : T → Told) (p : Program) (a : Answer T)
     → ((value : T) → is_refusal (tell value) ≡ false) → Leaves p a → (code : OsErr)
     → (telling tell a).told ≡ Refused code → code ≢ SYSTEM_ERROR → (telling tell a).after ≡ p
-telling-leaves {T} tell p a quiet leaves code tells = leaves code (by_reply a.reply tells)
-  where
-    by_reply : (r : Result T OsErr) → told_as tell r ≡ Refused code → r ≡ Err code
-    by_reply (Ok value) e = absurd (true≢false (sym (ap is_refusal e) ∙ quiet value))
-    by_reply (Err why) e =
-        let told : Refused why ≡ Refused code = e in
-        let same : why ≡ code = cc in ap (λ (c : OsErr). Err c) same
+telling-leaves tell p a quiet leaves code tells = leaves code (told-refused tell quiet code a.reply tells)
 
 pub served-refused : (c : SegmentCall) (p : Program) (code : OsErr) → (served c p).told ≡ Refused code
     → code ≢ SYSTEM_ERROR → (served c p).after ≡ p

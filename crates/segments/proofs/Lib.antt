@@ -3,3 +3,4 @@ pub mod Marking
 pub mod Loading
 pub mod Laws
 pub mod Taking
+pub mod Purging

@@ -1,5 +1,6 @@
 pub mod Table
 pub mod Calls
 pub mod Asked
+pub mod Gone
 pub mod View
 pub mod Given

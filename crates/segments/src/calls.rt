@@ -2,7 +2,11 @@
 //!
 //! *Inside Macintosh: Processes*, chapter 7, "Segment Manager Routines".
 
-ghost use Rattle.std.specs.Prelude.{◌≡◌, ◌⊎◌, ◌↔◌, ℕ, ℤ, List, IsTrue, Ok, Err, if◌then◌else◌};
+ghost use Rattle.std.specs.Prelude.{◌≡◌, ◌⊎◌, ◌↔◌, ℕ, ℤ, List, IsTrue, Ok, Err, true, if◌then◌else◌};
+ghost use Rattle.mac_words.specs.declared.segment_call.SegmentCall.TheVariants.{LoadSeg, CallEntry};
+ghost use Rattle.heap_calls.specs.Answer.{nothing};
+ghost use Rattle.heap_calls.specs.Gone.{Tells, TellsNothing, IsIdle, slot_gone};
+ghost use Rattle.heap_calls.specs.Refused.{LeavesMasters};
 ghost use Rattle.heap_calls.specs.Inner.Given.{KeepsNames};
 ghost use Rattle.res_calls.specs.Fetch.{Managers};
 ghost use Rattle.res_calls.specs.Files.{Resources as ResourcesValue};
@@ -10,13 +14,14 @@ ghost use Rattle.res_calls.specs.Given.{managers, IsUnread};
 ghost use Rattle.res_calls.specs.Rows.{bars};
 ghost use Rattle.segments.specs.Calls.{load_seg, load_by, unload_seg, call_entry, call_loading, call_loaded};
 ghost use Rattle.segments.specs.Calls.{is_there, let_loose};
+ghost use Rattle.segments.specs.Gone.{gone_for, load_gone};
 ghost use Rattle.segments.specs.Given.{program, Fetch, IsUnloaded, IsLoaded, IsCalled, WantsHost, done_if};
 ghost use Rattle.segments.specs.Table.{Entry};
 
 use crate::loaded::{Called, Unloaded};
 use crate::table::JumpTable;
 use block_store::BlockStore;
-use heap_calls::{Heap, Refusal};
+use heap_calls::{Heap, PurgeSink, Refusal};
 use mac_words::{OsErr, OsType};
 use res_calls::{Resources, Unread};
 
@@ -54,20 +59,33 @@ impl JumpTable {
     ///
     /// Returns system error 15 where the fork is not open, the segment is 0, there is no such resource or no room for
     /// its block, the resource has fewer than 4 bytes or is of the far model, the offset of its first entry is no
-    /// multiple of 8, or not all entries that it names are in the table and belong to the segment. Where the host is
-    /// out of memory, the table and the resources stay as they were; so does the heap over a store that takes no host
-    /// memory, and over another all of the heap but the zone and the count of moves.
-    pub fn load<S: BlockStore>(
+    /// multiple of 8, or not all entries that it names are in the table and belong to the segment. The sink is told of
+    /// the blocks that are purged for the segment, if it is to be told. Where the host is out of memory, the table and
+    /// the resources stay as they were, and all of the heap but the zone and the count of moves; over a store that takes
+    /// no host memory the whole heap and the sink do, but where the sink found the host out of memory behind a new
+    /// master pointer block, which then stays.
+    pub fn load<S: BlockStore, K: PurgeSink>(
         &mut self,
         heap: &mut Heap<S>,
         resources: &mut Resources,
         segment: i16,
+        sink: &mut K,
     ) -> Result<bool, Unloaded>
+        requires idle { IsIdle K.told K.waits sink.old }
         ensures answer { IsLoaded (load_seg segment (program self.old resources.old heap.old)) result
             (program self.new resources.new heap.new) }
+        ensures told { ¬ (WantsHost result) → K.listens sink.old ≡ true → Tells K.told
+            (gone_for (LoadSeg segment) (program self.old resources.old heap.old)) sink.old sink.new }
         ensures table { WantsHost result → self.new ≡ self.old }
         ensures left { WantsHost result → resources.new ≡ resources.old }
-        ensures host { WantsHost result → IsTrue S.TAKES_HOST ⊎ (heap.new ≡ heap.old) }
+        ensures untold { WantsHost result → IsTrue S.TAKES_HOST
+            ⊎ (((heap.new ≡ heap.old) × TellsNothing K.told sink.old sink.new)
+            ⊎ (LeavesMasters nothing heap.old heap.new
+            × Tells K.told (slot_gone nothing heap.old.heap) sink.old sink.new)) }
+        ensures idle { IsIdle K.told K.waits sink.new }
+        ensures listens { K.listens sink.new ≡ K.listens sink.old }
+        ensures host { WantsHost result → IsTrue S.TAKES_HOST
+            ⊎ ((heap.new ≡ heap.old) ⊎ (K.listens sink.old ≡ true)) }
         ensures kept { WantsHost result → KeepsNames heap.old heap.new }
         ensures lies { heap.new.window ≡ heap.old.window }
     {
@@ -78,7 +96,7 @@ impl JumpTable {
             return Err(Unloaded::with_code(OsErr::SYSTEM_ERROR));
         };
         let named = self.named_by(datum, segment);
-        let fetched = match resources.fetch_own(heap, CODE, segment) {
+        let fetched = match resources.fetch_own(heap, CODE, segment, sink) {
             Ok(fetched) => fetched,
             Err(unread) => return Err(unfetched(unread)),
         };
@@ -113,18 +131,29 @@ impl JumpTable {
     /// `CallEntry`: calls the routine of an entry, counted from 0; where the entry is unloaded, its segment is loaded
     /// first, as `load` does. Returns -30001 (profileErr) where there is no such entry, or where the entry is loaded
     /// although its segment has no block; system error 15 where the entry belongs to no segment, or where its segment
-    /// cannot be loaded.
-    pub fn call<S: BlockStore>(
+    /// cannot be loaded. The sink is told of the blocks that are purged for the segment, if it is to be told.
+    pub fn call<S: BlockStore, K: PurgeSink>(
         &mut self,
         heap: &mut Heap<S>,
         resources: &mut Resources,
         index: u32,
+        sink: &mut K,
     ) -> Result<Called, Unloaded>
+        requires idle { IsIdle K.told K.waits sink.old }
         ensures answer { IsCalled (call_entry index (program self.old resources.old heap.old)) result
             (program self.new resources.new heap.new) }
+        ensures told { ¬ (WantsHost result) → K.listens sink.old ≡ true → Tells K.told
+            (gone_for (CallEntry index) (program self.old resources.old heap.old)) sink.old sink.new }
         ensures table { WantsHost result → self.new ≡ self.old }
         ensures left { WantsHost result → resources.new ≡ resources.old }
-        ensures host { WantsHost result → IsTrue S.TAKES_HOST ⊎ (heap.new ≡ heap.old) }
+        ensures untold { WantsHost result → IsTrue S.TAKES_HOST
+            ⊎ (((heap.new ≡ heap.old) × TellsNothing K.told sink.old sink.new)
+            ⊎ (LeavesMasters nothing heap.old heap.new
+            × Tells K.told (slot_gone nothing heap.old.heap) sink.old sink.new)) }
+        ensures idle { IsIdle K.told K.waits sink.new }
+        ensures listens { K.listens sink.new ≡ K.listens sink.old }
+        ensures host { WantsHost result → IsTrue S.TAKES_HOST
+            ⊎ ((heap.new ≡ heap.old) ⊎ (K.listens sink.old ≡ true)) }
         ensures kept { WantsHost result → KeepsNames heap.old heap.new }
         ensures lies { heap.new.window ≡ heap.old.window }
     {
@@ -137,26 +166,38 @@ impl JumpTable {
         if entry.loaded {
             call_loaded(heap, resources, segment)
         } else {
-            self.call_loading(heap, resources, segment)
+            self.call_loading(heap, resources, segment, sink)
         }
     }
 
-    /// Calls a routine whose segment is loaded for the call.
-    fn call_loading<S: BlockStore>(
+    /// Calls a routine whose segment is loaded for the call. The sink is told of the blocks that are purged for it, if
+    /// it is to be told.
+    fn call_loading<S: BlockStore, K: PurgeSink>(
         &mut self,
         heap: &mut Heap<S>,
         resources: &mut Resources,
         segment: i16,
+        sink: &mut K,
     ) -> Result<Called, Unloaded>
+        requires idle { IsIdle K.told K.waits sink.old }
         ensures answer { IsCalled (call_loading segment (load_seg segment (program self.old resources.old heap.old)))
             result (program self.new resources.new heap.new) }
+        ensures told { ¬ (WantsHost result) → K.listens sink.old ≡ true → Tells K.told
+            (load_gone segment (program self.old resources.old heap.old)) sink.old sink.new }
         ensures table { WantsHost result → self.new ≡ self.old }
         ensures left { WantsHost result → resources.new ≡ resources.old }
-        ensures host { WantsHost result → IsTrue S.TAKES_HOST ⊎ (heap.new ≡ heap.old) }
+        ensures untold { WantsHost result → IsTrue S.TAKES_HOST
+            ⊎ (((heap.new ≡ heap.old) × TellsNothing K.told sink.old sink.new)
+            ⊎ (LeavesMasters nothing heap.old heap.new
+            × Tells K.told (slot_gone nothing heap.old.heap) sink.old sink.new)) }
+        ensures idle { IsIdle K.told K.waits sink.new }
+        ensures listens { K.listens sink.new ≡ K.listens sink.old }
+        ensures host { WantsHost result → IsTrue S.TAKES_HOST
+            ⊎ ((heap.new ≡ heap.old) ⊎ (K.listens sink.old ≡ true)) }
         ensures kept { WantsHost result → KeepsNames heap.old heap.new }
         ensures lies { heap.new.window ≡ heap.old.window }
     {
-        match self.load(heap, resources, segment) {
+        match self.load(heap, resources, segment, sink) {
             Ok(read) => Ok(Called { segment, read }),
             Err(unloaded) => Err(unloaded),
         }

@@ -5,6 +5,8 @@ use Rattle.heap_calls.specs.State.{Memory}
 use Rattle.mac_words.specs.Told.{Told, Refused}
 use Rattle.heap_calls.specs.Asked.{Asked, answered}
 use Rattle.heap_calls.specs.Asked as asked
+use Rattle.heap_calls.specs.Gone.{gone_unless, set_pointer_size_gone}
+use Rattle.heap_calls.specs.GoneBy.{gone_in}
 use Rattle.heap_calls.specs.Busy.{gate, gated, notes, keep_code, served, pointer_barred, either_barred}
 use Rattle.heap_calls.proofs.Gates.Served.{served-gated}
 
@@ -54,3 +56,9 @@ served-elsewhere window a m =
     ∙ ap (λ (o : Option OsErr). gated o a (elsewhere window m)) (gate-elsewhere window a m)
     ∙ gated-elsewhere window (gate a m) a m
     ∙ ap (λ (x : Told × Memory). (x.0, elsewhere window x.1)) (sym (served-gated a m))
+
+-- what a call purges
+pub gone-elsewhere : (window : Site) (a : Asked) (m : Memory) → gone_in a (elsewhere window m) ≡ gone_in a m
+gone-elsewhere window (asked.SetPtrSize pointer n) m =
+    ap (λ o. gone_unless o (set_pointer_size_gone pointer n m.heap)) (pointer-elsewhere window pointer m)
+gone-elsewhere window a m = refl

@@ -287,7 +287,7 @@ remove-owns handle s owns =
     }))))
 
 -- a reference is changed, and keeps its handle
-changed-owns : (s : Managers) (at : Found) (x : Reference) (t : Bool) → Stands s.resources.chain at
+pub changed-owns : (s : Managers) (at : Found) (x : Reference) (t : Bool) → Stands s.resources.chain at
     → x.handle ≡ at.reference.here.handle → OneOwner s
     → OneOwner (with_resources (record s.resources {
       chain = replaced (with_references (replaced x at.reference) t at.file.here) at.file;
@@ -398,6 +398,8 @@ one-owner-served (asks.SetResAttrs handle attrs) s owns =
 one-owner-served (asks.GetResourceSizeOnDisk handle) s owns =
     noted (rows.get_resource_size_on_disk handle) s
     (found-keeps OneOwner (resource_of handle s.resources) s _ owns (λ at e. owns))
+one-owner-served (asks.SetResPurge on) s owns =
+    noted (rows.set_res_purge on) s (record { one = owns.one; numbered = owns.numbered })
 one-owner-served (asks.SetResLoad on) s owns =
     noted (rows.set_res_load on) s (record { one = owns.one; numbered = owns.numbered })
 one-owner-served asks.ResError s owns = owns

@@ -60,6 +60,7 @@ served-given (asks.SetResInfo handle id name) s is = cc
 served-given (asks.GetResAttrs handle) s is = cc
 served-given (asks.SetResAttrs handle attrs) s is = cc
 served-given (asks.GetResourceSizeOnDisk handle) s is = cc
+served-given (asks.SetResPurge on) s is = cc
 served-given (asks.SetResLoad on) s is = cc
 served-given asks.ResError s is = cc
 
@@ -92,6 +93,7 @@ served-records (asks.DetachResource handle) s is = detach-records handle s
 served-records (asks.GetResInfo handle) s is = asked-records handle s _ (λ at. refl)
 served-records (asks.GetResAttrs handle) s is = asked-records handle s _ (λ at. refl)
 served-records (asks.GetResourceSizeOnDisk handle) s is = asked-records handle s _ (λ at. refl)
+served-records (asks.SetResPurge on) s is = refl
 served-records (asks.SetResLoad on) s is = refl
 served-records asks.ResError s is = refl
 served-records (asks.OpenResFile name) s is = cc

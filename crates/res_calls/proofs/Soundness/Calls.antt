@@ -374,6 +374,16 @@ loading_sound on r sound = record {
   untouched = sound.untouched;
 }
 
+pub purging_sound : (on : Bool) (r : Resources) → Sound r → Sound (record r { purging = on })
+purging_sound on r sound = record {
+  falls = sound.falls;
+  next = sound.next;
+  current = sound.current;
+  placed = sound.placed;
+  kept = sound.kept;
+  untouched = sound.untouched;
+}
+
 pub error_sound : (code : OsErr) (r : Resources) → Sound r → Sound (record r { error = code })
 error_sound code r sound = record {
   falls = sound.falls;

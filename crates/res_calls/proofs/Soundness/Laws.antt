@@ -24,7 +24,7 @@ use Rattle.res_calls.proofs.Soundness.References.{loaded-keeps}
 use Rattle.res_calls.proofs.Soundness.Forks.{Fresh, map-fresh}
 use Rattle.res_calls.proofs.Soundness.Changes.{sound-file}
 use Rattle.res_calls.proofs.Soundness.Calls as calls
-use Rattle.res_calls.proofs.Soundness.Calls.{Sound_in, loading_sound, error_sound}
+use Rattle.res_calls.proofs.Soundness.Calls.{Sound_in, loading_sound, purging_sound, error_sound}
 
 -- What holds of the open files holds as an application is launched, and after each call.
 
@@ -97,6 +97,8 @@ sound-served (asks.SetResAttrs handle attrs) s sound =
     noted_sound (changing.set_res_attrs handle attrs) s (calls.set_res_attrs_sound handle attrs s sound)
 sound-served (asks.GetResourceSizeOnDisk handle) s sound =
     noted_sound (rows.get_resource_size_on_disk handle) s (asked-sound handle s _ sound (λ at. refl))
+sound-served (asks.SetResPurge on) s sound =
+    noted_sound (rows.set_res_purge on) s (purging_sound on s.resources sound)
 sound-served (asks.SetResLoad on) s sound =
     noted_sound (rows.set_res_load on) s (loading_sound on s.resources sound)
 sound-served asks.ResError s sound = sound

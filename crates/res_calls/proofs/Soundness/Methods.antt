@@ -1,4 +1,4 @@
-use Rattle.std.proofs.Common.{◌≡◌, ℕ, ◌+◌, ◌<◌, Bool, true, ◌==◌, List, [], ◌∷◌, length, map, refl, sym, ◌∙◌, ap}
+use Rattle.std.proofs.Common.{◌≡◌, ℕ, ◌+◌, ◌<◌, Bool, true, false, ◌==◌, List, [], ◌∷◌, length, map, refl, sym, ◌∙◌, ap}
 use Rattle.std.proofs.Common.{arith, subst, Option, Some, None, Result, Ok, Err}
 use Rattle.std.proofs.lemmas.Bool.{eq-eqb}
 use Rattle.std.specs.Prelude.{is_some, option_map, OnOk, OnErr, IsErr, IfSome, slice_get, bytes_eq}
@@ -6,19 +6,21 @@ use Rattle.std.specs.declared.alloc.AllocError.{AllocError}
 use Rattle.mac_words.specs.declared.code.TheConstants.OsErr.{NO_ERR, FILE_NOT_FOUND, PROFILE, RES_FILE_NOT_FOUND}
 use denote.RawPtr.{null_ptr}
 use Rattle.heap_calls.specs.State.{Memory, fresh_memory}
+use Rattle.heap_calls.specs.Gone.{Gone}
 use Rattle.heap_calls.specs.declared.refusal.Refusal.{Refusal}
 use Rattle.heap_calls.specs.declared.refusal.Refusal.TheVariants.{Code, HostMemory}
 use Rattle.res_map.specs.Split.{Split, split, place}
 use Rattle.res_map.specs.Map.{Map}
 use Rattle.res_map.proofs.Splitting.{found-place, found-none, get-inside}
 use Rattle.res_calls.specs.Files.{File, OpenFile, Resources, Found, file_of, opened}
-use Rattle.res_calls.specs.Fetch.{Managers, Answer, done}
+use Rattle.res_calls.specs.Fetch.{Managers, Answer, Loaded, done}
 use Rattle.res_calls.specs.Fetch as fetch
 use Rattle.res_calls.specs.Rows as rows
 use Rattle.res_calls.specs.Rows.{map_in, loaded_if, with_loaded, resource_of}
 use Rattle.res_calls.specs.Changing as changing
 use Rattle.res_calls.specs.Given.{IsAnswered, IsFetched, IsUnread, IsLoadedFirst, managers}
 use Rattle.res_calls.specs.Places.{found_at, chained, WantsHost}
+use Rattle.res_calls.specs.Preloading.{StopsFirst, given_to}
 use Rattle.res_calls.specs.Sound.{Sound}
 use Rattle.res_calls.specs.Updating.{stored_in, filed_in}
 use Rattle.res_calls.specs.View.{view_file, view_open, resources_of}
@@ -29,7 +31,7 @@ use Rattle.res_calls.specs.declared.files.OpenFile.{OpenFile as StoredOpenFile}
 use Rattle.res_calls.specs.declared.find.Spot.{Spot}
 use Rattle.res_calls.proofs.Standing.{place_seen, some_of}
 use Rattle.res_calls.proofs.Owning.Places.{Stands}
-use Rattle.res_calls.proofs.Soundness.References.{loaded-keeps}
+use Rattle.res_calls.proofs.Soundness.References.{loaded-keeps, given-keep}
 use Rattle.res_calls.proofs.Soundness.Forks.{Fresh, map-fresh}
 use Rattle.res_calls.proofs.Soundness.Changes.{sound-file, sound-opened}
 use Rattle.res_calls.proofs.Soundness.Calls.{Sound_in, fetch_sound, update_res_file_sound, create_res_file_sound}
@@ -162,14 +164,33 @@ opened_in old new r now m i read sound same inside is chain =
     (sound-opened i read (loaded_if r.loading read.references m) (managers (chained old r) m) there fresh
     (loaded-keeps r.loading read.references m fresh.references) sound)
 
+-- the preloading of a file that is opened was stopped
+pub opened_stopped : {A : Type 0} (told : A → List Gone → Type 0) (takes loading : Bool)
+    (old new : List StoredOpenFile) (r now : Resources) (m after : Memory) (i : ℕ) (read : Map) (s s' : A)
+    → Sound (chained old r) → chained old r ≡ now → i < length now.files
+    → IfSome (slice_get now.files i) (λ f. map_in f.fork ≡ Ok read)
+    → StopsFirst told takes loading (opened r.next (Some i) read) (map view_open old) (map view_open new) m after s s'
+    → Sound (record r { chain = map view_open new; current = r.next; next = r.next + 1 })
+opened_stopped told takes loading old new r now m after i read s s' sound same inside is stopped =
+    let fresh = fork-there now.files i read inside is in
+    let there = subst (λ (q : Resources). i < length q.files) (sym same) inside in
+    let numbers = stopped.preloads.numbers in
+    let l : Loaded = record { references = given_to read.references numbers; memory = after; reads = [] } in
+    let chain : map view_open new ≡ with_loaded l (opened r.next (Some i) read) ∷ map view_open old =
+    stopped.first ∙ ap (λ (m : Map). record (opened r.next (Some i) read) { map = m } ∷ map view_open old)
+    stopped.preloads.given in
+    subst (λ (c : List OpenFile). Sound (record r { chain = c; current = r.next; next = r.next + 1 })) (sym chain)
+    (sound-opened i read l (managers (chained old r) m) there fresh
+    (given-keep read.references numbers fresh.references) sound)
+
 -- the application's own file and the System's
 pub launched_in : (files : List StoredFile) (chain : List StoredOpenFile) (fork : List ℕ) (own system : Map)
     → 0 < length files → map_in fork ≡ Ok own
     → map view_open chain ≡ opened 2 (Some 0) own ∷ opened 0 None system ∷ []
-    → Sound (resources_of files chain 2 3 true NO_ERR)
+    → Sound (resources_of files chain 2 3 true false NO_ERR)
 launched_in [] chain fork own system some is e = absurd (omega (arith, some))
 launched_in (f ∷ files) chain fork own system some is e =
-    subst (λ (c : List OpenFile). Sound (record (resources_of (f ∷ files) chain 2 3 true NO_ERR) { chain = c })) (sym e)
+    subst (λ (c : List OpenFile). Sound (record (resources_of (f ∷ files) chain 2 3 true false NO_ERR) { chain = c })) (sym e)
     (fresh_sound (view_file f) (map view_file files) own system (map-fresh fork own is))
 
 -- an open file of a number

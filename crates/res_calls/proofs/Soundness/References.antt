@@ -1,5 +1,5 @@
 use Rattle.std.proofs.Common.{◌≡◌, ℕ, Bool, true, false, not, ◌==◌, List, [], ◌∷◌, ◌++◌, refl, sym, ◌∙◌, ap, cond}
-use Rattle.std.proofs.Common.{map, Option, Some, Result, Ok, Err}
+use Rattle.std.proofs.Common.{map, drop, Option, Some, None, Result, Ok, Err}
 use Rattle.std.proofs.lemmas.Bool.{and_parts, and_from, or_left, or_right}
 use Rattle.std.proofs.lemmas.Nat.{and_assoc}
 use Rattle.std.specs.Int.Bits.{and_zero_r}
@@ -12,6 +12,7 @@ use Rattle.heap_calls.specs.State.{State, Memory, Resource}
 use Rattle.heap_calls.specs.Inside.{new_inside}
 use Rattle.res_map.specs.Map.{Reference, is_changed, is_preload, stored_anew, added}
 use Rattle.res_calls.specs.Fetch.{flags_of, given, preload_one, preload}
+use Rattle.res_calls.specs.Preloading.{next_number, numbered, given_to}
 use Rattle.res_calls.specs.Rows.{loaded_if}
 use Rattle.res_calls.specs.Update.{fresh, updated_reference}
 use Rattle.res_calls.specs.Sound.{keeps_handle}
@@ -85,3 +86,30 @@ pub loaded-keeps : (loading : Bool) (references : List Reference) (m : Memory)
     → list_all keeps_handle (loaded_if loading references m).references ≡ true
 loaded-keeps true references m e = preload-keeps references m e
 loaded-keeps false references m e = e
+
+-- those of a file whose preloading was stopped
+numbered-keeps : (number : Option ℕ) (x : Reference) → keeps_handle x ≡ true → keeps_handle (numbered number x) ≡ true
+numbered-keeps None x e = e
+numbered-keeps (Some k) x e = held-keeps (numbered (Some k) x) k refl
+
+pub given-keep : (references : List Reference) (numbers : List (Option ℕ)) → list_all keeps_handle references ≡ true
+    → list_all keeps_handle (given_to references numbers) ≡ true
+given-keep [] numbers e = refl
+given-keep (x ∷ references) numbers e =
+    let parts = and_parts (keeps_handle x) (list_all keeps_handle references) e in
+    by_bit (is_preload x) parts.0 (given-keep references (drop 1 numbers) parts.1)
+    (given-keep references numbers parts.1)
+  where
+    first : Reference
+    first = numbered (next_number numbers) x
+
+    by_bit : (t : Bool) → keeps_handle x ≡ true
+        → list_all keeps_handle (given_to references (drop 1 numbers)) ≡ true
+        → list_all keeps_handle (given_to references numbers) ≡ true
+        → list_all keeps_handle (cond t (first ∷ given_to references (drop 1 numbers))
+        (x ∷ given_to references numbers)) ≡ true
+    by_bit true keeps given passed =
+        and_from (keeps_handle first) (list_all keeps_handle (given_to references (drop 1 numbers)))
+        (numbered-keeps (next_number numbers) x keeps) given
+    by_bit false keeps given passed =
+        and_from (keeps_handle x) (list_all keeps_handle (given_to references numbers)) keeps passed

@@ -110,7 +110,7 @@ given-place : (window : Site) (x : Reference) (y : Result ℕ OsErr × Memory)
 given-place window x (Ok h, m) = refl
 given-place window x (Err code, m) = refl
 
-one-place : (window : Site) (x : Reference) (m : Memory)
+pub one-place : (window : Site) (x : Reference) (m : Memory)
     → preload_one x (elsewhere window m) ≡ loaded_moved window (preload_one x m)
 one-place window x m = by_bit (is_preload x)
   where
@@ -393,6 +393,7 @@ served-elsewhere window (asks.GetResAttrs handle) s = telling-place window Numbe
 served-elsewhere window (asks.GetResourceSizeOnDisk handle) s =
     telling-place window Number (rows.get_resource_size_on_disk handle) s
     (found-place window (resource_of handle s.resources) s _ _ (λ at. refl))
+served-elsewhere window (asks.SetResPurge on) s = refl
 served-elsewhere window (asks.SetResLoad on) s = refl
 served-elsewhere window (asks.CreateResFile name) s =
     telling-place window (λ x. Done) (changing.create_res_file name) s

@@ -115,6 +115,8 @@ served-serves (asks.GetResAttrs handle) s = telling-serves Number (rows.get_res_
     (found-same (resource_of handle s.resources) s _ (λ at. same-goes _ s))
 served-serves (asks.GetResourceSizeOnDisk handle) s = telling-serves Number (rows.get_resource_size_on_disk handle) s []
     (λ n. refl) (found-same (resource_of handle s.resources) s _ (λ at. same-goes _ s))
+served-serves (asks.SetResPurge on) s = telling-serves (λ x. Done) (rows.set_res_purge on) s [] (λ x. refl)
+    (done-goes _ s _ refl refl)
 served-serves (asks.SetResLoad on) s = telling-serves (λ x. Done) (rows.set_res_load on) s [] (λ x. refl)
     (done-goes _ s _ refl refl)
 served-serves (asks.CreateResFile name) s = telling-serves (λ x. Done) (changing.create_res_file name) s [] (λ x. refl)

@@ -1,4 +1,4 @@
-use Rattle.std.proofs.Common.{◌≡◌, ℕ, pos, false, List, [], ◌∷◌, Some, None, refl, replicate}
+use Rattle.std.proofs.Common.{◌≡◌, ℕ, pos, false, List, [], ◌∷◌, Option, Some, None, map, refl, replicate}
 use Rattle.mac_words.specs.declared.code.TheConstants.OsErr.{MEM_FULL}
 use Rattle.mac_words.specs.Told.{Done, Fetched, Number, Code, Refused}
 use Rattle.block_store.specs.Rest.{Site}
@@ -7,7 +7,9 @@ use Rattle.heap_calls.specs.State.{fresh_memory}
 use Rattle.heap_calls.specs.Asked as asks
 use Rattle.res_calls.specs.Files.{fresh_resources}
 use Rattle.res_calls.specs.Fetch.{Managers}
+use Rattle.res_calls.specs.Preloading.{with_handles}
 use Rattle.res_calls.specs.Rows.{preloaded}
+use Rattle.res_calls.specs.Stopped.{first_handles}
 use Rattle.res_calls.specs.Asked.{GetResource, LoadResource, ReleaseResource, DetachResource, SetResLoad, ResError}
 use Rattle.res_calls.proofs.Worked.Lines.{line, heap_line, tells, stored, opened_map, group}
 
@@ -41,3 +43,20 @@ no-room : (window : Site) → tells (line (GetResource data_type (pos 1)) ∷ li
     (start 512 4 (replicate 300 7) window)
     ≡ Refused MEM_FULL ∷ Code MEM_FULL ∷ []
 no-room window = refl
+
+-- the handles of two preloaded resources, where the preloading was stopped behind the first k
+abbrev two : Map
+two = opened_map (group data_type (stored (pos 1) None 4 (100 ∷ []) ∷ stored (pos 2) None 4 (101 ∷ []) ∷ []) ∷ [])
+
+abbrev stopped_behind : ℕ → Site → List (Option ℕ)
+stopped_behind k window =
+    map (λ x. x.handle) (with_handles (first_handles k two.references (fresh_memory 1024 window)) two).references
+
+before-the-first : (window : Site) → stopped_behind 0 window ≡ None ∷ None ∷ []
+before-the-first window = refl
+
+before-the-second : (window : Site) → stopped_behind 1 window ≡ Some 0 ∷ None ∷ []
+before-the-second window = refl
+
+not-stopped : (window : Site) → stopped_behind 2 window ≡ Some 0 ∷ Some 1 ∷ []
+not-stopped window = refl

@@ -1,4 +1,4 @@
-use Rattle.std.proofs.Common.{◌≡◌, ℕ, pos, true, [], ◌∷◌, Some, None, refl}
+use Rattle.std.proofs.Common.{◌≡◌, ℕ, pos, true, false, [], ◌∷◌, Some, None, refl}
 use Rattle.mac_words.specs.declared.code.TheConstants.OsErr.{NO_ERR, RES_NOT_FOUND, RES_FILE_NOT_FOUND}
 use Rattle.mac_words.specs.Told.{Done, Fetched, Number, Bytes, Kind, Refused}
 use Rattle.block_store.specs.Rest.{Site}
@@ -30,6 +30,7 @@ resources = record {
   current = 4;
   next = 5;
   loading = true;
+  purging = false;
   error = NO_ERR;
 }
 

@@ -7,13 +7,15 @@ use Rattle.mac_words.specs.Told.{Done, Number, Kind}
 use Rattle.res_calls.specs.Asked.{telling, tell_fetched, tell_info}
 use Rattle.res_calls.specs.Given.{managers}
 use Rattle.res_calls.specs.Rows as rows
+use Rattle.res_calls.specs.Asked as asks
+use Rattle.res_calls.specs.Gone.{gone_for}
 use Rattle.res_calls.specs.Changing as changing
 use Rattle.mac_words.specs.declared.name.Name.{Name}
 use Rattle.res_calls.specs.Asked.{GetResInfo}
 use Rattle.res_calls.specs.Places.{seen_info}
 use Rattle.res_calls.proofs.Walks.Laws.{served-files}
 use Rattle.applications.proofs.Filing.{answered_keeps, on_any_err}
-use Rattle.applications.proofs.Arms.{by_three, arm_told, arm_after}
+use Rattle.applications.proofs.Arms.{by_three, arm_told, arm_after, arm_purged}
 use Rattle.applications.proofs.finding.answered.Goals as goal
 
 pub returns-in-CreateResFile-clause-told : goal.returns-in-CreateResFile-clause-told
@@ -216,6 +218,14 @@ pub returns-in-WriteResource-clause-after : goal.returns-in-WriteResource-clause
 returns-in-WriteResource-clause-after g c =
     arm_after (λ (u : Unit {0}). Done) c.done_on_resource-in-WriteResource.result _ _ _ c.args.call.now _ c.args.names.now (managers c.args.resources.now c.args.heap.now) c.done_on_resource-in-WriteResource.ensures.after c.write_resource.ensures.answer (ap (λ (h : Option ℕ). telling (λ (u : Unit {0}). Done) (rows.noting (changing.write_resource h) (managers c.args.resources.now c.args.heap.now))) c.number-in-WriteResource.ensures) c.in-WriteResource.is
 
+pub returns-in-SetResPurge-clause-told : goal.returns-in-SetResPurge-clause-told
+returns-in-SetResPurge-clause-told g c =
+    arm_told (λ (u : Unit {0}). Done) false c.done_on_resource-in-SetResPurge.result _ _ _ c.args.call.now _ c.args.names.now (managers c.args.resources.now c.args.heap.now) c.done_on_resource-in-SetResPurge.ensures.tried (c.set_res_purge.ensures c.args.heap.now) refl refl c.in-SetResPurge.is
+
+pub returns-in-SetResPurge-clause-after : goal.returns-in-SetResPurge-clause-after
+returns-in-SetResPurge-clause-after g c =
+    arm_after (λ (u : Unit {0}). Done) c.done_on_resource-in-SetResPurge.result _ _ _ c.args.call.now _ c.args.names.now (managers c.args.resources.now c.args.heap.now) c.done_on_resource-in-SetResPurge.ensures.after (c.set_res_purge.ensures c.args.heap.now) refl c.in-SetResPurge.is
+
 pub returns-in-SetResLoad-clause-told : goal.returns-in-SetResLoad-clause-told
 returns-in-SetResLoad-clause-told g c =
     arm_told (λ (u : Unit {0}). Done) false c.done_on_resource-in-SetResLoad.result _ _ _ c.args.call.now _ c.args.names.now (managers c.args.resources.now c.args.heap.now) c.done_on_resource-in-SetResLoad.ensures.tried (c.set_res_load.ensures c.args.heap.now) refl refl c.in-SetResLoad.is
@@ -232,3 +242,22 @@ returns-in-GetResInfo-clause-files g c =
     c.get_res_info.result _ _ (c.get_res_info.ensures.answer c.args.heap.now)
     c.get_res_info.ensures.host
     (served-files (GetResInfo c.number-in-GetResInfo.result) (managers c.args.resources.now c.args.heap.now) refl))
+
+pub returns-in-GetResource-clause-purged : goal.returns-in-GetResource-clause-purged
+returns-in-GetResource-clause-purged g c =
+    let fits : FitsSigned w16 c.in-GetResource.id = search rules in
+    arm_purged c.fetched.result c.args.call.now _ c.args.names.now (managers c.args.resources.now c.args.heap.now)
+    g.K.PurgeSink.listens g.K.PurgeSink.told c.args.sink.now c.get_resource.new.sink _ c.fetched.ensures.host
+    c.get_resource.ensures.told
+    (ap (λ (i : ℤ). gone_for (asks.GetResource (big_number 4 c.in-GetResource.ty.0) i)
+    (managers c.args.resources.now c.args.heap.now)) (to_z-of_z w16 c.in-GetResource.id fits)) c.in-GetResource.is
+
+pub returns-in-Get1Resource-clause-purged : goal.returns-in-Get1Resource-clause-purged
+returns-in-Get1Resource-clause-purged g c =
+    let fits : FitsSigned w16 c.in-Get1Resource.id = search rules in
+    arm_purged c.fetched-in-Get1Resource.result c.args.call.now _ c.args.names.now
+    (managers c.args.resources.now c.args.heap.now) g.K.PurgeSink.listens g.K.PurgeSink.told c.args.sink.now
+    c.get1_resource.new.sink _ c.fetched-in-Get1Resource.ensures.host c.get1_resource.ensures.told
+    (ap (λ (i : ℤ). gone_for (asks.Get1Resource (big_number 4 c.in-Get1Resource.ty.0) i)
+    (managers c.args.resources.now c.args.heap.now)) (to_z-of_z w16 c.in-Get1Resource.id fits))
+    c.in-Get1Resource.is

@@ -1,5 +1,7 @@
-use Rattle.std.proofs.Common.{rules, ◌≡◌, ℕ, Option, Some, None, refl, sym, ◌∙◌, subst, length}
+use Rattle.std.proofs.Common.{rules, ◌≡◌, ℕ, true, Option, Some, None, inl, inr, refl, sym, ◌∙◌, subst, length}
 use Rattle.heap_calls.specs.State.{Plain}
+use Rattle.heap_calls.specs.Answer.{nothing}
+use Rattle.heap_calls.specs.Gone.{Tells, made_gone}
 use Rattle.heap_calls.specs.Inside.{new_filled, new_inside}
 use Rattle.heap_calls.specs.Searches.{new_handle_searches}
 use Rattle.heap_calls.specs.Moves.{new_handle_moves}
@@ -7,6 +9,8 @@ use Rattle.heap_calls.specs.Inner.Given.{IsAnswer}
 use Rattle.heap_calls.specs.Inner.Naming.{entered, number_of}
 use Rattle.heap_calls.specs.Inner.Numbered.{memory_of}
 use Rattle.heap_calls.proofs.Filled.Named.{filled-names}
+use Rattle.heap_calls.proofs.Filled.Unmade.{made-told, left-unmade}
+use Rattle.heap_calls.proofs.NewBlocks.NewPointers.{on_err}
 use Rattle.heap_calls.proofs.Filled.Adding.{added-agrees, added-next, not-added}
 use Rattle.heap_calls.proofs.NewBlocks.Naming.{Names, named-packing}
 use Rattle.heap_calls.proofs.NewBlocks.NewHandles.{new_handle_searches-is, agrees-more}
@@ -83,3 +87,30 @@ returns-clause-next g c =
     c.args.flags c.args.bytes.now (memory_of (g.S.BlockStore.zone c.args.store.now)
     (g.S.BlockStore.rest c.args.store.now) c.args.names.now.items c.args.log.now) c.count.new.self
     (plain g before (Some c.in-Some.slot) c.in-Some.is))
+
+pub returns-in_err-made-clause-left : goal.returns-in_err-made-clause-left
+returns-in_err-made-clause-left g c = on_err c.from_residual.result _ (elim c.in_err-made.ensures.left [
+  | inl takes ↦ inl takes
+  | inr left ↦ inr (left-unmade g.K.PurgeSink.told _ (g.S.BlockStore.zone c.args.store.now)
+      (g.S.BlockStore.rest c.args.store.now) c.args.names.now.items c.deref.result.now c.args.log.now
+      (g.met.S.BlockStore.masters c.args.store.now) refl c.requires.agrees c.deref.ensures.value c.args.sink.now
+      c.fill_block.new.sink (g.S.BlockStore.zone c.fill_block.new.store) (g.S.BlockStore.rest c.fill_block.new.store)
+      c.args.names.now.items refl left)
+])
+
+-- the sink was told of what is purged for the block
+tells : (g : Over) (c : After-count g) → g.K.PurgeSink.listens c.args.sink.now ≡ true
+    → Tells g.K.PurgeSink.told (made_gone nothing c.args.bytes.now (memory_of (g.S.BlockStore.zone c.args.store.now)
+    (g.S.BlockStore.rest c.args.store.now) c.args.names.now.items c.args.log.now).heap) c.args.sink.now
+    c.fill_block.new.sink
+tells g c listens =
+    made-told g.K.PurgeSink.told _ (g.S.BlockStore.zone c.args.store.now) (g.S.BlockStore.rest c.args.store.now)
+    c.args.names.now.items c.deref.result.now c.args.log.now (g.met.S.BlockStore.masters c.args.store.now) refl
+    c.requires.agrees c.deref.ensures.value c.args.sink.now c.fill_block.new.sink c.args.bytes.now
+    (c.in_ok-made.ensures.told listens)
+
+pub returns-in_default-clause-told : goal.returns-in_default-clause-told
+returns-in_default-clause-told g c = tells g (goal.at.returns-in_default-clause-told g c).After-count
+
+pub returns-clause-told : goal.returns-clause-told
+returns-clause-told g c = tells g (goal.at.returns-clause-told g c).After-count

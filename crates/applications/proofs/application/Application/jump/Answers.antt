@@ -1,28 +1,38 @@
-use Rattle.std.proofs.Common.{refl, ap, rules, ℤ, to_z, of_z}
-use Rattle.std.specs.Prelude.{FitsSigned}
-use Rattle.std.specs.Int.{w16}
-use Rattle.std.proofs.lemmas.Int.{to_z-of_z}
-use Rattle.mac_words.specs.Told.{Done}
-use Rattle.segments.specs.Calls.{load_seg, unload_seg}
-use Rattle.segments.specs.Given.{program}
-use Rattle.segments.specs.Asked.{telling, tell_loaded, tell_called, tell_shown}
-use Rattle.applications.proofs.JumpCalls.{load-settled, call-settled, unload-settled, show-settled, jumped, jumped_at_once}
+use Rattle.std.proofs.Common.{◌≡◌, [], map, sym, ap, subst, ◌∙◌}
+use Rattle.std.specs.Prelude.{OnOk}
+use Rattle.res_calls.specs.Files.{Resources}
+use Rattle.res_calls.specs.Purging.{view_purged}
+use Rattle.res_calls.proofs.Storing.{gone-files}
+use Rattle.segments.specs.Asked.{served}
+use Rattle.segments.specs.Gone.{gone_for}
+use Rattle.applications.specs.Trying.{Running, storing, segment_tried, program_of}
+use Rattle.applications.proofs.Hearing.{stores-tried, on_err-ap}
 use Rattle.applications.proofs.application.Application.jump.Goals as goal
 
-pub returns-in-LoadSeg-clause-tried : goal.returns-in-LoadSeg-clause-tried
-returns-in-LoadSeg-clause-tried g c =
-    let fits : FitsSigned w16 c.in-LoadSeg.segment = search rules in
-    jumped tell_loaded _ c.loaded.result _ _ c.args.call.now _ c.args.self.now _ c.loaded.ensures.tried c.load.ensures.answer (load-settled (to_z w16 (of_z w16 c.in-LoadSeg.segment)) (program c.self.inside.table c.self.inside.resources c.self.inside.heap)) (ap (λ (n : ℤ). telling tell_loaded (load_seg n (program c.self.inside.table c.self.inside.resources c.self.inside.heap))) (to_z-of_z w16 c.in-LoadSeg.segment fits)) c.in-LoadSeg.is c.self.view_is
+pub returns-clause-after : goal.returns-clause-after
+returns-clause-after g c =
+    let left : Running = record {
+      memory = c.self-2.inside.heap;
+      resources = c.self-2.inside.resources;
+      table = c.self-2.inside.table;
+      names = c.self-2.inside.names;
+      grow = c.self-2.inside.grow.now;
+    } in
+    subst (λ (q : Resources). OnOk c.answer_segment-tried.result (record left { resources = q }
+    ≡ storing c.args.self.now.resources.purging
+    (gone_for c.args.call.now (program_of c.args.self.now))
+    (segment_tried (served c.args.call.now (program_of c.args.self.now)) c.args.self.now).after)) (sym c.store_purged.ensures)
+    (stores-tried c.answer_segment-tried.result c.args.self.now.resources.purging
+    (gone_for c.args.call.now (program_of c.args.self.now))
+    (map view_purged c.into_told.result.items) c.new-purges.result c.answer_segment-tried.new.sink left
+    (segment_tried (served c.args.call.now (program_of c.args.self.now)) c.args.self.now).after
+    (c.new-purges.ensures ∙ ap (λ on. record { on = on; told = []; offered = [] })
+    (c.purging.ensures ∙ ap (λ (r : Running). r.resources.purging) c.self.view_is))
+    c.answer_segment-tried.ensures.listens c.answer_segment-tried.ensures.purged c.into_told.ensures
+    (subst (λ (x : Running). OnOk c.answer_segment-tried.result (x ≡ (segment_tried (served c.args.call.now (program_of c.args.self.now)) c.args.self.now).after)) (sym c.self-2.view_is) c.answer_segment-tried.ensures.after))
 
-pub returns-in-UnloadSeg-clause-tried : goal.returns-in-UnloadSeg-clause-tried
-returns-in-UnloadSeg-clause-tried g c =
-    let fits : FitsSigned w16 c.in-UnloadSeg.segment = search rules in
-    jumped_at_once (λ (u : Unit {0}). Done) c.unloaded.result _ _ c.args.call.now _ c.args.self.now _ c.unloaded.ensures c.unload.ensures.reply (unload-settled (to_z w16 (of_z w16 c.in-UnloadSeg.segment)) (program c.self.inside.table c.self.inside.resources c.self.inside.heap)) (ap (λ (n : ℤ). telling (λ (u : Unit {0}). Done) (unload_seg n (program c.self.inside.table c.self.inside.resources c.self.inside.heap))) (to_z-of_z w16 c.in-UnloadSeg.segment fits)) c.in-UnloadSeg.is c.self.view_is
-
-pub returns-in-CallEntry-clause-tried : goal.returns-in-CallEntry-clause-tried
-returns-in-CallEntry-clause-tried g c =
-    jumped tell_called _ c.called.result _ _ c.args.call.now _ c.args.self.now _ c.called.ensures.tried c.call.ensures.answer (call-settled c.in-CallEntry.index (program c.self.inside.table c.self.inside.resources c.self.inside.heap)) refl c.in-CallEntry.is c.self.view_is
-
-pub returns-in-ShowEntry-clause-tried : goal.returns-in-ShowEntry-clause-tried
-returns-in-ShowEntry-clause-tried g c =
-    jumped_at_once tell_shown c.shown.result _ _ c.args.call.now _ c.args.self.now _ c.shown.ensures (c.show.ensures _) (show-settled c.in-ShowEntry.index (program c.self.inside.table c.self.inside.resources c.self.inside.heap)) refl c.in-ShowEntry.is c.self.view_is
+pub returns-clause-files : goal.returns-clause-files
+returns-clause-files g c = on_err-ap c.answer_segment-tried.result (λ same.
+    ap (λ (q : Resources). q.files) c.store_purged.ensures
+    ∙ gone-files (map view_purged c.into_told.result.items) c.self-2.inside.resources
+    ∙ ap (λ (r : Running). r.resources.files) c.self-2.view_is ∙ same) c.answer_segment-tried.ensures.files

@@ -1,9 +1,10 @@
-use Rattle.std.proofs.Common.{inr, sym, ◌∙◌, length}
+use Rattle.std.proofs.Common.{inl, inr, sym, ◌∙◌, length}
 use Rattle.heap_calls.specs.State.{Plain}
 use Rattle.heap_calls.specs.Inside.{new_filled}
 use Rattle.heap_calls.specs.Searches.{new_handle_searches}
 use Rattle.heap_calls.specs.Moves.{new_handle_moves}
 use Rattle.heap_calls.proofs.Filled.Named.{filled-names}
+use Rattle.heap_calls.proofs.Filled.Unmade.{made-told, left-unmade}
 use Rattle.heap_calls.proofs.NewBlocks.Naming.{Names, named-packing}
 use Rattle.heap_calls.proofs.NewBlocks.NewHandles.{new_handle_searches-is, agrees-more, kept-memory}
 use Rattle.heap_calls.proofs.Numbering.MoveNames.{new_handle_moves-is}
@@ -12,7 +13,7 @@ use Rattle.heap_calls.proofs.heap.Heap.fill_handle.Goals.{In_ok-made}
 use Rattle.heap_calls.proofs.heap.Heap.fill_handle.Goals as goal
 
 pub returns-in_err-reserve-clause-host : goal.returns-in_err-reserve-clause-host
-returns-in_err-reserve-clause-host g c host = inr (rw c.reserve.ensures.items c.self.view_is)
+returns-in_err-reserve-clause-host g c host = inr (inl (rw c.reserve.ensures.items c.self.view_is))
 
 pub invariant_of-self-in_err-made : goal.invariant_of-self-in_err-made
 invariant_of-self-in_err-made g c = rw c.in_ok-reserve.ensures.items
@@ -47,3 +48,27 @@ returns-clause-answer g c =
     (made g (goal.at.returns-clause-answer g c).In_ok-made) c.in_ok-made.made.searches
     (c.in_ok-made.ensures.searches ∙ sym (new_handle_searches-is _ _ _ n masters c.self.invariant)) c.count.ensures
     _ (new_handle_moves-is _ _ _ n masters c.self.invariant) c.in_ok-made.ensures.moves)
+
+pub returns-in_err-reserve-clause-untold : goal.returns-in_err-reserve-clause-untold
+returns-in_err-reserve-clause-untold g c host =
+    inr (inl (rw c.reserve.ensures.items c.self.view_is, λ before was. was))
+
+pub returns-in_err-made-clause-untold : goal.returns-in_err-made-clause-untold
+returns-in_err-made-clause-untold g c host =
+    let a = c.self.inside in
+    elim c.in_err-made.ensures.left [
+      | inl takes ↦ inl takes
+      | inr left ↦ inr (left-unmade g.K.PurgeSink.told c.args.self.now (g.S.BlockStore.zone a.store)
+          (g.S.BlockStore.rest a.store) a.names.items c.deref.result.now a.log (g.met.S.BlockStore.masters a.store)
+          c.self.view_is c.self.invariant (c.deref.ensures.value ∙ c.in_ok-reserve.ensures.items) c.args.sink.now
+          c.fill_block.new.sink (g.S.BlockStore.zone c.fill_block.new.store) (g.S.BlockStore.rest c.fill_block.new.store)
+          c.reserve.new.self.items c.in_ok-reserve.ensures.items left)
+    ]
+
+pub returns-clause-told : goal.returns-clause-told
+returns-clause-told g c some listens =
+    let a = c.self.inside in
+    made-told g.K.PurgeSink.told c.args.self.now (g.S.BlockStore.zone a.store) (g.S.BlockStore.rest a.store)
+    a.names.items c.deref.result.now a.log (g.met.S.BlockStore.masters a.store) c.self.view_is c.self.invariant
+    (c.deref.ensures.value ∙ c.in_ok-reserve.ensures.items) c.args.sink.now c.fill_block.new.sink c.args.bytes.now
+    (c.in_ok-made.ensures.told listens)

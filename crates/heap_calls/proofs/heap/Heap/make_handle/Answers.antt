@@ -1,18 +1,13 @@
 use Rattle.std.proofs.Common.{ℕ, List, inl, inr, refl, replicate, sym, ◌∙◌, ap, subst}
 use Rattle.std.proofs.lemmas.List.{length-replicate}
-use Rattle.block_store.specs.Block.{rename}
 use Rattle.block_store.specs.declared.sparing.Sparing.TheVariants.{Nothing}
 use Rattle.heap_calls.specs.declared.anchor.Anchor.{Anchor}
 use Rattle.heap_calls.specs.State.{Memory}
 use Rattle.heap_calls.specs.Answer.{nothing}
-use Rattle.heap_calls.specs.Gone.{Gone, Tells, slot_gone, new_handle_gone}
-use Rattle.heap_calls.specs.Refused.{slotted_zone}
-use Rattle.heap_calls.specs.Inner.Numbered.{memory_of, handle_number, pointer_number}
-use Rattle.heap_calls.specs.Inner.Telling.{zone_slot_gone, new_gone}
-use Rattle.heap_calls.proofs.GoneBlocks.{slot_gone-is}
-use Rattle.heap_calls.proofs.GonePlaces.{new_gone-is, slotted_zone-is}
-use Rattle.heap_calls.proofs.Numbering.Changing.{memory-same}
-use Rattle.heap_calls.proofs.NewBlocks.NewHandles.{kept-still}
+use Rattle.heap_calls.specs.Gone.{Gone, Tells, new_handle_gone}
+use Rattle.heap_calls.specs.Inner.Telling.{new_gone}
+use Rattle.heap_calls.proofs.Filled.Unmade.{left-unmade}
+use Rattle.heap_calls.proofs.GonePlaces.{new_gone-is}
 use Rattle.heap_calls.specs.Slots.{new_handle}
 use Rattle.heap_calls.specs.Searches.{new_handle_searches}
 use Rattle.heap_calls.specs.Moves.{new_handle_moves}
@@ -66,36 +61,13 @@ returns-in_err-reserve-clause-untold g c host =
 pub returns-in_err-made-clause-untold : goal.returns-in_err-made-clause-untold
 returns-in_err-made-clause-untold g c host =
     let a = c.self.inside in
-    let zone = g.S.BlockStore.zone a.store in
-    let zone' = g.S.BlockStore.zone c.new_block.new.store in
-    let rest = g.S.BlockStore.rest a.store in
-    let rest' = g.S.BlockStore.rest c.new_block.new.store in
-    let es = a.names.items in
-    let masters = g.met.S.BlockStore.masters a.store in
-    let slots = ap (λ (e : List Anchor). zone_slot_gone e Nothing rest.unused zone)
-    (c.deref.ensures.value ∙ c.in_ok-reserve.ensures.items)
-    ∙ slot_gone-is zone rest es masters c.self.invariant nothing Nothing (λ b. refl) refl (λ b. refl)
-    ∙ ap (λ (m : Memory). slot_gone nothing m.heap) c.self.view_is in
     elim c.in_err-made.ensures.left [
       | inl takes ↦ inl takes
-      | inr left ↦ inr (elim left [
-        | inl same ↦ inl (
-          ap (λ z. memory_of z rest' c.reserve.new.self.items a.log) same.0
-              ∙ ap (λ (l : List Anchor). memory_of zone rest' l a.log) c.in_ok-reserve.ensures.items
-              ∙ memory-same zone rest rest' es a.log same.1 ∙ c.self.view_is,
-          same.2,
-        )
-        | inr slot ↦ inr (
-          kept-still c.args.self.now zone zone' rest rest' es c.reserve.new.self.items a.log c.self.view_is
-              c.in_ok-reserve.ensures.items c.self.invariant slot.1 slot.2
-              ∙ ap (λ z. record c.args.self.now { heap = record c.args.self.now.heap { zone = z } })
-              (ap (λ (l : List Anchor). rename (handle_number l) (pointer_number l) zone') c.in_ok-reserve.ensures.items
-              ∙ sym (slotted_zone-is zone rest es masters c.self.invariant nothing Nothing (λ b. refl) (λ z. refl) (λ b. refl)
-              zone' slot.0)
-              ∙ ap (λ (m : Memory). slotted_zone nothing m.heap) c.self.view_is),
-          subst (λ (l : List Gone). Tells g.K.PurgeSink.told l c.args.sink.now c.new_block.new.sink) slots slot.3,
-        )
-      ])
+      | inr left ↦ inr (left-unmade g.K.PurgeSink.told c.args.self.now (g.S.BlockStore.zone a.store)
+          (g.S.BlockStore.rest a.store) a.names.items c.deref.result.now a.log (g.met.S.BlockStore.masters a.store)
+          c.self.view_is c.self.invariant (c.deref.ensures.value ∙ c.in_ok-reserve.ensures.items) c.args.sink.now
+          c.new_block.new.sink (g.S.BlockStore.zone c.new_block.new.store) (g.S.BlockStore.rest c.new_block.new.store)
+          c.reserve.new.self.items c.in_ok-reserve.ensures.items left)
     ]
 
 pub returns-clause-told : goal.returns-clause-told

@@ -18,7 +18,7 @@ pub returns-clause-answer : goal.returns-clause-answer
 returns-clause-answer g c =
     let id = to_z-of_z w16 c.args.id c.ranges.id in
     let r : Resources = resources_of c.self.inside.files.items c.self.inside.chain.items c.self.inside.current
-    c.self.inside.next c.self.inside.loading c.self.inside.error in
+    c.self.inside.next c.self.inside.loading c.self.inside.purging c.self.inside.error in
     subst (λ (q : Resources). IsAnswered (λ (u : Unit {0}). u)
     (changing.add_resource c.args.handle (big_number 4 c.args.ty.0) c.args.id c.args.name.now.0.items
     (managers q c.args.heap.now)) c.add_with.result
@@ -34,7 +34,7 @@ pub invariant_of-self : goal.invariant_of-self
 invariant_of-self g c =
     let id = to_z-of_z w16 c.args.id c.ranges.id in
     let r : Resources = resources_of c.self.inside.files.items c.self.inside.chain.items c.self.inside.current
-    c.self.inside.next c.self.inside.loading c.self.inside.error in
+    c.self.inside.next c.self.inside.loading c.self.inside.purging c.self.inside.error in
     answered_sound (λ (u : Unit {0}). u) (changing.add_resource (Some c.in-Some.number) (big_number 4 c.args.ty.0)
     c.args.id c.args.name.now.0.items (managers r c.args.heap.now)) c.add_with.result r
     (chained c.add_with.new.files.items r) c.add_with.new.heap c.self.invariant

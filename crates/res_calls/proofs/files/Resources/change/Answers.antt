@@ -13,7 +13,7 @@ use Rattle.res_calls.proofs.files.Resources.change.Goals as goal
 pub invariant_of-self : goal.invariant_of-self
 invariant_of-self c =
     let r : Resources = resources_of c.self.inside.files.items c.self.inside.chain.items c.self.inside.current
-    c.self.inside.next c.self.inside.loading c.self.inside.error in
+    c.self.inside.next c.self.inside.loading c.self.inside.purging c.self.inside.error in
     answered_in (λ (u : Unit {0}). u) c.args.handle change_found (change_found_sound c.args.handle)
     c.self.inside.chain.items c.change_at.new.files.items r c.args.self.now c.in-Some.at no_memory no_memory
     c.change_at.result c.self.invariant c.self.view_is c.in-Some.ensures.found c.in-Some.ensures.placed
@@ -22,7 +22,7 @@ invariant_of-self c =
 pub returns-in-Some-clause-answer : goal.returns-in-Some-clause-answer
 returns-in-Some-clause-answer c = λ m.
     let r : Resources = resources_of c.self.inside.files.items c.self.inside.chain.items c.self.inside.current
-    c.self.inside.next c.self.inside.loading c.self.inside.error in
+    c.self.inside.next c.self.inside.loading c.self.inside.purging c.self.inside.error in
     subst (λ (q : Resources). IsAnswered (λ (u : Unit {0}). u) (changing.changed_resource c.args.handle (managers q m))
     c.change_at.result (managers (chained c.change_at.new.files.items r) m)) c.self.view_is
     (found_so (λ (u : Unit {0}). u) (change_found (managers r m)) (found_from (Some c.in-Some.at) r.chain) _ _ _ _

@@ -17,9 +17,9 @@ returns-in-Err-clause-answer g c =
     subst (λ (q : Resources). IsAnswered (λ (u : Unit {0}). u)
     (close_res_file c.args.number (managers q c.args.heap.now)) (Err c.in-Err.refusal) (managers (resources_of
     c.update_at.new.files.items c.update_at.new.chain.items c.self.inside.current c.self.inside.next
-    c.self.inside.loading c.self.inside.error) c.args.heap.now)) c.self.view_is (close_refused c.args.number
+    c.self.inside.loading c.self.inside.purging c.self.inside.error) c.args.heap.now)) c.self.view_is (close_refused c.args.number
     c.in-Some.at (resources_of c.self.inside.files.items c.self.inside.chain.items c.self.inside.current
-    c.self.inside.next c.self.inside.loading c.self.inside.error)
+    c.self.inside.next c.self.inside.loading c.self.inside.purging c.self.inside.error)
     c.self.inside.files.items c.update_at.new.files.items c.self.inside.chain.items c.update_at.new.chain.items
     c.args.heap.now c.in-Err.refusal (rw c.deref.ensures.value at c.in-Some.ensures.found) some
     c.in-Err.ensures.answer (c.in-Err.ensures.files refl) (c.in-Err.ensures.chain refl))
@@ -29,7 +29,7 @@ returns-clause-answer g c =
     let some : (c.args.number == 0) ≡ false = ne_eqb c.args.number 0 (λ e. omega (arith, e, c.if-number-eq0.false)) in
     rw (← c.self.view_is, c.current_after-self-inside.ensures) (closed_seen c.args.number c.in-Some.at
     c.take_out-removed.result.older (resources_of c.self.inside.files.items c.self.inside.chain.items
-    c.self.inside.current c.self.inside.next c.self.inside.loading c.self.inside.error) c.self.inside.files.items
+    c.self.inside.current c.self.inside.next c.self.inside.loading c.self.inside.purging c.self.inside.error) c.self.inside.files.items
     c.update_at.new.files.items c.self.inside.chain.items c.update_at.new.chain.items
     c.take_out-removed.new.chain.items (view_open c.take_out-removed.result.file) c.args.heap.now
     c.release_all.new.heap (rw c.deref.ensures.value at c.in-Some.ensures.found) some
@@ -56,7 +56,7 @@ pub invariant_of-self-2 : goal.invariant_of-self-2
 invariant_of-self-2 g c =
     let some : (c.args.number == 0) ≡ false = ne_eqb c.args.number 0 (λ e. omega (arith, e, c.if-number-eq0.false)) in
     let r : Resources = resources_of c.self.inside.files.items c.self.inside.chain.items c.self.inside.current
-    c.self.inside.next c.self.inside.loading c.self.inside.error in
+    c.self.inside.next c.self.inside.loading c.self.inside.purging c.self.inside.error in
     rw (c.current_after-self-inside.ensures) (subst Sound_in (closed_seen c.args.number c.in-Some.at
     c.take_out-removed.result.older r c.self.inside.files.items c.update_at.new.files.items c.self.inside.chain.items
     c.update_at.new.chain.items c.take_out-removed.new.chain.items (view_open c.take_out-removed.result.file)

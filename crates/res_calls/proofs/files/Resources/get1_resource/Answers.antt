@@ -7,6 +7,7 @@ use Rattle.res_calls.specs.Given.{IsFetched, managers}
 use Rattle.res_calls.specs.Places.{fetch_wanted}
 use Rattle.res_calls.specs.declared.find.Within.TheVariants as within
 use Rattle.res_calls.specs.declared.find.Wanted.TheVariants as wanted
+use Rattle.res_calls.proofs.FetchGone.{told_current}
 use Rattle.res_calls.proofs.files.Resources.get1_resource.Goals as goal
 
 pub returns-clause-answer : goal.returns-clause-answer
@@ -17,3 +18,8 @@ returns-clause-answer g c =
     (managers c.args.self.now c.args.heap.now)) c.fetch_wanted.result
     (managers c.fetch_wanted.new.self c.fetch_wanted.new.heap))
     c.self.view_is (rw id at c.fetch_wanted.ensures.answer)
+
+pub returns-clause-told : goal.returns-clause-told
+returns-clause-told g c some listens =
+    told_current g.K.PurgeSink.told c.args.sink.now c.fetch_wanted.new.sink within.Only (wanted.Id c.args.ty c.args.id) _
+    c.args.self.now c.args.heap.now c.self.view_is (rw (to_z-of_z w16 c.args.id c.ranges.id) at c.fetch_wanted.ensures.told some listens)

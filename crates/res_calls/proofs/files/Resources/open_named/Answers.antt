@@ -2,6 +2,8 @@ use Rattle.std.proofs.Common.{ap, map, ◌∙◌}
 use Rattle.res_calls.specs.Files.{Resources}
 use Rattle.res_calls.specs.View.{view_file}
 use Rattle.res_calls.proofs.OpeningForks.{open_already, open_anew}
+use Rattle.res_calls.proofs.OpeningGone.{gone_missing, gone_already, gone_anew}
+use Rattle.res_calls.proofs.Stopping.{stopped_anew}
 use Rattle.res_calls.proofs.Soundness.Methods.{name_missing}
 use Rattle.res_calls.proofs.files.Resources.open_named.Goals as goal
 
@@ -24,3 +26,32 @@ pub returns-in_default-clause-answer : goal.returns-in_default-clause-answer
 returns-in_default-clause-answer g c = name_missing c.args.name.now.0.items c.deref.result.now c.args.self.now
     (ap (map view_file) c.deref.ensures.value ∙ ap (λ (r : Resources). r.files) c.self.view_is)
     c.in_default.ensures.found c.args.heap.now
+
+pub returns-in_default-clause-told : goal.returns-in_default-clause-told
+returns-in_default-clause-told g c = λ some listens. gone_missing g.K.PurgeSink.told c.args.sink.now
+    c.args.name.now.0.items c.deref.result.now c.args.self.now c.args.heap.now
+    (ap (map view_file) c.deref.ensures.value ∙ ap (λ (r : Resources). r.files) c.self.view_is)
+    c.in_default.ensures.found
+
+pub returns-in-Some-place_of_file-clause-told : goal.returns-in-Some-place_of_file-clause-told
+returns-in-Some-place_of_file-clause-told g c = λ some listens. gone_already g.K.PurgeSink.told c.args.sink.now
+    c.args.name.now.0.items c.in-Some.at c.in-Some-place_of_file.open c.args.self.now c.args.heap.now
+    c.deref.result.now c.self.inside.chain.items
+    (ap (map view_file) c.deref.ensures.value ∙ ap (λ (r : Resources). r.files) c.self.view_is)
+    (ap (λ (r : Resources). r.chain) c.self.view_is) c.in-Some.ensures.found
+    (rw c.deref-2.ensures.value at c.in-Some-place_of_file.ensures.found)
+
+pub returns-in-None-clause-told : goal.returns-in-None-clause-told
+returns-in-None-clause-told g c = gone_anew g.K.PurgeSink.told c.args.sink.now c.open_at.new.sink
+    c.args.name.now.0.items c.in-Some.at c.args.self.now c.args.heap.now c.deref.result.now c.self.inside.chain.items
+    _ _ (ap (map view_file) c.deref.ensures.value ∙ ap (λ (r : Resources). r.files) c.self.view_is)
+    (ap (λ (r : Resources). r.chain) c.self.view_is) c.in-Some.ensures.found
+    (rw c.deref-2.ensures.value at c.in-None.ensures.found) c.open_at.ensures.told
+
+pub returns-in-None-clause-stopped : goal.returns-in-None-clause-stopped
+returns-in-None-clause-stopped g c = stopped_anew g.K.PurgeSink.told g.S.BlockStore.TAKES_HOST
+    c.args.name.now.0.items c.in-Some.at c.args.self.now c.args.heap.now c.deref.result.now c.self.inside.chain.items
+    _ _ c.args.sink.now c.open_at.new.sink
+    (ap (map view_file) c.deref.ensures.value ∙ ap (λ (r : Resources). r.files) c.self.view_is)
+    (ap (λ (r : Resources). r.chain) c.self.view_is) c.in-Some.ensures.found
+    (rw c.deref-2.ensures.value at c.in-None.ensures.found) c.open_at.ensures.stopped

@@ -15,7 +15,7 @@ pub returns-in-Some-clause-answer : goal.returns-in-Some-clause-answer
 returns-in-Some-clause-answer c = λ m.
     let id = to_z-of_z w16 c.args.id c.ranges.id in
     let r : Resources = resources_of c.self.inside.files.items c.self.inside.chain.items c.self.inside.current
-    c.self.inside.next c.self.inside.loading c.self.inside.error in
+    c.self.inside.next c.self.inside.loading c.self.inside.purging c.self.inside.error in
     subst (λ (q : Resources). IsAnswered (λ (u : Unit {0}). u)
     (changing.set_res_info c.args.handle c.args.id c.args.name.now.0.items (managers q m)) c.rename_at.result
     (managers (chained c.rename_at.new.files.items r) m))
@@ -28,7 +28,7 @@ pub invariant_of-self : goal.invariant_of-self
 invariant_of-self c =
     let id = to_z-of_z w16 c.args.id c.ranges.id in
     let r : Resources = resources_of c.self.inside.files.items c.self.inside.chain.items c.self.inside.current
-    c.self.inside.next c.self.inside.loading c.self.inside.error in
+    c.self.inside.next c.self.inside.loading c.self.inside.purging c.self.inside.error in
     answered_in (λ (u : Unit {0}). u) c.args.handle (rename_found c.args.id c.args.name.now.0.items)
     (rename_found_sound c.args.id c.args.name.now.0.items c.args.handle) c.self.inside.chain.items
     c.rename_at.new.files.items r c.args.self.now c.in-Some.at no_memory no_memory c.rename_at.result c.self.invariant

@@ -10,7 +10,7 @@ pub returns-clause-answer : goal.returns-clause-answer
 returns-clause-answer g c =
     let some : (c.args.number == 0) ≡ false = ne_eqb c.args.number 0 (λ e. omega (arith, e, c.if-number-eq0.false)) in
     rw (← c.self.view_is) (updated_open c.args.number c.in-Some.at (resources_of c.self.inside.files.items
-    c.self.inside.chain.items c.self.inside.current c.self.inside.next c.self.inside.loading c.self.inside.error)
+    c.self.inside.chain.items c.self.inside.current c.self.inside.next c.self.inside.loading c.self.inside.purging c.self.inside.error)
     c.args.heap.now c.self.inside.files.items c.update_at.new.files.items c.self.inside.chain.items
     c.update_at.new.chain.items c.update_at.result (rw c.deref.ensures.value at c.in-Some.ensures.found) some
     c.update_at.ensures.answer c.update_at.ensures.files c.update_at.ensures.chain)
@@ -25,7 +25,7 @@ pub invariant_of-self : goal.invariant_of-self
 invariant_of-self g c =
     let some : (c.args.number == 0) ≡ false = ne_eqb c.args.number 0 (λ e. omega (arith, e, c.if-number-eq0.false)) in
     let r : Resources = resources_of c.self.inside.files.items c.self.inside.chain.items c.self.inside.current
-    c.self.inside.next c.self.inside.loading c.self.inside.error in
+    c.self.inside.next c.self.inside.loading c.self.inside.purging c.self.inside.error in
     updated_in c.args.number r c.args.heap.now c.self.inside.files.items c.update_at.new.files.items
     c.self.inside.chain.items c.update_at.new.chain.items c.update_at.result c.self.invariant
     (updated_open c.args.number c.in-Some.at r c.args.heap.now c.self.inside.files.items

@@ -9,7 +9,7 @@ use Rattle.res_calls.proofs.files.Resources.write.Goals as goal
 pub invariant_of-self : goal.invariant_of-self
 invariant_of-self g c =
     let r : Resources = resources_of c.self.inside.files.items c.self.inside.chain.items c.self.inside.current
-    c.self.inside.next c.self.inside.loading c.self.inside.error in
+    c.self.inside.next c.self.inside.loading c.self.inside.purging c.self.inside.error in
     answered_in (λ (u : Unit {0}). u) (Some c.in-Some.number) (write_found (Some c.in-Some.number))
     (write_found_sound (Some c.in-Some.number)) c.self.inside.chain.items
     c.write_at.new.files.items

@@ -1,0 +1,33 @@
+use Rattle.std.specs.Prelude.{◌≡◌, ◌<◌, ◌⊎◌, ℕ, Option, List, ◌++◌, length, take}
+use Rattle.block_store.specs.declared.flags.Flags.{Flags}
+use Rattle.heap_calls.specs.State.{Memory}
+use Rattle.heap_calls.specs.Answer.{nothing}
+use Rattle.heap_calls.specs.Gone.{Gone, Tells, TellsNothing, slot_gone, all_gone}
+use Rattle.heap_calls.specs.Inside.{new_all}
+use Rattle.heap_calls.specs.Refused.{LeavesMasters}
+
+-- What new handles, made one after another, leave where the host is out of memory over a store that takes none.
+
+-- What one new handle leaves of a memory and a sink: all as it was; or the zone has an unused master pointer, and the
+-- sink was told of what was purged for that.
+abbrev pub LeavesUnmade : {A : Type 0} → (A → List Gone → Type 0) → Memory → Memory → A → A → Type 0
+LeavesUnmade told old new before after =
+    ((new ≡ old) × TellsNothing told before after)
+    ⊎ (LeavesMasters nothing old new × Tells told (slot_gone nothing old.heap) before after)
+
+-- The first k of the wanted resources were made, and no more: these are their numbers; the memory is the one that they
+-- leave, and the sink was told of what was purged for them, or the zone has an unused master pointer besides, and the
+-- sink was then told of what was purged for that.
+pub record StopsAfter {A : Type 0} (told : A → List Gone → Type 0) (k : ℕ) (wanted : List (Flags × List ℕ))
+    (old : Memory) (numbers : List (Option ℕ)) (new : Memory) (before after : A) : Type 0 where
+  pub some : k < length wanted
+  pub made : numbers ≡ (new_all (take k wanted) old).0
+  pub left :
+      ((new ≡ (new_all (take k wanted) old).1) × Tells told (all_gone (take k wanted) old) before after)
+      ⊎ (LeavesMasters nothing (new_all (take k wanted) old).1 new
+      × Tells told (all_gone (take k wanted) old ++ slot_gone nothing (new_all (take k wanted) old).1.heap) before after)
+
+-- Some of the wanted resources were made, but not all.
+abbrev pub Stops : {A : Type 0} → (A → List Gone → Type 0) → List (Flags × List ℕ) → Memory → List (Option ℕ) → Memory
+    → A → A → Type 0
+Stops told wanted old numbers new before after = (k : ℕ) × StopsAfter told k wanted old numbers new before after

@@ -1,0 +1,103 @@
+-- What a call purges does not depend on where its heap lies.
+use Rattle.std.proofs.Common.{◌≡◌, ℕ, ℤ, Bool, true, false, cond, List, [], ◌∷◌, ◌++◌, Option, Some, None, Result, Ok, Err, refl, ap, ◌∙◌}
+use Rattle.std.specs.Prelude.{nat_lt}
+use Rattle.mac_words.specs.declared.code.OsErr.{OsErr}
+use Rattle.block_store.specs.Rest.{Site}
+use Rattle.heap_calls.specs.State.{Memory}
+use Rattle.heap_calls.proofs.Tries.Elsewhere.{elsewhere}
+use Rattle.res_map.specs.Split.{Split, place}
+use Rattle.res_map.specs.Map.{Reference, Map, is_named, is_resource}
+use Rattle.res_calls.specs.Asked as asks
+use Rattle.res_calls.specs.Asked.{ResourceAsked}
+use Rattle.res_calls.specs.Fetch.{Managers, Loaded, preload_one}
+use Rattle.res_calls.specs.Files.{File, OpenFile, Found, file_named, file_of, find_from_current, find_in_current, open_at}
+use Rattle.res_calls.specs.Gone.{fetch_gone_as, fetch_gone, preload_gone, load_gone, map_gone, fork_gone}
+use Rattle.res_calls.specs.Gone.{unless_open_gone, open_gone, gone_for, own_gone, preload_one_gone}
+use Rattle.res_calls.specs.Own.{find_own}
+use Rattle.res_calls.specs.Rows.{greatest_number, map_in, nth_in, resource_of}
+use Rattle.res_calls.proofs.Walks.Place.{moved, one-place}
+
+-- a fetch
+again-elsewhere : (window : Site) (loading : Bool) (at : Found) (o : Option ℕ) (s : Managers)
+    → fetch_gone_as loading at o (moved window s) ≡ fetch_gone_as loading at o s
+again-elsewhere window loading at None s = refl
+again-elsewhere window loading at (Some h) s = refl
+
+pub fetch-elsewhere : (window : Site) (loading : Bool) (found : Option Found) (s : Managers)
+    → fetch_gone loading found (moved window s) ≡ fetch_gone loading found s
+fetch-elsewhere window loading None s = refl
+fetch-elsewhere window loading (Some at) s = again-elsewhere window loading at at.reference.here.handle s
+
+-- a preloading
+preload-elsewhere : (window : Site) (references : List Reference) (m : Memory)
+    → preload_gone references (elsewhere window m) ≡ preload_gone references m
+preload-elsewhere window [] m = refl
+preload-elsewhere window (x ∷ references) m =
+    ap (λ (l : Loaded). preload_one_gone x m ++ preload_gone references l.memory) (one-place window x m)
+    ∙ ap (λ l. preload_one_gone x m ++ l) (preload-elsewhere window references (preload_one x m).memory)
+
+load-elsewhere : (window : Site) (loading : Bool) (references : List Reference) (m : Memory)
+    → load_gone loading references (elsewhere window m) ≡ load_gone loading references m
+load-elsewhere window true references m = preload-elsewhere window references m
+load-elsewhere window false references m = refl
+
+map-elsewhere : (window : Site) (read : Result Map OsErr) (s : Managers)
+    → map_gone read (moved window s) ≡ map_gone read s
+map-elsewhere window (Err code) s = refl
+map-elsewhere window (Ok read) s = load-elsewhere window s.resources.loading read.references s.memory
+
+fork-elsewhere : (window : Site) (fork : List ℕ) (s : Managers) → fork_gone fork (moved window s) ≡ fork_gone fork s
+fork-elsewhere window fork s =
+    ap (λ l. cond (nat_lt greatest_number s.resources.next) [] l) (map-elsewhere window (map_in fork) s)
+
+unless-elsewhere : (window : Site) (at : Split File) (o : Option (Split OpenFile)) (s : Managers)
+    → unless_open_gone at o (moved window s) ≡ unless_open_gone at o s
+unless-elsewhere window at None s = fork-elsewhere window at.here.fork s
+unless-elsewhere window at (Some f) s = refl
+
+open-elsewhere : (window : Site) (o : Option (Split File)) (s : Managers)
+    → open_gone o (moved window s) ≡ open_gone o s
+open-elsewhere window None s = refl
+open-elsewhere window (Some at) s = unless-elsewhere window at (open_at (place at) s.resources) s
+
+-- each call
+pub gone-elsewhere : (window : Site) (a : ResourceAsked) (s : Managers) → gone_for a (moved window s) ≡ gone_for a s
+gone-elsewhere window (asks.OpenResFile name) s = open-elsewhere window (file_named name s.resources) s
+gone-elsewhere window (asks.GetResource kind id) s =
+    fetch-elsewhere window s.resources.loading (find_from_current (is_resource kind id) s.resources) s
+gone-elsewhere window (asks.Get1Resource kind id) s =
+    fetch-elsewhere window s.resources.loading (find_in_current (is_resource kind id) s.resources) s
+gone-elsewhere window (asks.GetNamedResource kind name) s =
+    fetch-elsewhere window s.resources.loading (find_from_current (is_named kind name) s.resources) s
+gone-elsewhere window (asks.Get1NamedResource kind name) s =
+    fetch-elsewhere window s.resources.loading (find_in_current (is_named kind name) s.resources) s
+gone-elsewhere window (asks.Get1IndResource kind index) s =
+    fetch-elsewhere window s.resources.loading (nth_in kind index (file_of s.resources.current s.resources)) s
+gone-elsewhere window (asks.LoadResource handle) s = fetch-elsewhere window true (resource_of handle s.resources) s
+gone-elsewhere window (asks.CreateResFile name) s = refl
+gone-elsewhere window (asks.CloseResFile n) s = refl
+gone-elsewhere window (asks.UpdateResFile n) s = refl
+gone-elsewhere window (asks.UseResFile n) s = refl
+gone-elsewhere window asks.CurResFile s = refl
+gone-elsewhere window (asks.HomeResFile handle) s = refl
+gone-elsewhere window asks.Count1Types s = refl
+gone-elsewhere window (asks.Get1IndType index) s = refl
+gone-elsewhere window (asks.Count1Resources kind) s = refl
+gone-elsewhere window (asks.ReleaseResource handle) s = refl
+gone-elsewhere window (asks.DetachResource handle) s = refl
+gone-elsewhere window (asks.AddResource handle kind id name) s = refl
+gone-elsewhere window (asks.RemoveResource handle) s = refl
+gone-elsewhere window (asks.ChangedResource handle) s = refl
+gone-elsewhere window (asks.WriteResource handle) s = refl
+gone-elsewhere window (asks.GetResInfo handle) s = refl
+gone-elsewhere window (asks.SetResInfo handle id name) s = refl
+gone-elsewhere window (asks.GetResAttrs handle) s = refl
+gone-elsewhere window (asks.SetResAttrs handle attrs) s = refl
+gone-elsewhere window (asks.GetResourceSizeOnDisk handle) s = refl
+gone-elsewhere window (asks.SetResPurge on) s = refl
+gone-elsewhere window (asks.SetResLoad on) s = refl
+gone-elsewhere window asks.ResError s = refl
+
+pub own-elsewhere : (window : Site) (kind : ℕ) (id : ℤ) (s : Managers)
+    → own_gone kind id (moved window s) ≡ own_gone kind id s
+own-elsewhere window kind id s = fetch-elsewhere window true (find_own kind id s.resources) s

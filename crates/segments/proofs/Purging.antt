@@ -1,0 +1,88 @@
+-- What a call of the Segment Manager purges.
+use Rattle.std.proofs.Common.{◌≡◌, ◌≢◌, ℕ, ℤ, pos, Bool, true, false, cond, List, [], Option, Some, None, Result, Ok, Err, refl, ap}
+use Rattle.std.specs.Prelude.{slice_get}
+use Rattle.std.specs.Ordering.{int_eq}
+use Rattle.mac_words.specs.declared.code.OsErr.{OsErr}
+use Rattle.mac_words.specs.declared.code.TheConstants.OsErr.{SYSTEM_ERROR}
+use Rattle.mac_words.specs.declared.segment_call.SegmentCall.{SegmentCall}
+use Rattle.mac_words.specs.declared.segment_call.SegmentCall.TheVariants as segment
+use Rattle.mac_words.specs.Told.{Refused}
+use Rattle.block_store.specs.Rest.{Site}
+use Rattle.res_calls.specs.Fetch.{Fetched}
+use Rattle.res_calls.specs.Own.{own_datum, fetch_own}
+use Rattle.res_calls.proofs.GoneElsewhere.{own-elsewhere}
+use Rattle.segments.specs.Asked.{served, tell_loaded, tell_called}
+use Rattle.segments.specs.Calls.{Program, Answer, code_type, load_seg, load_datum, load_by, load_fetched, called, call_entry, call_through}
+use Rattle.segments.specs.Calls.{call_found}
+use Rattle.segments.specs.Calls.{refused}
+use Rattle.segments.specs.Gone.{load_gone, through_gone, entry_gone, gone_for}
+use Rattle.segments.specs.Table.{Entry, can_load}
+use Rattle.segments.proofs.Laws.{told-refused, program_moved}
+
+-- an answer that is refused only by a system error
+abbrev OnlyFatal : {T : Type 0} → Answer T → Type 0
+OnlyFatal a = (code : OsErr) → a.reply ≡ Err code → code ≡ SYSTEM_ERROR
+
+-- a load that is refused is so by a system error
+load-fatal : (n : ℤ) (p : Program) → OnlyFatal (load_seg n p)
+load-fatal n p = by_zero (int_eq n (pos 0))
+  where
+    by_fit : (code : List ℕ) (f : Fetched) (t : Bool) → can_load n code p.table ≡ t
+        → OnlyFatal (load_fetched n code f (fetch_own code_type n p.managers) p.table)
+    by_fit code f true fits = rw fits (λ why is. cc)
+    by_fit code f false fits = rw fits (λ why is. cc)
+
+    by_reply : (code : List ℕ) (r : Result Fetched OsErr)
+        → OnlyFatal (load_by n code r (fetch_own code_type n p.managers) p.table)
+    by_reply code (Err refusal) = λ why is. cc
+    by_reply code (Ok f) = by_fit code f (can_load n code p.table) refl
+
+    by_datum : (o : Option (List ℕ)) → OnlyFatal (load_datum n o p)
+    by_datum None = λ why is. cc
+    by_datum (Some code) = by_reply code (fetch_own code_type n p.managers).reply
+
+    by_zero : (t : Bool) → OnlyFatal (cond t (refused SYSTEM_ERROR p)
+        (load_datum n (own_datum code_type n p.managers.resources) p))
+    by_zero true = λ why is. cc
+    by_zero false = by_datum (own_datum code_type n p.managers.resources)
+
+-- a call that is refused by another code purges nothing
+pub refused-gone : (c : SegmentCall) (p : Program) (code : OsErr) → (served c p).told ≡ Refused code
+    → code ≢ SYSTEM_ERROR → gone_for c p ≡ []
+refused-gone (segment.LoadSeg n) p code is other =
+    absurd (other (load-fatal n p code (told-refused tell_loaded (λ f. refl) code (load_seg n p).reply is)))
+refused-gone (segment.UnloadSeg n) p code is other = refl
+refused-gone (segment.CallEntry i) p code is other =
+    by_entry (slice_get p.table i) (told-refused tell_called (λ f. refl) code (call_entry i p).reply is)
+  where
+    by_called : (n : ℤ) (r : Result Fetched OsErr) → called n r ≡ Err code → r ≡ Err code
+    by_called n (Ok f) e = cc
+    by_called n (Err why) e = let same : why ≡ code = cc in ap (λ (c : OsErr). Err c) same
+
+    by_segment : (s : Option ℤ) (t : Bool) → (call_through s t p).reply ≡ Err code → through_gone s t p ≡ []
+    by_segment None t e = refl
+    by_segment (Some n) true e = refl
+    by_segment (Some n) false e = absurd (other (load-fatal n p code (by_called n (load_seg n p).reply e)))
+
+    by_entry : (o : Option Entry) → (call_found o p).reply ≡ Err code → entry_gone o p ≡ []
+    by_entry None e = refl
+    by_entry (Some x) e = by_segment x.segment x.loaded e
+refused-gone (segment.ShowEntry i) p code is other = refl
+
+-- and what it purges does not depend on where its heap lies
+load-elsewhere : (window : Site) (n : ℤ) (p : Program) → load_gone n (program_moved window p) ≡ load_gone n p
+load-elsewhere window n p = ap (λ l. cond (int_eq n (pos 0)) [] l) (own-elsewhere window code_type n p.managers)
+
+pub gone-elsewhere : (window : Site) (c : SegmentCall) (p : Program) → gone_for c (program_moved window p) ≡ gone_for c p
+gone-elsewhere window (segment.LoadSeg n) p = load-elsewhere window n p
+gone-elsewhere window (segment.UnloadSeg n) p = refl
+gone-elsewhere window (segment.CallEntry i) p = by_entry (slice_get p.table i)
+  where
+    by_segment : (s : Option ℤ) (t : Bool) → through_gone s t (program_moved window p) ≡ through_gone s t p
+    by_segment None t = refl
+    by_segment (Some n) t = ap (λ l. cond t [] l) (load-elsewhere window n p)
+
+    by_entry : (o : Option Entry) → entry_gone o (program_moved window p) ≡ entry_gone o p
+    by_entry None = refl
+    by_entry (Some e) = by_segment e.segment e.loaded
+gone-elsewhere window (segment.ShowEntry i) p = refl
