@@ -43,9 +43,10 @@ pub record KeepsPromises (given : Resources) (size : ℕ) (script : ScriptParts)
   -- blocks at the start of the try.
   pub searches : EachTry SearchesFew (put_at_launch given size) (first_steps given size script n).events
   -- A refused try leaves the heap, the resources and the names' bindings as they were, except for the zone where the
-  -- tables say so and for the code that ResError returns. A segment that can't be loaded ends the application instead.
+  -- tables say so, for what is stored of the blocks that it purged, and for the code that ResError returns. A segment that can't be loaded ends the application instead.
   pub refused : EachTry RefusedLeaves (put_at_launch given size) (first_steps given size script n).events
-  -- A call of the Memory Manager leaves the resources as they are, whatever it purges.
+  -- A call of the Memory Manager only stores what it purges, while SetResPurge is on; else it leaves the resources as they
+  -- are.
   pub resources : EachTry KeepsResources (put_at_launch given size) (first_steps given size script n).events
   -- No try changes a file, except those of CreateResFile, UpdateResFile and CloseResFile.
   pub files : EachTry KeepsFiles (put_at_launch given size) (first_steps given size script n).events

@@ -82,7 +82,7 @@ pub fn only_an_update_or_a_creation_writes_a_fork()
         → (served asked s).after.resources.files ≡ s.resources.files }
 {}
 
-/// States that a fetch stores nothing, whatever blocks it purges to make room: no fork changes, and of no resource the
+/// States that a fetch itself stores nothing, whatever blocks it purges to make room: no fork changes, and of no resource the
 /// type, the ID, the name, the attributes, the stored data or the place among the others. A fetch gives handles to
 /// references that have none, and sets the code that `ResError` returns. The law holds of each call that fetches, of the
 /// fetch from the application's own fork, by which a segment is loaded, and of the preloading at the launch; and a file
@@ -100,7 +100,8 @@ pub fn a_fetch_stores_nothing()
 {}
 
 /// States that of the calls only those purge that fetch, and the one that opens a file: after any other call each handle
-/// that had a block has one, unless the call disposed of the handle. As a fetch stores nothing, no purge is stored.
+/// that had a block has one, unless the call disposed of the handle. What is stored of purged blocks is stored behind
+/// the call, and only while SetResPurge is on.
 pub fn only_a_fetch_or_an_opening_purges()
     ensures { (asked : ResourceAsked) (s : Managers) (h : ℕ) → fetches asked ≡ false → opens_file asked ≡ false
         → disposes_of h asked s ≡ false → has (is_relocatable h) s.memory.heap.zone ≡ true
