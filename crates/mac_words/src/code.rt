@@ -23,8 +23,8 @@ impl OsErr {
     pub const FILE_NOT_FOUND: OsErr = OsErr(-43);
     /// `dupFNErr` (-48) is returned by `CreateResFile` when the file has a resource fork already.
     pub const DUPLICATE_FILE: OsErr = OsErr(-48);
-    /// `wrPermErr` (-61) is returned by `AddResource`, `RemoveResource`, `ChangedResource` and `SetResInfo` when the
-    /// call would change the resources of the System file.
+    /// `wrPermErr` (-61) is returned by `AddResource`, `RemoveResource`, `ChangedResource`, `SetResInfo`,
+    /// `WritePartialResource` and `SetResourceSize` when the call would change the resources of the System file.
     pub const WRITE_PERMISSION: OsErr = OsErr(-61);
     /// `memFullErr` (-108) is returned when the zone has no room for a block, or the memory none for a partition.
     pub const MEM_FULL: OsErr = OsErr(-108);
@@ -40,13 +40,15 @@ impl OsErr {
     /// `memLockedErr` (-117) is returned by `MoveHHi` and `HLockHi` when the block is locked, so that it can't be
     /// moved, and by a call of a grow-zone script on a busy handle or pointer.
     pub const LOCKED: OsErr = OsErr(-117);
-    /// `resourceInMemory` (-188) says that a resource's handle has a block; no call of this project returns this code.
+    /// `resourceInMemory` (-188) is returned by `ReadPartialResource`, `WritePartialResource` and `SetResourceSize` when
+    /// the resource's block is in memory. The first has then read nothing; the other two have changed the stored data,
+    /// and not the block.
     pub const IN_MEMORY: OsErr = OsErr(-188);
-    /// `writingPastEnd` (-189) says that a resource would have more bytes than a resource can have; no call of this
-    /// project returns this code.
+    /// `writingPastEnd` (-189) is returned by `WritePartialResource` and `SetResourceSize` when the resource would have
+    /// more bytes than a resource can have.
     pub const TOO_LONG: OsErr = OsErr(-189);
-    /// `inputOutOfBounds` (-190) says that an offset is past the end of a resource; no call of this project returns
-    /// this code.
+    /// `inputOutOfBounds` (-190) is returned by `ReadPartialResource` when bytes past the end of the resource's stored
+    /// data are to be read, and by `WritePartialResource` when the offset is past that end.
     pub const OFFSET: OsErr = OsErr(-190);
     /// `resNotFound` (-192) is returned when a search finds no resource, or when a name in the call is bound to no handle
     /// or, but for `AddResource` and `RemoveResource`, to no resource's handle.
@@ -59,8 +61,8 @@ impl OsErr {
     /// `rmvResFailed` (-196) is returned by `RemoveResource` when the handle is no resource's, or when the resource is
     /// protected or belongs to another file than the current one.
     pub const REMOVE_RES_FAILED: OsErr = OsErr(-196);
-    /// `resAttrErr` (-198) is returned by `ChangedResource` and `SetResInfo` when the resource is protected, and by
-    /// `DetachResource` when the resource was changed.
+    /// `resAttrErr` (-198) is returned by `ChangedResource`, `SetResInfo`, `WritePartialResource` and `SetResourceSize`
+    /// when the resource is protected, and by `DetachResource` when the resource was changed.
     pub const RES_ATTR: OsErr = OsErr(-198);
     /// `mapReadErr` (-199) is returned when a resource fork that is to be opened is damaged: its bytes spell no
     /// content.

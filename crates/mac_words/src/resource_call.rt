@@ -66,6 +66,20 @@ pub enum ResourceCall {
     SetResAttrs(Label, u8),
     /// Returns the size in bytes of a resource's stored data.
     GetResourceSizeOnDisk(Label),
+    /// Returns bytes of a resource's stored data: from an offset on, as many as the count. It returns none while the
+    /// resource's block is in memory.
+    ///
+    /// *More Macintosh Toolbox*, chapter 1, "Reading and Writing Partial Resources".
+    ReadPartialResource(Label, u32, u32),
+    /// Writes bytes into a resource's stored data, from an offset on; the data grows where they reach past its end. The
+    /// resource's block stays as it is.
+    ///
+    /// *More Macintosh Toolbox*, chapter 1, "Reading and Writing Partial Resources".
+    WritePartialResource(Label, u32, Vec<u8>),
+    /// Sets the size in bytes of a resource's stored data; new bytes are 0. The resource's block stays as it is.
+    ///
+    /// *More Macintosh Toolbox*, chapter 1, "Reading and Writing Partial Resources".
+    SetResourceSize(Label, u32),
     /// Sets whether what was changed of a resource is stored as its block is purged.
     SetResPurge(bool),
     /// Sets whether the calls that return a handle also read the resource's stored data.
