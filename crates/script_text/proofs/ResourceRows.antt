@@ -47,6 +47,25 @@ changes : script_of (codes "CreateResFile \"D\"\nAddResource h 'STR ' -1 \"\"\nS
 unfolding script_of read_at with_token word_spelled argument token_at after_blanks
 changes = refl
 
+-- parts of stored data: of no byte at the start, in both spellings of bytes, and a size
+parts : script_of (codes "ReadPartialResource h 1 2\nWritePartialResource h 0 \"ey\"\nWritePartialResource h 3 $")
+    ≡ Ok (record {
+      blocks = [];
+      steps =
+          says 1 word.ReadPartialResource (Letters (codes "h") ∷ Count 1 ∷ Count 2 ∷ []) ∷
+          says 2 word.WritePartialResource (Letters (codes "h") ∷ Count 0 ∷ Raw (codes "ey") ∷ []) ∷
+          says 3 word.WritePartialResource (Letters (codes "h") ∷ Count 3 ∷ Raw [] ∷ []) ∷ [];
+    })
+unfolding script_of read_at with_token word_spelled argument token_at after_blanks
+parts = refl
+
+sized : script_of (codes "SetResourceSize h 16777216") ≡ Ok (record {
+  blocks = [];
+  steps = says 1 word.SetResourceSize (Letters (codes "h") ∷ Count 16777216 ∷ []) ∷ [];
+})
+unfolding script_of read_at with_token word_spelled argument token_at after_blanks
+sized = refl
+
 switches : script_of (codes "SetResLoad FALSE\nSetResPurge\tTRUE\n") ≡ Ok (record {
   blocks = [];
   steps = says 1 word.SetResLoad (Flag false ∷ []) ∷ says 2 word.SetResPurge (Flag true ∷ []) ∷ [];
@@ -55,7 +74,8 @@ unfolding script_of read_at with_token word_spelled argument token_at after_blan
 switches = refl
 
 -- types of three bytes, of five, with more behind the quote, and of seven digits; IDs out of range, of six digits and
--- of none; a file without a name, and in no quotes; a switch in lower case; no name; an attribute byte of 256
+-- of none; a file without a name, and in no quotes; a switch in lower case; no name; an attribute byte of 256; no
+-- count; bytes in no quotes; a size of no digits
 faulty : (script_of (codes "Count1Resources 'STR'") ≡ Err (1, BadArgument))
     × (script_of (codes "Count1Resources 'STR#1'") ≡ Err (1, BadArgument))
     × (script_of (codes "Count1Resources 'STR 'x") ≡ Err (1, BadArgument))
@@ -69,8 +89,11 @@ faulty : (script_of (codes "Count1Resources 'STR'") ≡ Err (1, BadArgument))
     × (script_of (codes "SetResLoad true") ≡ Err (1, BadArgument))
     × (script_of (codes "AddResource h 'STR ' 1") ≡ Err (1, BadArgument))
     × (script_of (codes "SetResAttrs h 256") ≡ Err (1, BadArgument))
+    × (script_of (codes "ReadPartialResource h 1") ≡ Err (1, BadArgument))
+    × (script_of (codes "WritePartialResource h 1 ey") ≡ Err (1, BadArgument))
+    × (script_of (codes "SetResourceSize h -") ≡ Err (1, BadArgument))
 unfolding script_of read_at with_token word_spelled argument token_at after_blanks
-faulty = (refl, refl, refl, refl, refl, refl, refl, refl, refl, refl, refl, refl, refl)
+faulty = (refl, refl, refl, refl, refl, refl, refl, refl, refl, refl, refl, refl, refl, refl, refl, refl)
 
 -- a grow-zone script may release a resource, and get none
 released : script_of (codes "grow g\nReleaseResource h\nend") ≡ Ok (record {
@@ -88,12 +111,21 @@ not_added : script_of (codes "grow g\nAddResource h 'STR ' 1 \"\"\nend") ≡ Err
 unfolding script_of read_at with_token word_spelled argument token_at after_blanks
 not_added = refl
 
--- a type, and an ID with its type and name
+-- nor is what is stored of a resource read there in part, or changed
+not_in_part : (script_of (codes "grow g\nReadPartialResource h 0 0\nend") ≡ Err (2, NotAllowed))
+    × (script_of (codes "grow g\nWritePartialResource h 0 $\nend") ≡ Err (2, NotAllowed))
+    × (script_of (codes "grow g\nSetResourceSize h 0\nend") ≡ Err (2, NotAllowed))
+unfolding script_of read_at with_token word_spelled argument token_at after_blanks
+not_in_part = (refl, refl, refl)
+
+-- a type, and an ID with its type and name; the bytes that a call shows, and a refusal, which shows none
 told : (reply_line 3 word.Get1IndType (pos 0) (Bytes (codes "STR ") ∷ []) ≡ codes "3 Get1IndType 0 $53545220\n")
     × (reply_line 4 word.GetResInfo (pos 0) (Number (negsuc 127) ∷ Bytes (codes "TEXT") ∷ Bytes (codes "Note") ∷ [])
     ≡ codes "4 GetResInfo 0 -128 $54455854 $4e6f7465\n")
     × (reply_line 5 word.GetResInfo (pos 0) (Number (pos 128) ∷ Bytes (codes "TEXT") ∷ Bytes [] ∷ [])
     ≡ codes "5 GetResInfo 0 128 $54455854 $\n")
     × (reply_line 6 word.GetResource (negsuc 191) [] ≡ codes "6 GetResource -192\n")
+    × (reply_line 7 word.ReadPartialResource (pos 0) (Bytes (codes "i") ∷ []) ≡ codes "7 ReadPartialResource 0 $69\n")
+    × (reply_line 8 word.ReadPartialResource (negsuc 189) [] ≡ codes "8 ReadPartialResource -190\n")
 unfolding digits
-told = (refl, refl, refl, refl)
+told = (refl, refl, refl, refl, refl, refl)

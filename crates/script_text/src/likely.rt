@@ -96,16 +96,21 @@ static OF_FOURTEEN: [CallWord; 3] = [
     CallWord::RemoveResource,
 ];
 
-static OF_FIFTEEN: [CallWord; 4] = [
+static OF_FIFTEEN: [CallWord; 5] = [
     CallWord::Count1Resources,
     CallWord::Get1IndResource,
     CallWord::ReleaseResource,
     CallWord::ChangedResource,
+    CallWord::SetResourceSize,
 ];
 
 static OF_SIXTEEN: [CallWord; 2] = [CallWord::ReallocateHandle, CallWord::GetNamedResource];
 
 static OF_SEVENTEEN: [CallWord; 1] = [CallWord::Get1NamedResource];
+
+static OF_NINETEEN: [CallWord; 1] = [CallWord::ReadPartialResource];
+
+static OF_TWENTY: [CallWord; 1] = [CallWord::WritePartialResource];
 
 static OF_TWENTY_ONE: [CallWord; 1] = [CallWord::GetResourceSizeOnDisk];
 
@@ -128,6 +133,8 @@ pub fn likely(length: usize) -> &'static [CallWord] {
         15 => &OF_FIFTEEN,
         16 => &OF_SIXTEEN,
         17 => &OF_SEVENTEEN,
+        19 => &OF_NINETEEN,
+        20 => &OF_TWENTY,
         21 => &OF_TWENTY_ONE,
         _ => &[],
     }

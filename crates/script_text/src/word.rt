@@ -74,6 +74,9 @@ pub enum CallWord {
     GetResAttrs,
     SetResAttrs,
     GetResourceSizeOnDisk,
+    ReadPartialResource,
+    WritePartialResource,
+    SetResourceSize,
     SetResPurge,
     SetResLoad,
     ResError,
@@ -220,6 +223,12 @@ macro_rules! calls {
                     "sets the attributes of the resource, except resChanged (2)";
                 GetResourceSizeOnDisk = Resource ResourceCall one(h)
                     "returns the number of bytes of the stored data";
+                ReadPartialResource = Resource ResourceCall three(h, offset, count)
+                    "returns count bytes of the stored data, from offset on";
+                WritePartialResource = Resource ResourceCall three(h, offset, bytes)
+                    "writes bytes into the stored data, from offset on";
+                SetResourceSize = Resource ResourceCall two(h, size)
+                    "changes the size of the stored data; new bytes are 0";
                 SetResPurge = Resource ResourceCall one(switch)
                     "turns the storing of changed resources as they are purged on (TRUE) or off (FALSE)";
                 SetResLoad = Resource ResourceCall one(switch)
@@ -342,6 +351,9 @@ macro_rules! listed {
             "  -111 memWZErr: the handle or pointer was disposed of, or the name is of the other kind\n",
             "  -112 memPurErr: the block is locked and cannot be removed\n",
             "  -117 memLockedErr: the block is locked and cannot be moved, or the name is busy\n",
+            "  -188 resourceInMemory: the block of the resource is in memory; what is written is stored\n",
+            "  -189 writingPastEnd: the resource would be longer than a resource can be\n",
+            "  -190 inputOutOfBounds: the stored data ends before the place in the call\n",
             "  -192 resNotFound: there is no such resource, or the handle belongs to no resource\n",
             "  -193 resFNotFound: no file is open under this number\n",
             "  -194 addResFailed: the handle belongs to a resource already, or is empty\n",
@@ -367,7 +379,7 @@ macro_rules! is_held {
 /// the part of the toolbox. Then the lines that make a grow-zone script and the calls that it may hold, and the result codes.
 pub const CALLS: &str = calls!(listed);
 
-pub(crate) static WORDS: [CallWord; 73] = calls!(words);
+pub(crate) static WORDS: [CallWord; 76] = calls!(words);
 
 /// Returns the word that a token spells, if the word is one of the few of the token's length that are tried first.
 fn likely_word(token: &[u8]) -> Option<CallWord>
