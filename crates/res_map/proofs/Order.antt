@@ -1,11 +1,13 @@
 use Rattle.std.proofs.Common.{◌≡◌, ◌∙◌, refl, sym, ap, subst, zero, suc, ℕ, ◌<◌, List, [], ◌∷◌, length, map}
-use Rattle.std.proofs.Common.{Option, Some, None, IfSome}
+use Rattle.std.proofs.Common.{Option, Some, None, IfSome, get_or, arith}
 use Rattle.std.proofs.Common.{Bool, true, false, not, cond, ◌||◌, ◌&&◌, ◌++◌}
 use Rattle.std.specs.Prelude.{slice_get, slice_set, option_map, ◌==◌}
 use Rattle.std.specs.List.{list_any, remove}
 use Rattle.std.proofs.lemmas.Option.{slice_get-map}
 use Rattle.fork_format.specs.Content.{distinct}
 use Rattle.res_map.specs.Map.{Reference, Map, IsOrdered, stand_together, added}
+use Rattle.res_map.specs.View.{view_reference}
+use Rattle.res_map.specs.declared.stored.StoredReference.{StoredReference}
 use Rattle.res_map.proofs.TypeLists.{is_among, others, added_kind, distinct-among, distinct-new, together-added}
 use Rattle.res_map.proofs.TypeLists.{distinct-gone, distinct-left, together-removed}
 use Rattle.res_map.proofs.Splitting.{get-inside}
@@ -43,6 +45,22 @@ ordered-set f keeps kinds m old new i seen inside set is =
         → IfSome o (λ r. new ≡ slice_set old i (f r)) → IsOrdered kinds new
     cases None e inside set = absurd (get-inside old i inside e)
     cases (Some r) e inside set = ordered-kinds kinds old new (ap kinds_of set ∙ kinds-set f keeps old i r e) is
+
+-- the same of what is kept of a reference
+kinds-seen : (refs : List StoredReference) (i : ℕ) (x y : StoredReference) → i < length refs → x ≡ get_or refs i x
+    → y.kind ≡ x.kind → kinds_of (map view_reference (slice_set refs i y)) ≡ kinds_of (map view_reference refs)
+kinds-seen [] i x y inside is same = refl
+kinds-seen (z ∷ refs) zero x y inside is same =
+    ap (λ k. k ∷ kinds_of (map view_reference refs)) (same ∙ ap (λ (r : StoredReference). r.kind) is)
+kinds-seen (z ∷ refs) (suc i) x y inside is same =
+    ap (λ l. z.kind ∷ l) (kinds-seen refs i x y (omega arith) is same)
+
+pub ordered-seen_at : (refs : List StoredReference) (i : ℕ) (x y : StoredReference) → i < length refs
+    → x ≡ get_or refs i x → y.kind ≡ x.kind → (kinds : List ℕ) → IsOrdered kinds (map view_reference refs)
+    → IsOrdered kinds (map view_reference (slice_set refs i y))
+ordered-seen_at refs i x y inside is same kinds =
+    ordered-kinds kinds (map view_reference refs) (map view_reference (slice_set refs i y))
+    (kinds-seen refs i x y inside is same)
 
 -- the types of references as a list of numbers
 pub kinds-any : (kind : ℕ) (refs : List Reference)

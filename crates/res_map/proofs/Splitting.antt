@@ -155,3 +155,11 @@ pub set-seen_at : {X A : Type 0} (view : X → A) (f : A → A) (xs : List X) (i
     → IfSome (slice_get (map view xs) i) (λ r. map view (slice_set xs i y) ≡ slice_set (map view xs) i (f r))
 set-seen_at view f xs i x y inside is seen =
     set-seen view f xs i x y inside (seen ∙ ap (λ z. f (view z)) is)
+
+-- an item that was changed, of which the view sees nothing
+pub same-seen_at : {X A : Type 0} (view : X → A) (xs : List X) (i : ℕ) (x y : X) → i < length xs
+    → x ≡ get_or xs i x → view y ≡ view x → map view (slice_set xs i y) ≡ map view xs
+same-seen_at view [] i x y inside is seen = refl
+same-seen_at view (z ∷ xs) zero x y inside is seen = ap (λ a. a ∷ map view xs) (seen ∙ ap view is)
+same-seen_at view (z ∷ xs) (suc i) x y inside is seen =
+    ap (λ l. view z ∷ l) (same-seen_at view xs i x y (omega arith) is seen)

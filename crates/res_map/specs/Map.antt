@@ -1,5 +1,5 @@
 use Rattle.std.specs.Prelude.{◌≡◌, ℕ, ℤ, zero, suc, ◌-◌, Bool, true, false, not, ◌&&◌, ◌||◌, ◌==◌, Option, Some, None, List, [], ◌∷◌}
-use Rattle.std.specs.Prelude.{map, filter, if◌then◌else◌, option_map, unwrap_or, slice_get, bytes_eq}
+use Rattle.std.specs.Prelude.{◌++◌, length, take, replicate, map, filter, if◌then◌else◌, option_map, unwrap_or, slice_get, bytes_eq}
 use Rattle.std.specs.List.{flat_map, list_all, list_any}
 use Rattle.std.specs.Ordering.{int_eq}
 use Rattle.std.specs.Str.{str_to_ascii_lowercase}
@@ -89,6 +89,14 @@ renamed id text r = with_stored (record r.stored { id = id; name = name_by text 
 abbrev pub stored_anew : Option (List ℕ) → Reference → Reference
 stored_anew bytes r =
     with_stored (record r.stored { attrs = unchanged r.stored.attrs; datum = unwrap_or bytes r.stored.datum }) r
+
+-- The reference with other stored data; it is changed in memory as it was, and has the handle that it had.
+abbrev pub with_datum : List ℕ → Reference → Reference
+with_datum bytes r = with_stored (record r.stored { datum = bytes }) r
+
+-- Stored data cut, or filled with bytes 0, to a size.
+abbrev pub resized_datum : ℕ → List ℕ → List ℕ
+resized_datum n old = take n old ++ replicate (n - length old) 0
 
 -- The references, each with the bytes that are given for it as its stored data.
 abbrev pub all_anew : List (Option (List ℕ)) → List Reference → List Reference

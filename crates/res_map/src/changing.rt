@@ -1,7 +1,10 @@
 //! Changes of one reference.
 
-ghost use Rattle.std.specs.Prelude.{◌≡◌, ◌<◌, Some, None, length, map, slice_get, slice_set, IfOk, IfSome};
-ghost use Rattle.res_map.specs.Map.{with_handle, with_attrs, stored_anew, name_by, renamed};
+ghost use Rattle.std.specs.Prelude.{◌≡◌, ◌<◌, ◌≤◌, Some, None, length, vec_len, map, slice_get, slice_set};
+ghost use Rattle.std.specs.Prelude.{List, ℕ, IfOk, IfSome, OnOk, OnErr};
+ghost use Rattle.windows.specs.Writes.{written};
+ghost use Rattle.res_map.specs.Map.{IsOrdered, with_handle, with_attrs, stored_anew, with_datum, resized_datum};
+ghost use Rattle.res_map.specs.Map.{name_by, renamed};
 ghost use Rattle.res_map.specs.View.{view_name, view_reference};
 
 use crate::stored::{StoredName, StoredReference};
@@ -55,6 +58,77 @@ pub fn put_datum(refs: &mut Vec<StoredReference>, index: usize, datum: Vec<u8>)
         ≡ slice_set (map view_reference refs.old.items) index (stored_anew (Some datum.items) r)) }
 {
     keep(&mut refs[index], datum);
+}
+
+/// Writes bytes into stored data, from an offset on; the data grows where they reach past its end.
+fn overwrite(datum: &mut Vec<u8>, from: usize, bytes: &[u8]) -> Result<(), AllocError>
+    requires { from ≤ vec_len datum.old }
+    ensures written { OnOk result (datum.new.items ≡ written from bytes.now datum.old.items) }
+    ensures kept { OnErr result (datum.new.items ≡ datum.old.items) }
+{
+    let inside = bytes.len().min(datum.len() - from);
+    let (over, behind) = bytes.split_at(inside);
+    datum.extend_from_slice(behind)?;
+    datum[from..from + inside].copy_from_slice(over);
+    Ok(())
+}
+
+/// Writes bytes into the stored data of a reference, from an offset on; the data grows where they reach past its end.
+fn write(r: &mut StoredReference, from: usize, bytes: &[u8]) -> Result<(), AllocError>
+    requires { from ≤ length (view_reference r.old).stored.datum }
+    ensures written { OnOk result (view_reference r.new
+        ≡ with_datum (written from bytes.now (view_reference r.old).stored.datum) (view_reference r.old)) }
+    ensures kept { OnErr result (view_reference r.new ≡ view_reference r.old) }
+    ensures kind { r.new.kind ≡ r.old.kind }
+{
+    overwrite(&mut r.rest.datum, from, bytes)
+}
+
+/// Writes bytes into the stored data of the reference at a place, from an offset on; the data grows where they reach
+/// past its end.
+pub fn put_bytes(
+    refs: &mut Vec<StoredReference>,
+    index: usize,
+    from: usize,
+    bytes: &[u8],
+) -> Result<(), AllocError>
+    requires inside { index < length refs.old.items }
+    requires within { IfSome (slice_get (map view_reference refs.old.items) index) (λ r. from ≤ length r.stored.datum) }
+    ensures written { OnOk result (IfSome (slice_get (map view_reference refs.old.items) index) (λ r.
+        map view_reference refs.new.items ≡ slice_set (map view_reference refs.old.items) index
+        (with_datum (written from bytes.now r.stored.datum) r))) }
+    ensures kept { OnErr result (map view_reference refs.new.items ≡ map view_reference refs.old.items) }
+    ensures ordered { (kinds : List ℕ) → IsOrdered kinds (map view_reference refs.old.items)
+        → IsOrdered kinds (map view_reference refs.new.items) }
+{
+    write(&mut refs[index], from, bytes)
+}
+
+/// Sets the size of the stored data of a reference: bytes are cut off, or new ones are 0.
+fn resize(r: &mut StoredReference, size: usize) -> Result<(), AllocError>
+    ensures resized { OnOk result (view_reference r.new
+        ≡ with_datum (resized_datum size (view_reference r.old).stored.datum) (view_reference r.old)) }
+    ensures kept { OnErr result (view_reference r.new ≡ view_reference r.old) }
+    ensures kind { r.new.kind ≡ r.old.kind }
+{
+    r.rest.datum.resize(size, 0)
+}
+
+/// Sets the size of the stored data of the reference at a place: bytes are cut off, or new ones are 0.
+pub fn put_size(
+    refs: &mut Vec<StoredReference>,
+    index: usize,
+    size: usize,
+) -> Result<(), AllocError>
+    requires { index < length refs.old.items }
+    ensures resized { OnOk result (IfSome (slice_get (map view_reference refs.old.items) index) (λ r.
+        map view_reference refs.new.items ≡ slice_set (map view_reference refs.old.items) index
+        (with_datum (resized_datum size r.stored.datum) r))) }
+    ensures kept { OnErr result (map view_reference refs.new.items ≡ map view_reference refs.old.items) }
+    ensures ordered { (kinds : List ℕ) → IsOrdered kinds (map view_reference refs.old.items)
+        → IsOrdered kinds (map view_reference refs.new.items) }
+{
+    resize(&mut refs[index], size)
 }
 
 /// Returns the name that a text spells; an empty text spells no name.

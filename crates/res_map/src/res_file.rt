@@ -7,14 +7,15 @@ ghost use Rattle.byteorder.specs.Endian.{big_number};
 ghost use Rattle.fork_format.specs.Content.{Group as GroupValue};
 ghost use Rattle.fork_format.specs.Canonical.{has_refs, are_distinct};
 ghost use Rattle.fork_format.specs.View.{view};
+ghost use Rattle.windows.specs.Writes.{written};
 ghost use Rattle.res_map.specs.Split.{split, place};
 ghost use Rattle.res_map.specs.Map.{Reference, Map, IsOrdered, is_of, is_resource, is_named, has_handle, types};
 ghost use Rattle.res_map.specs.Map.{of_type, nth, split_nth, map_of, with_handle, with_attrs, stored_anew, renamed};
-ghost use Rattle.res_map.specs.Map.{added, new_reference};
+ghost use Rattle.res_map.specs.Map.{with_datum, resized_datum, added, new_reference};
 ghost use Rattle.res_map.specs.View.{view_reference, view_lent};
 
 use crate::adding::{new_one, put_in, take_out};
-use crate::changing::{name_of, put_attrs, put_datum, put_handle, put_name};
+use crate::changing::{name_of, put_attrs, put_bytes, put_datum, put_handle, put_name, put_size};
 use crate::lent::{LentReference, entry_of, type_of};
 use crate::reading::{read_groups, read_types};
 use crate::search::{count_of, handles_of, nth_place, place_holding, place_named, place_of};
@@ -169,6 +170,36 @@ impl ResFile {
         }) }
     {
         put_datum(&mut self.refs, index, datum);
+    }
+
+    /// Writes bytes into the stored data of a reference, from an offset on; the data grows where they reach past its end.
+    /// The bytes that stand are copied only where the data has to grow past the room that it has. Where the host is out
+    /// of memory, the file is as it was.
+    ///
+    /// *More Macintosh Toolbox*, chapter 1, "Reading and Writing Partial Resources".
+    pub fn write_datum(&mut self, index: usize, from: usize, bytes: &[u8]) -> Result<(), AllocError>
+        requires inside { index < length self.old.references }
+        requires within { IfSome (slice_get self.old.references index) (λ r. from ≤ length r.stored.datum) }
+        ensures written { OnOk result (IfSome (slice_get self.old.references index) (λ r. self.new ≡ record self.old {
+          references = slice_set self.old.references index (with_datum (written from bytes.now r.stored.datum) r);
+        })) }
+        ensures kept { OnErr result (self.new ≡ self.old) }
+    {
+        put_bytes(&mut self.refs, index, from, bytes)
+    }
+
+    /// Sets the size of the stored data of a reference: bytes are cut off, or new ones are 0. Where the host is out of
+    /// memory, the file is as it was.
+    ///
+    /// *More Macintosh Toolbox*, chapter 1, "Reading and Writing Partial Resources".
+    pub fn resize_datum(&mut self, index: usize, size: usize) -> Result<(), AllocError>
+        requires { index < length self.old.references }
+        ensures resized { OnOk result (IfSome (slice_get self.old.references index) (λ r. self.new ≡ record self.old {
+          references = slice_set self.old.references index (with_datum (resized_datum size r.stored.datum) r);
+        })) }
+        ensures kept { OnErr result (self.new ≡ self.old) }
+    {
+        put_size(&mut self.refs, index, size)
     }
 
     /// Sets the ID of a reference, and its name where the text isn't empty.

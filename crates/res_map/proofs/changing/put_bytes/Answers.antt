@@ -1,0 +1,20 @@
+use Rattle.std.proofs.lemmas.Result.{on_ok_weaker, on_err_weaker}
+use Rattle.windows.specs.Writes.{written}
+use Rattle.res_map.specs.Map.{Reference, with_datum}
+use Rattle.res_map.specs.View.{view_reference}
+use Rattle.res_map.proofs.Splitting.{set-seen_at, same-seen_at}
+use Rattle.res_map.proofs.Order.{ordered-seen_at}
+use Rattle.res_map.proofs.changing.put_bytes.Goals as goal
+
+pub returns-clause-written : goal.returns-clause-written
+returns-clause-written c = on_ok_weaker c.write.result (set-seen_at view_reference
+    (λ (r : Reference). with_datum (written c.args.from c.args.bytes.now r.stored.datum) r) c.args.refs.now.items
+    c.args.index c.index_mut.result.now c.write.new.r c.requires.inside c.index_mut.ensures.value) c.write.ensures.written
+
+pub returns-clause-kept : goal.returns-clause-kept
+returns-clause-kept c = on_err_weaker c.write.result (same-seen_at view_reference c.args.refs.now.items c.args.index
+    c.index_mut.result.now c.write.new.r c.requires.inside c.index_mut.ensures.value) c.write.ensures.kept
+
+pub returns-clause-ordered : goal.returns-clause-ordered
+returns-clause-ordered c = ordered-seen_at c.args.refs.now.items c.args.index c.index_mut.result.now c.write.new.r
+    c.requires.inside c.index_mut.ensures.value c.write.ensures.kind

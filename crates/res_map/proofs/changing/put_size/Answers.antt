@@ -1,0 +1,19 @@
+use Rattle.std.proofs.lemmas.Result.{on_ok_weaker, on_err_weaker}
+use Rattle.res_map.specs.Map.{Reference, with_datum, resized_datum}
+use Rattle.res_map.specs.View.{view_reference}
+use Rattle.res_map.proofs.Splitting.{set-seen_at, same-seen_at}
+use Rattle.res_map.proofs.Order.{ordered-seen_at}
+use Rattle.res_map.proofs.changing.put_size.Goals as goal
+
+pub returns-clause-resized : goal.returns-clause-resized
+returns-clause-resized c = on_ok_weaker c.resize.result (set-seen_at view_reference
+    (λ (r : Reference). with_datum (resized_datum c.args.size r.stored.datum) r) c.args.refs.now.items
+    c.args.index c.index_mut.result.now c.resize.new.r c.requires c.index_mut.ensures.value) c.resize.ensures.resized
+
+pub returns-clause-kept : goal.returns-clause-kept
+returns-clause-kept c = on_err_weaker c.resize.result (same-seen_at view_reference c.args.refs.now.items c.args.index
+    c.index_mut.result.now c.resize.new.r c.requires c.index_mut.ensures.value) c.resize.ensures.kept
+
+pub returns-clause-ordered : goal.returns-clause-ordered
+returns-clause-ordered c = ordered-seen_at c.args.refs.now.items c.args.index c.index_mut.result.now c.resize.new.r
+    c.requires c.index_mut.ensures.value c.resize.ensures.kind
