@@ -105,7 +105,7 @@ full_keeps blocks (call.Resource c) r full =
     let s = finds.served (resource_asked c r.names) (managers_of r) in
     let refused = full-refused s.told full in
     gone-files (heard r.resources.purging (purges.gone_for (resource_asked c r.names) (managers_of r))) s.after.resources
-    ∙ ap (λ (x : Resources). x.files) (laws.served-refused (resource_asked c r.names) (managers_of r) refused.0 refused.1).1
+    ∙ laws.refused-files (resource_asked c r.names) (managers_of r) refused.0 refused.1
 full_keeps blocks (call.Segment c) r full = jump-files c r
 full_keeps blocks (call.Control (control.SetGrowZone name)) r full = refl
 full_keeps blocks (call.Control control.WaitNextEvent) r full = refl
@@ -171,6 +171,9 @@ allowed_keeps (call.Resource (resource.SetResInfo name id text)) names is = refl
 allowed_keeps (call.Resource (resource.GetResAttrs name)) names is = refl
 allowed_keeps (call.Resource (resource.SetResAttrs name attrs)) names is = refl
 allowed_keeps (call.Resource (resource.GetResourceSizeOnDisk name)) names is = refl
+allowed_keeps (call.Resource (resource.ReadPartialResource name offset count)) names is = refl
+allowed_keeps (call.Resource (resource.WritePartialResource name offset bytes)) names is = refl
+allowed_keeps (call.Resource (resource.SetResourceSize name size)) names is = refl
 allowed_keeps (call.Resource (resource.SetResPurge on)) names is = refl
 allowed_keeps (call.Resource (resource.SetResLoad on)) names is = refl
 allowed_keeps (call.Resource resource.ResError) names is = refl
@@ -242,6 +245,9 @@ found-tells (finds.SetResInfo handle id name) s is = cc
 found-tells (finds.GetResAttrs handle) s is = cc
 found-tells (finds.SetResAttrs handle attrs) s is = cc
 found-tells (finds.GetResourceSizeOnDisk handle) s is = cc
+found-tells (finds.ReadPartialResource handle from n) s is = cc
+found-tells (finds.WritePartialResource handle from x) s is = cc
+found-tells (finds.SetResourceSize handle n) s is = cc
 found-tells (finds.SetResPurge on) s is = cc
 found-tells (finds.SetResLoad on) s is = cc
 found-tells finds.ResError s is = cc

@@ -1,19 +1,29 @@
 use Rattle.std.proofs.Common.{◌≡◌, ◌∙◌, ℕ, ◌==◌, Bool, true, false, refl, sym, cond, List, Option, Some, None}
-use Rattle.std.proofs.Common.{Result, Ok, Err}
-use Rattle.std.specs.Prelude.{IfOk}
+use Rattle.std.proofs.Common.{Result, Ok, Err, ◌⊎◌, inl, inr, ◌+◌, ap, subst, []}
+use Rattle.std.specs.Prelude.{IfOk, IsOk}
 use Rattle.std.specs.declared.alloc.AllocError.{AllocError}
 use Rattle.std.specs.Prelude.{nat_lt, nat_le, length, not, ◌&&◌, ◌||◌, if◌then◌else◌}
 use Rattle.mac_words.specs.declared.code.OsErr.{OsErr}
 use Rattle.mac_words.specs.Told.{Told, Done, Number, Kind}
-use Rattle.mac_words.specs.declared.code.TheConstants.OsErr.{PROFILE}
+use Rattle.mac_words.specs.declared.code.TheConstants.OsErr.{IN_MEMORY, OFFSET, PROFILE}
+use Rattle.res_map.specs.Map.{resized_datum}
+use Rattle.windows.specs.Writes.{piece, written}
+use Rattle.heap_calls.specs.Answer.{code_of}
+use Rattle.heap_calls.specs.Gone.{Gone}
 use Rattle.res_map.specs.Split.{Split, place}
 use Rattle.res_map.specs.Map.{Map, is_changed, is_protected, nth, types}
 use Rattle.res_calls.specs.Files.{File, OpenFile, Resources, Found, file_named, file_of, open_at, current_references}
-use Rattle.res_calls.specs.Fetch.{Managers, Answer, Fetched, refused, is_system}
+use Rattle.res_calls.specs.Fetch.{Managers, Answer, Fetched, done, refused, is_system}
 use Rattle.res_calls.specs.Rows.{on_found, on_open, on_resource, resource_of, bars, told_type, open_fork, open_unless}
+use Rattle.res_calls.specs.Rows.{keep_error, with_resources}
 use Rattle.res_calls.specs.Rows.{open_named, greatest_number, map_in, open_map, if_updated, Info}
 use Rattle.res_calls.specs.Changing.{most_files, create_named, on_known, on_removable, if_changeable}
 use Rattle.res_calls.specs.Update.{update}
+use Rattle.res_calls.specs.Gone.{gone_for}
+use Rattle.res_calls.specs.Partial.{is_in_memory, read_part_found, read_partial_resource, restored_unless}
+use Rattle.res_calls.specs.Partial.{size_refusal, write_refusal}
+use Rattle.res_calls.specs.Purging.{heard, stored_gone}
+use Rattle.res_calls.proofs.Storing.{heard-none}
 use Rattle.heap_calls.specs.Answer.{Known, handle_at}
 use Rattle.heap_calls.specs.Purging.{is_resource}
 use Rattle.heap_calls.specs.Inside.{has_block}
@@ -34,38 +44,135 @@ pub told-none : {T : Type 0} (tell : T → Told) → ((x : T) → bytes_told (te
 told-none tell none (Ok x) = none x
 told-none tell none (Err code) = refl
 
--- it shows no bytes
-pub found-shows-none : (a : ResourceAsked) (s : Managers) → bytes_told (served a s).told ≡ None
-found-shows-none (asks.OpenResFile name) s = told-none {T = ℕ} Number (λ x. refl) _
-found-shows-none (asks.CreateResFile name) s = told-none {T = Unit {0}} (λ x. Done) (λ x. refl) _
-found-shows-none (asks.CloseResFile number) s = told-none {T = Unit {0}} (λ x. Done) (λ x. refl) _
-found-shows-none (asks.UpdateResFile number) s = told-none {T = Unit {0}} (λ x. Done) (λ x. refl) _
-found-shows-none (asks.UseResFile number) s = told-none {T = Unit {0}} (λ x. Done) (λ x. refl) _
-found-shows-none asks.CurResFile s = refl
-found-shows-none (asks.HomeResFile handle) s = told-none {T = ℕ} Number (λ x. refl) _
-found-shows-none (asks.GetResource kind id) s = told-none {T = Fetched} tell_fetched (λ x. refl) _
-found-shows-none (asks.Get1Resource kind id) s = told-none {T = Fetched} tell_fetched (λ x. refl) _
-found-shows-none (asks.GetNamedResource kind name) s = told-none {T = Fetched} tell_fetched (λ x. refl) _
-found-shows-none (asks.Get1NamedResource kind name) s = told-none {T = Fetched} tell_fetched (λ x. refl) _
-found-shows-none asks.Count1Types s = refl
-found-shows-none (asks.Get1IndType index) s = told-none {T = ℕ} Kind (λ x. refl) _
-found-shows-none (asks.Count1Resources kind) s = refl
-found-shows-none (asks.Get1IndResource kind index) s = told-none {T = Fetched} tell_fetched (λ x. refl) _
-found-shows-none (asks.LoadResource handle) s = told-none {T = Fetched} tell_fetched (λ x. refl) _
-found-shows-none (asks.ReleaseResource handle) s = told-none {T = Unit {0}} (λ x. Done) (λ x. refl) _
-found-shows-none (asks.DetachResource handle) s = told-none {T = Unit {0}} (λ x. Done) (λ x. refl) _
-found-shows-none (asks.AddResource handle kind id name) s = told-none {T = Unit {0}} (λ x. Done) (λ x. refl) _
-found-shows-none (asks.RemoveResource handle) s = told-none {T = Unit {0}} (λ x. Done) (λ x. refl) _
-found-shows-none (asks.ChangedResource handle) s = told-none {T = Unit {0}} (λ x. Done) (λ x. refl) _
-found-shows-none (asks.WriteResource handle) s = told-none {T = Unit {0}} (λ x. Done) (λ x. refl) _
-found-shows-none (asks.GetResInfo handle) s = told-none {T = Info} tell_info (λ x. refl) _
-found-shows-none (asks.SetResInfo handle id name) s = told-none {T = Unit {0}} (λ x. Done) (λ x. refl) _
-found-shows-none (asks.GetResAttrs handle) s = told-none {T = ℕ} Number (λ x. refl) _
-found-shows-none (asks.SetResAttrs handle attrs) s = told-none {T = Unit {0}} (λ x. Done) (λ x. refl) _
-found-shows-none (asks.GetResourceSizeOnDisk handle) s = told-none {T = ℕ} Number (λ x. refl) _
-found-shows-none (asks.SetResPurge on) s = refl
-found-shows-none (asks.SetResLoad on) s = refl
-found-shows-none asks.ResError s = refl
+-- one call alone shows bytes
+abbrev pub is_quiet : ResourceAsked → Bool
+is_quiet (asks.ReadPartialResource handle from n) = false
+is_quiet a = true
+
+-- any other shows none
+pub found-shows-none : (a : ResourceAsked) (s : Managers) → is_quiet a ≡ true → bytes_told (served a s).told ≡ None
+found-shows-none (asks.OpenResFile name) s quiet = told-none {T = ℕ} Number (λ x. refl) _
+found-shows-none (asks.CreateResFile name) s quiet = told-none {T = Unit {0}} (λ x. Done) (λ x. refl) _
+found-shows-none (asks.CloseResFile number) s quiet = told-none {T = Unit {0}} (λ x. Done) (λ x. refl) _
+found-shows-none (asks.UpdateResFile number) s quiet = told-none {T = Unit {0}} (λ x. Done) (λ x. refl) _
+found-shows-none (asks.UseResFile number) s quiet = told-none {T = Unit {0}} (λ x. Done) (λ x. refl) _
+found-shows-none asks.CurResFile s quiet = refl
+found-shows-none (asks.HomeResFile handle) s quiet = told-none {T = ℕ} Number (λ x. refl) _
+found-shows-none (asks.GetResource kind id) s quiet = told-none {T = Fetched} tell_fetched (λ x. refl) _
+found-shows-none (asks.Get1Resource kind id) s quiet = told-none {T = Fetched} tell_fetched (λ x. refl) _
+found-shows-none (asks.GetNamedResource kind name) s quiet = told-none {T = Fetched} tell_fetched (λ x. refl) _
+found-shows-none (asks.Get1NamedResource kind name) s quiet = told-none {T = Fetched} tell_fetched (λ x. refl) _
+found-shows-none asks.Count1Types s quiet = refl
+found-shows-none (asks.Get1IndType index) s quiet = told-none {T = ℕ} Kind (λ x. refl) _
+found-shows-none (asks.Count1Resources kind) s quiet = refl
+found-shows-none (asks.Get1IndResource kind index) s quiet = told-none {T = Fetched} tell_fetched (λ x. refl) _
+found-shows-none (asks.LoadResource handle) s quiet = told-none {T = Fetched} tell_fetched (λ x. refl) _
+found-shows-none (asks.ReleaseResource handle) s quiet = told-none {T = Unit {0}} (λ x. Done) (λ x. refl) _
+found-shows-none (asks.DetachResource handle) s quiet = told-none {T = Unit {0}} (λ x. Done) (λ x. refl) _
+found-shows-none (asks.AddResource handle kind id name) s quiet = told-none {T = Unit {0}} (λ x. Done) (λ x. refl) _
+found-shows-none (asks.RemoveResource handle) s quiet = told-none {T = Unit {0}} (λ x. Done) (λ x. refl) _
+found-shows-none (asks.ChangedResource handle) s quiet = told-none {T = Unit {0}} (λ x. Done) (λ x. refl) _
+found-shows-none (asks.WriteResource handle) s quiet = told-none {T = Unit {0}} (λ x. Done) (λ x. refl) _
+found-shows-none (asks.GetResInfo handle) s quiet = told-none {T = Info} tell_info (λ x. refl) _
+found-shows-none (asks.SetResInfo handle id name) s quiet = told-none {T = Unit {0}} (λ x. Done) (λ x. refl) _
+found-shows-none (asks.GetResAttrs handle) s quiet = told-none {T = ℕ} Number (λ x. refl) _
+found-shows-none (asks.SetResAttrs handle attrs) s quiet = told-none {T = Unit {0}} (λ x. Done) (λ x. refl) _
+found-shows-none (asks.GetResourceSizeOnDisk handle) s quiet = told-none {T = ℕ} Number (λ x. refl) _
+found-shows-none (asks.ReadPartialResource handle from n) s quiet = cc
+found-shows-none (asks.WritePartialResource handle from x) s quiet = told-none {T = Unit {0}} (λ x. Done) (λ x. refl) _
+found-shows-none (asks.SetResourceSize handle n) s quiet = told-none {T = Unit {0}} (λ x. Done) (λ x. refl) _
+found-shows-none (asks.SetResPurge on) s quiet = refl
+found-shows-none (asks.SetResLoad on) s quiet = refl
+found-shows-none asks.ResError s quiet = refl
+
+-- the call that shows bytes
+abbrev ShowsPart : ResourceAsked → Type 0
+ShowsPart a = (handle : Option ℕ) × (from : ℕ) × (n : ℕ) × (a ≡ asks.ReadPartialResource handle from n)
+
+quiet-or-part : (a : ResourceAsked) → (is_quiet a ≡ true) ⊎ ShowsPart a
+quiet-or-part (asks.OpenResFile name) = inl refl
+quiet-or-part (asks.CreateResFile name) = inl refl
+quiet-or-part (asks.CloseResFile number) = inl refl
+quiet-or-part (asks.UpdateResFile number) = inl refl
+quiet-or-part (asks.UseResFile number) = inl refl
+quiet-or-part asks.CurResFile = inl refl
+quiet-or-part (asks.HomeResFile handle) = inl refl
+quiet-or-part (asks.GetResource kind id) = inl refl
+quiet-or-part (asks.Get1Resource kind id) = inl refl
+quiet-or-part (asks.GetNamedResource kind name) = inl refl
+quiet-or-part (asks.Get1NamedResource kind name) = inl refl
+quiet-or-part asks.Count1Types = inl refl
+quiet-or-part (asks.Get1IndType index) = inl refl
+quiet-or-part (asks.Count1Resources kind) = inl refl
+quiet-or-part (asks.Get1IndResource kind index) = inl refl
+quiet-or-part (asks.LoadResource handle) = inl refl
+quiet-or-part (asks.ReleaseResource handle) = inl refl
+quiet-or-part (asks.DetachResource handle) = inl refl
+quiet-or-part (asks.AddResource handle kind id name) = inl refl
+quiet-or-part (asks.RemoveResource handle) = inl refl
+quiet-or-part (asks.ChangedResource handle) = inl refl
+quiet-or-part (asks.WriteResource handle) = inl refl
+quiet-or-part (asks.GetResInfo handle) = inl refl
+quiet-or-part (asks.SetResInfo handle id name) = inl refl
+quiet-or-part (asks.GetResAttrs handle) = inl refl
+quiet-or-part (asks.SetResAttrs handle attrs) = inl refl
+quiet-or-part (asks.GetResourceSizeOnDisk handle) = inl refl
+quiet-or-part (asks.ReadPartialResource handle from n) = inr (handle, from, n, refl)
+quiet-or-part (asks.WritePartialResource handle from x) = inl refl
+quiet-or-part (asks.SetResourceSize handle n) = inl refl
+quiet-or-part (asks.SetResPurge on) = inl refl
+quiet-or-part (asks.SetResLoad on) = inl refl
+quiet-or-part asks.ResError = inl refl
+
+-- reading a part changes nothing but the code that ResError tells
+read_part-after : (handle : Option ℕ) (from n : ℕ) (s : Managers) → (read_partial_resource handle from n s).after ≡ s
+read_part-after handle from n s = by_found (resource_of handle s.resources)
+  where
+    by_found : (found : Option Found) → (on_found found s (read_part_found handle from n s)).after ≡ s
+    by_found None = refl
+    by_found (Some at) = by_tests (nat_lt (length at.reference.here.stored.datum) (from + n))
+        (is_in_memory handle s.memory.heap)
+      where
+        by_tests : (past held : Bool) → (cond {A = Answer (List ℕ)} past (refused OFFSET s)
+            (cond held (refused IN_MEMORY s) (done (piece from n at.reference.here.stored.datum) s))).after ≡ s
+        by_tests true held = refl
+        by_tests false true = refl
+        by_tests false false = refl
+
+-- so it is read again alike, once the code is set and what was purged is stored
+part-again : (handle : Option ℕ) (from n : ℕ) (on : Bool) (s : Managers)
+    → bytes_told (served (asks.ReadPartialResource handle from n)
+    (with_resources (stored_gone (heard on []) (served (asks.ReadPartialResource handle from n) s).after.resources)
+    (served (asks.ReadPartialResource handle from n) s).after)).told
+    ≡ bytes_told (served (asks.ReadPartialResource handle from n) s).told
+part-again handle from n on s =
+    ap (λ (gone : List Gone). bytes_told (served (asks.ReadPartialResource handle from n)
+    (with_resources (stored_gone gone (served (asks.ReadPartialResource handle from n) s).after.resources)
+    (served (asks.ReadPartialResource handle from n) s).after)).told) (heard-none on)
+    ∙ ap (λ (t : Managers). bytes_told (served (asks.ReadPartialResource handle from n)
+    (keep_error (code_of (read_partial_resource handle from n s).reply) t)).told) (read_part-after handle from n s)
+
+-- what a call tells in the managers that its try leaves shows the same bytes
+pub found-again : (a : ResourceAsked) (on : Bool) (s : Managers)
+    → bytes_told (served a (with_resources (stored_gone (heard on (gone_for a s)) (served a s).after.resources)
+    (served a s).after)).told
+    ≡ bytes_told (served a s).told
+found-again a on s = by_call (quiet-or-part a)
+  where
+    by_call : (is_quiet a ≡ true) ⊎ ShowsPart a
+        → bytes_told (served a (with_resources (stored_gone (heard on (gone_for a s)) (served a s).after.resources)
+        (served a s).after)).told
+        ≡ bytes_told (served a s).told
+    by_call (inl quiet) = found-shows-none a _ quiet ∙ sym (found-shows-none a s quiet)
+    by_call (inr (handle, from, n, is)) = subst (λ (b : ResourceAsked).
+        bytes_told (served b (with_resources (stored_gone (heard on (gone_for b s)) (served b s).after.resources)
+        (served b s).after)).told
+        ≡ bytes_told (served b s).told) (sym is) (part-again handle from n on s)
+
+-- a reply that is a value tells its bytes
+pub ok_told : (r : Result (List ℕ) OsErr) → IsOk r → (bytes : List ℕ) × (r ≡ Ok bytes)
+ok_told (Ok bytes) is = (bytes, refl)
+ok_told (Err code) is = cc
 
 -- a call on a reference reads no more again than it does where there is one
 on_found-none : {T : Type 0} (found : Option Found) (s : Managers) (answer : Found → Answer T)
@@ -124,6 +231,12 @@ changeable-none handle s answer none = on_found-none (resource_of handle s.resou
     (λ at. either-none (is_system at.file.here) _ _ refl
     (either-none (is_protected at.reference.here) _ _ refl (none at)))
 
+-- nor a change of stored data
+restored-none : (o : Option OsErr) (handle : Option ℕ) (change : List ℕ → List ℕ) (at : Found) (s : Managers)
+    → (restored_unless o handle change at s).reading ≡ None
+restored-none (Some code) handle change at s = refl
+restored-none None handle change at s = either-none (is_in_memory handle s.memory.heap) _ _ refl refl
+
 -- nor the making of a file
 made-none : (name : List ℕ) (file : Option (Split File)) (s : Managers) → (create_named name file s).reading ≡ None
 made-none name None s = either-none (nat_le most_files (length s.resources.files)) _ _ refl refl
@@ -177,6 +290,13 @@ reads-again (asks.GetResAttrs handle) s = sym (on_found-none (resource_of handle
 reads-again (asks.SetResAttrs handle attrs) s = sym (on_found-none (resource_of handle s.resources) s _ (λ at. refl))
 reads-again (asks.GetResourceSizeOnDisk handle) s =
     sym (on_found-none (resource_of handle s.resources) s _ (λ at. refl))
+reads-again (asks.ReadPartialResource handle from n) s = sym (on_found-none (resource_of handle s.resources) s _
+    (λ at. either-none (nat_lt (length at.reference.here.stored.datum) (from + n)) _ _ refl
+    (either-none (is_in_memory handle s.memory.heap) _ _ refl refl)))
+reads-again (asks.WritePartialResource handle from x) s = sym (on_found-none (resource_of handle s.resources) s _
+    (λ at. restored-none (write_refusal from (length x) at) handle (written from x) at s))
+reads-again (asks.SetResourceSize handle n) s = sym (on_found-none (resource_of handle s.resources) s _
+    (λ at. restored-none (size_refusal n at) handle (resized_datum n) at s))
 reads-again (asks.SetResPurge on) s = refl
 reads-again (asks.SetResLoad on) s = refl
 reads-again asks.ResError s = refl
@@ -199,6 +319,6 @@ pub are_tried : (result : Result Tried AllocError) (a : ResourceAsked) (s : Mana
 are_tried (Ok tried) a s r tells = is_tried tried a s r tells
 are_tried (Err e) a s r tells = tt
 
--- no bytes are shown by a call of the Resource Manager
-pub shows_nothing : (a : ResourceAsked) (s : Managers) → None ≡ bytes_told (served a s).told
-shows_nothing a s = sym (found-shows-none a s)
+-- no bytes are shown by any other call of the Resource Manager
+pub shows_nothing : (a : ResourceAsked) (s : Managers) → is_quiet a ≡ true → None ≡ bytes_told (served a s).told
+shows_nothing a s quiet = sym (found-shows-none a s quiet)

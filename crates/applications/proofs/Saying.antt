@@ -29,7 +29,8 @@ use Rattle.applications.specs.Names.{bound_to}
 use Rattle.applications.specs.Trying.{Running, Blocks, asked, resource_asked, managers_of, program_of, once, code_told}
 use Rattle.applications.specs.Trying.{is_full}
 use Rattle.applications.specs.Application.{numbers_told, type_told, name_told, bytes_told, values_told, line_told}
-use Rattle.applications.proofs.FoundCalls.{told-none, found-shows-none}
+use Rattle.res_calls.specs.Asked as finds
+use Rattle.applications.proofs.FoundCalls.{told-none, found-again}
 use Rattle.applications.proofs.JumpCalls.{jump-shows-none}
 use Rattle.applications.specs.Replies.{Says}
 
@@ -155,10 +156,7 @@ heap-again (heap.Where name) r = none-again {T = ℕ} Count (λ x. refl) _ _
 pub shown-again : (blocks : Blocks) (c : Call) (r : Running)
     → bytes_told (once [] c (once blocks c r).after).told ≡ bytes_told (once blocks c r).told
 shown-again blocks (call.Heap c) r = heap-again c r
-shown-again blocks (call.Resource c) r =
-    found-shows-none (resource_asked c (once blocks (call.Resource c) r).after.names)
-    (managers_of (once blocks (call.Resource c) r).after)
-    ∙ sym (found-shows-none (resource_asked c r.names) (managers_of r))
+shown-again blocks (call.Resource c) r = found-again (resource_asked c r.names) r.resources.purging (managers_of r)
 shown-again blocks (call.Segment c) r =
     jump-shows-none c (program_of (once blocks (call.Segment c) r).after) ∙ sym (jump-shows-none c (program_of r))
 shown-again blocks (call.Control (control.SetGrowZone name)) r = refl
@@ -169,7 +167,8 @@ shown-again blocks (call.Control control.ExitToShell) r = refl
 pub wants-shows-none : (blocks : Blocks) (c : Call) (r : Running) → (once blocks c r).wants ≡ true
     → bytes_told (once blocks c r).told ≡ None
 wants-shows-none blocks (call.Heap c) r wants = full-shows-none (served (asked c r.names) r.memory).0 wants
-wants-shows-none blocks (call.Resource c) r wants = found-shows-none (resource_asked c r.names) (managers_of r)
+wants-shows-none blocks (call.Resource c) r wants =
+    full-shows-none (finds.served (resource_asked c r.names) (managers_of r)).told wants
 wants-shows-none blocks (call.Segment c) r wants = jump-shows-none c (program_of r)
 wants-shows-none blocks (call.Control (control.SetGrowZone name)) r wants = refl
 wants-shows-none blocks (call.Control control.WaitNextEvent) r wants = refl

@@ -25,6 +25,7 @@ use Rattle.res_calls.specs.Writing.{writes}
 use Rattle.res_calls.specs.Files.{Resources}
 use Rattle.res_calls.specs.Gone.{gone_for}
 use Rattle.res_calls.specs.Purging.{heard, stored_gone}
+use Rattle.res_calls.specs.Refused.{left_refused}
 use Rattle.segments.specs.Asked.{unlocks}
 use Rattle.applications.specs.Trying.{Running, Blocks, managers_of, read_at_launch, nowhere}
 use Rattle.applications.specs.Step.{Deed, Ask, Find, Jump, Steer, deed_of, Event, Shown, LineEnd, step, step_by_rule}
@@ -191,8 +192,9 @@ SearchesFew bytes e =
 
 -- What a refused try leaves. A call of the heap's table leaves the heap as it was, except the zone, which is as a
 -- refused call leaves it. A call of the Resource Manager leaves its code, and may leave a master pointer block that was
--- made for a new handle. What either purged is stored while SetResPurge is on. A call on a segment leaves everything as
--- it was, unless a system error ends the application.
+-- made for a new handle; where WritePartialResource or SetResourceSize is refused with -188 (resourceInMemory) the stored
+-- data is changed all the same (`left_refused`). What either purged is stored while SetResPurge is on. A call on a segment
+-- leaves everything as it was, unless a system error ends the application.
 abbrev pub Kept : Deed → OsErr → Running → Running → Type 0
 Kept (Ask asked) code r after =
     (after.memory.heap ≡ record r.memory.heap { zone = refused_zone asked r.memory })
@@ -201,7 +203,7 @@ Kept (Find asked) code r after =
     ((after.memory.heap ≡ r.memory.heap)
     ⊎ (after.memory.heap ≡ record r.memory.heap { zone = slotted_zone nothing r.memory.heap }))
     × (after.resources ≡ stored_gone (heard r.resources.purging (gone_for asked (managers_of r)))
-    (record r.resources { error = code }))
+    (record (left_refused asked code (managers_of r)) { error = code }))
 Kept (Jump call) code r after = code ≢ SYSTEM_ERROR → after ≡ r
 Kept (Steer control) code r after = (after.memory.heap ≡ r.memory.heap) × (after.resources ≡ r.resources)
 

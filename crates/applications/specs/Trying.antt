@@ -180,6 +180,11 @@ resource_asked (resource.GetResAttrs name) names = finds.GetResAttrs (bound_to n
 resource_asked (resource.SetResAttrs name attrs) names = finds.SetResAttrs (bound_to name.0.items names) attrs
 resource_asked (resource.GetResourceSizeOnDisk name) names =
     finds.GetResourceSizeOnDisk (bound_to name.0.items names)
+resource_asked (resource.ReadPartialResource name offset count) names =
+    finds.ReadPartialResource (bound_to name.0.items names) offset count
+resource_asked (resource.WritePartialResource name offset bytes) names =
+    finds.WritePartialResource (bound_to name.0.items names) offset bytes.items
+resource_asked (resource.SetResourceSize name size) names = finds.SetResourceSize (bound_to name.0.items names) size
 resource_asked (resource.SetResPurge on) names = finds.SetResPurge on
 resource_asked (resource.SetResLoad on) names = finds.SetResLoad on
 resource_asked resource.ResError names = finds.ResError

@@ -1,17 +1,18 @@
 //! One try of a call of the Resource Manager.
 
-ghost use Rattle.std.specs.Prelude.{◌≡◌, true, IfOk, OnOk, OnErr};
+ghost use Rattle.std.specs.Prelude.{◌≡◌, true, option_map, IfOk, OnOk, OnErr};
 ghost use Rattle.heap_calls.specs.Gone.{Tells, IsIdle};
 ghost use Rattle.res_calls.specs.Asked as finds;
 ghost use Rattle.res_calls.specs.Fetching.{fetches};
 ghost use Rattle.res_calls.specs.Given.{managers};
 ghost use Rattle.res_calls.specs.Gone.{gone_for};
+ghost use Rattle.applications.specs.Application.{bytes_told};
 ghost use Rattle.applications.specs.Trying.{resource_asked, resource_tried, storing, managers_of};
 ghost use Rattle.applications.specs.Replies.{TellsServed, IsTried};
 
 use crate::application::Application;
 use crate::names::Names;
-use crate::tried::{Tried, attributes, counted, done_on_resource, fetched, info, kind, sized};
+use crate::tried::{Tried, attributes, counted, done_on_resource, fetched, info, kind, read, sized};
 use block_store::BlockStore;
 use heap_calls::{Heap, PurgeSink};
 use mac_words::{Attrs, Reply, ResourceCall};
@@ -62,6 +63,25 @@ impl<'s, S: BlockStore> Application<'s, S> {
             call,
             sink,
         )
+    }
+}
+
+/// Returns the bytes that a call of the Resource Manager shows of `resources`.
+#[tactic(auto, using(crate::proofs::FoundCalls::shows_nothing))]
+pub(crate) fn shown_in<'a, S: BlockStore>(
+    resources: &'a Resources,
+    heap: &Heap<S>,
+    names: &Names,
+    call: &ResourceCall,
+) -> Option<&'a [u8]>
+    ensures { option_map (λ bytes. bytes.now) result ≡ bytes_told (finds.served (resource_asked call.now names.now)
+        (managers resources.now heap.now)).told }
+{
+    match call {
+        ResourceCall::ReadPartialResource(name, offset, count) => {
+            resources.partial(heap, names.number(name), *offset, *count).ok()
+        }
+        _ => None,
     }
 }
 
@@ -174,6 +194,20 @@ fn answered<S: BlockStore, K: PurgeSink>(
         )),
         ResourceCall::GetResourceSizeOnDisk(name) => sized(resources.get_resource_size_on_disk(
             names.number(name),
+        )),
+        ResourceCall::ReadPartialResource(name, offset, count) => read(resources.read_partial_resource(
+            heap,
+            names.number(name),
+            *offset,
+            *count,
+        )),
+        ResourceCall::WritePartialResource(name, offset, bytes) => done_on_resource(
+            resources.write_partial_resource(heap, names.number(name), *offset, bytes),
+        ),
+        ResourceCall::SetResourceSize(name, size) => done_on_resource(resources.set_resource_size(
+            heap,
+            names.number(name),
+            *size,
         )),
         ResourceCall::SetResPurge(on) => {
             resources.set_res_purge(*on);

@@ -73,6 +73,9 @@ pub fn named_resource(call: &ResourceCall, names: &Names) -> Option<usize>
         ResourceCall::GetResAttrs(name) => names.number(name),
         ResourceCall::SetResAttrs(name, _) => names.number(name),
         ResourceCall::GetResourceSizeOnDisk(name) => names.number(name),
+        ResourceCall::ReadPartialResource(name, _, _) => names.number(name),
+        ResourceCall::WritePartialResource(name, _, _) => names.number(name),
+        ResourceCall::SetResourceSize(name, _) => names.number(name),
         ResourceCall::OpenResFile(_)
         | ResourceCall::CreateResFile(_)
         | ResourceCall::CloseResFile(_)

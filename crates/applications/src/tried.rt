@@ -1,6 +1,6 @@
 //! The outcome of one try of a call.
 
-ghost use Rattle.std.specs.Prelude.{◌≡◌, ◌≢◌, ◌<◌, ◌^◌, ℕ, true, false, None, Err, IfOk, OnOk, OnErr};
+ghost use Rattle.std.specs.Prelude.{◌≡◌, ◌≢◌, ◌<◌, ◌^◌, ℕ, true, false, None, Err, List, IfOk, OnOk, OnErr};
 ghost use Rattle.mac_words.specs.Told.{Told, Done, Given, Number, Numbers, Bytes, Kind};
 ghost use Rattle.applications.specs.Trying.{is_full};
 ghost use Rattle.byteorder.specs.Endian.{big_number};
@@ -10,7 +10,7 @@ ghost use Rattle.res_calls.specs.Fetch as fetch;
 ghost use Rattle.res_calls.specs.Rows as rows;
 ghost use Rattle.res_calls.specs.Asked.{telling, tell_fetched, tell_info};
 ghost use Rattle.mac_words.specs.declared.attributes.Attrs.{Attrs as StoredAttrs};
-ghost use Rattle.res_calls.specs.Given.{IsAnswered, IsFetched};
+ghost use Rattle.res_calls.specs.Given.{IsAnswered, IsAnsweredUnseen, IsFetched};
 ghost use Rattle.res_calls.specs.Places.{WantsHost, seen_info};
 ghost use Rattle.applications.specs.Replies.{Says, TellsTold, TellsServed, GivenAs, exit_as};
 
@@ -188,6 +188,24 @@ pub fn done_on_resource(answer: Result<(), Refusal>) -> Result<Tried, AllocError
         answer after
         → a.after ≡ after) }
     ensures wants { OnErr result (answer ≡ Err Refusal.HostMemory) }
+{
+    match answer {
+        Ok(()) => Ok(Tried::told(Reply::of(OsErr::NO_ERR))),
+        Err(Refusal::Code(code)) => Ok(Tried::told(Reply::of(code))),
+        Err(Refusal::HostMemory) => Err(AllocError),
+    }
+}
+
+/// Returns the try of a call of the Resource Manager that shows bytes, without the bytes.
+#[tactic(auto, using(crate::proofs::FoundCalls::ok_told))]
+pub fn read(answer: Result<(), Refusal>) -> Result<Tried, AllocError>
+    ensures tried { IfOk result (λ tried. (a : Answer (List ℕ)) (after : Managers) →
+        IsAnsweredUnseen a answer after
+        → TellsServed tried (telling Bytes a) false) }
+    ensures after { OnOk result ((a : Answer (List ℕ)) (after : Managers) → IsAnsweredUnseen a answer after
+        → a.after ≡ after) }
+    ensures wants { OnErr result (answer ≡ Err Refusal.HostMemory) }
+    ensures host { OnOk result (answer ≢ Err Refusal.HostMemory) }
 {
     match answer {
         Ok(()) => Ok(Tried::told(Reply::of(OsErr::NO_ERR))),

@@ -12,6 +12,7 @@ ghost use Rattle.applications.specs.Application.{bytes_told};
 ghost use Rattle.applications.specs.Replies.{TellsTold, IsTried};
 
 use crate::application::Application;
+use crate::finding::shown_in as found_in;
 use crate::names::Names;
 use crate::naming::named;
 use crate::tried::{Tried, done, given, number, shown, space, state};
@@ -55,13 +56,13 @@ impl<'s, S: BlockStore> Application<'s, S> {
     }
 
     /// Returns the bytes that a call shows, in the state that the call leaves.
-    #[tactic(auto, using(crate::proofs::FoundCalls::shows_nothing, crate::proofs::JumpCalls::jump_shows_nothing))]
+    #[tactic(auto, using(crate::proofs::JumpCalls::jump_shows_nothing))]
     pub(crate) fn shown(&self, call: &Call) -> Option<&[u8]>
         ensures { option_map (λ bytes. bytes.now) result ≡ bytes_told (once [] call.now self.now).told }
     {
         match call {
             Call::Heap(call) => shown_in(&self.heap, &self.names, call),
-            Call::Resource(_) => None,
+            Call::Resource(call) => found_in(&self.resources, &self.heap, &self.names, call),
             Call::Segment(_) => None,
             Call::Control(_) => None,
         }

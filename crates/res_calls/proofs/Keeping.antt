@@ -82,3 +82,8 @@ update-comes Q heap at r new same written e =
     by_tests true true e = is (rewritten heap at r) written e
     by_tests true false e = cc
     by_tests false fitting e = is r same e
+
+-- where the first test of a list of refusals passed, and none of them refuses, it did not hold
+pub own-first : (t : Bool) (code : OsErr) (rest : Option OsErr) → cond t (Some code) rest ≡ None → t ≡ false
+own-first true code rest e = cc
+own-first false code rest e = refl

@@ -16,6 +16,7 @@ pub mod Preloads
 pub mod OpeningGone
 pub mod Stopping
 pub mod Storing
+mod StoringChanged
 pub mod GoneElsewhere
 pub mod Following
 pub mod Keeping

@@ -107,6 +107,20 @@ inside_map view xs at x is e =
     (slice_get_within f.0.file.here.map.references at.reference f.0.reference.here
     (stands_get at.reference f.0.file.here.map.references f.0.reference seen.reference))
 
+-- what holds of the reference at a place holds of it in the map of its file
+pub inside_some : {X : Type 0} (P : Reference → Type 0) (view : X → OpenFile) (xs : List X) (at : Spot) (x : X)
+    → x ≡ get_or xs at.file x → is_some (found_at at (map view xs)) ≡ true
+    → IfSome (found_at at (map view xs)) (λ (f : Found). P f.reference.here)
+    → IfSome (slice_get (view x).map.references at.reference) P
+inside_some P view xs at x is e holds =
+    let f = some_of (found_at at (map view xs)) e in
+    let seen = place_seen at (map view xs) f.0 f.1 in
+    let here : P f.0.reference.here =
+    subst (λ (o : Option Found). IfSome o (λ (f : Found). P f.reference.here)) f.1 holds in
+    let there = stands_get at.reference f.0.file.here.map.references f.0.reference seen.reference in
+    subst (λ (g : OpenFile). IfSome (slice_get g.map.references at.reference) P) (the_file view xs at x f.0 f.1 is)
+    (subst (λ (o : Option Reference). IfSome o P) (sym there) here)
+
 pub entry_here : {X : Type 0} (view : X → OpenFile) (xs : List X) (at : Spot) (x : X) (r : Reference)
     → x ≡ get_or xs at.file x → is_some (found_at at (map view xs)) ≡ true
     → slice_get (view x).map.references at.reference ≡ Some r

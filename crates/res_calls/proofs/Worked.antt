@@ -1,4 +1,5 @@
 mod Lines
 mod SearchRows
 mod LoadRows
-mod ChangeRows
+pub mod ChangeRows
+mod PartRows

@@ -1,11 +1,12 @@
 use Rattle.std.specs.Prelude.{ℕ, ℤ, Bool, Option, None, List, []}
 use Rattle.mac_words.specs.Told as tells
-use Rattle.mac_words.specs.Told.{Told, Done, Kind, Number, Code, Refused}
+use Rattle.mac_words.specs.Told.{Told, Bytes, Done, Kind, Number, Code, Refused}
 use Rattle.heap_calls.specs.Asked.{told_as}
 use Rattle.res_calls.specs.Fetch.{Managers, Reads, Answer, Fetched}
 use Rattle.res_calls.specs.Rows as rows
 use Rattle.res_calls.specs.Rows.{noting}
 use Rattle.res_calls.specs.Changing as changing
+use Rattle.res_calls.specs.Partial as partial
 
 -- A call of the table of the Resource Manager, with the number that each name of the call is bound to, or None for an
 -- unbound name.
@@ -37,6 +38,9 @@ pub data ResourceAsked : Type 0 where
   GetResAttrs : (handle : Option ℕ) → ResourceAsked
   SetResAttrs : (handle : Option ℕ) (attrs : ℕ) → ResourceAsked
   GetResourceSizeOnDisk : (handle : Option ℕ) → ResourceAsked
+  ReadPartialResource : (handle : Option ℕ) (offset count : ℕ) → ResourceAsked
+  WritePartialResource : (handle : Option ℕ) (offset : ℕ) (bytes : List ℕ) → ResourceAsked
+  SetResourceSize : (handle : Option ℕ) (size : ℕ) → ResourceAsked
   SetResPurge : (on : Bool) → ResourceAsked
   SetResLoad : (on : Bool) → ResourceAsked
   ResError : ResourceAsked
@@ -89,6 +93,11 @@ served (SetResInfo handle id name) s = telling (λ _. Done) (noting (changing.se
 served (GetResAttrs handle) s = telling Number (noting (rows.get_res_attrs handle) s)
 served (SetResAttrs handle attrs) s = telling (λ _. Done) (noting (changing.set_res_attrs handle attrs) s)
 served (GetResourceSizeOnDisk handle) s = telling Number (noting (rows.get_resource_size_on_disk handle) s)
+served (ReadPartialResource handle offset count) s =
+    telling Bytes (noting (partial.read_partial_resource handle offset count) s)
+served (WritePartialResource handle offset bytes) s =
+    telling (λ _. Done) (noting (partial.write_partial_resource handle offset bytes) s)
+served (SetResourceSize handle size) s = telling (λ _. Done) (noting (partial.set_resource_size handle size) s)
 served (SetResPurge on) s = telling (λ _. Done) (noting (rows.set_res_purge on) s)
 served (SetResLoad on) s = telling (λ _. Done) (noting (rows.set_res_load on) s)
 served ResError s = record { told = Code s.resources.error; reads = []; reading = None; after = s }
@@ -108,4 +117,7 @@ named (SetResInfo handle id name) = handle
 named (GetResAttrs handle) = handle
 named (SetResAttrs handle attrs) = handle
 named (GetResourceSizeOnDisk handle) = handle
+named (ReadPartialResource handle offset count) = handle
+named (WritePartialResource handle offset bytes) = handle
+named (SetResourceSize handle size) = handle
 named asked = None

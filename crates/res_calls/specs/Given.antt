@@ -1,4 +1,4 @@
-use Rattle.std.specs.Prelude.{◌≡◌, ℕ, Bool, Option, Result, Ok, Err, List, [], ◌∷◌, if◌then◌else◌}
+use Rattle.std.specs.Prelude.{◌≡◌, ℕ, Bool, Option, Result, Ok, Err, IsOk, List, [], ◌∷◌, if◌then◌else◌}
 use Rattle.mac_words.specs.declared.code.OsErr.{OsErr}
 use Rattle.heap_calls.specs.State.{Memory}
 use Rattle.heap_calls.specs.Inner.Given.{last_after}
@@ -23,6 +23,12 @@ abbrev pub IsAnswered : {T V : Type 0} → (V → T) → Answer T → Result V R
 IsAnswered seen answer (Ok value) after = (answer.reply ≡ Ok (seen value)) × (answer.after ≡ after)
 IsAnswered seen answer (Err (Code code)) after = (answer.reply ≡ Err code) × (answer.after ≡ after)
 IsAnswered seen answer (Err HostMemory) after = Unit {0}
+
+-- The same correspondence for a call whose value is left out.
+abbrev pub IsAnsweredUnseen : {T : Type 0} → Answer T → Result (Unit {0}) Refusal → Managers → Type 0
+IsAnsweredUnseen answer (Ok u) after = IsOk answer.reply × (answer.after ≡ after)
+IsAnsweredUnseen answer (Err (Code code)) after = (answer.reply ≡ Err code) × (answer.after ≡ after)
+IsAnsweredUnseen answer (Err HostMemory) after = Unit {0}
 
 -- The returned value is the reply. Nothing is promised where the host is out of memory.
 abbrev pub IsReply : {T : Type 0} → Result T OsErr → Result T Refusal → Type 0

@@ -4,7 +4,9 @@ pub mod Update
 pub mod Updating
 pub mod Rows
 pub mod Changing
+pub mod Partial
 pub mod Purging
+pub mod Storing
 pub mod Sound
 pub mod Asked
 pub mod View
@@ -21,3 +23,4 @@ pub mod Stopped
 pub mod Leaving
 pub mod Undoing
 pub mod Fetching
+pub mod Refused

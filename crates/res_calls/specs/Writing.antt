@@ -1,6 +1,7 @@
 use Rattle.std.specs.Prelude.{Bool, true, false}
 use Rattle.res_calls.specs.Asked.{ResourceAsked, OpenResFile, CreateResFile, CloseResFile, UpdateResFile, AddResource}
 use Rattle.res_calls.specs.Asked.{RemoveResource, ChangedResource, WriteResource, SetResInfo, SetResAttrs}
+use Rattle.res_calls.specs.Asked.{WritePartialResource, SetResourceSize}
 
 -- Holds of a call that may write a fork: CreateResFile, and the two calls that update a file.
 -- See decision 59 (two calls write the bytes of a fork).
@@ -21,4 +22,6 @@ alters (ChangedResource handle) = true
 alters (WriteResource handle) = true
 alters (SetResInfo handle id name) = true
 alters (SetResAttrs handle attrs) = true
+alters (WritePartialResource handle offset bytes) = true
+alters (SetResourceSize handle size) = true
 alters asked = false

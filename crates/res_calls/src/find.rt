@@ -2,17 +2,20 @@
 //!
 //! *More Macintosh Toolbox*, chapter 1, "The Resource File Search Path".
 
-ghost use Rattle.std.specs.Prelude.{◌≡◌, ◌<◌, map, length, option_map, is_some, true, Some, IfSome, if◌then◌else◌};
+ghost use Rattle.std.specs.Prelude.{◌≡◌, ◌<◌, ◌≤◌, map, length, option_map, is_some, true, Some, IfSome, if◌then◌else◌};
 ghost use Rattle.std.specs.Prelude.{None, OnOk, OnErr, slice_get, slice_set, remove};
 ghost use Rattle.mac_words.specs.Attributes.{has_bit};
 ghost use Rattle.res_map.specs.Split.{split, place, replaced, removed};
-ghost use Rattle.res_map.specs.Map.{with_handle, with_attrs, stored_anew, renamed};
+ghost use Rattle.res_map.specs.Map.{with_handle, with_attrs, with_datum, stored_anew, renamed};
+ghost use Rattle.windows.specs.Writes.{written};
+ghost use Rattle.res_map.specs.Map.{resized_datum};
 ghost use Rattle.res_map.specs.View.{view_lent};
 ghost use Rattle.res_calls.specs.Files.{Found, find, with_reference};
 ghost use Rattle.res_calls.specs.Rows.{resource_of};
 ghost use Rattle.res_calls.specs.Places.{found_at, found_from, spot_of, is_searched, is_wanted};
 ghost use Rattle.res_calls.specs.View.{view_open};
 ghost use Rattle.res_calls.specs.Changing.{touched_files};
+ghost use Rattle.res_calls.specs.Partial.{restored_files};
 
 use crate::chain::is_open_at;
 use crate::files::{OWN_PLACE, OpenFile, Resources};
@@ -202,6 +205,77 @@ pub(crate) fn mark(files: &mut Vec<OpenFile>, at: Spot, attrs: Attrs)
         (found_at at (map view_open files.old.items)) ≡ Some (map view_open files.new.items) }
 {
     mark_in(&mut files[at.file], at.reference, attrs);
+}
+
+/// Writes bytes over the stored data of a reference of an open file from the offset `from` on, and marks the file as
+/// touched. Where the host is out of memory, the file stays as it was.
+fn write_in(
+    file: &mut OpenFile,
+    index: usize,
+    from: usize,
+    bytes: &[u8],
+) -> Result<(), AllocError>
+    requires inside { index < length file.old.map.references }
+    requires offset { IfSome (slice_get file.old.map.references index) (λ r. from ≤ length r.stored.datum) }
+    ensures map { OnOk result (IfSome (slice_get file.old.map.references index)
+        (λ r. file.new.map ≡ record file.old.map {
+      references = slice_set file.old.map.references index (with_datum (written from bytes.now r.stored.datum) r);
+    })) }
+    ensures touched { OnOk result (file.new ≡ record file.old { map = file.new.map; touched = true }) }
+    ensures kept { OnErr result (file.new ≡ file.old) }
+{
+    file.map.write_datum(index, from, bytes)?;
+    file.touched = true;
+    Ok(())
+}
+
+/// Writes bytes over the stored data of the reference at `at` from the offset `from` on, and marks the reference's file
+/// as touched. Where the host is out of memory, the files stay as they were.
+#[tactic(auto, using(crate::proofs::Standing::inside_files, crate::proofs::Standing::inside_map))]
+pub(crate) fn write(
+    files: &mut Vec<OpenFile>,
+    at: Spot,
+    from: usize,
+    bytes: &[u8],
+) -> Result<(), AllocError>
+    requires there { is_some (found_at at (map view_open files.old.items)) ≡ true }
+    requires offset { IfSome (found_at at (map view_open files.old.items))
+        (λ f. from ≤ length f.reference.here.stored.datum) }
+    ensures restored { OnOk result (option_map (λ (f : Found). restored_files (written from bytes.now) f)
+        (found_at at (map view_open files.old.items)) ≡ Some (map view_open files.new.items)) }
+    ensures kept { OnErr result (map view_open files.new.items ≡ map view_open files.old.items) }
+{
+    write_in(&mut files[at.file], at.reference, from, bytes)?;
+    Ok(())
+}
+
+/// Gives the stored data of a reference of an open file another size, and marks the file as touched. Where the host is
+/// out of memory, the file stays as it was.
+fn resize_in(file: &mut OpenFile, index: usize, size: usize) -> Result<(), AllocError>
+    requires { index < length file.old.map.references }
+    ensures map { OnOk result (IfSome (slice_get file.old.map.references index)
+        (λ r. file.new.map ≡ record file.old.map {
+      references = slice_set file.old.map.references index (with_datum (resized_datum size r.stored.datum) r);
+    })) }
+    ensures touched { OnOk result (file.new ≡ record file.old { map = file.new.map; touched = true }) }
+    ensures kept { OnErr result (file.new ≡ file.old) }
+{
+    file.map.resize_datum(index, size)?;
+    file.touched = true;
+    Ok(())
+}
+
+/// Gives the stored data of the reference at `at` another size, and marks the reference's file as touched. Where the
+/// host is out of memory, the files stay as they were.
+#[tactic(auto, using(crate::proofs::Standing::inside_files, crate::proofs::Standing::inside_map))]
+pub(crate) fn resize(files: &mut Vec<OpenFile>, at: Spot, size: usize) -> Result<(), AllocError>
+    requires { is_some (found_at at (map view_open files.old.items)) ≡ true }
+    ensures restored { OnOk result (option_map (λ (f : Found). restored_files (resized_datum size) f)
+        (found_at at (map view_open files.old.items)) ≡ Some (map view_open files.new.items)) }
+    ensures kept { OnErr result (map view_open files.new.items ≡ map view_open files.old.items) }
+{
+    resize_in(&mut files[at.file], at.reference, size)?;
+    Ok(())
 }
 
 /// Removes a reference from an open file, and marks the file as touched.

@@ -58,7 +58,7 @@ fn info_of(entry: &LentReference<'_>) -> Info
 
 impl Resources {
     /// Returns the reference of the resource whose handle is `handle`.
-    fn entry(&self, handle: Option<usize>) -> Option<LentReference<'_>>
+    pub(crate) fn entry(&self, handle: Option<usize>) -> Option<LentReference<'_>>
         ensures { option_map view_lent result ≡ option_map (λ (f : Found). f.reference.here)
             (rows.resource_of handle self.now) }
     {

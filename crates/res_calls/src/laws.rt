@@ -10,6 +10,7 @@ ghost use Rattle.fork_format.specs.Canonical.{clear, fits};
 ghost use Rattle.fork_format.specs.Content.{Content, IsContent};
 ghost use Rattle.heap_calls.specs.Asked.{Asked};
 ghost use Rattle.heap_calls.specs.Busy as heap;
+ghost use Rattle.heap_calls.specs.Gone.{Gone};
 ghost use Rattle.heap_calls.specs.Owned.{resource_role_at};
 ghost use Rattle.heap_calls.specs.State.{State, Memory};
 ghost use Rattle.res_map.specs.Split.{Split};
@@ -24,7 +25,9 @@ ghost use Rattle.res_calls.specs.Forks.{Written, HasFork, StoresHandle};
 ghost use Rattle.res_calls.specs.Leaving.{leave};
 ghost use Rattle.res_calls.specs.Own.{fetch_own};
 ghost use Rattle.res_calls.specs.Owning.{Owns};
-ghost use Rattle.res_calls.specs.Rows.{launched_resources, preloaded, map_in, keep_error};
+ghost use Rattle.res_calls.specs.Purging.{heard, stored_gone};
+ghost use Rattle.res_calls.specs.Rows.{launched_resources, preloaded, map_in, keep_error, with_resources};
+ghost use Rattle.res_calls.specs.Storing.{OnlyStoresChanged};
 ghost use Rattle.res_calls.specs.Sound.{Sound};
 ghost use Rattle.res_calls.specs.Update.{bytes_held, updated_reference, updated_map, fork_of, rewritten, update};
 ghost use Rattle.res_calls.specs.Writing.{writes, alters};
@@ -41,7 +44,8 @@ pub fn the_first_reference_is_found()
 /// States that each resource has its own handle: no two references have one handle, and a handle is a resource's
 /// exactly where a reference has the handle, in the role that the reference's file determines (`Owns`). The law holds
 /// at the launch of an application over a heap that has no resource's handle, before the resources are preloaded and
-/// after; each try of a call of either manager keeps the law, and so does a fetch from the application's own fork.
+/// after; each try of a call of either manager keeps the law, and so does a fetch from the application's own fork, and
+/// the storing of what was purged.
 pub fn each_resource_has_its_own_handle()
     ensures launched { (files : List File) (system : Content) (r : Resources) (m : Memory)
         → launched_resources files system ≡ Ok r → ((h : ℕ) → resource_role_at h m.heap ≡ None)
@@ -50,6 +54,8 @@ pub fn each_resource_has_its_own_handle()
         → Owns (record s { memory = (heap.served asked s.memory).1 }) }
     ensures resources { (asked : ResourceAsked) (s : Managers) → Owns s → Owns (served asked s).after }
     ensures own { (kind : ℕ) (id : ℤ) (s : Managers) → Owns s → Owns (fetch_own kind id s).after }
+    ensures stored { (gone : List Gone) (s : Managers) → Owns s
+        → Owns (with_resources (stored_gone gone s.resources) s) }
 {}
 
 /// States that a search begins in the current file and goes on in the files opened before the current file, in their
@@ -61,7 +67,7 @@ pub fn a_search_goes_back_in_time()
 
 /// States that what holds of the open files at all times (`Sound`) holds at the launch of an application, before the
 /// resources are preloaded and after, and that each try of a call keeps it, as do a fetch from the application's own
-/// fork and the quit of the application.
+/// fork, the quit of the application, and the storing of what was purged.
 pub fn the_open_files_stay_sound()
     ensures launched { (files : List File) (system : Content) (r : Resources)
         → launched_resources files system ≡ Ok r → Sound r }
@@ -71,6 +77,7 @@ pub fn the_open_files_stay_sound()
     ensures own { (kind : ℕ) (id : ℤ) (s : Managers) → Sound s.resources
         → Sound (fetch_own kind id s).after.resources }
     ensures left { (s : Managers) → Sound s.resources → Sound (leave s).after.resources }
+    ensures stored { (gone : List Gone) (r : Resources) → Sound r → Sound (stored_gone gone r) }
 {}
 
 /// States what a call does to the files: only `CreateResFile` makes a file, or gives a file without bytes an empty
@@ -99,6 +106,14 @@ pub fn a_fetch_stores_nothing()
         → OpensAtMost name s.resources (served (OpenResFile name) s).after.resources }
 {}
 
+/// States that a purge changes no fork, and stored data only of a changed resource that is not protected, while
+/// SetResPurge is on: storing purged blocks gives each reference that it changes the bytes of its own handle's block, as
+/// WriteResource would, and leaves all else as it was. Nothing is stored while SetResPurge is off.
+pub fn a_purge_stores_only_what_was_changed()
+    ensures on { (gone : List Gone) (r : Resources) → OnlyStoresChanged gone r (stored_gone gone r) }
+    ensures off { (gone : List Gone) (r : Resources) → stored_gone (heard false gone) r ≡ r }
+{}
+
 /// States that of the calls only those purge that fetch, and the one that opens a file: after any other call each handle
 /// that had a block has one, unless the call disposed of the handle. What is stored of purged blocks is stored behind
 /// the call, and only while SetResPurge is on.
@@ -108,9 +123,9 @@ pub fn only_a_fetch_or_an_opening_purges()
         → has (is_relocatable h) (served asked s).after.memory.heap.zone ≡ true }
 {}
 
-/// States that nine calls alone change which resources there are, or the type, the ID, the name, the attributes or the
+/// States that eleven calls alone change which resources there are, or the type, the ID, the name, the attributes or the
 /// stored data of one: those that open, close or update a file, `AddResource`, `RemoveResource`, `ChangedResource`,
-/// `WriteResource`, `SetResInfo` and `SetResAttrs`.
+/// `WriteResource`, `SetResInfo`, `SetResAttrs`, `WritePartialResource` and `SetResourceSize`.
 pub fn few_calls_alter_resources()
     ensures { (asked : ResourceAsked) (s : Managers) → alters asked ≡ false
         → map without_handles (served asked s).after.resources.chain ≡ map without_handles s.resources.chain }

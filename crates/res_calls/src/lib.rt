@@ -18,6 +18,7 @@ mod laws;
 mod leaving;
 mod opening;
 mod own;
+mod partial;
 mod preloading;
 mod purging;
 mod releasing;
@@ -29,7 +30,7 @@ pub use fetched::{Fetched, Unread};
 pub use files::{File, OpenFile, Resources};
 pub use info::Info;
 pub use laws::{
-    a_fetch_stores_nothing, a_search_goes_back_in_time,
+    a_fetch_stores_nothing, a_purge_stores_only_what_was_changed, a_search_goes_back_in_time,
     an_application_that_leaves_closes_its_files, an_update_stores_what_was_changed,
     an_updated_fork_is_read_again, each_resource_has_its_own_handle, few_calls_alter_resources,
     only_a_fetch_or_an_opening_purges, only_an_update_or_a_creation_writes_a_fork,

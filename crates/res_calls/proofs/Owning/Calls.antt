@@ -111,7 +111,7 @@ searched-owns within test s owns =
     (λ at e. (find-finds within test s.resources.chain at e).0)
 
 -- the resource of a handle
-has-some : (k : ℕ) (o : Option ℕ) → is_handle k o ≡ true → o ≡ Some k
+pub has-some : (k : ℕ) (o : Option ℕ) → is_handle k o ≡ true → o ≡ Some k
 has-some k None e = cc
 has-some k (Some g) e = ap Some ((Decides-eqb g k).0 e)
 
@@ -328,6 +328,36 @@ attrs-owns handle attrs s owns =
     (λ at e. changed-owns s at (with_attrs (set attrs at.reference.here.stored.attrs) at.reference.here)
     at.file.here.touched (resource-holds handle s at e).0 refl owns)
 
+unless-owns : (o : Option OsErr) (change : List ℕ → List ℕ) (handle : Option ℕ) (s : Managers) (at : Found)
+    → resource_of handle s.resources ≡ Some at → OneOwner s → OneOwner (restored_unless o handle change at s).after
+unless-owns (Some code) change handle s at e owns = owns
+unless-owns None change handle s at e owns =
+    let after : Managers = with_resources (restored change at s.resources) s in
+    let kept : OneOwner after = changed-owns s at (with_datum (change at.reference.here.stored.datum) at.reference.here) true
+    (resource-holds handle s at e).0 refl owns in
+    either-keeps {T = Unit {0}} OneOwner (is_in_memory handle s.memory.heap) (refused IN_MEMORY after) (done tt after)
+    (λ held. kept) (λ empty. kept)
+
+write_part-owns : (handle : Option ℕ) (from : ℕ) (x : List ℕ) (s : Managers) → OneOwner s
+    → OneOwner (partial.write_partial_resource handle from x s).after
+write_part-owns handle from x s owns =
+    found-keeps OneOwner (resource_of handle s.resources) s _ owns
+    (λ at e. unless-owns (write_refusal from (length x) at) (written from x) handle s at e owns)
+
+set_size-owns : (handle : Option ℕ) (n : ℕ) (s : Managers) → OneOwner s
+    → OneOwner (partial.set_resource_size handle n s).after
+set_size-owns handle n s owns =
+    found-keeps OneOwner (resource_of handle s.resources) s _ owns
+    (λ at e. unless-owns (size_refusal n at) (resized_datum n) handle s at e owns)
+
+read_part-owns : (handle : Option ℕ) (from n : ℕ) (s : Managers) → OneOwner s
+    → OneOwner (partial.read_partial_resource handle from n s).after
+read_part-owns handle from n s owns =
+    found-keeps OneOwner (resource_of handle s.resources) s (read_part_found handle from n s) owns
+    (λ at e. either-keeps OneOwner (nat_lt (length at.reference.here.stored.datum) (from + n)) (refused OFFSET s) _
+    (λ past. owns) (λ inside. either-keeps OneOwner (is_in_memory handle s.memory.heap) (refused IN_MEMORY s)
+    (done (piece from n at.reference.here.stored.datum) s) (λ held. owns) (λ empty. owns)))
+
 told-owns : (kind : Option ℕ) (s : Managers) → OneOwner s → OneOwner (told_type kind s).after
 told-owns None s owns = owns
 told-owns (Some kind) s owns = owns
@@ -398,6 +428,12 @@ one-owner-served (asks.SetResAttrs handle attrs) s owns =
 one-owner-served (asks.GetResourceSizeOnDisk handle) s owns =
     noted (rows.get_resource_size_on_disk handle) s
     (found-keeps OneOwner (resource_of handle s.resources) s _ owns (λ at e. owns))
+one-owner-served (asks.ReadPartialResource handle from n) s owns =
+    noted (partial.read_partial_resource handle from n) s (read_part-owns handle from n s owns)
+one-owner-served (asks.WritePartialResource handle from x) s owns =
+    noted (partial.write_partial_resource handle from x) s (write_part-owns handle from x s owns)
+one-owner-served (asks.SetResourceSize handle n) s owns =
+    noted (partial.set_resource_size handle n) s (set_size-owns handle n s owns)
 one-owner-served (asks.SetResPurge on) s owns =
     noted (rows.set_res_purge on) s (record { one = owns.one; numbered = owns.numbered })
 one-owner-served (asks.SetResLoad on) s owns =

@@ -1,5 +1,8 @@
-use Rattle.std.proofs.Common.{◌≡◌, ℕ, List, map, refl, ap, Option, Some, None, ◌==◌, nat_le, length}
-use Rattle.mac_words.specs.declared.code.TheConstants.OsErr.{LOCKED, RES_ATTR, DISK_FULL, DUPLICATE_FILE}
+use Rattle.std.proofs.Common.{◌≡◌, ℕ, List, map, refl, ap, Option, Some, None, ◌==◌, nat_le, length, nat_lt, ◌+◌}
+use Rattle.mac_words.specs.declared.code.TheConstants.OsErr.{LOCKED, RES_ATTR, DISK_FULL, DUPLICATE_FILE, IN_MEMORY}
+use Rattle.mac_words.specs.declared.code.TheConstants.OsErr.{OFFSET}
+use Rattle.windows.specs.Writes.{piece}
+use Rattle.res_calls.specs.Partial.{is_in_memory, read_part_found, read_partial_resource}
 use Rattle.res_map.specs.Split.{Split}
 use Rattle.res_map.specs.Map.{is_changed}
 use Rattle.res_calls.specs.Files.{File, Found, file_of, file_named}
@@ -25,6 +28,15 @@ pub asked-records : {T : Type 0} (handle : Option ℕ) (s : Managers) (answer : 
 asked-records handle s answer same =
     found-keeps (Records s) (resource_of handle s.resources) s answer refl
     (λ at e. ap (λ (m : Managers). map without_handles m.resources.chain) (same at))
+
+-- ReadPartialResource
+pub read_part-records : (handle : Option ℕ) (from n : ℕ) (s : Managers)
+    → Records s (read_partial_resource handle from n s).after
+read_part-records handle from n s =
+    found-keeps (Records s) (resource_of handle s.resources) s (read_part_found handle from n s) refl
+    (λ at e. either-keeps (Records s) (nat_lt (length at.reference.here.stored.datum) (from + n)) (refused OFFSET s) _
+    (λ past. refl) (λ inside. either-keeps (Records s) (is_in_memory handle s.memory.heap) (refused IN_MEMORY s)
+    (done (piece from n at.reference.here.stored.datum) s) (λ held. refl) (λ empty. refl)))
 
 pub type-records : (kind : Option ℕ) (s : Managers) → Records s (told_type kind s).after
 type-records None s = refl

@@ -13,6 +13,7 @@ use Rattle.res_calls.proofs.Owning.Calls.{resource-holds}
 use Rattle.res_calls.proofs.Owning.Places.{find-finds, nth-stands}
 use Rattle.res_calls.proofs.Recorded.Given.{fetched-given, noted-given}
 use Rattle.res_calls.proofs.Recorded.Calls.{Records, asked-records, type-records, use_file-records, release-records}
+use Rattle.res_calls.proofs.Recorded.Calls.{read_part-records}
 use Rattle.res_calls.proofs.Recorded.Calls.{detach-records, create-records}
 
 -- What each call changes of what is recorded of resources.
@@ -60,6 +61,9 @@ served-given (asks.SetResInfo handle id name) s is = cc
 served-given (asks.GetResAttrs handle) s is = cc
 served-given (asks.SetResAttrs handle attrs) s is = cc
 served-given (asks.GetResourceSizeOnDisk handle) s is = cc
+served-given (asks.ReadPartialResource handle from n) s is = cc
+served-given (asks.WritePartialResource handle from x) s is = cc
+served-given (asks.SetResourceSize handle n) s is = cc
 served-given (asks.SetResPurge on) s is = cc
 served-given (asks.SetResLoad on) s is = cc
 served-given asks.ResError s is = cc
@@ -93,6 +97,7 @@ served-records (asks.DetachResource handle) s is = detach-records handle s
 served-records (asks.GetResInfo handle) s is = asked-records handle s _ (λ at. refl)
 served-records (asks.GetResAttrs handle) s is = asked-records handle s _ (λ at. refl)
 served-records (asks.GetResourceSizeOnDisk handle) s is = asked-records handle s _ (λ at. refl)
+served-records (asks.ReadPartialResource handle from n) s is = read_part-records handle from n s
 served-records (asks.SetResPurge on) s is = refl
 served-records (asks.SetResLoad on) s is = refl
 served-records asks.ResError s is = refl
@@ -105,3 +110,5 @@ served-records (asks.ChangedResource handle) s is = cc
 served-records (asks.WriteResource handle) s is = cc
 served-records (asks.SetResInfo handle id name) s is = cc
 served-records (asks.SetResAttrs handle attrs) s is = cc
+served-records (asks.WritePartialResource handle from x) s is = cc
+served-records (asks.SetResourceSize handle n) s is = cc

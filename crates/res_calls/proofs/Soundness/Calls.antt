@@ -363,6 +363,59 @@ set_res_attrs_sound handle attrs s sound =
     found-keeps Sound_in (resource_of handle s.resources) s (set_found attrs s) sound
     (λ at e. set_found_sound attrs handle s at e sound)
 
+-- its stored data is changed in part
+restored_sound : (change : List ℕ → List ℕ) (handle : Option ℕ) (s : Managers) (at : Found)
+    → resource_of handle s.resources ≡ Some at → is_system at.file.here ≡ false → Sound s.resources
+    → Sound (restored change at s.resources)
+restored_sound change handle s at e own sound =
+    let stands = (resource-holds handle s at e).0 in
+    let new : Reference = with_datum (change at.reference.here.stored.datum) at.reference.here in
+    sound-touched s.resources at.file (replaced new at.reference) stands.file own sound
+    (all-replaced keeps_handle at.file.here.map.references at.reference new stands.reference
+    (λ _. bound-keeps handle s at new e refl))
+
+unless_sound : (o : Option OsErr) (change : List ℕ → List ℕ) (handle : Option ℕ) (s : Managers) (at : Found)
+    → resource_of handle s.resources ≡ Some at → (o ≡ None → is_system at.file.here ≡ false) → Sound s.resources
+    → Sound (restored_unless o handle change at s).after.resources
+unless_sound (Some code) change handle s at e own sound = sound
+unless_sound None change handle s at e own sound =
+    let after : Managers = with_resources (restored change at s.resources) s in
+    either-keeps {T = Unit {0}} Sound_in (is_in_memory handle s.memory.heap) (refused IN_MEMORY after) (done tt after)
+    (λ held. restored_sound change handle s at e (own refl) sound)
+    (λ empty. restored_sound change handle s at e (own refl) sound)
+
+pub write_part_found_sound : (from : ℕ) (x : List ℕ) (handle : Option ℕ) (s : Managers) (at : Found)
+    → resource_of handle s.resources ≡ Some at → Sound s.resources
+    → Sound (write_part_found handle from x s at).after.resources
+write_part_found_sound from x handle s at e sound = unless_sound (write_refusal from (length x) at) (written from x)
+    handle s at e (own-first (is_system at.file.here) WRITE_PERMISSION _) sound
+
+pub write_partial_resource_sound : (handle : Option ℕ) (from : ℕ) (x : List ℕ) (s : Managers) → Sound s.resources
+    → Sound (partial.write_partial_resource handle from x s).after.resources
+write_partial_resource_sound handle from x s sound =
+    found-keeps Sound_in (resource_of handle s.resources) s (write_part_found handle from x s) sound
+    (λ at e. write_part_found_sound from x handle s at e sound)
+
+pub set_size_found_sound : (n : ℕ) (handle : Option ℕ) (s : Managers) (at : Found)
+    → resource_of handle s.resources ≡ Some at → Sound s.resources
+    → Sound (set_size_found handle n s at).after.resources
+set_size_found_sound n handle s at e sound = unless_sound (size_refusal n at) (resized_datum n)
+    handle s at e (own-first (is_system at.file.here) WRITE_PERMISSION _) sound
+
+pub set_resource_size_sound : (handle : Option ℕ) (n : ℕ) (s : Managers) → Sound s.resources
+    → Sound (partial.set_resource_size handle n s).after.resources
+set_resource_size_sound handle n s sound =
+    found-keeps Sound_in (resource_of handle s.resources) s (set_size_found handle n s) sound
+    (λ at e. set_size_found_sound n handle s at e sound)
+
+pub read_partial_resource_sound : (handle : Option ℕ) (from n : ℕ) (s : Managers) → Sound s.resources
+    → Sound (partial.read_partial_resource handle from n s).after.resources
+read_partial_resource_sound handle from n s sound =
+    found-keeps Sound_in (resource_of handle s.resources) s (read_part_found handle from n s) sound
+    (λ at e. either-keeps Sound_in (nat_lt (length at.reference.here.stored.datum) (from + n)) (refused OFFSET s) _
+    (λ past. sound) (λ inside. either-keeps Sound_in (is_in_memory handle s.memory.heap) (refused IN_MEMORY s)
+    (done (piece from n at.reference.here.stored.datum) s) (λ held. sound) (λ empty. sound)))
+
 -- whether loading is on, and the code that ResError tells, are no matter
 pub loading_sound : (on : Bool) (r : Resources) → Sound r → Sound (record r { loading = on })
 loading_sound on r sound = record {

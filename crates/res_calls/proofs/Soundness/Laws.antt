@@ -16,6 +16,7 @@ use Rattle.res_calls.specs.Rows as rows
 use Rattle.res_calls.specs.Rows.{map_in, own_opened, launched_resources, preloaded, preloaded_in, loaded, told_type}
 use Rattle.res_calls.specs.Rows.{noting, resource_of}
 use Rattle.res_calls.specs.Changing as changing
+use Rattle.res_calls.specs.Partial as partial
 use Rattle.res_calls.specs.Asked.{ResourceAsked, served}
 use Rattle.res_calls.specs.Asked as asks
 use Rattle.res_calls.specs.Sound.{Sound, keeps_handle}
@@ -97,6 +98,13 @@ sound-served (asks.SetResAttrs handle attrs) s sound =
     noted_sound (changing.set_res_attrs handle attrs) s (calls.set_res_attrs_sound handle attrs s sound)
 sound-served (asks.GetResourceSizeOnDisk handle) s sound =
     noted_sound (rows.get_resource_size_on_disk handle) s (asked-sound handle s _ sound (λ at. refl))
+sound-served (asks.ReadPartialResource handle from n) s sound =
+    noted_sound (partial.read_partial_resource handle from n) s (calls.read_partial_resource_sound handle from n s sound)
+sound-served (asks.WritePartialResource handle from x) s sound =
+    noted_sound (partial.write_partial_resource handle from x) s
+    (calls.write_partial_resource_sound handle from x s sound)
+sound-served (asks.SetResourceSize handle n) s sound =
+    noted_sound (partial.set_resource_size handle n) s (calls.set_resource_size_sound handle n s sound)
 sound-served (asks.SetResPurge on) s sound =
     noted_sound (rows.set_res_purge on) s (purging_sound on s.resources sound)
 sound-served (asks.SetResLoad on) s sound =

@@ -24,6 +24,7 @@ use Rattle.heap_calls.proofs.Steps.Place.{steps-busy, steps-code, steps-window}
 use Rattle.res_calls.specs.Fetch.{Managers}
 use Rattle.res_calls.specs.Asked.{ResourceAsked, served}
 use Rattle.res_calls.specs.Disposing.{disposes_of, opens_file}
+use Rattle.res_calls.specs.Refused.{left_refused}
 use Rattle.res_calls.specs.Writing.{writes}
 use Rattle.res_calls.proofs.Walks.Steps.{steps_of}
 use Rattle.res_calls.proofs.Walks.Going.{Refuses}
@@ -129,12 +130,17 @@ left-walk steps m code (inr (step, is, refused)) =
 pub served-refused : (a : ResourceAsked) (s : Managers) (code : OsErr) → (served a s).told ≡ Refused code
     → (((served a s).after.memory.heap ≡ s.memory.heap)
     ⊎ ((served a s).after.memory.heap ≡ record s.memory.heap { zone = slotted_zone nothing s.memory.heap }))
-    × ((served a s).after.resources ≡ record s.resources { error = code })
+    × ((served a s).after.resources ≡ record (left_refused a code s) { error = code })
 served-refused a s code tells = (
   of-walk (λ m. LeftOrSlotted s.memory.heap m.heap) a s
       (left-walk (steps_of a s) s.memory code (one-step a s code tells)),
   ((served-serves a s).refuses code tells).1,
 )
+
+-- and it leaves the files
+pub refused-files : (a : ResourceAsked) (s : Managers) (code : OsErr) → (served a s).told ≡ Refused code
+    → (served a s).after.resources.files ≡ s.resources.files
+refused-files a s code tells = (served-serves a s).stays code tells
 
 -- and no more stays than before it
 pub no_more-walk : (steps : List Step) (m : Memory) (code : OsErr) → Refuses steps m code

@@ -340,6 +340,30 @@ told_type-place : (window : Site) (kind : Option ℕ) (s : Managers)
 told_type-place window None s = refl
 told_type-place window (Some kind) s = refl
 
+-- one of two answers
+either-place : {T : Type 0} (window : Site) (t : Bool) (one other one' other' : Answer T) → one ≡ answer_moved window one'
+    → other ≡ answer_moved window other' → cond t one other ≡ answer_moved window (cond t one' other')
+either-place window true one other one' other' first second = first
+either-place window false one other one' other' first second = second
+
+-- a part that is read, and one that is written
+read_part-place : (window : Site) (handle : Option ℕ) (from n : ℕ) (at : Found) (s : Managers)
+    → read_part_found handle from n (moved window s) at ≡ answer_moved window (read_part_found handle from n s at)
+read_part-place window handle from n at s =
+    either-place window (nat_lt (length at.reference.here.stored.datum) (from + n)) (refused OFFSET (moved window s)) _
+    (refused OFFSET s) _ refl
+    (either-place window (is_in_memory handle s.memory.heap) (refused IN_MEMORY (moved window s)) _ (refused IN_MEMORY s) _
+    refl refl)
+
+restored-place : (window : Site) (o : Option OsErr) (handle : Option ℕ) (change : List ℕ → List ℕ) (at : Found)
+    (s : Managers)
+    → restored_unless o handle change at (moved window s) ≡ answer_moved window (restored_unless o handle change at s)
+restored-place window (Some code) handle change at s = refl
+restored-place window None handle change at s =
+    either-place window (is_in_memory handle s.memory.heap)
+    (refused IN_MEMORY (with_resources (restored change at s.resources) (moved window s))) _
+    (refused IN_MEMORY (with_resources (restored change at s.resources) s)) _ refl refl
+
 -- what is told
 telling-place : {T : Type 0} (window : Site) (tell : T → Told) (call : Managers → Answer T) (s : Managers)
     → call (moved window s) ≡ answer_moved window (call s)
@@ -393,6 +417,17 @@ served-elsewhere window (asks.GetResAttrs handle) s = telling-place window Numbe
 served-elsewhere window (asks.GetResourceSizeOnDisk handle) s =
     telling-place window Number (rows.get_resource_size_on_disk handle) s
     (found-place window (resource_of handle s.resources) s _ _ (λ at. refl))
+served-elsewhere window (asks.ReadPartialResource handle from n) s =
+    telling-place window Bytes (partial.read_partial_resource handle from n) s
+    (found-place window (resource_of handle s.resources) s _ _ (λ at. read_part-place window handle from n at s))
+served-elsewhere window (asks.WritePartialResource handle from x) s =
+    telling-place window (λ x. Done) (partial.write_partial_resource handle from x) s
+    (found-place window (resource_of handle s.resources) s _ _
+    (λ at. restored-place window (write_refusal from (length x) at) handle (written from x) at s))
+served-elsewhere window (asks.SetResourceSize handle n) s =
+    telling-place window (λ x. Done) (partial.set_resource_size handle n) s
+    (found-place window (resource_of handle s.resources) s _ _
+    (λ at. restored-place window (size_refusal n at) handle (resized_datum n) at s))
 served-elsewhere window (asks.SetResPurge on) s = refl
 served-elsewhere window (asks.SetResLoad on) s = refl
 served-elsewhere window (asks.CreateResFile name) s =

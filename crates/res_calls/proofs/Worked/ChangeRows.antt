@@ -17,7 +17,7 @@ use Rattle.res_calls.proofs.Worked.Lines.{line, heap_line, tells, stored, opened
 -- Resources that are changed.
 
 -- 'TEXT'
-abbrev text : ℕ
+abbrev pub text : ℕ
 text = 0x54455854
 
 -- the map of a fork with 'TEXT' 1 of one byte, 'd', and these attributes
@@ -25,7 +25,7 @@ abbrev one_text : ℕ → Map
 one_text attrs = opened_map (group text (stored (pos 1) None attrs (100 ∷ []) ∷ []) ∷ [])
 
 -- an application with its own file, of no bytes yet, and these maps of its own and of the System's
-abbrev start : Map → Map → Site → Managers
+abbrev pub start : Map → Map → Site → Managers
 start own system window = record {
   memory = fresh_memory 1024 window;
   resources = fresh_resources (record { name = 97 ∷ []; fork = []; written = false } ∷ []) own system;

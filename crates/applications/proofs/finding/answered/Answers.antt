@@ -3,13 +3,14 @@ use Rattle.std.specs.Prelude.{FitsSigned}
 use Rattle.std.specs.Int.{w16}
 use Rattle.std.proofs.lemmas.Int.{to_z-of_z}
 use Rattle.byteorder.specs.Endian.{big_number}
-use Rattle.mac_words.specs.Told.{Done, Number, Kind}
+use Rattle.mac_words.specs.Told.{Bytes, Done, Number, Kind}
 use Rattle.res_calls.specs.Asked.{telling, tell_fetched, tell_info}
 use Rattle.res_calls.specs.Given.{managers}
 use Rattle.res_calls.specs.Rows as rows
 use Rattle.res_calls.specs.Asked as asks
 use Rattle.res_calls.specs.Gone.{gone_for}
 use Rattle.res_calls.specs.Changing as changing
+use Rattle.res_calls.specs.Partial as partial
 use Rattle.mac_words.specs.declared.name.Name.{Name}
 use Rattle.res_calls.specs.Asked.{GetResInfo}
 use Rattle.res_calls.specs.Places.{seen_info}
@@ -261,3 +262,27 @@ returns-in-Get1Resource-clause-purged g c =
     (ap (λ (i : ℤ). gone_for (asks.Get1Resource (big_number 4 c.in-Get1Resource.ty.0) i)
     (managers c.args.resources.now c.args.heap.now)) (to_z-of_z w16 c.in-Get1Resource.id fits))
     c.in-Get1Resource.is
+
+pub returns-in-ReadPartialResource-clause-told : goal.returns-in-ReadPartialResource-clause-told
+returns-in-ReadPartialResource-clause-told g c =
+    arm_told Bytes false c.read.result _ _ _ c.args.call.now _ c.args.names.now (managers c.args.resources.now c.args.heap.now) c.read.ensures.tried c.read_partial_resource.ensures.answer (ap (λ (h : Option ℕ). telling Bytes (rows.noting (partial.read_partial_resource h c.in-ReadPartialResource.offset c.in-ReadPartialResource.count) (managers c.args.resources.now c.args.heap.now))) c.number-in-ReadPartialResource.ensures) refl c.in-ReadPartialResource.is
+
+pub returns-in-ReadPartialResource-clause-after : goal.returns-in-ReadPartialResource-clause-after
+returns-in-ReadPartialResource-clause-after g c =
+    arm_after Bytes c.read.result _ _ _ c.args.call.now _ c.args.names.now (managers c.args.resources.now c.args.heap.now) c.read.ensures.after c.read_partial_resource.ensures.answer (ap (λ (h : Option ℕ). telling Bytes (rows.noting (partial.read_partial_resource h c.in-ReadPartialResource.offset c.in-ReadPartialResource.count) (managers c.args.resources.now c.args.heap.now))) c.number-in-ReadPartialResource.ensures) c.in-ReadPartialResource.is
+
+pub returns-in-WritePartialResource-clause-told : goal.returns-in-WritePartialResource-clause-told
+returns-in-WritePartialResource-clause-told g c =
+    arm_told (λ (u : Unit {0}). Done) false c.done_on_resource-in-WritePartialResource.result _ _ _ c.args.call.now _ c.args.names.now (managers c.args.resources.now c.args.heap.now) c.done_on_resource-in-WritePartialResource.ensures.tried c.write_partial_resource.ensures.answer (ap (λ (h : Option ℕ). telling (λ (u : Unit {0}). Done) (rows.noting (partial.write_partial_resource h c.in-WritePartialResource.offset c.in-WritePartialResource.bytes.items) (managers c.args.resources.now c.args.heap.now))) c.number-in-WritePartialResource.ensures) refl c.in-WritePartialResource.is
+
+pub returns-in-WritePartialResource-clause-after : goal.returns-in-WritePartialResource-clause-after
+returns-in-WritePartialResource-clause-after g c =
+    arm_after (λ (u : Unit {0}). Done) c.done_on_resource-in-WritePartialResource.result _ _ _ c.args.call.now _ c.args.names.now (managers c.args.resources.now c.args.heap.now) c.done_on_resource-in-WritePartialResource.ensures.after c.write_partial_resource.ensures.answer (ap (λ (h : Option ℕ). telling (λ (u : Unit {0}). Done) (rows.noting (partial.write_partial_resource h c.in-WritePartialResource.offset c.in-WritePartialResource.bytes.items) (managers c.args.resources.now c.args.heap.now))) c.number-in-WritePartialResource.ensures) c.in-WritePartialResource.is
+
+pub returns-in-SetResourceSize-clause-told : goal.returns-in-SetResourceSize-clause-told
+returns-in-SetResourceSize-clause-told g c =
+    arm_told (λ (u : Unit {0}). Done) false c.done_on_resource-in-SetResourceSize.result _ _ _ c.args.call.now _ c.args.names.now (managers c.args.resources.now c.args.heap.now) c.done_on_resource-in-SetResourceSize.ensures.tried c.set_resource_size.ensures.answer (ap (λ (h : Option ℕ). telling (λ (u : Unit {0}). Done) (rows.noting (partial.set_resource_size h c.in-SetResourceSize.size) (managers c.args.resources.now c.args.heap.now))) c.number-in-SetResourceSize.ensures) refl c.in-SetResourceSize.is
+
+pub returns-in-SetResourceSize-clause-after : goal.returns-in-SetResourceSize-clause-after
+returns-in-SetResourceSize-clause-after g c =
+    arm_after (λ (u : Unit {0}). Done) c.done_on_resource-in-SetResourceSize.result _ _ _ c.args.call.now _ c.args.names.now (managers c.args.resources.now c.args.heap.now) c.done_on_resource-in-SetResourceSize.ensures.after c.set_resource_size.ensures.answer (ap (λ (h : Option ℕ). telling (λ (u : Unit {0}). Done) (rows.noting (partial.set_resource_size h c.in-SetResourceSize.size) (managers c.args.resources.now c.args.heap.now))) c.number-in-SetResourceSize.ensures) c.in-SetResourceSize.is

@@ -1,4 +1,5 @@
 use Rattle.res_calls.proofs.Owning.Laws.{owns-heap, owns-served, owns-launched}
+use Rattle.res_calls.proofs.Storing.{gone-owns}
 use Rattle.res_calls.proofs.Walks.Own.{own-owns}
 use Rattle.res_calls.proofs.laws.each_resource_has_its_own_handle.Goals as goal
 
@@ -13,3 +14,6 @@ returns-clause-resources c = owns-served
 
 pub returns-clause-own : goal.returns-clause-own
 returns-clause-own c = own-owns
+
+pub returns-clause-stored : goal.returns-clause-stored
+returns-clause-stored c = gone-owns

@@ -1,5 +1,6 @@
 use Rattle.res_calls.proofs.Soundness.Laws.{sound-launched, sound-preloaded, sound-served}
 use Rattle.res_calls.proofs.LeftFiles.{sound_left}
+use Rattle.res_calls.proofs.Storing.{gone-sound}
 use Rattle.res_calls.proofs.Walks.Own.{own-sound}
 use Rattle.res_calls.proofs.laws.the_open_files_stay_sound.Goals as goal
 
@@ -17,3 +18,6 @@ returns-clause-own c = own-sound
 
 pub returns-clause-left : goal.returns-clause-left
 returns-clause-left c = sound_left
+
+pub returns-clause-stored : goal.returns-clause-stored
+returns-clause-stored c = gone-sound

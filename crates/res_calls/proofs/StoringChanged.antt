@@ -1,0 +1,139 @@
+-- Storing purged blocks changes nothing but what is stored of changed resources.
+use Rattle.std.proofs.Common.{◌≡◌, ◌⊎◌, inl, inr, ℕ, Bool, true, false, true≢false, cond, List, [], ◌∷◌, ◌++◌, Option, Some, None}
+use Rattle.std.proofs.Common.{refl, sym, ◌∙◌, ap, subst}
+use Rattle.std.proofs.lemmas.Bool.{and_left}
+use Rattle.heap_calls.specs.Gone.{Gone}
+use Rattle.res_map.specs.Split.{Split, replaced}
+use Rattle.res_map.specs.Map.{Reference, has_handle, is_protected, stored_anew}
+use Rattle.res_calls.specs.Changing.{is_to_write}
+use Rattle.res_calls.specs.Files.{OpenFile, Resources, Found, find_open, with_reference}
+use Rattle.res_calls.specs.Purging.{stored_found, stored_gone, heard}
+use Rattle.res_calls.specs.Storing.{IsAmong, StoredOrSame, EachStoredOrSame, StoresIn, StoresInEach, OnlyStoresChanged}
+use Rattle.res_calls.proofs.Owning.Calls.{has-some}
+use Rattle.res_calls.proofs.Owning.Places.{Stands, find-finds, same-there}
+use Rattle.res_calls.proofs.Soundness.References.{changed-clear}
+
+-- nothing is stored
+same-each : (gone : List Gone) (xs : List Reference) → EachStoredOrSame gone xs xs
+same-each gone [] = tt
+same-each gone (x ∷ xs) = (inl refl, same-each gone xs)
+
+same-file : (gone : List Gone) (f : OpenFile) → StoresIn gone f f
+same-file gone f = record { rest = refl; each = same-each gone f.map.references }
+
+same-files : (gone : List Gone) (chain : List OpenFile) → StoresInEach gone chain chain
+same-files gone [] = tt
+same-files gone (f ∷ chain) = (same-file gone f, same-files gone chain)
+
+pub same-stores : (gone : List Gone) (r : Resources) → OnlyStoresChanged gone r r
+same-stores gone r = record { rest = refl; files = same-files gone r.chain }
+
+-- of one reference of a file, and in one of the files
+one-each : (gone : List Gone) (before : List Reference) (x y : Reference) (after : List Reference)
+    → StoredOrSame gone x y → EachStoredOrSame gone (before ++ x ∷ after) (before ++ y ∷ after)
+one-each gone [] x y after one = (one, same-each gone after)
+one-each gone (b ∷ before) x y after one = (inl refl, one-each gone before x y after one)
+
+one-file : (gone : List Gone) (before : List OpenFile) (f g : OpenFile) (after : List OpenFile)
+    → StoresIn gone f g → StoresInEach gone (before ++ f ∷ after) (before ++ g ∷ after)
+one-file gone [] f g after one = (one, same-files gone after)
+one-file gone (b ∷ before) f g after one = (same-file gone b, one-file gone before f g after one)
+
+-- of one block
+one-stored : (g : Gone) (r : Resources) (found : Option Found) → find_open (has_handle g.0) r ≡ found
+    → OnlyStoresChanged (g ∷ []) r (stored_found found g.1 r)
+one-stored g r None e = same-stores (g ∷ []) r
+one-stored g r (Some at) e = by_test (is_to_write at.reference.here) refl
+  where
+    new : Reference
+    new = stored_anew (Some g.1) at.reference.here
+
+    found : Stands r.chain at × (has_handle g.0 at.reference.here ≡ true)
+    found = find-finds (λ f. true) (has_handle g.0) r.chain at e
+
+    stores : is_to_write at.reference.here ≡ true → StoredOrSame (g ∷ []) at.reference.here new
+    stores changed = inr (changed, g, inl refl, has-some g.0 at.reference.here.handle found.1, refl)
+
+    in-file : is_to_write at.reference.here ≡ true → StoresIn (g ∷ []) at.file.here
+        (record at.file.here { map = record at.file.here.map { references = replaced new at.reference } })
+    in-file changed = record {
+      rest = refl;
+      each = subst (λ (xs : List Reference). EachStoredOrSame (g ∷ []) xs (replaced new at.reference))
+          found.0.reference
+          (one-each (g ∷ []) at.reference.before at.reference.here new at.reference.after (stores changed));
+    }
+
+    by_test : (t : Bool) → is_to_write at.reference.here ≡ t
+        → OnlyStoresChanged (g ∷ []) r (cond t (record r { chain = with_reference new at }) r)
+    by_test true changed = record {
+      rest = refl;
+      files = subst (λ (xs : List OpenFile). StoresInEach (g ∷ []) xs (with_reference new at)) found.0.file
+          (one-file (g ∷ []) at.file.before at.file.here _ at.file.after (in-file changed));
+    }
+    by_test false plain = same-stores (g ∷ []) r
+
+-- what is stored is changed no more
+stored-unchanged : (bytes : List ℕ) (x : Reference) → is_to_write (stored_anew (Some bytes) x) ≡ false
+stored-unchanged bytes x = and_left _ _ (changed-clear x.stored.attrs)
+
+-- of one block, and then of others
+then-stored : (g : Gone) (gone : List Gone) (x y z : Reference) → StoredOrSame (g ∷ []) x y → StoredOrSame gone y z
+    → StoredOrSame (g ∷ gone) x z
+then-stored g gone x y z (inl same) (inl again) = inl (again ∙ same)
+then-stored g gone x y z (inl same) (inr (changed, h, among, held, is)) =
+    inr (
+      subst (λ (w : Reference). is_to_write w ≡ true) same changed,
+      h,
+      inr among,
+      subst (λ (w : Reference). w.handle ≡ Some h.0) same held,
+      subst (λ (w : Reference). z ≡ stored_anew (Some h.1) w) same is,
+    )
+then-stored g gone x y z (inr (changed, h, inl one, held, is)) (inl again) =
+    inr (changed, h, inl one, held, again ∙ is)
+then-stored g gone x y z (inr (changed, h, inl one, held, is)) (inr (still, later)) =
+    absurd (true≢false (sym still ∙ ap is_to_write is ∙ stored-unchanged h.1 x))
+
+then-each : (g : Gone) (gone : List Gone) (xs ys zs : List Reference) → EachStoredOrSame (g ∷ []) xs ys
+    → EachStoredOrSame gone ys zs → EachStoredOrSame (g ∷ gone) xs zs
+then-each g gone [] [] [] first later = tt
+then-each g gone (x ∷ xs) (y ∷ ys) (z ∷ zs) first later =
+    (then-stored g gone x y z first.0 later.0, then-each g gone xs ys zs first.1 later.1)
+then-each g gone [] (y ∷ ys) zs first later = absurd first
+then-each g gone (x ∷ xs) [] zs first later = absurd first
+then-each g gone [] [] (z ∷ zs) first later = absurd later
+then-each g gone (x ∷ xs) (y ∷ ys) [] first later = absurd later
+
+then-file : (g : Gone) (gone : List Gone) (a b c : OpenFile) → StoresIn (g ∷ []) a b → StoresIn gone b c
+    → StoresIn (g ∷ gone) a c
+then-file g gone a b c first later = record {
+  rest = later.rest ∙ ap (λ (f : OpenFile).
+      let new : OpenFile = record f { map = record f.map { references = c.map.references } } in new) first.rest;
+  each = then-each g gone a.map.references b.map.references c.map.references first.each later.each;
+}
+
+then-files : (g : Gone) (gone : List Gone) (as bs cs : List OpenFile) → StoresInEach (g ∷ []) as bs
+    → StoresInEach gone bs cs → StoresInEach (g ∷ gone) as cs
+then-files g gone [] [] [] first later = tt
+then-files g gone (a ∷ as) (b ∷ bs) (c ∷ cs) first later =
+    (then-file g gone a b c first.0 later.0, then-files g gone as bs cs first.1 later.1)
+then-files g gone [] (b ∷ bs) cs first later = absurd first
+then-files g gone (a ∷ as) [] cs first later = absurd first
+then-files g gone [] [] (c ∷ cs) first later = absurd later
+then-files g gone (a ∷ as) (b ∷ bs) [] first later = absurd later
+
+-- of all
+pub stores-changed : (gone : List Gone) (r : Resources) → OnlyStoresChanged gone r (stored_gone gone r)
+stores-changed [] r = same-stores [] r
+stores-changed (g ∷ gone) r =
+    let one : Resources = stored_found (find_open (has_handle g.0) r) g.1 r in
+    let first = one-stored g r (find_open (has_handle g.0) r) refl in
+    let later = stores-changed gone one in
+    record {
+      rest = later.rest ∙ ap (λ (q : Resources).
+          let new : Resources = record q { chain = (stored_gone gone one).chain } in new) first.rest;
+      files = then-files g gone r.chain one.chain (stored_gone gone one).chain first.files later.files;
+    }
+
+-- and nothing is while it is off
+pub off-stores : (gone : List Gone) (r : Resources) → stored_gone (heard false gone) r ≡ r
+off-stores gone r = refl

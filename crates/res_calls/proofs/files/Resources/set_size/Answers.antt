@@ -1,0 +1,17 @@
+use Rattle.std.specs.Prelude.{Some}
+use Rattle.res_calls.specs.Files.{Resources}
+use Rattle.res_calls.specs.View.{resources_of}
+use Rattle.res_calls.specs.Partial.{set_size_found}
+use Rattle.res_calls.proofs.Soundness.Calls.{set_size_found_sound}
+use Rattle.res_calls.proofs.Soundness.Methods.{answered_in}
+use Rattle.res_calls.proofs.files.Resources.set_size.Goals as goal
+
+pub invariant_of-self : goal.invariant_of-self
+invariant_of-self g c =
+    let r : Resources = resources_of c.self.inside.files.items c.self.inside.chain.items c.self.inside.current
+    c.self.inside.next c.self.inside.loading c.self.inside.purging c.self.inside.error in
+    answered_in (λ (u : Unit {0}). u) (Some c.in-Some.number) (set_size_found (Some c.in-Some.number) c.args.size)
+    (set_size_found_sound c.args.size (Some c.in-Some.number)) c.self.inside.chain.items
+    c.resize_at.new.files.items r c.args.self.now c.in-Some-find_handle.at c.args.heap.now c.args.heap.now
+    c.resize_at.result c.self.invariant c.self.view_is c.in-Some-find_handle.ensures.found
+    c.in-Some-find_handle.ensures.placed (c.resize_at.ensures.answer r) c.resize_at.ensures.kept

@@ -1,0 +1,18 @@
+use Rattle.std.specs.Prelude.{Some}
+use Rattle.res_calls.specs.Files.{Resources}
+use Rattle.res_calls.specs.View.{resources_of}
+use Rattle.res_calls.specs.Partial.{write_part_found}
+use Rattle.res_calls.proofs.Soundness.Calls.{write_part_found_sound}
+use Rattle.res_calls.proofs.Soundness.Methods.{answered_in}
+use Rattle.res_calls.proofs.files.Resources.write_part.Goals as goal
+
+pub invariant_of-self : goal.invariant_of-self
+invariant_of-self g c =
+    let r : Resources = resources_of c.self.inside.files.items c.self.inside.chain.items c.self.inside.current
+    c.self.inside.next c.self.inside.loading c.self.inside.purging c.self.inside.error in
+    answered_in (λ (u : Unit {0}). u) (Some c.in-Some.number)
+    (write_part_found (Some c.in-Some.number) c.args.offset c.args.bytes.now)
+    (write_part_found_sound c.args.offset c.args.bytes.now (Some c.in-Some.number)) c.self.inside.chain.items
+    c.write_at.new.files.items r c.args.self.now c.in-Some-find_handle.at c.args.heap.now c.args.heap.now
+    c.write_at.result c.self.invariant c.self.view_is c.in-Some-find_handle.ensures.found
+    c.in-Some-find_handle.ensures.placed (c.write_at.ensures.answer r) c.write_at.ensures.kept
