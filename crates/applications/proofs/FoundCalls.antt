@@ -4,7 +4,7 @@ use Rattle.std.specs.Prelude.{IfOk, IsOk}
 use Rattle.std.specs.declared.alloc.AllocError.{AllocError}
 use Rattle.std.specs.Prelude.{nat_lt, nat_le, length, not, ◌&&◌, ◌||◌, if◌then◌else◌}
 use Rattle.mac_words.specs.declared.code.OsErr.{OsErr}
-use Rattle.mac_words.specs.Told.{Told, Done, Number, Kind}
+use Rattle.mac_words.specs.Told.{Told, Bytes, Done, Number, Kind}
 use Rattle.mac_words.specs.declared.code.TheConstants.OsErr.{IN_MEMORY, OFFSET, PROFILE}
 use Rattle.res_map.specs.Map.{resized_datum}
 use Rattle.windows.specs.Writes.{piece, written}
@@ -139,6 +139,28 @@ read_part-after handle from n s = by_found (resource_of handle s.resources)
         by_tests false true = refl
         by_tests false false = refl
 
+-- and what it answers does not depend on that code
+read_part-reply : (handle : Option ℕ) (from n : ℕ) (code : OsErr) (s : Managers)
+    → (read_partial_resource handle from n (keep_error code s)).reply ≡ (read_partial_resource handle from n s).reply
+read_part-reply None from n code s = refl
+read_part-reply (Some h) from n code s = by_found (resource_of (Some h) s.resources)
+  where
+    by_found : (found : Option Found)
+        → (on_found found (keep_error code s) (read_part_found (Some h) from n (keep_error code s))).reply
+        ≡ (on_found found s (read_part_found (Some h) from n s)).reply
+    by_found None = refl
+    by_found (Some at) = by_tests (nat_lt (length at.reference.here.stored.datum) (from + n))
+        (is_in_memory (Some h) s.memory.heap)
+      where
+        by_tests : (past held : Bool) → (cond {A = Answer (List ℕ)} past (refused OFFSET (keep_error code s))
+            (cond held (refused IN_MEMORY (keep_error code s))
+            (done (piece from n at.reference.here.stored.datum) (keep_error code s)))).reply
+            ≡ (cond {A = Answer (List ℕ)} past (refused OFFSET s)
+            (cond held (refused IN_MEMORY s) (done (piece from n at.reference.here.stored.datum) s))).reply
+        by_tests true held = refl
+        by_tests false true = refl
+        by_tests false false = refl
+
 -- so it is read again alike, once the code is set and what was purged is stored
 part-again : (handle : Option ℕ) (from n : ℕ) (on : Bool) (s : Managers)
     → bytes_told (served (asks.ReadPartialResource handle from n)
@@ -151,6 +173,8 @@ part-again handle from n on s =
     (served (asks.ReadPartialResource handle from n) s).after)).told) (heard-none on)
     ∙ ap (λ (t : Managers). bytes_told (served (asks.ReadPartialResource handle from n)
     (keep_error (code_of (read_partial_resource handle from n s).reply) t)).told) (read_part-after handle from n s)
+    ∙ ap (λ (r : Result (List ℕ) OsErr). bytes_told (told_as Bytes r))
+    (read_part-reply handle from n (code_of (read_partial_resource handle from n s).reply) s)
 
 -- what a call tells in the managers that its try leaves shows the same bytes
 pub found-again : (a : ResourceAsked) (on : Bool) (s : Managers)

@@ -271,14 +271,6 @@ pub returns-in-ReadPartialResource-clause-after : goal.returns-in-ReadPartialRes
 returns-in-ReadPartialResource-clause-after g c =
     arm_after Bytes c.read.result _ _ _ c.args.call.now _ c.args.names.now (managers c.args.resources.now c.args.heap.now) c.read.ensures.after c.read_partial_resource.ensures.answer (ap (λ (h : Option ℕ). telling Bytes (rows.noting (partial.read_partial_resource h c.in-ReadPartialResource.offset c.in-ReadPartialResource.count) (managers c.args.resources.now c.args.heap.now))) c.number-in-ReadPartialResource.ensures) c.in-ReadPartialResource.is
 
-pub returns-in-WritePartialResource-clause-told : goal.returns-in-WritePartialResource-clause-told
-returns-in-WritePartialResource-clause-told g c =
-    arm_told (λ (u : Unit {0}). Done) false c.done_on_resource-in-WritePartialResource.result _ _ _ c.args.call.now _ c.args.names.now (managers c.args.resources.now c.args.heap.now) c.done_on_resource-in-WritePartialResource.ensures.tried c.write_partial_resource.ensures.answer (ap (λ (h : Option ℕ). telling (λ (u : Unit {0}). Done) (rows.noting (partial.write_partial_resource h c.in-WritePartialResource.offset c.in-WritePartialResource.bytes.items) (managers c.args.resources.now c.args.heap.now))) c.number-in-WritePartialResource.ensures) refl c.in-WritePartialResource.is
-
-pub returns-in-WritePartialResource-clause-after : goal.returns-in-WritePartialResource-clause-after
-returns-in-WritePartialResource-clause-after g c =
-    arm_after (λ (u : Unit {0}). Done) c.done_on_resource-in-WritePartialResource.result _ _ _ c.args.call.now _ c.args.names.now (managers c.args.resources.now c.args.heap.now) c.done_on_resource-in-WritePartialResource.ensures.after c.write_partial_resource.ensures.answer (ap (λ (h : Option ℕ). telling (λ (u : Unit {0}). Done) (rows.noting (partial.write_partial_resource h c.in-WritePartialResource.offset c.in-WritePartialResource.bytes.items) (managers c.args.resources.now c.args.heap.now))) c.number-in-WritePartialResource.ensures) c.in-WritePartialResource.is
-
 pub returns-in-SetResourceSize-clause-told : goal.returns-in-SetResourceSize-clause-told
 returns-in-SetResourceSize-clause-told g c =
     arm_told (λ (u : Unit {0}). Done) false c.done_on_resource-in-SetResourceSize.result _ _ _ c.args.call.now _ c.args.names.now (managers c.args.resources.now c.args.heap.now) c.done_on_resource-in-SetResourceSize.ensures.tried c.set_resource_size.ensures.answer (ap (λ (h : Option ℕ). telling (λ (u : Unit {0}). Done) (rows.noting (partial.set_resource_size h c.in-SetResourceSize.size) (managers c.args.resources.now c.args.heap.now))) c.number-in-SetResourceSize.ensures) refl c.in-SetResourceSize.is
