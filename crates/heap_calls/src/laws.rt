@@ -17,6 +17,7 @@ ghost use Rattle.heap_calls.specs.Refused.{RefusedLeaves, BarredLeaves};
 ghost use Rattle.heap_calls.specs.Staying.{ease, Parted, RefusedKeepsNoMore, LessStaysLater, KeepsBytes, KeepsMasters};
 ghost use Rattle.heap_calls.specs.Moves.{compact_mem_moves, max_mem_moves};
 ghost use Rattle.heap_calls.specs.Slots.{new_handle};
+ghost use Rattle.heap_calls.specs.ToldGone.{TellsWhatGoes, TellsOfPurgeable};
 ghost use Rattle.heap_calls.specs.Purging.{purged_all};
 
 use crate::heap::Heap;
@@ -122,4 +123,12 @@ pub fn compaction_moves_each_block_at_most_once()
     ensures max_mem_raises_none { (heap : State) → MaxRaisesNone heap }
     ensures compact_mem { (size : ℕ) (heap : State) → compact_mem_moves size heap ≤ count is_mover heap.zone }
     ensures max_mem { (heap : State) → max_mem_moves heap ≤ count is_mover heap.zone }
+{}
+
+/// What a call tells a sink of is just what it purges. Where no handle has two blocks, one try of a call tells of a
+/// handle where the handle has a block before the call and none after it, and the call was not itself to take the
+/// block away: once, with the bytes that the block had. Each block that is told of was unlocked and purgeable.
+pub fn a_sink_is_told_of_what_goes()
+    ensures goes { (asked : Asked) (m : Memory) → OneBlockEach m.heap.zone → TellsWhatGoes asked m }
+    ensures purgeable { (asked : Asked) (m : Memory) → TellsOfPurgeable asked m }
 {}

@@ -1,0 +1,3 @@
+pub mod Sums
+pub mod Bounds
+pub mod Changes
