@@ -1,3 +1,4 @@
 pub mod Sums
 pub mod Bounds
 pub mod Changes
+pub mod Rows

@@ -54,7 +54,7 @@ module _ (n : ℕ) (of : Block → ℕ) (none : (m : ℕ) → of (Free m) ≡ 0)
             let t = room-told n try sp zone z e in
             omega (arith, ap told t.2, same (purge t.0 sp zone) z t.1, purged-even sp t.0 zone)
 
-    based-same : (new : Block) → of new ≡ 0 → (passes : List Block → Bool) (w z : List Block)
+    pub based-same : (new : Block) → of new ≡ 0 → (passes : List Block → Bool) (w z : List Block)
         → option_map tidy (change_run passes (low new) w) ≡ Some z → total of z ≡ total of w
     based-same new unseen passes w z e =
         let l = based-le of none new passes w z e in

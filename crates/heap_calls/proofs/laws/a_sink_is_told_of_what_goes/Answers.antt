@@ -1,3 +1,5 @@
+use Rattle.heap_calls.proofs.Goings.Rows.{rows-even}
+use Rattle.heap_calls.proofs.Promises.EmptyingLaws.{of-quiet}
 use Rattle.heap_calls.proofs.Goings.Changes.{grown-even}
 use Rattle.heap_calls.proofs.Goings.Bounds.{told-most}
 use Rattle.heap_calls.proofs.Goings.Sums.{room-told}
