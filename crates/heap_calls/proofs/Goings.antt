@@ -2,3 +2,4 @@ pub mod Sums
 pub mod Bounds
 pub mod Changes
 pub mod Rows
+pub mod Laws

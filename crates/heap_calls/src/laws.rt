@@ -3,6 +3,7 @@
 ghost use Rattle.std.specs.Prelude.{◌≡◌, ◌<◌, ◌+◌, ◌%◌, ℕ, true, Some, Err, List, nat_lt, ◌≤◌};
 ghost use Rattle.mac_words.specs.Size.{phys};
 ghost use Rattle.block_store.specs.Block.{Block, count, sizes, is_masters, is_mover, tidy};
+ghost use Rattle.block_store.specs.declared.measures.TheConstants.{GREATEST_ZONE};
 ghost use Rattle.block_store.specs.Compact.{largest_run};
 ghost use Rattle.block_store.specs.Rest.{Site};
 ghost use Rattle.heap_calls.specs.State.{State, Memory, used_slots, all_slots, fresh_memory};
@@ -129,6 +130,7 @@ pub fn compaction_moves_each_block_at_most_once()
 /// handle where the handle has a block before the call and none after it, and the call was not itself to take the
 /// block away: once, with the bytes that the block had. Each block that is told of was unlocked and purgeable.
 pub fn a_sink_is_told_of_what_goes()
-    ensures goes { (asked : Asked) (m : Memory) → OneBlockEach m.heap.zone → TellsWhatGoes asked m }
+    ensures goes { (asked : Asked) (m : Memory) → OneBlockEach m.heap.zone → sizes m.heap.zone ≤ GREATEST_ZONE
+        → TellsWhatGoes asked m }
     ensures purgeable { (asked : Asked) (m : Memory) → TellsOfPurgeable asked m }
 {}

@@ -42,7 +42,7 @@ use Rattle.heap_calls.specs.Gone.{more_masters_gone}
 use Rattle.heap_calls.proofs.NewBlocks.CopiedHandles.{source-few}
 use Rattle.heap_calls.proofs.Promises.Knowing.{look_up-spot, pointed_at-spot}
 use Rattle.heap_calls.proofs.Promises.LastPutLaws.{handle_at-name}
-use Rattle.heap_calls.proofs.Promises.EmptyingLaws.{Unseen, purges, of-freed}
+use Rattle.heap_calls.proofs.Promises.EmptyingLaws.{Unseen, Spares, purges, of-freed}
 use Rattle.heap_calls.proofs.Goings.Sums.{Adds}
 use Rattle.heap_calls.proofs.Goings.Changes.{purged-even, base-even, put-even, room-even, slot-even, grown-even, based-same}
 
@@ -64,11 +64,6 @@ row_gone asked.MaxMem s = max_mem_gone s
 row_gone (asked.ReserveMem size) s = reserve_gone (phys size) s
 row_gone asked.MoreMasters s = more_masters_gone s
 row_gone a s = []
-
--- a call that gives a handle a new block gives none that is seen
-abbrev pub Overlooks : (Block → ℕ) → Asked → Type 0
-Overlooks of (asked.ReallocateHandle (Some k) n) = Unseen of (is_relocatable k)
-Overlooks of a = Unit {0}
 
 -- a handle with a block is one that was given
 pub look_up-within : (handle : Option ℕ) (s : State) (held : Held) → look_up handle s ≡ Ok held
@@ -289,7 +284,7 @@ module _ (m : Memory) (of : Block → ℕ) (none : (k : ℕ) → of (Free k) ≡
     still p (Relocatable id flags content) R e mover = let f : false ≡ true = e in cc
 
     -- each call that may purge
-    pub rows-even : (a : Asked) → purges a ≡ true → Overlooks of a
+    pub rows-even : (a : Asked) → purges a ≡ true → Spares of a
         → total of (answered a m).1.heap.zone + told (row_gone a m.heap) ≡ total of m.heap.zone
     rows-even (asked.NewHandle k) purging own =
         ready-even nothing

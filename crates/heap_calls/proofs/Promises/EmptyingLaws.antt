@@ -471,7 +471,7 @@ abbrev pub stays : ℕ → Block → ℕ
 stays h b = cond (is_relocatable h b && not (is_purgeable b)) 1 0
 
 -- 1 for a block of a handle
-abbrev is_of : ℕ → Block → ℕ
+abbrev pub is_of : ℕ → Block → ℕ
 is_of h b = cond (is_relocatable h b) 1 0
 
 pub stays-goes : (h : ℕ) (b : Block) → is_purgeable b ≡ true → stays h b ≡ 0
@@ -548,7 +548,7 @@ stays-rises h change kept (Relocatable id flags content) =
     cases false u = omega arith
 
 -- other flags leave each block
-is_of-rises : (h : ℕ) (change : Flags → Flags) → Rises (is_of h) change
+pub is_of-rises : (h : ℕ) (change : Flags → Flags) → Rises (is_of h) change
 is_of-rises h change b = let z : is_of h (flagged change b) ≡ is_of h b =
     ap {B = ℕ} (λ (t : Bool). cond t 1 0) (flagged-number change h b) in omega arith
 
