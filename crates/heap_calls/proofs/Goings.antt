@@ -3,3 +3,4 @@ pub mod Bounds
 pub mod Changes
 pub mod Rows
 pub mod Laws
+pub mod Heaps

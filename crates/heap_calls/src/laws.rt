@@ -1,8 +1,8 @@
 //! Laws of the calls' definitions, and of each heap.
 
-ghost use Rattle.std.specs.Prelude.{◌≡◌, ◌<◌, ◌+◌, ◌%◌, ℕ, true, Some, Err, List, nat_lt, ◌≤◌};
+ghost use Rattle.std.specs.Prelude.{◌≡◌, ◌<◌, ◌+◌, ◌%◌, ℕ, true, Some, Err, List, length, nat_lt, ◌≤◌};
 ghost use Rattle.mac_words.specs.Size.{phys};
-ghost use Rattle.block_store.specs.Block.{Block, count, sizes, is_masters, is_mover, tidy};
+ghost use Rattle.block_store.specs.Block.{Block, count, sizes, is_masters, is_mover, is_relocatable, tidy};
 ghost use Rattle.block_store.specs.declared.measures.TheConstants.{GREATEST_ZONE};
 ghost use Rattle.block_store.specs.Compact.{largest_run};
 ghost use Rattle.block_store.specs.Rest.{Site};
@@ -134,3 +134,14 @@ pub fn a_sink_is_told_of_what_goes()
         → TellsWhatGoes asked m }
     ensures purgeable { (asked : Asked) (m : Memory) → TellsOfPurgeable asked m }
 {}
+
+/// What each call on a heap tells a sink of is just what it purges, with no condition: no handle of a heap has two
+/// blocks, and its zone is no larger than a zone can be.
+pub fn a_heap_tells_what_goes<S: BlockStore>(heap: &Heap<S>)
+    ensures once { (h : ℕ) → h < length heap.now.heap.names → count (is_relocatable h) heap.now.heap.zone ≤ 1 }
+    ensures small { sizes heap.now.heap.zone ≤ GREATEST_ZONE }
+    ensures goes { (asked : Asked) → TellsWhatGoes asked heap.now }
+{
+    // The invariant is known once a field is read.
+    let _ = heap.names.len();
+}
