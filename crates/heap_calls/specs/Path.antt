@@ -1,11 +1,12 @@
 use Rattle.std.specs.Prelude.{ℕ, ◌==◌, ◌||◌, Bool, false, Option, Some, None, Result, Ok, Err, List, [], ◌∷◌, ◌++◌}
-use Rattle.std.specs.Prelude.{if◌then◌else◌}
+use Rattle.std.specs.Prelude.{length, if◌then◌else◌}
 use Rattle.mac_words.specs.declared.code.OsErr.{OsErr}
 use Rattle.block_store.specs.declared.flags.Flags.{Flags}
 use Rattle.block_store.specs.Block.{Block}
 use Rattle.heap_calls.specs.State.{Role, State, Memory}
 use Rattle.heap_calls.specs.Refused.{slotted_zone}
 use Rattle.heap_calls.specs.Answer.{nothing}
+use Rattle.heap_calls.specs.Gone.{Gone, slot_gone, made_gone, refill_gone}
 use Rattle.heap_calls.specs.Inside.{new_inside, new_empty_inside, refill_inside, inside, released, cast, has_block}
 
 -- The steps that the Resource Manager takes on a heap, one after another. More Macintosh Toolbox, chapter 1, "Using
@@ -59,6 +60,14 @@ read_by (Refill h flags bytes) m = if has_block h m.heap then []
     else read_again h bytes (refill_inside h flags bytes m).0
 read_by (Release h) m = []
 read_by (Cast change h) m = []
+
+-- The blocks that a step purges for room.
+abbrev pub gone_at : Step → Memory → List Gone
+gone_at (NewFilled role flags bytes) m = made_gone nothing bytes m.heap
+gone_at (NewEmpty role) m = slot_gone nothing m.heap
+gone_at (Refill h flags bytes) m = if has_block h m.heap then [] else refill_gone h (length bytes) m.heap
+gone_at (Release h) m = []
+gone_at (Cast change h) m = []
 
 -- The memory after a path of steps.
 abbrev pub walk : List Step → Memory → Memory

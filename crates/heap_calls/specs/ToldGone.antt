@@ -7,6 +7,7 @@ use Rattle.heap_calls.specs.Emptying.{takes_block, has_purgeable}
 use Rattle.heap_calls.specs.Gone.{Gone}
 use Rattle.heap_calls.specs.GoneBy.{gone_in}
 use Rattle.heap_calls.specs.Inside.{has_block}
+use Rattle.heap_calls.specs.Path.{Step, stepped, gone_at, step_disposes}
 
 -- A sink is told of just the blocks that a call purges. Inside Macintosh: Memory, chapter 1, "Purging and Reallocating
 -- Memory Blocks".
@@ -33,3 +34,10 @@ TellsWhatGoes asked m =
 abbrev pub TellsOfPurgeable : Asked → Memory → Type 0
 TellsOfPurgeable asked m = (h : ℕ) → 0 < length (told_of h (gone_in asked m))
     → (h < length m.heap.names) × (has_purgeable h m.heap.zone ≡ true)
+
+-- So it is for each step that the Resource Manager takes on a heap: what the step tells of a handle that it does not
+-- dispose of is what the handle loses.
+abbrev pub StepTellsWhatGoes : Step → Memory → Type 0
+StepTellsWhatGoes step m =
+    (h : ℕ) → h < length m.heap.names → told_of h (gone_at step m)
+    ≡ (if step_disposes step h || has_block h (stepped step m).heap then [] else bytes_in h m.heap.zone)

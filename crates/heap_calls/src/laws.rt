@@ -13,12 +13,13 @@ ghost use Rattle.heap_calls.specs.Counts.{CountsSearches, CountsMoves};
 ghost use Rattle.heap_calls.specs.History.{after_calls};
 ghost use Rattle.heap_calls.specs.Locked.{OneBlockEach};
 ghost use Rattle.heap_calls.specs.FewSearches.{SearchesFew};
+ghost use Rattle.heap_calls.specs.Path.{Step};
 ghost use Rattle.heap_calls.specs.Lowering.{CompactCountsLowered, CompactRaisesNone, MaxCountsLowered, MaxRaisesNone};
 ghost use Rattle.heap_calls.specs.Refused.{RefusedLeaves, BarredLeaves};
 ghost use Rattle.heap_calls.specs.Staying.{ease, Parted, RefusedKeepsNoMore, LessStaysLater, KeepsBytes, KeepsMasters};
 ghost use Rattle.heap_calls.specs.Moves.{compact_mem_moves, max_mem_moves};
 ghost use Rattle.heap_calls.specs.Slots.{new_handle};
-ghost use Rattle.heap_calls.specs.ToldGone.{TellsWhatGoes, TellsOfPurgeable};
+ghost use Rattle.heap_calls.specs.ToldGone.{TellsWhatGoes, TellsOfPurgeable, StepTellsWhatGoes};
 ghost use Rattle.heap_calls.specs.Purging.{purged_all};
 
 use crate::heap::Heap;
@@ -133,6 +134,8 @@ pub fn a_sink_is_told_of_what_goes()
     ensures goes { (asked : Asked) (m : Memory) → OneBlockEach m.heap.zone → sizes m.heap.zone ≤ GREATEST_ZONE
         → TellsWhatGoes asked m }
     ensures purgeable { (asked : Asked) (m : Memory) → TellsOfPurgeable asked m }
+    ensures steps { (step : Step) (m : Memory) → OneBlockEach m.heap.zone → sizes m.heap.zone ≤ GREATEST_ZONE
+        → StepTellsWhatGoes step m }
 {}
 
 /// What each call on a heap tells a sink of is just what it purges, with no condition: no handle of a heap has two
@@ -141,6 +144,7 @@ pub fn a_heap_tells_what_goes<S: BlockStore>(heap: &Heap<S>)
     ensures once { (h : ℕ) → h < length heap.now.heap.names → count (is_relocatable h) heap.now.heap.zone ≤ 1 }
     ensures small { sizes heap.now.heap.zone ≤ GREATEST_ZONE }
     ensures goes { (asked : Asked) → TellsWhatGoes asked heap.now }
+    ensures steps { (step : Step) → StepTellsWhatGoes step heap.now }
 {
     // The invariant is known once a field is read.
     let _ = heap.names.len();

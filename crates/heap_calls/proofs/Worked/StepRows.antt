@@ -9,9 +9,8 @@ use Rattle.heap_calls.specs.Locked.{locked_place}
 use Rattle.heap_calls.specs.Standing.{pointer_place}
 use Rattle.heap_calls.specs.Inside.{guarded_as, owned_as}
 use Rattle.heap_calls.specs.Path.{Step, NewFilled, NewEmpty, Refill, Release, Cast, stepped, refusal, read_by, walk}
-use Rattle.heap_calls.specs.Path.{reads, put_reads, steps_dispose}
-use Rattle.heap_calls.specs.Answer.{nothing}
-use Rattle.heap_calls.specs.Gone.{made_gone, all_gone}
+use Rattle.heap_calls.specs.Path.{gone_at, reads, put_reads, steps_dispose}
+use Rattle.heap_calls.specs.Gone.{all_gone}
 
 -- Steps on a small heap.
 
@@ -78,8 +77,9 @@ narrow-heap : (window : Site) → (walk (NewFilled Resource no_flags (replicate 
     }
 narrow-heap window = refl
 
-narrow-gone : made_gone nothing (replicate 40 5) heap ≡ (0, 7 ∷ 7 ∷ []) ∷ []
-narrow-gone = refl
+narrow-gone : (window : Site)
+    → gone_at fetch (stepped (NewFilled Resource no_flags (replicate 40 5)) (at window)) ≡ (0, 7 ∷ 7 ∷ []) ∷ []
+narrow-gone window = refl
 
 -- and so does one that was made before on the same way; none does for one that is too large
 several-gone : (window : Site) → all_gone ((purgeable, replicate 40 5) ∷ (no_flags, replicate 200 5)
@@ -89,6 +89,9 @@ several-gone window = refl
 -- a handle with a block isn't filled once more
 filled-stays : (window : Site) → stepped (Refill 0 no_flags (4 ∷ [])) (at window) ≡ at window
 filled-stays window = refl
+
+filled-gone : (window : Site) → gone_at (Refill 0 no_flags (replicate 40 5)) (at window) ≡ []
+filled-gone window = refl
 
 -- an empty handle is filled
 abbrev path : List Step

@@ -24,16 +24,18 @@ use Rattle.heap_calls.specs.Asked.{Asked, answered}
 use Rattle.heap_calls.specs.Asked as asked
 use Rattle.heap_calls.specs.Busy.{gate, gated, notes, keep_code, served}
 use Rattle.heap_calls.specs.Emptying.{takes_block, has_purgeable}
-use Rattle.heap_calls.specs.Gone.{Gone, gone_of, gone_unless, found_gone, room_gone}
+use Rattle.heap_calls.specs.Gone.{Gone, gone_of, gone_unless, found_gone, room_gone, refill_gone}
 use Rattle.heap_calls.specs.GoneBy.{gone_in}
-use Rattle.heap_calls.specs.ToldGone.{told_of, bytes_in, TellsWhatGoes, TellsOfPurgeable}
+use Rattle.heap_calls.specs.ToldGone.{told_of, bytes_in, TellsWhatGoes, TellsOfPurgeable, StepTellsWhatGoes}
+use Rattle.heap_calls.specs.Inside.{has_block, refill_inside, released_as, cast_as}
+use Rattle.heap_calls.specs.Path.{Step, NewFilled, NewEmpty, Refill, Release, Cast, stepped, gone_at, step_disposes}
 use Rattle.heap_calls.proofs.Gates.Served.{served-gated}
 use Rattle.heap_calls.proofs.Promises.LastPutLaws.{handle_at-name}
 use Rattle.heap_calls.proofs.Promises.AlikeCalls.{flagged-number}
-use Rattle.heap_calls.proofs.Promises.EmptyingLaws.{Unseen, Rises, Spares, purges, of-quiet, is_of, is_of-rises}
-use Rattle.heap_calls.proofs.Goings.Sums.{Adds}
-use Rattle.heap_calls.proofs.Goings.Bounds.{told-most, loose-bound}
-use Rattle.heap_calls.proofs.Goings.Rows.{row_gone, rows-even}
+use Rattle.heap_calls.proofs.Promises.EmptyingLaws.{Unseen, Spares, purges, of-quiet, of-gone, is_of, is_of-rises}
+use Rattle.heap_calls.proofs.ToldGone.Sums.{Adds}
+use Rattle.heap_calls.proofs.ToldGone.Bounds.{told-most, step-most, loose-bound}
+use Rattle.heap_calls.proofs.ToldGone.Rows.{row_gone, rows-even, filled_step-even, empty_step-even, refill_step-even}
 
 -- What a call tells of a handle is what the handle loses.
 
@@ -304,6 +306,120 @@ module _ (h : ℕ) (m : Memory) (within : h < length m.heap.names)
             (elim even.1 [ | inl none ↦ inl none | inr most ↦ inr (omega (arith, counted, most)) ]) each
             (has (is_relocatable h) after) (has-count (is_relocatable h) after) (count-none (is_relocatable h) after)
 
+    -- what a step tells of a handle comes to no more than its blocks
+    step-few : (step : Step) (f : List ℕ → ℕ)
+        → weigh f (told_of h (gone_at step m)) ≤ weigh f (bytes_in h m.heap.zone)
+    step-few step f =
+        let most = step-most (length m.heap.names) (held f h) (λ k. refl) refl (λ l. weigh f (told_of h l)) refl
+        (told-adds f h) (λ b goes. let one = told-one f h (length m.heap.names) within b in omega arith) step m refl in
+        omega (arith, most, held-bytes f h m.heap.zone)
+
+    -- as many blocks of a handle go as a step tells of
+    abbrev StepBalance : Step → Type 0
+    StepBalance step =
+        (count (is_relocatable h) m.heap.zone ≤ count (is_relocatable h) (stepped step m).heap.zone
+        + many (told_of h (gone_at step m)))
+        × ((told_of h (gone_at step m) ≡ []) ⊎ (count (is_relocatable h) (stepped step m).heap.zone
+        + many (told_of h (gone_at step m)) ≤ count (is_relocatable h) m.heap.zone))
+
+    even-balance : (step : Step) → total (is_of h) (stepped step m).heap.zone + many (told_of h (gone_at step m))
+        ≡ total (is_of h) m.heap.zone → StepBalance step
+    even-balance step even = (omega (arith, even), inr (omega (arith, even)))
+
+    step-balance : (step : Step) → step_disposes step h ≡ false → has (is_relocatable h) m.heap.zone ≡ true
+        → StepBalance step
+    step-balance (NewFilled role flags bytes) keeps here =
+        even-balance (NewFilled role flags bytes) (filled_step-even m (is_of h) (λ k. refl) refl (λ id content. refl)
+        fresh (λ l. many (told_of h l)) refl (told-adds (λ x. 1) h)
+        (λ b goes. told-one (λ x. 1) h (length m.heap.names) within b) (is_of-sized h) (is_of-filled h) once small role
+        flags bytes)
+    step-balance (NewEmpty role) keeps here =
+        even-balance (NewEmpty role) (empty_step-even m (is_of h) (λ k. refl) refl (λ id content. refl)
+        fresh (λ l. many (told_of h l)) refl (told-adds (λ x. 1) h)
+        (λ b goes. told-one (λ x. 1) h (length m.heap.names) within b) (is_of-sized h) (is_of-filled h) once small role)
+    step-balance (Refill k flags bytes) keeps here = by_number (k == h) refl
+      where
+        stays : (t : Bool) → t ≡ true
+            → (count (is_relocatable h) m.heap.zone
+            ≤ count (is_relocatable h) (cond t m (refill_inside k flags bytes m).1).heap.zone
+            + many (told_of h (cond t [] (refill_gone k (length bytes) m.heap))))
+            × ((told_of h (cond t [] (refill_gone k (length bytes) m.heap)) ≡ [])
+            ⊎ (count (is_relocatable h) (cond t m (refill_inside k flags bytes m).1).heap.zone
+            + many (told_of h (cond t [] (refill_gone k (length bytes) m.heap)))
+            ≤ count (is_relocatable h) m.heap.zone))
+        stays true e = (omega arith, inl refl)
+        stays false e = let f : false ≡ true = e in cc
+
+        by_number : (t : Bool) → (k == h) ≡ t → StepBalance (Refill k flags bytes)
+        by_number true e =
+            stays (has_block k m.heap)
+            (subst (λ (j : ℕ). has (is_relocatable j) m.heap.zone ≡ true) (sym ((Decides-eqb k h).0 e)) here)
+        by_number false e =
+            even-balance (Refill k flags bytes) (refill_step-even m (is_of h) (λ k. refl) refl (λ id content. refl)
+            fresh (λ l. many (told_of h l)) refl (told-adds (λ x. 1) h)
+            (λ b goes. told-one (λ x. 1) h (length m.heap.names) within b) (is_of-sized h) (is_of-filled h) once small k
+            flags bytes (other-unseen h k e))
+    step-balance (Release k) keeps here = (by_found (handle_at (Some k) m.heap)
+        (λ found e. (handle_at-name k m.heap found e).1), inl refl)
+      where
+        by_found : (r : Result Known OsErr) → ((found : Known) → r ≡ Ok found → found.number ≡ k)
+            → count (is_relocatable h) m.heap.zone ≤ count (is_relocatable h) (released_as r m.heap).zone + 0
+        by_found (Err code) named = omega arith
+        by_found (Ok found) named =
+            let le = of-gone (is_of h) (λ j. refl) (is_of-filled h) (is_relocatable found.number)
+            (subst (λ (j : ℕ). Unseen (is_of h) (is_relocatable j)) (sym (named found refl)) (other-unseen h k keeps))
+            m.heap.zone in omega arith
+    step-balance (Cast change k) keeps here = (by_found (handle_at (Some k) m.heap), inl refl)
+      where
+        by_found : (r : Result Known OsErr)
+            → count (is_relocatable h) m.heap.zone ≤ count (is_relocatable h) (cast_as change r m.heap).zone + 0
+        by_found (Err code) = omega arith
+        by_found (Ok found) = omega arith
+
+    -- what a step tells of a handle
+    step-tells : (step : Step) → told_of h (gone_at step m)
+        ≡ cond (step_disposes step h || has (is_relocatable h) (stepped step m).heap.zone) [] (bytes_in h m.heap.zone)
+    step-tells step = by_disposal (step_disposes step h) refl
+      where
+        after : List Block
+        after = (stepped step m).heap.zone
+
+        bytes : List (List ℕ)
+        bytes = bytes_in h m.heap.zone
+
+        counted : count (is_relocatable h) m.heap.zone ≡ many bytes
+        counted = held-bytes (λ x. 1) h m.heap.zone
+
+        disposed : (step : Step) → step_disposes step h ≡ true → told_of h (gone_at step m) ≡ []
+        disposed (Release k) e = refl
+        disposed step e = let f : false ≡ true = e in cc
+
+        unheld : many bytes ≤ 0 → (t : Bool) → told_of h (gone_at step m) ≡ cond t [] bytes
+        unheld none t =
+            let few = step-few step (λ x. 1) in
+            many-none (told_of h (gone_at step m)) (omega arith) ∙ by_test t
+          where
+            by_test : (t : Bool) → [] ≡ cond t [] bytes
+            by_test true = refl
+            by_test false = sym (many-none bytes none)
+
+        by_block : (t : Bool) → has (is_relocatable h) m.heap.zone ≡ t → step_disposes step h ≡ false
+            → told_of h (gone_at step m) ≡ cond (has (is_relocatable h) after) [] bytes
+        by_block false e keeps = unheld
+            (omega (arith, counted, count-none (is_relocatable h) m.heap.zone e)) (has (is_relocatable h) after)
+        by_block true e keeps =
+            let even = step-balance step keeps e in
+            let one = once h within in
+            only (told_of h (gone_at step m)) bytes (count (is_relocatable h) after)
+            (omega (arith, counted)) (let l = even.0 in omega (arith, counted, l))
+            (elim even.1 [ | inl none ↦ inl none | inr most ↦ inr (omega (arith, counted, most)) ]) (step-few step)
+            (has (is_relocatable h) after) (has-count (is_relocatable h) after) (count-none (is_relocatable h) after)
+
+        by_disposal : (t : Bool) → step_disposes step h ≡ t
+            → told_of h (gone_at step m) ≡ cond (t || has (is_relocatable h) after) [] bytes
+        by_disposal true e = disposed step e
+        by_disposal false e = by_block (has (is_relocatable h) m.heap.zone) refl e
+
 -- what a try of a call tells of a handle is what the handle loses
 pub tells-what-goes : (a : Asked) (m : Memory)
     → ((k : ℕ) → k < length m.heap.names → count (is_relocatable k) m.heap.zone ≤ 1)
@@ -400,3 +516,9 @@ tells-of-purgeable a m h some = (
     by_test false e = absurd (
       let most = told-most n (λ b. cond {A = ℕ} (own b) 1 0) (λ k. refl) refl long refl long-adds one a m refl in
       omega (arith, some, most, count-none own m.heap.zone e))
+
+-- what a step of the Resource Manager tells of a handle is what the handle loses
+pub step-tells-what-goes : (step : Step) (m : Memory)
+    → ((k : ℕ) → k < length m.heap.names → count (is_relocatable k) m.heap.zone ≤ 1)
+    → sizes m.heap.zone ≤ 134217728 → StepTellsWhatGoes step m
+step-tells-what-goes step m once small h within = step-tells h m within once small step

@@ -24,7 +24,7 @@ use Rattle.heap_calls.specs.State.{State, used_slots, all_slots}
 use Rattle.heap_calls.specs.Searches.{resized_at}
 use Rattle.heap_calls.specs.Slots.{slotted, more_masters}
 use Rattle.heap_calls.specs.Gone.{Gone, gone_of, gone, room_gone, slot_gone, in_place_gone, growth_gone}
-use Rattle.heap_calls.proofs.Goings.Sums.{Adds, room-told, none-told, purged-is}
+use Rattle.heap_calls.proofs.ToldGone.Sums.{Adds, room-told, none-told, purged-is}
 
 -- What a change of a zone leaves, and what is told of blocks that are purged for it, come to just what the zone came
 -- to, by a measure that sees no new block.

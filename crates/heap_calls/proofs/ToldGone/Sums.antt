@@ -2,11 +2,13 @@ use Rattle.std.proofs.Common.{◌≡◌, ℕ, ◌+◌, ◌-◌, ◌≤◌, zero,
 use Rattle.std.proofs.Common.{sym, ◌∙◌, ap, cond, arith, Option, Some, None, is_some}
 use Rattle.std.proofs.lemmas.Bool.{cond-true, cond-false}
 use Rattle.block_store.specs.Block.{Block, Free, size, total, tidy}
-use Rattle.block_store.specs.Room.{may_be_purged, lowest_purged, purge, count_of, room}
+use Rattle.block_store.specs.Room.{may_be_purged, lowest_purged, purge, count_of, room, least, filled, place, put_in_place}
 use Rattle.block_store.specs.Compact.{least_or_last}
 use Rattle.block_store.proofs.Zone.Keeping.{tidied}
+use Rattle.heap_calls.specs.Inner.Search.{tries}
 use Rattle.heap_calls.specs.Searches.{room_searches}
 use Rattle.heap_calls.specs.Gone.{Gone, gone_of, gone, room_gone}
+use Rattle.heap_calls.proofs.GoneBlocks.{some-map}
 use Rattle.heap_calls.proofs.Room.LeastSearches.{least-of, tries-of}
 
 -- What blocks come to, and what a list of those that are purged comes to, by one measure.
@@ -33,6 +35,50 @@ room-told n try sp zone z e =
 pub none-told : (n : ℕ) (try : List Block → Option (List Block)) (sp : Block → Bool) (zone : List Block)
     → room try sp zone ≡ None → room_gone n try sp zone ≡ []
 none-told n try sp zone e = cond-false (is_some (room try sp zone)) _ _ (ap is_some e)
+
+-- the least number at which two tests pass, where they pass at the same numbers
+last-same : (t u : ℕ → Bool) → ((k : ℕ) → t k ≡ u k) → (m : ℕ) → least_or_last t m ≡ least_or_last u m
+last-same t u same zero = refl
+last-same t u same (suc m) =
+    ap (λ v. cond v 0 (suc (least_or_last (λ k. t (suc k)) m))) (same 0)
+    ∙ ap (λ l. cond (u 0) 0 (suc l)) (last-same (λ k. t (suc k)) (λ k. u (suc k)) (λ k. same (suc k)) m)
+
+-- two tries that serve after the same purges purge the same blocks
+pub gone-alike : (n : ℕ) (try other : List Block → Option (List Block))
+    → ((z : List Block) → is_some (try z) ≡ is_some (other z)) → (sp : Block → Bool) (zone : List Block)
+    → room_gone n try sp zone ≡ room_gone n other sp zone
+gone-alike n try other same sp zone =
+    ap (λ t. cond t (gone n (room_searches try sp zone - 1) sp zone) []) found
+    ∙ ap (λ k. cond (is_some (room other sp zone)) (gone n (k - 1) sp zone) []) searched
+  where
+    most : ℕ
+    most = count_of sp zone
+
+    first : ℕ → Option (List Block)
+    first k = try (purge k sp zone)
+
+    second : ℕ → Option (List Block)
+    second k = other (purge k sp zone)
+
+    k : ℕ
+    k = least_or_last (λ j. is_some (first j)) most
+
+    last : k ≡ least_or_last (λ j. is_some (second j)) most
+    last = last-same (λ j. is_some (first j)) (λ j. is_some (second j)) (λ j. same (purge j sp zone)) most
+
+    found : is_some (room try sp zone) ≡ is_some (room other sp zone)
+    found = ap is_some (least-of first most k refl) ∙ same (purge k sp zone)
+        ∙ ap is_some (sym (least-of second most k last))
+
+    searched : room_searches try sp zone ≡ room_searches other sp zone
+    searched = sym (tries-of first most k refl) ∙ tries-of second most k last
+
+-- and so do two blocks of one size
+pub put-alike : (n : ℕ) (new other : Block) → size new ≡ size other → (sp : Block → Bool) (zone : List Block)
+    → room_gone n (put_in_place new) sp zone ≡ room_gone n (put_in_place other) sp zone
+put-alike n new other same = gone-alike n (put_in_place new) (put_in_place other)
+    (λ z. some-map (filled new) (place (size new) z) ∙ ap (λ p. is_some (place p z)) same
+    ∙ sym (some-map (filled other) (place (size other) z)))
 
 module _ (n : ℕ) (of : Block → ℕ) (none : (m : ℕ) → of (Free m) ≡ 0) (told : List Gone → ℕ) (nil : told [] ≡ 0)
     (adds : Adds told) (sp : Block → Bool)

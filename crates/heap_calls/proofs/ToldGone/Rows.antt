@@ -22,29 +22,31 @@ use Rattle.block_store.proofs.Zone.Totals.{total-append}
 use Rattle.block_store.proofs.Zone.Views.{map-some}
 use Rattle.block_store.proofs.Zone.Keeping.{settled-le}
 use Rattle.block_store.proofs.Zone.Surviving.{settled-all}
-use Rattle.heap_calls.specs.State.{State, Memory, Meaning, Plain, used_slots, all_slots}
+use Rattle.heap_calls.specs.State.{State, Memory, Meaning, Role, Plain}
 use Rattle.heap_calls.specs.State as names
 use Rattle.heap_calls.specs.Answer.{Answer, Known, Held, nothing, given, refused, rebuilt, look_up, handle_at, for_found}
 use Rattle.heap_calls.specs.Answer.{held_at, known_as}
-use Rattle.heap_calls.specs.Slots.{slotted, if_ready, new_block, more_masters}
+use Rattle.heap_calls.specs.Slots.{slotted, if_ready, made, new_block}
 use Rattle.heap_calls.specs.Pointers.{pointed_at, reserved, reserve_mem}
 use Rattle.heap_calls.specs.Purging.{is_loose, reallocated, purgeable, blocks_purged, purged_all}
 use Rattle.heap_calls.specs.Copying.{append, appended, written_in}
 use Rattle.heap_calls.specs.Asked.{Asked, answered}
 use Rattle.heap_calls.specs.Asked as asked
 use Rattle.heap_calls.specs.Searches.{resized_at}
-use Rattle.heap_calls.specs.Emptying.{takes_block}
+use Rattle.heap_calls.specs.Inside.{has_block, refill, refill_inside}
+use Rattle.heap_calls.specs.Path.{Step, NewFilled, NewEmpty, Refill, Release, Cast, stepped, gone_at}
 use Rattle.heap_calls.specs.Gone.{Gone, gone_of, gone, room_gone, slot_gone, ready_gone, block_gone, made_gone, found_gone}
 use Rattle.heap_calls.specs.Gone.{growth_gone, size_gone, new_handle_gone, new_empty_handle_gone, set_handle_size_gone}
 use Rattle.heap_calls.specs.Gone.{reallocate_handle_gone, hand_to_hand_gone, hand_and_hand_gone, pointer_and_hand_gone}
 use Rattle.heap_calls.specs.Gone.{new_pointer_gone, set_pointer_size_gone, purge_mem_gone, max_mem_gone, reserve_gone}
-use Rattle.heap_calls.specs.Gone.{more_masters_gone}
+use Rattle.heap_calls.specs.Gone.{more_masters_gone, refill_gone}
 use Rattle.heap_calls.proofs.NewBlocks.CopiedHandles.{source-few}
 use Rattle.heap_calls.proofs.Promises.Knowing.{look_up-spot, pointed_at-spot}
 use Rattle.heap_calls.proofs.Promises.LastPutLaws.{handle_at-name}
 use Rattle.heap_calls.proofs.Promises.EmptyingLaws.{Unseen, Spares, purges, of-freed}
-use Rattle.heap_calls.proofs.Goings.Sums.{Adds}
-use Rattle.heap_calls.proofs.Goings.Changes.{purged-even, base-even, put-even, room-even, slot-even, grown-even, based-same}
+use Rattle.heap_calls.proofs.Steps.Ways.{slotted_sparing-names}
+use Rattle.heap_calls.proofs.ToldGone.Sums.{Adds, put-alike}
+use Rattle.heap_calls.proofs.ToldGone.Changes.{purged-even, base-even, put-even, room-even, slot-even, grown-even, based-same}
 
 -- What each call's row leaves, and what is told of blocks that are purged for it, come to just what the zone came to.
 
@@ -80,16 +82,6 @@ look_up-within (Some h) s held e =
     by_name (Some (names.Handle role)) is e = slice_get_within s.names h (names.Handle role) is
     by_name (Some names.Pointer) is e = cc
     by_name (Some names.Disposed) is e = cc
-
--- a new master pointer changes no name
-slotted-names : (sp : Block → Bool) (s r : State) → slotted sp s ≡ Some r → r.names ≡ s.names
-slotted-names sp s r e = by_slots (nat_lt (used_slots s) (all_slots s)) e
-  where
-    by_slots : (t : Bool) → cond t (Some s) (more_masters sp s) ≡ Some r → r.names ≡ s.names
-    by_slots true e = ap (λ (x : State). x.names) (sym (same_Some _ _ e))
-    by_slots false e =
-        map-some (λ zone. record s { zone = zone }) (room (put_at_base Masters) sp s.zone) r (r.names ≡ s.names) e
-        (λ zone made is. ap (λ (x : State). x.names) (sym is))
 
 -- what is spared is not purged
 spared-stays : (t b : Bool) → (t && not b) ≡ true → b ≡ false
@@ -139,19 +131,21 @@ module _ (m : Memory) (of : Block → ℕ) (none : (k : ℕ) → of (Free k) ≡
     if-even false done code s l even = omega (arith, nil)
 
     -- a new block, where there is a master pointer
-    block-even : (sp : Block → Bool) (x : List ℕ) (r : State) → length r.names ≡ length m.heap.names
-        → total of (new_block sp x r).1.zone
+    filled-even : (role : Role) (flags : Flags) (sp : Block → Bool) (x : List ℕ) (r : State)
+        → length r.names ≡ length m.heap.names → total of (made role flags sp x r).1.zone
         + told (room_gone (length r.names) (put_in_place (Relocatable (length r.names) no_flags x)) sp r.zone)
         ≡ total of r.zone
-    block-even sp x r named =
+    filled-even role flags sp x r named =
         omega (
           arith,
-          ap (total of) (given-zone (names.Handle Plain)
-              (room (put_in_place (Relocatable (length r.names) no_flags x)) sp r.zone) r),
-          subst (λ (j : ℕ). total of (unwrap_or (room (put_in_place (Relocatable j no_flags x)) sp r.zone) r.zone)
-              + told (room_gone j (put_in_place (Relocatable j no_flags x)) sp r.zone) ≡ total of r.zone) (sym named)
+          ap (total of) (given-zone (names.Handle role)
+              (room (put_in_place (Relocatable (length r.names) flags x)) sp r.zone) r),
+          ap told (put-alike (length r.names) (Relocatable (length r.names) no_flags x)
+              (Relocatable (length r.names) flags x) refl sp r.zone),
+          subst (λ (j : ℕ). total of (unwrap_or (room (put_in_place (Relocatable j flags x)) sp r.zone) r.zone)
+              + told (room_gone j (put_in_place (Relocatable j flags x)) sp r.zone) ≡ total of r.zone) (sym named)
               (put-even (length m.heap.names) of none masters told nil adds goes sized
-              (Relocatable (length m.heap.names) no_flags x) (fresh no_flags x) sp r.zone),
+              (Relocatable (length m.heap.names) flags x) (fresh flags x) sp r.zone),
         )
 
     -- a master pointer, and what is made with it
@@ -161,7 +155,7 @@ module _ (m : Memory) (of : Block → ℕ) (none : (k : ℕ) → of (Free k) ≡
         → total of (if_ready (slotted sp m.heap) m.heap answer).1.zone
         + told (slot_gone sp m.heap ++ ready_gone (slotted sp m.heap) gone_for) ≡ total of m.heap.zone
     ready-even {T} sp answer gone_for each =
-        by_ready (slotted sp m.heap) (λ r e. ap length (slotted-names sp m.heap r e))
+        by_ready (slotted sp m.heap) (λ r e. ap length (slotted_sparing-names sp m.heap r e))
         (slot-even (length m.heap.names) of none masters told nil adds goes sized sp m.heap refl)
       where
         by_ready : (o : Option State) → ((r : State) → o ≡ Some r → length r.names ≡ length m.heap.names)
@@ -172,6 +166,23 @@ module _ (m : Memory) (of : Block → ℕ) (none : (k : ℕ) → of (Free k) ≡
         by_ready None named even = omega (arith, nil, even, adds (slot_gone sp m.heap) [])
         by_ready (Some r) named even =
             omega (arith, even, adds (slot_gone sp m.heap) (gone_for r), each r (named r refl))
+
+    -- a master pointer alone
+    slot-alone : (role : Role) → total of (if_ready (slotted nothing m.heap) m.heap
+        (λ ready. given (names.Handle role) (Some ready.zone) ready)).1.zone + told (slot_gone nothing m.heap)
+        ≡ total of m.heap.zone
+    slot-alone role =
+        omega (
+          arith,
+          ready-even nothing (λ ready. given (names.Handle role) (Some ready.zone) ready) (λ r. [])
+              (λ r named. omega (arith, nil)),
+          adds (slot_gone nothing m.heap) (ready_gone (slotted nothing m.heap) (λ r. [])),
+          none_ready (slotted nothing m.heap),
+        )
+      where
+        none_ready : (o : Option State) → told (ready_gone o (λ r. [])) ≡ 0
+        none_ready None = nil
+        none_ready (Some r) = nil
 
     -- a block that gets another size
     size-even : (test sp : Block → Bool) (k : ℕ) → ((j : ℕ) → test (Free j) ≡ false)
@@ -295,15 +306,8 @@ module _ (m : Memory) (of : Block → ℕ) (none : (k : ℕ) → of (Free k) ≡
         (put_in_place (Relocatable (length r.names) no_flags (replicate k 0))) nothing r.zone) []) ≡ total of r.zone)
         (sym (length-replicate k 0))
         (if-even (is_some (phys k)) (new_block nothing (replicate k 0) r) MEM_FULL r _
-        (block-even nothing (replicate k 0) r named)))
-    rows-even asked.NewEmptyHandle purging own =
-        let even = ready-even nothing (λ ready. given (names.Handle Plain) (Some ready.zone) ready) (λ r. [])
-        (λ r named. omega (arith, nil)) in
-        omega (arith, even, adds (slot_gone nothing m.heap) (ready_gone (slotted nothing m.heap) (λ r. [])), none_ready (slotted nothing m.heap))
-      where
-        none_ready : (o : Option State) → told (ready_gone o (λ r. [])) ≡ 0
-        none_ready None = nil
-        none_ready (Some r) = nil
+        (filled-even Plain no_flags nothing (replicate k 0) r named)))
+    rows-even asked.NewEmptyHandle purging own = slot-alone Plain
     rows-even (asked.SetHandleSize handle k) purging own =
         found-even (look_up handle m.heap) _ _
         (λ held e. size-even (is_relocatable held.number) (is_relocatable held.number) k (λ j. refl)
@@ -321,7 +325,7 @@ module _ (m : Memory) (of : Block → ℕ) (none : (k : ℕ) → of (Free k) ≡
         (block_gone (is_relocatable held.number) (content_of held.at.here))
         (λ r named. omega (
           arith,
-          block-even (is_relocatable held.number) (content_of held.at.here) r named,
+          filled-even Plain no_flags (is_relocatable held.number) (content_of held.at.here) r named,
           ap told (cond-true (is_some (phys (length (content_of held.at.here)))) (room_gone (length r.names)
               (put_in_place (Relocatable (length r.names) no_flags (content_of held.at.here)))
               (is_relocatable held.number) r.zone) []
@@ -372,3 +376,55 @@ module _ (m : Memory) (of : Block → ℕ) (none : (k : ℕ) → of (Free k) ≡
           base-even (length m.heap.names) of none masters told nil adds goes sized Masters masters nothing m.heap.zone,
         )
     rows-even a purging own = let f : false ≡ true = purging in cc
+
+    -- a new block for an empty handle
+    refill-even : (h : ℕ) (flags : Flags) (x : List ℕ) → Unseen of (is_relocatable h)
+        → total of (refill h flags x m.heap).1.zone + told (refill_gone h (length x) m.heap) ≡ total of m.heap.zone
+    refill-even h flags x unseen =
+        found-even (handle_at (Some h) m.heap) _ _
+        (λ found e. by_number found.number (handle_at-name h m.heap found e).1)
+      where
+        by_number : (j : ℕ) → j ≡ h
+            → total of (cond (is_some (phys (length x)))
+            (rebuilt (room (put_in_place (Relocatable j flags x)) nothing m.heap.zone) m.heap)
+            (refused MEM_FULL m.heap)).1.zone
+            + told (cond (is_some (phys (length x))) (room_gone (length m.heap.names)
+            (put_in_place (Relocatable j no_flags (replicate (length x) 0))) nothing m.heap.zone) [])
+            ≡ total of m.heap.zone
+        by_number j same =
+            let new : Block = Relocatable j flags x in
+            let own : of new ≡ 0 = unseen new ((Decides-eqb j h).1 same) in
+            if-even (is_some (phys (length x))) (rebuilt (room (put_in_place new) nothing m.heap.zone) m.heap) MEM_FULL
+            m.heap _
+            (omega (
+              arith,
+              ap (total of) (rebuilt-zone (room (put_in_place new) nothing m.heap.zone) m.heap),
+              ap told (put-alike (length m.heap.names) (Relocatable j no_flags (replicate (length x) 0)) new
+                  (ap padded (length-replicate {A = ℕ} (length x) 0)) nothing m.heap.zone),
+              put-even (length m.heap.names) of none masters told nil adds goes sized new own nothing m.heap.zone,
+            ))
+
+    -- each step of the Resource Manager that may purge
+    pub filled_step-even : (role : Role) (flags : Flags) (bytes : List ℕ)
+        → total of (stepped (NewFilled role flags bytes) m).heap.zone + told (gone_at (NewFilled role flags bytes) m)
+        ≡ total of m.heap.zone
+    filled_step-even role flags bytes =
+        ready-even nothing
+        (λ ready. cond (is_some (phys (length bytes))) (made role flags nothing bytes ready) (refused MEM_FULL ready))
+        (block_gone nothing bytes)
+        (λ r named. if-even (is_some (phys (length bytes))) (made role flags nothing bytes r) MEM_FULL r _
+        (filled-even role flags nothing bytes r named))
+
+    pub empty_step-even : (role : Role)
+        → total of (stepped (NewEmpty role) m).heap.zone + told (gone_at (NewEmpty role) m) ≡ total of m.heap.zone
+    empty_step-even role = slot-alone role
+
+    pub refill_step-even : (h : ℕ) (flags : Flags) (bytes : List ℕ) → Unseen of (is_relocatable h)
+        → total of (stepped (Refill h flags bytes) m).heap.zone + told (gone_at (Refill h flags bytes) m)
+        ≡ total of m.heap.zone
+    refill_step-even h flags bytes unseen = by_block (has_block h m.heap)
+      where
+        by_block : (t : Bool) → total of (cond t m (refill_inside h flags bytes m).1).heap.zone
+            + told (cond t [] (refill_gone h (length bytes) m.heap)) ≡ total of m.heap.zone
+        by_block true = omega (arith, nil)
+        by_block false = refill-even h flags bytes unseen

@@ -24,13 +24,15 @@ use Rattle.heap_calls.specs.Searches.{resized_at}
 use Rattle.heap_calls.specs.Slots.{slotted, more_masters}
 use Rattle.heap_calls.specs.Asked.{Asked}
 use Rattle.heap_calls.specs.Asked as asked
+use Rattle.heap_calls.specs.Inside.{has_block}
+use Rattle.heap_calls.specs.Path.{Step, NewFilled, NewEmpty, Refill, Release, Cast, gone_at}
 use Rattle.heap_calls.specs.Busy.{barred, change_barred, both_barred, pointer_barred}
 use Rattle.heap_calls.specs.Gone.{Gone, gone_of, gone, room_gone, slot_gone, ready_gone, block_gone, made_gone, found_gone}
 use Rattle.heap_calls.specs.Gone.{gone_unless, in_place_gone, growth_gone, size_gone, new_handle_gone, reserve_gone}
 use Rattle.heap_calls.specs.Gone.{reallocate_handle_gone, set_handle_size_gone, hand_to_hand_gone, hand_and_hand_gone}
 use Rattle.heap_calls.specs.Gone.{pointer_and_hand_gone, set_pointer_size_gone}
 use Rattle.heap_calls.specs.GoneBy.{gone_in}
-use Rattle.heap_calls.proofs.Goings.Sums.{Adds, room-told, purged-most, room-most}
+use Rattle.heap_calls.proofs.ToldGone.Sums.{Adds, room-told, purged-most, room-most}
 
 -- What a call tells of comes to no more than its zone did, by any measure of blocks by which each block that may be
 -- purged comes to what is told of it at least.
@@ -250,3 +252,19 @@ module _ (n : ℕ) (of : Block → ℕ) (none : (m : ℕ) → of (Free m) ≡ 0)
         subst (λ (j : ℕ). told (room_gone j (put_at_base Masters) nothing m.heap.zone) ≤ total of m.heap.zone) named
         (most nothing (put_at_base Masters) m.heap.zone)
     told-most a m named = least-bound (total of m.heap.zone)
+
+    -- each step of the Resource Manager
+    pub step-most : (step : Step) (m : Memory) → n ≡ length m.heap.names → told (gone_at step m) ≤ total of m.heap.zone
+    step-most (NewFilled role flags bytes) m named = made-bound nothing bytes m.heap named
+    step-most (NewEmpty role) m named = slot-most nothing m.heap named
+    step-most (Refill h flags bytes) m named =
+        subst (λ (j : ℕ). told (cond (has_block h m.heap) [] (found_gone (handle_at (Some h) m.heap)
+        (λ found. cond (is_some (phys (length bytes))) (room_gone j
+        (put_in_place (Relocatable found.number no_flags (replicate (length bytes) 0))) nothing m.heap.zone) [])))
+        ≤ total of m.heap.zone) named
+        (unless-bound (has_block h m.heap) _ (total of m.heap.zone)
+        (found-bound (handle_at (Some h) m.heap) _ (total of m.heap.zone)
+        (λ found. if-bound (is_some (phys (length bytes))) _ (total of m.heap.zone)
+        (most nothing (put_in_place (Relocatable found.number no_flags (replicate (length bytes) 0))) m.heap.zone))))
+    step-most (Release h) m named = least-bound (total of m.heap.zone)
+    step-most (Cast change h) m named = least-bound (total of m.heap.zone)
