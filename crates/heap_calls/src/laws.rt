@@ -129,7 +129,9 @@ pub fn compaction_moves_each_block_at_most_once()
 
 /// What a call tells a sink of is just what it purges. Where no handle has two blocks, one try of a call tells of a
 /// handle where the handle has a block before the call and none after it, and the call was not itself to take the
-/// block away: once, with the bytes that the block had. Each block that is told of was unlocked and purgeable.
+/// block away: once, with the bytes that the block had. Each block that is told of was unlocked and purgeable. So it is
+/// of each step that the Resource Manager takes. (A zone of more bytes than a zone can have is left out: it could hold a
+/// block whose copy has no size.)
 pub fn a_sink_is_told_of_what_goes()
     ensures goes { (asked : Asked) (m : Memory) → OneBlockEach m.heap.zone → sizes m.heap.zone ≤ GREATEST_ZONE
         → TellsWhatGoes asked m }

@@ -170,6 +170,7 @@ module _ (of : Block → ℕ) (none : (n : ℕ) → of (Free n) ≡ 0) (filled :
     pub of-gone : (test : Block → Bool) → Unseen of test → (zone : List Block)
         → total of zone ≤ total of (tidy (freed test zone))
     of-gone test unseen zone = omega (arith, of-freed test unseen zone, tidied of none (freed test zone))
+
     -- each call that purges nothing
     pub of-quiet : (a : Asked) (m : Memory) → purges a ≡ false → Spares of a
         → total of m.heap.zone ≤ total of (answered a m).1.heap.zone
@@ -280,7 +281,6 @@ module _ (of : Block → ℕ) (none : (n : ℕ) → of (Free n) ≡ 0) (goes : (
     (sized : (n : ℕ) (b : Block) → of b ≡ of (resized n b)) (filled : (x : List ℕ) (b : Block)
     → of b ≡ of (with_content x b))
   where
-
     of-rebuilt : (s : State) (o : Option (List Block)) → ((zone : List Block) → o ≡ Some zone
         → total of s.zone ≤ total of zone) → total of s.zone ≤ total of (rebuilt o s).1.zone
     of-rebuilt s None made = omega arith

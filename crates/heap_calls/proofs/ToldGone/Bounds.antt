@@ -1,4 +1,4 @@
-use Rattle.std.proofs.Common.{◌≡◌, ℕ, ◌+◌, ◌≤◌, ◌-◌, zero, suc, Bool, true, false, not, ◌&&◌, ◌||◌, List, [], ◌∷◌, ◌++◌}
+use Rattle.std.proofs.Common.{◌≡◌, ℕ, ◌+◌, ◌≤◌, ◌-◌, Bool, true, false, not, ◌||◌, List, [], ◌∷◌, ◌++◌}
 use Rattle.std.proofs.Common.{refl, sym, ◌∙◌, ap, subst, cond, arith, Option, Some, None, Result, Ok, Err, is_some, length}
 use Rattle.std.proofs.Common.{replicate, nat_le, nat_lt}
 use Rattle.std.proofs.lemmas.Bool.{and_parts}
@@ -17,7 +17,7 @@ use Rattle.block_store.proofs.Zone.Zones.{joined-segments, joined-is}
 use Rattle.block_store.proofs.Zone.Views.{map-some}
 use Rattle.block_store.proofs.Zone.Keeping.{unless-le, freed-is, based-le}
 use Rattle.heap_calls.specs.State.{State, Memory, used_slots, all_slots}
-use Rattle.heap_calls.specs.Answer.{Known, look_up, handle_at, nothing}
+use Rattle.heap_calls.specs.Answer.{look_up, handle_at, nothing}
 use Rattle.heap_calls.specs.Pointers.{pointed_at, reserved}
 use Rattle.heap_calls.specs.Purging.{is_loose, purgeable, blocks_purged}
 use Rattle.heap_calls.specs.Searches.{resized_at}
@@ -28,9 +28,7 @@ use Rattle.heap_calls.specs.Inside.{has_block}
 use Rattle.heap_calls.specs.Path.{Step, NewFilled, NewEmpty, Refill, Release, Cast, gone_at}
 use Rattle.heap_calls.specs.Busy.{barred, change_barred, both_barred, pointer_barred}
 use Rattle.heap_calls.specs.Gone.{Gone, gone_of, gone, room_gone, slot_gone, ready_gone, block_gone, made_gone, found_gone}
-use Rattle.heap_calls.specs.Gone.{gone_unless, in_place_gone, growth_gone, size_gone, new_handle_gone, reserve_gone}
-use Rattle.heap_calls.specs.Gone.{reallocate_handle_gone, set_handle_size_gone, hand_to_hand_gone, hand_and_hand_gone}
-use Rattle.heap_calls.specs.Gone.{pointer_and_hand_gone, set_pointer_size_gone}
+use Rattle.heap_calls.specs.Gone.{gone_unless, in_place_gone, growth_gone, size_gone, reserve_gone}
 use Rattle.heap_calls.specs.GoneBy.{gone_in}
 use Rattle.heap_calls.proofs.ToldGone.Sums.{Adds, room-told, purged-most, room-most}
 

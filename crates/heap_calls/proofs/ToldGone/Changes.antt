@@ -1,15 +1,14 @@
-use Rattle.std.proofs.Common.{◌≡◌, ℕ, ◌+◌, ◌≤◌, ◌-◌, zero, suc, Bool, true, false, not, ◌&&◌, ◌||◌, List, [], ◌∷◌, ◌++◌}
+use Rattle.std.proofs.Common.{◌≡◌, ℕ, ◌+◌, ◌≤◌, ◌-◌, Bool, true, false, not, List, [], ◌∷◌, ◌++◌}
 use Rattle.std.proofs.Common.{refl, sym, ◌∙◌, ap, subst, cond, arith, Option, Some, None, is_some, length}
 use Rattle.std.proofs.Common.{nat_le, nat_lt}
 use Rattle.std.proofs.lemmas.Bool.{and_parts}
-use Rattle.std.proofs.lemmas.Option.{same_Some}
 use Rattle.std.specs.Prelude.{unwrap_or, option_and_then}
 use Rattle.std.specs.Option.{option_map, option_or}
 use Rattle.block_store.specs.Block.{Block, Free, Masters, size, total, count, free, free_sum, is_mover, is_purgeable, resized}
 use Rattle.block_store.specs.Block.{tidy}
 use Rattle.block_store.specs.Run.{in_run, change_run, has_free, movers, joined, low, segments}
 use Rattle.block_store.specs.Room.{Spot, spot, filled, may_be_purged, put_at_base, put_in_place, purge, room}
-use Rattle.block_store.specs.Grow.{growth, taken, taken_low, grow_up, grow_nonrelocatable, grow_mover, grow_at, grow, freed}
+use Rattle.block_store.specs.Grow.{growth, taken, taken_low, grow_up, grow_nonrelocatable, grow_mover, grow_at, grow}
 use Rattle.block_store.specs.Compact.{beyond}
 use Rattle.block_store.proofs.Zone.Tidy.{spot-is}
 use Rattle.block_store.proofs.Zone.Totals.{total-append}

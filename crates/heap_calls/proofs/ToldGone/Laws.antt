@@ -1,4 +1,4 @@
-use Rattle.std.proofs.Common.{◌≡◌, ℕ, ◌+◌, ◌≤◌, ◌<◌, ◌-◌, ◌/◌, ◌%◌, zero, suc, Bool, true, false, not, ◌&&◌, ◌||◌, ◌==◌, List, []}
+use Rattle.std.proofs.Common.{◌≡◌, ℕ, ◌+◌, ◌≤◌, ◌<◌, ◌-◌, ◌/◌, ◌%◌, Bool, true, false, ◌&&◌, ◌||◌, ◌==◌, List, []}
 use Rattle.std.proofs.Common.{◌∷◌, ◌++◌, refl, sym, ◌∙◌, ap, subst, cond, arith, Option, Some, None, Result, Ok, Err, ◌⊎◌, inl, inr}
 use Rattle.std.proofs.Common.{length, nat_lt, is_some, replicate}
 use Rattle.std.proofs.lemmas.Bool.{cond-true, cond-false}
@@ -6,7 +6,7 @@ use Rattle.std.proofs.lemmas.Bool.Decides.{Decides-eqb, nat_tests}
 use Rattle.std.proofs.lemmas.Slice.Eq.{bytes_eq-Decides}
 use Rattle.std.specs.Prelude.{bytes_eq}
 use Rattle.mac_words.specs.declared.code.OsErr.{OsErr}
-use Rattle.mac_words.specs.Told.{Told, Refused}
+use Rattle.mac_words.specs.Told.{Told}
 use Rattle.mac_words.specs.Size.{phys}
 use Rattle.block_store.specs.declared.flags.Flags.{Flags}
 use Rattle.block_store.specs.Block.{Block, Free, Nonrelocatable, Masters, Relocatable, sizes, total, count, is_purgeable}
@@ -18,12 +18,12 @@ use Rattle.block_store.proofs.Zone.Leading.{count-none}
 use Rattle.block_store.proofs.Zone.Passing.{has-count}
 use Rattle.block_store.proofs.Zone.Keeping.{unless, freed-is}
 use Rattle.heap_calls.specs.State.{State, Memory}
-use Rattle.heap_calls.specs.Answer.{Known, handle_at, flagged, nothing}
+use Rattle.heap_calls.specs.Answer.{Known, handle_at, nothing}
 use Rattle.heap_calls.specs.Purging.{is_loose}
 use Rattle.heap_calls.specs.Asked.{Asked, answered}
 use Rattle.heap_calls.specs.Asked as asked
-use Rattle.heap_calls.specs.Busy.{gate, gated, notes, keep_code, served}
-use Rattle.heap_calls.specs.Emptying.{takes_block, has_purgeable}
+use Rattle.heap_calls.specs.Busy.{gate, gated, notes, keep_code}
+use Rattle.heap_calls.specs.Emptying.{takes_block}
 use Rattle.heap_calls.specs.Gone.{Gone, gone_of, gone_unless, found_gone, room_gone, refill_gone}
 use Rattle.heap_calls.specs.GoneBy.{gone_in}
 use Rattle.heap_calls.specs.ToldGone.{told_of, bytes_in, TellsWhatGoes, TellsOfPurgeable, StepTellsWhatGoes}
@@ -31,7 +31,6 @@ use Rattle.heap_calls.specs.Inside.{has_block, refill_inside, released_as, cast_
 use Rattle.heap_calls.specs.Path.{Step, NewFilled, NewEmpty, Refill, Release, Cast, stepped, gone_at, step_disposes}
 use Rattle.heap_calls.proofs.Gates.Served.{served-gated}
 use Rattle.heap_calls.proofs.Promises.LastPutLaws.{handle_at-name}
-use Rattle.heap_calls.proofs.Promises.AlikeCalls.{flagged-number}
 use Rattle.heap_calls.proofs.Promises.EmptyingLaws.{Unseen, Spares, purges, of-quiet, of-gone, is_of, is_of-rises}
 use Rattle.heap_calls.proofs.ToldGone.Sums.{Adds}
 use Rattle.heap_calls.proofs.ToldGone.Bounds.{told-most, step-most, loose-bound}
@@ -303,7 +302,7 @@ module _ (h : ℕ) (m : Memory) (within : h < length m.heap.names)
             let one = once h within in
             only (told_of h (row_gone a m.heap)) bytes (count (is_relocatable h) after)
             (omega (arith, counted)) (let l = even.0 in omega (arith, counted, l))
-            (elim even.1 [ | inl none ↦ inl none | inr most ↦ inr (omega (arith, counted, most)) ]) each
+            (elim even.1 [ inl none ↦ inl none | inr most ↦ inr (omega (arith, counted, most)) ]) each
             (has (is_relocatable h) after) (has-count (is_relocatable h) after) (count-none (is_relocatable h) after)
 
     -- what a step tells of a handle comes to no more than its blocks
@@ -359,8 +358,11 @@ module _ (h : ℕ) (m : Memory) (within : h < length m.heap.names)
             fresh (λ l. many (told_of h l)) refl (told-adds (λ x. 1) h)
             (λ b goes. told-one (λ x. 1) h (length m.heap.names) within b) (is_of-sized h) (is_of-filled h) once small k
             flags bytes (other-unseen h k e))
-    step-balance (Release k) keeps here = (by_found (handle_at (Some k) m.heap)
-        (λ found e. (handle_at-name k m.heap found e).1), inl refl)
+    step-balance (Release k) keeps here = (
+      by_found (handle_at (Some k) m.heap)
+          (λ found e. (handle_at-name k m.heap found e).1),
+      inl refl,
+    )
       where
         by_found : (r : Result Known OsErr) → ((found : Known) → r ≡ Ok found → found.number ≡ k)
             → count (is_relocatable h) m.heap.zone ≤ count (is_relocatable h) (released_as r m.heap).zone + 0
@@ -412,7 +414,7 @@ module _ (h : ℕ) (m : Memory) (within : h < length m.heap.names)
             let one = once h within in
             only (told_of h (gone_at step m)) bytes (count (is_relocatable h) after)
             (omega (arith, counted)) (let l = even.0 in omega (arith, counted, l))
-            (elim even.1 [ | inl none ↦ inl none | inr most ↦ inr (omega (arith, counted, most)) ]) (step-few step)
+            (elim even.1 [ inl none ↦ inl none | inr most ↦ inr (omega (arith, counted, most)) ]) (step-few step)
             (has (is_relocatable h) after) (has-count (is_relocatable h) after) (count-none (is_relocatable h) after)
 
         by_disposal : (t : Bool) → step_disposes step h ≡ t
@@ -508,14 +510,14 @@ tells-of-purgeable a m h some = (
     by_number : (t : Bool) → nat_lt h n ≡ t → h < n
     by_number true e = grind (arith, nat_tests, e)
     by_number false e = absurd (
-      let most = told-most n (λ b. 0) (λ k. refl) refl long refl long-adds (λ b goes. none e b) a m refl in
-      omega (arith, some, most, nothing_seen m.heap.zone))
+        let most = told-most n (λ b. 0) (λ k. refl) refl long refl long-adds (λ b goes. none e b) a m refl in
+        omega (arith, some, most, nothing_seen m.heap.zone))
 
     by_test : (t : Bool) → has own m.heap.zone ≡ t → t ≡ true
     by_test true e = refl
     by_test false e = absurd (
-      let most = told-most n (λ b. cond {A = ℕ} (own b) 1 0) (λ k. refl) refl long refl long-adds one a m refl in
-      omega (arith, some, most, count-none own m.heap.zone e))
+        let most = told-most n (λ b. cond {A = ℕ} (own b) 1 0) (λ k. refl) refl long refl long-adds one a m refl in
+        omega (arith, some, most, count-none own m.heap.zone e))
 
 -- what a step of the Resource Manager tells of a handle is what the handle loses
 pub step-tells-what-goes : (step : Step) (m : Memory)

@@ -1,10 +1,10 @@
-use Rattle.std.proofs.Common.{◌≡◌, ℕ, ◌+◌, ◌≤◌, ◌<◌, ◌-◌, ◌*◌, zero, suc, Bool, true, false, not, ◌&&◌, ◌||◌, ◌==◌, List, []}
-use Rattle.std.proofs.Common.{◌∷◌, ◌++◌, refl, sym, ◌∙◌, ap, subst, cond, arith, Option, Some, None, Result, Ok, Err, is_some}
-use Rattle.std.proofs.Common.{length, replicate, nat_le, nat_lt, slice_get}
+use Rattle.std.proofs.Common.{◌≡◌, ℕ, ◌+◌, ◌≤◌, ◌<◌, ◌-◌, Bool, true, false, not, ◌&&◌, ◌||◌, List, []}
+use Rattle.std.proofs.Common.{◌∷◌, ◌++◌, refl, sym, ap, subst, cond, arith, Option, Some, None, Result, Ok, Err, is_some}
+use Rattle.std.proofs.Common.{length, replicate, slice_get}
 use Rattle.std.proofs.lemmas.Bool.{cond-true, and_parts, le-leb}
 use Rattle.std.proofs.lemmas.Bool.Decides.{Decides-eqb}
 use Rattle.std.proofs.lemmas.List.{length-replicate}
-use Rattle.std.proofs.lemmas.Option.{slice_get_within, same_Some}
+use Rattle.std.proofs.lemmas.Option.{slice_get_within}
 use Rattle.std.specs.Prelude.{unwrap_or}
 use Rattle.std.specs.Option.{option_map}
 use Rattle.mac_words.specs.Size.{phys, padded}
@@ -14,17 +14,16 @@ use Rattle.block_store.specs.declared.flags.Flags.{Flags}
 use Rattle.block_store.specs.Block.{Block, Free, Nonrelocatable, Masters, Relocatable, sizes, total, count, is_mover}
 use Rattle.block_store.specs.Block.{is_purgeable, is_relocatable, is_nonrelocatable, content_of, with_content, no_flags, resized}
 use Rattle.block_store.specs.Run.{runs, has_free}
-use Rattle.block_store.specs.Room.{Spot, spot, may_be_purged, put_in_place, put_at_base, purge, room}
+use Rattle.block_store.specs.Room.{Spot, spot, may_be_purged, put_in_place, put_at_base, room}
 use Rattle.block_store.specs.Grow.{freed, grow}
 use Rattle.windows.specs.Writes.{written}
 use Rattle.block_store.proofs.Zone.Tidy.{spot-is, spot-passes}
 use Rattle.block_store.proofs.Zone.Totals.{total-append}
-use Rattle.block_store.proofs.Zone.Views.{map-some}
 use Rattle.block_store.proofs.Zone.Keeping.{settled-le}
 use Rattle.block_store.proofs.Zone.Surviving.{settled-all}
 use Rattle.heap_calls.specs.State.{State, Memory, Meaning, Role, Plain}
 use Rattle.heap_calls.specs.State as names
-use Rattle.heap_calls.specs.Answer.{Answer, Known, Held, nothing, given, refused, rebuilt, look_up, handle_at, for_found}
+use Rattle.heap_calls.specs.Answer.{Answer, Held, nothing, given, refused, rebuilt, look_up, handle_at, for_found}
 use Rattle.heap_calls.specs.Answer.{held_at, known_as}
 use Rattle.heap_calls.specs.Slots.{slotted, if_ready, made, new_block}
 use Rattle.heap_calls.specs.Pointers.{pointed_at, reserved, reserve_mem}
@@ -32,16 +31,15 @@ use Rattle.heap_calls.specs.Purging.{is_loose, reallocated, purgeable, blocks_pu
 use Rattle.heap_calls.specs.Copying.{append, appended, written_in}
 use Rattle.heap_calls.specs.Asked.{Asked, answered}
 use Rattle.heap_calls.specs.Asked as asked
-use Rattle.heap_calls.specs.Searches.{resized_at}
 use Rattle.heap_calls.specs.Inside.{has_block, refill, refill_inside}
-use Rattle.heap_calls.specs.Path.{Step, NewFilled, NewEmpty, Refill, Release, Cast, stepped, gone_at}
-use Rattle.heap_calls.specs.Gone.{Gone, gone_of, gone, room_gone, slot_gone, ready_gone, block_gone, made_gone, found_gone}
-use Rattle.heap_calls.specs.Gone.{growth_gone, size_gone, new_handle_gone, new_empty_handle_gone, set_handle_size_gone}
+use Rattle.heap_calls.specs.Path.{NewFilled, NewEmpty, Refill, stepped, gone_at}
+use Rattle.heap_calls.specs.Gone.{Gone, gone_of, room_gone, slot_gone, ready_gone, block_gone, found_gone}
+use Rattle.heap_calls.specs.Gone.{size_gone, new_handle_gone, new_empty_handle_gone, set_handle_size_gone}
 use Rattle.heap_calls.specs.Gone.{reallocate_handle_gone, hand_to_hand_gone, hand_and_hand_gone, pointer_and_hand_gone}
 use Rattle.heap_calls.specs.Gone.{new_pointer_gone, set_pointer_size_gone, purge_mem_gone, max_mem_gone, reserve_gone}
 use Rattle.heap_calls.specs.Gone.{more_masters_gone, refill_gone}
 use Rattle.heap_calls.proofs.NewBlocks.CopiedHandles.{source-few}
-use Rattle.heap_calls.proofs.Promises.Knowing.{look_up-spot, pointed_at-spot}
+use Rattle.heap_calls.proofs.Promises.Knowing.{look_up-spot}
 use Rattle.heap_calls.proofs.Promises.LastPutLaws.{handle_at-name}
 use Rattle.heap_calls.proofs.Promises.EmptyingLaws.{Unseen, Spares, purges, of-freed}
 use Rattle.heap_calls.proofs.Steps.Ways.{slotted_sparing-names}

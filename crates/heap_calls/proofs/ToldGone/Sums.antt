@@ -1,11 +1,10 @@
-use Rattle.std.proofs.Common.{◌≡◌, ℕ, ◌+◌, ◌-◌, ◌≤◌, zero, suc, Bool, true, false, not, ◌&&◌, List, [], ◌∷◌, ◌++◌, refl}
+use Rattle.std.proofs.Common.{◌≡◌, ℕ, ◌+◌, ◌-◌, ◌≤◌, zero, suc, Bool, true, false, List, [], ◌∷◌, ◌++◌, refl}
 use Rattle.std.proofs.Common.{sym, ◌∙◌, ap, cond, arith, Option, Some, None, is_some}
 use Rattle.std.proofs.lemmas.Bool.{cond-true, cond-false}
-use Rattle.block_store.specs.Block.{Block, Free, size, total, tidy}
-use Rattle.block_store.specs.Room.{may_be_purged, lowest_purged, purge, count_of, room, least, filled, place, put_in_place}
+use Rattle.block_store.specs.Block.{Block, Free, size, total}
+use Rattle.block_store.specs.Room.{may_be_purged, lowest_purged, purge, count_of, room, filled, place, put_in_place}
 use Rattle.block_store.specs.Compact.{least_or_last}
 use Rattle.block_store.proofs.Zone.Keeping.{tidied}
-use Rattle.heap_calls.specs.Inner.Search.{tries}
 use Rattle.heap_calls.specs.Searches.{room_searches}
 use Rattle.heap_calls.specs.Gone.{Gone, gone_of, gone, room_gone}
 use Rattle.heap_calls.proofs.GoneBlocks.{some-map}
