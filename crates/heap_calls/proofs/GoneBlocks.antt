@@ -190,7 +190,7 @@ told-all value zone rest es log k k' is same =
     ∙ ap (λ (m : Memory). gone (length m.heap.names) k nothing m.heap.zone) is
     ∙ ap (λ n. gone (length value.heap.names) n nothing value.heap.zone) same
 
-some-map : {A B : Type 0} (f : A → B) (o : Option A) → is_some (option_map f o) ≡ is_some o
+pub some-map : {A B : Type 0} (f : A → B) (o : Option A) → is_some (option_map f o) ≡ is_some o
 some-map f None = refl
 some-map f (Some x) = refl
 

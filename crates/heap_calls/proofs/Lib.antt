@@ -1,5 +1,6 @@
 pub mod Numbering
 pub mod Filled
+pub mod ToldGone
 pub mod Gates
 pub mod Room
 pub mod NewBlocks

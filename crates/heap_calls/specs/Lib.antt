@@ -25,6 +25,7 @@ pub mod Staying
 pub mod Inside
 pub mod Path
 pub mod GoneBy
+pub mod ToldGone
 pub mod Preloaded
 pub mod Owned
 pub mod Contents

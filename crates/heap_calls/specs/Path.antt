@@ -79,11 +79,6 @@ abbrev pub reads : List Step → Memory → List (ℕ × List ℕ)
 reads [] m = []
 reads (step ∷ steps) m = read_by step m ++ reads steps (stepped step m)
 
--- The blocks that the steps of a path purge for room, in order.
-abbrev pub gone_along : List Step → Memory → List Gone
-gone_along [] m = []
-gone_along (step ∷ steps) m = gone_at step m ++ gone_along steps (stepped step m)
-
 -- The bytes last put into each handle's block, after what was read.
 abbrev pub put_reads : List (ℕ × List ℕ) → (ℕ → List ℕ) → ℕ → List ℕ
 put_reads [] bytes = bytes

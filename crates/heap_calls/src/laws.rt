@@ -1,8 +1,9 @@
 //! Laws of the calls' definitions, and of each heap.
 
-ghost use Rattle.std.specs.Prelude.{◌≡◌, ◌<◌, ◌+◌, ◌%◌, ℕ, true, Some, Err, List, nat_lt, ◌≤◌};
+ghost use Rattle.std.specs.Prelude.{◌≡◌, ◌<◌, ◌+◌, ◌%◌, ℕ, true, Some, Err, List, length, nat_lt, ◌≤◌};
 ghost use Rattle.mac_words.specs.Size.{phys};
-ghost use Rattle.block_store.specs.Block.{Block, count, sizes, is_masters, is_mover, tidy};
+ghost use Rattle.block_store.specs.Block.{Block, count, sizes, is_masters, is_mover, is_relocatable, tidy};
+ghost use Rattle.block_store.specs.declared.measures.TheConstants.{GREATEST_ZONE};
 ghost use Rattle.block_store.specs.Compact.{largest_run};
 ghost use Rattle.block_store.specs.Rest.{Site};
 ghost use Rattle.heap_calls.specs.State.{State, Memory, used_slots, all_slots, fresh_memory};
@@ -12,11 +13,13 @@ ghost use Rattle.heap_calls.specs.Counts.{CountsSearches, CountsMoves};
 ghost use Rattle.heap_calls.specs.History.{after_calls};
 ghost use Rattle.heap_calls.specs.Locked.{OneBlockEach};
 ghost use Rattle.heap_calls.specs.FewSearches.{SearchesFew};
+ghost use Rattle.heap_calls.specs.Path.{Step};
 ghost use Rattle.heap_calls.specs.Lowering.{CompactCountsLowered, CompactRaisesNone, MaxCountsLowered, MaxRaisesNone};
 ghost use Rattle.heap_calls.specs.Refused.{RefusedLeaves, BarredLeaves};
 ghost use Rattle.heap_calls.specs.Staying.{ease, Parted, RefusedKeepsNoMore, LessStaysLater, KeepsBytes, KeepsMasters};
 ghost use Rattle.heap_calls.specs.Moves.{compact_mem_moves, max_mem_moves};
 ghost use Rattle.heap_calls.specs.Slots.{new_handle};
+ghost use Rattle.heap_calls.specs.ToldGone.{TellsWhatGoes, TellsOfPurgeable, StepTellsWhatGoes};
 ghost use Rattle.heap_calls.specs.Purging.{purged_all};
 
 use crate::heap::Heap;
@@ -123,3 +126,28 @@ pub fn compaction_moves_each_block_at_most_once()
     ensures compact_mem { (size : ℕ) (heap : State) → compact_mem_moves size heap ≤ count is_mover heap.zone }
     ensures max_mem { (heap : State) → max_mem_moves heap ≤ count is_mover heap.zone }
 {}
+
+/// What a call tells a sink of is just what it purges. Where no handle has two blocks, one try of a call tells of a
+/// handle where the handle has a block before the call and none after it, and the call was not itself to take the
+/// block away: once, with the bytes that the block had. Each block that is told of was unlocked and purgeable. So it is
+/// of each step that the Resource Manager takes. (A zone of more bytes than a zone can have is left out: it could hold a
+/// block whose copy has no size.)
+pub fn a_sink_is_told_of_what_goes()
+    ensures goes { (asked : Asked) (m : Memory) → OneBlockEach m.heap.zone → sizes m.heap.zone ≤ GREATEST_ZONE
+        → TellsWhatGoes asked m }
+    ensures purgeable { (asked : Asked) (m : Memory) → TellsOfPurgeable asked m }
+    ensures steps { (step : Step) (m : Memory) → OneBlockEach m.heap.zone → sizes m.heap.zone ≤ GREATEST_ZONE
+        → StepTellsWhatGoes step m }
+{}
+
+/// What each call on a heap tells a sink of is just what it purges, with no condition: no handle of a heap has two
+/// blocks, and its zone is no larger than a zone can be.
+pub fn a_heap_tells_what_goes<S: BlockStore>(heap: &Heap<S>)
+    ensures once { (h : ℕ) → h < length heap.now.heap.names → count (is_relocatable h) heap.now.heap.zone ≤ 1 }
+    ensures small { sizes heap.now.heap.zone ≤ GREATEST_ZONE }
+    ensures goes { (asked : Asked) → TellsWhatGoes asked heap.now }
+    ensures steps { (step : Step) → StepTellsWhatGoes step heap.now }
+{
+    // The invariant is known once a field is read.
+    let _ = heap.names.len();
+}

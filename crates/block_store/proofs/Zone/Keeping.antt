@@ -443,7 +443,7 @@ module _ (of : Block → ℕ) (none : (n : ℕ) → of (Free n) ≡ 0) (test : B
           unless-none test of r.above (omega arith),
         )
 
-    moved-le : (zone z : List Block) (new : Block) → count test zone ≤ 1 → grow_mover test new zone ≡ Some z
+    pub moved-le : (zone z : List Block) (new : Block) → count test zone ≤ 1 → grow_mover test new zone ≡ Some z
         → total of z ≤ of new + total (unless test of) zone
     moved-le zone z new once e =
         option_and_then_some (λ s. option_or (grow_up new s) (option_or (move_away test new zone)

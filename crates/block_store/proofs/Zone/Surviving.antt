@@ -39,7 +39,7 @@ unless-goes test of goes b e = one (test b)
 module _ (of : Block → ℕ) (none : (n : ℕ) → of (Free n) ≡ 0)
   where
     -- a run's blocks are Free or among the movers
-    movers-all : (run : List Block) → OneRun run → total of (movers run) ≡ total of run
+    pub movers-all : (run : List Block) → OneRun run → total of (movers run) ≡ total of run
     movers-all [] one = refl
     movers-all (Free n ∷ run) one = let r = movers-all run (omega arith) in omega (arith, none n)
     movers-all (Nonrelocatable id content ∷ run) one = absurd (omega arith)
@@ -156,13 +156,13 @@ module _ (of : Block → ℕ) (none : (n : ℕ) → of (Free n) ≡ 0)
         let c = changed-all (has_free p) settle (λ run one. let a = settle-all run one in
         omega arith) zone z changed in omega (arith, tidied of none z))
 
-    put-all : (new : Block) (zone z : List Block) → put_in_place new zone ≡ Some z → total of zone ≤ total of z
+    pub put-all : (new : Block) (zone z : List Block) → put_in_place new zone ≡ Some z → total of zone ≤ total of z
     put-all new zone z e =
         map-some (filled new) (place (size new) zone) z (total of zone ≤ total of z) e
         (λ s found is. let p = placed-all (size new) zone s found in
         omega (arith, ap (total of) is, filled-is of none new s))
 
-    based-all : (new : Block) (passes : List Block → Bool) (zone z : List Block)
+    pub based-all : (new : Block) (passes : List Block → Bool) (zone z : List Block)
         → option_map tidy (change_run passes (low new) zone) ≡ Some z → total of zone ≤ total of z
     based-all new passes zone z e =
         map-some tidy (change_run passes (low new) zone) z (total of zone ≤ total of z) e
@@ -189,7 +189,7 @@ module _ (of : Block → ℕ) (none : (n : ℕ) → of (Free n) ≡ 0)
         let r = settled-runs k (segments zone).first (segments zone).rest all.0 all.1 in
         omega (arith, ap (total of) (joined-segments zone))
 
-    taken-all : (d : ℕ) (above z : List Block) → taken d above ≡ Some z → total of above ≤ total of z
+    pub taken-all : (d : ℕ) (above z : List Block) → taken d above ≡ Some z → total of above ≤ total of z
     taken-all d above z e =
         taken-some d above z (total of above ≤ total of z) e
         (λ next rest is fits new. omega (
@@ -208,7 +208,7 @@ module _ (of : Block → ℕ) (none : (n : ℕ) → of (Free n) ≡ 0)
         here (Relocatable id flags content) e = let f : false ≡ true = e in cc
 
     -- the only block that passes, and the others
-    whole : (test : Block → Bool) (zone : List Block) (s : Spot) → spot test zone ≡ Some s → count test zone ≤ 1
+    pub whole : (test : Block → Bool) (zone : List Block) (s : Spot) → spot test zone ≡ Some s → count test zone ≤ 1
         → total of zone ≡ of s.here + total (unless test of) zone
     whole test zone s e once =
         let a = apart test zone s e once in
@@ -338,7 +338,7 @@ module _ (of : Block → ℕ) (none : (n : ℕ) → of (Free n) ≡ 0) (test : B
           total-append of s.below (new ∷ above),
         ))
 
-    moved-all : (zone z : List Block) (new : Block) → grow_mover test new zone ≡ Some z
+    pub moved-all : (zone z : List Block) (new : Block) → grow_mover test new zone ≡ Some z
         → of new + total (unless test of) zone ≤ total of z
     moved-all zone z new e =
         option_and_then_some (λ s. option_or (grow_up new s) (option_or (move_away test new zone)

@@ -98,8 +98,24 @@ flags-rise of change rises (Some k) s = by_spot (look_up (Some k) s) (λ held is
     by_spot (Ok held) found = swapped-rises of (is_relocatable k) s.zone held.at (flagged change held.at.here)
         (found held refl) (rises held.at.here)
 
-module _ (of : Block → ℕ) (none : (n : ℕ) → of (Free n) ≡ 0) (goes : (b : Block) → is_purgeable b ≡ true → of b ≡ 0)
-    (sized : (n : ℕ) (b : Block) → of b ≡ of (resized n b)) (filled : (x : List ℕ) (b : Block)
+-- a call that may purge blocks for room
+abbrev pub purges : Asked → Bool
+purges (asked.NewHandle n) = true
+purges asked.NewEmptyHandle = true
+purges (asked.SetHandleSize handle n) = true
+purges (asked.ReallocateHandle handle n) = true
+purges (asked.HandToHand handle) = true
+purges (asked.HandAndHand from to) = true
+purges (asked.PtrAndHand handle x) = true
+purges (asked.NewPtr n) = true
+purges (asked.SetPtrSize pointer n) = true
+purges (asked.PurgeMem n) = true
+purges asked.MaxMem = true
+purges (asked.ReserveMem n) = true
+purges asked.MoreMasters = true
+purges a = false
+
+module _ (of : Block → ℕ) (none : (n : ℕ) → of (Free n) ≡ 0) (filled : (x : List ℕ) (b : Block)
     → of b ≡ of (with_content x b))
   where
     -- a state that is as it was
@@ -112,40 +128,6 @@ module _ (of : Block → ℕ) (none : (n : ℕ) → of (Free n) ≡ 0) (goes : (
         → total of s.zone ≤ total of (for_found r s answer).1.zone
     of-found (Err code) s answer each = omega arith
     of-found (Ok k) s answer each = each k refl
-
-    of-rebuilt : (s : State) (o : Option (List Block)) → ((zone : List Block) → o ≡ Some zone
-        → total of s.zone ≤ total of zone) → total of s.zone ≤ total of (rebuilt o s).1.zone
-    of-rebuilt s None made = omega arith
-    of-rebuilt s (Some zone) made = made zone refl
-
-    pub of-slotted : (sp : Block → Bool) (s r : State) → slotted sp s ≡ Some r → total of s.zone ≤ total of r.zone
-    of-slotted sp s r e = by_slots (nat_lt (used_slots s) (all_slots s)) e
-      where
-        by_slots : (t : Bool) → cond t (Some s) (more_masters sp s) ≡ Some r → total of s.zone ≤ total of r.zone
-        by_slots true e = unmoved s r (sym (same_Some _ _ e))
-        by_slots false e =
-            map-some (λ zone. record s { zone = zone }) (room (put_at_base Masters) sp s.zone) r
-            (total of s.zone ≤ total of r.zone) e
-            (λ zone made is. let l = base-all of none goes Masters sp s.zone zone made in
-            let z : total of zone ≡ total of r.zone = ap (λ (x : State). total of x.zone) is in omega arith)
-
-    of-made : (sp : Block → Bool) (x : List ℕ) (s : State) → total of s.zone ≤ total of (new_block sp x s).1.zone
-    of-made sp x s = by_room (room (put_in_place (Relocatable (length s.names) no_flags x)) sp s.zone) refl
-      where
-        by_room : (o : Option (List Block)) → room (put_in_place (Relocatable (length s.names) no_flags x)) sp s.zone
-            ≡ o → total of s.zone ≤ total of (given (names.Handle Plain) o s).1.zone
-        by_room None e = omega arith
-        by_room (Some zone) e = made-all of none goes (Relocatable (length s.names) no_flags x) sp s.zone zone e
-
-    of-ready : {T : Type 0} (sp : Block → Bool) (s : State) (answer : State → Answer T)
-        → ((r : State) → total of r.zone ≤ total of (answer r).1.zone)
-        → total of s.zone ≤ total of (if_ready (slotted sp s) s answer).1.zone
-    of-ready sp s answer next = by_ready (slotted sp s) (of-slotted sp s)
-      where
-        by_ready : (o : Option State) → ((r : State) → o ≡ Some r → total of s.zone ≤ total of r.zone)
-            → total of s.zone ≤ total of (if_ready o s answer).1.zone
-        by_ready None ready = omega arith
-        by_ready (Some r) ready = let a = ready r refl in let b = next r in omega arith
 
     of-moved : (handle : Option ℕ) (s : State) → total of s.zone ≤ total of (move_h_hi handle s).1.zone
     of-moved handle s = of-found (look_up handle s) s (λ held. if is_mover held.at.here
@@ -171,6 +153,167 @@ module _ (of : Block → ℕ) (none : (n : ℕ) → of (Free n) ≡ 0) (goes : (
         by_test true = swapped-rises of test s.zone at new found
             (let f = filled (written i x (content_of at.here)) at.here in omega arith)
         by_test false = omega arith
+
+    -- blocks that come to nothing are Free
+    pub of-freed : (test : Block → Bool) → Unseen of test → (bs : List Block) → total of bs ≡ total of (freed test bs)
+    of-freed test unseen bs = sym (freed-is of none test bs ∙ rest bs)
+      where
+        rest : (bs : List Block) → total (unless test of) bs ≡ total of bs
+        rest [] = refl
+        rest (b ∷ bs) = cases (test b) refl (rest bs)
+          where
+            cases : (t : Bool) → test b ≡ t → total (unless test of) bs ≡ total of bs
+                → cond t 0 (of b) + total (unless test of) bs ≡ of b + total of bs
+            cases true e r = omega (arith, unseen b e)
+            cases false e r = omega arith
+
+    pub of-gone : (test : Block → Bool) → Unseen of test → (zone : List Block)
+        → total of zone ≤ total of (tidy (freed test zone))
+    of-gone test unseen zone = omega (arith, of-freed test unseen zone, tidied of none (freed test zone))
+
+    -- each call that purges nothing
+    pub of-quiet : (a : Asked) (m : Memory) → purges a ≡ false → Spares of a
+        → total of m.heap.zone ≤ total of (answered a m).1.heap.zone
+    of-quiet (asked.DisposeHandle None) m quiet spares = omega arith
+    of-quiet (asked.DisposeHandle (Some k)) m quiet spares =
+        of-found (handle_at (Some k) m.heap) m.heap (λ found. disposed_of found.role found.number m.heap)
+        (λ found is. subst (λ (j : ℕ). total of m.heap.zone ≤ total of (disposed_of found.role j m.heap).1.zone)
+        (sym (handle_at-name k m.heap found is).1) (by_role found.role))
+      where
+        by_role : (role : Role) → total of m.heap.zone ≤ total of (disposed_of role k m.heap).1.zone
+        by_role Plain = of-gone (is_relocatable k) spares m.heap.zone
+        by_role Resource = omega arith
+        by_role SystemResource = omega arith
+    of-quiet (asked.GetHandleSize handle) m quiet spares =
+        unmoved m.heap (answered (asked.GetHandleSize handle) m).1.heap
+        (found-same (look_up handle m.heap) m.heap (λ held. (Ok (length (content_of held.at.here)), m.heap))
+        (λ held. refl))
+    of-quiet (asked.EmptyHandle None) m quiet spares = omega arith
+    of-quiet (asked.EmptyHandle (Some h)) m quiet spares =
+        of-found (handle_at (Some h) m.heap) m.heap (λ k. emptied_at k.number
+        (spot (is_relocatable k.number) m.heap.zone) m.heap)
+        (λ k is. subst (λ (j : ℕ). total of m.heap.zone ≤ total of
+        (emptied_at j (spot (is_relocatable j) m.heap.zone) m.heap).1.zone) (sym (handle_at-name h m.heap k is).1)
+        (by_spot (spot (is_relocatable h) m.heap.zone)))
+      where
+        by_mover : (t : Bool) → total of m.heap.zone ≤ total of (cond t
+            (let gone : Answer (Unit {0}) = (
+              Ok tt,
+              record m.heap {
+                zone = tidy
+                    (freed (is_relocatable h) m.heap.zone);
+              },
+            ) in gone) (refused PURGED m.heap)).1.zone
+        by_mover true = of-gone (is_relocatable h) spares m.heap.zone
+        by_mover false = omega arith
+
+        by_spot : (o : Option Spot) → total of m.heap.zone ≤ total of (emptied_at h o m.heap).1.zone
+        by_spot None = omega arith
+        by_spot (Some at) = by_mover (is_mover at.here)
+    of-quiet (asked.HLock handle) m quiet spares = flags-rise of (λ f. record f { locked = true }) spares handle
+        m.heap
+    of-quiet (asked.HUnlock handle) m quiet spares = flags-rise of (λ f. record f { locked = false }) spares handle
+        m.heap
+    of-quiet (asked.HPurge handle) m quiet spares = flags-rise of (λ f. record f { purgeable = true }) spares handle
+        m.heap
+    of-quiet (asked.HNoPurge handle) m quiet spares = flags-rise of (λ f. record f { purgeable = false }) spares
+        handle m.heap
+    of-quiet (asked.HGetState handle) m quiet spares =
+        unmoved m.heap (answered (asked.HGetState handle) m).1.heap
+        (found-same (handle_at handle m.heap) m.heap (λ k. on_block handle m.heap
+        (λ held. (Ok (block_bits held.at.here + cond (is_resource k.role) 32 0), m.heap)))
+        (λ k. found-same (look_up handle m.heap) m.heap (λ held.
+        (Ok (block_bits held.at.here + cond (is_resource k.role) 32 0), m.heap)) (λ held. refl)))
+    of-quiet (asked.HSetState handle byte) m quiet spares = flags-rise of
+        (λ f. record { locked = byte / 128 % 2 == 1; purgeable = byte / 64 % 2 == 1 }) spares handle m.heap
+    of-quiet (asked.MoveHHi handle) m quiet spares = of-moved handle m.heap
+    of-quiet (asked.HLockHi handle) m quiet spares = cases (move_h_hi handle m.heap).0
+      where
+        cases : (r : Result (Unit {0}) OsErr) → total of m.heap.zone ≤ total of
+            (for_found r m.heap (λ (u : Unit {0}). calls.h_lock handle (move_h_hi handle m.heap).1)).1.zone
+        cases (Err code) = omega arith
+        cases (Ok u) =
+            let a = of-moved handle m.heap in
+            let b = flags-rise of (λ f. record f { locked = true }) spares handle (move_h_hi handle m.heap).1 in
+            omega arith
+    of-quiet (asked.DisposePtr None) m quiet spares = omega arith
+    of-quiet (asked.DisposePtr (Some p)) m quiet spares =
+        of-found (pointed_at (Some p) m.heap) m.heap (λ held. (
+          Ok tt,
+          record {
+            zone = tidy (freed (is_nonrelocatable held.number) m.heap.zone);
+            names = slice_set m.heap.names held.number
+                names.Disposed;
+          },
+        ))
+        (λ held is. subst (λ (j : ℕ). total of m.heap.zone ≤ total of (tidy (freed (is_nonrelocatable j) m.heap.zone)))
+        (sym (pointed_at-spot p m.heap held is).1) (of-gone (is_nonrelocatable p) spares m.heap.zone))
+    of-quiet (asked.GetPtrSize pointer) m quiet spares =
+        unmoved m.heap (answered (asked.GetPtrSize pointer) m).1.heap
+        (found-same (pointed_at pointer m.heap) m.heap (λ held. (Ok (length (content_of held.at.here)), m.heap))
+        (λ held. refl))
+    of-quiet asked.FreeMem m quiet spares = omega arith
+    of-quiet asked.MaxBlock m quiet spares = omega arith
+    of-quiet asked.PurgeSpace m quiet spares = omega arith
+    of-quiet (asked.CompactMem n) m quiet spares = settled-all of none (runs_settled (phys n) m.heap.zone) m.heap.zone
+    of-quiet asked.MemError m quiet spares = omega arith
+    of-quiet (asked.Put None i x) m quiet spares = omega arith
+    of-quiet (asked.Put (Some k) i x) m quiet spares =
+        of-found (look_up (Some k) m.heap) m.heap (λ held. written_at i x held.at m.heap)
+        (λ held is. of-put_at (is_relocatable k) i x m.heap held.at (look_up-spot k m.heap held is).0)
+    of-quiet (asked.Show handle) m quiet spares =
+        unmoved m.heap (answered (asked.Show handle) m).1.heap (found-same (look_up handle m.heap) m.heap
+        (λ held. (Ok (content_of held.at.here), m.heap)) (λ held. refl))
+    of-quiet (asked.PutPtr None i x) m quiet spares = omega arith
+    of-quiet (asked.PutPtr (Some p) i x) m quiet spares =
+        of-found (pointed_at (Some p) m.heap) m.heap (λ held. written_at i x held.at m.heap)
+        (λ held is. of-put_at (is_nonrelocatable p) i x m.heap held.at (pointed_at-spot p m.heap held is).0)
+    of-quiet (asked.ShowPtr pointer) m quiet spares =
+        unmoved m.heap (answered (asked.ShowPtr pointer) m).1.heap
+        (found-same (pointed_at pointer m.heap) m.heap (λ held. (Ok (content_of held.at.here), m.heap))
+        (λ held. refl))
+    of-quiet (asked.Where name) m quiet spares =
+        unmoved m.heap (answered (asked.Where name) m).1.heap (found-same (block_named name m.heap) m.heap
+        (λ held. (Ok (sizes held.at.below + 16), m.heap)) (λ held. refl))
+    of-quiet a m quiet spares = let f : true ≡ false = quiet in cc
+
+module _ (of : Block → ℕ) (none : (n : ℕ) → of (Free n) ≡ 0) (goes : (b : Block) → is_purgeable b ≡ true → of b ≡ 0)
+    (sized : (n : ℕ) (b : Block) → of b ≡ of (resized n b)) (filled : (x : List ℕ) (b : Block)
+    → of b ≡ of (with_content x b))
+  where
+    of-rebuilt : (s : State) (o : Option (List Block)) → ((zone : List Block) → o ≡ Some zone
+        → total of s.zone ≤ total of zone) → total of s.zone ≤ total of (rebuilt o s).1.zone
+    of-rebuilt s None made = omega arith
+    of-rebuilt s (Some zone) made = made zone refl
+
+    pub of-slotted : (sp : Block → Bool) (s r : State) → slotted sp s ≡ Some r → total of s.zone ≤ total of r.zone
+    of-slotted sp s r e = by_slots (nat_lt (used_slots s) (all_slots s)) e
+      where
+        by_slots : (t : Bool) → cond t (Some s) (more_masters sp s) ≡ Some r → total of s.zone ≤ total of r.zone
+        by_slots true e = unmoved of none filled s r (sym (same_Some _ _ e))
+        by_slots false e =
+            map-some (λ zone. record s { zone = zone }) (room (put_at_base Masters) sp s.zone) r
+            (total of s.zone ≤ total of r.zone) e
+            (λ zone made is. let l = base-all of none goes Masters sp s.zone zone made in
+            let z : total of zone ≡ total of r.zone = ap (λ (x : State). total of x.zone) is in omega arith)
+
+    of-made : (sp : Block → Bool) (x : List ℕ) (s : State) → total of s.zone ≤ total of (new_block sp x s).1.zone
+    of-made sp x s = by_room (room (put_in_place (Relocatable (length s.names) no_flags x)) sp s.zone) refl
+      where
+        by_room : (o : Option (List Block)) → room (put_in_place (Relocatable (length s.names) no_flags x)) sp s.zone
+            ≡ o → total of s.zone ≤ total of (given (names.Handle Plain) o s).1.zone
+        by_room None e = omega arith
+        by_room (Some zone) e = made-all of none goes (Relocatable (length s.names) no_flags x) sp s.zone zone e
+
+    of-ready : {T : Type 0} (sp : Block → Bool) (s : State) (answer : State → Answer T)
+        → ((r : State) → total of r.zone ≤ total of (answer r).1.zone)
+        → total of s.zone ≤ total of (if_ready (slotted sp s) s answer).1.zone
+    of-ready sp s answer next = by_ready (slotted sp s) (of-slotted sp s)
+      where
+        by_ready : (o : Option State) → ((r : State) → o ≡ Some r → total of s.zone ≤ total of r.zone)
+            → total of s.zone ≤ total of (if_ready o s answer).1.zone
+        by_ready None ready = omega arith
+        by_ready (Some r) ready = let a = ready r refl in let b = next r in omega arith
 
     of-sized : (k : ℕ) (sp : Block → Bool) (n : ℕ) (zone z : List Block) → OneBlockEach zone
         → grow (is_relocatable k) sp n zone ≡ Some z → total of zone ≤ total of z
@@ -200,23 +343,6 @@ module _ (of : Block → ℕ) (none : (n : ℕ) → of (Free n) ≡ 0) (goes : (
         by_size true = by_zone grew refl
         by_size false = omega arith
 
-    -- blocks that come to nothing are Free
-    of-freed : (test : Block → Bool) → Unseen of test → (bs : List Block) → total of bs ≡ total of (freed test bs)
-    of-freed test unseen bs = sym (freed-is of none test bs ∙ rest bs)
-      where
-        rest : (bs : List Block) → total (unless test of) bs ≡ total of bs
-        rest [] = refl
-        rest (b ∷ bs) = cases (test b) refl (rest bs)
-          where
-            cases : (t : Bool) → test b ≡ t → total (unless test of) bs ≡ total of bs
-                → cond t 0 (of b) + total (unless test of) bs ≡ of b + total of bs
-            cases true e r = omega (arith, unseen b e)
-            cases false e r = omega arith
-
-    pub of-gone : (test : Block → Bool) → Unseen of test → (zone : List Block)
-        → total of zone ≤ total of (tidy (freed test zone))
-    of-gone test unseen zone = omega (arith, of-freed test unseen zone, tidied of none (freed test zone))
-
     -- each call
     pub of-answered : (a : Asked) (m : Memory) → OneBlockEach m.heap.zone → Spares of a
         → total of m.heap.zone ≤ total of (answered a m).1.heap.zone
@@ -230,22 +356,8 @@ module _ (of : Block → ℕ) (none : (n : ℕ) → of (Free n) ≡ 0) (goes : (
         by_size r false = omega arith
     of-answered asked.NewEmptyHandle m once spares = of-ready nothing m.heap
         (λ ready. given (names.Handle Plain) (Some ready.zone) ready) (λ r. omega arith)
-    of-answered (asked.DisposeHandle None) m once spares = omega arith
-    of-answered (asked.DisposeHandle (Some k)) m once spares =
-        of-found (handle_at (Some k) m.heap) m.heap (λ found. disposed_of found.role found.number m.heap)
-        (λ found is. subst (λ (j : ℕ). total of m.heap.zone ≤ total of (disposed_of found.role j m.heap).1.zone)
-        (sym (handle_at-name k m.heap found is).1) (by_role found.role))
-      where
-        by_role : (role : Role) → total of m.heap.zone ≤ total of (disposed_of role k m.heap).1.zone
-        by_role Plain = of-gone (is_relocatable k) spares m.heap.zone
-        by_role Resource = omega arith
-        by_role SystemResource = omega arith
-    of-answered (asked.GetHandleSize handle) m once spares =
-        unmoved m.heap (answered (asked.GetHandleSize handle) m).1.heap
-        (found-same (look_up handle m.heap) m.heap (λ held. (Ok (length (content_of held.at.here)), m.heap))
-        (λ held. refl))
     of-answered (asked.SetHandleSize handle n) m once spares =
-        of-found (look_up handle m.heap) m.heap (λ held. if is_some (phys n)
+        of-found of none filled (look_up handle m.heap) m.heap (λ held. if is_some (phys n)
         then rebuilt (grow (is_relocatable held.number) (is_relocatable held.number) n m.heap.zone) m.heap
         else refused MEM_FULL m.heap)
         (λ held is. by_size held.number (is_some (phys n)))
@@ -258,7 +370,7 @@ module _ (of : Block → ℕ) (none : (n : ℕ) → of (Free n) ≡ 0) (goes : (
         by_size j false = omega arith
     of-answered (asked.ReallocateHandle None n) m once spares = omega arith
     of-answered (asked.ReallocateHandle (Some h) n) m once spares =
-        of-found (handle_at (Some h) m.heap) m.heap (λ k. answer k.number)
+        of-found of none filled (handle_at (Some h) m.heap) m.heap (λ k. answer k.number)
         (λ k is. subst (λ (j : ℕ). total of zone ≤ total of (answer j).1.zone) (sym (handle_at-name h m.heap k is).1)
         (by_tests (is_loose (spot (is_relocatable h) zone)) (is_some (phys n))))
       where
@@ -275,67 +387,19 @@ module _ (of : Block → ℕ) (none : (n : ℕ) → of (Free n) ≡ 0) (goes : (
         by_tests true true =
             of-rebuilt m.heap (reallocated h n zone)
             (λ z made. let l = made-all of none goes (Relocatable h no_flags (replicate n 0)) nothing
-            (freed (is_relocatable h) zone) z made in let f = of-freed (is_relocatable h) spares zone in
+            (freed (is_relocatable h) zone) z made in let f = of-freed of none filled (is_relocatable h) spares zone in
             omega arith)
         by_tests true false = omega arith
         by_tests false u = omega arith
-    of-answered (asked.EmptyHandle None) m once spares = omega arith
-    of-answered (asked.EmptyHandle (Some h)) m once spares =
-        of-found (handle_at (Some h) m.heap) m.heap (λ k. emptied_at k.number
-        (spot (is_relocatable k.number) m.heap.zone) m.heap)
-        (λ k is. subst (λ (j : ℕ). total of m.heap.zone ≤ total of
-        (emptied_at j (spot (is_relocatable j) m.heap.zone) m.heap).1.zone) (sym (handle_at-name h m.heap k is).1)
-        (by_spot (spot (is_relocatable h) m.heap.zone)))
-      where
-        by_mover : (t : Bool) → total of m.heap.zone ≤ total of (cond t
-            (let gone : Answer (Unit {0}) = (
-              Ok tt,
-              record m.heap {
-                zone = tidy
-                    (freed (is_relocatable h) m.heap.zone);
-              },
-            ) in gone) (refused PURGED m.heap)).1.zone
-        by_mover true = of-gone (is_relocatable h) spares m.heap.zone
-        by_mover false = omega arith
-
-        by_spot : (o : Option Spot) → total of m.heap.zone ≤ total of (emptied_at h o m.heap).1.zone
-        by_spot None = omega arith
-        by_spot (Some at) = by_mover (is_mover at.here)
-    of-answered (asked.HLock handle) m once spares = flags-rise of (λ f. record f { locked = true }) spares handle
-        m.heap
-    of-answered (asked.HUnlock handle) m once spares = flags-rise of (λ f. record f { locked = false }) spares handle
-        m.heap
-    of-answered (asked.HPurge handle) m once spares = flags-rise of (λ f. record f { purgeable = true }) spares handle
-        m.heap
-    of-answered (asked.HNoPurge handle) m once spares = flags-rise of (λ f. record f { purgeable = false }) spares
-        handle m.heap
-    of-answered (asked.HGetState handle) m once spares =
-        unmoved m.heap (answered (asked.HGetState handle) m).1.heap
-        (found-same (handle_at handle m.heap) m.heap (λ k. on_block handle m.heap
-        (λ held. (Ok (block_bits held.at.here + cond (is_resource k.role) 32 0), m.heap)))
-        (λ k. found-same (look_up handle m.heap) m.heap (λ held.
-        (Ok (block_bits held.at.here + cond (is_resource k.role) 32 0), m.heap)) (λ held. refl)))
-    of-answered (asked.HSetState handle byte) m once spares = flags-rise of
-        (λ f. record { locked = byte / 128 % 2 == 1; purgeable = byte / 64 % 2 == 1 }) spares handle m.heap
-    of-answered (asked.MoveHHi handle) m once spares = of-moved handle m.heap
-    of-answered (asked.HLockHi handle) m once spares = cases (move_h_hi handle m.heap).0
-      where
-        cases : (r : Result (Unit {0}) OsErr) → total of m.heap.zone ≤ total of
-            (for_found r m.heap (λ (u : Unit {0}). calls.h_lock handle (move_h_hi handle m.heap).1)).1.zone
-        cases (Err code) = omega arith
-        cases (Ok u) =
-            let a = of-moved handle m.heap in
-            let b = flags-rise of (λ f. record f { locked = true }) spares handle (move_h_hi handle m.heap).1 in
-            omega arith
     of-answered (asked.HandToHand handle) m once spares =
-        of-found (look_up handle m.heap) m.heap (λ held. if_ready (slotted (is_relocatable held.number) m.heap) m.heap
+        of-found of none filled (look_up handle m.heap) m.heap (λ held. if_ready (slotted (is_relocatable held.number) m.heap) m.heap
         (new_block (is_relocatable held.number) (content_of held.at.here)))
         (λ held is. of-ready (is_relocatable held.number) m.heap
         (new_block (is_relocatable held.number) (content_of held.at.here))
         (of-made (is_relocatable held.number) (content_of held.at.here)))
     of-answered (asked.HandAndHand from to) m once spares =
-        of-found (look_up from m.heap) m.heap (λ a. for_found (look_up to m.heap) m.heap (answer a))
-        (λ a is. of-found (look_up to m.heap) m.heap (answer a)
+        of-found of none filled (look_up from m.heap) m.heap (λ a. for_found (look_up to m.heap) m.heap (answer a))
+        (λ a is. of-found of none filled (look_up to m.heap) m.heap (answer a)
         (λ b is. of-appended (λ block. is_relocatable a.number block || is_relocatable b.number block) b.number
         (length (content_of b.at.here)) (content_of a.at.here) m.heap once))
       where
@@ -343,7 +407,7 @@ module _ (of : Block → ℕ) (none : (n : ℕ) → of (Free n) ≡ 0) (goes : (
         answer a b = append (λ block. is_relocatable a.number block || is_relocatable b.number block) b.number
             (length (content_of b.at.here)) (content_of a.at.here) m.heap
     of-answered (asked.PtrAndHand handle x) m once spares =
-        of-found (look_up handle m.heap) m.heap (λ held. append (is_relocatable held.number) held.number
+        of-found of none filled (look_up handle m.heap) m.heap (λ held. append (is_relocatable held.number) held.number
         (length (content_of held.at.here)) x m.heap)
         (λ held is. of-appended (is_relocatable held.number) held.number (length (content_of held.at.here)) x m.heap
         once)
@@ -361,24 +425,8 @@ module _ (of : Block → ℕ) (none : (n : ℕ) → of (Free n) ≡ 0) (goes : (
             (refused MEM_FULL m.heap)).1.zone
         by_size true = by_room made refl
         by_size false = omega arith
-    of-answered (asked.DisposePtr None) m once spares = omega arith
-    of-answered (asked.DisposePtr (Some p)) m once spares =
-        of-found (pointed_at (Some p) m.heap) m.heap (λ held. (
-          Ok tt,
-          record {
-            zone = tidy (freed (is_nonrelocatable held.number) m.heap.zone);
-            names = slice_set m.heap.names held.number
-                names.Disposed;
-          },
-        ))
-        (λ held is. subst (λ (j : ℕ). total of m.heap.zone ≤ total of (tidy (freed (is_nonrelocatable j) m.heap.zone)))
-        (sym (pointed_at-spot p m.heap held is).1) (of-gone (is_nonrelocatable p) spares m.heap.zone))
-    of-answered (asked.GetPtrSize pointer) m once spares =
-        unmoved m.heap (answered (asked.GetPtrSize pointer) m).1.heap
-        (found-same (pointed_at pointer m.heap) m.heap (λ held. (Ok (length (content_of held.at.here)), m.heap))
-        (λ held. refl))
     of-answered (asked.SetPtrSize pointer n) m once spares =
-        of-found (pointed_at pointer m.heap) m.heap (λ held. if is_some (phys n)
+        of-found of none filled (pointed_at pointer m.heap) m.heap (λ held. if is_some (phys n)
         then rebuilt (grow (is_nonrelocatable held.number) nothing n m.heap.zone) m.heap else refused MEM_FULL m.heap)
         (λ held is. by_size held.number (is_some (phys n)))
       where
@@ -396,10 +444,6 @@ module _ (of : Block → ℕ) (none : (n : ℕ) → of (Free n) ≡ 0) (goes : (
             (λ s found mover. still j s.here (count (is_nonrelocatable j) m.heap.zone ≤ 1)
             (spot-passes (is_nonrelocatable j) m.heap.zone s found) mover) e)
         by_size j false = omega arith
-    of-answered asked.FreeMem m once spares = omega arith
-    of-answered asked.MaxBlock m once spares = omega arith
-    of-answered asked.PurgeSpace m once spares = omega arith
-    of-answered (asked.CompactMem n) m once spares = settled-all of none (runs_settled (phys n) m.heap.zone) m.heap.zone
     of-answered (asked.PurgeMem n) m once spares = let p = purged-all of none goes (blocks_purged (phys n) m.heap.zone)
         nothing m.heap.zone in omega arith
     of-answered asked.MaxMem m once spares =
@@ -420,32 +464,14 @@ module _ (of : Block → ℕ) (none : (n : ℕ) → of (Free n) ≡ 0) (goes : (
             (option_map (λ zone. record m.heap { zone = zone }) o)) m.heap).1.zone
         by_room None e = omega arith
         by_room (Some zone) e = base-all of none goes Masters nothing m.heap.zone zone e
-    of-answered asked.MemError m once spares = omega arith
-    of-answered (asked.Put None i x) m once spares = omega arith
-    of-answered (asked.Put (Some k) i x) m once spares =
-        of-found (look_up (Some k) m.heap) m.heap (λ held. written_at i x held.at m.heap)
-        (λ held is. of-put_at (is_relocatable k) i x m.heap held.at (look_up-spot k m.heap held is).0)
-    of-answered (asked.Show handle) m once spares =
-        unmoved m.heap (answered (asked.Show handle) m).1.heap (found-same (look_up handle m.heap) m.heap
-        (λ held. (Ok (content_of held.at.here), m.heap)) (λ held. refl))
-    of-answered (asked.PutPtr None i x) m once spares = omega arith
-    of-answered (asked.PutPtr (Some p) i x) m once spares =
-        of-found (pointed_at (Some p) m.heap) m.heap (λ held. written_at i x held.at m.heap)
-        (λ held is. of-put_at (is_nonrelocatable p) i x m.heap held.at (pointed_at-spot p m.heap held is).0)
-    of-answered (asked.ShowPtr pointer) m once spares =
-        unmoved m.heap (answered (asked.ShowPtr pointer) m).1.heap
-        (found-same (pointed_at pointer m.heap) m.heap (λ held. (Ok (content_of held.at.here), m.heap))
-        (λ held. refl))
-    of-answered (asked.Where name) m once spares =
-        unmoved m.heap (answered (asked.Where name) m).1.heap (found-same (block_named name m.heap) m.heap
-        (λ held. (Ok (sizes held.at.below + 16), m.heap)) (λ held. refl))
+    of-answered a m once spares = of-quiet of none filled a m refl spares
 
 -- 1 for a block of a handle that may not be purged
 abbrev pub stays : ℕ → Block → ℕ
 stays h b = cond (is_relocatable h b && not (is_purgeable b)) 1 0
 
 -- 1 for a block of a handle
-abbrev is_of : ℕ → Block → ℕ
+abbrev pub is_of : ℕ → Block → ℕ
 is_of h b = cond (is_relocatable h b) 1 0
 
 pub stays-goes : (h : ℕ) (b : Block) → is_purgeable b ≡ true → stays h b ≡ 0
@@ -522,7 +548,7 @@ stays-rises h change kept (Relocatable id flags content) =
     cases false u = omega arith
 
 -- other flags leave each block
-is_of-rises : (h : ℕ) (change : Flags → Flags) → Rises (is_of h) change
+pub is_of-rises : (h : ℕ) (change : Flags → Flags) → Rises (is_of h) change
 is_of-rises h change b = let z : is_of h (flagged change b) ≡ is_of h b =
     ap {B = ℕ} (λ (t : Bool). cond t 1 0) (flagged-number change h b) in omega arith
 

@@ -39,7 +39,7 @@ module _ (of : Block → ℕ) (none : (n : ℕ) → of (Free n) ≡ 0)
     rises-goes (NewEmpty role) s spares = of-slotted of none goes sized filled nothing s
     rises-goes (Refill h flags bytes) s spares = λ gone is.
         made-all of none goes (Relocatable h flags bytes) nothing s.zone
-    rises-goes (Release h) s spares = λ is. of-gone of none goes sized filled (is_relocatable h) spares s.zone
+    rises-goes (Release h) s spares = λ is. of-gone of none filled (is_relocatable h) spares s.zone
     rises-goes (Cast change h) s spares = λ role is. omega arith
 
     pub rises-stepped : (step : Step) (m : Memory) → Spares of step

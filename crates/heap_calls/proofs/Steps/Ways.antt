@@ -31,14 +31,17 @@ abbrev pub Fits : ℕ → Flags → List ℕ → List Block → List Block → T
 Fits h flags bytes zone z = room (put_in_place (Relocatable h flags bytes)) nothing zone ≡ Some z
 
 -- an unused slot changes no name
-pub slotted-names : (s r : State) → slotted nothing s ≡ Some r → r.names ≡ s.names
-slotted-names s r e = by_slots (nat_lt (used_slots s) (all_slots s)) e
+pub slotted_sparing-names : (sp : Block → Bool) (s r : State) → slotted sp s ≡ Some r → r.names ≡ s.names
+slotted_sparing-names sp s r e = by_slots (nat_lt (used_slots s) (all_slots s)) e
   where
-    by_slots : (t : Bool) → cond t (Some s) (more_masters nothing s) ≡ Some r → r.names ≡ s.names
+    by_slots : (t : Bool) → cond t (Some s) (more_masters sp s) ≡ Some r → r.names ≡ s.names
     by_slots true e = ap (λ (x : State). x.names) (sym (same_Some _ _ e))
     by_slots false e =
-        map-some (λ zone. record s { zone = zone }) (room (put_at_base Masters) nothing s.zone) r (r.names ≡ s.names) e
+        map-some (λ zone. record s { zone = zone }) (room (put_at_base Masters) sp s.zone) r (r.names ≡ s.names) e
         (λ zone made is. ap (λ (x : State). x.names) (sym is))
+
+pub slotted-names : (s r : State) → slotted nothing s ≡ Some r → r.names ≡ s.names
+slotted-names = slotted_sparing-names nothing
 
 -- what is done with an unused slot
 ready-goes : {T : Type 0} (P : Answer T → Type 0) (o : Option State) (s : State) (answer : State → Answer T)

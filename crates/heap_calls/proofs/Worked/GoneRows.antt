@@ -1,10 +1,13 @@
-use Rattle.std.proofs.Common.{◌≡◌, List, [], ◌∷◌, refl, Some, replicate}
+use Rattle.std.proofs.Common.{◌≡◌, false, List, [], ◌∷◌, refl, Some, replicate}
 use Rattle.block_store.specs.Rest.{Site}
 use Rattle.heap_calls.specs.State.{Memory, fresh_memory}
 use Rattle.heap_calls.specs.Asked.{Asked}
 use Rattle.heap_calls.specs.Asked as asks
 use Rattle.heap_calls.specs.Busy.{served}
 use Rattle.heap_calls.specs.Gone.{Gone, reallocate_handle_gone, refill_gone}
+use Rattle.heap_calls.specs.GoneBy.{gone_in}
+use Rattle.heap_calls.specs.ToldGone.{told_of, bytes_in}
+use Rattle.heap_calls.specs.Inside.{has_block}
 
 -- The blocks that calls purge for a new block of a handle, by the definitions alone.
 
@@ -53,3 +56,16 @@ emptied window = refl
 
 nothing_to_refill : (window : Site) → refill_gone 7 300 (three window).heap ≡ []
 nothing_to_refill window = refl
+
+-- what is told of a handle: its bytes, where its block goes, and nothing where it stays
+goes : (window : Site) → told_of 0 (gone_in (asks.NewHandle 150) (three window)) ≡ (72 ∷ replicate 199 0) ∷ []
+goes window = refl
+
+gone_now : (window : Site) → has_block 0 (served (asks.NewHandle 150) (three window)).1.heap ≡ false
+gone_now window = refl
+
+held_before : (window : Site) → bytes_in 0 (three window).heap.zone ≡ (72 ∷ replicate 199 0) ∷ []
+held_before window = refl
+
+stays : (window : Site) → told_of 1 (gone_in (asks.NewHandle 150) (three window)) ≡ []
+stays window = refl

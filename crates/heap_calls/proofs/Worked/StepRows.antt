@@ -9,7 +9,7 @@ use Rattle.heap_calls.specs.Locked.{locked_place}
 use Rattle.heap_calls.specs.Standing.{pointer_place}
 use Rattle.heap_calls.specs.Inside.{guarded_as, owned_as}
 use Rattle.heap_calls.specs.Path.{Step, NewFilled, NewEmpty, Refill, Release, Cast, stepped, refusal, read_by, walk}
-use Rattle.heap_calls.specs.Path.{gone_at, gone_along, reads, put_reads, steps_dispose}
+use Rattle.heap_calls.specs.Path.{gone_at, reads, put_reads, steps_dispose}
 use Rattle.heap_calls.specs.Gone.{all_gone}
 
 -- Steps on a small heap.
@@ -77,8 +77,8 @@ narrow-heap : (window : Site) → (walk (NewFilled Resource no_flags (replicate 
     }
 narrow-heap window = refl
 
-narrow-gone : (window : Site) → gone_along (NewFilled Resource no_flags (replicate 40 5) ∷ fetch ∷ []) (at window)
-    ≡ (0, 7 ∷ 7 ∷ []) ∷ []
+narrow-gone : (window : Site)
+    → gone_at fetch (stepped (NewFilled Resource no_flags (replicate 40 5)) (at window)) ≡ (0, 7 ∷ 7 ∷ []) ∷ []
 narrow-gone window = refl
 
 -- and so does one that was made before on the same way; none does for one that is too large

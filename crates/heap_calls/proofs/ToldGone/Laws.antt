@@ -1,0 +1,526 @@
+use Rattle.std.proofs.Common.{◌≡◌, ℕ, ◌+◌, ◌≤◌, ◌<◌, ◌-◌, ◌/◌, ◌%◌, Bool, true, false, ◌&&◌, ◌||◌, ◌==◌, List, []}
+use Rattle.std.proofs.Common.{◌∷◌, ◌++◌, refl, sym, ◌∙◌, ap, subst, cond, arith, Option, Some, None, Result, Ok, Err, ◌⊎◌, inl, inr}
+use Rattle.std.proofs.Common.{length, nat_lt, is_some, replicate}
+use Rattle.std.proofs.lemmas.Bool.{cond-true, cond-false}
+use Rattle.std.proofs.lemmas.Bool.Decides.{Decides-eqb, nat_tests}
+use Rattle.std.proofs.lemmas.Slice.Eq.{bytes_eq-Decides}
+use Rattle.std.specs.Prelude.{bytes_eq}
+use Rattle.mac_words.specs.declared.code.OsErr.{OsErr}
+use Rattle.mac_words.specs.Told.{Told}
+use Rattle.mac_words.specs.Size.{phys}
+use Rattle.block_store.specs.declared.flags.Flags.{Flags}
+use Rattle.block_store.specs.Block.{Block, Free, Nonrelocatable, Masters, Relocatable, sizes, total, count, is_purgeable}
+use Rattle.block_store.specs.Block.{is_relocatable, is_nonrelocatable, content_of, with_content, resized, no_flags}
+use Rattle.block_store.specs.Run.{has}
+use Rattle.block_store.specs.Room.{spot, put_in_place}
+use Rattle.block_store.specs.Grow.{freed}
+use Rattle.block_store.proofs.Zone.Leading.{count-none}
+use Rattle.block_store.proofs.Zone.Passing.{has-count}
+use Rattle.block_store.proofs.Zone.Keeping.{unless, freed-is}
+use Rattle.heap_calls.specs.State.{State, Memory}
+use Rattle.heap_calls.specs.Answer.{Known, handle_at, nothing}
+use Rattle.heap_calls.specs.Purging.{is_loose}
+use Rattle.heap_calls.specs.Asked.{Asked, answered}
+use Rattle.heap_calls.specs.Asked as asked
+use Rattle.heap_calls.specs.Busy.{gate, gated, notes, keep_code}
+use Rattle.heap_calls.specs.Emptying.{takes_block}
+use Rattle.heap_calls.specs.Gone.{Gone, gone_of, gone_unless, found_gone, room_gone, refill_gone}
+use Rattle.heap_calls.specs.GoneBy.{gone_in}
+use Rattle.heap_calls.specs.ToldGone.{told_of, bytes_in, TellsWhatGoes, TellsOfPurgeable, StepTellsWhatGoes}
+use Rattle.heap_calls.specs.Inside.{has_block, refill_inside, released_as, cast_as}
+use Rattle.heap_calls.specs.Path.{Step, NewFilled, NewEmpty, Refill, Release, Cast, stepped, gone_at, step_disposes}
+use Rattle.heap_calls.proofs.Gates.Served.{served-gated}
+use Rattle.heap_calls.proofs.Promises.LastPutLaws.{handle_at-name}
+use Rattle.heap_calls.proofs.Promises.EmptyingLaws.{Unseen, Spares, purges, of-quiet, of-gone, is_of, is_of-rises}
+use Rattle.heap_calls.proofs.ToldGone.Sums.{Adds}
+use Rattle.heap_calls.proofs.ToldGone.Bounds.{told-most, step-most, loose-bound}
+use Rattle.heap_calls.proofs.ToldGone.Rows.{row_gone, rows-even, filled_step-even, empty_step-even, refill_step-even}
+
+-- What a call tells of a handle is what the handle loses.
+
+-- what bytes come to, each by a measure
+abbrev weigh : (List ℕ → ℕ) → List (List ℕ) → ℕ
+weigh f [] = 0
+weigh f (x ∷ xs) = f x + weigh f xs
+
+-- how many there are
+abbrev many : List (List ℕ) → ℕ
+many = weigh (λ x. 1)
+
+-- what the blocks of a handle come to, by their bytes
+abbrev held : (List ℕ → ℕ) → ℕ → Block → ℕ
+held f h b = cond (is_relocatable h b) (f (content_of b)) 0
+
+held-bytes : (f : List ℕ → ℕ) (h : ℕ) (zone : List Block) → total (held f h) zone ≡ weigh f (bytes_in h zone)
+held-bytes f h [] = refl
+held-bytes f h (b ∷ zone) = cases (is_relocatable h b) (held-bytes f h zone)
+  where
+    cases : (t : Bool) → total (held f h) zone ≡ weigh f (bytes_in h zone)
+        → cond t (f (content_of b)) 0 + total (held f h) zone
+        ≡ weigh f (cond t (content_of b ∷ bytes_in h zone) (bytes_in h zone))
+    cases true r = omega arith
+    cases false r = omega arith
+
+told-adds : (f : List ℕ → ℕ) (h : ℕ) → Adds (λ l. weigh f (told_of h l))
+told-adds f h [] ys = omega arith
+told-adds f h (g ∷ xs) ys = cases (g.0 == h) (told-adds f h xs ys)
+  where
+    cases : (t : Bool) → weigh f (told_of h (xs ++ ys)) ≡ weigh f (told_of h xs) + weigh f (told_of h ys)
+        → weigh f (cond t (g.1 ∷ told_of h (xs ++ ys)) (told_of h (xs ++ ys)))
+        ≡ weigh f (cond t (g.1 ∷ told_of h xs) (told_of h xs)) + weigh f (told_of h ys)
+    cases true r = omega arith
+    cases false r = omega arith
+
+-- a block that is told of comes to what it is told to have
+told-one : (f : List ℕ → ℕ) (h n : ℕ) → h < n → (b : Block) → weigh f (told_of h (gone_of n b)) ≡ held f h b
+told-one f h n within (Free m) = refl
+told-one f h n within (Nonrelocatable id content) = refl
+told-one f h n within Masters = refl
+told-one f h n within (Relocatable id flags content) = cases (nat_lt id n) (id == h) refl refl
+  where
+    cases : (t u : Bool) → nat_lt id n ≡ t → (id == h) ≡ u
+        → weigh f (told_of h (cond t ((id, content) ∷ []) [])) ≡ cond u (f content) 0
+    cases true true is same = ap (λ v. weigh f (cond v (content ∷ []) [])) same ∙ (omega arith)
+    cases true false is same = ap (λ v. weigh f (cond v (content ∷ []) [])) same
+    cases false true is same = absurd (let e : id ≡ h = (Decides-eqb id h).0 same in grind (arith, nat_tests, is, within))
+    cases false false is same = refl
+
+-- nothing but where there is none
+many-none : (xs : List (List ℕ)) → many xs ≤ 0 → xs ≡ []
+many-none [] le = refl
+many-none (x ∷ xs) le = absurd (omega arith)
+
+weigh-same : (x y : List ℕ) → (λ (z : List ℕ). cond {A = ℕ} (bytes_eq z x) 0 1) y ≤ 0 → y ≡ x
+weigh-same x y le = cases (bytes_eq y x) refl le
+  where
+    cases : (t : Bool) → bytes_eq y x ≡ t → cond {A = ℕ} t 0 1 ≤ 0 → y ≡ x
+    cases true e le = (bytes_eq-Decides y x).0 e
+    cases false e le = absurd (let f : 1 ≤ 0 = le in omega arith)
+
+-- what is told, where a handle has one block at most
+only : (told bytes : List (List ℕ)) (after : ℕ) → many bytes ≤ 1 → many bytes ≤ after + many told
+    → (told ≡ []) ⊎ (after + many told ≤ many bytes) → ((f : List ℕ → ℕ) → weigh f told ≤ weigh f bytes)
+    → (t : Bool) → (t ≡ true → 1 ≤ after) → (t ≡ false → after ≡ 0) → told ≡ cond t [] bytes
+only [] bytes after once least most each true some gone = refl
+only [] bytes after once least most each false some gone =
+    let z = gone refl in sym (many-none bytes (omega arith))
+only (y ∷ more) bytes after once least (inl none) each t some gone = cc
+only (y ∷ more) bytes after once least (inr most) each true some gone = absurd (let s = some refl in omega arith)
+only (y ∷ more) [] after once least (inr most) each false some gone = absurd (omega arith)
+only (y ∷ more) (x ∷ others) after once least (inr most) each false some gone =
+    let none_more : more ≡ [] = many-none more (omega arith) in
+    let none_other : others ≡ [] = many-none others (omega arith) in
+    let f : List ℕ → ℕ = λ z. cond {A = ℕ} (bytes_eq z x) 0 1 in
+    let own : f x ≡ 0 = cond-true (bytes_eq x x) 0 1 ((bytes_eq-Decides x x).1 refl) in
+    let le = each f in
+    let others_none : weigh f others ≡ 0 = ap (weigh f) none_other in
+    let same : y ≡ x = weigh-same x y (omega (arith, le, own, others_none)) in
+    ap (λ (l : List (List ℕ)). y ∷ l) none_more ∙ ap (λ (z : List ℕ). z ∷ []) same
+    ∙ ap (λ (l : List (List ℕ)). x ∷ l) (sym none_other)
+
+-- the block of another handle, or of a pointer
+other-unseen : (h k : ℕ) → (k == h) ≡ false → Unseen (is_of h) (is_relocatable k)
+other-unseen h k other (Free n) e = refl
+other-unseen h k other (Nonrelocatable id content) e = refl
+other-unseen h k other Masters e = refl
+other-unseen h k other (Relocatable id flags content) e =
+    cond-false (id == h) 1 0 (ap (λ j. j == h) ((Decides-eqb id k).0 e) ∙ other)
+
+pointer-unseen : (h p : ℕ) → Unseen (is_of h) (is_nonrelocatable p)
+pointer-unseen h p (Free n) e = refl
+pointer-unseen h p (Nonrelocatable id content) e = refl
+pointer-unseen h p Masters e = refl
+pointer-unseen h p (Relocatable id flags content) e = let f : false ≡ true = e in cc
+
+-- a call that takes no block of a handle away lets none of them go
+spares-others : (h : ℕ) (a : Asked) → takes_block h a ≡ false → Spares (is_of h) a
+spares-others h (asked.DisposeHandle (Some k)) keeps = other-unseen h k keeps
+spares-others h (asked.EmptyHandle (Some k)) keeps = other-unseen h k keeps
+spares-others h (asked.ReallocateHandle (Some k) n) keeps = other-unseen h k keeps
+spares-others h (asked.DisposePtr (Some p)) keeps = pointer-unseen h p
+spares-others h (asked.HLock handle) keeps = is_of-rises h (λ f. record f { locked = true })
+spares-others h (asked.HUnlock handle) keeps = is_of-rises h (λ f. record f { locked = false })
+spares-others h (asked.HPurge handle) keeps = is_of-rises h (λ f. record f { purgeable = true })
+spares-others h (asked.HNoPurge handle) keeps = is_of-rises h (λ f. record f { purgeable = false })
+spares-others h (asked.HSetState handle byte) keeps = is_of-rises h
+    (λ f. record { locked = byte / 128 % 2 == 1; purgeable = byte / 64 % 2 == 1 })
+spares-others h (asked.HLockHi handle) keeps = is_of-rises h (λ f. record f { locked = true })
+spares-others h a keeps = tt
+
+is_of-sized : (h k : ℕ) (b : Block) → is_of h b ≡ is_of h (resized k b)
+is_of-sized h k (Free m) = refl
+is_of-sized h k (Nonrelocatable id content) = refl
+is_of-sized h k Masters = refl
+is_of-sized h k (Relocatable id flags content) = refl
+
+is_of-filled : (h : ℕ) (x : List ℕ) (b : Block) → is_of h b ≡ is_of h (with_content x b)
+is_of-filled h x (Free m) = refl
+is_of-filled h x (Nonrelocatable id content) = refl
+is_of-filled h x Masters = refl
+is_of-filled h x (Relocatable id flags content) = refl
+
+-- a call that purges nothing tells of nothing
+row-none : (a : Asked) (s : State) → purges a ≡ false → row_gone a s ≡ []
+row-none (asked.NewHandle n) s e = let f : true ≡ false = e in cc
+row-none asked.NewEmptyHandle s e = let f : true ≡ false = e in cc
+row-none (asked.SetHandleSize handle n) s e = let f : true ≡ false = e in cc
+row-none (asked.ReallocateHandle handle n) s e = let f : true ≡ false = e in cc
+row-none (asked.HandToHand handle) s e = let f : true ≡ false = e in cc
+row-none (asked.HandAndHand from to) s e = let f : true ≡ false = e in cc
+row-none (asked.PtrAndHand handle x) s e = let f : true ≡ false = e in cc
+row-none (asked.NewPtr n) s e = let f : true ≡ false = e in cc
+row-none (asked.SetPtrSize pointer n) s e = let f : true ≡ false = e in cc
+row-none (asked.PurgeMem n) s e = let f : true ≡ false = e in cc
+row-none asked.MaxMem s e = let f : true ≡ false = e in cc
+row-none (asked.ReserveMem n) s e = let f : true ≡ false = e in cc
+row-none asked.MoreMasters s e = let f : true ≡ false = e in cc
+row-none a s e = refl
+
+-- what a try tells of, by its gate
+unless-none : (o : Option OsErr) → gone_unless o [] ≡ []
+unless-none None = refl
+unless-none (Some code) = refl
+
+gone-gated : (a : Asked) (m : Memory) → gone_in a m ≡ gone_unless (gate a m) (row_gone a m.heap)
+gone-gated (asked.NewHandle n) m = refl
+gone-gated asked.NewEmptyHandle m = refl
+gone-gated (asked.SetHandleSize handle n) m = refl
+gone-gated (asked.ReallocateHandle handle n) m = refl
+gone-gated (asked.HandToHand handle) m = refl
+gone-gated (asked.HandAndHand from to) m = refl
+gone-gated (asked.PtrAndHand handle x) m = refl
+gone-gated (asked.NewPtr n) m = refl
+gone-gated (asked.SetPtrSize pointer n) m = refl
+gone-gated (asked.PurgeMem n) m = refl
+gone-gated asked.MaxMem m = refl
+gone-gated (asked.ReserveMem n) m = refl
+gone-gated asked.MoreMasters m = refl
+gone-gated a m = sym (unless-none (gate a m))
+
+module _ (h : ℕ) (m : Memory) (within : h < length m.heap.names)
+    (once : (k : ℕ) → k < length m.heap.names → count (is_relocatable k) m.heap.zone ≤ 1)
+    (small : sizes m.heap.zone ≤ 134217728)
+  where
+    fresh : (flags : Flags) (content : List ℕ) → is_of h (Relocatable (length m.heap.names) flags content) ≡ 0
+    fresh flags content = cond-false (length m.heap.names == h) 1 0 (grind (arith, nat_tests, within))
+
+    -- as many blocks of a handle go as are told of
+    balance : (a : Asked) → takes_block h a ≡ false
+        → (count (is_relocatable h) m.heap.zone ≤ count (is_relocatable h) (answered a m).1.heap.zone
+        + many (told_of h (row_gone a m.heap)))
+        × ((told_of h (row_gone a m.heap) ≡ []) ⊎ (count (is_relocatable h) (answered a m).1.heap.zone
+        + many (told_of h (row_gone a m.heap)) ≤ count (is_relocatable h) m.heap.zone))
+    balance a keeps = by_purging (purges a) refl
+      where
+        by_purging : (t : Bool) → purges a ≡ t
+            → (count (is_relocatable h) m.heap.zone ≤ count (is_relocatable h) (answered a m).1.heap.zone
+            + many (told_of h (row_gone a m.heap)))
+            × ((told_of h (row_gone a m.heap) ≡ []) ⊎ (count (is_relocatable h) (answered a m).1.heap.zone
+            + many (told_of h (row_gone a m.heap)) ≤ count (is_relocatable h) m.heap.zone))
+        by_purging true e =
+            let even = rows-even m (is_of h) (λ k. refl) refl (λ id content. refl) fresh
+            (λ l. many (told_of h l)) refl (told-adds (λ x. 1) h)
+            (λ b goes. told-one (λ x. 1) h (length m.heap.names) within b) (is_of-sized h) (is_of-filled h) once small a e
+            (spares-others h a keeps) in
+            (omega (arith, even), inr (omega (arith, even)))
+        by_purging false e =
+            let le = of-quiet (is_of h) (λ k. refl) (is_of-filled h) a m e (spares-others h a keeps) in
+            (omega arith, inl (ap (told_of h) (row-none a m.heap e)))
+
+    -- nothing is told of a handle whose block is taken away
+    taken-none : (a : Asked) → takes_block h a ≡ true → told_of h (row_gone a m.heap) ≡ []
+    taken-none (asked.DisposeHandle (Some k)) takes = refl
+    taken-none (asked.EmptyHandle (Some k)) takes = refl
+    taken-none (asked.ReallocateHandle (Some k) n) takes =
+        many-none _ (by_found (handle_at (Some k) m.heap) (λ found e. (handle_at-name k m.heap found e).1))
+      where
+        zero_left : (zone : List Block) → total (unless (is_relocatable h) (is_of h)) zone ≡ 0
+        zero_left [] = refl
+        zero_left (b ∷ zone) = omega (arith, zero_left zone, cases (is_relocatable h b))
+          where
+            cases : (t : Bool) → cond {A = ℕ} t 0 (cond {A = ℕ} t 1 0) ≡ 0
+            cases true = refl
+            cases false = refl
+
+        loose_gone : ℕ → List Gone
+        loose_gone j =
+            cond (is_loose (spot (is_relocatable j) m.heap.zone)) (cond (is_some (phys n))
+            (room_gone (length m.heap.names) (put_in_place (Relocatable j no_flags (replicate n 0))) nothing
+            (freed (is_relocatable j) m.heap.zone)) []) []
+
+        by_found : (r : Result Known OsErr) → ((found : Known) → r ≡ Ok found → found.number ≡ k)
+            → many (told_of h (found_gone r (λ found. loose_gone found.number))) ≤ 0
+        by_found (Err code) named = omega arith
+        by_found (Ok found) named =
+            let same : found.number ≡ h = named found refl ∙ (Decides-eqb k h).0 takes in
+            let zone = m.heap.zone in
+            let bound = loose-bound (length m.heap.names) (is_of h) (λ j. refl) refl (λ l. many (told_of h l)) refl
+            (told-adds (λ x. 1) h) (λ b goes. let one = told-one (λ x. 1) h (length m.heap.names) within b in omega arith)
+            found.number n zone in
+            let none_left : total (unless (is_relocatable found.number) (is_of h)) zone ≡ 0 =
+            subst (λ (j : ℕ). total (unless (is_relocatable j) (is_of h)) zone ≡ 0) (sym same) (zero_left zone) in
+            omega (arith, freed-is (is_of h) (λ j. refl) (is_relocatable found.number) zone, none_left)
+    taken-none a takes = let f : false ≡ true = takes in cc
+
+    -- all that is told of a handle comes to no more than its blocks
+    told-few : (a : Asked) (f : List ℕ → ℕ)
+        → weigh f (told_of h (gone_in a m)) ≤ weigh f (bytes_in h m.heap.zone)
+    told-few a f =
+        let most = told-most (length m.heap.names) (held f h) (λ k. refl) refl (λ l. weigh f (told_of h l)) refl
+        (told-adds f h) (λ b goes. let one = told-one f h (length m.heap.names) within b in omega arith) a m refl in
+        omega (arith, most, held-bytes f h m.heap.zone)
+
+    -- where a call is barred, the handle keeps its block
+    kept : (t : Bool) (zone : List Block) → [] ≡ cond (t || has (is_relocatable h) zone) [] (bytes_in h zone)
+    kept true zone = refl
+    kept false zone = cases (has (is_relocatable h) zone) refl
+      where
+        cases : (t : Bool) → has (is_relocatable h) zone ≡ t → [] ≡ cond t [] (bytes_in h zone)
+        cases true e = refl
+        cases false e = sym (many-none (bytes_in h zone)
+            (omega (arith, held-bytes (λ x. 1) h zone, count-none (is_relocatable h) zone e)))
+
+    -- what a call's row tells of a handle
+    row-tells : (a : Asked) → ((f : List ℕ → ℕ)
+        → weigh f (told_of h (row_gone a m.heap)) ≤ weigh f (bytes_in h m.heap.zone))
+        → told_of h (row_gone a m.heap)
+        ≡ cond (takes_block h a || has (is_relocatable h) (answered a m).1.heap.zone) [] (bytes_in h m.heap.zone)
+    row-tells a each = by_taking (takes_block h a) refl
+      where
+        after : List Block
+        after = (answered a m).1.heap.zone
+
+        bytes : List (List ℕ)
+        bytes = bytes_in h m.heap.zone
+
+        by_taking : (t : Bool) → takes_block h a ≡ t
+            → told_of h (row_gone a m.heap) ≡ cond (t || has (is_relocatable h) after) [] bytes
+        by_taking true e = taken-none a e
+        by_taking false e =
+            let even = balance a e in
+            let counted : count (is_relocatable h) m.heap.zone ≡ many bytes = held-bytes (λ x. 1) h m.heap.zone in
+            let one = once h within in
+            only (told_of h (row_gone a m.heap)) bytes (count (is_relocatable h) after)
+            (omega (arith, counted)) (let l = even.0 in omega (arith, counted, l))
+            (elim even.1 [ inl none ↦ inl none | inr most ↦ inr (omega (arith, counted, most)) ]) each
+            (has (is_relocatable h) after) (has-count (is_relocatable h) after) (count-none (is_relocatable h) after)
+
+    -- what a step tells of a handle comes to no more than its blocks
+    step-few : (step : Step) (f : List ℕ → ℕ)
+        → weigh f (told_of h (gone_at step m)) ≤ weigh f (bytes_in h m.heap.zone)
+    step-few step f =
+        let most = step-most (length m.heap.names) (held f h) (λ k. refl) refl (λ l. weigh f (told_of h l)) refl
+        (told-adds f h) (λ b goes. let one = told-one f h (length m.heap.names) within b in omega arith) step m refl in
+        omega (arith, most, held-bytes f h m.heap.zone)
+
+    -- as many blocks of a handle go as a step tells of
+    abbrev StepBalance : Step → Type 0
+    StepBalance step =
+        (count (is_relocatable h) m.heap.zone ≤ count (is_relocatable h) (stepped step m).heap.zone
+        + many (told_of h (gone_at step m)))
+        × ((told_of h (gone_at step m) ≡ []) ⊎ (count (is_relocatable h) (stepped step m).heap.zone
+        + many (told_of h (gone_at step m)) ≤ count (is_relocatable h) m.heap.zone))
+
+    even-balance : (step : Step) → total (is_of h) (stepped step m).heap.zone + many (told_of h (gone_at step m))
+        ≡ total (is_of h) m.heap.zone → StepBalance step
+    even-balance step even = (omega (arith, even), inr (omega (arith, even)))
+
+    step-balance : (step : Step) → step_disposes step h ≡ false → has (is_relocatable h) m.heap.zone ≡ true
+        → StepBalance step
+    step-balance (NewFilled role flags bytes) keeps here =
+        even-balance (NewFilled role flags bytes) (filled_step-even m (is_of h) (λ k. refl) refl (λ id content. refl)
+        fresh (λ l. many (told_of h l)) refl (told-adds (λ x. 1) h)
+        (λ b goes. told-one (λ x. 1) h (length m.heap.names) within b) (is_of-sized h) (is_of-filled h) once small role
+        flags bytes)
+    step-balance (NewEmpty role) keeps here =
+        even-balance (NewEmpty role) (empty_step-even m (is_of h) (λ k. refl) refl (λ id content. refl)
+        fresh (λ l. many (told_of h l)) refl (told-adds (λ x. 1) h)
+        (λ b goes. told-one (λ x. 1) h (length m.heap.names) within b) (is_of-sized h) (is_of-filled h) once small role)
+    step-balance (Refill k flags bytes) keeps here = by_number (k == h) refl
+      where
+        stays : (t : Bool) → t ≡ true
+            → (count (is_relocatable h) m.heap.zone
+            ≤ count (is_relocatable h) (cond t m (refill_inside k flags bytes m).1).heap.zone
+            + many (told_of h (cond t [] (refill_gone k (length bytes) m.heap))))
+            × ((told_of h (cond t [] (refill_gone k (length bytes) m.heap)) ≡ [])
+            ⊎ (count (is_relocatable h) (cond t m (refill_inside k flags bytes m).1).heap.zone
+            + many (told_of h (cond t [] (refill_gone k (length bytes) m.heap)))
+            ≤ count (is_relocatable h) m.heap.zone))
+        stays true e = (omega arith, inl refl)
+        stays false e = let f : false ≡ true = e in cc
+
+        by_number : (t : Bool) → (k == h) ≡ t → StepBalance (Refill k flags bytes)
+        by_number true e =
+            stays (has_block k m.heap)
+            (subst (λ (j : ℕ). has (is_relocatable j) m.heap.zone ≡ true) (sym ((Decides-eqb k h).0 e)) here)
+        by_number false e =
+            even-balance (Refill k flags bytes) (refill_step-even m (is_of h) (λ k. refl) refl (λ id content. refl)
+            fresh (λ l. many (told_of h l)) refl (told-adds (λ x. 1) h)
+            (λ b goes. told-one (λ x. 1) h (length m.heap.names) within b) (is_of-sized h) (is_of-filled h) once small k
+            flags bytes (other-unseen h k e))
+    step-balance (Release k) keeps here = (
+      by_found (handle_at (Some k) m.heap)
+          (λ found e. (handle_at-name k m.heap found e).1),
+      inl refl,
+    )
+      where
+        by_found : (r : Result Known OsErr) → ((found : Known) → r ≡ Ok found → found.number ≡ k)
+            → count (is_relocatable h) m.heap.zone ≤ count (is_relocatable h) (released_as r m.heap).zone + 0
+        by_found (Err code) named = omega arith
+        by_found (Ok found) named =
+            let le = of-gone (is_of h) (λ j. refl) (is_of-filled h) (is_relocatable found.number)
+            (subst (λ (j : ℕ). Unseen (is_of h) (is_relocatable j)) (sym (named found refl)) (other-unseen h k keeps))
+            m.heap.zone in omega arith
+    step-balance (Cast change k) keeps here = (by_found (handle_at (Some k) m.heap), inl refl)
+      where
+        by_found : (r : Result Known OsErr)
+            → count (is_relocatable h) m.heap.zone ≤ count (is_relocatable h) (cast_as change r m.heap).zone + 0
+        by_found (Err code) = omega arith
+        by_found (Ok found) = omega arith
+
+    -- what a step tells of a handle
+    step-tells : (step : Step) → told_of h (gone_at step m)
+        ≡ cond (step_disposes step h || has (is_relocatable h) (stepped step m).heap.zone) [] (bytes_in h m.heap.zone)
+    step-tells step = by_disposal (step_disposes step h) refl
+      where
+        after : List Block
+        after = (stepped step m).heap.zone
+
+        bytes : List (List ℕ)
+        bytes = bytes_in h m.heap.zone
+
+        counted : count (is_relocatable h) m.heap.zone ≡ many bytes
+        counted = held-bytes (λ x. 1) h m.heap.zone
+
+        disposed : (step : Step) → step_disposes step h ≡ true → told_of h (gone_at step m) ≡ []
+        disposed (Release k) e = refl
+        disposed step e = let f : false ≡ true = e in cc
+
+        unheld : many bytes ≤ 0 → (t : Bool) → told_of h (gone_at step m) ≡ cond t [] bytes
+        unheld none t =
+            let few = step-few step (λ x. 1) in
+            many-none (told_of h (gone_at step m)) (omega arith) ∙ by_test t
+          where
+            by_test : (t : Bool) → [] ≡ cond t [] bytes
+            by_test true = refl
+            by_test false = sym (many-none bytes none)
+
+        by_block : (t : Bool) → has (is_relocatable h) m.heap.zone ≡ t → step_disposes step h ≡ false
+            → told_of h (gone_at step m) ≡ cond (has (is_relocatable h) after) [] bytes
+        by_block false e keeps = unheld
+            (omega (arith, counted, count-none (is_relocatable h) m.heap.zone e)) (has (is_relocatable h) after)
+        by_block true e keeps =
+            let even = step-balance step keeps e in
+            let one = once h within in
+            only (told_of h (gone_at step m)) bytes (count (is_relocatable h) after)
+            (omega (arith, counted)) (let l = even.0 in omega (arith, counted, l))
+            (elim even.1 [ inl none ↦ inl none | inr most ↦ inr (omega (arith, counted, most)) ]) (step-few step)
+            (has (is_relocatable h) after) (has-count (is_relocatable h) after) (count-none (is_relocatable h) after)
+
+        by_disposal : (t : Bool) → step_disposes step h ≡ t
+            → told_of h (gone_at step m) ≡ cond (t || has (is_relocatable h) after) [] bytes
+        by_disposal true e = disposed step e
+        by_disposal false e = by_block (has (is_relocatable h) m.heap.zone) refl e
+
+-- what a try of a call tells of a handle is what the handle loses
+pub tells-what-goes : (a : Asked) (m : Memory)
+    → ((k : ℕ) → k < length m.heap.names → count (is_relocatable k) m.heap.zone ≤ 1)
+    → sizes m.heap.zone ≤ 134217728 → TellsWhatGoes a m
+tells-what-goes a m once small h within =
+    ap (told_of h) (gone-gated a m)
+    ∙ by_gate (gate a m) (λ f. subst (λ (l : List Gone). weigh f (told_of h l) ≤ weigh f (bytes_in h m.heap.zone))
+    (gone-gated a m) (told-few h m within once small a f))
+    ∙ ap (λ (answer : Told × Memory). cond (takes_block h a || has (is_relocatable h) answer.1.heap.zone) []
+    (bytes_in h m.heap.zone)) (sym (served-gated a m))
+  where
+    by_notes : (why : OsErr) (t : Bool) → [] ≡ cond (takes_block h a
+        || has (is_relocatable h) (cond t (keep_code why m) m).heap.zone) [] (bytes_in h m.heap.zone)
+    by_notes why true = kept h m within once small (takes_block h a) m.heap.zone
+    by_notes why false = kept h m within once small (takes_block h a) m.heap.zone
+
+    by_gate : (o : Option OsErr) → ((f : List ℕ → ℕ)
+        → weigh f (told_of h (gone_unless o (row_gone a m.heap))) ≤ weigh f (bytes_in h m.heap.zone))
+        → told_of h (gone_unless o (row_gone a m.heap)) ≡ cond (takes_block h a
+        || has (is_relocatable h) (gated o a m).1.heap.zone) [] (bytes_in h m.heap.zone)
+    by_gate None each = row-tells h m within once small a each
+    by_gate (Some why) each = by_notes why (notes a)
+
+-- each block that is told of is of a handle, and might be purged
+pub tells-of-purgeable : (a : Asked) (m : Memory) → TellsOfPurgeable a m
+tells-of-purgeable a m h some = (
+  by_number (nat_lt h n) refl,
+  by_test (has own m.heap.zone) refl,
+)
+  where
+    n : ℕ
+    n = length m.heap.names
+
+    own : Block → Bool
+    own b = is_relocatable h b && is_purgeable b
+
+    long : List Gone → ℕ
+    long l = length (told_of h l)
+
+    long-adds : Adds long
+    long-adds [] ys = omega arith
+    long-adds (g ∷ xs) ys = cases (g.0 == h) (long-adds xs ys)
+      where
+        cases : (t : Bool) → length (told_of h (xs ++ ys)) ≡ length (told_of h xs) + length (told_of h ys)
+            → length (cond t (g.1 ∷ told_of h (xs ++ ys)) (told_of h (xs ++ ys)))
+            ≡ length (cond t (g.1 ∷ told_of h xs) (told_of h xs)) + length (told_of h ys)
+        cases true r = omega (arith, r)
+        cases false r = r
+
+    one : (b : Block) → is_purgeable b ≡ true → long (gone_of n b) ≤ cond {A = ℕ} (own b) 1 0
+    one (Free k) goes = omega arith
+    one (Nonrelocatable id content) goes = omega arith
+    one Masters goes = omega arith
+    one (Relocatable id flags content) goes =
+        let z : cond {A = ℕ} (id == h && is_purgeable (Relocatable id flags content)) 1 0
+        ≡ cond {A = ℕ} (id == h && true) 1 0 = ap {B = ℕ} (λ (t : Bool). cond (id == h && t) 1 0) goes in
+        let l = cases (nat_lt id n) in omega (arith, z, l)
+      where
+        own_number : (u : Bool) → length (cond u (content ∷ []) []) ≤ cond {A = ℕ} (u && true) 1 0
+        own_number true = omega arith
+        own_number false = omega arith
+
+        cases : (t : Bool) → long (cond t ((id, content) ∷ []) []) ≤ cond {A = ℕ} (id == h && true) 1 0
+        cases true = own_number (id == h)
+        cases false = omega arith
+
+    -- a number that was not given is told of nowhere
+    none : nat_lt h n ≡ false → (b : Block) → long (gone_of n b) ≤ 0
+    none high (Free k) = omega arith
+    none high (Nonrelocatable id content) = omega arith
+    none high Masters = omega arith
+    none high (Relocatable id flags content) = cases (nat_lt id n) (id == h) refl refl
+      where
+        cases : (t u : Bool) → nat_lt id n ≡ t → (id == h) ≡ u → long (cond t ((id, content) ∷ []) []) ≤ 0
+        cases true true is same =
+            absurd (let e : id ≡ h = (Decides-eqb id h).0 same in grind (arith, nat_tests, is, high))
+        cases true false is same =
+            let z : long ((id, content) ∷ []) ≡ 0 = ap {B = ℕ} (λ (u : Bool). length (cond u (content ∷ []) [])) same in
+            omega (arith, z)
+        cases false u is same = omega arith
+
+    nothing_seen : (zone : List Block) → total (λ b. 0) zone ≡ 0
+    nothing_seen [] = refl
+    nothing_seen (b ∷ zone) = omega (arith, nothing_seen zone)
+
+    by_number : (t : Bool) → nat_lt h n ≡ t → h < n
+    by_number true e = grind (arith, nat_tests, e)
+    by_number false e = absurd (
+        let most = told-most n (λ b. 0) (λ k. refl) refl long refl long-adds (λ b goes. none e b) a m refl in
+        omega (arith, some, most, nothing_seen m.heap.zone))
+
+    by_test : (t : Bool) → has own m.heap.zone ≡ t → t ≡ true
+    by_test true e = refl
+    by_test false e = absurd (
+        let most = told-most n (λ b. cond {A = ℕ} (own b) 1 0) (λ k. refl) refl long refl long-adds one a m refl in
+        omega (arith, some, most, count-none own m.heap.zone e))
+
+-- what a step of the Resource Manager tells of a handle is what the handle loses
+pub step-tells-what-goes : (step : Step) (m : Memory)
+    → ((k : ℕ) → k < length m.heap.names → count (is_relocatable k) m.heap.zone ≤ 1)
+    → sizes m.heap.zone ≤ 134217728 → StepTellsWhatGoes step m
+step-tells-what-goes step m once small h within = step-tells h m within once small step
