@@ -26,3 +26,4 @@ pub mod LastOpened
 pub mod LeftFiles
 pub mod PuttingBack
 pub mod Recorded
+mod Parts

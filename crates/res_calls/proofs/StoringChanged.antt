@@ -1,16 +1,16 @@
 -- Storing purged blocks changes nothing but what is stored of changed resources.
-use Rattle.std.proofs.Common.{◌≡◌, ◌⊎◌, inl, inr, ℕ, Bool, true, false, true≢false, cond, List, [], ◌∷◌, ◌++◌, Option, Some, None}
+use Rattle.std.proofs.Common.{◌≡◌, inl, inr, ℕ, Bool, true, false, true≢false, cond, List, [], ◌∷◌, ◌++◌, Option, Some, None}
 use Rattle.std.proofs.Common.{refl, sym, ◌∙◌, ap, subst}
 use Rattle.std.proofs.lemmas.Bool.{and_left}
 use Rattle.heap_calls.specs.Gone.{Gone}
-use Rattle.res_map.specs.Split.{Split, replaced}
-use Rattle.res_map.specs.Map.{Reference, has_handle, is_protected, stored_anew}
+use Rattle.res_map.specs.Split.{replaced}
+use Rattle.res_map.specs.Map.{Reference, has_handle, stored_anew}
 use Rattle.res_calls.specs.Changing.{is_to_write}
 use Rattle.res_calls.specs.Files.{OpenFile, Resources, Found, find_open, with_reference}
 use Rattle.res_calls.specs.Purging.{stored_found, stored_gone, heard}
-use Rattle.res_calls.specs.Storing.{IsAmong, StoredOrSame, EachStoredOrSame, StoresIn, StoresInEach, OnlyStoresChanged}
+use Rattle.res_calls.specs.Storing.{StoredOrSame, EachStoredOrSame, StoresIn, StoresInEach, OnlyStoresChanged}
 use Rattle.res_calls.proofs.Owning.Calls.{has-some}
-use Rattle.res_calls.proofs.Owning.Places.{Stands, find-finds, same-there}
+use Rattle.res_calls.proofs.Owning.Places.{Stands, find-finds}
 use Rattle.res_calls.proofs.Soundness.References.{changed-clear}
 
 -- nothing is stored
@@ -88,9 +88,10 @@ then-stored g gone x y z (inl same) (inr (changed, h, among, held, is)) =
       subst (λ (w : Reference). w.handle ≡ Some h.0) same held,
       subst (λ (w : Reference). z ≡ stored_anew (Some h.1) w) same is,
     )
+then-stored g gone x y z (inr (changed, h, inr none, held, is)) later = absurd none
 then-stored g gone x y z (inr (changed, h, inl one, held, is)) (inl again) =
     inr (changed, h, inl one, held, again ∙ is)
-then-stored g gone x y z (inr (changed, h, inl one, held, is)) (inr (still, later)) =
+then-stored g gone x y z (inr (changed, h, inl one, held, is)) (inr (still, k, among, holds, later)) =
     absurd (true≢false (sym still ∙ ap is_to_write is ∙ stored-unchanged h.1 x))
 
 then-each : (g : Gone) (gone : List Gone) (xs ys zs : List Reference) → EachStoredOrSame (g ∷ []) xs ys
@@ -111,15 +112,15 @@ then-file g gone a b c first later = record {
   each = then-each g gone a.map.references b.map.references c.map.references first.each later.each;
 }
 
-then-files : (g : Gone) (gone : List Gone) (as bs cs : List OpenFile) → StoresInEach (g ∷ []) as bs
-    → StoresInEach gone bs cs → StoresInEach (g ∷ gone) as cs
+then-files : (g : Gone) (gone : List Gone) (fs gs hs : List OpenFile) → StoresInEach (g ∷ []) fs gs
+    → StoresInEach gone gs hs → StoresInEach (g ∷ gone) fs hs
 then-files g gone [] [] [] first later = tt
-then-files g gone (a ∷ as) (b ∷ bs) (c ∷ cs) first later =
-    (then-file g gone a b c first.0 later.0, then-files g gone as bs cs first.1 later.1)
-then-files g gone [] (b ∷ bs) cs first later = absurd first
-then-files g gone (a ∷ as) [] cs first later = absurd first
-then-files g gone [] [] (c ∷ cs) first later = absurd later
-then-files g gone (a ∷ as) (b ∷ bs) [] first later = absurd later
+then-files g gone (a ∷ fs) (b ∷ gs) (c ∷ hs) first later =
+    (then-file g gone a b c first.0 later.0, then-files g gone fs gs hs first.1 later.1)
+then-files g gone [] (b ∷ gs) hs first later = absurd first
+then-files g gone (a ∷ fs) [] hs first later = absurd first
+then-files g gone [] [] (c ∷ hs) first later = absurd later
+then-files g gone (a ∷ fs) (b ∷ gs) [] first later = absurd later
 
 -- of all
 pub stores-changed : (gone : List Gone) (r : Resources) → OnlyStoresChanged gone r (stored_gone gone r)

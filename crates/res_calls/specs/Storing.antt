@@ -1,4 +1,4 @@
-use Rattle.std.specs.Prelude.{◌≡◌, ◌⊎◌, ℕ, true, Some, List, [], ◌∷◌}
+use Rattle.std.specs.Prelude.{◌≡◌, ◌⊎◌, true, Some, List, [], ◌∷◌}
 use Rattle.heap_calls.specs.Gone.{Gone}
 use Rattle.res_map.specs.Map.{Reference, stored_anew}
 use Rattle.res_calls.specs.Changing.{is_to_write}

@@ -2,14 +2,13 @@
 //!
 //! *More Macintosh Toolbox*, chapter 1, "Reading and Writing Partial Resources".
 
-ghost use Rattle.std.specs.Prelude.{◌≡◌, ◌≢◌, ◌<◌, ◌^◌, ◌+◌, Err, Option, Some, is_some, length, map, nat_lt, option_map, true};
-ghost use Rattle.mac_words.specs.declared.code.OsErr.{OsErr as Code};
+ghost use Rattle.std.specs.Prelude.{◌≡◌, ◌≢◌, ◌+◌, Err, None, Some, if◌then◌else◌, is_some, length, map, nat_lt, option_map, true};
 ghost use Rattle.heap_calls.specs.State.{Memory};
 ghost use Rattle.windows.specs.Writes.{piece};
 ghost use Rattle.res_calls.specs.Files.{Found, Resources as ResourcesValue};
 ghost use Rattle.res_calls.specs.Given.{IsAnswered, IsAnsweredUnseen, managers};
 ghost use Rattle.res_calls.specs.Partial as partial;
-ghost use Rattle.res_calls.specs.Partial.{write_part_found, set_size_found, unless_in_memory};
+ghost use Rattle.res_calls.specs.Partial.{write_part_found, set_size_found};
 ghost use Rattle.res_calls.specs.Places.{found_at, chained};
 ghost use Rattle.res_calls.specs.Rows.{noting};
 ghost use Rattle.res_calls.specs.View.{view_open};
@@ -127,8 +126,8 @@ fn resize_at<S: BlockStore>(
 
 /// Returns `count` bytes of stored data from an offset on, or `None` where the data does not have them all.
 fn part_of(datum: &[u8], offset: u32, count: u32) -> Option<&[u8]>
-    ensures { option_map (λ b. b.now) result ≡ if nat_lt (length datum.entry) (offset + count) then None
-        else Some (piece offset count datum.entry) }
+    ensures { option_map (λ b. b.now) result ≡ (if nat_lt (length datum.now) (offset + count) then None
+        else Some (piece offset count datum.now)) }
 {
     let from = offset as usize;
     datum.get(from..from + count as usize)

@@ -1,13 +1,13 @@
 use Rattle.std.proofs.Common.{◌≡◌, ℕ, ℤ, Bool, true, false, not, ◌==◌, ◌&&◌, ◌||◌, map, nat_lt, nat_le, List, [], ◌∷◌}
 use Rattle.std.proofs.Common.{◌++◌, refl, sym, ◌∙◌, ap, subst, cond, arith, length, Option, Some, None, Result, Ok}
-use Rattle.std.proofs.Common.{Err}
+use Rattle.std.proofs.Common.{Err, ◌+◌}
 use Rattle.std.proofs.lemmas.Bool.{false_from_ne_true, or_parts}
 use Rattle.std.proofs.lemmas.Bool.Decides.{Decides-eqb}
 use Rattle.std.specs.Prelude.{option_to_list}
 use Rattle.mac_words.specs.declared.code.OsErr.{OsErr}
 use Rattle.mac_words.specs.declared.code.TheConstants.OsErr.{END_OF_FILE, LOCKED, MAP_READ, PROFILE, RES_ATTR}
 use Rattle.mac_words.specs.declared.code.TheConstants.OsErr.{ADD_RES_FAILED, REMOVE_RES_FAILED, WRITE_PERMISSION}
-use Rattle.mac_words.specs.declared.code.TheConstants.OsErr.{DISK_FULL, DUPLICATE_FILE}
+use Rattle.mac_words.specs.declared.code.TheConstants.OsErr.{DISK_FULL, DUPLICATE_FILE, IN_MEMORY, OFFSET}
 use Rattle.mac_words.specs.Attributes.{set}
 use Rattle.heap_calls.specs.Answer.{handle_at}
 use Rattle.heap_calls.specs.Purging.{is_resource}
@@ -15,7 +15,7 @@ use Rattle.heap_calls.specs.Inside.{resource_role, new_inside, new_empty_inside,
 use Rattle.heap_calls.specs.Inside.{cast, owned_as}
 use Rattle.res_map.specs.Split.{replaced, Split, place}
 use Rattle.res_map.specs.Map.{is_protected, with_attrs, renamed, stored_anew, Reference, Map, map_of, has_handle}
-use Rattle.res_map.specs.Map.{is_handle, is_changed, is_resource as is_wanted, is_named, nth, types}
+use Rattle.res_map.specs.Map.{resized_datum, with_datum, is_handle, is_changed, is_resource as is_wanted, is_named, nth, types}
 use Rattle.res_map.proofs.Splitting.{split-passes, split-whole}
 use Rattle.res_calls.specs.Files.{Resources, File, OpenFile, Found, find, opened, file_of, file_named, open_at}
 use Rattle.res_calls.specs.Files.{current_references, fresh_resources}
@@ -27,6 +27,9 @@ use Rattle.res_calls.specs.Rows.{told_type, fetched, nth_in, noting, preloaded}
 use Rattle.res_calls.specs.Update.{update, updated_reference, bytes_held}
 use Rattle.res_calls.specs.Changing as changing
 use Rattle.res_calls.specs.Changing.{create_named, most_files, marked, stored_if}
+use Rattle.res_calls.specs.Partial as partial
+use Rattle.res_calls.specs.Partial.{is_in_memory, read_part_found, restored, restored_unless, size_refusal, write_refusal}
+use Rattle.windows.specs.Writes.{piece, written}
 use Rattle.res_calls.proofs.Keeping.{either-keeps, found-keeps, open-keeps, known-keeps, removable-keeps}
 use Rattle.res_calls.proofs.Keeping.{changeable-keeps, updated-keeps, update-comes}
 use Rattle.res_calls.proofs.Owning.Casts.{known-name, own-role, added-roles}
@@ -328,10 +331,10 @@ attrs-owns handle attrs s owns =
     (λ at e. changed-owns s at (with_attrs (set attrs at.reference.here.stored.attrs) at.reference.here)
     at.file.here.touched (resource-holds handle s at e).0 refl owns)
 
-unless-owns : (o : Option OsErr) (change : List ℕ → List ℕ) (handle : Option ℕ) (s : Managers) (at : Found)
+restored-owns : (o : Option OsErr) (change : List ℕ → List ℕ) (handle : Option ℕ) (s : Managers) (at : Found)
     → resource_of handle s.resources ≡ Some at → OneOwner s → OneOwner (restored_unless o handle change at s).after
-unless-owns (Some code) change handle s at e owns = owns
-unless-owns None change handle s at e owns =
+restored-owns (Some code) change handle s at e owns = owns
+restored-owns None change handle s at e owns =
     let after : Managers = with_resources (restored change at s.resources) s in
     let kept : OneOwner after = changed-owns s at (with_datum (change at.reference.here.stored.datum) at.reference.here) true
     (resource-holds handle s at e).0 refl owns in
@@ -342,13 +345,13 @@ write_part-owns : (handle : Option ℕ) (from : ℕ) (x : List ℕ) (s : Manager
     → OneOwner (partial.write_partial_resource handle from x s).after
 write_part-owns handle from x s owns =
     found-keeps OneOwner (resource_of handle s.resources) s _ owns
-    (λ at e. unless-owns (write_refusal from (length x) at) (written from x) handle s at e owns)
+    (λ at e. restored-owns (write_refusal from (length x) at) (written from x) handle s at e owns)
 
 set_size-owns : (handle : Option ℕ) (n : ℕ) (s : Managers) → OneOwner s
     → OneOwner (partial.set_resource_size handle n s).after
 set_size-owns handle n s owns =
     found-keeps OneOwner (resource_of handle s.resources) s _ owns
-    (λ at e. unless-owns (size_refusal n at) (resized_datum n) handle s at e owns)
+    (λ at e. restored-owns (size_refusal n at) (resized_datum n) handle s at e owns)
 
 read_part-owns : (handle : Option ℕ) (from n : ℕ) (s : Managers) → OneOwner s
     → OneOwner (partial.read_partial_resource handle from n s).after

@@ -1,4 +1,4 @@
-use Rattle.std.proofs.Common.{◌≡◌, ℕ, ℤ, ◌<◌, Bool, true, false, not, ◌&&◌, ◌||◌, ◌==◌, nat_lt, nat_le, List, [], ◌∷◌}
+use Rattle.std.proofs.Common.{◌≡◌, ℕ, ℤ, ◌<◌, ◌+◌, Bool, true, false, not, ◌&&◌, ◌||◌, ◌==◌, nat_lt, nat_le, List, [], ◌∷◌}
 use Rattle.std.proofs.Common.{◌++◌, refl, ◌∙◌, ap, arith, length, Option, Some, None, Result, Ok, Err}
 use Rattle.std.proofs.lemmas.List.{length-append}
 use Rattle.std.specs.Prelude.{is_some}
@@ -6,13 +6,14 @@ use Rattle.mac_words.specs.Attributes.{set}
 use Rattle.mac_words.specs.declared.code.OsErr.{OsErr}
 use Rattle.mac_words.specs.declared.code.TheConstants.OsErr.{LOCKED, PROFILE, RES_ATTR, WRITE_PERMISSION, DISK_FULL}
 use Rattle.mac_words.specs.declared.code.TheConstants.OsErr.{ADD_RES_FAILED, REMOVE_RES_FAILED, DUPLICATE_FILE}
+use Rattle.mac_words.specs.declared.code.TheConstants.OsErr.{IN_MEMORY, OFFSET}
 use Rattle.heap_calls.specs.State.{Memory, Role}
 use Rattle.heap_calls.specs.Answer.{handle_at}
 use Rattle.heap_calls.specs.Purging.{is_resource as is_owner}
 use Rattle.heap_calls.specs.Inside.{new_inside, new_empty_inside, refill_inside, has_block, resource_role}
 use Rattle.res_map.specs.Split.{Split, place, removed, replaced}
 use Rattle.res_map.specs.Map.{Reference, Map, is_changed, is_protected, is_named, is_resource as is_wanted, added}
-use Rattle.res_map.specs.Map.{new_reference, renamed, stored_anew, with_attrs}
+use Rattle.res_map.specs.Map.{new_reference, renamed, resized_datum, stored_anew, with_attrs, with_datum}
 use Rattle.res_map.proofs.Splitting.{split-whole, split-inside}
 use Rattle.res_calls.specs.Files.{File, OpenFile, Resources, Found, find, file_of, file_named, open_at, opened}
 use Rattle.res_calls.specs.Files.{with_reference}
@@ -24,11 +25,15 @@ use Rattle.res_calls.specs.Rows.{map_in, open_map, open_unless, open_named, grea
 use Rattle.res_calls.specs.Rows.{detached_at, bars, nth_in, closed_file, with_resources, loaded}
 use Rattle.res_calls.specs.Changing as changing
 use Rattle.res_calls.specs.Changing.{create_named, most_files, marked, stored_if, touched, with_changed}
+use Rattle.res_calls.specs.Partial as partial
+use Rattle.res_calls.specs.Partial.{is_in_memory, read_part_found, restored, restored_unless, set_size_found, size_refusal}
+use Rattle.res_calls.specs.Partial.{write_part_found, write_refusal}
+use Rattle.windows.specs.Writes.{piece, written as written_over}
 use Rattle.res_calls.specs.Sound.{Sound, keeps_handle}
 use Rattle.res_calls.specs.Rows.{release_found, detach_found}
 use Rattle.res_calls.specs.Changing.{change_found, write_found, rename_found, set_found, remove_found, add_found}
 use Rattle.res_calls.proofs.Keeping.{either-keeps, found-keeps, open-keeps, known-keeps, removable-keeps, free-keeps}
-use Rattle.res_calls.proofs.Keeping.{updated-keeps, update-comes}
+use Rattle.res_calls.proofs.Keeping.{own-first, updated-keeps, update-comes}
 use Rattle.res_calls.proofs.Owning.Places.{Stands, find-finds, nth-stands}
 use Rattle.res_calls.proofs.Owning.Calls.{resource-holds, own-file}
 use Rattle.res_calls.proofs.Soundness.Lists.{all-replaced, all-removed}
@@ -387,7 +392,7 @@ unless_sound None change handle s at e own sound =
 pub write_part_found_sound : (from : ℕ) (x : List ℕ) (handle : Option ℕ) (s : Managers) (at : Found)
     → resource_of handle s.resources ≡ Some at → Sound s.resources
     → Sound (write_part_found handle from x s at).after.resources
-write_part_found_sound from x handle s at e sound = unless_sound (write_refusal from (length x) at) (written from x)
+write_part_found_sound from x handle s at e sound = unless_sound (write_refusal from (length x) at) (written_over from x)
     handle s at e (own-first (is_system at.file.here) WRITE_PERMISSION _) sound
 
 pub write_partial_resource_sound : (handle : Option ℕ) (from : ℕ) (x : List ℕ) (s : Managers) → Sound s.resources

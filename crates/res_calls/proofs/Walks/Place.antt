@@ -1,15 +1,15 @@
 use Rattle.std.proofs.Common.{◌≡◌, ℕ, Bool, true, false, not, Option, Some, None, Result, Ok, Err, List, [], ◌∷◌}
-use Rattle.std.proofs.Common.{ℤ, ◌||◌, ◌&&◌, ◌++◌, nat_le, length, refl, ◌∙◌, ap, cond, ◌==◌, nat_lt, if◌then◌else◌}
+use Rattle.std.proofs.Common.{ℤ, ◌||◌, ◌&&◌, ◌++◌, nat_le, length, refl, ◌∙◌, ap, cond, ◌==◌, nat_lt, ◌+◌, if◌then◌else◌}
 use Rattle.mac_words.specs.declared.code.OsErr.{OsErr}
-use Rattle.mac_words.specs.declared.code.TheConstants.OsErr.{LOCKED, PROFILE, RES_ATTR, ADD_RES_FAILED}
+use Rattle.mac_words.specs.declared.code.TheConstants.OsErr.{IN_MEMORY, LOCKED, OFFSET, PROFILE, RES_ATTR, ADD_RES_FAILED}
 use Rattle.mac_words.specs.declared.code.TheConstants.OsErr.{REMOVE_RES_FAILED, WRITE_PERMISSION, DUPLICATE_FILE, DISK_FULL}
-use Rattle.mac_words.specs.Told.{Told, Done, Kind, Number}
+use Rattle.mac_words.specs.Told.{Told, Bytes, Done, Kind, Number}
 use Rattle.res_map.specs.Map.{Map}
 use Rattle.res_calls.specs.Rows.{map_in, open_map}
 use Rattle.block_store.specs.Rest.{Site}
 use Rattle.res_map.specs.Split.{Split, place, replaced}
 use Rattle.res_map.specs.Map.{Reference, is_preload, is_changed, is_protected, is_resource, is_named, nth, types}
-use Rattle.res_map.specs.Map.{new_reference, renamed}
+use Rattle.res_map.specs.Map.{new_reference, renamed, resized_datum}
 use Rattle.heap_calls.specs.State.{Memory, Resource}
 use Rattle.heap_calls.specs.Answer.{Known, code_of, handle_at}
 use Rattle.heap_calls.specs.Purging.{is_resource as is_owned}
@@ -29,6 +29,9 @@ use Rattle.res_calls.specs.Update.{update, written, bytes_held}
 use Rattle.res_calls.specs.Changing as changing
 use Rattle.res_calls.specs.Changing.{most_files, new_file, new_fork, with_files, create_named, on_known, added_to}
 use Rattle.res_calls.specs.Changing.{on_removable, removed_from, stored_if, touched, marked, with_changed}
+use Rattle.res_calls.specs.Partial as partial
+use Rattle.res_calls.specs.Partial.{is_in_memory, read_part_found, restored, restored_unless, size_refusal, write_refusal}
+use Rattle.windows.specs.Writes.{written as written_over}
 use Rattle.res_calls.specs.Rows.{detached_at, fetched}
 use Rattle.res_calls.specs.Rows.{resource_of, told_type, nth_in, keep_error, noting}
 use Rattle.res_calls.specs.Asked.{ResourceAsked, Served, telling, tell_fetched, tell_info, served}
@@ -423,7 +426,7 @@ served-elsewhere window (asks.ReadPartialResource handle from n) s =
 served-elsewhere window (asks.WritePartialResource handle from x) s =
     telling-place window (λ x. Done) (partial.write_partial_resource handle from x) s
     (found-place window (resource_of handle s.resources) s _ _
-    (λ at. restored-place window (write_refusal from (length x) at) handle (written from x) at s))
+    (λ at. restored-place window (write_refusal from (length x) at) handle (written_over from x) at s))
 served-elsewhere window (asks.SetResourceSize handle n) s =
     telling-place window (λ x. Done) (partial.set_resource_size handle n) s
     (found-place window (resource_of handle s.resources) s _ _
