@@ -41,6 +41,8 @@ enum Arguments {
     NameAndSize,
     TwoNames,
     Bytes,
+    Part,
+    Resource,
 }
 
 /// The calls that are made. A call that stands here more than once is made more often.
@@ -74,6 +76,14 @@ const CALLS: &[(&str, Arguments)] = &[
     ("HandToHand", Arguments::TwoNames),
     ("HandAndHand", Arguments::TwoNames),
     ("MaxBlock", Arguments::Nothing),
+    ("AddResource", Arguments::Resource),
+    ("AddResource", Arguments::Resource),
+    ("ChangedResource", Arguments::Name),
+    ("LoadResource", Arguments::Name),
+    ("ReadPartialResource", Arguments::Part),
+    ("WritePartialResource", Arguments::Bytes),
+    ("SetResourceSize", Arguments::NameAndSize),
+    ("SetResPurge TRUE", Arguments::Nothing),
     ("WaitNextEvent", Arguments::Nothing),
     ("WaitNextEvent", Arguments::Nothing),
     ("WaitNextEvent", Arguments::Nothing),
@@ -95,8 +105,8 @@ fn a_size(chance: &mut Chance) -> u32 {
 
 /// Appends a line that has one call.
 fn a_line(chance: &mut Chance, text: &mut String) -> Result<(), Fail> {
-    let Some((word, arguments)) = CALLS.get((chance.next() % 32) as usize) else {
-        return Err(Fail::new("one of 32 calls"));
+    let Some((word, arguments)) = CALLS.get((chance.next() % 40) as usize) else {
+        return Err(Fail::new("one of 40 calls"));
     };
     let name = a_name(chance);
     let size = a_size(chance);
@@ -110,6 +120,8 @@ fn a_line(chance: &mut Chance, text: &mut String) -> Result<(), Fail> {
             writeln!(text, "{word} {name} {other}")?;
         }
         Arguments::Bytes => writeln!(text, "{word} {name} 0 \"{size}\"")?,
+        Arguments::Part => writeln!(text, "{word} {name} 0 {size}")?,
+        Arguments::Resource => writeln!(text, "{word} {name} 'TEXT' {size} \"\"")?,
     }
     Ok(())
 }

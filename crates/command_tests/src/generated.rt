@@ -42,10 +42,11 @@ fn leaves_alike(rt: &impl Abort, alloc: Global, size: u32, script: &Script) -> R
     Ok(())
 }
 
-/// Returns a script of `calls` calls, the last of which returns the number of free bytes.
+/// Returns a script of `calls` calls, which then closes its file, so that no resource has a handle any more, and asks for
+/// the number of free bytes.
 fn a_script(alloc: Global, seed: u32, calls: u32) -> Result<Script, Fail> {
     let mut text = some_calls(alloc, &mut Chance(seed), calls)?;
-    text.push_str("FreeMem\n")?;
+    text.push_str("CloseResFile 2\nFreeMem\n")?;
     match read_script(alloc, text.as_bytes()) {
         Ok(script) => Ok(script),
         Err(_) => Err(Fail::new("a faulty script")),
