@@ -1,4 +1,4 @@
-use Rattle.std.proofs.Common.{◌≡◌, ℕ, ◌+◌, ◌≤◌, ◌<◌, ◌-◌, Bool, true, false, not, ◌&&◌, ◌||◌, List, []}
+use Rattle.std.proofs.Common.{◌≡◌, ℕ, ◌+◌, ◌≤◌, ◌<◌, Bool, true, false, not, ◌&&◌, ◌||◌, List, []}
 use Rattle.std.proofs.Common.{◌∷◌, ◌++◌, refl, sym, ap, subst, cond, arith, Option, Some, None, Result, Ok, Err, is_some}
 use Rattle.std.proofs.Common.{length, replicate, slice_get}
 use Rattle.std.proofs.lemmas.Bool.{cond-true, and_parts, le-leb}
