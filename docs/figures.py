@@ -595,6 +595,18 @@ def last_named(count):
     return crowd(b"step a%d\n" % (count - 1) * (500 * count), b"", count)
 
 
+def appended(count):
+    """so many parts of a byte, each written at the end of the stored data"""
+    return script_of(EMPTIED + b"".join(b'WritePartialResource h %d "x"\n' % i for i in range(count)), 1024)
+
+
+def enlarged(count):
+    """so many resources, each of which gets as many bytes as a resource can have"""
+    line = b"NewHandle h 0\nAddResource h 'TEXT' %d \"\"\nSetResourceSize h 16777215\n"
+    return script_of(b"".join(line % i for i in range(count)), 16777216)
+
+
+EMPTIED = b"NewHandle h 0\nAddResource h 'TEXT' 1 \"\"\nEmptyHandle h\n"
 HEX = long_line(b"Put h 0 $", b"5")
 BYTES = long_line(b"Put h 0 \"", b"x", b"\"")
 ONE = b"NewHandle h 65535\n"
@@ -649,6 +661,10 @@ UNLUCKY = [
     ("references that share one datum, the last damaged: `check`", 32768, read_by("check", shared, True)),
     ("lines of the shortest call", 2500000, repeated(b"MaxMem\n")),
     ("AddResource, each of a new type", 20000, added),
+    ("parts of a byte, each at the end of the stored data", 250000, appended),
+    ("times stored data gets 16,777,215 bytes, and none again", 50,
+     repeated(b"SetResourceSize h 16777215\nSetResourceSize h 0\n", EMPTIED)),
+    ("resources that get 16,777,215 bytes each", 20, enlarged),
 ]
 
 
