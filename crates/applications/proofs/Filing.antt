@@ -18,7 +18,7 @@ use Rattle.heap_calls.specs.declared.refusal.Refusal.{Refusal}
 use Rattle.heap_calls.specs.declared.refusal.Refusal.TheVariants.{HostMemory}
 use Rattle.res_calls.specs.Fetch.{Managers, Answer}
 use Rattle.res_calls.specs.Given.{IsAnswered}
-use Rattle.res_calls.specs.Files.{File, Resources}
+use Rattle.res_calls.specs.Files.{File}
 use Rattle.res_calls.specs.Asked.{ResourceAsked}
 use Rattle.res_calls.specs.Asked as finds
 use Rattle.res_calls.specs.Writing.{writes}

@@ -12,7 +12,9 @@ ghost use Rattle.applications.specs.Replies.{TellsServed, IsTried};
 
 use crate::application::Application;
 use crate::names::Names;
-use crate::tried::{Tried, attributes, counted, done_on_resource, fetched, info, kind, read, sized};
+use crate::tried::{
+    Tried, attributes, counted, done_on_resource, fetched, info, kind, read, sized,
+};
 use block_store::BlockStore;
 use heap_calls::{Heap, PurgeSink};
 use mac_words::{Attrs, Reply, ResourceCall};
@@ -79,7 +81,9 @@ pub(crate) fn shown_in<'a, S: BlockStore>(
 {
     match call {
         ResourceCall::ReadPartialResource(name, offset, count) => {
-            resources.partial(heap, names.number(name), *offset, *count).ok()
+            resources
+                .partial(heap, names.number(name), *offset, *count)
+                .ok()
         }
         _ => None,
     }
@@ -195,12 +199,9 @@ fn answered<S: BlockStore, K: PurgeSink>(
         ResourceCall::GetResourceSizeOnDisk(name) => sized(resources.get_resource_size_on_disk(
             names.number(name),
         )),
-        ResourceCall::ReadPartialResource(name, offset, count) => read(resources.read_partial_resource(
-            heap,
-            names.number(name),
-            *offset,
-            *count,
-        )),
+        ResourceCall::ReadPartialResource(name, offset, count) => read(
+            resources.read_partial_resource(heap, names.number(name), *offset, *count),
+        ),
         ResourceCall::WritePartialResource(name, offset, bytes) => done_on_resource(
             resources.write_partial_resource(heap, names.number(name), *offset, bytes),
         ),

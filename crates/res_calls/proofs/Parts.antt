@@ -14,8 +14,8 @@ pub offset-within : (from n : ℕ) (at : Found) → write_refusal from n at ≡ 
     → from ≤ length at.reference.here.stored.datum
 offset-within from n at e =
     let inside = ltb-false (length at.reference.here.stored.datum) from
-        (by_tests (is_system at.file.here) (is_protected at.reference.here)
-        (nat_lt (length at.reference.here.stored.datum) from) (nat_lt most_bytes (from + n)) e) in
+    (by_tests (is_system at.file.here) (is_protected at.reference.here)
+    (nat_lt (length at.reference.here.stored.datum) from) (nat_lt most_bytes (from + n)) e) in
     omega (arith, inside)
   where
     by_tests : (system protected past long : Bool) → (if system then Some WRITE_PERMISSION

@@ -209,18 +209,13 @@ pub(crate) fn mark(files: &mut Vec<OpenFile>, at: Spot, attrs: Attrs)
 
 /// Writes bytes over the stored data of a reference of an open file from the offset `from` on, and marks the file as
 /// touched. Where the host is out of memory, the file stays as it was.
-fn write_in(
-    file: &mut OpenFile,
-    index: usize,
-    from: usize,
-    bytes: &[u8],
-) -> Result<(), AllocError>
+fn write_in(file: &mut OpenFile, index: usize, from: usize, bytes: &[u8]) -> Result<(), AllocError>
     requires inside { index < length file.old.map.references }
     requires offset { IfSome (slice_get file.old.map.references index) (λ r. from ≤ length r.stored.datum) }
     ensures map { OnOk result (IfSome (slice_get file.old.map.references index)
         (λ r. file.new.map ≡ record file.old.map {
-      references = slice_set file.old.map.references index (with_datum (written from bytes.now r.stored.datum) r);
-    })) }
+          references = slice_set file.old.map.references index (with_datum (written from bytes.now r.stored.datum) r);
+        })) }
     ensures touched { OnOk result (file.new ≡ record file.old { map = file.new.map; touched = true }) }
     ensures kept { OnErr result (file.new ≡ file.old) }
 {
@@ -255,8 +250,8 @@ fn resize_in(file: &mut OpenFile, index: usize, size: usize) -> Result<(), Alloc
     requires { index < length file.old.map.references }
     ensures map { OnOk result (IfSome (slice_get file.old.map.references index)
         (λ r. file.new.map ≡ record file.old.map {
-      references = slice_set file.old.map.references index (with_datum (resized_datum size r.stored.datum) r);
-    })) }
+          references = slice_set file.old.map.references index (with_datum (resized_datum size r.stored.datum) r);
+        })) }
     ensures touched { OnOk result (file.new ≡ record file.old { map = file.new.map; touched = true }) }
     ensures kept { OnErr result (file.new ≡ file.old) }
 {

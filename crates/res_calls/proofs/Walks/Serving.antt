@@ -37,12 +37,12 @@ use Rattle.res_calls.proofs.Walks.Going.{update-goes, create-goes, changeable-go
 -- resources, but for the code that ResError tells
 pub record Serves (writing : Bool) (left : OsErr → Resources) (steps : List Step) (s : Managers) (x : Served) : Type 0
   where
-  pub heap : x.after.memory ≡ walk steps s.memory
-  pub read : x.reads ≡ reads steps s.memory
-  pub files : writing ≡ false → x.after.resources.files ≡ s.resources.files
-  pub stays : (code : OsErr) → x.told ≡ Refused code → x.after.resources.files ≡ s.resources.files
-  pub refuses : (code : OsErr) → x.told ≡ Refused code
-      → (x.reads ≡ []) × (x.after.resources ≡ record (left code) { error = code }) × Refuses steps s.memory code
+    pub heap : x.after.memory ≡ walk steps s.memory
+    pub read : x.reads ≡ reads steps s.memory
+    pub files : writing ≡ false → x.after.resources.files ≡ s.resources.files
+    pub stays : (code : OsErr) → x.told ≡ Refused code → x.after.resources.files ≡ s.resources.files
+    pub refuses : (code : OsErr) → x.told ≡ Refused code
+        → (x.reads ≡ []) × (x.after.resources ≡ record (left code) { error = code }) × Refuses steps s.memory code
 
 -- a refusal is told
 abbrev is_refusal : Told → Bool
