@@ -55,7 +55,7 @@ abbrev pub create_res_file : List ℕ → Managers → Answer (Unit {0})
 create_res_file name s = create_named name (file_named name s.resources) s
 
 -- The open files, and the resources, where the given open file is touched and has the given references.
--- See decision 53 (three calls touch a file).
+-- See decision 53 (five calls touch a file).
 abbrev pub touched_files : Split OpenFile → List Reference → List OpenFile
 touched_files at references =
     replaced (record at.here { map = record at.here.map { references = references }; touched = true }) at

@@ -24,7 +24,7 @@ is_held_code code = int_eq code.0 IN_MEMORY.0
 -- The resources that a call leaves which is refused with this code, but for the code that ResError returns: as they
 -- were. Where WritePartialResource and SetResourceSize are refused with -188 (resourceInMemory) they have changed the
 -- stored data all the same.
--- See decision 191 (what stores a part touches the file and does not mark the resource).
+-- See decision 191 (a call that writes a part touches the file, and does not mark the resource).
 abbrev pub left_refused : ResourceAsked → OsErr → Managers → Resources
 left_refused (WritePartialResource handle offset bytes) code s = if is_held_code code
     then restored_if (written offset bytes) (resource_of handle s.resources) s.resources else s.resources
