@@ -18,7 +18,7 @@ use zone_bytes::{
     Edges, Landmarks, PackedRun, SlotBlock, add_masters, block_of_slot, carve,
     carve_nonrelocatable, changed_bound, content_at, falls_short, flag_at, free_block, free_slot,
     frees_one, given_at, given_with, has_room_behind, hoist_block, kept_flags, make_fresh,
-    mark_slot, move_bytes, padded_size, purge_above, purge_from, purgeable_at, purgeable_left,
+    mark_slot, move_bytes, padded_size, purge_above, purge_lowest, purgeable_at, purgeable_left,
     put_bytes, raise_run, read_header, read_word, resize_block, settle_run, size_at, slot_place,
     slot_resource, walk_above, walk_from,
 };
@@ -157,15 +157,16 @@ impl RawZone {
     }
 
     /// Purges the lowest blocks that may be purged, `purges` of them, and frees a block that counts as free, by one
-    /// walk.
+    /// pass from the lowest of these blocks to the last. Only the landmarks there are laid anew.
     fn empty(&mut self, purges: u32, sparing: Sparing)
         ensures zone { zone_of self.new ≡ purged purges sparing (zone_of self.old) }
         ensures rest { IsRest (rest_of self.old) (rest_of self.new) }
     {
-        let freed = purge_from(&mut self.part, 0, 0, purges, sparing);
-        self.free += freed;
-        self.most_purgeable = purgeable_left(&self.part, self.most_purgeable, freed, sparing);
-        self.marks.renew_all(&self.part);
+        let freed = purge_lowest(&mut self.part, &self.marks, purges, sparing);
+        self.free += freed.bytes;
+        self.most_purgeable =
+            purgeable_left(&self.part, self.most_purgeable, freed.bytes, sparing);
+        self.marks.note(&self.part, freed.from, freed.to);
     }
 
     /// Returns the block of a handle.
@@ -342,9 +343,9 @@ impl BlockStore for RawZone {
 
     fn purge_after(&mut self, place: u32, purges: u32, sparing: Sparing) {
         let freed = purge_above(&mut self.part, place, purges, sparing);
-        self.free += freed;
-        self.most_purgeable = changed_bound(self.most_purgeable, freed, 0);
-        self.marks.renew_all(&self.part);
+        self.free += freed.bytes;
+        self.most_purgeable = changed_bound(self.most_purgeable, freed.bytes, 0);
+        self.marks.note(&self.part, freed.from, freed.to);
     }
 
     fn settle(&mut self, run: u32) {

@@ -60,7 +60,7 @@ pub use purgeable::{
     changed_bound, falls_short, frees_one, given_at, given_with, purgeable_at, purgeable_bytes_in,
     purgeable_left,
 };
-pub use purging::{purge_above, purge_from};
+pub use purging::{purge_above, purge_from, purge_lowest};
 pub use raising::raise_run;
 pub use raw_walk::{RawWalk, walk_from};
 pub use resizing::{ResizedBlock, free_behind, resize_block};
