@@ -16,9 +16,9 @@ use std::alloc::AllocError;
 use std::marker::Model;
 use zone_bytes::{
     Edges, Landmarks, PackedRun, SlotBlock, add_masters, block_of_slot, carve,
-    carve_nonrelocatable, changed_bound, content_at, falls_short, flag_at, free_block, free_slot,
+    carve_nonrelocatable, changed_bound, content_at, count_purgeable, falls_short, flag_at, free_block, free_slot,
     frees_one, given_at, given_with, has_room_behind, hoist_block, kept_flags, make_fresh,
-    mark_slot, move_bytes, padded_size, purge_above, purge_lowest, purgeable_at, purgeable_left,
+    mark_slot, move_bytes, next_purgeable, padded_size, purge_above, purge_lowest, purgeable_at, purgeable_left,
     put_bytes, raise_run, read_header, read_word, resize_block, settle_run, size_at, slot_place,
     slot_resource, walk_above, walk_from,
 };
@@ -150,9 +150,10 @@ impl RawZone {
         ensures stop { IfSome (run_at run (zone_of self.old)) (λ r. result.stop ≡ run + sizes r.run) }
     {
         self.marks.await_edges(&self.part, &mut self.edges, run);
+        let lowest = self.marks.lowest_packed(run, self.free);
         let packed = settle_run(&mut self.part, &mut self.edges, run);
         self.marks
-            .note_packed(&self.part, &self.edges, run, run, packed.stop);
+            .note_packed(&self.part, &self.edges, run, run, packed.stop, lowest);
         packed
     }
 
@@ -167,6 +168,7 @@ impl RawZone {
         self.most_purgeable =
             purgeable_left(&self.part, self.most_purgeable, freed.bytes, sparing);
         self.marks.note(&self.part, freed.from, freed.to);
+        self.marks.seek(&self.part);
     }
 
     /// Returns the block of a handle.
@@ -282,14 +284,20 @@ impl BlockStore for RawZone {
         if self.most_purgeable == 0 {
             return None;
         }
-        next_purgeable_in(&mut walk_from(&self.part, 0), purges, sparing)
+        if frees_one(sparing) {
+            return next_purgeable_in(&mut walk_from(&self.part, 0), purges, sparing);
+        }
+        next_purgeable(&self.part, self.marks.start(), purges, sparing)
     }
 
     fn purgeable(&self, sparing: Sparing) -> u32 {
         if self.most_purgeable == 0 {
             return 0;
         }
-        purgeable_in(&mut walk_from(&self.part, 0), sparing)
+        if frees_one(sparing) {
+            return purgeable_in(&mut walk_from(&self.part, 0), sparing);
+        }
+        count_purgeable(&self.part, self.marks.start(), sparing)
     }
 
     fn room_above(&self, number: u32, bytes: u32, purges: u32, sparing: Sparing) -> bool {
@@ -355,9 +363,10 @@ impl BlockStore for RawZone {
 
     fn raise(&mut self, run: u32, bytes: u32) -> Result<(), AllocError> {
         self.marks.await_edges(&self.part, &mut self.edges, run);
+        let lowest = self.marks.lowest_under(run);
         let stop = raise_run(&mut self.part, &mut self.edges, run, bytes);
         self.marks
-            .note_packed(&self.part, &self.edges, run + bytes, run, stop);
+            .note_packed(&self.part, &self.edges, run + bytes, run, stop, lowest);
         Ok(())
     }
 

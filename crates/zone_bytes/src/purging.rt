@@ -17,12 +17,13 @@ ghost use Rattle.zone_bytes.specs.Joining.{Freeing};
 ghost use Rattle.zone_bytes.specs.Beside.{KeepsPlace};
 
 use crate::freeing::{Freed, free_up};
+use crate::going::next_purgeable;
 use crate::joining::last_free_below;
 use crate::keeping::Landmarks;
 use crate::purgeable::frees_one;
-use crate::raw_walk::{seen_of, walk_from};
+use crate::raw_walk::seen_of;
 use crate::words::read_header;
-use block_store::{Seen, Sparing, is_counted_free, may_purge, next_purgeable_in};
+use block_store::{Seen, Sparing, is_counted_free, may_purge};
 use heap_words::{Header, Tag};
 use raw_region::Part;
 
@@ -127,8 +128,9 @@ pub fn purge_from(part: &mut Part, start: u32, at: u32, purges: u32, sparing: Sp
 
 /// Returns the place of the lowest block that may be purged, if there is one and no block counts as free that is not
 /// free.
-fn first_to_go(part: &Part, sparing: Sparing) -> Option<u32>
-    requires { (first : ℕ) × (unused : ℕ) × IsSound part.now.bytes first unused }
+fn first_to_go(part: &Part, marks: &Landmarks, sparing: Sparing) -> Option<u32>
+    requires sound { (first : ℕ) × (unused : ℕ) × IsSound part.now.bytes first unused }
+    requires marks { AreOf marks.now (zone_in part.now.bytes) }
     ensures plain { IsSome result → (blocks : List Block) → opened sparing blocks ≡ blocks }
     ensures lowest { IfSome result (λ place.
         FindsLowest (may_be_purged (spared sparing)) (zone_in part.now.bytes) (Some place)) }
@@ -136,7 +138,7 @@ fn first_to_go(part: &Part, sparing: Sparing) -> Option<u32>
     if frees_one(sparing) {
         return None;
     }
-    next_purgeable_in(&mut walk_from(part, 0), 0, sparing)
+    next_purgeable(part, marks.start(), 0, sparing)
 }
 
 /// Purges the lowest blocks that may be purged, `purges` of them, and frees a block that counts as free. The pass
@@ -148,7 +150,7 @@ pub fn purge_lowest(part: &mut Part, marks: &Landmarks, purges: u32, sparing: Sp
     ensures purged { (first unused : ℕ) (i : IsSound part.old.bytes first unused) →
         Purged (purge_zone result.from part.old.bytes i.unused purges sparing) result.to result.bytes part.new.bytes }
 {
-    let Some(place) = first_to_go(part, sparing) else {
+    let Some(place) = first_to_go(part, marks, sparing) else {
         return purge_from(part, 0, 0, purges, sparing);
     };
     let from = marks.below(place);

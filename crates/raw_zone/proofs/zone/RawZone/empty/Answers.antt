@@ -64,7 +64,7 @@ invariant_of-self-inside c = ((done (goal.at.invariant_of-self-inside c).After-p
 pub invariant_of-self : goal.invariant_of-self
 invariant_of-self c =
     let d = done (goal.at.invariant_of-self c).After-purge_lowest-freed in
-    with-marks _ _ _ _ _ _ (gained-kept _ _ _ _ _ _ d c.self.inside.free c.self.invariant.free_is) c.note.ensures
+    with-marks _ _ _ _ _ _ (gained-kept _ _ _ _ _ _ d c.self.inside.free c.self.invariant.free_is) c.seek.ensures
     (c.purgeable_left-self-inside.ensures c.args.purges (zone_in c.self.inside.part.bytes) d.made.zone
     (ap free_sum d.made.zone ∙ d.sum) c.self.invariant.bound)
 
@@ -78,3 +78,10 @@ returns-clause-rest c =
     c.self.view_is
     (gained-rest c.self.inside.part c.purge_lowest-freed.new.part _ _ _ _
     (done (goal.at.returns-clause-rest c).After-purge_lowest-freed) c.purge_lowest-freed.ensures.same c.self.inside.moves)
+
+pub seek-requires-clause-sound : goal.seek-requires-clause-sound
+seek-requires-clause-sound c = (
+  c.self.inside.first,
+  c.self.inside.unused,
+  (done (goal.at.seek-requires-clause-sound c).After-purge_lowest-freed).made.sound,
+)
