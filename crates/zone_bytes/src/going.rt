@@ -46,7 +46,11 @@ pub fn lowest_after(part: &Part, lowest: u32, lo: u32, hi: u32) -> u32
     if lowest <= lo {
         return lowest;
     }
-    within(lowest, first_going(part, lo, hi))
+    let found = first_going(part, lo, hi);
+    if hi <= found {
+        return lowest;
+    }
+    within(lowest, found)
 }
 
 /// Returns a place below which no block may be purged after the run at `run` was packed, in a zone with `free` free

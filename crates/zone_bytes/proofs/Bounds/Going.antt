@@ -43,6 +43,19 @@ stays-lower bound lower x blocks l = at-map (Stays bound) (Stays lower) x blocks
 pub stays-above : (bound x : ℕ) (blocks : List Block) → bound ≤ x → AtEach (Stays bound) x blocks
 stays-above bound x blocks l = at-all (Stays bound) x blocks (λ p b m q. absurd (omega (arith, l, m, q)))
 
+-- a block that ends below the place
+pub stays-here : (bound x : ℕ) (b : Block) → Stays bound x b → x + size b ≤ bound → is_purgeable b ≡ false
+stays-here bound x (Free n) s l = refl
+stays-here bound x (Nonrelocatable id content) s l = refl
+stays-here bound x Masters s l = refl
+stays-here bound x (Relocatable id flags content) s l = s (omega (arith, l))
+
+-- blocks that end below it
+pub stays-whole : (bound other x : ℕ) (blocks : List Block) → x + sizes blocks ≤ bound → AtEach (Stays bound) x blocks
+    → AtEach (Stays other) x blocks
+stays-whole bound other x blocks l = at-map (Stays bound) (Stays other) x blocks
+    (λ p b _ u s _. stays-here bound p b s (omega (arith, u, l)))
+
 -- a block became one of as many bytes, which may be purged if it might
 pub stays-same : (bound x : ℕ) (below above : List Block) (b c : Block) → size c ≡ size b → is_purgeable c ≡ is_purgeable b
     → AtEach (Stays bound) x (below ++ b ∷ above) → AtEach (Stays bound) x (below ++ c ∷ above)
@@ -180,12 +193,6 @@ module _ (xs : List ℕ) (from at : ℕ) (p : Passed xs from at (λ _ b. is_purg
       (stays-above at (from + sizes p.done) (left_in at xs) (omega (arith, u))))
 
 -- blocks of which none may be purged, below others
-stays-here : (bound x : ℕ) (b : Block) → Stays bound x b → x + size b ≤ bound → is_purgeable b ≡ false
-stays-here bound x (Free n) s l = refl
-stays-here bound x (Nonrelocatable id content) s l = refl
-stays-here bound x Masters s l = refl
-stays-here bound x (Relocatable id flags content) s l = s (omega (arith, l))
-
 none-passes : (n : Sparing) (b : Block) → is_purgeable b ≡ false → may_be_purged (spared n) b ≡ false
 none-passes n b e = ap (λ t. t && not (spared n b)) e
 
@@ -218,7 +225,7 @@ stays-from xs first unused i from b g bound s =
     let k : from ≡ 0 + sizes e.below = omega (arith, l) in
     subst (NoneGoes bound) (sym e.is)
     (at-append (Stays bound) 0 e.below (left_in from xs)
-    (at-map (Stays from) (Stays bound) 0 e.below (λ p c _ u r _. stays-here from p c r (omega (arith, u, l)))
+    (stays-whole from bound 0 e.below (omega (arith, l))
     (at-left (Stays from) 0 e.below (left_in from xs) (subst (NoneGoes from) e.is g)))
     (subst (λ x. AtEach (Stays bound) x (left_in from xs)) k s))
 
