@@ -8,7 +8,7 @@ ghost use Rattle.block_store.specs.Sparing.{purged};
 use block_store::{
     BlockStore, Flags, GREATEST_ZONE, HEADER_SIZE, LEAST_ZONE, MASTERS_SIZE, SLOTS_A_BLOCK, Seen,
     Sparing, UNIT, Walk, find_free_in, find_run_in, free_after_in, largest_after_in,
-    largest_free_in, largest_run_in, next_purgeable_in, next_run_in, purgeable_in,
+    largest_free_in, next_purgeable_in, next_run_in, purgeable_in,
     purgeable_in_run_in, room_above_in, run_has_free_in, run_of_in,
 };
 use raw_region::Part;
@@ -234,7 +234,7 @@ impl BlockStore for RawZone {
     }
 
     fn largest_run(&self) -> u32 {
-        largest_run_in(&mut walk_from(&self.part, 0))
+        self.marks.largest_run(&self.part)
     }
 
     fn moves(&self) -> u64 {

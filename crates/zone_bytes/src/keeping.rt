@@ -2,6 +2,7 @@
 
 ghost use Rattle.std.specs.Prelude.{◌≡◌, ◌≤◌, ◌<◌, ◌⊎◌, ◌++◌, ℕ, List, [], Some};
 ghost use Rattle.block_store.specs.Block.{Block, free_sum, is_room, sizes};
+ghost use Rattle.block_store.specs.Compact.{largest_run};
 ghost use Rattle.block_store.specs.Find.{FindsLowest, FindsLowestRun};
 ghost use Rattle.block_store.specs.Run.{RunSpot, has_free, run_at, settle};
 ghost use Rattle.block_store.specs.Sparing.{opened, purged};
@@ -18,6 +19,7 @@ use crate::finding_runs::find_run_by_marks;
 use crate::going::{first_going, lowest_after, lowest_packed};
 use crate::grouping::{raise_top, renew_tops};
 use crate::landmark::{GROUP, Landmark, Tally, UNKNOWN};
+use crate::largest::largest_run_by_marks;
 use crate::marking::{
     NextMark, change_marks, find_by_marks, lay_edges, lay_marks, mark_below, place_of_mark,
 };
@@ -156,6 +158,15 @@ impl Landmarks {
         ensures { FindsLowestRun (has_free bytes) (purged purges sparing (zone_in part.now.bytes)) result }
     {
         find_run_by_marks(&self.marks, part, bytes, purges, sparing)
+    }
+
+    /// Returns the greatest number of free bytes in one run.
+    pub fn largest_run(&self, part: &Part) -> u32
+        requires sound { (first : ℕ) × (unused : ℕ) × IsSound part.now.bytes first unused }
+        requires marks { AreOf self.now (zone_in part.now.bytes) }
+        ensures { result ≡ largest_run (zone_in part.now.bytes) }
+    {
+        largest_run_by_marks(&self.marks, part)
     }
 
     /// Renews the landmarks after the blocks from `lo` to `hi` became others.

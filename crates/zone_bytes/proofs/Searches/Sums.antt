@@ -1,6 +1,6 @@
 -- The greatest number of free bytes in one run, by a walk and by landmarks.
 use Rattle.std.proofs.Common.{◌≡◌, ℕ, ◌+◌, ◌≤◌, Bool, true, false, not, ◌||◌, max, map, List, [], ◌∷◌, ◌++◌, refl, sym, ap, ◌∙◌}
-use Rattle.std.proofs.Common.{cond, subst, arith}
+use Rattle.std.proofs.Common.{cond, length, subst, arith}
 use Rattle.block_store.specs.Block.{Block, size, free_of, free_sum}
 use Rattle.block_store.specs.Compact.{largest, largest_run}
 use Rattle.block_store.specs.Run.{Segments, Stretch, has, in_run, put_below, segments}
@@ -8,9 +8,15 @@ use Rattle.block_store.proofs.Regroup.RunLooks.{largest_from}
 use Rattle.zone_bytes.specs.Decode.{zone_in}
 use Rattle.zone_bytes.specs.Largest.{CameOn, most_past}
 use Rattle.zone_bytes.specs.Marks.{Spans, ends_run}
-use Rattle.zone_bytes.specs.Searching.{IsPiece}
+use Rattle.zone_bytes.specs.Lawful.{IsSound}
+use Rattle.zone_bytes.specs.Searching.{IsPiece, IsStretch}
 use Rattle.zone_bytes.specs.Stepping.{left_in, IsOnWay}
+use Rattle.zone_bytes.specs.declared.landmark.Tally.TheVariants as tally
 use Rattle.zone_bytes.specs.declared.largest.RunSum.{RunSum}
+use Rattle.zone_bytes.proofs.Marks.Lowering.{begins-way}
+use Rattle.zone_bytes.proofs.Places.AtPlace.{left-zone}
+use Rattle.zone_bytes.proofs.Places.Stepped.{left-none}
+use Rattle.zone_bytes.proofs.Places.Walks.{free_span-le}
 
 -- it is that of the runs
 past-is : (most free : ℕ) (zone : List Block) → most_past most free zone ≡ max most (largest_from free (segments zone))
@@ -66,3 +72,29 @@ came-start xs sum w f = record { same = refl; way = w; free = f }
 
 pub came-more : (xs : List ℕ) (a b c : RunSum) → CameOn xs a b → CameOn xs b c → CameOn xs a c
 came-more xs a b c p q = record { same = p.same ∙ q.same; way = q.way; free = q.free }
+
+-- past a stretch in which no run ends
+module _ (xs : List ℕ) (first unused : ℕ) (i : IsSound xs first unused) (sum : RunSum) (at next free : ℕ)
+    (s : IsStretch (tally.Open free) at next xs) (e : sum.at ≡ at) (f : sum.free ≤ sum.at) where
+  pub open-fits : sum.free + free ≤ next
+  open-fits =
+      let u = s.1.up in
+      let q = s.2.1 in
+      let l = free_span-le s.0 in
+      omega (arith, u, q, l, e, f)
+
+  pub open-came : CameOn xs sum (record { most = sum.most; free = sum.free + free; at = next })
+  open-came = record {
+    same = ap (λ p. most_past sum.most sum.free (left_in p xs)) e ∙ ap (most_past sum.most sum.free) s.1.is
+        ∙ past-open sum.most sum.free s.0 (left_in next xs) s.2.0
+        ∙ ap (λ n. most_past sum.most (sum.free + n) (left_in next xs)) s.2.1;
+    way = begins-way xs first unused i next s.1.edge;
+    free = open-fits;
+  }
+
+-- at the end of the zone
+pub came-end : (xs : List ℕ) (first unused : ℕ) → IsSound xs first unused → (sum : RunSum)
+    → CameOn xs (record { most = 0; free = 0; at = 0 }) sum → length xs ≤ sum.at
+    → max sum.most sum.free ≡ largest_run (zone_in xs)
+came-end xs first unused i sum c l = sym (sym (past-largest (zone_in xs)) ∙ ap (most_past 0 0) (sym (left-zone xs))
+    ∙ c.same ∙ ap (most_past sum.most sum.free) (left-none sum.at xs c.way l))
