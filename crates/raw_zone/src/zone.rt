@@ -8,19 +8,19 @@ ghost use Rattle.block_store.specs.Sparing.{purged};
 use block_store::{
     BlockStore, Flags, GREATEST_ZONE, HEADER_SIZE, LEAST_ZONE, MASTERS_SIZE, SLOTS_A_BLOCK, Seen,
     Sparing, UNIT, Walk, find_free_in, find_run_in, free_after_in, largest_after_in,
-    largest_free_in, next_purgeable_in, next_run_in, purgeable_in,
-    purgeable_in_run_in, room_above_in, run_has_free_in, run_of_in,
+    largest_free_in, next_purgeable_in, next_run_in, purgeable_in, purgeable_in_run_in,
+    room_above_in, run_has_free_in, run_of_in,
 };
 use raw_region::Part;
 use std::alloc::AllocError;
 use std::marker::Model;
 use zone_bytes::{
     Edges, Landmarks, PackedRun, SlotBlock, add_masters, block_of_slot, carve,
-    carve_nonrelocatable, changed_bound, content_at, count_purgeable, falls_short, flag_at, free_block, free_slot,
-    frees_one, given_at, given_with, has_room_behind, hoist_block, kept_flags, make_fresh,
-    mark_slot, move_bytes, next_purgeable, padded_size, purge_above, purge_lowest, purgeable_at, purgeable_left,
-    put_bytes, raise_run, read_header, read_word, resize_block, settle_run, size_at, slot_place,
-    slot_resource, walk_above, walk_from,
+    carve_nonrelocatable, changed_bound, content_at, count_purgeable, falls_short, flag_at,
+    free_block, free_slot, frees_one, given_at, given_with, has_room_behind, hoist_block,
+    kept_flags, make_fresh, mark_slot, move_bytes, next_purgeable, padded_size, purge_above,
+    purge_lowest, purgeable_at, purgeable_left, put_bytes, raise_run, read_header, read_word,
+    resize_block, settle_run, size_at, slot_place, slot_resource, walk_above, walk_from,
 };
 
 /// A zone in the bytes of a part: each block begins with its header, and the slots lie in the master pointer blocks.
@@ -165,8 +165,7 @@ impl RawZone {
     {
         let freed = purge_lowest(&mut self.part, &self.marks, purges, sparing);
         self.free += freed.bytes;
-        self.most_purgeable =
-            purgeable_left(&self.part, self.most_purgeable, freed.bytes, sparing);
+        self.most_purgeable = purgeable_left(&self.part, self.most_purgeable, freed.bytes, sparing);
         self.marks.note(&self.part, freed.from, freed.to);
         self.marks.seek(&self.part);
     }

@@ -6,7 +6,6 @@ use Rattle.std.proofs.lemmas.Bool.{cases_lt, false≢true}
 use Rattle.std.specs.Option.{option_map}
 use Rattle.block_store.specs.Block.{Block, Free, Nonrelocatable, Masters, Relocatable, size, sizes, free, free_of, free_sum}
 use Rattle.block_store.specs.Block.{is_mover, is_purgeable}
-use Rattle.block_store.specs.Block.{tidy}
 use Rattle.block_store.specs.Find.{FindsLowest}
 use Rattle.block_store.specs.Room.{Spot, spot, count_of, lowest_purged, may_be_purged}
 use Rattle.block_store.specs.Run.{RunSpot, run_at, movers, settle}
@@ -27,7 +26,7 @@ use Rattle.zone_bytes.specs.Decode.{zone_in}
 use Rattle.zone_bytes.specs.Lawful.{IsSound}
 use Rattle.zone_bytes.specs.Marks.{AtEach, Begins, Replaced}
 use Rattle.zone_bytes.specs.Purgeable.{NoneGoes, Stays}
-use Rattle.zone_bytes.specs.Stepping.{left_in, IsOnWay, Steps}
+use Rattle.zone_bytes.specs.Stepping.{left_in, Steps}
 use Rattle.zone_bytes.proofs.Marks.Lowering.{Seen as Edge, seen-from}
 use Rattle.zone_bytes.proofs.Searches.Roomy.{found-from, found-within, left-long}
 use Rattle.zone_bytes.proofs.Marks.Passing.{Passed, at-all, at-append, at-left, at-map, at-right}

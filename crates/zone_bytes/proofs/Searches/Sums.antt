@@ -1,15 +1,15 @@
 -- The greatest number of free bytes in one run, by a walk and by landmarks.
 use Rattle.std.proofs.Common.{◌≡◌, ℕ, ◌+◌, ◌≤◌, Bool, true, false, not, ◌||◌, max, map, List, [], ◌∷◌, ◌++◌, refl, sym, ap, ◌∙◌}
-use Rattle.std.proofs.Common.{cond, length, subst, arith}
-use Rattle.block_store.specs.Block.{Block, size, free_of, free_sum}
+use Rattle.std.proofs.Common.{cond, length, arith}
+use Rattle.block_store.specs.Block.{Block, free_of, free_sum}
 use Rattle.block_store.specs.Compact.{largest, largest_run}
-use Rattle.block_store.specs.Run.{Segments, Stretch, has, in_run, put_below, segments}
+use Rattle.block_store.specs.Run.{Segments, Stretch, has, in_run, segments}
 use Rattle.block_store.proofs.Regroup.RunLooks.{largest_from}
 use Rattle.zone_bytes.specs.Decode.{zone_in}
 use Rattle.zone_bytes.specs.Largest.{CameOn, most_past}
-use Rattle.zone_bytes.specs.Marks.{Spans, ends_run}
+use Rattle.zone_bytes.specs.Marks.{ends_run}
 use Rattle.zone_bytes.specs.Lawful.{IsSound}
-use Rattle.zone_bytes.specs.Searching.{IsPiece, IsStretch}
+use Rattle.zone_bytes.specs.Searching.{IsStretch}
 use Rattle.zone_bytes.specs.Stepping.{left_in, IsOnWay}
 use Rattle.zone_bytes.specs.declared.landmark.Tally.TheVariants as tally
 use Rattle.zone_bytes.specs.declared.largest.RunSum.{RunSum}

@@ -1,5 +1,4 @@
-use Rattle.std.proofs.Common.{◌≡◌, ◌⊎◌, drop, inl, inr, refl, subst, arith}
-use Rattle.zone_bytes.specs.Marks.{next_of}
+use Rattle.std.proofs.Common.{◌≡◌, ◌⊎◌, inl, inr, subst, arith}
 use Rattle.zone_bytes.proofs.Places.AtPlace.{on-way}
 use Rattle.zone_bytes.proofs.Searches.Pieces.{next-stretch}
 use Rattle.zone_bytes.proofs.Searches.Sums.{came-end, came-more, came-start}

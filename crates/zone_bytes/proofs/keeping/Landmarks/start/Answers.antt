@@ -1,4 +1,4 @@
-use Rattle.std.proofs.Common.{◌≤◌, inl, inr, arith}
+use Rattle.std.proofs.Common.{inl, inr, arith}
 use Rattle.zone_bytes.proofs.Bounds.Going.{stays-above, stays-lower}
 use Rattle.zone_bytes.proofs.keeping.Landmarks.start.Goals as goal
 
