@@ -8,19 +8,19 @@ ghost use Rattle.block_store.specs.Sparing.{purged};
 use block_store::{
     BlockStore, Flags, GREATEST_ZONE, HEADER_SIZE, LEAST_ZONE, MASTERS_SIZE, SLOTS_A_BLOCK, Seen,
     Sparing, UNIT, Walk, find_free_in, find_run_in, free_after_in, largest_after_in,
-    largest_free_in, largest_run_in, next_purgeable_in, next_run_in, purgeable_in,
-    purgeable_in_run_in, room_above_in, run_has_free_in, run_of_in,
+    largest_free_in, next_purgeable_in, next_run_in, purgeable_in, purgeable_in_run_in,
+    room_above_in, run_has_free_in, run_of_in,
 };
 use raw_region::Part;
 use std::alloc::AllocError;
 use std::marker::Model;
 use zone_bytes::{
     Edges, Landmarks, PackedRun, SlotBlock, add_masters, block_of_slot, carve,
-    carve_nonrelocatable, changed_bound, content_at, falls_short, flag_at, free_block, free_slot,
-    frees_one, given_at, given_with, has_room_behind, hoist_block, kept_flags, make_fresh,
-    mark_slot, move_bytes, padded_size, purge_above, purge_from, purgeable_at, purgeable_left,
-    put_bytes, raise_run, read_header, read_word, resize_block, settle_run, size_at, slot_place,
-    slot_resource, walk_above, walk_from,
+    carve_nonrelocatable, changed_bound, content_at, count_purgeable, falls_short, flag_at,
+    free_block, free_slot, frees_one, given_at, given_with, has_room_behind, hoist_block,
+    kept_flags, make_fresh, mark_slot, move_bytes, next_purgeable, padded_size, purge_above,
+    purge_lowest, purgeable_at, purgeable_left, put_bytes, raise_run, read_header, read_word,
+    resize_block, settle_run, size_at, slot_place, slot_resource, walk_above, walk_from,
 };
 
 /// A zone in the bytes of a part: each block begins with its header, and the slots lie in the master pointer blocks.
@@ -150,22 +150,24 @@ impl RawZone {
         ensures stop { IfSome (run_at run (zone_of self.old)) (λ r. result.stop ≡ run + sizes r.run) }
     {
         self.marks.await_edges(&self.part, &mut self.edges, run);
+        let lowest = self.marks.lowest_packed(run, self.free);
         let packed = settle_run(&mut self.part, &mut self.edges, run);
         self.marks
-            .note_packed(&self.part, &self.edges, run, run, packed.stop);
+            .note_packed(&self.part, &self.edges, run, run, packed.stop, lowest);
         packed
     }
 
     /// Purges the lowest blocks that may be purged, `purges` of them, and frees a block that counts as free, by one
-    /// walk.
+    /// pass from the lowest of these blocks to the last. Only the landmarks there are laid anew.
     fn empty(&mut self, purges: u32, sparing: Sparing)
         ensures zone { zone_of self.new ≡ purged purges sparing (zone_of self.old) }
         ensures rest { IsRest (rest_of self.old) (rest_of self.new) }
     {
-        let freed = purge_from(&mut self.part, 0, 0, purges, sparing);
-        self.free += freed;
-        self.most_purgeable = purgeable_left(&self.part, self.most_purgeable, freed, sparing);
-        self.marks.renew_all(&self.part);
+        let freed = purge_lowest(&mut self.part, &self.marks, purges, sparing);
+        self.free += freed.bytes;
+        self.most_purgeable = purgeable_left(&self.part, self.most_purgeable, freed.bytes, sparing);
+        self.marks.note(&self.part, freed.from, freed.to);
+        self.marks.seek(&self.part);
     }
 
     /// Returns the block of a handle.
@@ -231,7 +233,7 @@ impl BlockStore for RawZone {
     }
 
     fn largest_run(&self) -> u32 {
-        largest_run_in(&mut walk_from(&self.part, 0))
+        self.marks.largest_run(&self.part)
     }
 
     fn moves(&self) -> u64 {
@@ -281,14 +283,20 @@ impl BlockStore for RawZone {
         if self.most_purgeable == 0 {
             return None;
         }
-        next_purgeable_in(&mut walk_from(&self.part, 0), purges, sparing)
+        if frees_one(sparing) {
+            return next_purgeable_in(&mut walk_from(&self.part, 0), purges, sparing);
+        }
+        next_purgeable(&self.part, self.marks.start(), purges, sparing)
     }
 
     fn purgeable(&self, sparing: Sparing) -> u32 {
         if self.most_purgeable == 0 {
             return 0;
         }
-        purgeable_in(&mut walk_from(&self.part, 0), sparing)
+        if frees_one(sparing) {
+            return purgeable_in(&mut walk_from(&self.part, 0), sparing);
+        }
+        count_purgeable(&self.part, self.marks.start(), sparing)
     }
 
     fn room_above(&self, number: u32, bytes: u32, purges: u32, sparing: Sparing) -> bool {
@@ -342,9 +350,9 @@ impl BlockStore for RawZone {
 
     fn purge_after(&mut self, place: u32, purges: u32, sparing: Sparing) {
         let freed = purge_above(&mut self.part, place, purges, sparing);
-        self.free += freed;
-        self.most_purgeable = changed_bound(self.most_purgeable, freed, 0);
-        self.marks.renew_all(&self.part);
+        self.free += freed.bytes;
+        self.most_purgeable = changed_bound(self.most_purgeable, freed.bytes, 0);
+        self.marks.note(&self.part, freed.from, freed.to);
     }
 
     fn settle(&mut self, run: u32) {
@@ -354,9 +362,10 @@ impl BlockStore for RawZone {
 
     fn raise(&mut self, run: u32, bytes: u32) -> Result<(), AllocError> {
         self.marks.await_edges(&self.part, &mut self.edges, run);
+        let lowest = self.marks.lowest_under(run);
         let stop = raise_run(&mut self.part, &mut self.edges, run, bytes);
         self.marks
-            .note_packed(&self.part, &self.edges, run + bytes, run, stop);
+            .note_packed(&self.part, &self.edges, run + bytes, run, stop, lowest);
         Ok(())
     }
 

@@ -2,3 +2,4 @@ pub mod Going
 pub mod Pieces
 pub mod Knowing
 pub mod Roomy
+pub mod Sums

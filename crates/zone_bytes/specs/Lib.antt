@@ -26,3 +26,4 @@ pub mod Purgeable
 pub mod Purging
 pub mod Searching
 pub mod Adopting
+pub mod Largest

@@ -4,12 +4,16 @@ use Rattle.block_store.specs.Block.{Block, free_sum}
 use Rattle.zone_bytes.specs.Decode.{zone_in}
 use Rattle.zone_bytes.specs.Lawful.{IsSound}
 use Rattle.zone_bytes.specs.Marks.{AreMarks, AreTops, above_all}
-use Rattle.zone_bytes.specs.Purgeable.{purgeable_sum}
+use Rattle.zone_bytes.specs.Purgeable.{NoneGoes, purgeable_sum}
 use Rattle.zone_bytes.specs.declared.keeping.Landmarks.{Landmarks}
 
 -- The landmarks are those of the zone, and the tops are those of the landmarks' groups.
+abbrev pub AreMarked : Landmarks → List Block → Type 0
+AreMarked landmarks zone = AreMarks above_all zone landmarks.marks × AreTops landmarks.tops landmarks.marks
+
+-- So they are, and no block below the place that is kept with them may be purged.
 abbrev pub AreOf : Landmarks → List Block → Type 0
-AreOf landmarks zone = AreMarks above_all zone landmarks.marks × AreTops landmarks.tops landmarks.marks
+AreOf landmarks zone = AreMarked landmarks zone × NoneGoes landmarks.lowest zone
 
 -- The bytes are sound, `free` of them are free, at most `purgeable` of them would be freed by purges, and the
 -- landmarks are those of the zone that the bytes spell.

@@ -1,8 +1,9 @@
 -- The bytes that blocks would free if they were purged. Inside Macintosh: Memory, chapter 1, "Purging and Reallocating
 -- Blocks".
-use Rattle.std.specs.Prelude.{ℕ, Option, Some, None, List, if◌then◌else◌}
+use Rattle.std.specs.Prelude.{◌≡◌, ◌<◌, ℕ, false, Option, Some, None, List, if◌then◌else◌}
 use Rattle.block_store.specs.Block.{Block, size, is_purgeable, total}
 use Rattle.block_store.specs.Room.{Spot}
+use Rattle.zone_bytes.specs.Marks.{AtEach}
 
 -- The bytes that a block would free if it were purged: its physical size if it may be purged, else 0.
 abbrev pub purgeable_of : Block → ℕ
@@ -17,3 +18,11 @@ purgeable_sum blocks = total purgeable_of blocks
 abbrev pub purgeable_at : Option Spot → ℕ
 purgeable_at None = 0
 purgeable_at (Some s) = purgeable_of s.here
+
+-- A block that begins below `bound` may not be purged.
+abbrev pub Stays : ℕ → ℕ → Block → Type 0
+Stays bound at b = at < bound → is_purgeable b ≡ false
+
+-- No block of the zone that begins below `bound` may be purged.
+abbrev pub NoneGoes : ℕ → List Block → Type 0
+NoneGoes bound zone = AtEach (Stays bound) 0 zone

@@ -58,7 +58,7 @@ fn join_above(part: &mut Part, start: u32, at: u32)
     }
 }
 
-/// The number of bytes that became free, and the places from and to which blocks became one free block.
+/// The number of bytes that became free, and the places from and to which blocks became others.
 #[derive(Clone, Copy, Drop)]
 pub struct Freed {
     pub bytes: u32,

@@ -1,24 +1,29 @@
 //! The landmarks that a zone keeps.
 
-ghost use Rattle.std.specs.Prelude.{◌≡◌, ◌≤◌, ◌<◌, ◌⊎◌, ℕ, List, []};
-ghost use Rattle.block_store.specs.Block.{Block, is_room, sizes};
+ghost use Rattle.std.specs.Prelude.{◌≡◌, ◌≤◌, ◌<◌, ◌⊎◌, ◌++◌, ℕ, List, [], Some};
+ghost use Rattle.block_store.specs.Block.{Block, free_sum, is_room, sizes};
+ghost use Rattle.block_store.specs.Compact.{largest_run};
 ghost use Rattle.block_store.specs.Find.{FindsLowest, FindsLowestRun};
-ghost use Rattle.block_store.specs.Run.{has_free};
+ghost use Rattle.block_store.specs.Run.{RunSpot, has_free, run_at, settle};
 ghost use Rattle.block_store.specs.Sparing.{opened, purged};
 ghost use Rattle.zone_bytes.specs.Decode.{zone_in};
 ghost use Rattle.zone_bytes.specs.Edges.{AreEdges, AreLaid, ByEdges};
 ghost use Rattle.zone_bytes.specs.Lawful.{IsSound};
-ghost use Rattle.zone_bytes.specs.Marked.{AreOf};
+ghost use Rattle.zone_bytes.specs.Marked.{AreMarked, AreOf};
 ghost use Rattle.zone_bytes.specs.Marks.{AreTops, Became, Begins, Replaced};
+ghost use Rattle.zone_bytes.specs.Purgeable.{NoneGoes};
 
 use crate::edges::Edges;
 use crate::finding_room::find_room_by_marks;
 use crate::finding_runs::find_run_by_marks;
+use crate::going::{first_going, lowest_after, lowest_packed};
 use crate::grouping::{raise_top, renew_tops};
 use crate::landmark::{GROUP, Landmark, Tally, UNKNOWN};
+use crate::largest::largest_run_by_marks;
 use crate::marking::{
     NextMark, change_marks, find_by_marks, lay_edges, lay_marks, mark_below, place_of_mark,
 };
+use crate::measuring::within;
 use crate::paging::{LANDMARKS, LEAST_PAGE, page_bytes, page_end};
 use crate::placing::size_at;
 use block_store::Sparing;
@@ -29,13 +34,14 @@ const GROUPS: usize = LANDMARKS / GROUP;
 
 /// Landmarks of a zone: places at which blocks begin, one for each page of the zone's bytes. Each has a bound on the
 /// size of each free block up to the next landmark, and a tally of the blocks there: how many bytes are free, and
-/// whether a run ends there. Each group of landmarks has a bound on its free blocks. Landmarks lie beside the zone's
-/// bytes, and can be thrown away and made anew at any time.
+/// whether a run ends there. Each group of landmarks has a bound on its free blocks. With them is kept a place below
+/// which no block may be purged. Landmarks lie beside the zone's bytes, and can be thrown away and made anew at any time.
 #[derive(Drop)]
 pub struct Landmarks {
     marks: [Landmark; LANDMARKS],
     tops: [u32; GROUPS],
     page: u32,
+    lowest: u32,
 }
 
 impl Landmarks {
@@ -48,6 +54,7 @@ impl Landmarks {
             marks: [UNKNOWN; LANDMARKS],
             tops: [0; GROUPS],
             page: LEAST_PAGE,
+            lowest: 0,
         };
         landmarks.renew_all(part);
         landmarks
@@ -61,6 +68,7 @@ impl Landmarks {
     {
         let end = part.len() as u32;
         self.page = page_bytes(part);
+        self.lowest = 0;
         self.marks.fill(Landmark {
             at: end,
             most: 0,
@@ -86,6 +94,39 @@ impl Landmarks {
         ensures begins { (zone : List Block) → AreOf self.now zone → Begins result 0 zone }
     {
         mark_below(&self.marks, place, self.page_of(place))
+    }
+
+    /// Returns the place of a block below which no block may be purged, from which those that may be are sought.
+    pub fn start(&self) -> u32
+        ensures begins { (zone : List Block) → AreOf self.now zone → Begins result 0 zone }
+        ensures none { (zone : List Block) → AreOf self.now zone → NoneGoes result zone }
+    {
+        self.below(self.lowest.saturating_add(1))
+    }
+
+    /// Moves the place below which no block may be purged up to the lowest block that may be.
+    pub fn seek(&mut self, part: &Part)
+        requires sound { (first : ℕ) × (unused : ℕ) × IsSound part.now.bytes first unused }
+        requires marks { AreOf self.old (zone_in part.now.bytes) }
+        ensures { AreOf self.new (zone_in part.now.bytes) }
+    {
+        self.lowest = first_going(part, self.start(), u32::MAX);
+    }
+
+    /// Returns a place below which no block may be purged after the run at `run` is packed.
+    pub fn lowest_packed(&self, run: u32, free: u32) -> u32
+        ensures { (zone : List Block) (r : RunSpot) → AreOf self.now zone → run_at run zone ≡ Some r →
+            free ≡ free_sum zone → NoneGoes result (r.below ++ (settle r.run ++ r.above)) }
+    {
+        lowest_packed(self.lowest, run, free)
+    }
+
+    /// Returns a place below which no block may be purged after blocks from `place` on become others.
+    pub fn lowest_under(&self, place: u32) -> u32
+        ensures { (hi : ℕ) (old new : List Block) → AreOf self.now old → Replaced place hi old new →
+            NoneGoes result new }
+    {
+        within(self.lowest, place)
     }
 
     /// Returns the place of the lowest free block of at least `bytes` bytes.
@@ -119,12 +160,34 @@ impl Landmarks {
         find_run_by_marks(&self.marks, part, bytes, purges, sparing)
     }
 
+    /// Returns the greatest number of free bytes in one run.
+    pub fn largest_run(&self, part: &Part) -> u32
+        requires sound { (first : ℕ) × (unused : ℕ) × IsSound part.now.bytes first unused }
+        requires marks { AreOf self.now (zone_in part.now.bytes) }
+        ensures { result ≡ largest_run (zone_in part.now.bytes) }
+    {
+        largest_run_by_marks(&self.marks, part)
+    }
+
     /// Renews the landmarks after the blocks from `lo` to `hi` became others.
     pub fn note(&mut self, part: &Part, lo: u32, hi: u32)
         requires sound { (first : ℕ) × (unused : ℕ) × IsSound part.now.bytes first unused }
         requires marks { (old : List Block) × Replaced lo hi old (zone_in part.now.bytes)
             × AreOf self.old old }
         ensures { AreOf self.new (zone_in part.now.bytes) }
+    {
+        self.lowest = lowest_after(part, self.lowest, lo, hi);
+        self.change(part, lo, hi);
+    }
+
+    /// Changes the landmarks, and not the place that is kept with them, after the blocks from `lo` to `hi` became
+    /// others.
+    fn change(&mut self, part: &Part, lo: u32, hi: u32)
+        requires sound { (first : ℕ) × (unused : ℕ) × IsSound part.now.bytes first unused }
+        requires marks { (old : List Block) × Replaced lo hi old (zone_in part.now.bytes)
+            × AreMarked self.old old }
+        ensures marks { AreMarked self.new (zone_in part.now.bytes) }
+        ensures lowest { self.new.lowest ≡ self.old.lowest }
     {
         let page = page_bytes(part);
         if lo / page == hi / page {
@@ -148,21 +211,23 @@ impl Landmarks {
 
     /// Changes the landmarks after the blocks from `lo` to `hi` became others, without a walk over these blocks: no
     /// landmark stands strictly between `lo` and `hi` until `renew` is called.
-    pub fn forget(&mut self, part: &Part, lo: u32, hi: u32)
+    fn forget(&mut self, part: &Part, lo: u32, hi: u32)
         requires sound { (first : ℕ) × (unused : ℕ) × IsSound part.now.bytes first unused }
         requires marks { (old : List Block) × Replaced lo hi old (zone_in part.now.bytes)
-            × AreOf self.old old }
-        ensures { AreOf self.new (zone_in part.now.bytes) }
+            × AreMarked self.old old }
+        ensures marks { AreMarked self.new (zone_in part.now.bytes) }
+        ensures lowest { self.new.lowest ≡ self.old.lowest }
     {
         let likely = self.page_of(hi);
         change_marks(&mut self.marks, &mut self.tops, part, lo, hi, false, likely);
     }
 
     /// Moves the landmarks of the pages from `lo` to `hi` to where their blocks are, by one walk over these blocks.
-    pub fn renew(&mut self, part: &Part, lo: u32, hi: u32)
+    fn renew(&mut self, part: &Part, lo: u32, hi: u32)
         requires sound { (first : ℕ) × (unused : ℕ) × IsSound part.now.bytes first unused }
-        requires marks { AreOf self.old (zone_in part.now.bytes) }
-        ensures { AreOf self.new (zone_in part.now.bytes) }
+        requires marks { AreMarked self.old (zone_in part.now.bytes) }
+        ensures marks { AreMarked self.new (zone_in part.now.bytes) }
+        ensures lowest { self.new.lowest ≡ self.old.lowest }
     {
         let page = page_bytes(part);
         let next = self.next_at((lo / page) as usize);
@@ -171,7 +236,7 @@ impl Landmarks {
 
     /// Returns the next landmark to be laid anew, which is to stand where it stands.
     fn next_at(&self, index: usize) -> NextMark
-        ensures laid { (zone : List Block) → AreOf self.now zone → AreLaid result.index result.at zone self.now.marks }
+        ensures laid { (zone : List Block) → AreMarked self.now zone → AreLaid result.index result.at zone self.now.marks }
     {
         let index = LANDMARKS.min(index);
         NextMark {
@@ -186,7 +251,8 @@ impl Landmarks {
         requires sound { (first : ℕ) × (unused : ℕ) × IsSound part.now.bytes first unused }
         requires laid { AreLaid next.index next.at (zone_in part.now.bytes) self.old.marks }
         requires tops { AreTops self.old.tops self.old.marks }
-        ensures { AreOf self.new (zone_in part.now.bytes) }
+        ensures marks { AreMarked self.new (zone_in part.now.bytes) }
+        ensures lowest { self.new.lowest ≡ self.old.lowest }
     {
         let end = lay_marks(&mut self.marks, &mut self.tops, part, next, page, hi);
         renew_tops(&self.marks, &mut self.tops, first, end);
@@ -204,13 +270,24 @@ impl Landmarks {
 
     /// Renews the landmarks after the blocks from `lo` to `hi` became others, of which those from `base` on lie
     /// packed, by the edges that were noted. The blocks between two noted edges are not walked over; the stretch below
-    /// the first edge (if it begins below `base`) and the stretches above the last edge are.
-    pub fn note_packed(&mut self, part: &Part, edges: &Edges, base: u32, lo: u32, hi: u32)
+    /// the first edge (if it begins below `base`) and the stretches above the last edge are. No block below `lowest`
+    /// may be purged now.
+    pub fn note_packed(
+        &mut self,
+        part: &Part,
+        edges: &Edges,
+        base: u32,
+        lo: u32,
+        hi: u32,
+        lowest: u32,
+    )
         requires sound { (first : ℕ) × (unused : ℕ) × IsSound part.now.bytes first unused }
         requires marks { (old : List Block) × Replaced lo hi old (zone_in part.now.bytes) × AreOf self.old old }
         requires edges { ByEdges edges.now base (zone_in part.now.bytes) }
+        requires lowest { NoneGoes lowest (zone_in part.now.bytes) }
         ensures { AreOf self.new (zone_in part.now.bytes) }
     {
+        self.lowest = lowest;
         self.forget(part, lo, hi);
         let page = page_bytes(part);
         let from = self.next_at((lo / page) as usize);

@@ -12,11 +12,13 @@ mod finding_runs;
 mod flagging;
 mod freeing;
 mod fresh;
+mod going;
 mod grouping;
 mod hoisting;
 mod joining;
 mod keeping;
 mod landmark;
+mod largest;
 mod looking;
 mod marking;
 mod mastering;
@@ -44,11 +46,13 @@ pub use finding_runs::{Passed, Search, find_run_by_marks};
 pub use flagging::flag_at;
 pub use freeing::{Freed, free_block, free_slot, free_up};
 pub use fresh::make_fresh;
+pub use going::{count_purgeable, first_going, lowest_after, lowest_packed, next_purgeable};
 pub use grouping::{raise_top, renew_tops};
 pub use hoisting::hoist_block;
 pub use joining::last_free_below;
 pub use keeping::Landmarks;
 pub use landmark::{GROUP, Landmark, Tally};
+pub use largest::{RunSum, largest_run_by_marks};
 pub use looking::{mark_slot, slot_place, slot_resource, walk_above};
 pub use marking::{NextMark, change_marks, find_by_marks, lay_edges, lay_marks, mark_below};
 pub use mastering::add_masters;
@@ -60,7 +64,7 @@ pub use purgeable::{
     changed_bound, falls_short, frees_one, given_at, given_with, purgeable_at, purgeable_bytes_in,
     purgeable_left,
 };
-pub use purging::{purge_above, purge_from};
+pub use purging::{purge_above, purge_from, purge_lowest};
 pub use raising::raise_run;
 pub use raw_walk::{RawWalk, walk_from};
 pub use resizing::{ResizedBlock, free_behind, resize_block};

@@ -34,10 +34,10 @@ pub fn greater(most: u32, bytes: u32) -> u32
 
 /// The end of a block, its free bytes, and whether it ends a run.
 #[derive(Clone, Copy, Drop)]
-struct Span {
-    end: u32,
-    free: u32,
-    barrier: bool,
+pub struct Span {
+    pub end: u32,
+    pub free: u32,
+    pub barrier: bool,
 }
 
 /// Returns the free bytes of a block of `size` bytes, by the number of its kind.
@@ -62,7 +62,7 @@ fn ends_run_at(part: &Part, at: u32, tag: u32) -> bool
 }
 
 /// Measures the block at a place.
-fn span_at(part: &Part, at: u32) -> Span
+pub fn span_at(part: &Part, at: u32) -> Span
     requires way { IsOnWay at part.now.bytes }
     requires some { at < length part.now.bytes }
     ensures { Spans at result.end result.free result.barrier part.now.bytes }

@@ -15,13 +15,15 @@ use Rattle.block_store.specs.Inner.Joining.{Closed}
 use Rattle.block_store.specs.declared.sparing.Sparing.{Sparing}
 use Rattle.block_store.specs.declared.sparing.Sparing.TheVariants as sparing
 use Rattle.block_store.proofs.Zone.Totals.{total-append}
-use Rattle.block_store.proofs.Zone.Joining.{joined-below, closed-tidy, closed-free}
+use Rattle.block_store.proofs.Zone.Apart.{Apart, apart-tidied, tidy-apart}
+use Rattle.block_store.proofs.Zone.Joining.{joined-below, closed-apart, closed-tidy, closed-free}
 use Rattle.block_store.proofs.Purged.Purges.{lowest_purged-free, lowest_purged-kept, kept-not_free, opened-same}
 use Rattle.block_store.proofs.Purged.Stretches.{opened-more, size-opened}
 use Rattle.zone_bytes.specs.Layout.{kind}
 use Rattle.zone_bytes.specs.Stepping.{header_seen}
 use Rattle.zone_bytes.specs.Table.{Lays}
 use Rattle.zone_bytes.specs.Joining.{Freeing, MayFree}
+use Rattle.zone_bytes.specs.Marks.{Replaced}
 use Rattle.zone_bytes.specs.Purging.{Purge, Purging, Purged}
 use Rattle.zone_bytes.proofs.Tiles.Tiling.{span-append}
 use Rattle.zone_bytes.proofs.Tiles.Keeping.{span-free}
@@ -96,6 +98,47 @@ module _ (p : Purge) (n : Sparing) (start at k freed : ℕ) (xs : List ℕ) (u :
   pub small : length xs ≤ 134217728
   small = u.lays.small
 
+  -- the blocks up to there became others
+  replaced-as : (zone : List Block) → zone ≡ u.done ++ (gap ++ u.rest) → Replaced p.from at p.zone zone
+  replaced-as zone e = record {
+    below = u.below;
+    here = u.was;
+    there = u.now ++ gap;
+    above = u.rest;
+    was = u.zone_is;
+    is = e ∙ ap (λ d. d ++ (gap ++ u.rest)) u.done_is ∙ append_assoc u.below u.now (gap ++ u.rest)
+        ∙ ap (λ q. u.below ++ q) (sym (append_assoc u.now gap u.rest));
+    low = u.base;
+    high = u.span;
+    span =
+        (let a = span-append u.now gap in
+        let b = span-free (at - start) in
+        let d = ap sizes u.done_is in
+        let e = span-append u.below u.now in
+        let l = u.low in
+        let o = u.up in
+        let f = u.base in
+        let g = u.span in
+        omega (arith, a, b, d, e, l, o, f, g));
+  }
+
+  -- no purges are left, and no block counts as Free
+  pub stopped : k ≡ 0 → at ≤ start → ((blocks : List Block) → opened n blocks ≡ blocks) → Purged p at freed xs
+  stopped z l none =
+      let e : gap ≡ [] = (let f : at - start ≡ 0 = omega (arith, l) in ap free f) in
+      let a = closed-apart u.done u.rest (apart-tidied u.done u.tidied) u.closed (apart-tidied u.rest u.apart) in
+      let whole : u.done ++ (gap ++ u.rest) ≡ u.done ++ u.rest = ap (λ q. u.done ++ (q ++ u.rest)) e in
+      let left : lowest_purged k (spared n) (opened n u.rest) ≡ u.rest =
+      ap (λ j. lowest_purged j (spared n) (opened n u.rest)) z ∙ none u.rest in
+      let is : tidy p.goal ≡ u.done ++ (gap ++ u.rest) =
+      sym u.will ∙ ap (λ q. tidy (u.done ++ (gap ++ q))) left ∙ ap tidy whole ∙ tidy-apart (u.done ++ u.rest) a
+      ∙ sym whole in
+      record {
+        lays = subst (λ q. Lays xs q p.slots p.unused) (sym is) u.lays;
+        count = ap free_sum is ∙ u.count;
+        replaced = replaced-as (tidy p.goal) is;
+      }
+
   -- the next block
   pub record Next : Type 0 where
     pub here : Block
@@ -127,10 +170,10 @@ module _ (p : Purge) (n : Sparing) (start at k freed : ℕ) (xs : List ℕ) (u :
           }
 
   -- no block is left
-  pub purged : length xs ≤ at → Purged p freed xs
+  pub purged : length xs ≤ at → Purged p at freed xs
   purged l = of u.rest refl
     where
-      of : (rest : List Block) → u.rest ≡ rest → Purged p freed xs
+      of : (rest : List Block) → u.rest ≡ rest → Purged p at freed xs
       of [] e =
           let w : tidy (u.done ++ (gap ++ [])) ≡ tidy p.goal =
           sym (ap (λ q. tidy (u.done ++ (gap ++ q))) (ap (λ q. lowest_purged k (spared n) (opened n q)) e
@@ -139,7 +182,11 @@ module _ (p : Purge) (n : Sparing) (start at k freed : ℕ) (xs : List ℕ) (u :
           ap (λ q. u.done ++ (gap ++ q)) e ∙ ap (λ q. u.done ++ q) (append-nil gap)
           ∙ sym (closed-free u.done (at - start) u.tidied u.closed)
           ∙ ap (λ q. tidy (u.done ++ q)) (sym (append-nil gap)) ∙ w in
-          record { lays = subst (λ q. Lays xs q p.slots p.unused) z u.lays; count = sym (ap free_sum z) ∙ u.count }
+          record {
+            lays = subst (λ q. Lays xs q p.slots p.unused) z u.lays;
+            count = sym (ap free_sum z) ∙ u.count;
+            replaced = replaced-as (tidy p.goal) (sym z);
+          }
       of (b ∷ above) e =
           let laid = subst (λ q. Lays xs ((u.done ++ gap) ++ q) p.slots p.unused) e here-laid in
           let r = read xs (u.done ++ gap) b above p.slots p.unused laid at here-low in
@@ -148,6 +195,17 @@ module _ (p : Purge) (n : Sparing) (start at k freed : ℕ) (xs : List ℕ) (u :
           absurd (omega (arith, i, s, l))
 
   module _ (v : Next) where
+    apart-above : tidy v.above ≡ v.above
+    apart-above = tidy-apart v.above (subst Apart v.is (apart-tidied u.rest u.apart)).1
+
+    zone-next : p.zone ≡ u.below ++ ((u.was ++ v.here ∷ []) ++ v.above)
+    zone-next = u.zone_is
+        ∙ ap (λ q. u.below ++ q)
+        (ap (λ q. u.was ++ q) v.is ∙ sym (append_assoc u.was (v.here ∷ []) v.above))
+
+    span-next : (stop : ℕ) → stop ≡ at + size v.here → p.from + sizes (u.was ++ v.here ∷ []) ≡ stop
+    span-next stop t = let a = span-append u.was (v.here ∷ []) in let s = u.span in omega (arith, a, s, t)
+
     will-next : tidy (u.done ++ (gap ++ lowest_purged k (spared n) (opened_block n v.here ∷ opened n v.above)))
         ≡ tidy p.goal
     will-next =
@@ -201,6 +259,14 @@ module _ (p : Purge) (n : Sparing) (start at k freed : ℕ) (xs : List ℕ) (u :
                 let y = u.count in
                 let z = more-free v.here more f in
                 omega (arith, a, b, c, d, s1, s2, w, y, z, g));
+            apart = apart-above;
+            below = u.below;
+            was = u.was ++ v.here ∷ [];
+            now = u.now;
+            zone_is = zone-next;
+            done_is = u.done_is;
+            base = u.base;
+            span = span-next stop t;
           }
 
     -- the block stays
@@ -243,4 +309,13 @@ module _ (p : Purge) (n : Sparing) (start at k freed : ℕ) (xs : List ℕ) (u :
             ∙ ap (λ q. tidy (u.done ++ (gap ++ q)))
             (sym (lowest_purged-kept (spared n) k (opened_block n v.here) (opened n v.above) e)) ∙ will-next;
         count = ap free_sum (sym (ap (λ q. u.done ++ (gap ++ q)) v.is ∙ regrouped v.above)) ∙ u.count;
+        apart = apart-above;
+        below = u.below;
+        was = u.was ++ v.here ∷ [];
+        now = u.now ++ (gap ++ v.here ∷ []);
+        zone_is = zone-next;
+        done_is = ap (λ d. d ++ (gap ++ v.here ∷ [])) u.done_is
+            ∙ append_assoc u.below u.now (gap ++ v.here ∷ []);
+        base = u.base;
+        span = span-next stop t;
       }

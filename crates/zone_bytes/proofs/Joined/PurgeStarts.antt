@@ -1,23 +1,31 @@
 -- Where a pass that empties blocks begins, and what it makes of the zone that bytes spell.
-use Rattle.std.proofs.Common.{◌≡◌, ℕ, if◌then◌else◌, ◌+◌, ◌-◌, ◌<◌, Some, List, [], ◌∷◌, ◌++◌}
-use Rattle.std.proofs.Common.{sym, refl, ap, ◌∙◌, subst, arith, append_assoc}
-use Rattle.block_store.specs.Block.{Block, size, free, free_sum, tidy, count, is_masters}
-use Rattle.block_store.specs.Room.{Spot, spot_at, lowest_purged}
+use Rattle.std.proofs.Common.{◌≡◌, ℕ, zero, suc, Bool, true, false, cond, if◌then◌else◌, ◌+◌, ◌-◌, ◌<◌, ◌≤◌}
+use Rattle.std.proofs.Common.{Option, Some, None, List, [], ◌∷◌, ◌++◌, sym, refl, ap, ◌∙◌, subst, arith, append_assoc}
+use Rattle.std.proofs.lemmas.Bool.{cond-false, false≢true}
+use Rattle.std.proofs.lemmas.List.{append-nil}
+use Rattle.std.proofs.lemmas.Option.{none-some, same_Some}
+use Rattle.std.specs.Option.{option_map}
+use Rattle.block_store.specs.Block.{Block, Free, Nonrelocatable, Masters, Relocatable, size, sizes, free, free_sum, tidy, count, is_masters}
+use Rattle.block_store.specs.Inner.Joining.{last_free}
+use Rattle.block_store.specs.Room.{Spot, raised, spot, spot_at, may_be_purged, lowest_purged}
 use Rattle.block_store.specs.Sparing.{spared, opened, purged}
 use Rattle.block_store.specs.declared.sparing.Sparing.{Sparing}
-use Rattle.block_store.proofs.Zone.Apart.{Apart, apart-tidied, tidy-apart}
-use Rattle.block_store.proofs.Zone.Tidy.{total-tidy}
+use Rattle.block_store.proofs.Zone.Apart.{Apart, apart-tidied, apart-above, tidy-apart}
+use Rattle.block_store.proofs.Zone.Tidy.{total-tidy, spot-is, spot-passes}
 use Rattle.block_store.proofs.Zone.Totals.{total-append}
-use Rattle.block_store.proofs.Zone.Joining.{apart-front, closed-more, closed-under}
+use Rattle.block_store.proofs.Zone.Joining.{Ending, apart-front, closed-more, closed-under}
 use Rattle.block_store.proofs.Purged.Purges.{masters-lowest_purged, masters-opened}
 use Rattle.zone_bytes.specs.Decode.{zone_in}
 use Rattle.zone_bytes.specs.Layout.{kind}
-use Rattle.zone_bytes.specs.Joining.{Freeing}
+use Rattle.zone_bytes.specs.Joining.{Freeing, MayRelease}
 use Rattle.zone_bytes.specs.Lawful.{IsSound}
-use Rattle.zone_bytes.specs.Purging.{Purge, Purging, Purged, MayPurge, purge_above}
+use Rattle.zone_bytes.specs.Purging.{Purging, Purged, MayPurge, purge_above, purge_zone}
+use Rattle.zone_bytes.specs.Stepping.{left_in}
 use Rattle.zone_bytes.specs.Table.{Lays, slot_in}
 use Rattle.zone_bytes.proofs.Tiles.Tiling.{span-append}
-use Rattle.zone_bytes.proofs.Places.AtPlace.{whole, low}
+use Rattle.zone_bytes.proofs.Tiles.Keeping.{span-free}
+use Rattle.zone_bytes.proofs.Places.AtPlace.{whole, low, left-zone}
+use Rattle.zone_bytes.proofs.Joined.Released.{end, below-is, lower-low}
 use Rattle.block_store.proofs.Zone.Spots.{free-some}
 use Rattle.zone_bytes.proofs.Joined.Ways.{Read, read}
 use Rattle.zone_bytes.proofs.Joined.Above.{free-is, not_free-is}
@@ -31,6 +39,9 @@ module _ (f : Freeing) (place : ℕ) (xs : List ℕ) (m : MayPurge f place xs) w
   pub place-read : Read xs f.here place
   place-read = read xs f.below f.here f.above f.slots f.unused m.lays place m.low
 
+  above-tidy : tidy f.above ≡ f.above
+  above-tidy = tidy-apart f.above (apart-above f.below (f.here ∷ f.above) (apart-tidied all m.tidied)).1
+
   module _ (purges : ℕ) (n now : Sparing) (same : (b : Block)
       → spared now b ≡ spared n b) (none : (blocks : List Block) → opened now blocks ≡ blocks) (stop : ℕ)
       (t : stop ≡ place + size f.here) where
@@ -38,7 +49,7 @@ module _ (f : Freeing) (place : ℕ) (xs : List ℕ) (m : MayPurge f place xs) w
     after = ap (lowest_purged purges (spared now)) (none f.above) ∙ (λ i. lowest_purged purges (λ b. same b i) f.above)
 
     -- a block that isn't Free
-    pub above-other : 0 < kind f.here → Purging (purge_above f purges n) now stop stop purges 0 xs
+    pub above-other : 0 < kind f.here → Purging (purge_above stop f purges n) now stop stop purges 0 xs
     above-other k =
         let a = apart-tidied all m.tidied in
         let front = f.below ++ f.here ∷ [] in
@@ -57,10 +68,18 @@ module _ (f : Freeing) (place : ℕ) (xs : List ℕ) (m : MayPurge f place xs) w
           will = ap (λ q. tidy (front ++ (free (stop - stop) ++ q))) after
               ∙ ap tidy (sym (regrouped (lowest_purged purges (spared n) f.above)));
           count = ap free_sum (sym (regrouped f.above)) ∙ (let z : free_sum all ≡ free_sum all + 0 = omega arith in z);
+          apart = above-tidy;
+          below = front;
+          was = [];
+          now = [];
+          zone_is = sym (append_assoc f.below (f.here ∷ []) f.above);
+          done_is = sym (append-nil front);
+          base = (let s = span-append f.below (f.here ∷ []) in let l = m.low in omega (arith, s, l, t));
+          span = omega arith;
         }
 
     -- a Free one
-    pub above-free : kind f.here ≡ 0 → Purging (purge_above f purges n) now place stop purges 0 xs
+    pub above-free : kind f.here ≡ 0 → Purging (purge_above place f purges n) now place stop purges 0 xs
     above-free k =
         let a = apart-tidied all m.tidied in
         let s = place-read.some in
@@ -82,23 +101,48 @@ module _ (f : Freeing) (place : ℕ) (xs : List ℕ) (m : MayPurge f place xs) w
           will = ap (λ q. tidy (f.below ++ (free (stop - place) ++ q))) after
               ∙ ap tidy (sym (regrouped (lowest_purged purges (spared n) f.above)));
           count = ap free_sum (sym (regrouped f.above)) ∙ (let z : free_sum all ≡ free_sum all + 0 = omega arith in z);
+          apart = above-tidy;
+          below = f.below;
+          was = f.here ∷ [];
+          now = [];
+          zone_is = refl;
+          done_is = sym (append-nil f.below);
+          base = m.low;
+          span = omega (arith, t);
         }
+
+-- a block that goes is no Masters block
+goes-plain : (sp : Block → Bool) (b : Block) → may_be_purged sp b ≡ true → is_masters b ≡ false
+goes-plain sp (Free n) e = refl
+goes-plain sp (Nonrelocatable id content) e = refl
+goes-plain sp Masters e = absurd (false≢true e)
+goes-plain sp (Relocatable id flags content) e = refl
+
+-- the blocks below the lowest that goes stay
+lowest_purged-spot : (k : ℕ) (sp : Block → Bool) (zone : List Block) (s : Spot) → spot (may_be_purged sp) zone ≡ Some s
+    → lowest_purged k sp zone ≡ s.below ++ lowest_purged k sp (s.here ∷ s.above)
+lowest_purged-spot zero sp zone s e = spot-is (may_be_purged sp) zone s e
+lowest_purged-spot (suc k) sp [] s e = absurd (none-some _ e)
+lowest_purged-spot (suc k) sp (b ∷ zone) s e = cases (may_be_purged sp b) refl (spot (may_be_purged sp) zone)
+    (lowest_purged-spot (suc k) sp zone) e
+  where
+    cases : (t : Bool) → may_be_purged sp b ≡ t → (o : Option Spot)
+        → ((s : Spot) → o ≡ Some s → lowest_purged (suc k) sp zone ≡ s.below ++ lowest_purged (suc k) sp (s.here ∷ s.above))
+        → cond t (Some (record { below = []; here = b; above = zone })) (option_map (raised b) o) ≡ Some s
+        → lowest_purged (suc k) sp (b ∷ zone) ≡ s.below ++ lowest_purged (suc k) sp (s.here ∷ s.above)
+    cases true is o more e = ap (λ (s : Spot). s.below ++ lowest_purged (suc k) sp (s.here ∷ s.above)) (same_Some _ _ e)
+    cases false is None more e = absurd (none-some _ e)
+    cases false is (Some s') more e = cond-false (may_be_purged sp b) (Free (size b) ∷ lowest_purged k sp zone)
+        (b ∷ lowest_purged (suc k) sp zone) is
+        ∙ ap (λ q. b ∷ q) (more s' refl)
+        ∙ ap (λ (s : Spot). s.below ++ lowest_purged (suc k) sp (s.here ∷ s.above)) (same_Some _ _ e)
 
 masters-tidy : (blocks : List Block) → count is_masters (tidy blocks) ≡ count is_masters blocks
 masters-tidy blocks = total-tidy (λ (b : Block). if is_masters b then 1 else 0) (λ n m. refl) blocks
 
 module _ (xs : List ℕ) (first number : ℕ) (i : IsSound xs first number) (purges : ℕ) (n : Sparing) where
   -- over the whole zone
-  abbrev pub purge_all : Purge
-  purge_all = record {
-    goal = lowest_purged purges (spared n) (opened n (zone_in xs));
-    slots = slot_in xs;
-    unused =
-        i.unused;
-    free = free_sum (zone_in xs);
-  }
-
-  pub all-start : Purging purge_all n 0 0 purges 0 xs
+  pub all-start : Purging (purge_zone 0 xs i.unused purges n) n 0 0 purges 0 xs
   all-start = record {
     done = [];
     rest = zone_in xs;
@@ -109,12 +153,85 @@ module _ (xs : List ℕ) (first number : ℕ) (i : IsSound xs first number) (pur
     closed = tt;
     will = refl;
     count = omega arith;
+    apart = i.tidied;
+    below = [];
+    was = [];
+    now = [];
+    zone_is = refl;
+    done_is = refl;
+    base = refl;
+    span = refl;
   }
 
-  pub purge-gained : (new : List ℕ) (more : ℕ) → ((p : Purge) → Purging p n 0 0 purges 0 xs → Purged p more new)
+  -- from the lowest block on that goes
+  module _ (s : Spot) (e : spot (may_be_purged (spared n)) (zone_in xs) ≡ Some s) (place : ℕ) (low : sizes s.below ≡ place)
+      (none : (blocks : List Block) → opened n blocks ≡ blocks) where
+    abbrev pub going : Freeing
+    going = record { below = s.below; here = s.here; above = s.above; slots = slot_in xs; unused = i.unused }
+
+    pub going-is : zone_in xs ≡ s.below ++ s.here ∷ s.above
+    going-is = spot-is (may_be_purged (spared n)) (zone_in xs) s e
+
+    pub may-go : MayRelease going place xs
+    may-go = record {
+      lays = subst (λ z. Lays xs z (slot_in xs) i.unused) going-is i.lays;
+      low = low;
+      plain = goes-plain (spared n) s.here (spot-passes (may_be_purged (spared n)) (zone_in xs) s e);
+      tidied = sym (ap tidy going-is) ∙ i.tidied ∙ going-is;
+    }
+
+    module _ (start : ℕ) (found : (below above : List Block) → left_in 0 xs ≡ below ++ above → sizes below ≡ place
+        → start + last_free 0 below ≡ place) where
+      abbrev under : Ending s.below
+      under = end going place xs may-go
+
+      abbrev here : List Block
+      here = s.here ∷ s.above
+
+      abbrev gap : List Block
+      gap = free (place - start)
+
+      regrouped : (blocks : List Block) → s.below ++ blocks ≡ under.lower ++ (gap ++ blocks)
+      regrouped blocks = ap (λ q. q ++ blocks) (below-is going place xs may-go start found)
+          ∙ append_assoc under.lower gap blocks
+
+      zone-is : zone_in xs ≡ under.lower ++ (gap ++ here)
+      zone-is = going-is ∙ regrouped here
+
+      start-low : sizes under.lower ≡ start
+      start-low = lower-low going place xs may-go start found
+
+      start-up : start ≤ place
+      start-up = let f = found s.below here (left-zone xs ∙ going-is) low in omega (arith, f)
+
+      pub lowest-start : Purging (purge_zone start xs i.unused purges n) n start place purges 0 xs
+      lowest-start = record {
+        done = under.lower;
+        rest = here;
+        lays = subst (λ z. Lays xs z (slot_in xs) i.unused) zone-is i.lays;
+        low = start-low;
+        up = start-up;
+        tidied = tidy-apart under.lower under.apart;
+        closed = under.closed;
+        will = ap (λ q. tidy (under.lower ++ (gap ++ lowest_purged purges (spared n) q))) (none here)
+            ∙ ap tidy (sym (regrouped (lowest_purged purges (spared n) here)))
+            ∙ ap tidy (sym (lowest_purged-spot purges (spared n) (zone_in xs) s e))
+            ∙ ap (λ q. tidy (lowest_purged purges (spared n) q)) (sym (none (zone_in xs)));
+        count = ap free_sum (sym zone-is) ∙ (let z : free_sum (zone_in xs) ≡ free_sum (zone_in xs) + 0 = omega arith in z);
+        apart = tidy-apart here (apart-above s.below here (subst Apart going-is (apart-tidied (zone_in xs) i.tidied)));
+        below = under.lower;
+        was = gap;
+        now = [];
+        zone_is = zone-is;
+        done_is = sym (append-nil under.lower);
+        base = start-low;
+        span = (let f = span-free (place - start) in let u = start-up in omega (arith, f, u));
+      }
+
+  pub purge-gained : (from stop : ℕ) (new : List ℕ) (more : ℕ)
+      → Purged (purge_zone from xs i.unused purges n) stop more new
       → Gained xs new first number more (purged purges n (zone_in xs))
-  purge-gained new more after =
-      let d = after purge_all all-start in
+  purge-gained from stop new more d =
       let left = lowest_purged purges (spared n) (opened n (zone_in xs)) in
       gained xs new first number more i left d.lays d.count (masters-tidy left
       ∙ masters-lowest_purged purges (spared n) (opened n (zone_in xs)) ∙ masters-opened n (zone_in xs))
@@ -137,10 +254,10 @@ module _ (xs : List ℕ) (first number : ℕ) (i : IsSound xs first number) (pur
     abbrev left : List Block
     left = s.below ++ s.here ∷ lowest_purged purges (spared n) s.above
 
-    pub above-gained : (new : List ℕ) (more : ℕ)
-        → ((f : Freeing) → MayPurge f place xs → Purged (purge_above f purges n) more new)
+    pub above-gained : (from stop : ℕ) (new : List ℕ) (more : ℕ)
+        → ((f : Freeing) → MayPurge f place xs → Purged (purge_above from f purges n) stop more new)
         → Gained xs new first number more (tidy (s.below ++ s.here ∷ lowest_purged purges (spared n) s.above))
-    above-gained new more after =
+    above-gained from stop new more after =
         let d = after spot-at may-purge in
         gained xs new first number more i left d.lays (d.count ∙ ap (λ z. free_sum z + more) (sym is))
         (masters-tidy left

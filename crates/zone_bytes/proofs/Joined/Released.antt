@@ -57,14 +57,14 @@ module _ (f : Freeing) (place : ℕ) (xs : List ℕ) (m : MayRelease f place xs)
     gap : last_free 0 f.below ≡ place - start
     gap = let s = starts in omega (arith, s)
 
-    below-is : f.below ≡ end.lower ++ free (place - start)
+    pub below-is : f.below ≡ end.lower ++ free (place - start)
     below-is = end.is ∙ ap (λ n. end.lower ++ free n) gap
 
     abbrev pub lower : Freeing
     lower = record { below = end.lower; here = f.here; above = f.above; slots = f.slots; unused = f.unused }
 
-    low : sizes end.lower ≡ start
-    low =
+    pub lower-low : sizes end.lower ≡ start
+    lower-low =
         let a = span-append end.lower (free (place - start)) in
         let b = span-free (place - start) in
         let e = ap sizes below-is in
@@ -76,7 +76,7 @@ module _ (f : Freeing) (place : ℕ) (xs : List ℕ) (m : MayRelease f place xs)
     may-free = record {
       lays = subst (λ k. Lays xs k f.slots f.unused) (ap (λ k. k ++ f.here ∷ f.above) below-is
           ∙ append_assoc end.lower (free (place - start)) (f.here ∷ f.above)) m.lays;
-      low = low;
+      low = lower-low;
       up = (let s = starts in omega (arith, s));
       plain = m.plain;
     }
@@ -92,7 +92,7 @@ module _ (f : Freeing) (place : ℕ) (xs : List ℕ) (m : MayRelease f place xs)
       may-join = record {
         lays = subst (λ n. Lays mid (end.lower ++ (free (n - start) ++ f.above)) f.slots f.unused) (sym t)
             (made lower may-free);
-        low = low;
+        low = lower-low;
         some = (let s = starts in let k = here-read.some in omega (arith, s, k, t));
       }
 
@@ -100,7 +100,7 @@ module _ (f : Freeing) (place : ℕ) (xs : List ℕ) (m : MayRelease f place xs)
       low-stop =
           let a = span-append end.lower (free (stop - start)) in
           let b = span-free (stop - start) in
-          let l = low in
+          let l = lower-low in
           let s = starts in
           omega (arith, a, b, l, s, t)
 
@@ -137,7 +137,7 @@ module _ (f : Freeing) (place : ℕ) (xs : List ℕ) (m : MayRelease f place xs)
           joined-replaced end.lower (place - start) f.here f.above start (stop + more) (place - start + size f.here)
           all (tidy (f.below ++ Free (size f.here) ∷ f.above))
           (ap (λ k. k ++ f.here ∷ f.above) below-is ∙ append_assoc end.lower (free (place - start)) (f.here ∷ f.above))
-          z refl (omega (arith, k)) low (omega (arith, h, s, t))
+          z refl (omega (arith, k)) lower-low (omega (arith, h, s, t))
 
       -- and with the one above it
       pub released : (new : List ℕ)

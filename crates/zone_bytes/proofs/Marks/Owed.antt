@@ -19,6 +19,7 @@ use Rattle.zone_bytes.specs.Marked.{AreOf, IsMarked}
 use Rattle.zone_bytes.specs.Marks.{Replaced, ends_run}
 use Rattle.zone_bytes.specs.Purgeable.{purgeable_of, purgeable_sum}
 use Rattle.zone_bytes.specs.declared.keeping.Landmarks.{Landmarks}
+use Rattle.zone_bytes.proofs.Bounds.Going.{stays-same}
 use Rattle.zone_bytes.proofs.Marks.Keeping.{marks-same, carved-replaced}
 use Rattle.zone_bytes.proofs.Placed.NonrelocatableCarved.{Roomy}
 
@@ -34,6 +35,12 @@ ends-content x (Free n) = refl
 ends-content x (Nonrelocatable id content) = refl
 ends-content x Masters = refl
 ends-content x (Relocatable id flags content) = refl
+
+goes-content : (x : List ℕ) (b : Block) → is_purgeable (with_content x b) ≡ is_purgeable b
+goes-content x (Free n) = refl
+goes-content x (Nonrelocatable id content) = refl
+goes-content x Masters = refl
+goes-content x (Relocatable id flags content) = refl
 
 -- a block with other flags
 pub size-flags : (flags : Flags) (b : Block) → size (with_flags flags b) ≡ size b
@@ -60,14 +67,16 @@ module _ (xs : List ℕ) (first unused free most : ℕ) (l : Landmarks) where
       → purgeable_sum zone ≤ most → IsMarked xs first unused free most l
   with-same zone k e a m = with-marks k (subst (AreOf l) (sym e) a) (subst (λ z. purgeable_sum z ≤ most) (sym e) m)
 
-  -- a block that takes as many bytes, of which as many are Free, and ends a run if the other did
+  -- a block that takes as many bytes, of which as many are Free, and ends a run, and may be purged, if the other did
   pub with-block : (below above : List Block) (b c : Block) (zone : List Block) → IsKept xs first unused free
       → zone_in xs ≡ below ++ c ∷ above → zone ≡ below ++ b ∷ above → size c ≡ size b → free_of c ≡ free_of b
-      → ends_run c ≡ ends_run b → AreOf l zone → purgeable_sum (below ++ c ∷ above) ≤ most
+      → ends_run c ≡ ends_run b → is_purgeable c ≡ is_purgeable b → AreOf l zone → purgeable_sum (below ++ c ∷ above) ≤ most
       → IsMarked xs first unused free most l
-  with-block below above b c zone k e was s f r a m = with-marks k
-      (subst (AreOf l) (sym e) (let o = subst (AreOf l) was a in
-      (marks-same 4294967295 l.marks below above b c s f r o.0, o.1)))
+  with-block below above b c zone k e was s f r g a m = with-marks k
+      (subst (AreOf l) (sym e) (let o = subst (AreOf l) was a in (
+        (marks-same 4294967295 l.marks below above b c s f r o.0.0, o.0.1),
+        stays-same l.lowest 0 below above b c s g o.1,
+      )))
       (subst (λ z. purgeable_sum z ≤ most) (sym e) m)
 
   -- bytes were written over some of a block's content
@@ -84,7 +93,7 @@ module _ (xs : List ℕ) (first unused free most : ℕ) (l : Landmarks) where
       let t = total-append purgeable_of below (b ∷ above) in
       let u = total-append purgeable_of below (with_content now b ∷ above) in
       with-block below above b (with_content now b) zone k e was (size-content now b long) (free-content now b)
-      (ends-content now b) a
+      (ends-content now b) (goes-content now b) a
       (omega (arith, p, o, t, u, m))
 
 -- a block that isn't Free was put at the lower end of a Free one

@@ -1,7 +1,7 @@
 use Rattle.std.proofs.Common.{◌<◌, ◌+◌, sym, ap, ◌∙◌, subst, arith}
 use Rattle.heap_words.specs.Headers.{tag_number}
 use Rattle.zone_bytes.specs.Joining.{Freeing}
-use Rattle.zone_bytes.specs.Purging.{Purging, MayPurge, purge_above}
+use Rattle.zone_bytes.specs.Purging.{Purging, Purged, MayPurge, purge_above}
 use Rattle.zone_bytes.proofs.Tiles.Tags.{tag-small}
 use Rattle.zone_bytes.proofs.Joined.FreeTags.{free-true, free-false}
 use Rattle.zone_bytes.proofs.Joined.PurgeStarts.{place-read, above-other, above-free}
@@ -34,10 +34,13 @@ overflow_add-end c =
     omega (arith, z, i, m)
 
 pub purge_from-requires : goal.purge_from-requires
-purge_from-requires c = (purge_above c.requires.0 c.args.purges c.args.sparing, begins c.requires.0 c.requires.1)
+purge_from-requires c = (
+  purge_above c.if-eq.start c.requires.0 c.args.purges c.args.sparing,
+  begins c.requires.0 c.requires.1,
+)
   where
     begins : (f : Freeing) → MayPurge f c.args.place c.args.part.now.bytes
-        → Purging (purge_above f c.args.purges c.args.sparing) c.without_freed.result c.if-eq.start
+        → Purging (purge_above c.if-eq.start f c.args.purges c.args.sparing) c.without_freed.result c.if-eq.start
         (c.args.place + c.read_header-header.result.size) c.args.purges 0 c.args.part.now.bytes
     begins f m =
         let r = place-read f c.args.place c.args.part.now.bytes m in
@@ -60,11 +63,13 @@ returns-clause-purged c = λ f m.
     let h = c.read_header-header.result in
     let e = c.read_header-header.ensures in
     let z = r.says h.size (tag_number h.tag) e.first e.size (tag-small h.tag) in
-    c.purge_from.ensures.purged (purge_above f c.args.purges c.args.sparing) (elim c.if-eq.branch [
+    subst (λ k. Purged (purge_above k f c.args.purges c.args.sparing) c.purge_from.result.to c.purge_from.result.bytes
+    c.purge_from.new.part.bytes) (sym c.purge_from.ensures.from)
+    (c.purge_from.ensures.purged (purge_above c.if-eq.start f c.args.purges c.args.sparing) (elim c.if-eq.branch [
       | then-eq w ↦ rw w.start-is (above-free f c.args.place c.args.part.now.bytes m c.args.purges c.args.sparing
           c.without_freed.result c.without_freed.ensures.same c.without_freed.ensures.none (c.args.place + h.size)
           (ap (λ n. c.args.place + n) z.0) (sym z.1 ∙ free-true h.tag w.if-eq.ensures))
       | else-eq w ↦ rw w.start-is (above-other f c.args.place c.args.part.now.bytes m c.args.purges c.args.sparing
           c.without_freed.result c.without_freed.ensures.same c.without_freed.ensures.none (c.args.place + h.size)
           (ap (λ n. c.args.place + n) z.0) (subst (λ t. 0 < t) z.1 (free-false h.tag w.if-eq.ensures)))
-    ])
+    ]))

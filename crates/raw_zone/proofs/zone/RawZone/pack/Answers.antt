@@ -5,6 +5,7 @@ use Rattle.block_store.specs.Run.{RunSpot, run_at, movers, settle, with_run}
 use Rattle.block_store.specs.Rest.{IsRest, lowered_in_run}
 use Rattle.zone_bytes.specs.Decode.{zone_in}
 use Rattle.zone_bytes.specs.Edges.{AreEdges}
+use Rattle.zone_bytes.specs.Purgeable.{NoneGoes}
 use Rattle.zone_bytes.specs.Table.{slot_in}
 use Rattle.zone_bytes.specs.Beside.{rest_in}
 use Rattle.zone_bytes.specs.Placing.{lay_at}
@@ -131,3 +132,10 @@ note_packed-requires-clause-edges c =
     settled-edges c.args.run c.settle_run-packed.new.edges d.1 d.2 (subst
     (λ z. AreEdges c.settle_run-packed.new.edges c.args.run (movers z.run)) l
     (c.settle_run-packed.ensures.edges c.args.run [] (omega arith) (c.await_edges.ensures c.args.run)))
+
+pub note_packed-requires-clause-lowest : goal.note_packed-requires-clause-lowest
+note_packed-requires-clause-lowest c =
+    let d = done (goal.at.note_packed-requires-clause-lowest c).After-settle_run-packed in
+    subst (NoneGoes c.lowest_packed-lowest.result) (sym d.2.is)
+    (c.lowest_packed-lowest.ensures (zone_in c.self.inside.part.bytes) d.0 c.self.invariant.marked d.1
+    c.self.invariant.free_is)

@@ -5,6 +5,7 @@ use Rattle.block_store.specs.Room.{may_be_purged}
 use Rattle.block_store.specs.Sparing.{purged, spared}
 use Rattle.raw_zone.specs.Parted.{zone_of}
 use Rattle.zone_bytes.proofs.Places.AtPlace.{left-zone, on-way, sizes-fit}
+use Rattle.zone_bytes.specs.Decode.{zone_in}
 use Rattle.zone_bytes.specs.Purgeable.{purgeable_sum}
 use Rattle.zone_bytes.proofs.Bounds.Short.{none-next}
 use Rattle.raw_zone.proofs.zone.RawZoneBlockStore.next_purgeable.Goals as goal
@@ -25,8 +26,24 @@ next_purgeable_in-requires c =
     subst (λ l. sizes l < 2 ^ 32) (sym c.walk_from.ensures)
     (sizes-fit z.part.bytes z.first z.unused c.self.invariant.sound)
 
-pub returns : goal.returns
-returns c =
+pub returns-then-frees_one : goal.returns-then-frees_one
+returns-then-frees_one c =
     subst (λ l. FindsLowest (may_be_purged (spared c.args.sparing))
     (purged c.args.purges c.args.sparing l) c.next_purgeable_in.result)
     (c.walk_from.ensures ∙ left-zone c.self.inside.part.bytes ∙ ap zone_of c.self.view_is) c.next_purgeable_in.ensures
+
+pub next_purgeable-requires-clause-sound : goal.next_purgeable-requires-clause-sound
+next_purgeable-requires-clause-sound c = (c.self.inside.first, c.self.inside.unused, c.self.invariant.sound)
+
+pub next_purgeable-requires-clause-begins : goal.next_purgeable-requires-clause-begins
+next_purgeable-requires-clause-begins c =
+    c.start.ensures.begins (zone_in c.self.inside.part.bytes) c.self.invariant.marked
+
+pub next_purgeable-requires-clause-none : goal.next_purgeable-requires-clause-none
+next_purgeable-requires-clause-none c =
+    c.start.ensures.none (zone_in c.self.inside.part.bytes) c.self.invariant.marked
+
+pub returns : goal.returns
+returns c =
+    subst (λ v. FindsLowest (may_be_purged (spared c.args.sparing))
+    (purged c.args.purges c.args.sparing (zone_of v)) c.next_purgeable.result) c.self.view_is c.next_purgeable.ensures

@@ -10,7 +10,7 @@ use Rattle.zone_bytes.proofs.Places.Options.{if-spot, a-spot}
 use Rattle.zone_bytes.proofs.Joined.Handles.{Gained, gained-fits, gained-kept, gained-rest}
 use Rattle.zone_bytes.proofs.Joined.PurgeStarts.{spot-at, may-purge, above-gained}
 use Rattle.raw_zone.specs.Parted.{zone_of, rest_of}
-use Rattle.zone_bytes.proofs.Marks.Owed.{with-marks}
+use Rattle.zone_bytes.proofs.Marks.Owed.{with-marks, replaced-as}
 use Rattle.zone_bytes.specs.Purgeable.{purgeable_sum}
 use Rattle.zone_bytes.proofs.Bounds.Given.{given-purged, given-small}
 use Rattle.zone_bytes.proofs.Places.AtPlace.{whole}
@@ -33,43 +33,58 @@ purge_above-freed-requires c =
 
 gained-at : (c : goal.After-purge_above-freed) (s : Spot) → spot_at c.args.place (zone_in c.self.inside.part.bytes) ≡ Some s
     → Gained c.self.inside.part.bytes c.purge_above-freed.new.part.bytes c.self.inside.first c.self.inside.unused
-    c.purge_above-freed.result (tidy (s.below ++ s.here ∷ lowest_purged c.args.purges (spared c.args.sparing) s.above))
+    c.purge_above-freed.result.bytes (tidy (s.below ++ s.here ∷ lowest_purged c.args.purges (spared c.args.sparing) s.above))
 gained-at c s e =
     let n = c.self.inside in
+    let f = c.purge_above-freed in
     above-gained n.part.bytes n.first n.unused c.self.invariant.sound c.args.purges c.args.sparing c.args.place s e
-    c.purge_above-freed.new.part.bytes c.purge_above-freed.result c.purge_above-freed.ensures.purged
+    f.result.from f.result.to f.new.part.bytes f.result.bytes f.ensures.purged
 
-done : (c : goal.After-purge_above-freed) → let s = (here (goal.at.overflow_add-self c).After-self).0 in
-    Gained c.self.inside.part.bytes c.purge_above-freed.new.part.bytes c.self.inside.first c.self.inside.unused
-    c.purge_above-freed.result (tidy (s.below ++ s.here ∷ lowest_purged c.args.purges (spared c.args.sparing) s.above))
-done c = let a = here (goal.at.overflow_add-self c).After-self in gained-at c a.0 a.1
+done : (c : goal.After-purge_above-freed)
+    → (a : (s : Spot) × (spot_at c.args.place (zone_in c.self.inside.part.bytes) ≡ Some s))
+    → Gained c.self.inside.part.bytes c.purge_above-freed.new.part.bytes c.self.inside.first c.self.inside.unused
+    c.purge_above-freed.result.bytes
+    (tidy (a.0.below ++ a.0.here ∷ lowest_purged c.args.purges (spared c.args.sparing) a.0.above))
+done c a = gained-at c a.0 a.1
 
 pub overflow_add-self : goal.overflow_add-self
-overflow_add-self c = let f = gained-fits _ _ _ _ _ _ (done c) c.self.inside.free c.self.invariant.free_is in
+overflow_add-self c = let f = gained-fits _ _ _ _ _ _ (done (goal.at.overflow_add-self c).After-purge_above-freed (here (goal.at.overflow_add-self c).After-self)) c.self.inside.free c.self.invariant.free_is in
     omega (arith, f)
 
-pub renew_all-requires : goal.renew_all-requires
-renew_all-requires c = record {
-  sound = (
-    c.self.inside.first,
-    c.self.inside.unused,
-    (done (goal.at.renew_all-requires c).After-purge_above-freed).made.sound,
-  );
-}
+pub note-requires-clause-sound : goal.note-requires-clause-sound
+note-requires-clause-sound c = (
+  c.self.inside.first,
+  c.self.inside.unused,
+  (done (goal.at.note-requires-clause-sound c).After-purge_above-freed (here (goal.at.note-requires-clause-sound c).After-self)).made.sound,
+)
+
+pub note-requires-clause-marks : goal.note-requires-clause-marks
+note-requires-clause-marks c =
+    let n = c.self.inside in
+    let i = c.self.invariant.sound in
+    let f = c.purge_above-freed in
+    let a = here (goal.at.note-requires-clause-marks c).After-self in (
+      zone_in n.part.bytes,
+      replaced-as _ _ _ _ _ _ (whole n.part.bytes n.first n.unused i c.args.place a.0 a.1)
+          (done (goal.at.note-requires-clause-marks c).After-purge_above-freed (here (goal.at.note-requires-clause-marks c).After-self)).made.zone
+          (f.ensures.purged (spot-at n.part.bytes n.first n.unused i c.args.purges c.args.sparing c.args.place a.0 a.1)
+          (may-purge n.part.bytes n.first n.unused i c.args.purges c.args.sparing c.args.place a.0 a.1)).replaced,
+      c.self.invariant.marked,
+    )
 
 pub invariant_of-self-inside : goal.invariant_of-self-inside
-invariant_of-self-inside c = ((done (goal.at.invariant_of-self-inside c).After-purge_above-freed).made.lawful, tt)
+invariant_of-self-inside c = ((done (goal.at.invariant_of-self-inside c).After-purge_above-freed (here (goal.at.invariant_of-self-inside c).After-self)).made.lawful, tt)
 
 pub invariant_of-self : goal.invariant_of-self
 invariant_of-self c =
     let n = c.self.inside in
     let a = here (goal.at.invariant_of-self c).After-self in
-    let d = done (goal.at.invariant_of-self c).After-purge_above-freed in
+    let d = done (goal.at.invariant_of-self c).After-purge_above-freed a in
     let z = ap purgeable_sum d.made.zone in
     let g = given-purged a.0.below a.0.here c.args.purges (spared c.args.sparing) a.0.above (zone_in n.part.bytes)
-    (whole n.part.bytes n.first n.unused c.self.invariant.sound c.args.place a.0 a.1) c.purge_above-freed.result d.sum in
+    (whole n.part.bytes n.first n.unused c.self.invariant.sound c.args.place a.0 a.1) c.purge_above-freed.result.bytes d.sum in
     let s = given-small c.purge_above-freed.new.part.bytes n.first n.unused d.made.sound in
-    with-marks _ _ _ _ _ _ (gained-kept _ _ _ _ _ _ d n.free c.self.invariant.free_is) c.renew_all.ensures
+    with-marks _ _ _ _ _ _ (gained-kept _ _ _ _ _ _ d n.free c.self.invariant.free_is) c.note.ensures
     (c.changed_bound-self-inside.ensures (purgeable_sum (zone_in n.part.bytes))
     (purgeable_sum (zone_in c.purge_above-freed.new.part.bytes)) c.self.invariant.bound (omega (arith, z, g)) s)
 
@@ -88,4 +103,4 @@ returns-clause-rest c =
     subst (λ v. IsRest (rest_of v) (rest_in c.purge_above-freed.new.part c.self.inside.unused c.self.inside.moves))
     c.self.view_is
     (gained-rest c.self.inside.part c.purge_above-freed.new.part _ _ _ _
-    (done (goal.at.returns-clause-rest c).After-purge_above-freed) c.purge_above-freed.ensures.same c.self.inside.moves)
+    (done (goal.at.returns-clause-rest c).After-purge_above-freed (here (goal.at.returns-clause-rest c).After-self)) c.purge_above-freed.ensures.same c.self.inside.moves)

@@ -3,6 +3,7 @@ use Rattle.block_store.specs.Block.{sizes}
 use Rattle.block_store.specs.Sparing.{most_purges}
 use Rattle.raw_zone.specs.Parted.{zone_of}
 use Rattle.zone_bytes.proofs.Places.AtPlace.{left-zone, on-way, sizes-fit}
+use Rattle.zone_bytes.specs.Decode.{zone_in}
 use Rattle.zone_bytes.specs.Purgeable.{purgeable_sum}
 use Rattle.zone_bytes.proofs.Bounds.Short.{none-goes}
 use Rattle.raw_zone.proofs.zone.RawZoneBlockStore.purgeable.Goals as goal
@@ -23,8 +24,22 @@ purgeable_in-requires c =
     subst (λ l. sizes l < 2 ^ 32) (sym c.walk_from.ensures)
     (sizes-fit z.part.bytes z.first z.unused c.self.invariant.sound)
 
-pub returns : goal.returns
-returns c =
+pub returns-then-frees_one : goal.returns-then-frees_one
+returns-then-frees_one c =
     c.purgeable_in.ensures
     ∙ ap (most_purges c.args.sparing)
     (c.walk_from.ensures ∙ left-zone c.self.inside.part.bytes ∙ ap zone_of c.self.view_is)
+
+pub count_purgeable-requires-clause-sound : goal.count_purgeable-requires-clause-sound
+count_purgeable-requires-clause-sound c = (c.self.inside.first, c.self.inside.unused, c.self.invariant.sound)
+
+pub count_purgeable-requires-clause-begins : goal.count_purgeable-requires-clause-begins
+count_purgeable-requires-clause-begins c =
+    c.start.ensures.begins (zone_in c.self.inside.part.bytes) c.self.invariant.marked
+
+pub count_purgeable-requires-clause-none : goal.count_purgeable-requires-clause-none
+count_purgeable-requires-clause-none c =
+    c.start.ensures.none (zone_in c.self.inside.part.bytes) c.self.invariant.marked
+
+pub returns : goal.returns
+returns c = c.count_purgeable.ensures ∙ ap (λ v. most_purges c.args.sparing (zone_of v)) c.self.view_is

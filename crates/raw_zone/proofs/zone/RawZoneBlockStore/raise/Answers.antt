@@ -112,3 +112,10 @@ overflow_add-run c =
     let s = c.raise_run-stop.ensures.stop ∙ ap (λ z. c.args.run + sizes z.run) l in
     let t = c.raise_run-stop.type_inv in
     omega (arith, f, e, s, t)
+
+pub note_packed-requires-clause-lowest : goal.note_packed-requires-clause-lowest
+note_packed-requires-clause-lowest c =
+    let d = done (goal.at.note_packed-requires-clause-lowest c).After-raise_run-stop in
+    c.lowest_under-lowest.ensures c.raise_run-stop.result (zone_in c.self.inside.part.bytes)
+    (zone_in c.raise_run-stop.new.part.bytes) c.self.invariant.marked
+    (replaced-run c.args.run c.raise_run-stop.result c.self.invariant.sound.tidied d.1 d.3 d.2)

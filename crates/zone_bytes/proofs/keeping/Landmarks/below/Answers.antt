@@ -1,4 +1,4 @@
 use Rattle.zone_bytes.proofs.keeping.Landmarks.below.Goals as goal
 
 pub returns-clause-begins : goal.returns-clause-begins
-returns-clause-begins c = λ zone a. c.mark_below.ensures.begins 4294967295 zone a.0
+returns-clause-begins c = λ zone a. c.mark_below.ensures.begins 4294967295 zone a.0.0

@@ -6,4 +6,4 @@ pub page_bytes-page-requires : goal.page_bytes-page-requires
 page_bytes-page-requires c = let i = c.requires.sound in on-way c.args.part.now.bytes i.0 i.1 i.2
 
 pub lay_edges-next-requires-clause-laid : goal.lay_edges-next-requires-clause-laid
-lay_edges-next-requires-clause-laid c = c.next_at-from.ensures.laid (zone_in c.args.part.now.bytes) c.forget.ensures
+lay_edges-next-requires-clause-laid c = c.next_at-from.ensures.laid (zone_in c.args.part.now.bytes) c.forget.ensures.marks

@@ -4,6 +4,7 @@ use Rattle.zone_bytes.specs.Table.{slot_in}
 use Rattle.zone_bytes.specs.Marks.{AreMarks, AreTops}
 use Rattle.zone_bytes.specs.declared.landmark.Landmark.{Landmark}
 use Rattle.zone_bytes.specs.declared.landmark.Tally.TheVariants as tally
+use Rattle.zone_bytes.proofs.Bounds.Going.{stays-above}
 use Rattle.zone_bytes.proofs.Laws.Lawful.{sizes-length}
 use Rattle.zone_bytes.proofs.Places.AtPlace.{on-way}
 use Rattle.zone_bytes.proofs.Marks.Lowering.{unlaid-marks}
@@ -32,3 +33,8 @@ renew-requires-clause-marks c =
       c.raise_top.ensures c.fill.new.self unknown (omega arith) (subst (λ t. AreTops t c.fill.new.self) (sym g)
           (subst (AreTops (replicate (length tops) 0)) (sym f) (same-tops (length marks) (length tops) last e))),
     )
+
+pub returns : goal.returns
+returns c =
+    let l = c.renew.ensures.lowest in
+    (c.renew.ensures.marks, stays-above c.renew.new.self.lowest 0 (zone_in c.args.part.now.bytes) (omega (arith, l)))

@@ -1,0 +1,102 @@
+//! The greatest number of free bytes in one run, by landmarks: the blocks of a stretch in which no run ends are not
+//! walked over.
+
+ghost use Rattle.std.specs.Prelude.{◌≡◌, ◌≤◌, ◌<◌, ◌⊎◌, ℕ, length};
+ghost use Rattle.block_store.specs.Compact.{largest_run};
+ghost use Rattle.zone_bytes.specs.Decode.{zone_in};
+ghost use Rattle.zone_bytes.specs.Largest.{CameOn};
+ghost use Rattle.zone_bytes.specs.Lawful.{IsSound};
+ghost use Rattle.zone_bytes.specs.Marks.{AreMarks, above_all};
+ghost use Rattle.zone_bytes.specs.Searching.{IsStretch};
+ghost use Rattle.zone_bytes.specs.Stepping.{left_in, IsOnWay};
+
+use crate::landmark::{Landmark, Tally};
+use crate::marking::{index_above, place_of_mark};
+use crate::measuring::{greater, span_at, within};
+use raw_region::Part;
+
+/// The state of a walk: the greatest number of free bytes in one of the runs that ended, the free bytes so far of the run
+/// that goes on, and the place of the walk.
+#[derive(Clone, Copy, Drop)]
+pub struct RunSum {
+    pub most: u32,
+    pub free: u32,
+    pub at: u32,
+}
+
+/// Takes a walk past the block at its place.
+fn past_block(part: &Part, sum: RunSum) -> RunSum
+    requires way { IsOnWay sum.at part.now.bytes }
+    requires some { sum.at < length part.now.bytes }
+    requires free { sum.free ≤ sum.at }
+    ensures came { CameOn part.now.bytes sum result }
+    ensures further { sum.at < result.at }
+{
+    let span = span_at(part, sum.at);
+    if span.barrier {
+        return RunSum {
+            most: greater(sum.most, sum.free),
+            free: 0,
+            at: span.end,
+        };
+    }
+    RunSum {
+        most: sum.most,
+        free: sum.free + span.free,
+        at: span.end,
+    }
+}
+
+/// Takes a walk up to the first block at or above `to`.
+fn runs_up_to(part: &Part, sum: RunSum, to: u32) -> RunSum
+    requires way { IsOnWay sum.at part.now.bytes }
+    requires free { sum.free ≤ sum.at }
+    ensures came { CameOn part.now.bytes sum result }
+    ensures end { (to ≤ result.at) ⊎ (length part.now.bytes ≤ result.at) }
+{
+    let stop = within(to, part.len() as u32);
+    let mut sum = sum;
+    while sum.at < stop {
+        sum = past_block(part, sum);
+    }
+    sum
+}
+
+/// Takes a walk past the stretch of a landmark, up to the place `next`.
+fn past_stretch(part: &Part, mark: Landmark, next: u32, sum: RunSum) -> RunSum
+    requires way { IsOnWay sum.at part.now.bytes }
+    requires free { sum.free ≤ sum.at }
+    requires sound { (first : ℕ) × (unused : ℕ) × IsSound part.now.bytes first unused }
+    requires stretch { IsStretch mark.tally mark.at next part.now.bytes }
+    ensures came { CameOn part.now.bytes sum result }
+{
+    match mark.tally {
+        Tally::Open(free) if sum.at == mark.at => RunSum {
+            most: sum.most,
+            free: sum.free + free,
+            at: next,
+        },
+        _ => runs_up_to(part, sum, next),
+    }
+}
+
+/// Returns the greatest number of free bytes in one run.
+pub fn largest_run_by_marks(marks: &[Landmark], part: &Part) -> u32
+    requires sound { (first : ℕ) × (unused : ℕ) × IsSound part.now.bytes first unused }
+    requires marks { AreMarks above_all (zone_in part.now.bytes) marks.now }
+    ensures { result ≡ largest_run (zone_in part.now.bytes) }
+{
+    let end = part.len() as u32;
+    let last = index_above(marks, end, marks.len());
+    let mut sum = RunSum {
+        most: 0,
+        free: 0,
+        at: 0,
+    };
+    for index in 0..last {
+        let next = within(place_of_mark(marks, index + 1), end);
+        sum = past_stretch(part, marks[index], next, sum);
+    }
+    let all = runs_up_to(part, sum, end);
+    greater(all.most, all.free)
+}
