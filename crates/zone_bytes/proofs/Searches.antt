@@ -2,4 +2,5 @@ pub mod Going
 pub mod Pieces
 pub mod Knowing
 pub mod Roomy
+pub mod Starting
 pub mod Sums

@@ -79,6 +79,10 @@ most_free_of (search.Behind p) = p.most + p.beyond
 abbrev pub lowest_room : ℕ → ℕ → Sparing → List ℕ → Option ℕ
 lowest_room bytes purges n xs = option_map (λ s. sizes s.below) (spot (is_room bytes) (purged purges n (zone_in xs)))
 
+-- A search for room that begins at the place `from` with the given number of purges.
+abbrev pub room_begun : ℕ → ℕ → RoomScan
+room_begun from purges = record { left = purges; start = from; free = 0; place = from }
+
 -- The place that a search for room finds from where it is.
 abbrev pub finds_room : ℕ → Sparing → RoomScan → List ℕ → Option ℕ
 finds_room bytes n s xs = stretch bytes (spared n) s.left s.start s.free s.place (opened n (left_in s.place xs))

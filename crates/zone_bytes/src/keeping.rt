@@ -11,7 +11,7 @@ ghost use Rattle.zone_bytes.specs.Edges.{AreEdges, AreLaid, ByEdges};
 ghost use Rattle.zone_bytes.specs.Lawful.{IsSound};
 ghost use Rattle.zone_bytes.specs.Marked.{AreMarked, AreOf};
 ghost use Rattle.zone_bytes.specs.Marks.{AreTops, Became, Begins, Replaced};
-ghost use Rattle.zone_bytes.specs.Purgeable.{NoneGoes};
+ghost use Rattle.zone_bytes.specs.Purgeable.{MayStart, NoneGoes};
 
 use crate::edges::Edges;
 use crate::finding_room::find_room_by_marks;
@@ -104,6 +104,13 @@ impl Landmarks {
         self.below(self.lowest.saturating_add(1))
     }
 
+    /// Returns the place of a block up to which no block may be purged, or the zone's bottom.
+    fn under(&self) -> u32
+        ensures { (zone : List Block) → AreOf self.now zone → MayStart result zone }
+    {
+        self.below(self.lowest)
+    }
+
     /// Moves the place below which no block may be purged up to the lowest block that may be.
     pub fn seek(&mut self, part: &Part)
         requires sound { (first : ℕ) × (unused : ℕ) × IsSound part.now.bytes first unused }
@@ -146,7 +153,15 @@ impl Landmarks {
         requires plain { (zone : List Block) → opened sparing zone ≡ zone }
         ensures { FindsLowest (is_room bytes) (purged purges sparing (zone_in part.now.bytes)) result }
     {
-        find_room_by_marks(&self.marks, &self.tops, part, bytes, purges, sparing)
+        find_room_by_marks(
+            &self.marks,
+            &self.tops,
+            part,
+            self.under(),
+            bytes,
+            purges,
+            sparing,
+        )
     }
 
     /// Returns the place of the lowest run with at least `bytes` free bytes after the given number of purges.

@@ -2,23 +2,26 @@ use Rattle.std.proofs.Common.{◌≡◌, ◌<◌, ◌^◌, Some, None, ap, sym, 
 use Rattle.block_store.specs.Block.{is_room, sizes, tidy}
 use Rattle.block_store.specs.Find.{FindsLowest}
 use Rattle.block_store.specs.Room.{spot}
+use Rattle.zone_bytes.specs.Decode.{zone_in}
 use Rattle.zone_bytes.specs.Stepping.{left_in}
 use Rattle.zone_bytes.proofs.Marks.Lowering.{begins-way}
 use Rattle.zone_bytes.proofs.Marks.Sought.{left-fits, left-tidy}
 use Rattle.zone_bytes.proofs.Searches.Roomy.{found-from, found-within, left-long, lowest-from, none-from, place_from}
 use Rattle.zone_bytes.proofs.finding_room.room_from.Goals as goal
 
-pub returns-in_err-lowest : goal.returns-in_err-lowest
-returns-in_err-lowest c =
+pub returns-in_default : goal.returns-in_default
+returns-in_default c =
     let i = c.requires.sound in
-    c.from_residual.ensures ∙ sym (none-from c.args.part.now.bytes i.0 i.1 i.2 c.args.edge c.requires.edge
-    (is_room c.args.bytes) c.in_err-lowest.ensures)
+    let xs = c.args.part.now.bytes in
+    sym (none-from xs i.0 i.1 i.2 c.args.edge c.requires.edge (is_room c.args.bytes)
+    (subst (FindsLowest (is_room c.args.bytes) (zone_in xs)) c.in_default.is c.requires.lowest))
 
-pub returns-then-edge-lowest : goal.returns-then-edge-lowest
-returns-then-edge-lowest c =
+pub returns-then-edge-place : goal.returns-then-edge-place
+returns-then-edge-place c =
     let i = c.requires.sound in
-    sym (lowest-from c.args.part.now.bytes i.0 i.1 i.2 c.args.edge c.requires.edge (is_room c.args.bytes)
-    c.in_ok-lowest.lowest c.in_ok-lowest.ensures c.if-edge-lowest.true)
+    let xs = c.args.part.now.bytes in
+    sym (lowest-from xs i.0 i.1 i.2 c.args.edge c.requires.edge (is_room c.args.bytes) c.in-Some.place
+    (subst (FindsLowest (is_room c.args.bytes) (zone_in xs)) c.in-Some.is c.requires.lowest) c.if-edge-place.true)
 
 pub walk_from-requires : goal.walk_from-requires
 walk_from-requires c =
@@ -34,7 +37,7 @@ pub returns-in_err-above : goal.returns-in_err-above
 returns-in_err-above c =
     let i = c.requires.sound in
     let xs = c.args.part.now.bytes in
-    c.from_residual-in_err-above.ensures
+    c.from_residual.ensures
     ∙ sym (ap (place_from c.args.edge) (subst (λ z. spot (is_room c.args.bytes) z ≡ None)
     (ap tidy c.walk_from.ensures ∙ left-tidy xs i.0 i.1 i.2 c.args.edge c.requires.edge) c.in_err-above.ensures))
 

@@ -1,20 +1,19 @@
 use Rattle.std.proofs.Common.{◌≡◌, ap, sym, subst, ◌∙◌, arith, inl, inr}
 use Rattle.block_store.specs.Inner.Stretch.{stretch}
 use Rattle.block_store.specs.Sparing.{opened, spared}
-use Rattle.zone_bytes.specs.Marks.{Begins}
 use Rattle.zone_bytes.specs.Stepping.{left_in}
+use Rattle.zone_bytes.proofs.Marks.Lowering.{begins-further, begins-way}
 use Rattle.zone_bytes.proofs.Marks.Passing.{Passed, passed-begins, passed-start}
-use Rattle.zone_bytes.proofs.Places.AtPlace.{left-zone, on-way}
 use Rattle.zone_bytes.proofs.Searches.Going.{seen-sized, passed-block}
-use Rattle.zone_bytes.proofs.Searches.Roomy.{room-start}
 use Rattle.zone_bytes.proofs.finding_room.scan_purges.Goals as goal
 
 pub loop-scan-init : goal.loop-scan-init
 loop-scan-init c =
-    let i = c.requires in
+    let i = c.requires.sound in
     record {
-      finds = room-start c.args.bytes c.args.purges c.args.sparing c.args.part.now.bytes;
-      passed = passed-start c.args.part.now.bytes 0 (λ _ _. Unit {0}) (on-way c.args.part.now.bytes i.0 i.1 i.2);
+      finds = c.requires.finds;
+      passed = passed-start c.args.part.now.bytes c.args.from (λ _ _. Unit {0})
+          (begins-way c.args.part.now.bytes i.0 i.1 i.2 c.args.from c.requires.begins);
       free = omega arith;
     }
 
@@ -36,8 +35,8 @@ loop-scan-preserved c =
           ∙ c.in-Some.ensures.scan s.here (left_in step.result.end xs) s.told
           ∙ ap (λ q. stretch c.args.bytes (spared n) c.in-Some.next.left c.in-Some.next.start c.in-Some.next.free
           c.in-Some.next.place (opened n (left_in q xs))) (sym end);
-      passed = subst (λ q. Passed xs 0 q (λ _ _. Unit {0})) (sym end)
-          (passed-block xs scan.place step.result.block step.result.end s 0 i.passed);
+      passed = subst (λ q. Passed xs c.args.from q (λ _ _. Unit {0})) (sym end)
+          (passed-block xs scan.place step.result.block step.result.end s c.args.from i.passed);
       free = c.in-Some.ensures.free;
     }
 
@@ -55,9 +54,10 @@ returns-in-None c =
 pub returns-else-is_within : goal.returns-else-is_within
 returns-else-is_within c =
     let xs = c.args.part.now.bytes in
+    let i = c.requires.sound in
     record {
-      begins = subst (Begins c.loop-scan.scan.place 0) (left-zone xs)
-          (passed-begins xs 0 (λ _ _. Unit {0}) c.loop-scan.scan.place c.loop-scan.invariant.passed);
+      begins = begins-further xs i.0 i.1 i.2 c.args.from c.loop-scan.scan.place c.requires.begins
+          (passed-begins xs c.args.from (λ _ _. Unit {0}) c.loop-scan.scan.place c.loop-scan.invariant.passed);
       finds = c.loop-scan.invariant.finds;
       stopped = inr (c.is_within.ensures c.if-is_within.false);
     }
@@ -65,11 +65,12 @@ returns-else-is_within c =
 pub returns-after-loop-scan : goal.returns-after-loop-scan
 returns-after-loop-scan c =
     let xs = c.args.part.now.bytes in
+    let i = c.requires.sound in
     let l = c.loop-scan-test.false in
     let e = c.len-end.ensures.count in
     record {
-      begins = subst (Begins c.loop-scan.scan.place 0) (left-zone xs)
-          (passed-begins xs 0 (λ _ _. Unit {0}) c.loop-scan.scan.place c.loop-scan.invariant.passed);
+      begins = begins-further xs i.0 i.1 i.2 c.args.from c.loop-scan.scan.place c.requires.begins
+          (passed-begins xs c.args.from (λ _ _. Unit {0}) c.loop-scan.scan.place c.loop-scan.invariant.passed);
       finds = c.loop-scan.invariant.finds;
       stopped = inl (omega (arith, l, e));
     }
