@@ -3,4 +3,5 @@ pub mod Pieces
 pub mod Knowing
 pub mod Roomy
 pub mod Starting
+pub mod RunStarting
 pub mod Sums

@@ -1,11 +1,11 @@
 -- Searches for a run and for room that use the landmarks of a zone.
-use Rattle.std.specs.Prelude.{◌≡◌, ℕ, ◌+◌, ◌≤◌, ◌<◌, ◌⊎◌, ◌&&◌, nat_le, true, false, Option, Some, None, List, ◌++◌, length}
+use Rattle.std.specs.Prelude.{◌≡◌, ℕ, ◌+◌, ◌≤◌, ◌<◌, ◌⊎◌, ◌&&◌, nat_le, true, false, Option, Some, None, List, ◌∷◌, ◌++◌, length}
 use Rattle.std.specs.Option.{option_map}
-use Rattle.block_store.specs.Block.{Block, sizes, free_sum, is_room}
-use Rattle.block_store.specs.Inner.RunScan.{scan_from}
+use Rattle.block_store.specs.Block.{Block, size, sizes, free_sum, is_room}
+use Rattle.block_store.specs.Inner.RunScan.{scan_from, suits}
 use Rattle.block_store.specs.Inner.Stretch.{stretch}
 use Rattle.block_store.specs.Room.{spot}
-use Rattle.block_store.specs.Run.{has}
+use Rattle.block_store.specs.Run.{RunSpot, run_spot, has}
 use Rattle.block_store.specs.Sparing.{opened, purged, spared}
 use Rattle.block_store.specs.declared.run_search.RunScan.{RunScan}
 use Rattle.block_store.specs.declared.sparing.Sparing.{Sparing}
@@ -74,6 +74,28 @@ IsSearch bytes answer at xs (search.Behind p) = IsBehind bytes answer at xs p
 abbrev pub most_free_of : Search → ℕ
 most_free_of (search.Known s) = s.free
 most_free_of (search.Behind p) = p.most + p.beyond
+
+-- The place of the lowest run with `bytes` free bytes or more after the given number of purges.
+abbrev pub lowest_place : ℕ → ℕ → Sparing → List ℕ → Option ℕ
+lowest_place bytes purges n xs = option_map (λ (r : RunSpot). sizes r.below)
+    (run_spot (suits None bytes) (purged purges n (zone_in xs)))
+
+-- A search for a run that begins at the place `from` with the given number of purges.
+abbrev pub run_begun : ℕ → ℕ → RunScan
+run_begun from purges = record { left = purges; start = from; free = 0; met = true; place = from }
+
+-- The place of the run that a search with purges finds from where it is.
+abbrev pub finds_purging : ℕ → Sparing → RunScan → List ℕ → Option ℕ
+finds_purging bytes n s xs = scan_from None bytes (spared n) s (opened n (left_in s.place xs))
+
+-- A run begins at the place `at`: the block below it ends a run.
+pub record RunBegins (at : ℕ) (xs : List ℕ) : Type 0 where
+  pub below : List Block
+  pub here : Block
+  pub is : zone_in xs ≡ below ++ here ∷ left_in at xs
+  pub ends : ends_run here ≡ true
+  pub up : sizes below + size here ≡ at
+  pub some : sizes below < at
 
 -- The place of the lowest free block of `bytes` bytes or more after the given number of purges.
 abbrev pub lowest_room : ℕ → ℕ → Sparing → List ℕ → Option ℕ

@@ -1,6 +1,6 @@
 //! The search for a free block after purges, which uses landmarks once no purges are left.
 
-ghost use Rattle.std.specs.Prelude.{◌≡◌, ◌+◌, ℕ, List, MatchOption, false, nat_lt};
+ghost use Rattle.std.specs.Prelude.{◌≡◌, ◌+◌, ℕ, List, false};
 ghost use Rattle.std.specs.Option.{option_map};
 ghost use Rattle.block_store.specs.Block.{Block, is_room, sizes};
 ghost use Rattle.block_store.specs.Find.{FindsLowest};
@@ -16,6 +16,7 @@ ghost use Rattle.zone_bytes.specs.Stepping.{left_in};
 
 use crate::landmark::Landmark;
 use crate::marking::find_by_marks;
+use crate::measuring::is_under;
 use crate::raw_walk::{step_at, walk_from};
 use block_store::{RoomScan, Sparing, find_free_in, scan_room, suffices};
 use raw_region::Part;
@@ -106,16 +107,6 @@ fn room_purging(
             }
             room_from(lowest, part, scan.place, bytes)
         }
-    }
-}
-
-/// Reports whether there is a place, below `bound`.
-fn is_under(place: Option<u32>, bound: u32) -> bool
-    ensures { MatchOption place (result ≡ false) (λ p. result ≡ nat_lt p bound) }
-{
-    match place {
-        Some(place) => place < bound,
-        None => false,
     }
 }
 

@@ -172,7 +172,7 @@ impl Landmarks {
         requires plain { (zone : List Block) → opened sparing zone ≡ zone }
         ensures { FindsLowestRun (has_free bytes) (purged purges sparing (zone_in part.now.bytes)) result }
     {
-        find_run_by_marks(&self.marks, part, bytes, purges, sparing)
+        find_run_by_marks(&self.marks, part, self.under(), bytes, purges, sparing)
     }
 
     /// Returns the greatest number of free bytes in one run.

@@ -42,7 +42,7 @@ pub use carving::{carve, kept_flags, make_free, padded_size};
 pub use contents::content_at;
 pub use edges::Edges;
 pub use finding_room::Scanned;
-pub use finding_runs::{Passed, Search, find_run_by_marks};
+pub use finding_runs::{Passed, Search};
 pub use flagging::flag_at;
 pub use freeing::{Freed, free_block, free_slot, free_up};
 pub use fresh::make_fresh;

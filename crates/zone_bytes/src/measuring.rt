@@ -1,7 +1,7 @@
 //! Walks over a stretch of a zone.
 
 ghost use Rattle.std.specs.Prelude.{◌≡◌, ◌+◌, ◌%◌, ◌==◌, ◌<◌, ◌≤◌, ◌^◌, ◌⊎◌, not, if◌then◌else◌, List, length};
-ghost use Rattle.std.specs.Prelude.{MatchOption, IfSome};
+ghost use Rattle.std.specs.Prelude.{MatchOption, IfSome, false, nat_lt};
 ghost use Rattle.heap_words.specs.Words.{word_at};
 ghost use Rattle.block_store.specs.Block.{Block, free_sum};
 ghost use Rattle.block_store.specs.Run.{has};
@@ -30,6 +30,16 @@ pub fn greater(most: u32, bytes: u32) -> u32
     ensures one { (result ≡ most) ⊎ (result ≡ bytes) }
 {
     if most < bytes { bytes } else { most }
+}
+
+/// Reports whether there is a place, below `bound`.
+pub fn is_under(place: Option<u32>, bound: u32) -> bool
+    ensures { MatchOption place (result ≡ false) (λ p. result ≡ nat_lt p bound) }
+{
+    match place {
+        Some(place) => place < bound,
+        None => false,
+    }
 }
 
 /// The end of a block, its free bytes, and whether it ends a run.

@@ -6,27 +6,23 @@ use Rattle.std.proofs.lemmas.List.Folds.{list_any-append}
 use Rattle.block_store.specs.Block.{Block, sizes, free_of, free_sum}
 use Rattle.block_store.specs.Inner.RunScan.{scan_from, scan_runs}
 use Rattle.block_store.specs.Run.{has}
-use Rattle.std.specs.Option.{option_map}
-use Rattle.block_store.specs.Inner.RunScan.{suits}
-use Rattle.block_store.specs.Run.{RunSpot, run_spot}
-use Rattle.block_store.specs.Sparing.{opened, purged, spared}
+use Rattle.block_store.specs.Sparing.{opened, spared}
 use Rattle.block_store.specs.declared.sparing.Sparing.{Sparing}
 use Rattle.block_store.specs.declared.run_search.RunScan.{RunScan}
 use Rattle.block_store.specs.declared.sparing.Sparing.TheVariants as sparing
-use Rattle.block_store.proofs.Regroup.RunScans.{scan_kept, scan-is}
+use Rattle.block_store.proofs.Regroup.RunScans.{scan_kept}
 use Rattle.block_store.proofs.Regroup.RunSkips.{GoesOn, goes-past, goes-through, same-past, short-run, scan-end, spared-alike}
 use Rattle.block_store.proofs.Zone.Totals.{total-append}
 use Rattle.zone_bytes.specs.Decode.{zone_in}
 use Rattle.zone_bytes.specs.Lawful.{IsSound}
 use Rattle.zone_bytes.specs.Marks.{Begins, ends_run}
-use Rattle.zone_bytes.specs.Searching.{IsBehind, IsFound, IsKnown, IsPiece, IsSearch, begun, finds_from, most_free_of}
+use Rattle.zone_bytes.specs.Searching.{IsBehind, IsFound, IsKnown, IsPiece, IsSearch, begun, finds_from, finds_purging, lowest_place, most_free_of, run_begun}
 use Rattle.zone_bytes.specs.Stepping.{left_in}
 use Rattle.zone_bytes.specs.declared.finding_runs.Passed.{Passed}
 use Rattle.zone_bytes.specs.declared.finding_runs.Search.{Search}
 use Rattle.zone_bytes.specs.declared.finding_runs.Search.TheVariants as search
 use Rattle.zone_bytes.proofs.Places.Walks.{free_span-le}
 use Rattle.zone_bytes.proofs.Marks.Lowering.{begins-further, begins-way}
-use Rattle.zone_bytes.proofs.Places.AtPlace.{left-zone}
 use Rattle.zone_bytes.proofs.Places.Stepped.{left-none}
 use Rattle.zone_bytes.proofs.Searches.Pieces.{piece-begins, edge-within}
 use Rattle.zone_bytes.proofs.Tiles.Tiling.{span-append}
@@ -231,29 +227,24 @@ used-up bytes sp s xs (inr (inr e)) =
     ap (λ l. scan_runs None bytes sp l s.start s.free s.met s.place (left_in s.place xs)) e
     ∙ spared-alike None bytes sp (spared sparing.Nothing) s.start s.free s.met s.place (left_in s.place xs)
 
--- the place of the lowest run with enough Free bytes after so many purges
-abbrev pub lowest_place : ℕ → ℕ → Sparing → List ℕ → Option ℕ
-lowest_place bytes purges n xs = option_map (λ (r : RunSpot). sizes r.below)
-    (run_spot (suits None bytes) (purged purges n (zone_in xs)))
-
 -- that is what a search finds behind all purges
-pub begun-known : (bytes purges : ℕ) (n : Sparing) (xs : List ℕ) (first unused : ℕ) (i : IsSound xs first unused)
+pub begun-known : (bytes purges from : ℕ) (n : Sparing) (xs : List ℕ) (first unused : ℕ) (i : IsSound xs first unused)
     → ((zone : List Block) → opened n zone ≡ zone) → (begun walked used : RunScan)
-    → begun ≡ record { left = purges; start = 0; free = 0; met = true; place = 0 }
+    → Begins from 0 (zone_in xs) → lowest_place bytes purges n xs ≡ finds_purging bytes n (run_begun from purges) xs
+    → begun ≡ record { left = purges; start = from; free = 0; met = true; place = from }
     → used ≡ record { left = 0; start = walked.start; free = walked.free; met = walked.met; place = walked.place }
     → scan_from None bytes (spared n) begun (opened n (left_in begun.place xs))
     ≡ scan_from None bytes (spared n) walked (opened n (left_in walked.place xs))
     → Begins walked.place begun.place (left_in begun.place xs) → walked.free ≤ walked.place → walked.met ≡ true
     → (IsFound bytes walked ⊎ ((length xs ≤ walked.place) ⊎ ((0 ≤ walked.place) × (walked.left ≡ 0))))
     → IsKnown bytes (lowest_place bytes purges n xs) used.place xs used
-begun-known bytes purges n xs first unused i plain begun walked used e u same b f m came =
+begun-known bytes purges from n xs first unused i plain begun walked used low is e u same b f m came =
     subst (λ s. IsKnown bytes (lowest_place bytes purges n xs) s.place xs s) (sym u) (record {
       begins = edge;
       left = refl;
       met = m;
       free = f;
-      finds = sym (scan-is None bytes n purges (zone_in xs))
-          ∙ ap (λ z. scan_runs None bytes (spared n) purges 0 0 true 0 (opened n z)) (sym (left-zone xs))
+      finds = is
           ∙ ap (λ s. scan_from None bytes (spared n) s (opened n (left_in s.place xs))) (sym e) ∙ same
           ∙ ap (scan_from None bytes (spared n) walked) (plain (left_in walked.place xs))
           ∙ used-up bytes (spared n) walked xs (elim came [
@@ -265,4 +256,5 @@ begun-known bytes purges n xs first unused i plain begun walked used e u same b 
     })
   where
     edge : Begins walked.place 0 (zone_in xs)
-    edge = subst (Begins walked.place 0) (left-zone xs) (subst (λ s. Begins walked.place s.place (left_in s.place xs)) e b)
+    edge = begins-further xs first unused i from walked.place low
+        (subst (λ s. Begins walked.place s.place (left_in s.place xs)) e b)
