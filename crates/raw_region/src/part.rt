@@ -62,8 +62,10 @@ impl Part {
         requires inside { at + 4 ≤ length self.now.bytes }
         ensures { result ≡ take 4 (drop at self.now.bytes) }
     {
-        let bytes = self.bytes();
-        [bytes[at], bytes[at + 1], bytes[at + 2], bytes[at + 3]]
+        match self.bytes()[at..].split_first_chunk::<4>() {
+            Some((word, _)) => *word,
+            None => [0; 4],
+        }
     }
 
     /// Writes the four bytes at `at`, which is a multiple of 4.
