@@ -15,8 +15,7 @@ pub fn read_word(part: &Part, at: usize) -> u32
     requires inside { at + 4 ≤ length part.now.bytes }
     ensures { result ≡ word_at at part.now.bytes }
 {
-    let bytes = part.word(at);
-    BigEndian::read_u32(&bytes)
+    u32::from_be_bytes(part.word(at))
 }
 
 /// Writes the word at `at`, which is a multiple of 4.
