@@ -1,8 +1,10 @@
 //! The store of a heap's zone.
 
 ghost use Rattle.std.specs.Prelude.{◌≡◌};
+ghost use Rattle.heap_calls.specs.Inner.Numbered.{state_of};
 ghost use Rattle.heap_calls.specs.Stored.{IsNamed};
 
+use crate::anchor::Anchor;
 use crate::heap::Heap;
 use block_store::BlockStore;
 
@@ -14,6 +16,14 @@ impl<S: BlockStore> Heap<S> {
         ensures window { (S.rest result.now).window ≡ self.now.window }
     {
         &self.store
+    }
+
+    /// Returns the store of the heap's zone, and what the heap's numbers stand for in that store, in the order of the
+    /// numbers, both to be read: the heap's zone is the store's, with its blocks named by these numbers.
+    pub fn numbered(&self) -> (&S, &[Anchor])
+        ensures { self.now.heap ≡ state_of (S.zone result.0.now) (S.rest result.0.now).slots result.1.now }
+    {
+        (&self.store, &self.names)
     }
 
     /// Drops the heap, and returns its store as it is, so that a store that lies in a part of a region can be closed.
