@@ -41,7 +41,7 @@ pub fn give_in_region<W: Watch>(
 {
     let mut region = region;
     let len = region.len();
-    let zone = RawZone::new(region.cut(0, len));
+    let zone = RawZone::new(alloc, region.cut(0, len));
     let (given, zone) = give_in(alloc, zone, resources, script, steps, quit, watch);
     region.join(zone.into_part());
     (given, region)

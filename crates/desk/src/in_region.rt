@@ -61,6 +61,6 @@ pub fn run<W: Watch>(
     ensures home { result.1.out ≡ [] }
     ensures length { length result.1.bytes ≡ length region.bytes }
 {
-    let (outcome, zones) = run_with(alloc, job, RegionZones::new(region), watch);
+    let (outcome, zones) = run_with(alloc, job, RegionZones::new(alloc, region), watch);
     (outcome, zones.into_region())
 }

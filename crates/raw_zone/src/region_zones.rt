@@ -6,7 +6,7 @@ ghost use Rattle.block_store.specs.declared.measures.TheConstants.{GREATEST_ZONE
 use crate::zone::RawZone;
 use block_store::{GREATEST_ZONE, ZoneMaker};
 use raw_region::Region;
-use std::alloc::AllocError;
+use std::alloc::{AllocError, Global};
 use windows::Window;
 
 /// A region in whose parts zones are opened. The bytes that a zone leaves in its window when the zone is closed stay
@@ -14,24 +14,28 @@ use windows::Window;
 ///
 /// *Inside Macintosh: Processes*, chapter 1, and *Memory*, chapter 1, "Organization of Memory in an Application Partition".
 pub struct RegionZones {
+    alloc: Global,
     region: Region,
     ghost small: { length region.bytes ≤ GREATEST_ZONE },
 }
 
 impl RegionZones {
     /// Makes a maker of zones of a region.
-    pub fn new(region: Region) -> RegionZones
+    pub fn new(alloc: Global, region: Region) -> RegionZones
         requires { length region.bytes ≤ GREATEST_ZONE }
         ensures { result.region ≡ region }
     {
-        RegionZones { region }
+        RegionZones { alloc, region }
     }
 
     /// Returns the region as it is. The parts of zones that are still open are still in use.
     pub fn into_region(self) -> Region
         ensures { result ≡ self.region }
     {
-        let RegionZones { region } = self;
+        let RegionZones {
+            alloc: _alloc,
+            region,
+        } = self;
         region
     }
 }
@@ -55,7 +59,7 @@ impl ZoneMaker for RegionZones {
 
     fn open(&mut self, window: Window) -> Result<RawZone, AllocError> {
         let part = self.region.cut(window.at as usize, window.len as usize);
-        Ok(RawZone::new(part))
+        Ok(RawZone::new(self.alloc, part))
     }
 
     fn close(&mut self, _window: Window, store: RawZone) {

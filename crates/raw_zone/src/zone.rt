@@ -12,7 +12,7 @@ use block_store::{
     room_above_in, run_has_free_in, run_of_in,
 };
 use raw_region::Part;
-use std::alloc::AllocError;
+use std::alloc::{AllocError, Global};
 use std::marker::Model;
 use zone_bytes::{
     Edges, Landmarks, PackedRun, SlotBlock, add_masters, block_of_slot, carve,
@@ -83,7 +83,7 @@ impl RawZone {
     /// Makes a fresh zone, whatever the bytes were: a block of 64 master pointers, and one free block.
     ///
     /// *Inside Macintosh: Memory*, chapter 2, "Heap Zones".
-    pub fn new(mut part: Part) -> RawZone
+    pub fn new(alloc: Global, mut part: Part) -> RawZone
         requires even { length part.bytes % UNIT ≡ 0 }
         requires low { LEAST_ZONE ≤ length part.bytes }
         requires high { length part.bytes ≤ GREATEST_ZONE }
@@ -97,7 +97,8 @@ impl RawZone {
     {
         let end = part.len() as u32;
         make_fresh(&mut part, end);
-        let marks = Landmarks::of(&part);
+        let marks = Landmarks::of(alloc, &part);
+        let edges = Edges::new(alloc, &part);
         RawZone {
             part,
             first: HEADER_SIZE,
@@ -106,7 +107,7 @@ impl RawZone {
             most_purgeable: 0,
             moves: 0,
             marks,
-            edges: Edges::new(),
+            edges,
         }
     }
 

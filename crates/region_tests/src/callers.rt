@@ -45,7 +45,7 @@ fn a_header_is_written(rt: HostRuntime) -> Result<(), Fail> {
 #[test]
 fn a_zone_is_opened_in_a_part(rt: HostRuntime) -> Result<(), Fail> {
     let mut region = Region::new(rt.alloc(), 1024)?;
-    let zone = RawZone::new(region.cut(0, 1024));
+    let zone = RawZone::new(rt.alloc(), region.cut(0, 1024));
     assert_eq!(rt; zone.free_bytes(), 752);
     assert_eq!(rt; zone.image().len(), 1024);
     region.join(zone.into_part());

@@ -15,7 +15,7 @@ Starts place at (b ∷ above) = (place ≡ at) ⊎ Starts place (at + size b) ab
 -- One of the blocks from the place `at` on begins at each edge.
 -- See decision 150 (packing notes edges, and landmarks are laid by them).
 abbrev pub AreEdges : Edges → ℕ → List Block → Type 0
-AreEdges edges at blocks = (number : ℕ) → number < edges.count → Starts (get_or edges.places number 0) at blocks
+AreEdges edges at blocks = (number : ℕ) → number < edges.count → Starts (get_or edges.places.items number 0) at blocks
 
 abbrev pub IsMover : Block → Type 0
 IsMover b = is_mover b ≡ true

@@ -9,7 +9,7 @@ use Rattle.zone_bytes.specs.declared.keeping.Landmarks.{Landmarks}
 
 -- The landmarks are those of the zone, and the tops are those of the landmarks' groups.
 abbrev pub AreMarked : Landmarks → List Block → Type 0
-AreMarked landmarks zone = AreMarks above_all zone landmarks.marks × AreTops landmarks.tops landmarks.marks
+AreMarked landmarks zone = AreMarks above_all zone landmarks.marks.items × AreTops landmarks.tops.items landmarks.marks.items
 
 -- So they are, and no block below the place that is kept with them may be purged.
 abbrev pub AreOf : Landmarks → List Block → Type 0

@@ -4,26 +4,33 @@ ghost use Rattle.std.specs.Prelude.{◌≡◌, ◌+◌, ◌∷◌, ◌++◌, [],
 ghost use Rattle.block_store.specs.Block.{Block, sizes};
 ghost use Rattle.zone_bytes.specs.Edges.{AreEdges, Starts};
 
-use crate::paging::LANDMARKS;
+use crate::landmark::GROUP;
+use crate::paging::groups_of;
+use raw_region::Part;
+use std::alloc::Global;
 
 /// Places at which relocatable blocks of a run begin once the run is packed: for each page above the run's first page,
 /// the lowest such place at or above the page's bottom. The walk that moves the blocks notes these edges, so that
-/// landmarks are laid without another walk.
+/// landmarks are laid without another walk. Where the host refuses their room, no edges are noted.
 #[derive(Drop)]
 pub struct Edges {
-    places: [u32; LANDMARKS],
+    places: Vec<u32>,
     count: usize,
     page: u32,
     bottom: u32,
 }
 
 impl Edges {
-    /// Makes a list of no edges.
-    pub fn new() -> Edges
+    /// Makes a list of no edges, with room for as many as the zone has landmarks.
+    pub fn new(alloc: Global, part: &Part) -> Edges
         ensures { (base : ℕ) → AreEdges result base [] }
     {
+        let places = match Vec::from_elem(alloc, 0, groups_of(part) * GROUP) {
+            Ok(places) => places,
+            Err(_) => Vec::new(alloc),
+        };
         Edges {
-            places: [0; LANDMARKS],
+            places,
             count: 0,
             page: 0,
             bottom: u32::MAX,

@@ -1,6 +1,6 @@
 //! The landmarks that a zone keeps.
 
-ghost use Rattle.std.specs.Prelude.{◌≡◌, ◌≤◌, ◌<◌, ◌⊎◌, ◌++◌, ℕ, List, [], Some};
+ghost use Rattle.std.specs.Prelude.{◌≡◌, ◌≤◌, ◌<◌, ◌⊎◌, ◌++◌, ℕ, List, [], Some, IfOk};
 ghost use Rattle.block_store.specs.Block.{Block, free_sum, is_room, sizes};
 ghost use Rattle.block_store.specs.Compact.{largest_run};
 ghost use Rattle.block_store.specs.Find.{FindsLowest, FindsLowestRun};
@@ -17,67 +17,77 @@ use crate::edges::Edges;
 use crate::finding_room::find_room_by_marks;
 use crate::finding_runs::find_run_by_marks;
 use crate::going::{first_going, lowest_after, lowest_packed};
-use crate::grouping::{raise_top, renew_tops};
-use crate::landmark::{GROUP, Landmark, Tally, UNKNOWN};
+use crate::grouping::renew_tops;
+use crate::landmark::{GROUP, Landmark, UNKNOWN};
 use crate::largest::largest_run_by_marks;
 use crate::marking::{
     NextMark, change_marks, find_by_marks, lay_edges, lay_marks, mark_below, place_of_mark,
 };
 use crate::measuring::within;
-use crate::paging::{LANDMARKS, LEAST_PAGE, page_bytes, page_end};
+use crate::paging::{groups_of, page_bytes, page_end};
 use crate::placing::size_at;
 use block_store::Sparing;
 use raw_region::Part;
-
-/// The number of groups of landmarks of a zone. The search for room goes over all of them.
-const GROUPS: usize = LANDMARKS / GROUP;
+use std::alloc::{AllocError, Global};
 
 /// Landmarks of a zone: places at which blocks begin, one for each page of the zone's bytes. Each has a bound on the
 /// size of each free block up to the next landmark, and a tally of the blocks there: how many bytes are free, and
 /// whether a run ends there. Each group of landmarks has a bound on its free blocks. With them is kept a place below
-/// which no block may be purged. Landmarks lie beside the zone's bytes, and can be thrown away and made anew at any time.
+/// which no block may be purged. Landmarks lie in the host's memory, and can be thrown away and made anew at any time.
 #[derive(Drop)]
 pub struct Landmarks {
-    marks: [Landmark; LANDMARKS],
-    tops: [u32; GROUPS],
+    marks: Vec<Landmark>,
+    tops: Vec<u32>,
     page: u32,
     lowest: u32,
 }
 
 impl Landmarks {
-    /// Makes the landmarks of a zone, by one walk over the zone.
-    pub fn of(part: &Part) -> Landmarks
+    /// Makes the landmarks of a zone, by one walk over the zone. All room that they ever take is asked of the host here.
+    /// Where the host refuses it, there are none: each search then begins at the bottom, and finds the same.
+    pub fn of(alloc: Global, part: &Part) -> Landmarks
         requires sound { (first : ℕ) × (unused : ℕ) × IsSound part.now.bytes first unused }
         ensures { AreOf result (zone_in part.now.bytes) }
     {
-        let mut landmarks = Landmarks {
-            marks: [UNKNOWN; LANDMARKS],
-            tops: [0; GROUPS],
-            page: LEAST_PAGE,
-            lowest: 0,
+        let mut landmarks = match Landmarks::unlaid(alloc, part) {
+            Ok(landmarks) => landmarks,
+            Err(_) => Landmarks::none(alloc, part),
         };
-        landmarks.renew_all(part);
+        landmarks.renew(part, 0, part.len() as u32);
         landmarks
     }
 
-    /// Makes the landmarks those of another zone, whatever they were, by one walk over that zone. The landmarks for
-    /// which the zone has no pages stand at its end.
-    pub fn renew_all(&mut self, part: &Part)
+    /// Makes no landmarks.
+    fn none(alloc: Global, part: &Part) -> Landmarks
         requires sound { (first : ℕ) × (unused : ℕ) × IsSound part.now.bytes first unused }
-        ensures { AreOf self.new (zone_in part.now.bytes) }
+        ensures { AreOf result (zone_in part.now.bytes) }
     {
-        let end = part.len() as u32;
-        self.page = page_bytes(part);
-        self.lowest = 0;
-        self.marks.fill(Landmark {
-            at: end,
-            most: 0,
-            tally: Tally::Open(0),
-        });
-        self.tops.fill(0);
-        self.marks[0] = UNKNOWN;
-        raise_top(&mut self.tops, 0, UNKNOWN.most);
-        self.renew(part, 0, end);
+        Landmarks {
+            marks: Vec::new(alloc),
+            tops: Vec::new(alloc),
+            page: page_bytes(part),
+            lowest: 0,
+        }
+    }
+
+    /// Makes landmarks that all stand at the bottom, with nothing known of the blocks.
+    ///
+    /// # Errors
+    ///
+    /// The host is out of memory.
+    fn unlaid(alloc: Global, part: &Part) -> Result<Landmarks, AllocError>
+        requires sound { (first : ℕ) × (unused : ℕ) × IsSound part.now.bytes first unused }
+        ensures { IfOk result (λ landmarks. AreOf landmarks (zone_in part.now.bytes)) }
+    {
+        let groups = groups_of(part);
+        let marks = Vec::from_elem(alloc, UNKNOWN, groups * GROUP)?;
+        let tops = Vec::from_elem(alloc, UNKNOWN.most, groups)?;
+        Ok(Landmarks {
+            marks,
+            tops,
+            page: page_bytes(part),
+            lowest: 0,
+        })
     }
 
     /// Returns the page of a place, near whose landmark a search by place begins.
@@ -251,9 +261,9 @@ impl Landmarks {
 
     /// Returns the next landmark to be laid anew, which is to stand where it stands.
     fn next_at(&self, index: usize) -> NextMark
-        ensures laid { (zone : List Block) → AreMarked self.now zone → AreLaid result.index result.at zone self.now.marks }
+        ensures laid { (zone : List Block) → AreMarked self.now zone → AreLaid result.index result.at zone self.now.marks.items }
     {
-        let index = LANDMARKS.min(index);
+        let index = self.marks.len().min(index);
         NextMark {
             index,
             at: place_of_mark(&self.marks, index),
@@ -264,8 +274,8 @@ impl Landmarks {
     /// stand. The landmarks from the index `first` up to the next one were laid before.
     fn lay(&mut self, part: &Part, next: NextMark, first: usize, page: u32, hi: u32)
         requires sound { (first : ℕ) × (unused : ℕ) × IsSound part.now.bytes first unused }
-        requires laid { AreLaid next.index next.at (zone_in part.now.bytes) self.old.marks }
-        requires tops { AreTops self.old.tops self.old.marks }
+        requires laid { AreLaid next.index next.at (zone_in part.now.bytes) self.old.marks.items }
+        requires tops { AreTops self.old.tops.items self.old.marks.items }
         ensures marks { AreMarked self.new (zone_in part.now.bytes) }
         ensures lowest { self.new.lowest ≡ self.old.lowest }
     {

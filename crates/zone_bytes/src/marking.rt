@@ -215,6 +215,7 @@ pub fn change_marks(
     requires tops { AreTops tops.old marks.old }
     ensures marks { AreMarks above_all (zone_in part.now.bytes) marks.new }
     ensures tops { AreTops tops.new marks.new }
+    ensures long { length marks.new ≡ length marks.old }
 {
     let last = index_above(marks, hi, likely);
     let mut first = last;
@@ -298,6 +299,7 @@ pub fn lay_edges(
     requires tops { AreTops tops.old marks.old }
     ensures laid { AreLaid result.index result.at (zone_in part.now.bytes) marks.new }
     ensures tops { AreTops tops.new marks.new }
+    ensures long { length marks.new ≡ length marks.old }
 {
     let last = marks.len().saturating_sub(1);
     let mut next = from;
@@ -332,6 +334,7 @@ pub fn lay_marks(
     requires tops { AreTops tops.old marks.old }
     ensures marks { AreMarks above_all (zone_in part.now.bytes) marks.new }
     ensures tops { AreTops tops.new marks.new }
+    ensures long { length marks.new ≡ length marks.old }
 {
     let mut at = next.at;
     let mut end = page_end(next.index, page);

@@ -36,25 +36,21 @@ starts-begins p x (b ∷ blocks) (inr s) = inr (starts-begins p (x + size b) blo
 
 pub edges-more : (e : Edges) (base : ℕ) (below above : List Block) → AreEdges e base below
     → AreEdges e base (below ++ above)
-edges-more e base below above a n l = starts-left (get_or e.places n 0) base below above (a n l)
+edges-more e base below above a n l = starts-left (get_or e.places.items n 0) base below above (a n l)
 
 -- one more edge
-pub edges-next : (e now : Edges) (place base : ℕ) (blocks : List Block) → now.places ≡ set e.places e.count place
-    → now.count ≡ e.count + 1 → e.count < length e.places → Starts place base blocks → AreEdges e base blocks
-    → AreEdges now base blocks
-edges-next e now place base blocks p c l s a n u = subst (λ k. Starts (get_or k n 0) base blocks) (sym p)
-    (elim (eqb_tells n e.count) [
-      | inl t ↦ subst (λ k. Starts k base blocks) (sym (ap (λ k. get_or (set e.places e.count place) k 0) t.1
-          ∙ get_or-set_same e.places e.count place 0 l)) s
-      | inr t ↦ subst (λ k. Starts k base blocks) (sym (get_or-set_other e.places e.count n place 0 t.1))
-          (a n (let d = apart n t.1 in omega (arith, d)))
-    ])
+pub edges-next : (e : Edges) (place base : ℕ) (blocks : List Block) → e.count < length e.places.items
+    → Starts place base blocks → AreEdges e base blocks → (n : ℕ) → n < e.count + 1
+    → Starts (get_or (set e.places.items e.count place) n 0) base blocks
+edges-next e place base blocks l s a n u = elim (eqb_tells n e.count) [
+  | inl t ↦ subst (λ k. Starts k base blocks) (sym (ap (λ k. get_or (set e.places.items e.count place) k 0) t.1
+      ∙ get_or-set_same e.places.items e.count place 0 l)) s
+  | inr t ↦ subst (λ k. Starts k base blocks) (sym (get_or-set_other e.places.items e.count n place 0 t.1))
+      (a n (lower n t.1 u))
+]
   where
-    apart : (m : ℕ) → (m ≡ e.count → ⊥) → m ≡ n → m < e.count
-    apart m d same = lower m d (omega (arith, same, u, c))
-      where
-        lower : (k : ℕ) → (k ≡ e.count → ⊥) → k < e.count + 1 → k < e.count
-        lower k f v = grind (arith, f, v)
+    lower : (k : ℕ) → (k ≡ e.count → ⊥) → k < e.count + 1 → k < e.count
+    lower k f v = grind (arith, f, v)
 
 -- blocks that may move have no Free byte and end no run
 mover-free : (b : Block) → IsMover b → free_of b ≡ 0

@@ -280,40 +280,18 @@ begins-end x [] = omega arith
 begins-end x (b ∷ blocks) = inr (subst (λ p. Begins p (x + size b) blocks)
     (let e : x + size b + sizes blocks ≡ x + (size b + sizes blocks) = omega arith in e) (begins-end (x + size b) blocks))
 
--- landmarks that all stand where the zone ends
-abbrev last_at : ℕ → Landmark
-last_at end = record { at = end; most = 0; tally = tally.Open 0 }
-
-end-marks : (zone : List Block) → sizes zone ≤ 134217728 → (end : ℕ) → end ≡ sizes zone → (n : ℕ)
-    → AreMarks 4294967295 zone (replicate n (last_at end))
-    × (end ≤ next_of 4294967295 (replicate n (last_at end)))
-end-marks zone l end e zero = (tt, omega (arith, l, e))
-end-marks zone l end e (suc n) =
-    let r = end-marks zone l end e n in (
-      (
-        subst (λ p. Begins p 0 zone) (let k : 0 + sizes zone ≡ end = omega (arith, e) in k) (begins-end 0 zone),
-        at-each (AtMost 0 end (next_of 4294967295 (replicate n (last_at end)))) 0 zone
-            (λ p b _ u v _. let f = free-size b in omega (arith, f, u, v, e)),
-        alike-as (tally.Open 0) _ [] (none-below end (next_of 4294967295 (replicate n (last_at end))) 0 zone
-            (omega (arith, e))) (refl, refl),
-        r.1,
-        r.0,
-      ),
-      omega arith,
-    )
-
--- and those of which the first says nothing
-pub unlaid-marks : (zone : List Block) → sizes zone ≤ 134217728 → (end : ℕ) → end ≡ sizes zone → (n : ℕ)
-    → AreMarks 4294967295 zone (set (replicate n (record { at = end; most = 0; tally = tally.Open 0 })) 0
-    (record { at = 0; most = 4294967295; tally = tally.Unknown }))
-unlaid-marks zone l end e zero = tt
-unlaid-marks zone l end e (suc n) = (
+-- landmarks that all stand at the bottom, with nothing known
+pub unlaid-marks : (zone : List Block) → sizes zone ≤ 134217728 → (n : ℕ)
+    → AreMarks 4294967295 zone (replicate n (record { at = 0; most = 4294967295; tally = tally.Unknown }))
+unlaid-marks zone l zero = tt
+unlaid-marks zone l (suc n) = (
   begins-here 0 zone,
-  at-each (AtMost 4294967295 0 (next_of 4294967295 (replicate n (last_at end)))) 0 zone
+  at-each (AtMost 4294967295 0 (next_of 4294967295
+      (replicate n (record { at = 0; most = 4294967295; tally = tally.Unknown })))) 0 zone
       (λ p b _ u _ _. let f = free-size b in omega (arith, f, u, l)),
   tt,
   omega arith,
-  (end-marks zone l end e n).0,
+  unlaid-marks zone l n,
 )
 
 pub replaced-order : (lo hi : ℕ) (old new : List Block) → Replaced lo hi old new → lo ≤ hi

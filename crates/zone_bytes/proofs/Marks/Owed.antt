@@ -74,7 +74,7 @@ module _ (xs : List ℕ) (first unused free most : ℕ) (l : Landmarks) where
       → IsMarked xs first unused free most l
   with-block below above b c zone k e was s f r g a m = with-marks k
       (subst (AreOf l) (sym e) (let o = subst (AreOf l) was a in (
-        (marks-same 4294967295 l.marks below above b c s f r o.0.0, o.0.1),
+        (marks-same 4294967295 l.marks.items below above b c s f r o.0.0, o.0.1),
         stays-same l.lowest 0 below above b c s g o.1,
       )))
       (subst (λ z. purgeable_sum z ≤ most) (sym e) m)

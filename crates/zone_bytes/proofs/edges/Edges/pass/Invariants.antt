@@ -8,4 +8,4 @@ invariant-loop-self l = (base : ℕ) (before : List Block) (block : Block) → b
     → AreEdges l.initial.self base before → AreEdges l.self base (before ++ block ∷ [])
 
 abbrev pub decreases-loop-self : goal.decreases-loop-self
-decreases-loop-self l = length l.self.places - l.self.count
+decreases-loop-self l = length l.self.places.items - l.self.count
