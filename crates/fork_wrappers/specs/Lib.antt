@@ -1,0 +1,4 @@
+pub mod Checksum
+pub mod Entries
+pub mod MacBinary
+pub mod Unwrapped

@@ -1,0 +1,14 @@
+//! The resource fork inside a wrapped file: AppleSingle, AppleDouble and MacBinary.
+#![tactic(auto)]
+
+mod checksum;
+mod entries;
+mod fault;
+mod finding;
+mod mac_binary;
+mod numbers;
+mod wrapping;
+
+pub use fault::{EntriesFault, MacBinaryFault, WrapFault};
+pub use finding::unwrap;
+pub use wrapping::{Unwrapped, Wrapping};
