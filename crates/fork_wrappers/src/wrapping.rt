@@ -22,7 +22,7 @@ pub enum Wrapping {
 impl fmt::Display for Wrapping {
     fn fmt<W: fmt::Write>(&self, f: &mut fmt::Formatter<W>) -> fmt::Result {
         f.write_str(match self {
-            Wrapping::Plain => "resource fork",
+            Wrapping::Plain => "plain",
             Wrapping::AppleSingle => "AppleSingle",
             Wrapping::AppleDouble => "AppleDouble",
             Wrapping::MacBinaryI => "MacBinary I",
