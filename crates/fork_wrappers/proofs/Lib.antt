@@ -1,2 +1,3 @@
+pub mod MadeEntries
 pub mod Walking
 pub mod Worked

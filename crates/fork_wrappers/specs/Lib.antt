@@ -2,3 +2,4 @@ pub mod Checksum
 pub mod Entries
 pub mod MacBinary
 pub mod Unwrapped
+pub mod Made

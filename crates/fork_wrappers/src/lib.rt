@@ -5,10 +5,12 @@ mod checksum;
 mod entries;
 mod fault;
 mod finding;
+mod laws;
 mod mac_binary;
 mod numbers;
 mod wrapping;
 
 pub use fault::{EntriesFault, MacBinaryFault, WrapFault};
 pub use finding::unwrap;
+pub use laws::a_fork_among_entries_is_found;
 pub use wrapping::{Unwrapped, Wrapping};
