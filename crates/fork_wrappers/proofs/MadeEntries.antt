@@ -1,38 +1,21 @@
-use Rattle.std.proofs.Common.{◌≡◌, ℕ, ◌+◌, ◌*◌, ◌<◌, ◌≤◌, ◌^◌, Bool, true, false, not, ◌&&◌, ◌||◌, cond, List, [], ◌∷◌, ◌++◌, length}
-use Rattle.std.proofs.Common.{take, drop, refl, sym, ◌∙◌, ap, arith, append_assoc, length-append}
+use Rattle.std.proofs.Common.{◌≡◌, ℕ, ◌+◌, ◌*◌, ◌<◌, ◌^◌, Bool, true, false, not, ◌&&◌, ◌||◌, cond, List, [], ◌∷◌, ◌++◌, length}
+use Rattle.std.proofs.Common.{take, drop, refl, ◌∙◌, ap, arith, append_assoc, length-append}
 use Rattle.std.specs.Prelude.{Ok, filter, ◌==◌, nat_lt, nat_le}
 use Rattle.std.specs.List.{list_all}
 use Rattle.std.proofs.Math.Seq.{drop-append_seam, drop-append-add}
-use Rattle.std.proofs.lemmas.List.{append-nil}
-use Rattle.std.proofs.Math.Seq.{take-append_seam}
-use Rattle.std.proofs.lemmas.Bool.{le-leb, ltb-true}
+use Rattle.std.proofs.lemmas.Bool.{le-leb}
 use Rattle.byteorder.specs.Numbers.{big_number-reads_back}
 use Rattle.byteorder.specs.Endian.{big_bytes}
 use Rattle.fork_format.specs.Fork.{number, parts_fit, is_fork, offsets}
 use Rattle.fork_wrappers.specs.Entries.{fork_in_entries, only_entry, fork_named, entry_part, entry_fits, is_fork_entry}
+use Rattle.fork_wrappers.proofs.Tests.{past, here, not_less, all_of}
 use Rattle.fork_wrappers.specs.Made.{header, entry, apple_file, apple_single, apple_double}
 use Rattle.fork_wrappers.specs.Unwrapped.{of_wrapper, fork_in, unwrapped}
 use Rattle.fork_wrappers.specs.declared.fault.WrapFault.TheVariants as fault
 
--- a test that fails, and one that holds
-past : {A : Type 0} (t : Bool) (a b : A) → t ≡ false → cond t a b ≡ b
-past false a b h = refl
-past true a b h = cc
-
-here : {A : Type 0} (t : Bool) (a b : A) → t ≡ true → cond t a b ≡ a
-here true a b h = refl
-here false a b h = cc
-
 last_false : (t : Bool) → (t && false) ≡ false
 last_false true = refl
 last_false false = refl
-
-not_less : (m n : ℕ) → n ≤ m → nat_lt m n ≡ false
-not_less m n h = cases (nat_lt m n) refl
-  where
-    cases : (t : Bool) → nat_lt m n ≡ t → t ≡ false
-    cases false e = refl
-    cases true e = absurd (let less : m < n = ltb-true m n e in omega arith)
 
 -- what the header and the two entries of a file say
 record Says (bytes info fork : List ℕ) : Type 0 where
@@ -58,9 +41,6 @@ both_hold : (s t : Bool) → s ≡ true → t ≡ true → not (s && (t && true)
 both_hold true true e f = refl
 both_hold true false e f = cc
 both_hold false t e f = cc
-
-all_of : (xs : List ℕ) → take (length xs) xs ≡ xs
-all_of xs = ap (take (length xs)) (sym (append-nil xs)) ∙ take-append_seam xs []
 
 said_fork : (bytes info fork : List ℕ) → Says bytes info fork → fork_in_entries bytes ≡ Ok fork
 said_fork bytes info fork s =

@@ -3,6 +3,7 @@ use Rattle.std.specs.Prelude.{Ok, Err}
 use Rattle.fork_format.proofs.Vectors.{hi_fork}
 use Rattle.fork_wrappers.specs.Checksum.{with_bits, checksum}
 use Rattle.fork_wrappers.specs.MacBinary.{padded}
+use Rattle.fork_wrappers.specs.Made.{apple_double, mac_binary, TellsForks}
 use Rattle.fork_wrappers.specs.Unwrapped.{wrapping_of, unwrapped}
 use Rattle.fork_wrappers.specs.declared.wrapping.Wrapping.TheVariants as wrapping
 use Rattle.fork_wrappers.specs.declared.fault.WrapFault.TheVariants as wrap_fault
@@ -32,6 +33,10 @@ abbrev double : List ℕ
 double = (0 ∷ 5 ∷ 22 ∷ 7 ∷ 0 ∷ 2 ∷ 0 ∷ 0 ∷ []) ++ (77 ∷ 97 ∷ 99 ∷ 32 ∷ 79 ∷ 83 ∷ 32 ∷ 88 ∷ []) ++ replicate 8 32
     ++ (0 ∷ 2 ∷ []) ++ (0 ∷ 0 ∷ 0 ∷ 9 ∷ 0 ∷ 0 ∷ 0 ∷ 50 ∷ 0 ∷ 0 ∷ 0 ∷ 32 ∷ [])
     ++ (0 ∷ 0 ∷ 0 ∷ 2 ∷ 0 ∷ 0 ∷ 0 ∷ 82 ∷ 0 ∷ 0 ∷ 0 ∷ 3 ∷ []) ++ replicate 32 7 ++ (128 ∷ 10 ∷ 255 ∷ [])
+
+-- the same with an empty filler, by its parts
+double_made : apple_double (replicate 32 7) (128 ∷ 10 ∷ 255 ∷ []) ≡ take 8 double ++ replicate 16 0 ++ drop 24 double
+double_made = refl
 
 in_double : unwrapped double ≡ Ok (128 ∷ 10 ∷ 255 ∷ [])
 in_double = refl
@@ -76,6 +81,13 @@ first = header (replicate 26 0) ++ forks
 
 in_first : (unwrapped first ≡ Ok (128 ∷ 10 ∷ 255 ∷ [])) × (wrapping_of first ≡ wrapping.MacBinaryI)
 in_first = (refl, refl)
+
+-- the same by its parts
+first_made : mac_binary (header (replicate 26 0)) (1 ∷ 2 ∷ 3 ∷ 4 ∷ 5 ∷ []) (128 ∷ 10 ∷ 255 ∷ []) ≡ first
+first_made = refl
+
+first_tells : TellsForks (header (replicate 26 0)) (1 ∷ 2 ∷ 3 ∷ 4 ∷ 5 ∷ []) (128 ∷ 10 ∷ 255 ∷ [])
+first_tells = record { size = refl; data_told = refl; fork_told = refl; no_secondary = refl }
 
 -- its forks cut off
 first_cut : (unwrapped (take 132 first) ≡ Err (wrap_fault.MacBinary mac_binary_fault.DataForkOutside))
