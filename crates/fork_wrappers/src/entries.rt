@@ -86,7 +86,7 @@ fn with_entry(bytes: &[u8], at: usize, found: Option<usize>) -> Result<Option<us
 }
 
 /// Returns the entry of the resource fork among `count` entries, if there is one.
-#[tactic(auto, using(crate::proofs::Walking::goes_on, crate::proofs::Walking::stops, crate::proofs::Walking::ends, crate::proofs::Walking::passes))]
+#[tactic(auto, using(crate::proofs::Walking::ends))]
 fn fork_entry_of(bytes: &[u8], count: usize) -> Result<Option<usize>, EntriesFault>
     requires room { 26 + 12 * count ≤ length bytes.now }
     requires fits { IsTrue (list_all (entry_fits bytes.now) (offsets 26 12 count)) }
