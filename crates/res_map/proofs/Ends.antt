@@ -3,6 +3,7 @@ use Rattle.std.proofs.Common.{List, [], ◌∷◌, ◌++◌, length, map, take, 
 use Rattle.std.proofs.Common.{zero, subst}
 use Rattle.std.specs.Prelude.{◌==◌, is_some, is_none, slice_get, option_map}
 use Rattle.std.specs.List.{insert, remove, list_any}
+use Rattle.std.proofs.lemmas.List.Edits.{insert_end}
 use Rattle.std.proofs.lemmas.List.{map_more, map_push, length-map, length-take-le}
 use Rattle.std.proofs.lemmas.Option.{slice_get-map, slice_get-get_or}
 use Rattle.res_map.specs.Map.{Reference, IsOrdered, is_of, added}
@@ -108,6 +109,15 @@ map-insert f [] zero y = refl
 map-insert f [] (suc i) y = refl
 map-insert f (x ∷ xs) zero y = refl
 map-insert f (x ∷ xs) (suc i) y = ap (λ l. f x ∷ l) (map-insert f xs i y)
+
+pub put_seen : (old new : List StoredReference) (n : ℕ) (x : StoredReference) → new ≡ insert old n x
+    → seen new ≡ insert (seen old) n (view_reference x)
+put_seen old new n x is = ap seen is ∙ map-insert view_reference old n x
+
+pub put_seen_last : (old new : List StoredReference) (n : ℕ) (x : StoredReference) → n ≡ length old → new ≡ old ++ x ∷ []
+    → seen new ≡ insert (seen old) n (view_reference x)
+put_seen_last old new n x is pushed =
+    put_seen old new n x (pushed ∙ sym (insert_end old x) ∙ ap (λ m. insert old m x) (sym is))
 
 pub behind_added : (old new : List StoredReference) (end : ℕ) (x : StoredReference) → new ≡ insert old end x
     → end_of x.kind (seen old) ≡ Some end → seen new ≡ added (view_reference x) (seen old)

@@ -8,3 +8,5 @@ mod Short
 pub mod Anew
 pub mod Runs
 pub mod Contents
+pub mod Places
+mod Rows

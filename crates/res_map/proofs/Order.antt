@@ -46,6 +46,12 @@ ordered-set f keeps kinds m old new i seen inside set is =
     cases None e inside set = absurd (get-inside old i inside e)
     cases (Some r) e inside set = ordered-kinds kinds old new (ap kinds_of set ∙ kinds-set f keeps old i r e) is
 
+pub ordered-changed : (f : Reference → Reference) → ((r : Reference) → (f r).kind ≡ r.kind) → (kinds : List ℕ)
+    (old new : List Reference) (i : ℕ) → i < length old → IfSome (slice_get old i) (λ r. new ≡ slice_set old i (f r))
+    → IsOrdered kinds old → IsOrdered kinds new
+ordered-changed f keeps kinds old new i inside set =
+    ordered-set f keeps kinds (record { area = []; attrs = 0; references = old }) old new i refl inside set
+
 -- the same of what is kept of a reference
 kinds-seen : (refs : List StoredReference) (i : ℕ) (x y : StoredReference) → i < length refs → x ≡ get_or refs i x
     → y.kind ≡ x.kind → kinds_of (map view_reference (slice_set refs i y)) ≡ kinds_of (map view_reference refs)

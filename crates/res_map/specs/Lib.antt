@@ -3,3 +3,4 @@ pub mod Map
 pub mod Runs
 pub mod View
 pub mod Inner
+pub mod Index

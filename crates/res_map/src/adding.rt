@@ -2,13 +2,15 @@
 
 ghost use Rattle.std.specs.Prelude.{◌≡◌, ◌<◌, ◌≤◌, ◌==◌, not, filter, map, length, Some, None, List, ℕ};
 ghost use Rattle.std.specs.Prelude.{IfOk, OnOk, OnErr};
-ghost use Rattle.std.specs.List.{remove};
-ghost use Rattle.res_map.specs.Map.{IsOrdered, added, new_reference};
+ghost use Rattle.std.specs.List.{insert, remove};
+ghost use Rattle.res_map.specs.Map.{IsOrdered, is_resource, added, new_reference};
+ghost use Rattle.res_map.specs.Index.{IsIndex};
 ghost use Rattle.res_map.specs.Inner.{end_of};
 ghost use Rattle.res_map.specs.View.{view_reference};
 
 use crate::changing::name_of;
-use crate::search::end_of;
+use crate::index::{Row, enter, leave, row_at};
+use crate::search::{end_of, place_of};
 use crate::stored::{Rest, StoredReference};
 use mac_words::{Attrs, Name};
 use std::alloc::{AllocError, Global};
@@ -43,17 +45,19 @@ fn put_behind(
     refs: &mut Vec<StoredReference>,
     end: usize,
     new: StoredReference,
-) -> Result<(), AllocError>
+) -> Result<usize, AllocError>
     requires inside { end ≤ length refs.old.items }
     requires end { end_of new.kind (map view_reference refs.old.items) ≡ Some end }
     ensures added { OnOk result (map view_reference refs.new.items
         ≡ added (view_reference new) (map view_reference refs.old.items)) }
+    ensures put { IfOk result (λ place. (place ≤ length refs.old.items)
+        × (map view_reference refs.new.items ≡ insert (map view_reference refs.old.items) place (view_reference new))) }
     ensures kept { OnErr result (map view_reference refs.new.items ≡ map view_reference refs.old.items) }
     ensures ordered { (kinds : List ℕ) → IsOrdered kinds (map view_reference refs.old.items)
         → IsOrdered kinds (map view_reference refs.new.items) }
 {
     refs.insert(end, new)?;
-    Ok(())
+    Ok(end)
 }
 
 /// Adds the first reference of a type as the last of all, and its type as the last of the types.
@@ -61,29 +65,34 @@ fn put_last(
     kinds: &mut Vec<u32>,
     refs: &mut Vec<StoredReference>,
     new: StoredReference,
-) -> Result<(), AllocError>
+) -> Result<usize, AllocError>
     requires { end_of new.kind (map view_reference refs.old.items) ≡ None }
     ensures added { OnOk result (map view_reference refs.new.items
         ≡ added (view_reference new) (map view_reference refs.old.items)) }
+    ensures put { IfOk result (λ place. (place ≤ length refs.old.items)
+        × (map view_reference refs.new.items ≡ insert (map view_reference refs.old.items) place (view_reference new))) }
     ensures kept { OnErr result (map view_reference refs.new.items ≡ map view_reference refs.old.items) }
     ensures ordered { IsOrdered kinds.old.items (map view_reference refs.old.items)
         → IsOrdered kinds.new.items (map view_reference refs.new.items) }
 {
     let kind = new.kind;
+    let end = refs.len();
     kinds.reserve(1)?;
     refs.push(new)?;
     kinds.push_reserved(kind);
-    Ok(())
+    Ok(end)
 }
 
 /// Adds a reference after the last one of its type; the first of a type is added as the last of all.
-pub fn put_in(
+fn put_in(
     kinds: &mut Vec<u32>,
     refs: &mut Vec<StoredReference>,
     new: StoredReference,
-) -> Result<(), AllocError>
+) -> Result<usize, AllocError>
     ensures added { OnOk result (map view_reference refs.new.items
         ≡ added (view_reference new) (map view_reference refs.old.items)) }
+    ensures put { IfOk result (λ place. (place ≤ length refs.old.items)
+        × (map view_reference refs.new.items ≡ insert (map view_reference refs.old.items) place (view_reference new))) }
     ensures kept { OnErr result (map view_reference refs.new.items ≡ map view_reference refs.old.items) }
     ensures ordered { IsOrdered kinds.old.items (map view_reference refs.old.items)
         → IsOrdered kinds.new.items (map view_reference refs.new.items) }
@@ -94,6 +103,28 @@ pub fn put_in(
     }
 }
 
+/// Adds a reference as `put_in` does, and tells the index of it.
+pub fn put_in_file(
+    kinds: &mut Vec<u32>,
+    refs: &mut Vec<StoredReference>,
+    rows: &mut Vec<Row>,
+    new: StoredReference,
+) -> Result<(), AllocError>
+    ensures added { OnOk result (map view_reference refs.new.items
+        ≡ added (view_reference new) (map view_reference refs.old.items)) }
+    ensures kept { OnErr result (map view_reference refs.new.items ≡ map view_reference refs.old.items) }
+    ensures ordered { IsOrdered kinds.old.items (map view_reference refs.old.items)
+        → IsOrdered kinds.new.items (map view_reference refs.new.items) }
+    ensures indexed { IsIndex is_resource rows.old.items (map view_reference refs.old.items)
+        → IsIndex is_resource rows.new.items (map view_reference refs.new.items) }
+{
+    rows.reserve(1)?;
+    let (kind, id, len) = (new.kind, new.id, refs.len());
+    let place = put_in(kinds, refs, new)?;
+    enter(rows, Row { kind, id, place }, len);
+    Ok(())
+}
+
 /// Removes a type from the list of types.
 fn forget(kinds: &mut Vec<u32>, kind: u32)
     ensures { kinds.new.items ≡ filter (λ k. not (k == kind)) kinds.old.items }
@@ -102,7 +133,7 @@ fn forget(kinds: &mut Vec<u32>, kind: u32)
 }
 
 /// Removes the reference at a place, and its type where the reference was the last of the type.
-pub fn take_out(kinds: &mut Vec<u32>, refs: &mut Vec<StoredReference>, index: usize)
+fn take_out(kinds: &mut Vec<u32>, refs: &mut Vec<StoredReference>, index: usize)
     requires { index < length refs.old.items }
     ensures references { map view_reference refs.new.items ≡ remove (map view_reference refs.old.items) index }
     ensures ordered { IsOrdered kinds.old.items (map view_reference refs.old.items)
@@ -113,4 +144,23 @@ pub fn take_out(kinds: &mut Vec<u32>, refs: &mut Vec<StoredReference>, index: us
     if end_of(refs.as_slice(), kind).is_none() {
         forget(kinds, kind);
     }
+}
+
+/// Removes the reference at a place as `take_out` does, and tells the index of it.
+pub fn take_out_of_file(
+    kinds: &mut Vec<u32>,
+    refs: &mut Vec<StoredReference>,
+    rows: &mut Vec<Row>,
+    index: usize,
+)
+    requires { index < length refs.old.items }
+    ensures references { map view_reference refs.new.items ≡ remove (map view_reference refs.old.items) index }
+    ensures ordered { IsOrdered kinds.old.items (map view_reference refs.old.items)
+        → IsOrdered kinds.new.items (map view_reference refs.new.items) }
+    ensures indexed { IsIndex is_resource rows.old.items (map view_reference refs.old.items)
+        → IsIndex is_resource rows.new.items (map view_reference refs.new.items) }
+{
+    let row = row_at(refs.as_slice(), index);
+    take_out(kinds, refs, index);
+    leave(rows, row, place_of(refs.as_slice(), row.kind, row.id));
 }

@@ -1,12 +1,16 @@
 //! Changes of one reference.
 
-ghost use Rattle.std.specs.Prelude.{◌≡◌, ◌<◌, ◌≤◌, Some, None, length, vec_len, map, slice_get, slice_set};
+ghost use Rattle.std.specs.Prelude.{◌≡◌, ◌<◌, ◌≤◌, Some, None, length, vec_len, vec_capacity, map, slice_get, slice_set};
 ghost use Rattle.std.specs.Prelude.{List, ℕ, IfOk, IfSome, OnOk, OnErr};
 ghost use Rattle.windows.specs.Writes.{written};
 ghost use Rattle.res_map.specs.Map.{IsOrdered, with_handle, with_attrs, stored_anew, with_datum, resized_datum};
-ghost use Rattle.res_map.specs.Map.{name_by, renamed};
+ghost use Rattle.res_map.specs.Map.{is_resource, name_by, renamed};
+ghost use Rattle.res_map.specs.Index.{IsIndex};
+ghost use Rattle.res_map.specs.declared.index.Row.{Row};
 ghost use Rattle.res_map.specs.View.{view_name, view_reference};
 
+use crate::index::{Row, enter_renamed, row_at};
+use crate::search::place_of;
 use crate::stored::{StoredName, StoredReference};
 use mac_words::{Attrs, Name};
 use std::alloc::{AllocError, Global};
@@ -80,6 +84,7 @@ fn write(r: &mut StoredReference, from: usize, bytes: &[u8]) -> Result<(), Alloc
         ≡ with_datum (written from bytes.now (view_reference r.old).stored.datum) (view_reference r.old)) }
     ensures kept { OnErr result (view_reference r.new ≡ view_reference r.old) }
     ensures kind { r.new.kind ≡ r.old.kind }
+    ensures id { r.new.id ≡ r.old.id }
 {
     overwrite(&mut r.rest.datum, from, bytes)
 }
@@ -100,6 +105,8 @@ pub fn put_bytes(
     ensures kept { OnErr result (map view_reference refs.new.items ≡ map view_reference refs.old.items) }
     ensures ordered { (kinds : List ℕ) → IsOrdered kinds (map view_reference refs.old.items)
         → IsOrdered kinds (map view_reference refs.new.items) }
+    ensures indexed { (rows : List Row) → IsIndex is_resource rows (map view_reference refs.old.items)
+        → IsIndex is_resource rows (map view_reference refs.new.items) }
 {
     write(&mut refs[index], from, bytes)
 }
@@ -110,6 +117,7 @@ fn resize(r: &mut StoredReference, size: usize) -> Result<(), AllocError>
         ≡ with_datum (resized_datum size (view_reference r.old).stored.datum) (view_reference r.old)) }
     ensures kept { OnErr result (view_reference r.new ≡ view_reference r.old) }
     ensures kind { r.new.kind ≡ r.old.kind }
+    ensures id { r.new.id ≡ r.old.id }
 {
     r.rest.datum.resize(size, 0)
 }
@@ -127,6 +135,8 @@ pub fn put_size(
     ensures kept { OnErr result (map view_reference refs.new.items ≡ map view_reference refs.old.items) }
     ensures ordered { (kinds : List ℕ) → IsOrdered kinds (map view_reference refs.old.items)
         → IsOrdered kinds (map view_reference refs.new.items) }
+    ensures indexed { (rows : List Row) → IsIndex is_resource rows (map view_reference refs.old.items)
+        → IsIndex is_resource rows (map view_reference refs.new.items) }
 {
     resize(&mut refs[index], size)
 }
@@ -168,4 +178,56 @@ pub fn put_name(
         ≡ slice_set (map view_reference refs.old.items) index (renamed id text.now r)) }
 {
     call(&mut refs[index], id, text, name);
+}
+
+/// Sets the ID of the reference at a place, and its name where a name is given, and tells the index of it, which has
+/// room for a row.
+fn put_name_told(
+    refs: &mut Vec<StoredReference>,
+    rows: &mut Vec<Row>,
+    index: usize,
+    id: i16,
+    text: &[u8],
+    name: Option<StoredName>,
+)
+    requires inside { index < length refs.old.items }
+    requires name { view_name name ≡ name_by text.now None }
+    requires room { vec_len rows.old < vec_capacity rows.old }
+    ensures renamed { IfSome (slice_get (map view_reference refs.old.items) index) (λ r.
+        map view_reference refs.new.items
+        ≡ slice_set (map view_reference refs.old.items) index (renamed id text.now r)) }
+    ensures ordered { (kinds : List ℕ) → IsOrdered kinds (map view_reference refs.old.items)
+        → IsOrdered kinds (map view_reference refs.new.items) }
+    ensures indexed { IsIndex is_resource rows.old.items (map view_reference refs.old.items)
+        → IsIndex is_resource rows.new.items (map view_reference refs.new.items) }
+{
+    let old = row_at(refs.as_slice(), index);
+    put_name(refs, index, id, text, name);
+    let first = place_of(refs.as_slice(), old.kind, old.id);
+    enter_renamed(rows, Row { id, ..old }, old.id, first);
+}
+
+/// Sets the ID of the reference at a place, and its name where a name is given, and tells the index of it.
+pub fn put_name_in_file(
+    refs: &mut Vec<StoredReference>,
+    rows: &mut Vec<Row>,
+    index: usize,
+    id: i16,
+    text: &[u8],
+    name: Option<StoredName>,
+) -> Result<(), AllocError>
+    requires inside { index < length refs.old.items }
+    requires name { view_name name ≡ name_by text.now None }
+    ensures renamed { OnOk result (IfSome (slice_get (map view_reference refs.old.items) index) (λ r.
+        map view_reference refs.new.items
+        ≡ slice_set (map view_reference refs.old.items) index (renamed id text.now r))) }
+    ensures kept { OnErr result (map view_reference refs.new.items ≡ map view_reference refs.old.items) }
+    ensures ordered { (kinds : List ℕ) → IsOrdered kinds (map view_reference refs.old.items)
+        → IsOrdered kinds (map view_reference refs.new.items) }
+    ensures indexed { IsIndex is_resource rows.old.items (map view_reference refs.old.items)
+        → IsIndex is_resource rows.new.items (map view_reference refs.new.items) }
+{
+    rows.reserve(1)?;
+    put_name_told(refs, rows, index, id, text, name);
+    Ok(())
 }

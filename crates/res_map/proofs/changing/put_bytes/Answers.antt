@@ -4,6 +4,7 @@ use Rattle.res_map.specs.Map.{Reference, with_datum}
 use Rattle.res_map.specs.View.{view_reference}
 use Rattle.res_map.proofs.Splitting.{set-seen_at, same-seen_at}
 use Rattle.res_map.proofs.Order.{ordered-seen_at}
+use Rattle.res_map.proofs.Rows.{index-seen_at}
 use Rattle.res_map.proofs.changing.put_bytes.Goals as goal
 
 pub returns-clause-written : goal.returns-clause-written
@@ -18,3 +19,7 @@ returns-clause-kept c = on_err_weaker c.write.result (same-seen_at view_referenc
 pub returns-clause-ordered : goal.returns-clause-ordered
 returns-clause-ordered c = ordered-seen_at c.args.refs.now.items c.args.index c.index_mut.result.now c.write.new.r
     c.requires.inside c.index_mut.ensures.value c.write.ensures.kind
+
+pub returns-clause-indexed : goal.returns-clause-indexed
+returns-clause-indexed c = index-seen_at c.args.refs.now.items c.args.index c.index_mut.result.now c.write.new.r
+    c.requires.inside c.index_mut.ensures.value c.write.ensures.kind c.write.ensures.id

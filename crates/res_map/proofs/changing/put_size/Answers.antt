@@ -3,6 +3,7 @@ use Rattle.res_map.specs.Map.{Reference, with_datum, resized_datum}
 use Rattle.res_map.specs.View.{view_reference}
 use Rattle.res_map.proofs.Splitting.{set-seen_at, same-seen_at}
 use Rattle.res_map.proofs.Order.{ordered-seen_at}
+use Rattle.res_map.proofs.Rows.{index-seen_at}
 use Rattle.res_map.proofs.changing.put_size.Goals as goal
 
 pub returns-clause-resized : goal.returns-clause-resized
@@ -17,3 +18,7 @@ returns-clause-kept c = on_err_weaker c.resize.result (same-seen_at view_referen
 pub returns-clause-ordered : goal.returns-clause-ordered
 returns-clause-ordered c = ordered-seen_at c.args.refs.now.items c.args.index c.index_mut.result.now c.resize.new.r
     c.requires c.index_mut.ensures.value c.resize.ensures.kind
+
+pub returns-clause-indexed : goal.returns-clause-indexed
+returns-clause-indexed c = index-seen_at c.args.refs.now.items c.args.index c.index_mut.result.now c.resize.new.r
+    c.requires c.index_mut.ensures.value c.resize.ensures.kind c.resize.ensures.id

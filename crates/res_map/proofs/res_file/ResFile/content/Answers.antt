@@ -15,6 +15,6 @@ returns c =
     (c.in_ok-groups.ensures ∙ ap (λ ks. leading_groups ks (anew c.as_slice-2.result.now)) c.as_slice.ensures.value
     ∙ ap (λ rs. leading_groups c.self.inside.kinds.items (anew rs)) c.as_slice-2.ensures.value
     ∙ runs_ordered c.self.inside.kinds.items (anew c.self.inside.refs.items)
-    (ordered_anew _ _ _ _ c.self.invariant refl))
+    (ordered_anew _ _ _ _ c.self.invariant.0 refl))
     ∙ ap (λ (m : Map). content (record m { references = all_anew (view_all c.args.fresh.now) m.references }))
     c.self.view_is

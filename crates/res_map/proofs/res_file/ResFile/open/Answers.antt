@@ -1,7 +1,10 @@
-use Rattle.std.proofs.Common.{◌≡◌, ◌∙◌, ap, map, List}
+use Rattle.std.proofs.Common.{◌≡◌, ◌∙◌, ap, subst, map, List}
+use Rattle.res_map.specs.declared.stored.StoredReference.{StoredReference}
+use Rattle.res_map.specs.Index.{IsIndex}
+use Rattle.res_map.specs.View.{view_reference}
 use Rattle.fork_format.specs.Content.{Group}
 use Rattle.fork_format.specs.View.{view_group}
-use Rattle.res_map.specs.Map.{of_groups}
+use Rattle.res_map.specs.Map.{is_resource, of_groups}
 use Rattle.res_map.proofs.Contents.{ordered_groups}
 use Rattle.res_map.proofs.res_file.ResFile.open.Goals as goal
 
@@ -9,6 +12,9 @@ pub invariant_of-result : goal.invariant_of-result
 invariant_of-result c =
     let groups : List Group = map view_group c.args.content.now.groups.items in
     let is : map view_group c.as_slice-groups.result.now ≡ groups =
-    ap (map view_group) c.as_slice-groups.ensures.value in
-    ordered_groups groups _ _ c.requires.types c.requires.references
-    (c.in_ok-kinds.ensures ∙ ap (map (λ (g : Group). g.kind)) is) (c.in_ok-refs.ensures ∙ ap of_groups is)
+    ap (map view_group) c.as_slice-groups.ensures.value in (
+      ordered_groups groups _ _ c.requires.types c.requires.references
+          (c.in_ok-kinds.ensures ∙ ap (map (λ (g : Group). g.kind)) is) (c.in_ok-refs.ensures ∙ ap of_groups is),
+      subst (λ (l : List StoredReference). IsIndex is_resource c.in_ok-index.index.items (map view_reference l))
+          c.as_slice.ensures.value c.in_ok-index.ensures,
+    )

@@ -1,10 +1,7 @@
-use Rattle.std.proofs.Common.{refl, ap, map}
-use Rattle.res_map.specs.Map.{Map, Reference}
-use Rattle.res_map.specs.View.{view_reference}
-use Rattle.res_map.proofs.Order.{ordered-set}
 use Rattle.res_map.proofs.res_file.ResFile.rename.Goals as goal
 
 pub invariant_of-self : goal.invariant_of-self
-invariant_of-self c = ordered-set _ (λ (r : Reference). refl) _ c.args.self.now
-    (map view_reference c.self.inside.refs.items) (map view_reference c.put_name.new.refs.items) c.args.index
-    (ap (λ (m : Map). m.references) c.self.view_is) c.requires c.put_name.ensures c.self.invariant
+invariant_of-self c = (
+  c.put_name_in_file.ensures.ordered c.self.inside.kinds.items c.self.invariant.0,
+  c.put_name_in_file.ensures.indexed c.self.invariant.1,
+)

@@ -2,9 +2,15 @@ use Rattle.std.proofs.Common.{refl, ap, map}
 use Rattle.res_map.specs.Map.{Map, Reference}
 use Rattle.res_map.specs.View.{view_reference}
 use Rattle.res_map.proofs.Order.{ordered-set}
+use Rattle.res_map.proofs.Rows.{index-set}
 use Rattle.res_map.proofs.res_file.ResFile.store.Goals as goal
 
 pub invariant_of-self : goal.invariant_of-self
-invariant_of-self c = ordered-set _ (λ (r : Reference). refl) _ c.args.self.now
-    (map view_reference c.self.inside.refs.items) (map view_reference c.put_datum.new.refs.items) c.args.index
-    (ap (λ (m : Map). m.references) c.self.view_is) c.requires c.put_datum.ensures c.self.invariant
+invariant_of-self c = (
+  ordered-set _ (λ (r : Reference). refl) _ c.args.self.now
+      (map view_reference c.self.inside.refs.items) (map view_reference c.put_datum.new.refs.items) c.args.index
+      (ap (λ (m : Map). m.references) c.self.view_is) c.requires c.put_datum.ensures c.self.invariant.0,
+  index-set _ (λ (r : Reference). refl) (λ (r : Reference). refl) _ c.args.self.now
+      (map view_reference c.self.inside.refs.items) (map view_reference c.put_datum.new.refs.items) c.args.index
+      (ap (λ (m : Map). m.references) c.self.view_is) c.requires c.put_datum.ensures c.self.invariant.1,
+)

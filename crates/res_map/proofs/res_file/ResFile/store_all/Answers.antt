@@ -1,5 +1,9 @@
 use Rattle.res_map.proofs.Contents.{ordered_anew}
+use Rattle.res_map.proofs.Rows.{index-anew}
 use Rattle.res_map.proofs.res_file.ResFile.store_all.Goals as goal
 
 pub invariant_of-self : goal.invariant_of-self
-invariant_of-self c = ordered_anew _ _ _ _ c.self.invariant c.put_all.ensures
+invariant_of-self c = (
+  ordered_anew _ _ _ _ c.self.invariant.0 c.put_all.ensures,
+  index-anew _ _ _ _ c.self.invariant.1 c.put_all.ensures,
+)

@@ -1,0 +1,640 @@
+use Rattle.std.proofs.Common.{◌≡◌, ◌∙◌, refl, sym, ap, ℕ, ℤ, zero, suc, ◌+◌, ◌<◌, ◌≤◌, arith, Bool, true, false, cond, not, ◌&&◌}
+use Rattle.std.proofs.Common.{List, [], ◌∷◌, ◌++◌, length, Option, Some, None, IfSome, get_or, filter, map, take, drop, subst, int_eq, nat_cmp, is_lt, ⊎_elim, length-set}
+use Rattle.std.specs.Prelude.{option_map, slice_get, slice_set, nat_lt, ◌==◌, ◌≢◌}
+use Rattle.std.specs.List.{insert, remove}
+use Rattle.std.specs.List.Sorted.{IsStableBy, IsPartitionPoint}
+use Rattle.std.proofs.lemmas.List.Sorted.{IsNonDecreasingBy-insert}
+use Rattle.std.proofs.lemmas.Bool.Decides.{nat_tests, Decides-int_eq, Decides-eqb}
+use Rattle.std.proofs.lemmas.List.{get_or-map, length-map, get_or_default, length-take-le, map-set}
+use Rattle.std.proofs.lemmas.Option.{slice_get-map, slice_get-get_or}
+use Rattle.std.proofs.lemmas.Bool.{cases_lt}
+use Rattle.res_map.specs.View.{view_reference}
+use Rattle.res_map.specs.declared.stored.StoredReference.{StoredReference}
+use Rattle.res_map.specs.declared.index.Row.{Row}
+use Rattle.res_map.specs.Map.{Reference, Map, is_resource, all_anew, stored_anew, renamed}
+use Rattle.res_map.specs.Index.{IsIndex, IsRising, IsToldAs, rank, rank_of, is_row, place_in, moved, sooner, entered}
+use Rattle.res_map.specs.Index.{raised, lowered, first_place}
+use Rattle.res_map.proofs.Places.{later, first-insert, first-remove, first-set, first-alike, first-there, first-push, replaced_at, some-none}
+use Rattle.res_map.proofs.Places.{first-cons, one_on}
+use Rattle.res_map.proofs.Splitting.{get-inside}
+
+-- What rows tell, as they change.
+
+both : (a b : Bool) → a && b ≡ true → (a ≡ true) × (b ≡ true)
+both true true e = (refl, refl)
+both true false e = cc
+both false b e = cc
+
+-- a row of a type and ID has that type, and that ID
+pub row-key : (kind : ℕ) (id : ℤ) (row : Row) → is_row kind id row ≡ true → (row.kind ≡ kind) × (row.id ≡ id)
+row-key kind id row e =
+    let two = both (row.kind == kind) (int_eq row.id id) e in
+    ((Decides-eqb row.kind kind).0 two.0, (Decides-int_eq row.id id).0 two.1)
+
+pub row-rank : (kind : ℕ) (id : ℤ) (row : Row) → is_row kind id row ≡ true → rank_of row ≡ rank kind id
+row-rank kind id row e = let key = row-key kind id row e in
+    ap (λ k. rank k row.id) key.0 ∙ ap (rank kind) key.1
+
+-- two rows of a type and ID are of the type and ID of each other
+pub row-same : (kind : ℕ) (id : ℤ) (a b : Row) → is_row kind id a ≡ true → is_row kind id b ≡ true
+    → is_row b.kind b.id a ≡ true
+row-same kind id a b ea eb = let key = row-key kind id b eb in
+    ap (λ k. is_row k b.id a) key.0 ∙ ap (λ i. is_row kind i a) key.1 ∙ ea
+
+-- what is told of a type and ID is told of each that is the same
+pub told-same : (kind : ℕ) (id : ℤ) (row : Row) (rows : List Row) → is_row kind id row ≡ true
+    → place_in kind id rows ≡ place_in row.kind row.id rows
+told-same kind id row rows e = let key = row-key kind id row e in
+    sym (ap (λ k. place_in k row.id rows) key.0 ∙ ap (λ i. place_in kind i rows) key.1)
+
+-- none of the first n rows is of the type and ID
+abbrev pub Clear : ℕ → ℤ → List Row → ℕ → Type 0
+Clear kind id rows n = (j : ℕ) (d : Row) → j < n → is_row kind id (get_or rows j d) ≡ false
+
+clear-rest : (kind : ℕ) (id : ℤ) (x : Row) (rows : List Row) (n : ℕ) → Clear kind id (x ∷ rows) (suc n)
+    → Clear kind id rows n
+clear-rest kind id x rows n clear j d less = clear (suc j) d (omega arith)
+
+one-clear : (kind : ℕ) (id : ℤ) (x : Row) (rows : List Row) (n : ℕ) → Clear kind id (x ∷ rows) (suc n)
+    → is_row kind id x ≡ false
+one-clear kind id x rows n clear = clear 0 x (omega arith)
+
+pub place-none : (kind : ℕ) (id : ℤ) (rows : List Row) → Clear kind id rows (length rows) → place_in kind id rows ≡ None
+place-none kind id [] clear = refl
+place-none kind id (x ∷ rows) clear =
+    ap (λ t. cond t (Some x.place) (place_in kind id rows)) (one-clear kind id x rows (length rows) clear)
+    ∙ place-none kind id rows (clear-rest kind id x rows (length rows) clear)
+
+pub place-found : (kind : ℕ) (id : ℤ) (rows : List Row) (at : ℕ) (row : Row) → at < length rows
+    → Clear kind id rows at → row ≡ get_or rows at row → is_row kind id row ≡ true
+    → place_in kind id rows ≡ Some row.place
+place-found kind id [] at row inside clear is here = absurd (omega arith)
+place-found kind id (x ∷ rows) zero row inside clear is here =
+    ap (λ t. cond t (Some x.place) (place_in kind id rows)) (ap (is_row kind id) (sym is) ∙ here)
+    ∙ ap (λ (r : Row). Some r.place) (sym is)
+place-found kind id (x ∷ rows) (suc at) row inside clear is here =
+    ap (λ t. cond t (Some x.place) (place_in kind id rows)) (one-clear kind id x rows at clear)
+    ∙ place-found kind id rows at row (omega arith) (clear-rest kind id x rows at clear) is here
+
+-- a row that is put in before all others of its type and ID
+apart : (k : ℕ) (i : ℤ) (x row : Row) (t u : Bool) (there old : Option ℕ) → is_row row.kind row.id x ≡ false
+    → is_row k i x ≡ t → is_row k i row ≡ u
+    → cond t (Some x.place) (cond u there old) ≡ cond u there (cond t (Some x.place) old)
+apart k i x row true true there old other xs rows =
+    absurd (let no : true ≡ false = sym (row-same k i x row xs rows) ∙ other in cc)
+apart k i x row true false there old other xs rows = refl
+apart k i x row false u there old other xs rows = refl
+
+pub place-insert : (rows : List Row) (at : ℕ) (row : Row) → at ≤ length rows → Clear row.kind row.id rows at
+    → IsToldAs row.kind row.id (Some row.place) rows (insert rows at row)
+place-insert [] zero row inside clear k i = refl
+place-insert (x ∷ rows) zero row inside clear k i = refl
+place-insert [] (suc at) row inside clear k i = absurd (omega arith)
+place-insert (x ∷ rows) (suc at) row inside clear k i =
+    ap (cond (is_row k i x) (Some x.place))
+    (place-insert rows at row (omega arith) (clear-rest row.kind row.id x rows at clear) k i)
+    ∙ apart k i x row (is_row k i x) (is_row k i row) (Some row.place) (place_in k i rows)
+    (one-clear row.kind row.id x rows at clear) refl refl
+
+-- a row in place of the first of its type and ID
+instead : (k : ℕ) (i : ℤ) (x row : Row) (t u : Bool) (there new old : Option ℕ) → is_row row.kind row.id x ≡ true
+    → is_row k i x ≡ t → is_row k i row ≡ u → cond u there old ≡ cond u there (cond t (Some x.place) old)
+instead k i x row t true there new old same xs rows = refl
+instead k i x row false false there new old same xs rows = refl
+instead k i x row true false there new old same xs rows =
+    absurd (let key = row-key row.kind row.id x same in
+    let is : is_row k i row ≡ true = ap (λ m. m == k && int_eq row.id i) (sym key.0)
+    ∙ ap (λ m. x.kind == k && int_eq m i) (sym key.1) ∙ xs in
+    let no : true ≡ false = sym is ∙ rows in cc)
+
+pub place-set : (rows : List Row) (at : ℕ) (row : Row) → at < length rows → Clear row.kind row.id rows at
+    → is_row row.kind row.id (get_or rows at row) ≡ true
+    → IsToldAs row.kind row.id (Some row.place) rows (slice_set rows at row)
+place-set [] at row inside clear here k i = absurd (omega arith)
+place-set (x ∷ rows) zero row inside clear here k i =
+    instead k i x row (is_row k i x) (is_row k i row) (Some row.place) None (place_in k i rows) here refl refl
+place-set (x ∷ rows) (suc at) row inside clear here k i =
+    ap (cond (is_row k i x) (Some x.place))
+    (place-set rows at row (omega arith) (clear-rest row.kind row.id x rows at clear) here k i)
+    ∙ apart k i x row (is_row k i x) (is_row k i row) (Some row.place) (place_in k i rows)
+    (one-clear row.kind row.id x rows at clear) refl refl
+
+-- rows of which only some are kept
+keep : (k : ℕ) (i : ℤ) (x : Row) (kept rest : List Row) (t u : Bool) (old : Option ℕ) → (u ≡ true → t ≡ true)
+    → is_row k i x ≡ u → place_in k i kept ≡ old
+    → place_in k i (cond t (x ∷ kept) kept) ≡ cond u (Some x.place) old
+keep k i x kept rest true u old then is e = ap (λ b. cond b (Some x.place) (place_in k i kept)) is ∙ ap (cond u (Some x.place)) e
+keep k i x kept rest false true old then is e = absurd (let no : false ≡ true = then refl in cc)
+keep k i x kept rest false false old then is e = e
+
+pub place-filter : (q : Row → Bool) (k : ℕ) (i : ℤ) → ((r : Row) → is_row k i r ≡ true → q r ≡ true) → (rows : List Row)
+    → place_in k i (filter q rows) ≡ place_in k i rows
+place-filter q k i all [] = refl
+place-filter q k i all (x ∷ rows) =
+    keep k i x (filter q rows) rows (q x) (is_row k i x) (place_in k i rows) (all x) refl (place-filter q k i all rows)
+
+-- all rows of a type and ID are dropped
+dropped-none : (kind : ℕ) (id : ℤ) (rows : List Row)
+    → place_in kind id (filter (λ r. not (is_row kind id r)) rows) ≡ None
+dropped-none kind id [] = refl
+dropped-none kind id (x ∷ rows) =
+    cases (is_row kind id x) refl (dropped-none kind id rows)
+  where
+    cases : (t : Bool) → is_row kind id x ≡ t
+        → place_in kind id (filter (λ r. not (is_row kind id r)) rows) ≡ None
+        → place_in kind id (cond (not t) (x ∷ filter (λ r. not (is_row kind id r)) rows)
+        (filter (λ r. not (is_row kind id r)) rows)) ≡ None
+    cases true is e = e
+    cases false is e =
+        ap (λ b. cond b (Some x.place) (place_in kind id (filter (λ r. not (is_row kind id r)) rows))) is ∙ e
+
+pub place-dropped : (kind : ℕ) (id : ℤ) (rows : List Row)
+    → IsToldAs kind id None rows (filter (λ r. not (is_row kind id r)) rows)
+place-dropped kind id rows k i = cases (kind == k && int_eq id i) refl
+  where
+    other : (t : Bool) (r : Row) → (kind == k && int_eq id i) ≡ false → is_row k i r ≡ true → is_row kind id r ≡ t
+        → not t ≡ true
+    other true r apart is own =
+        absurd (let key = row-key kind id r own in
+        let yes : (kind == k && int_eq id i) ≡ true = ap (λ m. m == k && int_eq id i) (sym key.0)
+        ∙ ap (λ m. r.kind == k && int_eq m i) (sym key.1) ∙ is in
+        let e : true ≡ false = sym yes ∙ apart in cc)
+    other false r apart is own = refl
+
+    cases : (t : Bool) → (kind == k && int_eq id i) ≡ t
+        → place_in k i (filter (λ r. not (is_row kind id r)) rows) ≡ cond t None (place_in k i rows)
+    cases true same =
+        told-same k i (record { kind = kind; id = id; place = 0 }) (filter (λ r. not (is_row kind id r)) rows) same
+        ∙ dropped-none kind id rows
+    cases false apart =
+        place-filter (λ r. not (is_row kind id r)) k i (λ r is. other (is_row kind id r) r apart is refl) rows
+
+-- rows with other places
+pub place-moved : (f : ℕ → ℕ) (k : ℕ) (i : ℤ) (rows : List Row)
+    → place_in k i (map (moved f) rows) ≡ option_map f (place_in k i rows)
+place-moved f k i [] = refl
+place-moved f k i (x ∷ rows) = cases (is_row k i x) (place-moved f k i rows)
+  where
+    cases : (t : Bool) → place_in k i (map (moved f) rows) ≡ option_map f (place_in k i rows)
+        → cond t (Some (f x.place)) (place_in k i (map (moved f) rows))
+        ≡ option_map f (cond t (Some x.place) (place_in k i rows))
+    cases true e = refl
+    cases false e = e
+
+pub rising-moved : (f : ℕ → ℕ) (rows : List Row) → IsRising rows → IsRising (map (moved f) rows)
+rising-moved f rows rising i j d le less =
+    let size : length (map (moved f) rows) ≡ length rows = length-map rows (moved f) in
+    let low = get_or-map (moved f) rows i d d (omega arith) in
+    let high = get_or-map (moved f) rows j d d (omega arith) in
+    let all = rising i j d le (omega arith) in
+    omega (arith, ap rank_of low, ap rank_of high, all)
+
+-- rows that are put in order
+abbrev level-with : ℕ → Row → Bool
+level-with n r = not (is_lt (nat_cmp n (rank_of r))) && not (is_lt (nat_cmp (rank_of r) n))
+
+level-same : (m n : ℕ) → m ≡ n → not (is_lt (nat_cmp n m)) && not (is_lt (nat_cmp m n)) ≡ true
+level-same m n e = grind (arith, nat_tests)
+
+level-all : (k : ℕ) (i : ℤ) (r : Row) → is_row k i r ≡ true → level-with (rank k i) r ≡ true
+level-all k i r is = level-same (rank_of r) (rank k i) (row-rank k i r is)
+
+pub place-sorted : (old new : List Row) → IsStableBy (λ x y. is_lt (nat_cmp (rank_of x) (rank_of y))) old new → (k : ℕ)
+    (i : ℤ) → place_in k i new ≡ place_in k i old
+place-sorted old new stable k i =
+    sym (place-filter (level-with (rank k i)) k i (level-all k i) new)
+    ∙ ap (place_in k i) (stable (record { kind = k; id = i; place = 0 }))
+    ∙ place-filter (level-with (rank k i)) k i (level-all k i) old
+
+-- one more at the end
+pub place-push : (k : ℕ) (i : ℤ) (rows : List Row) (row : Row)
+    → place_in k i (rows ++ row ∷ []) ≡ later (place_in k i rows) (is_row k i row) row.place
+place-push k i [] row = refl
+place-push k i (x ∷ rows) row = cases (is_row k i x) (place-push k i rows row)
+  where
+    cases : (t : Bool) → place_in k i (rows ++ row ∷ []) ≡ later (place_in k i rows) (is_row k i row) row.place
+        → cond t (Some x.place) (place_in k i (rows ++ row ∷ []))
+        ≡ later (cond t (Some x.place) (place_in k i rows)) (is_row k i row) row.place
+    cases true e = refl
+    cases false e = e
+
+-- The search by halving.
+
+abbrev pub Below : ℕ → ℤ → List Row → ℕ → Type 0
+Below kind id rows n = IsPartitionPoint (λ r. nat_lt (rank_of r) (rank kind id) ≡ true)
+    (λ r. nat_lt (rank_of r) (rank kind id) ≡ false) rows n
+
+not-below : (t : Bool) (m n : ℕ) → nat_lt m n ≡ true → (t ≡ true → m ≡ n) → t ≡ false
+not-below true m n less e = absurd (let same : m ≡ n = e refl in grind (arith, nat_tests))
+not-below false m n less e = refl
+
+pub clear-below : (kind : ℕ) (id : ℤ) (rows : List Row) (n : ℕ) → Below kind id rows n → Clear kind id rows n
+clear-below kind id rows n point j d less =
+    not-below (is_row kind id (get_or rows j d)) (rank_of (get_or rows j d)) (rank kind id)
+    (point.0 j d (omega arith) less) (row-rank kind id (get_or rows j d))
+
+not-at : (t : Bool) (m n : ℕ) → n < m → (t ≡ true → m ≡ n) → t ≡ false
+not-at true m n less e = absurd (let same : m ≡ n = e refl in omega arith)
+not-at false m n less e = refl
+
+pub clear-all : (kind : ℕ) (id : ℤ) (rows : List Row) (n : ℕ) (row : Row) → IsRising rows → Below kind id rows n
+    → n < length rows → row ≡ get_or rows n row → (rank_of row ≡ rank kind id → ⊥) → Clear kind id rows (length rows)
+clear-all kind id rows n row rising point inside is other j d less =
+    ⊎_elim (λ early. clear-below kind id rows n point j d early)
+    (λ behind. not-at (is_row kind id (get_or rows j d)) (rank_of (get_or rows j d)) (rank kind id)
+    (let high = rising n j d behind less in
+    let at = point.1 n row (omega arith) inside in
+    let read : rank_of row ≡ rank_of (get_or rows n d) = ap rank_of (is ∙ get_or_default rows n row d inside) in
+    grind (arith, nat_tests))
+    (row-rank kind id (get_or rows j d)))
+    (cases_lt j n)
+
+-- a row that takes the place of one of its type and ID
+rank-set : (rows : List Row) (at : ℕ) (row : Row) (i : ℕ) (d : Row) → at < length rows
+    → rank_of row ≡ rank_of (get_or rows at row) → rank_of (get_or (slice_set rows at row) i d) ≡ rank_of (get_or rows i d)
+rank-set [] at row i d inside same = absurd (omega arith)
+rank-set (x ∷ rows) zero row zero d inside same = same
+rank-set (x ∷ rows) zero row (suc i) d inside same = refl
+rank-set (x ∷ rows) (suc at) row zero d inside same = refl
+rank-set (x ∷ rows) (suc at) row (suc i) d inside same = rank-set rows at row i d (omega arith) same
+
+pub rising-set : (rows : List Row) (at : ℕ) (row : Row) → at < length rows
+    → is_row row.kind row.id (get_or rows at row) ≡ true → IsRising rows → IsRising (slice_set rows at row)
+rising-set rows at row inside here rising i j d le less =
+    let same : rank_of row ≡ rank_of (get_or rows at row) = sym (row-rank row.kind row.id (get_or rows at row) here) in
+    let size : length (slice_set rows at row) ≡ length rows = length-set rows at row in
+    let low = rank-set rows at row i d inside same in
+    let high = rank-set rows at row j d inside same in
+    let all = rising i j d le (omega arith) in
+    omega (arith, low, high, all)
+
+-- a row that is put in where no row of its type and ID stands before it
+pub rising-insert : (rows : List Row) (at : ℕ) (row : Row) → at ≤ length rows → Below row.kind row.id rows at
+    → IsRising rows → IsRising (insert rows at row)
+rising-insert rows at row inside point rising =
+    IsNonDecreasingBy-insert rank_of rows at row rising inside
+    (λ k d less. let low = point.0 k d (omega arith) less in grind (arith, nat_tests))
+    (λ k d from less. let high = point.1 k d from less in grind (arith, nat_tests))
+
+-- what is told where none stands there
+pub told-none : (kind : ℕ) (id : ℤ) (rows : List Row) (n : ℕ) → IsRising rows → Below kind id rows n
+    → ((n < length rows) → (row : Row) → row ≡ get_or rows n row → rank_of row ≡ rank kind id → ⊥)
+    → n ≤ length rows → place_in kind id rows ≡ None
+told-none kind id rows n rising point other inside =
+    ⊎_elim (λ less. place-none kind id rows
+    (λ j d below. clear-at j d below less))
+    (λ past. place-none kind id rows
+    (λ j d below. clear-below kind id rows n point j d (omega arith)))
+    (cases_lt n (length rows))
+  where
+    clear-at : (j : ℕ) (d : Row) → j < length rows → n < length rows → is_row kind id (get_or rows j d) ≡ false
+    clear-at j d below less =
+        clear-all kind id rows n (get_or rows n d) rising point less (get_or_default rows n d (get_or rows n d) less)
+        (other less (get_or rows n d) (get_or_default rows n d (get_or rows n d) less)) j d below
+
+-- places that are written back to a vector
+pub written_back : (n : ℕ) (rows old : List Row) → n ≡ length old → length rows ≡ length old
+    → take n (rows ++ drop (length rows) old) ≡ rows
+written_back n rows old is size =
+    ap (λ m. take m (rows ++ drop (length rows) old)) (is ∙ sym size) ∙ take_front rows (drop (length rows) old)
+  where
+    take_front : (xs ys : List Row) → take (length xs) (xs ++ ys) ≡ xs
+    take_front [] ys = refl
+    take_front (x ∷ xs) ys = ap (λ l. x ∷ l) (take_front xs ys)
+
+-- The index of references, as they change.
+
+sooner-raised : (at : ℕ) (o : Option ℕ) → sooner at (option_map (raised at) o) ≡ sooner at o
+sooner-raised at None = refl
+sooner-raised at (Some p) = grind (arith, nat_tests)
+
+-- a test for a type and ID at a reference that has those of a row
+key-test : (x : Reference) (kind : ℕ) (id : ℤ) → x.kind ≡ kind → x.stored.id ≡ id → (k : ℕ) (i : ℤ)
+    → is_resource k i x ≡ (kind == k && int_eq id i)
+key-test x kind id is-kind is-id k i =
+    ap (λ m. m == k && int_eq x.stored.id i) is-kind ∙ ap (λ m. kind == k && int_eq m i) is-id
+
+key-of : (kind : ℕ) (id : ℤ) (k : ℕ) (i : ℤ) → (kind == k && int_eq id i) ≡ true → (kind ≡ k) × (id ≡ i)
+key-of kind id k i e =
+    let two = both (kind == k) (int_eq id i) e in
+    ((Decides-eqb kind k).0 two.0, (Decides-int_eq id i).0 two.1)
+
+pub index-entered : (rows mid new : List Row) (row : Row) (references : List Reference) (x : Reference)
+    → row.place ≤ length references → x.kind ≡ row.kind → x.stored.id ≡ row.id → IsIndex is_resource rows references
+    → ((k : ℕ) (i : ℤ) → place_in k i mid ≡ option_map (raised row.place) (place_in k i rows)) → IsRising new
+    → IsToldAs row.kind row.id (sooner row.place (place_in row.kind row.id mid)) mid new
+    → IsIndex is_resource new (insert references row.place x)
+index-entered rows mid new row references x inside is-kind is-id index gap rising told = record {
+  rising = rising;
+  tells = λ k i. told k i ∙ cases k i (row.kind == k && int_eq row.id i) refl
+      ∙ sym (first-insert (is_resource k i) references row.place x inside
+      ∙ ap (λ t. entered t row.place (first_place (is_resource k i) references)) (key-test x row.kind row.id is-kind is-id k i));
+}
+  where
+    moved-all : (k : ℕ) (i : ℤ) → place_in k i mid ≡ option_map (raised row.place) (first_place (is_resource k i) references)
+    moved-all k i = gap k i ∙ ap (option_map (raised row.place)) (index.tells k i)
+
+    cases : (k : ℕ) (i : ℤ) (t : Bool) → (row.kind == k && int_eq row.id i) ≡ t
+        → cond t (sooner row.place (place_in row.kind row.id mid)) (place_in k i mid)
+        ≡ entered t row.place (first_place (is_resource k i) references)
+    cases k i true is =
+        ap (sooner row.place) (sym (told-same k i row mid is) ∙ moved-all k i)
+        ∙ sooner-raised row.place (first_place (is_resource k i) references)
+    cases k i false is = moved-all k i
+
+pub index-left : (rows mid new : List Row) (row : Row) (first : Option ℕ) (references : List Reference) (x : Reference)
+    → slice_get references row.place ≡ Some x → x.kind ≡ row.kind → x.stored.id ≡ row.id
+    → first ≡ first_place (is_resource row.kind row.id) (remove references row.place)
+    → IsIndex is_resource rows references → mid ≡ map (moved (lowered row.place)) rows → IsRising new
+    → IsToldAs row.kind row.id first mid new → IsIndex is_resource new (remove references row.place)
+index-left rows mid new row first references x there is-kind is-id is index gap rising told = record {
+  rising = rising;
+  tells = λ k i. told k i ∙ cases k i (row.kind == k && int_eq row.id i) refl;
+}
+  where
+    cases : (k : ℕ) (i : ℤ) (t : Bool) → (row.kind == k && int_eq row.id i) ≡ t
+        → cond t first (place_in k i mid) ≡ first_place (is_resource k i) (remove references row.place)
+    cases k i true e =
+        let key = key-of row.kind row.id k i e in
+        is ∙ ap (λ m. first_place (is_resource m row.id) (remove references row.place)) key.0
+        ∙ ap (λ m. first_place (is_resource k m) (remove references row.place)) key.1
+    cases k i false e =
+        ap (place_in k i) gap ∙ place-moved (lowered row.place) k i rows
+        ∙ ap (option_map (lowered row.place)) (index.tells k i)
+        ∙ sym (first-remove (is_resource k i) references row.place x there
+        (key-test x row.kind row.id is-kind is-id k i ∙ e))
+
+-- a reference that has its place among the rows
+pub told-there : (rows : List Row) (references : List Reference) (at : ℕ) (x : Reference) (kind : ℕ) (id : ℤ)
+    → IsIndex is_resource rows references → slice_get references at ≡ Some x → x.kind ≡ kind → x.stored.id ≡ id
+    → place_in kind id rows ≢ None
+told-there rows references at x kind id index there is-kind is-id none =
+    first-there (is_resource kind id) references at x there
+    (key-test x kind id is-kind is-id kind id ∙ same-key kind id) (sym (index.tells kind id) ∙ none)
+  where
+    same-key : (kind : ℕ) (id : ℤ) → (kind == kind && int_eq id id) ≡ true
+    same-key kind id =
+        ap (λ t. t && int_eq id id) ((Decides-eqb kind kind).1 refl) ∙ (Decides-int_eq id id).1 refl
+
+pub index-renamed : (rows mid new : List Row) (row : Row) (id : ℤ) (first : Option ℕ) (references : List Reference)
+    (old x : Reference) → slice_get references row.place ≡ Some old → old.kind ≡ row.kind → old.stored.id ≡ id
+    → x.kind ≡ row.kind → x.stored.id ≡ row.id → (row.id ≡ id → ⊥)
+    → first ≡ first_place (is_resource row.kind id) (slice_set references row.place x)
+    → IsIndex is_resource rows references → IsToldAs row.kind id first rows mid → IsRising new
+    → IsToldAs row.kind row.id (sooner row.place (place_in row.kind row.id mid)) mid new
+    → IsIndex is_resource new (slice_set references row.place x)
+index-renamed rows mid new row id first references old x there old-kind old-id is-kind is-id apart is index let-go rising
+    told = record {
+      rising = rising;
+      tells = λ k i. told k i ∙ cases k i (row.kind == k && int_eq row.id i) (row.kind == k && int_eq id i) refl refl;
+    }
+  where
+    set : (k : ℕ) (i : ℤ) → (row.kind == k && int_eq id i) ≡ false → first_place (is_resource k i) (slice_set references row.place x)
+        ≡ replaced_at (row.kind == k && int_eq row.id i) row.place (first_place (is_resource k i) references)
+    set k i other =
+        first-set (is_resource k i) references row.place old x there (key-test old row.kind id old-kind old-id k i ∙ other)
+        ∙ ap (λ t. replaced_at t row.place (first_place (is_resource k i) references))
+        (key-test x row.kind row.id is-kind is-id k i)
+
+    stays : (k : ℕ) (i : ℤ) → (row.kind == k && int_eq id i) ≡ false
+        → place_in k i mid ≡ first_place (is_resource k i) references
+    stays k i other =
+        let-go k i ∙ ap (λ t. cond t first (place_in k i rows)) other ∙ index.tells k i
+
+    cases : (k : ℕ) (i : ℤ) (t u : Bool) → (row.kind == k && int_eq row.id i) ≡ t → (row.kind == k && int_eq id i) ≡ u
+        → cond t (sooner row.place (place_in row.kind row.id mid)) (place_in k i mid)
+        ≡ first_place (is_resource k i) (slice_set references row.place x)
+    cases k i true true here other =
+        absurd (apart ((key-of row.kind row.id k i here).1 ∙ sym (key-of row.kind id k i other).1))
+    cases k i true false here other =
+        ap (sooner row.place) (sym (told-same k i row mid here) ∙ stays k i other)
+        ∙ sym (set k i other
+        ∙ ap (λ t. replaced_at t row.place (first_place (is_resource k i) references)) here)
+    cases k i false true here other =
+        let key = key-of row.kind id k i other in
+        let-go k i ∙ ap (λ t. cond t first (place_in k i rows)) other ∙ is
+        ∙ ap (λ m. first_place (is_resource m id) (slice_set references row.place x)) key.0 ∙ ap (λ m. first_place (is_resource k m) (slice_set references row.place x)) key.1
+    cases k i false false here other =
+        stays k i other
+        ∙ sym (set k i other
+        ∙ ap (λ t. replaced_at t row.place (first_place (is_resource k i) references)) here)
+
+-- a reference that is changed, but not in its type and ID
+pub index-alike : (rows : List Row) (references : List Reference) (at : ℕ) (old x : Reference)
+    → slice_get references at ≡ Some old → x.kind ≡ old.kind → x.stored.id ≡ old.stored.id
+    → IsIndex is_resource rows references → IsIndex is_resource rows (slice_set references at x)
+index-alike rows references at old x there is-kind is-id index = record {
+  rising = index.rising;
+  tells = λ k i. index.tells k i
+      ∙ sym (first-alike (is_resource k i) references at old x there
+      (key-test x old.kind old.stored.id is-kind is-id k i));
+}
+
+one-more : (refs : List StoredReference) (n : ℕ) (r : Reference) → slice_get (map view_reference refs) n ≡ Some r
+    → map view_reference (take (suc n) refs) ≡ map view_reference (take n refs) ++ r ∷ []
+one-more [] n r e = cc
+one-more (x ∷ refs) zero r e = let is : view_reference x ≡ r = cc in ap (λ l. l ∷ []) is
+one-more (x ∷ refs) (suc n) r e = ap (λ l. view_reference x ∷ l) (one-more refs n r e)
+
+-- the row of one reference more
+pub told-more : (refs : List StoredReference) (n : ℕ) (rows : List Row) (row : Row) → n < length refs
+    → IfSome (slice_get (map view_reference refs) n)
+    (λ r. row ≡ (let x : Row = record { kind = r.kind; id = r.stored.id; place = n } in x))
+    → ((k : ℕ) (i : ℤ) → place_in k i rows ≡ first_place (is_resource k i) (map view_reference (take n refs)))
+    → (k : ℕ) (i : ℤ) → place_in k i (rows ++ row ∷ []) ≡ first_place (is_resource k i) (map view_reference (take (n + 1) refs))
+told-more refs n rows row inside is told k i =
+    cases (slice_get (map view_reference refs) n) refl is
+  where
+    cases : (o : Option Reference) → slice_get (map view_reference refs) n ≡ o
+        → IfSome o (λ r. row ≡ (let x : Row = record { kind = r.kind; id = r.stored.id; place = n } in x))
+        → place_in k i (rows ++ row ∷ []) ≡ first_place (is_resource k i) (map view_reference (take (n + 1) refs))
+    cases None e is = absurd (get-inside (map view_reference refs) n (subst (λ m. n < m) (sym (length-map refs view_reference)) inside) e)
+    cases (Some r) e is =
+        let size : length (map view_reference (take n refs)) ≡ n =
+        length-map (take n refs) view_reference ∙ length-take-le n refs (omega arith) in
+        place-push k i rows row
+        ∙ ap (λ (x : Row). later (place_in k i rows) (is_row k i x) x.place) is
+        ∙ ap (λ o. later o (is_resource k i r) n) (told k i)
+        ∙ ap (later (first_place (is_resource k i) (map view_reference (take n refs))) (is_resource k i r)) (sym size)
+        ∙ sym (first-push (is_resource k i) (map view_reference (take n refs)) r)
+        ∙ ap (first_place (is_resource k i)) (sym ((let next : n + 1 ≡ suc n = omega arith in
+        ap (λ m. map view_reference (take m refs)) next) ∙ one-more refs n r e))
+
+-- a row that is put in, as a vector has it
+pub put-rising : (old seen new : List Row) (at : ℕ) (row : Row) (done : Bool) → seen ≡ old
+    → new ≡ cond done (insert old at row) old → at ≤ length seen → (IsRising seen → Below row.kind row.id seen at)
+    → IsRising old → IsRising new
+put-rising old seen new at row done same is inside point rising =
+    subst IsRising (sym is) (cases done)
+  where
+    cases : (t : Bool) → IsRising (cond t (insert old at row) old)
+    cases true =
+        let where-to = subst (λ (l : List Row). (at ≤ length l) × (IsRising l → Below row.kind row.id l at)) same (inside, point) in
+        rising-insert old at row where-to.0 (where-to.1 rising) rising
+    cases false = rising
+
+pub put-told : (old seen new : List Row) (at : ℕ) (row : Row) (done : Bool) → seen ≡ old
+    → new ≡ cond done (insert old at row) old → at ≤ length seen → (IsRising seen → Below row.kind row.id seen at)
+    → done ≡ true → IsRising old → IsToldAs row.kind row.id (Some row.place) old new
+put-told old seen new at row done same is inside point sure rising =
+    let where-to = subst (λ (l : List Row). (at ≤ length l) × (IsRising l → Below row.kind row.id l at)) same (inside, point) in
+    subst (IsToldAs row.kind row.id (Some row.place) old)
+    (sym (is ∙ ap (λ t. cond t (insert old at row) old) sure))
+    (place-insert old at row where-to.0 (clear-below row.kind row.id old at (where-to.1 rising)))
+
+-- a row that is set, as it was read before
+pub set-rising : (rows : List Row) (at : ℕ) (row read : Row) → at < length rows → read ≡ get_or rows at read
+    → is_row row.kind row.id read ≡ true → IsRising rows → IsRising (slice_set rows at row)
+set-rising rows at row read inside is here rising =
+    rising-set rows at row inside
+    (ap (is_row row.kind row.id) (get_or_default rows at row read inside ∙ sym is) ∙ here) rising
+
+pub set-told : (rows seen : List Row) (at : ℕ) (row read : Row) → seen ≡ rows → at < length rows
+    → read ≡ get_or rows at read → is_row row.kind row.id read ≡ true → (IsRising seen → Below row.kind row.id seen at)
+    → IsRising rows → IsToldAs row.kind row.id (Some row.place) rows (slice_set rows at row)
+set-told rows seen at row read same inside is here point rising =
+    let there = subst (λ (l : List Row). IsRising l → Below row.kind row.id l at) same point in
+    place-set rows at row inside (clear-below row.kind row.id rows at (there rising))
+    (ap (is_row row.kind row.id) (get_or_default rows at row read inside ∙ sym is) ∙ here)
+
+-- where the first row at or behind those of a type and ID is of another, nothing is told of them
+pub never-told : (rows seen : List Row) (at : ℕ) (row : Row) → seen ≡ rows
+    → (IsRising seen → Below row.kind row.id seen at)
+    → ((at < length rows) → (r : Row) → r ≡ get_or rows at r → rank_of r ≡ rank row.kind row.id → ⊥) → at ≤ length seen
+    → place_in row.kind row.id rows ≢ None → IsRising rows → IsToldAs row.kind row.id (Some row.place) rows rows
+never-told rows seen at row same point other inside some rising =
+    let where-to = subst (λ (l : List Row). (at ≤ length l) × (IsRising l → Below row.kind row.id l at)) same (inside, point) in
+    absurd (some (told-none row.kind row.id rows at rising (where-to.1 rising) other where-to.0))
+
+-- something is told where a search found it
+pub told-some : (o : Option ℕ) (p : ℕ) (q : Option ℕ) → o ≡ q → o ≡ Some p → q ≢ None
+told-some o p q told is none = some-none p (sym is ∙ told ∙ none)
+
+-- a place that is told is the sooner one, or the new one is
+pub kept-told : (rows : List Row) (row : Row) (o : Option ℕ) → o ≡ place_in row.kind row.id rows
+    → sooner row.place o ≡ o → IsToldAs row.kind row.id (sooner row.place (place_in row.kind row.id rows)) rows rows
+kept-told rows row o is first k i = cases (row.kind == k && int_eq row.id i) refl
+  where
+    cases : (t : Bool) → (row.kind == k && int_eq row.id i) ≡ t
+        → place_in k i rows ≡ cond t (sooner row.place (place_in row.kind row.id rows)) (place_in k i rows)
+    cases true here = told-same k i row rows here ∙ sym is ∙ sym first ∙ ap (sooner row.place) is
+    cases false other = refl
+
+pub new-told : (rows new : List Row) (row : Row) (o : Option ℕ) → o ≡ place_in row.kind row.id rows
+    → sooner row.place o ≡ Some row.place → IsToldAs row.kind row.id (Some row.place) rows new
+    → IsToldAs row.kind row.id (sooner row.place (place_in row.kind row.id rows)) rows new
+new-told rows new row o is last told =
+    subst (λ p. IsToldAs row.kind row.id p rows new) (sym last ∙ ap (sooner row.place) is) told
+
+-- what was there is still told of, in other places
+pub moved-there : (f : ℕ → ℕ) (rows new : List Row) (references : List Reference) (at : ℕ) (x : Reference) (kind : ℕ)
+    (id : ℤ) → new ≡ map (moved f) rows → IsIndex is_resource rows references → slice_get references at ≡ Some x
+    → x.kind ≡ kind → x.stored.id ≡ id → place_in kind id new ≢ None
+moved-there f rows new references at x kind id is index there is-kind is-id none =
+    some-moved (place_in kind id rows) (told-there rows references at x kind id index there is-kind is-id)
+    (sym (ap (place_in kind id) is ∙ place-moved f kind id rows) ∙ none)
+  where
+    some-moved : (o : Option ℕ) → o ≢ None → option_map f o ≡ None → ⊥
+    some-moved None some e = some refl
+    some-moved (Some p) some e = cc
+
+-- the same index of the same references
+pub index-same : (rows new : List Row) (old refs : List Reference) → new ≡ rows → refs ≡ old
+    → IsIndex is_resource rows old → IsIndex is_resource new refs
+index-same rows new old refs is same index =
+    subst (λ (l : List Reference). IsIndex is_resource new l) (sym same)
+    (subst (λ (l : List Row). IsIndex is_resource l old) (sym is) index)
+
+-- a reference that is changed in its place, but not in its type and ID
+pub index-set : (f : Reference → Reference) → ((r : Reference) → (f r).kind ≡ r.kind)
+    → ((r : Reference) → (f r).stored.id ≡ r.stored.id) → (rows : List Row) (m : Map) (old new : List Reference) (i : ℕ)
+    → old ≡ m.references → i < length m.references → IfSome (slice_get old i) (λ r. new ≡ slice_set old i (f r))
+    → IsIndex is_resource rows old → IsIndex is_resource rows new
+index-set f keeps keeps-id rows m old new i seen inside set index =
+    cases (slice_get old i) refl (subst (λ (l : List Reference). i < length l) (sym seen) inside) set
+  where
+    cases : (o : Option Reference) → slice_get old i ≡ o → i < length old
+        → IfSome o (λ r. new ≡ slice_set old i (f r)) → IsIndex is_resource rows new
+    cases None e inside set = absurd (get-inside old i inside e)
+    cases (Some r) e inside set =
+        subst (IsIndex is_resource rows) (sym set) (index-alike rows old i r (f r) e (keeps r) (keeps-id r) index)
+
+-- the same of what is kept of a reference
+pub index-seen_at : (refs : List StoredReference) (i : ℕ) (x y : StoredReference) → i < length refs → x ≡ get_or refs i x
+    → y.kind ≡ x.kind → y.id ≡ x.id → (rows : List Row) → IsIndex is_resource rows (map view_reference refs)
+    → IsIndex is_resource rows (map view_reference (slice_set refs i y))
+index-seen_at refs i x y inside is same same-id rows index =
+    subst (IsIndex is_resource rows) (sym (map-set view_reference refs i y))
+    (index-alike rows (map view_reference refs) i (view_reference x) (view_reference y)
+    (slice_get-map view_reference refs i
+    ∙ ap (option_map view_reference) (slice_get-get_or refs i x inside ∙ ap Some (sym is))) same same-id index)
+
+-- references that are stored anew
+first-anew : (k : ℕ) (i : ℤ) (all : List (Option (List ℕ))) (references : List Reference)
+    → first_place (is_resource k i) (all_anew all references) ≡ first_place (is_resource k i) references
+first-anew k i [] references = refl
+first-anew k i (bytes ∷ all) [] = refl
+first-anew k i (bytes ∷ all) (r ∷ references) =
+    first-cons (is_resource k i) (stored_anew bytes r) (all_anew all references)
+    ∙ ap (one_on (is_resource k i r)) (first-anew k i all references) ∙ sym (first-cons (is_resource k i) r references)
+
+pub index-anew : (rows : List Row) (all : List (Option (List ℕ))) (references stored : List Reference)
+    → IsIndex is_resource rows references → stored ≡ all_anew all references → IsIndex is_resource rows stored
+index-anew rows all references stored index anew = record {
+  rising = index.rising;
+  tells = λ k i. index.tells k i ∙ sym (ap (first_place (is_resource k i)) anew ∙ first-anew k i all references);
+}
+
+-- What the functions that keep an index say, where a file's references are changed.
+
+-- a reference that is taken out
+pub out-of-index : (rows new : List Row) (row : Row) (at : ℕ) (first : Option ℕ) (refs left : List Reference)
+    → at < length refs → IfSome (slice_get refs at)
+    (λ r. row ≡ (let x : Row = record { kind = r.kind; id = r.stored.id; place = at } in x)) → left ≡ remove refs at
+    → first ≡ first_place (is_resource row.kind row.id) left
+    → ((references : List Reference) (old : Reference) → slice_get references row.place ≡ Some old
+    → old.kind ≡ row.kind → old.stored.id ≡ row.id
+    → first ≡ first_place (is_resource row.kind row.id) (remove references row.place)
+    → IsIndex is_resource rows references → IsIndex is_resource new (remove references row.place))
+    → IsIndex is_resource rows refs → IsIndex is_resource new left
+out-of-index rows new row at first refs left inside read gone told leaves index =
+    cases (slice_get refs at) refl read
+  where
+    cases : (o : Option Reference) → slice_get refs at ≡ o
+        → IfSome o (λ r. row ≡ (let x : Row = record { kind = r.kind; id = r.stored.id; place = at } in x))
+        → IsIndex is_resource new left
+    cases None e is = absurd (get-inside refs at inside e)
+    cases (Some r) e is =
+        let there : row.place ≡ at = ap (λ (x : Row). x.place) is in
+        subst (IsIndex is_resource new) (ap (remove refs) there ∙ sym gone)
+        (leaves refs r (ap (slice_get refs) there ∙ e) (sym (ap (λ (x : Row). x.kind) is))
+        (sym (ap (λ (x : Row). x.id) is))
+        (told ∙ ap (first_place (is_resource row.kind row.id)) (gone ∙ ap (remove refs) (sym there))) index)
+
+-- a reference that gets another ID
+pub renamed-in-index : (rows new : List Row) (row old : Row) (at : ℕ) (id own : ℤ) (text : List ℕ) (first : Option ℕ)
+    (refs named : List Reference) → at < length refs → IfSome (slice_get refs at)
+    (λ r. old ≡ (let x : Row = record { kind = r.kind; id = r.stored.id; place = at } in x))
+    → IfSome (slice_get refs at) (λ r. named ≡ slice_set refs at (renamed id text r)) → row.kind ≡ old.kind
+    → row.id ≡ id → row.place ≡ old.place → own ≡ old.id → first ≡ first_place (is_resource old.kind own) named
+    → ((references : List Reference) (was now : Reference) → slice_get references row.place ≡ Some was
+    → was.kind ≡ row.kind → was.stored.id ≡ own → now.kind ≡ row.kind → now.stored.id ≡ row.id
+    → first ≡ first_place (is_resource row.kind own) (slice_set references row.place now)
+    → IsIndex is_resource rows references → IsIndex is_resource new (slice_set references row.place now))
+    → IsIndex is_resource rows refs → IsIndex is_resource new named
+renamed-in-index rows new row old at id own text first refs named inside read set is-kind is-id is-place is-own told
+    enters index = cases (slice_get refs at) refl read set
+  where
+    cases : (o : Option Reference) → slice_get refs at ≡ o
+        → IfSome o (λ r. old ≡ (let x : Row = record { kind = r.kind; id = r.stored.id; place = at } in x))
+        → IfSome o (λ r. named ≡ slice_set refs at (renamed id text r)) → IsIndex is_resource new named
+    cases None e read set = absurd (get-inside refs at inside e)
+    cases (Some r) e read set =
+        let there : row.place ≡ at = is-place ∙ ap (λ (x : Row). x.place) read in
+        let kind : row.kind ≡ r.kind = is-kind ∙ ap (λ (x : Row). x.kind) read in
+        let changed = ap (λ n. slice_set refs n (renamed id text r)) there ∙ sym set in
+        subst (IsIndex is_resource new) changed
+        (enters refs r (renamed id text r) (ap (slice_get refs) there ∙ e) (sym kind)
+        (sym (is-own ∙ ap (λ (x : Row). x.id) read)) (sym kind) (sym is-id)
+        (told ∙ ap (λ k. first_place (is_resource k own) named) (sym is-kind)
+        ∙ ap (first_place (is_resource row.kind own)) (sym changed)) index)

@@ -1,0 +1,7 @@
+use Rattle.std.proofs.Common.{◌≡◌, ◌++◌, map, take, drop}
+use Rattle.res_map.specs.Index.{moved, lowered}
+use Rattle.res_map.proofs.index.lower.Given as goal
+
+-- those that were lowered, with those to come
+abbrev pub invariant-loop-i : goal.invariant-loop-i
+invariant-loop-i l = l.rows ≡ map (moved (lowered l.from)) (take l.i l.initial.rows) ++ drop l.i l.initial.rows

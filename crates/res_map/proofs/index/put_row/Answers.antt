@@ -1,0 +1,14 @@
+use Rattle.std.proofs.Common.{rules}
+use Rattle.std.specs.Prelude.{is_ok}
+use Rattle.res_map.proofs.Rows.{put-rising, put-told}
+use Rattle.res_map.proofs.index.put_row.Goals as goal
+
+pub returns-clause-rising : goal.returns-clause-rising
+returns-clause-rising c = put-rising c.args.rows.now.items c.as_slice.result.now c.insert-done.new.self.items
+    c.rows_below-at.result c.args.row (is_ok c.insert-done.result) c.as_slice.ensures.value c.insert-done.ensures.items
+    c.rows_below-at.ensures.inside (search rules)
+
+pub returns-clause-tells : goal.returns-clause-tells
+returns-clause-tells c = λ room. put-told c.args.rows.now.items c.as_slice.result.now c.insert-done.new.self.items
+    c.rows_below-at.result c.args.row (is_ok c.insert-done.result) c.as_slice.ensures.value c.insert-done.ensures.items
+    c.rows_below-at.ensures.inside (search rules) (search rules)

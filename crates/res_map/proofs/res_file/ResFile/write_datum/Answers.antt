@@ -1,0 +1,7 @@
+use Rattle.res_map.proofs.res_file.ResFile.write_datum.Goals as goal
+
+pub invariant_of-self : goal.invariant_of-self
+invariant_of-self c = (
+  c.put_bytes.ensures.ordered c.self.inside.kinds.items c.self.invariant.0,
+  c.put_bytes.ensures.indexed c.self.inside.index.items c.self.invariant.1,
+)
