@@ -85,6 +85,27 @@ impl<'s, S: BlockStore> Application<'s, S> {
         })
     }
 
+    /// Returns the application's heap, to be read.
+    pub fn heap(&self) -> &Heap<S>
+        ensures { result.now ≡ self.now.memory }
+    {
+        &self.heap
+    }
+
+    /// Returns the application's resources, to be read.
+    pub fn resources(&self) -> &Resources
+        ensures { result.now ≡ self.now.resources }
+    {
+        &self.resources
+    }
+
+    /// Returns the names that the application's script has bound so far.
+    pub fn names(&self) -> &Names
+        ensures { result.now ≡ self.now.names }
+    {
+        &self.names
+    }
+
     /// Releases the application, and returns its store as it is, and its files, in order.
     pub fn into_parts(self) -> (S, Vec<File>)
         ensures files { map view_file result.1.items ≡ self.entry.resources.files }

@@ -20,6 +20,7 @@ mod watch;
 pub use application::Application;
 pub use giving::{Given, give_alone, give_in};
 pub use laws::{an_application_with_any_resources_keeps_the_laws, steps_follow_one_another};
+pub use names::{Bound, Names};
 pub use own::{empty_content, own_resources};
 pub use quitting::Exit;
 pub use turns::{ends_turn, up_to_wait};

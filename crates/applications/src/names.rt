@@ -1,7 +1,7 @@
 //! The names of a script.
 
-ghost use Rattle.std.specs.Prelude.{◌≡◌, [], map, OnOk};
-ghost use Rattle.applications.specs.Names.{Bindings, bound_to, bind, binding};
+ghost use Rattle.std.specs.Prelude.{◌≡◌, [], map, IfOk, OnOk};
+ghost use Rattle.applications.specs.Names.{Bindings, bound_to, bind, binding, lent_binding};
 
 use mac_words::Label;
 use std::alloc::{AllocError, Global};
@@ -15,10 +15,31 @@ pub struct Names {
     bound: BTreeMap<Label, usize>,
 }
 
+/// A name that is bound, with the number of its handle or pointer.
+#[derive(Clone, Copy, Debug)]
+pub struct Bound<'a> {
+    pub name: &'a Label,
+    pub number: usize,
+}
+
 impl Model for Names {
     ghost Value = { Bindings };
 
     ghost view = { λ n. map binding n.bound.entries };
+}
+
+/// Returns the names of a map, in their order, each with its number.
+fn listed(alloc: Global, bound: &BTreeMap<Label, usize>) -> Result<Vec<Bound<'_>>, AllocError>
+    ensures { IfOk result (λ listed. map lent_binding listed.items ≡ map binding bound.now.entries) }
+{
+    let mut listed = Vec::new(alloc);
+    for (name, number) in bound {
+        listed.push(Bound {
+            name,
+            number: *number,
+        })?;
+    }
+    Ok(listed)
 }
 
 impl Names {
@@ -36,6 +57,13 @@ impl Names {
         ensures { result ≡ bound_to name.now.0.items self.now }
     {
         self.bound.get(name).copied()
+    }
+
+    /// Returns the names that are bound, in their order, each with its number.
+    pub fn bound(&self, alloc: Global) -> Result<Vec<Bound<'_>>, AllocError>
+        ensures { IfOk result (λ bound. map lent_binding bound.items ≡ self.now) }
+    {
+        listed(alloc, &self.bound)
     }
 
     /// Binds a name to a number, in place of the number that the name was bound to before.

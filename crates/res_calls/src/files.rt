@@ -1,5 +1,8 @@
 //! The files of an application, and those of the files that are open.
 
+ghost use Rattle.std.specs.Prelude.{◌≡◌};
+ghost use Rattle.res_calls.specs.View.{view_open};
+
 use mac_words::{FileName, OsErr};
 use res_map::ResFile;
 use std::marker::Model;
@@ -29,6 +32,15 @@ pub struct OpenFile {
     pub map: ResFile,
     /// Whether references of the file were added, removed or marked as changed since the fork was last written.
     pub(crate) touched: bool,
+}
+
+impl OpenFile {
+    /// Returns the number under which the file was opened; the System file has the number 0.
+    pub fn number(&self) -> u32
+        ensures { result ≡ (view_open self.now).number }
+    {
+        self.number
+    }
 }
 
 /// The resources of one application: its files, the open ones among the files, and the application's own copy of the
