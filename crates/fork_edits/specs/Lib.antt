@@ -1,2 +1,5 @@
 pub mod Types
 pub mod Texts
+pub mod Resources
+pub mod Setting
+pub mod View

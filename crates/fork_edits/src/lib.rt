@@ -2,8 +2,12 @@
 //! people and for files.
 #![tactic(auto)]
 
+mod resources;
+mod setting;
 mod texts;
 mod types;
 
+pub use resources::{Row, find_resource, rows_of};
+pub use setting::Change;
 pub use texts::{append_name, append_type};
 pub use types::read_type;
