@@ -1,4 +1,4 @@
-use Rattle.std.specs.Prelude.{ℕ, ℤ, Bool, ◌&&◌, ◌==◌, is_some, Option, Some, None, List, [], ◌∷◌, unwrap_or}
+use Rattle.std.specs.Prelude.{ℕ, ℤ, Bool, ◌&&◌, ◌==◌, is_some, Option, Some, None, List, [], ◌∷◌, ◌++◌, unwrap_or}
 use Rattle.std.specs.Prelude.{if◌then◌else◌}
 use Rattle.std.specs.List.{list_any, find}
 use Rattle.fork_format.specs.Content.{Ref, Group, Content}
@@ -49,9 +49,17 @@ group_changed id change g = record g { refs = first_changed (has_id id) (changed
 abbrev pub replaced : ℕ → ℤ → Change → List Group → List Group
 replaced kind id change groups = first_changed (has_resource kind id) (group_changed id change) groups
 
+-- A group of one resource.
+abbrev pub one_group : ℕ → Ref → Group
+one_group kind r = record { kind = kind; refs = r ∷ [] }
+
+-- The group with one more resource.
+abbrev pub with_one : Ref → Group → Group
+with_one r g = record g { refs = g.refs ++ r ∷ [] }
+
 -- The groups with one more resource: the last one of its type, or in a group of its own at the end where its type is new.
 abbrev pub added : ℕ → ℤ → Change → List Group → List Group
-added kind id change groups = put (record { kind = kind; refs = changed change (blank id) ∷ [] }) groups
+added kind id change groups = put (one_group kind (changed change (blank id))) groups
 
 -- The groups in which the resource of a type and an ID is set.
 abbrev pub groups_with : ℕ → ℤ → Change → List Group → List Group

@@ -8,6 +8,6 @@ mod texts;
 mod types;
 
 pub use resources::{Row, find_resource, rows_of};
-pub use setting::Change;
+pub use setting::{Change, set_resource};
 pub use texts::{append_name, append_type};
 pub use types::read_type;

@@ -28,7 +28,7 @@ pub struct Key {
 }
 
 /// Returns the first resource that has an ID.
-fn find_in<'b>(refs: &[Ref<'b>], key: &Key) -> Option<Ref<'b>>
+pub fn find_in<'b>(refs: &[Ref<'b>], key: &Key) -> Option<Ref<'b>>
     ensures { option_map view_ref result ≡ find (has_id key.now.id) (map view_ref refs.now) }
 {
     for r in refs {
