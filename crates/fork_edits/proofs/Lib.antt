@@ -1,2 +1,4 @@
 pub mod Changing
 pub mod Finding
+pub mod Same
+pub mod Taking

@@ -4,6 +4,10 @@ use Rattle.mac_words.specs.declared.attributes.Attrs.{Attrs}
 use Rattle.fork_format.specs.View.{view_name, view_ref}
 use Rattle.fork_edits.specs.declared.resources.Row.{Row as StoredRow}
 use Rattle.fork_edits.specs.declared.setting.Change.{Change as StoredChange}
+use Rattle.fork_edits.specs.declared.differences.Parts.{Parts as StoredParts}
+use Rattle.fork_edits.specs.declared.differences.Difference.{Difference as StoredDifference}
+use Rattle.fork_edits.specs.declared.differences.Difference.TheVariants as stored
+use Rattle.fork_edits.specs.Differences.{Parts, Difference, Area, MapAttrs, Removed, Changed, Added, Order}
 use Rattle.fork_edits.specs.Resources.{Row}
 use Rattle.fork_edits.specs.Setting.{Change}
 
@@ -18,3 +22,16 @@ view_change c = record {
   name = view_name c.name;
   attrs = option_map (λ (a : Attrs). a.0) c.attrs;
 }
+
+-- The parts that differ, as a value.
+abbrev pub view_parts : StoredParts → Parts
+view_parts p = record { name = p.name; attrs = p.attrs; datum = p.datum }
+
+-- A difference as a value.
+abbrev pub view_difference : StoredDifference → Difference
+view_difference stored.Area = Area
+view_difference stored.MapAttrs = MapAttrs
+view_difference (stored.Removed old) = Removed (view_row old)
+view_difference (stored.Changed ty id p) = Changed (big_number 4 ty.0) id (view_parts p)
+view_difference (stored.Added new) = Added (view_row new)
+view_difference stored.Order = Order

@@ -2,11 +2,13 @@
 //! people and for files.
 #![tactic(auto)]
 
+mod differences;
 mod resources;
 mod setting;
 mod texts;
 mod types;
 
+pub use differences::{Difference, Parts, diff};
 pub use resources::{Row, find_resource, rows_of};
 pub use setting::{Change, set_resource};
 pub use texts::{append_name, append_type};
