@@ -6,7 +6,6 @@ use Rattle.std.specs.Fmt.{signed_decimal}
 use Rattle.std.specs.Ordering.{int_eq}
 use Rattle.fork_format.specs.Content.{Ref, Group, Content}
 use Rattle.fork_edits.specs.Resources.{Row, rows, is_at, others}
-use Rattle.fork_edits.specs.Texts.{type_text, name_text}
 
 -- How two contents differ.
 -- More Macintosh Toolbox, chapter 1, "Resource Files" and "Resource File Format".
@@ -99,26 +98,3 @@ or_order (d ∷ differences) = d ∷ differences
 -- How two contents differ: in nothing where they are the same.
 abbrev pub differences : Content → Content → List Difference
 differences c d = if same_content c d then [] else or_order (found_differences c d)
-
--- A resource as a person reads it: its type, ID, attributes, length and name.
-abbrev pub row_text : Row → List ℕ
-row_text r = type_text r.kind ++ codes " " ++ signed_decimal r.resource.id ++ codes " " ++ decimal r.resource.attrs
-    ++ codes " " ++ decimal (length r.resource.datum) ++ codes " " ++ name_text r.resource.name
-
--- A word after a blank, where a test passes.
-abbrev pub word_if : Bool → List ℕ → List ℕ
-word_if test word = if test then codes " " ++ word else []
-
--- The parts that differ.
-abbrev pub parts_text : Parts → List ℕ
-parts_text p = word_if p.name (codes "name") ++ word_if p.attrs (codes "attributes") ++ word_if p.datum (codes "bytes")
-
--- The line of a difference.
-abbrev pub difference_line : Difference → List ℕ
-difference_line Area = codes "~ area\n"
-difference_line MapAttrs = codes "~ map attributes\n"
-difference_line (Removed old) = codes "- " ++ row_text old ++ codes "\n"
-difference_line (Changed kind id p) =
-    codes "~ " ++ type_text kind ++ codes " " ++ signed_decimal id ++ parts_text p ++ codes "\n"
-difference_line (Added new) = codes "+ " ++ row_text new ++ codes "\n"
-difference_line Order = codes "~ order\n"

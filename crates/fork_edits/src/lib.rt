@@ -2,13 +2,19 @@
 //! people and for files.
 #![tactic(auto)]
 
+mod attributes;
 mod differences;
+mod file_names;
+mod lines;
 mod resources;
 mod setting;
 mod texts;
 mod types;
 
+pub use attributes::read_attrs;
 pub use differences::{Difference, Parts, diff};
+pub use file_names::append_file_name;
+pub use lines::{append_difference, append_row};
 pub use resources::{Row, find_resource, rows_of};
 pub use setting::{Change, set_resource};
 pub use texts::{append_name, append_type};

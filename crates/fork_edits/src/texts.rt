@@ -3,6 +3,7 @@
 
 ghost use Rattle.std.specs.Prelude.{◌≡◌, ◌<◌, ◌++◌, OnOk, length};
 ghost use Rattle.std.specs.List.{flat_map, list_all};
+ghost use Rattle.std.specs.Fmt.{signed_decimal};
 ghost use Rattle.byteorder.specs.Endian.{big_number, big_bytes};
 ghost use Rattle.fork_format.specs.View.{view_name};
 ghost use Rattle.fork_edits.specs.Texts.{hex_digit, hex_byte, is_printable, is_clear, four_text, type_text, char_text};
@@ -10,6 +11,7 @@ ghost use Rattle.fork_edits.specs.Texts.{name_text};
 
 use byteorder::{BigEndian, ByteOrder};
 use fork_format::{RefName, kind_of};
+use itoa::Buffer;
 use mac_words::OsType;
 use std::alloc::AllocError;
 
@@ -36,6 +38,13 @@ fn push_digits(text: &mut Vec<u8>, bytes: &[u8]) -> Result<(), AllocError>
         push_hex(text, *byte)?;
     }
     Ok(())
+}
+
+/// Appends an ID in decimal.
+pub(crate) fn push_id(text: &mut Vec<u8>, id: &i16) -> Result<(), AllocError>
+    ensures { OnOk result (text.new.items ≡ text.old.items ++ signed_decimal id.now) }
+{
+    text.extend_from_slice(Buffer::new().format(*id).as_bytes())
 }
 
 /// Reports whether a byte is a printable character of ASCII.
