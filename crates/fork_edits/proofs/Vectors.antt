@@ -1,7 +1,6 @@
-use Rattle.std.proofs.Common.{◌≡◌, ℕ, List, [], ◌∷◌, refl, Option, Some, None, codes, replicate}
-use Rattle.std.specs.Prelude.{pos, true, false, decimal}
-use Rattle.std.specs.Fmt.{digits}
-use Rattle.fork_format.specs.Content.{Ref, Group, Content}
+use Rattle.std.proofs.Common.{◌≡◌, List, [], ◌∷◌, refl, Some, None, codes, replicate}
+use Rattle.std.specs.Prelude.{pos, true, false}
+use Rattle.fork_format.specs.Content.{Ref, Content}
 use Rattle.fork_edits.specs.Types.{type_read}
 use Rattle.fork_edits.specs.Texts.{type_text, name_text}
 use Rattle.fork_edits.specs.Attributes.{attrs_read}

@@ -1,4 +1,4 @@
-use Rattle.std.proofs.Common.{◌≡◌, ℕ, ◌+◌, ◌<◌, List, ◌∷◌, length, drop, get_or, Option, Some, None, ◌∙◌, ap, sym, refl}
+use Rattle.std.proofs.Common.{◌≡◌, ℕ, ◌+◌, ◌<◌, List, length, drop, get_or, Option, Some, None, ◌∙◌, ap, sym, refl}
 use Rattle.std.specs.Prelude.{bit_or, is_some, unwrap_or, cond}
 use Rattle.mac_words.proofs.Plain.{rest-next}
 use Rattle.fork_edits.specs.Attributes.{word_value, words_value}

@@ -116,11 +116,7 @@ fn push_resource(text: &mut Vec<u8>, row: &Row<'_>) -> Result<(), AllocError>
 ///
 /// Two names with different numbers differ, also where a host takes letters in either case for the same, and no name is
 /// longer than 255 bytes (`file_names_are_apart`).
-pub fn append_file_name(
-    text: &mut Vec<u8>,
-    number: usize,
-    row: &Row<'_>,
-) -> Result<(), AllocError>
+pub fn append_file_name(text: &mut Vec<u8>, number: usize, row: &Row<'_>) -> Result<(), AllocError>
     ensures { OnOk result (text.new.items ≡ text.old.items ++ file_name number (view_row row.now)) }
 {
     push_place(text, number)?;

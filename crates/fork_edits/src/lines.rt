@@ -80,12 +80,7 @@ fn push_key(text: &mut Vec<u8>, ty: OsType, id: &i16) -> Result<(), AllocError>
 }
 
 /// Appends the line of a resource of which some parts differ.
-fn push_changed(
-    text: &mut Vec<u8>,
-    ty: OsType,
-    id: &i16,
-    parts: &Parts,
-) -> Result<(), AllocError>
+fn push_changed(text: &mut Vec<u8>, ty: OsType, id: &i16, parts: &Parts) -> Result<(), AllocError>
     ensures { OnOk result (text.new.items
         ≡ text.old.items ++ changed_line (big_number 4 ty.0) id.now (view_parts parts.now)) }
 {

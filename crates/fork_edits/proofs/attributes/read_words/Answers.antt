@@ -1,4 +1,4 @@
-use Rattle.std.proofs.Common.{◌≡◌, ◌∙◌, ap, sym, rules, tests, arith, length, drop}
+use Rattle.std.proofs.Common.{◌∙◌, ap, sym, rules, tests, arith, length, drop}
 use Rattle.std.specs.Prelude.{ℕ, bit_or}
 use Rattle.std.specs.List.{slice_split}
 use Rattle.std.proofs.lemmas.List.{at_drop_all, length_push}
