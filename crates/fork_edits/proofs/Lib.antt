@@ -1,0 +1,7 @@
+pub mod Changing
+pub mod Finding
+pub mod Naming
+pub mod Same
+pub mod Taking
+pub mod Vectors
+pub mod Words

@@ -1,0 +1,89 @@
+use Rattle.std.proofs.Common.{◌≡◌, List, [], ◌∷◌, refl, Some, None, codes, replicate}
+use Rattle.std.specs.Prelude.{pos, true, false}
+use Rattle.fork_format.specs.Content.{Ref, Content}
+use Rattle.fork_edits.specs.Types.{type_read}
+use Rattle.fork_edits.specs.Texts.{type_text, name_text}
+use Rattle.fork_edits.specs.Attributes.{attrs_read}
+use Rattle.fork_edits.specs.Resources.{row, found}
+use Rattle.fork_edits.specs.Setting.{Change, with_resource}
+use Rattle.fork_edits.specs.Differences.{Removed, Changed, Added, Order, differences}
+
+-- types as people write them
+quoted : type_read (codes "'STR '") ≡ Some (codes "STR ")
+quoted = refl
+
+plain : type_read (codes "STR") ≡ Some (codes "STR ")
+plain = refl
+
+spelled : type_read (codes "$5354522a") ≡ Some (codes "STR*")
+spelled = refl
+
+five_bytes : type_read (codes "STR  ") ≡ None
+five_bytes = refl
+
+-- types and names as a person reads them
+shown : type_text 0x53545220 ≡ codes "'STR '"
+shown = refl
+
+shown_digits : type_text 0x53545200 ≡ codes "$53545200"
+shown_digits = refl
+
+a_quote : name_text (Some (34 ∷ 7 ∷ [])) ≡ codes "\"\\\"\\0x07\""
+a_quote = refl
+
+no_name : name_text None ≡ codes "-"
+no_name = refl
+
+-- attributes as people write them
+in_words : attrs_read (codes "sysheap,locked") ≡ Some 80
+in_words = refl
+
+in_digits : attrs_read (codes "80") ≡ Some 80
+in_digits = refl
+
+in_hexadecimal : attrs_read (codes "$50") ≡ Some 80
+in_hexadecimal = refl
+
+too_great : attrs_read (codes "256") ≡ None
+too_great = refl
+
+-- resources of the type 'STR ', whose number is 0x53545220
+abbrev greeting : Ref
+greeting = record { id = pos 128; name = Some (codes "Greeting"); attrs = 32; datum = 1 ∷ [] }
+
+abbrev farewell : Ref
+farewell = record { id = pos 129; name = None; attrs = 0; datum = 2 ∷ [] }
+
+abbrev of : List Ref → Content
+of refs = record { area = replicate 240 0; attrs = 0; groups = record { kind = 0x53545220; refs = refs } ∷ [] }
+
+abbrev new_bytes : Change
+new_bytes = record { datum = 3 ∷ []; name = None; attrs = None }
+
+the_first : found 0x53545220 (pos 129) (of (greeting ∷ farewell ∷ [])) ≡ Some farewell
+the_first = refl
+
+-- a resource that is replaced keeps its place, its name and its attributes
+replaced : with_resource 0x53545220 (pos 128) new_bytes (of (greeting ∷ farewell ∷ []))
+    ≡ of (record greeting { datum = 3 ∷ [] } ∷ farewell ∷ [])
+replaced = refl
+
+-- a new one has no name, and attributes 0
+new_one : with_resource 0x53545220 (pos 130) new_bytes (of (greeting ∷ []))
+    ≡ of (greeting ∷ record { id = pos 130; name = None; attrs = 0; datum = 3 ∷ [] } ∷ [])
+new_one = refl
+
+-- differences
+alike : differences (of (greeting ∷ farewell ∷ [])) (of (greeting ∷ farewell ∷ [])) ≡ []
+alike = refl
+
+order : differences (of (greeting ∷ farewell ∷ [])) (of (farewell ∷ greeting ∷ [])) ≡ Order ∷ []
+order = refl
+
+one_each : differences (of (greeting ∷ [])) (of (farewell ∷ []))
+    ≡ Removed (row 0x53545220 greeting) ∷ Added (row 0x53545220 farewell) ∷ []
+one_each = refl
+
+attributes : differences (of (greeting ∷ [])) (of (record greeting { attrs = 0 } ∷ []))
+    ≡ Changed 0x53545220 (pos 128) (record { name = false; attrs = true; datum = false }) ∷ []
+attributes = refl

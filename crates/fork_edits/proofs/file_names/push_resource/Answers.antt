@@ -1,0 +1,22 @@
+use Rattle.std.proofs.Common.{◌++◌, List, ℕ, codes}
+use Rattle.std.specs.Fmt.{signed_decimal}
+use Rattle.std.specs.List.{flat_map}
+use Rattle.byteorder.specs.Endian.{big_number, big_bytes}
+use Rattle.fork_format.specs.View.{view_name}
+use Rattle.fork_format.proofs.Putting.{put-two}
+use Rattle.fork_edits.specs.FileNames.{safe_byte, name_part}
+use Rattle.fork_edits.proofs.file_names.push_resource.Goals as goal
+
+pub returns : goal.returns
+returns c =
+    let out : List ℕ = c.args.text.now.items in
+    let one : List ℕ = c.push_type.new.text.items in
+    let two : List ℕ = c.push.new.self.items in
+    let three : List ℕ = c.push_id.new.text.items in
+    let four : List ℕ = c.push_name_part.new.text.items in
+    let a : List ℕ = flat_map safe_byte (big_bytes 4 (big_number 4 c.args.row.now.ty.0)) in
+    let b : List ℕ = codes "-" in
+    let d : List ℕ = signed_decimal c.args.row.now.resource.id in
+    put-two out three four (a ++ b ++ d) (name_part (view_name c.args.row.now.resource.name))
+    (put-two out two three (a ++ b) d (put-two out one two a b c.in_ok-push_type.ensures c.in_ok-push.ensures.items)
+    c.in_ok-push_id.ensures) c.in_ok-push_name_part.ensures

@@ -1,0 +1,6 @@
+use Rattle.std.proofs.Common.{sym}
+use Rattle.std.proofs.lemmas.List.{take_all}
+use Rattle.fork_edits.proofs.file_names.shown.Goals as goal
+
+pub returns-then-bytes-le-SHOWN : goal.returns-then-bytes-le-SHOWN
+returns-then-bytes-le-SHOWN c = sym (take_all 48 c.args.bytes.now c.if-bytes-le-SHOWN.true)

@@ -1,0 +1,9 @@
+use Rattle.std.proofs.Common.{◌≡◌, map, drop}
+use Rattle.std.specs.List.{find}
+use Rattle.fork_format.specs.View.{view_group}
+use Rattle.fork_edits.specs.Resources.{is_at, rows}
+use Rattle.fork_edits.proofs.resources.first_of.Given as goal
+
+abbrev pub invariant-loop-group : goal.invariant-loop-group
+invariant-loop-group l = find (is_at l.key.kind l.key.id) (rows (map view_group (drop l.group-index l.groups)))
+    ≡ find (is_at l.key.kind l.key.id) (rows (map view_group l.groups))

@@ -1,0 +1,9 @@
+pub mod Types
+pub mod Texts
+pub mod Resources
+pub mod Setting
+pub mod Differences
+pub mod Lines
+pub mod Attributes
+pub mod FileNames
+pub mod View
