@@ -5,3 +5,4 @@ pub mod Remarks
 pub mod Lexing
 pub mod Reading
 pub mod Printing
+pub mod Bytes

@@ -1,4 +1,4 @@
-use Rattle.std.specs.Prelude.{ℕ, zero, suc, ◌+◌, ◌-◌, ◌*◌, ◌/◌, ◌%◌, ◌==◌, nat_le, nat_lt, Bool, not, ◌&&◌}
+use Rattle.std.specs.Prelude.{ℕ, ℤ, zero, suc, ◌+◌, ◌-◌, ◌*◌, ◌/◌, ◌%◌, ◌==◌, nat_le, nat_lt, Bool, not, ◌&&◌}
 use Rattle.std.specs.Prelude.{Option, Some, None, List, [], ◌∷◌, ◌++◌, map, length, take, drop, replicate, codes}
 use Rattle.std.specs.Prelude.{bit_and, if◌then◌else◌}
 use Rattle.std.specs.List.{flat_map, list_all}
@@ -92,11 +92,17 @@ abbrev pub attributes_argument : ℕ → List ℕ
 attributes_argument attrs =
     if bit_and attrs 131 == 0 then attribute_words attrs else codes ", $" ++ byte_hex attrs
 
+-- A type between quotes.
+unfoldable pub type_literal : ℕ → List ℕ
+type_literal kind = in_quotes 39 (big_bytes 4 kind)
+
+-- The type and the ID of a resource, and what stands before them.
+abbrev pub opening : ℕ → ℤ → List ℕ
+opening kind id = codes "data " ++ type_literal kind ++ codes " (" ++ signed_decimal id
+
 -- What stands before the data of a resource: its type, ID, name and attributes.
-abbrev pub statement_head : ℕ → Ref → List ℕ
-statement_head kind r =
-    codes "data " ++ in_quotes 39 (big_bytes 4 kind) ++ codes " (" ++ signed_decimal r.id ++ name_argument r.name
-    ++ attributes_argument r.attrs ++ codes ") {\n"
+unfoldable pub statement_head : ℕ → Ref → List ℕ
+statement_head kind r = opening kind r.id ++ name_argument r.name ++ attributes_argument r.attrs ++ codes ") {\n"
 
 -- A resource as a statement, and an empty line.
 abbrev pub statement : ℕ → Ref → List ℕ
@@ -106,22 +112,31 @@ statement kind r = statement_head kind r ++ data_lines (line_count r.datum) r.da
 abbrev pub group_statements : Group → List ℕ
 group_statements g = flat_map (statement g.kind) g.refs
 
--- The attributes of the map as a comment, where they aren't 0.
-abbrev pub attributes_remark : ℕ → List ℕ
-attributes_remark attrs =
-    if attrs == 0 then []
-    else codes "/* map attributes $" ++ byte_hex (attrs / 256) ++ byte_hex (attrs % 256) ++ codes " */\n"
+-- The attributes of the map as a comment.
+abbrev pub attributes_comment : ℕ → List ℕ
+attributes_comment attrs =
+    codes "/* map attributes $" ++ byte_hex (attrs / 256) ++ byte_hex (attrs % 256) ++ codes " */\n"
 
--- n lines of 16 bytes each within a comment.
+-- This comment where the attributes aren't 0.
+abbrev pub attributes_remark : ℕ → List ℕ
+attributes_remark attrs = if attrs == 0 then [] else attributes_comment attrs
+
+-- A line of at most 16 bytes within a comment.
+abbrev pub area_line : List ℕ → List ℕ
+area_line bytes = 10 ∷ 9 ∷ [] ++ grouped 0 bytes
+
+-- n such lines of 16 bytes each, the last of which may have fewer.
 abbrev pub area_lines : ℕ → List ℕ → List ℕ
 area_lines zero bytes = []
-area_lines (suc n) bytes = 10 ∷ 9 ∷ [] ++ grouped 0 (take 16 bytes) ++ area_lines n (drop 16 bytes)
+area_lines (suc n) bytes = area_line (take 16 bytes) ++ area_lines n (drop 16 bytes)
 
--- The 240 bytes behind the header as a comment, where they aren't all 0.
+-- The 240 bytes behind the header as a comment.
+abbrev pub area_comment : List ℕ → List ℕ
+area_comment area = codes "/* header bytes" ++ area_lines (line_count area) area ++ codes "\n*/\n"
+
+-- This comment where the bytes aren't all 0.
 abbrev pub area_remark : List ℕ → List ℕ
-area_remark area =
-    if list_all (λ b. b == 0) area then []
-    else codes "/* header bytes" ++ area_lines (line_count area) area ++ codes "\n*/\n"
+area_remark area = if list_all (λ b. b == 0) area then [] else area_comment area
 
 -- A content as source.
 unfoldable pub source_of : Content → List ℕ

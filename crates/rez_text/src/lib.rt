@@ -2,6 +2,7 @@
 #![tactic(auto)]
 
 mod fault;
+mod laws;
 mod lexing;
 mod mode;
 mod name;
@@ -9,7 +10,10 @@ mod read;
 mod reader;
 mod remarks;
 mod source;
+mod write;
 
 pub use fault::{FaultKind, SourceFault, TextFault};
+pub use laws::a_source_is_read_again;
 pub use read::read_source;
 pub use source::Source;
+pub use write::write_source;
