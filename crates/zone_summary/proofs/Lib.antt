@@ -1,0 +1,2 @@
+pub mod Monoid
+pub mod Runs
