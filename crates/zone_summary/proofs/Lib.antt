@@ -1,2 +1,4 @@
 pub mod Monoid
 pub mod Runs
+pub mod Sums
+pub mod Groups

@@ -2,6 +2,10 @@
 //! are answered without a walk over its blocks.
 #![tactic(auto)]
 
+mod grouping;
+mod reaching;
 mod stretch;
 
+pub use grouping::{GROUP, all, renew};
+pub use reaching::{Reach, first_reach, joined, reach_page};
 pub use stretch::Stretch;
