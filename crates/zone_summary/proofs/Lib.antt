@@ -2,3 +2,5 @@ pub mod Monoid
 pub mod Runs
 pub mod Sums
 pub mod Groups
+pub mod Searching
+pub mod Pages

@@ -1,8 +1,8 @@
 -- Stretches are a monoid, to which lists of blocks go by a homomorphism.
-use Rattle.std.proofs.Common.{◌≡◌, ℕ, ◌+◌, ◌≤◌, max, Bool, true, false, List, [], ◌∷◌, ◌++◌, refl, sym, ◌∙◌, ap, arith}
+use Rattle.std.proofs.Common.{◌≡◌, ℕ, ◌+◌, ◌≤◌, max, List, [], ◌∷◌, ◌++◌, refl, sym, ◌∙◌, ap, arith}
 use Rattle.std.proofs.Common.{add-zero, zero-add, add_assoc}
 use Rattle.block_store.specs.Block.{Block}
-use Rattle.zone_summary.specs.Stretches.{join, prefix, suffix, beyond, best, one, stretch_of, join_all}
+use Rattle.zone_summary.specs.Stretches.{join, suffix, best, one, stretch_of, join_all}
 use Rattle.zone_summary.specs.declared.stretch.Stretch.{Stretch}
 use Rattle.zone_summary.specs.declared.stretch.Stretch.TheVariants.{Whole, Ended}
 

@@ -1,12 +1,12 @@
 -- What stretches hold in sum, and what they come to, one after another.
 use Rattle.std.proofs.Common.{◌≡◌, ℕ, ◌+◌, ◌^◌, ◌≤◌, ◌<◌, List, [], ◌∷◌, ◌++◌, length, take, drop, get_or, map, Bool, true, false}
-use Rattle.std.proofs.Common.{refl, sym, ◌∙◌, ap, arith, max}
+use Rattle.std.proofs.Common.{refl, ap, arith}
 use Rattle.std.proofs.lemmas.List.{take_more, take-append-drop}
-use Rattle.block_store.specs.Block.{Block, Free, Nonrelocatable, Masters, Relocatable, size, sizes, free_of}
+use Rattle.block_store.specs.Block.{Block, Free, Nonrelocatable, Masters, Relocatable, size, sizes}
 use Rattle.block_store.specs.Run.{in_run}
 use Rattle.block_store.proofs.Zone.Totals.{total-append}
 use Rattle.zone_summary.specs.Rows.{load, loads, part, blocks_of}
-use Rattle.zone_summary.specs.Stretches.{counted, join, prefix, suffix, best, one, stretch_of, join_all}
+use Rattle.zone_summary.specs.Stretches.{counted, join, prefix, suffix, one, stretch_of, join_all}
 use Rattle.zone_summary.specs.declared.stretch.Stretch.{Stretch}
 use Rattle.zone_summary.specs.declared.stretch.Stretch.TheVariants.{Whole, Ended}
 use Rattle.zone_summary.proofs.Monoid.{join-assoc, join-unit_right, join_all-append}

@@ -1,11 +1,11 @@
 -- Stretches that lie in a row: those of a zone's pages, in groups.
-use Rattle.std.specs.Prelude.{◌≡◌, ℕ, ◌+◌, ◌*◌, ◌^◌, ◌<◌, ◌≤◌, ◌⊎◌, true, List, [], ◌∷◌, ◌++◌, map, length, take, drop, get_or}
+use Rattle.std.specs.Prelude.{◌≡◌, ℕ, ◌+◌, ◌*◌, ◌^◌, ◌<◌, ◌≤◌, List, [], ◌∷◌, ◌++◌, map, length, take, drop, get_or}
 use Rattle.block_store.specs.Block.{Block}
 use Rattle.zone_summary.specs.declared.grouping.TheConstants.{GROUP}
 use Rattle.zone_summary.specs.declared.reaching.Reach.{Reach}
 use Rattle.zone_summary.specs.declared.stretch.Stretch.{Stretch}
 use Rattle.zone_summary.specs.declared.stretch.Stretch.TheVariants.{Whole, Ended}
-use Rattle.zone_summary.specs.Stretches.{join, best, is_ended, join_all, stretch_of}
+use Rattle.zone_summary.specs.Stretches.{join, best, join_all, stretch_of}
 
 -- The blocks of pages, lowest first.
 abbrev pub blocks_of : List (List Block) → List Block

@@ -1,8 +1,9 @@
 //! Stretches in groups, each of which is what its units come to.
 
 ghost use Rattle.std.specs.Prelude.{◌≡◌, ◌+◌, ◌*◌, ◌/◌, ◌^◌, ◌<◌, ◌≤◌, List, length};
-ghost use Rattle.zone_summary.specs.Rows.{loads, AreGroups, ChangedIn, IsRow};
-ghost use Rattle.zone_summary.specs.Stretches.{join_all};
+ghost use Rattle.block_store.specs.Block.{Block};
+ghost use Rattle.zone_summary.specs.Rows.{blocks_of, loads, AreGroups, AreOf, ChangedIn, IsRow};
+ghost use Rattle.zone_summary.specs.Stretches.{join_all, stretch_of};
 ghost use Rattle.zone_summary.specs.declared.stretch.Stretch.{Stretch as StretchOf};
 
 use crate::reaching::joined;
@@ -50,7 +51,9 @@ pub fn renew(pages: &[Stretch], groups: &mut [Stretch], tops: &mut [Stretch], fr
 /// Returns what all pages come to.
 pub fn all(tops: &[Stretch]) -> Stretch
     requires { (pages : List StretchOf) × (groups : List StretchOf) × IsRow pages groups tops.now }
-    ensures { (pages groups : List StretchOf) → IsRow pages groups tops.now → result ≡ join_all pages }
+    ensures is { (pages groups : List StretchOf) → IsRow pages groups tops.now → result ≡ join_all pages }
+    ensures blocks { (zone : List (List Block)) (pages groups : List StretchOf) → IsRow pages groups tops.now
+        → AreOf zone pages → result ≡ stretch_of (blocks_of zone) }
 {
     joined(tops)
 }

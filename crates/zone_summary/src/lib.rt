@@ -2,10 +2,12 @@
 //! are answered without a walk over its blocks.
 #![tactic(auto)]
 
+mod beginning;
 mod grouping;
 mod reaching;
 mod stretch;
 
+pub use beginning::{OpenFrom, open_from};
 pub use grouping::{GROUP, all, renew};
 pub use reaching::{Reach, first_reach, joined, reach_page};
 pub use stretch::Stretch;

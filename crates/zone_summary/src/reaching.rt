@@ -1,7 +1,9 @@
 //! The lowest of some stretches with which a run comes to enough free bytes.
 
-ghost use Rattle.std.specs.Prelude.{◌≡◌, ◌+◌, ◌^◌, ◌<◌, ◌≤◌, MatchOption, length, take};
-ghost use Rattle.zone_summary.specs.Rows.{load, loads, IsReach, IsRow, AreGroups};
+ghost use Rattle.std.specs.Prelude.{◌≡◌, ◌+◌, ◌^◌, ◌<◌, ◌≤◌, Bool, List, MatchOption, None, length, take};
+ghost use Rattle.block_store.specs.Block.{Block};
+ghost use Rattle.zone_summary.specs.Rows.{blocks_of, load, loads, AreGroups, AreOf, IsReach, IsRow};
+ghost use Rattle.zone_summary.specs.Searches.{search};
 ghost use Rattle.zone_summary.specs.Stretches.{best, join, join_all};
 ghost use Rattle.zone_summary.specs.declared.stretch.Stretch.TheVariants.{Whole};
 
@@ -67,8 +69,10 @@ fn reach_in(units: &[Stretch], groups: &[Stretch], group: Reach, enough: u32) ->
 pub fn reach_page(pages: &[Stretch], groups: &[Stretch], tops: &[Stretch], enough: u32) -> Option<Reach>
     requires row { IsRow pages.now groups.now tops.now }
     requires some { 0 < enough }
-    ensures { MatchOption result (best (join_all pages.now) < enough)
+    ensures is { MatchOption result (best (join_all pages.now) < enough)
         (λ r. IsReach (Whole 0) pages.now enough r) }
+    ensures none { (zone : List (List Block)) (spared : Block → Bool) → AreOf zone pages.now → result ≡ None
+        → search enough spared 0 0 0 (blocks_of zone) ≡ None }
 {
     let Some(top) = first_reach(tops, Stretch::NONE, enough) else {
         return None;

@@ -1,4 +1,4 @@
-use Rattle.std.proofs.Common.{arith, ◌≡◌, ◌+◌, ◌-◌, ◌*◌, ◌/◌, ◌∙◌, ap, refl, length, take, drop}
+use Rattle.std.proofs.Common.{arith, ◌≡◌, ◌+◌, ◌-◌, ◌*◌, ◌/◌, ◌∙◌, ap, refl, take, drop}
 use Rattle.std.proofs.lemmas.List.{length-set, take-set-le, drop-set-lt}
 use Rattle.zone_summary.specs.Stretches.{join_all}
 use Rattle.zone_summary.proofs.Groups.{groups-kept, groups-more}

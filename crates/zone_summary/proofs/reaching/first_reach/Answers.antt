@@ -1,6 +1,5 @@
-use Rattle.std.proofs.Common.{arith, sym, ap, ◌≡◌, ◌+◌, ◌∙◌, take}
+use Rattle.std.proofs.Common.{arith, sym}
 use Rattle.std.proofs.lemmas.List.{take_all}
-use Rattle.zone_summary.specs.Stretches.{best, join, join_all}
 use Rattle.zone_summary.proofs.Monoid.{join-unit_right}
 use Rattle.zone_summary.proofs.Sums.{turn-fits, turn-joins}
 use Rattle.zone_summary.proofs.reaching.first_reach.Goals as goal

@@ -1,7 +1,5 @@
-use Rattle.std.proofs.Common.{arith, ◌∙◌}
-use Rattle.zone_summary.specs.Stretches.{join_all}
+use Rattle.std.proofs.Common.{arith}
 use Rattle.zone_summary.specs.declared.stretch.Stretch.TheVariants.{Whole}
-use Rattle.zone_summary.proofs.Monoid.{join-unit_left}
 use Rattle.zone_summary.proofs.Sums.{turn-fits, turn-joins}
 use Rattle.zone_summary.proofs.reaching.joined.Goals as goal
 

@@ -1,5 +1,5 @@
 use Rattle.std.proofs.Common.{◌+◌, ◌∙◌, refl, sym, ap, max}
-use Rattle.zone_summary.specs.declared.stretch.Stretch.TheVariants.{Whole, Ended}
+use Rattle.zone_summary.specs.declared.stretch.Stretch.TheVariants.{Ended}
 use Rattle.zone_summary.proofs.Monoid.{joined-is}
 use Rattle.zone_summary.proofs.stretch.Stretch.join.Goals as goal
 
