@@ -1,8 +1,9 @@
 -- Groups come to what their units do, and stay so where units change.
 use Rattle.std.proofs.Common.{◌≡◌, ◌≢◌, ℕ, zero, suc, ◌+◌, ◌-◌, ◌*◌, ◌/◌, ◌^◌, ◌≤◌, ◌<◌, ◌⊎◌, inl, inr, List, ◌++◌, length, take, drop}
-use Rattle.std.proofs.Common.{refl, sym, ◌∙◌, ap, subst, arith, get_or, set}
+use Rattle.std.proofs.Common.{replicate, refl, sym, ◌∙◌, ap, subst, arith, get_or, set}
 use Rattle.std.proofs.Math.Seq.{take-add}
 use Rattle.std.proofs.lemmas.Bool.{cases_eq}
+use Rattle.std.proofs.lemmas.List.{take-set-le, drop-set-lt, length-set, length-replicate, get_or-replicate, drop-replicate, take-replicate}
 use Rattle.std.proofs.lemmas.List.{take_all, drop-take, drop-drop, take-take, get_or-set_same, get_or-set_other, length-take-le, length-drop}
 use Rattle.zone_summary.specs.Rows.{load, loads, part, AreGroups, ChangedIn, IsRow, IsReach}
 use Rattle.zone_summary.specs.Stretches.{join, best, join_all}
@@ -86,6 +87,15 @@ part-same from to at n was units c (inr h) = let m : to + (at - to) ≡ at = ome
     ap (take n) (ap (λ k. drop k units) (sym m) ∙ sym (drop-drop (at - to) to units) ∙ ap (drop (at - to)) c.high
     ∙ drop-drop (at - to) to was ∙ ap (λ k. drop k was) m)
 
+-- one unit more that changed
+pub changed-more : (from to i : ℕ) (was units : List Stretch) (s : Stretch) → ChangedIn from to was units → from ≤ i → i < to
+    → ChangedIn from to was (set units i s)
+changed-more from to i was units s c low high = record {
+  low = take-set-le from units i s low ∙ c.low;
+  high = drop-set-lt to units i s high ∙ c.high;
+  long = length-set units i s ∙ c.long;
+}
+
 -- groups below and above those whose units changed
 pub groups-kept : (was units groups : List Stretch) (from to g : ℕ) → ChangedIn from to was units → AreGroups was groups
     → g < length groups → (g < from / 16) ⊎ (to ≤ 16 * g)
@@ -168,3 +178,32 @@ group-short units groups enough n r e a i less =
     let s : best (join r.below (join_all (part (16 * r.index) 16 units))) < enough
     = subst (λ k. best (join r.below (join_all (take k (drop (16 * r.index) units)))) < enough) e less in
     absurd (omega (arith, had, s))
+
+-- the row of pages in which no block begins
+join-none : (n : ℕ) → join_all (replicate n (Whole 0)) ≡ Whole 0
+join-none zero = refl
+join-none (suc n) = ap (join (Whole 0)) (join-none n)
+
+loads-none : (n : ℕ) → loads (replicate n (Whole 0)) ≡ 0
+loads-none zero = refl
+loads-none (suc n) = omega (arith, loads-none n)
+
+groups-none : (n : ℕ) → AreGroups (replicate (16 * n) (Whole 0)) (replicate n (Whole 0))
+groups-none n = record {
+  whole = rw (length-replicate (16 * n) (Whole 0), length-replicate n (Whole 0)) refl;
+  each = λ g h. let less : g < n = omega (arith, h, length-replicate n (Whole 0)) in
+      let fits : 16 ≤ 16 * n - 16 * g = omega arith in
+      rw (
+        get_or-replicate n g (Whole 0) (Whole 0) less,
+        drop-replicate (16 * g) (16 * n) (Whole 0),
+        take-replicate 16 (16 * n - 16 * g) (Whole 0) fits,
+      ) (sym (join-none 16));
+}
+
+pub row-none : (n : ℕ)
+    → IsRow (replicate (16 * (16 * n)) (Whole 0)) (replicate (16 * n) (Whole 0)) (replicate n (Whole 0))
+row-none n = record {
+  in_groups = groups-none (16 * n);
+  in_tops = groups-none n;
+  small = omega (arith, loads-none (16 * (16 * n)));
+}

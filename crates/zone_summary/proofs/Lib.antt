@@ -4,3 +4,4 @@ pub mod Sums
 pub mod Groups
 pub mod Searching
 pub mod Pages
+mod Examples

@@ -48,9 +48,11 @@ module _ (p : ℕ) (sp : Block → Bool) where
   pub scan-past : (start had place : ℕ) (low high : List Block) → best (join (Whole had) (stretch_of low)) < p
       → Past start had place low high (join (Whole had) (stretch_of low))
   unfolding Past
-  scan-past start had place [] high h =
-      (start, ap (λ n. search p sp start n place high) (let e : had ≡ had + 0 = omega arith in e)
-      ∙ ap (λ n. search p sp start (had + 0) n high) (let e : place ≡ place + 0 = omega arith in e))
+  scan-past start had place [] high h = (
+    start,
+    ap (λ n. search p sp start n place high) (let e : had ≡ had + 0 = omega arith in e)
+        ∙ ap (λ n. search p sp start (had + 0) n high) (let e : place ≡ place + 0 = omega arith in e),
+  )
   scan-past start had place (b ∷ low) high h =
       step (in_run b) refl h (λ start had place. scan-past start had place low high)
     where
@@ -60,16 +62,20 @@ module _ (p : ℕ) (sp : Block → Bool) where
           → Past start had place (b ∷ low) high (join (Whole had) (join (counted t (free_of b)) (stretch_of low)))
       step true e h more = let a = join-assoc (Whole had) (Whole (free_of b)) (stretch_of low) in
           let r = more start (had + free_of b) (place + size b) (rw a h) in
-          let at : place + size b + sizes low ≡ place + (size b + sizes low) = omega arith in
-          (r.0, search-more start had place b (low ++ high) e ∙ r.1
-          ∙ ap (λ s. search p sp r.0 (suffix s) (place + size b + sizes low) high) a
-          ∙ ap (λ n. search p sp r.0 (suffix (join (Whole had) (join (Whole (free_of b)) (stretch_of low)))) n high) at)
+          let at : place + size b + sizes low ≡ place + (size b + sizes low) = omega arith in (
+            r.0,
+            search-more start had place b (low ++ high) e ∙ r.1
+                ∙ ap (λ s. search p sp r.0 (suffix s) (place + size b + sizes low) high) a
+                ∙ ap (λ n. search p sp r.0 (suffix (join (Whole had) (join (Whole (free_of b)) (stretch_of low)))) n high) at,
+          )
       step false e h more = let s = had-short had (stretch_of low) h in
           let r = more (place + size b) 0 (place + size b) s.1 in
-          let at : place + size b + sizes low ≡ place + (size b + sizes low) = omega arith in
-          (r.0, search-ended start had place b (low ++ high) e s.0 ∙ r.1
-          ∙ ap (λ n. search p sp r.0 n (place + size b + sizes low) high) (sym (suffix-over had (stretch_of low)))
-          ∙ ap (λ n. search p sp r.0 (suffix (join (Whole had) (join (Ended 0 0 0) (stretch_of low)))) n high) at)
+          let at : place + size b + sizes low ≡ place + (size b + sizes low) = omega arith in (
+            r.0,
+            search-ended start had place b (low ++ high) e s.0 ∙ r.1
+                ∙ ap (λ n. search p sp r.0 n (place + size b + sizes low) high) (sym (suffix-over had (stretch_of low)))
+                ∙ ap (λ n. search p sp r.0 (suffix (join (Whole had) (join (Ended 0 0 0) (stretch_of low)))) n high) at,
+          )
 
   -- and finds nothing where there is nothing more
   pub scan-never : (start had place : ℕ) (blocks : List Block) → best (join (Whole had) (stretch_of blocks)) < p

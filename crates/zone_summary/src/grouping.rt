@@ -1,6 +1,6 @@
 //! Stretches in groups, each of which is what its units come to.
 
-ghost use Rattle.std.specs.Prelude.{◌≡◌, ◌+◌, ◌*◌, ◌/◌, ◌^◌, ◌<◌, ◌≤◌, List, length};
+ghost use Rattle.std.specs.Prelude.{◌≡◌, ◌+◌, ◌*◌, ◌/◌, ◌^◌, ◌<◌, ◌≤◌, List, length, set};
 ghost use Rattle.block_store.specs.Block.{Block};
 ghost use Rattle.zone_summary.specs.Rows.{blocks_of, loads, AreGroups, AreOf, ChangedIn, IsRow};
 ghost use Rattle.zone_summary.specs.Stretches.{join_all, stretch_of};
@@ -37,7 +37,13 @@ fn renew_groups(units: &[Stretch], groups: &mut [Stretch], from: usize, to: usiz
 
 /// Makes a row the row of its pages, of which those from `from` up to `to` have changed. Only the groups and tops in
 /// which a page changed are joined anew, each of them once.
-pub fn renew(pages: &[Stretch], groups: &mut [Stretch], tops: &mut [Stretch], from: usize, to: usize)
+pub fn renew(
+    pages: &[Stretch],
+    groups: &mut [Stretch],
+    tops: &mut [Stretch],
+    from: usize,
+    to: usize,
+)
     requires small { loads pages.now < 2 ^ 32 }
     requires order { from ≤ to }
     requires inside { to ≤ length pages.now }
@@ -46,6 +52,24 @@ pub fn renew(pages: &[Stretch], groups: &mut [Stretch], tops: &mut [Stretch], fr
 {
     renew_groups(pages, groups, from, to);
     renew_groups(groups, tops, from / GROUP, groups_of(to));
+}
+
+/// Notes what a page comes to.
+pub fn note(
+    pages: &mut [Stretch],
+    groups: &mut [Stretch],
+    tops: &mut [Stretch],
+    page: usize,
+    stretch: Stretch,
+)
+    requires inside { page < length pages.old }
+    requires small { loads (set pages.old page stretch) < 2 ^ 32 }
+    requires row { IsRow pages.old groups.old tops.old }
+    ensures noted { pages.new ≡ set pages.old page stretch }
+    ensures row { IsRow pages.new groups.new tops.new }
+{
+    pages[page] = stretch;
+    renew(pages, groups, tops, page, page + 1);
 }
 
 /// Returns what all pages come to.

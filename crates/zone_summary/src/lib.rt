@@ -8,6 +8,6 @@ mod reaching;
 mod stretch;
 
 pub use beginning::{OpenFrom, open_from};
-pub use grouping::{GROUP, all, renew};
+pub use grouping::{GROUP, all, note, renew};
 pub use reaching::{Reach, first_reach, joined, reach_page};
 pub use stretch::Stretch;

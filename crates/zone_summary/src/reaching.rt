@@ -66,7 +66,12 @@ fn reach_in(units: &[Stretch], groups: &[Stretch], group: Reach, enough: u32) ->
 }
 
 /// Returns the lowest page with which a run comes to `enough` free bytes, and what the pages below it come to.
-pub fn reach_page(pages: &[Stretch], groups: &[Stretch], tops: &[Stretch], enough: u32) -> Option<Reach>
+pub fn reach_page(
+    pages: &[Stretch],
+    groups: &[Stretch],
+    tops: &[Stretch],
+    enough: u32,
+) -> Option<Reach>
     requires row { IsRow pages.now groups.now tops.now }
     requires some { 0 < enough }
     ensures is { MatchOption result (best (join_all pages.now) < enough)

@@ -58,9 +58,7 @@ impl Stretch {
             },
             Stretch::Ended(p, i, s) => match high {
                 Stretch::Whole(b) => Stretch::Ended(p, i, s + b),
-                Stretch::Ended(q, j, t) => {
-                    Stretch::Ended(p, greater(greater(i, j), s + q), t)
-                }
+                Stretch::Ended(q, j, t) => { Stretch::Ended(p, greater(greater(i, j), s + q), t) }
             },
         }
     }
