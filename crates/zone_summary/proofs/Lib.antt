@@ -4,4 +4,6 @@ pub mod Sums
 pub mod Groups
 pub mod Searching
 pub mod Pages
+pub mod Purges
+pub mod Halving
 mod Examples

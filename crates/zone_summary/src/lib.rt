@@ -6,8 +6,10 @@ mod beginning;
 mod grouping;
 mod reaching;
 mod stretch;
+mod turning;
 
 pub use beginning::{OpenFrom, open_from};
 pub use grouping::{GROUP, all, note, renew};
 pub use reaching::{Reach, first_reach, joined, reach_page};
 pub use stretch::Stretch;
+pub use turning::Turn;
