@@ -6,4 +6,5 @@ pub mod Searching
 pub mod Pages
 pub mod Purges
 pub mod Halving
+pub mod TurnedPages
 mod Examples

@@ -28,7 +28,7 @@ pub all-of : (pages : List (List Block)) (stretches : List Stretch) → AreOf pa
     → join_all stretches ≡ stretch_of (blocks_of pages)
 all-of pages stretches a = rw a (joined-pages pages)
 
-drop-mapped : (n : ℕ) (pages : List (List Block)) → drop n (map stretch_of pages) ≡ map stretch_of (drop n pages)
+pub drop-mapped : (n : ℕ) (pages : List (List Block)) → drop n (map stretch_of pages) ≡ map stretch_of (drop n pages)
 drop-mapped zero pages = refl
 drop-mapped (suc n) [] = refl
 drop-mapped (suc n) (page ∷ pages) = drop-mapped n pages
@@ -51,10 +51,17 @@ pub none-finds : (pages : List (List Block)) (stretches : List Stretch) (p : ℕ
 none-finds pages stretches p sp a h = scan-never p sp 0 0 0 (blocks_of pages)
     (rw (join-unit_left (stretch_of (blocks_of pages)), ← all-of pages stretches a) h)
 
-got-mapped : (n : ℕ) (pages : List (List Block)) → get_or (map stretch_of pages) n (Whole 0) ≡ stretch_of (get_or pages n [])
+pub got-mapped : (n : ℕ) (pages : List (List Block)) → get_or (map stretch_of pages) n (Whole 0) ≡ stretch_of (get_or pages n [])
 got-mapped n [] = refl
 got-mapped zero (page ∷ pages) = refl
 got-mapped (suc n) (page ∷ pages) = got-mapped n pages
+
+-- the blocks below a page, its own, and those above it
+pub blocks-around : (pages : List (List Block)) (page : ℕ) → page < length pages → blocks_of pages
+    ≡ blocks_of (take page pages) ++ (get_or pages page [] ++ blocks_of (drop (suc page) pages))
+blocks-around pages page l = ap blocks_of (sym (take-append-drop page pages))
+    ∙ blocks_of-append (take page pages) (drop page pages)
+    ∙ ap (λ t. blocks_of (take page pages) ++ t) (ap blocks_of (drop-cons pages page [] l))
 
 -- a search may begin in a page in which a run ends, up to which none has enough
 pub begins-in : (pages : List (List Block)) (stretches : List Stretch) (page index p : ℕ) (sp : Block → Bool)
@@ -68,8 +75,6 @@ begins-in pages stretches page index p sp a up inside ends short =
     let mid = get_or pages page [] in
     let high = blocks_of (drop (suc page) pages) in
     let above : blocks_of (drop page pages) ≡ mid ++ high = ap blocks_of (drop-cons pages page [] l) in
-    let all : blocks_of pages ≡ low ++ (mid ++ high) = ap blocks_of (sym (take-append-drop page pages))
-    ∙ blocks_of-append (take page pages) (drop page pages) ∙ ap (λ t. low ++ t) above in
     let here : blocks_of (take (page + 1) pages) ≡ low ++ mid = ap blocks_of (take_more pages page [] l)
     ∙ blocks_of-append (take page pages) (mid ∷ []) ∙ ap (λ t. low ++ t) (append-nil mid) in
     let n : page + 1 + (index - (page + 1)) ≡ index = omega arith in
@@ -77,7 +82,7 @@ begins-in pages stretches page index p sp a up inside ends short =
     let low_is = part-of pages stretches 0 (page + 1) a ∙ ap stretch_of here in
     let few = best-low (join_all (take (page + 1) stretches)) (join_all (part (page + 1) (index - (page + 1)) stretches)) in
     let is = ap best parts in let same = ap best low_is in
-    ap (search p sp 0 0 0) all ∙ scan-begun p sp 0 0 0 low mid high
+    ap (search p sp 0 0 0) (blocks-around pages page l) ∙ scan-begun p sp 0 0 0 low mid high
     (sym (ap is_ended (ap (λ t. get_or t page (Whole 0)) a ∙ got-mapped page pages)) ∙ ends)
     (rw (join-unit_left (stretch_of (low ++ mid))) (omega (arith, few, is, same, short)))
     ∙ ap (λ n. search p sp n 0 n (mid ++ high)) (zero-add (sizes low))

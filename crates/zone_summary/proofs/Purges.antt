@@ -39,7 +39,7 @@ module _ (sp : Block → Bool) where
   count-here t b bs e = ap {B = ℕ} (λ (t : Bool). cond {A = ℕ} t 1 0 + count_of sp bs) e
 
   -- the lowest purges are those below a place
-  purged-below : (j : ℕ) (low rest : List Block)
+  pub purged-below : (j : ℕ) (low rest : List Block)
       → lowest_purged (count_of sp low + j) sp (low ++ rest) ≡ map (emptied sp) low ++ lowest_purged j sp rest
   purged-below j [] rest = ap (λ k. lowest_purged k sp rest) (let z : 0 + j ≡ j = omega arith in z)
   purged-below j (b ∷ low) rest = step (may_be_purged sp b) refl (purged-below j low rest)

@@ -12,4 +12,4 @@ pub use beginning::{OpenFrom, open_from};
 pub use grouping::{GROUP, all, note, renew};
 pub use reaching::{Reach, first_reach, joined, reach_page};
 pub use stretch::Stretch;
-pub use turning::Turn;
+pub use turning::{Turn, turn_page};
