@@ -1,0 +1,4 @@
+pub mod Rows
+pub mod Searches
+pub mod Stretches
+pub mod Turns
