@@ -295,6 +295,14 @@ fn without_purges(scan: RunScan) -> RunScan
     }
 }
 
+/// Reports whether it is known that one of a landmark's blocks ends a run.
+fn is_barred(tally: Tally) -> bool {
+    match tally {
+        Tally::Known(Stretch::Ended(_, _, _)) => true,
+        _ => false,
+    }
+}
+
 /// Returns the place of a landmark among whose blocks one ends a run, of the last ones below the place `from`, or 0.
 fn barred_below(marks: &[Landmark], from: u32) -> u32
     ensures { (end : ℕ) (zone : List Block) → AreMarks end zone marks.now → Begins result 0 zone }
@@ -303,7 +311,7 @@ fn barred_below(marks: &[Landmark], from: u32) -> u32
     let least = index.saturating_sub(GROUP);
     while index > least {
         index -= 1;
-        if let Tally::Known(Stretch::Ended(_, _, _)) = marks[index].tally {
+        if is_barred(marks[index].tally) {
             return marks[index].at;
         }
     }

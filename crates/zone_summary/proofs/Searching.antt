@@ -41,7 +41,7 @@ module _ (p : ℕ) (sp : Block → Bool) where
   suffix-over had (Ended q i s) = refl
 
   -- past blocks with too few bytes it goes on in a run that began somewhere
-  pub Past : ℕ → ℕ → ℕ → List Block → List Block → Stretch → Type 0
+  unfoldable pub Past : ℕ → ℕ → ℕ → List Block → List Block → Stretch → Type 0
   Past start had place low high s = (from : ℕ) × (search p sp start had place (low ++ high)
       ≡ search p sp from (suffix s) (place + sizes low) high)
 
@@ -87,7 +87,7 @@ module _ (p : ℕ) (sp : Block → Bool) where
       ∙ cond-false (nat_le p (suffix s)) _ _ (lt-leb p (suffix s) (omega (arith, suffix-best s, h)))
 
   -- where a run ends among the blocks, it doesn't matter what the search was in
-  scan-forget : (s h s' h' place : ℕ) (mid rest : List Block) → is_ended (stretch_of mid) ≡ true
+  pub scan-forget : (s h s' h' place : ℕ) (mid rest : List Block) → is_ended (stretch_of mid) ≡ true
       → best (join (Whole h) (stretch_of mid)) < p → best (join (Whole h') (stretch_of mid)) < p
       → search p sp s h place (mid ++ rest) ≡ search p sp s' h' place (mid ++ rest)
   scan-forget s h s' h' place [] rest e l l' = cc

@@ -9,8 +9,8 @@ use Rattle.zone_bytes.proofs.measuring.measure_up_to.Goals as goal
 pub loop-at-init : goal.loop-at-init
 loop-at-init c = counted-start c.args.part.now.bytes c.args.from c.within-stop.result 0 c.requires
 
-pub join-requires : goal.join-requires
-join-requires c =
+pub join-runs-requires : goal.join-runs-requires
+join-runs-requires c =
     let f = counted-fits c.args.part.now.bytes c.args.from c.within-stop.result c.loop-at.at c.span_at-span.result.end
     c.loop-at.most c.span_at-span.result.free c.loop-at.runs c.runs.result c.span_at-span.result.barrier
     c.loop-at.invariant c.span_at-span.ensures c.runs.ensures in
