@@ -39,12 +39,6 @@ part-of pages stretches from count a = ap (λ t. join_all (take count (drop from
     ∙ ap (λ t. join_all (take count t)) (drop-mapped from pages)
     ∙ ap join_all (take-map stretch_of count (drop from pages)) ∙ joined-pages (take count (drop from pages))
 
--- the blocks below a page, some pages from there on, and the others
-pub blocks-split : (pages : List (List Block)) (from count : ℕ) → blocks_of (drop from pages)
-    ≡ blocks_of (take count (drop from pages)) ++ blocks_of (drop count (drop from pages))
-blocks-split pages from count = ap blocks_of (sym (take-append-drop count (drop from pages)))
-    ∙ blocks_of-append (take count (drop from pages)) (drop count (drop from pages))
-
 -- no run has enough
 pub none-finds : (pages : List (List Block)) (stretches : List Stretch) (p : ℕ) (sp : Block → Bool)
     → AreOf pages stretches → best (join_all stretches) < p → search p sp 0 0 0 (blocks_of pages) ≡ None

@@ -89,10 +89,6 @@ module _ (gone gone_groups plain plain_groups : List Stretch) (enough : ℕ) (t 
   long : (xs : List Stretch) → 16 * t.index + 16 ≤ length xs → length (part (16 * t.index) 16 xs) ≡ 16
   long xs h = length-take-le 16 (drop (16 * t.index) xs) (omega (arith, length-drop (16 * t.index) xs, h))
 
-  pub group-long : (m : ℕ) → m ≡ 16 → (length (take m (drop (16 * t.index) gone)) ≡ 16)
-      × (length (take m (drop (16 * t.index) plain)) ≡ 16)
-  group-long m e = rw e (long gone group-inside.0, long plain group-inside.1)
-
   pub unit-turned : (m : ℕ) (u : Turn) → m ≡ 16
       → IsTurn t.below t.above (take m (drop (16 * t.index) gone)) (take m (drop (16 * t.index) plain)) enough u
       → IsTurn (Whole 0) (Whole 0) gone plain enough
