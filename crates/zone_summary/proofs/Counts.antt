@@ -13,32 +13,32 @@ use Rattle.block_store.proofs.Purged.Rising.{run-rises}
 use Rattle.block_store.proofs.Zone.Totals.{total-append}
 use Rattle.zone_summary.specs.Rows.{blocks_of}
 use Rattle.zone_summary.specs.Stretches.{best, join, stretch_of}
-use Rattle.zone_summary.specs.Turns.{serves, sum, TurnsIn}
+use Rattle.zone_summary.specs.Turns.{serves, summed, TurnsIn}
 use Rattle.zone_summary.specs.declared.stretch.Stretch.{Stretch}
 use Rattle.zone_summary.specs.declared.turning.Turn.{Turn}
 use Rattle.zone_summary.proofs.Pages.{blocks-around}
 
-sum-append : (low high : List ℕ) → sum (low ++ high) ≡ sum low + sum high
-sum-append [] high = omega arith
-sum-append (n ∷ low) high = omega (arith, sum-append low high)
+summed-append : (low high : List ℕ) → summed (low ++ high) ≡ summed low + summed high
+summed-append [] high = omega arith
+summed-append (n ∷ low) high = omega (arith, summed-append low high)
 
-pub sum-take : (counts : List ℕ) (i : ℕ) → sum (take i counts) ≤ sum counts
-sum-take counts i = omega (arith, sum-append (take i counts) (drop i counts), ap sum (take-append-drop i counts))
+pub summed-take : (counts : List ℕ) (i : ℕ) → summed (take i counts) ≤ summed counts
+summed-take counts i = omega (arith, summed-append (take i counts) (drop i counts), ap summed (take-append-drop i counts))
 
-pub sum-more : (counts : List ℕ) (i d : ℕ) → i < length counts → sum (take (i + 1) counts) ≡ sum (take i counts) + get_or counts i d
-sum-more counts i d h = rw (take_more counts i d h, sum-append (take i counts) (get_or counts i d ∷ [])) (omega arith)
+pub summed-more : (counts : List ℕ) (i d : ℕ) → i < length counts → summed (take (i + 1) counts) ≡ summed (take i counts) + get_or counts i d
+summed-more counts i d h = rw (take_more counts i d h, summed-append (take i counts) (get_or counts i d ∷ [])) (omega arith)
 
 count-append : (sp : Block → Bool) (low high : List Block) → count_of sp (low ++ high) ≡ count_of sp low + count_of sp high
 count-append sp low high = total-append (λ b. if may_be_purged sp b then 1 else 0) low high
 
-sum-pages : (sp : Block → Bool) (pages : List (List Block)) → sum (map (count_of sp) pages) ≡ count_of sp (blocks_of pages)
-sum-pages sp [] = refl
-sum-pages sp (page ∷ pages) = omega (arith, sum-pages sp pages, count-append sp page (blocks_of pages))
+summed-pages : (sp : Block → Bool) (pages : List (List Block)) → summed (map (count_of sp) pages) ≡ count_of sp (blocks_of pages)
+summed-pages sp [] = refl
+summed-pages sp (page ∷ pages) = omega (arith, summed-pages sp pages, count-append sp page (blocks_of pages))
 
 pub count-pages : (sp : Block → Bool) (pages : List (List Block)) (counts : List ℕ) (i : ℕ) → counts ≡ map (count_of sp) pages
-    → sum (take i counts) ≡ count_of sp (blocks_of (take i pages))
-count-pages sp pages counts i e = ap (λ t. sum (take i t)) e ∙ ap sum (take-map (count_of sp) i pages)
-    ∙ sum-pages sp (take i pages)
+    → summed (take i counts) ≡ count_of sp (blocks_of (take i pages))
+count-pages sp pages counts i e = ap (λ t. summed (take i t)) e ∙ ap summed (take-map (count_of sp) i pages)
+    ∙ summed-pages sp (take i pages)
 
 -- the least number of purges, where one fewer in the page is too few
 pub turn-least : (enough j most : ℕ) (n : Sparing) (zone : List Block) (pages : List (List Block)) (t : Turn) (after : ℕ → Stretch)

@@ -18,9 +18,9 @@ abbrev pub serves : ℕ → Sparing → List Block → ℕ → Bool
 serves enough n zone purges = is_some (run_spot (has_free enough) (purged purges n zone))
 
 -- The sum of numbers.
-abbrev pub sum : List ℕ → ℕ
-sum [] = 0
-sum (n ∷ above) = n + sum above
+abbrev pub summed : List ℕ → ℕ
+summed [] = 0
+summed (n ∷ above) = n + summed above
 
 -- The stretch that must be purged for a run to have enough, where all below it are purged and none above it is. Those
 -- below the first come to `base`, and those above the last to `top`.

@@ -8,7 +8,7 @@ ghost use Rattle.block_store.specs.Sparing.{most_purges, opened, spared};
 ghost use Rattle.block_store.specs.declared.sparing.Sparing.{Sparing};
 ghost use Rattle.zone_summary.specs.Rows.{blocks_of, load};
 ghost use Rattle.zone_summary.specs.Stretches.{best, join, stretch_of};
-ghost use Rattle.zone_summary.specs.Turns.{serves, sum, TurnsIn};
+ghost use Rattle.zone_summary.specs.Turns.{serves, summed, TurnsIn};
 ghost use Rattle.zone_summary.specs.declared.stretch.Stretch.{Stretch as StretchOf};
 
 use crate::stretch::Stretch;
@@ -27,8 +27,8 @@ pub trait PagePurged {
 /// Returns how many blocks that may be purged lie below a page, from the number of each page.
 pub fn count_below(counts: &[u32], page: usize) -> u32
     requires inside { page ≤ length counts.now }
-    requires small { sum counts.now < 2 ^ 32 }
-    ensures is { result ≡ sum (take page counts.now) }
+    requires small { summed counts.now < 2 ^ 32 }
+    ensures is { result ≡ summed (take page counts.now) }
     ensures blocks { (pages : List (List Block)) (spared : Block → Bool) → counts.now ≡ map (count_of spared) pages
         → result ≡ count_of spared (blocks_of (take page pages)) }
 {
