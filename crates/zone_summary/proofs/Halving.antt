@@ -1,15 +1,15 @@
 -- Stretches of which the lower ones are purged, where the place between them moves.
-use Rattle.std.proofs.Common.{◌≡◌, ℕ, zero, suc, ◌+◌, ◌-◌, ◌*◌, ◌^◌, ◌≤◌, ◌<◌, List, [], ◌∷◌, ◌++◌, length, take, drop, get_or}
-use Rattle.std.proofs.Common.{refl, sym, ◌∙◌, ap, arith}
+use Rattle.std.proofs.Common.{◌≡◌, ℕ, ◌+◌, ◌-◌, ◌^◌, ◌≤◌, ◌<◌, List, ◌++◌, length, take, drop, get_or}
+use Rattle.std.proofs.Common.{sym, ◌∙◌, ap, arith}
 use Rattle.std.proofs.Math.Seq.{take-add, drop-cons}
 use Rattle.std.proofs.lemmas.List.{take-append-drop, drop-drop}
 use Rattle.zone_summary.specs.Rows.{load, loads, part}
 use Rattle.zone_summary.specs.Stretches.{join, prefix, suffix, best, join_all}
 use Rattle.zone_summary.specs.declared.stretch.Stretch.{Stretch}
 use Rattle.zone_summary.specs.declared.stretch.Stretch.TheVariants.{Whole}
-use Rattle.zone_summary.proofs.Groups.{joined-above, loads-above}
+use Rattle.zone_summary.proofs.Groups.{joined-above}
 use Rattle.zone_summary.proofs.Monoid.{join-assoc, join-unit_right, join_all-append}
-use Rattle.zone_summary.proofs.Sums.{ends-load, load-join, load-all, loads-append, loads-part}
+use Rattle.zone_summary.proofs.Sums.{ends-load, load-join, load-all, loads-append}
 
 -- a part in two
 part-split : (xs : List Stretch) (low a b : ℕ) → part low (a + b) xs ≡ part low a xs ++ part (low + a) b xs

@@ -7,4 +7,5 @@ pub mod Pages
 pub mod Purges
 pub mod Halving
 pub mod TurnedPages
+pub mod Counts
 mod Examples

@@ -5,7 +5,7 @@ use Rattle.std.proofs.lemmas.List.{take-append-drop, take-map, take_more, length
 use Rattle.std.proofs.Math.Seq.{drop-cons}
 use Rattle.block_store.specs.Block.{Block, sizes}
 use Rattle.zone_summary.specs.Rows.{AreOf, load, loads, part, blocks_of}
-use Rattle.zone_summary.specs.Searches.{search}
+use Rattle.zone_summary.specs.Searches.{found_from}
 use Rattle.zone_summary.specs.Stretches.{join, best, is_ended, join_all, stretch_of}
 use Rattle.zone_summary.specs.declared.stretch.Stretch.{Stretch}
 use Rattle.zone_summary.specs.declared.stretch.Stretch.TheVariants.{Whole}
@@ -39,15 +39,9 @@ part-of pages stretches from count a = ap (λ t. join_all (take count (drop from
     ∙ ap (λ t. join_all (take count t)) (drop-mapped from pages)
     ∙ ap join_all (take-map stretch_of count (drop from pages)) ∙ joined-pages (take count (drop from pages))
 
--- the blocks below a page, some pages from there on, and the others
-pub blocks-split : (pages : List (List Block)) (from count : ℕ) → blocks_of (drop from pages)
-    ≡ blocks_of (take count (drop from pages)) ++ blocks_of (drop count (drop from pages))
-blocks-split pages from count = ap blocks_of (sym (take-append-drop count (drop from pages)))
-    ∙ blocks_of-append (take count (drop from pages)) (drop count (drop from pages))
-
 -- no run has enough
 pub none-finds : (pages : List (List Block)) (stretches : List Stretch) (p : ℕ) (sp : Block → Bool)
-    → AreOf pages stretches → best (join_all stretches) < p → search p sp 0 0 0 (blocks_of pages) ≡ None
+    → AreOf pages stretches → best (join_all stretches) < p → found_from p sp 0 0 0 (blocks_of pages) ≡ None
 none-finds pages stretches p sp a h = scan-never p sp 0 0 0 (blocks_of pages)
     (rw (join-unit_left (stretch_of (blocks_of pages)), ← all-of pages stretches a) h)
 
@@ -67,7 +61,7 @@ blocks-around pages page l = ap blocks_of (sym (take-append-drop page pages))
 pub begins-in : (pages : List (List Block)) (stretches : List Stretch) (page index p : ℕ) (sp : Block → Bool)
     → AreOf pages stretches → page < index → index ≤ length stretches
     → is_ended (get_or stretches page (Whole 0)) ≡ true → best (join_all (take index stretches)) < p
-    → search p sp 0 0 0 (blocks_of pages) ≡ search p sp (sizes (blocks_of (take page pages))) 0
+    → found_from p sp 0 0 0 (blocks_of pages) ≡ found_from p sp (sizes (blocks_of (take page pages))) 0
     (sizes (blocks_of (take page pages))) (blocks_of (drop page pages))
 begins-in pages stretches page index p sp a up inside ends short =
     let l : page < length pages = omega (arith, ap length a, length-map pages stretch_of) in
@@ -82,17 +76,17 @@ begins-in pages stretches page index p sp a up inside ends short =
     let low_is = part-of pages stretches 0 (page + 1) a ∙ ap stretch_of here in
     let few = best-low (join_all (take (page + 1) stretches)) (join_all (part (page + 1) (index - (page + 1)) stretches)) in
     let is = ap best parts in let same = ap best low_is in
-    ap (search p sp 0 0 0) (blocks-around pages page l) ∙ scan-begun p sp 0 0 0 low mid high
+    ap (found_from p sp 0 0 0) (blocks-around pages page l) ∙ scan-begun p sp 0 0 0 low mid high
     (sym (ap is_ended (ap (λ t. get_or t page (Whole 0)) a ∙ got-mapped page pages)) ∙ ends)
     (rw (join-unit_left (stretch_of (low ++ mid))) (omega (arith, few, is, same, short)))
-    ∙ ap (λ n. search p sp n 0 n (mid ++ high)) (zero-add (sizes low))
-    ∙ ap (search p sp (sizes low) 0 (sizes low)) (sym above)
+    ∙ ap (λ n. found_from p sp n 0 n (mid ++ high)) (zero-add (sizes low))
+    ∙ ap (found_from p sp (sizes low) 0 (sizes low)) (sym above)
 
 -- and goes past pages in which none ends
 pub goes-on : (pages : List (List Block)) (stretches : List Stretch) (from count w p : ℕ) (sp : Block → Bool)
     (start free place : ℕ) (rest : List Block) → AreOf pages stretches → join_all (part from count stretches) ≡ Whole w
-    → search p sp start free place (blocks_of (take count (drop from pages)) ++ rest)
-    ≡ search p sp start (free + w) (place + sizes (blocks_of (take count (drop from pages)))) rest
+    → found_from p sp start free place (blocks_of (take count (drop from pages)) ++ rest)
+    ≡ found_from p sp start (free + w) (place + sizes (blocks_of (take count (drop from pages)))) rest
 goes-on pages stretches from count w p sp start free place rest a opened =
     scan-through p sp start free place w (blocks_of (take count (drop from pages))) rest
     (sym (part-of pages stretches from count a) ∙ opened)

@@ -1,7 +1,6 @@
 -- What blocks come to after purges: those below a place purged, and those above it as they are.
-use Rattle.std.proofs.Common.{◌≡◌, ℕ, ◌+◌, ◌≤◌, ◌<◌, zero, suc, Bool, true, false, List, [], ◌∷◌, ◌++◌, map, is_some, nat_le}
+use Rattle.std.proofs.Common.{◌≡◌, ℕ, ◌+◌, ◌≤◌, zero, suc, Bool, true, false, List, [], ◌∷◌, ◌++◌, map, is_some, nat_le}
 use Rattle.std.proofs.Common.{refl, sym, ◌∙◌, ap, arith, cond}
-use Rattle.std.proofs.lemmas.Bool.{le-leb, lt-leb}
 use Rattle.std.proofs.lemmas.Bool.Decides.{nat_tests}
 use Rattle.block_store.specs.Block.{Block, Free, Nonrelocatable, Masters, Relocatable, size, add, tidy}
 use Rattle.block_store.specs.Compact.{largest_run}
@@ -11,8 +10,9 @@ use Rattle.block_store.specs.Sparing.{opened, purged, spared}
 use Rattle.block_store.specs.declared.sparing.Sparing.{Sparing}
 use Rattle.block_store.proofs.Purged.Rising.{lowest_purged-goes, lowest_purged-stays}
 use Rattle.block_store.proofs.Regroup.MostRoom.{run-none, run-some}
+use Rattle.zone_summary.specs.Emptied.{emptied}
 use Rattle.zone_summary.specs.Stretches.{join, best, one, stretch_of}
-use Rattle.zone_summary.specs.Turns.{emptied, serves}
+use Rattle.zone_summary.specs.Turns.{serves}
 use Rattle.zone_summary.specs.declared.stretch.Stretch.TheVariants.{Whole}
 use Rattle.zone_summary.proofs.Monoid.{join-assoc, join-unit_left, stretch_of-append}
 use Rattle.zone_summary.proofs.Runs.{best-runs}

@@ -6,7 +6,7 @@ use Rattle.block_store.specs.Block.{Block, Free, Nonrelocatable, Masters, Reloca
 use Rattle.block_store.specs.Inner.RunScan.{met_after, scan_runs}
 use Rattle.block_store.specs.Run.{in_run, has}
 use Rattle.block_store.proofs.Regroup.RunSkips.{goes-through}
-use Rattle.zone_summary.specs.Searches.{search}
+use Rattle.zone_summary.specs.Searches.{found_from}
 use Rattle.zone_summary.specs.Stretches.{counted, join, suffix, best, is_ended, stretch_of}
 use Rattle.zone_summary.specs.declared.stretch.Stretch.{Stretch}
 use Rattle.zone_summary.specs.declared.stretch.Stretch.TheVariants.{Whole, Ended}
@@ -20,14 +20,14 @@ met-always Masters = refl
 met-always (Relocatable id flags content) = refl
 
 module _ (p : ℕ) (sp : Block → Bool) where
-  search-more : (start free place : ℕ) (b : Block) (above : List Block) → in_run b ≡ true
-      → search p sp start free place (b ∷ above) ≡ search p sp start (free + free_of b) (place + size b) above
-  search-more start free place b above e = cond-true (in_run b) _ _ e
+  found-more : (start free place : ℕ) (b : Block) (above : List Block) → in_run b ≡ true
+      → found_from p sp start free place (b ∷ above) ≡ found_from p sp start (free + free_of b) (place + size b) above
+  found-more start free place b above e = cond-true (in_run b) _ _ e
       ∙ ap (λ m. scan_runs None p sp 0 start (free + free_of b) m (place + size b) above) (met-always b)
 
-  search-ended : (start free place : ℕ) (b : Block) (above : List Block) → in_run b ≡ false → free < p
-      → search p sp start free place (b ∷ above) ≡ search p sp (place + size b) 0 (place + size b) above
-  search-ended start free place b above e less = cond-false (in_run b) _ _ e
+  found-ended : (start free place : ℕ) (b : Block) (above : List Block) → in_run b ≡ false → free < p
+      → found_from p sp start free place (b ∷ above) ≡ found_from p sp (place + size b) 0 (place + size b) above
+  found-ended start free place b above e less = cond-false (in_run b) _ _ e
       ∙ cond-false (nat_le p free) _ _ (lt-leb p free less)
 
   -- what was had, and what is had above an end
@@ -42,16 +42,16 @@ module _ (p : ℕ) (sp : Block → Bool) where
 
   -- past blocks with too few bytes it goes on in a run that began somewhere
   unfoldable pub Past : ℕ → ℕ → ℕ → List Block → List Block → Stretch → Type 0
-  Past start had place low high s = (from : ℕ) × (search p sp start had place (low ++ high)
-      ≡ search p sp from (suffix s) (place + sizes low) high)
+  Past start had place low high s = (from : ℕ) × (found_from p sp start had place (low ++ high)
+      ≡ found_from p sp from (suffix s) (place + sizes low) high)
 
   pub scan-past : (start had place : ℕ) (low high : List Block) → best (join (Whole had) (stretch_of low)) < p
       → Past start had place low high (join (Whole had) (stretch_of low))
   unfolding Past
   scan-past start had place [] high h = (
     start,
-    ap (λ n. search p sp start n place high) (let e : had ≡ had + 0 = omega arith in e)
-        ∙ ap (λ n. search p sp start (had + 0) n high) (let e : place ≡ place + 0 = omega arith in e),
+    ap (λ n. found_from p sp start n place high) (let e : had ≡ had + 0 = omega arith in e)
+        ∙ ap (λ n. found_from p sp start (had + 0) n high) (let e : place ≡ place + 0 = omega arith in e),
   )
   scan-past start had place (b ∷ low) high h =
       step (in_run b) refl h (λ start had place. scan-past start had place low high)
@@ -64,32 +64,32 @@ module _ (p : ℕ) (sp : Block → Bool) where
           let r = more start (had + free_of b) (place + size b) (rw a h) in
           let at : place + size b + sizes low ≡ place + (size b + sizes low) = omega arith in (
             r.0,
-            search-more start had place b (low ++ high) e ∙ r.1
-                ∙ ap (λ s. search p sp r.0 (suffix s) (place + size b + sizes low) high) a
-                ∙ ap (λ n. search p sp r.0 (suffix (join (Whole had) (join (Whole (free_of b)) (stretch_of low)))) n high) at,
+            found-more start had place b (low ++ high) e ∙ r.1
+                ∙ ap (λ s. found_from p sp r.0 (suffix s) (place + size b + sizes low) high) a
+                ∙ ap (λ n. found_from p sp r.0 (suffix (join (Whole had) (join (Whole (free_of b)) (stretch_of low)))) n high) at,
           )
       step false e h more = let s = had-short had (stretch_of low) h in
           let r = more (place + size b) 0 (place + size b) s.1 in
           let at : place + size b + sizes low ≡ place + (size b + sizes low) = omega arith in (
             r.0,
-            search-ended start had place b (low ++ high) e s.0 ∙ r.1
-                ∙ ap (λ n. search p sp r.0 n (place + size b + sizes low) high) (sym (suffix-over had (stretch_of low)))
-                ∙ ap (λ n. search p sp r.0 (suffix (join (Whole had) (join (Ended 0 0 0) (stretch_of low)))) n high) at,
+            found-ended start had place b (low ++ high) e s.0 ∙ r.1
+                ∙ ap (λ n. found_from p sp r.0 n (place + size b + sizes low) high) (sym (suffix-over had (stretch_of low)))
+                ∙ ap (λ n. found_from p sp r.0 (suffix (join (Whole had) (join (Ended 0 0 0) (stretch_of low)))) n high) at,
           )
 
   -- and finds nothing where there is nothing more
   pub scan-never : (start had place : ℕ) (blocks : List Block) → best (join (Whole had) (stretch_of blocks)) < p
-      → search p sp start had place blocks ≡ None
+      → found_from p sp start had place blocks ≡ None
   unfolding Past
   scan-never start had place blocks h = let s = join (Whole had) (stretch_of blocks) in
       let r = scan-past start had place blocks [] h in
-      ap (search p sp start had place) (sym (append-nil blocks)) ∙ r.1
+      ap (found_from p sp start had place) (sym (append-nil blocks)) ∙ r.1
       ∙ cond-false (nat_le p (suffix s)) _ _ (lt-leb p (suffix s) (omega (arith, suffix-best s, h)))
 
   -- where a run ends among the blocks, it doesn't matter what the search was in
   pub scan-forget : (s h s' h' place : ℕ) (mid rest : List Block) → is_ended (stretch_of mid) ≡ true
       → best (join (Whole h) (stretch_of mid)) < p → best (join (Whole h') (stretch_of mid)) < p
-      → search p sp s h place (mid ++ rest) ≡ search p sp s' h' place (mid ++ rest)
+      → found_from p sp s h place (mid ++ rest) ≡ found_from p sp s' h' place (mid ++ rest)
   scan-forget s h s' h' place [] rest e l l' = cc
   scan-forget s h s' h' place (b ∷ mid) rest e l l' =
       step (in_run b) refl e l l' (λ h h'. scan-forget s h s' h' (place + size b) mid rest)
@@ -103,21 +103,21 @@ module _ (p : ℕ) (sp : Block → Bool) where
           → best (join (Whole h') (join (counted t (free_of b)) (stretch_of mid))) < p
           → ((h h' : ℕ) → is_ended (stretch_of mid) ≡ true → best (join (Whole h) (stretch_of mid)) < p
           → best (join (Whole h') (stretch_of mid)) < p
-          → search p sp s h (place + size b) (mid ++ rest) ≡ search p sp s' h' (place + size b) (mid ++ rest))
-          → search p sp s h place (b ∷ (mid ++ rest)) ≡ search p sp s' h' place (b ∷ (mid ++ rest))
-      step true i e l l' more = search-more s h place b (mid ++ rest) i
+          → found_from p sp s h (place + size b) (mid ++ rest) ≡ found_from p sp s' h' (place + size b) (mid ++ rest))
+          → found_from p sp s h place (b ∷ (mid ++ rest)) ≡ found_from p sp s' h' place (b ∷ (mid ++ rest))
+      step true i e l l' more = found-more s h place b (mid ++ rest) i
           ∙ more (h + free_of b) (h' + free_of b) (still (free_of b) (stretch_of mid) e)
           (rw (join-assoc (Whole h) (Whole (free_of b)) (stretch_of mid)) l)
           (rw (join-assoc (Whole h') (Whole (free_of b)) (stretch_of mid)) l')
-          ∙ sym (search-more s' h' place b (mid ++ rest) i)
-      step false i e l l' more = search-ended s h place b (mid ++ rest) i (had-short h (stretch_of mid) l).0
-          ∙ sym (search-ended s' h' place b (mid ++ rest) i (had-short h' (stretch_of mid) l').0)
+          ∙ sym (found-more s' h' place b (mid ++ rest) i)
+      step false i e l l' more = found-ended s h place b (mid ++ rest) i (had-short h (stretch_of mid) l).0
+          ∙ sym (found-ended s' h' place b (mid ++ rest) i (had-short h' (stretch_of mid) l').0)
 
   -- so it may begin at blocks among which a run ends
   pub scan-begun : (start had place : ℕ) (low mid rest : List Block) → is_ended (stretch_of mid) ≡ true
       → best (join (Whole had) (stretch_of (low ++ mid))) < p
-      → search p sp start had place (low ++ (mid ++ rest))
-      ≡ search p sp (place + sizes low) 0 (place + sizes low) (mid ++ rest)
+      → found_from p sp start had place (low ++ (mid ++ rest))
+      ≡ found_from p sp (place + sizes low) 0 (place + sizes low) (mid ++ rest)
   unfolding Past
   scan-begun start had place low mid rest e l =
       let s = join (Whole had) (stretch_of low) in
@@ -153,7 +153,7 @@ whole-open (b ∷ above) w e = step (in_run b) refl e (whole-open above)
 -- past such blocks the run has their free bytes too
 pub scan-through : (p : ℕ) (sp : Block → Bool) (start had place w : ℕ) (blocks rest : List Block)
     → stretch_of blocks ≡ Whole w
-    → search p sp start had place (blocks ++ rest) ≡ search p sp start (had + w) (place + sizes blocks) rest
+    → found_from p sp start had place (blocks ++ rest) ≡ found_from p sp start (had + w) (place + sizes blocks) rest
 scan-through p sp start had place w blocks rest e = let o = whole-open blocks w e in
     goes-through p sp start had true place blocks rest o.0
-    ∙ ap (λ n. search p sp start (had + n) (place + sizes blocks) rest) o.1
+    ∙ ap (λ n. found_from p sp start (had + n) (place + sizes blocks) rest) o.1

@@ -7,13 +7,14 @@ use Rattle.std.proofs.lemmas.List.{map-append, take-append-drop, drop-take, drop
 use Rattle.block_store.specs.Block.{Block}
 use Rattle.block_store.specs.Room.{count_of, lowest_purged}
 use Rattle.block_store.specs.Run.{has_free, run_spot}
-use Rattle.block_store.specs.Sparing.{opened, purged, spared, most_purges}
+use Rattle.block_store.specs.Sparing.{opened, spared, most_purges}
 use Rattle.block_store.specs.declared.sparing.Sparing.{Sparing}
 use Rattle.block_store.proofs.Plain.Trials.{none-before}
 use Rattle.block_store.proofs.Purged.Rising.{run-rises, purged-all}
+use Rattle.zone_summary.specs.Emptied.{all_emptied, emptied}
 use Rattle.zone_summary.specs.Rows.{AreGroups, AreOf, blocks_of, load, loads, part}
 use Rattle.zone_summary.specs.Stretches.{join, best, join_all, stretch_of}
-use Rattle.zone_summary.specs.Turns.{all_emptied, emptied, serves, IsTurn, TurnsIn}
+use Rattle.zone_summary.specs.Turns.{serves, IsTurn, TurnsIn}
 use Rattle.zone_summary.specs.declared.stretch.Stretch.{Stretch}
 use Rattle.zone_summary.specs.declared.stretch.Stretch.TheVariants.{Whole}
 use Rattle.zone_summary.specs.declared.turning.Turn.{Turn}
@@ -22,7 +23,7 @@ use Rattle.zone_summary.proofs.Halving.{above-more}
 use Rattle.zone_summary.proofs.Monoid.{join-assoc, join-unit_left, join-unit_right}
 use Rattle.zone_summary.proofs.Pages.{all-of, blocks-around, drop-mapped, got-mapped, joined-pages, part-of}
 use Rattle.zone_summary.proofs.Purges.{purged-below, serves-is}
-use Rattle.zone_summary.proofs.Sums.{load-all, load-join, loads-append, loads-drop}
+use Rattle.zone_summary.proofs.Sums.{load-all, loads-append, loads-drop}
 
 -- the groups above a group come to what their units do
 groups-above : (units groups : List Stretch) (n g : ℕ) → AreGroups units groups → g + n ≡ length groups
@@ -87,10 +88,6 @@ module _ (gone gone_groups plain plain_groups : List Stretch) (enough : ℕ) (t 
 
   long : (xs : List Stretch) → 16 * t.index + 16 ≤ length xs → length (part (16 * t.index) 16 xs) ≡ 16
   long xs h = length-take-le 16 (drop (16 * t.index) xs) (omega (arith, length-drop (16 * t.index) xs, h))
-
-  pub group-long : (m : ℕ) → m ≡ 16 → (length (take m (drop (16 * t.index) gone)) ≡ 16)
-      × (length (take m (drop (16 * t.index) plain)) ≡ 16)
-  group-long m e = rw e (long gone group-inside.0, long plain group-inside.1)
 
   pub unit-turned : (m : ℕ) (u : Turn) → m ≡ 16
       → IsTurn t.below t.above (take m (drop (16 * t.index) gone)) (take m (drop (16 * t.index) plain)) enough u
@@ -175,28 +172,28 @@ module _ (enough : ℕ) (n : Sparing) (zone : List Block) (pages : List (List Bl
 
   pub turns-in : (t : Turn) → IsTurn (Whole 0) (Whole 0) gone plain enough t → TurnsIn enough n zone pages t
   turns-in t i =
-        let l : t.index < length pages = omega (arith, i.inside, ap length a, length-map pages stretch_of) in
-        let below_is : t.below ≡ stretch_of (map (emptied (spared n)) (blocks_of (take t.index pages))) =
-        i.below ∙ join-unit_left (join_all (take t.index gone)) ∙ gone-below t.index in
-        let above_is : t.above ≡ stretch_of (blocks_of (drop (suc t.index) pages)) =
-        i.above ∙ join-unit_right (join_all (drop (t.index + 1) plain)) ∙ plain-above t.index in
-        let plain_is : get_or plain t.index (Whole 0) ≡ stretch_of (get_or pages t.index []) =
-        ap (λ t'. get_or t' t.index (Whole 0)) a ∙ got-mapped t.index pages in
-        let gone_is : get_or gone t.index (Whole 0)
-        ≡ stretch_of (lowest_purged (count_of (spared n) (get_or pages t.index [])) (spared n) (get_or pages t.index [])) =
-        ap (λ t'. get_or t' t.index (Whole 0)) b ∙ got-mapped t.index (all_emptied (spared n) pages)
-        ∙ ap stretch_of (got-emptied (spared n) t.index pages ∙ sym (all-purged (spared n) (get_or pages t.index []))) in
-        let some : (k : ℕ) → k ≤ count_of (spared n) (get_or pages t.index [])
-        → serves enough n zone (count_of (spared n) (blocks_of (take t.index pages)) + k)
-        ≡ nat_le enough (best (join t.below (join (stretch_of (lowest_purged k (spared n) (get_or pages t.index []))) t.above)))
-        = λ k h. rw (below_is, above_is) (serves-is enough n zone (blocks_of (take t.index pages)) (get_or pages t.index [])
-        (blocks_of (drop (suc t.index) pages)) k (o ∙ blocks-around pages t.index l) h) in
-        let none : serves enough n zone (count_of (spared n) (blocks_of (take t.index pages)) + 0) ≡ false =
-        some 0 (omega arith) ∙ lt-leb enough _ (rw (← plain_is) i.few) in
-        record {
-          few = λ k h. none-before (serves enough n zone) serves-rises
-              (count_of (spared n) (blocks_of (take t.index pages)) + 0) k (omega (arith, h)) none;
-          within = some;
-          reached = some (count_of (spared n) (get_or pages t.index [])) (omega arith)
-              ∙ le-leb enough _ (rw (← gone_is, ← join-assoc t.below (get_or gone t.index (Whole 0)) t.above) i.reached);
-        }
+      let l : t.index < length pages = omega (arith, i.inside, ap length a, length-map pages stretch_of) in
+      let below_is : t.below ≡ stretch_of (map (emptied (spared n)) (blocks_of (take t.index pages))) =
+      i.below ∙ join-unit_left (join_all (take t.index gone)) ∙ gone-below t.index in
+      let above_is : t.above ≡ stretch_of (blocks_of (drop (suc t.index) pages)) =
+      i.above ∙ join-unit_right (join_all (drop (t.index + 1) plain)) ∙ plain-above t.index in
+      let plain_is : get_or plain t.index (Whole 0) ≡ stretch_of (get_or pages t.index []) =
+      ap (λ t'. get_or t' t.index (Whole 0)) a ∙ got-mapped t.index pages in
+      let gone_is : get_or gone t.index (Whole 0)
+      ≡ stretch_of (lowest_purged (count_of (spared n) (get_or pages t.index [])) (spared n) (get_or pages t.index [])) =
+      ap (λ t'. get_or t' t.index (Whole 0)) b ∙ got-mapped t.index (all_emptied (spared n) pages)
+      ∙ ap stretch_of (got-emptied (spared n) t.index pages ∙ sym (all-purged (spared n) (get_or pages t.index []))) in
+      let some : (k : ℕ) → k ≤ count_of (spared n) (get_or pages t.index [])
+      → serves enough n zone (count_of (spared n) (blocks_of (take t.index pages)) + k)
+      ≡ nat_le enough (best (join t.below (join (stretch_of (lowest_purged k (spared n) (get_or pages t.index []))) t.above)))
+      = λ k h. rw (below_is, above_is) (serves-is enough n zone (blocks_of (take t.index pages)) (get_or pages t.index [])
+      (blocks_of (drop (suc t.index) pages)) k (o ∙ blocks-around pages t.index l) h) in
+      let none : serves enough n zone (count_of (spared n) (blocks_of (take t.index pages)) + 0) ≡ false =
+      some 0 (omega arith) ∙ lt-leb enough _ (rw (← plain_is) i.few) in
+      record {
+        few = λ k h. none-before (serves enough n zone) serves-rises
+            (count_of (spared n) (blocks_of (take t.index pages)) + 0) k (omega (arith, h)) none;
+        within = some;
+        reached = some (count_of (spared n) (get_or pages t.index [])) (omega arith)
+            ∙ le-leb enough _ (rw (← gone_is, ← join-assoc t.below (get_or gone t.index (Whole 0)) t.above) i.reached);
+      }

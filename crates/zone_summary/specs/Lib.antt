@@ -1,3 +1,4 @@
+pub mod Emptied
 pub mod Rows
 pub mod Searches
 pub mod Stretches

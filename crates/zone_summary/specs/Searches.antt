@@ -5,5 +5,5 @@ use Rattle.block_store.specs.Inner.RunScan.{scan_runs}
 
 -- The place of the lowest run with `enough` free bytes, where the run of the first block began at `start` and has `free`
 -- free bytes below the block, which begins at `place`.
-abbrev pub search : ℕ → (Block → Bool) → ℕ → ℕ → ℕ → List Block → Option ℕ
-search enough spared start free place blocks = scan_runs None enough spared 0 start free true place blocks
+abbrev pub found_from : ℕ → (Block → Bool) → ℕ → ℕ → ℕ → List Block → Option ℕ
+found_from enough spared start free place blocks = scan_runs None enough spared 0 start free true place blocks

@@ -1,9 +1,9 @@
 -- The least number of purges after which a run has enough free bytes. Inside Macintosh: Memory, chapter 1, "Purging and
 -- Reallocating Relocatable Blocks".
-use Rattle.std.specs.Prelude.{◌≡◌, ℕ, ◌+◌, ◌<◌, ◌≤◌, Bool, true, false, is_some, nat_le, if◌then◌else◌, List, []}
-use Rattle.std.specs.Prelude.{map, length, take, drop, get_or}
-use Rattle.block_store.specs.Block.{Block, Free, size}
-use Rattle.block_store.specs.Room.{count_of, lowest_purged, may_be_purged}
+use Rattle.std.specs.Prelude.{◌≡◌, ℕ, ◌+◌, ◌<◌, ◌≤◌, Bool, true, false, is_some, nat_le, List, [], ◌∷◌}
+use Rattle.std.specs.Prelude.{length, take, drop, get_or}
+use Rattle.block_store.specs.Block.{Block}
+use Rattle.block_store.specs.Room.{count_of, lowest_purged}
 use Rattle.block_store.specs.Run.{has_free, run_spot}
 use Rattle.block_store.specs.Sparing.{purged, spared}
 use Rattle.block_store.specs.declared.sparing.Sparing.{Sparing}
@@ -13,17 +13,14 @@ use Rattle.zone_summary.specs.declared.stretch.Stretch.{Stretch}
 use Rattle.zone_summary.specs.declared.stretch.Stretch.TheVariants.{Whole}
 use Rattle.zone_summary.specs.declared.turning.Turn.{Turn}
 
--- A block as it is once it was purged, if it may be.
-abbrev pub emptied : (Block → Bool) → Block → Block
-emptied spared b = if may_be_purged spared b then Free (size b) else b
-
--- The blocks of pages as they are once all that may be purged were.
-abbrev pub all_emptied : (Block → Bool) → List (List Block) → List (List Block)
-all_emptied spared pages = map (map (emptied spared)) pages
-
 -- After so many purges a run has enough free bytes.
 abbrev pub serves : ℕ → Sparing → List Block → ℕ → Bool
 serves enough n zone purges = is_some (run_spot (has_free enough) (purged purges n zone))
+
+-- The sum of numbers.
+abbrev pub summed : List ℕ → ℕ
+summed [] = 0
+summed (n ∷ above) = n + summed above
 
 -- The stretch that must be purged for a run to have enough, where all below it are purged and none above it is. Those
 -- below the first come to `base`, and those above the last to `top`.

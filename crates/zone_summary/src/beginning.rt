@@ -3,7 +3,7 @@
 ghost use Rattle.std.specs.Prelude.{◌≡◌, ◌+◌, ◌-◌, ◌≤◌, ◌<◌, ◌^◌, ◌++◌, ℕ, Bool, true, suc, length, take, drop, get_or, List};
 ghost use Rattle.block_store.specs.Block.{Block, sizes};
 ghost use Rattle.zone_summary.specs.Rows.{AreOf, blocks_of, loads, part};
-ghost use Rattle.zone_summary.specs.Searches.{search};
+ghost use Rattle.zone_summary.specs.Searches.{found_from};
 ghost use Rattle.zone_summary.specs.Stretches.{best, is_ended, join_all};
 ghost use Rattle.zone_summary.specs.declared.stretch.Stretch.TheVariants.{Whole};
 
@@ -27,11 +27,11 @@ pub fn open_from(pages: &[Stretch], index: usize) -> OpenFrom
     ensures ends { (page : ℕ) → result.page ≡ suc page → is_ended (get_or pages.now page (Whole 0)) ≡ true }
     ensures begins { (page : ℕ) (zone : List (List Block)) (enough : ℕ) (spared : Block → Bool) → result.page ≡ suc page
         → AreOf zone pages.now → best (join_all (take index pages.now)) < enough
-        → search enough spared 0 0 0 (blocks_of zone) ≡ search enough spared (sizes (blocks_of (take page zone))) 0
+        → found_from enough spared 0 0 0 (blocks_of zone) ≡ found_from enough spared (sizes (blocks_of (take page zone))) 0
         (sizes (blocks_of (take page zone))) (blocks_of (drop page zone)) }
     ensures goes_on { (zone : List (List Block)) (rest : List Block) (enough : ℕ) (spared : Block → Bool)
-        (start free place : ℕ) → AreOf zone pages.now → search enough spared start free place
-        (blocks_of (take (index - result.page) (drop result.page zone)) ++ rest) ≡ search enough spared start
+        (start free place : ℕ) → AreOf zone pages.now → found_from enough spared start free place
+        (blocks_of (take (index - result.page) (drop result.page zone)) ++ rest) ≡ found_from enough spared start
         (free + result.free) (place + sizes (blocks_of (take (index - result.page) (drop result.page zone)))) rest }
 {
     let mut page = index;

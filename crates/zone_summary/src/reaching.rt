@@ -3,7 +3,7 @@
 ghost use Rattle.std.specs.Prelude.{◌≡◌, ◌+◌, ◌^◌, ◌<◌, ◌≤◌, Bool, List, MatchOption, None, length, take};
 ghost use Rattle.block_store.specs.Block.{Block};
 ghost use Rattle.zone_summary.specs.Rows.{blocks_of, load, loads, AreGroups, AreOf, IsReach, IsRow};
-ghost use Rattle.zone_summary.specs.Searches.{search};
+ghost use Rattle.zone_summary.specs.Searches.{found_from};
 ghost use Rattle.zone_summary.specs.Stretches.{best, join, join_all};
 ghost use Rattle.zone_summary.specs.declared.stretch.Stretch.TheVariants.{Whole};
 
@@ -77,7 +77,7 @@ pub fn reach_page(
     ensures is { MatchOption result (best (join_all pages.now) < enough)
         (λ r. IsReach (Whole 0) pages.now enough r) }
     ensures none { (zone : List (List Block)) (spared : Block → Bool) → AreOf zone pages.now → result ≡ None
-        → search enough spared 0 0 0 (blocks_of zone) ≡ None }
+        → found_from enough spared 0 0 0 (blocks_of zone) ≡ None }
 {
     let Some(top) = first_reach(tops, Stretch::NONE, enough) else {
         return None;

@@ -4,9 +4,10 @@ ghost use Rattle.std.specs.Prelude.{◌≡◌, ◌+◌, ◌^◌, ◌<◌, ◌≤
 ghost use Rattle.block_store.specs.Block.{Block};
 ghost use Rattle.block_store.specs.Sparing.{opened, spared};
 ghost use Rattle.block_store.specs.declared.sparing.Sparing.{Sparing};
+ghost use Rattle.zone_summary.specs.Emptied.{all_emptied};
 ghost use Rattle.zone_summary.specs.Rows.{blocks_of, load, loads, AreGroups, AreOf, IsRow};
 ghost use Rattle.zone_summary.specs.Stretches.{best, join, join_all};
-ghost use Rattle.zone_summary.specs.Turns.{all_emptied, serves, IsTurn, TurnsIn};
+ghost use Rattle.zone_summary.specs.Turns.{serves, IsTurn, TurnsIn};
 ghost use Rattle.zone_summary.specs.declared.stretch.Stretch.TheVariants.{Whole};
 
 use crate::grouping::{GROUP, all};
@@ -25,7 +26,13 @@ pub struct Turn {
 /// Returns the stretch up to which all must be purged for a run to have `enough` free bytes, by halving. Those below the
 /// first come to `base`, and those above the last to `top`; no run has enough as they are, and one has once all of them
 /// are purged.
-fn turn_between(gone: &[Stretch], plain: &[Stretch], base: Stretch, top: Stretch, enough: u32) -> Turn
+fn turn_between(
+    gone: &[Stretch],
+    plain: &[Stretch],
+    base: Stretch,
+    top: Stretch,
+    enough: u32,
+) -> Turn
     requires same { length gone.now ≡ length plain.now }
     requires some { 0 < length plain.now }
     requires small { load base + load top + loads gone.now + loads plain.now < 2 ^ 32 }
@@ -74,7 +81,13 @@ fn turn_in(
 {
     let low = GROUP * group.index;
     let high = low + GROUP;
-    let unit = turn_between(&gone[low..high], &plain[low..high], group.below, group.above, enough);
+    let unit = turn_between(
+        &gone[low..high],
+        &plain[low..high],
+        group.below,
+        group.above,
+        enough,
+    );
     Turn {
         index: low + unit.index,
         below: unit.below,
@@ -110,6 +123,13 @@ pub fn turn_page(
         return None;
     }
     let top = turn_between(gone_tops, plain_tops, none, none, enough);
-    let group = turn_in(gone_groups, gone_tops, plain_groups, plain_tops, top, enough);
+    let group = turn_in(
+        gone_groups,
+        gone_tops,
+        plain_groups,
+        plain_tops,
+        top,
+        enough,
+    );
     Some(turn_in(gone, gone_groups, plain, plain_groups, group, enough))
 }

@@ -21,7 +21,7 @@ use Rattle.zone_bytes.specs.Stepping.{left_in}
 use Rattle.zone_bytes.specs.declared.finding_runs.Passed.{Passed}
 use Rattle.zone_bytes.specs.declared.finding_runs.Search.{Search}
 use Rattle.zone_bytes.specs.declared.finding_runs.Search.TheVariants as how
-use Rattle.zone_summary.specs.Searches.{search}
+use Rattle.zone_summary.specs.Searches.{found_from}
 use Rattle.zone_summary.specs.Stretches.{best, is_ended, join, stretch_of, suffix}
 use Rattle.zone_summary.specs.declared.stretch.Stretch.TheVariants.{Whole, Ended}
 use Rattle.zone_summary.proofs.Monoid.{join-unit_left}
@@ -87,7 +87,7 @@ module _ (bytes : ℕ) (answer : Option ℕ) (xs : List ℕ) where
     pub start : ℕ
     pub free : ℕ
     pub few : free ≤ most
-    pub is : answer ≡ search bytes spares start free at (left_in at xs)
+    pub is : answer ≡ found_from bytes spares start free at (left_in at xs)
 
   pub goes-on : (at : ℕ) (s : Search) → IsSearch bytes answer at xs s → most_free_of s < bytes → Goes (most_free_of s) at
   unfolding Past
@@ -110,11 +110,11 @@ module _ (bytes : ℕ) (answer : Option ℕ) (xs : List ℕ) where
         start = g.0;
         free = suffix low + free_sum b.high;
         few = omega (arith, h, few, sum);
-        is = b.finds ∙ ap (search bytes spares p.at 0 p.at) b.low_piece.is ∙ g.1
-            ∙ ap (λ q. search bytes spares g.0 (suffix low) q (left_in p.end xs)) b.low_piece.up
-            ∙ ap (search bytes spares g.0 (suffix low) p.end) b.high_piece.is
+        is = b.finds ∙ ap (found_from bytes spares p.at 0 p.at) b.low_piece.is ∙ g.1
+            ∙ ap (λ q. found_from bytes spares g.0 (suffix low) q (left_in p.end xs)) b.low_piece.up
+            ∙ ap (found_from bytes spares g.0 (suffix low) p.end) b.high_piece.is
             ∙ goes-through bytes spares g.0 (suffix low) true p.end b.high (left_in at xs) b.goes_on
-            ∙ ap (λ q. search bytes spares g.0 (suffix low + free_sum b.high) q (left_in at xs)) b.high_piece.up;
+            ∙ ap (λ q. found_from bytes spares g.0 (suffix low + free_sum b.high) q (left_in at xs)) b.high_piece.up;
       }
 
   -- behind a stretch among whose blocks a run ends
@@ -129,10 +129,10 @@ module _ (bytes : ℕ) (answer : Option ℕ) (xs : List ℕ) where
           = λ free f. rw t (omega (arith, f, i, h)) in
       record {
         begins = e;
-        finds = g.is ∙ ap (search bytes spares g.start g.free at) p.is
+        finds = g.is ∙ ap (found_from bytes spares g.start g.free at) p.is
             ∙ scan-forget bytes spares g.start g.free at 0 at here (left_in next xs) (ap is_ended t)
             (short g.free (omega (arith, few, l))) (short 0 (omega (arith, l)))
-            ∙ ap (search bytes spares at 0 at) (sym p.is);
+            ∙ ap (found_from bytes spares at 0 at) (sym p.is);
         low = here;
         low_piece = p;
         low_short = rw t (omega (arith, l, i, h));
@@ -209,7 +209,7 @@ module _ (bytes : ℕ) (answer : Option ℕ) (xs : List ℕ) where
   none-left at s k l e =
       let g = goes-on at s k l in
       let few = g.few in
-      g.is ∙ ap (search bytes spares g.start g.free at) e ∙ scan-end None bytes spares 0 g.start g.free true at
+      g.is ∙ ap (found_from bytes spares g.start g.free at) e ∙ scan-end None bytes spares 0 g.start g.free true at
       ∙ ap (λ v. cond v (Some g.start) None) (short-run true bytes g.free (omega (arith, few, l)))
 
 -- what a search has so far and more, where their sum is as high as numbers go if it is too high

@@ -1,8 +1,8 @@
-use Rattle.std.proofs.Common.{arith, refl, sym, ap, subst, ◌≡◌, ◌+◌, ◌-◌, ◌/◌, ◌∙◌, length, take, drop}
+use Rattle.std.proofs.Common.{arith, sym, ap, ◌≡◌, ◌+◌, ◌-◌, ◌/◌, ◌∙◌, length, take, drop}
 use Rattle.std.proofs.lemmas.List.{take_all, drop_all}
-use Rattle.zone_summary.specs.Rows.{loads, part}
+use Rattle.zone_summary.specs.Rows.{part}
 use Rattle.zone_summary.specs.Stretches.{best, join, join_all}
-use Rattle.zone_summary.proofs.Halving.{IsBetween, below-more, above-more, halves-fit, between-low, between-high, gone-fits, plain-fits, part-one}
+use Rattle.zone_summary.proofs.Halving.{below-more, above-more, halves-fit, between-low, between-high, gone-fits, plain-fits, part-one}
 use Rattle.zone_summary.proofs.Monoid.{join-unit_left, join-unit_right}
 use Rattle.zone_summary.proofs.Sums.{loads-part}
 use Rattle.zone_summary.proofs.turning.turn_between.Goals as goal
