@@ -6,6 +6,7 @@ use Rattle.zone_bytes.specs.Marks.{AtEach, AtMost, AreMarks, Begins, IsTally, ab
 use Rattle.zone_bytes.specs.declared.edges.Edges.{Edges}
 use Rattle.zone_bytes.specs.declared.landmark.Landmark.{Landmark}
 use Rattle.zone_bytes.specs.declared.landmark.Tally.TheVariants as tally
+use Rattle.zone_summary.specs.declared.stretch.Stretch.TheVariants.{Whole}
 
 -- One of the blocks from the place `at` on begins at `place`.
 abbrev pub Starts : ℕ → ℕ → List Block → Type 0
@@ -36,7 +37,7 @@ ByEdges edges base zone = AreEdges edges base [] ⊎ ArePacked edges base zone
 
 -- None of the blocks that begin from `lo` up to `hi` ends a run or has a free byte.
 abbrev pub IsBare : ℕ → ℕ → List Block → Type 0
-IsBare lo hi zone = AtEach (AtMost 0 lo hi) 0 zone × IsTally (tally.Open 0) (between lo hi 0 zone)
+IsBare lo hi zone = AtEach (AtMost 0 lo hi) 0 zone × IsTally (tally.Known (Whole 0)) (between lo hi 0 zone)
 
 -- Landmarks while they are laid anew: those below `index` are landmarks of the zone, and the last of them covers the
 -- blocks up to the place `at`, where the landmark at `index` is to stand. Those from `index` on, where they still

@@ -9,6 +9,8 @@ use Rattle.zone_bytes.specs.declared.landmark.Tally.{Tally}
 use Rattle.zone_bytes.specs.declared.landmark.Tally.TheVariants as tally
 use Rattle.zone_bytes.specs.declared.measuring.Measured.{Measured}
 use Rattle.zone_bytes.specs.declared.landmark.TheConstants.{GROUP}
+use Rattle.zone_summary.specs.Stretches.{stretch_of}
+use Rattle.zone_summary.specs.declared.stretch.Stretch.TheVariants.{Whole}
 
 -- The relation `R` holds of each of the blocks from the place `at` on and its place.
 abbrev pub AtEach : (ℕ → Block → Type 0) → ℕ → List Block → Type 0
@@ -38,24 +40,21 @@ between lo hi at (b ∷ above) = if nat_le lo at && nat_lt at hi then b ∷ betw
 abbrev pub ends_run : Block → Bool
 ends_run b = not (in_run b)
 
--- What a tally says of blocks: that none of them ends a run and exactly `free` of their bytes are free, that one of
--- them ends a run and at most `free` of their bytes are free, or nothing.
--- See decision 149 (a tally says one of three things of the blocks up to the next landmark).
+-- What a tally says of blocks: what they come to in runs, or nothing.
+-- See decision 149 (a tally says what the blocks up to the next landmark come to in runs, or nothing).
 abbrev pub IsTally : Tally → List Block → Type 0
-IsTally (tally.Open free) blocks = (has ends_run blocks ≡ false) × (free_sum blocks ≡ free)
-IsTally (tally.Barred free) blocks = (has ends_run blocks ≡ true) × (free_sum blocks ≤ free)
+IsTally (tally.Known runs) blocks = stretch_of blocks ≡ runs
 IsTally tally.Unknown blocks = Unit {0}
 
--- What a walk finds of the blocks that begin from `lo` up to `hi`: a bound on each free block, the sum of the free
--- bytes, and whether one of the blocks ends a run.
+-- What a walk finds of the blocks that begin from `lo` up to `hi`: a bound on each free block, and what the blocks come
+-- to in runs.
 pub record Measures (lo hi at : ℕ) (zone : List Block) (m : Measured) : Type 0 where
   pub most : AtEach (AtMost m.most lo hi) at zone
-  pub free : free_sum (between lo hi at zone) ≡ m.free
-  pub barred : has ends_run (between lo hi at zone) ≡ m.barred
+  pub runs : stretch_of (between lo hi at zone) ≡ m.runs
 
 -- A landmark that stands for none.
 abbrev pub no_mark : Landmark
-no_mark = record { at = 0; most = 0; tally = tally.Open 0 }
+no_mark = record { at = 0; most = 0; tally = tally.Known (Whole 0) }
 
 -- A place above every block.
 abbrev pub above_all : ℕ

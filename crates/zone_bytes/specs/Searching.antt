@@ -20,6 +20,7 @@ use Rattle.zone_bytes.specs.declared.finding_runs.Passed.{Passed}
 use Rattle.zone_bytes.specs.declared.finding_runs.Search.{Search}
 use Rattle.zone_bytes.specs.declared.finding_runs.Search.TheVariants as search
 use Rattle.zone_bytes.specs.declared.landmark.Tally.{Tally}
+use Rattle.zone_summary.specs.Stretches.{best, stretch_of, suffix}
 
 -- The run so far has at least `bytes` free bytes, and the block that it must have.
 abbrev pub IsFound : ℕ → RunScan → Type 0
@@ -59,7 +60,8 @@ pub record IsBehind (bytes : ℕ) (answer : Option ℕ) (at : ℕ) (xs : List �
   pub finds : answer ≡ finds_from bytes (begun p.at) xs
   pub low : List Block
   pub low_piece : IsPiece p.at p.end xs low
-  pub few : free_sum low ≤ p.most
+  pub low_short : best (stretch_of low) < bytes
+  pub few : suffix (stretch_of low) ≤ p.most
   pub high : List Block
   pub high_piece : IsPiece p.end at xs high
   pub goes_on : has ends_run high ≡ false

@@ -18,14 +18,16 @@ ghost use Rattle.zone_bytes.specs.Searching.{finds_purging, lowest_place, run_be
 ghost use Rattle.zone_bytes.specs.Stepping.{left_in, IsOnWay};
 ghost use Rattle.zone_bytes.specs.declared.finding_runs.Search.TheVariants as how;
 ghost use Rattle.zone_bytes.specs.declared.landmark.Tally.TheVariants as tally;
+ghost use Rattle.zone_summary.specs.declared.stretch.Stretch.TheVariants.{Whole, Ended};
 
 use crate::landmark::{GROUP, Landmark, Tally};
 use crate::marking::{index_above, place_of_mark};
-use crate::measuring::{is_under, span_at, within};
+use crate::measuring::{greater, is_under, span_at, within};
 use crate::paging::{LANDMARKS, LEAST_PAGE};
 use crate::raw_walk::step_at;
 use block_store::{RunScan, Sparing, scan_run};
 use raw_region::Part;
+use zone_summary::Stretch;
 
 /// Reports whether the run so far is the one that is sought.
 fn is_found(scan: RunScan, bytes: u32) -> bool
@@ -73,8 +75,8 @@ fn begun_at(place: u32, purges: u32) -> RunScan
     }
 }
 
-/// Blocks that were passed without a walk over them. Among those from `at` up to `end` a run ends, and at most `most`
-/// bytes are free; among those from `end` on no run ends, and exactly `beyond` bytes are free.
+/// Blocks that were passed without a walk over them. Among those from `at` up to `end` a run ends, and the run at their
+/// upper end has `most` free bytes; among those from `end` on no run ends, and exactly `beyond` bytes are free.
 #[derive(Clone, Copy, Drop)]
 pub struct Passed {
     pub at: u32,
@@ -165,7 +167,7 @@ fn short_behind(search: Search, free: u32, bytes: u32) -> Option<Passed>
 fn past_opened(part: &Part, search: Search, at: u32, next: u32, free: u32, bytes: u32) -> Search
     requires sound { (first : ℕ) × (unused : ℕ) × IsSound part.now.bytes first unused }
     requires search { (answer : Option ℕ) × IsSearch bytes answer at part.now.bytes search }
-    requires stretch { IsStretch (tally.Open free) at next part.now.bytes }
+    requires stretch { IsStretch (tally.Known (Whole free)) at next part.now.bytes }
     ensures { (answer : Option ℕ) → IsSearch bytes answer at part.now.bytes search →
         IsSearch bytes answer next part.now.bytes result }
 {
@@ -181,20 +183,31 @@ fn past_opened(part: &Part, search: Search, at: u32, next: u32, free: u32, bytes
     Search::Known(past_open(known, free, next, bytes))
 }
 
-/// Takes a search past a stretch in which a run ends and of which at most `free` bytes are free.
-fn past_barred(part: &Part, search: Search, at: u32, next: u32, free: u32, bytes: u32) -> Search
+/// Takes a search past a stretch in which a run ends, whose lowest run has `low` free bytes, its highest one `high`, and
+/// no other one more than `inner`.
+fn past_ended(
+    part: &Part,
+    search: Search,
+    at: u32,
+    next: u32,
+    low: u32,
+    inner: u32,
+    high: u32,
+    bytes: u32,
+) -> Search
     requires sound { (first : ℕ) × (unused : ℕ) × IsSound part.now.bytes first unused }
     requires search { (answer : Option ℕ) × IsSearch bytes answer at part.now.bytes search }
-    requires stretch { IsStretch (tally.Barred free) at next part.now.bytes }
+    requires stretch { IsStretch (tally.Known (Ended low inner high)) at next part.now.bytes }
     requires begins { Begins at 0 (zone_in part.now.bytes) }
     ensures { (answer : Option ℕ) → IsSearch bytes answer at part.now.bytes search →
         IsSearch bytes answer next part.now.bytes result }
 {
-    if most_free(search).saturating_add(free) < bytes {
+    let had = most_free(search).saturating_add(low);
+    if greater(had, greater(inner, high)) < bytes {
         return Search::Behind(Passed {
             at,
             end: next,
-            most: free,
+            most: high,
             beyond: 0,
         });
     }
@@ -211,8 +224,12 @@ fn past_stretch(part: &Part, mark: Landmark, next: u32, search: Search, bytes: u
         IsSearch bytes answer next part.now.bytes result }
 {
     match mark.tally {
-        Tally::Open(free) => past_opened(part, search, mark.at, next, free, bytes),
-        Tally::Barred(free) => past_barred(part, search, mark.at, next, free, bytes),
+        Tally::Known(Stretch::Whole(free)) => {
+            past_opened(part, search, mark.at, next, free, bytes)
+        }
+        Tally::Known(Stretch::Ended(low, inner, high)) => {
+            past_ended(part, search, mark.at, next, low, inner, high, bytes)
+        }
         Tally::Unknown => look_past(part, search, mark.at, next, bytes),
     }
 }
@@ -278,6 +295,14 @@ fn without_purges(scan: RunScan) -> RunScan
     }
 }
 
+/// Reports whether it is known that one of a landmark's blocks ends a run.
+fn is_barred(tally: Tally) -> bool {
+    match tally {
+        Tally::Known(Stretch::Ended(_, _, _)) => true,
+        _ => false,
+    }
+}
+
 /// Returns the place of a landmark among whose blocks one ends a run, of the last ones below the place `from`, or 0.
 fn barred_below(marks: &[Landmark], from: u32) -> u32
     ensures { (end : ℕ) (zone : List Block) → AreMarks end zone marks.now → Begins result 0 zone }
@@ -286,7 +311,7 @@ fn barred_below(marks: &[Landmark], from: u32) -> u32
     let least = index.saturating_sub(GROUP);
     while index > least {
         index -= 1;
-        if let Tally::Barred(_) = marks[index].tally {
+        if is_barred(marks[index].tally) {
             return marks[index].at;
         }
     }

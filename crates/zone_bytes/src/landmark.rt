@@ -1,15 +1,15 @@
 //! Landmarks of a zone, by which its blocks are found without a walk from the bottom.
 
+use zone_summary::Stretch;
+
 /// The number of landmarks in a group.
 pub const GROUP: usize = 64;
 
 /// What is known of the blocks that begin from a landmark up to the next one.
 #[derive(Clone, Copy, Drop)]
 pub enum Tally {
-    /// No block of them ends a run, and exactly this number of bytes is free.
-    Open(u32),
-    /// A block of them ends a run, and at most this number of bytes is free.
-    Barred(u32),
+    /// What the blocks come to in runs.
+    Known(Stretch),
     /// Nothing is known.
     Unknown,
 }

@@ -1,19 +1,23 @@
-//! The greatest number of free bytes in one run, by landmarks: the blocks of a stretch in which no run ends are not
-//! walked over.
+//! The greatest number of free bytes in one run, by landmarks: the blocks of a stretch are not walked over if it is known
+//! what they come to in runs.
 
-ghost use Rattle.std.specs.Prelude.{◌≡◌, ◌≤◌, ◌<◌, ◌⊎◌, ℕ, length};
+ghost use Rattle.std.specs.Prelude.{◌≡◌, ◌+◌, ◌≤◌, ◌<◌, ◌⊎◌, ◌++◌, ℕ, List, length};
+ghost use Rattle.block_store.specs.Block.{Block};
 ghost use Rattle.block_store.specs.Compact.{largest_run};
 ghost use Rattle.zone_bytes.specs.Decode.{zone_in};
-ghost use Rattle.zone_bytes.specs.Largest.{CameOn};
+ghost use Rattle.zone_bytes.specs.Largest.{CameOn, most_past};
 ghost use Rattle.zone_bytes.specs.Lawful.{IsSound};
 ghost use Rattle.zone_bytes.specs.Marks.{AreMarks, above_all};
 ghost use Rattle.zone_bytes.specs.Searching.{IsStretch};
 ghost use Rattle.zone_bytes.specs.Stepping.{left_in, IsOnWay};
+ghost use Rattle.zone_summary.specs.Rows.{load};
+ghost use Rattle.zone_summary.specs.Stretches.{stretch_of};
 
 use crate::landmark::{Landmark, Tally};
 use crate::marking::{index_above, place_of_mark};
 use crate::measuring::{greater, span_at, within};
 use raw_region::Part;
+use zone_summary::Stretch;
 
 /// The state of a walk: the greatest number of free bytes in one of the runs that ended, the free bytes so far of the run
 /// that goes on, and the place of the walk.
@@ -62,6 +66,28 @@ fn runs_up_to(part: &Part, sum: RunSum, to: u32) -> RunSum
     sum
 }
 
+/// Takes a walk past blocks up to the place `next`, by what they come to in runs.
+fn past_known(sum: RunSum, runs: Stretch, next: u32) -> RunSum
+    requires { sum.free + load runs ≤ next }
+    ensures same { (here above : List Block) → stretch_of here ≡ runs →
+        most_past sum.most sum.free (here ++ above) ≡ most_past result.most result.free above }
+    ensures at { result.at ≡ next }
+    ensures free { result.free ≤ next }
+{
+    match runs {
+        Stretch::Whole(free) => RunSum {
+            most: sum.most,
+            free: sum.free + free,
+            at: next,
+        },
+        Stretch::Ended(low, inner, high) => RunSum {
+            most: greater(greater(sum.most, sum.free + low), inner),
+            free: high,
+            at: next,
+        },
+    }
+}
+
 /// Takes a walk past the stretch of a landmark, up to the place `next`.
 fn past_stretch(part: &Part, mark: Landmark, next: u32, sum: RunSum) -> RunSum
     requires way { IsOnWay sum.at part.now.bytes }
@@ -71,11 +97,7 @@ fn past_stretch(part: &Part, mark: Landmark, next: u32, sum: RunSum) -> RunSum
     ensures came { CameOn part.now.bytes sum result }
 {
     match mark.tally {
-        Tally::Open(free) if sum.at == mark.at => RunSum {
-            most: sum.most,
-            free: sum.free + free,
-            at: next,
-        },
+        Tally::Known(runs) if sum.at == mark.at => past_known(sum, runs, next),
         _ => runs_up_to(part, sum, next),
     }
 }

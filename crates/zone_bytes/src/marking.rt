@@ -18,6 +18,7 @@ use crate::landmark::{GROUP, Landmark, Tally, UNKNOWN};
 use crate::measuring::{Measured, greater, measure_up_to, room_between};
 use crate::paging::page_end;
 use raw_region::Part;
+use zone_summary::Stretch;
 
 /// Returns the landmark to be compared next, of those from `low` up to `high`: the likely one, or one just beside it;
 /// if the landmark was not there either, the one in the middle.
@@ -156,7 +157,7 @@ fn measured_mark(part: &Part, at: u32, above: u32) -> Landmark
     Landmark {
         at,
         most: stretch.most,
-        tally: stretch.tally(),
+        tally: Tally::Known(stretch.runs),
     }
 }
 
@@ -247,8 +248,7 @@ fn stretch_from(part: &Part, at: u32, place: u32, last: bool) -> Measured
         Measured {
             edge: u32::MAX,
             most: whole.most,
-            free: whole.free,
-            barred: whole.barred,
+            runs: whole.runs,
         }
     } else {
         measure_up_to(part, at, place)
@@ -276,7 +276,7 @@ fn packed_mark(part: &Part, at: u32, edge: u32, base: u32) -> Landmark
         return Landmark {
             at,
             most: 0,
-            tally: Tally::Open(0),
+            tally: Tally::Known(Stretch::NONE),
         };
     }
     measured_mark(part, at, edge)
@@ -346,7 +346,7 @@ pub fn lay_marks(
         marks[index] = Landmark {
             at,
             most: stretch.most,
-            tally: stretch.tally(),
+            tally: Tally::Known(stretch.runs),
         };
         raise_top(tops, index, stretch.most);
         at = stretch.edge;

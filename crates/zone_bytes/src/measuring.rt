@@ -3,16 +3,15 @@
 ghost use Rattle.std.specs.Prelude.{◌≡◌, ◌+◌, ◌%◌, ◌==◌, ◌<◌, ◌≤◌, ◌^◌, ◌⊎◌, not, if◌then◌else◌, List, length};
 ghost use Rattle.std.specs.Prelude.{MatchOption, IfSome, false, nat_lt};
 ghost use Rattle.heap_words.specs.Words.{word_at};
-ghost use Rattle.block_store.specs.Block.{Block, free_sum};
-ghost use Rattle.block_store.specs.Run.{has};
-ghost use Rattle.zone_bytes.specs.Marks.{AtEach, NoRoom, Begins, Spans, RoomAt, IsTally, Measures, ends_run};
+ghost use Rattle.zone_bytes.specs.Marks.{AtEach, NoRoom, Begins, Spans, RoomAt, Measures};
 ghost use Rattle.zone_bytes.specs.Settling.{runs_on};
 ghost use Rattle.zone_bytes.specs.Stepping.{left_in, IsOnWay};
+ghost use Rattle.zone_summary.specs.Stretches.{counted};
 
-use crate::landmark::Tally;
 use crate::words::read_word;
 use block_store::UNIT;
 use raw_region::Part;
+use zone_summary::Stretch;
 
 /// Returns the lower of a place and the zone's end.
 pub fn within(to: u32, end: u32) -> u32
@@ -48,6 +47,19 @@ pub struct Span {
     pub end: u32,
     pub free: u32,
     pub barrier: bool,
+}
+
+impl Span {
+    /// Returns what the block comes to in runs.
+    fn runs(self) -> Stretch
+        ensures { result ≡ counted (not self.barrier) self.free }
+    {
+        if self.barrier {
+            Stretch::END
+        } else {
+            Stretch::Whole(self.free)
+        }
+    }
 }
 
 /// Returns the free bytes of a block of `size` bytes, by the number of its kind.
@@ -87,28 +99,13 @@ pub fn span_at(part: &Part, at: u32) -> Span
     }
 }
 
-/// The result of a walk from a place: where the walk ended, the size of the largest free block that it passed, the
-/// free bytes of all blocks that it passed, and whether one of these blocks ends a run.
+/// The result of a walk from a place: where the walk ended, the size of the largest free block that it passed, and what
+/// the blocks that it passed come to in runs.
 #[derive(Clone, Copy, Drop)]
 pub struct Measured {
     pub edge: u32,
     pub most: u32,
-    pub free: u32,
-    pub barred: bool,
-}
-
-impl Measured {
-    /// Returns the tally of the blocks that were passed.
-    pub fn tally(self) -> Tally
-        ensures { (blocks : List Block) → free_sum blocks ≡ self.free → has ends_run blocks ≡ self.barred →
-            IsTally result blocks }
-    {
-        if self.barred {
-            Tally::Barred(self.free)
-        } else {
-            Tally::Open(self.free)
-        }
-    }
+    pub runs: Stretch,
 }
 
 /// Walks from one place to the first block that begins at or above another, or to the zone's end.
@@ -121,21 +118,18 @@ pub fn measure_up_to(part: &Part, from: u32, place: u32) -> Measured
 {
     let stop = within(place, part.len() as u32);
     let mut most = 0;
-    let mut free = 0;
-    let mut barred = false;
+    let mut runs = Stretch::NONE;
     let mut at = from;
     while at < stop {
         let span = span_at(part, at);
         most = greater(most, span.free);
-        free += span.free;
-        barred = barred || span.barrier;
+        runs = runs.join(span.runs());
         at = span.end;
     }
     Measured {
         edge: at,
         most,
-        free,
-        barred,
+        runs,
     }
 }
 

@@ -1,64 +1,73 @@
 -- The blocks that begin between two places, and what a tally says of them.
-use Rattle.std.proofs.Common.{◌≡◌, ℕ, ◌+◌, ◌≤◌, ◌<◌, ◌⊎◌, inl, inr, Bool, true, false, ◌&&◌, ◌||◌, cond, List, [], ◌∷◌}
+use Rattle.std.proofs.Common.{◌≡◌, ℕ, ◌+◌, ◌≤◌, ◌<◌, ◌⊎◌, inl, inr, Bool, true, false, ◌&&◌, not, cond, List, [], ◌∷◌}
 use Rattle.std.proofs.Common.{◌++◌, nat_le, nat_lt, refl, sym, ap, ◌∙◌, arith}
 use Rattle.std.proofs.lemmas.Bool.{le-leb, lt-leb, lt-ltb, le-ltb, leb-true, ltb-false, and_parts}
 use Rattle.std.proofs.lemmas.List.{append-nil}
-use Rattle.std.proofs.lemmas.List.Folds.{list_any-append}
-use Rattle.block_store.specs.Block.{Block, Free, Nonrelocatable, Masters, Relocatable, size, sizes, free_of, free_sum}
-use Rattle.block_store.specs.Run.{has}
-use Rattle.block_store.proofs.Zone.Totals.{total-append}
+use Rattle.block_store.specs.Block.{Block, Free, Nonrelocatable, Masters, Relocatable, size, sizes, free_of}
+use Rattle.block_store.specs.Run.{in_run}
 use Rattle.zone_bytes.specs.Marks.{AtEach, IsTally, between, ends_run}
 use Rattle.zone_bytes.specs.declared.landmark.Tally.{Tally}
 use Rattle.zone_bytes.specs.declared.landmark.Tally.TheVariants as tally
-use Rattle.zone_bytes.proofs.Marks.Spanned.{free-size}
+use Rattle.zone_summary.specs.Stretches.{counted, join, one, stretch_of}
+use Rattle.zone_summary.specs.declared.stretch.Stretch.TheVariants.{Whole}
+use Rattle.zone_summary.proofs.Monoid.{join-unit_left, stretch_of-append}
 
--- blocks that count the same
+-- blocks that come to the same in runs
 pub record CountAlike (some others : List Block) : Type 0 where
-  pub ends : has ends_run some ≡ has ends_run others
-  pub free : free_sum some ≡ free_sum others
+  pub same : stretch_of some ≡ stretch_of others
 
 pub alike-as : (t : Tally) (some others : List Block) → CountAlike some others → IsTally t others → IsTally t some
-alike-as (tally.Open n) some others a i = (a.ends ∙ i.0, a.free ∙ i.1)
-alike-as (tally.Barred n) some others a i = (a.ends ∙ i.0, (let e = a.free in let l = i.1 in omega (arith, e, l)))
+alike-as (tally.Known runs) some others a i = a.same ∙ i
 alike-as tally.Unknown some others a i = tt
 
 pub alike-same : (some others : List Block) → some ≡ others → CountAlike some others
-alike-same some others e = record { ends = ap (has ends_run) e; free = ap free_sum e }
+alike-same some others e = record { same = ap stretch_of e }
 
 pub alike-back : (some others : List Block) → CountAlike some others → CountAlike others some
-alike-back some others a = record { ends = sym a.ends; free = sym a.free }
+alike-back some others a = record { same = sym a.same }
 
 pub alike-more : (a b c : List Block) → CountAlike a b → CountAlike b c → CountAlike a c
-alike-more a b c x y = record { ends = x.ends ∙ y.ends; free = x.free ∙ y.free }
+alike-more a b c x y = record { same = x.same ∙ y.same }
 
 pub alike-append : (a b c d : List Block) → CountAlike a c → CountAlike b d → CountAlike (a ++ b) (c ++ d)
 alike-append a b c d x y = record {
-  ends = list_any-append ends_run a b ∙ ap (λ v. v || has ends_run b) x.ends
-      ∙ ap (λ v. has ends_run c || v) y.ends ∙ sym (list_any-append ends_run c d);
-  free = (let p = total-append free_of a b in let q = total-append free_of c d in let e = x.free in let f = y.free in
-      omega (arith, p, q, e, f));
+  same = stretch_of-append a b ∙ ap (λ s. join s (stretch_of b)) x.same ∙ ap (join (stretch_of c)) y.same
+      ∙ sym (stretch_of-append c d);
 }
-
--- a block of no bytes ends no run
-empty-run : (b : Block) → size b ≤ 0 → ends_run b ≡ false
-empty-run (Free n) l = refl
-empty-run (Nonrelocatable id content) l = absurd (omega (arith, l))
-empty-run Masters l = absurd (omega (arith, l))
-empty-run (Relocatable id flags content) l = absurd (omega (arith, l))
 
 pub alike-first : (b : Block) (some others : List Block) → CountAlike some others → CountAlike (b ∷ some) (b ∷ others)
-alike-first b some others a = record {
-  ends = ap (λ v. ends_run b || v) a.ends;
-  free = ap (λ n. free_of b + n) a.free;
-}
+alike-first b some others a = record { same = ap (join (one b)) a.same }
+
+-- one block
+not-same : (t u : Bool) → not t ≡ not u → t ≡ u
+not-same true true e = refl
+not-same true false e = cc
+not-same false true e = cc
+not-same false false e = refl
+
+pub one-same : (b c : Block) → free_of c ≡ free_of b → ends_run c ≡ ends_run b → one c ≡ one b
+one-same b c f r = ap (counted (in_run c)) f ∙ ap (λ t. counted t (free_of b)) (not-same (in_run c) (in_run b) r)
+
+not-not : (t : Bool) → not (not t) ≡ t
+not-not true = refl
+not-not false = refl
+
+pub one-spanned : (b : Block) (free : ℕ) (barrier : Bool) → free ≡ free_of b → barrier ≡ ends_run b
+    → counted (not barrier) free ≡ one b
+one-spanned b free barrier f r = ap (counted (not barrier)) f ∙ ap (λ t. counted (not t) (free_of b)) r
+    ∙ ap (λ t. counted t (free_of b)) (not-not (in_run b))
 
 -- a block of no bytes more counts the same
+pub one-empty : (b : Block) → size b ≤ 0 → one b ≡ Whole 0
+one-empty (Free n) l = ap Whole (omega (arith, l))
+one-empty (Nonrelocatable id content) l = absurd (omega (arith, l))
+one-empty Masters l = absurd (omega (arith, l))
+one-empty (Relocatable id flags content) l = absurd (omega (arith, l))
+
 alike-empty : (b : Block) (some others : List Block) → size b ≤ 0 → CountAlike some others → CountAlike (b ∷ some)
     others
-alike-empty b some others l a = record {
-  ends = ap (λ v. v || has ends_run some) (empty-run b l) ∙ a.ends;
-  free = (let f = free-size b in let e = a.free in omega (arith, f, l, e));
-}
+alike-empty b some others l a =
+    record { same = ap (λ s. join s (stretch_of some)) (one-empty b l) ∙ join-unit_left (stretch_of some) ∙ a.same }
 
 module _ (lo hi : ℕ) where
   inside : (at : ℕ) → lo ≤ at → at < hi → (nat_le lo at && nat_lt at hi) ≡ true
@@ -86,7 +95,7 @@ module _ (lo hi : ℕ) where
 
   -- none of the blocks below begins there
   pub none-below : (x : ℕ) (blocks : List Block) → x + sizes blocks ≤ lo → CountAlike (between lo hi x blocks) []
-  none-below x [] l = record { ends = refl; free = refl }
+  none-below x [] l = record { same = refl }
   none-below x (b ∷ blocks) l =
       cases (nat_le lo x && nat_lt x hi) refl (none-below (x + size b) blocks (omega (arith, l)))
     where
@@ -110,7 +119,7 @@ module _ (lo hi : ℕ) where
   -- each of the blocks within does
   pub all-within : (x : ℕ) (blocks : List Block) → lo ≤ x → x + sizes blocks ≤ hi
       → CountAlike (between lo hi x blocks) blocks
-  all-within x [] l h = record { ends = refl; free = refl }
+  all-within x [] l h = record { same = refl }
   all-within x (b ∷ blocks) l h =
       cases (nat_lt x hi) refl (all-within (x + size b) blocks (omega (arith, l)) (omega (arith, h)))
     where

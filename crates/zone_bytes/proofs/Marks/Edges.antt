@@ -8,10 +8,13 @@ use Rattle.block_store.specs.Block.{Block, Free, Nonrelocatable, Masters, Reloca
 use Rattle.block_store.specs.Run.{has}
 use Rattle.zone_bytes.specs.Layout.{Each}
 use Rattle.zone_bytes.specs.Edges.{Starts, AreEdges, IsMover, ByEdges, IsBare, AreLaid}
-use Rattle.zone_bytes.specs.Marks.{AreMarks, AtEach, AtMost, Begins, between, ends_run, next_of, no_mark}
+use Rattle.zone_bytes.specs.Marks.{AreMarks, AtEach, AtMost, Begins, between, next_of, no_mark}
 use Rattle.zone_bytes.specs.declared.landmark.Landmark.{Landmark}
 use Rattle.zone_bytes.specs.declared.edges.Edges.{Edges}
 use Rattle.zone_bytes.specs.declared.landmark.Tally.TheVariants as tally
+use Rattle.zone_summary.specs.Stretches.{counted, join, one, stretch_of}
+use Rattle.zone_summary.specs.declared.stretch.Stretch.TheVariants.{Whole}
+use Rattle.zone_summary.proofs.Monoid.{join-unit_left}
 use Rattle.zone_bytes.proofs.Marks.Between.{CountAlike, alike-as, alike-same, alike-more, alike-append, between-append}
 use Rattle.zone_bytes.proofs.Marks.Between.{none-below, none-above}
 use Rattle.zone_bytes.proofs.Marks.Lowering.{at-each, drop-all, mark-first, marks-parted}
@@ -59,11 +62,11 @@ mover-free (Nonrelocatable id content) m = refl
 mover-free Masters m = refl
 mover-free (Relocatable id flags content) m = refl
 
-mover-runs : (b : Block) → IsMover b → ends_run b ≡ false
-mover-runs (Free n) m = refl
-mover-runs (Nonrelocatable id content) m = absurd (false≢true m)
-mover-runs Masters m = absurd (false≢true m)
-mover-runs (Relocatable id flags content) m = ap not m
+mover-one : (b : Block) → IsMover b → one b ≡ Whole 0
+mover-one (Free n) m = absurd (false≢true m)
+mover-one (Nonrelocatable id content) m = absurd (false≢true m)
+mover-one Masters m = absurd (false≢true m)
+mover-one (Relocatable id flags content) m = ap (λ t. counted t 0) m
 
 movers-bare : (lo hi x : ℕ) (movers : List Block) → Each IsMover movers → AtEach (AtMost 0 lo hi) x movers
 movers-bare lo hi x [] m = tt
@@ -71,7 +74,7 @@ movers-bare lo hi x (b ∷ movers) m =
     (λ l h. (let f = mover-free b m.0 in omega (arith, f)), movers-bare lo hi (x + size b) movers m.1)
 
 movers-alike : (lo hi x : ℕ) (movers : List Block) → Each IsMover movers → CountAlike (between lo hi x movers) []
-movers-alike lo hi x [] m = record { ends = refl; free = refl }
+movers-alike lo hi x [] m = record { same = refl }
 movers-alike lo hi x (b ∷ movers) m =
     cases (nat_le lo x && nat_lt x hi) (movers-alike lo hi (x + size b) movers m.1)
   where
@@ -80,8 +83,7 @@ movers-alike lo hi x (b ∷ movers) m =
 
     cases : (t : Bool) → CountAlike rest [] → CountAlike (cond t (b ∷ rest) rest) []
     cases true a = record {
-      ends = ap (λ v. v || has ends_run rest) (mover-runs b m.0) ∙ a.ends;
-      free = (let f = mover-free b m.0 in let g = a.free in omega (arith, f, g));
+      same = ap (λ s. join s (stretch_of rest)) (mover-one b m.0) ∙ join-unit_left (stretch_of rest) ∙ a.same;
     }
     cases false a = a
 
@@ -104,7 +106,7 @@ module _ (base : ℕ) (below movers above : List Block) (low : sizes below ≡ b
   bare-same : (p q : ℕ) → p ≡ q → IsBare p q zone
   bare-same p q e = (
     at-all (AtMost 0 p q) 0 zone (λ x b _. λ l h. absurd (omega (arith, l, h, e))),
-    alike-as (tally.Open 0) _ [] (alike-same _ _ (between-none p q 0 zone (omega (arith, e)))) (refl, refl),
+    alike-as (tally.Known (Whole 0)) _ [] (alike-same _ _ (between-none p q 0 zone (omega (arith, e)))) refl,
   )
 
   bare-within : (p q : ℕ) → base ≤ p → q ≤ base + sizes movers → IsBare p q zone
@@ -115,12 +117,12 @@ module _ (base : ℕ) (below movers above : List Block) (low : sizes below ≡ b
             (at-each R 0 below (λ y b u v. λ m n. let f = free-size b in omega (arith, f, v, m, l, low)))
             (at-append R x movers above (movers-bare p q x movers solid)
             (at-all R (x + sizes movers) above (λ y b u. λ m n. absurd (omega (arith, u, n, h, low))))),
-        alike-as (tally.Open 0) _ [] (alike-more _ _ _ (alike-same _ _ (between-append p q 0 below (movers ++ above)
+        alike-as (tally.Known (Whole 0)) _ [] (alike-more _ _ _ (alike-same _ _ (between-append p q 0 below (movers ++ above)
             ∙ ap (λ k. between p q 0 below ++ k) (between-append p q x movers above)))
             (alike-append _ _ [] [] (none-below p q 0 below (omega (arith, l, low)))
             (alike-append _ _ [] [] (movers-alike p q x movers solid)
             (alike-same _ _ (none-above p q (x + sizes movers) above (omega (arith, h, low)))))))
-            (refl, refl),
+            refl,
       )
 
 -- an edge of the blocks that lie packed

@@ -6,7 +6,8 @@ use Rattle.block_store.specs.Run.{has}
 use Rattle.zone_bytes.specs.Laying.{free_first}
 use Rattle.zone_bytes.specs.Marks.{AtEach, AtMost, Became, Begins, AreMarks, Replaced, between, ends_run, next_of}
 use Rattle.zone_bytes.specs.declared.landmark.Landmark.{Landmark}
-use Rattle.zone_bytes.proofs.Marks.Between.{CountAlike, alike-as, alike-same, alike-first}
+use Rattle.zone_bytes.proofs.Marks.Between.{CountAlike, alike-as, alike-same, alike-first, one-same}
+use Rattle.zone_summary.specs.Stretches.{join, one, stretch_of}
 use Rattle.zone_bytes.proofs.Tiles.Tiling.{span-append}
 use Rattle.zone_bytes.proofs.Tiles.Keeping.{span-free}
 
@@ -35,8 +36,8 @@ tally-same lo hi x [] above b c s f r = cases (nat_le lo x && nat_lt x hi)
         → CountAlike (cond t (c ∷ between lo hi (x + size c) above) (between lo hi (x + size c) above))
         (cond t (b ∷ between lo hi (x + size b) above) (between lo hi (x + size b) above))
     cases true e = record {
-      ends = ap (λ k. ends_run c || has ends_run k) e ∙ ap (λ v. v || has ends_run (between lo hi (x + size b) above)) r;
-      free = ap (λ k. free_of c + free_sum k) e ∙ ap (λ n. n + free_sum (between lo hi (x + size b) above)) f;
+      same = ap (λ k. join (one c) (stretch_of k)) e
+          ∙ ap (λ o. join o (stretch_of (between lo hi (x + size b) above))) (one-same b c f r);
     }
     cases false e = alike-same _ _ e
 tally-same lo hi x (d ∷ below) above b c s f r = cases (nat_le lo x && nat_lt x hi)

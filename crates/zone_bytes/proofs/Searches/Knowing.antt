@@ -11,7 +11,7 @@ use Rattle.block_store.specs.declared.sparing.Sparing.{Sparing}
 use Rattle.block_store.specs.declared.run_search.RunScan.{RunScan}
 use Rattle.block_store.specs.declared.sparing.Sparing.TheVariants as sparing
 use Rattle.block_store.proofs.Regroup.RunScans.{scan_kept}
-use Rattle.block_store.proofs.Regroup.RunSkips.{GoesOn, goes-past, goes-through, same-past, short-run, scan-end, spared-alike}
+use Rattle.block_store.proofs.Regroup.RunSkips.{goes-through, short-run, scan-end, spared-alike}
 use Rattle.block_store.proofs.Zone.Totals.{total-append}
 use Rattle.zone_bytes.specs.Decode.{zone_in}
 use Rattle.zone_bytes.specs.Lawful.{IsSound}
@@ -20,7 +20,12 @@ use Rattle.zone_bytes.specs.Searching.{IsBehind, IsFound, IsKnown, IsPiece, IsSe
 use Rattle.zone_bytes.specs.Stepping.{left_in}
 use Rattle.zone_bytes.specs.declared.finding_runs.Passed.{Passed}
 use Rattle.zone_bytes.specs.declared.finding_runs.Search.{Search}
-use Rattle.zone_bytes.specs.declared.finding_runs.Search.TheVariants as search
+use Rattle.zone_bytes.specs.declared.finding_runs.Search.TheVariants as how
+use Rattle.zone_summary.specs.Searches.{found_from}
+use Rattle.zone_summary.specs.Stretches.{best, is_ended, join, stretch_of, suffix}
+use Rattle.zone_summary.specs.declared.stretch.Stretch.TheVariants.{Whole, Ended}
+use Rattle.zone_summary.proofs.Monoid.{join-unit_left}
+use Rattle.zone_summary.proofs.Searching.{Past, scan-forget, scan-past}
 use Rattle.zone_bytes.proofs.Places.Walks.{free_span-le}
 use Rattle.zone_bytes.proofs.Marks.Lowering.{begins-further, begins-way}
 use Rattle.zone_bytes.proofs.Places.Stepped.{left-none}
@@ -77,52 +82,66 @@ module _ (bytes : ℕ) (answer : Option ℕ) (xs : List ℕ) where
     here = inr refl;
   }
 
-  -- the search at a place, in a run that has too little so far
-  pub goes-on : (at : ℕ) (s : Search) → IsSearch bytes answer at xs s → most_free_of s < bytes
-      → GoesOn None bytes spares (most_free_of s) at (left_in at xs) answer
-  goes-on at (search.Known s) k l =
+  -- the search at a place, in a run that has no more than so many free bytes so far
+  pub record Goes (most at : ℕ) : Type 0 where
+    pub start : ℕ
+    pub free : ℕ
+    pub few : free ≤ most
+    pub is : answer ≡ found_from bytes spares start free at (left_in at xs)
+
+  pub goes-on : (at : ℕ) (s : Search) → IsSearch bytes answer at xs s → most_free_of s < bytes → Goes (most_free_of s) at
+  unfolding Past
+  goes-on at (how.Known s) k l =
       let e = not-found at s k (short-run s.met bytes s.free l) in
-      record { start = s.start; free = s.free; met = s.met; few = omega arith; is = finds-at at s k e }
-  goes-on at (search.Behind p) b l =
-      let few = b.few in
-      let g = goes-past None bytes spares p.at 0 true p.at b.low (left_in p.end xs) (omega (arith, few, l)) in
-      let h = g.few in
-      let sum = b.sum in
       record {
-        start = g.start;
-        free = g.free + free_sum b.high;
-        met = g.met;
+        start = s.start;
+        free = s.free;
+        few = omega arith;
+        is = finds-at at s k e ∙ ap (λ m. scan_runs None bytes spares 0 s.start s.free m at (left_in at xs)) k.met;
+      }
+  goes-on at (how.Behind p) b l =
+      let low = join (Whole 0) (stretch_of b.low) in
+      let same = join-unit_left (stretch_of b.low) in
+      let g = scan-past bytes spares p.at 0 p.at b.low (left_in p.end xs) (rw same b.low_short) in
+      let few = b.few in
+      let sum = b.sum in
+      let h = ap suffix same in
+      record {
+        start = g.0;
+        free = suffix low + free_sum b.high;
         few = omega (arith, h, few, sum);
-        is = b.finds ∙ ap (scan_runs None bytes spares 0 p.at 0 true p.at) b.low_piece.is ∙ g.is
-            ∙ ap (λ q. scan_runs None bytes spares 0 g.start g.free g.met q (left_in p.end xs)) b.low_piece.up
-            ∙ ap (scan_runs None bytes spares 0 g.start g.free g.met p.end) b.high_piece.is
-            ∙ goes-through bytes spares g.start g.free g.met p.end b.high (left_in at xs) b.goes_on
-            ∙ ap (λ q. scan_runs None bytes spares 0 g.start (g.free + free_sum b.high) g.met q (left_in at xs))
-            b.high_piece.up;
+        is = b.finds ∙ ap (found_from bytes spares p.at 0 p.at) b.low_piece.is ∙ g.1
+            ∙ ap (λ q. found_from bytes spares g.0 (suffix low) q (left_in p.end xs)) b.low_piece.up
+            ∙ ap (found_from bytes spares g.0 (suffix low) p.end) b.high_piece.is
+            ∙ goes-through bytes spares g.0 (suffix low) true p.end b.high (left_in at xs) b.goes_on
+            ∙ ap (λ q. found_from bytes spares g.0 (suffix low + free_sum b.high) q (left_in at xs)) b.high_piece.up;
       }
 
   -- behind a stretch among whose blocks a run ends
-  pub behind-barred : (at next free : ℕ) (s : Search) (here : List Block) → IsSearch bytes answer at xs s
-      → most_free_of s + free < bytes → Begins at 0 (zone_in xs) → IsPiece at next xs here → has ends_run here ≡ true
-      → free_sum here ≤ free
-      → IsBehind bytes answer next xs (record { at = at; end = next; most = free; beyond = 0 })
-  behind-barred at next free s here k l e p h f =
+  pub behind-ended : (at next low inner high : ℕ) (s : Search) (here : List Block) → IsSearch bytes answer at xs s
+      → most_free_of s + low < bytes → inner < bytes → high < bytes → Begins at 0 (zone_in xs) → IsPiece at next xs here
+      → stretch_of here ≡ Ended low inner high
+      → IsBehind bytes answer next xs (record { at = at; end = next; most = high; beyond = 0 })
+  behind-ended at next low inner high s here k l i h e p t =
       let g = goes-on at s k (omega (arith, l)) in
       let few = g.few in
+      let short : (free : ℕ) → free + low < bytes → best (join (Whole free) (stretch_of here)) < bytes
+          = λ free f. rw t (omega (arith, f, i, h)) in
       record {
         begins = e;
-        finds = g.is ∙ ap (scan_runs None bytes spares 0 g.start g.free g.met at) p.is
-            ∙ same-past None bytes spares g.start g.free at 0 g.met true at here (left_in next xs) h
-            (omega (arith, few, l, f)) (omega (arith, l, f))
-            ∙ ap (scan_runs None bytes spares 0 at 0 true at) (sym p.is);
+        finds = g.is ∙ ap (found_from bytes spares g.start g.free at) p.is
+            ∙ scan-forget bytes spares g.start g.free at 0 at here (left_in next xs) (ap is_ended t)
+            (short g.free (omega (arith, few, l))) (short 0 (omega (arith, l)))
+            ∙ ap (found_from bytes spares at 0 at) (sym p.is);
         low = here;
         low_piece = p;
-        few = f;
+        low_short = rw t (omega (arith, l, i, h));
+        few = (let f = ap suffix t in omega (arith, f));
         high = [];
         high_piece = record { is = refl; up = omega arith; edge = p.edge };
         goes_on = refl;
         sum = refl;
-        short = omega (arith, l);
+        short = omega (arith, h);
       }
 
   -- and farther, past blocks among which none ends
@@ -134,6 +153,7 @@ module _ (bytes : ℕ) (answer : Option ℕ) (xs : List ℕ) where
     finds = b.finds;
     low = b.low;
     low_piece = b.low_piece;
+    low_short = b.low_short;
     few = b.few;
     high = b.high ++ here;
     high_piece = record {
@@ -189,9 +209,8 @@ module _ (bytes : ℕ) (answer : Option ℕ) (xs : List ℕ) where
   none-left at s k l e =
       let g = goes-on at s k l in
       let few = g.few in
-      g.is ∙ ap (scan_runs None bytes spares 0 g.start g.free g.met at) e
-      ∙ scan-end None bytes spares 0 g.start g.free g.met at
-      ∙ ap (λ v. cond v (Some g.start) None) (short-run g.met bytes g.free (omega (arith, few, l)))
+      g.is ∙ ap (found_from bytes spares g.start g.free at) e ∙ scan-end None bytes spares 0 g.start g.free true at
+      ∙ ap (λ v. cond v (Some g.start) None) (short-run true bytes g.free (omega (arith, few, l)))
 
 -- what a search has so far and more, where their sum is as high as numbers go if it is too high
 pub few-had : (s : Search) (most free sum bytes : ℕ) → bytes < 4294967296 → (most ≡ most_free_of s)

@@ -1,24 +1,23 @@
 use Rattle.std.proofs.Common.{subst, arith}
 use Rattle.zone_bytes.specs.Searching.{IsStretch}
-use Rattle.zone_bytes.proofs.Searches.Sums.{open-came, open-fits}
+use Rattle.zone_bytes.proofs.Searches.Sums.{known-came, known-fits}
 use Rattle.zone_bytes.proofs.largest.past_stretch.Goals as goal
 
-pub overflow_add-result : goal.overflow_add-result
-overflow_add-result c =
+pub past_known-requires : goal.past_known-requires
+past_known-requires c =
     let i = c.requires.sound in
     let xs = c.args.part.now.bytes in
-    let f = open-fits xs i.0 i.1 i.2 c.args.sum c.args.mark.at c.args.next c.in-Open.free
-    (subst (λ t. IsStretch t c.args.mark.at c.args.next xs) c.in-Open.is c.requires.stretch) c.if-sum-mark.true
-    c.requires.free in
-    let n = c.ranges.next.fits in
-    omega (arith, f, n)
+    known-fits xs i.0 i.1 i.2 c.args.sum c.args.mark.at c.args.next c.in-Known.runs
+    (subst (λ t. IsStretch t c.args.mark.at c.args.next xs) c.in-Known.is c.requires.stretch) c.if-sum-mark.true
+    c.requires.free
 
-pub returns-in-Open : goal.returns-in-Open
-returns-in-Open c =
+pub returns-in-Known : goal.returns-in-Known
+returns-in-Known c =
     let i = c.requires.sound in
     let xs = c.args.part.now.bytes in
+    let r = c.past_known in
     record {
-      came = open-came xs i.0 i.1 i.2 c.args.sum c.args.mark.at c.args.next c.in-Open.free
-          (subst (λ t. IsStretch t c.args.mark.at c.args.next xs) c.in-Open.is c.requires.stretch) c.if-sum-mark.true
-          c.requires.free;
+      came = known-came xs i.0 i.1 i.2 c.args.sum c.args.mark.at c.args.next c.in-Known.runs
+          (subst (λ t. IsStretch t c.args.mark.at c.args.next xs) c.in-Known.is c.requires.stretch) c.if-sum-mark.true
+          c.requires.free r.result r.ensures.same r.ensures.at r.ensures.free;
     }

@@ -1,7 +1,7 @@
 use Rattle.std.proofs.Common.{◌+◌, length, length-set, refl, sym, ◌∙◌, arith}
 use Rattle.zone_bytes.specs.Decode.{zone_in}
-use Rattle.zone_bytes.specs.Marks.{between, no_mark}
-use Rattle.zone_bytes.specs.Stepping.{left_in}
+use Rattle.zone_bytes.specs.Marks.{no_mark}
+use Rattle.zone_bytes.specs.declared.landmark.Tally.TheVariants as tally
 use Rattle.zone_bytes.proofs.Marks.Lowering.{begins-way, begins-further, bound-here, tally-here, marks-whole, marks-next}
 use Rattle.zone_bytes.proofs.Marks.Lowering.{marks-left, mark-first, equal-yes, equal-no}
 use Rattle.zone_bytes.proofs.marking.lay_marks.Goals as goal
@@ -38,15 +38,13 @@ loop-index-preserved c =
     let b = v.4 (omega (arith, l)) in
     let s = c.stretch_from-stretch in (
       length-set c.loop-index.marks c.loop-index.index _ ∙ n,
-      c.raise_top.ensures c.loop-index.marks (record { at = c.loop-index.at; most = s.result.most; tally = c.tally.result })
+      c.raise_top.ensures c.loop-index.marks (record { at = c.loop-index.at; most = s.result.most; tally = tally.Known s.result.runs })
           (omega arith) v.1,
       marks-next (zone_in xs) c.loop-index.marks c.loop-index.index s.result.edge
-          (record { at = c.loop-index.at; most = s.result.most; tally = c.tally.result })
+          (record { at = c.loop-index.at; most = s.result.most; tally = tally.Known s.result.runs })
           (omega (arith, l, n)) v.2 b
           (bound-here xs i.0 i.1 i.2 s.result.most c.loop-index.at s.result.edge b s.ensures.measured.most)
-          (tally-here xs i.0 i.1 i.2 c.tally.result c.loop-index.at s.result.edge b (c.tally.ensures
-          (between c.loop-index.at s.result.edge c.loop-index.at (left_in c.loop-index.at xs)) s.ensures.measured.free
-          s.ensures.measured.barred))
+          (tally-here xs i.0 i.1 i.2 (tally.Known s.result.runs) c.loop-index.at s.result.edge b s.ensures.measured.runs)
           s.ensures.order,
       marks-left 4294967295 (zone_in xs) c.loop-index.marks c.loop-index.index _ (omega (arith, l, n)) v.3,
       λ k. begins-further xs i.0 i.1 i.2 c.loop-index.at s.result.edge b (s.ensures.edge

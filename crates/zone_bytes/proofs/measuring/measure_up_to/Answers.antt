@@ -9,34 +9,22 @@ use Rattle.zone_bytes.proofs.measuring.measure_up_to.Goals as goal
 pub loop-at-init : goal.loop-at-init
 loop-at-init c = counted-start c.args.part.now.bytes c.args.from c.within-stop.result 0 c.requires
 
-pub overflow_add-free : goal.overflow_add-free
-overflow_add-free c =
+pub join-runs-requires : goal.join-runs-requires
+join-runs-requires c =
     let f = counted-fits c.args.part.now.bytes c.args.from c.within-stop.result c.loop-at.at c.span_at-span.result.end
-    c.loop-at.most c.loop-at.free c.span_at-span.result.free c.loop-at.barred c.span_at-span.result.barrier
-    c.loop-at.invariant c.span_at-span.ensures in
+    c.loop-at.most c.span_at-span.result.free c.loop-at.runs c.runs.result c.span_at-span.result.barrier
+    c.loop-at.invariant c.span_at-span.ensures c.runs.ensures in
     let u = c.span_at-span.ensures.way.walk.up in
     let m = c.span_at-span.ensures.way.small in
     omega (arith, f, u, m)
 
-pub loop-at-preserved-then-barred : goal.loop-at-preserved-then-barred
-loop-at-preserved-then-barred c =
-    let m = c.greater-most.ensures in
-    subst (λ b. Counted c.args.part.now.bytes c.args.from c.span_at-span.result.end c.within-stop.result
-    c.greater-most.result (c.loop-at.free + c.span_at-span.result.free) b)
-    (ap (λ b. b || c.span_at-span.result.barrier) c.if-barred.true ∙ sym c.if-barred.true)
-    (counted-step c.args.part.now.bytes c.args.from c.within-stop.result c.loop-at.at c.span_at-span.result.end
-    c.loop-at.most c.greater-most.result c.loop-at.free c.span_at-span.result.free c.loop-at.barred
-    c.span_at-span.result.barrier c.loop-at.invariant c.span_at-span.ensures c.loop-at-test.true m.first m.second)
-
 pub loop-at-preserved : goal.loop-at-preserved
 loop-at-preserved c =
     let m = c.greater-most.ensures in
-    subst (λ b. Counted c.args.part.now.bytes c.args.from c.span_at-span.result.end c.within-stop.result
-    c.greater-most.result (c.loop-at.free + c.span_at-span.result.free) b)
-    (ap (λ b. b || c.span_at-span.result.barrier) c.if-barred.false)
-    (counted-step c.args.part.now.bytes c.args.from c.within-stop.result c.loop-at.at c.span_at-span.result.end
-    c.loop-at.most c.greater-most.result c.loop-at.free c.span_at-span.result.free c.loop-at.barred
-    c.span_at-span.result.barrier c.loop-at.invariant c.span_at-span.ensures c.loop-at-test.true m.first m.second)
+    counted-step c.args.part.now.bytes c.args.from c.within-stop.result c.loop-at.at c.span_at-span.result.end
+    c.loop-at.most c.greater-most.result c.span_at-span.result.free c.loop-at.runs c.runs.result c.join-runs.result
+    c.span_at-span.result.barrier c.loop-at.invariant c.span_at-span.ensures c.loop-at-test.true m.first m.second
+    c.runs.ensures c.join-runs.ensures.is
 
 pub returns-clause-edge : goal.returns-clause-edge
 returns-clause-edge c =
@@ -51,14 +39,14 @@ returns-clause-order c = let u = c.loop-at.invariant.up in omega (arith, u)
 
 pub returns-clause-passed : goal.returns-clause-passed
 returns-clause-passed c = counted-edge c.args.part.now.bytes c.args.from c.within-stop.result c.loop-at.at c.loop-at.most
-    c.loop-at.free c.loop-at.barred c.loop-at.invariant c.loop-at.at
+    c.loop-at.runs c.loop-at.invariant c.loop-at.at
 
 pub returns-clause-below : goal.returns-clause-below
 returns-clause-below c =
     let k = c.len.ensures.count in
     let l = c.loop-at-test.false in
-    counted-below c.args.part.now.bytes c.args.from c.within-stop.result c.loop-at.at c.loop-at.most c.loop-at.free
-    c.loop-at.barred c.loop-at.invariant c.args.place c.loop-at.at c.within-stop.ensures.least
+    counted-below c.args.part.now.bytes c.args.from c.within-stop.result c.loop-at.at c.loop-at.most c.loop-at.runs
+    c.loop-at.invariant c.args.place c.loop-at.at c.within-stop.ensures.least
     (past c.args.place (length c.args.part.now.bytes) c.loop-at.at c.within-stop.result
     (subst (λ n. (c.within-stop.result ≡ c.args.place) ⊎ (c.within-stop.result ≡ n)) k c.within-stop.ensures.one)
     (omega (arith, l)))

@@ -1,0 +1,11 @@
+pub mod Monoid
+pub mod Runs
+pub mod Sums
+pub mod Groups
+pub mod Searching
+pub mod Pages
+pub mod Purges
+pub mod Halving
+pub mod TurnedPages
+pub mod Counts
+mod Examples

@@ -1,0 +1,106 @@
+-- What blocks come to after purges: those below a place purged, and those above it as they are.
+use Rattle.std.proofs.Common.{◌≡◌, ℕ, ◌+◌, ◌≤◌, zero, suc, Bool, true, false, List, [], ◌∷◌, ◌++◌, map, is_some, nat_le}
+use Rattle.std.proofs.Common.{refl, sym, ◌∙◌, ap, arith, cond}
+use Rattle.std.proofs.lemmas.Bool.Decides.{nat_tests}
+use Rattle.block_store.specs.Block.{Block, Free, Nonrelocatable, Masters, Relocatable, size, add, tidy}
+use Rattle.block_store.specs.Compact.{largest_run}
+use Rattle.block_store.specs.Room.{may_be_purged, lowest_purged, purge, count_of}
+use Rattle.block_store.specs.Run.{has_free, run_spot, segments}
+use Rattle.block_store.specs.Sparing.{opened, purged, spared}
+use Rattle.block_store.specs.declared.sparing.Sparing.{Sparing}
+use Rattle.block_store.proofs.Purged.Rising.{lowest_purged-goes, lowest_purged-stays}
+use Rattle.block_store.proofs.Regroup.MostRoom.{run-none, run-some}
+use Rattle.zone_summary.specs.Emptied.{emptied}
+use Rattle.zone_summary.specs.Stretches.{join, best, one, stretch_of}
+use Rattle.zone_summary.specs.Turns.{serves}
+use Rattle.zone_summary.specs.declared.stretch.Stretch.TheVariants.{Whole}
+use Rattle.zone_summary.proofs.Monoid.{join-assoc, join-unit_left, stretch_of-append}
+use Rattle.zone_summary.proofs.Runs.{best-runs}
+
+-- a stretch does not see whether neighbouring Free blocks are one
+stretch_of-add : (b : Block) (bs : List Block) → stretch_of (add b bs) ≡ join (one b) (stretch_of bs)
+stretch_of-add (Free zero) bs = sym (join-unit_left (stretch_of bs))
+stretch_of-add (Free (suc n)) [] = refl
+stretch_of-add (Free (suc n)) (Free m ∷ bs) = join-assoc (Whole (suc n)) (Whole m) (stretch_of bs)
+stretch_of-add (Free (suc n)) (Nonrelocatable id content ∷ bs) = refl
+stretch_of-add (Free (suc n)) (Masters ∷ bs) = refl
+stretch_of-add (Free (suc n)) (Relocatable id flags content ∷ bs) = refl
+stretch_of-add (Nonrelocatable id content) bs = refl
+stretch_of-add Masters bs = refl
+stretch_of-add (Relocatable id flags content) bs = refl
+
+stretch_of-tidy : (bs : List Block) → stretch_of (tidy bs) ≡ stretch_of bs
+stretch_of-tidy [] = refl
+stretch_of-tidy (b ∷ bs) = stretch_of-add b (tidy bs) ∙ ap (join (one b)) (stretch_of-tidy bs)
+
+module _ (sp : Block → Bool) where
+  count-here : (t : Bool) (b : Block) (bs : List Block) → may_be_purged sp b ≡ t
+      → count_of sp (b ∷ bs) ≡ cond {A = ℕ} t 1 0 + count_of sp bs
+  count-here t b bs e = ap {B = ℕ} (λ (t : Bool). cond {A = ℕ} t 1 0 + count_of sp bs) e
+
+  -- the lowest purges are those below a place
+  pub purged-below : (j : ℕ) (low rest : List Block)
+      → lowest_purged (count_of sp low + j) sp (low ++ rest) ≡ map (emptied sp) low ++ lowest_purged j sp rest
+  purged-below j [] rest = ap (λ k. lowest_purged k sp rest) (let z : 0 + j ≡ j = omega arith in z)
+  purged-below j (b ∷ low) rest = step (may_be_purged sp b) refl (purged-below j low rest)
+    where
+      step : (t : Bool) → may_be_purged sp b ≡ t
+          → lowest_purged (count_of sp low + j) sp (low ++ rest) ≡ map (emptied sp) low ++ lowest_purged j sp rest
+          → lowest_purged (count_of sp (b ∷ low) + j) sp (b ∷ (low ++ rest))
+          ≡ cond t (Free (size b)) b ∷ (map (emptied sp) low ++ lowest_purged j sp rest)
+      step true e more =
+          ap (λ k. lowest_purged k sp (b ∷ (low ++ rest)))
+          (let c = count-here true b low e in let z : count_of sp (b ∷ low) + j ≡ suc (count_of sp low + j) = omega (arith, c) in z)
+          ∙ lowest_purged-goes (count_of sp low + j) sp b (low ++ rest) e ∙ ap (λ t. Free (size b) ∷ t) more
+      step false e more =
+          ap (λ k. lowest_purged k sp (b ∷ (low ++ rest)))
+          (let c = count-here false b low e in let z : count_of sp (b ∷ low) + j ≡ count_of sp low + j = omega (arith, c) in z)
+          ∙ lowest_purged-stays (count_of sp low + j) sp b (low ++ rest) e ∙ ap (λ t. b ∷ t) more
+
+  -- and no more than there are stay below it
+  purged-within : (j : ℕ) (page high : List Block) → j ≤ count_of sp page
+      → lowest_purged j sp (page ++ high) ≡ lowest_purged j sp page ++ high
+  purged-within zero page high h = refl
+  purged-within (suc j) [] high h = absurd (omega (arith, h))
+  purged-within (suc j) (b ∷ page) high h = step (may_be_purged sp b) refl (purged-within j page high)
+      (purged-within (suc j) page high)
+    where
+      step : (t : Bool) → may_be_purged sp b ≡ t
+          → (j ≤ count_of sp page → lowest_purged j sp (page ++ high) ≡ lowest_purged j sp page ++ high)
+          → (suc j ≤ count_of sp page
+          → lowest_purged (suc j) sp (page ++ high) ≡ lowest_purged (suc j) sp page ++ high)
+          → lowest_purged (suc j) sp (b ∷ (page ++ high)) ≡ lowest_purged (suc j) sp (b ∷ page) ++ high
+      step true e here past = lowest_purged-goes j sp b (page ++ high) e
+          ∙ ap (λ t. Free (size b) ∷ t) (here (omega (arith, h, count-here true b page e)))
+          ∙ ap (λ t. t ++ high) (sym (lowest_purged-goes j sp b page e))
+      step false e here past = lowest_purged-stays (suc j) sp b (page ++ high) e
+          ∙ ap (λ t. b ∷ t) (past (omega (arith, h, count-here false b page e)))
+          ∙ ap (λ t. t ++ high) (sym (lowest_purged-stays (suc j) sp b page e))
+
+  -- the most of a run after the purges below a page, and some of those in it
+  pub largest-purged : (j : ℕ) (low page high : List Block) → j ≤ count_of sp page
+      → largest_run (purge (count_of sp low + j) sp (low ++ (page ++ high)))
+      ≡ best (join (stretch_of (map (emptied sp) low)) (join (stretch_of (lowest_purged j sp page)) (stretch_of high)))
+  largest-purged j low page high h = let k = count_of sp low + j in
+      sym (best-runs (purge k sp (low ++ (page ++ high))))
+      ∙ ap best (stretch_of-tidy (lowest_purged k sp (low ++ (page ++ high)))
+      ∙ ap stretch_of (purged-below j low (page ++ high) ∙ ap (λ t. map (emptied sp) low ++ t) (purged-within j page high h))
+      ∙ stretch_of-append (map (emptied sp) low) (lowest_purged j sp page ++ high)
+      ∙ ap (join (stretch_of (map (emptied sp) low))) (stretch_of-append (lowest_purged j sp page) high))
+
+-- a run has enough where the most of a run is enough
+run-there : (p : ℕ) (zone : List Block) → is_some (run_spot (has_free p) zone) ≡ nat_le p (largest_run zone)
+run-there p zone = cases (nat_le p (largest_run zone)) refl
+  where
+    cases : (t : Bool) → nat_le p (largest_run zone) ≡ t → is_some (run_spot (has_free p) zone) ≡ t
+    cases true e = run-some p (segments zone).first (segments zone).rest (grind (arith, nat_tests, e))
+    cases false e = ap is_some (run-none p (segments zone).first (segments zone).rest (grind (arith, nat_tests, e)))
+
+pub serves-is : (p : ℕ) (n : Sparing) (zone low page high : List Block) (j : ℕ) → opened n zone ≡ low ++ (page ++ high)
+    → j ≤ count_of (spared n) page → serves p n zone (count_of (spared n) low + j)
+    ≡ nat_le p (best (join (stretch_of (map (emptied (spared n)) low))
+    (join (stretch_of (lowest_purged j (spared n) page)) (stretch_of high))))
+serves-is p n zone low page high j e h = let k = count_of (spared n) low + j in
+    run-there p (purged k n zone)
+    ∙ ap (λ blocks. nat_le p (largest_run (purge k (spared n) blocks))) e
+    ∙ ap (nat_le p) (largest-purged (spared n) j low page high h)

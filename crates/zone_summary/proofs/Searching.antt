@@ -1,0 +1,159 @@
+-- The search for a run passes blocks by what they come to.
+use Rattle.std.proofs.Common.{◌≡◌, ℕ, ◌+◌, ◌<◌, Bool, true, false, not, None, List, [], ◌∷◌, ◌++◌, nat_le}
+use Rattle.std.proofs.Common.{refl, sym, ◌∙◌, ap, arith, append-nil}
+use Rattle.std.proofs.lemmas.Bool.{lt-leb, cond-true, cond-false}
+use Rattle.block_store.specs.Block.{Block, Free, Nonrelocatable, Masters, Relocatable, size, sizes, free_of, free_sum}
+use Rattle.block_store.specs.Inner.RunScan.{met_after, scan_runs}
+use Rattle.block_store.specs.Run.{in_run, has}
+use Rattle.block_store.proofs.Regroup.RunSkips.{goes-through}
+use Rattle.zone_summary.specs.Searches.{found_from}
+use Rattle.zone_summary.specs.Stretches.{counted, join, suffix, best, is_ended, stretch_of}
+use Rattle.zone_summary.specs.declared.stretch.Stretch.{Stretch}
+use Rattle.zone_summary.specs.declared.stretch.Stretch.TheVariants.{Whole, Ended}
+use Rattle.zone_summary.proofs.Monoid.{join-assoc, join-unit_left, stretch_of-append, suffix-best, best-low, best-high, best-on}
+
+-- a run that need have no block has what it must have
+met-always : (b : Block) → met_after None true b ≡ true
+met-always (Free n) = refl
+met-always (Nonrelocatable id content) = refl
+met-always Masters = refl
+met-always (Relocatable id flags content) = refl
+
+module _ (p : ℕ) (sp : Block → Bool) where
+  found-more : (start free place : ℕ) (b : Block) (above : List Block) → in_run b ≡ true
+      → found_from p sp start free place (b ∷ above) ≡ found_from p sp start (free + free_of b) (place + size b) above
+  found-more start free place b above e = cond-true (in_run b) _ _ e
+      ∙ ap (λ m. scan_runs None p sp 0 start (free + free_of b) m (place + size b) above) (met-always b)
+
+  found-ended : (start free place : ℕ) (b : Block) (above : List Block) → in_run b ≡ false → free < p
+      → found_from p sp start free place (b ∷ above) ≡ found_from p sp (place + size b) 0 (place + size b) above
+  found-ended start free place b above e less = cond-false (in_run b) _ _ e
+      ∙ cond-false (nat_le p free) _ _ (lt-leb p free less)
+
+  -- what was had, and what is had above an end
+  had-short : (had : ℕ) (s : Stretch) → best (join (Whole had) (join (Ended 0 0 0) s)) < p
+      → (had < p) × (best (join (Whole 0) s) < p)
+  had-short had (Whole a) h = (omega arith, omega arith)
+  had-short had (Ended q i s) h = (omega arith, omega arith)
+
+  suffix-over : (had : ℕ) (s : Stretch) → suffix (join (Whole had) (join (Ended 0 0 0) s)) ≡ suffix (join (Whole 0) s)
+  suffix-over had (Whole a) = refl
+  suffix-over had (Ended q i s) = refl
+
+  -- past blocks with too few bytes it goes on in a run that began somewhere
+  unfoldable pub Past : ℕ → ℕ → ℕ → List Block → List Block → Stretch → Type 0
+  Past start had place low high s = (from : ℕ) × (found_from p sp start had place (low ++ high)
+      ≡ found_from p sp from (suffix s) (place + sizes low) high)
+
+  pub scan-past : (start had place : ℕ) (low high : List Block) → best (join (Whole had) (stretch_of low)) < p
+      → Past start had place low high (join (Whole had) (stretch_of low))
+  unfolding Past
+  scan-past start had place [] high h = (
+    start,
+    ap (λ n. found_from p sp start n place high) (let e : had ≡ had + 0 = omega arith in e)
+        ∙ ap (λ n. found_from p sp start (had + 0) n high) (let e : place ≡ place + 0 = omega arith in e),
+  )
+  scan-past start had place (b ∷ low) high h =
+      step (in_run b) refl h (λ start had place. scan-past start had place low high)
+    where
+      step : (t : Bool) → in_run b ≡ t → best (join (Whole had) (join (counted t (free_of b)) (stretch_of low))) < p
+          → ((start had place : ℕ) → best (join (Whole had) (stretch_of low)) < p
+          → Past start had place low high (join (Whole had) (stretch_of low)))
+          → Past start had place (b ∷ low) high (join (Whole had) (join (counted t (free_of b)) (stretch_of low)))
+      step true e h more = let a = join-assoc (Whole had) (Whole (free_of b)) (stretch_of low) in
+          let r = more start (had + free_of b) (place + size b) (rw a h) in
+          let at : place + size b + sizes low ≡ place + (size b + sizes low) = omega arith in (
+            r.0,
+            found-more start had place b (low ++ high) e ∙ r.1
+                ∙ ap (λ s. found_from p sp r.0 (suffix s) (place + size b + sizes low) high) a
+                ∙ ap (λ n. found_from p sp r.0 (suffix (join (Whole had) (join (Whole (free_of b)) (stretch_of low)))) n high) at,
+          )
+      step false e h more = let s = had-short had (stretch_of low) h in
+          let r = more (place + size b) 0 (place + size b) s.1 in
+          let at : place + size b + sizes low ≡ place + (size b + sizes low) = omega arith in (
+            r.0,
+            found-ended start had place b (low ++ high) e s.0 ∙ r.1
+                ∙ ap (λ n. found_from p sp r.0 n (place + size b + sizes low) high) (sym (suffix-over had (stretch_of low)))
+                ∙ ap (λ n. found_from p sp r.0 (suffix (join (Whole had) (join (Ended 0 0 0) (stretch_of low)))) n high) at,
+          )
+
+  -- and finds nothing where there is nothing more
+  pub scan-never : (start had place : ℕ) (blocks : List Block) → best (join (Whole had) (stretch_of blocks)) < p
+      → found_from p sp start had place blocks ≡ None
+  unfolding Past
+  scan-never start had place blocks h = let s = join (Whole had) (stretch_of blocks) in
+      let r = scan-past start had place blocks [] h in
+      ap (found_from p sp start had place) (sym (append-nil blocks)) ∙ r.1
+      ∙ cond-false (nat_le p (suffix s)) _ _ (lt-leb p (suffix s) (omega (arith, suffix-best s, h)))
+
+  -- where a run ends among the blocks, it doesn't matter what the search was in
+  pub scan-forget : (s h s' h' place : ℕ) (mid rest : List Block) → is_ended (stretch_of mid) ≡ true
+      → best (join (Whole h) (stretch_of mid)) < p → best (join (Whole h') (stretch_of mid)) < p
+      → found_from p sp s h place (mid ++ rest) ≡ found_from p sp s' h' place (mid ++ rest)
+  scan-forget s h s' h' place [] rest e l l' = cc
+  scan-forget s h s' h' place (b ∷ mid) rest e l l' =
+      step (in_run b) refl e l l' (λ h h'. scan-forget s h s' h' (place + size b) mid rest)
+    where
+      still : (n : ℕ) (t : Stretch) → is_ended (join (Whole n) t) ≡ true → is_ended t ≡ true
+      still n (Whole a) e = e
+      still n (Ended q i t) e = e
+
+      step : (t : Bool) → in_run b ≡ t → is_ended (join (counted t (free_of b)) (stretch_of mid)) ≡ true
+          → best (join (Whole h) (join (counted t (free_of b)) (stretch_of mid))) < p
+          → best (join (Whole h') (join (counted t (free_of b)) (stretch_of mid))) < p
+          → ((h h' : ℕ) → is_ended (stretch_of mid) ≡ true → best (join (Whole h) (stretch_of mid)) < p
+          → best (join (Whole h') (stretch_of mid)) < p
+          → found_from p sp s h (place + size b) (mid ++ rest) ≡ found_from p sp s' h' (place + size b) (mid ++ rest))
+          → found_from p sp s h place (b ∷ (mid ++ rest)) ≡ found_from p sp s' h' place (b ∷ (mid ++ rest))
+      step true i e l l' more = found-more s h place b (mid ++ rest) i
+          ∙ more (h + free_of b) (h' + free_of b) (still (free_of b) (stretch_of mid) e)
+          (rw (join-assoc (Whole h) (Whole (free_of b)) (stretch_of mid)) l)
+          (rw (join-assoc (Whole h') (Whole (free_of b)) (stretch_of mid)) l')
+          ∙ sym (found-more s' h' place b (mid ++ rest) i)
+      step false i e l l' more = found-ended s h place b (mid ++ rest) i (had-short h (stretch_of mid) l).0
+          ∙ sym (found-ended s' h' place b (mid ++ rest) i (had-short h' (stretch_of mid) l').0)
+
+  -- so it may begin at blocks among which a run ends
+  pub scan-begun : (start had place : ℕ) (low mid rest : List Block) → is_ended (stretch_of mid) ≡ true
+      → best (join (Whole had) (stretch_of (low ++ mid))) < p
+      → found_from p sp start had place (low ++ (mid ++ rest))
+      ≡ found_from p sp (place + sizes low) 0 (place + sizes low) (mid ++ rest)
+  unfolding Past
+  scan-begun start had place low mid rest e l =
+      let s = join (Whole had) (stretch_of low) in
+      let both : best (join s (stretch_of mid)) < p
+      = rw (join-assoc (Whole had) (stretch_of low) (stretch_of mid), ← stretch_of-append low mid) l in
+      let r = scan-past start had place low (mid ++ rest) (omega (arith, best-low s (stretch_of mid), both)) in
+      r.1 ∙ scan-forget r.0 (suffix s) (place + sizes low) 0 (place + sizes low) mid rest e
+      (omega (arith, best-on s (stretch_of mid), both))
+      (rw (join-unit_left (stretch_of mid)) (omega (arith, best-high s (stretch_of mid), both)))
+
+-- blocks of which none ends a run
+whole-rest : (n w : ℕ) (s : Stretch) → join (Whole n) s ≡ Whole w → (c : ℕ) × (s ≡ Whole c) × (n + c ≡ w)
+whole-rest n w (Whole c) h = (c, refl, cc)
+whole-rest n w (Ended p i s) h = cc
+
+ended-whole : (w : ℕ) (s : Stretch) → join (Ended 0 0 0) s ≡ Whole w → ⊥
+ended-whole w (Whole c) h = cc
+ended-whole w (Ended p i s) h = cc
+
+pub whole-open : (blocks : List Block) (w : ℕ) → stretch_of blocks ≡ Whole w
+    → (has (λ b. not (in_run b)) blocks ≡ false) × (free_sum blocks ≡ w)
+whole-open [] w e = (refl, cc)
+whole-open (b ∷ above) w e = step (in_run b) refl e (whole-open above)
+  where
+    step : (t : Bool) → in_run b ≡ t → join (counted t (free_of b)) (stretch_of above) ≡ Whole w
+        → ((w : ℕ) → stretch_of above ≡ Whole w
+        → (has (λ b. not (in_run b)) above ≡ false) × (free_sum above ≡ w))
+        → (has (λ b. not (in_run b)) (b ∷ above) ≡ false) × (free_sum (b ∷ above) ≡ w)
+    step true i e more = let r = whole-rest (free_of b) w (stretch_of above) e in let m = more r.0 r.1 in
+        (rw i m.0, omega (arith, r.2, m.1))
+    step false i e more = absurd (ended-whole w (stretch_of above) e)
+
+-- past such blocks the run has their free bytes too
+pub scan-through : (p : ℕ) (sp : Block → Bool) (start had place w : ℕ) (blocks rest : List Block)
+    → stretch_of blocks ≡ Whole w
+    → found_from p sp start had place (blocks ++ rest) ≡ found_from p sp start (had + w) (place + sizes blocks) rest
+scan-through p sp start had place w blocks rest e = let o = whole-open blocks w e in
+    goes-through p sp start had true place blocks rest o.0
+    ∙ ap (λ n. found_from p sp start (had + n) (place + sizes blocks) rest) o.1

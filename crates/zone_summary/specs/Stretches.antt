@@ -1,0 +1,57 @@
+-- What the blocks of a stretch of a zone come to in runs. Inside Macintosh: Memory, chapter 2, "Freeing Memory": MaxBlock
+-- is asked of a whole zone, and answered here from what parts of it come to.
+use Rattle.std.specs.Prelude.{ℕ, ◌+◌, max, Bool, true, false, List, [], ◌∷◌}
+use Rattle.block_store.specs.Block.{Block, free_of}
+use Rattle.block_store.specs.Run.{in_run}
+use Rattle.zone_summary.specs.declared.stretch.Stretch.{Stretch}
+use Rattle.zone_summary.specs.declared.stretch.Stretch.TheVariants.{Whole, Ended}
+
+-- A block that adds so many free bytes to its run, or one that ends a run.
+abbrev pub counted : Bool → ℕ → Stretch
+counted true free = Whole free
+counted false free = Ended 0 0 0
+
+-- What one block comes to.
+abbrev pub one : Block → Stretch
+one b = counted (in_run b) (free_of b)
+
+-- Two stretches, of which the second follows the first, as one.
+abbrev pub join : Stretch → Stretch → Stretch
+join (Whole a) (Whole b) = Whole (a + b)
+join (Whole a) (Ended p i s) = Ended (a + p) i s
+join (Ended p i s) (Whole b) = Ended p i (s + b)
+join (Ended p i s) (Ended q j t) = Ended p (max (max i j) (s + q)) t
+
+-- What the blocks of a stretch come to, lowest first.
+abbrev pub stretch_of : List Block → Stretch
+stretch_of [] = Whole 0
+stretch_of (b ∷ above) = join (one b) (stretch_of above)
+
+-- The free bytes of the run at the lower end.
+abbrev pub prefix : Stretch → ℕ
+prefix (Whole a) = a
+prefix (Ended p i s) = p
+
+-- The free bytes of the run at the upper end.
+abbrev pub suffix : Stretch → ℕ
+suffix (Whole a) = a
+suffix (Ended p i s) = s
+
+-- The greatest number of free bytes of a run above the one at the lower end.
+abbrev pub beyond : Stretch → ℕ
+beyond (Whole a) = 0
+beyond (Ended p i s) = max i s
+
+-- The greatest number of free bytes of a run.
+abbrev pub best : Stretch → ℕ
+best s = max (prefix s) (beyond s)
+
+-- A block of the stretch ends a run.
+abbrev pub is_ended : Stretch → Bool
+is_ended (Whole a) = false
+is_ended (Ended p i s) = true
+
+-- Stretches as one, lowest first.
+abbrev pub join_all : List Stretch → Stretch
+join_all [] = Whole 0
+join_all (s ∷ above) = join s (join_all above)

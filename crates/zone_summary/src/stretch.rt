@@ -1,0 +1,91 @@
+//! What a stretch of blocks comes to in runs, and how two that are neighbours come to one.
+
+ghost use Rattle.std.specs.Prelude.{◌≡◌, ◌+◌, ◌^◌, ◌<◌, ◌++◌, List, max};
+ghost use Rattle.block_store.specs.Block.{Block};
+ghost use Rattle.block_store.specs.Compact.{largest_run};
+ghost use Rattle.block_store.specs.Seen.{seen};
+ghost use Rattle.block_store.specs.Sparing.{spared};
+ghost use Rattle.block_store.specs.Walk.{seen_size};
+ghost use Rattle.zone_summary.specs.Stretches as stretches;
+ghost use Rattle.zone_summary.specs.Stretches.{one, prefix, stretch_of, suffix};
+ghost use Rattle.zone_summary.specs.Emptied.{emptied};
+
+use block_store::{Seen, Sparing, free_of_seen, is_in_run, may_purge_now, size_of_seen};
+
+/// What the blocks of a stretch come to in runs, in free bytes.
+#[derive(Clone, Copy)]
+pub enum Stretch {
+    /// No block of them ends a run, and they have so many free bytes.
+    Whole(u32),
+    /// A block of them ends a run: the free bytes of the run at the lower end, the most of a run between two blocks that
+    /// end one, and those of the run at the upper end.
+    Ended(u32, u32, u32),
+}
+
+/// Returns the greater of two numbers.
+fn greater(a: u32, b: u32) -> u32
+    ensures { result ≡ max a b }
+{
+    if a < b { b } else { a }
+}
+
+impl Stretch {
+    /// The stretch of no blocks.
+    pub const NONE: Stretch = Stretch::Whole(0);
+
+    /// The stretch of one block that ends a run.
+    pub const END: Stretch = Stretch::Ended(0, 0, 0);
+
+    /// Returns what one block comes to.
+    pub fn of(block: Seen) -> Stretch
+        ensures { (b : Block) → seen b ≡ block → result ≡ one b }
+    {
+        if is_in_run(block) {
+            Stretch::Whole(free_of_seen(block))
+        } else {
+            Stretch::END
+        }
+    }
+
+    /// Returns what one block comes to once it was purged, if it may be.
+    pub fn purged(block: Seen, sparing: Sparing) -> Stretch
+        requires { seen_size block < 2 ^ 32 }
+        ensures { (b : Block) → seen b ≡ block → result ≡ one (emptied (spared sparing) b) }
+    {
+        if may_purge_now(block, sparing) {
+            Stretch::Whole(size_of_seen(block))
+        } else {
+            Stretch::of(block)
+        }
+    }
+
+    /// Returns what this stretch comes to with the one that follows it.
+    pub fn join(self, high: Stretch) -> Stretch
+        requires { suffix self + prefix high < 2 ^ 32 }
+        ensures is { result ≡ stretches.join self high }
+        ensures blocks { (lower upper : List Block) → self ≡ stretch_of lower → high ≡ stretch_of upper
+            → result ≡ stretch_of (lower ++ upper) }
+    {
+        match self {
+            Stretch::Whole(a) => match high {
+                Stretch::Whole(b) => Stretch::Whole(a + b),
+                Stretch::Ended(p, i, s) => Stretch::Ended(a + p, i, s),
+            },
+            Stretch::Ended(p, i, s) => match high {
+                Stretch::Whole(b) => Stretch::Ended(p, i, s + b),
+                Stretch::Ended(q, j, t) => { Stretch::Ended(p, greater(greater(i, j), s + q), t) }
+            },
+        }
+    }
+
+    /// Returns the greatest number of free bytes of a run.
+    pub fn best(self) -> u32
+        ensures is { result ≡ stretches.best self }
+        ensures largest { (blocks : List Block) → self ≡ stretch_of blocks → result ≡ largest_run blocks }
+    {
+        match self {
+            Stretch::Whole(a) => a,
+            Stretch::Ended(p, i, s) => greater(p, greater(i, s)),
+        }
+    }
+}
