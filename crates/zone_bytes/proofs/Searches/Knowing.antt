@@ -126,7 +126,7 @@ module _ (bytes : ℕ) (answer : Option ℕ) (xs : List ℕ) where
       let g = goes-on at s k (omega (arith, l)) in
       let few = g.few in
       let short : (free : ℕ) → free + low < bytes → best (join (Whole free) (stretch_of here)) < bytes
-          = λ free f. rw t (omega (arith, f, i, h)) in
+      = λ free f. rw t (omega (arith, f, i, h)) in
       record {
         begins = e;
         finds = g.is ∙ ap (found_from bytes spares g.start g.free at) p.is
