@@ -1,4 +1,4 @@
-use Rattle.std.proofs.Common.{◌≡◌, ℕ, ◌+◌, ◌-◌, ◌≤◌, ◌<◌, ◌==◌, List, [], ◌∷◌, ◌++◌, length, refl, sym, ◌∙◌, ap, subst}
+use Rattle.std.proofs.Common.{◌≡◌, ℕ, ◌+◌, ◌-◌, ◌≤◌, ◌<◌, ◌==◌, List, [], ◌∷◌, ◌++◌, refl, sym, ◌∙◌, ap, subst}
 use Rattle.std.proofs.Common.{arith, Option, Some, None, map, append_assoc, append-nil, nat_le}
 use Rattle.std.proofs.lemmas.List.{map-append}
 use Rattle.std.proofs.lemmas.Bool.{cond-true, cond-false}
@@ -12,8 +12,6 @@ use Rattle.block_store.specs.Seen.{seen}
 use Rattle.block_store.specs.Walk.{seen_size}
 use Rattle.block_store.specs.declared.sparing.Seen.{Seen}
 use Rattle.heap_view.specs.Line.{seen_sizes}
-use Rattle.block_store.proofs.Nonrelocatable.Placing.{spot_at-below}
-use Rattle.block_store.proofs.Zone.Aligned.{spot_at-is}
 use Rattle.block_store.proofs.Zone.Apart.{Apart, apart-size, apart-tidied, apart-above}
 use Rattle.block_store.proofs.Zone.Edges.{edge-between}
 use Rattle.block_store.proofs.Zone.Parted.{spot_at-parted}

@@ -4,13 +4,12 @@ use Rattle.std.specs.List.{flat_map, list_all}
 use Rattle.std.specs.Fmt.{signed_decimal}
 use Rattle.byteorder.specs.Endian.{big_bytes}
 use Rattle.script_text.specs.Transcript.{hex}
-use Rattle.block_store.specs.declared.flags.Flags.{Flags}
 use Rattle.heap_view.specs.declared.line.Owner.{Owner}
 use Rattle.heap_view.specs.declared.line.Shape.{Shape}
 use Rattle.heap_view.specs.declared.line.Shape.TheVariants as shape
 use Rattle.heap_view.specs.declared.style.Style.{Style}
 use Rattle.heap_view.specs.declared.style.Style.TheVariants as style
-use Rattle.heap_view.specs.Line.{Tag, Line}
+use Rattle.heap_view.specs.Line.{Line}
 
 -- How the blocks of a zone are written: in columns for people, or for other programs with a tab between fields.
 

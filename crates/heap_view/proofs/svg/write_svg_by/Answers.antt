@@ -1,4 +1,4 @@
-use Rattle.std.proofs.Common.{◌≡◌, ◌++◌, ◌∙◌, List, ℕ, ap}
+use Rattle.std.proofs.Common.{◌++◌, ◌∙◌, List, ℕ, ap}
 use Rattle.heap_view.specs.Svg.{zone_svg_by}
 use Rattle.heap_view.proofs.Appending.{also}
 use Rattle.heap_view.proofs.svg.write_svg_by.Goals as goal

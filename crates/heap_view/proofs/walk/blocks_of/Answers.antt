@@ -1,7 +1,6 @@
-use Rattle.std.proofs.Common.{◌≡◌, ◌+◌, ◌++◌, ◌∷◌, [], sym, ◌∙◌, ap, subst, arith}
-use Rattle.block_store.specs.Block.{sizes}
+use Rattle.std.proofs.Common.{◌+◌, sym, ◌∙◌, ap, subst, arith}
 use Rattle.heap_view.specs.Line.{seen_sizes}
-use Rattle.heap_view.proofs.Walking.{Walked, Stepped, walked-edge, walk-begun, walk-steps, walk-ends, walk-over, seen-sizes}
+use Rattle.heap_view.proofs.Walking.{Walked, walked-edge, walk-begun, walk-steps, walk-ends, walk-over, seen-sizes}
 use Rattle.heap_view.proofs.walk.blocks_of.Goals as goal
 
 pub loop-place-init : goal.loop-place-init
