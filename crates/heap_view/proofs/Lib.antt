@@ -1,0 +1,4 @@
+pub mod Walking
+pub mod Passing
+pub mod Appending
+mod Rows

@@ -1,0 +1,6 @@
+pub mod Line
+pub mod View
+pub mod Text
+pub mod Totals
+pub mod Inner
+pub mod Svg

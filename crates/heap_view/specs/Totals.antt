@@ -1,0 +1,126 @@
+use Rattle.std.specs.Prelude.{ℕ, ◌+◌, Bool, true, false, not, ◌&&◌, List, [], ◌∷◌, ◌++◌, codes, decimal, if◌then◌else◌}
+use Rattle.block_store.specs.Block.{Block, size, free_of, total}
+use Rattle.block_store.specs.Block as block
+use Rattle.block_store.specs.Run.{runs}
+use Rattle.block_store.specs.Compact.{largest, largest_free, largest_run}
+use Rattle.heap_view.specs.declared.line.Shape.{Shape}
+use Rattle.heap_view.specs.declared.line.Shape.TheVariants as shape
+use Rattle.heap_view.specs.declared.style.Style.{Style}
+use Rattle.heap_view.specs.declared.style.Style.TheVariants as style
+use Rattle.heap_view.specs.declared.totals.Class.{Class}
+use Rattle.heap_view.specs.declared.totals.Class.TheVariants as class
+use Rattle.heap_view.specs.declared.totals.Largest.{Largest}
+use Rattle.heap_view.specs.Line.{Line}
+use Rattle.heap_view.specs.Text.{between, left, right, opened, is_locked, is_purgeable, head_text, lines_text}
+
+-- The totals of a zone, as MacsBug's command HT gives them: how many blocks there are of each kind, and how many bytes
+-- they have; and what could be allocated.
+
+abbrev pub is_free : Shape → Bool
+is_free shape.Free = true
+is_free shape.Nonrelocatable = false
+is_free shape.Masters = false
+is_free (shape.Relocatable flags) = false
+
+abbrev pub is_nonrelocatable : Shape → Bool
+is_nonrelocatable shape.Free = false
+is_nonrelocatable shape.Nonrelocatable = true
+is_nonrelocatable shape.Masters = false
+is_nonrelocatable (shape.Relocatable flags) = false
+
+abbrev pub is_masters : Shape → Bool
+is_masters shape.Free = false
+is_masters shape.Nonrelocatable = false
+is_masters shape.Masters = true
+is_masters (shape.Relocatable flags) = false
+
+abbrev pub is_relocatable : Shape → Bool
+is_relocatable shape.Free = false
+is_relocatable shape.Nonrelocatable = false
+is_relocatable shape.Masters = false
+is_relocatable (shape.Relocatable flags) = true
+
+-- The blocks of a class: of a kind; of the relocatable ones those that are locked, and those that may be purged; or all.
+abbrev pub in_class : Class → Shape → Bool
+in_class class.Free s = is_free s
+in_class class.Nonrelocatable s = is_nonrelocatable s
+in_class class.Masters s = is_masters s
+in_class class.Relocatable s = is_relocatable s
+in_class class.Locked s = is_locked s
+in_class class.Purgeable s = is_purgeable s && not (is_locked s)
+in_class class.All s = true
+
+-- How many blocks of a class there are, and their physical sizes, summed.
+abbrev pub counted : Class → List Line → ℕ
+counted c [] = 0
+counted c (l ∷ lines) = (if in_class c l.shape then 1 else 0) + counted c lines
+
+abbrev pub sized : Class → List Line → ℕ
+sized c [] = 0
+sized c (l ∷ lines) = (if in_class c l.shape then l.size else 0) + sized c lines
+
+-- The number of bytes of a block that are free, or would be if the block were purged.
+abbrev pub could_be_free : Block → ℕ
+could_be_free b = if block.is_purgeable b then size b else free_of b
+
+-- The greatest number of free bytes in one run of a zone once all blocks are purged that may be.
+abbrev pub largest_purged : List Block → ℕ
+largest_purged zone = largest (total could_be_free) (runs zone)
+
+-- The physical size of the largest block that could be allocated in a zone: now, after compaction, and after purges and
+-- compaction.
+abbrev pub largest_of : List Block → Largest
+largest_of zone = record { now = largest_free zone; compacted = largest_run zone; purged = largest_purged zone }
+
+-- The words for classes.
+abbrev pub class_text : Class → List ℕ
+class_text class.Free = codes "free"
+class_text class.Nonrelocatable = codes "nonrelocatable"
+class_text class.Masters = codes "master pointers"
+class_text class.Relocatable = codes "relocatable"
+class_text class.Locked = codes "locked"
+class_text class.Purgeable = codes "may be purged"
+class_text class.All = codes "zone"
+
+-- The line with the totals of a class; those of the kinds; and those of the marked blocks and of the whole zone.
+abbrev pub total_text : Style → List Line → Class → List ℕ
+total_text s lines c = opened s (codes "total") ++ left s 15 (class_text c) ++ between s
+    ++ right s 9 (decimal (counted c lines)) ++ between s ++ right s 9 (decimal (sized c lines)) ++ codes "\n"
+
+abbrev pub kinds_text : Style → List Line → List ℕ
+kinds_text s lines = total_text s lines class.Free ++ total_text s lines class.Nonrelocatable
+    ++ total_text s lines class.Masters ++ total_text s lines class.Relocatable
+
+abbrev pub marks_text : Style → List Line → List ℕ
+marks_text s lines = total_text s lines class.Locked ++ total_text s lines class.Purgeable ++ total_text s lines class.All
+
+-- The line with a size that could be allocated, and those of all three.
+abbrev pub largest_line : Style → List ℕ → ℕ → List ℕ
+largest_line s word n = opened s (codes "largest") ++ left s 15 word ++ between s ++ right s 19 (decimal n) ++ codes "\n"
+
+abbrev pub largest_text : Style → Largest → List ℕ
+largest_text s l = largest_line s (codes "largest now") l.now ++ largest_line s (codes "compacted") l.compacted
+    ++ largest_line s (codes "purged too") l.purged
+
+-- What stands above the totals, and below them.
+abbrev pub totals_head : Style → List ℕ
+totals_head style.Tabs = []
+totals_head (style.Columns names) = codes "\n                   blocks     bytes\n"
+
+abbrev pub totals_end : Style → List ℕ
+totals_end style.Tabs = []
+totals_end (style.Columns names) = codes "\n"
+
+-- The blocks of a zone, with titles; its totals; and the line of the transcript that it stands behind.
+abbrev pub blocks_text : Style → List Line → List ℕ
+blocks_text s lines = head_text s ++ lines_text s lines
+
+abbrev pub totals_text : Style → List Line → Largest → List ℕ
+totals_text s lines l = totals_head s ++ kinds_text s lines ++ marks_text s lines ++ largest_text s l ++ totals_end s
+
+abbrev pub behind_text : Style → List ℕ → List ℕ
+behind_text s behind = codes "behind" ++ between s ++ behind ++ codes "\n"
+
+-- A zone as it is written.
+abbrev pub zone_text : Style → List Line → Largest → List ℕ → List ℕ
+zone_text s lines l behind = blocks_text s lines ++ totals_text s lines l ++ behind_text s behind
