@@ -252,3 +252,10 @@ pub fn layout_of_fork(bytes: &[u8]) -> Option<Layout>
     let size = types_size_of(l, bytes, first, count)?;
     if size <= MAX_DATA { Some(l) } else { None }
 }
+
+/// Returns whether bytes spell a content. Nothing is allocated.
+pub fn is_resource_fork(bytes: &[u8]) -> bool
+    ensures { result ≡ is_fork bytes.now }
+{
+    layout_of_fork(bytes).is_some()
+}

@@ -1,0 +1,5 @@
+pub mod MadeEntries
+pub mod MadeHeaders
+pub mod Tests
+pub mod Walking
+pub mod Worked

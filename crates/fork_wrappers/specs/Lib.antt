@@ -1,0 +1,5 @@
+pub mod Checksum
+pub mod Entries
+pub mod MacBinary
+pub mod Unwrapped
+pub mod Made
