@@ -1,0 +1,13 @@
+pub mod Grouping
+pub mod Appending
+pub mod Steps
+pub mod Digits
+pub mod Lines
+pub mod Quotes
+pub mod Arguments
+pub mod Ids
+pub mod Statements
+pub mod Joined
+pub mod Remarked
+pub mod Again
+pub mod Worked

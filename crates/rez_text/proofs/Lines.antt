@@ -1,0 +1,149 @@
+-- The lines of a resource's data: what is printed is read again.
+use Rattle.std.proofs.Common.{◌≡◌, ◌≤◌, ◌==◌, ℕ, zero, suc, ◌+◌, ◌-◌, ◌*◌, ◌/◌, false, Ok, List, [], ◌∷◌, ◌++◌, map}
+use Rattle.std.proofs.Common.{length, take, drop, codes, refl, ap, ◌∙◌, sym, arith, append_assoc, append-nil}
+use Rattle.std.proofs.Math.Seq.{take-add}
+use Rattle.std.proofs.lemmas.Bool.{agree_below_at}
+use Rattle.std.specs.List.{AllByRecursion}
+use Rattle.fork_format.specs.Content.{Ref, Content}
+use Rattle.rez_text.specs.declared.mode.Mode.TheVariants as mode
+use Rattle.rez_text.specs.declared.mode.Place.{Place}
+use Rattle.rez_text.specs.declared.mode.Place.TheVariants as place
+use Rattle.rez_text.specs.Tokens.{datum}
+use Rattle.rez_text.specs.Remarks.{comment}
+use Rattle.rez_text.specs.Lexing.{step, between, dollar, slash, in_comment, star, hex_string}
+use Rattle.rez_text.specs.Bytes.{AreBytes}
+use Rattle.rez_text.specs.Printing.{shown, grouped, margin, hex_column, text_column, data_line, data_lines, line_count}
+use Rattle.rez_text.proofs.Steps.{at, run, after, blanks}
+use Rattle.rez_text.proofs.Digits.{grouped_run}
+
+-- a text that no comment ends in
+abbrev pub NoStar : List ℕ → Type 0
+NoStar text = AllByRecursion (λ (b : ℕ). (b == 42) ≡ false) text
+
+comment_step : (b : ℕ) (p : Place) (g : List ℕ) (k : ℕ) (d : Ref) (c : Content) → (b == 42) ≡ false
+    → step b (at mode.Comment p g k d c) ≡ Ok (at mode.Comment p (g ++ b ∷ []) k d c)
+unfolding step in_comment
+comment_step b p g k d c e = rw e refl
+
+pub comment_run : (text : List ℕ) (p : Place) (g : List ℕ) (k : ℕ) (d : Ref) (c : Content) → NoStar text
+    → run (Ok (at mode.Comment p g k d c)) text ≡ Ok (at mode.Comment p (g ++ text) k d c)
+comment_run [] p g k d c clear = ap (λ l. Ok (at mode.Comment p l k d c)) (sym (append-nil g))
+comment_run (b ∷ text) p g k d c clear =
+    after (at mode.Comment p g k d c) (at mode.Comment p (g ++ b ∷ []) k d c) _ (b ∷ []) text
+    (comment_step b p g k d c clear.0)
+    (comment_run text p (g ++ b ∷ []) k d c clear.1
+    ∙ ap (λ l. Ok (at mode.Comment p l k d c)) (append_assoc g (b ∷ []) text))
+
+shown_no_star : (bytes : List ℕ) → AreBytes bytes → NoStar (map shown bytes)
+shown_no_star [] small = tt
+shown_no_star (b ∷ bytes) small =
+    (agree_below_at (λ n. shown n == 42) (λ _. false) 256 b refl small.0, shown_no_star bytes small.1)
+
+comment_opens : (k : ℕ) (d : Ref) (c : Content)
+    → run (Ok (at mode.Between place.Data [] k d c)) (codes "/* ") ≡ Ok (at mode.Comment place.Data (32 ∷ []) k d c)
+unfolding step between slash in_comment
+comment_opens k d c = refl
+
+comment_closes : (g : List ℕ) (k : ℕ) (d : Ref) (c : Content)
+    → run (Ok (at mode.Comment place.Data g k d c)) (codes " */\n") ≡ Ok (at mode.Between place.Data [] k d c)
+unfolding step between in_comment star comment
+comment_closes g k d c = refl
+
+text_column_run : (bytes : List ℕ) (k : ℕ) (d : Ref) (c : Content) → AreBytes bytes
+    → run (Ok (at mode.Between place.Data [] k d c)) (text_column bytes) ≡ Ok (at mode.Between place.Data [] k d c)
+text_column_run bytes k d c small =
+    let s = at mode.Between place.Data [] k d c in
+    let t = at mode.Comment place.Data (32 ∷ []) k d c in
+    let u = at mode.Comment place.Data (32 ∷ [] ++ map shown bytes) k d c in
+    after s u _ (codes "/* " ++ map shown bytes) (codes " */\n")
+    (after s t _ (codes "/* ") (map shown bytes) (comment_opens k d c)
+    (comment_run (map shown bytes) place.Data (32 ∷ []) k d c (shown_no_star bytes small)))
+    (comment_closes (32 ∷ [] ++ map shown bytes) k d c)
+
+-- a resource with more data
+abbrev pub with_datum : Ref → List ℕ → Ref
+with_datum d bytes = record { id = d.id; name = d.name; attrs = d.attrs; datum = d.datum ++ bytes }
+
+string_opens : (k : ℕ) (d : Ref) (c : Content)
+    → run (Ok (at mode.Between place.Data [] k d c)) (9 ∷ 36 ∷ 34 ∷ []) ≡ Ok (at mode.HexString place.Data [] k d c)
+unfolding step between dollar
+string_opens k d c = refl
+
+string_closes : (g : List ℕ) (k : ℕ) (d : Ref) (c : Content)
+    → run (Ok (at mode.HexString place.Data g k d c)) (34 ∷ []) ≡ Ok (at mode.Between place.Data [] k (with_datum d g) c)
+unfolding step hex_string datum
+string_closes g k d c = refl
+
+hex_column_run : (bytes : List ℕ) (k : ℕ) (d : Ref) (c : Content) → AreBytes bytes
+    → run (Ok (at mode.Between place.Data [] k d c)) (hex_column bytes)
+    ≡ Ok (at mode.Between place.Data [] k (with_datum d bytes) c)
+hex_column_run bytes k d c small =
+    let s = at mode.Between place.Data [] k d c in
+    let t = at mode.HexString place.Data [] k d c in
+    let u = at mode.HexString place.Data bytes k d c in
+    after s u _ (9 ∷ 36 ∷ 34 ∷ [] ++ grouped 0 bytes) (34 ∷ [])
+    (after s t _ (9 ∷ 36 ∷ 34 ∷ []) (grouped 0 bytes) (string_opens k d c) (grouped_run bytes 0 [] k d c small))
+    (string_closes bytes k d c)
+
+data_line_run : (bytes : List ℕ) (k : ℕ) (d : Ref) (c : Content) → AreBytes bytes
+    → run (Ok (at mode.Between place.Data [] k d c)) (data_line bytes)
+    ≡ Ok (at mode.Between place.Data [] k (with_datum d bytes) c)
+data_line_run bytes k d c small =
+    let s = at mode.Between place.Data [] k d c in
+    let t = at mode.Between place.Data [] k (with_datum d bytes) c in
+    after s t _ (hex_column bytes ++ margin (length bytes)) (text_column bytes)
+    (after s t _ (hex_column bytes) (margin (length bytes)) (hex_column_run bytes k d c small)
+    (blanks (54 - (3 + 2 * length bytes + (length bytes - 1) / 2)) place.Data [] k (with_datum d bytes) c))
+    (text_column_run bytes k (with_datum d bytes) c small)
+
+pub bytes_take : (n : ℕ) (bytes : List ℕ) → AreBytes bytes → AreBytes (take n bytes)
+bytes_take zero bytes small = tt
+bytes_take (suc n) [] small = tt
+bytes_take (suc n) (b ∷ bytes) small = (small.0, bytes_take n bytes small.1)
+
+pub bytes_drop : (n : ℕ) (bytes : List ℕ) → AreBytes bytes → AreBytes (drop n bytes)
+bytes_drop zero bytes small = small
+bytes_drop (suc n) [] small = tt
+bytes_drop (suc n) (b ∷ bytes) small = bytes_drop n bytes small.1
+
+-- more data, and then more
+twice : (d : Ref) (xs ys zs : List ℕ) → xs ++ ys ≡ zs → with_datum (with_datum d xs) ys ≡ with_datum d zs
+twice d xs ys zs e =
+    ap (λ l. record { id = d.id; name = d.name; attrs = d.attrs; datum = l })
+    (append_assoc d.datum xs ys ∙ ap (λ l. d.datum ++ l) e)
+
+nothing_more : (d : Ref) → d ≡ with_datum d []
+nothing_more d = ap (λ l. record { id = d.id; name = d.name; attrs = d.attrs; datum = l }) (sym (append-nil d.datum))
+
+lines_run : (n : ℕ) (bytes : List ℕ) (k : ℕ) (d : Ref) (c : Content) → AreBytes bytes
+    → run (Ok (at mode.Between place.Data [] k d c)) (data_lines n bytes)
+    ≡ Ok (at mode.Between place.Data [] k (with_datum d (take (16 * n) bytes)) c)
+lines_run zero bytes k d c small = ap (λ r. Ok (at mode.Between place.Data [] k r c)) (nothing_more d)
+lines_run (suc n) bytes k d c small =
+    let s = at mode.Between place.Data [] k d c in
+    let t = at mode.Between place.Data [] k (with_datum d (take 16 bytes)) c in
+    let grown : 16 + 16 * n ≡ 16 * suc n = omega arith in
+    let whole : take 16 bytes ++ take (16 * n) (drop 16 bytes) ≡ take (16 * suc n) bytes =
+    sym (take-add 16 (16 * n) bytes) ∙ ap (λ m. take m bytes) grown in
+    after s t _ (data_line (take 16 bytes)) (data_lines n (drop 16 bytes))
+    (data_line_run (take 16 bytes) k d c (bytes_take 16 bytes small))
+    (lines_run n (drop 16 bytes) k (with_datum d (take 16 bytes)) c (bytes_drop 16 bytes small)
+    ∙ ap (λ r. Ok (at mode.Between place.Data [] k r c)) (twice d (take 16 bytes) _ _ whole))
+
+take_all : (n : ℕ) (bytes : List ℕ) → length bytes ≤ n → take n bytes ≡ bytes
+take_all zero [] h = refl
+take_all zero (b ∷ bytes) h = absurd (omega arith)
+take_all (suc n) [] h = refl
+take_all (suc n) (b ∷ bytes) h = ap (λ l. b ∷ l) (take_all n bytes (omega arith))
+
+-- all lines have all bytes
+pub all_lines : (bytes : List ℕ) → take (16 * line_count bytes) bytes ≡ bytes
+all_lines bytes = take_all (16 * line_count bytes) bytes (omega arith)
+
+-- the data of a resource of which no data is stated yet
+pub data_run : (bytes : List ℕ) (k : ℕ) (d : Ref) (c : Content) → AreBytes bytes
+    → run (Ok (at mode.Between place.Data [] k d c)) (data_lines (line_count bytes) bytes)
+    ≡ Ok (at mode.Between place.Data [] k (with_datum d bytes) c)
+data_run bytes k d c small =
+    lines_run (line_count bytes) bytes k d c small
+    ∙ ap (λ l. Ok (at mode.Between place.Data [] k (with_datum d l) c)) (all_lines bytes)

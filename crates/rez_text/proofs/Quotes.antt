@@ -1,0 +1,186 @@
+-- Names and types between quotes: what is printed is read again.
+use Rattle.std.proofs.Common.{◌≡◌, ◌<◌, ◌≤◌, ◌==◌, ◌^◌, ◌&&◌, ℕ, ◌/◌, ◌%◌, Bool, true, false, cond, nat_lt, Ok, Some}
+use Rattle.std.proofs.Common.{List, [], ◌∷◌, ◌++◌, length, refl, ap, ◌∙◌, sym, subst, arith, append_assoc, append-nil, eqb-true, le-ltb, rules}
+use Rattle.std.proofs.lemmas.Bool.{agree_below_at}
+use Rattle.std.specs.List.{flat_map}
+use Rattle.byteorder.specs.Endian.{big_number, big_bytes}
+use Rattle.byteorder.specs.Numbers.{big_number-reads_back}
+use Rattle.fork_format.specs.Content.{Ref, Content}
+use Rattle.rez_text.specs.declared.mode.Quote.{Quote}
+use Rattle.rez_text.specs.declared.mode.Quote.TheVariants as quotes
+use Rattle.rez_text.specs.declared.mode.Mode.TheVariants as mode
+use Rattle.rez_text.specs.declared.mode.Place.{Place}
+use Rattle.rez_text.specs.declared.mode.Place.TheVariants as place
+use Rattle.rez_text.specs.State.{State}
+use Rattle.rez_text.specs.Tokens.{name, type_token}
+use Rattle.rez_text.specs.Remarks.{hex_value, byte_of}
+use Rattle.rez_text.specs.Lexing.{step, between, quoted, escape, escape_zero, escape_high, escape_low, quote_byte, ends_line}
+use Rattle.rez_text.specs.Bytes.{AreBytes}
+use Rattle.rez_text.specs.Printing.{byte_hex, hex_digit, is_printable, escaped, in_quotes, type_literal}
+use Rattle.rez_text.proofs.Steps.{at, run, after}
+use Rattle.rez_text.proofs.Digits.{digit_value, halves}
+
+-- a byte that stands for itself
+plain_step : (q : Quote) (b : ℕ) (p : Place) (g : List ℕ) (k : ℕ) (d : Ref) (c : Content) → (b == quote_byte q) ≡ false
+    → (b == 92) ≡ false → ends_line b ≡ false
+    → step b (at (mode.Quoted q) p g k d c) ≡ Ok (at (mode.Quoted q) p (g ++ b ∷ []) k d c)
+unfolding step quoted
+plain_step q b p g k d c e f h = rw (e, f, h) refl
+
+-- a quote behind a `\`
+quote_run : (q : Quote) (p : Place) (g : List ℕ) (k : ℕ) (d : Ref) (c : Content)
+    → run (Ok (at (mode.Quoted q) p g k d c)) (92 ∷ quote_byte q ∷ [])
+    ≡ Ok (at (mode.Quoted q) p (g ++ quote_byte q ∷ []) k d c)
+unfolding step quoted escape
+quote_run quotes.Name p g k d c = refl
+quote_run quotes.Type p g k d c = refl
+
+-- a `\` behind a `\`
+stroke_run : (q : Quote) (p : Place) (g : List ℕ) (k : ℕ) (d : Ref) (c : Content)
+    → run (Ok (at (mode.Quoted q) p g k d c)) (92 ∷ 92 ∷ []) ≡ Ok (at (mode.Quoted q) p (g ++ 92 ∷ []) k d c)
+unfolding step quoted escape
+stroke_run quotes.Name p g k d c = refl
+stroke_run quotes.Type p g k d c = refl
+
+-- what begins a byte by its digits
+number_opens : (q : Quote) (p : Place) (g : List ℕ) (k : ℕ) (d : Ref) (c : Content)
+    → run (Ok (at (mode.Quoted q) p g k d c)) (92 ∷ 48 ∷ 120 ∷ []) ≡ Ok (at (mode.EscapeHigh q) p g k d c)
+unfolding step quoted escape escape_zero
+number_opens quotes.Name p g k d c = refl
+number_opens quotes.Type p g k d c = refl
+
+high_step : (q : Quote) (x h : ℕ) (p : Place) (g : List ℕ) (k : ℕ) (d : Ref) (c : Content) → hex_value x ≡ Some h
+    → step x (at (mode.EscapeHigh q) p g k d c) ≡ Ok (at (mode.EscapeLow q h) p g k d c)
+unfolding step escape_high
+high_step q x h p g k d c v = rw v refl
+
+low_step : (q : Quote) (x h l : ℕ) (p : Place) (g : List ℕ) (k : ℕ) (d : Ref) (c : Content) → hex_value x ≡ Some l
+    → step x (at (mode.EscapeLow q h) p g k d c) ≡ Ok (at (mode.Quoted q) p (g ++ byte_of h l ∷ []) k d c)
+unfolding step escape_low
+low_step q x h l p g k d c v = rw v refl
+
+-- a byte by its digits
+number_run : (q : Quote) (b : ℕ) (p : Place) (g : List ℕ) (k : ℕ) (d : Ref) (c : Content) → b < 256
+    → run (Ok (at (mode.Quoted q) p g k d c)) (92 ∷ 48 ∷ 120 ∷ byte_hex b)
+    ≡ Ok (at (mode.Quoted q) p (g ++ b ∷ []) k d c)
+number_run q b p g k d c small =
+    let high : b / 16 < 16 = omega arith in
+    let low : b % 16 < 16 = omega arith in
+    let s = at (mode.Quoted q) p g k d c in
+    let t = at (mode.EscapeHigh q) p g k d c in
+    let u = at (mode.EscapeLow q (b / 16)) p g k d c in
+    let second = low_step q (hex_digit (b % 16)) (b / 16) (b % 16) p g k d c (digit_value _ low)
+    ∙ ap (λ n. Ok (at (mode.Quoted q) p (g ++ n ∷ []) k d c)) (halves b small) in
+    after s t _ (92 ∷ 48 ∷ 120 ∷ []) (byte_hex b) (number_opens q p g k d c)
+    (after t u _ (hex_digit (b / 16) ∷ []) (hex_digit (b % 16) ∷ [])
+    (high_step q (hex_digit (b / 16)) (b / 16) p g k d c (digit_value _ high)) second)
+
+printable_no_end : (b : ℕ) → b < 256 → is_printable b ≡ true → ends_line b ≡ false
+printable_no_end b small h =
+    let both : (is_printable b && ends_line b) ≡ false =
+    agree_below_at (λ n. is_printable n && ends_line n) (λ _. false) 256 b refl small in
+    sym (ap (λ v. v && ends_line b) h) ∙ both
+
+-- any byte
+escaped_run : (q : Quote) (b : ℕ) (p : Place) (g : List ℕ) (k : ℕ) (d : Ref) (c : Content) → b < 256
+    → run (Ok (at (mode.Quoted q) p g k d c)) (escaped (quote_byte q) b)
+    ≡ Ok (at (mode.Quoted q) p (g ++ b ∷ []) k d c)
+escaped_run q b p g k d c small =
+    let s = at (mode.Quoted q) p g k d c in
+    let t : ℕ → State = λ n. at (mode.Quoted q) p (g ++ n ∷ []) k d c in
+    let by_print : (v : Bool) → is_printable b ≡ v → (b == quote_byte q) ≡ false → (b == 92) ≡ false
+    → run (Ok s) (cond v (b ∷ []) (92 ∷ 48 ∷ 120 ∷ byte_hex b)) ≡ Ok (t b) =
+    λ v. elim v as (λ w. is_printable b ≡ w → (b == quote_byte q) ≡ false → (b == 92) ≡ false
+    → run (Ok s) (cond w (b ∷ []) (92 ∷ 48 ∷ 120 ∷ byte_hex b)) ≡ Ok (t b)) [
+      | true ↦ λ h e f. plain_step q b p g k d c e f (printable_no_end b small h)
+      | false ↦ λ h e f. number_run q b p g k d c small
+    ] in
+    let by_stroke : (v : Bool) → (b == 92) ≡ v → (b == quote_byte q) ≡ false
+    → run (Ok s) (cond v (92 ∷ 92 ∷ []) (cond (is_printable b) (b ∷ []) (92 ∷ 48 ∷ 120 ∷ byte_hex b))) ≡ Ok (t b) =
+    λ v. elim v as (λ w. (b == 92) ≡ w → (b == quote_byte q) ≡ false
+    → run (Ok s) (cond w (92 ∷ 92 ∷ []) (cond (is_printable b) (b ∷ []) (92 ∷ 48 ∷ 120 ∷ byte_hex b))) ≡ Ok (t b)) [
+      | true ↦ λ h e. stroke_run q p g k d c ∙ ap (λ n. Ok (t n)) (sym (eqb-true b 92 h))
+      | false ↦ λ h e. by_print (is_printable b) refl e h
+    ] in
+    let by_quote : (v : Bool) → (b == quote_byte q) ≡ v
+    → run (Ok s) (cond v (92 ∷ b ∷ [])
+    (cond (b == 92) (92 ∷ 92 ∷ []) (cond (is_printable b) (b ∷ []) (92 ∷ 48 ∷ 120 ∷ byte_hex b)))) ≡ Ok (t b) =
+    λ v. elim v as (λ w. (b == quote_byte q) ≡ w
+    → run (Ok s) (cond w (92 ∷ b ∷ [])
+    (cond (b == 92) (92 ∷ 92 ∷ []) (cond (is_printable b) (b ∷ []) (92 ∷ 48 ∷ 120 ∷ byte_hex b)))) ≡ Ok (t b)) [
+      | true ↦ λ h. subst (λ n. run (Ok s) (92 ∷ n ∷ []) ≡ Ok (t n)) (sym (eqb-true b (quote_byte q) h))
+          (quote_run q p g k d c)
+      | false ↦ λ h. by_stroke (b == 92) refl h
+    ] in
+    by_quote (b == quote_byte q) refl
+
+pub escaped_all : (bytes : List ℕ) (q : Quote) (p : Place) (g : List ℕ) (k : ℕ) (d : Ref) (c : Content)
+    → AreBytes bytes
+    → run (Ok (at (mode.Quoted q) p g k d c)) (flat_map (escaped (quote_byte q)) bytes)
+    ≡ Ok (at (mode.Quoted q) p (g ++ bytes) k d c)
+escaped_all [] q p g k d c small = ap (λ l. Ok (at (mode.Quoted q) p l k d c)) (sym (append-nil g))
+escaped_all (b ∷ bytes) q p g k d c small =
+    after (at (mode.Quoted q) p g k d c) (at (mode.Quoted q) p (g ++ b ∷ []) k d c) _ (escaped (quote_byte q) b)
+    (flat_map (escaped (quote_byte q)) bytes) (escaped_run q b p g k d c small.0)
+    (escaped_all bytes q p (g ++ b ∷ []) k d c small.1
+    ∙ ap (λ l. Ok (at (mode.Quoted q) p l k d c)) (append_assoc g (b ∷ []) bytes))
+
+-- a resource with another name
+abbrev pub with_name : Ref → List ℕ → Ref
+with_name d text = record { id = d.id; name = Some text; attrs = d.attrs; datum = d.datum }
+
+name_opens : (k : ℕ) (d : Ref) (c : Content)
+    → run (Ok (at mode.Between place.NameOrAttribute [] k d c)) (34 ∷ [])
+    ≡ Ok (at (mode.Quoted quotes.Name) place.NameOrAttribute [] k d c)
+unfolding step between
+name_opens k d c = refl
+
+name_closes : (g : List ℕ) (k : ℕ) (d : Ref) (c : Content) → nat_lt 255 (length g) ≡ false
+    → run (Ok (at (mode.Quoted quotes.Name) place.NameOrAttribute g k d c)) (34 ∷ [])
+    ≡ Ok (at mode.Between place.BehindArgument [] k (with_name d g) c)
+unfolding step quoted name
+name_closes g k d c e = rw e refl
+
+pub name_run : (text : List ℕ) (k : ℕ) (d : Ref) (c : Content) → AreBytes text → length text ≤ 255
+    → run (Ok (at mode.Between place.NameOrAttribute [] k d c)) (in_quotes 34 text)
+    ≡ Ok (at mode.Between place.BehindArgument [] k (with_name d text) c)
+name_run text k d c small short =
+    let s = at mode.Between place.NameOrAttribute [] k d c in
+    let t = at (mode.Quoted quotes.Name) place.NameOrAttribute [] k d c in
+    let u = at (mode.Quoted quotes.Name) place.NameOrAttribute text k d c in
+    after s u _ (34 ∷ [] ++ flat_map (escaped 34) text) (34 ∷ [])
+    (after s t _ (34 ∷ []) (flat_map (escaped 34) text) (name_opens k d c)
+    (escaped_all text quotes.Name place.NameOrAttribute [] k d c small))
+    (name_closes text k d c (le-ltb 255 (length text) short))
+
+type_opens : (d : Ref) (c : Content)
+    → run (Ok (at mode.Between place.Type [] 0 d c)) (39 ∷ []) ≡ Ok (at (mode.Quoted quotes.Type) place.Type [] 0 d c)
+unfolding step between
+type_opens d c = refl
+
+type_closes : (g : List ℕ) (d : Ref) (c : Content) → (length g == 4) ≡ true
+    → run (Ok (at (mode.Quoted quotes.Type) place.Type g 0 d c)) (39 ∷ [])
+    ≡ Ok (at mode.Between place.Parenthesis [] (big_number 4 g) d c)
+unfolding step quoted type_token
+type_closes g d c e = rw e refl
+
+kind_bytes : (kind : ℕ) → AreBytes (big_bytes 4 kind)
+kind_bytes kind = search (rules, arith)
+
+kind_again : (kind : ℕ) → kind < 2 ^ 32 → big_number 4 (big_bytes 4 kind) ≡ kind
+kind_again kind small =
+    ap (big_number 4) (sym (append-nil (big_bytes 4 kind))) ∙ big_number-reads_back 4 kind [] small
+
+pub type_run : (kind : ℕ) (d : Ref) (c : Content) → kind < 2 ^ 32
+    → run (Ok (at mode.Between place.Type [] 0 d c)) (type_literal kind)
+    ≡ Ok (at mode.Between place.Parenthesis [] kind d c)
+unfolding type_literal
+type_run kind d c small =
+    let text = big_bytes 4 kind in
+    let s = at mode.Between place.Type [] 0 d c in
+    let t = at (mode.Quoted quotes.Type) place.Type [] 0 d c in
+    let u = at (mode.Quoted quotes.Type) place.Type text 0 d c in
+    after s u _ (39 ∷ [] ++ flat_map (escaped 39) text) (39 ∷ [])
+    (after s t _ (39 ∷ []) (flat_map (escaped 39) text) (type_opens d c)
+    (escaped_all text quotes.Type place.Type [] 0 d c (kind_bytes kind)))
+    (type_closes text d c refl ∙ ap (λ n. Ok (at mode.Between place.Parenthesis [] n d c)) (kind_again kind small))

@@ -1,0 +1,54 @@
+-- Runs of steps over stretches of a text.
+use Rattle.std.proofs.Common.{◌≡◌, ℕ, Bool, Result, Ok, Err, List, [], ◌∷◌, ◌++◌, replicate, zero, suc, refl, ap, ◌∙◌, ◌==◌}
+use Rattle.fork_format.specs.Content.{Ref, Content}
+use Rattle.rez_text.specs.declared.fault.FaultKind.{FaultKind}
+use Rattle.rez_text.specs.declared.mode.Mode.{Mode}
+use Rattle.rez_text.specs.declared.mode.Mode.TheVariants as mode
+use Rattle.rez_text.specs.declared.mode.Place.{Place}
+use Rattle.rez_text.specs.State.{State, ◌>>=◌}
+use Rattle.rez_text.specs.Lexing.{step, between}
+use Rattle.rez_text.specs.Reading.{finish, at_line, line_behind, read_from}
+
+-- a state by its parts
+abbrev pub at : Mode → Place → List ℕ → ℕ → Ref → Content → State
+at m p g k d c = record { mode = m; place = p; gathered = g; kind = k; draft = d; content = c }
+
+-- where a stretch of text leads
+abbrev pub run : Result State FaultKind → List ℕ → Result State FaultKind
+run r [] = r
+run r (b ∷ bytes) = run (r >>= step b) bytes
+
+pub run-append : (r : Result State FaultKind) (xs ys : List ℕ) → run r (xs ++ ys) ≡ run (run r xs) ys
+run-append r [] ys = refl
+run-append r (x ∷ xs) ys = run-append (r >>= step x) xs ys
+
+-- one stretch after another
+pub after : (s t : State) (u : Result State FaultKind) (xs ys : List ℕ) → run (Ok s) xs ≡ Ok t → run (Ok t) ys ≡ u
+    → run (Ok s) (xs ++ ys) ≡ u
+after s t u xs ys e f = run-append (Ok s) xs ys ∙ ap (λ q. run q ys) e ∙ f
+
+pub run-failed : (fault : FaultKind) (xs : List ℕ) → run (Err fault) xs ≡ Err fault
+run-failed fault [] = refl
+run-failed fault (x ∷ xs) = run-failed fault xs
+
+-- what a run leads to is read, on whatever lines it stands
+pub read_run : (text : List ℕ) (s t : State) (c : Content) (line : ℕ) (returned : Bool) → run (Ok s) text ≡ Ok t
+    → finish t ≡ Ok c → read_from line returned s text ≡ Ok c
+read_run [] s t c line returned e f =
+    let same : s ≡ t = cc in
+    ap (λ r. at_line line r (λ x. Ok x)) (ap finish same ∙ f)
+read_run (b ∷ rest) s t c line returned e f =
+    let go : (r : Result State FaultKind) → run r rest ≡ Ok t
+    → at_line line r (λ u. read_from (line_behind b returned line) (b == 13) u rest) ≡ Ok c =
+    λ r. elim r as (λ v. run v rest ≡ Ok t
+    → at_line line v (λ u. read_from (line_behind b returned line) (b == 13) u rest) ≡ Ok c) [
+      | Ok u ↦ λ k. read_run rest u t c (line_behind b returned line) (b == 13) k f
+      | Err fault ↦ λ k. let failed = run-failed fault rest in absurd (cc)
+    ] in
+    go (step b s) e
+
+pub blanks : (n : ℕ) (p : Place) (g : List ℕ) (k : ℕ) (d : Ref) (c : Content)
+    → run (Ok (at mode.Between p g k d c)) (replicate n 32) ≡ Ok (at mode.Between p g k d c)
+unfolding step between
+blanks zero p g k d c = refl
+blanks (suc n) p g k d c = blanks n p g k d c

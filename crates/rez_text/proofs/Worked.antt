@@ -1,0 +1,111 @@
+-- Worked sources, on the definitions alone.
+use Rattle.std.proofs.Common.{◌≡◌, ℕ, ℤ, pos, negsuc, Option, Some, None, Ok, Err, List, [], ◌∷◌, ◌++◌, replicate, codes, refl}
+use Rattle.std.specs.Fmt.{digits}
+use Rattle.fork_format.specs.Content.{Ref, Group, Content}
+use Rattle.rez_text.specs.declared.fault.FaultKind.TheVariants as faults
+use Rattle.rez_text.specs.Tokens.{word, type_token, number, name, datum, mark}
+use Rattle.rez_text.specs.Remarks.{bytes_behind, remarked, comment}
+use Rattle.rez_text.specs.Lexing.{step, between, slash, in_comment, star, line_comment, in_word, decimal, dollar}
+use Rattle.rez_text.specs.Lexing.{hexadecimal, hex_string, hex_half, quoted, escape, escape_zero, escape_high, escape_low}
+use Rattle.rez_text.specs.Reading.{finish, read}
+use Rattle.rez_text.specs.Printing.{type_literal, statement_head, source_of}
+
+-- a content of these groups
+abbrev of_groups : List Group → Content
+of_groups groups = record { area = replicate 240 0; attrs = 0; groups = groups }
+
+-- a resource
+abbrev a_ref : ℤ → Option (List ℕ) → ℕ → List ℕ → Ref
+a_ref id text attrs bytes = record { id = id; name = text; attrs = attrs; datum = bytes }
+
+-- a type is the number of its four bytes
+abbrev str : ℕ
+str = 0x53545220
+
+-- a name, a word for the attributes, and more than one line of data
+greeting : source_of (of_groups (record {
+  kind = str;
+  refs = a_ref (pos 128) (Some (codes "Greeting")) 32 (codes "Hi there, this is") ∷ [];
+} ∷ []))
+    ≡ codes "data 'STR ' (128, \"Greeting\", purgeable) {\n\t$\"4869 2074 6865 7265 2C20 7468 6973 2069\"            /* Hi there, this i */\n\t$\"73\"                                                 /* s */\n};\n\n"
+unfolding source_of statement_head type_literal digits
+greeting = refl
+
+-- bytes that are escaped, attributes that have no word, no data; a name of no bytes, all words, and a `*` as text
+escapes : source_of (of_groups (record {
+  kind = 0x41274280;
+  refs =
+      a_ref (negsuc 32767) (Some (codes "q\"\\" ++ 13 ∷ [])) 129 [] ∷
+      a_ref (pos 0) (Some []) 92 (42 ∷ 47 ∷ []) ∷ [];
+} ∷ []))
+    ≡ codes "data 'A\\'B\\0x80' (-32768, \"q\\\"\\\\\\0x0D\", $81) {\n};\n\ndata 'A\\'B\\0x80' (0, \"\", sysheap, locked, protected, preload) {\n\t$\"2A2F\"                                               /* ./ */\n};\n\n"
+unfolding source_of statement_head type_literal digits
+escapes = refl
+
+-- the attributes of the map, and a first byte behind the header
+remarks : source_of (record { area = 255 ∷ replicate 239 0; attrs = 128; groups = [] })
+    ≡ codes "/* map attributes $0080 */\n/* header bytes\n\tFF00 0000 0000 0000 0000 0000 0000 0000\n\t0000 0000 0000 0000 0000 0000 0000 0000\n\t0000 0000 0000 0000 0000 0000 0000 0000\n\t0000 0000 0000 0000 0000 0000 0000 0000\n\t0000 0000 0000 0000 0000 0000 0000 0000\n\t0000 0000 0000 0000 0000 0000 0000 0000\n\t0000 0000 0000 0000 0000 0000 0000 0000\n\t0000 0000 0000 0000 0000 0000 0000 0000\n\t0000 0000 0000 0000 0000 0000 0000 0000\n\t0000 0000 0000 0000 0000 0000 0000 0000\n\t0000 0000 0000 0000 0000 0000 0000 0000\n\t0000 0000 0000 0000 0000 0000 0000 0000\n\t0000 0000 0000 0000 0000 0000 0000 0000\n\t0000 0000 0000 0000 0000 0000 0000 0000\n\t0000 0000 0000 0000 0000 0000 0000 0000\n*/\n"
+unfolding source_of
+remarks = refl
+
+-- a source as a person writes it: comments, ends of lines, words in another order, digits apart, two types by turns
+written : read (codes "// by hand\r\ndata 'STR ' ($80, \"a\", preload, purgeable) /* here */ {\r$\"01 2\n3\" $\"45\"};\ndata 'TEXT'(16,$C1){};data 'STR '(-1){};")
+    ≡ Ok (of_groups (
+    record {
+      kind = str;
+      refs =
+          a_ref (pos 128) (Some (codes "a")) 36 (1 ∷ 35 ∷ 69 ∷ []) ∷ a_ref (negsuc 0) None 0 [] ∷ [];
+    } ∷
+    record { kind = 0x54455854; refs = a_ref (pos 16) None 193 [] ∷ [] } ∷ []
+    ))
+unfolding read finish step between slash in_comment star line_comment in_word decimal dollar hexadecimal hex_string
+    hex_half quoted escape escape_zero escape_high escape_low word type_token number name datum mark comment remarked
+    bytes_behind
+written = refl
+
+-- a comment that states the attributes of the map, and one that doesn't
+stated : (read (codes "/* map attributes $0080 */") ≡ Ok (record { area = replicate 240 0; attrs = 128; groups = [] }))
+    × (read (codes "/*map attributes $0080 */") ≡ Ok (of_groups []))
+unfolding read finish step between slash in_comment star line_comment in_word decimal dollar hexadecimal hex_string
+    hex_half quoted escape escape_zero escape_high escape_low word type_token number name datum mark comment remarked
+    bytes_behind
+stated = (refl, refl)
+
+-- each fault, with its line
+statements_refused : (read (codes "data 'STR ' (1) {};\r\nresource") ≡ Err (2, faults.NotAStatement))
+    × (read (codes "data 'STR'") ≡ Err (1, faults.TypeWanted))
+    × (read (codes "data 'STR ' 1") ≡ Err (1, faults.ParenthesisWanted))
+    × (read (codes "data 'STR ' (\"a\"") ≡ Err (1, faults.IdWanted))
+    × (read (codes "data 'STR ' (32768)") ≡ Err (1, faults.IdOutOfRange))
+    × (read (codes "data 'STR ' (-32769)") ≡ Err (1, faults.IdOutOfRange))
+    × (read (codes "data 'STR ' (1 2)") ≡ Err (1, faults.EndOfArgumentsWanted))
+    × (read (codes "data 'STR ' (1, fixed)") ≡ Err (1, faults.NameOrAttributeWanted))
+    × (read (codes "data 'STR ' (1, locked,\n \"a\")") ≡ Err (2, faults.AttributeWanted))
+    × (read (codes "data 'STR ' (1, $100)") ≡ Err (1, faults.AttributesOutOfRange))
+    × (read (codes "data 'STR ' (1);") ≡ Err (1, faults.BraceWanted))
+    × (read (codes "data 'STR ' (1) {\n1") ≡ Err (2, faults.DataWanted))
+    × (read (codes "data 'STR ' (1) {}") ≡ Err (1, faults.SemicolonWanted))
+unfolding read finish step between slash in_comment star line_comment in_word decimal dollar hexadecimal hex_string
+    hex_half quoted escape escape_zero escape_high escape_low word type_token number name datum mark comment remarked
+    bytes_behind
+statements_refused = (refl, refl, refl, refl, refl, refl, refl, refl, refl, refl, refl, refl, refl)
+
+tokens_refused : (read (codes "data 'STR ' (65536") ≡ Err (1, faults.NumberOutOfRange))
+    × (read (codes "data 'STR ' ($)") ≡ Err (1, faults.HexadecimalWanted))
+    × (read (codes "data 'STR ' (1) { $\"0G\"") ≡ Err (1, faults.NotADigit))
+    × (read (codes "data 'STR ' (1) { $\"012\"") ≡ Err (1, faults.OddDigits))
+    × (read (codes "data 'STR ' (1, \"a\n") ≡ Err (1, faults.OpenString))
+    × (read (codes "data 'STR ' (1) { $\"01") ≡ Err (1, faults.OpenString))
+    × (read (codes "data 'STR ' (1, \"\\n\"") ≡ Err (1, faults.NotAnEscape))
+    × (read (codes "/* a\n\n") ≡ Err (3, faults.OpenComment))
+unfolding read finish step between slash in_comment star line_comment in_word decimal dollar hexadecimal hex_string
+    hex_half quoted escape escape_zero escape_high escape_low word type_token number name datum mark comment remarked
+    bytes_behind
+tokens_refused = (refl, refl, refl, refl, refl, refl, refl, refl)
+
+-- a name of 256 bytes
+long_name : read (codes "data 'STR ' (1, \"" ++ replicate 256 97 ++ codes "\")") ≡ Err (1, faults.LongName)
+unfolding read finish step between slash in_comment star line_comment in_word decimal dollar hexadecimal hex_string
+    hex_half quoted escape escape_zero escape_high escape_low word type_token number name datum mark comment remarked
+    bytes_behind
+long_name = refl

@@ -1,0 +1,9 @@
+use Rattle.std.proofs.Common.{◌≡◌, ◌++◌, drop, map}
+use Rattle.fork_format.specs.View.{view_group}
+use Rattle.rez_text.specs.View.{group_said}
+use Rattle.rez_text.proofs.source.Source.content.Given as goal
+
+-- the groups that are lent, with those to come, are all
+abbrev pub invariant-loop-group : goal.invariant-loop-group
+invariant-loop-group l = map view_group l.groups.items ++ map group_said (drop l.group-index l.self.groups.items)
+    ≡ map group_said l.self.groups.items

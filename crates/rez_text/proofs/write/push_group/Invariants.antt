@@ -1,0 +1,10 @@
+use Rattle.std.proofs.Common.{◌≡◌, ◌++◌, drop, map}
+use Rattle.std.specs.List.{flat_map}
+use Rattle.fork_format.specs.View.{view_ref}
+use Rattle.rez_text.specs.Printing.{statement}
+use Rattle.rez_text.proofs.write.push_group.Given as goal
+
+-- the statements so far, with those to come, are all
+abbrev pub invariant-loop-r : goal.invariant-loop-r
+invariant-loop-r l = l.out.items ++ flat_map (statement l.kind) (map view_ref (drop l.r-index l.group.refs.items))
+    ≡ l.fn.out.items ++ flat_map (statement l.kind) (map view_ref l.group.refs.items)

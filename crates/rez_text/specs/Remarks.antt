@@ -1,0 +1,75 @@
+use Rattle.std.specs.Prelude.{ℕ, ◌+◌, ◌-◌, ◌*◌, ◌%◌, ◌==◌, nat_le, Bool, ◌&&◌, ◌||◌, bytes_eq, codes, length, take, drop}
+use Rattle.std.specs.Prelude.{Option, Some, None, List, [], ◌∷◌, ◌++◌, if◌then◌else◌}
+use Rattle.byteorder.specs.Endian.{big_number}
+use Rattle.fork_format.specs.Content.{Content}
+use Rattle.rez_text.specs.declared.mode.Place.{Place}
+use Rattle.rez_text.specs.declared.mode.Place.TheVariants as place
+use Rattle.rez_text.specs.State.{State, come_to}
+
+-- Hexadecimal digits, and the comments that state what no statement of Rez does.
+
+-- A blank, or the end of a line.
+abbrev pub is_blank : ℕ → Bool
+is_blank b = b == 32 || b == 9 || b == 10 || b == 13
+
+-- The value of a hexadecimal digit, in upper or lower case.
+abbrev pub hex_value : ℕ → Option ℕ
+hex_value c =
+    if nat_le 48 c && nat_le c 57 then Some (c - 48)
+    else if nat_le 65 c && nat_le c 70 then Some (c - 55)
+    else if nat_le 97 c && nat_le c 102 then Some (c - 87)
+    else None
+
+-- The byte of two digits.
+abbrev pub byte_of : ℕ → ℕ → ℕ
+byte_of high low = (16 * high + low) % 256
+
+-- The bytes that hexadecimal digits write, two for each byte, with any blanks between digits: behind the bytes so far,
+-- and the high digit that waits for its low one.
+abbrev pub hex_from : Option ℕ → List ℕ → List ℕ → Option (List ℕ)
+hex_from None bytes [] = Some bytes
+hex_from (Some high) bytes [] = None
+hex_from None bytes (c ∷ rest) =
+    if is_blank c then hex_from None bytes rest
+    else elim (hex_value c) [ None ↦ None | Some high ↦ hex_from (Some high) bytes rest ]
+hex_from (Some high) bytes (c ∷ rest) =
+    if is_blank c then hex_from (Some high) bytes rest
+    else elim (hex_value c) [ None ↦ None | Some low ↦ hex_from None (bytes ++ byte_of high low ∷ []) rest ]
+
+-- So many bytes.
+abbrev pub of_length : ℕ → Option (List ℕ) → Option (List ℕ)
+of_length n None = None
+of_length n (Some bytes) = if length bytes == n then Some bytes else None
+
+-- The n bytes that a text states in hexadecimal behind the words with which it begins.
+unfoldable pub bytes_behind : List ℕ → ℕ → List ℕ → Option (List ℕ)
+bytes_behind words n text =
+    if nat_le (length words) (length text) && bytes_eq (take (length words) text) words
+    then of_length n (hex_from None [] (drop (length words) text))
+    else None
+
+-- Two bytes as the attributes of the map.
+abbrev pub with_map_attributes : Option (List ℕ) → Content → Content
+with_map_attributes None c = c
+with_map_attributes (Some bytes) c = record { area = c.area; attrs = big_number 2 bytes; groups = c.groups }
+
+-- 240 bytes as those behind the header.
+abbrev pub with_area : Option (List ℕ) → Content → Content
+with_area None c = c
+with_area (Some bytes) c = record { area = bytes; attrs = c.attrs; groups = c.groups }
+
+-- What a comment between statements adds to the content: ` map attributes $` and four hexadecimal digits are the
+-- attributes of the map, ` header bytes` and 480 hexadecimal digits are the 240 bytes behind the header; any other text
+-- adds nothing.
+unfoldable pub remarked : List ℕ → Content → Content
+remarked text c =
+    with_area (bytes_behind (codes " header bytes") 240 text)
+    (with_map_attributes (bytes_behind (codes " map attributes $") 2 text) c)
+
+-- A comment.
+abbrev pub comment_at : Place → State → State
+comment_at place.Outside s = come_to place.Outside (record s { content = remarked s.gathered s.content })
+comment_at p s = come_to p s
+
+unfoldable pub comment : State → State
+comment s = comment_at s.place s

@@ -1,0 +1,80 @@
+use Rattle.std.specs.Prelude.{◌≡◌, ℕ, pos, ◌==◌, None, Result, Ok, Err, List, [], ◌∷◌, ◌++◌, if◌then◌else◌}
+use Rattle.std.specs.Prelude.{replicate}
+use Rattle.byteorder.specs.Endian.{big_number}
+use Rattle.fork_format.specs.Content.{Ref, Group, Content}
+use Rattle.rez_text.specs.declared.fault.FaultKind.{FaultKind}
+use Rattle.rez_text.specs.declared.fault.StepFault.{StepFault}
+use Rattle.rez_text.specs.declared.fault.StepFault.TheVariants.{Memory, Wrong}
+use Rattle.rez_text.specs.declared.mode.Mode.{Mode}
+use Rattle.rez_text.specs.declared.mode.Mode.TheVariants as mode
+use Rattle.rez_text.specs.declared.mode.Place.{Place}
+use Rattle.rez_text.specs.declared.mode.Place.TheVariants as place
+use Rattle.rez_text.specs.declared.reader.Reader.{Reader}
+use Rattle.rez_text.specs.View.{ref_said, content_said}
+
+-- What has been read of a source: where the text stands within a token and within a statement, the bytes of the token
+-- so far, the type and the resource of the statement so far, and the content of the statements before it.
+pub record State : Type 0 where
+  pub mode : Mode
+  pub place : Place
+  pub gathered : List ℕ
+  pub kind : ℕ
+  pub draft : Ref
+  pub content : Content
+
+-- A resource of which nothing is stated yet.
+abbrev pub no_ref : Ref
+no_ref = record { id = pos 0; name = None; attrs = 0; datum = [] }
+
+-- Before the first byte: no bytes behind the header but 0, no attributes of the map, no resources.
+abbrev pub start : State
+start = record {
+  mode = mode.Between;
+  place = place.Outside;
+  gathered = [];
+  kind = 0;
+  draft = no_ref;
+  content = record { area = replicate 240 0; attrs = 0; groups = [] };
+}
+
+-- The text stands elsewhere within a token.
+abbrev pub in_mode : Mode → State → State
+in_mode m s = record s { mode = m }
+
+-- One more byte of a token.
+abbrev pub gather : ℕ → Mode → State → State
+gather b m s = record s { mode = m; gathered = s.gathered ++ b ∷ [] }
+
+-- A token ends, and the statement has come to a place.
+abbrev pub come_to : Place → State → State
+come_to p s = record s { mode = mode.Between; gathered = []; place = p }
+
+-- The resource as the last one of its type: in the group of the type, or in a new group behind all others.
+abbrev pub with_ref : ℕ → Ref → List Group → List Group
+with_ref kind r [] = record { kind = kind; refs = r ∷ [] } ∷ []
+with_ref kind r (g ∷ groups) =
+    if g.kind == kind then record { kind = g.kind; refs = g.refs ++ r ∷ [] } ∷ groups else g ∷ with_ref kind r groups
+
+infixl 10 ◌>>=◌
+-- One step after another; a fault of the first stays.
+abbrev pub ◌>>=◌ : {A B : Type 0} → Result A FaultKind → (A → Result B FaultKind) → Result B FaultKind
+(Ok x) >>= f = f x
+(Err e) >>= f = Err e
+
+-- The reader of the code, as a state.
+abbrev pub state_of : Reader → State
+state_of r = record {
+  mode = r.mode;
+  place = r.place;
+  gathered = r.gathered.items;
+  kind = big_number 4 r.ty.0;
+  draft = ref_said r.draft;
+  content = content_said r.source;
+}
+
+-- A function has led to the state that a step defines, or has the step's fault; where the host is out of memory,
+-- nothing is said about the text.
+abbrev pub Leads : {A : Type 0} → Result A StepFault → State → Result State FaultKind → Type 0
+Leads (Ok x) new stepped = stepped ≡ Ok new
+Leads (Err Memory) new stepped = Unit {0}
+Leads (Err (Wrong kind)) new stepped = stepped ≡ Err kind

@@ -1,0 +1,347 @@
+//! Reading a source byte by byte.
+
+ghost use Rattle.std.specs.Prelude.{◌≡◌, ◌==◌, length, Some, Ok, Err, OnOk, map, if◌then◌else◌};
+ghost use Rattle.std.specs.List.{position};
+ghost use Rattle.byteorder.specs.Endian.{big_number};
+ghost use Rattle.rez_text.specs.declared.mode.Place.TheVariants as places;
+ghost use Rattle.rez_text.specs.declared.fault.StepFault.TheVariants.{Wrong};
+ghost use Rattle.rez_text.specs.View.{ref_said, group_said};
+ghost use Rattle.rez_text.specs.State.{start, state_of, no_ref, Leads, with_ref};
+ghost use Rattle.rez_text.specs.State.{in_mode, gather as gathered, come_to as came_to};
+ghost use Rattle.rez_text.specs.Tokens.{refused, attribute, wanted, with_attributes as attributed, word, type_token};
+ghost use Rattle.rez_text.specs.Tokens.{name, datum, mark, number as number_of, with_id as identified, attributes_in};
+ghost use Rattle.rez_text.specs.Tokens.{with_statement};
+
+use crate::fault::{FaultKind, StepFault};
+use crate::mode::{Mode, Place, Quote};
+use crate::name::SourceName;
+use crate::source::{Source, SourceGroup, SourceRef};
+use fork_format::kind_of;
+use mac_words::{Attrs, OsType};
+use std::alloc::{AllocError, Global};
+use std::mem::replace;
+
+/// A reader within a source.
+#[derive(Drop)]
+pub(crate) struct Reader {
+    pub mode: Mode,
+    pub place: Place,
+    /// The bytes of the token so far.
+    pub gathered: Vec<u8>,
+    /// The type of the statement so far.
+    pub ty: OsType,
+    /// The resource of the statement so far.
+    pub draft: SourceRef,
+    /// The content of the statements before.
+    pub source: Source,
+    pub alloc: Global,
+}
+
+/// Returns a resource of which nothing is stated yet.
+fn no_draft(alloc: Global) -> SourceRef
+    ensures { ref_said result ≡ no_ref }
+{
+    SourceRef {
+        id: 0,
+        name: None,
+        attrs: 0,
+        datum: Vec::new(alloc),
+    }
+}
+
+/// Returns the place of the group of a type.
+fn group_of(groups: &[SourceGroup], kind: u32) -> Option<usize>
+    ensures { result ≡ position (λ (g : SourceGroup). big_number 4 g.ty.0 == kind) groups.now }
+{
+    groups.iter().position(|g| kind_of(g.ty) == kind)
+}
+
+/// Adds a resource as the last one of its type.
+fn add_ref(
+    alloc: Global,
+    groups: &mut Vec<SourceGroup>,
+    ty: OsType,
+    resource: SourceRef,
+) -> Result<(), AllocError>
+    ensures { OnOk result (map group_said groups.new.items
+        ≡ with_ref (big_number 4 ty.0) (ref_said resource) (map group_said groups.old.items)) }
+{
+    match group_of(groups.as_slice(), kind_of(ty)) {
+        Some(place) => groups[place].refs.push(resource)?,
+        None => {
+            let mut refs = Vec::new(alloc);
+            refs.push(resource)?;
+            groups.push(SourceGroup { ty, refs })?;
+        }
+    }
+    Ok(())
+}
+
+/// Returns the attribute that a word states, by its bit.
+fn attribute_of(word: &[u8]) -> Option<u8>
+    ensures { result ≡ attribute word.now }
+{
+    if word == b"sysheap".as_slice() {
+        Some(Attrs::SYSTEM_HEAP)
+    } else if word == b"purgeable".as_slice() {
+        Some(Attrs::PURGEABLE)
+    } else if word == b"locked".as_slice() {
+        Some(Attrs::LOCKED)
+    } else if word == b"protected".as_slice() {
+        Some(Attrs::PROTECTED)
+    } else if word == b"preload".as_slice() {
+        Some(Attrs::PRELOAD)
+    } else {
+        None
+    }
+}
+
+impl Reader {
+    /// Makes a reader before the first byte of a source.
+    pub fn new(alloc: Global) -> Reader
+        ensures { state_of result ≡ start }
+    {
+        Reader {
+            mode: Mode::Between,
+            place: Place::Outside,
+            gathered: Vec::new(alloc),
+            ty: OsType([0; 4]),
+            draft: no_draft(alloc),
+            source: Source {
+                area: [0; 240],
+                attrs: 0,
+                groups: Vec::new(alloc),
+            },
+            alloc,
+        }
+    }
+
+    /// Returns the fault of a token that may not stand here.
+    pub fn refuse(&self) -> StepFault
+        ensures { result ≡ Wrong (wanted self.now.place) }
+    {
+        StepFault::Wrong(self.place.wanted())
+    }
+
+    /// Goes on with another part of a token.
+    pub fn go_on(&mut self, mode: Mode)
+        ensures { state_of self.new ≡ in_mode mode (state_of self.old) }
+    {
+        self.mode = mode;
+    }
+
+    /// Takes one more byte of a token.
+    pub fn gather(&mut self, byte: u8, mode: Mode) -> Result<(), StepFault>
+        ensures { Leads result (state_of self.new) (Ok (gathered byte mode (state_of self.old))) }
+    {
+        self.gathered.push(byte)?;
+        self.mode = mode;
+        Ok(())
+    }
+
+    /// Ends a token, and comes to a place of the statement.
+    pub fn come_to(&mut self, place: Place)
+        ensures { state_of self.new ≡ came_to place (state_of self.old) }
+    {
+        self.mode = Mode::Between;
+        self.gathered.clear();
+        self.place = place;
+    }
+
+    /// Adds attributes to those of the resource.
+    fn add_attributes(&mut self, bits: u8)
+        ensures { Ok (state_of self.new) ≡ attributed (Some bits) (state_of self.old) }
+    {
+        self.draft.attrs |= bits;
+        self.come_to(Place::BehindArgument);
+    }
+
+    /// Takes a word as an attribute.
+    pub fn take_attribute(&mut self) -> Result<(), StepFault>
+        ensures { Leads result (state_of self.new) (attributed (attribute self.old.gathered.items) (state_of self.old)) }
+    {
+        match attribute_of(self.gathered.as_slice()) {
+            Some(bits) => {
+                self.add_attributes(bits);
+                Ok(())
+            }
+            None => Err(self.refuse()),
+        }
+    }
+
+    /// Takes a word.
+    #[tactic(auto, unfolding(crate::specs::Tokens::word))]
+    pub fn take_word(&mut self) -> Result<(), StepFault>
+        ensures { Leads result (state_of self.new) (word (state_of self.old)) }
+    {
+        match self.place {
+            Place::Outside => {
+                if self.gathered.as_slice() == b"data".as_slice() {
+                    self.come_to(Place::Type);
+                    Ok(())
+                } else {
+                    Err(self.refuse())
+                }
+            }
+            Place::NameOrAttribute => self.take_attribute(),
+            Place::Attribute => self.take_attribute(),
+            _ => Err(self.refuse()),
+        }
+    }
+
+    /// Takes a type.
+    #[tactic(auto, unfolding(crate::specs::Tokens::type_token))]
+    pub fn take_type(&mut self) -> Result<(), StepFault>
+        ensures { Leads result (state_of self.new) (type_token (state_of self.old)) }
+    {
+        match (self.place, self.gathered.as_slice()) {
+            (Place::Type, [a, b, c, d]) => {
+                self.ty = OsType([*a, *b, *c, *d]);
+                self.come_to(Place::Parenthesis);
+                Ok(())
+            }
+            _ => Err(self.refuse()),
+        }
+    }
+
+    /// Takes the ID of a resource.
+    pub fn take_id(&mut self, id: i16)
+        ensures { state_of self.new ≡ identified id (state_of self.old) }
+    {
+        self.draft.id = id;
+        self.come_to(Place::BehindId);
+    }
+
+    /// Takes a number as attributes.
+    pub fn take_bits(&mut self, number: u16) -> Result<(), StepFault>
+        ensures { Leads result (state_of self.new) (attributes_in number (state_of self.old)) }
+    {
+        if number > 255 {
+            return Err(StepFault::Wrong(FaultKind::AttributesOutOfRange));
+        }
+        self.add_attributes(number as u8);
+        Ok(())
+    }
+
+    /// Takes a number.
+    #[tactic(auto, unfolding(crate::specs::Tokens::number))]
+    pub fn take_number(&mut self, number: u16) -> Result<(), StepFault>
+        ensures { Leads result (state_of self.new) (number_of number (state_of self.old)) }
+    {
+        match self.place {
+            Place::Id => {
+                if number > 32_767 {
+                    return Err(StepFault::Wrong(FaultKind::IdOutOfRange));
+                }
+                self.take_id(number as i16);
+                Ok(())
+            }
+            Place::Negative => {
+                if number > 32_768 {
+                    return Err(StepFault::Wrong(FaultKind::IdOutOfRange));
+                }
+                self.take_id((-(number as i32)) as i16);
+                Ok(())
+            }
+            Place::NameOrAttribute => self.take_bits(number),
+            Place::Attribute => self.take_bits(number),
+            _ => Err(self.refuse()),
+        }
+    }
+
+    /// Takes a name.
+    #[tactic(auto, unfolding(crate::specs::Tokens::name))]
+    pub fn take_name(&mut self) -> Result<(), StepFault>
+        ensures { Leads result (state_of self.new) (name (state_of self.old)) }
+    {
+        match self.place {
+            Place::NameOrAttribute => {
+                if self.gathered.len() > 255 {
+                    return Err(StepFault::Wrong(FaultKind::LongName));
+                }
+                let bytes = replace(&mut self.gathered, Vec::new(self.alloc));
+                self.draft.name = Some(SourceName { bytes });
+                self.come_to(Place::BehindArgument);
+                Ok(())
+            }
+            _ => Err(self.refuse()),
+        }
+    }
+
+    /// Takes a hexadecimal string.
+    #[tactic(auto, unfolding(crate::specs::Tokens::datum))]
+    pub fn take_datum(&mut self) -> Result<(), StepFault>
+        ensures { Leads result (state_of self.new) (datum (state_of self.old)) }
+    {
+        match self.place {
+            Place::Data => {
+                self.draft
+                    .datum
+                    .extend_from_slice(self.gathered.as_slice())?;
+                self.come_to(Place::Data);
+                Ok(())
+            }
+            _ => Err(self.refuse()),
+        }
+    }
+
+    /// Takes the statement as a resource of the content.
+    pub fn take_statement(&mut self) -> Result<(), StepFault>
+        ensures { Leads result (state_of self.new) (Ok (with_statement (state_of self.old))) }
+    {
+        let resource = replace(&mut self.draft, no_draft(self.alloc));
+        add_ref(self.alloc, &mut self.source.groups, self.ty, resource)?;
+        self.ty = OsType([0; 4]);
+        self.come_to(Place::Outside);
+        Ok(())
+    }
+
+    /// Takes a mark where it is the one that is wanted, and comes to a place.
+    pub fn take_one(&mut self, is_it: bool, place: Place) -> Result<(), StepFault>
+        ensures { Leads result (state_of self.new)
+            (if is_it then Ok (came_to place (state_of self.old)) else refused (state_of self.old)) }
+    {
+        if is_it {
+            self.come_to(place);
+            Ok(())
+        } else {
+            Err(self.refuse())
+        }
+    }
+
+    /// Takes a comma, after which comes `place`, or a closing parenthesis.
+    pub fn take_end(&mut self, byte: u8, place: Place) -> Result<(), StepFault>
+        ensures { Leads result (state_of self.new) (if byte == 44 then Ok (came_to place (state_of self.old))
+            else if byte == 41 then Ok (came_to places.Brace (state_of self.old)) else refused (state_of self.old)) }
+    {
+        if byte == b',' {
+            self.come_to(place);
+            Ok(())
+        } else {
+            self.take_one(byte == b')', Place::Brace)
+        }
+    }
+
+    /// Takes a mark, or a byte that begins no token.
+    #[tactic(auto, unfolding(crate::specs::Tokens::mark))]
+    pub fn take_mark(&mut self, byte: u8) -> Result<(), StepFault>
+        ensures { Leads result (state_of self.new) (mark byte (state_of self.old)) }
+    {
+        match self.place {
+            Place::Parenthesis => self.take_one(byte == b'(', Place::Id),
+            Place::Id => self.take_one(byte == b'-', Place::Negative),
+            Place::BehindId => self.take_end(byte, Place::NameOrAttribute),
+            Place::BehindArgument => self.take_end(byte, Place::Attribute),
+            Place::Brace => self.take_one(byte == b'{', Place::Data),
+            Place::Data => self.take_one(byte == b'}', Place::Semicolon),
+            Place::Semicolon => {
+                if byte == b';' {
+                    self.take_statement()
+                } else {
+                    Err(self.refuse())
+                }
+            }
+            _ => Err(self.refuse()),
+        }
+    }
+}

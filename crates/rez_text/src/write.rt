@@ -1,0 +1,421 @@
+//! Printing a content as source.
+
+ghost use Rattle.std.specs.Prelude.{◌≡◌, ◌<◌, ◌≤◌, ◌==◌, ◌++◌, suc, OnOk, IfOk, map, length, take, drop, replicate};
+ghost use Rattle.std.specs.List.{flat_map, list_all};
+ghost use Rattle.std.specs.Fmt.{signed_decimal};
+ghost use Rattle.fork_format.specs.View.{view_name, view_ref, view_group, view};
+ghost use Rattle.rez_text.specs.Printing.{hex_digit, byte_hex, gap, grouped, is_printable as is_printable_of, shown};
+ghost use Rattle.rez_text.specs.Printing.{margin, hex_column, text_column, data_line, data_lines, line_count, escaped};
+ghost use Rattle.rez_text.specs.Printing.{in_quotes, name_argument, word_for, attribute_words, attributes_argument};
+ghost use Rattle.rez_text.specs.Printing.{type_literal, opening, statement_head, statement, group_statements};
+ghost use Rattle.rez_text.specs.Printing.{attributes_comment, attributes_remark, area_line, area_lines, area_comment};
+ghost use Rattle.rez_text.specs.Printing.{area_remark, source_of};
+
+use byteorder::{BigEndian, ByteOrder};
+use fork_format::{Content, Group, Ref, RefName, kind_of};
+use itoa::Buffer;
+use mac_words::Attrs;
+use std::alloc::{AllocError, Global};
+
+/// The most bytes of a line of data.
+const LINE_ROOM: usize = 78;
+
+/// The room for a statement's lines without data.
+const STATEMENT_ROOM: usize = 128;
+
+/// Returns the hexadecimal digit of a value below 16, in upper case.
+fn digit_of(value: u8) -> u8
+    requires { value < 16 }
+    ensures { result ≡ hex_digit value }
+{
+    if value < 10 { b'0' + value } else { 55 + value }
+}
+
+/// Appends a byte in hexadecimal.
+fn push_hex(out: &mut Vec<u8>, byte: u8) -> Result<(), AllocError>
+    ensures { OnOk result (out.new.items ≡ out.old.items ++ byte_hex byte) }
+{
+    out.extend_from_slice(&[digit_of(byte / 16), digit_of(byte % 16)])?;
+    Ok(())
+}
+
+/// Appends the blank that stands before the byte at a place of a line, if one does.
+fn push_gap(out: &mut Vec<u8>, place: usize) -> Result<(), AllocError>
+    ensures { OnOk result (out.new.items ≡ out.old.items ++ gap place) }
+{
+    if 0 < place && place % 2 == 0 {
+        out.push(b' ')?;
+    }
+    Ok(())
+}
+
+/// Appends bytes in hexadecimal, in groups of four digits.
+fn push_grouped(out: &mut Vec<u8>, bytes: &[u8]) -> Result<(), AllocError>
+    ensures { OnOk result (out.new.items ≡ out.old.items ++ grouped 0 bytes.now) }
+{
+    for i in 0..bytes.len() {
+        push_gap(out, i)?;
+        push_hex(out, bytes[i])?;
+    }
+    Ok(())
+}
+
+fn is_printable(byte: u8) -> bool
+    ensures { result ≡ is_printable_of byte }
+{
+    32 <= byte && byte <= 126
+}
+
+fn shown_as(byte: u8) -> u8
+    ensures { result ≡ shown byte }
+{
+    if is_printable(byte) && byte != b'*' {
+        byte
+    } else {
+        b'.'
+    }
+}
+
+/// Appends blanks.
+fn push_blanks(out: &mut Vec<u8>, count: usize) -> Result<(), AllocError>
+    ensures { OnOk result (out.new.items ≡ out.old.items ++ replicate count 32) }
+{
+    for i in 0..count {
+        out.push(b' ')?;
+    }
+    Ok(())
+}
+
+/// Appends the blanks between the hexadecimal string of so many bytes and the comment.
+fn push_margin(out: &mut Vec<u8>, count: usize) -> Result<(), AllocError>
+    requires { count ≤ 16 }
+    ensures { OnOk result (out.new.items ≡ out.old.items ++ margin count) }
+{
+    push_blanks(out, 54 - (3 + 2 * count + count.saturating_sub(1) / 2))
+}
+
+/// Appends bytes as a hexadecimal string.
+fn push_hex_column(out: &mut Vec<u8>, bytes: &[u8]) -> Result<(), AllocError>
+    ensures { OnOk result (out.new.items ≡ out.old.items ++ hex_column bytes.now) }
+{
+    out.extend_from_slice(b"\t$\"")?;
+    push_grouped(out, bytes)?;
+    out.push(b'"')?;
+    Ok(())
+}
+
+/// Appends bytes as they are shown.
+fn push_shown(out: &mut Vec<u8>, bytes: &[u8]) -> Result<(), AllocError>
+    ensures { OnOk result (out.new.items ≡ out.old.items ++ map shown bytes.now) }
+{
+    for byte in bytes {
+        out.push(shown_as(*byte))?;
+    }
+    Ok(())
+}
+
+/// Appends bytes as the text of a comment.
+fn push_text_column(out: &mut Vec<u8>, bytes: &[u8]) -> Result<(), AllocError>
+    ensures { OnOk result (out.new.items ≡ out.old.items ++ text_column bytes.now) }
+{
+    out.extend_from_slice(b"/* ")?;
+    push_shown(out, bytes)?;
+    out.extend_from_slice(b" */\n")?;
+    Ok(())
+}
+
+/// Appends a line of data.
+fn push_data_line(out: &mut Vec<u8>, bytes: &[u8]) -> Result<(), AllocError>
+    requires { length bytes.now ≤ 16 }
+    ensures { OnOk result (out.new.items ≡ out.old.items ++ data_line bytes.now) }
+{
+    push_hex_column(out, bytes)?;
+    push_margin(out, bytes.len())?;
+    push_text_column(out, bytes)
+}
+
+/// Returns the first 16 bytes, or all that there are, and the bytes behind them.
+#[tactic(auto, using(crate::proofs::Appending::take_all, crate::proofs::Appending::drop_all))]
+fn first_line(bytes: &[u8]) -> (&[u8], &[u8])
+    requires { 0 < length bytes.now }
+    ensures line { result.0.now ≡ take 16 bytes.now }
+    ensures rest { result.1.now ≡ drop 16 bytes.now }
+    ensures short { length result.0.now ≤ 16 }
+    ensures shorter { length result.1.now < length bytes.now }
+    ensures count { line_count bytes.now ≡ suc (line_count result.1.now) }
+{
+    if bytes.len() <= 16 {
+        bytes.split_at(bytes.len())
+    } else {
+        bytes.split_at(16)
+    }
+}
+
+/// Appends the lines of a resource's data.
+fn push_data(out: &mut Vec<u8>, datum: &[u8]) -> Result<(), AllocError>
+    ensures { OnOk result (out.new.items ≡ out.old.items ++ data_lines (line_count datum.now) datum.now) }
+{
+    let mut rest = datum;
+    while !rest.is_empty() {
+        let (line, more) = first_line(rest);
+        push_data_line(out, line)?;
+        rest = more;
+    }
+    Ok(())
+}
+
+/// Appends a byte that stands between quotes.
+fn push_escaped(out: &mut Vec<u8>, quote: u8, byte: u8) -> Result<(), AllocError>
+    ensures { OnOk result (out.new.items ≡ out.old.items ++ escaped quote byte) }
+{
+    if byte == quote {
+        out.extend_from_slice(&[b'\\', byte])?;
+    } else if byte == b'\\' {
+        out.extend_from_slice(b"\\\\")?;
+    } else if is_printable(byte) {
+        out.push(byte)?;
+    } else {
+        out.extend_from_slice(&[b'\\', b'0', b'x', digit_of(byte / 16), digit_of(byte % 16)])?;
+    }
+    Ok(())
+}
+
+/// Appends bytes that stand between quotes.
+fn push_all_escaped(out: &mut Vec<u8>, quote: u8, bytes: &[u8]) -> Result<(), AllocError>
+    ensures { OnOk result (out.new.items ≡ out.old.items ++ flat_map (escaped quote) bytes.now) }
+{
+    for byte in bytes {
+        push_escaped(out, quote, *byte)?;
+    }
+    Ok(())
+}
+
+/// Appends bytes between quotes.
+fn push_quoted(out: &mut Vec<u8>, quote: u8, bytes: &[u8]) -> Result<(), AllocError>
+    ensures { OnOk result (out.new.items ≡ out.old.items ++ in_quotes quote bytes.now) }
+{
+    out.push(quote)?;
+    push_all_escaped(out, quote, bytes)?;
+    out.push(quote)?;
+    Ok(())
+}
+
+/// Appends a name behind a comma, where there is one.
+fn push_name(out: &mut Vec<u8>, name: &Option<RefName<'_>>) -> Result<(), AllocError>
+    ensures { OnOk result (out.new.items ≡ out.old.items ++ name_argument (view_name name.now)) }
+{
+    if let Some(name) = name {
+        out.extend_from_slice(b", ")?;
+        push_quoted(out, b'"', name.bytes)?;
+    }
+    Ok(())
+}
+
+/// Appends the word of an attribute behind a comma, where the attributes have its bit.
+fn push_word(out: &mut Vec<u8>, bit: u8, word: &[u8], attrs: u8) -> Result<(), AllocError>
+    ensures { OnOk result (out.new.items ≡ out.old.items ++ word_for bit word.now attrs) }
+{
+    if attrs & bit != 0 {
+        out.extend_from_slice(b", ")?;
+        out.extend_from_slice(word)?;
+    }
+    Ok(())
+}
+
+/// Appends the words of attributes.
+fn push_words(out: &mut Vec<u8>, attrs: u8) -> Result<(), AllocError>
+    ensures { OnOk result (out.new.items ≡ out.old.items ++ attribute_words attrs) }
+{
+    push_word(out, Attrs::SYSTEM_HEAP, b"sysheap", attrs)?;
+    push_word(out, Attrs::PURGEABLE, b"purgeable", attrs)?;
+    push_word(out, Attrs::LOCKED, b"locked", attrs)?;
+    push_word(out, Attrs::PROTECTED, b"protected", attrs)?;
+    push_word(out, Attrs::PRELOAD, b"preload", attrs)
+}
+
+/// Appends attributes by their words, or as a number.
+fn push_attributes(out: &mut Vec<u8>, attrs: u8) -> Result<(), AllocError>
+    ensures { OnOk result (out.new.items ≡ out.old.items ++ attributes_argument attrs) }
+{
+    if attrs & 131 == 0 {
+        push_words(out, attrs)
+    } else {
+        out.extend_from_slice(b", $")?;
+        push_hex(out, attrs)
+    }
+}
+
+/// Appends a type between quotes.
+#[tactic(auto, unfolding(crate::specs::Printing::type_literal))]
+fn push_type(out: &mut Vec<u8>, kind: u32) -> Result<(), AllocError>
+    ensures { OnOk result (out.new.items ≡ out.old.items ++ type_literal kind) }
+{
+    let mut bytes = [0; 4];
+    BigEndian::write_u32(&mut bytes, kind);
+    push_quoted(out, b'\'', &bytes)
+}
+
+/// Appends an ID.
+fn push_id(out: &mut Vec<u8>, id: i16) -> Result<(), AllocError>
+    ensures { OnOk result (out.new.items ≡ out.old.items ++ signed_decimal id) }
+{
+    out.extend_from_slice(Buffer::new().format(id).as_bytes())?;
+    Ok(())
+}
+
+/// Appends the type and the ID of a resource, and what stands before them.
+fn push_type_and_id(out: &mut Vec<u8>, kind: u32, id: i16) -> Result<(), AllocError>
+    ensures { OnOk result (out.new.items ≡ out.old.items
+        ++ opening kind id) }
+{
+    out.extend_from_slice(b"data ")?;
+    push_type(out, kind)?;
+    out.extend_from_slice(b" (")?;
+    push_id(out, id)?;
+    Ok(())
+}
+
+/// Appends what stands before the data of a resource.
+#[tactic(auto, unfolding(crate::specs::Printing::statement_head))]
+fn push_head(out: &mut Vec<u8>, kind: u32, r: &Ref<'_>) -> Result<(), AllocError>
+    ensures { OnOk result (out.new.items ≡ out.old.items ++ statement_head kind (view_ref r.now)) }
+{
+    push_type_and_id(out, kind, r.id)?;
+    push_name(out, &r.name)?;
+    push_attributes(out, r.attrs.0)?;
+    out.extend_from_slice(b") {\n")?;
+    Ok(())
+}
+
+/// Appends a resource as a statement.
+fn push_statement(out: &mut Vec<u8>, kind: u32, r: &Ref<'_>) -> Result<(), AllocError>
+    ensures { OnOk result (out.new.items ≡ out.old.items ++ statement kind (view_ref r.now)) }
+{
+    push_head(out, kind, r)?;
+    push_data(out, r.datum)?;
+    out.extend_from_slice(b"};\n\n")?;
+    Ok(())
+}
+
+/// Appends the resources of a type.
+fn push_group(out: &mut Vec<u8>, group: &Group<'_>) -> Result<(), AllocError>
+    ensures { OnOk result (out.new.items ≡ out.old.items ++ group_statements (view_group group.now)) }
+{
+    let kind = kind_of(group.ty);
+    for r in &group.refs {
+        push_statement(out, kind, r)?;
+    }
+    Ok(())
+}
+
+/// Appends all resources.
+fn push_groups(out: &mut Vec<u8>, groups: &[Group<'_>]) -> Result<(), AllocError>
+    ensures { OnOk result (out.new.items
+        ≡ out.old.items ++ flat_map group_statements (map view_group groups.now)) }
+{
+    for group in groups {
+        push_group(out, group)?;
+    }
+    Ok(())
+}
+
+/// Appends the attributes of the map as a comment.
+fn push_attributes_comment(out: &mut Vec<u8>, attrs: u16) -> Result<(), AllocError>
+    ensures { OnOk result (out.new.items ≡ out.old.items ++ attributes_comment attrs) }
+{
+    out.extend_from_slice(b"/* map attributes $")?;
+    push_hex(out, (attrs / 256) as u8)?;
+    push_hex(out, (attrs % 256) as u8)?;
+    out.extend_from_slice(b" */\n")?;
+    Ok(())
+}
+
+/// Appends the attributes of the map, where they aren't 0.
+fn push_map_attributes(out: &mut Vec<u8>, attrs: u16) -> Result<(), AllocError>
+    ensures { OnOk result (out.new.items ≡ out.old.items ++ attributes_remark attrs) }
+{
+    if attrs != 0 {
+        push_attributes_comment(out, attrs)?;
+    }
+    Ok(())
+}
+
+/// Appends a line of bytes within a comment.
+fn push_area_line(out: &mut Vec<u8>, bytes: &[u8]) -> Result<(), AllocError>
+    ensures { OnOk result (out.new.items ≡ out.old.items ++ area_line bytes.now) }
+{
+    out.extend_from_slice(b"\n\t")?;
+    push_grouped(out, bytes)
+}
+
+/// Appends lines of bytes within a comment.
+fn push_area_lines(out: &mut Vec<u8>, area: &[u8]) -> Result<(), AllocError>
+    ensures { OnOk result (out.new.items ≡ out.old.items ++ area_lines (line_count area.now) area.now) }
+{
+    let mut rest = area;
+    while !rest.is_empty() {
+        let (line, more) = first_line(rest);
+        push_area_line(out, line)?;
+        rest = more;
+    }
+    Ok(())
+}
+
+/// Appends the bytes behind the header as a comment.
+fn push_area_comment(out: &mut Vec<u8>, area: &[u8]) -> Result<(), AllocError>
+    ensures { OnOk result (out.new.items ≡ out.old.items ++ area_comment area.now) }
+{
+    out.extend_from_slice(b"/* header bytes")?;
+    push_area_lines(out, area)?;
+    out.extend_from_slice(b"\n*/\n")?;
+    Ok(())
+}
+
+fn is_zero(byte: u8) -> bool
+    ensures { result ≡ (byte == 0) }
+{
+    byte == 0
+}
+
+/// Reports whether all bytes are 0.
+fn are_zero(bytes: &[u8]) -> bool
+    ensures { result ≡ list_all (λ b. b == 0) bytes.now }
+{
+    bytes.iter().all(|b| is_zero(*b))
+}
+
+/// Appends the bytes behind the header, where they aren't all 0.
+fn push_area(out: &mut Vec<u8>, area: &[u8]) -> Result<(), AllocError>
+    ensures { OnOk result (out.new.items ≡ out.old.items ++ area_remark area.now) }
+{
+    if !are_zero(area) {
+        push_area_comment(out, area)?;
+    }
+    Ok(())
+}
+
+/// Returns about how many bytes the source of resources has.
+fn room_for(groups: &[Group<'_>]) -> usize {
+    let mut room: usize = 2048;
+    for group in groups {
+        for r in &group.refs {
+            let lines = (r.datum.len() / 16).saturating_add(1);
+            room = room.saturating_add(STATEMENT_ROOM);
+            room = room.saturating_add(lines.saturating_mul(LINE_ROOM));
+        }
+    }
+    room
+}
+
+/// Prints a content as source of Rez: a statement `data` for each resource, in order of types and resources. The
+/// attributes of the map and the 240 bytes behind the header stand before them as comments, where they aren't 0.
+#[tactic(auto, unfolding(crate::specs::Printing::source_of))]
+pub fn write_source(alloc: Global, content: &Content<'_>) -> Result<Vec<u8>, AllocError>
+    ensures { IfOk result (λ source. source.items ≡ source_of (view content.now)) }
+{
+    let mut out = Vec::with_capacity(alloc, room_for(content.groups.as_slice()))?;
+    push_map_attributes(&mut out, content.attrs)?;
+    push_area(&mut out, &content.area)?;
+    push_groups(&mut out, content.groups.as_slice())?;
+    Ok(out)
+}
