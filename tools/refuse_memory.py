@@ -9,7 +9,7 @@ each N until a run meets no refusal: once that allocation alone, and once each f
 whole one, or where its status is 1, it prints nothing, its standard error is the line 'macmem: no host memory', and it leaves what
 it is to leave:
 
-- `script`, `map` and `check` leave nothing.
+- Commands other than `run` leave nothing.
 - `run` leaves nothing while it reads its input, and then just what has happened until the refusal: all that a job of the launches,
   steps and quits before it leaves, but for the lines `fork` of desk.log. These shorter jobs are run without a refusal, and their logs
   are to be fronts, by whole lines, of those of the whole run. Which events had happened is told by a run without a refusal, by
@@ -39,7 +39,7 @@ MODES = {"REFUSE_AT": "allocation {} refused", "REFUSE_FROM": "allocation {} and
 OPTIONS = {"--counts", "--all"}
 # What the library counts: allocations, refusals, writes to the standard error, and the allocations before each of these.
 COUNTS = struct.Struct("131Q")
-COMMANDS = ["script"], ["run"], ["map"], ["check"]
+COMMANDS = ["script"], ["run"], ["map"], ["check"], ["get"], ["set"], ["diff"], ["rewrite"], ["derez"], ["rez"]
 EVENTS = (b"launch", b"step", b"turn", b"quit", b"rest")
 INPUTS = (b"system", b"app", b"file")
 # Parts of an archive that say what its command does; a command with one of the first is not done, or is not compared here.

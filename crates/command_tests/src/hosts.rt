@@ -62,7 +62,7 @@ fn done(
         printed: Vec::new(alloc),
     };
     let told = match tool(alloc, words, &mut host, &mut Unwatched) {
-        Ok(()) => String::new(alloc),
+        Ok(_) => String::new(alloc),
         Err(fault) => fault.to_string(alloc)?,
     };
     Ok((host.printed, told))

@@ -40,7 +40,7 @@ stop_then r next HostMemory stops = tt
 stop_then r next (Usage text) stops = ap (λ x. given_then x next) stops
 stop_then r next (CannotRead path) stops = ap (λ x. given_then x next) stops
 stop_then r next (Script path line kind) stops = ap (λ x. given_then x next) stops
-stop_then r next (Fork path code) stops = ap (λ x. given_then x next) stops
+stop_then r next (Fork path fault) stops = ap (λ x. given_then x next) stops
 stop_then r next (CannotWrite path) stops = ap (λ x. given_then x next) stops
 
 -- the fault of a call that stopped is passed on

@@ -1,12 +1,34 @@
-use Rattle.std.proofs.Common.{◌≡◌, ◌↔◌, Result, Err, rules}
-use Rattle.fork_format.specs.declared.fault.ForkFault.{ForkFault}
-use Rattle.fork_format.specs.declared.fault.ForkFault.TheVariants as fork_fault
+use Rattle.std.proofs.Common.{◌≡◌, ℕ, List, Option, Result, refl, sym, subst}
+use Rattle.fork_commands.specs.declared.fault.FileFault.{FileFault}
+use Rattle.fork_commands.specs.declared.fault.WorkFault.{WorkFault}
+use Rattle.fork_commands.specs.declared.fault.WorkFault.TheVariants.{File, HostMemory as NoMemory}
+use Rattle.fork_commands.specs.Faults.{Stops}
+use Rattle.commands.specs.Fault.{Message, Usage, CannotRead, Script, Fork, CannotWrite, HostMemory}
+use Rattle.commands.specs.Accesses.{IsTold}
+use Rattle.commands.specs.Tasks.{fork_message, IsForkFault, IsQuiet}
 
--- what a fault says stays so as it is passed on
+-- What a fault says stays so as it is passed on.
 
-pub bad_map_kept : (A B : Type 0) (P : Type 0) (e : ForkFault)
-    → (◌≡◌ {A = Result A ForkFault} (Err e) (Err fork_fault.BadMap) ↔ P)
-    → (◌≡◌ {A = Result B ForkFault} (Err e) (Err fork_fault.BadMap) ↔ P)
-bad_map_kept A B P fork_fault.Empty h = search (rules, h)
-bad_map_kept A B P fork_fault.BadMap h = search (rules, h)
-bad_map_kept A B P fork_fault.HostMemory h = search (rules, h)
+-- the fault of a file's bytes is told with the file's path
+pub fork_stopped : {A : Type 0} (path : List ℕ) (fault : WorkFault) (wanted : Result A FileFault) (told : Message)
+    → Stops fault wanted → told ≡ fork_message path fault → IsForkFault path wanted told
+fork_stopped path NoMemory wanted told stops is = subst (λ m. IsForkFault path wanted m) (sym is) tt
+fork_stopped path (File fault) wanted told stops is = subst (λ m. IsForkFault path wanted m) (sym is) (refl, stops)
+
+-- nothing is said of what was printed where something can't be written
+pub loud_write : (path : List ℕ) (p q : Option (List ℕ)) (told : Message) → IsTold (CannotWrite path) told → IsQuiet p q told
+loud_write path p q HostMemory is = tt
+loud_write path p q (CannotWrite named) is = tt
+loud_write path p q (Fork named fault) is = absurd (let no : Fork named fault ≡ CannotWrite path = is in cc)
+loud_write path p q (Usage text) is = absurd (let no : Usage text ≡ CannotWrite path = is in cc)
+loud_write path p q (CannotRead named) is = absurd (let no : CannotRead named ≡ CannotWrite path = is in cc)
+loud_write path p q (Script named line kind) is = absurd (let no : Script named line kind ≡ CannotWrite path = is in cc)
+
+-- nothing was printed
+pub quiet_silent : (p q : Option (List ℕ)) (told : Message) → q ≡ p → IsQuiet p q told
+quiet_silent p q HostMemory same = tt
+quiet_silent p q (CannotWrite named) same = tt
+quiet_silent p q (Fork named fault) same = same
+quiet_silent p q (Usage text) same = same
+quiet_silent p q (CannotRead named) same = same
+quiet_silent p q (Script named line kind) same = same

@@ -1,10 +1,13 @@
 mod Accesses
 mod Digits
-mod Faults
+pub mod Faults
+pub mod Forks
 mod Inputs
 mod Jobs
 mod Numerals
+mod OneFile
+mod Owners
 mod Printing
+pub mod TwoFiles
 mod Wholes
 mod Writes
-mod Owners

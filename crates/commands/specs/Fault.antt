@@ -1,7 +1,8 @@
 use Rattle.std.specs.Prelude.{ℕ, ℤ, pos, List, [], string_bytes}
-use Rattle.mac_words.specs.declared.code.OsErr.{OsErr}
 use Rattle.script_text.specs.Fault as script
 use Rattle.script_text.specs.declared.fault.FaultKind.{FaultKind}
+use Rattle.fork_commands.specs.declared.fault.FileFault.{FileFault}
+use Rattle.fork_commands.specs.Faults as file
 use Rattle.commands.specs.declared.fault.ToolFault.{ToolFault}
 use Rattle.commands.specs.declared.fault.ToolFault.TheVariants as fault
 
@@ -12,7 +13,7 @@ pub data Message : Type 0 where
   Usage : (text : List ℕ) → Message
   CannotRead : (path : List ℕ) → Message
   Script : (path : List ℕ) → (line : ℕ) → (kind : FaultKind) → Message
-  Fork : (path : List ℕ) → (code : OsErr) → Message
+  Fork : (path : List ℕ) → (fault : FileFault) → Message
   CannotWrite : (path : List ℕ) → Message
   HostMemory : Message
 
@@ -20,7 +21,7 @@ abbrev pub message_of : ToolFault → Message
 message_of (fault.Usage text) = Usage (string_bytes text)
 message_of (fault.CannotRead path) = CannotRead (string_bytes path)
 message_of (fault.Script path line kind) = Script (string_bytes path) line kind
-message_of (fault.Fork path code) = Fork (string_bytes path) code
+message_of (fault.Fork path why) = Fork (string_bytes path) why
 message_of (fault.CannotWrite path) = CannotWrite (string_bytes path)
 message_of fault.HostMemory = HostMemory
 
@@ -29,7 +30,7 @@ abbrev pub IsUsage : Message → Type 0
 IsUsage (Usage text) = Unit {0}
 IsUsage (CannotRead path) = ⊥
 IsUsage (Script path line kind) = ⊥
-IsUsage (Fork path code) = ⊥
+IsUsage (Fork path why) = ⊥
 IsUsage (CannotWrite path) = ⊥
 IsUsage HostMemory = Unit {0}
 
@@ -38,7 +39,7 @@ abbrev pub kind_of : ToolFault → ℕ
 kind_of (fault.Usage text) = 0
 kind_of (fault.CannotRead path) = 1
 kind_of (fault.Script path line kind) = 2
-kind_of (fault.Fork path code) = 3
+kind_of (fault.Fork path why) = 3
 kind_of (fault.CannotWrite path) = 4
 kind_of fault.HostMemory = 5
 
@@ -47,7 +48,7 @@ abbrev pub status_of : ToolFault → ℕ
 status_of (fault.Usage text) = 2
 status_of (fault.CannotRead path) = 1
 status_of (fault.Script path line kind) = 1
-status_of (fault.Fork path code) = 1
+status_of (fault.Fork path why) = 1
 status_of (fault.CannotWrite path) = 1
 status_of fault.HostMemory = 1
 
@@ -56,25 +57,25 @@ abbrev pub path_of : ToolFault → List ℕ
 path_of (fault.Usage text) = []
 path_of (fault.CannotRead path) = string_bytes path
 path_of (fault.Script path line kind) = string_bytes path
-path_of (fault.Fork path code) = string_bytes path
+path_of (fault.Fork path why) = string_bytes path
 path_of (fault.CannotWrite path) = string_bytes path
 path_of fault.HostMemory = []
 
--- The line of the script.
+-- The line of the script, or of the source.
 abbrev pub line_of : ToolFault → ℕ
 line_of (fault.Usage text) = 0
 line_of (fault.CannotRead path) = 0
 line_of (fault.Script path line kind) = line
-line_of (fault.Fork path code) = 0
+line_of (fault.Fork path why) = file.line_of why
 line_of (fault.CannotWrite path) = 0
 line_of fault.HostMemory = 0
 
--- The number of the script's fault, or the fork's result code.
+-- The number of the script's fault, or of the fault of a file's bytes.
 abbrev pub number_of : ToolFault → ℤ
 number_of (fault.Usage text) = pos 0
 number_of (fault.CannotRead path) = pos 0
 number_of (fault.Script path line kind) = pos (script.number_of kind)
-number_of (fault.Fork path code) = code.0
+number_of (fault.Fork path why) = file.number_of why
 number_of (fault.CannotWrite path) = pos 0
 number_of fault.HostMemory = pos 0
 
@@ -83,6 +84,6 @@ abbrev pub text_of : ToolFault → List ℕ
 text_of (fault.Usage text) = string_bytes text
 text_of (fault.CannotRead path) = []
 text_of (fault.Script path line kind) = []
-text_of (fault.Fork path code) = []
+text_of (fault.Fork path why) = []
 text_of (fault.CannotWrite path) = []
 text_of fault.HostMemory = []

@@ -3,12 +3,14 @@ use Rattle.std.specs.Prelude.{List, [], ◌∷◌, ◌++◌, map, drop}
 use Rattle.script_text.specs.declared.fault.FaultKind.{FaultKind}
 use Rattle.script_text.specs.Job.{Input, System, App as AppLine, File}
 use Rattle.script_text.specs.Script.{Spelled, script_of, spelled}
+use Rattle.fork_commands.specs.declared.fault.FileFault.{FileFault}
+use Rattle.fork_commands.specs.Reading.{fork_in}
 use Rattle.desk.specs.declared.job.App.{App}
 use Rattle.desk.specs.declared.job.AppFile.{AppFile}
 use Rattle.desk.specs.declared.job.Job.{Job}
 use Rattle.commands.specs.declared.fault.ToolFault.{ToolFault}
 use Rattle.commands.specs.declared.gathering.Gathered.{Gathered}
-use Rattle.commands.specs.Fault.{Message, CannotRead, Script, HostMemory, message_of}
+use Rattle.commands.specs.Fault.{Message, CannotRead, Script, Fork, HostMemory, message_of}
 use Rattle.commands.specs.Accesses.{Access, and_then, reads_at}
 
 -- What the lines of a job name.
@@ -64,10 +66,15 @@ abbrev pub given_then : {A B : Type 0} → Result A Message → (A → Result B 
 given_then (Ok given) next = next given
 given_then (Err fault) next = Err fault
 
--- The first of these texts is a fork. Without a text the path can't be read.
+-- A fork that was found in a file, or how the file's wrapper is damaged.
+abbrev pub fork_told : List ℕ → Result (List ℕ) FileFault → Result (List ℕ) Message
+fork_told path (Ok fork) = Ok fork
+fork_told path (Err fault) = Err (Fork path fault)
+
+-- The first of these texts is a file with a fork. Without a text the path can't be read.
 abbrev pub fork_at : List ℕ → List (List ℕ) → Result (List ℕ) Message
 fork_at path [] = Err (CannotRead path)
-fork_at path (bytes ∷ texts) = Ok bytes
+fork_at path (bytes ∷ texts) = fork_told path (fork_in bytes)
 
 -- A script that was read, or its first faulty line.
 abbrev pub script_told : List ℕ → Result Spelled (ℕ × FaultKind) → Result Spelled Message
@@ -79,11 +86,15 @@ abbrev pub script_at : List ℕ → List (List ℕ) → Result Spelled Message
 script_at path [] = Err (CannotRead path)
 script_at path (text ∷ texts) = script_told path (script_of text)
 
+-- An application, with its fork and its script.
+abbrev pub app_of : List ℕ → Result (List ℕ) Message → Result Spelled Message → Result GivenApp Message
+app_of name fork script =
+    given_then fork (λ bytes. given_then script (λ spelled.
+    Ok (record { name = name; fork = bytes; files = []; script = spelled })))
+
 -- An application, from the texts at the paths of its fork and its script.
 abbrev pub app_at : List ℕ → List ℕ → List ℕ → List (List ℕ) → Result GivenApp Message
-app_at name fork script texts =
-    given_then (fork_at fork texts) (λ bytes. given_then (script_at script (drop 1 texts)) (λ spelled.
-    Ok (record { name = name; fork = bytes; files = []; script = spelled })))
+app_at name fork script texts = app_of name (fork_at fork texts) (script_at script (drop 1 texts))
 
 -- A file of an application, from the text at its path.
 abbrev pub file_at : List ℕ → List ℕ → List (List ℕ) → Result GivenFile Message

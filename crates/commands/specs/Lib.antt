@@ -8,4 +8,8 @@ pub mod Tasks
 pub mod Outputs
 pub mod Gathering
 pub mod Running
+pub mod Ending
+pub mod Delivering
+pub mod Converting
+pub mod Combining
 pub mod Doing

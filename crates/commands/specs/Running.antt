@@ -2,6 +2,7 @@ use Rattle.std.specs.Prelude.{◌≡◌, ℕ, true, false, Option, Ok, Err, List
 use Rattle.script_text.specs.Job.{Job as TextJob, job_of}
 use Rattle.desk.specs.declared.job.Job.{Job}
 use Rattle.desk.specs.Outcome.{Outcome}
+use Rattle.fork_commands.specs.declared.fault.FileFault.TheVariants.{Code}
 use Rattle.desk.specs.Whole.{system_of, LeftByRun}
 use Rattle.commands.specs.Fault.{Message, CannotRead, Script, Fork, HostMemory}
 use Rattle.commands.specs.Accesses.{Access, Read, Folder, Write, and_then, IsTold, StopsAmong}
@@ -45,7 +46,7 @@ IsJobFault path text told = ⊥
 -- The fault of a run that leaves nothing is that the fork of the System file, which was read at this path, is no fork.
 abbrev pub IsRunFault : List ℕ → Job → Message → Type 0
 IsRunFault system job HostMemory = Unit {0}
-IsRunFault system job (Fork named code) = (named ≡ system) × (system_of job ≡ Err code)
+IsRunFault system job (Fork named (Code code)) = (named ≡ system) × (system_of job ≡ Err code)
 IsRunFault system job told = ⊥
 
 -- What a run leaves that did not stop was written into a folder.

@@ -1,13 +1,12 @@
-use Rattle.std.specs.Prelude.{◌≡◌, ◌≢◌, ◌⊎◌, ℕ, Option, Some, None, Err, List, [], codes}
+use Rattle.std.specs.Prelude.{◌≡◌, ◌⊎◌, ℕ, Option, Result, Err, List, codes}
 use Rattle.std.specs.Io.KnownBytes.{append_known}
-use Rattle.mac_words.specs.declared.code.OsErr.{OsErr}
 use Rattle.script_text.specs.declared.fault.FaultKind.{FaultKind}
 use Rattle.script_text.specs.declared.fault.FaultKind.TheVariants as kinds
 use Rattle.script_text.specs.Script.{script_of}
-use Rattle.fork_format.specs.declared.fault.ForkFault.{ForkFault}
-use Rattle.fork_format.specs.declared.fault.ForkFault.TheVariants as fork_fault
-use Rattle.fork_format.specs.Code.{read_code}
-use Rattle.fork_format.specs.Fork.{IsUnspelled}
+use Rattle.fork_commands.specs.declared.fault.FileFault.{FileFault}
+use Rattle.fork_commands.specs.declared.fault.WorkFault.{WorkFault}
+use Rattle.fork_commands.specs.declared.fault.WorkFault.TheVariants as work_fault
+use Rattle.fork_commands.specs.Reading.{content_in}
 use Rattle.commands.specs.Fault.{Message, Usage, CannotRead, Script, Fork, CannotWrite, HostMemory}
 use Rattle.fork_format.specs.View.{view}
 use Rattle.commands.specs.Listing.{listing}
@@ -30,14 +29,10 @@ script_message path line kinds.BadArgument = Script path line kinds.BadArgument
 script_message path line kinds.NotAllowed = Script path line kinds.NotAllowed
 script_message path line kinds.LongLine = Script path line kinds.LongLine
 
--- A result code, with the fork's path.
-abbrev pub code_message : List ℕ → Option OsErr → Message
-code_message path None = HostMemory
-code_message path (Some code) = Fork path code
-
--- The fault of a resource fork, with the fork's path.
-abbrev pub fork_message : List ℕ → ForkFault → Message
-fork_message path fault = code_message path (read_code fault)
+-- The fault of the bytes of a file, with the file's path.
+abbrev pub fork_message : List ℕ → WorkFault → Message
+fork_message path work_fault.HostMemory = HostMemory
+fork_message path (work_fault.File fault) = Fork path fault
 
 -- The fault of a script's text is its first faulty line; if the host is out of memory nothing is said of the text.
 abbrev pub IsScriptFault : List ℕ → List ℕ → Message → Type 0
@@ -45,38 +40,29 @@ IsScriptFault path text HostMemory = Unit {0}
 IsScriptFault path text (Script named line kind) = (named ≡ path) × (script_of text ≡ Err (line, kind))
 IsScriptFault path text (Usage message) = ⊥
 IsScriptFault path text (CannotRead named) = ⊥
-IsScriptFault path text (Fork named code) = ⊥
+IsScriptFault path text (Fork named fault) = ⊥
 IsScriptFault path text (CannotWrite named) = ⊥
 
--- The result code says why bytes are no fork: there are no bytes, or they spell no content.
-abbrev pub TellsBytes : List ℕ → OsErr → Type 0
-TellsBytes bytes code = (fault : ForkFault) × (read_code fault ≡ Some code) × IsWhy bytes fault
-  where
-    IsWhy : List ℕ → ForkFault → Type 0
-    IsWhy bytes fork_fault.Empty = bytes ≡ []
-    IsWhy bytes fork_fault.BadMap = (bytes ≢ []) × IsUnspelled bytes
-    IsWhy bytes fork_fault.HostMemory = ⊥
-
--- The fault of a fork's bytes.
-abbrev pub IsForkFault : List ℕ → List ℕ → Message → Type 0
-IsForkFault path bytes HostMemory = Unit {0}
-IsForkFault path bytes (Fork named code) = (named ≡ path) × TellsBytes bytes code
-IsForkFault path bytes (Usage message) = ⊥
-IsForkFault path bytes (CannotRead named) = ⊥
-IsForkFault path bytes (Script named line kind) = ⊥
-IsForkFault path bytes (CannotWrite named) = ⊥
+-- The fault of the bytes of a file of which something is wanted; if the host is out of memory nothing is said of them.
+abbrev pub IsForkFault : {A : Type 0} → List ℕ → Result A FileFault → Message → Type 0
+IsForkFault path wanted HostMemory = Unit {0}
+IsForkFault path wanted (Fork named fault) = (named ≡ path) × (wanted ≡ Err fault)
+IsForkFault path wanted (Usage message) = ⊥
+IsForkFault path wanted (CannotRead named) = ⊥
+IsForkFault path wanted (Script named line kind) = ⊥
+IsForkFault path wanted (CannotWrite named) = ⊥
 
 -- What is printed of a file's bytes.
 abbrev pub IsPrinted : Work → List ℕ → List ℕ → Type 0
 IsPrinted (work.Script size) bytes out = IsTranscriptOf size.bytes bytes out
-IsPrinted work.Map bytes out = IsListingOf bytes out
+IsPrinted (work.Map style) bytes out = IsListingOf style bytes out
 IsPrinted work.Check bytes out = IsFormText bytes out
 
 -- The fault of a file's bytes.
 abbrev pub IsFault : Work → List ℕ → List ℕ → Message → Type 0
 IsFault (work.Script size) path bytes message = IsScriptFault path bytes message
-IsFault work.Map path bytes message = IsForkFault path bytes message
-IsFault work.Check path bytes message = IsForkFault path bytes message
+IsFault (work.Map style) path bytes message = IsForkFault path (content_in bytes) message
+IsFault work.Check path bytes message = IsForkFault path (content_in bytes) message
 
 -- The fault of output that could not be written, with its path.
 abbrev pub write_message : List ℕ → WriteError → Message
@@ -86,7 +72,7 @@ write_message path write_error.HostMemory = HostMemory
 -- The text of an output.
 abbrev pub output_text : Output → List ℕ
 output_text (output.Transcript text) = text.items
-output_text (output.Listing content) = listing (view content)
+output_text (output.Listing l) = listing l.style l.wrapping (view l.content)
 output_text (output.Form form) = text_of form
 
 -- All that a task prints of a file's bytes was printed.

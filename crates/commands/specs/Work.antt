@@ -2,9 +2,11 @@ use Rattle.std.specs.Prelude.{◌≡◌, ℕ, Ok, List, IsTrue, codes}
 use Rattle.script_text.specs.Script.{ScriptParts, script_of, spelled}
 use Rattle.applications.specs.Alone.{script_alone}
 use Rattle.fork_format.specs.Content.{Content}
-use Rattle.fork_format.specs.Fork.{is_fork, content_of}
 use Rattle.fork_format.specs.Canonical.{canon, fits}
+use Rattle.fork_wrappers.specs.Unwrapped.{wrapping_of}
+use Rattle.fork_commands.specs.Reading.{content_of_fork, fork_in, content_in}
 use Rattle.commands.specs.Listing.{listing}
+use Rattle.commands.specs.declared.listing.MapStyle.{MapStyle}
 use Rattle.commands.specs.declared.work.Form.{Form}
 use Rattle.commands.specs.declared.work.Form.TheVariants.{Canonical, Accepted}
 
@@ -14,9 +16,9 @@ abbrev pub IsTranscriptOf : ℕ → List ℕ → List ℕ → Type 0
 IsTranscriptOf n text out =
     (script : ScriptParts) × (script_of text ≡ Ok (spelled script)) × (out ≡ (script_alone n script).transcript)
 
--- The listing of a resource fork: that of the content which its bytes spell.
-abbrev pub IsListingOf : List ℕ → List ℕ → Type 0
-IsListingOf bytes out = IsTrue (is_fork bytes) × (out ≡ listing (content_of bytes))
+-- The listing of the resource fork in the bytes of a file: that of the content which the fork's bytes spell.
+abbrev pub IsListingOf : MapStyle → List ℕ → List ℕ → Type 0
+IsListingOf style bytes out = (c : Content) × (content_in bytes ≡ Ok c) × (out ≡ listing style (wrapping_of bytes) c)
 
 -- What bytes are to a content that they spell: its canonical fork, or another fork.
 -- See decision 130 (`check` accepts a fork that cannot be written back).
@@ -25,8 +27,12 @@ TellsForm Canonical c bytes = IsTrue (fits c) × (bytes ≡ canon c)
 TellsForm Accepted c bytes = ¬ (IsTrue (fits c) × (bytes ≡ canon c))
 
 -- The form of a resource fork: what its bytes are to the content that they spell.
+abbrev pub IsForkForm : List ℕ → Form → Type 0
+IsForkForm fork form = (c : Content) × (content_of_fork fork ≡ Ok c) × TellsForm form c fork
+
+-- The form of the resource fork in the bytes of a file.
 abbrev pub IsFormOf : List ℕ → Form → Type 0
-IsFormOf bytes form = IsTrue (is_fork bytes) × TellsForm form (content_of bytes) bytes
+IsFormOf bytes form = (fork : List ℕ) × (fork_in bytes ≡ Ok fork) × IsForkForm fork form
 
 -- The line that is printed for a form.
 abbrev pub text_of : Form → List ℕ

@@ -1,19 +1,25 @@
 //! From the words of the command line to what is printed or written: the words ask for a task, whose file is read and
-//! whose bytes are worked on, or for a job to be run. Between the words and the host stand only `tasks::do_task` and
-//! `running::run_job`.
+//! whose bytes are worked on, for a job to be run, or for something to be made of one file or of two. Between the words and
+//! the host stand only `tasks::do_task`, `running::run_job`, `converting::convert` and `combining::combine`.
 
-ghost use Rattle.std.specs.Prelude.{◌≡◌, IfErr, OnOk};
-ghost use Rattle.commands.specs.declared.words.Request.{Request};
+ghost use Rattle.std.specs.Prelude.{◌≡◌, IfErr, IfOk};
+ghost use Rattle.commands.specs.declared.request.Request.{Request};
+ghost use Rattle.commands.specs.declared.ending.Ending.TheVariants.{Done};
 ghost use Rattle.commands.specs.Fault.{message_of};
 ghost use Rattle.commands.specs.Tasks.{IsQuiet};
+ghost use Rattle.commands.specs.Running.{Runs, IsStopped};
 ghost use Rattle.commands.specs.Doing.{Looks, IsUnseen, IsDone, IsUndone, IsNotDone};
 
+use crate::combining::combine;
+use crate::converting::convert;
+use crate::ending::Ending;
 use crate::fault::ToolFault;
 use crate::host::Host;
 use crate::input::read_input;
-use crate::running::run_job;
+use crate::request::Request;
+use crate::running::{Errand, run_job};
 use crate::tasks::{Task, do_task};
-use crate::words::{Request, read_words};
+use crate::words::read_words;
 use applications::Watch;
 use std::alloc::Global;
 
@@ -23,8 +29,8 @@ fn look<H: Host, W: Watch>(
     host: &mut H,
     task: Task<'_>,
     watch: &mut W,
-) -> Result<(), ToolFault>
-    ensures done { OnOk result (Looks task.entry (H.printed host.old) (H.printed host.new)
+) -> Result<Ending, ToolFault>
+    ensures done { IfOk result (λ ending. (ending ≡ Done) × Looks task.entry (H.printed host.old) (H.printed host.new)
         (H.accesses host.old) (H.accesses host.new)) }
     ensures undone { IfErr result (λ fault. IsUnseen task.entry (H.printed host.old) (H.printed host.new)
         (H.accesses host.old) (H.accesses host.new) (message_of fault)) }
@@ -32,7 +38,25 @@ fn look<H: Host, W: Watch>(
 {
     let bytes = read_input(alloc, host, task.path)?;
     do_task(alloc, host, task, bytes.as_slice(), watch)?;
-    Ok(())
+    Ok(Ending::Done)
+}
+
+/// Runs a job.
+fn run<H: Host, W: Watch>(
+    alloc: Global,
+    host: &mut H,
+    errand: Errand<'_>,
+    watch: &mut W,
+) -> Result<Ending, ToolFault>
+    ensures done { IfOk result (λ ending. (ending ≡ Done) × (H.printed host.new ≡ H.printed host.old)
+        × Runs errand.entry.job.now errand.entry.out.now (H.accesses host.old) (H.accesses host.new)) }
+    ensures undone { IfErr result (λ fault. (H.printed host.new ≡ H.printed host.old)
+        × IsStopped errand.entry.job.now errand.entry.out.now (H.accesses host.old) (H.accesses host.new)
+        (message_of fault)) }
+    ensures quiet { IfErr result (λ fault. IsQuiet (H.printed host.old) (H.printed host.new) (message_of fault)) }
+{
+    run_job(alloc, host, errand, watch)?;
+    Ok(Ending::Done)
 }
 
 /// Does what is asked for.
@@ -41,8 +65,8 @@ fn perform<H: Host, W: Watch>(
     host: &mut H,
     request: Request<'_>,
     watch: &mut W,
-) -> Result<(), ToolFault>
-    ensures done { OnOk result (IsDone request.entry (H.printed host.old) (H.printed host.new)
+) -> Result<Ending, ToolFault>
+    ensures done { IfOk result (λ ending. IsDone request.entry ending (H.printed host.old) (H.printed host.new)
         (H.accesses host.old) (H.accesses host.new)) }
     ensures undone { IfErr result (λ fault. IsUndone request.entry (H.printed host.old) (H.printed host.new)
         (H.accesses host.old) (H.accesses host.new) (message_of fault)) }
@@ -50,7 +74,9 @@ fn perform<H: Host, W: Watch>(
 {
     match request {
         Request::Look(task) => look(alloc, host, task, watch),
-        Request::Run(errand) => run_job(alloc, host, errand, watch),
+        Request::Run(errand) => run(alloc, host, errand, watch),
+        Request::Convert(conversion) => convert(alloc, host, conversion),
+        Request::Combine(combination) => combine(alloc, host, combination),
     }
 }
 
@@ -62,10 +88,10 @@ pub fn tool<H: Host, W: Watch>(
     words: &[&str],
     host: &mut H,
     watch: &mut W,
-) -> Result<(), ToolFault>
+) -> Result<Ending, ToolFault>
     // What a request asks for is done: its file is read and all that it prints of the bytes is printed, or its job is
     // run and what the job leaves is written.
-    ensures done { OnOk result ((request : Request) × IsDone request (H.printed host.old) (H.printed host.new)
+    ensures done { IfOk result (λ ending. (request : Request) × IsDone request ending (H.printed host.old) (H.printed host.new)
         (H.accesses host.old) (H.accesses host.new)) }
 
     // The words ask for nothing, and nothing is done; or a request is done up to the first fault.

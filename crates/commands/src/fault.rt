@@ -4,7 +4,7 @@ ghost use Rattle.std.specs.Prelude.{◌≡◌};
 ghost use Rattle.commands.specs.Fault.{kind_of, status_of, path_of, line_of, number_of, text_of};
 ghost use Rattle.commands.specs.declared.fault.ToolFault.TheVariants.{HostMemory};
 
-use mac_words::OsErr;
+use fork_commands::FileFault;
 use script_text::FaultKind;
 use std::alloc::AllocError;
 use thiserror::Error;
@@ -35,13 +35,13 @@ pub enum ToolFault {
         /// The kind of the fault.
         kind: FaultKind,
     },
-    /// Bytes are no resource fork.
-    #[error("macmem: {path}: fork {}", .code.number())]
+    /// Nothing can be made of the bytes of a file, as of bytes that are no resource fork.
+    #[error("macmem: {path}: {fault}")]
     Fork {
         /// The path of the bytes as it was given.
         path: String,
-        /// The result code.
-        code: OsErr,
+        /// What is wrong with the bytes.
+        fault: FileFault,
     },
     /// The output could not be written.
     #[error("macmem: {path}: cannot write")]
@@ -92,23 +92,24 @@ impl ToolFault {
         }
     }
 
-    /// Returns the line of a script that the line names, or 0 if it names no line.
+    /// Returns the line of a script or a source that the line names, or 0 if it names no line.
     pub fn line(&self) -> usize
         ensures { result ≡ line_of self.now }
     {
         match self {
             ToolFault::Script { line, .. } => *line,
+            ToolFault::Fork { fault, .. } => fault.line(),
             _ => 0,
         }
     }
 
-    /// Returns the number of a script's fault, or a fork's result code, or 0 for other faults.
+    /// Returns the number of a script's fault, or the result code of a fault of a file's bytes, or 0 for other faults.
     pub fn number(&self) -> i16
         ensures { result ≡ number_of self.now }
     {
         match self {
             ToolFault::Script { kind, .. } => i16::from(kind.number()),
-            ToolFault::Fork { code, .. } => code.number(),
+            ToolFault::Fork { fault, .. } => fault.number(),
             _ => 0,
         }
     }

@@ -1,21 +1,81 @@
 //! The inputs that the lines of a job name are read, in the order of the lines.
 
-ghost use Rattle.std.specs.Prelude.{◌≡◌, ◌<◌, ◌++◌, ◌∷◌, [], map, length, OnOk, OnErr, IfOk, IsTrue};
+ghost use Rattle.std.specs.Prelude.{◌≡◌, ◌<◌, ◌++◌, ◌∷◌, [], ℕ, List, Ok, map, length, OnOk, OnErr, IfOk, IfErr, IsTrue};
 ghost use Rattle.script_text.specs.Job.{System, App as AppLine, File, input_seen, app_names};
 ghost use Rattle.script_text.specs.JobFacts.{AreInOrder};
 ghost use Rattle.script_text.specs.Script.{spelled};
+ghost use Rattle.fork_commands.specs.Reading.{fork_in};
+ghost use Rattle.commands.specs.Accesses.{Read, and_then};
+ghost use Rattle.commands.specs.Fault.{message_of};
+ghost use Rattle.commands.specs.Tasks.{IsForkFault};
 ghost use Rattle.commands.specs.Gathering.{name_of, owner_is_in, system_path, nothing_given, with_file};
-ghost use Rattle.commands.specs.Gathering.{script_at, app_at, file_at, with_input, with_inputs, paths_of, Reads, ReadsOf};
+ghost use Rattle.commands.specs.Gathering.{fork_at, script_at, IsStop, app_at, file_at, with_input, with_inputs, paths_of, Reads, ReadsOf};
 ghost use Rattle.commands.specs.Gathering.{IsGiven, file_given, app_given, gathered, job_given};
 
 use crate::fault::ToolFault;
 use crate::host::Host;
 use crate::input::read_input;
-use crate::tasks::script_fault;
+use crate::tasks::{fork_fault, script_fault};
 use desk::{App, AppFile, Job};
+use fork_commands::{WorkFault, copied, fork_in};
+use fork_wrappers::{Unwrapped, Wrapping};
 use mac_words::{FileName, Label};
 use script_text::{Input, JobText, Script, read_script};
 use std::alloc::{AllocError, Global};
+
+/// Reports whether the bytes of a file are the fork itself, in no wrapper.
+#[tactic(auto, using(crate::proofs::Forks::plain_fork))]
+fn is_plain(bytes: &[u8]) -> bool
+    ensures { IsTrue result → fork_in bytes.now ≡ Ok bytes.now }
+{
+    match fork_in(bytes) {
+        Ok(
+            Unwrapped {
+                wrapping: Wrapping::Plain,
+                ..
+            },
+        ) => true,
+        _ => false,
+    }
+}
+
+/// Returns a copy of the fork in the bytes of a file.
+#[tactic(auto, using(crate::proofs::Faults::fork_stopped))]
+fn fork_copied(alloc: Global, path: &str, bytes: &[u8]) -> Result<Vec<u8>, ToolFault>
+    ensures fork { IfOk result (λ fork. fork_in bytes.now ≡ Ok fork.items) }
+    ensures fault { IfErr result (λ fault. IsForkFault path.now (fork_in bytes.now) (message_of fault)) }
+{
+    match fork_in(bytes) {
+        Ok(found) => Ok(copied(alloc, found.fork)?),
+        Err(fault) => Err(fork_fault(alloc, path, WorkFault::File(fault))?),
+    }
+}
+
+/// Returns the fork in the bytes of a file: the bytes themselves if they are in no wrapper, else a copy.
+fn fork_of(alloc: Global, path: &str, bytes: Vec<u8>) -> Result<Vec<u8>, ToolFault>
+    ensures fork { IfOk result (λ fork. fork_in bytes.items ≡ Ok fork.items) }
+    ensures fault { IfErr result (λ fault. IsForkFault path.now (fork_in bytes.items) (message_of fault)) }
+{
+    if is_plain(bytes.as_slice()) {
+        return Ok(bytes);
+    }
+    fork_copied(alloc, path, bytes.as_slice())
+}
+
+/// Reads the fork in the file at a path.
+fn fork_at<H: Host>(alloc: Global, host: &mut H, path: &str) -> Result<Vec<u8>, ToolFault>
+    ensures silent { H.printed host.new ≡ H.printed host.old }
+    ensures fork { IfOk result (λ fork. (bytes : List ℕ) × (H.accesses host.new
+        ≡ and_then (H.accesses host.old) (Read path.now bytes ∷ [])) × (fork_in bytes ≡ Ok fork.items)) }
+    ensures stop { IfErr result (λ fault. Reads (path.now ∷ []) (H.accesses host.old) (H.accesses host.new) (λ texts.
+        IsStop (fork_at path.now texts) (message_of fault))) }
+{
+    let bytes = read_input(alloc, host, path)?;
+    match fork_of(alloc, path, bytes) {
+        Ok(fork) => Ok(fork),
+        Err(fault) => Err(fault),
+    }
+}
 
 /// Reads the script at a path.
 fn script_at<H: Host>(alloc: Global, host: &mut H, path: &str) -> Result<Script, ToolFault>
@@ -57,7 +117,7 @@ fn app_at<H: Host>(
     ensures app { Reads (fork.now ∷ script.now ∷ []) (H.accesses host.old) (H.accesses host.new) (λ texts.
         IsGiven app_given (app_at name.now.0.items fork.now script.now texts) result) }
 {
-    let bytes = read_input(alloc, host, fork)?;
+    let bytes = fork_at(alloc, host, fork)?;
     let script = script_at(alloc, host, script)?;
     Ok(App {
         name: label_copy(name)?,
@@ -78,7 +138,7 @@ fn file_at<H: Host>(
     ensures file { Reads (path.now ∷ []) (H.accesses host.old) (H.accesses host.new) (λ texts.
         IsGiven file_given (file_at name.now.0.items path.now texts) result) }
 {
-    let fork = read_input(alloc, host, path)?;
+    let fork = fork_at(alloc, host, path)?;
     Ok(AppFile {
         name: name_copy(name)?,
         fork,
@@ -125,7 +185,7 @@ fn add_system<H: Host>(
     ensures given { Reads (path.now ∷ []) (H.accesses host.old) (H.accesses host.new) (λ texts.
         IsGiven (λ _. gathered inputs.new) (with_input (gathered inputs.old) (System path.now) texts) result) }
 {
-    inputs.system = Some(read_input(alloc, host, path)?);
+    inputs.system = Some(fork_at(alloc, host, path)?);
     Ok(())
 }
 

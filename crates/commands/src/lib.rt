@@ -1,16 +1,23 @@
 //! The work of the program: scripts and jobs are run, and resource forks are listed and checked.
 #![tactic(auto)]
 
+mod combining;
+mod converting;
+mod delivering;
 mod doing;
+mod ending;
 mod fault;
 mod files;
+mod fork_words;
 mod gathering;
 mod host;
 mod input;
 mod listing;
 mod outputs;
+mod parsing;
 mod paths;
 mod reading;
+mod request;
 mod running;
 mod size;
 mod tasks;
@@ -19,6 +26,7 @@ mod work;
 
 pub use applications::{Unwatched, Watch};
 pub use doing::tool;
+pub use ending::Ending;
 pub use fault::ToolFault;
 pub use files::{HostFiles, Progress};
 pub use gathering::gather;

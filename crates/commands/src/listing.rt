@@ -3,24 +3,55 @@
 ghost use Rattle.std.specs.Prelude.{◌≡◌, ◌<◌, ◌≤◌, ◌*◌, ◌++◌, OnOk, length, take};
 ghost use Rattle.std.specs.List.{flat_map};
 ghost use Rattle.std.specs.Io.KnownBytes.{append_known};
-ghost use Rattle.byteorder.specs.Endian.{big_bytes};
+ghost use Rattle.byteorder.specs.Endian.{big_bytes, big_number};
 ghost use Rattle.script_text.specs.Transcript.{hex_digit, hex};
 ghost use Rattle.fork_format.specs.Content.{refs_of};
 ghost use Rattle.fork_format.specs.View.{view_name, view_ref, view_group, view};
-ghost use Rattle.commands.specs.Listing.{numbers_listed, name_listed, line_behind, group_lines, head_line, listing};
+ghost use Rattle.commands.specs.Listing.{type_listed, numbers_listed, name_digits, name_listed, line_of, group_lines};
+ghost use Rattle.commands.specs.Listing.{head_line, wrapper_word, wrapper_line, first_lines};
+ghost use Rattle.commands.specs.Listing as spec;
 ghost use Rattle.commands.specs.Printing.{PrintsBut, PrintsFront};
 
 use crate::host::{Host, WriteError};
 use byteorder::{BigEndian, ByteOrder};
+use fork_edits::{append_name, append_type};
 use fork_format::{Content, Group, Ref, RefName, kind_of};
+use fork_wrappers::Wrapping;
 use itoa::Buffer;
+use mac_words::OsType;
 use std::alloc::{AllocError, Global};
 
 /// The number of bytes of lines that are gathered before they are printed.
 const MANY: usize = 65_536;
 
 /// The greatest number of bytes of a line.
-const LONGEST: usize = 600;
+const LONGEST: usize = 1_400;
+
+/// How types and names are listed.
+#[derive(Clone, Copy)]
+pub enum Spelling {
+    /// In hexadecimal digits.
+    Digits,
+    /// As a person reads them.
+    Readable,
+}
+
+/// How a fork is listed.
+#[derive(Clone, Copy)]
+pub struct MapStyle {
+    pub spelling: Spelling,
+    /// Whether a line above the listing says how the file wraps its fork.
+    pub verbose: bool,
+}
+
+/// The listing of a content.
+#[derive(Drop)]
+pub struct Listing<'b> {
+    pub style: MapStyle,
+    /// How the file wraps the fork.
+    pub wrapping: Wrapping,
+    pub content: Content<'b>,
+}
 
 /// Returns the hexadecimal digit of a number below 16, in lower case.
 fn digit_of(value: u8) -> u8
@@ -60,9 +91,9 @@ fn put_digits(digits: &mut [u8; 510], bytes: &[u8])
     }
 }
 
-/// Appends a name, or `-` for no name.
-fn push_name(text: &mut Vec<u8>, name: &Option<RefName<'_>>) -> Result<(), AllocError>
-    ensures { OnOk result (text.new.items ≡ text.old.items ++ name_listed (view_name name.now)) }
+/// Appends a name in hexadecimal digits, or `-` for no name.
+fn push_digits(text: &mut Vec<u8>, name: &Option<RefName<'_>>) -> Result<(), AllocError>
+    ensures { OnOk result (text.new.items ≡ text.old.items ++ name_digits (view_name name.now)) }
 {
     match name {
         Some(name) => {
@@ -72,6 +103,33 @@ fn push_name(text: &mut Vec<u8>, name: &Option<RefName<'_>>) -> Result<(), Alloc
             text.extend_from_slice(&digits[..2 * name.bytes.len()])
         }
         None => text.extend_from_slice(b"-"),
+    }
+}
+
+/// Appends a name.
+fn push_name(
+    text: &mut Vec<u8>,
+    spelling: Spelling,
+    name: &Option<RefName<'_>>,
+) -> Result<(), AllocError>
+    ensures { OnOk result (text.new.items ≡ text.old.items ++ name_listed spelling (view_name name.now)) }
+{
+    match spelling {
+        Spelling::Digits => push_digits(text, name),
+        Spelling::Readable => append_name(text, name),
+    }
+}
+
+/// Appends a type.
+fn push_type(text: &mut Vec<u8>, spelling: Spelling, ty: OsType) -> Result<(), AllocError>
+    ensures { OnOk result (text.new.items ≡ text.old.items ++ type_listed spelling (big_number 4 ty.0)) }
+{
+    match spelling {
+        Spelling::Digits => {
+            text.extend_from_slice(b"$")?;
+            text.extend_from_slice(&digits_of(kind_of(ty)))
+        }
+        Spelling::Readable => append_type(text, ty),
     }
 }
 
@@ -87,15 +145,20 @@ fn push_numbers(text: &mut Vec<u8>, resource: &Ref<'_>) -> Result<(), AllocError
     text.extend_from_slice(Buffer::new().format(resource.datum.len()).as_bytes())
 }
 
-/// Appends the line of a resource, whose type has the given digits.
-fn push_resource(text: &mut Vec<u8>, digits: &[u8; 8], resource: &Ref<'_>) -> Result<(), AllocError>
-    ensures { OnOk result (text.new.items ≡ text.old.items ++ line_behind digits.now (view_ref resource.now)) }
+/// Appends the line of a resource of a type.
+fn push_resource(
+    text: &mut Vec<u8>,
+    spelling: Spelling,
+    ty: OsType,
+    resource: &Ref<'_>,
+) -> Result<(), AllocError>
+    ensures { OnOk result (text.new.items
+        ≡ text.old.items ++ line_of spelling (big_number 4 ty.0) (view_ref resource.now)) }
 {
-    text.extend_from_slice(b"$")?;
-    text.extend_from_slice(digits)?;
+    push_type(text, spelling, ty)?;
     push_numbers(text, resource)?;
     text.extend_from_slice(b" ")?;
-    push_name(text, &resource.name)?;
+    push_name(text, spelling, &resource.name)?;
     text.extend_from_slice(b"\n")
 }
 
@@ -123,6 +186,41 @@ fn push_head(text: &mut Vec<u8>, content: &Content<'_>) -> Result<(), AllocError
     text.extend_from_slice(b"\n")
 }
 
+/// Returns the word for how a file wraps its fork.
+fn word_of(wrapping: Wrapping) -> &'static [u8]
+    ensures { result.now ≡ wrapper_word wrapping }
+{
+    match wrapping {
+        Wrapping::Plain => b"none",
+        Wrapping::AppleSingle => b"AppleSingle",
+        Wrapping::AppleDouble => b"AppleDouble",
+        Wrapping::MacBinaryI => b"MacBinary I",
+        Wrapping::MacBinaryII => b"MacBinary II",
+        Wrapping::MacBinaryIII => b"MacBinary III",
+    }
+}
+
+/// Appends the line that says how the file wraps its fork, if it is asked for.
+fn push_wrapper(text: &mut Vec<u8>, style: MapStyle, wrapping: Wrapping) -> Result<(), AllocError>
+    ensures { OnOk result (text.new.items ≡ text.old.items ++ wrapper_line style wrapping) }
+{
+    if style.verbose {
+        text.extend_from_slice(b"wrapper ")?;
+        text.extend_from_slice(word_of(wrapping))?;
+        text.extend_from_slice(b"\n")?;
+    }
+    Ok(())
+}
+
+/// Appends the lines that precede the resources.
+fn push_first(text: &mut Vec<u8>, listing: &Listing<'_>) -> Result<(), AllocError>
+    ensures { OnOk result (text.new.items ≡ text.old.items
+        ++ first_lines listing.now.style listing.now.wrapping (view listing.now.content)) }
+{
+    push_wrapper(text, listing.style, listing.wrapping)?;
+    push_head(text, &listing.content)
+}
+
 /// Prints the gathered lines once they have `MANY` bytes.
 fn print_many<H: Host>(host: &mut H, lines: &mut Vec<u8>) -> Result<(), WriteError>
     ensures some { OnOk result (PrintsBut lines.old.items lines.new.items (H.printed host.old) (H.printed host.new)) }
@@ -140,17 +238,18 @@ fn print_many<H: Host>(host: &mut H, lines: &mut Vec<u8>) -> Result<(), WriteErr
 fn print_group<H: Host>(
     host: &mut H,
     lines: &mut Vec<u8>,
+    spelling: Spelling,
     group: &Group<'_>,
 ) -> Result<(), WriteError>
-    ensures some { OnOk result (PrintsBut (lines.old.items ++ group_lines (view_group group.now)) lines.new.items
+    ensures some { OnOk result (PrintsBut (lines.old.items ++ group_lines spelling (view_group group.now)) lines.new.items
         (H.printed host.old) (H.printed host.new)) }
-    ensures front { PrintsFront (lines.old.items ++ group_lines (view_group group.now))
+    ensures front { PrintsFront (lines.old.items ++ group_lines spelling (view_group group.now))
         (H.printed host.old) (H.printed host.new) }
     ensures files { H.accesses host.new ≡ H.accesses host.old }
 {
-    let digits = digits_of(kind_of(group.ty));
+    let ty = group.ty;
     for resource in &group.refs {
-        push_resource(lines, &digits, resource)?;
+        push_resource(lines, spelling, ty, resource)?;
         print_many(host, lines)?;
     }
     Ok(())
@@ -160,37 +259,41 @@ fn print_group<H: Host>(
 fn print_groups<H: Host>(
     host: &mut H,
     lines: &mut Vec<u8>,
+    spelling: Spelling,
     content: &Content<'_>,
 ) -> Result<(), WriteError>
-    ensures some { OnOk result (PrintsBut (lines.old.items ++ flat_map group_lines (view content.now).groups)
+    ensures some { OnOk result (PrintsBut (lines.old.items ++ flat_map (group_lines spelling) (view content.now).groups)
         lines.new.items (H.printed host.old) (H.printed host.new)) }
-    ensures front { PrintsFront (lines.old.items ++ flat_map group_lines (view content.now).groups)
+    ensures front { PrintsFront (lines.old.items ++ flat_map (group_lines spelling) (view content.now).groups)
         (H.printed host.old) (H.printed host.new) }
     ensures files { H.accesses host.new ≡ H.accesses host.old }
 {
     for group in &content.groups {
-        print_group(host, lines, group)?;
+        print_group(host, lines, spelling, group)?;
     }
     Ok(())
 }
 
 /// Prints the listing of a content: a line with the map's attributes and the numbers of types and of resources, then a
 /// line for each resource: its type, ID, attributes, length in bytes, and name. Types and names are `$` and
-/// hexadecimal digits in lower case; `-` stands for no name.
+/// hexadecimal digits in lower case, or as a person reads them; `-` stands for no name. A line above says how the file
+/// wraps the fork, if that is asked for.
 ///
 /// The memory in which the lines are gathered is taken before any line is printed, and the lines are printed some
 /// 65,536 bytes at a time.
 pub fn print_listing<H: Host>(
     alloc: Global,
     host: &mut H,
-    content: &Content<'_>,
+    listing: &Listing<'_>,
 ) -> Result<(), WriteError>
-    ensures all { OnOk result (H.printed host.new ≡ append_known (H.printed host.old) (listing (view content.now))) }
-    ensures front { PrintsFront (listing (view content.now)) (H.printed host.old) (H.printed host.new) }
+    ensures all { OnOk result (H.printed host.new ≡ append_known (H.printed host.old)
+        (spec.listing listing.now.style listing.now.wrapping (view listing.now.content))) }
+    ensures front { PrintsFront (spec.listing listing.now.style listing.now.wrapping (view listing.now.content))
+        (H.printed host.old) (H.printed host.new) }
     ensures files { H.accesses host.new ≡ H.accesses host.old }
 {
     let mut lines = Vec::with_capacity(alloc, MANY + LONGEST)?;
-    push_head(&mut lines, content)?;
-    print_groups(host, &mut lines, content)?;
+    push_first(&mut lines, listing)?;
+    print_groups(host, &mut lines, listing.style.spelling, &listing.content)?;
     host.print(lines.as_slice())
 }

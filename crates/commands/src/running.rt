@@ -19,6 +19,7 @@ use crate::paths::room_for_paths;
 use crate::tasks::{script_fault, write_fault};
 use applications::{Unwatched, Watch};
 use desk::{Job, Outcome, RunFault, run};
+use fork_commands::FileFault;
 use raw_region::Region;
 use script_text::{JobText, read_job};
 use std::alloc::Global;
@@ -90,7 +91,7 @@ fn outcome_of<W: Watch>(
         Ok(outcome) => Ok(outcome),
         Err(RunFault::System(code)) => Err(ToolFault::Fork {
             path: String::from_str(alloc, system)?,
-            code,
+            fault: FileFault::Code { code },
         }),
         Err(RunFault::HostMemory) => Err(ToolFault::HostMemory),
     }

@@ -2,33 +2,32 @@
 
 ghost use Rattle.std.specs.Prelude.{◌≡◌, IfOk, IfErr, OnOk, string_bytes};
 ghost use Rattle.std.specs.Io.KnownBytes.{append_known};
+ghost use Rattle.fork_commands.specs.Reading.{content_in};
 ghost use Rattle.commands.specs.Fault.{message_of};
 ghost use Rattle.commands.specs.Work.{IsTranscriptOf, IsListingOf, IsFormText};
 ghost use Rattle.commands.specs.Printing.{PrintsFront};
 ghost use Rattle.commands.specs.Tasks.{script_message, fork_message, write_message, IsScriptFault, IsForkFault};
 ghost use Rattle.commands.specs.Tasks.{output_text, IsPrinted, IsFault, Prints, IsRefusal};
 
+use crate::delivering::STANDARD_OUTPUT;
 use crate::fault::ToolFault;
 use crate::host::{Host, WriteError};
-use crate::listing::print_listing;
+use crate::listing::{Listing, MapStyle, print_listing};
 use crate::size::PartitionSize;
-use crate::work::{Form, form_of, transcript_of};
+use crate::work::{Form, form_of, listing_of, transcript_of};
 use applications::{Unwatched, Watch};
-use fork_format::{Content, ForkFault, read_fork};
+use fork_commands::WorkFault;
 use script_text::{FaultKind, ScriptFault};
 use std::alloc::{AllocError, Global};
-
-/// The path that stands for the standard output.
-const STANDARD_OUTPUT: &str = "-";
 
 /// The work that is done with the bytes of a file.
 #[derive(Clone, Copy)]
 pub enum Work {
     /// The bytes are run as a script in a partition of this size.
     Script(PartitionSize),
-    /// The bytes are listed as a resource fork.
-    Map,
-    /// The bytes are compared with the canonical fork of their content.
+    /// The resource fork in the bytes is listed in this style.
+    Map(MapStyle),
+    /// The resource fork in the bytes is compared with the canonical fork of its content.
     Check,
 }
 
@@ -48,7 +47,7 @@ pub enum Output<'b> {
     /// The transcript of a script.
     Transcript(Vec<u8>),
     /// The listing of a fork's content, which is made from the fork's bytes as it is printed.
-    Listing(Content<'b>),
+    Listing(Listing<'b>),
     /// The line with a fork's form.
     Form(Form),
 }
@@ -67,16 +66,16 @@ pub fn script_fault(alloc: Global, path: &str, fault: ScriptFault) -> Result<Too
     }
 }
 
-/// Returns the fault of a resource fork, with its path.
-fn fork_fault(alloc: Global, path: &str, fault: ForkFault) -> Result<ToolFault, AllocError>
+/// Returns the fault of the bytes of a file, with the file's path.
+pub fn fork_fault(alloc: Global, path: &str, fault: WorkFault) -> Result<ToolFault, AllocError>
     ensures { IfOk result (λ told. message_of told ≡ fork_message path.now fault) }
 {
-    match fault.code() {
-        Some(code) => Ok(ToolFault::Fork {
+    match fault {
+        WorkFault::File(fault) => Ok(ToolFault::Fork {
             path: String::from_str(alloc, path)?,
-            code,
+            fault,
         }),
-        None => Ok(ToolFault::HostMemory),
+        WorkFault::HostMemory => Ok(ToolFault::HostMemory),
     }
 }
 
@@ -107,21 +106,28 @@ fn script_output<'b, W: Watch>(
     }
 }
 
-/// Returns the listing of a resource fork.
-fn map_output<'b>(alloc: Global, path: &str, bytes: &'b [u8]) -> Result<Output<'b>, ToolFault>
-    ensures output { IfOk result (λ output. IsListingOf bytes.now (output_text output)) }
-    ensures fault { IfErr result (λ fault. IsForkFault path.now bytes.now (message_of fault)) }
+/// Returns the listing of the resource fork in the bytes of a file.
+#[tactic(auto, using(crate::proofs::Faults::fork_stopped))]
+fn map_output<'b>(
+    alloc: Global,
+    style: MapStyle,
+    path: &str,
+    bytes: &'b [u8],
+) -> Result<Output<'b>, ToolFault>
+    ensures output { IfOk result (λ output. IsListingOf style bytes.now (output_text output)) }
+    ensures fault { IfErr result (λ fault. IsForkFault path.now (content_in bytes.now) (message_of fault)) }
 {
-    match read_fork(alloc, bytes) {
-        Ok(content) => Ok(Output::Listing(content)),
+    match listing_of(alloc, style, bytes) {
+        Ok(listing) => Ok(Output::Listing(listing)),
         Err(fault) => Err(fork_fault(alloc, path, fault)?),
     }
 }
 
 /// Returns the form of a resource fork: whether it is the canonical fork of its content.
+#[tactic(auto, using(crate::proofs::Faults::fork_stopped))]
 fn check_output<'b>(alloc: Global, path: &str, bytes: &'b [u8]) -> Result<Output<'b>, ToolFault>
     ensures output { IfOk result (λ output. IsFormText bytes.now (output_text output)) }
-    ensures fault { IfErr result (λ fault. IsForkFault path.now bytes.now (message_of fault)) }
+    ensures fault { IfErr result (λ fault. IsForkFault path.now (content_in bytes.now) (message_of fault)) }
 {
     match form_of(alloc, bytes) {
         Ok(form) => Ok(Output::Form(form)),
@@ -150,7 +156,7 @@ pub fn output_of<'b, W: Watch>(
     match task.work {
         Work::Script(size) if task.watched => script_output(alloc, size, task.path, bytes, watch),
         Work::Script(size) => script_output(alloc, size, task.path, bytes, &mut Unwatched),
-        Work::Map => map_output(alloc, task.path, bytes),
+        Work::Map(style) => map_output(alloc, style, task.path, bytes),
         Work::Check => check_output(alloc, task.path, bytes),
     }
 }
@@ -163,7 +169,7 @@ fn print_output<H: Host>(alloc: Global, host: &mut H, output: &Output<'_>) -> Re
 {
     match output {
         Output::Transcript(text) => host.print(text.as_slice()),
-        Output::Listing(content) => print_listing(alloc, host, content),
+        Output::Listing(listing) => print_listing(alloc, host, listing),
         Output::Form(form) => host.print(form.text()),
     }
 }

@@ -1,20 +1,23 @@
-//! The words of the command line. No other module uses the parser.
+//! The words of the command line. Only this module, `fork_words` and `parsing` use the parser.
 
 ghost use Rattle.std.specs.Prelude.{IfOk, IfErr};
 ghost use Rattle.commands.specs.Fault.{message_of, IsUsage};
 
 use crate::fault::ToolFault;
+use crate::fork_words::{FORK_HELP, fork_request, with_fork_commands};
+use crate::listing::{MapStyle, Spelling};
+use crate::parsing::{argument, bad_value, mistake, usage, value};
+use crate::request::Request;
 use crate::running::Errand;
 use crate::size::PartitionSize;
 use crate::tasks::{Task, Work};
-use clap::error::ErrorKind;
-use clap::{Arg, ArgAction, ArgMatches, Command, Error};
+use clap::{Arg, ArgAction, ArgMatches, Command};
 use script_text::CALLS;
 use std::alloc::{AllocError, Global};
 
 const ABOUT: &str = concat!(
     "Replays what a classic Mac OS heap did, from scripts of toolbox calls, in a model of the Memory, Resource ",
-    "and Segment Managers, and reads resource forks"
+    "and Segment Managers, and reads and writes resource forks"
 );
 
 /// The crate's version.
@@ -25,10 +28,17 @@ const PROGRAM_EXAMPLES: &str = "Examples:
   macmem run examples/job/job OUT             run the applications of a job, and write what they leave into OUT
   macmem map examples/Document.rsrc           list the resources of a fork
   macmem check examples/Document.rsrc         say whether a fork is canonical
+  macmem get examples/Document.rsrc STR 128   print the bytes of a resource
+  macmem derez examples/Document.rsrc         print what a fork holds as source of Rez
+
+What else is done with forks:
+  set, rewrite, rez                           write a fork into a new file
+  diff                                        say how the contents of two forks differ
 
 'macmem COMMAND --help' says more of a command; 'macmem script --help' lists the calls and the result codes.
 A word that begins with '-' is an option; after the word '--' it is an argument.
-Status: 0 done; 1 not done, with one line on the standard error; 2 usage, help or version.";
+Status: 0 done; 1 not done, with one line on the standard error, or 'diff' found that two forks differ; 2 usage, help
+or version.";
 
 const SCRIPT_ABOUT: &str = concat!(
     "Runs a script in a fresh partition and prints its transcript: a line for the launch, one for each call with ",
@@ -111,13 +121,24 @@ const PROGRESS_HELP: &str = concat!(
     "at most a hundred times"
 );
 
+/// The name of the flag for types and names that a person reads, without its two hyphens.
+const TEXT: &str = "text";
+
+const TEXT_HELP: &str =
+    "Print types as 'STR ' and names as \"Greeting\", where they have printable characters";
+
+/// The name of the flag for a line above the listing, without its two hyphens.
+const VERBOSE: &str = "verbose";
+
+const VERBOSE_HELP: &str = concat!(
+    "Print a line above the listing that says how the file wraps the fork: 'wrapper none', AppleSingle, ",
+    "AppleDouble, or MacBinary I, II or III"
+);
+
 const MAP_ABOUT: &str = concat!(
     "Lists the resources of a fork: a line 'map ATTRIBUTES TYPES RESOURCES', then for each resource its type, ",
     "ID, attributes, length in bytes, and name"
 );
-
-const FORK_HELP: &str =
-    "File with the bytes of a resource fork. It is only read. /dev/stdin is the standard input";
 
 const MAP_EXAMPLES: &str = "Example:
   macmem map examples/Document.rsrc
@@ -130,6 +151,13 @@ prints:
   $53495a45 -1 0 10 -
 
 Types and names are in hexadecimal after '$'; '-' stands for no name.
+  macmem map --text examples/Document.rsrc
+
+prints the first resource as:
+  'STR ' 128 32 6 \"Greeting\"
+
+A fork may be wrapped as AppleSingle, AppleDouble or MacBinary; so may each that another command reads. A wrapper that is
+damaged is reported as 'macmem: FORK: AppleSingle: the header is cut off', for example.
 A fork that cannot be read is reported as 'macmem: FORK: fork CODE': -39 (eofErr) no bytes, -199 (mapReadErr) damaged.";
 
 const CHECK_ABOUT: &str = concat!(
@@ -143,19 +171,12 @@ const CHECK_EXAMPLES: &str = "Examples:
 
 A fork that cannot be read is reported as 'macmem: FORK: fork CODE': -39 (eofErr) no bytes, -199 (mapReadErr) damaged.";
 
-fn argument<'a>(alloc: Global, name: &'a str, help: &'a str) -> Arg<'a> {
+/// Returns a flag.
+fn flag<'a>(alloc: Global, name: &'a str, help: &'a str) -> Arg<'a> {
     Arg::new(alloc, name)
-        .required(true)
-        .action(ArgAction::Set)
-        .help(help)
-}
-
-/// Returns the flag `--progress`.
-fn progress<'a>(alloc: Global) -> Arg<'a> {
-    Arg::new(alloc, PROGRESS)
-        .long(PROGRESS)
+        .long(name)
         .action(ArgAction::SetTrue)
-        .help(PROGRESS_HELP)
+        .help(help)
 }
 
 fn script_command<'a>(alloc: Global) -> Result<Command<'a>, AllocError> {
@@ -163,7 +184,7 @@ fn script_command<'a>(alloc: Global) -> Result<Command<'a>, AllocError> {
         .about(SCRIPT_ABOUT)
         .long_about(SCRIPT_LONG_ABOUT)
         .after_help(CALLS)
-        .arg(progress(alloc))?
+        .arg(flag(alloc, PROGRESS, PROGRESS_HELP))?
         .arg(argument(alloc, "SIZE", SIZE_HELP))?
         .arg(argument(alloc, "SCRIPT", SCRIPT_HELP))
 }
@@ -172,25 +193,29 @@ fn run_command<'a>(alloc: Global) -> Result<Command<'a>, AllocError> {
     Command::new(alloc, "run")
         .about(RUN_ABOUT)
         .long_about(RUN_LONG_ABOUT)
-        .arg(progress(alloc))?
+        .arg(flag(alloc, PROGRESS, PROGRESS_HELP))?
         .arg(argument(alloc, "JOB", JOB_HELP))?
         .arg(argument(alloc, "OUT", OUT_HELP))
 }
 
-fn fork_command<'a>(
-    alloc: Global,
-    name: &'a str,
-    about: &'a str,
-    examples: &'a str,
-) -> Result<Command<'a>, AllocError> {
-    Command::new(alloc, name)
-        .about(about)
-        .after_help(examples)
+fn map_command<'a>(alloc: Global) -> Result<Command<'a>, AllocError> {
+    Command::new(alloc, "map")
+        .about(MAP_ABOUT)
+        .after_help(MAP_EXAMPLES)
+        .arg(flag(alloc, TEXT, TEXT_HELP))?
+        .arg(flag(alloc, VERBOSE, VERBOSE_HELP))?
+        .arg(argument(alloc, "FORK", FORK_HELP))
+}
+
+fn check_command<'a>(alloc: Global) -> Result<Command<'a>, AllocError> {
+    Command::new(alloc, "check")
+        .about(CHECK_ABOUT)
+        .after_help(CHECK_EXAMPLES)
         .arg(argument(alloc, "FORK", FORK_HELP))
 }
 
 fn program<'a>(alloc: Global) -> Result<Command<'a>, AllocError> {
-    Command::new(alloc, "macmem")
+    let command = Command::new(alloc, "macmem")
         .about(ABOUT)
         .version(VERSION)
         .after_help(PROGRAM_EXAMPLES)
@@ -198,52 +223,23 @@ fn program<'a>(alloc: Global) -> Result<Command<'a>, AllocError> {
         .arg_required_else_help(true)
         .subcommand(script_command(alloc)?)?
         .subcommand(run_command(alloc)?)?
-        .subcommand(fork_command(alloc, "map", MAP_ABOUT, MAP_EXAMPLES)?)?
-        .subcommand(fork_command(alloc, "check", CHECK_ABOUT, CHECK_EXAMPLES)?)
+        .subcommand(map_command(alloc)?)?
+        .subcommand(check_command(alloc)?)?;
+    with_fork_commands(alloc, command)
 }
 
-/// Returns an error of the parser as a fault.
-fn usage(alloc: Global, error: &Error) -> ToolFault
-    ensures { IsUsage (message_of result) }
-{
-    match error.kind() {
-        ErrorKind::OutOfMemory => ToolFault::HostMemory,
-        _ => match error.to_string(alloc) {
-            Ok(text) => ToolFault::Usage { text },
-            Err(_) => ToolFault::HostMemory,
-        },
-    }
-}
-
-/// Returns the fault of a mistake that the parser doesn't find, in the form of the parser's own errors.
-fn mistake(alloc: Global, command: Command<'_>, message: &str) -> ToolFault
-    ensures { IsUsage (message_of result) }
-{
-    let mut command = command;
-    match command.error(ErrorKind::ValueValidation, message) {
-        Ok(error) => usage(alloc, &error),
-        Err(_) => ToolFault::HostMemory,
-    }
-}
+/// What is asked for in place of a size that is none.
+const SIZE_WANTED: &str = "512 to 134217728 is asked for, in decimal digits";
 
 fn bad_size(alloc: Global, text: &str) -> Result<ToolFault, AllocError>
     ensures { IfOk result (λ fault. IsUsage (message_of fault)) }
 {
-    let message = format!(in alloc;
-        "invalid value '{text}' for '<SIZE>': 512 to 134217728 is asked for, in decimal digits"
-    )?;
     let command = script_command(alloc)?.bin_name("macmem script")?;
-    Ok(mistake(alloc, command, message.as_str()))
+    bad_value(alloc, command, "SIZE", text, SIZE_WANTED)
 }
 
-/// What the words of a command line ask for.
-#[derive(Clone, Copy)]
-pub enum Request<'a> {
-    /// A file is read, and something is printed of its bytes.
-    Look(Task<'a>),
-    /// A job is run, and what it leaves is written.
-    Run(Errand<'a>),
-}
+/// What is told where no command is asked for.
+const NO_COMMAND: &str = "a command is asked for";
 
 /// Returns the fault of a word that isn't UTF-8.
 pub fn not_utf8(alloc: Global) -> ToolFault
@@ -257,11 +253,6 @@ pub fn not_utf8(alloc: Global) -> ToolFault
         ),
         Err(_) => ToolFault::HostMemory,
     }
-}
-
-/// Returns the value of an argument that the parser requires.
-fn value<'a>(matches: &ArgMatches<'a>, name: &str) -> &'a str {
-    matches.get_str(name).unwrap_or("")
 }
 
 fn script_task<'a>(alloc: Global, matches: &ArgMatches<'a>) -> Result<Task<'a>, ToolFault>
@@ -286,6 +277,18 @@ fn fork_task<'a>(work: Work, matches: &ArgMatches<'a>) -> Task<'a> {
     }
 }
 
+/// Returns the style of a listing.
+fn style_in(matches: &ArgMatches<'_>) -> MapStyle {
+    MapStyle {
+        spelling: if matches.get_flag(TEXT) {
+            Spelling::Readable
+        } else {
+            Spelling::Digits
+        },
+        verbose: matches.get_flag(VERBOSE),
+    }
+}
+
 /// Returns what the words after the program's name ask for.
 fn asked<'a>(alloc: Global, matches: &ArgMatches<'a>) -> Result<Request<'a>, ToolFault>
     ensures { IfErr result (λ fault. IsUsage (message_of fault)) }
@@ -297,9 +300,13 @@ fn asked<'a>(alloc: Global, matches: &ArgMatches<'a>) -> Result<Request<'a>, Too
             out: value(inner, "OUT"),
             watched: inner.get_flag(PROGRESS),
         })),
-        Some(("map", inner)) => Ok(Request::Look(fork_task(Work::Map, inner))),
+        Some(("map", inner)) => Ok(Request::Look(fork_task(Work::Map(style_in(inner)), inner))),
         Some(("check", inner)) => Ok(Request::Look(fork_task(Work::Check, inner))),
-        _ => Err(mistake(alloc, program(alloc)?, "a command is asked for")),
+        Some((name, inner)) => match fork_request(alloc, name, inner)? {
+            Some(request) => Ok(request),
+            None => Err(mistake(alloc, program(alloc)?, NO_COMMAND)),
+        },
+        None => Err(mistake(alloc, program(alloc)?, NO_COMMAND)),
     }
 }
 

@@ -1,17 +1,21 @@
 //! The work of the commands, from the bytes of a file to what is printed of them.
 
-ghost use Rattle.std.specs.Prelude.{◌≡◌, ◌≢◌, ◌↔◌, [], IfOk, IfErr, IsTrue};
+ghost use Rattle.std.specs.Prelude.{◌≡◌, ◌↔◌, IfOk, IfErr, IsTrue};
 ghost use Rattle.script_text.specs.Script.{script_of};
 ghost use Rattle.script_text.specs.Reading.{FailsAt};
 ghost use Rattle.fork_format.specs.Canonical.{canon, fits};
-ghost use Rattle.fork_format.specs.Fork.{IsUnspelled};
 ghost use Rattle.fork_format.specs.View.{view};
-ghost use Rattle.commands.specs.Work.{IsTranscriptOf, IsFormOf, TellsForm, text_of};
+ghost use Rattle.fork_commands.specs.Faults.{Stops};
+ghost use Rattle.fork_commands.specs.Reading.{content_of_fork, content_in};
+ghost use Rattle.commands.specs.Listing.{listing};
+ghost use Rattle.commands.specs.Work.{IsTranscriptOf, IsListingOf, IsForkForm, IsFormOf, TellsForm, text_of};
 
+use crate::listing::{Listing, MapStyle};
 use crate::size::PartitionSize;
 use applications::Watch;
 use desk::run_script;
-use fork_format::{Content, ForkFault, WriteFault, read_fork, write_fork};
+use fork_commands::{WorkFault, content_of_fork, fork_in};
+use fork_format::{Content, WriteFault, write_fork};
 use raw_region::Region;
 use script_text::{FaultKind, Script, ScriptFault, read_script};
 use std::alloc::{AllocError, Global};
@@ -69,6 +73,32 @@ pub fn transcript_of<W: Watch>(
     }
 }
 
+/// Returns the listing of the resource fork in the bytes of a file.
+#[tactic(auto, using(fork_commands::proofs::Contents::content_there, fork_commands::proofs::Contents::stopped_there))]
+pub fn listing_of<'b>(
+    alloc: Global,
+    style: MapStyle,
+    bytes: &'b [u8],
+) -> Result<Listing<'b>, WorkFault>
+    // The listing is that of the content which the fork's bytes spell.
+    ensures listing { IfOk result (λ l. IsListingOf style bytes.now (listing l.style l.wrapping (view l.content))) }
+
+    // The fault is why there is no such content.
+    ensures fault { IfErr result (λ fault. Stops fault (content_in bytes.now)) }
+{
+    match fork_in(bytes) {
+        Ok(found) => {
+            let content = content_of_fork(alloc, found.fork)?;
+            Ok(Listing {
+                style,
+                wrapping: found.wrapping,
+                content,
+            })
+        }
+        Err(fault) => Err(WorkFault::File(fault)),
+    }
+}
+
 /// Reports whether bytes are the canonical fork of a content.
 fn is_canonical(alloc: Global, content: &Content<'_>, bytes: &[u8]) -> Result<bool, AllocError>
     ensures { IfOk result (λ b. IsTrue b ↔ (IsTrue (fits (view content.now))
@@ -93,16 +123,25 @@ fn form_for(alloc: Global, content: &Content<'_>, bytes: &[u8]) -> Result<Form, 
 }
 
 /// Returns the form of a resource fork.
-pub fn form_of(alloc: Global, bytes: &[u8]) -> Result<Form, ForkFault>
-    // The form is what the bytes are to the content that they spell.
+fn fork_form(alloc: Global, fork: &[u8]) -> Result<Form, WorkFault>
+    ensures form { IfOk result (λ form. IsForkForm fork.now form) }
+    ensures fault { IfErr result (λ fault. Stops fault (content_of_fork fork.now)) }
+{
+    let content = content_of_fork(alloc, fork)?;
+    Ok(form_for(alloc, &content, fork)?)
+}
+
+/// Returns the form of the resource fork in the bytes of a file.
+#[tactic(auto, using(fork_commands::proofs::Contents::stopped_there))]
+pub fn form_of(alloc: Global, bytes: &[u8]) -> Result<Form, WorkFault>
+    // The form is what the fork's bytes are to the content that they spell.
     ensures form { IfOk result (λ form. IsFormOf bytes.now form) }
 
-    // The errors are no bytes, and bytes that spell no content.
-    ensures empty { (result ≡ Err ForkFault.Empty) ↔ (bytes.now ≡ []) }
-    ensures bad_map { (result ≡ Err ForkFault.BadMap) ↔ ((bytes.now ≢ []) × IsUnspelled bytes.now) }
+    // The fault is why there is no such content.
+    ensures fault { IfErr result (λ fault. Stops fault (content_in bytes.now)) }
 {
-    match read_fork(alloc, bytes) {
-        Ok(content) => Ok(form_for(alloc, &content, bytes)?),
-        Err(fault) => Err(fault),
+    match fork_in(bytes) {
+        Ok(found) => fork_form(alloc, found.fork),
+        Err(fault) => Err(WorkFault::File(fault)),
     }
 }

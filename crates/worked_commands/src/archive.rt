@@ -51,11 +51,11 @@ impl Archive {
         part_of(&self.files, path)
     }
 
-    /// Reports whether the archive has a file in the folder of this path.
-    pub fn has_folder(&self, path: &str) -> bool {
+    /// Reports whether the archive has a file of this path, or one in the folder of this path.
+    pub fn has(&self, path: &str) -> bool {
         for file in &self.files {
             if let Some(rest) = file.name.as_str().strip_prefix(path) {
-                if rest.starts_with("/") {
+                if rest.is_empty() || rest.starts_with("/") {
                     return true;
                 }
             }

@@ -76,17 +76,18 @@ impl Host for Disk<'_> {
         Ok(())
     }
 
-    /// Fails for a folder that has files, since that folder exists already.
+    /// Fails for a file and for a folder that the archive has, since that exists already.
     fn make_folder(&mut self, path: &str) -> Result<(), WriteError> {
-        if self.works("folder", path)? && !self.archive.has_folder(path) {
+        if self.works("folder", path)? && !self.archive.has(path) {
             Ok(())
         } else {
             Err(WriteError::CannotWrite)
         }
     }
 
+    /// Fails for a file and for a folder that the archive has, since that exists already.
     fn write(&mut self, path: &str, bytes: &[u8]) -> Result<(), WriteError> {
-        if !self.works("write", path)? {
+        if !self.works("write", path)? || self.archive.has(path) {
             return Err(WriteError::CannotWrite);
         }
         self.keep(path, bytes)?;

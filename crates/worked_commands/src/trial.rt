@@ -39,7 +39,7 @@ fn outcome_of<'a>(
         lines: String::new(alloc),
     };
     let (told, status) = match tool(alloc, words, &mut disk, &mut reports) {
-        Ok(()) => (String::new(alloc), 0),
+        Ok(ending) => (String::new(alloc), ending.status()),
         Err(fault) => (told_of(alloc, &fault)?, fault.status()),
     };
     let status = format!(in alloc; "{status}\n")?;

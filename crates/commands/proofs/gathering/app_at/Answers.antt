@@ -1,8 +1,10 @@
 use Rattle.std.proofs.Common.{◌≡◌, ◌∷◌, ◌∙◌, [], Option, List, ℕ, Ok, Err, ap, rules}
+use Rattle.script_text.specs.Script.{spelled}
 use Rattle.commands.specs.declared.fault.ToolFault.TheVariants.{HostMemory}
 use Rattle.commands.specs.Accesses.{Access, Read, and_then, reads_at}
-use Rattle.commands.specs.Gathering.{script_at, given_then, app_given}
-use Rattle.commands.proofs.Accesses.{one_more, stop_then, stop_given}
+use Rattle.commands.specs.Gathering.{app_given}
+use Rattle.commands.proofs.Accesses.{one_more, stop_given}
+use Rattle.commands.proofs.Forks.{app_unread, app_stop, app_there}
 use Rattle.commands.proofs.gathering.app_at.Goals as goal
 
 -- the fork was read, and then the script
@@ -12,30 +14,35 @@ both : (a b d : Option (List Access)) (fork script bytes : List ℕ) (texts : Li
 both a b d fork script bytes texts first second =
     second ∙ ap (λ x. and_then x (reads_at (script ∷ []) texts)) first ∙ one_more a _ _
 
+pub returns-in_err-bytes-clause-app : goal.returns-in_err-bytes-clause-app
+returns-in_err-bytes-clause-app g c =
+    let same : c.from_residual-in_err-bytes.result ≡ Err c.in_err-bytes.field-0.0 = search rules in
+    let h = app_unread c.args.name.now.0.items c.args.fork.now c.args.script.now _ _ _ c.in_err-bytes.ensures.stop in
+    (h.0, h.1, stop_given app_given _ _ _ same h.2)
+
 pub returns-in_err-script-clause-app : goal.returns-in_err-script-clause-app
 returns-in_err-script-clause-app g c =
+    let found = c.in_ok-bytes.ensures.fork in
     let h = c.in_err-script.ensures.script in
     let same : c.from_residual-in_err-script.result ≡ Err c.in_err-script.field-0.0 = search rules in (
-      c.in_ok-bytes.bytes.items ∷ h.0,
-      both _ _ _ _ _ _ h.0 c.in_ok-bytes.ensures.read h.1,
-      stop_given app_given _ _ _ same (stop_then (script_at c.args.script.now h.0) _ _ h.2),
+      found.0 ∷ h.0,
+      both _ _ _ _ _ _ h.0 found.1 h.1,
+      stop_given app_given _ _ _ same (app_stop _ _ _ _ _ h.0 _ found.2 h.2),
     )
 
 pub returns-in_err-label_copy-clause-app : goal.returns-in_err-label_copy-clause-app
 returns-in_err-label_copy-clause-app g c =
+    let found = c.in_ok-bytes.ensures.fork in
     let h = c.in_ok-script.ensures.script in
-    let same : c.from_residual-in_err-label_copy.result ≡ Err HostMemory = search rules in (
-      c.in_ok-bytes.bytes.items ∷ h.0,
-      both _ _ _ _ _ _ h.0 c.in_ok-bytes.ensures.read h.1,
-      stop_given app_given _ _ _ same tt,
-    )
+    let same : c.from_residual-in_err-label_copy.result ≡ Err HostMemory = search rules in
+    (found.0 ∷ h.0, both _ _ _ _ _ _ h.0 found.1 h.1, stop_given app_given _ _ _ same tt)
 
 pub returns-clause-app : goal.returns-clause-app
 returns-clause-app g c =
-    let h = c.in_ok-script.ensures.script in
-    let bytes : List ℕ = c.in_ok-bytes.bytes.items in (
-      bytes ∷ h.0,
-      both _ _ _ _ _ _ h.0 c.in_ok-bytes.ensures.read h.1,
-      ap (λ r. given_then r (λ spelled.
-          Ok (record { name = c.args.name.now.0.items; fork = bytes; files = []; script = spelled }))) h.2 ∙ search rules,
+    let found = c.in_ok-bytes.ensures.fork in
+    let h = c.in_ok-script.ensures.script in (
+      found.0 ∷ h.0,
+      both _ _ _ _ _ _ h.0 found.1 h.1,
+      app_there c.args.name.now.0.items c.args.fork.now c.args.script.now found.0 c.in_ok-bytes.bytes.items h.0
+          (spelled c.in_ok-script.script) _ found.2 h.2 (search rules),
     )

@@ -1,17 +1,28 @@
-use Rattle.std.proofs.Common.{◌≡◌, ◌∷◌, [], Ok, Err, sym, ap, rules}
+use Rattle.std.proofs.Common.{◌≡◌, ◌∷◌, ◌∙◌, [], Ok, Err, sym, ap, rules}
 use Rattle.commands.specs.declared.fault.ToolFault.TheVariants.{HostMemory}
-use Rattle.commands.specs.Gathering.{file_given}
-use Rattle.commands.proofs.Accesses.{stop_given}
+use Rattle.commands.specs.Gathering.{fork_at, given_then, file_given}
+use Rattle.commands.proofs.Accesses.{stop_given, stop_then}
+use Rattle.commands.proofs.Forks.{fork_there}
 use Rattle.commands.proofs.gathering.file_at.Goals as goal
+
+pub returns-in_err-fork-clause-file : goal.returns-in_err-fork-clause-file
+returns-in_err-fork-clause-file g c =
+    let h = c.in_err-fork.ensures.stop in
+    let same : c.from_residual-in_err-fork.result ≡ Err c.in_err-fork.field-0.0 = search rules in
+    (h.0, h.1, stop_given file_given _ _ _ same (stop_then (fork_at c.args.path.now h.0) _ _ h.2))
 
 pub returns-in_err-name_copy-clause-file : goal.returns-in_err-name_copy-clause-file
 returns-in_err-name_copy-clause-file g c =
+    let found = c.in_ok-fork.ensures.fork in
     let same : c.from_residual-in_err-name_copy.result ≡ Err HostMemory = search rules in
-    (c.in_ok-fork.fork.items ∷ [], c.in_ok-fork.ensures.read, stop_given file_given _ _ _ same tt)
+    (found.0 ∷ [], found.1, stop_given file_given _ _ _ same tt)
 
 pub returns-clause-file : goal.returns-clause-file
-returns-clause-file g c = (
-  c.in_ok-fork.fork.items ∷ [],
-  c.in_ok-fork.ensures.read,
-  ap (λ name. Ok (record { name = name; fork = c.in_ok-fork.fork.items })) (sym c.in_ok-name_copy.ensures),
-)
+returns-clause-file g c =
+    let found = c.in_ok-fork.ensures.fork in (
+      found.0 ∷ [],
+      found.1,
+      ap (λ r. given_then r (λ bytes. Ok (record { name = c.args.name.now.0.items; fork = bytes })))
+          (fork_there c.args.path.now found.0 c.in_ok-fork.fork.items [] found.2)
+          ∙ ap (λ name. Ok (record { name = name; fork = c.in_ok-fork.fork.items })) (sym c.in_ok-name_copy.ensures),
+    )

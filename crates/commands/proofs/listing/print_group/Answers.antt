@@ -1,15 +1,16 @@
 use Rattle.std.proofs.Common.{◌≡◌, ◌∙◌, ◌++◌, ◌+◌, List, ℕ, drop, map, rules, arith}
 use Rattle.std.proofs.lemmas.Grind.{common_steps}
 use Rattle.std.specs.List.{flat_map}
+use Rattle.byteorder.specs.Endian.{big_number}
 use Rattle.fork_format.specs.View.{view_ref}
-use Rattle.commands.specs.Listing.{line_behind}
+use Rattle.commands.specs.Listing.{line_of}
 use Rattle.commands.specs.Printing.{PrintsBut}
 use Rattle.commands.proofs.Printing.{first-further, first-front-further}
 use Rattle.commands.proofs.listing.print_group.Goals as goal
 
 pub returns-in_err-print_many-clause-front : goal.returns-in_err-print_many-clause-front
 returns-in_err-print_many-clause-front g c =
-    let lines = λ (i : ℕ). flat_map (line_behind c.digits_of-digits.result)
+    let lines = λ (i : ℕ). flat_map (line_of c.args.spelling (big_number 4 c.args.group.now.ty.0))
     (map view_ref (drop i c.args.group.now.refs.items)) in
     let i : ℕ = c.loop-resource.resource-index in
     let first : List ℕ = c.push_resource.new.text.items in
@@ -18,7 +19,7 @@ returns-in_err-print_many-clause-front g c =
 
 pub loop-resource-preserved : goal.loop-resource-preserved
 loop-resource-preserved g c =
-    let lines = λ (i : ℕ). flat_map (line_behind c.digits_of-digits.result)
+    let lines = λ (i : ℕ). flat_map (line_of c.args.spelling (big_number 4 c.args.group.now.ty.0))
     (map view_ref (drop i c.args.group.now.refs.items)) in
     let i : ℕ = c.loop-resource.resource-index in
     let first : List ℕ = c.push_resource.new.text.items in

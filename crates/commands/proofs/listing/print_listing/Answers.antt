@@ -8,11 +8,11 @@ use Rattle.commands.proofs.listing.print_listing.Goals as goal
 pub returns-in_err-lines-clause-front : goal.returns-in_err-lines-clause-front
 returns-in_err-lines-clause-front g c = nothing _ _
 
-pub returns-in_err-push_head-clause-front : goal.returns-in_err-push_head-clause-front
-returns-in_err-push_head-clause-front g c = nothing _ _
+pub returns-in_err-push_first-clause-front : goal.returns-in_err-push_first-clause-front
+returns-in_err-push_first-clause-front g c = nothing _ _
 
 pub returns-clause-front : goal.returns-clause-front
 returns-clause-front g c =
-    let before : PrintsBut (listing (view c.args.content.now)) c.print_groups.new.lines.items
+    let before : PrintsBut (listing c.args.listing.now.style c.args.listing.now.wrapping (view c.args.listing.now.content)) c.print_groups.new.lines.items
     (g.H.Host.printed c.args.host.now) (g.H.Host.printed c.print_groups.new.host) = search rules in
     front-further _ _ _ _ _ _ before c.as_slice.ensures.value c.print.ensures.front

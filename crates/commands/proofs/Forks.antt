@@ -1,0 +1,56 @@
+-- Forks that were read for the lines of a job.
+use Rattle.std.proofs.Common.{◌≡◌, ◌∷◌, ◌∙◌, ℕ, List, [], Option, Result, Ok, Err, sym, ap, subst}
+use Rattle.script_text.specs.Script.{Spelled}
+use Rattle.fork_wrappers.specs.declared.wrapping.Wrapping.TheVariants.{Plain}
+use Rattle.fork_wrappers.specs.Unwrapped.{wrapping_of}
+use Rattle.fork_wrappers.specs.Unwrapped as wrappers
+use Rattle.fork_commands.specs.declared.fault.FileFault.{FileFault}
+use Rattle.fork_commands.specs.Reading.{fork_in, fork_found}
+use Rattle.commands.specs.Fault.{Message, Usage, CannotRead, Script, Fork, CannotWrite, HostMemory}
+use Rattle.commands.specs.Accesses.{Access, Read, and_then, reads_at}
+use Rattle.commands.specs.Gathering.{fork_told, fork_at, script_at, app_of, app_at, GivenApp, IsStop, Reads}
+use Rattle.commands.specs.Tasks.{IsForkFault}
+use Rattle.commands.proofs.Accesses.{stop_then}
+
+-- bytes in no wrapper are the fork
+pub plain_fork : (bytes : List ℕ) → Plain ≡ wrapping_of bytes → fork_in bytes ≡ Ok bytes
+plain_fork bytes is = ap (λ how. fork_found (wrappers.fork_in how bytes)) (sym is)
+
+-- the fork that was found at a path
+pub fork_there : (path file fork : List ℕ) (texts : List (List ℕ)) → fork_in file ≡ Ok fork
+    → fork_at path (file ∷ texts) ≡ Ok fork
+fork_there path file fork texts found = ap (fork_told path) found
+
+-- a wrapper that is damaged
+pub fork_stop : (path file : List ℕ) (told : Message) → IsForkFault path (fork_in file) told
+    → IsStop (fork_at path (file ∷ [])) told
+fork_stop path file HostMemory is = tt
+fork_stop path file (Fork named fault) is =
+    ap (fork_told path) is.1 ∙ ap (λ p. Err (Fork p fault)) (sym is.0)
+fork_stop path file (Usage text) is = absurd is
+fork_stop path file (CannotRead named) is = absurd is
+fork_stop path file (Script named line kind) is = absurd is
+fork_stop path file (CannotWrite named) is = absurd is
+
+-- an application's script stops it, behind its fork
+pub app_stop : (name fork script file bytes : List ℕ) (texts : List (List ℕ)) (told : Message) → fork_in file ≡ Ok bytes
+    → IsStop (script_at script texts) told → IsStop (app_at name fork script (file ∷ texts)) told
+app_stop name fork script file bytes texts told found stops =
+    subst (λ r. IsStop (app_of name r (script_at script texts)) told) (sym (fork_there fork file bytes texts found))
+    (stop_then (script_at script texts) _ told stops)
+
+-- an application, with the fork and the script that were read
+pub app_there : (name fork script file bytes : List ℕ) (texts : List (List ℕ)) (spelled : Spelled) (app : GivenApp)
+    → fork_in file ≡ Ok bytes → script_at script texts ≡ Ok spelled → app_of name (Ok bytes) (Ok spelled) ≡ Ok app
+    → app_at name fork script (file ∷ texts) ≡ Ok app
+app_there name fork script file bytes texts spelled app found reads is =
+    ap (λ r. app_of name r (script_at script texts)) (fork_there fork file bytes texts found)
+    ∙ ap (λ r. app_of name (Ok bytes) r) reads ∙ is
+
+-- an application's fork stops it
+pub app_unread : (name fork script : List ℕ) (old new : Option (List Access)) (told : Message)
+    → Reads (fork ∷ []) old new (λ texts. IsStop (fork_at fork texts) told)
+    → Reads (fork ∷ script ∷ []) old new (λ texts. IsStop (app_at name fork script texts) told)
+app_unread name fork script old new told ([], reads, stops) = ([], reads, stop_then (fork_at fork []) _ told stops)
+app_unread name fork script old new told (file ∷ texts, reads, stops) =
+    (file ∷ [], reads, stop_then (fork_at fork (file ∷ [])) _ told stops)

@@ -1,0 +1,50 @@
+-- A file that was read, and what was made of it.
+use Rattle.std.proofs.Common.{◌≡◌, ◌∷◌, ℕ, List, [], Option, Ok, sym, subst}
+use Rattle.fork_commands.specs.Works.{made}
+use Rattle.commands.specs.declared.converting.Conversion.{Conversion}
+use Rattle.commands.specs.declared.delivering.Target.{Target}
+use Rattle.commands.specs.declared.delivering.Target.TheVariants.{Printed, NewFile}
+use Rattle.commands.specs.Accesses.{Access, Read, and_then}
+use Rattle.commands.specs.Converting.{Converts, IsUnconverted, Unmade, Undelivered}
+use Rattle.commands.specs.Delivering.{Delivers, IsUndelivered}
+use Rattle.commands.specs.Fault.{Message}
+use Rattle.commands.specs.Tasks.{IsForkFault, IsQuiet}
+use Rattle.commands.proofs.Faults.{loud_write}
+
+-- nothing is said of what was printed where bytes were not delivered
+pub quiet_undelivered : (target : Target) (bytes : List ℕ) (p mid q : Option (List ℕ)) (old new : Option (List Access))
+    (told : Message) → IsUndelivered target bytes mid q old new told → IsQuiet p q told
+quiet_undelivered Printed bytes p mid q old new told h = loud_write _ p q told h.2
+quiet_undelivered (NewFile path) bytes p mid q old new told h = loud_write _ p q told h.2
+
+-- nothing was made of the file's bytes
+pub unmade : (c : Conversion) (bytes read : List ℕ) (p q : Option (List ℕ)) (old new : Option (List Access)) (told : Message)
+    → q ≡ p → new ≡ and_then old (Read c.path.now read ∷ []) → bytes ≡ read
+    → IsForkFault c.path.now (made c.work bytes) told → IsUnconverted c p q old new told
+unmade c bytes read p q old new told silent is same fault =
+    Unmade read silent is (subst (λ b. IsForkFault c.path.now (made c.work b) told) same fault)
+
+-- what was made of them was not delivered
+pub undelivered : (c : Conversion) (bytes read out sent : List ℕ) (p mid q : Option (List ℕ))
+    (old then new : Option (List Access)) (told : Message) → mid ≡ p → then ≡ and_then old (Read c.path.now read ∷ [])
+    → bytes ≡ read → sent ≡ out → made c.work bytes ≡ Ok out → IsUndelivered c.target sent mid q then new told
+    → IsUnconverted c p q old new told
+undelivered c bytes read out sent p mid q old then new told silent is same all made_so h =
+    Undelivered read out (subst (λ b. made c.work b ≡ Ok out) same made_so)
+    (subst (λ x. IsUndelivered c.target x p q (and_then old (Read c.path.now read ∷ [])) new told) all
+    (subst (λ a. IsUndelivered c.target sent p q a new told) is
+    (subst (λ x. IsUndelivered c.target sent x q then new told) silent h)))
+
+-- what was made of them was delivered
+pub converts : (c : Conversion) (bytes read out sent : List ℕ) (p mid q : Option (List ℕ))
+    (old then new : Option (List Access)) → mid ≡ p → then ≡ and_then old (Read c.path.now read ∷ [])
+    → bytes ≡ read → sent ≡ out → made c.work bytes ≡ Ok out → Delivers c.target sent mid q then new
+    → Converts c p q old new
+converts c bytes read out sent p mid q old then new silent is same all made_so h = (
+  read,
+  out,
+  subst (λ b. made c.work b ≡ Ok out) same made_so,
+  subst (λ x. Delivers c.target x p q (and_then old (Read c.path.now read ∷ [])) new) all
+      (subst (λ a. Delivers c.target sent p q a new) is
+      (subst (λ x. Delivers c.target sent x q then new) silent h)),
+)

@@ -1,0 +1,16 @@
+use Rattle.std.proofs.Common.{◌≡◌, Err, rules}
+use Rattle.commands.proofs.Accesses.{told_err}
+use Rattle.commands.proofs.Faults.{quiet_silent}
+use Rattle.commands.proofs.doing.run.Goals as goal
+
+-- nothing was printed
+
+pub returns-in_err-run_job-clause-undone : goal.returns-in_err-run_job-clause-undone
+returns-in_err-run_job-clause-undone g c =
+    let same : c.from_residual.result ≡ Err c.in_err-run_job.field-0.0 = search rules in
+    told_err _ _ _ same (c.in_err-run_job.ensures.silent, c.in_err-run_job.ensures.stopped)
+
+pub returns-in_err-run_job-clause-quiet : goal.returns-in_err-run_job-clause-quiet
+returns-in_err-run_job-clause-quiet g c =
+    let same : c.from_residual.result ≡ Err c.in_err-run_job.field-0.0 = search rules in
+    told_err _ _ _ same (quiet_silent _ _ _ c.in_err-run_job.ensures.silent)

@@ -1,0 +1,27 @@
+use Rattle.std.specs.Prelude.{◌≡◌, ℕ, Option, Ok, List, [], ◌∷◌}
+use Rattle.fork_commands.specs.Works.{made}
+use Rattle.commands.specs.declared.converting.Conversion.{Conversion}
+use Rattle.commands.specs.Accesses.{Access, Read, and_then, IsTold}
+use Rattle.commands.specs.Delivering.{Delivers, IsUndelivered}
+use Rattle.commands.specs.Fault.{Message, CannotRead}
+use Rattle.commands.specs.Tasks.{IsForkFault}
+
+-- A file is read, and what is made of its bytes is printed or written. `p` and `q` are the bytes that have been printed
+-- before and after, `old` and `new` the accesses to files.
+
+-- The file was read, and all that the work makes of its bytes was delivered.
+abbrev pub Converts
+    : Conversion → Option (List ℕ) → Option (List ℕ) → Option (List Access) → Option (List Access) → Type 0
+Converts c p q old new =
+    (bytes : List ℕ) × (out : List ℕ) × (made c.work bytes ≡ Ok out)
+    × Delivers c.target out p q (and_then old (Read c.path.now bytes ∷ [])) new
+
+-- The file can't be read, nothing is made of its bytes, or what was made of them was not delivered to its end.
+pub data IsUnconverted
+    (c : Conversion) (p q : Option (List ℕ)) (old new : Option (List Access)) (told : Message) : Type 0 where
+  Unread : q ≡ p → new ≡ old → IsTold (CannotRead c.path.now) told → IsUnconverted c p q old new told
+  Unmade : (bytes : List ℕ) → q ≡ p → new ≡ and_then old (Read c.path.now bytes ∷ [])
+      → IsForkFault c.path.now (made c.work bytes) told → IsUnconverted c p q old new told
+  Undelivered : (bytes out : List ℕ) → made c.work bytes ≡ Ok out
+      → IsUndelivered c.target out p q (and_then old (Read c.path.now bytes ∷ [])) new told
+      → IsUnconverted c p q old new told

@@ -1,0 +1,23 @@
+use Rattle.std.specs.Prelude.{◌≡◌, ℕ, Option, List, [], ◌∷◌, codes}
+use Rattle.std.specs.Io.KnownBytes.{append_known}
+use Rattle.commands.specs.declared.delivering.Target.{Target}
+use Rattle.commands.specs.declared.delivering.Target.TheVariants.{Printed, NewFile}
+use Rattle.commands.specs.Accesses.{Access, Write, and_then, IsTold, WritesFront}
+use Rattle.commands.specs.Fault.{Message, CannotWrite}
+use Rattle.commands.specs.Printing.{PrintsFront}
+
+-- Where bytes go: to the standard output, or into a new file. `p` and `q` are the bytes that have been printed before and
+-- after, `old` and `new` the accesses to files.
+
+-- All bytes went there, and nothing else was printed or written.
+abbrev pub Delivers
+    : Target → List ℕ → Option (List ℕ) → Option (List ℕ) → Option (List Access) → Option (List Access) → Type 0
+Delivers Printed bytes p q old new = (q ≡ append_known p bytes) × (new ≡ old)
+Delivers (NewFile path) bytes p q old new = (q ≡ p) × (new ≡ and_then old (Write path.now bytes ∷ []))
+
+-- The bytes did not go there, or a front of them did; nothing else was printed or written.
+abbrev pub IsUndelivered
+    : Target → List ℕ → Option (List ℕ) → Option (List ℕ) → Option (List Access) → Option (List Access) → Message → Type 0
+IsUndelivered Printed bytes p q old new told = PrintsFront bytes p q × (new ≡ old) × IsTold (CannotWrite (codes "-")) told
+IsUndelivered (NewFile path) bytes p q old new told =
+    (q ≡ p) × WritesFront path.now bytes old new × IsTold (CannotWrite path.now) told

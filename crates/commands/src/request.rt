@@ -1,0 +1,19 @@
+//! What the words of a command line ask for.
+
+use crate::combining::Combination;
+use crate::converting::Conversion;
+use crate::running::Errand;
+use crate::tasks::Task;
+
+/// What the words of a command line ask for.
+#[derive(Clone, Copy)]
+pub enum Request<'a> {
+    /// A file is read, and something is printed of its bytes.
+    Look(Task<'a>),
+    /// A job is run, and what it leaves is written.
+    Run(Errand<'a>),
+    /// A file is read, and what is made of its bytes is printed or written.
+    Convert(Conversion<'a>),
+    /// Two files are read, and what is made of their bytes is printed or written.
+    Combine(Combination<'a>),
+}

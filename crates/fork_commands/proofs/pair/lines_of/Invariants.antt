@@ -1,0 +1,11 @@
+use Rattle.std.proofs.Common.{◌≡◌, ◌++◌, drop, map}
+use Rattle.std.specs.List.{flat_map}
+use Rattle.fork_edits.specs.Lines.{difference_line}
+use Rattle.fork_edits.specs.View.{view_difference}
+use Rattle.fork_commands.proofs.pair.lines_of.Given as goal
+
+-- the lines so far, with those of the differences to come, are all
+abbrev pub invariant-loop-difference : goal.invariant-loop-difference
+invariant-loop-difference l =
+    l.out.items ++ flat_map difference_line (map view_difference (drop l.difference-index l.found))
+    ≡ flat_map difference_line (map view_difference l.found)

@@ -1,0 +1,34 @@
+use Rattle.std.specs.Prelude.{◌≡◌, ℕ, ℤ, pos, Result, Ok, Err}
+use Rattle.mac_words.specs.declared.code.OsErr.{OsErr}
+use Rattle.fork_commands.specs.declared.fault.FileFault.{FileFault}
+use Rattle.fork_commands.specs.declared.fault.FileFault.TheVariants.{Code, Wrapper, Source}
+use Rattle.fork_commands.specs.declared.fault.WorkFault.{WorkFault}
+use Rattle.fork_commands.specs.declared.fault.WorkFault.TheVariants.{File, HostMemory}
+
+-- Faults of the bytes of files.
+
+-- The fault for a result code.
+abbrev pub told : OsErr → FileFault
+told code = Code code
+
+-- The number of a fault: the result code, if it has one.
+abbrev pub number_of : FileFault → ℤ
+number_of (Code code) = code.0
+number_of (Wrapper fault) = pos 0
+number_of (Source fault) = pos 0
+
+-- The line of a source that can't be read.
+abbrev pub line_of : FileFault → ℕ
+line_of (Code code) = 0
+line_of (Wrapper fault) = 0
+line_of (Source fault) = fault.line
+
+-- What follows something that was made; a fault stays.
+abbrev pub made_then : {A B F : Type 0} → Result A F → (A → Result B F) → Result B F
+made_then (Ok made) next = next made
+made_then (Err fault) next = Err fault
+
+-- The fault is what comes in place of a result; nothing is said if the host is out of memory.
+abbrev pub Stops : {A : Type 0} → WorkFault → Result A FileFault → Type 0
+Stops HostMemory wanted = Unit {0}
+Stops (File fault) wanted = wanted ≡ Err fault

@@ -1,0 +1,83 @@
+//! Faults: why nothing is made of the bytes of a file.
+
+ghost use Rattle.std.specs.Prelude.{◌≡◌};
+ghost use Rattle.fork_commands.specs.Faults.{told, number_of, line_of};
+ghost use Rattle.fork_commands.specs.declared.fault.WorkFault.TheVariants.{File, HostMemory};
+
+use fork_wrappers::WrapFault;
+use mac_words::OsErr;
+use rez_text::TextFault;
+use std::alloc::AllocError;
+use thiserror::Error;
+
+/// What is wrong with the bytes of a file. Its `Display` is the end of the line that is printed for the file.
+#[derive(Clone, Copy, Debug, Error)]
+pub enum FileFault {
+    /// The bytes are no resource fork, the fork has no such resource, or what is to be made doesn't fit the format of a
+    /// fork.
+    #[error("fork {}", .code.number())]
+    Code {
+        /// The result code.
+        code: OsErr,
+    },
+    /// The bytes are an AppleSingle, AppleDouble or MacBinary file that is damaged.
+    #[error("{fault}")]
+    Wrapper {
+        /// Which of them, and how it is damaged.
+        fault: WrapFault,
+    },
+    /// The bytes are no source of Rez.
+    #[error("line {}: {}", .fault.line, .fault.kind)]
+    Source {
+        /// The line that can't be read, and why.
+        fault: TextFault,
+    },
+}
+
+impl FileFault {
+    /// Returns the result code, or 0 for a fault that has none.
+    pub fn number(self) -> i16
+        ensures { result ≡ number_of self }
+    {
+        match self {
+            FileFault::Code { code } => code.number(),
+            FileFault::Wrapper { .. } | FileFault::Source { .. } => 0,
+        }
+    }
+
+    /// Returns the line of a source that can't be read, or 0 for another fault.
+    pub fn line(self) -> usize
+        ensures { result ≡ line_of self }
+    {
+        match self {
+            FileFault::Source { fault } => fault.line,
+            FileFault::Code { .. } | FileFault::Wrapper { .. } => 0,
+        }
+    }
+}
+
+/// The reason why nothing is made of the bytes of a file.
+#[derive(Clone, Copy)]
+pub enum WorkFault {
+    /// The file's bytes are at fault.
+    File(FileFault),
+    /// The host is out of memory.
+    HostMemory,
+}
+
+impl WorkFault {
+    /// Returns the fault for a result code.
+    pub(crate) fn code(code: OsErr) -> WorkFault
+        ensures { result ≡ File (told code) }
+    {
+        WorkFault::File(FileFault::Code { code })
+    }
+}
+
+impl From<AllocError> for WorkFault {
+    ghost from_gives = { λ _ e. e ≡ HostMemory };
+
+    fn from(_e: AllocError) -> WorkFault {
+        WorkFault::HostMemory
+    }
+}

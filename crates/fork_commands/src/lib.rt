@@ -1,0 +1,12 @@
+//! What the commands make of the bytes of resource forks.
+#![tactic(auto)]
+
+mod fault;
+mod pair;
+mod reading;
+mod work;
+
+pub use fault::{FileFault, WorkFault};
+pub use pair::{PairFault, PairOutput, PairWork, Place, Setting, combined};
+pub use reading::{content_in, content_of_fork, fork_in};
+pub use work::{ForkWork, ResourceKey, copied, made};

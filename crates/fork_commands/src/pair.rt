@@ -1,0 +1,199 @@
+//! The works on two files: from their bytes to what is printed or written of them.
+
+ghost use Rattle.std.specs.Prelude.{◌≡◌, Ok, OnOk, IfOk, IfErr, map, not};
+ghost use Rattle.std.specs.List.{flat_map};
+ghost use Rattle.fork_edits.specs.Differences.{same_content};
+ghost use Rattle.fork_edits.specs.Lines.{difference_line};
+ghost use Rattle.fork_edits.specs.View.{view_difference};
+ghost use Rattle.fork_format.specs.View.{view};
+ghost use Rattle.fork_commands.specs.Faults.{Stops};
+ghost use Rattle.fork_commands.specs.Pairs.{stopped_at, StopsPair, with_setting, fork_set, difference_lines, combined};
+ghost use Rattle.fork_commands.specs.declared.pair.PairWork.TheVariants.{Set, Diff};
+
+use crate::fault::{FileFault, WorkFault};
+use crate::reading::content_in;
+use crate::work::{ResourceKey, canonical};
+use fork_edits::{Change, Difference, append_difference, diff, set_resource};
+use fork_format::{Content, RefName};
+use mac_words::Attrs;
+use std::alloc::{AllocError, Global};
+
+/// The resource that is set in a fork.
+#[derive(Clone, Copy)]
+pub struct Setting<'a> {
+    pub key: ResourceKey,
+    /// The name, or none to leave the name as it is.
+    pub name: Option<RefName<'a>>,
+    /// The attributes, or none to leave them as they are.
+    pub attrs: Option<Attrs>,
+}
+
+/// What is made of the bytes of two files.
+#[derive(Clone, Copy)]
+pub enum PairWork<'a> {
+    /// The canonical fork of the content that the first file's bytes spell, with a resource set to the second file's
+    /// bytes.
+    Set(Setting<'a>),
+    /// How the contents of the two forks differ, in lines.
+    Diff,
+}
+
+/// What is made of the bytes of two files.
+#[derive(Drop)]
+pub struct PairOutput {
+    /// The bytes that are made.
+    pub out: Vec<u8>,
+    /// Whether two contents were compared, and differ.
+    pub differs: bool,
+}
+
+/// One of two files.
+#[derive(Clone, Copy)]
+pub enum Place {
+    First,
+    Second,
+}
+
+/// The reason why nothing is made of the bytes of two files.
+#[derive(Clone, Copy)]
+pub enum PairFault {
+    /// The bytes of a file are at fault.
+    File(Place, FileFault),
+    /// The host is out of memory.
+    HostMemory,
+}
+
+impl WorkFault {
+    /// Returns the fault as one of a file among two.
+    fn at(self, place: Place) -> PairFault
+        ensures { result ≡ stopped_at place self }
+    {
+        match self {
+            WorkFault::File(fault) => PairFault::File(place, fault),
+            WorkFault::HostMemory => PairFault::HostMemory,
+        }
+    }
+}
+
+/// Sets a resource of a content to bytes.
+fn change<'b>(
+    alloc: Global,
+    setting: &Setting<'b>,
+    bytes: &'b [u8],
+    content: &mut Content<'b>,
+) -> Result<(), AllocError>
+    ensures { OnOk result (view content.new ≡ with_setting setting.now bytes.now (view content.old)) }
+{
+    let change = Change {
+        datum: bytes,
+        name: setting.name,
+        attrs: setting.attrs,
+    };
+    set_resource(alloc, content, setting.key.ty, setting.key.id, &change)
+}
+
+/// Returns the canonical fork of a content, once a resource in it is set to the second file's bytes.
+fn fork_set<'b>(
+    alloc: Global,
+    setting: Setting<'b>,
+    first: &'b [u8],
+    second: &'b [u8],
+) -> Result<Vec<u8>, WorkFault>
+    ensures made { IfOk result (λ out. fork_set setting.entry first.now second.now ≡ Ok out.items) }
+    ensures fault { IfErr result (λ fault. Stops fault (fork_set setting.entry first.now second.now)) }
+{
+    let mut content = content_in(alloc, first)?;
+    change(alloc, &setting, second, &mut content)?;
+    canonical(alloc, &content)
+}
+
+/// Returns the lines of differences.
+fn lines_of(alloc: Global, found: &[Difference<'_, '_>]) -> Result<Vec<u8>, AllocError>
+    ensures { IfOk result (λ out. out.items ≡ flat_map difference_line (map view_difference found.now)) }
+{
+    let mut out = Vec::new(alloc);
+    for difference in found {
+        append_difference(&mut out, difference)?;
+    }
+    Ok(out)
+}
+
+/// Returns how two contents differ, in lines, and whether they do.
+#[tactic(auto, using(crate::proofs::Pairs::differs_of))]
+fn compared(
+    alloc: Global,
+    first: &Content<'_>,
+    second: &Content<'_>,
+) -> Result<PairOutput, AllocError>
+    ensures lines { IfOk result (λ made. made.out.items ≡ difference_lines (view first.now) (view second.now)) }
+    ensures differs { IfOk result (λ made. made.differs ≡ not (same_content (view first.now) (view second.now))) }
+{
+    let differences = diff(alloc, first, second)?;
+    let found = differences.as_slice();
+    let out = lines_of(alloc, found)?;
+    Ok(PairOutput {
+        out,
+        differs: !found.is_empty(),
+    })
+}
+
+/// Returns how the contents of two forks differ.
+#[tactic(auto, using(crate::proofs::Pairs::first_stopped, crate::proofs::Pairs::second_stopped, crate::proofs::Pairs::both_compared))]
+fn forks_compared(alloc: Global, first: &[u8], second: &[u8]) -> Result<PairOutput, PairFault>
+    ensures made { IfOk result (λ made. combined Diff first.now second.now ≡ Ok (made.out.items, made.differs)) }
+    ensures fault { IfErr result (λ fault. StopsPair fault (combined Diff first.now second.now)) }
+{
+    let one = match content_in(alloc, first) {
+        Ok(content) => content,
+        Err(fault) => return Err(fault.at(Place::First)),
+    };
+    let other = match content_in(alloc, second) {
+        Ok(content) => content,
+        Err(fault) => return Err(fault.at(Place::Second)),
+    };
+    match compared(alloc, &one, &other) {
+        Ok(made) => Ok(made),
+        Err(_) => Err(PairFault::HostMemory),
+    }
+}
+
+/// Sets a resource in the fork in the first file's bytes.
+#[tactic(auto, using(crate::proofs::Pairs::set_made, crate::proofs::Pairs::set_stopped))]
+fn resource_set<'b>(
+    alloc: Global,
+    setting: Setting<'b>,
+    first: &'b [u8],
+    second: &'b [u8],
+) -> Result<PairOutput, PairFault>
+    ensures made { IfOk result (λ made.
+        combined (Set setting.entry) first.now second.now ≡ Ok (made.out.items, made.differs)) }
+    ensures fault { IfErr result (λ fault. StopsPair fault (combined (Set setting.entry) first.now second.now)) }
+{
+    match fork_set(alloc, setting, first, second) {
+        Ok(out) => Ok(PairOutput {
+            out,
+            differs: false,
+        }),
+        Err(fault) => Err(fault.at(Place::First)),
+    }
+}
+
+/// Returns what a work makes of the bytes of two files.
+///
+/// # Errors
+///
+/// The fault of the bytes of either; if the host is out of memory nothing is said of them.
+pub fn combined(
+    alloc: Global,
+    work: PairWork<'_>,
+    first: &[u8],
+    second: &[u8],
+) -> Result<PairOutput, PairFault>
+    ensures made { IfOk result (λ made. combined work.entry first.now second.now ≡ Ok (made.out.items, made.differs)) }
+    ensures fault { IfErr result (λ fault. StopsPair fault (combined work.entry first.now second.now)) }
+{
+    match work {
+        PairWork::Set(setting) => resource_set(alloc, setting, first, second),
+        PairWork::Diff => forks_compared(alloc, first, second),
+    }
+}

@@ -1,0 +1,129 @@
+//! The works on one file: from its bytes to what is printed or written of them.
+
+ghost use Rattle.std.specs.Prelude.{◌≡◌, Ok, IfOk, IfErr};
+ghost use Rattle.fork_format.specs.View.{view};
+ghost use Rattle.fork_commands.specs.Faults.{Stops};
+ghost use Rattle.fork_commands.specs.Works.{canonical, datum_at, made};
+ghost use Rattle.fork_commands.specs.declared.work.ForkWork.TheVariants.{Rewrite, Get, Derez, Rez};
+
+use crate::fault::{FileFault, WorkFault};
+use crate::reading::content_in;
+use fork_edits::find_resource;
+use fork_format::{Content, WriteFault, write_fork};
+use mac_words::{OsErr, OsType};
+use rez_text::{SourceFault, read_source, write_source};
+use std::alloc::{AllocError, Global};
+
+/// The type and the ID of a resource.
+#[derive(Clone, Copy)]
+pub struct ResourceKey {
+    pub ty: OsType,
+    pub id: i16,
+}
+
+/// What is made of the bytes of a file.
+#[derive(Clone, Copy)]
+pub enum ForkWork {
+    /// The canonical fork of the content that the bytes spell.
+    Rewrite,
+    /// The stored data of the first resource of a type and an ID.
+    Get(ResourceKey),
+    /// The content that the bytes spell, as source of Rez.
+    Derez,
+    /// The canonical fork of the content that the bytes state as source of Rez.
+    Rez,
+}
+
+/// Returns the canonical fork of a content.
+pub fn canonical(alloc: Global, content: &Content<'_>) -> Result<Vec<u8>, WorkFault>
+    ensures made { IfOk result (λ fork. canonical (view content.now) ≡ Ok fork.items) }
+    ensures fault { IfErr result (λ fault. Stops fault (canonical (view content.now))) }
+{
+    match write_fork(alloc, content) {
+        Ok(fork) => Ok(fork),
+        Err(WriteFault::TooLarge) => Err(WorkFault::code(OsErr::DISK_FULL)),
+        Err(WriteFault::HostMemory) => Err(WorkFault::HostMemory),
+    }
+}
+
+/// Returns the canonical fork of the content that bytes spell.
+fn rewritten(alloc: Global, bytes: &[u8]) -> Result<Vec<u8>, WorkFault>
+    ensures made { IfOk result (λ out. made Rewrite bytes.now ≡ Ok out.items) }
+    ensures fault { IfErr result (λ fault. Stops fault (made Rewrite bytes.now)) }
+{
+    let content = content_in(alloc, bytes)?;
+    canonical(alloc, &content)
+}
+
+/// Returns a copy of bytes.
+pub fn copied(alloc: Global, bytes: &[u8]) -> Result<Vec<u8>, AllocError>
+    ensures { IfOk result (λ copy. copy.items ≡ bytes.now) }
+{
+    let mut copy = Vec::with_capacity(alloc, bytes.len())?;
+    copy.extend_from_slice(bytes)?;
+    Ok(copy)
+}
+
+/// Returns a copy of the stored data of the first resource of a type and an ID.
+fn datum_at(alloc: Global, key: ResourceKey, content: &Content<'_>) -> Result<Vec<u8>, WorkFault>
+    ensures made { IfOk result (λ out. datum_at key (view content.now) ≡ Ok out.items) }
+    ensures fault { IfErr result (λ fault. Stops fault (datum_at key (view content.now))) }
+{
+    match find_resource(content, key.ty, key.id) {
+        Some(resource) => Ok(copied(alloc, resource.datum)?),
+        None => Err(WorkFault::code(OsErr::RES_NOT_FOUND)),
+    }
+}
+
+/// Returns a copy of the stored data of a resource of the fork in bytes.
+fn gotten(alloc: Global, key: ResourceKey, bytes: &[u8]) -> Result<Vec<u8>, WorkFault>
+    ensures made { IfOk result (λ out. made (Get key) bytes.now ≡ Ok out.items) }
+    ensures fault { IfErr result (λ fault. Stops fault (made (Get key) bytes.now)) }
+{
+    let content = content_in(alloc, bytes)?;
+    datum_at(alloc, key, &content)
+}
+
+/// Returns the content that bytes spell, as source of Rez.
+#[tactic(auto, using(crate::proofs::Contents::printed_of))]
+fn printed(alloc: Global, bytes: &[u8]) -> Result<Vec<u8>, WorkFault>
+    ensures made { IfOk result (λ out. made Derez bytes.now ≡ Ok out.items) }
+    ensures fault { IfErr result (λ fault. Stops fault (made Derez bytes.now)) }
+{
+    let content = content_in(alloc, bytes)?;
+    let source = write_source(alloc, &content)?;
+    Ok(source)
+}
+
+/// Returns the canonical fork of the content that a source of Rez states.
+#[tactic(auto, using(crate::proofs::Contents::assembled_of, crate::proofs::Contents::stopped_of))]
+fn assembled(alloc: Global, source: &[u8]) -> Result<Vec<u8>, WorkFault>
+    ensures made { IfOk result (λ out. made Rez source.now ≡ Ok out.items) }
+    ensures fault { IfErr result (λ fault. Stops fault (made Rez source.now)) }
+{
+    match read_source(alloc, source) {
+        Ok(stated) => {
+            let content = stated.content(alloc)?;
+            canonical(alloc, &content)
+        }
+        Err(SourceFault::Text(fault)) => Err(WorkFault::File(FileFault::Source { fault })),
+        Err(SourceFault::HostMemory) => Err(WorkFault::HostMemory),
+    }
+}
+
+/// Returns what a work makes of the bytes of a file.
+///
+/// # Errors
+///
+/// The fault of the bytes; if the host is out of memory nothing is said of them.
+pub fn made(alloc: Global, work: ForkWork, bytes: &[u8]) -> Result<Vec<u8>, WorkFault>
+    ensures made { IfOk result (λ out. made work bytes.now ≡ Ok out.items) }
+    ensures fault { IfErr result (λ fault. Stops fault (made work bytes.now)) }
+{
+    match work {
+        ForkWork::Rewrite => rewritten(alloc, bytes),
+        ForkWork::Get(key) => gotten(alloc, key, bytes),
+        ForkWork::Derez => printed(alloc, bytes),
+        ForkWork::Rez => assembled(alloc, bytes),
+    }
+}
