@@ -1,13 +1,12 @@
 -- Forks that were read for the lines of a job.
-use Rattle.std.proofs.Common.{◌≡◌, ◌∷◌, ◌∙◌, ℕ, List, [], Option, Result, Ok, Err, sym, ap, subst}
+use Rattle.std.proofs.Common.{◌≡◌, ◌∷◌, ◌∙◌, ℕ, List, [], Option, Ok, Err, sym, ap, subst}
 use Rattle.script_text.specs.Script.{Spelled}
 use Rattle.fork_wrappers.specs.declared.wrapping.Wrapping.TheVariants.{Plain}
 use Rattle.fork_wrappers.specs.Unwrapped.{wrapping_of}
 use Rattle.fork_wrappers.specs.Unwrapped as wrappers
-use Rattle.fork_commands.specs.declared.fault.FileFault.{FileFault}
 use Rattle.fork_commands.specs.Reading.{fork_in, fork_found}
 use Rattle.commands.specs.Fault.{Message, Usage, CannotRead, Script, Fork, CannotWrite, HostMemory}
-use Rattle.commands.specs.Accesses.{Access, Read, and_then, reads_at}
+use Rattle.commands.specs.Accesses.{Access}
 use Rattle.commands.specs.Gathering.{fork_told, fork_at, script_at, app_of, app_at, GivenApp, IsStop, Reads}
 use Rattle.commands.specs.Tasks.{IsForkFault}
 use Rattle.commands.proofs.Accesses.{stop_then}
@@ -51,6 +50,10 @@ app_there name fork script file bytes texts spelled app found reads is =
 pub app_unread : (name fork script : List ℕ) (old new : Option (List Access)) (told : Message)
     → Reads (fork ∷ []) old new (λ texts. IsStop (fork_at fork texts) told)
     → Reads (fork ∷ script ∷ []) old new (λ texts. IsStop (app_at name fork script texts) told)
-app_unread name fork script old new told ([], reads, stops) = ([], reads, stop_then (fork_at fork []) _ told stops)
-app_unread name fork script old new told (file ∷ texts, reads, stops) =
-    (file ∷ [], reads, stop_then (fork_at fork (file ∷ [])) _ told stops)
+app_unread name fork script old new told ([], reads, stops) =
+    ([], reads, stop_then (fork_at fork []) (λ bytes. app_of name (Ok bytes) (script_at script [])) told stops)
+app_unread name fork script old new told (file ∷ texts, reads, stops) = (
+  file ∷ [],
+  reads,
+  stop_then (fork_at fork (file ∷ [])) (λ bytes. app_of name (Ok bytes) (script_at script [])) told stops,
+)

@@ -1,5 +1,5 @@
 -- A file that was read, and what was made of it.
-use Rattle.std.proofs.Common.{◌≡◌, ◌∷◌, ℕ, List, [], Option, Ok, sym, subst}
+use Rattle.std.proofs.Common.{◌≡◌, ◌∷◌, ℕ, List, [], Option, Ok, subst}
 use Rattle.fork_commands.specs.Works.{made}
 use Rattle.commands.specs.declared.converting.Conversion.{Conversion}
 use Rattle.commands.specs.declared.delivering.Target.{Target}

@@ -74,7 +74,7 @@ pub fn transcript_of<W: Watch>(
 }
 
 /// Returns the listing of the resource fork in the bytes of a file.
-#[tactic(auto, using(fork_commands::proofs::Contents::content_there, fork_commands::proofs::Contents::stopped_there))]
+#[tactic(auto, using(crate::proofs::Listed::listed_there, fork_commands::proofs::Contents::stopped_there))]
 pub fn listing_of<'b>(
     alloc: Global,
     style: MapStyle,

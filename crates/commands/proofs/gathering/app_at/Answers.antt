@@ -1,6 +1,7 @@
-use Rattle.std.proofs.Common.{◌≡◌, ◌∷◌, ◌∙◌, [], Option, List, ℕ, Ok, Err, ap, rules}
+use Rattle.std.proofs.Common.{◌≡◌, ◌∷◌, ◌∙◌, [], Option, List, ℕ, Err, ap, rules}
 use Rattle.script_text.specs.Script.{spelled}
 use Rattle.commands.specs.declared.fault.ToolFault.TheVariants.{HostMemory}
+use Rattle.commands.specs.Fault.{message_of}
 use Rattle.commands.specs.Accesses.{Access, Read, and_then, reads_at}
 use Rattle.commands.specs.Gathering.{app_given}
 use Rattle.commands.proofs.Accesses.{one_more, stop_given}
@@ -16,7 +17,7 @@ both a b d fork script bytes texts first second =
 
 pub returns-in_err-bytes-clause-app : goal.returns-in_err-bytes-clause-app
 returns-in_err-bytes-clause-app g c =
-    let same : c.from_residual-in_err-bytes.result ≡ Err c.in_err-bytes.field-0.0 = search rules in
+    let same : c.from_residual.result ≡ Err c.in_err-bytes.field-0.0 = search rules in
     let h = app_unread c.args.name.now.0.items c.args.fork.now c.args.script.now _ _ _ c.in_err-bytes.ensures.stop in
     (h.0, h.1, stop_given app_given _ _ _ same h.2)
 
@@ -27,7 +28,8 @@ returns-in_err-script-clause-app g c =
     let same : c.from_residual-in_err-script.result ≡ Err c.in_err-script.field-0.0 = search rules in (
       found.0 ∷ h.0,
       both _ _ _ _ _ _ h.0 found.1 h.1,
-      stop_given app_given _ _ _ same (app_stop _ _ _ _ _ h.0 _ found.2 h.2),
+      stop_given app_given _ _ _ same (app_stop c.args.name.now.0.items c.args.fork.now c.args.script.now found.0
+          c.in_ok-bytes.bytes.items h.0 (message_of c.in_err-script.field-0.0) found.2 h.2),
     )
 
 pub returns-in_err-label_copy-clause-app : goal.returns-in_err-label_copy-clause-app

@@ -1,5 +1,6 @@
 use Rattle.std.proofs.Common.{◌≡◌, ◌∷◌, ◌∙◌, [], Ok, Err, sym, ap, rules}
 use Rattle.commands.specs.declared.fault.ToolFault.TheVariants.{HostMemory}
+use Rattle.commands.specs.Fault.{message_of}
 use Rattle.commands.specs.Gathering.{fork_at, given_then, file_given}
 use Rattle.commands.proofs.Accesses.{stop_given, stop_then}
 use Rattle.commands.proofs.Forks.{fork_there}
@@ -8,8 +9,12 @@ use Rattle.commands.proofs.gathering.file_at.Goals as goal
 pub returns-in_err-fork-clause-file : goal.returns-in_err-fork-clause-file
 returns-in_err-fork-clause-file g c =
     let h = c.in_err-fork.ensures.stop in
-    let same : c.from_residual-in_err-fork.result ≡ Err c.in_err-fork.field-0.0 = search rules in
-    (h.0, h.1, stop_given file_given _ _ _ same (stop_then (fork_at c.args.path.now h.0) _ _ h.2))
+    let same : c.from_residual.result ≡ Err c.in_err-fork.field-0.0 = search rules in (
+      h.0,
+      h.1,
+      stop_given file_given _ _ _ same (stop_then (fork_at c.args.path.now h.0)
+          (λ bytes. Ok (record { name = c.args.name.now.0.items; fork = bytes })) (message_of c.in_err-fork.field-0.0) h.2),
+    )
 
 pub returns-in_err-name_copy-clause-file : goal.returns-in_err-name_copy-clause-file
 returns-in_err-name_copy-clause-file g c =

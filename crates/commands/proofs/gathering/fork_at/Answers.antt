@@ -1,4 +1,5 @@
 use Rattle.std.proofs.Common.{◌∷◌, []}
+use Rattle.commands.specs.Fault.{message_of}
 use Rattle.commands.proofs.Forks.{fork_stop}
 use Rattle.commands.proofs.gathering.fork_at.Goals as goal
 
@@ -7,4 +8,4 @@ returns-in-Ok-clause-fork g c = (c.in_ok-bytes.bytes.items, c.in_ok-bytes.ensure
 
 pub returns-in-Err-clause-stop : goal.returns-in-Err-clause-stop
 returns-in-Err-clause-stop g c =
-    (c.in_ok-bytes.bytes.items ∷ [], c.in_ok-bytes.ensures.read, fork_stop _ _ _ c.in-Err.ensures.fault)
+    (c.in_ok-bytes.bytes.items ∷ [], c.in_ok-bytes.ensures.read, fork_stop c.args.path.now c.in_ok-bytes.bytes.items (message_of c.in-Err.fault) c.in-Err.ensures.fault)
