@@ -1,6 +1,7 @@
 -- A zone that fills a region, cut from it and joined again.
 use Rattle.std.proofs.Common.{◌≡◌, ◌∙◌, ◌+◌, ◌++◌, ℕ, List, [], length, Result, Ok, Err, IfOk, ap, subst, sym, arith}
 use Rattle.std.proofs.lemmas.List.{nil_from_length, drop_all, append-nil}
+use Rattle.std.specs.List.{Contains}
 use Rattle.windows.specs.declared.Window.{Window}
 use Rattle.windows.specs.Windows.{with_window, without_window, window, put_in, taken_out}
 use Rattle.windows.specs.Writes.{written}
@@ -23,6 +24,15 @@ pub whole_home : (at len : ℕ) (before out after : List Window) (from n : ℕ) 
 whole_home at len before out after from n b o a l h =
     h ∙ (λ i. without_window (a i) (l i) (o i)) ∙ ap (λ ws. without_window from n (with_window from n ws)) b
     ∙ alone_out (window from n)
+
+-- the window that was cut is out
+pub whole_there : (at len : ℕ) (before out : List Window) (from n : ℕ) → before ≡ [] → out ≡ with_window from n before
+    → at ≡ from → len ≡ n → Contains out (window at len)
+whole_there at len before out from n b o a l =
+    let is : out ≡ with_window at len [] = o ∙ (λ i. with_window (sym a i) (sym l i) (b i)) in
+    let w = window at len in
+    let one = one-itself w in
+    subst (λ ws. Contains ws w) (sym is) (contains-counted w (put_in w []) (omega (arith, one)))
 
 -- bytes written over as many are all there are
 whole_written : (at : ℕ) (ys xs : List ℕ) → at ≡ 0 → length ys ≡ length xs → written at ys xs ≡ ys
