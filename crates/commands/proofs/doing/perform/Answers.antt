@@ -1,0 +1,12 @@
+use Rattle.std.proofs.Common.{IfErr, sym, subst}
+use Rattle.commands.specs.Fault.{message_of}
+use Rattle.commands.specs.Doing.{IsUndone}
+use Rattle.commands.proofs.doing.perform.Goals as goal
+
+-- the job was not run to its end
+pub returns-in-Run-clause-undone : goal.returns-in-Run-clause-undone
+returns-in-Run-clause-undone g c =
+    subst (λ request. IfErr c.run.result (λ fault. IsUndone request
+    (g.H.Host.printed c.args.host.now) (g.H.Host.printed c.run.new.host)
+    (g.H.Host.accesses c.args.host.now) (g.H.Host.accesses c.run.new.host) (message_of fault)))
+    (sym c.in-Run.is) c.run.ensures.undone
