@@ -4,4 +4,5 @@ pub mod Knowing
 pub mod Roomy
 pub mod Starting
 pub mod RunStarting
+pub mod Begun
 pub mod Sums

@@ -27,3 +27,4 @@ pub mod Purging
 pub mod Searching
 pub mod Adopting
 pub mod Largest
+pub mod Beginning

@@ -97,7 +97,6 @@ pub record RunBegins (at : ℕ) (xs : List ℕ) : Type 0 where
   pub is : zone_in xs ≡ below ++ here ∷ left_in at xs
   pub ends : ends_run here ≡ true
   pub up : sizes below + size here ≡ at
-  pub some : sizes below < at
 
 -- The place of the lowest free block of `bytes` bytes or more after the given number of purges.
 abbrev pub lowest_room : ℕ → ℕ → Sparing → List ℕ → Option ℕ

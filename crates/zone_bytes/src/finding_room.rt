@@ -54,6 +54,9 @@ fn scan_purges(part: &Part, from: u32, bytes: u32, purges: u32, sparing: Sparing
         place: from,
     };
     while scan.place < end && is_within(scan) {
+        if suffices(scan.free, bytes) {
+            return Scanned::Found(scan.start);
+        }
         let step = step_at(part, scan.place);
         match scan_room(step.block, bytes, scan, sparing) {
             Some(next) => scan = next,

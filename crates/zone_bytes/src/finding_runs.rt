@@ -8,22 +8,21 @@ ghost use Rattle.block_store.specs.Find.{FindsLowestRun};
 ghost use Rattle.block_store.specs.Inner.RunScan.{scan_from};
 ghost use Rattle.block_store.specs.Run.{has, has_free};
 ghost use Rattle.block_store.specs.Sparing.{opened, purged, spared};
-ghost use Rattle.block_store.specs.declared.sparing.Sparing.TheVariants as sparing;
 ghost use Rattle.zone_bytes.specs.Decode.{zone_in};
 ghost use Rattle.zone_bytes.specs.Lawful.{IsSound};
 ghost use Rattle.zone_bytes.specs.Marks.{AreMarks, Begins, above_all, ends_run, no_mark};
 ghost use Rattle.zone_bytes.specs.Purgeable.{MayStart};
-ghost use Rattle.zone_bytes.specs.Searching.{IsFound, IsKnown, IsPiece, IsSearch, IsStretch, RunBegins, begun, most_free_of};
-ghost use Rattle.zone_bytes.specs.Searching.{finds_purging, lowest_place, run_begun};
+ghost use Rattle.zone_bytes.specs.Searching.{IsFound, IsKnown, IsPiece, IsSearch, IsStretch, begun, finds_purging};
+ghost use Rattle.zone_bytes.specs.Searching.{lowest_place, most_free_of};
 ghost use Rattle.zone_bytes.specs.Stepping.{left_in, IsOnWay};
 ghost use Rattle.zone_bytes.specs.declared.finding_runs.Search.TheVariants as how;
 ghost use Rattle.zone_bytes.specs.declared.landmark.Tally.TheVariants as tally;
 ghost use Rattle.zone_summary.specs.declared.stretch.Stretch.TheVariants.{Whole, Ended};
 
-use crate::landmark::{GROUP, Landmark, Tally};
+use crate::beginning::{begin_search, begun_at};
+use crate::landmark::{Landmark, Tally};
 use crate::marking::{index_above, place_of_mark};
-use crate::measuring::{greater, is_under, span_at, within};
-use crate::paging::{LANDMARKS, LEAST_PAGE};
+use crate::measuring::{greater, within};
 use crate::raw_walk::step_at;
 use block_store::{RunScan, Sparing, scan_run};
 use raw_region::Part;
@@ -60,19 +59,6 @@ fn scan_up_to(part: &Part, scan: RunScan, to: u32, bytes: u32, sparing: Sparing)
         scan = scan_run(step.block, None, scan, sparing);
     }
     scan
-}
-
-/// Returns a search that begins at `place` with the given number of purges.
-fn begun_at(place: u32, purges: u32) -> RunScan
-    ensures { result ≡ (record { left = purges; start = place; free = 0; met = true; place = place }) }
-{
-    RunScan {
-        left: purges,
-        start: place,
-        free: 0,
-        met: true,
-        place,
-    }
 }
 
 /// Blocks that were passed without a walk over them. Among those from `at` up to `end` a run ends, and the run at their
@@ -295,67 +281,12 @@ fn without_purges(scan: RunScan) -> RunScan
     }
 }
 
-/// Reports whether it is known that one of a landmark's blocks ends a run.
-fn is_barred(tally: Tally) -> bool {
-    match tally {
-        Tally::Known(Stretch::Ended(_, _, _)) => true,
-        _ => false,
-    }
-}
-
-/// Returns the place of a landmark among whose blocks one ends a run, of the last ones below the place `from`, or 0.
-fn barred_below(marks: &[Landmark], from: u32) -> u32
-    ensures { (end : ℕ) (zone : List Block) → AreMarks end zone marks.now → Begins result 0 zone }
-{
-    let mut index = index_above(marks, from, 0);
-    let least = index.saturating_sub(GROUP);
-    while index > least {
-        index -= 1;
-        if is_barred(marks[index].tally) {
-            return marks[index].at;
-        }
-    }
-    0
-}
-
-/// Returns the place above the first block that ends a run, of those from `at` on that end up to `to`; if there is
-/// none, 0.
-fn run_above(part: &Part, at: u32, to: u32) -> u32
-    requires sound { (first : ℕ) × (unused : ℕ) × IsSound part.now.bytes first unused }
-    requires begins { Begins at 0 (zone_in part.now.bytes) }
-    ensures { (result ≡ 0) ⊎ (RunBegins result part.now.bytes × (result ≤ to)) }
-{
-    let stop = within(to, part.len() as u32);
-    let mut place = at;
-    while place < stop {
-        let span = span_at(part, place);
-        if span.barrier && span.end <= to {
-            return span.end;
-        }
-        place = span.end;
-    }
-    0
-}
-
-/// Returns the place of a run near `from` that begins at or below it, or 0 where there are no purges, or where a walk
-/// from the bottom up to `from` goes over fewer blocks than a zone has landmarks, if each has the bytes of a small page.
-fn run_below(marks: &[Landmark], part: &Part, from: u32, purges: u32) -> u32
-    requires sound { (first : ℕ) × (unused : ℕ) × IsSound part.now.bytes first unused }
-    requires marks { AreMarks above_all (zone_in part.now.bytes) marks.now }
-    ensures { (result ≡ 0) ⊎ (RunBegins result part.now.bytes × (result ≤ from)) }
-{
-    if purges == 0 || from / LEAST_PAGE < LANDMARKS as u32 {
-        return 0;
-    }
-    run_above(part, barred_below(marks, from), from)
-}
-
 /// Returns the place of the lowest run with at least `bytes` free bytes after the given number of purges, by a search
-/// that begins at `from` and goes on by landmarks once no purges are left.
+/// that begins where it is known to find that run, and goes on by landmarks once no purges are left.
 fn runs_from(
     marks: &[Landmark],
     part: &Part,
-    from: u32,
+    begun: RunScan,
     bytes: u32,
     purges: u32,
     sparing: Sparing,
@@ -363,12 +294,12 @@ fn runs_from(
     requires sound { (first : ℕ) × (unused : ℕ) × IsSound part.now.bytes first unused }
     requires marks { AreMarks above_all (zone_in part.now.bytes) marks.now }
     requires plain { (zone : List Block) → opened sparing zone ≡ zone }
-    requires begins { Begins from 0 (zone_in part.now.bytes) }
-    requires finds { lowest_place bytes purges sparing part.now.bytes
-        ≡ finds_purging bytes sparing (run_begun from purges) part.now.bytes }
+    requires begins { Begins begun.place 0 (zone_in part.now.bytes) }
+    requires free { begun.free ≤ begun.place }
+    requires met { begun.met ≡ true }
+    requires finds { lowest_place bytes purges sparing part.now.bytes ≡ finds_purging bytes sparing begun part.now.bytes }
     ensures { FindsLowestRun (has_free bytes) (purged purges sparing (zone_in part.now.bytes)) result }
 {
-    let begun = begun_at(from, purges);
     let walked = scan_up_to(part, begun, 0, bytes, sparing);
     let used = without_purges(walked);
     let first = index_above(marks, used.place, 0);
@@ -377,19 +308,9 @@ fn runs_from(
     past_stretches(marks, part, first, scan, at, bytes)
 }
 
-/// Returns the place of the lowest run with at least `bytes` free bytes in the zone as it stands.
-fn run_now(marks: &[Landmark], part: &Part, bytes: u32) -> Option<u32>
-    requires sound { (first : ℕ) × (unused : ℕ) × IsSound part.now.bytes first unused }
-    requires marks { AreMarks above_all (zone_in part.now.bytes) marks.now }
-    ensures is { lowest_place bytes 0 sparing.Nothing part.now.bytes ≡ result }
-    ensures finds { FindsLowestRun (has_free bytes) (purged 0 sparing.Nothing (zone_in part.now.bytes)) result }
-{
-    runs_from(marks, part, 0, bytes, 0, Sparing::Nothing)
-}
-
-/// Returns the place of the lowest run with at least `bytes` free bytes after the given number of purges. The runs
-/// that end below `from` are those of the zone as it stands. The zone's landmarks can't be used if `sparing` counts a
-/// block as free that is not free.
+/// Returns the place of the lowest run with at least `bytes` free bytes after the given number of purges. The blocks
+/// below `from` are those of the zone as it stands. The zone's landmarks can't be used if `sparing` counts a block as
+/// free that is not free.
 pub fn find_run_by_marks(
     marks: &[Landmark],
     part: &Part,
@@ -404,13 +325,9 @@ pub fn find_run_by_marks(
     requires plain { (zone : List Block) → opened sparing zone ≡ zone }
     ensures { FindsLowestRun (has_free bytes) (purged purges sparing (zone_in part.now.bytes)) result }
 {
-    let begins = run_below(marks, part, from, purges);
-    if begins == 0 {
-        return runs_from(marks, part, 0, bytes, purges, sparing);
+    if purges == 0 {
+        return runs_from(marks, part, begun_at(0, purges), bytes, purges, sparing);
     }
-    let lowest = run_now(marks, part, bytes);
-    if is_under(lowest, begins) {
-        return lowest;
-    }
-    runs_from(marks, part, begins, bytes, purges, sparing)
+    let begun = begin_search(marks, part, from, bytes, purges);
+    runs_from(marks, part, begun, bytes, purges, sparing)
 }

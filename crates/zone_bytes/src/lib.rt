@@ -3,6 +3,7 @@
 #![tactic(auto)]
 
 mod adopting;
+mod beginning;
 mod behind;
 mod carving;
 mod contents;
@@ -37,6 +38,7 @@ mod words;
 mod writing;
 
 pub use adopting::{SlotBlock, adopt, block_of_slot};
+pub use beginning::{Below, OpenRun};
 pub use behind::has_room_behind;
 pub use carving::{carve, kept_flags, make_free, padded_size};
 pub use contents::content_at;

@@ -31,7 +31,7 @@ module _ (p : ℕ) (sp : Block → Bool) where
       ∙ cond-false (nat_le p free) _ _ (lt-leb p free less)
 
   -- what was had, and what is had above an end
-  had-short : (had : ℕ) (s : Stretch) → best (join (Whole had) (join (Ended 0 0 0) s)) < p
+  pub had-short : (had : ℕ) (s : Stretch) → best (join (Whole had) (join (Ended 0 0 0) s)) < p
       → (had < p) × (best (join (Whole 0) s) < p)
   had-short had (Whole a) h = (omega arith, omega arith)
   had-short had (Ended q i s) h = (omega arith, omega arith)

@@ -16,7 +16,7 @@ use Rattle.block_store.proofs.Zone.Totals.{total-append}
 use Rattle.zone_bytes.specs.Decode.{zone_in}
 use Rattle.zone_bytes.specs.Lawful.{IsSound}
 use Rattle.zone_bytes.specs.Marks.{Begins, ends_run}
-use Rattle.zone_bytes.specs.Searching.{IsBehind, IsFound, IsKnown, IsPiece, IsSearch, begun, finds_from, finds_purging, lowest_place, most_free_of, run_begun}
+use Rattle.zone_bytes.specs.Searching.{IsBehind, IsFound, IsKnown, IsPiece, IsSearch, begun, finds_from, finds_purging, lowest_place, most_free_of}
 use Rattle.zone_bytes.specs.Stepping.{left_in}
 use Rattle.zone_bytes.specs.declared.finding_runs.Passed.{Passed}
 use Rattle.zone_bytes.specs.declared.finding_runs.Search.{Search}
@@ -247,24 +247,22 @@ used-up bytes sp s xs (inr (inr e)) =
     ∙ spared-alike None bytes sp (spared sparing.Nothing) s.start s.free s.met s.place (left_in s.place xs)
 
 -- that is what a search finds behind all purges
-pub begun-known : (bytes purges from : ℕ) (n : Sparing) (xs : List ℕ) (first unused : ℕ) (i : IsSound xs first unused)
+pub begun-known : (bytes purges : ℕ) (n : Sparing) (xs : List ℕ) (first unused : ℕ) (i : IsSound xs first unused)
     → ((zone : List Block) → opened n zone ≡ zone) → (begun walked used : RunScan)
-    → Begins from 0 (zone_in xs) → lowest_place bytes purges n xs ≡ finds_purging bytes n (run_begun from purges) xs
-    → begun ≡ record { left = purges; start = from; free = 0; met = true; place = from }
+    → Begins begun.place 0 (zone_in xs) → lowest_place bytes purges n xs ≡ finds_purging bytes n begun xs
     → used ≡ record { left = 0; start = walked.start; free = walked.free; met = walked.met; place = walked.place }
     → scan_from None bytes (spared n) begun (opened n (left_in begun.place xs))
     ≡ scan_from None bytes (spared n) walked (opened n (left_in walked.place xs))
     → Begins walked.place begun.place (left_in begun.place xs) → walked.free ≤ walked.place → walked.met ≡ true
     → (IsFound bytes walked ⊎ ((length xs ≤ walked.place) ⊎ ((0 ≤ walked.place) × (walked.left ≡ 0))))
     → IsKnown bytes (lowest_place bytes purges n xs) used.place xs used
-begun-known bytes purges from n xs first unused i plain begun walked used low is e u same b f m came =
+begun-known bytes purges n xs first unused i plain begun walked used low is u same b f m came =
     subst (λ s. IsKnown bytes (lowest_place bytes purges n xs) s.place xs s) (sym u) (record {
       begins = edge;
       left = refl;
       met = m;
       free = f;
-      finds = is
-          ∙ ap (λ s. scan_from None bytes (spared n) s (opened n (left_in s.place xs))) (sym e) ∙ same
+      finds = is ∙ same
           ∙ ap (scan_from None bytes (spared n) walked) (plain (left_in walked.place xs))
           ∙ used-up bytes (spared n) walked xs (elim came [
             | inl k ↦ inl k
@@ -275,5 +273,4 @@ begun-known bytes purges from n xs first unused i plain begun walked used low is
     })
   where
     edge : Begins walked.place 0 (zone_in xs)
-    edge = begins-further xs first unused i from walked.place low
-        (subst (λ s. Begins walked.place s.place (left_in s.place xs)) e b)
+    edge = begins-further xs first unused i begun.place walked.place low b

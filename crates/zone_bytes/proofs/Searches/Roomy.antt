@@ -1,11 +1,13 @@
 -- A search for room, and the lowest Free block above an edge.
-use Rattle.std.proofs.Common.{◌≡◌, ℕ, zero, suc, ◌+◌, ◌≤◌, Bool, cond, Option, Some, None, List, [], ◌∷◌}
+use Rattle.std.proofs.Common.{◌≡◌, ℕ, zero, suc, ◌+◌, ◌≤◌, Bool, true, false, cond, nat_le, Option, Some, None, List, [], ◌∷◌}
 use Rattle.std.proofs.Common.{length, refl, sym, ap, ◌∙◌, subst, arith}
+use Rattle.std.proofs.lemmas.Bool.{and_from, and_parts, cond-true, le-leb, leb-true, lt-ltb, ltb-true}
 use Rattle.std.specs.Option.{option_map}
-use Rattle.block_store.specs.Block.{Block, is_room, sizes}
+use Rattle.std.specs.Prelude.{nat_lt}
+use Rattle.block_store.specs.Block.{Block, is_room, size, sizes}
 use Rattle.block_store.specs.Find.{FindsLowest}
-use Rattle.block_store.specs.Inner.Stretch.{is_enough, stretch}
-use Rattle.block_store.specs.Room.{Spot, spot}
+use Rattle.block_store.specs.Inner.Stretch.{is_enough, is_free, stretch}
+use Rattle.block_store.specs.Room.{Spot, may_be_purged, spot}
 use Rattle.block_store.specs.Sparing.{opened, spared}
 use Rattle.block_store.specs.declared.sparing.Sparing.{Sparing}
 use Rattle.block_store.specs.declared.stretch.RoomScan.{RoomScan}
@@ -91,6 +93,34 @@ stretch-end : (p : ℕ) (sp : Block → Bool) (k start free place : ℕ)
     → stretch p sp k start free place [] ≡ cond (is_enough p free) (Some start) None
 stretch-end p sp zero start free place = refl
 stretch-end p sp (suc k) start free place = refl
+
+-- a stretch that is enough is found, whatever is above
+either-is : (t : Bool) (x y z : Option ℕ) → x ≡ z → y ≡ z → cond t x y ≡ z
+either-is true x y z e f = e
+either-is false x y z e f = f
+
+enough-more : (p free n : ℕ) → is_enough p free ≡ true → is_enough p (free + n) ≡ true
+enough-more p free n e =
+    let a = and_parts (nat_lt 0 free) (nat_le p free) e in
+    let l = ltb-true 0 free a.0 in
+    let h = leb-true p free a.1 in
+    and_from (nat_lt 0 (free + n)) (nat_le p (free + n)) (lt-ltb 0 (free + n) (omega (arith, l)))
+    (le-leb p (free + n) (omega (arith, h)))
+
+pub stretch-kept : (p : ℕ) (sp : Block → Bool) (k start free place : ℕ) (blocks : List Block) → is_enough p free ≡ true
+    → stretch p sp k start free place blocks ≡ Some start
+stretch-kept p sp zero start free place [] e = cond-true (is_enough p free) (Some start) None e
+stretch-kept p sp (suc k) start free place [] e = cond-true (is_enough p free) (Some start) None e
+stretch-kept p sp zero start free place (b ∷ above) e =
+    either-is (is_free b) _ _ (Some start)
+    (stretch-kept p sp zero start (free + size b) (place + size b) above (enough-more p free (size b) e))
+    (cond-true (is_enough p free) (Some start) _ e)
+stretch-kept p sp (suc k) start free place (b ∷ above) e =
+    either-is (may_be_purged sp b) _ _ (Some start)
+    (stretch-kept p sp k start (free + size b) (place + size b) above (enough-more p free (size b) e))
+    (either-is (is_free b) _ _ (Some start)
+    (stretch-kept p sp (suc k) start (free + size b) (place + size b) above (enough-more p free (size b) e))
+    (cond-true (is_enough p free) (Some start) _ e))
 
 -- a search at the zone's end finds the stretch that it is in, if that is enough
 pub room-end : (bytes : ℕ) (n : Sparing) (s : RoomScan) (xs : List ℕ) → ((zone : List Block) → opened n zone ≡ zone)

@@ -5,6 +5,7 @@ use Rattle.zone_bytes.specs.Stepping.{left_in}
 use Rattle.zone_bytes.proofs.Marks.Lowering.{begins-further, begins-way}
 use Rattle.zone_bytes.proofs.Marks.Passing.{Passed, passed-begins, passed-start}
 use Rattle.zone_bytes.proofs.Searches.Going.{seen-sized, passed-block}
+use Rattle.zone_bytes.proofs.Searches.Roomy.{stretch-kept}
 use Rattle.zone_bytes.proofs.finding_room.scan_purges.Goals as goal
 
 pub loop-scan-init : goal.loop-scan-init
@@ -39,6 +40,13 @@ loop-scan-preserved c =
           (passed-block xs scan.place step.result.block step.result.end s c.args.from i.passed);
       free = c.in-Some.ensures.free;
     }
+
+pub returns-then-suffices : goal.returns-then-suffices
+returns-then-suffices c =
+    let scan = c.loop-scan.scan in
+    c.loop-scan.invariant.finds
+    ∙ stretch-kept c.args.bytes (spared c.args.sparing) scan.left scan.start scan.free scan.place
+    (opened c.args.sparing (left_in scan.place c.args.part.now.bytes)) (sym c.suffices.ensures ∙ c.if-suffices.true)
 
 pub returns-in-None : goal.returns-in-None
 returns-in-None c =

@@ -16,8 +16,7 @@ use Rattle.zone_bytes.proofs.finding_runs.runs_from.Goals.{After-within-at}
 pub scan_up_to-walked-requires-clause-way : goal.scan_up_to-walked-requires-clause-way
 scan_up_to-walked-requires-clause-way c =
     let i = c.requires.sound in
-    let xs = c.args.part.now.bytes in
-    subst (λ s. IsOnWay s.place xs) (sym c.begun_at-begun.ensures) (begins-way xs i.0 i.1 i.2 c.args.from c.requires.begins)
+    begins-way c.args.part.now.bytes i.0 i.1 i.2 c.args.begun.place c.requires.begins
 
 -- the search behind all purges
 used : (c : After-within-at) → IsKnown c.args.bytes
@@ -26,8 +25,8 @@ used : (c : After-within-at) → IsKnown c.args.bytes
 used c =
     let i = c.requires.sound in
     let w = c.scan_up_to-walked in
-    begun-known c.args.bytes c.args.purges c.args.from c.args.sparing c.args.part.now.bytes i.0 i.1 i.2 c.requires.plain
-    c.begun_at-begun.result w.result c.without_purges-used.result c.requires.begins c.requires.finds c.begun_at-begun.ensures c.without_purges-used.ensures
+    begun-known c.args.bytes c.args.purges c.args.sparing c.args.part.now.bytes i.0 i.1 i.2 c.requires.plain c.args.begun
+    w.result c.without_purges-used.result c.requires.begins c.requires.finds c.without_purges-used.ensures
     w.ensures.same w.ensures.begins w.ensures.free w.ensures.met w.ensures.came
 
 -- where it goes on by landmarks

@@ -1,7 +1,7 @@
 use Rattle.std.proofs.Common.{◌-◌}
 use Rattle.zone_bytes.specs.Decode.{zone_in}
 use Rattle.zone_bytes.specs.Marks.{Begins}
-use Rattle.zone_bytes.proofs.finding_runs.run_above.Given as goal
+use Rattle.zone_bytes.proofs.beginning.run_above.Given as goal
 
 abbrev pub invariant-loop-place : goal.invariant-loop-place
 invariant-loop-place l = Begins l.place 0 (zone_in l.part.bytes)

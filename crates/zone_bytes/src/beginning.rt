@@ -1,0 +1,222 @@
+//! Where the search for a run after purges begins: the blocks below the lowest one that may be purged are not walked over,
+//! since landmarks know what they come to in runs.
+
+ghost use Rattle.std.specs.Prelude.{◌≡◌, ◌+◌, ◌≤◌, ◌<◌, ◌⊎◌, ◌^◌, ℕ, true, List, get_or, length, IfSome};
+ghost use Rattle.block_store.specs.Block.{Block};
+ghost use Rattle.block_store.specs.Sparing.{opened};
+ghost use Rattle.block_store.specs.declared.sparing.Sparing.{Sparing};
+ghost use Rattle.zone_bytes.specs.Beginning.{IsBelow, IsOpen, IsReached};
+ghost use Rattle.zone_bytes.specs.Decode.{zone_in};
+ghost use Rattle.zone_bytes.specs.Lawful.{IsSound};
+ghost use Rattle.zone_bytes.specs.Marks.{AreMarks, Begins, above_all, no_mark};
+ghost use Rattle.zone_bytes.specs.Purgeable.{MayStart};
+ghost use Rattle.zone_bytes.specs.Searching.{IsPiece, RunBegins, finds_purging, lowest_place};
+ghost use Rattle.zone_summary.specs.Rows.{load};
+ghost use Rattle.zone_summary.specs.Stretches.{prefix, stretch_of, suffix};
+
+use crate::landmark::{Landmark, Tally};
+use crate::marking::index_above;
+use crate::measuring::{span_at, within};
+use block_store::RunScan;
+use raw_region::Part;
+use zone_summary::Stretch;
+
+/// What is known of the blocks below a landmark: what they come to in runs. From the place `end` on none of them ends a
+/// run, and `free` bytes are free; the last one that ends a run is sought from the place `barred`.
+#[derive(Clone, Copy, Drop)]
+pub struct Below {
+    pub runs: Stretch,
+    pub barred: u32,
+    pub end: u32,
+    pub free: u32,
+}
+
+/// A run as far as up to a place: where it begins, the free bytes of its blocks below the place, and the place.
+#[derive(Clone, Copy, Drop)]
+pub struct OpenRun {
+    pub start: u32,
+    pub free: u32,
+    pub at: u32,
+}
+
+/// Returns what is known of the blocks below the landmark at `next`, from what is known of those below the landmark at
+/// `at`, where those between come to `runs`.
+fn below_next(below: Below, at: u32, runs: Stretch, next: u32) -> Below
+    requires joins { suffix below.runs + prefix runs < 2 ^ 32 }
+    requires sums { below.free + load runs < 2 ^ 32 }
+    ensures { (xs : List ℕ) (here : List Block) → IsBelow at xs below → Begins at 0 (zone_in xs) → IsPiece at next xs here
+        → stretch_of here ≡ runs → IsBelow next xs result }
+{
+    let all = below.runs.join(runs);
+    match runs {
+        Stretch::Whole(free) => Below {
+            runs: all,
+            barred: below.barred,
+            end: below.end,
+            free: below.free + free,
+        },
+        Stretch::Ended(_, _, _) => Below {
+            runs: all,
+            barred: at,
+            end: next,
+            free: 0,
+        },
+    }
+}
+
+/// Returns what is known of the blocks below a landmark, where each lower landmark knows what its blocks come to in runs.
+fn below_mark(marks: &[Landmark], part: &Part, last: usize) -> Option<Below>
+    requires sound { (first : ℕ) × (unused : ℕ) × IsSound part.now.bytes first unused }
+    requires marks { AreMarks above_all (zone_in part.now.bytes) marks.now }
+    requires inside { last < length marks.now }
+    requires bottom { (get_or marks.now 0 no_mark).at ≡ 0 }
+    ensures { IfSome result (λ below. IsBelow (get_or marks.now last no_mark).at part.now.bytes below) }
+{
+    let mut below = Below {
+        runs: Stretch::NONE,
+        barred: 0,
+        end: 0,
+        free: 0,
+    };
+    for index in 0..last {
+        let Tally::Known(runs) = marks[index].tally else {
+            return None;
+        };
+        below = below_next(below, marks[index].at, runs, marks[index + 1].at);
+    }
+    Some(below)
+}
+
+/// Returns the place above the first block that ends a run, of those from `at` on that end up to `to`; if there is
+/// none, 0.
+fn run_above(part: &Part, at: u32, to: u32) -> u32
+    requires sound { (first : ℕ) × (unused : ℕ) × IsSound part.now.bytes first unused }
+    requires begins { Begins at 0 (zone_in part.now.bytes) }
+    ensures { (result ≡ 0) ⊎ RunBegins result part.now.bytes }
+{
+    let stop = within(to, part.len() as u32);
+    let mut place = at;
+    while place < stop {
+        let span = span_at(part, place);
+        if span.barrier {
+            return span.end;
+        }
+        place = span.end;
+    }
+    0
+}
+
+/// Takes a run past the block at its place: the block is one of the run, or another run begins above it.
+fn past_block(part: &Part, run: OpenRun) -> OpenRun
+    requires sound { (first : ℕ) × (unused : ℕ) × IsSound part.now.bytes first unused }
+    requires run { IsOpen part.now.bytes run }
+    requires some { run.at < length part.now.bytes }
+    ensures run { IsOpen part.now.bytes result }
+    ensures further { run.at < result.at }
+{
+    let span = span_at(part, run.at);
+    if span.barrier {
+        return OpenRun {
+            start: span.end,
+            free: 0,
+            at: span.end,
+        };
+    }
+    OpenRun {
+        start: run.start,
+        free: run.free + span.free,
+        at: span.end,
+    }
+}
+
+/// Returns the run of the first block at or above `to`, as far as up to that block, by a walk from another run on.
+fn run_up_to(part: &Part, run: OpenRun, to: u32) -> OpenRun
+    requires sound { (first : ℕ) × (unused : ℕ) × IsSound part.now.bytes first unused }
+    requires run { IsOpen part.now.bytes run }
+    ensures { IsOpen part.now.bytes result }
+{
+    let stop = within(to, part.len() as u32);
+    let mut run = run;
+    while run.at < stop {
+        run = past_block(part, run);
+    }
+    run
+}
+
+/// Returns the run as far as up to the landmark at `at`, by what is known of the blocks below.
+fn open_run(part: &Part, below: Below, at: u32) -> Option<OpenRun>
+    requires sound { (first : ℕ) × (unused : ℕ) × IsSound part.now.bytes first unused }
+    requires below { IsBelow at part.now.bytes below }
+    ensures open { IfSome result (λ run. IsOpen part.now.bytes run) }
+    ensures at { IfSome result (λ run. run.at ≡ at) }
+{
+    let begins = run_above(part, below.barred, below.end);
+    let begun = OpenRun {
+        start: begins,
+        free: 0,
+        at: begins,
+    };
+    let run = run_up_to(part, begun, below.end);
+    if run.at != below.end {
+        return None;
+    }
+    Some(OpenRun {
+        start: run.start,
+        free: run.free + below.free,
+        at,
+    })
+}
+
+/// Returns the run as far as up to the place `from`, where it is known that no run below it has `bytes` free bytes.
+fn run_below(marks: &[Landmark], part: &Part, from: u32, bytes: u32) -> Option<OpenRun>
+    requires sound { (first : ℕ) × (unused : ℕ) × IsSound part.now.bytes first unused }
+    requires marks { AreMarks above_all (zone_in part.now.bytes) marks.now }
+    ensures { IfSome result (λ run. IsReached bytes from part.now.bytes run) }
+{
+    let last = index_above(marks, from, 0);
+    if last == marks.len() || marks[last].at != from || marks[0].at != 0 {
+        return None;
+    }
+    let below = below_mark(marks, part, last)?;
+    if bytes <= below.runs.best() {
+        return None;
+    }
+    open_run(part, below, from)
+}
+
+/// Returns a search that begins at `place` with the given number of purges.
+pub fn begun_at(place: u32, purges: u32) -> RunScan
+    ensures { result ≡ (record { left = purges; start = place; free = 0; met = true; place = place }) }
+{
+    RunScan {
+        left: purges,
+        start: place,
+        free: 0,
+        met: true,
+        place,
+    }
+}
+
+/// Returns where the search for a run with `bytes` free bytes after the given number of purges begins: at the place
+/// `from`, up to which no block may be purged, or at the bottom.
+pub fn begin_search(marks: &[Landmark], part: &Part, from: u32, bytes: u32, purges: u32) -> RunScan
+    requires sound { (first : ℕ) × (unused : ℕ) × IsSound part.now.bytes first unused }
+    requires marks { AreMarks above_all (zone_in part.now.bytes) marks.now }
+    requires from { MayStart from (zone_in part.now.bytes) }
+    ensures begins { Begins result.place 0 (zone_in part.now.bytes) }
+    ensures free { result.free ≤ result.place }
+    ensures met { result.met ≡ true }
+    ensures finds { (n : Sparing) → ((zone : List Block) → opened n zone ≡ zone)
+        → lowest_place bytes purges n part.now.bytes ≡ finds_purging bytes n result part.now.bytes }
+{
+    match run_below(marks, part, from, bytes) {
+        Some(run) => RunScan {
+            left: purges,
+            start: run.start,
+            free: run.free,
+            met: true,
+            place: run.at,
+        },
+        None => begun_at(0, purges),
+    }
+}
