@@ -5,4 +5,5 @@ pub mod Roomy
 pub mod Starting
 pub mod RunStarting
 pub mod Begun
+pub mod Passed
 pub mod Sums

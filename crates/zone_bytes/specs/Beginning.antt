@@ -4,20 +4,20 @@ use Rattle.block_store.specs.Block.{Block}
 use Rattle.zone_bytes.specs.Decode.{zone_in}
 use Rattle.zone_bytes.specs.Marks.{Begins}
 use Rattle.zone_bytes.specs.Searching.{IsPiece, RunBegins}
-use Rattle.zone_bytes.specs.declared.beginning.Below.{Below}
+use Rattle.zone_bytes.specs.declared.beginning.Passed.{Passed}
 use Rattle.zone_bytes.specs.declared.beginning.OpenRun.{OpenRun}
 use Rattle.zone_summary.specs.Stretches.{best, stretch_of}
 use Rattle.zone_summary.specs.declared.stretch.Stretch.TheVariants.{Whole}
 
 -- What is known of the blocks below the place `at`.
-pub record IsBelow (at : ℕ) (xs : List ℕ) (b : Below) : Type 0 where
+pub record IsBelow (at : ℕ) (xs : List ℕ) (p : Passed) : Type 0 where
   pub low : List Block
   pub low_piece : IsPiece 0 at xs low
-  pub sums : stretch_of low ≡ b.runs
+  pub sums : stretch_of low ≡ p.runs
   pub high : List Block
-  pub high_piece : IsPiece b.end at xs high
-  pub goes_on : stretch_of high ≡ Whole b.free
-  pub edge : Begins b.barred 0 (zone_in xs)
+  pub high_piece : IsPiece p.end at xs high
+  pub goes_on : stretch_of high ≡ Whole p.free
+  pub edge : Begins p.barred 0 (zone_in xs)
 
 -- A run as far as up to a place: none of its blocks below the place ends it.
 pub record IsOpen (xs : List ℕ) (r : OpenRun) : Type 0 where

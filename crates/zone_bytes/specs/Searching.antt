@@ -16,11 +16,10 @@ use Rattle.zone_bytes.specs.Marks.{Begins, IsTally, ends_run}
 use Rattle.zone_bytes.specs.Stepping.{left_in}
 use Rattle.zone_bytes.specs.declared.finding_room.Scanned.{Scanned}
 use Rattle.zone_bytes.specs.declared.finding_room.Scanned.TheVariants as scanned
-use Rattle.zone_bytes.specs.declared.finding_runs.Passed.{Passed}
-use Rattle.zone_bytes.specs.declared.finding_runs.Search.{Search}
-use Rattle.zone_bytes.specs.declared.finding_runs.Search.TheVariants as search
+use Rattle.zone_bytes.specs.declared.beginning.Passed.{Passed}
 use Rattle.zone_bytes.specs.declared.landmark.Tally.{Tally}
-use Rattle.zone_summary.specs.Stretches.{best, stretch_of, suffix}
+use Rattle.zone_summary.specs.Stretches.{is_ended, join, stretch_of}
+use Rattle.zone_summary.specs.declared.stretch.Stretch.TheVariants.{Whole}
 
 -- The run so far has at least `bytes` free bytes, and the block that it must have.
 abbrev pub IsFound : ℕ → RunScan → Type 0
@@ -53,29 +52,32 @@ pub record IsKnown (bytes : ℕ) (answer : Option ℕ) (at : ℕ) (xs : List ℕ
   pub finds : answer ≡ finds_from bytes s xs
   pub here : IsFound bytes s ⊎ (s.place ≡ at)
 
--- A search that begins at the first of the blocks that were passed finds the run that is sought. These blocks reach up
--- to the place `at`, and a run that begins among them has too few free bytes so far.
-pub record IsBehind (bytes : ℕ) (answer : Option ℕ) (at : ℕ) (xs : List ℕ) (p : Passed) : Type 0 where
-  pub begins : Begins p.at 0 (zone_in xs)
-  pub finds : answer ≡ finds_from bytes (begun p.at) xs
+-- A search with no purges left.
+pub record IsReady (xs : List ℕ) (s : RunScan) : Type 0 where
+  pub begins : Begins s.place 0 (zone_in xs)
+  pub left : s.left ≡ 0
+  pub met : s.met ≡ true
+  pub free : s.free ≤ s.place
+
+-- One of the blocks that were passed ends a run: one of those from `barred` up to `end`. Those above are `high`.
+pub record IsBarred (from : ℕ) (xs : List ℕ) (here high : List Block) (p : Passed) : Type 0 where
   pub low : List Block
-  pub low_piece : IsPiece p.at p.end xs low
-  pub low_short : best (stretch_of low) < bytes
-  pub few : suffix (stretch_of low) ≤ p.most
+  pub mid : List Block
+  pub is : here ≡ low ++ (mid ++ high)
+  pub up : from + sizes low ≡ p.barred
+  pub edge : Begins p.barred 0 (zone_in xs)
+  pub piece : IsPiece p.barred p.end xs mid
+  pub ended : is_ended (stretch_of mid) ≡ true
+
+-- A search passed blocks from where it is up to the place `at`.
+pub record IsPassed (s : RunScan) (at : ℕ) (xs : List ℕ) (p : Passed) : Type 0 where
+  pub here : List Block
+  pub piece : IsPiece s.place at xs here
+  pub sums : join (Whole s.free) (stretch_of here) ≡ p.runs
   pub high : List Block
   pub high_piece : IsPiece p.end at xs high
-  pub goes_on : has ends_run high ≡ false
-  pub sum : free_sum high ≡ p.beyond
-  pub short : p.most + p.beyond < bytes
-
-abbrev pub IsSearch : ℕ → Option ℕ → ℕ → List ℕ → Search → Type 0
-IsSearch bytes answer at xs (search.Known s) = IsKnown bytes answer at xs s
-IsSearch bytes answer at xs (search.Behind p) = IsBehind bytes answer at xs p
-
--- A number that is at least that of the free bytes of the run in which a search is.
-abbrev pub most_free_of : Search → ℕ
-most_free_of (search.Known s) = s.free
-most_free_of (search.Behind p) = p.most + p.beyond
+  pub goes_on : stretch_of high ≡ Whole p.free
+  pub barred : is_ended p.runs ≡ true → IsBarred s.place xs here high p
 
 -- The place of the lowest run with `bytes` free bytes or more after the given number of purges.
 abbrev pub lowest_place : ℕ → ℕ → Sparing → List ℕ → Option ℕ

@@ -4,13 +4,14 @@
 ghost use Rattle.std.specs.Prelude.{◌≡◌, ◌+◌, ◌≤◌, ◌<◌, ◌⊎◌, ◌^◌, ℕ, true, List, get_or, length, IfSome};
 ghost use Rattle.block_store.specs.Block.{Block};
 ghost use Rattle.block_store.specs.Sparing.{opened};
+ghost use Rattle.block_store.specs.declared.run_search.RunScan.{RunScan as RunOf};
 ghost use Rattle.block_store.specs.declared.sparing.Sparing.{Sparing};
 ghost use Rattle.zone_bytes.specs.Beginning.{IsBelow, IsOpen, IsReached};
 ghost use Rattle.zone_bytes.specs.Decode.{zone_in};
 ghost use Rattle.zone_bytes.specs.Lawful.{IsSound};
 ghost use Rattle.zone_bytes.specs.Marks.{AreMarks, Begins, above_all, no_mark};
 ghost use Rattle.zone_bytes.specs.Purgeable.{MayStart};
-ghost use Rattle.zone_bytes.specs.Searching.{IsPiece, RunBegins, finds_purging, lowest_place};
+ghost use Rattle.zone_bytes.specs.Searching.{IsPassed, IsPiece, RunBegins, finds_purging, lowest_place};
 ghost use Rattle.zone_summary.specs.Rows.{load};
 ghost use Rattle.zone_summary.specs.Stretches.{prefix, stretch_of, suffix};
 
@@ -21,10 +22,11 @@ use block_store::RunScan;
 use raw_region::Part;
 use zone_summary::Stretch;
 
-/// What is known of the blocks below a landmark: what they come to in runs. From the place `end` on none of them ends a
-/// run, and `free` bytes are free; the last one that ends a run is sought from the place `barred`.
+/// What is known of blocks that were passed: what they come to in runs, with the free bytes so far of the run in which
+/// they begin. From the place `end` on none of them ends a run, and `free` bytes are free; if one ends a run, the last one
+/// that does is between the places `barred` and `end`.
 #[derive(Clone, Copy, Drop)]
-pub struct Below {
+pub struct Passed {
     pub runs: Stretch,
     pub barred: u32,
     pub end: u32,
@@ -39,23 +41,25 @@ pub struct OpenRun {
     pub at: u32,
 }
 
-/// Returns what is known of the blocks below the landmark at `next`, from what is known of those below the landmark at
-/// `at`, where those between come to `runs`.
-fn below_next(below: Below, at: u32, runs: Stretch, next: u32) -> Below
-    requires joins { suffix below.runs + prefix runs < 2 ^ 32 }
-    requires sums { below.free + load runs < 2 ^ 32 }
-    ensures { (xs : List ℕ) (here : List Block) → IsBelow at xs below → Begins at 0 (zone_in xs) → IsPiece at next xs here
-        → stretch_of here ≡ runs → IsBelow next xs result }
+/// Returns what is known of the blocks that were passed up to the place `at`, and of those from there up to `next`, which
+/// come to `runs`.
+pub fn pass_known(passed: Passed, at: u32, runs: Stretch, next: u32) -> Passed
+    requires joins { suffix passed.runs + prefix runs < 2 ^ 32 }
+    requires sums { passed.free + load runs < 2 ^ 32 }
+    ensures below { (xs : List ℕ) (here : List Block) → IsBelow at xs passed → Begins at 0 (zone_in xs)
+        → IsPiece at next xs here → stretch_of here ≡ runs → IsBelow next xs result }
+    ensures search { (xs : List ℕ) (scan : RunOf) (here : List Block) → IsPassed scan at xs passed
+        → Begins at 0 (zone_in xs) → IsPiece at next xs here → stretch_of here ≡ runs → IsPassed scan next xs result }
 {
-    let all = below.runs.join(runs);
+    let all = passed.runs.join(runs);
     match runs {
-        Stretch::Whole(free) => Below {
+        Stretch::Whole(free) => Passed {
             runs: all,
-            barred: below.barred,
-            end: below.end,
-            free: below.free + free,
+            barred: passed.barred,
+            end: passed.end,
+            free: passed.free + free,
         },
-        Stretch::Ended(_, _, _) => Below {
+        Stretch::Ended(_, _, _) => Passed {
             runs: all,
             barred: at,
             end: next,
@@ -65,14 +69,14 @@ fn below_next(below: Below, at: u32, runs: Stretch, next: u32) -> Below
 }
 
 /// Returns what is known of the blocks below a landmark, where each lower landmark knows what its blocks come to in runs.
-fn below_mark(marks: &[Landmark], part: &Part, last: usize) -> Option<Below>
+fn below_mark(marks: &[Landmark], part: &Part, last: usize) -> Option<Passed>
     requires sound { (first : ℕ) × (unused : ℕ) × IsSound part.now.bytes first unused }
     requires marks { AreMarks above_all (zone_in part.now.bytes) marks.now }
     requires inside { last < length marks.now }
     requires bottom { (get_or marks.now 0 no_mark).at ≡ 0 }
     ensures { IfSome result (λ below. IsBelow (get_or marks.now last no_mark).at part.now.bytes below) }
 {
-    let mut below = Below {
+    let mut below = Passed {
         runs: Stretch::NONE,
         barred: 0,
         end: 0,
@@ -82,7 +86,7 @@ fn below_mark(marks: &[Landmark], part: &Part, last: usize) -> Option<Below>
         let Tally::Known(runs) = marks[index].tally else {
             return None;
         };
-        below = below_next(below, marks[index].at, runs, marks[index + 1].at);
+        below = pass_known(below, marks[index].at, runs, marks[index + 1].at);
     }
     Some(below)
 }
@@ -144,7 +148,7 @@ fn run_up_to(part: &Part, run: OpenRun, to: u32) -> OpenRun
 }
 
 /// Returns the run as far as up to the landmark at `at`, by what is known of the blocks below.
-fn open_run(part: &Part, below: Below, at: u32) -> Option<OpenRun>
+fn open_run(part: &Part, below: Passed, at: u32) -> Option<OpenRun>
     requires sound { (first : ℕ) × (unused : ℕ) × IsSound part.now.bytes first unused }
     requires below { IsBelow at part.now.bytes below }
     ensures open { IfSome result (λ run. IsOpen part.now.bytes run) }

@@ -1,28 +1,30 @@
-//! The search for a run by landmarks: stretches that can't bring the run to enough free bytes are passed without a
-//! walk over their blocks.
+//! The search for a run by landmarks: stretches with which no run comes to enough free bytes are passed without a walk
+//! over their blocks.
 
-ghost use Rattle.std.specs.Prelude.{◌≡◌, ◌+◌, ◌≤◌, ◌<◌, ◌⊎◌, ◌&&◌, ◌^◌, ℕ, List, Option, Some, None, false, true, nat_le};
-ghost use Rattle.std.specs.Prelude.{get_or, length, IfSome, MatchOption, []};
+ghost use Rattle.std.specs.Prelude.{◌≡◌, ◌+◌, ◌≤◌, ◌<◌, ◌⊎◌, ◌&&◌, ◌^◌, ℕ, List, Option, None, false, true, nat_le};
+ghost use Rattle.std.specs.Prelude.{get_or, length, IfSome};
 ghost use Rattle.block_store.specs.Block.{Block, free_sum};
 ghost use Rattle.block_store.specs.Find.{FindsLowestRun};
 ghost use Rattle.block_store.specs.Inner.RunScan.{scan_from};
 ghost use Rattle.block_store.specs.Run.{has, has_free};
 ghost use Rattle.block_store.specs.Sparing.{opened, purged, spared};
+ghost use Rattle.block_store.specs.declared.run_search.RunScan.{RunScan as RunOf};
 ghost use Rattle.zone_bytes.specs.Decode.{zone_in};
 ghost use Rattle.zone_bytes.specs.Lawful.{IsSound};
 ghost use Rattle.zone_bytes.specs.Marks.{AreMarks, Begins, above_all, ends_run, no_mark};
 ghost use Rattle.zone_bytes.specs.Purgeable.{MayStart};
-ghost use Rattle.zone_bytes.specs.Searching.{IsFound, IsKnown, IsPiece, IsSearch, IsStretch, begun, finds_purging};
-ghost use Rattle.zone_bytes.specs.Searching.{lowest_place, most_free_of};
+ghost use Rattle.zone_bytes.specs.Searching.{IsFound, IsKnown, IsPassed, IsPiece, IsReady, IsStretch};
+ghost use Rattle.zone_bytes.specs.Searching.{finds_from, finds_purging, lowest_place};
 ghost use Rattle.zone_bytes.specs.Stepping.{left_in, IsOnWay};
-ghost use Rattle.zone_bytes.specs.declared.finding_runs.Search.TheVariants as how;
 ghost use Rattle.zone_bytes.specs.declared.landmark.Tally.TheVariants as tally;
-ghost use Rattle.zone_summary.specs.declared.stretch.Stretch.TheVariants.{Whole, Ended};
+ghost use Rattle.zone_summary.specs.Rows.{load};
+ghost use Rattle.zone_summary.specs.Stretches.{best, prefix, suffix};
+ghost use Rattle.zone_summary.specs.declared.stretch.Stretch.{Stretch as StretchOf};
 
-use crate::beginning::{begin_search, begun_at};
+use crate::beginning::{Passed, begin_search, begun_at, pass_known};
 use crate::landmark::{Landmark, Tally};
 use crate::marking::{index_above, place_of_mark};
-use crate::measuring::{greater, within};
+use crate::measuring::within;
 use crate::raw_walk::step_at;
 use block_store::{RunScan, Sparing, scan_run};
 use raw_region::Part;
@@ -61,25 +63,6 @@ fn scan_up_to(part: &Part, scan: RunScan, to: u32, bytes: u32, sparing: Sparing)
     scan
 }
 
-/// Blocks that were passed without a walk over them. Among those from `at` up to `end` a run ends, and the run at their
-/// upper end has `most` free bytes; among those from `end` on no run ends, and exactly `beyond` bytes are free.
-#[derive(Clone, Copy, Drop)]
-pub struct Passed {
-    pub at: u32,
-    pub end: u32,
-    pub most: u32,
-    pub beyond: u32,
-}
-
-/// The state of a search.
-#[derive(Clone, Copy, Drop)]
-pub enum Search {
-    /// The search is as far as one that went block by block: it has come to a place, or has found a run.
-    Known(RunScan),
-    /// The search stands above blocks that were passed, in a run that begins among them.
-    Behind(Passed),
-}
-
 /// Takes a search up to the place `next` past blocks among which no run ends and of which `free` bytes are free.
 fn past_open(scan: RunScan, free: u32, next: u32, bytes: u32) -> RunScan
     requires { (scan.met && nat_le bytes scan.free) ≡ false → scan.free + free < 2 ^ 32 }
@@ -99,173 +82,99 @@ fn past_open(scan: RunScan, free: u32, next: u32, bytes: u32) -> RunScan
     }
 }
 
-/// Returns the state of a search at the place `at` as it is after a walk over the blocks that the search has passed.
-fn known_at(part: &Part, search: Search, at: u32, bytes: u32) -> RunScan
+/// Returns the state at the place `at` of a search that passed blocks up to there.
+fn behind_passed(part: &Part, scan: RunScan, passed: Passed, at: u32, bytes: u32) -> RunScan
     requires sound { (first : ℕ) × (unused : ℕ) × IsSound part.now.bytes first unused }
-    requires search { (answer : Option ℕ) × IsSearch bytes answer at part.now.bytes search }
-    ensures { (answer : Option ℕ) → IsSearch bytes answer at part.now.bytes search →
-        IsKnown bytes answer at part.now.bytes result }
+    requires ready { IsReady part.now.bytes scan }
+    requires passed { IsPassed scan at part.now.bytes passed }
+    requires short { best passed.runs < bytes }
+    ensures { IsKnown bytes (finds_from bytes scan part.now.bytes) at part.now.bytes result }
 {
-    match search {
-        Search::Known(scan) => scan,
-        Search::Behind(passed) => {
-            let begun = begun_at(passed.at, 0);
-            let scan = scan_up_to(part, begun, passed.end, bytes, Sparing::Nothing);
-            past_open(scan, passed.beyond, at, bytes)
+    match passed.runs {
+        Stretch::Whole(free) => RunScan {
+            left: scan.left,
+            start: scan.start,
+            free,
+            met: scan.met,
+            place: at,
+        },
+        Stretch::Ended(_, _, _) => {
+            let begun = begun_at(passed.barred, 0);
+            let walked = scan_up_to(part, begun, passed.end, bytes, Sparing::Nothing);
+            past_open(walked, passed.free, at, bytes)
         }
     }
 }
 
-/// Takes a search past a stretch by a walk over all blocks of the stretch.
-fn look_past(part: &Part, search: Search, at: u32, next: u32, bytes: u32) -> Search
+/// Returns the place of the run that a search finds which passed blocks up to the place `at`, by a walk from there on.
+fn walk_on(part: &Part, scan: RunScan, passed: Passed, at: u32, bytes: u32) -> Option<u32>
     requires sound { (first : ℕ) × (unused : ℕ) × IsSound part.now.bytes first unused }
-    requires search { (answer : Option ℕ) × IsSearch bytes answer at part.now.bytes search }
-    requires piece { (here : List Block) × IsPiece at next part.now.bytes here }
-    ensures { (answer : Option ℕ) → IsSearch bytes answer at part.now.bytes search →
-        IsSearch bytes answer next part.now.bytes result }
+    requires ready { IsReady part.now.bytes scan }
+    requires passed { IsPassed scan at part.now.bytes passed }
+    requires short { best passed.runs < bytes }
+    ensures { result ≡ finds_from bytes scan part.now.bytes }
 {
-    let known = known_at(part, search, at, bytes);
-    Search::Known(scan_up_to(part, known, next, bytes, Sparing::Nothing))
-}
-
-/// Returns a number that is at least that of the free bytes of the run in which a search is.
-fn most_free(search: Search) -> u32
-    ensures { result ≡ most_free_of search ⊎ (result ≡ above_all) }
-{
-    match search {
-        Search::Known(scan) => scan.free,
-        Search::Behind(passed) => passed.most.saturating_add(passed.beyond),
+    let behind = behind_passed(part, scan, passed, at, bytes);
+    let last = scan_up_to(part, behind, u32::MAX, bytes, Sparing::Nothing);
+    if is_found(last, bytes) {
+        return Some(last.start);
     }
+    None
 }
 
-/// Returns the blocks that were passed if a search needs no walk over them: with `free` more free bytes, its run still
-/// has fewer than `bytes`.
-fn short_behind(search: Search, free: u32, bytes: u32) -> Option<Passed>
-    ensures { IfSome result (λ p. (search ≡ how.Behind p) × (p.most + p.beyond + free < bytes)) }
+/// Takes a search past the blocks of a landmark, which reach up to the place `next`; `None` where it isn't known what they
+/// come to in runs, or where a run has `bytes` free bytes with them.
+fn pass_stretch(passed: Passed, mark: Landmark, next: u32, bytes: u32) -> Option<Passed>
+    requires fits { (runs : StretchOf) → mark.tally ≡ tally.Known runs
+        → (suffix passed.runs + prefix runs < 2 ^ 32) × (passed.free + load runs < 2 ^ 32) }
+    ensures short { IfSome result (λ p. best p.runs < bytes) }
+    ensures passed { IfSome result (λ p. (xs : List ℕ) (scan : RunOf) → IsPassed scan mark.at xs passed
+        → Begins mark.at 0 (zone_in xs) → IsStretch mark.tally mark.at next xs → IsPassed scan next xs p) }
 {
-    match search {
-        Search::Behind(passed) if most_free(search).saturating_add(free) < bytes => Some(passed),
-        _ => None,
+    let Tally::Known(runs) = mark.tally else {
+        return None;
+    };
+    let farther = pass_known(passed, mark.at, runs, next);
+    if bytes <= farther.runs.best() {
+        return None;
     }
+    Some(farther)
 }
 
-/// Takes a search past a stretch in which no run ends and of which `free` bytes are free.
-fn past_opened(part: &Part, search: Search, at: u32, next: u32, free: u32, bytes: u32) -> Search
-    requires sound { (first : ℕ) × (unused : ℕ) × IsSound part.now.bytes first unused }
-    requires search { (answer : Option ℕ) × IsSearch bytes answer at part.now.bytes search }
-    requires stretch { IsStretch (tally.Known (Whole free)) at next part.now.bytes }
-    ensures { (answer : Option ℕ) → IsSearch bytes answer at part.now.bytes search →
-        IsSearch bytes answer next part.now.bytes result }
-{
-    if let Some(passed) = short_behind(search, free, bytes) {
-        return Search::Behind(Passed {
-            at: passed.at,
-            end: passed.end,
-            most: passed.most,
-            beyond: passed.beyond + free,
-        });
-    }
-    let known = known_at(part, search, at, bytes);
-    Search::Known(past_open(known, free, next, bytes))
-}
-
-/// Takes a search past a stretch in which a run ends, whose lowest run has `low` free bytes, its highest one `high`, and
-/// no other one more than `inner`.
-fn past_ended(
-    part: &Part,
-    search: Search,
-    at: u32,
-    next: u32,
-    low: u32,
-    inner: u32,
-    high: u32,
-    bytes: u32,
-) -> Search
-    requires sound { (first : ℕ) × (unused : ℕ) × IsSound part.now.bytes first unused }
-    requires search { (answer : Option ℕ) × IsSearch bytes answer at part.now.bytes search }
-    requires stretch { IsStretch (tally.Known (Ended low inner high)) at next part.now.bytes }
-    requires begins { Begins at 0 (zone_in part.now.bytes) }
-    ensures { (answer : Option ℕ) → IsSearch bytes answer at part.now.bytes search →
-        IsSearch bytes answer next part.now.bytes result }
-{
-    let had = most_free(search).saturating_add(low);
-    if greater(had, greater(inner, high)) < bytes {
-        return Search::Behind(Passed {
-            at,
-            end: next,
-            most: high,
-            beyond: 0,
-        });
-    }
-    look_past(part, search, at, next, bytes)
-}
-
-/// Takes a search past the stretch of a landmark.
-fn past_stretch(part: &Part, mark: Landmark, next: u32, search: Search, bytes: u32) -> Search
-    requires sound { (first : ℕ) × (unused : ℕ) × IsSound part.now.bytes first unused }
-    requires search { (answer : Option ℕ) × IsSearch bytes answer mark.at part.now.bytes search }
-    requires stretch { IsStretch mark.tally mark.at next part.now.bytes }
-    requires begins { Begins mark.at 0 (zone_in part.now.bytes) }
-    ensures { (answer : Option ℕ) → IsSearch bytes answer mark.at part.now.bytes search →
-        IsSearch bytes answer next part.now.bytes result }
-{
-    match mark.tally {
-        Tally::Known(Stretch::Whole(free)) => {
-            past_opened(part, search, mark.at, next, free, bytes)
-        }
-        Tally::Known(Stretch::Ended(low, inner, high)) => {
-            past_ended(part, search, mark.at, next, low, inner, high, bytes)
-        }
-        Tally::Unknown => look_past(part, search, mark.at, next, bytes),
-    }
-}
-
-/// Returns the place of the run that a search has found, if it has found one.
-fn start_found(search: Search, bytes: u32) -> Option<u32>
-    ensures found { IfSome result (λ start. (answer : Option ℕ) (at : ℕ) (xs : List ℕ) →
-        IsSearch bytes answer at xs search → answer ≡ Some start) }
-    ensures none { MatchOption result ((answer : Option ℕ) (at : ℕ) (xs : List ℕ) →
-        IsSearch bytes answer at xs search → left_in at xs ≡ [] → answer ≡ None) (λ _. Unit {0}) }
-{
-    match search {
-        Search::Known(scan) if is_found(scan, bytes) => Some(scan.start),
-        _ => None,
-    }
-}
-
-/// Returns the place of the run found by a search that is at the place of a landmark, or at the zone's end.
-fn past_stretches(
+/// Returns the place of the run that a search with no purges left finds, from the place of a landmark or the zone's end
+/// on. Blocks are walked over only where a run has enough free bytes.
+fn reach_run(
     marks: &[Landmark],
     part: &Part,
     first: usize,
     scan: RunScan,
-    from: u32,
     bytes: u32,
 ) -> Option<u32>
     requires sound { (first : ℕ) × (unused : ℕ) × IsSound part.now.bytes first unused }
     requires marks { AreMarks above_all (zone_in part.now.bytes) marks.now }
-    requires known { (answer : Option ℕ) × IsKnown bytes answer from part.now.bytes scan }
-    requires within { first ≤ length marks.now }
-    requires edge { Begins from 0 (zone_in part.now.bytes) }
-    requires here { first < length marks.now → from ≡ (get_or marks.now first no_mark).at }
-    requires end { length marks.now ≤ first → length part.now.bytes ≤ from }
-    ensures { (answer : Option ℕ) → IsKnown bytes answer from part.now.bytes scan → answer ≡ result }
+    requires ready { IsReady part.now.bytes scan }
+    requires short { scan.free < bytes }
+    requires here { first < length marks.now → scan.place ≡ (get_or marks.now first no_mark).at }
+    requires end { length marks.now ≤ first → length part.now.bytes ≤ scan.place }
+    ensures { result ≡ finds_from bytes scan part.now.bytes }
 {
     let end = part.len() as u32;
-    let mut search = Search::Known(scan);
-    let mut at = from;
+    let mut at = scan.place;
+    let mut passed = Passed {
+        runs: Stretch::Whole(scan.free),
+        barred: at,
+        end: at,
+        free: 0,
+    };
     for index in first..marks.len() {
-        if let Some(start) = start_found(search, bytes) {
-            return Some(start);
-        }
-        if end <= at {
-            return None;
-        }
         let next = within(place_of_mark(marks, index + 1), end);
-        search = past_stretch(part, marks[index], next, search, bytes);
+        let Some(farther) = pass_stretch(passed, marks[index], next, bytes) else {
+            return walk_on(part, scan, passed, at, bytes);
+        };
+        passed = farther;
         at = next;
     }
-    start_found(search, bytes)
+    None
 }
 
 /// Returns a search without its purges.
@@ -305,7 +214,10 @@ fn runs_from(
     let first = index_above(marks, used.place, 0);
     let at = within(place_of_mark(marks, first), part.len() as u32);
     let scan = scan_up_to(part, used, at, bytes, Sparing::Nothing);
-    past_stretches(marks, part, first, scan, at, bytes)
+    if is_found(scan, bytes) {
+        return Some(scan.start);
+    }
+    reach_run(marks, part, first, scan, bytes)
 }
 
 /// Returns the place of the lowest run with at least `bytes` free bytes after the given number of purges. The blocks

@@ -38,13 +38,12 @@ mod words;
 mod writing;
 
 pub use adopting::{SlotBlock, adopt, block_of_slot};
-pub use beginning::{Below, OpenRun};
+pub use beginning::{OpenRun, Passed};
 pub use behind::has_room_behind;
 pub use carving::{carve, kept_flags, make_free, padded_size};
 pub use contents::content_at;
 pub use edges::Edges;
 pub use finding_room::Scanned;
-pub use finding_runs::{Passed, Search};
 pub use flagging::flag_at;
 pub use freeing::{Freed, free_block, free_slot, free_up};
 pub use fresh::make_fresh;

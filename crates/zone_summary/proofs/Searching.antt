@@ -129,7 +129,7 @@ module _ (p : ℕ) (sp : Block → Bool) where
       (rw (join-unit_left (stretch_of mid)) (omega (arith, best-high s (stretch_of mid), both)))
 
 -- blocks of which none ends a run
-whole-rest : (n w : ℕ) (s : Stretch) → join (Whole n) s ≡ Whole w → (c : ℕ) × (s ≡ Whole c) × (n + c ≡ w)
+pub whole-rest : (n w : ℕ) (s : Stretch) → join (Whole n) s ≡ Whole w → (c : ℕ) × (s ≡ Whole c) × (n + c ≡ w)
 whole-rest n w (Whole c) h = (c, refl, cc)
 whole-rest n w (Ended p i s) h = cc
 

@@ -10,7 +10,7 @@ use Rattle.zone_bytes.specs.Lawful.{IsSound}
 use Rattle.zone_bytes.specs.Marks.{Begins, Spans}
 use Rattle.zone_bytes.specs.Searching.{IsPiece, RunBegins}
 use Rattle.zone_bytes.specs.Stepping.{left_in}
-use Rattle.zone_bytes.specs.declared.beginning.Below.{Below}
+use Rattle.zone_bytes.specs.declared.beginning.Passed.{Passed}
 use Rattle.zone_bytes.specs.declared.beginning.OpenRun.{OpenRun}
 use Rattle.zone_bytes.proofs.Marks.Passing.{begins-here}
 use Rattle.zone_bytes.proofs.Searches.Pieces.{edge-within}
@@ -42,7 +42,7 @@ pub open-more : (low high : List Block) (a b : ℕ) → stretch_of low ≡ Whole
 open-more low high a b e f = stretch_of-append low high ∙ ap (λ s. join s (stretch_of high)) e ∙ ap (join (Whole a)) f
 
 -- what is known of the blocks below a place, and of those from there on up to another
-module _ (xs : List ℕ) (at next : ℕ) (below : Below) (b : IsBelow at xs below) (here : List Block)
+module _ (xs : List ℕ) (at next : ℕ) (below : Passed) (b : IsBelow at xs below) (here : List Block)
     (p : IsPiece at next xs here) where
   pub below-open : (all : Stretch) (free : ℕ) → all ≡ stretch_of (b.low ++ here) → stretch_of here ≡ Whole free
       → IsBelow next xs (record { runs = all; barred = below.barred; end = below.end; free = below.free + free })

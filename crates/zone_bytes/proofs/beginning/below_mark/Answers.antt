@@ -32,16 +32,16 @@ piece xs first unused i marks a index last runs l h t =
     (mark-edge xs first unused i marks a (index + 1) (omega (arith, l, h))) (omega (arith, f, r)) (omega (arith, f))
     (inl (sym f)))
 
-pub below_next-below-requires-clause-joins : goal.below_next-below-requires-clause-joins
-below_next-below-requires-clause-joins c =
+pub pass_known-below-requires-clause-joins : goal.pass_known-below-requires-clause-joins
+pass_known-below-requires-clause-joins c =
     let i = c.requires.sound in
     let xs = c.args.part.now.bytes in
     let p = piece xs i.0 i.1 i.2 c.args.marks.now c.requires.marks c.loop-index.index c.args.last c.in-Known.runs
     c.requires.inside c.loop-index-test.true c.in-Known.is in
     joins-fit xs _ _ c.loop-index.below c.loop-index.invariant p.0 p.1 i.0 i.1 i.2 c.in-Known.runs p.2
 
-pub below_next-below-requires-clause-sums : goal.below_next-below-requires-clause-sums
-below_next-below-requires-clause-sums c =
+pub pass_known-below-requires-clause-sums : goal.pass_known-below-requires-clause-sums
+pass_known-below-requires-clause-sums c =
     let i = c.requires.sound in
     let xs = c.args.part.now.bytes in
     let p = piece xs i.0 i.1 i.2 c.args.marks.now c.requires.marks c.loop-index.index c.args.last c.in-Known.runs
@@ -56,5 +56,5 @@ loop-index-preserved c =
     let h = c.loop-index-test.true in
     let p = piece xs i.0 i.1 i.2 c.args.marks.now c.requires.marks c.loop-index.index c.args.last c.in-Known.runs
     l h c.in-Known.is in
-    c.below_next-below.ensures xs p.0 c.loop-index.invariant
+    c.pass_known-below.ensures.below xs p.0 c.loop-index.invariant
     (mark-edge xs i.0 i.1 i.2 c.args.marks.now c.requires.marks c.loop-index.index (omega (arith, l, h))) p.1 p.2

@@ -1,4 +1,4 @@
-use Rattle.std.proofs.Common.{◌≡◌, ◌≤◌, ◌⊎◌, drop, length, true, sym, subst, arith, inl, inr}
+use Rattle.std.proofs.Common.{◌≡◌, ◌≤◌, ◌⊎◌, ◌&&◌, Some, drop, length, nat_le, true, false, sym, subst, ◌∙◌, arith, inl, inr}
 use Rattle.block_store.specs.Run.{has_free}
 use Rattle.block_store.specs.Sparing.{purged}
 use Rattle.block_store.specs.declared.run_search.RunScan.{RunScan}
@@ -8,8 +8,9 @@ use Rattle.zone_bytes.specs.Marks.{Begins, next_of}
 use Rattle.zone_bytes.specs.Searching.{IsFound, IsKnown, finds_from, lowest_place}
 use Rattle.zone_bytes.specs.Stepping.{left_in, IsOnWay}
 use Rattle.zone_bytes.proofs.Marks.Lowering.{begins-way}
-use Rattle.zone_bytes.proofs.Searches.Knowing.{begun-known, scanned}
-use Rattle.zone_bytes.proofs.Searches.Pieces.{bounded-edge, bounded-mark, edge-within, piece-of}
+use Rattle.zone_bytes.proofs.Searches.Knowing.{begun-known, known-start, not-found, scanned, short-of}
+use Rattle.zone_bytes.proofs.Searches.Passed.{known-ready}
+use Rattle.zone_bytes.proofs.Searches.Pieces.{bounded-edge, bounded-end, bounded-mark, edge-within, piece-of}
 use Rattle.zone_bytes.proofs.finding_runs.runs_from.Goals as goal
 use Rattle.zone_bytes.proofs.finding_runs.runs_from.Goals.{After-within-at}
 
@@ -79,31 +80,56 @@ there c r =
     scanned c.args.bytes (lowest_place c.args.bytes c.args.purges c.args.sparing xs) xs i.0 i.1 i.2
     c.without_purges-used.result.place c.within-at.result c.without_purges-used.result r p.0 u p.1
 
-pub past_stretches-requires-clause-known : goal.past_stretches-requires-clause-known
-past_stretches-requires-clause-known c = (
-  lowest_place c.args.bytes c.args.purges c.args.sparing c.args.part.now.bytes,
-  (let r = c.scan_up_to-scan.ensures in
-      there (goal.at.past_stretches-requires-clause-known c).After-within-at c.scan_up_to-scan.result
-      r.same r.begins r.free r.met r.left r.stays r.came r.up_to),
-)
+pub returns-then-is_found : goal.returns-then-is_found
+returns-then-is_found c =
+    let xs = c.args.part.now.bytes in
+    finds_run (has_free c.args.bytes) (purged c.args.purges c.args.sparing (zone_in xs)) (Some c.scan_up_to-scan.result.start)
+    (sym (known-start c.args.bytes (lowest_place c.args.bytes c.args.purges c.args.sparing xs) xs c.within-at.result
+    c.scan_up_to-scan.result (let r = c.scan_up_to-scan.ensures in
+    there (goal.at.returns-then-is_found c).After-within-at c.scan_up_to-scan.result r.same r.begins r.free r.met r.left r.stays r.came r.up_to)
+    (sym c.is_found.ensures ∙ c.if-is_found.true)))
 
-pub past_stretches-requires-clause-edge : goal.past_stretches-requires-clause-edge
-past_stretches-requires-clause-edge c = edge (goal.at.past_stretches-requires-clause-edge c).After-within-at
+pub reach_run-requires-clause-ready : goal.reach_run-requires-clause-ready
+reach_run-requires-clause-ready c = known-ready c.args.bytes
+    (lowest_place c.args.bytes c.args.purges c.args.sparing c.args.part.now.bytes) c.within-at.result
+    c.args.part.now.bytes c.scan_up_to-scan.result (let r = c.scan_up_to-scan.ensures in
+    there (goal.at.reach_run-requires-clause-ready c).After-within-at c.scan_up_to-scan.result r.same r.begins r.free r.met r.left r.stays r.came r.up_to)
 
-pub past_stretches-requires-clause-here : goal.past_stretches-requires-clause-here
-past_stretches-requires-clause-here c =
+pub reach_run-requires-clause-short : goal.reach_run-requires-clause-short
+reach_run-requires-clause-short c =
+    let r = c.scan_up_to-scan.ensures in
+    let k = there (goal.at.reach_run-requires-clause-short c).After-within-at c.scan_up_to-scan.result r.same r.begins r.free r.met r.left r.stays r.came r.up_to in
+    short-of c.scan_up_to-scan.result.met c.args.bytes c.scan_up_to-scan.result.free k.met
+    (sym c.is_found.ensures ∙ c.if-is_found.false)
+
+pub reach_run-requires-clause-here : goal.reach_run-requires-clause-here
+reach_run-requires-clause-here c = λ l.
     let i = c.requires.sound in
+    let d = (goal.at.reach_run-requires-clause-here c).After-within-at in
     let p = c.place_of_mark.ensures in
     let t = c.within-at.ensures.least in
-    bounded-mark c.args.part.now.bytes i.0 i.1 i.2 c.args.marks.now c.requires.marks c.index_above-first.result
-    c.within-at.result c.len.result c.len.ensures.count
-    (bounds (goal.at.past_stretches-requires-clause-here c).After-within-at) (omega (arith, p, t))
+    let r = c.scan_up_to-scan.ensures in
+    let k = there d c.scan_up_to-scan.result r.same r.begins r.free r.met r.left r.stays r.came r.up_to in
+    not-found c.args.bytes (lowest_place c.args.bytes c.args.purges c.args.sparing c.args.part.now.bytes)
+    c.args.part.now.bytes c.within-at.result c.scan_up_to-scan.result k (sym c.is_found.ensures ∙ c.if-is_found.false)
+    ∙ bounded-mark c.args.part.now.bytes i.0 i.1 i.2 c.args.marks.now c.requires.marks c.index_above-first.result
+    c.within-at.result c.len.result c.len.ensures.count (bounds d) (omega (arith, p, t)) l
+
+pub reach_run-requires-clause-end : goal.reach_run-requires-clause-end
+reach_run-requires-clause-end c = λ l.
+    let i = c.requires.sound in
+    let d = (goal.at.reach_run-requires-clause-end c).After-within-at in
+    let r = c.scan_up_to-scan.ensures in
+    let k = there d c.scan_up_to-scan.result r.same r.begins r.free r.met r.left r.stays r.came r.up_to in
+    let s = not-found c.args.bytes (lowest_place c.args.bytes c.args.purges c.args.sparing c.args.part.now.bytes)
+    c.args.part.now.bytes c.within-at.result c.scan_up_to-scan.result k (sym c.is_found.ensures ∙ c.if-is_found.false) in
+    let e = bounded-end c.args.part.now.bytes i.0 i.1 i.2 c.args.marks.now c.index_above-first.result c.within-at.result
+    c.len.result c.len.ensures.count (bounds d) c.within-at.ensures.low l in
+    omega (arith, s, e)
 
 pub returns : goal.returns
 returns c =
     let xs = c.args.part.now.bytes in
-    let r = c.scan_up_to-scan.ensures in
-    finds_run (has_free c.args.bytes) (purged c.args.purges c.args.sparing (zone_in xs)) c.past_stretches.result
-    (sym (c.past_stretches.ensures (lowest_place c.args.bytes c.args.purges c.args.sparing xs)
-    (there (goal.at.returns c).After-within-at c.scan_up_to-scan.result r.same r.begins r.free r.met r.left r.stays
-    r.came r.up_to)))
+    finds_run (has_free c.args.bytes) (purged c.args.purges c.args.sparing (zone_in xs)) c.reach_run.result
+    (c.reach_run.ensures ∙ sym (let r = c.scan_up_to-scan.ensures in
+    there (goal.at.returns c).After-within-at c.scan_up_to-scan.result r.same r.begins r.free r.met r.left r.stays r.came r.up_to).finds)
