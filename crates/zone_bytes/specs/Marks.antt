@@ -1,8 +1,8 @@
 -- Landmarks of a zone: places at which blocks begin, each with a bound on the free blocks up to the next.
 use Rattle.std.specs.Prelude.{◌≡◌, ℕ, ◌+◌, ◌*◌, ◌≤◌, ◌<◌, ◌⊎◌, Bool, true, false, not, ◌&&◌, if◌then◌else◌, nat_le, nat_lt}
 use Rattle.std.specs.Prelude.{List, [], ◌∷◌, ◌++◌, length, drop, get_or}
-use Rattle.block_store.specs.Block.{Block, size, sizes, free_of, free_sum, is_room}
-use Rattle.block_store.specs.Run.{in_run, has}
+use Rattle.block_store.specs.Block.{Block, size, sizes, free_of, is_room}
+use Rattle.block_store.specs.Run.{in_run}
 use Rattle.zone_bytes.specs.Stepping.{left_in, IsOnWay}
 use Rattle.zone_bytes.specs.declared.landmark.Landmark.{Landmark}
 use Rattle.zone_bytes.specs.declared.landmark.Tally.{Tally}

@@ -1,11 +1,11 @@
 -- Searches for a run and for room that use the landmarks of a zone.
-use Rattle.std.specs.Prelude.{◌≡◌, ℕ, ◌+◌, ◌≤◌, ◌<◌, ◌⊎◌, ◌&&◌, nat_le, true, false, Option, Some, None, List, ◌∷◌, ◌++◌, length}
+use Rattle.std.specs.Prelude.{◌≡◌, ℕ, ◌+◌, ◌≤◌, ◌⊎◌, ◌&&◌, nat_le, true, Option, Some, None, List, ◌∷◌, ◌++◌, length}
 use Rattle.std.specs.Option.{option_map}
-use Rattle.block_store.specs.Block.{Block, size, sizes, free_sum, is_room}
+use Rattle.block_store.specs.Block.{Block, size, sizes, is_room}
 use Rattle.block_store.specs.Inner.RunScan.{scan_from, suits}
 use Rattle.block_store.specs.Inner.Stretch.{stretch}
 use Rattle.block_store.specs.Room.{spot}
-use Rattle.block_store.specs.Run.{RunSpot, run_spot, has}
+use Rattle.block_store.specs.Run.{RunSpot, run_spot}
 use Rattle.block_store.specs.Sparing.{opened, purged, spared}
 use Rattle.block_store.specs.declared.run_search.RunScan.{RunScan}
 use Rattle.block_store.specs.declared.sparing.Sparing.{Sparing}

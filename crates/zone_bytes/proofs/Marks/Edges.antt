@@ -1,11 +1,10 @@
 -- Landmarks that are laid by edges which were noted while blocks were moved.
-use Rattle.std.proofs.Common.{◌≡◌, ℕ, ◌+◌, ◌≤◌, ◌<◌, ◌⊎◌, inl, inr, Bool, true, false, not, ◌&&◌, ◌||◌, cond, nat_le, nat_lt, List, []}
+use Rattle.std.proofs.Common.{◌≡◌, ℕ, ◌+◌, ◌≤◌, ◌<◌, ◌⊎◌, inl, inr, Bool, true, false, ◌&&◌, cond, nat_le, nat_lt, List, []}
 use Rattle.std.proofs.Common.{◌∷◌, ◌++◌, length, take, drop, get_or, set, refl, sym, ap, ◌∙◌, subst, arith}
 use Rattle.std.proofs.lemmas.Bool.{leb-true, le-ltb, false≢true}
 use Rattle.std.proofs.lemmas.Bool.Decides.{eqb_tells}
 use Rattle.std.proofs.lemmas.List.{get_or-set_same, get_or-set_other, drop_more}
 use Rattle.block_store.specs.Block.{Block, Free, Nonrelocatable, Masters, Relocatable, size, sizes, free_of}
-use Rattle.block_store.specs.Run.{has}
 use Rattle.zone_bytes.specs.Layout.{Each}
 use Rattle.zone_bytes.specs.Edges.{Starts, AreEdges, IsMover, ByEdges, IsBare, AreLaid}
 use Rattle.zone_bytes.specs.Marks.{AreMarks, AtEach, AtMost, Begins, between, next_of, no_mark}

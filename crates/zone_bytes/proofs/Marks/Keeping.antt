@@ -1,8 +1,7 @@
 -- Landmarks where a block changes in place, and where one is put into a Free block.
 use Rattle.std.proofs.Common.{◌≡◌, ℕ, ◌+◌, ◌-◌, ◌≤◌, ◌<◌, inl, inr, List, [], ◌∷◌, ◌++◌, sym, refl, ap, ◌∙◌, subst, arith}
-use Rattle.std.proofs.Common.{zero, suc, append_assoc, Bool, true, false, ◌&&◌, ◌||◌, cond, nat_le, nat_lt}
-use Rattle.block_store.specs.Block.{Block, Free, Nonrelocatable, Masters, Relocatable, size, sizes, free, free_of, free_sum, add}
-use Rattle.block_store.specs.Run.{has}
+use Rattle.std.proofs.Common.{zero, suc, append_assoc, Bool, true, false, ◌&&◌, cond, nat_le, nat_lt}
+use Rattle.block_store.specs.Block.{Block, Free, Nonrelocatable, Masters, Relocatable, size, sizes, free, free_of, add}
 use Rattle.zone_bytes.specs.Laying.{free_first}
 use Rattle.zone_bytes.specs.Marks.{AtEach, AtMost, Became, Begins, AreMarks, Replaced, between, ends_run, next_of}
 use Rattle.zone_bytes.specs.declared.landmark.Landmark.{Landmark}

@@ -2,7 +2,7 @@
 use Rattle.std.proofs.Common.{◌≡◌, ℕ, ◌+◌, ◌≤◌, ◌<◌, ◌^◌, ◌⊎◌, inl, inr, Bool, true, false, not, List, [], ◌∷◌, ◌++◌, append_assoc}
 use Rattle.std.proofs.Common.{refl, sym, ap, ◌∙◌, subst, arith}
 use Rattle.std.proofs.lemmas.Bool.{false≢true}
-use Rattle.block_store.specs.Block.{Block, free_of, sizes}
+use Rattle.block_store.specs.Block.{Block, free_of}
 use Rattle.block_store.specs.Run.{in_run}
 use Rattle.zone_bytes.specs.Beginning.{IsBelow, IsOpen}
 use Rattle.zone_bytes.specs.Decode.{zone_in}
@@ -19,7 +19,7 @@ use Rattle.zone_bytes.proofs.Tiles.Tiling.{span-append}
 use Rattle.zone_summary.specs.Rows.{load}
 use Rattle.zone_summary.specs.Stretches.{counted, join, prefix, stretch_of, suffix}
 use Rattle.zone_summary.specs.declared.stretch.Stretch.{Stretch}
-use Rattle.zone_summary.specs.declared.stretch.Stretch.TheVariants.{Whole, Ended}
+use Rattle.zone_summary.specs.declared.stretch.Stretch.TheVariants.{Whole}
 use Rattle.zone_summary.proofs.Monoid.{stretch_of-append}
 use Rattle.zone_summary.proofs.Sums.{ends-load, load-blocks}
 

@@ -1,6 +1,6 @@
 -- How far a search for a run is known, where blocks are passed.
 use Rattle.std.proofs.Common.{◌≡◌, ℕ, ◌+◌, ◌≤◌, ◌<◌, ◌⊎◌, ◌&&◌, inl, inr, Bool, true, false, nat_le, Option, Some, None}
-use Rattle.std.proofs.Common.{List, [], ◌++◌, length, refl, sym, ap, ◌∙◌, subst, arith}
+use Rattle.std.proofs.Common.{List, [], length, refl, sym, ap, ◌∙◌, subst, arith}
 use Rattle.std.proofs.lemmas.Bool.{leb-false}
 use Rattle.block_store.specs.Block.{Block, sizes, free_sum}
 use Rattle.block_store.specs.Inner.RunScan.{scan_from, scan_runs}

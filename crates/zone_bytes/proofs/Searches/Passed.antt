@@ -2,7 +2,7 @@
 use Rattle.std.proofs.Common.{◌≡◌, ℕ, ◌+◌, ◌≤◌, ◌<◌, ◌^◌, ◌&&◌, ◌⊎◌, inl, inr, Bool, true, false, nat_le, None, Option, List, [], ◌++◌, length}
 use Rattle.std.proofs.Common.{append_assoc, append-nil, refl, sym, ap, ◌∙◌, subst, arith}
 use Rattle.std.proofs.lemmas.Bool.{cond-false}
-use Rattle.block_store.specs.Block.{Block, sizes}
+use Rattle.block_store.specs.Block.{Block}
 use Rattle.block_store.specs.Inner.RunScan.{scan_runs}
 use Rattle.block_store.specs.Sparing.{spared}
 use Rattle.block_store.specs.declared.run_search.RunScan.{RunScan}
@@ -18,7 +18,7 @@ use Rattle.zone_bytes.specs.declared.landmark.Tally.TheVariants as tally
 use Rattle.zone_bytes.proofs.Marks.Lowering.{begins-further, begins-way}
 use Rattle.zone_bytes.proofs.Places.Stepped.{left-none}
 use Rattle.zone_bytes.proofs.Searches.Begun.{open-more, piece-more, piece-none}
-use Rattle.zone_bytes.proofs.Searches.Knowing.{known-through, not-found}
+use Rattle.zone_bytes.proofs.Searches.Knowing.{known-through}
 use Rattle.zone_bytes.proofs.Searches.Pieces.{edge-within}
 use Rattle.zone_summary.specs.Rows.{load}
 use Rattle.zone_summary.specs.Searches.{found_from}

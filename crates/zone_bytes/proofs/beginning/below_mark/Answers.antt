@@ -1,4 +1,4 @@
-use Rattle.std.proofs.Common.{◌≡◌, ◌+◌, ◌≤◌, ◌<◌, inl, drop, get_or, length, List, sym, ap, ◌∙◌, subst, arith}
+use Rattle.std.proofs.Common.{◌≡◌, ◌+◌, ◌<◌, inl, get_or, length, List, sym, subst, arith}
 use Rattle.block_store.specs.Block.{Block}
 use Rattle.zone_bytes.specs.Marks.{above_all, no_mark}
 use Rattle.zone_bytes.specs.Searching.{IsPiece}

@@ -1,5 +1,5 @@
 use Rattle.std.proofs.Common.{sym, ap, subst, arith}
-use Rattle.zone_bytes.specs.Searching.{IsBarred, IsKnown, finds_from}
+use Rattle.zone_bytes.specs.Searching.{IsKnown, finds_from}
 use Rattle.zone_bytes.specs.Stepping.{IsOnWay}
 use Rattle.zone_bytes.proofs.Marks.Lowering.{begins-way}
 use Rattle.zone_bytes.proofs.Places.Walks.{free_span-le}

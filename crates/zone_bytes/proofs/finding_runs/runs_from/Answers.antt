@@ -1,4 +1,4 @@
-use Rattle.std.proofs.Common.{◌≡◌, ◌≤◌, ◌⊎◌, ◌&&◌, Some, drop, length, nat_le, true, false, sym, subst, ◌∙◌, arith, inl, inr}
+use Rattle.std.proofs.Common.{◌≡◌, ◌≤◌, ◌⊎◌, Some, drop, length, true, sym, subst, ◌∙◌, arith, inl, inr}
 use Rattle.block_store.specs.Run.{has_free}
 use Rattle.block_store.specs.Sparing.{purged}
 use Rattle.block_store.specs.declared.run_search.RunScan.{RunScan}
@@ -6,7 +6,7 @@ use Rattle.block_store.proofs.Regroup.RunSpots.{finds_run}
 use Rattle.zone_bytes.specs.Decode.{zone_in}
 use Rattle.zone_bytes.specs.Marks.{Begins, next_of}
 use Rattle.zone_bytes.specs.Searching.{IsFound, IsKnown, finds_from, lowest_place}
-use Rattle.zone_bytes.specs.Stepping.{left_in, IsOnWay}
+use Rattle.zone_bytes.specs.Stepping.{left_in}
 use Rattle.zone_bytes.proofs.Marks.Lowering.{begins-way}
 use Rattle.zone_bytes.proofs.Searches.Knowing.{begun-known, known-start, not-found, scanned, short-of}
 use Rattle.zone_bytes.proofs.Searches.Passed.{known-ready}

@@ -1,4 +1,4 @@
-use Rattle.std.proofs.Common.{subst, arith}
+use Rattle.std.proofs.Common.{subst}
 use Rattle.zone_bytes.specs.Searching.{IsStretch}
 use Rattle.zone_bytes.proofs.Searches.Sums.{known-came, known-fits}
 use Rattle.zone_bytes.proofs.largest.past_stretch.Goals as goal

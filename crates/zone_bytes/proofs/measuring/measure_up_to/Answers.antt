@@ -1,7 +1,7 @@
-use Rattle.std.proofs.Common.{◌≡◌, ◌+◌, ◌⊎◌, ◌||◌, ◌∙◌, length, ap, sym, subst, arith}
+use Rattle.std.proofs.Common.{◌≡◌, ◌⊎◌, length, sym, subst, arith}
 use Rattle.zone_bytes.specs.Marks.{Begins}
 use Rattle.zone_bytes.specs.Stepping.{left_in}
-use Rattle.zone_bytes.proofs.Marks.Counting.{Counted, counted-start, counted-step, counted-fits, counted-edge}
+use Rattle.zone_bytes.proofs.Marks.Counting.{counted-start, counted-step, counted-fits, counted-edge}
 use Rattle.zone_bytes.proofs.Marks.Counting.{counted-below}
 use Rattle.zone_bytes.proofs.Marks.Passing.{begins-right, begins-here, past}
 use Rattle.zone_bytes.proofs.measuring.measure_up_to.Goals as goal
