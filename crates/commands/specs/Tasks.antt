@@ -11,7 +11,7 @@ use Rattle.commands.specs.Fault.{Message, Usage, CannotRead, Script, Fork, Canno
 use Rattle.fork_format.specs.View.{view}
 use Rattle.commands.specs.Listing.{listing}
 use Rattle.commands.specs.Printing.{PrintsFront}
-use Rattle.commands.specs.Work.{IsTranscriptOf, IsListingOf, IsFormText, text_of}
+use Rattle.commands.specs.Work.{IsTranscriptOf, IsZoneOf, IsListingOf, IsFormText, text_of}
 use Rattle.commands.specs.declared.host.WriteError.{WriteError}
 use Rattle.commands.specs.declared.host.WriteError.TheVariants as write_error
 use Rattle.commands.specs.declared.tasks.Output.{Output}
@@ -55,12 +55,14 @@ IsForkFault path wanted (CannotWrite named) = ⊥
 -- What is printed of a file's bytes.
 abbrev pub IsPrinted : Work → List ℕ → List ℕ → Type 0
 IsPrinted (work.Script size) bytes out = IsTranscriptOf size.bytes bytes out
+IsPrinted (work.Heap asked) bytes out = IsZoneOf asked bytes out
 IsPrinted (work.Map style) bytes out = IsListingOf style bytes out
 IsPrinted work.Check bytes out = IsFormText bytes out
 
 -- The fault of a file's bytes.
 abbrev pub IsFault : Work → List ℕ → List ℕ → Message → Type 0
 IsFault (work.Script size) path bytes message = IsScriptFault path bytes message
+IsFault (work.Heap asked) path bytes message = IsScriptFault path bytes message
 IsFault (work.Map style) path bytes message = IsForkFault path (content_in bytes) message
 IsFault work.Check path bytes message = IsForkFault path (content_in bytes) message
 
@@ -71,7 +73,7 @@ write_message path write_error.HostMemory = HostMemory
 
 -- The text of an output.
 abbrev pub output_text : Output → List ℕ
-output_text (output.Transcript text) = text.items
+output_text (output.Text text) = text.items
 output_text (output.Listing l) = listing l.style l.wrapping (view l.content)
 output_text (output.Form form) = text_of form
 

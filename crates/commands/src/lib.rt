@@ -19,10 +19,12 @@ mod paths;
 mod reading;
 mod request;
 mod running;
+mod showing;
 mod size;
 mod tasks;
 mod words;
 mod work;
+mod zone_words;
 
 pub use applications::{Unwatched, Watch};
 pub use doing::tool;
