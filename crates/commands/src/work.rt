@@ -11,9 +11,9 @@ ghost use Rattle.commands.specs.Listing.{listing};
 ghost use Rattle.commands.specs.Work.{IsTranscriptOf, IsZoneOf, IsListingOf, IsForkForm, IsFormOf, TellsForm, text_of};
 
 use crate::listing::{Listing, MapStyle};
-use crate::showing::show_in_region;
+use crate::showing::show_script;
 use crate::size::PartitionSize;
-use applications::{Watch, own_resources};
+use applications::Watch;
 use desk::run_script;
 use fork_commands::{WorkFault, content_of_fork, fork_in};
 use fork_format::{Content, WriteFault, write_fork};
@@ -93,14 +93,11 @@ pub fn zone_of(alloc: Global, asked: ZoneView, text: &[u8]) -> Result<Vec<u8>, S
     ensures fault { IfErr result (λ f. FailsAt f.line f.kind (script_of text.now)) }
 {
     let script = read_script(alloc, text)?;
-    let Ok(resources) = own_resources(alloc) else {
-        return Err(NO_MEMORY);
-    };
     let Ok(region) = Region::new(alloc, asked.size.bytes as usize) else {
         return Err(NO_MEMORY);
     };
     let steps = steps_at(asked.line, &script);
-    let (shown, region) = show_in_region(alloc, region, resources, &script, steps, asked.form);
+    let (shown, region) = show_script(alloc, region, &script, steps, asked.form);
     region.close();
     match shown {
         Ok(shown) => Ok(shown),
