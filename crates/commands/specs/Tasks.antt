@@ -7,7 +7,7 @@ use Rattle.fork_commands.specs.declared.fault.FileFault.{FileFault}
 use Rattle.fork_commands.specs.declared.fault.WorkFault.{WorkFault}
 use Rattle.fork_commands.specs.declared.fault.WorkFault.TheVariants as work_fault
 use Rattle.fork_commands.specs.Reading.{content_in}
-use Rattle.commands.specs.Fault.{Message, Usage, CannotRead, Script, Fork, CannotWrite, HostMemory}
+use Rattle.commands.specs.Fault.{Message, Usage, CannotRead, Script, Fork, CannotWrite, HostMemory, NotLaunched}
 use Rattle.fork_format.specs.View.{view}
 use Rattle.commands.specs.Listing.{listing}
 use Rattle.commands.specs.Printing.{PrintsFront}
@@ -42,6 +42,7 @@ IsScriptFault path text (Usage message) = ⊥
 IsScriptFault path text (CannotRead named) = ⊥
 IsScriptFault path text (Fork named fault) = ⊥
 IsScriptFault path text (CannotWrite named) = ⊥
+IsScriptFault path text (NotLaunched named app) = ⊥
 
 -- The fault of the bytes of a file of which something is wanted; if the host is out of memory nothing is said of them.
 abbrev pub IsForkFault : {A : Type 0} → List ℕ → Result A FileFault → Message → Type 0
@@ -51,6 +52,7 @@ IsForkFault path wanted (Usage message) = ⊥
 IsForkFault path wanted (CannotRead named) = ⊥
 IsForkFault path wanted (Script named line kind) = ⊥
 IsForkFault path wanted (CannotWrite named) = ⊥
+IsForkFault path wanted (NotLaunched named app) = ⊥
 
 -- What is printed of a file's bytes.
 abbrev pub IsPrinted : Work → List ℕ → List ℕ → Type 0

@@ -12,6 +12,7 @@ mod fork_words;
 mod gathering;
 mod host;
 mod input;
+mod job_zones;
 mod listing;
 mod outputs;
 mod parsing;

@@ -19,7 +19,7 @@ use zone_view::{Form, show_behind};
 /// # Errors
 ///
 /// The host is out of memory.
-fn show_in_region(
+pub fn show_in_region(
     alloc: Global,
     region: Region,
     resources: Resources,

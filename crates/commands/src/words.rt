@@ -14,7 +14,7 @@ use crate::request::Request;
 use crate::running::Errand;
 use crate::size::PartitionSize;
 use crate::tasks::{Task, Work};
-use crate::zone_words::{heap_command, heap_task};
+use crate::zone_words::{heap_command, heap_request};
 use clap::{ArgMatches, Command};
 use script_text::CALLS;
 use std::alloc::{AllocError, Global};
@@ -282,7 +282,7 @@ fn asked<'a>(alloc: Global, matches: &ArgMatches<'a>) -> Result<Request<'a>, Too
 {
     match matches.subcommand() {
         Some(("script", inner)) => Ok(Request::Look(script_task(alloc, inner)?)),
-        Some(("heap", inner)) => Ok(Request::Look(heap_task(alloc, inner)?)),
+        Some(("heap", inner)) => heap_request(alloc, inner),
         Some(("run", inner)) => Ok(Request::Run(Errand {
             job: value(inner, "JOB"),
             out: value(inner, "OUT"),

@@ -4,19 +4,19 @@ ghost use Rattle.std.specs.Prelude.{IfErr, IfOk};
 ghost use Rattle.commands.specs.Fault.{message_of, IsUsage};
 
 use crate::fault::ToolFault;
-use crate::parsing::{
-    SCRIPT_HELP, SIZE_HELP, SIZE_WANTED, argument, bad_value, flag, option, value,
-};
+use crate::job_zones::JobZone;
+use crate::parsing::{SCRIPT_HELP, SIZE_HELP, SIZE_WANTED, bad_value, flag, option, value};
+use crate::request::Request;
 use crate::size::{PartitionSize, has_digits_only};
 use crate::tasks::{Task, Work};
 use crate::work::ZoneView;
-use clap::{ArgMatches, Command};
+use clap::{Arg, ArgAction, ArgMatches, Command};
 use std::alloc::{AllocError, Global};
 use zone_view::Form;
 
 const HEAP_ABOUT: &str = concat!(
-    "Runs a script up to a line and prints the zone as it then lies: its blocks, lowest first, with the script's names ",
-    "and the resources, and their totals"
+    "Runs a script up to a line, alone or as an application of a job, and prints the zone as it then lies: its blocks, ",
+    "lowest first, with the script's names and the resources, and their totals"
 );
 
 const HEAP_EXAMPLES: &str = "Example:
@@ -46,7 +46,17 @@ prints, where first.script holds the two lines 'NewHandle a 100' and 'FreeMem':
 was asked for; 'name' is the script's name for the handle or pointer, '-' where it has none any more. Of a resource's
 handle 'type', 'ID' and 'file' are those of the resource and the number of its open file.
 The last line is the step behind which the zone lies: the last that was run, before the quit at the script's end.
-Faults are told as by 'macmem script'.";
+Faults are told as by 'macmem script'.
+
+  macmem heap --at 2 --job examples/job/job --app Editor
+
+shows the zone of an application of a job in the same way: in the partition that it is granted there, with its own files,
+behind line 2 of its script, or behind the last step that it took before. Nothing is written. Faults are told as by
+'macmem run', and an application that was not launched as 'macmem: JOB: no application NAME was launched'.";
+
+/// The ways in which the command is used.
+const HEAP_USAGE: &str = "macmem heap [OPTIONS] <SIZE> <SCRIPT>
+       macmem heap [OPTIONS] --job <JOB> --app <NAME>";
 
 /// The name of the option for a line of the script, without its two hyphens.
 const AT: &str = "at";
@@ -70,16 +80,39 @@ const SVG: &str = "svg";
 
 const SVG_HELP: &str = "Print a picture as SVG";
 
+/// The name of the option for a job, without its two hyphens.
+const JOB: &str = "job";
+
+const JOB_HELP: &str =
+    "Run the events of this job, and show one of its applications, in place of SIZE and SCRIPT";
+
+/// The name of the option for an application of a job, without its two hyphens.
+const APP: &str = "app";
+
+const APP_HELP: &str = "Name of the application of the job that is shown";
+
+/// Returns an argument that is required unless a job is given, and not allowed with one.
+fn unless_job<'a>(alloc: Global, name: &'a str, help: &'a str) -> Result<Arg<'a>, AllocError> {
+    Arg::new(alloc, name)
+        .action(ArgAction::Set)
+        .help(help)
+        .required_unless_present(JOB)?
+        .conflicts_with(JOB)
+}
+
 /// Returns the command that shows a zone.
 pub fn heap_command<'a>(alloc: Global) -> Result<Command<'a>, AllocError> {
     Command::new(alloc, "heap")
         .about(HEAP_ABOUT)
         .after_help(HEAP_EXAMPLES)
+        .override_usage(HEAP_USAGE)
         .arg(option(alloc, AT, "LINE", AT_HELP))?
         .arg(flag(alloc, PLAIN, PLAIN_HELP).conflicts_with(SVG)?)?
         .arg(flag(alloc, SVG, SVG_HELP))?
-        .arg(argument(alloc, "SIZE", SIZE_HELP))?
-        .arg(argument(alloc, "SCRIPT", SCRIPT_HELP))
+        .arg(option(alloc, JOB, "JOB", JOB_HELP).requires_arg(APP)?)?
+        .arg(option(alloc, APP, "NAME", APP_HELP).requires_arg(JOB)?)?
+        .arg(unless_job(alloc, "SIZE", SIZE_HELP)?)?
+        .arg(unless_job(alloc, "SCRIPT", SCRIPT_HELP)?)
 }
 
 /// Returns the fault of a value: what is asked for in its place.
@@ -122,11 +155,14 @@ fn line_in(alloc: Global, matches: &ArgMatches<'_>) -> Result<Option<usize>, Too
     }
 }
 
-/// Returns what the words of the command ask for.
-pub fn heap_task<'a>(alloc: Global, matches: &ArgMatches<'a>) -> Result<Task<'a>, ToolFault>
+/// Returns the zone that is asked for of a script alone.
+fn script_zone<'a>(
+    alloc: Global,
+    matches: &ArgMatches<'a>,
+    line: Option<usize>,
+) -> Result<Task<'a>, ToolFault>
     ensures { IfErr result (λ fault. IsUsage (message_of fault)) }
 {
-    let line = line_in(alloc, matches)?;
     let text = value(matches, "SIZE");
     match PartitionSize::read(text) {
         Some(size) => Ok(Task {
@@ -139,5 +175,21 @@ pub fn heap_task<'a>(alloc: Global, matches: &ArgMatches<'a>) -> Result<Task<'a>
             watched: false,
         }),
         None => Err(bad(alloc, "SIZE", text, SIZE_WANTED)?),
+    }
+}
+
+/// Returns what the words of the command ask for.
+pub fn heap_request<'a>(alloc: Global, matches: &ArgMatches<'a>) -> Result<Request<'a>, ToolFault>
+    ensures { IfErr result (λ fault. IsUsage (message_of fault)) }
+{
+    let line = line_in(alloc, matches)?;
+    match matches.get_str(JOB) {
+        Some(job) => Ok(Request::Show(JobZone {
+            job,
+            app: value(matches, APP),
+            line,
+            form: form_in(matches),
+        })),
+        None => Ok(Request::Look(script_zone(alloc, matches, line)?)),
     }
 }

@@ -3,7 +3,7 @@ use Rattle.desk.specs.Live.{live_seen}
 use Rattle.desk.specs.Halting.{WithinTurn}
 use Rattle.desk.specs.Outcome.{Launched}
 use Rattle.desk.specs.Phase.{leaves, turned, turn_through}
-use Rattle.desk.proofs.live.Live.turn.Given as goal
+use Rattle.desk.proofs.phase.Live.turn.Given as goal
 
 -- the turn goes on where it stands, through the lines that are left
 abbrev pub invariant-loop-line : goal.invariant-loop-line

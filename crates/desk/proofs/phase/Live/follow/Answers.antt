@@ -1,6 +1,6 @@
 use Rattle.std.proofs.Common.{◌∙◌, false}
 use Rattle.desk.proofs.Coming.{call_goes_on, call_ends}
-use Rattle.desk.proofs.live.Live.follow.Goals as goal
+use Rattle.desk.proofs.phase.Live.follow.Goals as goal
 
 pub returns-in_ok-end-in-Some-clause-came : goal.returns-in_ok-end-in-Some-clause-came
 returns-in_ok-end-in-Some-clause-came g c =

@@ -1,7 +1,7 @@
 use Rattle.std.proofs.Common.{◌∙◌, ◌++◌, ap, List, ℕ}
 use Rattle.script_text.specs.Transcript.{end_line}
 use Rattle.desk.proofs.Coming.{has_ended_so}
-use Rattle.desk.proofs.live.Live.end.Goals as goal
+use Rattle.desk.proofs.phase.Live.end.Goals as goal
 
 pub returns-clause-came : goal.returns-clause-came
 returns-clause-came g c = λ asked.

@@ -4,7 +4,7 @@ use Rattle.applications.specs.Trying.{nowhere}
 use Rattle.applications.specs.Alone.{quits}
 use Rattle.applications.specs.Elsewhere.{moved}
 use Rattle.desk.specs.Phase.{Live, ends}
-use Rattle.desk.proofs.live.Live.run_out.Goals as goal
+use Rattle.desk.proofs.phase.Live.run_out.Goals as goal
 
 pub returns-clause-came : goal.returns-clause-came
 returns-clause-came g c =
