@@ -12,10 +12,9 @@ use Rattle.block_store.specs.declared.measures.TheConstants.{MASTERS_SIZE}
 use Rattle.block_store.proofs.Renamed.Renaming.{total-rename}
 use Rattle.heap_calls.proofs.Numbering.Largest.{runs-rename, largest_free-rename, largest_run-rename}
 use Rattle.applications.specs.Trying.{Running}
-use Rattle.heap_view.specs.Line.{Tag, Known, Line, line, lines}
-use Rattle.heap_view.specs.Totals.{could_be_free, largest_purged, largest_of}
+use Rattle.heap_view.specs.Line.{Tag, Known, line, lines}
+use Rattle.heap_view.specs.Totals.{could_be_free, largest_of}
 use Rattle.heap_view.specs.declared.line.Owner.{Owner}
-use Rattle.heap_view.specs.declared.totals.Largest.{Largest}
 use Rattle.zone_view.specs.Known.{tag, tag_by, name_of, owner_of, named_by}
 use Rattle.zone_view.specs.Shown.{block_lines, zone_lines}
 

@@ -1,10 +1,9 @@
 //! What is known of an application's handles and pointers, by their numbers.
 
-ghost use Rattle.std.specs.Prelude.{◌≡◌, ℕ, None, map, IfOk, OnOk, option_map};
+ghost use Rattle.std.specs.Prelude.{◌≡◌, ℕ, None, map, IfOk, OnOk};
 ghost use Rattle.std.specs.BTreeMap.{get};
 ghost use Rattle.std.specs.Option.{option_or};
 ghost use Rattle.std.specs.Ordering.{nat_cmp};
-ghost use Rattle.mac_words.specs.declared.name.Label.{Label as LabelValue};
 ghost use Rattle.heap_calls.specs.Inner.Numbered.{no_number};
 ghost use Rattle.heap_view.specs.View.{view_tag};
 ghost use Rattle.res_map.specs.View.{view_lent};

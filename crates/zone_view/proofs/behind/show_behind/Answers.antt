@@ -1,4 +1,4 @@
-use Rattle.std.proofs.Common.{◌∙◌, ◌++◌, List, ap, take}
+use Rattle.std.proofs.Common.{◌∙◌, ◌++◌, ap, take}
 use Rattle.block_store.specs.Block.{sizes}
 use Rattle.script_text.specs.declared.script.Line.{Line}
 use Rattle.script_text.specs.Transcript.{launch_line}

@@ -1,5 +1,4 @@
-use Rattle.std.proofs.Common.{◌≡◌, ◌∙◌, sym, ap}
-use Rattle.block_store.specs.Block.{rename}
+use Rattle.std.proofs.Common.{◌∙◌, sym, ap}
 use Rattle.heap_calls.specs.Inner.Numbered.{handle_number, pointer_number}
 use Rattle.heap_calls.specs.State.{State}
 use Rattle.heap_view.specs.Line.{lines}
