@@ -5,7 +5,7 @@ use Rattle.script_text.specs.declared.fault.FaultKind.{FaultKind}
 use Rattle.script_text.specs.declared.fault.FaultKind.TheVariants as kinds
 use Rattle.script_text.specs.Reading.{FailsAt}
 use Rattle.script_text.specs.Script.{Spelled}
-use Rattle.commands.specs.Fault.{Message, Usage, CannotRead, Script, Fork, CannotWrite, HostMemory, message_of}
+use Rattle.commands.specs.Fault.{Message, Usage, CannotRead, Script, Fork, CannotWrite, HostMemory, NotLaunched, message_of}
 use Rattle.commands.specs.declared.fault.ToolFault.{ToolFault}
 use Rattle.commands.specs.Tasks.{script_message}
 use Rattle.commands.specs.Accesses.{Access, and_then}
@@ -42,6 +42,7 @@ stop_then r next (CannotRead path) stops = ap (λ x. given_then x next) stops
 stop_then r next (Script path line kind) stops = ap (λ x. given_then x next) stops
 stop_then r next (Fork path fault) stops = ap (λ x. given_then x next) stops
 stop_then r next (CannotWrite path) stops = ap (λ x. given_then x next) stops
+stop_then r next (NotLaunched path app) stops = ap (λ x. given_then x next) stops
 
 -- the fault of a call that stopped is passed on
 pub stop_given : {X Y : Type 0} (view : X → Y) (given : Result Y Message) (result : Result X ToolFault) (fault : ToolFault)

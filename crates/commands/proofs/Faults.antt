@@ -3,7 +3,7 @@ use Rattle.fork_commands.specs.declared.fault.FileFault.{FileFault}
 use Rattle.fork_commands.specs.declared.fault.WorkFault.{WorkFault}
 use Rattle.fork_commands.specs.declared.fault.WorkFault.TheVariants.{File, HostMemory as NoMemory}
 use Rattle.fork_commands.specs.Faults.{Stops}
-use Rattle.commands.specs.Fault.{Message, Usage, CannotRead, Script, Fork, CannotWrite, HostMemory}
+use Rattle.commands.specs.Fault.{Message, Usage, CannotRead, Script, Fork, CannotWrite, HostMemory, NotLaunched}
 use Rattle.commands.specs.Accesses.{IsTold}
 use Rattle.commands.specs.Tasks.{fork_message, IsForkFault, IsQuiet}
 
@@ -23,6 +23,7 @@ loud_write path p q (Fork named fault) is = absurd (let no : Fork named fault �
 loud_write path p q (Usage text) is = absurd (let no : Usage text ≡ CannotWrite path = is in cc)
 loud_write path p q (CannotRead named) is = absurd (let no : CannotRead named ≡ CannotWrite path = is in cc)
 loud_write path p q (Script named line kind) is = absurd (let no : Script named line kind ≡ CannotWrite path = is in cc)
+loud_write path p q (NotLaunched named app) is = absurd (let no : NotLaunched named app ≡ CannotWrite path = is in cc)
 
 -- nothing was printed
 pub quiet_silent : (p q : Option (List ℕ)) (told : Message) → q ≡ p → IsQuiet p q told
@@ -32,3 +33,4 @@ quiet_silent p q (Fork named fault) same = same
 quiet_silent p q (Usage text) same = same
 quiet_silent p q (CannotRead named) same = same
 quiet_silent p q (Script named line kind) same = same
+quiet_silent p q (NotLaunched named app) same = same

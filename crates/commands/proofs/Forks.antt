@@ -5,7 +5,7 @@ use Rattle.fork_wrappers.specs.declared.wrapping.Wrapping.TheVariants.{Plain}
 use Rattle.fork_wrappers.specs.Unwrapped.{wrapping_of}
 use Rattle.fork_wrappers.specs.Unwrapped as wrappers
 use Rattle.fork_commands.specs.Reading.{fork_in, fork_found}
-use Rattle.commands.specs.Fault.{Message, Usage, CannotRead, Script, Fork, CannotWrite, HostMemory}
+use Rattle.commands.specs.Fault.{Message, Usage, CannotRead, Script, Fork, CannotWrite, HostMemory, NotLaunched}
 use Rattle.commands.specs.Accesses.{Access}
 use Rattle.commands.specs.Gathering.{fork_told, fork_at, script_at, app_of, app_at, GivenApp, IsStop, Reads}
 use Rattle.commands.specs.Tasks.{IsForkFault}
@@ -30,6 +30,7 @@ fork_stop path file (Usage text) is = absurd is
 fork_stop path file (CannotRead named) is = absurd is
 fork_stop path file (Script named line kind) is = absurd is
 fork_stop path file (CannotWrite named) is = absurd is
+fork_stop path file (NotLaunched named app) is = absurd is
 
 -- an application's script stops it, behind its fork
 pub app_stop : (name fork script file bytes : List ℕ) (texts : List (List ℕ)) (told : Message) → fork_in file ≡ Ok bytes

@@ -10,7 +10,7 @@ use Rattle.commands.specs.Accesses.{Access, Read, and_then, IsTold}
 use Rattle.commands.specs.declared.ending.Ending.{Ending}
 use Rattle.commands.specs.Delivering.{Delivers, IsUndelivered}
 use Rattle.commands.specs.Ending.{ending_of}
-use Rattle.commands.specs.Fault.{Message, Usage, CannotRead, Script, Fork, CannotWrite, HostMemory}
+use Rattle.commands.specs.Fault.{Message, Usage, CannotRead, Script, Fork, CannotWrite, HostMemory, NotLaunched}
 
 -- Two files are read, and what is made of their bytes is printed or written. `p` and `q` are the bytes that have been
 -- printed before and after, `old` and `new` the accesses to files.
@@ -34,6 +34,7 @@ IsPairFault first second wanted (Usage message) = ⊥
 IsPairFault first second wanted (CannotRead named) = ⊥
 IsPairFault first second wanted (Script named line kind) = ⊥
 IsPairFault first second wanted (CannotWrite named) = ⊥
+IsPairFault first second wanted (NotLaunched named app) = ⊥
 
 -- The files were read, one after the other.
 abbrev pub reads_both : Combination → List ℕ → List ℕ → List Access

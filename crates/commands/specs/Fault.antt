@@ -16,6 +16,7 @@ pub data Message : Type 0 where
   Fork : (path : List ℕ) → (fault : FileFault) → Message
   CannotWrite : (path : List ℕ) → Message
   HostMemory : Message
+  NotLaunched : (path : List ℕ) → (app : List ℕ) → Message
 
 abbrev pub message_of : ToolFault → Message
 message_of (fault.Usage text) = Usage (string_bytes text)
@@ -24,6 +25,7 @@ message_of (fault.Script path line kind) = Script (string_bytes path) line kind
 message_of (fault.Fork path why) = Fork (string_bytes path) why
 message_of (fault.CannotWrite path) = CannotWrite (string_bytes path)
 message_of fault.HostMemory = HostMemory
+message_of (fault.NotLaunched path app) = NotLaunched (string_bytes path) (string_bytes app)
 
 -- The fault of words that ask for nothing.
 abbrev pub IsUsage : Message → Type 0
@@ -33,8 +35,9 @@ IsUsage (Script path line kind) = ⊥
 IsUsage (Fork path why) = ⊥
 IsUsage (CannotWrite path) = ⊥
 IsUsage HostMemory = Unit {0}
+IsUsage (NotLaunched path app) = ⊥
 
--- The number of the line that is printed: 0 for usage and help, 1 to 5 for the lines.
+-- The number of the line that is printed: 0 for usage and help, 1 to 6 for the lines.
 abbrev pub kind_of : ToolFault → ℕ
 kind_of (fault.Usage text) = 0
 kind_of (fault.CannotRead path) = 1
@@ -42,6 +45,7 @@ kind_of (fault.Script path line kind) = 2
 kind_of (fault.Fork path why) = 3
 kind_of (fault.CannotWrite path) = 4
 kind_of fault.HostMemory = 5
+kind_of (fault.NotLaunched path app) = 6
 
 -- The status with which the program ends.
 abbrev pub status_of : ToolFault → ℕ
@@ -51,6 +55,7 @@ status_of (fault.Script path line kind) = 1
 status_of (fault.Fork path why) = 1
 status_of (fault.CannotWrite path) = 1
 status_of fault.HostMemory = 1
+status_of (fault.NotLaunched path app) = 1
 
 -- The path that the line names.
 abbrev pub path_of : ToolFault → List ℕ
@@ -60,6 +65,7 @@ path_of (fault.Script path line kind) = string_bytes path
 path_of (fault.Fork path why) = string_bytes path
 path_of (fault.CannotWrite path) = string_bytes path
 path_of fault.HostMemory = []
+path_of (fault.NotLaunched path app) = string_bytes path
 
 -- The line of the script, or of the source.
 abbrev pub line_of : ToolFault → ℕ
@@ -69,6 +75,7 @@ line_of (fault.Script path line kind) = line
 line_of (fault.Fork path why) = file.line_of why
 line_of (fault.CannotWrite path) = 0
 line_of fault.HostMemory = 0
+line_of (fault.NotLaunched path app) = 0
 
 -- The number of the script's fault, or of the fault of a file's bytes.
 abbrev pub number_of : ToolFault → ℤ
@@ -78,6 +85,7 @@ number_of (fault.Script path line kind) = pos (script.number_of kind)
 number_of (fault.Fork path why) = file.number_of why
 number_of (fault.CannotWrite path) = pos 0
 number_of fault.HostMemory = pos 0
+number_of (fault.NotLaunched path app) = pos 0
 
 -- The text of usage and help.
 abbrev pub text_of : ToolFault → List ℕ
@@ -87,3 +95,4 @@ text_of (fault.Script path line kind) = []
 text_of (fault.Fork path why) = []
 text_of (fault.CannotWrite path) = []
 text_of fault.HostMemory = []
+text_of (fault.NotLaunched path app) = []

@@ -7,11 +7,11 @@ use Rattle.fork_commands.specs.declared.fault.FileFault.{FileFault}
 use Rattle.fork_commands.specs.declared.fault.WorkFault.{WorkFault}
 use Rattle.fork_commands.specs.declared.fault.WorkFault.TheVariants as work_fault
 use Rattle.fork_commands.specs.Reading.{content_in}
-use Rattle.commands.specs.Fault.{Message, Usage, CannotRead, Script, Fork, CannotWrite, HostMemory}
+use Rattle.commands.specs.Fault.{Message, Usage, CannotRead, Script, Fork, CannotWrite, HostMemory, NotLaunched}
 use Rattle.fork_format.specs.View.{view}
 use Rattle.commands.specs.Listing.{listing}
 use Rattle.commands.specs.Printing.{PrintsFront}
-use Rattle.commands.specs.Work.{IsTranscriptOf, IsListingOf, IsFormText, text_of}
+use Rattle.commands.specs.Work.{IsTranscriptOf, IsZoneOf, IsListingOf, IsFormText, text_of}
 use Rattle.commands.specs.declared.host.WriteError.{WriteError}
 use Rattle.commands.specs.declared.host.WriteError.TheVariants as write_error
 use Rattle.commands.specs.declared.tasks.Output.{Output}
@@ -42,6 +42,7 @@ IsScriptFault path text (Usage message) = ⊥
 IsScriptFault path text (CannotRead named) = ⊥
 IsScriptFault path text (Fork named fault) = ⊥
 IsScriptFault path text (CannotWrite named) = ⊥
+IsScriptFault path text (NotLaunched named app) = ⊥
 
 -- The fault of the bytes of a file of which something is wanted; if the host is out of memory nothing is said of them.
 abbrev pub IsForkFault : {A : Type 0} → List ℕ → Result A FileFault → Message → Type 0
@@ -51,16 +52,19 @@ IsForkFault path wanted (Usage message) = ⊥
 IsForkFault path wanted (CannotRead named) = ⊥
 IsForkFault path wanted (Script named line kind) = ⊥
 IsForkFault path wanted (CannotWrite named) = ⊥
+IsForkFault path wanted (NotLaunched named app) = ⊥
 
 -- What is printed of a file's bytes.
 abbrev pub IsPrinted : Work → List ℕ → List ℕ → Type 0
 IsPrinted (work.Script size) bytes out = IsTranscriptOf size.bytes bytes out
+IsPrinted (work.Heap asked) bytes out = IsZoneOf asked bytes out
 IsPrinted (work.Map style) bytes out = IsListingOf style bytes out
 IsPrinted work.Check bytes out = IsFormText bytes out
 
 -- The fault of a file's bytes.
 abbrev pub IsFault : Work → List ℕ → List ℕ → Message → Type 0
 IsFault (work.Script size) path bytes message = IsScriptFault path bytes message
+IsFault (work.Heap asked) path bytes message = IsScriptFault path bytes message
 IsFault (work.Map style) path bytes message = IsForkFault path (content_in bytes) message
 IsFault work.Check path bytes message = IsForkFault path (content_in bytes) message
 
@@ -71,7 +75,7 @@ write_message path write_error.HostMemory = HostMemory
 
 -- The text of an output.
 abbrev pub output_text : Output → List ℕ
-output_text (output.Transcript text) = text.items
+output_text (output.Text text) = text.items
 output_text (output.Listing l) = listing l.style l.wrapping (view l.content)
 output_text (output.Form form) = text_of form
 

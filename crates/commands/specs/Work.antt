@@ -1,13 +1,16 @@
 use Rattle.std.specs.Prelude.{◌≡◌, ℕ, Ok, List, IsTrue, codes}
 use Rattle.script_text.specs.Script.{ScriptParts, script_of, spelled}
 use Rattle.applications.specs.Alone.{script_alone}
+use Rattle.applications.specs.Trying.{own_resources}
 use Rattle.fork_format.specs.Content.{Content}
 use Rattle.fork_format.specs.Canonical.{canon, fits}
 use Rattle.fork_wrappers.specs.Unwrapped.{wrapping_of}
 use Rattle.fork_commands.specs.Reading.{content_of_fork, fork_in, content_in}
+use Rattle.zone_view.specs.Behind.{zone_behind, steps_at}
 use Rattle.commands.specs.Listing.{listing}
 use Rattle.commands.specs.declared.listing.MapStyle.{MapStyle}
 use Rattle.commands.specs.declared.work.Form.{Form}
+use Rattle.commands.specs.declared.work.ZoneView.{ZoneView}
 use Rattle.commands.specs.declared.work.Form.TheVariants.{Canonical, Accepted}
 
 -- The transcript of a script's text in a fresh partition of `n` bytes: that of the steps and the grow-zone scripts
@@ -15,6 +18,11 @@ use Rattle.commands.specs.declared.work.Form.TheVariants.{Canonical, Accepted}
 abbrev pub IsTranscriptOf : ℕ → List ℕ → List ℕ → Type 0
 IsTranscriptOf n text out =
     (script : ScriptParts) × (script_of text ≡ Ok (spelled script)) × (out ≡ (script_alone n script).transcript)
+
+-- The zone of a script's application, in a form, behind the steps of the script's text up to a line.
+abbrev pub IsZoneOf : ZoneView → List ℕ → List ℕ → Type 0
+IsZoneOf asked text out = (script : ScriptParts) × (script_of text ≡ Ok (spelled script))
+    × (out ≡ zone_behind asked.form own_resources asked.size.bytes script (steps_at asked.line script.steps))
 
 -- The listing of the resource fork in the bytes of a file: that of the content which the fork's bytes spell.
 abbrev pub IsListingOf : MapStyle → List ℕ → List ℕ → Type 0

@@ -1,6 +1,7 @@
 //! From the words of the command line to what is printed or written: the words ask for a task, whose file is read and
-//! whose bytes are worked on, for a job to be run, or for something to be made of one file or of two. Between the words and
-//! the host stand only `tasks::do_task`, `running::run_job`, `converting::convert` and `combining::combine`.
+//! whose bytes are worked on, for a job to be run or shown, or for something to be made of one file or of two. Between the words
+//! and the host stand only `tasks::do_task`, `running::run_job`, `job_zones::show_in_job`, `converting::convert` and
+//! `combining::combine`.
 
 ghost use Rattle.std.specs.Prelude.{◌≡◌, IfErr, IfOk};
 ghost use Rattle.commands.specs.declared.request.Request.{Request};
@@ -16,6 +17,7 @@ use crate::ending::Ending;
 use crate::fault::ToolFault;
 use crate::host::Host;
 use crate::input::read_input;
+use crate::job_zones::show_in_job;
 use crate::request::Request;
 use crate::running::{Errand, run_job};
 use crate::tasks::{Task, do_task};
@@ -75,6 +77,7 @@ fn perform<H: Host, W: Watch>(
     match request {
         Request::Look(task) => look(alloc, host, task, watch),
         Request::Run(errand) => run(alloc, host, errand, watch),
+        Request::Show(zone) => show_in_job(alloc, host, zone),
         Request::Convert(conversion) => convert(alloc, host, conversion),
         Request::Combine(combination) => combine(alloc, host, combination),
     }
@@ -90,7 +93,7 @@ pub fn tool<H: Host, W: Watch>(
     watch: &mut W,
 ) -> Result<Ending, ToolFault>
     // What a request asks for is done: its file is read and all that it prints of the bytes is printed, or its job is
-    // run and what the job leaves is written.
+    // run and what the job leaves is written, or the zone of one of its applications printed.
     ensures done { IfOk result (λ ending. (request : Request) × IsDone request ending (H.printed host.old) (H.printed host.new)
         (H.accesses host.old) (H.accesses host.new)) }
 

@@ -52,10 +52,18 @@ pub enum ToolFault {
     /// The host is out of memory. What a run had completed is written all the same.
     #[error("macmem: no host memory")]
     HostMemory,
+    /// No application of a job was launched that has this name.
+    #[error("macmem: {path}: no application {app} was launched")]
+    NotLaunched {
+        /// The job's path as it was given.
+        path: String,
+        /// The name as it was given.
+        app: String,
+    },
 }
 
 impl ToolFault {
-    /// Returns the number of the line that is printed: 0 for usage and help, then 1 to 5 in the order of the variants.
+    /// Returns the number of the line that is printed: 0 for usage and help, then 1 to 6 in the order of the variants.
     pub fn kind(&self) -> u8
         ensures { result ≡ kind_of self.now }
     {
@@ -66,6 +74,7 @@ impl ToolFault {
             ToolFault::Fork { .. } => 3,
             ToolFault::CannotWrite { .. } => 4,
             ToolFault::HostMemory => 5,
+            ToolFault::NotLaunched { .. } => 6,
         }
     }
 
@@ -88,6 +97,7 @@ impl ToolFault {
             ToolFault::Script { path, .. } => path.as_str(),
             ToolFault::Fork { path, .. } => path.as_str(),
             ToolFault::CannotWrite { path } => path.as_str(),
+            ToolFault::NotLaunched { path, .. } => path.as_str(),
             ToolFault::Usage { .. } | ToolFault::HostMemory => "",
         }
     }

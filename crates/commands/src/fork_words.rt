@@ -7,9 +7,9 @@ use crate::combining::Combination;
 use crate::converting::Conversion;
 use crate::delivering::Target;
 use crate::fault::ToolFault;
-use crate::parsing::{argument, bad_value, value};
+use crate::parsing::{argument, bad_value, option, value};
 use crate::request::Request;
-use clap::{Arg, ArgAction, ArgMatches, Command};
+use clap::{ArgMatches, Command};
 use fork_commands::{ForkWork, PairWork, ResourceKey, Setting};
 use fork_edits::{read_attrs, read_type};
 use fork_format::RefName;
@@ -176,15 +176,6 @@ fn get_command<'a>(alloc: Global) -> Result<Command<'a>, AllocError> {
         .arg(argument(alloc, "FORK", FORK_HELP))?
         .arg(argument(alloc, "TYPE", TYPE_HELP))?
         .arg(argument(alloc, "ID", ID_HELP).allow_negative_numbers(true))
-}
-
-/// Returns an option with a value.
-fn option<'a>(alloc: Global, name: &'a str, value: &'a str, help: &'a str) -> Arg<'a> {
-    Arg::new(alloc, name)
-        .long(name)
-        .value_name(value)
-        .action(ArgAction::Set)
-        .help(help)
 }
 
 fn set_command<'a>(alloc: Global) -> Result<Command<'a>, AllocError> {

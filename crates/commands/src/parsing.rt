@@ -8,10 +8,40 @@ use clap::error::ErrorKind;
 use clap::{Arg, ArgAction, ArgMatches, Command, Error};
 use std::alloc::{AllocError, Global};
 
+/// What is told of the size of a partition.
+pub const SIZE_HELP: &str =
+    "Size of the partition in bytes, in decimal digits: 512 to 134217728, rounded down to a multiple of 16";
+
+/// What is asked for in place of a size that is none.
+pub const SIZE_WANTED: &str = "512 to 134217728 is asked for, in decimal digits";
+
+/// What is told of the file of a script.
+pub const SCRIPT_HELP: &str = concat!(
+    "File with one toolbox call a line, as 'NewHandle a 100'. Empty lines and lines that begin with '#' are ",
+    "skipped. /dev/stdin is the standard input"
+);
+
 /// Returns a required argument.
 pub fn argument<'a>(alloc: Global, name: &'a str, help: &'a str) -> Arg<'a> {
     Arg::new(alloc, name)
         .required(true)
+        .action(ArgAction::Set)
+        .help(help)
+}
+
+/// Returns a flag.
+pub fn flag<'a>(alloc: Global, name: &'a str, help: &'a str) -> Arg<'a> {
+    Arg::new(alloc, name)
+        .long(name)
+        .action(ArgAction::SetTrue)
+        .help(help)
+}
+
+/// Returns an option with a value.
+pub fn option<'a>(alloc: Global, name: &'a str, value: &'a str, help: &'a str) -> Arg<'a> {
+    Arg::new(alloc, name)
+        .long(name)
+        .value_name(value)
         .action(ArgAction::Set)
         .help(help)
 }

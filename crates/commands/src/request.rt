@@ -2,6 +2,7 @@
 
 use crate::combining::Combination;
 use crate::converting::Conversion;
+use crate::job_zones::JobZone;
 use crate::running::Errand;
 use crate::tasks::Task;
 
@@ -12,6 +13,8 @@ pub enum Request<'a> {
     Look(Task<'a>),
     /// A job is run, and what it leaves is written.
     Run(Errand<'a>),
+    /// A job is run, and the zone of one of its applications is printed.
+    Show(JobZone<'a>),
     /// A file is read, and what is made of its bytes is printed or written.
     Convert(Conversion<'a>),
     /// Two files are read, and what is made of their bytes is printed or written.

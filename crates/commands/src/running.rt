@@ -4,7 +4,7 @@ ghost use Rattle.std.specs.Prelude.{◌≡◌, ◌≤◌, map, length, Ok, IfOk,
 ghost use Rattle.script_text.specs.Job.{input_seen, job_seen, job_of};
 ghost use Rattle.script_text.specs.JobFacts.{IsMemory, AreInOrder, AreApps};
 ghost use Rattle.desk.specs.View.{outcome_seen};
-ghost use Rattle.desk.specs.Whole.{LeftByRun, IsOutcome};
+ghost use Rattle.desk.specs.Whole.{LeftByRun, IsOutcome, EachLaunched, IsAlone};
 ghost use Rattle.commands.specs.Fault.{message_of};
 ghost use Rattle.commands.specs.Accesses.{and_then, StopsAmong};
 ghost use Rattle.commands.specs.Outputs.{HasRoom};
@@ -34,7 +34,7 @@ pub struct Errand<'a> {
 }
 
 /// Reads the text of a job.
-fn job_text<'t>(alloc: Global, path: &str, text: &'t [u8]) -> Result<JobText<'t>, ToolFault>
+pub fn job_text<'t>(alloc: Global, path: &str, text: &'t [u8]) -> Result<JobText<'t>, ToolFault>
     ensures stated { IfOk result (λ job. job_of text.now ≡ Ok (job_seen job)) }
     ensures memory { IfOk result (λ job. IsMemory job.memory) }
     ensures order { IfOk result (λ job. AreInOrder (map input_seen job.inputs.items)) }
@@ -60,6 +60,9 @@ fn ran<W: Watch>(
 
     // The outcome is what the definition of the desk says.
     ensures outcome { IsOutcome job.now result }
+
+    // What each application leaves that was launched is what it leaves alone.
+    ensures alone { IfOk result (λ outcome. EachLaunched IsAlone job.now outcome) }
 {
     let region = match Region::new(alloc, job.memory as usize) {
         Ok(region) => region,
@@ -75,7 +78,7 @@ fn ran<W: Watch>(
 }
 
 /// Runs a job whose System file is read at the path `system`, and returns what the job leaves.
-fn outcome_of<W: Watch>(
+pub fn outcome_of<W: Watch>(
     alloc: Global,
     job: &Job,
     system: &str,
@@ -85,6 +88,7 @@ fn outcome_of<W: Watch>(
     requires memory { IsMemory job.now.memory }
     requires few { length job.now.apps.items ≤ 64 }
     ensures outcome { IfOk result (λ outcome. LeftByRun job.now (outcome_seen outcome)) }
+    ensures alone { IfOk result (λ outcome. EachLaunched IsAlone job.now outcome) }
     ensures fault { IfErr result (λ fault. IsRunFault system.now job.now (message_of fault)) }
 {
     match ran(alloc, job, watched, watch) {

@@ -22,7 +22,8 @@ pub struct PartitionSize {
     ghost high: { bytes ≤ LARGEST },
 }
 
-fn has_digits_only(text: &str) -> bool
+/// Reports whether a text has no other characters than decimal digits.
+pub fn has_digits_only(text: &str) -> bool
     ensures { result ≡ list_all is_ascii_digit text.now }
 {
     text.as_bytes().iter().all(|b| b.is_ascii_digit())

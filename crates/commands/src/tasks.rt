@@ -4,7 +4,7 @@ ghost use Rattle.std.specs.Prelude.{◌≡◌, IfOk, IfErr, OnOk, string_bytes};
 ghost use Rattle.std.specs.Io.KnownBytes.{append_known};
 ghost use Rattle.fork_commands.specs.Reading.{content_in};
 ghost use Rattle.commands.specs.Fault.{message_of};
-ghost use Rattle.commands.specs.Work.{IsTranscriptOf, IsListingOf, IsFormText};
+ghost use Rattle.commands.specs.Work.{IsTranscriptOf, IsZoneOf, IsListingOf, IsFormText};
 ghost use Rattle.commands.specs.Printing.{PrintsFront};
 ghost use Rattle.commands.specs.Tasks.{script_message, fork_message, write_message, IsScriptFault, IsForkFault};
 ghost use Rattle.commands.specs.Tasks.{output_text, IsPrinted, IsFault, Prints, IsRefusal};
@@ -14,7 +14,7 @@ use crate::fault::ToolFault;
 use crate::host::{Host, WriteError};
 use crate::listing::{Listing, MapStyle, print_listing};
 use crate::size::PartitionSize;
-use crate::work::{Form, form_of, listing_of, transcript_of};
+use crate::work::{Form, ZoneView, form_of, listing_of, transcript_of, zone_of};
 use applications::{Unwatched, Watch};
 use fork_commands::WorkFault;
 use script_text::{FaultKind, ScriptFault};
@@ -25,6 +25,8 @@ use std::alloc::{AllocError, Global};
 pub enum Work {
     /// The bytes are run as a script in a partition of this size.
     Script(PartitionSize),
+    /// The bytes are run as a script up to a line, and the zone is shown.
+    Heap(ZoneView),
     /// The resource fork in the bytes is listed in this style.
     Map(MapStyle),
     /// The resource fork in the bytes is compared with the canonical fork of its content.
@@ -44,8 +46,8 @@ pub struct Task<'a> {
 /// What a task prints of the bytes of its file.
 #[derive(Drop)]
 pub enum Output<'b> {
-    /// The transcript of a script.
-    Transcript(Vec<u8>),
+    /// The transcript of a script, or its zone.
+    Text(Vec<u8>),
     /// The listing of a fork's content, which is made from the fork's bytes as it is printed.
     Listing(Listing<'b>),
     /// The line with a fork's form.
@@ -101,7 +103,23 @@ fn script_output<'b, W: Watch>(
     ensures fault { IfErr result (λ fault. IsScriptFault path.now text.now (message_of fault)) }
 {
     match transcript_of(alloc, size, text, watch) {
-        Ok(transcript) => Ok(Output::Transcript(transcript)),
+        Ok(transcript) => Ok(Output::Text(transcript)),
+        Err(fault) => Err(script_fault(alloc, path, fault)?),
+    }
+}
+
+/// Runs a script up to a line and returns the zone as it then lies.
+fn heap_output<'b>(
+    alloc: Global,
+    asked: ZoneView,
+    path: &str,
+    text: &'b [u8],
+) -> Result<Output<'b>, ToolFault>
+    ensures output { IfOk result (λ output. IsZoneOf asked text.now (output_text output)) }
+    ensures fault { IfErr result (λ fault. IsScriptFault path.now text.now (message_of fault)) }
+{
+    match zone_of(alloc, asked, text) {
+        Ok(shown) => Ok(Output::Text(shown)),
         Err(fault) => Err(script_fault(alloc, path, fault)?),
     }
 }
@@ -147,7 +165,7 @@ pub fn output_of<'b, W: Watch>(
     bytes: &'b [u8],
     watch: &mut W,
 ) -> Result<Output<'b>, ToolFault>
-    // A script's transcript, a fork's listing, or the line with a fork's form.
+    // A script's transcript or its zone, a fork's listing, or the line with a fork's form.
     ensures output { IfOk result (λ output. IsPrinted task.entry.work bytes.now (output_text output)) }
 
     // The script's first faulty line, or the result code of bytes that are no fork.
@@ -156,6 +174,7 @@ pub fn output_of<'b, W: Watch>(
     match task.work {
         Work::Script(size) if task.watched => script_output(alloc, size, task.path, bytes, watch),
         Work::Script(size) => script_output(alloc, size, task.path, bytes, &mut Unwatched),
+        Work::Heap(asked) => heap_output(alloc, asked, task.path, bytes),
         Work::Map(style) => map_output(alloc, style, task.path, bytes),
         Work::Check => check_output(alloc, task.path, bytes),
     }
@@ -168,7 +187,7 @@ fn print_output<H: Host>(alloc: Global, host: &mut H, output: &Output<'_>) -> Re
     ensures files { H.accesses host.new ≡ H.accesses host.old }
 {
     match output {
-        Output::Transcript(text) => host.print(text.as_slice()),
+        Output::Text(text) => host.print(text.as_slice()),
         Output::Listing(listing) => print_listing(alloc, host, listing),
         Output::Form(form) => host.print(form.text()),
     }
@@ -188,7 +207,7 @@ pub fn do_task<H: Host, W: Watch>(
     bytes: &[u8],
     watch: &mut W,
 ) -> Result<(), ToolFault>
-    // A script's transcript, a fork's listing, or the line with a fork's form is printed, and nothing else.
+    // A script's transcript or its zone, a fork's listing, or the line with a fork's form is printed, and nothing else.
     ensures printed { OnOk result (Prints task.entry.work bytes.now (H.printed host.old) (H.printed host.new)) }
 
     // The bytes are faulty and nothing is printed, or printing failed.

@@ -1,4 +1,5 @@
-//! The words of the command line. Only this module, `fork_words` and `parsing` use the parser.
+//! The words of the command line. Only this module, `fork_words`, `zone_words` and `parsing` use the
+//! parser.
 
 ghost use Rattle.std.specs.Prelude.{IfOk, IfErr};
 ghost use Rattle.commands.specs.Fault.{message_of, IsUsage};
@@ -6,12 +7,15 @@ ghost use Rattle.commands.specs.Fault.{message_of, IsUsage};
 use crate::fault::ToolFault;
 use crate::fork_words::{FORK_HELP, fork_request, with_fork_commands};
 use crate::listing::{MapStyle, Spelling};
-use crate::parsing::{argument, bad_value, mistake, usage, value};
+use crate::parsing::{
+    SCRIPT_HELP, SIZE_HELP, SIZE_WANTED, argument, bad_value, flag, mistake, usage, value,
+};
 use crate::request::Request;
 use crate::running::Errand;
 use crate::size::PartitionSize;
 use crate::tasks::{Task, Work};
-use clap::{Arg, ArgAction, ArgMatches, Command};
+use crate::zone_words::{heap_command, heap_request};
+use clap::{ArgMatches, Command};
 use script_text::CALLS;
 use std::alloc::{AllocError, Global};
 
@@ -25,6 +29,7 @@ const VERSION: &str = "0.1.0";
 
 const PROGRAM_EXAMPLES: &str = "Examples:
   macmem script 1024 examples/first.script    run a script in a partition of 1024 bytes
+  macmem heap 1024 examples/first.script      show the zone that the script leaves, block by block
   macmem run examples/job/job OUT             run the applications of a job, and write what they leave into OUT
   macmem map examples/Document.rsrc           list the resources of a fork
   macmem check examples/Document.rsrc         say whether a fork is canonical
@@ -65,14 +70,6 @@ grow-zone script, 4 line of more than 65535 bytes.
 The lines of a grow-zone script stand before the line of the call that found no room, and begin with '+'.
 
 The calls with their arguments are listed below the options, and below them the result codes.";
-
-const SIZE_HELP: &str =
-    "Size of the partition in bytes, in decimal digits: 512 to 134217728, rounded down to a multiple of 16";
-
-const SCRIPT_HELP: &str = concat!(
-    "File with one toolbox call a line, as 'NewHandle a 100'. Empty lines and lines that begin with '#' are ",
-    "skipped. /dev/stdin is the standard input"
-);
 
 const RUN_ABOUT: &str = concat!(
     "Runs a job: several applications in one memory, each in a partition of its own. Makes the folder OUT and ",
@@ -171,14 +168,6 @@ const CHECK_EXAMPLES: &str = "Examples:
 
 A fork that cannot be read is reported as 'macmem: FORK: fork CODE': -39 (eofErr) no bytes, -199 (mapReadErr) damaged.";
 
-/// Returns a flag.
-fn flag<'a>(alloc: Global, name: &'a str, help: &'a str) -> Arg<'a> {
-    Arg::new(alloc, name)
-        .long(name)
-        .action(ArgAction::SetTrue)
-        .help(help)
-}
-
 fn script_command<'a>(alloc: Global) -> Result<Command<'a>, AllocError> {
     Command::new(alloc, "script")
         .about(SCRIPT_ABOUT)
@@ -222,14 +211,12 @@ fn program<'a>(alloc: Global) -> Result<Command<'a>, AllocError> {
         .subcommand_required(true)
         .arg_required_else_help(true)
         .subcommand(script_command(alloc)?)?
+        .subcommand(heap_command(alloc)?)?
         .subcommand(run_command(alloc)?)?
         .subcommand(map_command(alloc)?)?
         .subcommand(check_command(alloc)?)?;
     with_fork_commands(alloc, command)
 }
-
-/// What is asked for in place of a size that is none.
-const SIZE_WANTED: &str = "512 to 134217728 is asked for, in decimal digits";
 
 fn bad_size(alloc: Global, text: &str) -> Result<ToolFault, AllocError>
     ensures { IfOk result (λ fault. IsUsage (message_of fault)) }
@@ -295,6 +282,7 @@ fn asked<'a>(alloc: Global, matches: &ArgMatches<'a>) -> Result<Request<'a>, Too
 {
     match matches.subcommand() {
         Some(("script", inner)) => Ok(Request::Look(script_task(alloc, inner)?)),
+        Some(("heap", inner)) => heap_request(alloc, inner),
         Some(("run", inner)) => Ok(Request::Run(Errand {
             job: value(inner, "JOB"),
             out: value(inner, "OUT"),

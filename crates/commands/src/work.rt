@@ -8,9 +8,10 @@ ghost use Rattle.fork_format.specs.View.{view};
 ghost use Rattle.fork_commands.specs.Faults.{Stops};
 ghost use Rattle.fork_commands.specs.Reading.{content_of_fork, content_in};
 ghost use Rattle.commands.specs.Listing.{listing};
-ghost use Rattle.commands.specs.Work.{IsTranscriptOf, IsListingOf, IsForkForm, IsFormOf, TellsForm, text_of};
+ghost use Rattle.commands.specs.Work.{IsTranscriptOf, IsZoneOf, IsListingOf, IsForkForm, IsFormOf, TellsForm, text_of};
 
 use crate::listing::{Listing, MapStyle};
+use crate::showing::show_script;
 use crate::size::PartitionSize;
 use applications::Watch;
 use desk::run_script;
@@ -19,6 +20,7 @@ use fork_format::{Content, WriteFault, write_fork};
 use raw_region::Region;
 use script_text::{FaultKind, Script, ScriptFault, read_script};
 use std::alloc::{AllocError, Global};
+use zone_view::{Form as ZoneForm, steps_at};
 
 /// The form of a resource fork: what its bytes are to its content.
 #[derive(Clone, Copy)]
@@ -69,6 +71,36 @@ pub fn transcript_of<W: Watch>(
     region.close();
     match transcript {
         Ok(transcript) => Ok(transcript),
+        Err(_) => Err(NO_MEMORY),
+    }
+}
+
+/// A zone that is asked for: that of a script in a partition of this size.
+#[derive(Clone, Copy)]
+pub struct ZoneView {
+    pub size: PartitionSize,
+    /// The line of the script behind which the zone lies; `None` for its last step.
+    pub line: Option<usize>,
+    pub form: ZoneForm,
+}
+
+/// Runs a script up to a line in a fresh partition, which is a region of its own, and returns the zone as it then lies.
+pub fn zone_of(alloc: Global, asked: ZoneView, text: &[u8]) -> Result<Vec<u8>, ScriptFault>
+    // The zone is that of the script's application behind the steps up to that line.
+    ensures zone { IfOk result (λ out. IsZoneOf asked text.now out.items) }
+
+    // The fault is the first faulty line, or that the host is out of memory.
+    ensures fault { IfErr result (λ f. FailsAt f.line f.kind (script_of text.now)) }
+{
+    let script = read_script(alloc, text)?;
+    let Ok(region) = Region::new(alloc, asked.size.bytes as usize) else {
+        return Err(NO_MEMORY);
+    };
+    let steps = steps_at(asked.line, &script);
+    let (shown, region) = show_script(alloc, region, &script, steps, asked.form);
+    region.close();
+    match shown {
+        Ok(shown) => Ok(shown),
         Err(_) => Err(NO_MEMORY),
     }
 }

@@ -1,5 +1,5 @@
 use Rattle.std.proofs.Common.{◌≡◌, ℕ, Bool, Option, Some, None, Result, Ok, Err, List, [], ◌∷◌, IfOk, IfSome, map}
-use Rattle.std.proofs.Common.{refl, sym, subst, inl, inr}
+use Rattle.std.proofs.Common.{refl, sym, subst, inl, inr, zero, suc, slice_get}
 use Rattle.mac_words.specs.declared.code.OsErr.{OsErr}
 use Rattle.fork_format.specs.Content.{Content}
 use Rattle.script_text.specs.Script.{ScriptParts}
@@ -8,13 +8,13 @@ use Rattle.res_calls.specs.Files.{Resources}
 use Rattle.desk.specs.declared.job.App.{App}
 use Rattle.desk.specs.declared.job.Job.{Job}
 use Rattle.desk.specs.declared.outcome.Outcome as declared
-use Rattle.desk.specs.Outcome.{Launched, Outcome}
+use Rattle.desk.specs.Outcome.{Launched, AppResult, Outcome}
 use Rattle.desk.specs.Desk.{Place, State, after_events, told}
 use Rattle.desk.specs.Halting.{IsLeft, halted}
 use Rattle.desk.specs.Job.{opening, start_of}
 use Rattle.desk.specs.Alone.{launched_alone, IsPlaceOf}
 use Rattle.desk.specs.View.{outcome_seen}
-use Rattle.desk.specs.Whole.{Law, OfLaunched, OfEach, OfEachApp, EachLaunched, system_of}
+use Rattle.desk.specs.Whole.{Law, OfLaunched, OfEach, OfEachApp, EachLaunched, system_of, start_with}
 use Rattle.desk.proofs.Events.{Pairs}
 use Rattle.desk.proofs.Alone.{all_alone, after_alone, told-alone}
 
@@ -77,3 +77,32 @@ each-launched P each job content (Ok o) outcome system found is =
     subst (EachLaunched P job) same
     (subst (λ (x : Result Content OsErr). OfEachApp P x job.apps.items (outcome_seen o).apps) (sym system)
     (each-left P each content job.memory job.apps.items job.events.items (outcome_seen o) found))
+
+-- such a law holds of the application of some number, if it was launched
+of-number : (P : Law) (system : Content) (apps : List App) (told : List AppResult) (i : ℕ) (app : App) (t : AppResult)
+    → slice_get apps i ≡ Some app → slice_get told i ≡ Some t → OfEach P system apps told
+    → OfLaunched P (start_of system app) app.script t
+of-number P system [] [] i app t given here so = cc
+of-number P system (a ∷ apps) (q ∷ told) zero app t given here so =
+    let first : a ≡ app = cc in
+    let left : q ≡ t = cc in
+    subst (λ (b : App). OfLaunched P (start_of system b) b.script t) first
+    (subst (λ (r : AppResult). OfLaunched P (start_of system a) a.script r) left so.0)
+of-number P system (a ∷ apps) (q ∷ told) (suc i) app t given here so =
+    of-number P system apps told i app t given here so.1
+of-number P system [] (q ∷ told) i app t given here so = absurd so
+of-number P system (a ∷ apps) [] i app t given here so = absurd so
+
+-- so each application that was launched has resources with which it was launched
+started-launched : (P : Law) (start : Result Resources OsErr) (script : ScriptParts) (t : AppResult) (l : Launched)
+    → t.launched ≡ Some l → OfLaunched P start script t → (resources : Resources) × (start ≡ Ok resources)
+started-launched P start script t l is so =
+    let of = subst (λ (o : Option Launched). IfSome o (λ l. (resources : Resources) × (start ≡ Ok resources) × P resources script l)) is so in
+    (of.0, of.1)
+
+pub has_started : (P : Law) (system : Result Content OsErr) (apps : List App) (told : List AppResult) (i : ℕ) (app : App)
+    (t : AppResult) (l : Launched) → slice_get apps i ≡ Some app → slice_get told i ≡ Some t → t.launched ≡ Some l
+    → OfEachApp P system apps told → (resources : Resources) × (start_with system app ≡ Ok resources)
+has_started P (Err code) apps told i app t l given here is so = absurd so
+has_started P (Ok content) apps told i app t l given here is so =
+    started-launched P (start_of content app) app.script t l is (of-number P content apps told i app t given here so)

@@ -5,7 +5,7 @@ use Rattle.block_store.specs.Rest.{Site}
 use Rattle.res_calls.specs.View.{view_file}
 use Rattle.applications.specs.Trying.{nowhere}
 use Rattle.applications.specs.Elsewhere.{moved}
-use Rattle.desk.specs.declared.live.Live as declared
+use Rattle.desk.specs.declared.phase.Live as declared
 use Rattle.desk.specs.declared.outcome.Launched as leaving
 use Rattle.desk.specs.Outcome.{Launched}
 use Rattle.desk.specs.Phase.{Live, Next, GoesOn, Ends, leaves}

@@ -39,6 +39,12 @@ system_in (Some fork) = content_in fork
 abbrev pub system_of : Job → Result Content OsErr
 system_of job = system_in (option_map (λ fork. fork.items) job.system)
 
+-- The resources with which an application is launched, with the System file's content; or the result code for which the
+-- System file's fork can't be read, or then the application's own can't be opened.
+abbrev pub start_with : Result Content OsErr → App → Result Resources OsErr
+start_with (Err code) app = Err code
+start_with (Ok system) app = start_of system app
+
 -- What a run of the job leaves, if the System file's fork can be read.
 abbrev pub LeftWith : Result Content OsErr → Job → Outcome → Type 0
 LeftWith (Err code) job outcome = ⊥

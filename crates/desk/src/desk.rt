@@ -9,6 +9,7 @@ ghost use Rattle.windows.specs.Outside.{IsOutside};
 ghost use Rattle.windows.specs.Windows.{Misses, taken_out};
 ghost use Rattle.block_store.specs.Block.{Block, fresh};
 ghost use Rattle.block_store.specs.Rest.{Site};
+ghost use Rattle.block_store.specs.declared.measures.TheConstants.{GREATEST_ZONE};
 ghost use Rattle.fork_format.specs.Content.{Group as GroupValue};
 ghost use Rattle.fork_format.specs.Canonical.{has_refs, are_distinct};
 ghost use Rattle.fork_format.specs.View.{view};
@@ -30,8 +31,8 @@ ghost use Rattle.desk.specs.View.{seen, told_seen};
 use crate::act::Act;
 use crate::departure::Departure;
 use crate::job::App;
-use crate::live::Live;
 use crate::outcome::AppOutcome;
+use crate::phase::Live;
 use crate::preparing::{Ready, prepared};
 use crate::seat::Seat;
 use crate::seats;
@@ -410,7 +411,9 @@ fn open_zone<Z: ZoneMaker>(
     ensures unused { IfOk result (λ o. IfSome o (λ f. (Z.Store.rest f.1).unused ≡ 64)) }
     ensures all { IfOk result (λ o. IfSome o (λ f. (Z.Store.rest f.1).all ≡ 64)) }
     ensures moves { IfOk result (λ o. IfSome o (λ f. (Z.Store.rest f.1).moves ≡ 0)) }
-    ensures large { IfOk result (λ o. IfSome o (λ f. 512 ≤ f.0.len)) }
+    ensures whole { IfOk result (λ o. IfSome o (λ f. f.0.len % 16 ≡ 0)) }
+    ensures least { IfOk result (λ o. IfSome o (λ f. 512 ≤ f.0.len)) }
+    ensures most { IfOk result (λ o. IfSome o (λ f. f.0.len ≤ GREATEST_ZONE)) }
     ensures made { IfOk result (λ o. IfSome o (λ f. Z.made zones.new f.0 (Z.Store.rest f.1).window)) }
     ensures err { OnErr result (grants.new.windows ≡ grants.old.windows) }
     ensures size { grants.new.memory ≡ grants.old.memory }

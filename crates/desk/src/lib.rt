@@ -34,5 +34,6 @@ pub use laws::{
     what_an_application_leaves_is_its_own,
 };
 pub use outcome::{AppOutcome, Launched, Outcome, RunFault};
+pub use preparing::open_resources;
 pub use script::run_script;
 pub use whole::run_with;

@@ -1,7 +1,8 @@
 //! An application that runs at the desk.
 
-ghost use Rattle.std.specs.Prelude.{◌≡◌, ◌+◌, ◌^◌, ◌<◌, ◌≤◌, Bool, false, true, drop, length, slice_get, Some, IfOk, IfErr, OnErr};
+ghost use Rattle.std.specs.Prelude.{◌≡◌, ◌+◌, ◌%◌, ◌^◌, ◌<◌, ◌≤◌, Bool, false, true, drop, length, slice_get, Some, IfOk, IfErr, OnErr};
 ghost use Rattle.block_store.specs.Block.{fresh};
+ghost use Rattle.block_store.specs.declared.measures.TheConstants.{GREATEST_ZONE};
 ghost use Rattle.heap_calls.specs.Stored.{IsNamed};
 ghost use Rattle.applications.specs.Step.{step};
 ghost use Rattle.applications.specs.Replies.{Extends, end_by};
@@ -12,6 +13,7 @@ ghost use Rattle.desk.specs.Lying.{zone_of};
 
 use crate::act::Act;
 use crate::outcome::Launched;
+use crate::phase::Live;
 use applications::{Application, Exit, ends_turn};
 use block_store::BlockStore;
 use mac_words::OsErr;
@@ -19,16 +21,6 @@ use res_calls::Resources;
 use script_text::{END_ROOM, Line, Script, write_end, write_launch};
 use std::alloc::{AllocError, Global};
 use windows::Window;
-
-/// An application that runs in a window of the memory, with the number of steps that it took since its launch.
-pub struct Live<'j, S: BlockStore> {
-    pub(crate) application: Application<'j, S>,
-    pub(crate) window: Window,
-    /// The number of steps that the application took.
-    pub(crate) steps: usize,
-    /// The transcript so far.
-    pub(crate) text: Vec<u8>,
-}
 
 impl<'j, S: BlockStore> Live<'j, S> {
     /// Launches an application with the given resources in the store of a fresh zone, which fills the window.
@@ -46,7 +38,9 @@ impl<'j, S: BlockStore> Live<'j, S> {
         requires unused { (S.rest store).unused ≡ 64 }
         requires all { (S.rest store).all ≡ 64 }
         requires moves { (S.rest store).moves ≡ 0 }
-        requires large { 512 ≤ window.len }
+        requires whole { window.len % 16 ≡ 0 }
+        requires least { 512 ≤ window.len }
+        requires most { window.len ≤ GREATEST_ZONE }
         ensures live { IfOk result (λ live. live_seen live ≡ begun resources window) }
         ensures window { IfOk result (λ live. live.window ≡ window) }
         ensures lies { IfOk result (λ live. live.application.memory.window ≡ (S.rest store).window) }

@@ -1,5 +1,8 @@
 //! What a run leaves.
 
+ghost use Rattle.std.specs.Prelude.{◌≡◌, ◌≤◌, ◌%◌};
+ghost use Rattle.block_store.specs.declared.measures.TheConstants.{GREATEST_ZONE};
+
 use mac_words::{Label, OsErr};
 use res_calls::File;
 
@@ -16,6 +19,9 @@ pub struct Launched {
     pub transcript: Vec<u8>,
     /// The application's files, in order, its own first, with what was written of them.
     pub files: Vec<File>,
+    ghost whole: { size % 16 ≡ 0 },
+    ghost least: { 512 ≤ size },
+    ghost most: { size ≤ GREATEST_ZONE },
 }
 
 /// What an application leaves.

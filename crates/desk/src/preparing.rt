@@ -10,13 +10,16 @@ ghost use Rattle.res_calls.specs.View.{view_file};
 ghost use Rattle.desk.specs.Desk.{ready};
 ghost use Rattle.desk.specs.Job.{file_given, files_given, start_of};
 ghost use Rattle.desk.specs.Sizes.{sizes_of};
+ghost use Rattle.desk.specs.Whole.{system_of, start_with};
 ghost use Rattle.desk.specs.Ready.{IsReady, sizes_seen};
 ghost use Rattle.desk.specs.View.{place_seen};
 
-use crate::job::{App, AppFile};
+use crate::job::{App, AppFile, Job};
+use crate::outcome::RunFault;
 use crate::phase::Phase;
 use crate::seat::Seat;
 use crate::sizes::PartitionSizes;
+use crate::system::read_system;
 use block_store::BlockStore;
 use fork_format::Content;
 use heap_calls::Refusal;
@@ -77,6 +80,24 @@ fn opened(alloc: Global, app: &App, system: &Content<'_>) -> Result<Resources, R
 {
     let files = files_of(alloc, app)?;
     Resources::new(alloc, files, system)
+}
+
+/// Opens the resources with which an application of a job is launched.
+///
+/// # Errors
+///
+/// The System file's fork can't be read, or then the application's own fork can't be opened: -39 (eofErr) if it has no
+/// bytes, -199 (mapReadErr) if they are damaged. Or the host is out of memory.
+///
+/// *Inside Macintosh: Processes*, chapter 2, "Launching Applications".
+pub fn open_resources(alloc: Global, job: &Job, app: &App) -> Result<Resources, Refusal>
+    ensures { IsReply (start_with (system_of job.now) app.now) result }
+{
+    match read_system(alloc, &job.system) {
+        Ok(system) => opened(alloc, app, &system),
+        Err(RunFault::System(code)) => Err(Refusal::Code(code)),
+        Err(RunFault::HostMemory) => Err(Refusal::HostMemory),
+    }
 }
 
 /// Opens the resources with which an application is launched, and reads the sizes of its partition.

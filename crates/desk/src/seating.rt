@@ -13,9 +13,8 @@ ghost use Rattle.desk.specs.View.{place_seen, phase_seen, is_waiting, lot_of, le
 use crate::act::Act;
 use crate::departure::Departure;
 use crate::job::App;
-use crate::live::Live;
 use crate::outcome::Launched;
-use crate::phase::Phase;
+use crate::phase::{Live, Phase};
 use crate::seat::Seat;
 use block_store::BlockStore;
 use core::mem::replace_with;

@@ -1,0 +1,76 @@
+//! The zone of an application that runs alone in a region.
+
+ghost use Rattle.std.specs.Prelude.{◌≡◌, ◌%◌, ◌≤◌, [], length, IfOk};
+ghost use Rattle.block_store.specs.declared.measures.TheConstants.{GREATEST_ZONE, LEAST_ZONE};
+ghost use Rattle.applications.specs.Trying.{own_resources as own};
+ghost use Rattle.zone_view.specs.Behind.{zone_behind};
+
+use applications::own_resources;
+use raw_region::Region;
+use raw_zone::RawZone;
+use res_calls::Resources;
+use script_text::Script;
+use std::alloc::{AllocError, Global};
+use zone_view::{Form, show_behind};
+
+/// Runs the first `n` steps of a script, as `show_behind` does, in a partition that fills a region, whatever the
+/// region's bytes were. Returns the zone in a form, and the region.
+///
+/// # Errors
+///
+/// The host is out of memory.
+pub fn show_in_region(
+    alloc: Global,
+    region: Region,
+    resources: Resources,
+    script: &Script,
+    n: usize,
+    form: Form,
+) -> (Result<Vec<u8>, AllocError>, Region)
+    requires home { region.out ≡ [] }
+    requires even { length region.bytes % 16 ≡ 0 }
+    requires low { LEAST_ZONE ≤ length region.bytes }
+    requires high { length region.bytes ≤ GREATEST_ZONE }
+    ensures shown { IfOk result.0 (λ text. text.items
+        ≡ zone_behind form resources (length region.bytes) script.now n) }
+    ensures home { result.1.out ≡ [] }
+{
+    let mut region = region;
+    let len = region.len();
+    let zone = RawZone::new(alloc, region.cut(0, len));
+    let (shown, zone) = show_behind(alloc, zone, resources, script, n, form);
+    region.join(zone.into_part());
+    (shown, region)
+}
+
+/// Runs the first `n` steps of a script in a partition that fills a region, as an application without resources, and
+/// returns the zone in a form, and the region.
+///
+/// # Errors
+///
+/// The host is out of memory.
+pub fn show_script(
+    alloc: Global,
+    region: Region,
+    script: &Script,
+    n: usize,
+    form: Form,
+) -> (Result<Vec<u8>, AllocError>, Region)
+    requires home { region.out ≡ [] }
+    requires even { length region.bytes % 16 ≡ 0 }
+    requires low { LEAST_ZONE ≤ length region.bytes }
+    requires high { length region.bytes ≤ GREATEST_ZONE }
+    ensures shown { IfOk result.0 (λ text. text.items
+        ≡ zone_behind form own (length region.bytes) script.now n) }
+    ensures home { result.1.out ≡ [] }
+{
+    let resources = match own_resources(alloc) {
+        Ok(resources) => resources,
+        Err(fault) => return (Err(fault), region),
+    };
+    let (shown, region) = show_in_region(alloc, region, resources, script, n, form);
+    match shown {
+        Ok(text) => (Ok(text), region),
+        Err(fault) => (Err(fault), region),
+    }
+}

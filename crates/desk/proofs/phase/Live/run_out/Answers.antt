@@ -1,0 +1,18 @@
+use Rattle.std.proofs.Common.{◌∙◌, ◌+◌, false, List, length, ap, sym}
+use Rattle.script_text.specs.declared.script.Line.{Line}
+use Rattle.applications.specs.Trying.{nowhere}
+use Rattle.applications.specs.Alone.{quits}
+use Rattle.applications.specs.Elsewhere.{moved}
+use Rattle.desk.specs.Phase.{Live, ends}
+use Rattle.desk.proofs.phase.Live.run_out.Goals as goal
+
+pub returns-clause-came : goal.returns-clause-came
+returns-clause-came g c =
+    let s = c.args.self.now in
+    ap (λ (lines : List Line). ends false (quits (moved nowhere s.application)) (let live : Live = record {
+      window = s.window;
+      steps = length lines + 1;
+      transcript = s.text.items;
+      state = moved nowhere s.application;
+    } in live)) (sym c.steps.ensures.steps)
+    ∙ c.in_ok-end.ensures.came false

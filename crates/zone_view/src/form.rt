@@ -1,0 +1,12 @@
+//! The form in which a zone is shown.
+
+/// The form in which a zone is shown.
+#[derive(Clone, Copy, Debug, PartialEq, Eq)]
+pub enum Form {
+    /// For people: columns.
+    Columns,
+    /// For other programs: fields with a tab between them.
+    Tabs,
+    /// A picture as SVG.
+    Picture,
+}

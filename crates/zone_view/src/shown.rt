@@ -1,0 +1,104 @@
+//! The zone of an application as it is shown.
+
+ghost use Rattle.std.specs.Prelude.{◌≡◌, ◌++◌, None, map, IfOk, OnOk};
+ghost use Rattle.std.specs.BTreeMap.{get};
+ghost use Rattle.std.specs.Ordering.{nat_cmp};
+ghost use Rattle.heap_calls.specs.Inner.Numbered.{no_number};
+ghost use Rattle.heap_view.specs.Totals.{largest_of};
+ghost use Rattle.heap_view.specs.View.{view_line};
+ghost use Rattle.zone_view.specs.Known.{tag_by};
+ghost use Rattle.zone_view.specs.Shown.{zone_lines, lines_shown, zone_shown};
+
+use crate::form::Form;
+use crate::known::{names_of, owners_of};
+use crate::places::{handles_of, pointers_of};
+use applications::Application;
+use block_store::BlockStore;
+use heap_calls::Heap;
+use heap_view::{
+    BlockLine, Largest, Owner, Style, blocks_of, largest_of, lines_of, widest, write_svg,
+    write_zone,
+};
+use mac_words::Label;
+use std::alloc::{AllocError, Global};
+use std::collections::BTreeMap;
+
+/// The lines of the blocks of a zone, and what could be allocated in it.
+#[derive(Drop)]
+struct Seen<'a> {
+    lines: Vec<BlockLine<'a>>,
+    largest: Largest,
+}
+
+/// Returns the lines of the blocks of a heap's zone, and what could be allocated in it.
+fn seen_in<'a, S: BlockStore>(
+    alloc: Global,
+    heap: &Heap<S>,
+    names: &BTreeMap<usize, &'a Label>,
+    owners: &BTreeMap<usize, Owner>,
+) -> Result<Seen<'a>, AllocError>
+    requires names { get nat_cmp names.now no_number ≡ None }
+    requires owners { get nat_cmp owners.now no_number ≡ None }
+    ensures lines { IfOk result (λ seen. map view_line seen.lines.items
+        ≡ zone_lines (tag_by names.now owners.now) heap.now.heap.zone) }
+    ensures largest { IfOk result (λ seen. seen.largest ≡ largest_of heap.now.heap.zone) }
+{
+    let (store, anchors) = heap.numbered();
+    let blocks = blocks_of(alloc, store)?;
+    let handles = handles_of(alloc, anchors, names, owners)?;
+    let pointers = pointers_of(alloc, anchors, names, owners)?;
+    let lines = lines_of(alloc, blocks.as_slice(), &handles, &pointers)?;
+    let largest = largest_of(store, blocks.as_slice());
+    Ok(Seen { lines, largest })
+}
+
+/// Appends a zone in a form.
+fn write_in(
+    alloc: Global,
+    text: &mut Vec<u8>,
+    form: Form,
+    seen: &Seen<'_>,
+    behind: &[u8],
+) -> Result<(), AllocError>
+    ensures { OnOk result (text.new.items ≡ text.old.items
+        ++ lines_shown form (map view_line seen.now.lines.items) seen.now.largest behind.now) }
+{
+    let lines = seen.lines.as_slice();
+    match form {
+        Form::Columns => {
+            let style = Style::Columns(widest(lines));
+            write_zone(alloc, text, style, lines, seen.largest, behind)?;
+            Ok(())
+        }
+        Form::Tabs => {
+            write_zone(alloc, text, Style::Tabs, lines, seen.largest, behind)?;
+            Ok(())
+        }
+        Form::Picture => {
+            write_svg(alloc, text, lines, behind)?;
+            Ok(())
+        }
+    }
+}
+
+/// Returns the zone of an application as it lies, in a form, behind a step of its script.
+///
+/// # Errors
+///
+/// The host is out of memory.
+pub fn show_zone<S: BlockStore>(
+    alloc: Global,
+    application: &Application<'_, S>,
+    form: Form,
+    behind: &[u8],
+) -> Result<Vec<u8>, AllocError>
+    ensures { IfOk result (λ text. text.items ≡ zone_shown form application.now behind.now) }
+{
+    let bound = application.names().bound(alloc)?;
+    let names = names_of(alloc, bound.as_slice())?;
+    let owners = owners_of(alloc, application.resources().open_files())?;
+    let seen = seen_in(alloc, application.heap(), &names, &owners)?;
+    let mut text = Vec::new(alloc);
+    write_in(alloc, &mut text, form, &seen, behind)?;
+    Ok(text)
+}
