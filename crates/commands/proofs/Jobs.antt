@@ -7,7 +7,7 @@ use Rattle.commands.specs.Running.{Stated, Taken, reads_for, Leaves, IsUnleft, R
 use Rattle.commands.proofs.Accesses.{one_more}
 
 -- the job's text was read, and then what its lines name
-all_read : (path : List ℕ) (stated : Stated) (texts : List (List (List ℕ))) (a b d : Option (List Access))
+pub all_read : (path : List ℕ) (stated : Stated) (texts : List (List (List ℕ))) (a b d : Option (List Access))
     → b ≡ and_then a (Read path stated.text ∷ []) → d ≡ and_then b (reads_of stated.lines.inputs texts)
     → d ≡ and_then a (reads_for path stated texts)
 all_read path stated texts a b d first second =

@@ -4,6 +4,7 @@ pub mod Faults
 pub mod Forks
 mod Inputs
 mod Jobs
+mod JobZones
 pub mod Listed
 mod Numerals
 mod OneFile

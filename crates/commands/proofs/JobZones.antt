@@ -1,0 +1,120 @@
+-- A job is read and run, and then the zone of one of its applications is shown.
+use Rattle.std.proofs.Common.{◌≡◌, ◌∙◌, ◌∷◌, ◌<◌, ℕ, true, List, [], Option, Some, None, option_map, Result, Ok, refl, sym, ap}
+use Rattle.std.proofs.Common.{subst, length, map}
+use Rattle.std.proofs.Common.{slice_get, slice_index_or}
+use Rattle.std.specs.Prelude.{is_ok}
+use Rattle.std.specs.Borrow.{Bor}
+use Rattle.std.specs.Slice.{IsItemAt}
+use Rattle.std.proofs.lemmas.Option.{slice_get-map, slice_get_read, slice_get_past}
+use Rattle.mac_words.specs.declared.code.OsErr.{OsErr}
+use Rattle.fork_format.specs.Content.{Content}
+use Rattle.res_calls.specs.Files.{Resources}
+use Rattle.desk.specs.declared.job.App.{App}
+use Rattle.desk.specs.declared.job.Job.{Job}
+use Rattle.desk.specs.declared.outcome.AppOutcome.{AppOutcome}
+use Rattle.desk.specs.declared.outcome.Launched as leaving
+use Rattle.desk.specs.Live.{leaves_seen}
+use Rattle.desk.specs.View.{told_seen}
+use Rattle.desk.specs.Outcome.{Launched, AppResult, Outcome}
+use Rattle.desk.specs.Whole.{Law, OfEachApp, start_with}
+use Rattle.desk.proofs.Givens.{has_started}
+use Rattle.commands.specs.declared.delivering.Target.TheVariants.{Printed}
+use Rattle.commands.specs.declared.job_zones.JobZone.{JobZone}
+use Rattle.commands.specs.Accesses.{Access, Read, and_then}
+use Rattle.commands.specs.Delivering.{Delivers, IsUndelivered}
+use Rattle.commands.specs.Fault.{Message}
+use Rattle.commands.specs.Gathering.{nothing_given, with_inputs, reads_of, system_path, IsStop}
+use Rattle.commands.specs.Running.{Stated, Taken}
+use Rattle.commands.specs.JobZones.{number_of, launched_of, launched_at, launched_with, launched_as, IsShown, IsZoneLeft, IsJobZone}
+use Rattle.commands.specs.JobZones.{IsZoneFault, Sees, IsUnseen, Ungathered, NotThere, Shows, IsUnshown, Unprinted}
+use Rattle.commands.proofs.Jobs.{all_read}
+
+-- an application that was launched had resources with which it was launched
+pub is_started : (P : Law) (system : Result Content OsErr) (apps : List App) (told : List AppResult) (i : ℕ) (app : App)
+    (l : Launched) → slice_get apps i ≡ Some app → launched_at i told ≡ Some l → OfEachApp P system apps told
+    → is_ok (start_with system app) ≡ true
+is_started P system apps told i app l given is so = by_result (slice_get told i) refl is
+  where
+    by_result : (o : Option AppResult) → slice_get told i ≡ o → launched_of o ≡ Some l
+        → is_ok (start_with system app) ≡ true
+    by_result None here is = cc
+    by_result (Some t) here is =
+        let started = has_started P system apps told i app t l given here is so in
+        ap (λ (r : Result Resources OsErr). is_ok r) started.1
+
+-- what an application of a run left, by its number
+told-some : (ys : List AppOutcome) (i : ℕ) (x : AppOutcome) → i < length ys → x ≡ slice_index_or ys i x
+    → launched_at i (map told_seen ys) ≡ option_map leaves_seen x.launched
+told-some ys i x lt is = ap launched_of
+    (slice_get-map told_seen ys i ∙ ap (option_map told_seen) (slice_get_read ys (length ys) i x refl lt is))
+
+lent : (o : Option (Bor leaving.Launched))
+    → option_map (λ (l : Bor leaving.Launched). leaves_seen l.now) o
+    ≡ option_map leaves_seen (option_map (λ (l : Bor leaving.Launched). l.now) o)
+lent None = refl
+lent (Some l) = refl
+
+pub left_some : (ys : List AppOutcome) (i : ℕ) (x : AppOutcome) (o : Option (Bor leaving.Launched)) → i < length ys
+    → x ≡ slice_index_or ys i x → option_map (λ (l : Bor leaving.Launched). l.now) o ≡ x.launched
+    → option_map (λ (l : Bor leaving.Launched). leaves_seen l.now) o ≡ launched_at i (map told_seen ys)
+left_some ys i x o lt is same = lent o ∙ ap (option_map leaves_seen) same ∙ sym (told-some ys i x lt is)
+
+pub left_none : (ys : List AppOutcome) (i : ℕ) (r : Option (Bor AppOutcome)) → IsItemAt ys i r → r ≡ None
+    → launched_at i (map told_seen ys) ≡ None
+left_none ys i r item is = ap launched_of
+    (slice_get-map told_seen ys i
+    ∙ ap (option_map told_seen) (slice_get_past ys i (subst (λ q. IsItemAt ys i q) is item).3))
+
+-- the application of that name, and what it left
+pub named_so : (name : List ℕ) (apps : List App) (told : List AppResult) (i : ℕ) (l : Launched)
+    → Some i ≡ number_of name apps → Some l ≡ launched_at i told → launched_as name apps told ≡ Some (i, l)
+named_so name apps told i l number is =
+    subst (λ (o : Option ℕ). launched_with o told ≡ Some (i, l)) number
+    (ap (λ (o : Option Launched). option_map (λ (l : Launched). (i, l)) o) (sym is))
+
+-- there is none of that name, or it was not launched
+pub unnamed_so : (name : List ℕ) (apps : List App) (told : List AppResult)
+    → (let none : Option ℕ = None in none) ≡ number_of name apps → launched_as name apps told ≡ None
+unnamed_so name apps told none = subst (λ (o : Option ℕ). launched_with o told ≡ None) none refl
+
+pub unlaunched_so : (name : List ℕ) (apps : List App) (told : List AppResult) (i : ℕ) → Some i ≡ number_of name apps
+    → (let none : Option Launched = None in none) ≡ launched_at i told → launched_as name apps told ≡ None
+unlaunched_so name apps told i number none =
+    subst (λ (o : Option ℕ). launched_with o told ≡ None) number
+    (ap (λ (o : Option Launched). option_map (λ (l : Launched). (i, l)) o) (sym none))
+
+-- the job's text was read, and then what its lines name
+pub ungathered_zone : (asked : JobZone) (stated : Stated) (texts : List (List (List ℕ))) (a b d : Option (List Access))
+    (told : Message) → b ≡ and_then a (Read asked.job.now stated.text ∷ [])
+    → d ≡ and_then b (reads_of stated.lines.inputs texts)
+    → IsStop (with_inputs nothing_given stated.lines.inputs texts) told → IsUnseen asked a d told
+ungathered_zone asked stated texts a b d told first second stops =
+    Ungathered stated texts (all_read asked.job.now stated texts a b d first second) stops
+
+pub not_there : (asked : JobZone) (system : List ℕ) (t : Taken) (a b d : Option (List Access)) (told : Message)
+    → system ≡ system_path t.stated.lines.inputs → b ≡ and_then a (Read asked.job.now t.stated.text ∷ [])
+    → d ≡ and_then b (reads_of t.stated.lines.inputs t.texts) → IsZoneFault system asked t.job told
+    → IsUnseen asked a d told
+not_there asked system t a b d told is first second fault =
+    NotThere t (all_read asked.job.now t.stated t.texts a b d first second)
+    (subst (λ s. IsZoneFault s asked t.job told) is fault)
+
+pub sees : (asked : JobZone) (out : List ℕ) (t : Taken) (a b d : Option (List Access))
+    → b ≡ and_then a (Read asked.job.now t.stated.text ∷ [])
+    → d ≡ and_then b (reads_of t.stated.lines.inputs t.texts) → IsJobZone asked t.job out → Sees asked out a d
+sees asked out t a b d first second zone =
+    (t, zone, all_read asked.job.now t.stated t.texts a b d first second)
+
+-- the zone was printed, or not to its end
+pub shows : (asked : JobZone) (out sent : List ℕ) (p mid q : Option (List ℕ)) (old then new : Option (List Access))
+    → mid ≡ p → sent ≡ out → Sees asked out old then → Delivers Printed sent mid q then new → Shows asked p q old new
+shows asked out sent p mid q old then new silent all seen h =
+    (out, then, seen, subst (λ x. Delivers Printed x p q then new) all
+    (subst (λ x. Delivers Printed sent x q then new) silent h))
+
+pub unprinted : (asked : JobZone) (out sent : List ℕ) (p mid q : Option (List ℕ)) (old then new : Option (List Access))
+    (told : Message) → mid ≡ p → sent ≡ out → Sees asked out old then
+    → IsUndelivered Printed sent mid q then new told → IsUnshown asked p q old new told
+unprinted asked out sent p mid q old then new told silent all seen h =
+    Unprinted out then seen (subst (λ x. IsUndelivered Printed x p q then new told) all
+    (subst (λ x. IsUndelivered Printed sent x q then new told) silent h))
