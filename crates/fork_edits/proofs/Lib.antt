@@ -1,5 +1,6 @@
 pub mod Changing
 pub mod Finding
+pub mod Keeping
 pub mod Naming
 pub mod Same
 pub mod Taking
