@@ -11,6 +11,7 @@ mod resources;
 mod setting;
 mod texts;
 mod types;
+mod waiting;
 
 pub use attributes::read_attrs;
 pub use differences::{Difference, Parts, diff};
