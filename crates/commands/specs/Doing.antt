@@ -3,13 +3,14 @@ use Rattle.commands.specs.declared.ending.Ending.{Ending}
 use Rattle.commands.specs.declared.ending.Ending.TheVariants.{Done}
 use Rattle.commands.specs.declared.tasks.Task.{Task}
 use Rattle.commands.specs.declared.request.Request.{Request}
-use Rattle.commands.specs.declared.request.Request.TheVariants.{Look, Run, Convert, Combine}
+use Rattle.commands.specs.declared.request.Request.TheVariants.{Look, Run, Convert, Combine, Extract}
 use Rattle.commands.specs.Fault.{Message, CannotRead, IsUsage}
 use Rattle.commands.specs.Accesses.{Access, Read, and_then, IsTold}
 use Rattle.commands.specs.Tasks.{Prints, IsRefusal}
 use Rattle.commands.specs.Running.{Runs, IsStopped}
 use Rattle.commands.specs.Converting.{Converts, IsUnconverted}
 use Rattle.commands.specs.Combining.{Combines, IsUncombined}
+use Rattle.commands.specs.Extracting.{Extracts, IsUnextracted}
 
 -- What the words of a command line ask for is done. `p` and `q` are the bytes that have been printed before and after,
 -- `old` and `new` the accesses to files.
@@ -25,13 +26,15 @@ pub data IsUnseen (task : Task) (p q : Option (List ℕ)) (old new : Option (Lis
   Refused : (bytes : List ℕ) → new ≡ and_then old (Read task.path.now bytes ∷ [])
       → IsRefusal task.work task.path.now bytes p q told → IsUnseen task p q old new told
 
--- What was asked for was done: a task, a job was run to its end, or what was made of one file or of two was delivered.
+-- What was asked for was done: a task, a job was run to its end, what was made of one file or of two was delivered, or the
+-- resources of a fork were written.
 abbrev pub IsDone
     : Request → Ending → Option (List ℕ) → Option (List ℕ) → Option (List Access) → Option (List Access) → Type 0
 IsDone (Look task) ending p q old new = (ending ≡ Done) × Looks task p q old new
 IsDone (Run errand) ending p q old new = (ending ≡ Done) × (q ≡ p) × Runs errand.job.now errand.out.now old new
 IsDone (Convert conversion) ending p q old new = (ending ≡ Done) × Converts conversion p q old new
 IsDone (Combine combination) ending p q old new = Combines combination ending p q old new
+IsDone (Extract extraction) ending p q old new = (ending ≡ Done) × (q ≡ p) × Extracts extraction old new
 
 -- What was asked for was not done, or not to its end.
 abbrev pub IsUndone
@@ -40,6 +43,7 @@ IsUndone (Look task) p q old new told = IsUnseen task p q old new told
 IsUndone (Run errand) p q old new told = (q ≡ p) × IsStopped errand.job.now errand.out.now old new told
 IsUndone (Convert conversion) p q old new told = IsUnconverted conversion p q old new told
 IsUndone (Combine combination) p q old new told = IsUncombined combination p q old new told
+IsUndone (Extract extraction) p q old new told = (q ≡ p) × IsUnextracted extraction old new told
 
 -- Nothing was done, or not all that some request asks for.
 pub data IsNotDone (p q : Option (List ℕ)) (old new : Option (List Access)) (told : Message) : Type 0 where

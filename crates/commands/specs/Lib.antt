@@ -12,4 +12,5 @@ pub mod Ending
 pub mod Delivering
 pub mod Converting
 pub mod Combining
+pub mod Extracting
 pub mod Doing
