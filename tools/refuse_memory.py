@@ -39,7 +39,7 @@ MODES = {"REFUSE_AT": "allocation {} refused", "REFUSE_FROM": "allocation {} and
 OPTIONS = {"--counts", "--all"}
 # What the library counts: allocations, refusals, writes to the standard error, and the allocations before each of these.
 COUNTS = struct.Struct("131Q")
-COMMANDS = ["script"], ["heap"], ["run"], ["map"], ["check"], ["get"], ["set"], ["diff"], ["rewrite"], ["derez"], ["rez"]
+COMMANDS = ["script"], ["heap"], ["run"], ["map"], ["check"], ["get"], ["extract"], ["set"], ["diff"], ["rewrite"], ["derez"], ["rez"]
 EVENTS = (b"launch", b"step", b"turn", b"quit", b"rest")
 INPUTS = (b"system", b"app", b"file")
 # Parts of an archive that say what its command does; a command with one of the first is not done, or is not compared here.

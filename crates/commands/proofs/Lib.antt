@@ -1,5 +1,6 @@
 mod Accesses
 mod Digits
+mod Extracted
 pub mod Faults
 pub mod Forks
 mod Inputs

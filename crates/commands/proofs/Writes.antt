@@ -19,7 +19,7 @@ pub record Made (all rest : List Access) (old new : Option (List Access)) : Type
   pub split : all ≡ first ++ rest
   pub made : new ≡ and_then old first
 
-begun : (all : List Access) (a : Option (List Access)) → Made all all a a
+pub begun : (all : List Access) (a : Option (List Access)) → Made all all a a
 begun all a = record { first = []; split = refl; made = none a }
 
 -- those that come next were made

@@ -3,7 +3,7 @@ use Rattle.commands.specs.declared.ending.Ending.{Ending}
 use Rattle.commands.specs.declared.ending.Ending.TheVariants.{Done}
 use Rattle.commands.specs.declared.tasks.Task.{Task}
 use Rattle.commands.specs.declared.request.Request.{Request}
-use Rattle.commands.specs.declared.request.Request.TheVariants.{Look, Run, Show, Convert, Combine}
+use Rattle.commands.specs.declared.request.Request.TheVariants.{Look, Run, Show, Convert, Combine, Extract}
 use Rattle.commands.specs.Fault.{Message, CannotRead, IsUsage}
 use Rattle.commands.specs.Accesses.{Access, Read, and_then, IsTold}
 use Rattle.commands.specs.Tasks.{Prints, IsRefusal}
@@ -11,6 +11,7 @@ use Rattle.commands.specs.Running.{Runs, IsStopped}
 use Rattle.commands.specs.JobZones.{Shows, IsUnshown}
 use Rattle.commands.specs.Converting.{Converts, IsUnconverted}
 use Rattle.commands.specs.Combining.{Combines, IsUncombined}
+use Rattle.commands.specs.Extracting.{Extracts, IsUnextracted}
 
 -- What the words of a command line ask for is done. `p` and `q` are the bytes that have been printed before and after,
 -- `old` and `new` the accesses to files.
@@ -26,8 +27,8 @@ pub data IsUnseen (task : Task) (p q : Option (List ℕ)) (old new : Option (Lis
   Refused : (bytes : List ℕ) → new ≡ and_then old (Read task.path.now bytes ∷ [])
       → IsRefusal task.work task.path.now bytes p q told → IsUnseen task p q old new told
 
--- What was asked for was done: a task, a job was run to its end, the zone of one of its applications was printed, or what
--- was made of one file or of two was delivered.
+-- What was asked for was done: a task, a job was run to its end, the zone of one of its applications was printed, what was
+-- made of one file or of two was delivered, or the resources of a fork were written.
 abbrev pub IsDone
     : Request → Ending → Option (List ℕ) → Option (List ℕ) → Option (List Access) → Option (List Access) → Type 0
 IsDone (Look task) ending p q old new = (ending ≡ Done) × Looks task p q old new
@@ -35,6 +36,7 @@ IsDone (Run errand) ending p q old new = (ending ≡ Done) × (q ≡ p) × Runs 
 IsDone (Show zone) ending p q old new = (ending ≡ Done) × Shows zone p q old new
 IsDone (Convert conversion) ending p q old new = (ending ≡ Done) × Converts conversion p q old new
 IsDone (Combine combination) ending p q old new = Combines combination ending p q old new
+IsDone (Extract extraction) ending p q old new = (ending ≡ Done) × (q ≡ p) × Extracts extraction old new
 
 -- What was asked for was not done, or not to its end.
 abbrev pub IsUndone
@@ -44,6 +46,7 @@ IsUndone (Run errand) p q old new told = (q ≡ p) × IsStopped errand.job.now e
 IsUndone (Show zone) p q old new told = IsUnshown zone p q old new told
 IsUndone (Convert conversion) p q old new told = IsUnconverted conversion p q old new told
 IsUndone (Combine combination) p q old new told = IsUncombined combination p q old new told
+IsUndone (Extract extraction) p q old new told = (q ≡ p) × IsUnextracted extraction old new told
 
 -- Nothing was done, or not all that some request asks for.
 pub data IsNotDone (p q : Option (List ℕ)) (old new : Option (List Access)) (told : Message) : Type 0 where

@@ -13,4 +13,5 @@ pub mod Delivering
 pub mod Converting
 pub mod Combining
 pub mod JobZones
+pub mod Extracting
 pub mod Doing

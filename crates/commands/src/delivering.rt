@@ -23,7 +23,11 @@ pub enum Target<'a> {
 }
 
 /// Returns the fault of bytes that could not be written to a path.
-fn unwritten(alloc: Global, path: &str, error: WriteError) -> Result<ToolFault, AllocError>
+pub(crate) fn unwritten(
+    alloc: Global,
+    path: &str,
+    error: WriteError,
+) -> Result<ToolFault, AllocError>
     ensures { IfOk result (λ fault. IsTold (CannotWrite path.now) (message_of fault)) }
 {
     match error {

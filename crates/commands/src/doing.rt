@@ -1,7 +1,7 @@
 //! From the words of the command line to what is printed or written: the words ask for a task, whose file is read and
-//! whose bytes are worked on, for a job to be run or shown, or for something to be made of one file or of two. Between the words
-//! and the host stand only `tasks::do_task`, `running::run_job`, `job_zones::show_in_job`, `converting::convert` and
-//! `combining::combine`.
+//! whose bytes are worked on, for a job to be run or shown, for something to be made of one file or of two, or for the
+//! resources of a fork to be written. Between the words and the host stand only `tasks::do_task`, `running::run_job`,
+//! `job_zones::show_in_job`, `converting::convert`, `combining::combine` and `extracting::extract`.
 
 ghost use Rattle.std.specs.Prelude.{◌≡◌, IfErr, IfOk};
 ghost use Rattle.commands.specs.declared.request.Request.{Request};
@@ -9,11 +9,13 @@ ghost use Rattle.commands.specs.declared.ending.Ending.TheVariants.{Done};
 ghost use Rattle.commands.specs.Fault.{message_of};
 ghost use Rattle.commands.specs.Tasks.{IsQuiet};
 ghost use Rattle.commands.specs.Running.{Runs, IsStopped};
+ghost use Rattle.commands.specs.Extracting.{Extracts, IsUnextracted};
 ghost use Rattle.commands.specs.Doing.{Looks, IsUnseen, IsDone, IsUndone, IsNotDone};
 
 use crate::combining::combine;
 use crate::converting::convert;
 use crate::ending::Ending;
+use crate::extracting::{Extraction, extract};
 use crate::fault::ToolFault;
 use crate::host::Host;
 use crate::input::read_input;
@@ -61,6 +63,22 @@ fn run<H: Host, W: Watch>(
     Ok(Ending::Done)
 }
 
+/// Writes the resources of a fork into a folder.
+fn write_resources<H: Host>(
+    alloc: Global,
+    host: &mut H,
+    extraction: Extraction<'_>,
+) -> Result<Ending, ToolFault>
+    ensures done { IfOk result (λ ending. (ending ≡ Done) × (H.printed host.new ≡ H.printed host.old)
+        × Extracts extraction.entry (H.accesses host.old) (H.accesses host.new)) }
+    ensures undone { IfErr result (λ fault. (H.printed host.new ≡ H.printed host.old)
+        × IsUnextracted extraction.entry (H.accesses host.old) (H.accesses host.new) (message_of fault)) }
+    ensures quiet { IfErr result (λ fault. IsQuiet (H.printed host.old) (H.printed host.new) (message_of fault)) }
+{
+    extract(alloc, host, extraction)?;
+    Ok(Ending::Done)
+}
+
 /// Does what is asked for.
 fn perform<H: Host, W: Watch>(
     alloc: Global,
@@ -80,6 +98,7 @@ fn perform<H: Host, W: Watch>(
         Request::Show(zone) => show_in_job(alloc, host, zone),
         Request::Convert(conversion) => convert(alloc, host, conversion),
         Request::Combine(combination) => combine(alloc, host, combination),
+        Request::Extract(extraction) => write_resources(alloc, host, extraction),
     }
 }
 

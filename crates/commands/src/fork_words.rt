@@ -6,6 +6,7 @@ ghost use Rattle.commands.specs.Fault.{message_of, IsUsage};
 use crate::combining::Combination;
 use crate::converting::Conversion;
 use crate::delivering::Target;
+use crate::extracting::Extraction;
 use crate::fault::ToolFault;
 use crate::parsing::{argument, bad_value, option, value};
 use crate::request::Request;
@@ -51,6 +52,25 @@ const GET_EXAMPLES: &str = "Examples:
 
 Where two resources have the type and the ID, the first is printed. A fork without such a resource is reported as
 'macmem: FORK: fork -192' (resNotFound), and one that cannot be read with -39 (eofErr) or -199 (mapReadErr).";
+
+const EXTRACT_ABOUT: &str =
+    "Writes the bytes of each resource, as they are stored, into a file of its own, in a folder that is made";
+
+const EXTRACT_EXAMPLES: &str = "Example:
+  macmem extract examples/Document.rsrc OUT
+
+makes the folder OUT with these files:
+  0001-STR_20-128-Greeting.bin
+  0002-STR_20-129.bin
+  0003-TEXT-128-Read_20me_20first.bin
+  0004-SIZE--1.bin
+
+A name has the number of the resource in the fork, its type, its ID and, if it has a name, at most 48 bytes of that. A byte
+that is no letter and no digit is '_' and two hexadecimal digits.
+A fork that cannot be read is reported as 'macmem: FORK: fork CODE': -39 (eofErr) no bytes, -199 (mapReadErr) damaged. A
+folder that exists already is reported as 'macmem: OUT: cannot write', and nothing is written then.";
+
+const FILES_HELP: &str = "Folder that is made for the files. It must not exist yet";
 
 const SET_ABOUT: &str =
     "Writes a fork in which a resource is replaced by the bytes of a file, or added where there is none of its type and ID";
@@ -178,6 +198,14 @@ fn get_command<'a>(alloc: Global) -> Result<Command<'a>, AllocError> {
         .arg(argument(alloc, "ID", ID_HELP).allow_negative_numbers(true))
 }
 
+fn extract_command<'a>(alloc: Global) -> Result<Command<'a>, AllocError> {
+    Command::new(alloc, "extract")
+        .about(EXTRACT_ABOUT)
+        .after_help(EXTRACT_EXAMPLES)
+        .arg(argument(alloc, "FORK", FORK_HELP))?
+        .arg(argument(alloc, "OUT", FILES_HELP))
+}
+
 fn set_command<'a>(alloc: Global) -> Result<Command<'a>, AllocError> {
     Command::new(alloc, "set")
         .about(SET_ABOUT)
@@ -235,6 +263,14 @@ fn comparing<'a>(matches: &ArgMatches<'a>) -> Combination<'a> {
         first: value(matches, "FORK"),
         second: value(matches, "OTHER"),
         target: Target::Printed,
+    }
+}
+
+/// Returns what the words after `extract` ask for.
+fn extract_asked<'a>(matches: &ArgMatches<'a>) -> Extraction<'a> {
+    Extraction {
+        fork: value(matches, "FORK"),
+        out: value(matches, "OUT"),
     }
 }
 
@@ -306,6 +342,7 @@ pub fn with_fork_commands<'a>(
 ) -> Result<Command<'a>, AllocError> {
     command
         .subcommand(get_command(alloc)?)?
+        .subcommand(extract_command(alloc)?)?
         .subcommand(set_command(alloc)?)?
         .subcommand(diff_command(alloc)?)?
         .subcommand(rewrite_command(alloc)?)?
@@ -323,6 +360,7 @@ pub fn fork_request<'a>(
 {
     let request = match name {
         "get" => Request::Convert(getting(alloc, matches)?),
+        "extract" => Request::Extract(extract_asked(matches)),
         "set" => Request::Combine(setting(alloc, matches)?),
         "diff" => Request::Combine(comparing(matches)),
         "rewrite" => Request::Convert(into_file(ForkWork::Rewrite, "FORK", matches)),

@@ -6,6 +6,7 @@ mod converting;
 mod delivering;
 mod doing;
 mod ending;
+mod extracting;
 mod fault;
 mod files;
 mod fork_words;

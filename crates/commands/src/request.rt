@@ -2,6 +2,7 @@
 
 use crate::combining::Combination;
 use crate::converting::Conversion;
+use crate::extracting::Extraction;
 use crate::job_zones::JobZone;
 use crate::running::Errand;
 use crate::tasks::Task;
@@ -19,4 +20,6 @@ pub enum Request<'a> {
     Convert(Conversion<'a>),
     /// Two files are read, and what is made of their bytes is printed or written.
     Combine(Combination<'a>),
+    /// A fork is read, and its resources are written into a folder, a file each.
+    Extract(Extraction<'a>),
 }

@@ -37,6 +37,7 @@ const PROGRAM_EXAMPLES: &str = "Examples:
   macmem derez examples/Document.rsrc         print what a fork holds as source of Rez
 
 What else is done with forks:
+  extract                                     write each resource into a file of its own, in a folder
   set, rewrite, rez                           write a fork into a new file
   diff                                        say how the contents of two forks differ
 

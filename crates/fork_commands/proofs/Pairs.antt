@@ -5,14 +5,11 @@ use Rattle.fork_format.specs.Content.{Content}
 use Rattle.fork_edits.specs.declared.differences.Difference.{Difference as StoredDifference}
 use Rattle.fork_edits.specs.Differences.{Difference, Order, differences, found_differences, or_order, same_content}
 use Rattle.fork_edits.specs.View.{view_difference}
-use Rattle.fork_commands.specs.declared.fault.FileFault.{FileFault}
 use Rattle.fork_commands.specs.declared.fault.WorkFault.{WorkFault}
 use Rattle.fork_commands.specs.declared.fault.WorkFault.TheVariants.{File, HostMemory}
 use Rattle.fork_commands.specs.declared.pair.PairWork.TheVariants.{Set, Diff}
-use Rattle.fork_commands.specs.declared.pair.Place.{Place}
 use Rattle.fork_commands.specs.declared.pair.Place.TheVariants.{First, Second}
 use Rattle.fork_commands.specs.declared.pair.PairFault.{PairFault}
-use Rattle.fork_commands.specs.declared.pair.PairFault.TheVariants as pair_fault
 use Rattle.fork_commands.specs.declared.pair.Setting.{Setting}
 use Rattle.fork_commands.specs.Faults.{Stops}
 use Rattle.fork_commands.specs.Reading.{content_in}

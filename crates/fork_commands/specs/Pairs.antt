@@ -1,11 +1,11 @@
-use Rattle.std.specs.Prelude.{◌≡◌, ℕ, Bool, true, false, not, option_map, Result, Ok, Err, List, [], ◌∷◌}
+use Rattle.std.specs.Prelude.{◌≡◌, ℕ, Bool, false, not, option_map, Result, Ok, Err, List}
 use Rattle.std.specs.List.{flat_map}
 use Rattle.byteorder.specs.Endian.{big_number}
 use Rattle.mac_words.specs.declared.attributes.Attrs.{Attrs}
 use Rattle.fork_format.specs.Content.{Content}
 use Rattle.fork_format.specs.View.{view_name}
 use Rattle.fork_edits.specs.Setting.{with_resource}
-use Rattle.fork_edits.specs.Differences.{Difference, differences, same_content}
+use Rattle.fork_edits.specs.Differences.{differences, same_content}
 use Rattle.fork_edits.specs.Lines.{difference_line}
 use Rattle.fork_commands.specs.declared.fault.FileFault.{FileFault}
 use Rattle.fork_commands.specs.declared.fault.WorkFault.{WorkFault}

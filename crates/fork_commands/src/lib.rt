@@ -1,11 +1,13 @@
 //! What the commands make of the bytes of resource forks.
 #![tactic(auto)]
 
+mod extracting;
 mod fault;
 mod pair;
 mod reading;
 mod work;
 
+pub use extracting::{ResourceFile, extracted};
 pub use fault::{FileFault, WorkFault};
 pub use pair::{PairFault, PairOutput, PairWork, Place, Setting, combined};
 pub use reading::{content_in, content_of_fork, fork_in};

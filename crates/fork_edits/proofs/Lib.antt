@@ -1,7 +1,9 @@
 pub mod Changing
 pub mod Finding
+pub mod Keeping
 pub mod Naming
+pub mod Pairing
+pub mod Queues
 pub mod Same
-pub mod Taking
 pub mod Vectors
 pub mod Words

@@ -77,6 +77,20 @@ abbrev pub matched : List Row → List Row → List Difference
 matched [] news = map Added news
 matched (r ∷ olds) news = compared r (find (is_same r) news) ++ matched olds (others (is_same r) news)
 
+-- The same in two walks: the differences of resources and their counterparts, and the resources that are no one's
+-- counterpart, each walk with what is left of the others.
+abbrev pub paired : List Row → List Row → List Difference
+paired [] news = []
+paired (r ∷ olds) news = compared r (find (is_same r) news) ++ paired olds (others (is_same r) news)
+
+abbrev pub alone : Row → Option Row → List Row
+alone s None = s ∷ []
+alone s (Some r) = []
+
+abbrev pub unmatched : List Row → List Row → List Row
+unmatched [] olds = []
+unmatched (s ∷ news) olds = alone s (find (is_same s) olds) ++ unmatched news (others (is_same s) olds)
+
 -- The difference where a test passes.
 abbrev pub noted : Bool → Difference → List Difference
 noted test d = if test then d ∷ [] else []

@@ -7,3 +7,4 @@ pub mod Lines
 pub mod Attributes
 pub mod FileNames
 pub mod View
+pub mod Waiting

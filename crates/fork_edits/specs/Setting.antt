@@ -3,7 +3,7 @@ use Rattle.std.specs.Prelude.{if◌then◌else◌}
 use Rattle.std.specs.List.{list_any, find}
 use Rattle.fork_format.specs.Content.{Ref, Group, Content}
 use Rattle.fork_format.specs.Place.{put}
-use Rattle.fork_edits.specs.Resources.{has_id, found}
+use Rattle.fork_edits.specs.Resources.{Row, has_id, found}
 
 -- A content in which one resource is set: replaced, or added where there is none of its type and ID.
 -- More Macintosh Toolbox, chapter 1, "Resource Files".
@@ -73,3 +73,7 @@ with_resource kind id change c = record c { groups = groups_with kind id change 
 -- The resource that is set: the change of the first resource of the type and the ID, or of a blank one.
 abbrev pub resource_set : ℕ → ℤ → Change → Content → Ref
 resource_set kind id change c = changed change (unwrap_or (found kind id c) (blank id))
+
+-- A resource with its type, once it is changed.
+abbrev pub row_changed : Change → Row → Row
+row_changed change x = record x { resource = changed change x.resource }

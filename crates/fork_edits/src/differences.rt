@@ -1,22 +1,22 @@
 //! How two contents differ.
 
-ghost use Rattle.std.specs.Prelude.{◌≡◌, ◌↔◌, ◌++◌, [], map, option_map, IfOk, OnOk, IfSome, length, bytes_eq};
-ghost use Rattle.std.specs.List.{find, position};
+ghost use Rattle.std.specs.Prelude.{◌≡◌, ◌↔◌, ◌++◌, [], List, map, IfOk, OnOk, bytes_eq};
+ghost use Rattle.std.specs.List.{find};
 ghost use Rattle.std.specs.Cmp.Lexicographic.{pointwise};
 ghost use Rattle.std.specs.Ordering.{int_eq};
 ghost use Rattle.fork_format.specs.View.{view_name, view_ref, view_group, view};
-ghost use Rattle.fork_edits.specs.declared.resources.Row.{Row as StoredRow};
-ghost use Rattle.fork_edits.specs.Resources.{rows, is_at, others};
+ghost use Rattle.fork_edits.specs.Resources.{Row as RowValue, others};
 ghost use Rattle.fork_edits.specs.Differences.{same_name, same_ref, same_group, same_content, parts, is_same};
-ghost use Rattle.fork_edits.specs.Differences.{Added, changes, compared, matched};
+ghost use Rattle.fork_edits.specs.Differences.{Added, changes, compared, paired, alone, unmatched, matched};
 ghost use Rattle.fork_edits.specs.Differences.{map_differences, found_differences, or_order, differences};
 ghost use Rattle.fork_edits.specs.View.{view_row, view_parts, view_difference};
+ghost use Rattle.fork_edits.specs.Waiting.{AreWaiting};
 
 use crate::resources::{Row, rows_of};
+use crate::waiting::{Waiting, take_counterpart, waiting_of};
 use fork_format::{Content, Group, Ref, RefName, kind_of};
 use mac_words::OsType;
 use std::alloc::{AllocError, Global};
-use std::collections::VecDeque;
 
 /// What differs between two resources of one type and ID.
 #[derive(Clone, Copy, Debug, PartialEq, Eq)]
@@ -137,31 +137,6 @@ fn parts_of(a: &Ref<'_>, b: &Ref<'_>) -> Parts
     }
 }
 
-/// Reports whether a resource has the type and the ID of another.
-fn is_counterpart(a: &Row<'_>, b: &Row<'_>) -> bool
-    ensures { result ≡ is_same (view_row a.now) (view_row b.now) }
-{
-    kind_of(b.ty) == kind_of(a.ty) && b.resource.id == a.resource.id
-}
-
-/// Returns the index of the first resource that has the type and the ID of another.
-fn counterpart<'b>(row: &Row<'_>, news: &VecDeque<Row<'b>>) -> Option<usize>
-    ensures { result ≡ position (λ (r : StoredRow). is_same (view_row row.now) (view_row r)) news.now.items }
-{
-    news.iter().position(|new| is_counterpart(row, new))
-}
-
-/// Takes out the first resource that has the type and the ID of another.
-fn take_counterpart<'b>(row: &Row<'_>, news: &mut VecDeque<Row<'b>>) -> Option<Row<'b>>
-    ensures found { option_map view_row result ≡ find (is_same (view_row row.now)) (map view_row news.old.items) }
-    ensures others { map view_row news.new.items ≡ others (is_same (view_row row.now)) (map view_row news.old.items) }
-{
-    match counterpart(row, news) {
-        Some(index) => news.remove(index),
-        None => None,
-    }
-}
-
 /// Notes the difference of a resource and its counterpart, if they differ.
 fn note_changed<'a, 'b>(
     found: &mut Vec<Difference<'a, 'b>>,
@@ -182,64 +157,91 @@ fn note_changed<'a, 'b>(
     Ok(())
 }
 
-/// Notes the difference of a resource and its counterpart, which is then no other's counterpart.
+/// Notes the difference of a resource and its counterpart, which then waits no longer.
 fn note_compared<'a, 'b>(
+    alloc: Global,
     found: &mut Vec<Difference<'a, 'b>>,
     old: &Row<'a>,
-    news: &mut VecDeque<Row<'b>>,
+    news: &mut Waiting<'b>,
 ) -> Result<(), AllocError>
-    ensures noted { OnOk result (map view_difference found.new.items ≡ map view_difference found.old.items
-        ++ compared (view_row old.now) (find (is_same (view_row old.now)) (map view_row news.old.items))) }
-    ensures others { OnOk result (map view_row news.new.items
-        ≡ others (is_same (view_row old.now)) (map view_row news.old.items)) }
+    ensures noted { (rows : List RowValue) → AreWaiting news.old rows → OnOk result (map view_difference found.new.items
+        ≡ map view_difference found.old.items ++ compared (view_row old.now) (find (is_same (view_row old.now)) rows)) }
+    ensures others { (rows : List RowValue) → AreWaiting news.old rows
+        → OnOk result (AreWaiting news.new (others (is_same (view_row old.now)) rows)) }
 {
-    match take_counterpart(old, news) {
-        Some(new) => note_changed(found, old, &new),
-        None => {
-            found.push(Difference::Removed(*old))?;
-            Ok(())
-        }
+    match take_counterpart(alloc, old, news)? {
+        Some(new) => note_changed(found, old, &new)?,
+        None => found.push(Difference::Removed(*old))?,
     }
+    Ok(())
 }
 
-/// Notes the differences of resources and their counterparts, in order. What is left in `news` has none.
-fn note_matched<'a, 'b>(
+/// Notes the differences of resources and their counterparts, in order.
+fn note_paired<'a, 'b>(
+    alloc: Global,
     found: &mut Vec<Difference<'a, 'b>>,
     olds: &[Row<'a>],
-    news: &mut VecDeque<Row<'b>>,
-) -> Result<(), AllocError>
-    ensures { OnOk result (map view_difference found.new.items ++ map Added (map view_row news.new.items)
-        ≡ map view_difference found.old.items ++ matched (map view_row olds.now) (map view_row news.old.items)) }
-{
-    for old in olds {
-        note_compared(found, old, news)?;
-    }
-    Ok(())
-}
-
-/// Notes resources that were added.
-fn note_added<'a, 'b>(
-    found: &mut Vec<Difference<'a, 'b>>,
-    news: &mut VecDeque<Row<'b>>,
+    news: &[Row<'b>],
 ) -> Result<(), AllocError>
     ensures { OnOk result (map view_difference found.new.items
-        ≡ map view_difference found.old.items ++ map Added (map view_row news.old.items)) }
+        ≡ map view_difference found.old.items ++ paired (map view_row olds.now) (map view_row news.now)) }
 {
-    while let Some(new) = news.pop_front() {
-        found.push(Difference::Added(new))?;
+    let mut waiting = waiting_of(alloc, news)?;
+    for old in olds {
+        note_compared(alloc, found, old, &mut waiting)?;
     }
     Ok(())
 }
 
-/// Returns resources in a queue.
-fn queue_of<'b>(alloc: Global, rows: &[Row<'b>]) -> Result<VecDeque<Row<'b>>, AllocError>
-    ensures { IfOk result (λ q. q.items ≡ rows.now) }
+/// Notes a resource that was added, if it has no counterpart, which then waits no longer.
+fn note_alone<'a, 'b>(
+    alloc: Global,
+    found: &mut Vec<Difference<'a, 'b>>,
+    new: &Row<'b>,
+    olds: &mut Waiting<'a>,
+) -> Result<(), AllocError>
+    ensures noted { (rows : List RowValue) → AreWaiting olds.old rows → OnOk result (map view_difference found.new.items
+        ≡ map view_difference found.old.items ++ map Added (alone (view_row new.now) (find (is_same (view_row new.now)) rows))) }
+    ensures others { (rows : List RowValue) → AreWaiting olds.old rows
+        → OnOk result (AreWaiting olds.new (others (is_same (view_row new.now)) rows)) }
 {
-    let mut queue = VecDeque::new(alloc);
-    for row in rows {
-        queue.push_back(*row)?;
+    match take_counterpart(alloc, new, olds)? {
+        Some(_) => {}
+        None => found.push(Difference::Added(*new))?,
     }
-    Ok(queue)
+    Ok(())
+}
+
+/// Notes the resources that were added, in order.
+fn note_added<'a, 'b>(
+    alloc: Global,
+    found: &mut Vec<Difference<'a, 'b>>,
+    olds: &[Row<'a>],
+    news: &[Row<'b>],
+) -> Result<(), AllocError>
+    ensures { OnOk result (map view_difference found.new.items
+        ≡ map view_difference found.old.items ++ map Added (unmatched (map view_row news.now) (map view_row olds.now))) }
+{
+    let mut waiting = waiting_of(alloc, olds)?;
+    for new in news {
+        note_alone(alloc, found, new, &mut waiting)?;
+    }
+    Ok(())
+}
+
+/// Notes the differences of resources.
+fn note_matched<'a, 'b>(
+    alloc: Global,
+    found: &mut Vec<Difference<'a, 'b>>,
+    olds: &[Row<'a>],
+    news: &[Row<'b>],
+) -> Result<(), AllocError>
+    ensures { OnOk result (map view_difference found.new.items
+        ≡ map view_difference found.old.items ++ matched (map view_row olds.now) (map view_row news.now)) }
+{
+    note_paired(alloc, found, olds, news)?;
+    note_added(alloc, found, olds, news)?;
+    Ok(())
 }
 
 /// Notes the differences of areas and map attributes.
@@ -272,10 +274,8 @@ fn note_all<'a, 'b>(
 {
     note_map(found, a, b)?;
     let olds = rows_of(alloc, a)?;
-    let rows = rows_of(alloc, b)?;
-    let mut news = queue_of(alloc, rows.as_slice())?;
-    note_matched(found, olds.as_slice(), &mut news)?;
-    note_added(found, &mut news)?;
+    let news = rows_of(alloc, b)?;
+    note_matched(alloc, found, olds.as_slice(), news.as_slice())?;
     Ok(())
 }
 
@@ -314,8 +314,7 @@ fn differences_of<'a, 'b>(
 /// type and ID the first with the first, the second with the second, and so on. Where nothing else differs, the order in
 /// which the resources stand does; contents that are the same differ in nothing.
 ///
-/// The time is that of one walk where the resources that both contents have stand in the same order; each resource that
-/// only one content has may cost a walk more.
+/// Resources are found by type and ID, wherever they stand: the time grows with the number of resources times its logarithm.
 pub fn diff<'a, 'b>(
     alloc: Global,
     a: &Content<'a>,

@@ -16,7 +16,7 @@ use mac_words::OsType;
 use std::alloc::AllocError;
 
 /// Returns the hexadecimal digit of a number below 16, in upper case.
-fn digit_of(value: u8) -> u8
+pub(crate) fn digit_of(value: u8) -> u8
     requires { value < 16 }
     ensures { result ≡ hex_digit value }
 {

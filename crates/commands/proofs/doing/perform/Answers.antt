@@ -10,3 +10,11 @@ returns-in-Run-clause-undone g c =
     (g.H.Host.printed c.args.host.now) (g.H.Host.printed c.run.new.host)
     (g.H.Host.accesses c.args.host.now) (g.H.Host.accesses c.run.new.host) (message_of fault)))
     (sym c.in-Run.is) c.run.ensures.undone
+
+-- the resources of a fork were not written, or not all
+pub returns-in-Extract-clause-undone : goal.returns-in-Extract-clause-undone
+returns-in-Extract-clause-undone g c =
+    subst (λ request. IfErr c.write_resources.result (λ fault. IsUndone request
+    (g.H.Host.printed c.args.host.now) (g.H.Host.printed c.write_resources.new.host)
+    (g.H.Host.accesses c.args.host.now) (g.H.Host.accesses c.write_resources.new.host) (message_of fault)))
+    (sym c.in-Extract.is) c.write_resources.ensures.undone

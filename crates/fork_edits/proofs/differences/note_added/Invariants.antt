@@ -1,12 +1,12 @@
-use Rattle.std.proofs.Common.{◌≡◌, ◌++◌, map}
-use Rattle.std.specs.VecDeque.{deque_len}
-use Rattle.fork_edits.specs.Differences.{Added}
+use Rattle.std.proofs.Common.{◌≡◌, ◌++◌, List, map, drop}
+use Rattle.fork_edits.specs.Resources.{Row}
+use Rattle.fork_edits.specs.Differences.{Added, unmatched}
 use Rattle.fork_edits.specs.View.{view_row, view_difference}
+use Rattle.fork_edits.specs.Waiting.{AreWaiting}
 use Rattle.fork_edits.proofs.differences.note_added.Given as goal
 
+-- some resources wait yet, and the differences so far, with those to come, are all
 abbrev pub invariant-loop-new : goal.invariant-loop-new
-invariant-loop-new l = map view_difference l.found.items ++ map Added (map view_row l.news.items)
-    ≡ map view_difference l.fn.found.items ++ map Added (map view_row l.fn.news.items)
-
-abbrev pub decreases-loop-new : goal.decreases-loop-new
-decreases-loop-new l = deque_len l.news
+invariant-loop-new l = (rest : List Row) × AreWaiting l.waiting rest
+    × (map view_difference l.found.items ++ map Added (unmatched (map view_row (drop l.new-index l.news)) rest)
+    ≡ map view_difference l.fn.found.items ++ map Added (unmatched (map view_row l.news) (map view_row l.olds)))

@@ -1,5 +1,7 @@
 use Rattle.std.proofs.Common.{◌≡◌, ◌++◌, ◌-◌, replicate}
+use Rattle.std.specs.Prelude.{string_bytes}
 use Rattle.fork_edits.proofs.file_names.push_zeros.Given as goal
 
 abbrev pub invariant-loop : goal.invariant-loop
-invariant-loop l = l.text.items ++ replicate (l.count - l.counter) 48 ≡ l.fn.text.items ++ replicate l.count 48
+invariant-loop l =
+    string_bytes l.text ++ replicate (l.count - l.counter) 48 ≡ string_bytes l.fn.text ++ replicate l.count 48

@@ -1,0 +1,16 @@
+use Rattle.std.proofs.Common.{◌≡◌, [], Err, rules}
+use Rattle.commands.specs.declared.fault.ToolFault.TheVariants.{HostMemory}
+use Rattle.commands.specs.Accesses.{Folder}
+use Rattle.commands.proofs.Accesses.{told_err}
+use Rattle.commands.proofs.Extracted.{stops_first}
+use Rattle.commands.proofs.extracting.make_folder.Goals as goal
+
+-- the host is out of memory as the fault is told
+pub returns-in_err-unwritten-in-Err-clause-stopped : goal.returns-in_err-unwritten-in-Err-clause-stopped
+returns-in_err-unwritten-in-Err-clause-stopped g c =
+    let same : c.from_residual.result ≡ Err HostMemory = search rules in
+    told_err _ _ _ same (stops_first (Folder c.args.folder.now) [] _ _ _ c.in-Err.ensures.unmade tt)
+
+pub returns-in_ok-unwritten-in-Err-clause-stopped : goal.returns-in_ok-unwritten-in-Err-clause-stopped
+returns-in_ok-unwritten-in-Err-clause-stopped g c =
+    stops_first (Folder c.args.folder.now) [] _ _ _ c.in-Err.ensures.unmade c.in_ok-unwritten-in-Err.ensures

@@ -1,0 +1,31 @@
+use Rattle.std.specs.Prelude.{◌≡◌, ℕ, Option, Ok, List, [], ◌∷◌, map}
+use Rattle.fork_commands.specs.Extracting.{ToWrite, extracted}
+use Rattle.commands.specs.declared.extracting.Extraction.{Extraction}
+use Rattle.commands.specs.Accesses.{Access, Read, Folder, Write, and_then, IsTold, StopsAmong}
+use Rattle.commands.specs.Fault.{Message, CannotRead}
+use Rattle.commands.specs.Tasks.{IsForkFault}
+
+-- A fork is read, and its resources are written into a folder, a file each. `old` and `new` are the accesses to files before
+-- and after.
+
+-- What is written of a fork: the folder is made, and the files are written into it, in their order.
+abbrev pub write_in : ToWrite → Access
+write_in file = Write file.path file.bytes
+
+abbrev pub writes_in : List ℕ → List ToWrite → List Access
+writes_in folder files = Folder folder ∷ map write_in files
+
+-- The fork was read, and all its resources were written.
+abbrev pub Extracts : Extraction → Option (List Access) → Option (List Access) → Type 0
+Extracts e old new =
+    (bytes : List ℕ) × (files : List ToWrite) × (extracted e.out.now bytes ≡ Ok files)
+    × (new ≡ and_then (and_then old (Read e.fork.now bytes ∷ [])) (writes_in e.out.now files))
+
+-- The file can't be read, its bytes are at fault, or what there is to be written was not written to its end.
+pub data IsUnextracted (e : Extraction) (old new : Option (List Access)) (told : Message) : Type 0 where
+  Unread : new ≡ old → IsTold (CannotRead e.fork.now) told → IsUnextracted e old new told
+  Faulty : (bytes : List ℕ) → new ≡ and_then old (Read e.fork.now bytes ∷ [])
+      → IsForkFault e.fork.now (extracted e.out.now bytes) told → IsUnextracted e old new told
+  Unwritten : (bytes : List ℕ) (files : List ToWrite) → extracted e.out.now bytes ≡ Ok files
+      → StopsAmong (writes_in e.out.now files) (and_then old (Read e.fork.now bytes ∷ [])) new told
+      → IsUnextracted e old new told

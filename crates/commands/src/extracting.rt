@@ -1,0 +1,137 @@
+//! The resources of a fork are written into a folder, a file each.
+
+ghost use Rattle.std.specs.Prelude.{◌≡◌, ◌∷◌, [], map, Ok, OnOk, IfOk, IfErr};
+ghost use Rattle.fork_commands.specs.Extracting.{extracted};
+ghost use Rattle.fork_commands.specs.View.{view_file};
+ghost use Rattle.commands.specs.Accesses.{Folder, and_then, StopsAmong};
+ghost use Rattle.commands.specs.Extracting.{write_in, writes_in, Extracts, IsUnextracted};
+ghost use Rattle.commands.specs.Fault.{message_of};
+ghost use Rattle.commands.specs.Tasks.{IsForkFault};
+
+use crate::delivering::unwritten;
+use crate::fault::ToolFault;
+use crate::host::Host;
+use crate::input::read_input;
+use crate::tasks::fork_fault;
+use fork_commands::{ResourceFile, extracted};
+use std::alloc::Global;
+
+/// What is asked for of a fork: its path and the folder for its resources, as they were given.
+#[derive(Clone, Copy)]
+pub struct Extraction<'a> {
+    pub fork: &'a str,
+    pub out: &'a str,
+}
+
+/// Returns the files of the resources of the fork in bytes.
+#[tactic(auto, using(crate::proofs::Faults::fork_stopped))]
+fn files_of<'b>(
+    alloc: Global,
+    extraction: &Extraction<'_>,
+    bytes: &'b [u8],
+) -> Result<Vec<ResourceFile<'b>>, ToolFault>
+    ensures made { IfOk result (λ files. extracted extraction.now.out.now bytes.now ≡ Ok (map view_file files.items)) }
+    ensures fault { IfErr result (λ fault. IsForkFault extraction.now.fork.now (extracted extraction.now.out.now bytes.now)
+        (message_of fault)) }
+{
+    match extracted(alloc, extraction.out, bytes) {
+        Ok(files) => Ok(files),
+        Err(fault) => Err(fork_fault(alloc, extraction.fork, fault)?),
+    }
+}
+
+/// Writes a file.
+fn write_file<H: Host>(
+    alloc: Global,
+    host: &mut H,
+    file: &ResourceFile<'_>,
+) -> Result<(), ToolFault>
+    ensures silent { H.printed host.new ≡ H.printed host.old }
+    ensures written { OnOk result (H.accesses host.new
+        ≡ and_then (H.accesses host.old) (write_in (view_file file.now) ∷ [])) }
+    ensures stopped { IfErr result (λ fault. StopsAmong (write_in (view_file file.now) ∷ [])
+        (H.accesses host.old) (H.accesses host.new) (message_of fault)) }
+{
+    match host.write(file.path.as_str(), file.datum) {
+        Ok(()) => Ok(()),
+        Err(error) => Err(unwritten(alloc, file.path.as_str(), error)?),
+    }
+}
+
+/// Writes files, in their order.
+fn write_files<H: Host>(
+    alloc: Global,
+    host: &mut H,
+    files: &[ResourceFile<'_>],
+) -> Result<(), ToolFault>
+    ensures silent { H.printed host.new ≡ H.printed host.old }
+    ensures written { OnOk result (H.accesses host.new
+        ≡ and_then (H.accesses host.old) (map write_in (map view_file files.now))) }
+    ensures stopped { IfErr result (λ fault. StopsAmong (map write_in (map view_file files.now))
+        (H.accesses host.old) (H.accesses host.new) (message_of fault)) }
+{
+    for file in files {
+        write_file(alloc, host, file)?;
+    }
+    Ok(())
+}
+
+/// Makes a folder.
+fn make_folder<H: Host>(alloc: Global, host: &mut H, folder: &str) -> Result<(), ToolFault>
+    ensures silent { H.printed host.new ≡ H.printed host.old }
+    ensures made { OnOk result (H.accesses host.new ≡ and_then (H.accesses host.old) (Folder folder.now ∷ [])) }
+    ensures stopped { IfErr result (λ fault. StopsAmong (Folder folder.now ∷ [])
+        (H.accesses host.old) (H.accesses host.new) (message_of fault)) }
+{
+    match host.make_folder(folder) {
+        Ok(()) => Ok(()),
+        Err(error) => Err(unwritten(alloc, folder, error)?),
+    }
+}
+
+/// Makes a folder, and writes files into it.
+fn write_all<H: Host>(
+    alloc: Global,
+    host: &mut H,
+    folder: &str,
+    files: &[ResourceFile<'_>],
+) -> Result<(), ToolFault>
+    ensures silent { H.printed host.new ≡ H.printed host.old }
+    ensures written { OnOk result (H.accesses host.new
+        ≡ and_then (H.accesses host.old) (writes_in folder.now (map view_file files.now))) }
+    ensures stopped { IfErr result (λ fault. StopsAmong (writes_in folder.now (map view_file files.now))
+        (H.accesses host.old) (H.accesses host.new) (message_of fault)) }
+{
+    make_folder(alloc, host, folder)?;
+    write_files(alloc, host, files)?;
+    Ok(())
+}
+
+/// Reads a fork, and writes each of its resources into a file of its own in a new folder. The paths of the files are made
+/// before the folder, so that no memory is wanted for them later.
+///
+/// # Errors
+///
+/// The file can't be read, or its bytes are at fault: then nothing is written. A folder that exists already, or a file that
+/// can't be written: then no other file is written after it. Or the host is out of memory.
+pub fn extract<H: Host>(
+    alloc: Global,
+    host: &mut H,
+    extraction: Extraction<'_>,
+) -> Result<(), ToolFault>
+    // Nothing is printed.
+    ensures silent { H.printed host.new ≡ H.printed host.old }
+
+    // The fork is read; then the folder is made, and the files of its resources are written, in their order. No other file is
+    // read or written.
+    ensures extracts { OnOk result (Extracts extraction.entry (H.accesses host.old) (H.accesses host.new)) }
+
+    // The fault is the first in that order, and nothing is written after it.
+    ensures stopped { IfErr result (λ fault. IsUnextracted extraction.entry
+        (H.accesses host.old) (H.accesses host.new) (message_of fault)) }
+{
+    let bytes = read_input(alloc, host, extraction.fork)?;
+    let files = files_of(alloc, &extraction, bytes.as_slice())?;
+    write_all(alloc, host, extraction.out, files.as_slice())?;
+    Ok(())
+}

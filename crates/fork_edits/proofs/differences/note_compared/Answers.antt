@@ -1,0 +1,20 @@
+use Rattle.std.proofs.Common.{◌∙◌, ◌++◌, List, ap, sym, map}
+use Rattle.std.specs.Prelude.{option_map}
+use Rattle.std.proofs.lemmas.List.{map-append}
+use Rattle.fork_edits.specs.Differences.{Difference, compared}
+use Rattle.fork_edits.specs.View.{view_row, view_difference}
+use Rattle.fork_edits.proofs.differences.note_compared.Goals as goal
+
+pub returns-in_ok-note_changed-in-Some-clause-noted : goal.returns-in_ok-note_changed-in-Some-clause-noted
+returns-in_ok-note_changed-in-Some-clause-noted c rows waiting =
+    let before : List Difference = map view_difference c.args.found.now.items in
+    c.in_ok-note_changed-in-Some.ensures
+    ∙ ap (λ o. before ++ compared (view_row c.args.old.now) o) (ap (option_map view_row) (sym c.in-Some.is)
+    ∙ c.in_ok-new.ensures.found rows waiting)
+
+pub returns-in_ok-push-in-None-clause-noted : goal.returns-in_ok-push-in-None-clause-noted
+returns-in_ok-push-in-None-clause-noted c rows waiting =
+    let before : List Difference = map view_difference c.args.found.now.items in
+    ap (map view_difference) c.in_ok-push-in-None.ensures.items ∙ map-append view_difference _ _
+    ∙ ap (λ o. before ++ compared (view_row c.args.old.now) o) (ap (option_map view_row) (sym c.in-None.is)
+    ∙ c.in_ok-new.ensures.found rows waiting)
