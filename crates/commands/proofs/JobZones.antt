@@ -54,16 +54,23 @@ lent : (o : Option (Bor leaving.Launched))
 lent None = refl
 lent (Some l) = refl
 
-pub left_some : (ys : List AppOutcome) (i : ℕ) (x : AppOutcome) (o : Option (Bor leaving.Launched)) → i < length ys
-    → x ≡ slice_index_or ys i x → option_map (λ (l : Bor leaving.Launched). l.now) o ≡ x.launched
+pub left_some : (ys zs : List AppOutcome) (i : ℕ) (x : AppOutcome) (o : Option (Bor leaving.Launched)) → zs ≡ ys
+    → i < length zs → x ≡ slice_index_or zs i x → option_map (λ (l : Bor leaving.Launched). l.now) o ≡ x.launched
     → option_map (λ (l : Bor leaving.Launched). leaves_seen l.now) o ≡ launched_at i (map told_seen ys)
-left_some ys i x o lt is same = lent o ∙ ap (option_map leaves_seen) same ∙ sym (told-some ys i x lt is)
+left_some ys zs i x o all lt is same = lent o ∙ ap (option_map leaves_seen) same ∙ sym (told-some zs i x lt is)
+    ∙ ap (λ (xs : List AppOutcome). launched_at i (map told_seen xs)) all
 
-pub left_none : (ys : List AppOutcome) (i : ℕ) (r : Option (Bor AppOutcome)) → IsItemAt ys i r → r ≡ None
+pub left_none : (ys zs : List AppOutcome) (i : ℕ) (r : Option (Bor AppOutcome)) → zs ≡ ys → IsItemAt zs i r → r ≡ None
     → launched_at i (map told_seen ys) ≡ None
-left_none ys i r item is = ap launched_of
-    (slice_get-map told_seen ys i
-    ∙ ap (option_map told_seen) (slice_get_past ys i (subst (λ q. IsItemAt ys i q) is item).3))
+left_none ys zs i r all item is = ap (λ (xs : List AppOutcome). launched_at i (map told_seen xs)) (sym all)
+    ∙ ap launched_of
+    (slice_get-map told_seen zs i
+    ∙ ap (option_map told_seen) (slice_get_past zs i (subst (λ q. IsItemAt zs i q) is item).3))
+
+-- an application of a job, by its number
+pub app_there : (apps : List App) (i : ℕ) (app : App) → i < length apps → app ≡ slice_index_or apps i app
+    → slice_get apps i ≡ Some app
+app_there apps i app lt is = slice_get_read apps (length apps) i app refl lt is
 
 -- the application of that name, and what it left
 pub named_so : (name : List ℕ) (apps : List App) (told : List AppResult) (i : ℕ) (l : Launched)

@@ -5,7 +5,7 @@ use Rattle.block_store.specs.Rest.{Site}
 use Rattle.res_calls.specs.View.{view_file}
 use Rattle.applications.specs.Trying.{nowhere}
 use Rattle.applications.specs.Elsewhere.{moved}
-use Rattle.desk.specs.declared.phase.Live as declared
+use Rattle.desk.specs.declared.live.Live as declared
 use Rattle.desk.specs.declared.outcome.Launched as leaving
 use Rattle.desk.specs.Outcome.{Launched}
 use Rattle.desk.specs.Phase.{Live, Next, GoesOn, Ends, leaves}
@@ -13,7 +13,7 @@ use Rattle.desk.specs.Phase.{Live, Next, GoesOn, Ends, leaves}
 -- An application that runs, as the code holds it: the place where its memory lies is no part of what it stands for.
 abbrev pub live_seen : {S : Type 0} → declared.Live S → Live
 live_seen live = record {
-  window = live.window;
+  window = live.partition.window;
   steps = live.steps;
   transcript = live.text.items;
   state = moved nowhere live.application;
@@ -33,7 +33,7 @@ leaves_seen l = record {
 abbrev pub HasCome : {S : Type 0} → Bool → Next → Option OsErr → declared.Live S → Type 0
 HasCome asked next None live = next ≡ GoesOn (live_seen live)
 HasCome asked next (Some code) live =
-    next ≡ Ends (leaves asked (live_seen live)) (record { window = live.window; code = code })
+    next ≡ Ends (leaves asked (live_seen live)) (record { window = live.partition.window; code = code })
 
 -- An application leaves what another leaves as it stands.
 abbrev pub LeavesAs : {S : Type 0} → Live → declared.Live S → Type 0
@@ -44,4 +44,4 @@ abbrev pub Lot : Type 0
 Lot = Window × Site
 
 abbrev pub lot_of_live : {S : Type 0} → declared.Live S → Lot
-lot_of_live live = (live.window, live.application.memory.window)
+lot_of_live live = (live.partition.window, live.application.memory.window)

@@ -31,8 +31,8 @@ ghost use Rattle.desk.specs.View.{seen, told_seen};
 use crate::act::Act;
 use crate::departure::Departure;
 use crate::job::App;
+use crate::live::Live;
 use crate::outcome::AppOutcome;
-use crate::phase::Live;
 use crate::preparing::{Ready, prepared};
 use crate::seat::Seat;
 use crate::seats;
@@ -180,7 +180,7 @@ impl<'j, Z: ZoneMaker> Desk<'j, Z> {
                 Err(OsErr::MEM_FULL),
             );
         };
-        let size = live.window.len;
+        let size = live.partition.window.len;
         seats::start_at(&mut self.seats, i, live);
         once_written(write_app_launch(&mut self.log, &app.name, size), Ok(size))
     }
@@ -449,17 +449,17 @@ fn begin<'j, Z: ZoneMaker>(
     requires same { Z.windows zones.old ≡ grants.old.windows }
     requires memory { Z.memory zones.old ≡ grants.old.memory }
     requires few { length grants.old.windows < MOST_WINDOWS }
-    ensures answer { IfOk result (λ o. option_map (λ l. l.window) o
+    ensures answer { IfOk result (λ o. option_map (λ l. l.partition.window) o
         ≡ grant grants.old.memory grants.old.windows ready.sizes.preferred ready.sizes.minimum) }
-    ensures windows { IfOk result (λ o. grants.new.windows ≡ opened (option_map (λ l. l.window) o) grants.old.windows) }
-    ensures live { IfOk result (λ o. IfSome o (λ l. live_seen l ≡ begun ready.resources l.window)) }
-    ensures made { IfOk result (λ o. IfSome o (λ l. Z.made zones.new l.window l.application.memory.window)) }
+    ensures windows { IfOk result (λ o. grants.new.windows ≡ opened (option_map (λ l. l.partition.window) o) grants.old.windows) }
+    ensures live { IfOk result (λ o. IfSome o (λ l. live_seen l ≡ begun ready.resources l.partition.window)) }
+    ensures made { IfOk result (λ o. IfSome o (λ l. Z.made zones.new l.partition.window l.application.memory.window)) }
     ensures err { OnErr result (grants.new.windows ≡ grants.old.windows) }
     ensures size { grants.new.memory ≡ grants.old.memory }
     ensures same { Z.windows zones.new ≡ grants.new.windows }
     ensures memory { Z.memory zones.new ≡ Z.memory zones.old }
     ensures kept { (w : Stretch) (site : Site) → Z.made zones.old w site → Z.made zones.new w site }
-    ensures outside { IfOk result (λ o. (place : ℕ) → IfSome (option_map (λ l. l.window) o) (λ v. IsOutside place v)
+    ensures outside { IfOk result (λ o. (place : ℕ) → IfSome (option_map (λ l. l.partition.window) o) (λ v. IsOutside place v)
         → Z.byte zones.new place ≡ Z.byte zones.old place) }
 {
     let Ready { resources, sizes } = ready;

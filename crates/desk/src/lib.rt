@@ -11,6 +11,7 @@ mod job;
 mod laws;
 mod live;
 mod outcome;
+mod partition;
 mod phase;
 mod preparing;
 mod script;

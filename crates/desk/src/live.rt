@@ -13,7 +13,7 @@ ghost use Rattle.desk.specs.Lying.{zone_of};
 
 use crate::act::Act;
 use crate::outcome::Launched;
-use crate::phase::Live;
+use crate::partition::Partition;
 use applications::{Application, Exit, ends_turn};
 use block_store::BlockStore;
 use mac_words::OsErr;
@@ -21,6 +21,16 @@ use res_calls::Resources;
 use script_text::{END_ROOM, Line, Script, write_end, write_launch};
 use std::alloc::{AllocError, Global};
 use windows::Window;
+
+/// An application that runs in a window of the memory, with the number of steps that it took since its launch.
+pub struct Live<'j, S: BlockStore> {
+    pub(crate) application: Application<'j, S>,
+    pub(crate) partition: Partition,
+    /// The number of steps that the application took.
+    pub(crate) steps: usize,
+    /// The transcript so far.
+    pub(crate) text: Vec<u8>,
+}
 
 impl<'j, S: BlockStore> Live<'j, S> {
     /// Launches an application with the given resources in the store of a fresh zone, which fills the window.
@@ -42,7 +52,7 @@ impl<'j, S: BlockStore> Live<'j, S> {
         requires least { 512 ≤ window.len }
         requires most { window.len ≤ GREATEST_ZONE }
         ensures live { IfOk result (λ live. live_seen live ≡ begun resources window) }
-        ensures window { IfOk result (λ live. live.window ≡ window) }
+        ensures window { IfOk result (λ live. live.partition.window ≡ window) }
         ensures lies { IfOk result (λ live. live.application.memory.window ≡ (S.rest store).window) }
         ensures back { IfErr result (λ back. (S.rest back).window ≡ (S.rest store).window) }
     {
@@ -53,7 +63,7 @@ impl<'j, S: BlockStore> Live<'j, S> {
         let application = Application::launch_with(alloc, store, resources)?;
         Ok(Live {
             application,
-            window,
+            partition: Partition { window },
             steps: 0,
             text,
         })
@@ -66,7 +76,7 @@ impl<'j, S: BlockStore> Live<'j, S> {
             (ends asked (end_by exit (live_seen self.old).state) (live_seen self.old)) (Some code) self.new) }
         ensures stays { OnErr result (LeavesAs (live_seen self.old) self.new) }
         ensures lies { self.new.application.memory.window ≡ self.old.application.memory.window }
-        ensures window { self.new.window ≡ self.old.window }
+        ensures window { self.new.partition ≡ self.old.partition }
     {
         self.text.reserve(END_ROOM)?;
         let code = self.application.end(exit)?;
@@ -83,7 +93,7 @@ impl<'j, S: BlockStore> Live<'j, S> {
         ensures front { OnErr result (Extends self.old.text.items self.new.text.items) }
         ensures files { OnErr result (self.new.application.resources.files ≡ self.old.application.resources.files) }
         ensures lies { self.new.application.memory.window ≡ self.old.application.memory.window }
-        ensures window { self.new.window ≡ self.old.window }
+        ensures window { self.new.partition ≡ self.old.partition }
     {
         self.steps += 1;
         match self.application.step(script, line, &mut self.text)? {
@@ -98,7 +108,7 @@ impl<'j, S: BlockStore> Live<'j, S> {
         ensures front { OnErr result (Extends self.old.text.items self.new.text.items) }
         ensures files { OnErr result (self.new.application.resources.files ≡ self.old.application.resources.files) }
         ensures lies { self.new.application.memory.window ≡ self.old.application.memory.window }
-        ensures window { self.new.window ≡ self.old.window }
+        ensures window { self.new.partition ≡ self.old.partition }
     {
         self.steps = script.steps().len() + 1;
         Ok(Some(self.end(None)?))
@@ -110,7 +120,7 @@ impl<'j, S: BlockStore> Live<'j, S> {
         ensures front { OnErr result (Extends self.old.text.items self.new.text.items) }
         ensures files { OnErr result (self.new.application.resources.files ≡ self.old.application.resources.files) }
         ensures lies { self.new.application.memory.window ≡ self.old.application.memory.window }
-        ensures window { self.new.window ≡ self.old.window }
+        ensures window { self.new.partition ≡ self.old.partition }
     {
         match script.steps().get(self.steps) {
             Some(line) => self.follow(script, line),
@@ -125,7 +135,7 @@ impl<'j, S: BlockStore> Live<'j, S> {
         ensures came { IfOk result (λ end. HasCome false (stepped script.now (live_seen self.old)) end self.new) }
         ensures stays { OnErr result (LeavesAs (live_seen self.old) self.new) }
         ensures lies { self.new.application.memory.window ≡ self.old.application.memory.window }
-        ensures window { self.new.window ≡ self.old.window }
+        ensures window { self.new.partition ≡ self.old.partition }
     {
         let (steps, length) = (self.steps, self.text.len());
         let end = self.take_step(script);
@@ -142,7 +152,7 @@ impl<'j, S: BlockStore> Live<'j, S> {
         ensures within { OnErr result (WithinTurn (λ m. LeavesAs m self.new) (drop self.old.steps script.now.steps)
             script.now (live_seen self.old)) }
         ensures lies { self.new.application.memory.window ≡ self.old.application.memory.window }
-        ensures window { self.new.window ≡ self.old.window }
+        ensures window { self.new.partition ≡ self.old.partition }
     {
         for line in rest_of(script, self.steps) {
             let end = self.step(script)?;
@@ -158,7 +168,7 @@ impl<'j, S: BlockStore> Live<'j, S> {
         ensures came { IfOk result (λ end. HasCome true (quitted (live_seen self.old)) end self.new) }
         ensures stays { OnErr result (LeavesAs (live_seen self.old) self.new) }
         ensures lies { self.new.application.memory.window ≡ self.old.application.memory.window }
-        ensures window { self.new.window ≡ self.old.window }
+        ensures window { self.new.partition ≡ self.old.partition }
     {
         Ok(Some(self.end(None)?))
     }
@@ -173,7 +183,7 @@ impl<'j, S: BlockStore> Live<'j, S> {
         ensures came { IfOk result (λ end. HasCome (is_quit act) (acted act script.now (live_seen self.old)) end self.new) }
         ensures within { OnErr result (WithinAct (λ m. LeavesAs m self.new) act script.now (live_seen self.old)) }
         ensures lies { self.new.application.memory.window ≡ self.old.application.memory.window }
-        ensures window { self.new.window ≡ self.old.window }
+        ensures window { self.new.partition ≡ self.old.partition }
     {
         match act {
             Act::Step => self.step(script),
@@ -191,19 +201,19 @@ impl<'j, S: BlockStore> Live<'j, S> {
     {
         let Live {
             application,
-            window,
+            partition,
             steps,
             text,
         } = self;
         let (store, files) = application.into_parts();
         let launched = Launched {
-            size: window.len,
+            size: partition.window.len,
             steps,
             asked,
             transcript: text,
             files,
         };
-        (launched, window, store)
+        (launched, partition.window, store)
     }
 }
 

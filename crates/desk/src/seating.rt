@@ -13,8 +13,9 @@ ghost use Rattle.desk.specs.View.{place_seen, phase_seen, is_waiting, lot_of, le
 use crate::act::Act;
 use crate::departure::Departure;
 use crate::job::App;
+use crate::live::Live;
 use crate::outcome::Launched;
-use crate::phase::{Live, Phase};
+use crate::phase::Phase;
 use crate::seat::Seat;
 use block_store::BlockStore;
 use core::mem::replace_with;
@@ -84,7 +85,7 @@ fn go_on<'j, S: BlockStore>(
     ensures lot { IfOk result.1 (λ d. IfSome d (λ d. lot_of_live live.entry ≡ (d.window, (S.rest d.store).window))) }
     ensures fewer { (lot_of result.0 ≡ None) ⊎ (lot_of result.0 ≡ Some (lot_of_live live.entry)) }
     ensures held { (start : Result Opened Code) → OnErr result.1
-        (window_of (phase_seen start result.0) ≡ Some live.entry.window) }
+        (window_of (phase_seen start result.0) ≡ Some live.entry.partition.window) }
     ensures within { (start : Result Opened Code) → OnErr result.1
         (WithinAct (λ m. told_of (Running m) ≡ told_of (phase_seen start result.0)) act app.now.script
         (live_seen live.entry)) }

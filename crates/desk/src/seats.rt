@@ -18,8 +18,9 @@ ghost use Rattle.desk.specs.View.{place_seen, seen, lot_of, lots, left_of, told_
 use crate::act::Act;
 use crate::departure::Departure;
 use crate::job::App;
+use crate::live::Live;
 use crate::outcome::AppOutcome;
-use crate::phase::{Live, Phase};
+use crate::phase::Phase;
 use crate::seat::Seat;
 use crate::seating;
 use block_store::BlockStore;

@@ -1,3 +1,4 @@
 pub mod Entering
 pub mod Numbered
 pub mod Forms
+mod Rows

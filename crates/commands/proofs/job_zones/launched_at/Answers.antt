@@ -1,12 +1,13 @@
-use Rattle.std.proofs.Common.{◌≡◌, ◌∙◌, rules, Option, option_map, sym, None}
+use Rattle.std.proofs.Common.{rules, sym}
 use Rattle.commands.proofs.JobZones.{left_some, left_none}
 use Rattle.commands.proofs.job_zones.launched_at.Goals as goal
 
 pub returns-in-Some : goal.returns-in-Some
 returns-in-Some c =
-    left_some c.deref.result.now c.args.number c.in-Some.app.now c.as_ref.result c.in-Some.ensures.lookup.3.0
-    c.in-Some.ensures.lookup.1 (search rules)
+    left_some c.args.outcome.now.apps.items c.deref.result.now c.args.number c.in-Some.app.now c.as_ref.result
+    c.deref.ensures.value c.in-Some.ensures.lookup.3.0 c.in-Some.ensures.lookup.1 (search rules)
 
 pub returns-in-None : goal.returns-in-None
 returns-in-None c =
-    sym (left_none c.deref.result.now c.args.number c.get.result c.get.ensures.lookup c.in-None.is)
+    sym (left_none c.args.outcome.now.apps.items c.deref.result.now c.args.number c.get.result c.deref.ensures.value
+    c.get.ensures.lookup c.in-None.is)

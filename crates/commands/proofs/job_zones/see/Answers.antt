@@ -25,8 +25,8 @@ returns-in_err-job-clause-unseen g c =
     let h = c.in_err-job.ensures.given in
     told_err _ _ _ same (ungathered_zone c.args.asked stated h.0 _ _ _ _ c.in_ok-bytes.ensures.read h.1 h.2)
 
-pub returns-in-Err-clause-unseen : goal.returns-in-Err-clause-unseen
-returns-in-Err-clause-unseen g c =
+pub returns-clause-unseen : goal.returns-clause-unseen
+returns-clause-unseen g c =
     let states : job_of c.in_ok-bytes.bytes.items ≡ Ok (job_seen c.in_ok-text.text) = search rules in
     let system : c.system_path-system.result.now ≡ system_path (map input_seen c.in_ok-text.text.inputs.items) =
     search rules in

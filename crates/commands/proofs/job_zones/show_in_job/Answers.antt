@@ -1,9 +1,8 @@
 use Rattle.std.proofs.Common.{◌≡◌, Err, refl, rules}
 use Rattle.commands.specs.JobZones.{Unseen}
 use Rattle.commands.proofs.Accesses.{told_err}
-use Rattle.commands.proofs.Faults.{quiet_silent}
+use Rattle.commands.proofs.Faults.{quiet_silent, loud_write}
 use Rattle.commands.proofs.JobZones.{shows, unprinted}
-use Rattle.commands.proofs.OneFile.{quiet_undelivered}
 use Rattle.commands.proofs.job_zones.show_in_job.Goals as goal
 
 pub returns-in_err-text-clause-undone : goal.returns-in_err-text-clause-undone
@@ -25,7 +24,7 @@ returns-in_err-deliver-clause-undone g c =
 pub returns-in_err-deliver-clause-quiet : goal.returns-in_err-deliver-clause-quiet
 returns-in_err-deliver-clause-quiet g c =
     let same : c.from_residual-in_err-deliver.result ≡ Err c.in_err-deliver.field-0.0 = search rules in
-    told_err _ _ _ same (quiet_undelivered _ _ _ _ _ _ _ _ c.in_err-deliver.ensures.undelivered)
+    told_err _ _ _ same (loud_write _ _ _ _ c.in_err-deliver.ensures.undelivered.2)
 
 pub returns-clause-done : goal.returns-clause-done
 returns-clause-done g c = (

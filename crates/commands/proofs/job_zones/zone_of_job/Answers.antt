@@ -1,4 +1,4 @@
-use Rattle.std.proofs.Common.{◌≡◌, Err, inl, inr, rules}
+use Rattle.std.proofs.Common.{◌≡◌, Err, inl, rules}
 use Rattle.desk.specs.View.{outcome_seen}
 use Rattle.commands.proofs.Accesses.{told_err}
 use Rattle.commands.proofs.job_zones.zone_of_job.Goals as goal
@@ -19,12 +19,4 @@ returns-in-Ok-clause-zone c = (
   c.if-outcome.false,
   c.in_ok-outcome.ensures.outcome,
   c.in-Ok.ensures.zone,
-)
-
-pub returns-in-Err-clause-fault : goal.returns-in-Err-clause-fault
-returns-in-Err-clause-fault c = inr (
-  outcome_seen c.in_ok-outcome.outcome,
-  c.if-outcome.false,
-  c.in_ok-outcome.ensures.outcome,
-  c.in-Err.ensures.fault,
 )

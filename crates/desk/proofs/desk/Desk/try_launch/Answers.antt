@@ -77,7 +77,7 @@ invariant_of-self-in_default-begun g c = (
       (g.Z.ZoneMaker.windows c.self.inside.zones) c.self.inside.grants.windows (g.Z.ZoneMaker.windows c.begin.new.zones)
       c.begin.new.grants.windows (seen c.self.inside.seats.items) (lots c.self.inside.seats.items) c.begin.ensures.kept
       c.begin.ensures.same
-      (not-opened (λ l. l.window) c.in_ok-begun.begun c.self.inside.grants.windows c.begin.new.grants.windows
+      (not-opened (λ l. l.partition.window) c.in_ok-begun.begun c.self.inside.grants.windows c.begin.new.grants.windows
       c.in_default-begun.is c.in_ok-begun.ensures.windows)
       c.self.invariant.0,
   c.begin.ensures.memory ∙ c.self.invariant.1 ∙ sym c.begin.ensures.size,
@@ -103,9 +103,9 @@ returns-in_default-begun-clause-ok g c =
     (λ h. launched-full c.args.i s p here c.in-Ok.ready.resources (sizes_seen c.in-Ok.ready.sizes)
     c.begin.new.grants.memory c.begin.new.grants.windows s.places
     c.write_app_refusal-in_default-begun.new.text.items c.in-Ok.ensures.answer c.in-Ok.ensures.sizes
-    (sym (ap (option_map (λ l. l.window)) c.in_default-begun.is) ∙ c.in_ok-begun.ensures.answer)
+    (sym (ap (option_map (λ l. l.partition.window)) c.in_default-begun.is) ∙ c.in_ok-begun.ensures.answer)
     c.begin.ensures.size
-    (not-opened (λ l. l.window) c.in_ok-begun.begun c.self.inside.grants.windows c.begin.new.grants.windows
+    (not-opened (λ l. l.partition.window) c.in_ok-begun.begun c.self.inside.grants.windows c.begin.new.grants.windows
     c.in_default-begun.is c.in_ok-begun.ensures.windows)
     refl MEM_FULL refl (h ∙ ap (λ (t : List ℕ). t ++ refusal_of c.seat.inside.app.now.name.0.items MEM_FULL.0) c.reserve.ensures.items
     ∙ ap (λ (n : List ℕ). s.log ++ refusal_of n MEM_FULL.0) name)
@@ -136,7 +136,7 @@ invariant_of-self-2 g c =
           (lots c.start_at.new.seats.items) c.begin.ensures.kept
           (at-some c.in_ok-begun.begun live _ c.in-Some-begun.is c.in_ok-begun.ensures.made) here
           (waits_ready p.phase c.in-Ok.ready.resources c.in-Ok.ensures.answer) c.begin.ensures.same
-          (is-opened (λ l. l.window) c.in_ok-begun.begun live c.self.inside.grants.windows c.begin.new.grants.windows
+          (is-opened (λ l. l.partition.window) c.in_ok-begun.begun live c.self.inside.grants.windows c.begin.new.grants.windows
           c.in-Some-begun.is c.in_ok-begun.ensures.windows)
           (at-some (slice_get (seen c.self.inside.seats.items) c.args.i) p _ here c.start_at.ensures.places)
           c.start_at.ensures.lots c.self.invariant.0,
@@ -160,20 +160,20 @@ returns-clause-ok g c =
     c.deref.result.now c.args.i c.in-Some.seat.now c.deref.ensures.value c.in-Some.ensures.lookup.3.0
     c.in-Some.ensures.lookup.1 in
     let name = ap (λ (x : Placed g.row.Z-Store.Denot). x.app.now.name.0.items) c.seat.view_is in
-    let first : live_seen live ≡ begun c.in-Ok.ready.resources live.window = at-some c.in_ok-begun.begun live
-    (λ l. live_seen l ≡ begun c.in-Ok.ready.resources l.window) c.in-Some-begun.is c.in_ok-begun.ensures.live in
+    let first : live_seen live ≡ begun c.in-Ok.ready.resources live.partition.window = at-some c.in_ok-begun.begun live
+    (λ l. live_seen l ≡ begun c.in-Ok.ready.resources l.partition.window) c.in-Some-begun.is c.in_ok-begun.ensures.live in
     through c.once_written-2.result c.write_app_launch.result _ c.once_written-2.ensures.written (on_ok_weaker c.write_app_launch.result
-    (λ h. launched-begins c.args.i s p here c.in-Ok.ready.resources (sizes_seen c.in-Ok.ready.sizes) live.window
+    (λ h. launched-begins c.args.i s p here c.in-Ok.ready.resources (sizes_seen c.in-Ok.ready.sizes) live.partition.window
     c.begin.new.grants.memory c.begin.new.grants.windows (seen c.start_at.new.seats.items)
     c.write_app_launch.new.text.items c.in-Ok.ensures.answer c.in-Ok.ensures.sizes
-    (sym (ap (option_map (λ l. l.window)) c.in-Some-begun.is) ∙ c.in_ok-begun.ensures.answer)
+    (sym (ap (option_map (λ l. l.partition.window)) c.in-Some-begun.is) ∙ c.in_ok-begun.ensures.answer)
     c.begin.ensures.size
-    (is-opened (λ l. l.window) c.in_ok-begun.begun live c.self.inside.grants.windows c.begin.new.grants.windows
+    (is-opened (λ l. l.partition.window) c.in_ok-begun.begun live c.self.inside.grants.windows c.begin.new.grants.windows
     c.in-Some-begun.is c.in_ok-begun.ensures.windows)
     (at-some (slice_get (seen c.self.inside.seats.items) c.args.i) p _ here c.start_at.ensures.places
     ∙ ap (λ (l : Live). slice_set s.places c.args.i (record p { phase = Running l })) first)
-    (h ∙ ap (λ (t : List ℕ). t ++ launch_of c.seat.inside.app.now.name.0.items live.window.len) c.reserve.ensures.items
-    ∙ ap (λ (n : List ℕ). s.log ++ launch_of n live.window.len) name)
+    (h ∙ ap (λ (t : List ℕ). t ++ launch_of c.seat.inside.app.now.name.0.items live.partition.window.len) c.reserve.ensures.items
+    ∙ ap (λ (n : List ℕ). s.log ++ launch_of n live.partition.window.len) name)
     ∙ ap (λ (d : DeskSeen _). launched_at c.args.i d.state) c.self.view_is)
     c.write_app_launch.ensures.line)
 
@@ -202,7 +202,7 @@ pub returns-in_default-begun-clause-outside : goal.returns-in_default-begun-clau
 returns-in_default-begun-clause-outside g c =
     through c.once_written-in_default-begun.result c.write_app_refusal-in_default-begun.result _ c.once_written-in_default-begun.ensures.written (on_ok_weaker c.write_app_refusal-in_default-begun.result
     (λ h place f. c.in_ok-begun.ensures.outside place
-    (out-opened place (option_map (λ l. l.window) c.in_ok-begun.begun) c.self.inside.grants.windows
+    (out-opened place (option_map (λ l. l.partition.window) c.in_ok-begun.begun) c.self.inside.grants.windows
     c.begin.new.grants.windows c.in_ok-begun.ensures.windows f)
     ∙ ap (λ (d : DeskSeen _). g.Z.ZoneMaker.byte d.zones place) c.self.view_is)
     c.write_app_refusal-in_default-begun.ensures.line)
@@ -211,7 +211,7 @@ pub returns-clause-outside : goal.returns-clause-outside
 returns-clause-outside g c =
     through c.once_written-2.result c.write_app_launch.result _ c.once_written-2.ensures.written (on_ok_weaker c.write_app_launch.result
     (λ h place f. c.in_ok-begun.ensures.outside place
-    (out-opened place (option_map (λ l. l.window) c.in_ok-begun.begun) c.self.inside.grants.windows
+    (out-opened place (option_map (λ l. l.partition.window) c.in_ok-begun.begun) c.self.inside.grants.windows
     c.begin.new.grants.windows c.in_ok-begun.ensures.windows f)
     ∙ ap (λ (d : DeskSeen _). g.Z.ZoneMaker.byte d.zones place) c.self.view_is)
     c.write_app_launch.ensures.line)
@@ -257,7 +257,7 @@ returns-in_default-begun-clause-answer g c =
     IfOk-weaker c.once_written-in_default-begun.result _ _
     (λ told h. h ∙ replied-begun c.args.i s p here c.in-Ok.ready.resources (sizes_seen c.in-Ok.ready.sizes) None
     c.in-Ok.ensures.answer c.in-Ok.ensures.sizes
-    (sym (ap (option_map (λ l. l.window)) c.in_default-begun.is) ∙ c.in_ok-begun.ensures.answer)
+    (sym (ap (option_map (λ l. l.partition.window)) c.in_default-begun.is) ∙ c.in_ok-begun.ensures.answer)
     ∙ ap (λ (d : DeskSeen _). reply_at c.args.i d.state) c.self.view_is)
     c.once_written-in_default-begun.ensures.reply
 
@@ -276,8 +276,8 @@ returns-clause-answer g c =
     c.in-Some.ensures.lookup.1 in
     IfOk-weaker c.once_written-2.result _ _
     (λ told h. h ∙ replied-begun c.args.i s p here c.in-Ok.ready.resources (sizes_seen c.in-Ok.ready.sizes)
-    (Some live.window) c.in-Ok.ensures.answer c.in-Ok.ensures.sizes
-    (sym (ap (option_map (λ l. l.window)) c.in-Some-begun.is) ∙ c.in_ok-begun.ensures.answer)
+    (Some live.partition.window) c.in-Ok.ensures.answer c.in-Ok.ensures.sizes
+    (sym (ap (option_map (λ l. l.partition.window)) c.in-Some-begun.is) ∙ c.in_ok-begun.ensures.answer)
     ∙ ap (λ (d : DeskSeen _). reply_at c.args.i d.state) c.self.view_is)
     c.once_written-2.ensures.reply
 
@@ -315,7 +315,7 @@ returns-in_default-begun-clause-host g c =
       places = seen c.self.inside.seats.items;
       log = c.self.inside.log.items;
     } in
-    let windows = not-opened (λ l. l.window) c.in_ok-begun.begun c.self.inside.grants.windows c.begin.new.grants.windows
+    let windows = not-opened (λ l. l.partition.window) c.in_ok-begun.begun c.self.inside.grants.windows c.begin.new.grants.windows
     c.in_default-begun.is c.in_ok-begun.ensures.windows in
     rw (← c.self.view_is) (failed_so c.once_written-in_default-begun.result c.write_app_refusal-in_default-begun.result _
     c.once_written-in_default-begun.ensures.failed

@@ -4,13 +4,13 @@ use Rattle.applications.specs.Trying.{nowhere}
 use Rattle.applications.specs.Alone.{quits}
 use Rattle.applications.specs.Elsewhere.{moved}
 use Rattle.desk.specs.Phase.{Live, ends}
-use Rattle.desk.proofs.phase.Live.run_out.Goals as goal
+use Rattle.desk.proofs.live.Live.run_out.Goals as goal
 
 pub returns-clause-came : goal.returns-clause-came
 returns-clause-came g c =
     let s = c.args.self.now in
     ap (λ (lines : List Line). ends false (quits (moved nowhere s.application)) (let live : Live = record {
-      window = s.window;
+      window = s.partition.window;
       steps = length lines + 1;
       transcript = s.text.items;
       state = moved nowhere s.application;

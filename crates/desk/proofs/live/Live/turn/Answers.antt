@@ -4,7 +4,7 @@ use Rattle.desk.specs.Live.{live_seen}
 use Rattle.desk.specs.Outcome.{Launched}
 use Rattle.desk.specs.Phase.{leaves}
 use Rattle.desk.proofs.Halting.{turn_halts, on_any_err}
-use Rattle.desk.proofs.phase.Live.turn.Goals as goal
+use Rattle.desk.proofs.live.Live.turn.Goals as goal
 
 pub returns-in_err-end-clause-within : goal.returns-in_err-end-clause-within
 returns-in_err-end-clause-within g c =

@@ -1,5 +1,5 @@
 use Rattle.std.proofs.Common.{true}
-use Rattle.desk.proofs.phase.Live.quit.Goals as goal
+use Rattle.desk.proofs.live.Live.quit.Goals as goal
 
 pub returns-clause-came : goal.returns-clause-came
 returns-clause-came g c = c.in_ok-end.ensures.came true

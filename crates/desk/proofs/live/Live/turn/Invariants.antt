@@ -3,12 +3,12 @@ use Rattle.desk.specs.Live.{live_seen}
 use Rattle.desk.specs.Halting.{WithinTurn}
 use Rattle.desk.specs.Outcome.{Launched}
 use Rattle.desk.specs.Phase.{leaves, turned, turn_through}
-use Rattle.desk.proofs.phase.Live.turn.Given as goal
+use Rattle.desk.proofs.live.Live.turn.Given as goal
 
 -- the turn goes on where it stands, through the lines that are left
 abbrev pub invariant-loop-line : goal.invariant-loop-line
 invariant-loop-line g l = record {
-  window : l.self.window ≡ l.fn.self.window;
+  partition : l.self.partition ≡ l.fn.self.partition;
   lies : l.self.application.memory.window ≡ l.fn.self.application.memory.window;
   within : (x : Launched) → WithinTurn (λ m. leaves false m ≡ x) (drop l.line-index l.line-items) l.script (live_seen l.self)
       → WithinTurn (λ m. leaves false m ≡ x) (drop l.fn.self.steps l.script.steps) l.script (live_seen l.fn.self);

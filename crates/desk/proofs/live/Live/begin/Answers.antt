@@ -1,7 +1,7 @@
 use Rattle.std.proofs.Common.{◌++◌, ◌∙◌, ℕ, List, ap}
 use Rattle.script_text.specs.Transcript.{launch_line}
 use Rattle.desk.proofs.Coming.{launched_there, lies_there}
-use Rattle.desk.proofs.phase.Live.begin.Goals as goal
+use Rattle.desk.proofs.live.Live.begin.Goals as goal
 
 pub returns-clause-live : goal.returns-clause-live
 returns-clause-live g c = launched_there c.args.resources c.args.window
