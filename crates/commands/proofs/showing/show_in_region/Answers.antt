@@ -9,7 +9,7 @@ use Rattle.commands.proofs.showing.show_in_region.Goals as goal
 
 -- the zone is fresh, and fills the region
 pub show_behind-shown-requires-clause-zone : goal.show_behind-shown-requires-clause-zone
-show_behind-shown-requires-clause-zone g c =
+show_behind-shown-requires-clause-zone c =
     let low = c.requires.low in
     let long : length c.cut.result.bytes ≡ length c.args.region.bytes = c.cut.ensures.part_length ∙ c.len-len.ensures in
     let whole : sizes (zone_of c.new-zone.result) ≡ length c.cut.result.bytes =
@@ -18,7 +18,7 @@ show_behind-shown-requires-clause-zone g c =
 
 -- the window of the zone's part is out
 pub join-requires-clause-out : goal.join-requires-clause-out
-join-requires-clause-out g c =
+join-requires-clause-out c =
     let site = c.show_behind-shown.ensures.window ∙ c.new-zone.ensures.window in
     whole_there c.into_part.result.at (length c.into_part.result.bytes) c.args.region.out c.cut.new.self.out _ _
     c.requires.home c.cut.ensures.out
@@ -27,7 +27,7 @@ join-requires-clause-out g c =
     ∙ c.cut.ensures.part_length)
 
 pub returns-clause-shown : goal.returns-clause-shown
-returns-clause-shown g c =
+returns-clause-shown c =
     let low = c.requires.low in
     let long : length c.cut.result.bytes ≡ length c.args.region.bytes = c.cut.ensures.part_length ∙ c.len-len.ensures in
     let whole : sizes (zone_of c.new-zone.result) ≡ length c.args.region.bytes =
@@ -37,7 +37,7 @@ returns-clause-shown g c =
     c.show_behind-shown.ensures.shown
 
 pub returns-clause-home : goal.returns-clause-home
-returns-clause-home g c =
+returns-clause-home c =
     let site = c.show_behind-shown.ensures.window ∙ c.new-zone.ensures.window in
     whole_home c.into_part.result.at (length c.into_part.result.bytes) c.args.region.out c.cut.new.self.out
     c.join.new.self.out _ _ c.requires.home c.cut.ensures.out
