@@ -48,9 +48,9 @@ pub struct BlockLine<'a> {
 
 /// A moment of a zone, as it is shown beside others.
 #[derive(Clone, Copy, Debug)]
-pub struct Moment<'a> {
+pub struct Moment<'a, 'n> {
     /// The words for the moment, of which the first 33 bytes are shown.
     pub caption: &'a [u8],
     /// The blocks of the zone, lowest first.
-    pub lines: &'a [BlockLine<'a>],
+    pub lines: &'a [BlockLine<'n>],
 }

@@ -168,8 +168,8 @@ fn push_moved_from(
     alloc: Global,
     text: &mut Vec<u8>,
     size: u128,
-    before: Option<&Moment<'_>>,
-    moment: &Moment<'_>,
+    before: Option<&Moment<'_, '_>>,
+    moment: &Moment<'_, '_>,
 ) -> Result<(), AllocError>
     requires { size < 2 ^ 96 }
     ensures { OnOk result (text.new.items ≡ text.old.items
@@ -217,8 +217,8 @@ fn push_moment(
     text: &mut Vec<u8>,
     size: u128,
     index: usize,
-    before: Option<&Moment<'_>>,
-    moment: &Moment<'_>,
+    before: Option<&Moment<'_, '_>>,
+    moment: &Moment<'_, '_>,
 ) -> Result<(), AllocError>
     requires { size < 2 ^ 96 }
     ensures { OnOk result (text.new.items ≡ text.old.items
@@ -237,7 +237,7 @@ fn push_moments(
     alloc: Global,
     text: &mut Vec<u8>,
     size: u128,
-    moments: &[Moment<'_>],
+    moments: &[Moment<'_, '_>],
 ) -> Result<(), AllocError>
     requires { size < 2 ^ 96 }
     ensures { OnOk result (text.new.items
@@ -252,7 +252,7 @@ fn push_moments(
 }
 
 /// Returns the number of bytes of the zone at the moment when it is largest.
-fn greatest_size(moments: &[Moment<'_>]) -> u128
+fn greatest_size(moments: &[Moment<'_, '_>]) -> u128
     ensures greatest { result ≡ greatest_size (map view_moment moments.now) }
     ensures small { result < 2 ^ 96 }
 {
@@ -303,7 +303,7 @@ fn write_steps_by(
     alloc: Global,
     text: &mut Vec<u8>,
     size: u128,
-    moments: &[Moment<'_>],
+    moments: &[Moment<'_, '_>],
 ) -> Result<(), AllocError>
     requires { size < 2 ^ 96 }
     ensures { OnOk result (text.new.items ≡ text.old.items ++ steps_svg_by size (map view_moment moments.now)) }
@@ -323,7 +323,7 @@ fn write_steps_by(
 pub fn write_steps_svg(
     alloc: Global,
     text: &mut Vec<u8>,
-    moments: &[Moment<'_>],
+    moments: &[Moment<'_, '_>],
 ) -> Result<(), AllocError>
     ensures { OnOk result (text.new.items ≡ text.old.items ++ steps_svg (map view_moment moments.now)) }
 {
