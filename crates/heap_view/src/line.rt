@@ -38,8 +38,19 @@ pub struct BlockLine<'a> {
     /// The physical size in bytes, header included.
     pub size: u32,
     pub shape: Shape,
+    /// The slot of the master pointer, for a relocatable block.
+    pub slot: Option<u32>,
     /// The logical size in bytes; 0 for a block that has no content of its own.
     pub bytes: u32,
     /// What is known of the block's handle or pointer.
     pub tag: Tag<'a>,
+}
+
+/// A moment of a zone, as it is shown beside others.
+#[derive(Clone, Copy, Debug)]
+pub struct Moment<'a, 'n> {
+    /// The words for the moment, of which the first 33 bytes are shown.
+    pub caption: &'a [u8],
+    /// The blocks of the zone, lowest first.
+    pub lines: &'a [BlockLine<'n>],
 }
