@@ -34,7 +34,7 @@ largest-parted = refl
 
 -- what is known of the blocks of `marked`
 abbrev nothing_known : Known
-nothing_known = record { handle = λ slot. no_tag; pointer = λ place. record { name = Some (codes "p"); owner = None } }
+nothing_known = record { handle = λ slot. no_tag; pointer = λ place. record { name = Some (codes "p"); owner = None; number = None } }
 
 abbrev shown : List Line
 shown = lines nothing_known 0 (map seen marked)
@@ -60,11 +60,11 @@ held = record {
   place = 320;
   size = 128;
   shape = shape.Relocatable (record { locked = true; purgeable = false });
-  slot = Some 3;
   bytes = 100;
   tag = record {
     name = Some (codes "a");
     owner = Some (record { kind = 1398029374; id = pos 7; file = 2 });
+    number = None;
   };
 }
 

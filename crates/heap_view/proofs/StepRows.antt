@@ -1,23 +1,26 @@
 -- Worked moments of a zone, by computation.
-use Rattle.std.proofs.Common.{◌≡◌, List, [], ◌∷◌, Some, None, refl, codes}
+use Rattle.std.proofs.Common.{◌≡◌, ℕ, List, [], ◌∷◌, Some, None, refl, codes}
 use Rattle.std.specs.Fmt.{digits}
 use Rattle.block_store.specs.Block.{no_flags}
 use Rattle.block_store.specs.declared.sparing.Seen.TheVariants as see
-use Rattle.heap_view.specs.Line.{Known, Line, lines, no_tag}
+use Rattle.heap_view.specs.Line.{Known, Line, Tag, lines, no_tag}
 use Rattle.heap_view.specs.Steps.{arrow, arrow_of, arrows, extent_of, greatest_size, moment_caption}
 use Rattle.heap_view.specs.Svg.{line_sizes}
 
-abbrev nothing_known : Known
-nothing_known = record { handle = λ slot. no_tag; pointer = λ place. no_tag }
+abbrev numbered : ℕ → Tag
+numbered n = record { name = None; owner = None; number = Some n }
 
--- blocks of the slots 0, 1 and 2, one above the other
+abbrev handles : Known
+handles = record { handle = numbered; pointer = λ place. no_tag }
+
+-- blocks of the handles 0, 1 and 2, one above the other
 abbrev upper : List Line
-upper = lines nothing_known 0 (see.Masters ∷ see.Relocatable 0 no_flags 100 ∷ see.Relocatable 1 no_flags 100
+upper = lines handles 0 (see.Masters ∷ see.Relocatable 0 no_flags 100 ∷ see.Relocatable 1 no_flags 100
     ∷ see.Relocatable 2 no_flags 100 ∷ see.Free 368 ∷ [])
 
--- the block of slot 0 was purged, that of slot 1 stayed, that of slot 2 moved upward, and that of slot 3 was made
+-- the block of handle 0 was purged, that of handle 1 stayed, that of handle 2 moved upward, and that of handle 3 was made
 abbrev lower : List Line
-lower = lines nothing_known 0 (see.Masters ∷ see.Free 128 ∷ see.Relocatable 1 no_flags 100 ∷ see.Free 128
+lower = lines handles 0 (see.Masters ∷ see.Free 128 ∷ see.Relocatable 1 no_flags 100 ∷ see.Free 128
     ∷ see.Relocatable 2 no_flags 100 ∷ see.Relocatable 3 no_flags 100 ∷ see.Free 112 ∷ [])
 
 whole-zones : (line_sizes upper ≡ 1024) × (line_sizes lower ≡ 1024)
@@ -35,7 +38,7 @@ arrow-moved : arrow_of 1024 (extent_of lower) (record { place = 528; size = 128 
 unfolding arrow digits
 arrow-moved = refl
 
--- none for a block that stayed, that was purged, or that has no master pointer
+-- none for a block that stayed, that was purged, or that is not known again
 arrow-none : (arrow_of 1024 (extent_of lower) (record { place = 400; size = 128 }) (Some 1) ≡ [])
     × (arrow_of 1024 (extent_of lower) (record { place = 272; size = 128 }) (Some 0) ≡ [])
     × (arrow_of 1024 (extent_of lower) (record { place = 0; size = 272 }) None ≡ [])

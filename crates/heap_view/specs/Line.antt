@@ -1,4 +1,4 @@
-use Rattle.std.specs.Prelude.{ℕ, ◌+◌, Option, Some, None, List, [], ◌∷◌}
+use Rattle.std.specs.Prelude.{ℕ, ◌+◌, Option, None, List, [], ◌∷◌}
 use Rattle.block_store.specs.Walk.{seen_size}
 use Rattle.block_store.specs.declared.sparing.Seen.{Seen}
 use Rattle.block_store.specs.declared.sparing.Seen.TheVariants as see
@@ -8,42 +8,36 @@ use Rattle.heap_view.specs.declared.line.Shape.TheVariants as shape
 
 -- The blocks of a zone as they are shown. Inside Macintosh: Memory, chapter 2, "Heap Zones" and "Blocks".
 
--- What is known of a handle or a pointer: the name that a script has for it, and the resource that the handle is of.
+-- What is known of a handle or a pointer: the name that a script has for it, the resource that the handle is of, and its
+-- number, by which its block is known again at another moment.
 pub record Tag : Type 0 where
   pub name : Option (List ℕ)
   pub owner : Option Owner
+  pub number : Option ℕ
 
 -- What is known of the handles and of the pointers of a zone.
 pub record Known : Type 0 where
   pub handle : ℕ → Tag
   pub pointer : ℕ → Tag
 
--- A block as it is shown: its distance from the bottom of the zone and its physical size, in bytes; what it is; the slot
--- of its master pointer, if it has one; its logical size, 0 where it has no content; and what is known of its handle or
--- pointer.
+-- A block as it is shown: its distance from the bottom of the zone and its physical size, in bytes; what it is; its
+-- logical size, 0 where it has no content; and what is known of its handle or pointer.
 pub record Line : Type 0 where
   pub place : ℕ
   pub size : ℕ
   pub shape : Shape
-  pub slot : Option ℕ
   pub bytes : ℕ
   pub tag : Tag
 
 abbrev pub no_tag : Tag
-no_tag = record { name = None; owner = None }
+no_tag = record { name = None; owner = None; number = None }
 
--- What a block is, the slot of its master pointer, and its logical size.
+-- What a block is, and its logical size.
 abbrev pub shape_of : Seen → Shape
 shape_of (see.Free n) = shape.Free
 shape_of (see.Nonrelocatable n) = shape.Nonrelocatable
 shape_of see.Masters = shape.Masters
 shape_of (see.Relocatable id flags n) = shape.Relocatable flags
-
-abbrev pub slot_of : Seen → Option ℕ
-slot_of (see.Free n) = None
-slot_of (see.Nonrelocatable n) = None
-slot_of see.Masters = None
-slot_of (see.Relocatable id flags n) = Some id
 
 abbrev pub logical : Seen → ℕ
 logical (see.Free n) = 0
@@ -69,7 +63,6 @@ line known place b = record {
   place = place;
   size = seen_size b;
   shape = shape_of b;
-  slot = slot_of b;
   bytes = logical b;
   tag = tag_of known place b;
 }

@@ -7,9 +7,9 @@ use Rattle.heap_view.specs.Line.{Line}
 use Rattle.heap_view.specs.Svg.{attribute, escaped, line_sizes, scale, strip, svg_legend, svg_opened, svg_style}
 
 -- Moments of one zone as a picture, in SVG: a strip for each moment, one below the other and in one scale, with the words
--- for the moment at its left; and between two strips an arrow for each relocatable block that is in both, and begins at
--- another place in the lower one. The arrow goes from the middle of the block in the upper strip to its middle in the
--- lower one. A block is the same where its master pointer is.
+-- for the moment at its left; and between two strips an arrow for each block that is in both, and begins at another place
+-- in the lower one. The arrow goes from the middle of the block in the upper strip to its middle in the lower one. A block
+-- is known again by the number of its handle or pointer.
 
 -- A moment of a zone: the words for it, and the blocks.
 pub record Moment : Type 0 where
@@ -20,17 +20,17 @@ pub record Moment : Type 0 where
 abbrev pub extent : Line → Extent
 extent l = record { place = l.place; size = l.size }
 
--- The block is that of the master pointer with this slot.
-abbrev pub has_slot : ℕ → Option ℕ → Bool
-has_slot slot None = false
-has_slot slot (Some s) = s == slot
+-- The block is that of the handle or pointer with this number.
+abbrev pub has_number : ℕ → Option ℕ → Bool
+has_number number None = false
+has_number number (Some n) = n == number
 
 abbrev pub is_of : ℕ → Line → Bool
-is_of slot l = has_slot slot l.slot
+is_of number l = has_number number l.tag.number
 
--- Where the block of a master pointer stands, if the zone has one.
+-- Where the block of a handle or a pointer stands, if the zone has one.
 abbrev pub extent_of : List Line → ℕ → Option Extent
-extent_of lines slot = option_map extent (find (is_of slot) lines)
+extent_of lines number = option_map extent (find (is_of number) lines)
 
 -- The middle of a block, in a strip that is 948 wide for this many bytes.
 abbrev pub middle : ℕ → Extent → ℕ
@@ -46,14 +46,15 @@ abbrev pub arrow_to : ℕ → Extent → Option Extent → List ℕ
 arrow_to size upper None = []
 arrow_to size upper (Some lower) = if upper.place == lower.place then [] else arrow size upper lower
 
--- The arrow of a block that may have a master pointer; `below` says where the block of each stands in the lower strip.
+-- The arrow of a block whose handle or pointer may be known; `below` says where the block of each stands in the lower
+-- strip.
 abbrev pub arrow_of : ℕ → (ℕ → Option Extent) → Extent → Option ℕ → List ℕ
 arrow_of size below upper None = []
-arrow_of size below upper (Some slot) = arrow_to size upper (below slot)
+arrow_of size below upper (Some number) = arrow_to size upper (below number)
 
 -- The arrows of the blocks of the upper strip.
 abbrev pub arrows : ℕ → (ℕ → Option Extent) → List Line → List ℕ
-arrows size below lines = flat_map (λ l. arrow_of size below (extent l) l.slot) lines
+arrows size below lines = flat_map (λ l. arrow_of size below (extent l) l.tag.number) lines
 
 -- The arrows from one moment to the next.
 abbrev pub moved : ℕ → List Line → List Line → List ℕ

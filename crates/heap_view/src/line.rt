@@ -23,11 +23,14 @@ pub enum Shape {
     Relocatable(Flags),
 }
 
-/// What is known of a handle or a pointer: the script's name for it, and the resource that the handle belongs to.
+/// What is known of a handle or a pointer: the script's name for it, the resource that the handle belongs to, and its
+/// number.
 #[derive(Clone, Copy, Debug)]
 pub struct Tag<'a> {
     pub name: Option<&'a Label>,
     pub owner: Option<Owner>,
+    /// The number of the handle or pointer, by which its block is known again at another moment.
+    pub number: Option<usize>,
 }
 
 /// A block as it is shown.
@@ -38,8 +41,6 @@ pub struct BlockLine<'a> {
     /// The physical size in bytes, header included.
     pub size: u32,
     pub shape: Shape,
-    /// The slot of the master pointer, for a relocatable block.
-    pub slot: Option<u32>,
     /// The logical size in bytes; 0 for a block that has no content of its own.
     pub bytes: u32,
     /// What is known of the block's handle or pointer.
@@ -47,10 +48,10 @@ pub struct BlockLine<'a> {
 }
 
 /// A moment of a zone, as it is shown beside others.
-#[derive(Clone, Copy, Debug)]
-pub struct Moment<'a, 'n> {
+#[derive(Drop)]
+pub struct Moment<'a> {
     /// The words for the moment, of which the first 33 bytes are shown.
-    pub caption: &'a [u8],
+    pub caption: Vec<u8>,
     /// The blocks of the zone, lowest first.
-    pub lines: &'a [BlockLine<'n>],
+    pub lines: Vec<BlockLine<'a>>,
 }

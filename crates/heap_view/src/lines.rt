@@ -4,7 +4,7 @@ ghost use Rattle.std.specs.Prelude.{◌≡◌, ◌≤◌, map, IfOk};
 ghost use Rattle.std.specs.BTreeMap.{get};
 ghost use Rattle.std.specs.Ordering.{nat_cmp};
 ghost use Rattle.block_store.specs.declared.measures.TheConstants.{GREATEST_ZONE};
-ghost use Rattle.heap_view.specs.Line.{shape_of, slot_of, logical, tag_of, lines, seen_sizes};
+ghost use Rattle.heap_view.specs.Line.{shape_of, logical, tag_of, lines, seen_sizes};
 ghost use Rattle.heap_view.specs.View.{view_tag, view_line, tag_in, known_by};
 
 use crate::line::{BlockLine, Shape, Tag};
@@ -21,18 +21,6 @@ fn shape_of(block: Seen) -> Shape
         Seen::Nonrelocatable(_) => Shape::Nonrelocatable,
         Seen::Masters => Shape::Masters,
         Seen::Relocatable(_, flags, _) => Shape::Relocatable(flags),
-    }
-}
-
-/// Returns the slot of a block's master pointer, if it has one.
-fn slot_of(block: Seen) -> Option<u32>
-    ensures { result ≡ slot_of block }
-{
-    match block {
-        Seen::Free(_) => None,
-        Seen::Nonrelocatable(_) => None,
-        Seen::Masters => None,
-        Seen::Relocatable(slot, _, _) => Some(slot),
     }
 }
 
@@ -57,6 +45,7 @@ fn tag_in<'a>(key: u32, tags: &BTreeMap<u32, Tag<'a>>) -> Tag<'a>
         None => Tag {
             name: None,
             owner: None,
+            number: None,
         },
     }
 }
@@ -76,6 +65,7 @@ fn tag_of<'a>(
         Seen::Free(_) | Seen::Masters => Tag {
             name: None,
             owner: None,
+            number: None,
         },
     }
 }
@@ -100,7 +90,6 @@ pub fn lines_of<'a>(
             place,
             size,
             shape: shape_of(*block),
-            slot: slot_of(*block),
             bytes: logical_size(*block),
             tag: tag_of(place, *block, handles, pointers),
         })?;

@@ -37,24 +37,24 @@ fn extent_from(line: &BlockLine<'_>) -> Extent
     }
 }
 
-/// Notes where a block stands, by the slot of its master pointer, if it has one.
-fn note(extents: &mut BTreeMap<u32, Extent>, line: &BlockLine<'_>) -> Result<(), AllocError>
-    ensures { OnOk result ((slot : ℕ) → get nat_cmp extents.new slot
-        ≡ cond (is_of slot (view_line line.now)) (Some (extent (view_line line.now))) (get nat_cmp extents.old slot)) }
+/// Notes where a block stands, by the number of its handle or pointer, if that is known.
+fn note(extents: &mut BTreeMap<usize, Extent>, line: &BlockLine<'_>) -> Result<(), AllocError>
+    ensures { OnOk result ((number : ℕ) → get nat_cmp extents.new number
+        ≡ cond (is_of number (view_line line.now)) (Some (extent (view_line line.now))) (get nat_cmp extents.old number)) }
 {
-    match line.slot {
-        Some(slot) => {
-            extents.insert(slot, extent_from(line))?;
+    match line.tag.number {
+        Some(number) => {
+            extents.insert(number, extent_from(line))?;
             Ok(())
         }
         None => Ok(()),
     }
 }
 
-/// Returns where the blocks of a zone stand, by the slots of their master pointers.
-fn extents_of(alloc: Global, lines: &[BlockLine<'_>]) -> Result<BTreeMap<u32, Extent>, AllocError>
-    ensures { IfOk result (λ extents. (slot : ℕ)
-        → get nat_cmp extents slot ≡ extent_of (map view_line lines.now) slot) }
+/// Returns where the blocks of a zone stand, by the numbers of their handles and pointers.
+fn extents_of(alloc: Global, lines: &[BlockLine<'_>]) -> Result<BTreeMap<usize, Extent>, AllocError>
+    ensures { IfOk result (λ extents. (number : ℕ)
+        → get nat_cmp extents number ≡ extent_of (map view_line lines.now) number) }
 {
     let mut extents = BTreeMap::new(alloc);
     for index in (0..lines.len()).rev() {
@@ -114,15 +114,17 @@ fn push_arrow_to(
 fn push_arrow_of(
     text: &mut Vec<u8>,
     size: u128,
-    below: &BTreeMap<u32, Extent>,
+    below: &BTreeMap<usize, Extent>,
     line: &BlockLine<'_>,
 ) -> Result<(), AllocError>
     requires { size < 2 ^ 96 }
     ensures { OnOk result (text.new.items
-        ≡ text.old.items ++ arrow_of size (get nat_cmp below.now) (extent (view_line line.now)) line.now.slot) }
+        ≡ text.old.items ++ arrow_of size (get nat_cmp below.now) (extent (view_line line.now)) line.now.tag.number) }
 {
-    match line.slot {
-        Some(slot) => push_arrow_to(text, size, extent_from(line), below.get(&slot).copied()),
+    match line.tag.number {
+        Some(number) => {
+            push_arrow_to(text, size, extent_from(line), below.get(&number).copied())
+        }
         None => Ok(()),
     }
 }
@@ -131,7 +133,7 @@ fn push_arrow_of(
 fn push_arrows(
     text: &mut Vec<u8>,
     size: u128,
-    below: &BTreeMap<u32, Extent>,
+    below: &BTreeMap<usize, Extent>,
     lines: &[BlockLine<'_>],
 ) -> Result<(), AllocError>
     requires { size < 2 ^ 96 }
@@ -168,15 +170,21 @@ fn push_moved_from(
     alloc: Global,
     text: &mut Vec<u8>,
     size: u128,
-    before: Option<&Moment<'_, '_>>,
-    moment: &Moment<'_, '_>,
+    before: Option<&Moment<'_>>,
+    moment: &Moment<'_>,
 ) -> Result<(), AllocError>
     requires { size < 2 ^ 96 }
     ensures { OnOk result (text.new.items ≡ text.old.items
         ++ moved_from size (option_map (λ m. view_moment m.now) before.entry) (view_moment moment.now)) }
 {
     match before {
-        Some(before) => push_moved(alloc, text, size, before.lines, moment.lines),
+        Some(before) => push_moved(
+            alloc,
+            text,
+            size,
+            before.lines.as_slice(),
+            moment.lines.as_slice(),
+        ),
         None => Ok(()),
     }
 }
@@ -217,16 +225,16 @@ fn push_moment(
     text: &mut Vec<u8>,
     size: u128,
     index: usize,
-    before: Option<&Moment<'_, '_>>,
-    moment: &Moment<'_, '_>,
+    before: Option<&Moment<'_>>,
+    moment: &Moment<'_>,
 ) -> Result<(), AllocError>
     requires { size < 2 ^ 96 }
     ensures { OnOk result (text.new.items ≡ text.old.items
         ++ moment_strip size index (option_map (λ m. view_moment m.now) before.entry) (view_moment moment.now)) }
 {
     push_moment_opened(text, index)?;
-    push_moment_caption(text, moment.caption)?;
-    push_strip(text, size, moment.lines)?;
+    push_moment_caption(text, moment.caption.as_slice())?;
+    push_strip(text, size, moment.lines.as_slice())?;
     push_moved_from(alloc, text, size, before, moment)?;
     put(text, b"</g>\n")?;
     Ok(())
@@ -237,7 +245,7 @@ fn push_moments(
     alloc: Global,
     text: &mut Vec<u8>,
     size: u128,
-    moments: &[Moment<'_, '_>],
+    moments: &[Moment<'_>],
 ) -> Result<(), AllocError>
     requires { size < 2 ^ 96 }
     ensures { OnOk result (text.new.items
@@ -252,13 +260,13 @@ fn push_moments(
 }
 
 /// Returns the number of bytes of the zone at the moment when it is largest.
-fn greatest_size(moments: &[Moment<'_, '_>]) -> u128
+fn greatest_size(moments: &[Moment<'_>]) -> u128
     ensures greatest { result ≡ greatest_size (map view_moment moments.now) }
     ensures small { result < 2 ^ 96 }
 {
     let mut greatest: u128 = 0;
     for moment in moments {
-        greatest = greatest.max(line_sizes(moment.lines));
+        greatest = greatest.max(line_sizes(moment.lines.as_slice()));
     }
     greatest
 }
@@ -303,7 +311,7 @@ fn write_steps_by(
     alloc: Global,
     text: &mut Vec<u8>,
     size: u128,
-    moments: &[Moment<'_, '_>],
+    moments: &[Moment<'_>],
 ) -> Result<(), AllocError>
     requires { size < 2 ^ 96 }
     ensures { OnOk result (text.new.items ≡ text.old.items ++ steps_svg_by size (map view_moment moments.now)) }
@@ -323,7 +331,7 @@ fn write_steps_by(
 pub fn write_steps_svg(
     alloc: Global,
     text: &mut Vec<u8>,
-    moments: &[Moment<'_, '_>],
+    moments: &[Moment<'_>],
 ) -> Result<(), AllocError>
     ensures { OnOk result (text.new.items ≡ text.old.items ++ steps_svg (map view_moment moments.now)) }
 {

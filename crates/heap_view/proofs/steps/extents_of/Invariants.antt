@@ -7,5 +7,5 @@ use Rattle.heap_view.proofs.steps.extents_of.Given as goal
 
 -- the blocks from this one upward were noted
 abbrev pub invariant-loop-index : goal.invariant-loop-index
-invariant-loop-index l = (slot : ℕ)
-    → get nat_cmp l.extents slot ≡ extent_of (map view_line (drop l.index l.lines)) slot
+invariant-loop-index l = (number : ℕ)
+    → get nat_cmp l.extents number ≡ extent_of (map view_line (drop l.index l.lines)) number
