@@ -1,3 +1,5 @@
 pub mod Entering
 pub mod Numbered
 pub mod Forms
+pub mod Following
+mod MomentRows
