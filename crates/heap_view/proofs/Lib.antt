@@ -1,4 +1,6 @@
 pub mod Walking
 pub mod Passing
 pub mod Appending
+pub mod Moving
 mod Rows
+mod StepRows

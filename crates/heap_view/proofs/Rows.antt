@@ -1,14 +1,12 @@
 -- Worked zones, by computation.
-use Rattle.std.proofs.Common.{◌≡◌, ℕ, true, false, List, [], ◌∷◌, Some, None, map, replicate, refl, codes, pos}
+use Rattle.std.proofs.Common.{◌≡◌, true, false, List, [], ◌∷◌, Some, None, map, replicate, refl, codes, pos}
 use Rattle.std.specs.Fmt.{digits}
-use Rattle.block_store.specs.declared.flags.Flags.{Flags}
 use Rattle.block_store.specs.Block.{Block, Free, Nonrelocatable, Masters, Relocatable, no_flags}
 use Rattle.block_store.specs.Seen.{seen}
-use Rattle.heap_view.specs.declared.line.Owner.{Owner}
 use Rattle.heap_view.specs.declared.line.Shape.TheVariants as shape
 use Rattle.heap_view.specs.declared.style.Style.TheVariants as style
 use Rattle.heap_view.specs.declared.totals.Class.TheVariants as class
-use Rattle.heap_view.specs.Line.{Tag, Known, Line, lines, no_tag}
+use Rattle.heap_view.specs.Line.{Known, Line, lines, no_tag}
 use Rattle.heap_view.specs.Svg.{strip_block, cell_box, escaped}
 use Rattle.heap_view.specs.Text.{line_text, type_text}
 use Rattle.heap_view.specs.Totals.{counted, sized, largest_of}
@@ -36,7 +34,7 @@ largest-parted = refl
 
 -- what is known of the blocks of `marked`
 abbrev nothing_known : Known
-nothing_known = record { handle = λ slot. no_tag; pointer = λ place. record { name = Some (codes "p"); owner = None } }
+nothing_known = record { handle = λ slot. no_tag; pointer = λ place. record { name = Some (codes "p"); owner = None; number = None } }
 
 abbrev shown : List Line
 shown = lines nothing_known 0 (map seen marked)
@@ -66,6 +64,7 @@ held = record {
   tag = record {
     name = Some (codes "a");
     owner = Some (record { kind = 1398029374; id = pos 7; file = 2 });
+    number = None;
   };
 }
 
@@ -77,7 +76,7 @@ line-tabs = refl
 types : (type_text (1 ∷ 65 ∷ 66 ∷ 67 ∷ []) ≡ codes "$01414243") × (type_text (codes "IT'S") ≡ codes "$49542753")
 types = (refl, refl)
 
-block-strip : strip_block held ≡ codes "<rect class=\"r\" x=\"320\" width=\"128\" height=\"100%\"/>\n"
+block-strip : strip_block held ≡ codes "<rect class=\"r l\" x=\"320\" width=\"128\" height=\"100%\"/>\n"
 unfolding strip_block digits
 block-strip = refl
 

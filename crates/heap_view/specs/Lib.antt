@@ -4,3 +4,4 @@ pub mod Text
 pub mod Totals
 pub mod Inner
 pub mod Svg
+pub mod Steps

@@ -8,10 +8,12 @@ use Rattle.heap_view.specs.declared.line.Shape.TheVariants as shape
 
 -- The blocks of a zone as they are shown. Inside Macintosh: Memory, chapter 2, "Heap Zones" and "Blocks".
 
--- What is known of a handle or a pointer: the name that a script has for it, and the resource that the handle is of.
+-- What is known of a handle or a pointer: the name that a script has for it, the resource that the handle is of, and its
+-- number, by which its block is known again at another moment.
 pub record Tag : Type 0 where
   pub name : Option (List ℕ)
   pub owner : Option Owner
+  pub number : Option ℕ
 
 -- What is known of the handles and of the pointers of a zone.
 pub record Known : Type 0 where
@@ -28,7 +30,7 @@ pub record Line : Type 0 where
   pub tag : Tag
 
 abbrev pub no_tag : Tag
-no_tag = record { name = None; owner = None }
+no_tag = record { name = None; owner = None; number = None }
 
 -- What a block is, and its logical size.
 abbrev pub shape_of : Seen → Shape

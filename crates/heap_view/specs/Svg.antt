@@ -1,4 +1,4 @@
-use Rattle.std.specs.Prelude.{ℕ, ◌+◌, ◌*◌, ◌/◌, ◌%◌, ◌==◌, Bool, true, false, Option, Some, None, List, [], ◌∷◌, ◌++◌, length, take, codes, decimal, if◌then◌else◌}
+use Rattle.std.specs.Prelude.{ℕ, ◌+◌, ◌*◌, ◌/◌, ◌%◌, ◌==◌, Bool, true, false, nat_le, Option, Some, None, List, [], ◌∷◌, ◌++◌, length, take, codes, decimal, if◌then◌else◌}
 use Rattle.std.specs.Fmt.{signed_decimal}
 use Rattle.std.specs.List.{flat_map}
 use Rattle.byteorder.specs.Endian.{big_bytes}
@@ -34,10 +34,10 @@ mark false word = []
 abbrev pub attribute : List ℕ → ℕ → List ℕ
 attribute name n = codes " " ++ name ++ codes "=\"" ++ decimal n ++ codes "\""
 
--- A block in the strip, whose unit is a byte.
+-- A block in the strip, whose unit is a byte, marked where the block is locked or purgeable.
 unfoldable pub strip_block : Line → List ℕ
-strip_block l = codes "<rect class=\"" ++ kind_class l.shape ++ codes "\"" ++ attribute (codes "x") l.place
-    ++ attribute (codes "width") l.size ++ codes " height=\"100%\"/>\n"
+strip_block l = codes "<rect class=\"" ++ kind_class l.shape ++ mark (is_locked l.shape) (codes " l")
+    ++ mark (is_purgeable l.shape) (codes " p") ++ codes "\"" ++ attribute (codes "x") l.place ++ attribute (codes "width") l.size ++ codes " height=\"100%\"/>\n"
 
 abbrev pub strip_blocks : List Line → List ℕ
 strip_blocks [] = []
@@ -99,21 +99,26 @@ abbrev pub scale : ℕ → List ℕ
 scale size = tick 12 (codes "start") 0 ++ tick 249 (codes "middle") (size / 4) ++ tick 486 (codes "middle") (size / 2)
     ++ tick 723 (codes "middle") (3 * size / 4) ++ tick 960 (codes "end") size
 
+-- How wide the outlines of this many blocks are in a strip: where there are many, outlines would hide the colours.
+abbrev pub outline : ℕ → List ℕ
+outline n = if nat_le n 400 then codes "0.06%" else codes "0"
+
 -- The strip of a zone of this many bytes, and what it begins with.
-abbrev pub strip_opened : ℕ → List ℕ
-strip_opened size = codes "<svg x=\"12\" y=\"48\" width=\"948\" height=\"36\" viewBox=\"0 0 " ++ decimal size ++ codes " "
-    ++ decimal (size / 26) ++ codes "\" preserveAspectRatio=\"none\" stroke-width=\"0.03%\">\n"
+abbrev pub strip_opened : ℕ → List ℕ → List ℕ
+strip_opened size width = codes "<svg x=\"12\" y=\"48\" width=\"948\" height=\"36\" viewBox=\"0 0 " ++ decimal size ++ codes " "
+    ++ decimal (size / 26) ++ codes "\" preserveAspectRatio=\"none\" stroke-width=\"" ++ width ++ codes "\">\n"
 
 abbrev pub strip : ℕ → List Line → List ℕ
-strip size lines = strip_opened size ++ strip_blocks lines ++ codes "</svg>\n"
+strip size lines = strip_opened size (outline (length lines)) ++ strip_blocks lines ++ codes "</svg>\n"
 
--- What an SVG picture of this height begins with; the colours of pages that are light or dark; and what they stand for.
-abbrev pub svg_opened : ℕ → List ℕ
-svg_opened height = codes "<svg xmlns=\"http://www.w3.org/2000/svg\" width=\"972\"" ++ attribute (codes "height") height
-    ++ codes " viewBox=\"0 0 972 " ++ decimal height ++ codes "\" font-family=\"monospace\" font-size=\"11\">\n"
+-- What an SVG picture of this width and height begins with; the colours where pages are light or dark, and the ground in
+-- which the picture stands; and what the colours stand for.
+abbrev pub svg_opened : ℕ → ℕ → List ℕ
+svg_opened width height = codes "<svg xmlns=\"http://www.w3.org/2000/svg\"" ++ attribute (codes "width") width
+    ++ attribute (codes "height") height ++ codes " viewBox=\"0 0 " ++ decimal width ++ codes " " ++ decimal height ++ codes "\" font-family=\"monospace\" font-size=\"11\">\n"
 
 unfoldable pub svg_style : List ℕ
-svg_style = codes "<style>text{fill:#222}.f{fill:#f4f4f4}.n{fill:#f2b27a}.m{fill:#c8b6e6}.r{fill:#9cc8ea}rect{stroke:#555}.c{stroke-width:1}.l{stroke:#c22;stroke-width:3}.p{stroke-dasharray:5 3}@media(prefers-color-scheme:dark){text{fill:#eee}.f{fill:#2c2c2c}.n{fill:#8a5524}.m{fill:#5f4a86}.r{fill:#2b5f86}rect{stroke:#aaa}.l{stroke:#f66}}</style>\n"
+svg_style = codes "<style>text{fill:#222}.b{fill:#fff}.f{fill:#f4f4f4}.n{fill:#f2b27a}.m{fill:#c8b6e6}.r{fill:#9cc8ea}.l{fill:#f0a0a0}.p{fill-opacity:.5}rect{stroke:#555}.b{stroke:none}.c{stroke-width:1}.c.l{stroke:#c22;stroke-width:3}.c.p{stroke-dasharray:5 3}@media(prefers-color-scheme:dark){text{fill:#eee}.b{fill:#161616}.f{fill:#2c2c2c}.n{fill:#8a5524}.m{fill:#5f4a86}.r{fill:#2b5f86}.l{fill:#8a3030}rect{stroke:#aaa}.c.l{stroke:#f66}}</style>\n<rect class=\"b\" width=\"100%\" height=\"100%\"/>\n"
 
 unfoldable pub svg_legend : List ℕ
 svg_legend = codes "<rect class=\"c f\" x=\"12\" y=\"118\" width=\"16\" height=\"12\"/><text x=\"34\" y=\"128\">free</text><rect class=\"c n\" x=\"120\" y=\"118\" width=\"16\" height=\"12\"/><text x=\"142\" y=\"128\">nonrelocatable</text><rect class=\"c m\" x=\"290\" y=\"118\" width=\"16\" height=\"12\"/><text x=\"312\" y=\"128\">master pointers</text><rect class=\"c r\" x=\"470\" y=\"118\" width=\"16\" height=\"12\"/><text x=\"492\" y=\"128\">relocatable</text><rect class=\"c r l\" x=\"630\" y=\"118\" width=\"16\" height=\"12\"/><text x=\"652\" y=\"128\">locked</text><rect class=\"c r p\" x=\"760\" y=\"118\" width=\"16\" height=\"12\"/><text x=\"782\" y=\"128\">purgeable</text>\n"
@@ -134,7 +139,7 @@ line_sizes (l ∷ lines) = l.size + line_sizes lines
 
 -- The picture of a zone behind a line of its transcript, of this height and of this many bytes.
 unfoldable pub zone_svg_by : ℕ → ℕ → List Line → List ℕ → List ℕ
-zone_svg_by height size lines behind = svg_opened height ++ svg_style ++ svg_title size behind ++ strip size lines
+zone_svg_by height size lines behind = svg_opened 972 height ++ svg_style ++ svg_title size behind ++ strip size lines
     ++ scale size ++ svg_legend ++ cells 0 lines ++ codes "</svg>\n"
 
 -- The picture of a zone behind a line of its transcript.

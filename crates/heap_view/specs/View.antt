@@ -1,18 +1,29 @@
-use Rattle.std.specs.Prelude.{ℕ, Option, Some, None, option_map}
+use Rattle.std.specs.Prelude.{ℕ, Option, Some, None, map, option_map}
 use Rattle.std.specs.BTreeMap.{BTreeMap, get}
 use Rattle.std.specs.Ordering.{nat_cmp}
 use Rattle.heap_view.specs.Line.{Known, Line, no_tag}
 use Rattle.heap_view.specs.Line as view
+use Rattle.heap_view.specs.Steps as steps
 use Rattle.heap_view.specs.declared.line.BlockLine.{BlockLine}
+use Rattle.heap_view.specs.declared.line.Moment.{Moment}
 use Rattle.heap_view.specs.declared.line.Tag.{Tag}
 
 -- Lines of blocks, and what is known of handles and pointers, as values: without the places where names lie in memory.
 
 abbrev pub view_tag : Tag → view.Tag
-view_tag t = record { name = option_map (λ n. n.now.0.items) t.name; owner = t.owner }
+view_tag t = record { name = option_map (λ n. n.now.0.items) t.name; owner = t.owner; number = t.number }
 
 abbrev pub view_line : BlockLine → Line
-view_line l = record { place = l.place; size = l.size; shape = l.shape; bytes = l.bytes; tag = view_tag l.tag }
+view_line l = record {
+  place = l.place;
+  size = l.size;
+  shape = l.shape;
+  bytes = l.bytes;
+  tag = view_tag l.tag;
+}
+
+abbrev pub view_moment : Moment → steps.Moment
+view_moment m = record { caption = m.caption.items; lines = map view_line m.lines.items }
 
 -- What a map has of a handle or a pointer; nothing is known of one that is not in the map.
 abbrev pub tag_in : Option Tag → view.Tag

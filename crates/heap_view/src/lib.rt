@@ -2,16 +2,19 @@
 //! holds, as a list and as a picture.
 #![tactic(auto)]
 
+mod drawing;
 mod line;
 mod lines;
+mod steps;
 mod style;
 mod svg;
 mod text;
 mod totals;
 mod walk;
 
-pub use line::{BlockLine, Owner, Shape, Tag};
+pub use line::{BlockLine, Moment, Owner, Shape, Tag};
 pub use lines::lines_of;
+pub use steps::write_steps_svg;
 pub use style::Style;
 pub use svg::write_svg;
 pub use text::widest;

@@ -23,11 +23,14 @@ pub enum Shape {
     Relocatable(Flags),
 }
 
-/// What is known of a handle or a pointer: the script's name for it, and the resource that the handle belongs to.
+/// What is known of a handle or a pointer: the script's name for it, the resource that the handle belongs to, and its
+/// number.
 #[derive(Clone, Copy, Debug)]
 pub struct Tag<'a> {
     pub name: Option<&'a Label>,
     pub owner: Option<Owner>,
+    /// The number of the handle or pointer, by which its block is known again at another moment.
+    pub number: Option<usize>,
 }
 
 /// A block as it is shown.
@@ -42,4 +45,13 @@ pub struct BlockLine<'a> {
     pub bytes: u32,
     /// What is known of the block's handle or pointer.
     pub tag: Tag<'a>,
+}
+
+/// A moment of a zone, as it is shown beside others.
+#[derive(Drop)]
+pub struct Moment<'a> {
+    /// The words for the moment, of which the first 33 bytes are shown.
+    pub caption: Vec<u8>,
+    /// The blocks of the zone, lowest first.
+    pub lines: Vec<BlockLine<'a>>,
 }

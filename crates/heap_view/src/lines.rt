@@ -45,6 +45,7 @@ fn tag_in<'a>(key: u32, tags: &BTreeMap<u32, Tag<'a>>) -> Tag<'a>
         None => Tag {
             name: None,
             owner: None,
+            number: None,
         },
     }
 }
@@ -64,6 +65,7 @@ fn tag_of<'a>(
         Seen::Free(_) | Seen::Masters => Tag {
             name: None,
             owner: None,
+            number: None,
         },
     }
 }

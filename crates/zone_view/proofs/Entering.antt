@@ -1,6 +1,8 @@
 use Rattle.std.proofs.Common.{◌≡◌, ℕ, ◌+◌, ◌==◌, Bool, true, false, cond, List, ◌∷◌, Option, Some, None, refl, sym, ap, ◌∙◌}
-use Rattle.std.proofs.Common.{◌≤◌, suc, add-one, length, drop, slice_get}
+use Rattle.std.proofs.Common.{arith, ◌<◌, ◌^◌, nat_lt, ◌≤◌, suc, add-one, length, drop, slice_get}
 use Rattle.std.proofs.Math.Seq.{drop-cons}
+use Rattle.std.proofs.lemmas.Bool.{cond-true}
+use Rattle.std.proofs.lemmas.Bool.Decides.{nat_tests}
 use Rattle.std.proofs.lemmas.List.{drop_all}
 use Rattle.std.proofs.lemmas.Option.{slice_get_within, get_or_from_slice_get}
 use Rattle.std.specs.BTreeMap.{BTreeMap, get}
@@ -15,7 +17,7 @@ use Rattle.heap_view.specs.Line.{Tag, no_tag}
 use Rattle.heap_view.specs.View.{view_tag, tag_in}
 use Rattle.heap_view.specs.declared.line.Owner.{Owner}
 use Rattle.heap_view.specs.declared.line.Tag as declared
-use Rattle.zone_view.specs.Known.{entered, owned, owner, owner_in, tag_by}
+use Rattle.zone_view.specs.Known.{entered, given, owned, owner, owner_in, tag_by}
 
 -- Maps into which the first value of each key is entered.
 
@@ -79,12 +81,17 @@ one-more-owned there there' n file number i r references whole is same entered b
     ∙ ap (option_or there) (owned-first n file r (drop (i + 1) references))
     ∙ ap (λ rest. option_or there (owner_in n file rest)) (sym (at-place references i r is)) ∙ before
 
+-- a number that is given
+pub given_below : (n : ℕ) → n < 2 ^ 64 → given n ≡ Some n
+given_below n below = cond-true (nat_lt n (2 ^ 64)) _ _ (grind (arith, nat_tests))
+
 -- nothing is known of a number that is larger than any that is given
 pub unknown : (names : BTreeMap ℕ (Bor Label)) (owners : BTreeMap ℕ Owner) → get nat_cmp names no_number ≡ None
     → get nat_cmp owners no_number ≡ None → tag_by names owners no_number ≡ no_tag
 unknown names owners none unowned i = record {
   name = option_map (λ (l : Bor Label). l.now.0.items) (none i);
   owner = unowned i;
+  number = None;
 }
 
 -- once all was entered, what is known at a key is what was entered there

@@ -1,4 +1,6 @@
 pub mod Entering
 pub mod Numbered
 pub mod Forms
+pub mod Following
 mod Rows
+mod MomentRows

@@ -15,7 +15,7 @@ use Rattle.applications.specs.Trying.{Running}
 use Rattle.heap_view.specs.Line.{Tag, Known, line, lines}
 use Rattle.heap_view.specs.Totals.{could_be_free, largest_of}
 use Rattle.heap_view.specs.declared.line.Owner.{Owner}
-use Rattle.zone_view.specs.Known.{tag, tag_by, name_of, owner_of, named_by}
+use Rattle.zone_view.specs.Known.{tag, tag_by, given, name_of, owner_of, named_by}
 use Rattle.zone_view.specs.Shown.{block_lines, zone_lines}
 
 -- A zone whose blocks are named by slot or place, and the zone with its blocks named by number.
@@ -67,4 +67,4 @@ pub lines-known : (names : BTreeMap ℕ (Bor Label)) (owners : BTreeMap ℕ Owne
     → ((n : ℕ) → get nat_cmp owners n ≡ owner_of n r.resources.chain) → (zone : List Block)
     → zone_lines (tag_by names owners) zone ≡ zone_lines (tag r) zone
 lines-known names owners r named owned zone =
-    ap (λ known. zone_lines known zone) (λ i n. record { name = named n i; owner = owned n i })
+    ap (λ known. zone_lines known zone) (λ i n. record { name = named n i; owner = owned n i; number = given n })

@@ -1,4 +1,4 @@
-use Rattle.std.specs.Prelude.{ℕ, ◌==◌, Option, Some, None, List, [], ◌∷◌, if◌then◌else◌}
+use Rattle.std.specs.Prelude.{ℕ, ◌==◌, ◌^◌, nat_lt, Option, Some, None, List, [], ◌∷◌, if◌then◌else◌}
 use Rattle.std.specs.Borrow.{Bor}
 use Rattle.std.specs.BTreeMap.{BTreeMap, get}
 use Rattle.std.specs.Option.{option_or, option_map}
@@ -32,9 +32,13 @@ abbrev pub owner_of : ℕ → List OpenFile → Option Owner
 owner_of n [] = None
 owner_of n (f ∷ older) = option_or (owner_in n f.number f.map.references) (owner_of n older)
 
+-- A number that is given is below 2 ^ 64.
+abbrev pub given : ℕ → Option ℕ
+given n = if nat_lt n (2 ^ 64) then Some n else None
+
 -- What is known of a handle or a pointer of an application.
 abbrev pub tag : Running → ℕ → Tag
-tag r n = record { name = name_of n r.names; owner = owner_of n r.resources.chain }
+tag r n = record { name = name_of n r.names; owner = owner_of n r.resources.chain; number = given n }
 
 -- What maps hold.
 
@@ -52,4 +56,4 @@ named_by name = option_map (λ (l : Bor Label). l.now.0.items) name
 
 -- What maps of names and of resources have of a number.
 abbrev pub tag_by : BTreeMap ℕ (Bor Label) → BTreeMap ℕ Owner → ℕ → Tag
-tag_by names owners n = record { name = named_by (get nat_cmp names n); owner = get nat_cmp owners n }
+tag_by names owners n = record { name = named_by (get nat_cmp names n); owner = get nat_cmp owners n; number = given n }

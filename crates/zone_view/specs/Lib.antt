@@ -1,3 +1,5 @@
 pub mod Known
 pub mod Shown
 pub mod Behind
+pub mod Moments
+pub mod Sight

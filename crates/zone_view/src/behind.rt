@@ -55,7 +55,7 @@ fn last_words(alloc: Global, text: &[u8]) -> Result<Vec<u8>, AllocError>
 }
 
 /// Returns the step that a transcript ends with: the number of its line, its call and its result code.
-fn step_told(alloc: Global, transcript: &[u8]) -> Result<Vec<u8>, AllocError>
+pub fn step_told(alloc: Global, transcript: &[u8]) -> Result<Vec<u8>, AllocError>
     ensures { IfOk result (λ words. words.items ≡ step_told transcript.now) }
 {
     let end = transcript.len().saturating_sub(1);
@@ -87,7 +87,7 @@ pub fn steps_at(line: Option<usize>, script: &Script) -> usize
 }
 
 /// Returns the first `n` lines, or all lines where there are fewer.
-fn first(lines: &[Line], n: usize) -> &[Line]
+pub fn first(lines: &[Line], n: usize) -> &[Line]
     ensures { result.now ≡ take n lines.now }
 {
     match lines.get(..n) {

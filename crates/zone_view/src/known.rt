@@ -103,6 +103,7 @@ pub fn owners_of(alloc: Global, files: &[OpenFile]) -> Result<BTreeMap<usize, Ow
 }
 
 /// Returns what is known of a number.
+#[tactic(auto, using(crate::proofs::Entering::given_below))]
 pub fn tag_of<'a>(
     names: &BTreeMap<usize, &'a Label>,
     owners: &BTreeMap<usize, Owner>,
@@ -113,5 +114,6 @@ pub fn tag_of<'a>(
     Tag {
         name: names.get(&number).copied(),
         owner: owners.get(&number).copied(),
+        number: Some(number),
     }
 }

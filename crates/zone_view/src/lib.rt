@@ -4,9 +4,13 @@
 mod behind;
 mod form;
 mod known;
+mod moments;
 mod places;
 mod shown;
+mod sight;
 
 pub use behind::{show_behind, steps_at};
 pub use form::Form;
+pub use moments::show_moments;
 pub use shown::show_zone;
+pub use sight::{Sight, show};

@@ -25,13 +25,13 @@ use std::collections::BTreeMap;
 
 /// The lines of the blocks of a zone, and what could be allocated in it.
 #[derive(Drop)]
-struct Seen<'a> {
-    lines: Vec<BlockLine<'a>>,
-    largest: Largest,
+pub struct Seen<'a> {
+    pub lines: Vec<BlockLine<'a>>,
+    pub largest: Largest,
 }
 
 /// Returns the lines of the blocks of a heap's zone, and what could be allocated in it.
-fn seen_in<'a, S: BlockStore>(
+pub fn seen_in<'a, S: BlockStore>(
     alloc: Global,
     heap: &Heap<S>,
     names: &BTreeMap<usize, &'a Label>,

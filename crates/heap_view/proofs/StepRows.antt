@@ -1,0 +1,63 @@
+-- Worked moments of a zone, by computation.
+use Rattle.std.proofs.Common.{◌≡◌, ℕ, List, [], ◌∷◌, Some, None, refl, codes}
+use Rattle.std.specs.Fmt.{digits}
+use Rattle.block_store.specs.Block.{no_flags}
+use Rattle.block_store.specs.declared.sparing.Seen.TheVariants as see
+use Rattle.heap_view.specs.Line.{Known, Line, Tag, lines, no_tag}
+use Rattle.heap_view.specs.Steps.{arrow, arrow_of, arrows, extent_of, greatest_size, moment_caption}
+use Rattle.heap_view.specs.Svg.{line_sizes}
+
+abbrev numbered : ℕ → Tag
+numbered n = record { name = None; owner = None; number = Some n }
+
+abbrev handles : Known
+handles = record { handle = numbered; pointer = λ place. no_tag }
+
+-- blocks of the handles 0, 1 and 2, one above the other
+abbrev upper : List Line
+upper = lines handles 0 (see.Masters ∷ see.Relocatable 0 no_flags 100 ∷ see.Relocatable 1 no_flags 100
+    ∷ see.Relocatable 2 no_flags 100 ∷ see.Free 368 ∷ [])
+
+-- the block of handle 0 was purged, that of handle 1 stayed, that of handle 2 moved upward, and that of handle 3 was made
+abbrev lower : List Line
+lower = lines handles 0 (see.Masters ∷ see.Free 128 ∷ see.Relocatable 1 no_flags 100 ∷ see.Free 128
+    ∷ see.Relocatable 2 no_flags 100 ∷ see.Relocatable 3 no_flags 100 ∷ see.Free 112 ∷ [])
+
+whole-zones : (line_sizes upper ≡ 1024) × (line_sizes lower ≡ 1024)
+whole-zones = (refl, refl)
+
+-- where the blocks stand in the lower strip
+places : (extent_of lower 0 ≡ None) × (extent_of lower 1 ≡ Some (record { place = 400; size = 128 }))
+    × (extent_of lower 2 ≡ Some (record { place = 656; size = 128 }))
+    × (extent_of lower 3 ≡ Some (record { place = 784; size = 128 }))
+places = (refl, refl, refl, refl)
+
+-- the arrow of the block that moved, from 592 of 1024 bytes to 720
+arrow-moved : arrow_of 1024 (extent_of lower) (record { place = 528; size = 128 }) (Some 2)
+    ≡ codes "<line x1=\"548\" x2=\"666\" y2=\"44\"/>\n"
+unfolding arrow digits
+arrow-moved = refl
+
+-- none for a block that stayed, that was purged, or that is not known again
+arrow-none : (arrow_of 1024 (extent_of lower) (record { place = 400; size = 128 }) (Some 1) ≡ [])
+    × (arrow_of 1024 (extent_of lower) (record { place = 272; size = 128 }) (Some 0) ≡ [])
+    × (arrow_of 1024 (extent_of lower) (record { place = 0; size = 272 }) None ≡ [])
+arrow-none = (refl, refl, refl)
+
+-- of all blocks only one has an arrow: the block that was made has none
+arrows-all : arrows 1024 (extent_of lower) upper ≡ codes "<line x1=\"548\" x2=\"666\" y2=\"44\"/>\n"
+unfolding arrow digits
+arrows-all = refl
+
+-- back from the lower strip to the upper one, the block that was made has no arrow, since the upper one has none of it
+arrows-back : arrows 1024 (extent_of upper) lower ≡ codes "<line x1=\"666\" x2=\"548\" y2=\"44\"/>\n"
+unfolding arrow digits
+arrows-back = refl
+
+-- the scale is that of the largest zone
+scale-greatest : greatest_size (record { caption = codes "1 NewHandle 0"; lines = upper }
+    ∷ record { caption = codes "2 NewHandle 0"; lines = lower } ∷ record { caption = []; lines = [] } ∷ []) ≡ 1024
+scale-greatest = refl
+
+caption-escaped : moment_caption (codes "3 <NewHandle> 0") ≡ codes "<text x=\"-216\" y=\"70\">3 &lt;NewHandle&gt; 0</text>\n"
+caption-escaped = refl

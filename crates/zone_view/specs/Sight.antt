@@ -1,0 +1,12 @@
+use Rattle.std.specs.Prelude.{ℕ, List}
+use Rattle.script_text.specs.Script.{ScriptParts}
+use Rattle.res_calls.specs.Files.{Resources}
+use Rattle.zone_view.specs.Behind.{zone_behind}
+use Rattle.zone_view.specs.Moments.{moments_svg}
+use Rattle.zone_view.specs.declared.sight.Sight.{Sight}
+use Rattle.zone_view.specs.declared.sight.Sight.TheVariants as sight
+
+-- What is shown of an application with these resources, in a fresh partition of `size` bytes.
+abbrev pub sight_text : Sight → Resources → ℕ → ScriptParts → List ℕ
+sight_text (sight.Zone n form) resources size script = zone_behind form resources size script n
+sight_text (sight.Moments from to) resources size script = moments_svg resources size script from to
