@@ -23,7 +23,7 @@ named = refl
 
 -- a zone whose blocks are named by number
 abbrev shown : List Line
-shown = zone_lines (λ n. record { name = name_of n names; owner = None })
+shown = zone_lines (λ n. record { name = name_of n names; owner = None; number = None })
     (Masters ∷ Nonrelocatable 5 (replicate 20 0) ∷ Relocatable 4 no_flags [] ∷ Relocatable 3 no_flags (replicate 100 0)
     ∷ Free 560 ∷ [])
 
