@@ -115,9 +115,13 @@ sees asked out t a b d first second zone =
 -- the zone was printed, or not to its end
 pub shows : (asked : JobZone) (out sent : List ℕ) (p mid q : Option (List ℕ)) (old then new : Option (List Access))
     → mid ≡ p → sent ≡ out → Sees asked out old then → Delivers Printed sent mid q then new → Shows asked p q old new
-shows asked out sent p mid q old then new silent all seen h =
-    (out, then, seen, subst (λ x. Delivers Printed x p q then new) all
-    (subst (λ x. Delivers Printed sent x q then new) silent h))
+shows asked out sent p mid q old then new silent all seen h = (
+  out,
+  then,
+  seen,
+  subst (λ x. Delivers Printed x p q then new) all
+      (subst (λ x. Delivers Printed sent x q then new) silent h),
+)
 
 pub unprinted : (asked : JobZone) (out sent : List ℕ) (p mid q : Option (List ℕ)) (old then new : Option (List Access))
     (told : Message) → mid ≡ p → sent ≡ out → Sees asked out old then
