@@ -29,7 +29,7 @@ use raw_region::Region;
 use res_calls::Resources;
 use script_text::Script;
 use std::alloc::{AllocError, Global};
-use zone_view::{Form, steps_at};
+use zone_view::{Form, Sight, steps_at};
 
 /// A zone that is asked for: that of an application of a job.
 #[derive(Clone, Copy)]
@@ -105,7 +105,7 @@ fn show_alone(
     ensures { IfOk result (λ text. text.items ≡ zone_behind form resources size.bytes script.now n) }
 {
     let region = Region::new(alloc, size.bytes as usize)?;
-    let (shown, region) = show_in_region(alloc, region, resources, script, n, form);
+    let (shown, region) = show_in_region(alloc, region, resources, script, Sight::Zone(n, form));
     region.close();
     match shown {
         Ok(text) => Ok(text),

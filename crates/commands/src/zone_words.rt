@@ -9,7 +9,7 @@ use crate::parsing::{SCRIPT_HELP, SIZE_HELP, SIZE_WANTED, bad_value, flag, optio
 use crate::request::Request;
 use crate::size::{PartitionSize, has_digits_only};
 use crate::tasks::{Task, Work};
-use crate::work::ZoneView;
+use crate::work::{Lines, ZoneView};
 use clap::{Arg, ArgAction, ArgMatches, Command};
 use std::alloc::{AllocError, Global};
 use zone_view::Form;
@@ -100,6 +100,17 @@ fn unless_job<'a>(alloc: Global, name: &'a str, help: &'a str) -> Result<Arg<'a>
         .conflicts_with(JOB)
 }
 
+/// The name of the option for moments, without its two hyphens.
+const STEPS: &str = "steps";
+
+const STEPS_HELP: &str = concat!(
+    "Draw the zone behind line FROM of the script and behind each further call up to line TO, each as a strip, with an ",
+    "arrow for each block that moved from one to the next; only with --svg"
+);
+
+/// What is asked for in place of two lines that are none.
+const STEPS_WANTED: &str = "FROM..TO is asked for, two line numbers";
+
 /// Returns the command that shows a zone.
 pub fn heap_command<'a>(alloc: Global) -> Result<Command<'a>, AllocError> {
     Command::new(alloc, "heap")
@@ -109,10 +120,19 @@ pub fn heap_command<'a>(alloc: Global) -> Result<Command<'a>, AllocError> {
         .arg(option(alloc, AT, "LINE", AT_HELP))?
         .arg(flag(alloc, PLAIN, PLAIN_HELP).conflicts_with(SVG)?)?
         .arg(flag(alloc, SVG, SVG_HELP))?
+        .arg(steps_option(alloc)?)?
         .arg(option(alloc, JOB, "JOB", JOB_HELP).requires_arg(APP)?)?
         .arg(option(alloc, APP, "NAME", APP_HELP).requires_arg(JOB)?)?
         .arg(unless_job(alloc, "SIZE", SIZE_HELP)?)?
         .arg(unless_job(alloc, "SCRIPT", SCRIPT_HELP)?)
+}
+
+/// Returns the option for moments.
+fn steps_option<'a>(alloc: Global) -> Result<Arg<'a>, AllocError> {
+    option(alloc, STEPS, "FROM..TO", STEPS_HELP)
+        .requires_arg(SVG)?
+        .conflicts_with(AT)?
+        .conflicts_with(JOB)
 }
 
 /// Returns the fault of a value: what is asked for in its place.
@@ -155,22 +175,35 @@ fn line_in(alloc: Global, matches: &ArgMatches<'_>) -> Result<Option<usize>, Too
     }
 }
 
-/// Returns the zone that is asked for of a script alone.
-fn script_zone<'a>(
-    alloc: Global,
-    matches: &ArgMatches<'a>,
-    line: Option<usize>,
-) -> Result<Task<'a>, ToolFault>
+/// Reads the numbers of two lines, the first at most the second, with two dots between them.
+fn two_lines(text: &str) -> Option<(usize, usize)> {
+    let (from, to) = text.split_once("..")?;
+    let (from, to) = (line_number(from)?, line_number(to)?);
+    if from <= to { Some((from, to)) } else { None }
+}
+
+/// Returns behind which lines the zone is shown.
+fn lines_in(alloc: Global, matches: &ArgMatches<'_>) -> Result<Lines, ToolFault>
     ensures { IfErr result (λ fault. IsUsage (message_of fault)) }
 {
+    let Some(text) = matches.get_str(STEPS) else {
+        return Ok(Lines::One(line_in(alloc, matches)?, form_in(matches)));
+    };
+    match two_lines(text) {
+        Some((from, to)) => Ok(Lines::Each(from, to)),
+        None => Err(bad(alloc, "FROM..TO", text, STEPS_WANTED)?),
+    }
+}
+
+/// Returns what is asked for of a script alone.
+fn script_zone<'a>(alloc: Global, matches: &ArgMatches<'a>) -> Result<Task<'a>, ToolFault>
+    ensures { IfErr result (λ fault. IsUsage (message_of fault)) }
+{
+    let behind = lines_in(alloc, matches)?;
     let text = value(matches, "SIZE");
     match PartitionSize::read(text) {
         Some(size) => Ok(Task {
-            work: Work::Heap(ZoneView {
-                size,
-                line,
-                form: form_in(matches),
-            }),
+            work: Work::Heap(ZoneView { size, behind }),
             path: value(matches, "SCRIPT"),
             watched: false,
         }),
@@ -178,18 +211,28 @@ fn script_zone<'a>(
     }
 }
 
+/// Returns what is asked for of an application of a job.
+fn job_zone<'a>(
+    alloc: Global,
+    matches: &ArgMatches<'a>,
+    job: &'a str,
+) -> Result<JobZone<'a>, ToolFault>
+    ensures { IfErr result (λ fault. IsUsage (message_of fault)) }
+{
+    Ok(JobZone {
+        job,
+        app: value(matches, APP),
+        line: line_in(alloc, matches)?,
+        form: form_in(matches),
+    })
+}
+
 /// Returns what the words of the command ask for.
 pub fn heap_request<'a>(alloc: Global, matches: &ArgMatches<'a>) -> Result<Request<'a>, ToolFault>
     ensures { IfErr result (λ fault. IsUsage (message_of fault)) }
 {
-    let line = line_in(alloc, matches)?;
     match matches.get_str(JOB) {
-        Some(job) => Ok(Request::Show(JobZone {
-            job,
-            app: value(matches, APP),
-            line,
-            form: form_in(matches),
-        })),
-        None => Ok(Request::Look(script_zone(alloc, matches, line)?)),
+        Some(job) => Ok(Request::Show(job_zone(alloc, matches, job)?)),
+        None => Ok(Request::Look(script_zone(alloc, matches)?)),
     }
 }
