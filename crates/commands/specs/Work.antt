@@ -1,4 +1,4 @@
-use Rattle.std.specs.Prelude.{◌≡◌, ℕ, Ok, List, IsTrue, codes}
+use Rattle.std.specs.Prelude.{◌≡◌, ℕ, Ok, Some, List, IsTrue, codes}
 use Rattle.script_text.specs.Script.{ScriptParts, script_of, spelled}
 use Rattle.applications.specs.Alone.{script_alone}
 use Rattle.applications.specs.Trying.{own_resources}
@@ -6,10 +6,16 @@ use Rattle.fork_format.specs.Content.{Content}
 use Rattle.fork_format.specs.Canonical.{canon, fits}
 use Rattle.fork_wrappers.specs.Unwrapped.{wrapping_of}
 use Rattle.fork_commands.specs.Reading.{content_of_fork, fork_in, content_in}
-use Rattle.zone_view.specs.Behind.{zone_behind, steps_at}
+use Rattle.script_text.specs.declared.script.Line.{Line}
+use Rattle.zone_view.specs.Behind.{steps_at}
+use Rattle.zone_view.specs.Sight.{sight_text}
+use Rattle.zone_view.specs.declared.sight.Sight.{Sight}
+use Rattle.zone_view.specs.declared.sight.Sight.TheVariants as sight
 use Rattle.commands.specs.Listing.{listing}
 use Rattle.commands.specs.declared.listing.MapStyle.{MapStyle}
 use Rattle.commands.specs.declared.work.Form.{Form}
+use Rattle.commands.specs.declared.work.Lines.{Lines}
+use Rattle.commands.specs.declared.work.Lines.TheVariants as lines
 use Rattle.commands.specs.declared.work.ZoneView.{ZoneView}
 use Rattle.commands.specs.declared.work.Form.TheVariants.{Canonical, Accepted}
 
@@ -19,10 +25,16 @@ abbrev pub IsTranscriptOf : ℕ → List ℕ → List ℕ → Type 0
 IsTranscriptOf n text out =
     (script : ScriptParts) × (script_of text ≡ Ok (spelled script)) × (out ≡ (script_alone n script).transcript)
 
--- The zone of a script's application, in a form, behind the steps of the script's text up to a line.
+-- What is shown of an application with these steps: its zone behind the steps up to a line, in a form; or behind those up
+-- to one line and behind each further step up to another line, as a picture.
+abbrev pub sight_of : Lines → List Line → Sight
+sight_of (lines.One line form) steps = sight.Zone (steps_at line steps) form
+sight_of (lines.Each from to) steps = sight.Moments (steps_at (Some from) steps) (steps_at (Some to) steps)
+
+-- What is shown of a script's application, by the steps of the script's text.
 abbrev pub IsZoneOf : ZoneView → List ℕ → List ℕ → Type 0
 IsZoneOf asked text out = (script : ScriptParts) × (script_of text ≡ Ok (spelled script))
-    × (out ≡ zone_behind asked.form own_resources asked.size.bytes script (steps_at asked.line script.steps))
+    × (out ≡ sight_text (sight_of asked.behind script.steps) own_resources asked.size.bytes script)
 
 -- The listing of the resource fork in the bytes of a file: that of the content which the fork's bytes spell.
 abbrev pub IsListingOf : MapStyle → List ℕ → List ℕ → Type 0

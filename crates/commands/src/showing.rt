@@ -3,7 +3,7 @@
 ghost use Rattle.std.specs.Prelude.{◌≡◌, ◌%◌, ◌≤◌, [], length, IfOk};
 ghost use Rattle.block_store.specs.declared.measures.TheConstants.{GREATEST_ZONE, LEAST_ZONE};
 ghost use Rattle.applications.specs.Trying.{own_resources as own};
-ghost use Rattle.zone_view.specs.Behind.{zone_behind};
+ghost use Rattle.zone_view.specs.Sight.{sight_text};
 
 use applications::own_resources;
 use raw_region::Region;
@@ -11,10 +11,10 @@ use raw_zone::RawZone;
 use res_calls::Resources;
 use script_text::Script;
 use std::alloc::{AllocError, Global};
-use zone_view::{Form, show_behind};
+use zone_view::{Sight, show};
 
-/// Runs the first `n` steps of a script, as `show_behind` does, in a partition that fills a region, whatever the
-/// region's bytes were. Returns the zone in a form, and the region.
+/// Runs a script as far as is to be shown, as `show` does, in a partition that fills a region, whatever the region's
+/// bytes were. Returns what is shown, and the region.
 ///
 /// # Errors
 ///
@@ -24,27 +24,26 @@ fn show_in_region(
     region: Region,
     resources: Resources,
     script: &Script,
-    n: usize,
-    form: Form,
+    sight: Sight,
 ) -> (Result<Vec<u8>, AllocError>, Region)
     requires home { region.out ≡ [] }
     requires even { length region.bytes % 16 ≡ 0 }
     requires low { LEAST_ZONE ≤ length region.bytes }
     requires high { length region.bytes ≤ GREATEST_ZONE }
     ensures shown { IfOk result.0 (λ text. text.items
-        ≡ zone_behind form resources (length region.bytes) script.now n) }
+        ≡ sight_text sight resources (length region.bytes) script.now) }
     ensures home { result.1.out ≡ [] }
 {
     let mut region = region;
     let len = region.len();
     let zone = RawZone::new(alloc, region.cut(0, len));
-    let (shown, zone) = show_behind(alloc, zone, resources, script, n, form);
+    let (shown, zone) = show(alloc, zone, resources, script, sight);
     region.join(zone.into_part());
     (shown, region)
 }
 
-/// Runs the first `n` steps of a script in a partition that fills a region, as an application without resources, and
-/// returns the zone in a form, and the region.
+/// Runs a script as far as is to be shown in a partition that fills a region, as an application without resources.
+/// Returns what is shown, and the region.
 ///
 /// # Errors
 ///
@@ -53,22 +52,21 @@ pub fn show_script(
     alloc: Global,
     region: Region,
     script: &Script,
-    n: usize,
-    form: Form,
+    sight: Sight,
 ) -> (Result<Vec<u8>, AllocError>, Region)
     requires home { region.out ≡ [] }
     requires even { length region.bytes % 16 ≡ 0 }
     requires low { LEAST_ZONE ≤ length region.bytes }
     requires high { length region.bytes ≤ GREATEST_ZONE }
     ensures shown { IfOk result.0 (λ text. text.items
-        ≡ zone_behind form own (length region.bytes) script.now n) }
+        ≡ sight_text sight own (length region.bytes) script.now) }
     ensures home { result.1.out ≡ [] }
 {
     let resources = match own_resources(alloc) {
         Ok(resources) => resources,
         Err(fault) => return (Err(fault), region),
     };
-    let (shown, region) = show_in_region(alloc, region, resources, script, n, form);
+    let (shown, region) = show_in_region(alloc, region, resources, script, sight);
     match shown {
         Ok(text) => (Ok(text), region),
         Err(fault) => (Err(fault), region),

@@ -9,6 +9,7 @@ ghost use Rattle.fork_commands.specs.Faults.{Stops};
 ghost use Rattle.fork_commands.specs.Reading.{content_of_fork, content_in};
 ghost use Rattle.commands.specs.Listing.{listing};
 ghost use Rattle.commands.specs.Work.{IsTranscriptOf, IsZoneOf, IsListingOf, IsForkForm, IsFormOf, TellsForm, text_of};
+ghost use Rattle.commands.specs.Work.{sight_of};
 
 use crate::listing::{Listing, MapStyle};
 use crate::showing::show_script;
@@ -20,7 +21,7 @@ use fork_format::{Content, WriteFault, write_fork};
 use raw_region::Region;
 use script_text::{FaultKind, Script, ScriptFault, read_script};
 use std::alloc::{AllocError, Global};
-use zone_view::{Form as ZoneForm, steps_at};
+use zone_view::{Form as ZoneForm, Sight, steps_at};
 
 /// The form of a resource fork: what its bytes are to its content.
 #[derive(Clone, Copy)]
@@ -75,18 +76,38 @@ pub fn transcript_of<W: Watch>(
     }
 }
 
+/// Behind which lines of its script a zone is shown.
+#[derive(Clone, Copy)]
+pub enum Lines {
+    /// Behind this line, or where none is given behind the last step, in a form.
+    One(Option<usize>, ZoneForm),
+    /// Behind the first line, and behind each further step up to the second line, as a picture.
+    Each(usize, usize),
+}
+
 /// A zone that is asked for: that of a script in a partition of this size.
 #[derive(Clone, Copy)]
 pub struct ZoneView {
     pub size: PartitionSize,
-    /// The line of the script behind which the zone lies; `None` for its last step.
-    pub line: Option<usize>,
-    pub form: ZoneForm,
+    pub behind: Lines,
 }
 
-/// Runs a script up to a line in a fresh partition, which is a region of its own, and returns the zone as it then lies.
+/// Returns what is shown of a script's application.
+fn sight_of(behind: Lines, script: &Script) -> Sight
+    ensures { result ≡ sight_of behind script.now.steps }
+{
+    match behind {
+        Lines::One(line, form) => Sight::Zone(steps_at(line, script), form),
+        Lines::Each(from, to) => {
+            Sight::Moments(steps_at(Some(from), script), steps_at(Some(to), script))
+        }
+    }
+}
+
+/// Runs a script up to a line in a fresh partition, which is a region of its own, and returns the zone as it then lies, or
+/// a picture of its moments.
 pub fn zone_of(alloc: Global, asked: ZoneView, text: &[u8]) -> Result<Vec<u8>, ScriptFault>
-    // The zone is that of the script's application behind the steps up to that line.
+    // The zone is that of the script's application behind the steps up to the lines.
     ensures zone { IfOk result (λ out. IsZoneOf asked text.now out.items) }
 
     // The fault is the first faulty line, or that the host is out of memory.
@@ -96,8 +117,8 @@ pub fn zone_of(alloc: Global, asked: ZoneView, text: &[u8]) -> Result<Vec<u8>, S
     let Ok(region) = Region::new(alloc, asked.size.bytes as usize) else {
         return Err(NO_MEMORY);
     };
-    let steps = steps_at(asked.line, &script);
-    let (shown, region) = show_script(alloc, region, &script, steps, asked.form);
+    let sight = sight_of(asked.behind, &script);
+    let (shown, region) = show_script(alloc, region, &script, sight);
     region.close();
     match shown {
         Ok(shown) => Ok(shown),

@@ -9,8 +9,8 @@ use crate::parsing::{
 };
 use crate::size::{PartitionSize, has_digits_only};
 use crate::tasks::{Task, Work};
-use crate::work::ZoneView;
-use clap::{ArgMatches, Command};
+use crate::work::{Lines, ZoneView};
+use clap::{Arg, ArgMatches, Command};
 use std::alloc::{AllocError, Global};
 use zone_view::Form;
 
@@ -70,6 +70,17 @@ const SVG: &str = "svg";
 
 const SVG_HELP: &str = "Print a picture as SVG";
 
+/// The name of the option for moments, without its two hyphens.
+const STEPS: &str = "steps";
+
+const STEPS_HELP: &str = concat!(
+    "Draw the zone behind line FROM of the script and behind each further call up to line TO, each as a strip, with an ",
+    "arrow for each block that moved from one to the next; only with --svg"
+);
+
+/// What is asked for in place of two lines that are none.
+const STEPS_WANTED: &str = "FROM..TO is asked for, two line numbers";
+
 /// Returns the command that shows a zone.
 pub fn heap_command<'a>(alloc: Global) -> Result<Command<'a>, AllocError> {
     Command::new(alloc, "heap")
@@ -78,8 +89,16 @@ pub fn heap_command<'a>(alloc: Global) -> Result<Command<'a>, AllocError> {
         .arg(option(alloc, AT, "LINE", AT_HELP))?
         .arg(flag(alloc, PLAIN, PLAIN_HELP).conflicts_with(SVG)?)?
         .arg(flag(alloc, SVG, SVG_HELP))?
+        .arg(steps_option(alloc)?)?
         .arg(argument(alloc, "SIZE", SIZE_HELP))?
         .arg(argument(alloc, "SCRIPT", SCRIPT_HELP))
+}
+
+/// Returns the option for moments.
+fn steps_option<'a>(alloc: Global) -> Result<Arg<'a>, AllocError> {
+    option(alloc, STEPS, "FROM..TO", STEPS_HELP)
+        .requires_arg(SVG)?
+        .conflicts_with(AT)
 }
 
 /// Returns the fault of a value: what is asked for in its place.
@@ -122,19 +141,35 @@ fn line_in(alloc: Global, matches: &ArgMatches<'_>) -> Result<Option<usize>, Too
     }
 }
 
+/// Reads the numbers of two lines, the first at most the second, with two dots between them.
+fn two_lines(text: &str) -> Option<(usize, usize)> {
+    let (from, to) = text.split_once("..")?;
+    let (from, to) = (line_number(from)?, line_number(to)?);
+    if from <= to { Some((from, to)) } else { None }
+}
+
+/// Returns behind which lines the zone is shown.
+fn lines_in(alloc: Global, matches: &ArgMatches<'_>) -> Result<Lines, ToolFault>
+    ensures { IfErr result (λ fault. IsUsage (message_of fault)) }
+{
+    let Some(text) = matches.get_str(STEPS) else {
+        return Ok(Lines::One(line_in(alloc, matches)?, form_in(matches)));
+    };
+    match two_lines(text) {
+        Some((from, to)) => Ok(Lines::Each(from, to)),
+        None => Err(bad(alloc, "FROM..TO", text, STEPS_WANTED)?),
+    }
+}
+
 /// Returns what the words of the command ask for.
 pub fn heap_task<'a>(alloc: Global, matches: &ArgMatches<'a>) -> Result<Task<'a>, ToolFault>
     ensures { IfErr result (λ fault. IsUsage (message_of fault)) }
 {
-    let line = line_in(alloc, matches)?;
+    let behind = lines_in(alloc, matches)?;
     let text = value(matches, "SIZE");
     match PartitionSize::read(text) {
         Some(size) => Ok(Task {
-            work: Work::Heap(ZoneView {
-                size,
-                line,
-                form: form_in(matches),
-            }),
+            work: Work::Heap(ZoneView { size, behind }),
             path: value(matches, "SCRIPT"),
             watched: false,
         }),
