@@ -3,3 +3,4 @@ pub mod Numbered
 pub mod Forms
 pub mod Following
 mod MomentRows
+mod Rows
