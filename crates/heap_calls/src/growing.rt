@@ -25,7 +25,9 @@ ghost use Rattle.block_store.specs.declared.measures.TheConstants.{GREATEST_ZONE
 
 use crate::anchor::Anchor;
 use crate::growing_in_place::{Grown, bytes_at};
-use crate::least::{FindsFewest, Sought, any_goes, fewest_by_searches, fewest_within, least_search};
+use crate::least::{
+    FindsFewest, Sought, any_goes, fewest_by_searches, fewest_within, least_search,
+};
 use crate::search::{Placement, placement_after};
 use crate::sink::PurgeSink;
 use crate::telling::tell;

@@ -1,17 +1,15 @@
-use Rattle.std.proofs.Common.{◌≡◌, ℕ, ◌+◌, ◌≤◌, ◌<◌, zero, suc, nat_lt, Bool, true, false, cond, inl}
-use Rattle.std.proofs.Common.{Option, Some, None, is_some, MatchOption, IsSomeAnd, List, refl, sym, ◌∙◌, ap, subst, arith}
+use Rattle.std.proofs.Common.{◌≡◌, ℕ, ◌+◌, ◌≤◌, ◌<◌, zero, suc, nat_lt, Bool, true, false, cond}
+use Rattle.std.proofs.Common.{Option, Some, None, is_some, IsSomeAnd, List, refl, sym, ◌∙◌, ap, subst, arith}
 use Rattle.std.specs.Option.{option_or}
-use Rattle.std.proofs.lemmas.Bool.{true≢false}
 use Rattle.std.proofs.lemmas.Bool.Decides.{nat_tests}
 use Rattle.block_store.specs.Block.{Block, size, is_relocatable}
 use Rattle.block_store.specs.Room.{Spot, spot, least, may_be_purged, place}
 use Rattle.block_store.specs.Grow.{growth, grow_mover}
 use Rattle.block_store.specs.Find.{FindsLowest}
 use Rattle.block_store.specs.Compact.{least_or_last}
-use Rattle.block_store.specs.Fewest.{serves, IsFewest}
+use Rattle.block_store.specs.Fewest.{serves}
 use Rattle.block_store.specs.Sparing.{spared, purged, most_purges}
 use Rattle.block_store.specs.declared.sparing.Sparing.{Sparing}
-use Rattle.block_store.proofs.Plain.Trials.{least_or_last-at}
 use Rattle.block_store.proofs.Purged.Growing.{placed-is, grows-placed}
 use Rattle.heap_calls.specs.Inner.Search.{tries, FindsPlacement}
 use Rattle.heap_calls.specs.Inner.Growing.{FindsGrowth, grown}
@@ -56,27 +54,6 @@ least-of answer n k e = least-last answer n ∙ ap answer (sym e)
 pub tries-of : {A : Type 0} (answer : ℕ → Option A) (n k : ℕ) → k ≡ least_or_last (λ j. is_some (answer j)) n
     → k + 1 ≡ tries answer n
 tries-of answer n k e = ap (λ m. m + 1) e ∙ sym (tries-last answer n)
-
--- the least number that serves is such a number, where no further purge changes anything
-pub fewest-last : (test : ℕ → Bool) (most k : ℕ) → ((j : ℕ) → most ≤ j → test j ≡ test most) → IsFewest test k
-    → k ≡ least_or_last test most
-fewest-last test most k ends fewest = sym (least_or_last-at test most k (le (nat_lt most k) refl) fewest.below
-    (inl fewest.there))
-  where
-    le : (t : Bool) → nat_lt most k ≡ t → k ≤ most
-    le true e =
-        let less : most < k = grind (arith, nat_tests, e) in
-        absurd (true≢false (sym fewest.there ∙ ends k (omega (arith, less)) ∙ fewest.below most less))
-    le false e = grind (arith, nat_tests, e)
-
--- it is the same of a test that answers the same
-pub fewest-same : (test other : ℕ → Bool) → ((k : ℕ) → test k ≡ other k) → (most : ℕ) (r : Option ℕ)
-    → MatchOption r ((k : ℕ) → other k ≡ false) (IsFewest other) → MatchOption r (test most ≡ false) (IsFewest test)
-fewest-same test other same most None none = same most ∙ none most
-fewest-same test other same most (Some k) fewest = record {
-  there = same k ∙ fewest.there;
-  below = λ j less. same j ∙ fewest.below j less;
-}
 
 -- what a search for the next block to go tells
 pub next-goes : (n : Sparing) (k : ℕ) (zone : List Block) (r : Option ℕ)

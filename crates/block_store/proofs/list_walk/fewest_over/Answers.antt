@@ -16,6 +16,6 @@ loop-purges-init c = record {
 pub returns : goal.returns
 returns c =
     let most : most_purges c.args.sparing (blocks_of c.args.entries.now) ≤ c.loop-purges.purges =
-        grind (arith, nat_tests, c.purgeable_in-most.ensures, c.loop-purges-test.false, c.walk_over.ensures) in
+    grind (arith, nat_tests, c.purgeable_in-most.ensures, c.loop-purges-test.false, c.walk_over.ensures) in
     none-serve c.args.bytes c.args.sparing (blocks_of c.args.entries.now) c.loop-purges.purges most
     c.loop-purges.invariant.none

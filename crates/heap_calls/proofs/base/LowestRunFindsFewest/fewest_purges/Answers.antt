@@ -1,7 +1,7 @@
 use Rattle.std.proofs.Common.{refl}
 use Rattle.block_store.specs.Sparing.{most_purges}
 use Rattle.block_store.specs.Fewest.{serves}
-use Rattle.heap_calls.proofs.Room.LeastSearches.{fewest-same}
+use Rattle.block_store.proofs.Plain.Trials.{fewest-same}
 use Rattle.heap_calls.proofs.base.LowestRunFindsFewest.fewest_purges.Goals as goal
 
 pub returns : goal.returns

@@ -3,7 +3,7 @@ use Rattle.block_store.specs.Room.{place}
 use Rattle.block_store.specs.Sparing.{purged, most_purges}
 use Rattle.block_store.specs.Fewest.{serves}
 use Rattle.block_store.proofs.Purged.Growing.{placed-is}
-use Rattle.heap_calls.proofs.Room.LeastSearches.{fewest-same}
+use Rattle.block_store.proofs.Plain.Trials.{fewest-same}
 use Rattle.heap_calls.proofs.search.LowestPlacementFindsFewest.fewest_purges.Goals as goal
 
 pub fewest_purges-requires : goal.fewest_purges-requires
