@@ -10,3 +10,4 @@ pub mod Runs
 pub mod Contents
 pub mod Places
 mod Rows
+mod Called

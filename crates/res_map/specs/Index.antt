@@ -1,30 +1,32 @@
-use Rattle.std.specs.Prelude.{◌≡◌, ℕ, ℤ, ◌+◌, ◌-◌, ◌*◌, Bool, ◌&&◌, ◌==◌, Option, Some, None, List, [], ◌∷◌, if◌then◌else◌}
+use Rattle.std.specs.Prelude.{◌≡◌, ℕ, ℤ, ◌+◌, ◌-◌, ◌*◌, Bool, false, ◌&&◌, ◌==◌, Option, Some, None, List, [], ◌∷◌, if◌then◌else◌}
 use Rattle.std.specs.Prelude.{option_map, nat_le, nat_lt, min, ◌<◌, ◌^◌, IfSome}
-use Rattle.std.specs.Int.{cast_unsigned, w16}
+use Rattle.std.specs.Int.{cast_unsigned, w32}
 use Rattle.std.specs.List.Sorted.{IsNonDecreasingBy}
 use Rattle.std.specs.Ordering.{int_eq}
 use Rattle.res_map.specs.Split.{split, place}
+use Rattle.res_map.specs.Print.{print}
 use Rattle.res_map.specs.Map.{Reference}
 use Rattle.res_map.specs.declared.index.Row.{Row}
 
--- An index of references: rows, each with the place of a reference, that stand in an order by type and ID.
+-- An index of references: rows, each with the place of a reference, that stand in an order by type and key. The key is
+-- an ID, or the print of a name.
 
--- The number of a type and ID in the order of the rows.
+-- The number of a type and key in the order of the rows.
 abbrev pub rank : ℕ → ℤ → ℕ
-rank kind id = kind * 65536 + cast_unsigned w16 id
+rank kind key = kind * 4294967296 + cast_unsigned w32 key
 
--- The number of a row's type and ID.
+-- The number of a row's type and key.
 abbrev pub rank_of : Row → ℕ
-rank_of row = rank row.kind row.id
+rank_of row = rank row.kind row.key
 
--- The row is of the type and ID.
+-- The row is of the type and key.
 abbrev pub is_row : ℕ → ℤ → Row → Bool
-is_row kind id row = row.kind == kind && int_eq row.id id
+is_row kind key row = row.kind == kind && int_eq row.key key
 
--- The place in the first row of the type and ID, if there is such a row.
+-- The place in the first row of the type and key, if there is such a row.
 abbrev pub place_in : ℕ → ℤ → List Row → Option ℕ
-place_in kind id [] = None
-place_in kind id (row ∷ rows) = if is_row kind id row then Some row.place else place_in kind id rows
+place_in kind key [] = None
+place_in kind key (row ∷ rows) = if is_row kind key row then Some row.place else place_in kind key rows
 
 -- The place of the first item that passes the test.
 abbrev pub first_place : {A : Type 0} → (A → Bool) → List A → Option ℕ
@@ -34,19 +36,49 @@ first_place test xs = option_map place (split test xs)
 abbrev pub IsRising : List Row → Type 0
 IsRising rows = IsNonDecreasingBy rank_of rows
 
--- The rows are in order, and tell of each type and ID the place of the first reference that passes the test for them.
+-- The rows are in order, and tell of each type and key the place of the first reference that passes the test for them.
 pub record IsIndex (test : ℕ → ℤ → Reference → Bool) (rows : List Row) (references : List Reference) : Type 0 where
   pub rising : IsRising rows
-  pub tells : (kind : ℕ) (id : ℤ) → place_in kind id rows ≡ first_place (test kind id) references
+  pub tells : (kind : ℕ) (key : ℤ) → place_in kind key rows ≡ first_place (test kind key) references
 
--- The new rows tell this place, or none, of the type and ID, and of all others what the old ones tell.
+-- The reference passes the test for the type and key, and for no others.
+abbrev pub IsAt : (ℕ → ℤ → Reference → Bool) → ℕ → ℤ → Reference → Type 0
+IsAt test kind key r = (k : ℕ) (i : ℤ) → test k i r ≡ (kind == k && int_eq key i)
+
+-- The reference passes the test for the type and key of its row, and for no others; with no row, for none.
+abbrev pub is_own : Option Row → ℕ → ℤ → Bool
+is_own None k i = false
+is_own (Some row) k i = row.kind == k && int_eq row.key i
+
+abbrev pub IsRowOf : (ℕ → ℤ → Reference → Bool) → Option Row → Reference → Type 0
+IsRowOf test row r = (k : ℕ) (i : ℤ) → test k i r ≡ is_own row k i
+
+-- The reference has a name, and it is of the type and its name has the print.
+abbrev pub has_print : ℤ → Option (List ℕ) → Bool
+has_print key None = false
+has_print key (Some name) = int_eq (print name) key
+
+abbrev pub is_printed : ℕ → ℤ → Reference → Bool
+is_printed kind key r = r.kind == kind && has_print key r.stored.name
+
+-- The row by name of a reference at a place, if it has a name.
+abbrev pub named_row : ℕ → ℕ → Option (List ℕ) → Option Row
+named_row place kind None = None
+named_row place kind (Some name) = Some (record { kind = kind; key = print name; place = place })
+
+-- The rows of one that may be there.
+abbrev pub rows_in : Option Row → List Row
+rows_in None = []
+rows_in (Some row) = row ∷ []
+
+-- The new rows tell this place, or none, of the type and key, and of all others what the old ones tell.
 abbrev pub IsToldAs : ℕ → ℤ → Option ℕ → List Row → List Row → Type 0
-IsToldAs kind id place old new = (k : ℕ) (i : ℤ) → place_in k i new
-    ≡ (if kind == k && int_eq id i then place else place_in k i old)
+IsToldAs kind key place old new = (k : ℕ) (i : ℤ) → place_in k i new
+    ≡ (if kind == k && int_eq key i then place else place_in k i old)
 
 -- Each place that the rows tell is below n.
 abbrev pub IsWithin : ℕ → List Row → Type 0
-IsWithin n rows = (kind : ℕ) (id : ℤ) → IfSome (place_in kind id rows) (λ p. p < n)
+IsWithin n rows = (kind : ℕ) (key : ℤ) → IfSome (place_in kind key rows) (λ p. p < n)
 
 -- The row with another place.
 abbrev pub moved : (ℕ → ℕ) → Row → Row

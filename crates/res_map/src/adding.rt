@@ -4,12 +4,13 @@ ghost use Rattle.std.specs.Prelude.{◌≡◌, ◌<◌, ◌≤◌, ◌==◌, not
 ghost use Rattle.std.specs.Prelude.{IfOk, OnOk, OnErr};
 ghost use Rattle.std.specs.List.{insert, remove};
 ghost use Rattle.res_map.specs.Map.{IsOrdered, is_resource, added, new_reference};
-ghost use Rattle.res_map.specs.Index.{IsIndex};
+ghost use Rattle.std.specs.Prelude.{option_map};
+ghost use Rattle.res_map.specs.Index.{IsIndex, is_printed, moved};
 ghost use Rattle.res_map.specs.Inner.{end_of};
 ghost use Rattle.res_map.specs.View.{view_reference};
 
 use crate::changing::name_of;
-use crate::index::{Row, enter, leave, row_at};
+use crate::index::{Row, enter, enter_any, leave, leave_named, named_row_at, named_row_of, row_at};
 use crate::search::{end_of, place_of};
 use crate::stored::{Rest, StoredReference};
 use mac_words::{Attrs, Name};
@@ -103,11 +104,22 @@ fn put_in(
     }
 }
 
-/// Adds a reference as `put_in` does, and tells the index of it.
+/// Returns a row with another place, if there is one.
+fn row_placed(row: Option<Row>, place: usize) -> Option<Row>
+    ensures { result ≡ option_map (moved (λ p. place)) row }
+{
+    match row {
+        None => None,
+        Some(row) => Some(Row { place, ..row }),
+    }
+}
+
+/// Adds a reference as `put_in` does, and tells the indexes of it.
 pub fn put_in_file(
     kinds: &mut Vec<u32>,
     refs: &mut Vec<StoredReference>,
     rows: &mut Vec<Row>,
+    names: &mut Vec<Row>,
     new: StoredReference,
 ) -> Result<(), AllocError>
     ensures added { OnOk result (map view_reference refs.new.items
@@ -117,11 +129,16 @@ pub fn put_in_file(
         → IsOrdered kinds.new.items (map view_reference refs.new.items) }
     ensures indexed { IsIndex is_resource rows.old.items (map view_reference refs.old.items)
         → IsIndex is_resource rows.new.items (map view_reference refs.new.items) }
+    ensures named { IsIndex is_printed names.old.items (map view_reference refs.old.items)
+        → IsIndex is_printed names.new.items (map view_reference refs.new.items) }
 {
     rows.reserve(1)?;
-    let (kind, id, len) = (new.kind, new.id, refs.len());
+    names.reserve(1)?;
+    let (kind, key, len) = (new.kind, new.id as i32, refs.len());
+    let named = named_row_of(&new, 0);
     let place = put_in(kinds, refs, new)?;
-    enter(rows, Row { kind, id, place }, len);
+    enter(rows, Row { kind, key, place }, len);
+    enter_any(names, row_placed(named, place), place, len);
     Ok(())
 }
 
@@ -146,11 +163,12 @@ fn take_out(kinds: &mut Vec<u32>, refs: &mut Vec<StoredReference>, index: usize)
     }
 }
 
-/// Removes the reference at a place as `take_out` does, and tells the index of it.
+/// Removes the reference at a place as `take_out` does, and tells the indexes of it.
 pub fn take_out_of_file(
     kinds: &mut Vec<u32>,
     refs: &mut Vec<StoredReference>,
     rows: &mut Vec<Row>,
+    names: &mut Vec<Row>,
     index: usize,
 )
     requires { index < length refs.old.items }
@@ -159,8 +177,12 @@ pub fn take_out_of_file(
         → IsOrdered kinds.new.items (map view_reference refs.new.items) }
     ensures indexed { IsIndex is_resource rows.old.items (map view_reference refs.old.items)
         → IsIndex is_resource rows.new.items (map view_reference refs.new.items) }
+    ensures named { IsIndex is_printed names.old.items (map view_reference refs.old.items)
+        → IsIndex is_printed names.new.items (map view_reference refs.new.items) }
 {
     let row = row_at(refs.as_slice(), index);
+    let named = named_row_at(refs.as_slice(), index);
     take_out(kinds, refs, index);
-    leave(rows, row, place_of(refs.as_slice(), row.kind, row.id));
+    leave(rows, row, place_of(refs.as_slice(), row.kind, row.key));
+    leave_named(names, refs.as_slice(), named, index);
 }

@@ -4,12 +4,13 @@ ghost use Rattle.std.specs.Prelude.{◌≡◌, ◌<◌, ◌≤◌, Some, None, l
 ghost use Rattle.std.specs.Prelude.{List, ℕ, IfOk, IfSome, OnOk, OnErr};
 ghost use Rattle.windows.specs.Writes.{written};
 ghost use Rattle.res_map.specs.Map.{IsOrdered, with_handle, with_attrs, stored_anew, with_datum, resized_datum};
-ghost use Rattle.res_map.specs.Map.{is_resource, name_by, renamed};
-ghost use Rattle.res_map.specs.Index.{IsIndex};
+ghost use Rattle.res_map.specs.Map.{Reference, is_resource, name_by, renamed};
+ghost use Rattle.res_map.specs.Index.{IsIndex, is_printed, named_row};
 ghost use Rattle.res_map.specs.declared.index.Row.{Row};
 ghost use Rattle.res_map.specs.View.{view_name, view_reference};
 
-use crate::index::{Row, enter_renamed, row_at};
+use crate::index::{Row, enter_named, enter_renamed, named_row_at, row_at};
+use crate::prints::print_of;
 use crate::search::place_of;
 use crate::stored::{StoredName, StoredReference};
 use mac_words::{Attrs, Name};
@@ -85,6 +86,7 @@ fn write(r: &mut StoredReference, from: usize, bytes: &[u8]) -> Result<(), Alloc
     ensures kept { OnErr result (view_reference r.new ≡ view_reference r.old) }
     ensures kind { r.new.kind ≡ r.old.kind }
     ensures id { r.new.id ≡ r.old.id }
+    ensures name { (view_reference r.new).stored.name ≡ (view_reference r.old).stored.name }
 {
     overwrite(&mut r.rest.datum, from, bytes)
 }
@@ -107,6 +109,8 @@ pub fn put_bytes(
         → IsOrdered kinds (map view_reference refs.new.items) }
     ensures indexed { (rows : List Row) → IsIndex is_resource rows (map view_reference refs.old.items)
         → IsIndex is_resource rows (map view_reference refs.new.items) }
+    ensures named { (rows : List Row) → IsIndex is_printed rows (map view_reference refs.old.items)
+        → IsIndex is_printed rows (map view_reference refs.new.items) }
 {
     write(&mut refs[index], from, bytes)
 }
@@ -118,6 +122,7 @@ fn resize(r: &mut StoredReference, size: usize) -> Result<(), AllocError>
     ensures kept { OnErr result (view_reference r.new ≡ view_reference r.old) }
     ensures kind { r.new.kind ≡ r.old.kind }
     ensures id { r.new.id ≡ r.old.id }
+    ensures name { (view_reference r.new).stored.name ≡ (view_reference r.old).stored.name }
 {
     r.rest.datum.resize(size, 0)
 }
@@ -137,6 +142,8 @@ pub fn put_size(
         → IsOrdered kinds (map view_reference refs.new.items) }
     ensures indexed { (rows : List Row) → IsIndex is_resource rows (map view_reference refs.old.items)
         → IsIndex is_resource rows (map view_reference refs.new.items) }
+    ensures named { (rows : List Row) → IsIndex is_printed rows (map view_reference refs.old.items)
+        → IsIndex is_printed rows (map view_reference refs.new.items) }
 {
     resize(&mut refs[index], size)
 }
@@ -150,7 +157,8 @@ pub fn name_of(alloc: Global, name: &Name) -> Result<Option<StoredName>, AllocEr
         return Ok(None);
     }
     let bytes = Vec::from_slice(alloc, text)?;
-    Ok(Some(StoredName { bytes }))
+    let mark = print_of(text);
+    Ok(Some(StoredName { bytes, mark }))
 }
 
 /// Sets the ID of a reference, and its name where a name is given.
@@ -203,14 +211,32 @@ fn put_name_told(
 {
     let old = row_at(refs.as_slice(), index);
     put_name(refs, index, id, text, name);
-    let first = place_of(refs.as_slice(), old.kind, old.id);
-    enter_renamed(rows, Row { id, ..old }, old.id, first);
+    let first = place_of(refs.as_slice(), old.kind, old.key);
+    let key = id as i32;
+    enter_renamed(rows, Row { key, ..old }, old.key, first);
 }
 
-/// Sets the ID of the reference at a place, and its name where a name is given, and tells the index of it.
+/// Tells the index by name of the reference at a place, which had a row, or none; it has a row now where it had one. There
+/// is room for a row.
+fn tell_name(names: &mut Vec<Row>, refs: &[StoredReference], old: Option<Row>, index: usize)
+    requires { index < length refs.now }
+    ensures { vec_len names.old < vec_capacity names.old → (references : List Reference) (was new : Reference)
+        → slice_get references index ≡ Some was → old ≡ named_row index was.kind was.stored.name
+        → new.kind ≡ was.kind → (new.stored.name ≡ None → was.stored.name ≡ None)
+        → map view_reference refs.now ≡ slice_set references index new
+        → IsIndex is_printed names.old.items references
+        → IsIndex is_printed names.new.items (slice_set references index new) }
+{
+    if let Some(row) = named_row_at(refs, index) {
+        enter_named(names, refs, row, old);
+    }
+}
+
+/// Sets the ID of the reference at a place, and its name where a name is given, and tells the indexes of it.
 pub fn put_name_in_file(
     refs: &mut Vec<StoredReference>,
     rows: &mut Vec<Row>,
+    names: &mut Vec<Row>,
     index: usize,
     id: i16,
     text: &[u8],
@@ -226,8 +252,13 @@ pub fn put_name_in_file(
         → IsOrdered kinds (map view_reference refs.new.items) }
     ensures indexed { IsIndex is_resource rows.old.items (map view_reference refs.old.items)
         → IsIndex is_resource rows.new.items (map view_reference refs.new.items) }
+    ensures named { IsIndex is_printed names.old.items (map view_reference refs.old.items)
+        → IsIndex is_printed names.new.items (map view_reference refs.new.items) }
 {
     rows.reserve(1)?;
+    names.reserve(1)?;
+    let old = named_row_at(refs.as_slice(), index);
     put_name_told(refs, rows, index, id, text, name);
+    tell_name(names, refs.as_slice(), old, index);
     Ok(())
 }

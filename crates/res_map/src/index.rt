@@ -1,103 +1,129 @@
 //! An index of references: rows that are searched by halving.
 
 ghost use Rattle.std.specs.Prelude.{◌≡◌, ◌≢◌, ◌<◌, ◌≤◌, true, false, ℕ, ℤ, length, vec_len, map, OnOk, IfOk};
-ghost use Rattle.std.specs.Prelude.{vec_capacity, nat_lt, option_map, None, Some, IfSome, List, slice_get, slice_set};
+ghost use Rattle.std.specs.Prelude.{Bool, ◌++◌, vec_capacity, nat_lt, option_map, None, Some, IfSome, List, slice_get, slice_set};
 ghost use Rattle.std.specs.List.{insert, remove};
 ghost use Rattle.std.specs.Ordering.{nat_cmp};
 ghost use Rattle.std.specs.List.Sorted.{IsPartitionPoint};
 ghost use Rattle.res_map.specs.Map.{Reference, is_resource};
+ghost use Rattle.res_map.specs.Index.{IsAt, IsRowOf, is_printed, named_row, rows_in};
 ghost use Rattle.res_map.specs.Index.{IsIndex, IsRising, IsToldAs, IsWithin, rank, rank_of};
 ghost use Rattle.res_map.specs.Index.{is_row, place_in, first_place};
 ghost use Rattle.res_map.specs.Index.{moved, raised, raised_within, lowered, sooner};
 ghost use Rattle.res_map.specs.View.{view_reference};
 
+use crate::search::place_printed;
 use crate::stored::StoredReference;
 use std::alloc::{AllocError, Global};
 use std::cmp::Ordering;
 
-/// A row of an index: a type and ID, and the place of a reference that has them.
+/// A row of an index: a type and key, and the place of a reference that has them. The key is an ID, or the print of a
+/// name.
 #[derive(Clone, Copy)]
 pub struct Row {
     /// The type, as a number.
     pub kind: u32,
-    pub id: i16,
+    pub key: i32,
     pub place: usize,
 }
 
-/// Compares the types and IDs of two rows.
+/// Compares the types and keys of two rows.
 fn order(a: &Row, b: &Row) -> Ordering
     ensures { result ≡ nat_cmp (rank_of a.now) (rank_of b.now) }
 {
-    let ids = a.id.cast_unsigned().cmp(&b.id.cast_unsigned());
-    a.kind.cmp(&b.kind).then(ids)
+    let keys = a.key.cast_unsigned().cmp(&b.key.cast_unsigned());
+    a.kind.cmp(&b.kind).then(keys)
 }
 
-/// Reports whether a row stands before those of a type and ID.
-fn is_below(row: &Row, kind: u32, id: i16) -> bool
-    ensures { result ≡ nat_lt (rank_of row.now) (rank kind id) }
+/// Reports whether a row stands before those of a type and key.
+fn is_below(row: &Row, kind: u32, key: i32) -> bool
+    ensures { result ≡ nat_lt (rank_of row.now) (rank kind key) }
 {
-    let (own, other) = (row.id.cast_unsigned(), id.cast_unsigned());
+    let (own, other) = (row.key.cast_unsigned(), key.cast_unsigned());
     row.kind < kind || (row.kind == kind && own < other)
 }
 
-/// Reports whether a row is of a type and ID.
-fn is_at(row: &Row, kind: u32, id: i16) -> bool
-    ensures at { result ≡ is_row kind id row.now }
-    ensures rank { rank_of row.now ≡ rank kind id → result ≡ true }
+/// Reports whether a row is of a type and key.
+fn is_at(row: &Row, kind: u32, key: i32) -> bool
+    ensures at { result ≡ is_row kind key row.now }
+    ensures rank { rank_of row.now ≡ rank kind key → result ≡ true }
 {
-    let own = row.id;
-    row.kind == kind && own == id
+    let own = row.key;
+    row.kind == kind && own == key
 }
 
-/// Returns the number of rows that stand before those of a type and ID.
-fn rows_below(rows: &[Row], kind: u32, id: i16) -> usize
+/// Returns the number of rows that stand before those of a type and key.
+fn rows_below(rows: &[Row], kind: u32, key: i32) -> usize
     ensures inside { result ≤ length rows.now }
-    ensures point { IsRising rows.now → IsPartitionPoint (λ r. nat_lt (rank_of r) (rank kind id) ≡ true)
-        (λ r. nat_lt (rank_of r) (rank kind id) ≡ false) rows.now result }
+    ensures point { IsRising rows.now → IsPartitionPoint (λ r. nat_lt (rank_of r) (rank kind key) ≡ true)
+        (λ r. nat_lt (rank_of r) (rank kind key) ≡ false) rows.now result }
 {
-    rows.partition_point(|row| is_below(row, kind, id))
+    rows.partition_point(|row| is_below(row, kind, key))
 }
 
-/// Returns the place that the first row of a type and ID tells.
-pub fn place_told(rows: &[Row], kind: u32, id: i16) -> Option<usize>
-    ensures { IsRising rows.now → result ≡ place_in kind id rows.now }
+/// Returns the place that the first row of a type and key tells.
+pub fn place_told(rows: &[Row], kind: u32, key: i32) -> Option<usize>
+    ensures { IsRising rows.now → result ≡ place_in kind key rows.now }
 {
-    let at = rows_below(rows, kind, id);
-    if at < rows.len() && is_at(&rows[at], kind, id) {
+    let at = rows_below(rows, kind, key);
+    if at < rows.len() && is_at(&rows[at], kind, key) {
         return Some(rows[at].place);
     }
     None
 }
 
-/// Puts rows in order. Rows of one type and ID stay in theirs.
+/// Puts rows in order. Rows of one type and key stay in theirs.
 fn put_in_order(rows: &mut Vec<Row>) -> Result<(), AllocError>
     ensures rising { OnOk result (IsRising rows.new.items) }
-    ensures tells { (kind : ℕ) (id : ℤ) → place_in kind id rows.new.items ≡ place_in kind id rows.old.items }
+    ensures tells { (kind : ℕ) (key : ℤ) → place_in kind key rows.new.items ≡ place_in kind key rows.old.items }
 {
     rows.sort_by(|a, b| order(a, b))?;
     Ok(())
 }
 
-/// Returns the row of the reference at a place.
+/// Returns the row by ID of the reference at a place.
 pub fn row_at(refs: &[StoredReference], place: usize) -> Row
     requires { place < length refs.now }
     ensures { IfSome (slice_get (map view_reference refs.now) place) (λ r. result ≡ record {
       kind = r.kind;
-      id = r.stored.id;
+      key = r.stored.id;
       place = place;
     }) }
 {
     Row {
         kind: refs[place].kind,
-        id: refs[place].id,
+        key: refs[place].id as i32,
         place,
+    }
+}
+
+/// Returns the row by name of the reference at a place, if it has a name.
+pub fn named_row_at(refs: &[StoredReference], place: usize) -> Option<Row>
+    requires { place < length refs.now }
+    ensures { IfSome (slice_get (map view_reference refs.now) place) (λ r. result ≡ named_row place r.kind r.stored.name) }
+{
+    named_row_of(&refs[place], place)
+}
+
+/// Returns the row by name of a reference that is at a place, if it has a name.
+pub fn named_row_of(r: &StoredReference, place: usize) -> Option<Row>
+    ensures { result ≡ named_row place (view_reference r.now).kind (view_reference r.now).stored.name }
+{
+    let kind = r.kind;
+    match &r.rest.name {
+        None => None,
+        Some(name) => Some(Row {
+            kind,
+            key: name.mark,
+            place,
+        }),
     }
 }
 
 /// Returns a row for each reference, in the order of the references.
 fn rows_of(alloc: Global, refs: &[StoredReference]) -> Result<Vec<Row>, AllocError>
-    ensures { IfOk result (λ v. (kind : ℕ) (id : ℤ)
-        → place_in kind id v.items ≡ first_place (is_resource kind id) (map view_reference refs.now)) }
+    ensures { IfOk result (λ v. (kind : ℕ) (key : ℤ)
+        → place_in kind key v.items ≡ first_place (is_resource kind key) (map view_reference refs.now)) }
 {
     let mut rows = Vec::with_capacity(alloc, refs.len())?;
     for i in 0..refs.len() {
@@ -111,6 +137,37 @@ pub fn index_of(alloc: Global, refs: &[StoredReference]) -> Result<Vec<Row>, All
     ensures { IfOk result (λ v. IsIndex is_resource v.items (map view_reference refs.now)) }
 {
     let mut rows = rows_of(alloc, refs)?;
+    put_in_order(&mut rows)?;
+    Ok(rows)
+}
+
+/// Appends a row, if there is one.
+fn note(rows: &mut Vec<Row>, row: Option<Row>) -> Result<(), AllocError>
+    ensures { OnOk result (rows.new.items ≡ rows.old.items ++ rows_in row) }
+{
+    if let Some(row) = row {
+        rows.push(row)?;
+    }
+    Ok(())
+}
+
+/// Returns a row for each reference that has a name, in the order of the references.
+fn named_rows_of(alloc: Global, refs: &[StoredReference]) -> Result<Vec<Row>, AllocError>
+    ensures { IfOk result (λ v. (kind : ℕ) (key : ℤ)
+        → place_in kind key v.items ≡ first_place (is_printed kind key) (map view_reference refs.now)) }
+{
+    let mut rows = Vec::new(alloc);
+    for i in 0..refs.len() {
+        note(&mut rows, named_row_at(refs, i))?;
+    }
+    Ok(rows)
+}
+
+/// Returns the index of references by type and name.
+pub fn named_index_of(alloc: Global, refs: &[StoredReference]) -> Result<Vec<Row>, AllocError>
+    ensures { IfOk result (λ v. IsIndex is_printed v.items (map view_reference refs.now)) }
+{
+    let mut rows = named_rows_of(alloc, refs)?;
     put_in_order(&mut rows)?;
     Ok(rows)
 }
@@ -145,8 +202,8 @@ fn raise_all(rows: &mut Vec<Row>, from: usize)
 fn open_gap(rows: &mut Vec<Row>, from: usize, len: usize)
     ensures room { vec_len rows.old < vec_capacity rows.old → vec_len rows.new < vec_capacity rows.new }
     ensures rising { IsRising rows.old.items → IsRising rows.new.items }
-    ensures tells { IsWithin len rows.old.items → (kind : ℕ) (id : ℤ)
-        → place_in kind id rows.new.items ≡ option_map (raised from) (place_in kind id rows.old.items) }
+    ensures tells { IsWithin len rows.old.items → (kind : ℕ) (key : ℤ)
+        → place_in kind key rows.new.items ≡ option_map (raised from) (place_in kind key rows.old.items) }
 {
     if from < len {
         raise_all(rows, from);
@@ -178,36 +235,36 @@ fn lower_all(rows: &mut Vec<Row>, from: usize)
     lower(rows.as_mut_slice(), from);
 }
 
-/// Puts in a row before all others of its type and ID. There is room for it.
+/// Puts in a row before all others of its type and key. There is room for it.
 fn put_row(rows: &mut Vec<Row>, row: Row)
     ensures rising { IsRising rows.old.items → IsRising rows.new.items }
     ensures tells { vec_len rows.old < vec_capacity rows.old → IsRising rows.old.items
-        → IsToldAs row.kind row.id (Some row.place) rows.old.items rows.new.items }
+        → IsToldAs row.kind row.key (Some row.place) rows.old.items rows.new.items }
 {
-    let at = rows_below(rows.as_slice(), row.kind, row.id);
+    let at = rows_below(rows.as_slice(), row.kind, row.key);
     let _done = rows.insert(at, row);
 }
 
-/// Sets the place in the first row of a type and ID.
+/// Sets the place in the first row of a type and key.
 fn set_row(rows: &mut Vec<Row>, row: Row)
     ensures room { vec_len rows.old < vec_capacity rows.old → vec_len rows.new < vec_capacity rows.new }
     ensures rising { IsRising rows.old.items → IsRising rows.new.items }
-    ensures tells { place_in row.kind row.id rows.old.items ≢ None → IsRising rows.old.items
-        → IsToldAs row.kind row.id (Some row.place) rows.old.items rows.new.items }
+    ensures tells { place_in row.kind row.key rows.old.items ≢ None → IsRising rows.old.items
+        → IsToldAs row.kind row.key (Some row.place) rows.old.items rows.new.items }
 {
-    let at = rows_below(rows.as_slice(), row.kind, row.id);
-    if at < rows.len() && is_at(&rows[at], row.kind, row.id) {
+    let at = rows_below(rows.as_slice(), row.kind, row.key);
+    if at < rows.len() && is_at(&rows[at], row.kind, row.key) {
         rows[at] = row;
     }
 }
 
-/// Tells the place of a row: sets it in the first row of its type and ID, or puts in the row. There is room for it.
+/// Tells the place of a row: sets it in the first row of its type and key, or puts in the row. There is room for it.
 fn tell(rows: &mut Vec<Row>, row: Row)
     ensures rising { IsRising rows.old.items → IsRising rows.new.items }
     ensures tells { vec_len rows.old < vec_capacity rows.old → IsRising rows.old.items
-        → IsToldAs row.kind row.id (Some row.place) rows.old.items rows.new.items }
+        → IsToldAs row.kind row.key (Some row.place) rows.old.items rows.new.items }
 {
-    match place_told(rows.as_slice(), row.kind, row.id) {
+    match place_told(rows.as_slice(), row.kind, row.key) {
         None => put_row(rows, row),
         Some(_) => set_row(rows, row),
     }
@@ -224,75 +281,138 @@ fn is_sooner(first: Option<usize>, place: usize) -> bool
     }
 }
 
-/// Tells the place of a row, unless a sooner one is told of its type and ID. There is room for a row.
+/// Tells the place of a row, unless a sooner one is told of its type and key. There is room for a row.
 fn tell_sooner(rows: &mut Vec<Row>, row: Row)
     ensures rising { IsRising rows.old.items → IsRising rows.new.items }
     ensures tells { vec_len rows.old < vec_capacity rows.old → IsRising rows.old.items
-        → IsToldAs row.kind row.id (sooner row.place (place_in row.kind row.id rows.old.items))
+        → IsToldAs row.kind row.key (sooner row.place (place_in row.kind row.key rows.old.items))
         rows.old.items rows.new.items }
 {
-    if !is_sooner(place_told(rows.as_slice(), row.kind, row.id), row.place) {
+    if !is_sooner(place_told(rows.as_slice(), row.kind, row.key), row.place) {
         tell(rows, row);
     }
 }
 
-/// Removes all rows of a type and ID.
-fn drop_rows(rows: &mut Vec<Row>, kind: u32, id: i16)
+/// Removes all rows of a type and key.
+fn drop_rows(rows: &mut Vec<Row>, kind: u32, key: i32)
     ensures room { vec_len rows.old < vec_capacity rows.old → vec_len rows.new < vec_capacity rows.new }
     ensures rising { IsRising rows.old.items → IsRising rows.new.items }
-    ensures tells { IsToldAs kind id None rows.old.items rows.new.items }
+    ensures tells { IsToldAs kind key None rows.old.items rows.new.items }
 {
-    rows.retain(|row| !is_at(row, kind, id));
+    rows.retain(|row| !is_at(row, kind, key));
 }
 
-/// Tells the first place of a type and ID that the index has, or that there is none any more.
-fn tell_anew(rows: &mut Vec<Row>, kind: u32, id: i16, first: Option<usize>)
+/// Tells the first place of a type and key that the index has, or that there is none any more.
+fn tell_anew(rows: &mut Vec<Row>, kind: u32, key: i32, first: Option<usize>)
     ensures room { vec_len rows.old < vec_capacity rows.old → vec_len rows.new < vec_capacity rows.new }
     ensures rising { IsRising rows.old.items → IsRising rows.new.items }
-    ensures tells { place_in kind id rows.old.items ≢ None → IsRising rows.old.items
-        → IsToldAs kind id first rows.old.items rows.new.items }
+    ensures tells { place_in kind key rows.old.items ≢ None → IsRising rows.old.items
+        → IsToldAs kind key first rows.old.items rows.new.items }
 {
     match first {
-        None => drop_rows(rows, kind, id),
-        Some(place) => set_row(rows, Row { kind, id, place }),
+        None => drop_rows(rows, kind, key),
+        Some(place) => set_row(rows, Row { kind, key, place }),
     }
 }
 
 /// Tells of a reference that was put in at a place; `len` references were there before. There is room for a row.
 pub fn enter(rows: &mut Vec<Row>, row: Row, len: usize)
-    ensures { vec_len rows.old < vec_capacity rows.old → (references : List Reference) (new : Reference)
-        → length references ≡ len → row.place ≤ len → new.kind ≡ row.kind → new.stored.id ≡ row.id
-        → IsIndex is_resource rows.old.items references
-        → IsIndex is_resource rows.new.items (insert references row.place new) }
+    ensures { vec_len rows.old < vec_capacity rows.old → (test : ℕ → ℤ → Reference → Bool)
+        → (references : List Reference) (new : Reference) → length references ≡ len → row.place ≤ len
+        → IsAt test row.kind row.key new → IsIndex test rows.old.items references
+        → IsIndex test rows.new.items (insert references row.place new) }
 {
     open_gap(rows, row.place, len);
     tell_sooner(rows, row);
 }
 
-/// Tells of a reference that was taken out at the place of a row; `first` is the first that is left of its type and ID.
-pub fn leave(rows: &mut Vec<Row>, row: Row, first: Option<usize>)
-    ensures { (references : List Reference) (old : Reference)
-        → slice_get references row.place ≡ Some old → old.kind ≡ row.kind → old.stored.id ≡ row.id
-        → first ≡ first_place (is_resource row.kind row.id) (remove references row.place)
-        → IsIndex is_resource rows.old.items references
-        → IsIndex is_resource rows.new.items (remove references row.place) }
+/// Tells of a reference that was put in at a place, with its row, if it has one; `len` references were there before.
+/// There is room for a row.
+pub fn enter_any(rows: &mut Vec<Row>, row: Option<Row>, place: usize, len: usize)
+    requires { IfSome row (λ r. r.place ≡ place) }
+    ensures { vec_len rows.old < vec_capacity rows.old → (test : ℕ → ℤ → Reference → Bool)
+        → (references : List Reference) (new : Reference) → length references ≡ len → place ≤ len
+        → IsRowOf test row new → IsIndex test rows.old.items references
+        → IsIndex test rows.new.items (insert references place new) }
 {
-    lower_all(rows, row.place);
-    tell_anew(rows, row.kind, row.id, first);
+    match row {
+        None => open_gap(rows, place, len),
+        Some(row) => enter(rows, row, len),
+    }
 }
 
-/// Tells of a reference that got the ID of a row in place of `id`; `first` is the first that is left of that other ID.
-/// There is room for a row.
-pub fn enter_renamed(rows: &mut Vec<Row>, row: Row, id: i16, first: Option<usize>)
-    ensures { vec_len rows.old < vec_capacity rows.old → (references : List Reference) (old new : Reference)
-        → slice_get references row.place ≡ Some old → old.kind ≡ row.kind → old.stored.id ≡ id
-        → new.kind ≡ row.kind → new.stored.id ≡ row.id
-        → first ≡ first_place (is_resource row.kind id) (slice_set references row.place new)
-        → IsIndex is_resource rows.old.items references
-        → IsIndex is_resource rows.new.items (slice_set references row.place new) }
+/// Tells of a reference that was taken out at the place of a row; `first` is the first that is left of its type and
+/// key.
+pub fn leave(rows: &mut Vec<Row>, row: Row, first: Option<usize>)
+    ensures { (test : ℕ → ℤ → Reference → Bool) (references : List Reference) (old : Reference)
+        → slice_get references row.place ≡ Some old → IsAt test row.kind row.key old
+        → first ≡ first_place (test row.kind row.key) (remove references row.place)
+        → IsIndex test rows.old.items references
+        → IsIndex test rows.new.items (remove references row.place) }
 {
-    if row.id != id {
-        tell_anew(rows, row.kind, id, first);
+    lower_all(rows, row.place);
+    tell_anew(rows, row.kind, row.key, first);
+}
+
+/// Tells of a reference that got the key of a row in place of `key`; `first` is the first that is left of that other key.
+/// There is room for a row.
+pub fn enter_renamed(rows: &mut Vec<Row>, row: Row, key: i32, first: Option<usize>)
+    ensures { vec_len rows.old < vec_capacity rows.old → (test : ℕ → ℤ → Reference → Bool)
+        → (references : List Reference) (old new : Reference)
+        → slice_get references row.place ≡ Some old → IsAt test row.kind key old
+        → IsAt test row.kind row.key new
+        → first ≡ first_place (test row.kind key) (slice_set references row.place new)
+        → IsIndex test rows.old.items references
+        → IsIndex test rows.new.items (slice_set references row.place new) }
+{
+    if row.key != key {
+        tell_anew(rows, row.kind, key, first);
         tell_sooner(rows, row);
+    }
+}
+
+/// Tells the index by name of a reference that was taken out at a place, with its row, if it had a name; `refs` are left.
+pub fn leave_named(rows: &mut Vec<Row>, refs: &[StoredReference], row: Option<Row>, place: usize)
+    requires { IfSome row (λ r. r.place ≡ place) }
+    ensures { (references : List Reference) (old : Reference) → slice_get references place ≡ Some old
+        → IsRowOf is_printed row old → map view_reference refs.now ≡ remove references place
+        → IsIndex is_printed rows.old.items references
+        → IsIndex is_printed rows.new.items (remove references place) }
+{
+    match row {
+        None => lower_all(rows, place),
+        Some(row) => leave(rows, row, place_printed(refs, row.kind, row.key)),
+    }
+}
+
+/// Tells the index by name of a reference that got the print of a row in place of `key`; `refs` are the references
+/// with it. There is room for a row.
+fn enter_printed(rows: &mut Vec<Row>, refs: &[StoredReference], row: Row, key: i32)
+    ensures { vec_len rows.old < vec_capacity rows.old → (references : List Reference) (old new : Reference)
+        → slice_get references row.place ≡ Some old → IsAt is_printed row.kind key old
+        → IsAt is_printed row.kind row.key new
+        → map view_reference refs.now ≡ slice_set references row.place new
+        → IsIndex is_printed rows.old.items references
+        → IsIndex is_printed rows.new.items (slice_set references row.place new) }
+{
+    if row.key != key {
+        let first = place_printed(refs, row.kind, key);
+        enter_renamed(rows, row, key, first);
+    }
+}
+
+/// Tells the index by name of a reference that has a row now, and had `old`, or none; `refs` are the references with it.
+/// There is room for a row.
+pub fn enter_named(rows: &mut Vec<Row>, refs: &[StoredReference], row: Row, old: Option<Row>)
+    ensures { vec_len rows.old < vec_capacity rows.old → (references : List Reference) (was new : Reference)
+        → slice_get references row.place ≡ Some was → IfSome old (λ r. r.kind ≡ row.kind) → IsRowOf is_printed old was
+        → IsAt is_printed row.kind row.key new
+        → map view_reference refs.now ≡ slice_set references row.place new
+        → IsIndex is_printed rows.old.items references
+        → IsIndex is_printed rows.new.items (slice_set references row.place new) }
+{
+    match old {
+        None => tell_sooner(rows, row),
+        Some(old) => enter_printed(rows, refs, row, old.key),
     }
 }

@@ -8,6 +8,7 @@ mod changing;
 mod index;
 mod laws;
 mod lent;
+mod prints;
 mod reading;
 mod res_file;
 mod search;

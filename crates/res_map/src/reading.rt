@@ -7,6 +7,7 @@ ghost use Rattle.fork_format.specs.View as fork;
 ghost use Rattle.res_map.specs.Map.{read_reference, of_group, of_groups};
 ghost use Rattle.res_map.specs.View.{view_name, view_reference};
 
+use crate::prints::print_of;
 use crate::stored::{Rest, StoredName, StoredReference};
 use fork_format::{Group, Ref, RefName, kind_of};
 use std::alloc::{AllocError, Global};
@@ -19,7 +20,8 @@ fn own_name(alloc: Global, name: &Option<RefName<'_>>) -> Result<Option<StoredNa
         None => Ok(None),
         Some(name) => {
             let bytes = Vec::from_slice(alloc, name.bytes)?;
-            Ok(Some(StoredName { bytes }))
+            let mark = print_of(name.bytes);
+            Ok(Some(StoredName { bytes, mark }))
         }
     }
 }

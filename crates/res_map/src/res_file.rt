@@ -12,17 +12,17 @@ ghost use Rattle.res_map.specs.Split.{split, place};
 ghost use Rattle.res_map.specs.Map.{Reference, Map, IsOrdered, is_of, is_resource, is_named, has_handle, types};
 ghost use Rattle.res_map.specs.Map.{of_type, nth, split_nth, map_of, with_handle, with_attrs, stored_anew, renamed};
 ghost use Rattle.res_map.specs.Map.{with_datum, resized_datum, added, new_reference};
-ghost use Rattle.res_map.specs.Index.{IsIndex};
+ghost use Rattle.res_map.specs.Index.{IsIndex, is_printed};
 ghost use Rattle.res_map.specs.View.{view_reference, view_lent};
 
 use crate::adding::{new_one, put_in_file, take_out_of_file};
 use crate::changing::{
     name_of, put_attrs, put_bytes, put_datum, put_handle, put_name_in_file, put_size,
 };
-use crate::index::{Row, index_of, place_told};
+use crate::index::{Row, index_of, named_index_of, place_told};
 use crate::lent::{LentReference, entry_of, type_of};
 use crate::reading::{read_groups, read_types};
-use crate::search::{count_of, handles_of, nth_place, place_holding, place_named};
+use crate::search::{count_of, handles_of, nth_place, place_called, place_holding};
 use crate::stored::StoredReference;
 use fork_format::{Content, kind_of};
 use mac_words::{Attrs, Name, OsType};
@@ -42,6 +42,7 @@ pub struct ResFile {
     pub(crate) kinds: Vec<u32>,
     pub(crate) refs: Vec<StoredReference>,
     pub(crate) index: Vec<Row>,
+    pub(crate) names: Vec<Row>,
 }
 
 impl Model for ResFile {
@@ -50,9 +51,10 @@ impl Model for ResFile {
     ghost view = { λ f. record { area = f.area; attrs = f.attrs; references = map view_reference f.refs.items } };
 
     // Each type stands once, in the order of the first references; the references of one type stand together; and the
-    // index tells the place of the first reference of each type and ID.
+    // indexes tell the place of the first reference of each type and ID, and of each type and print of a name.
     ghost invariant = { λ f. IsOrdered f.kinds.items (map view_reference f.refs.items)
-        × IsIndex is_resource f.index.items (map view_reference f.refs.items) };
+        × IsIndex is_resource f.index.items (map view_reference f.refs.items)
+        × IsIndex is_printed f.names.items (map view_reference f.refs.items) };
 }
 
 impl ResFile {
@@ -66,12 +68,14 @@ impl ResFile {
         let kinds = read_types(alloc, groups)?;
         let refs = read_groups(alloc, groups)?;
         let index = index_of(alloc, refs.as_slice())?;
+        let names = named_index_of(alloc, refs.as_slice())?;
         Ok(ResFile {
             area: content.area,
             attrs: content.attrs,
             kinds,
             refs,
             index,
+            names,
         })
     }
 
@@ -94,7 +98,7 @@ impl ResFile {
     pub fn find(&self, ty: OsType, id: i16) -> Option<usize>
         ensures { result ≡ option_map place (split (is_resource (big_number 4 ty.0) id) self.now.references) }
     {
-        place_told(self.index.as_slice(), kind_of(ty), id)
+        place_told(self.index.as_slice(), kind_of(ty), id as i32)
     }
 
     /// Returns the place of the first reference of a type and name. ASCII letters match in either case, and other bytes
@@ -103,7 +107,12 @@ impl ResFile {
     pub fn find_named(&self, ty: OsType, name: &[u8]) -> Option<usize>
         ensures { result ≡ option_map place (split (is_named (big_number 4 ty.0) name.now) self.now.references) }
     {
-        place_named(self.refs.as_slice(), kind_of(ty), name)
+        place_called(
+            self.names.as_slice(),
+            self.refs.as_slice(),
+            kind_of(ty),
+            name,
+        )
     }
 
     /// Returns the place of the first reference that has a handle.
@@ -229,6 +238,7 @@ impl ResFile {
         put_name_in_file(
             &mut self.refs,
             &mut self.index,
+            &mut self.names,
             index,
             id,
             name.0.as_slice(),
@@ -241,7 +251,13 @@ impl ResFile {
         requires { index < length self.old.references }
         ensures { self.new ≡ record self.old { references = remove self.old.references index } }
     {
-        take_out_of_file(&mut self.kinds, &mut self.refs, &mut self.index, index);
+        take_out_of_file(
+            &mut self.kinds,
+            &mut self.refs,
+            &mut self.index,
+            &mut self.names,
+            index,
+        );
     }
 
     /// Adds a reference after the last one of its type; the first of a type is added as the last of all. The new
@@ -261,7 +277,13 @@ impl ResFile {
         ensures kept { OnErr result (self.new ≡ self.old) }
     {
         let new = new_one(alloc, kind_of(ty), id, name, handle)?;
-        put_in_file(&mut self.kinds, &mut self.refs, &mut self.index, new)
+        put_in_file(
+            &mut self.kinds,
+            &mut self.refs,
+            &mut self.index,
+            &mut self.names,
+            new,
+        )
     }
 }
 

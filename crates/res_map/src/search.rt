@@ -4,22 +4,29 @@ ghost use Rattle.std.specs.Prelude.{◌≡◌, ◌≤◌, map, length, option_ma
 ghost use Rattle.res_map.specs.Split.{split, place};
 ghost use Rattle.res_map.specs.Map.{Reference, is_of, is_resource, same_name, is_named, has_handle, of_type};
 ghost use Rattle.res_map.specs.Map.{split_nth};
+ghost use Rattle.std.specs.Prelude.{◌+◌, drop};
+ghost use Rattle.std.specs.Ordering.{int_eq};
+ghost use Rattle.res_map.specs.Print.{print};
+ghost use Rattle.res_map.specs.Index.{IsIndex, first_place, has_print, is_printed};
 ghost use Rattle.res_map.specs.Inner.{end_of};
 ghost use Rattle.res_map.specs.View.{view_name, view_reference};
 
+use crate::index::{Row, place_told};
+use crate::prints::print_of;
 use crate::stored::{StoredName, StoredReference};
 use std::alloc::{AllocError, Global};
 
 /// Reports whether a reference has a type and ID.
-fn is_at(r: &StoredReference, kind: u32, id: i16) -> bool
+fn is_at(r: &StoredReference, kind: u32, id: i32) -> bool
     ensures { result ≡ is_resource kind id (view_reference r.now) }
 {
-    r.kind == kind && r.id == id
+    let own = r.id as i32;
+    r.kind == kind && own == id
 }
 
 /// Returns the place of the first reference of a type and ID.
 #[tactic(auto, using(crate::proofs::Steps::found_here, crate::proofs::Steps::found_on))]
-pub fn place_of(refs: &[StoredReference], kind: u32, id: i16) -> Option<usize>
+pub fn place_of(refs: &[StoredReference], kind: u32, id: i32) -> Option<usize>
     ensures { result ≡ option_map place (split (is_resource kind id) (map view_reference refs.now)) }
 {
     for i in 0..refs.len() {
@@ -47,17 +54,66 @@ fn is_called(r: &StoredReference, kind: u32, text: &[u8]) -> bool
     r.kind == kind && is_name(text, &r.rest.name)
 }
 
-/// Returns the place of the first reference of a type and name.
+/// Reports whether there is a name that has a print.
+fn is_print(name: &Option<StoredName>, key: i32) -> bool
+    ensures { result ≡ has_print key (view_name name.now) }
+{
+    match name {
+        None => false,
+        Some(name) => is_mark(name, key),
+    }
+}
+
+/// Reports whether a name has a print.
+fn is_mark(name: &StoredName, key: i32) -> bool
+    ensures { result ≡ int_eq (print name.now.bytes.items) key }
+{
+    name.mark == key
+}
+
+/// Reports whether a reference has a type, and a name with a print.
+fn is_marked(r: &StoredReference, kind: u32, key: i32) -> bool
+    ensures { result ≡ is_printed kind key (view_reference r.now) }
+{
+    r.kind == kind && is_print(&r.rest.name, key)
+}
+
+/// Returns the place of the first reference of a type whose name has a print.
 #[tactic(auto, using(crate::proofs::Steps::found_here, crate::proofs::Steps::found_on))]
-pub fn place_named(refs: &[StoredReference], kind: u32, text: &[u8]) -> Option<usize>
-    ensures { result ≡ option_map place (split (is_named kind text.now) (map view_reference refs.now)) }
+pub fn place_printed(refs: &[StoredReference], kind: u32, key: i32) -> Option<usize>
+    ensures { result ≡ first_place (is_printed kind key) (map view_reference refs.now) }
 {
     for i in 0..refs.len() {
+        if is_marked(&refs[i], kind, key) {
+            return Some(i);
+        }
+    }
+    None
+}
+
+/// Returns the place of the first reference of a type and name, of those from a place on.
+#[tactic(auto, using(crate::proofs::Steps::found_here, crate::proofs::Steps::found_on))]
+fn place_named(refs: &[StoredReference], kind: u32, text: &[u8], from: usize) -> Option<usize>
+    ensures { result ≡ option_map (λ n. from + n)
+        (first_place (is_named kind text.now) (map view_reference (drop from refs.now))) }
+{
+    for i in from..refs.len() {
         if is_called(&refs[i], kind, text) {
             return Some(i);
         }
     }
     None
+}
+
+/// Returns the place of the first reference of a type and name, by the index by name.
+pub fn place_called(rows: &[Row], refs: &[StoredReference], kind: u32, text: &[u8]) -> Option<usize>
+    ensures { IsIndex is_printed rows.now (map view_reference refs.now)
+        → result ≡ first_place (is_named kind text.now) (map view_reference refs.now) }
+{
+    match place_told(rows, kind, print_of(text)) {
+        None => None,
+        Some(from) => place_named(refs, kind, text, from),
+    }
 }
 
 /// Reports whether a reference has a handle.

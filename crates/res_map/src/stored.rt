@@ -1,14 +1,17 @@
 //! What a map keeps of a reference.
 
-ghost use Rattle.std.specs.Prelude.{◌≤◌, length};
+ghost use Rattle.std.specs.Prelude.{◌≡◌, ◌≤◌, length};
+ghost use Rattle.res_map.specs.Print.{print};
 
 use mac_words::Attrs;
 
-/// The name of a resource: at most 255 bytes.
+/// The name of a resource: at most 255 bytes; and its print.
 #[derive(Drop)]
 pub struct StoredName {
     pub bytes: Vec<u8>,
+    pub mark: i32,
     ghost short: { length bytes.items ≤ 255 },
+    ghost marked: { mark ≡ print bytes.items },
 }
 
 /// The part of a reference that no search by type and ID reads.

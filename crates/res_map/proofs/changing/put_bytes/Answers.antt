@@ -1,10 +1,11 @@
 use Rattle.std.proofs.lemmas.Result.{on_ok_weaker, on_err_weaker}
 use Rattle.windows.specs.Writes.{written}
-use Rattle.res_map.specs.Map.{Reference, with_datum}
+use Rattle.res_map.specs.Index.{is_printed}
+use Rattle.res_map.specs.Map.{Reference, is_resource, with_datum}
 use Rattle.res_map.specs.View.{view_reference}
 use Rattle.res_map.proofs.Splitting.{set-seen_at, same-seen_at}
 use Rattle.res_map.proofs.Order.{ordered-seen_at}
-use Rattle.res_map.proofs.Rows.{index-seen_at}
+use Rattle.res_map.proofs.Rows.{index-seen_at, id-alike, name-alike}
 use Rattle.res_map.proofs.changing.put_bytes.Goals as goal
 
 pub returns-clause-written : goal.returns-clause-written
@@ -21,5 +22,11 @@ returns-clause-ordered c = ordered-seen_at c.args.refs.now.items c.args.index c.
     c.requires.inside c.index_mut.ensures.value c.write.ensures.kind
 
 pub returns-clause-indexed : goal.returns-clause-indexed
-returns-clause-indexed c = index-seen_at c.args.refs.now.items c.args.index c.index_mut.result.now c.write.new.r
-    c.requires.inside c.index_mut.ensures.value c.write.ensures.kind c.write.ensures.id
+returns-clause-indexed c = index-seen_at is_resource c.args.refs.now.items c.args.index c.index_mut.result.now
+    c.write.new.r c.requires.inside c.index_mut.ensures.value (id-alike (view_reference c.index_mut.result.now)
+    (view_reference c.write.new.r) c.write.ensures.kind c.write.ensures.id)
+
+pub returns-clause-named : goal.returns-clause-named
+returns-clause-named c = index-seen_at is_printed c.args.refs.now.items c.args.index c.index_mut.result.now
+    c.write.new.r c.requires.inside c.index_mut.ensures.value (name-alike (view_reference c.index_mut.result.now)
+    (view_reference c.write.new.r) c.write.ensures.kind c.write.ensures.name)

@@ -1,9 +1,10 @@
 use Rattle.std.proofs.lemmas.Result.{on_ok_weaker, on_err_weaker}
-use Rattle.res_map.specs.Map.{Reference, with_datum, resized_datum}
+use Rattle.res_map.specs.Index.{is_printed}
+use Rattle.res_map.specs.Map.{Reference, is_resource, with_datum, resized_datum}
 use Rattle.res_map.specs.View.{view_reference}
 use Rattle.res_map.proofs.Splitting.{set-seen_at, same-seen_at}
 use Rattle.res_map.proofs.Order.{ordered-seen_at}
-use Rattle.res_map.proofs.Rows.{index-seen_at}
+use Rattle.res_map.proofs.Rows.{index-seen_at, id-alike, name-alike}
 use Rattle.res_map.proofs.changing.put_size.Goals as goal
 
 pub returns-clause-resized : goal.returns-clause-resized
@@ -20,5 +21,11 @@ returns-clause-ordered c = ordered-seen_at c.args.refs.now.items c.args.index c.
     c.requires c.index_mut.ensures.value c.resize.ensures.kind
 
 pub returns-clause-indexed : goal.returns-clause-indexed
-returns-clause-indexed c = index-seen_at c.args.refs.now.items c.args.index c.index_mut.result.now c.resize.new.r
-    c.requires c.index_mut.ensures.value c.resize.ensures.kind c.resize.ensures.id
+returns-clause-indexed c = index-seen_at is_resource c.args.refs.now.items c.args.index c.index_mut.result.now
+    c.resize.new.r c.requires c.index_mut.ensures.value (id-alike (view_reference c.index_mut.result.now)
+    (view_reference c.resize.new.r) c.resize.ensures.kind c.resize.ensures.id)
+
+pub returns-clause-named : goal.returns-clause-named
+returns-clause-named c = index-seen_at is_printed c.args.refs.now.items c.args.index c.index_mut.result.now
+    c.resize.new.r c.requires c.index_mut.ensures.value (name-alike (view_reference c.index_mut.result.now)
+    (view_reference c.resize.new.r) c.resize.ensures.kind c.resize.ensures.name)

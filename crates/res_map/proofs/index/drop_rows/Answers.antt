@@ -8,13 +8,13 @@ use Rattle.res_map.proofs.index.drop_rows.Goals as goal
 
 pub returns-clause-rising : goal.returns-clause-rising
 returns-clause-rising c = λ rising.
-    let is = filter_same _ (λ r. not (is_row c.args.kind c.args.id r)) _ (λ x b f' k. search rules) _ _
+    let is = filter_same _ (λ r. not (is_row c.args.kind c.args.key r)) _ (λ x b f' k. search rules) _ _
     c.retain.ensures.filtered in
     subst IsRising (sym is) (IsNonDecreasingBy-filter rank_of _ _ rising)
 
 pub returns-clause-tells : goal.returns-clause-tells
 returns-clause-tells c =
-    let is = filter_same _ (λ r. not (is_row c.args.kind c.args.id r)) _ (λ x b f' k. search rules) _ _
+    let is = filter_same _ (λ r. not (is_row c.args.kind c.args.key r)) _ (λ x b f' k. search rules) _ _
     c.retain.ensures.filtered in
-    subst (IsToldAs c.args.kind c.args.id None c.args.rows.now.items) (sym is)
-    (place-dropped c.args.kind c.args.id c.args.rows.now.items)
+    subst (IsToldAs c.args.kind c.args.key None c.args.rows.now.items) (sym is)
+    (place-dropped c.args.kind c.args.key c.args.rows.now.items)

@@ -1,4 +1,4 @@
-use Rattle.std.proofs.Common.{◌∙◌, rules, sym, ap, subst, get_or, pos, w16}
+use Rattle.std.proofs.Common.{◌∙◌, rules, sym, ap, subst, get_or, pos, w32}
 use Rattle.std.proofs.lemmas.Int.{to_z-of_z}
 use Rattle.std.proofs.lemmas.List.{get_or_default}
 use borrow.Author.Tests.{both_ways}
@@ -10,25 +10,25 @@ use Rattle.res_map.proofs.index.place_told.Goals.{else-at-rows-via-then-at-rows+
 pub returns-then-is_at : goal.returns-then-is_at
 returns-then-is_at c = λ rising.
     let at = c.rows_below-at.result in
-    let row = get_or c.args.rows.now at (record { kind = 0; id = pos 0; place = 0 }) in
-    let is = to_z-of_z w16 c.args.id c.ranges.id in
-    sym (place-found c.args.kind c.args.id c.args.rows.now at row (search rules)
-    (clear-below c.args.kind c.args.id c.args.rows.now at
+    let row = get_or c.args.rows.now at (record { kind = 0; key = pos 0; place = 0 }) in
+    let is = to_z-of_z w32 c.args.key c.ranges.key in
+    sym (place-found c.args.kind c.args.key c.args.rows.now at row (search rules)
+    (clear-below c.args.kind c.args.key c.args.rows.now at
     (subst (λ i. Below c.args.kind i c.args.rows.now at) is (c.rows_below-at.ensures.point rising)))
     (get_or_default c.args.rows.now at _ row (search rules)) (search rules))
 
 pub returns : goal.returns
 returns c = λ rising.
     let at = c.rows_below-at.result in
-    let is = to_z-of_z w16 c.args.id c.ranges.id in
+    let is = to_z-of_z w32 c.args.key c.ranges.key in
     let point = subst (λ i. Below c.args.kind i c.args.rows.now at) is (c.rows_below-at.ensures.point rising) in
     elim c.else-at-rows.branch [
       | else-at-rows-via-then-at-rows+else-is_at w ↦
-          sym (told-none c.args.kind c.args.id c.args.rows.now at rising point
+          sym (told-none c.args.kind c.args.key c.args.rows.now at rising point
           (λ less row read same. both_ways w.is_at.result w.if-is_at.false (w.is_at.ensures.rank
           (ap rank_of (get_or_default c.args.rows.now at _ row less ∙ sym read) ∙ same
           ∙ ap (rank c.args.kind) (sym is)))) c.rows_below-at.ensures.inside)
       | else-at-rows-via-else-at-rows w ↦
-          sym (told-none c.args.kind c.args.id c.args.rows.now at rising point
+          sym (told-none c.args.kind c.args.key c.args.rows.now at rising point
           (λ less row read same. search rules) c.rows_below-at.ensures.inside)
     ]

@@ -1,4 +1,4 @@
-use Rattle.std.proofs.Common.{◌∙◌, sym, ap, rules, w16, SFits}
+use Rattle.std.proofs.Common.{◌∙◌, sym, ap, rules, w32, SFits}
 use Rattle.std.proofs.lemmas.Int.{to_z-of_z}
 use Rattle.std.proofs.lemmas.List.{get_or_default}
 use borrow.Author.Tests.{both_ways}
@@ -17,8 +17,8 @@ returns-then-is_at-clause-tells c = λ some. set-told c.args.rows.now.items c.as
 
 pub returns-else-at-len-clause-tells : goal.returns-else-at-len-clause-tells
 returns-else-at-len-clause-tells c =
-    let fits : SFits w16 c.args.row.id = search rules in
-    let is = to_z-of_z w16 c.args.row.id fits in
+    let fits : SFits w32 c.args.row.key = search rules in
+    let is = to_z-of_z w32 c.args.row.key fits in
     elim c.else-at-len.branch [
       | else-at-len-via-then-at-len+else-is_at w ↦ λ some rising. never-told c.args.rows.now.items c.as_slice.result.now
           c.rows_below-at.result c.args.row c.as_slice.ensures.value (search rules)

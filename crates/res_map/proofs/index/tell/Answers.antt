@@ -1,4 +1,4 @@
-use Rattle.std.proofs.Common.{◌∙◌, sym, subst, ap, rules, w16, SFits}
+use Rattle.std.proofs.Common.{◌∙◌, sym, subst, ap, rules, w32, SFits}
 use Rattle.std.proofs.lemmas.Int.{to_z-of_z}
 use Rattle.res_map.specs.Index.{IsRising, place_in}
 use Rattle.res_map.proofs.Rows.{told-some}
@@ -6,8 +6,8 @@ use Rattle.res_map.proofs.index.tell.Goals as goal
 
 pub returns-in-Some-clause-tells : goal.returns-in-Some-clause-tells
 returns-in-Some-clause-tells c = λ room rising.
-    let fits : SFits w16 c.args.row.id = search rules in
+    let fits : SFits w32 c.args.row.key = search rules in
     let told = c.place_told.ensures (subst IsRising (sym c.as_slice.ensures.value) rising)
     ∙ ap (place_in c.args.row.kind _) c.as_slice.ensures.value
-    ∙ ap (λ i. place_in c.args.row.kind i c.args.rows.now.items) (to_z-of_z w16 c.args.row.id fits) in
+    ∙ ap (λ i. place_in c.args.row.kind i c.args.rows.now.items) (to_z-of_z w32 c.args.row.key fits) in
     c.set_row.ensures.tells (told-some _ c.in-Some.field-0 _ told (search rules)) rising

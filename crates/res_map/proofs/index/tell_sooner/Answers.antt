@@ -1,4 +1,4 @@
-use Rattle.std.proofs.Common.{◌∙◌, sym, subst, ap, rules, w16, SFits}
+use Rattle.std.proofs.Common.{◌∙◌, sym, subst, ap, rules, w32, SFits}
 use Rattle.std.proofs.lemmas.Int.{to_z-of_z}
 use Rattle.res_map.specs.Index.{IsRising, place_in}
 use Rattle.res_map.proofs.Rows.{kept-told, new-told}
@@ -6,17 +6,17 @@ use Rattle.res_map.proofs.index.tell_sooner.Goals as goal
 
 pub returns-then-not-is_sooner-clause-tells : goal.returns-then-not-is_sooner-clause-tells
 returns-then-not-is_sooner-clause-tells c = λ room rising.
-    let fits : SFits w16 c.args.row.id = search rules in
+    let fits : SFits w32 c.args.row.key = search rules in
     let told = c.place_told.ensures (subst IsRising (sym c.as_slice.ensures.value) rising)
     ∙ ap (place_in c.args.row.kind _) c.as_slice.ensures.value
-    ∙ ap (λ i. place_in c.args.row.kind i c.args.rows.now.items) (to_z-of_z w16 c.args.row.id fits) in
+    ∙ ap (λ i. place_in c.args.row.kind i c.args.rows.now.items) (to_z-of_z w32 c.args.row.key fits) in
     new-told c.args.rows.now.items c.tell.new.rows.items c.args.row c.place_told.result told (search rules)
     (c.tell.ensures.tells room rising)
 
 pub returns-else-not-is_sooner-clause-tells : goal.returns-else-not-is_sooner-clause-tells
 returns-else-not-is_sooner-clause-tells c = λ room rising.
-    let fits : SFits w16 c.args.row.id = search rules in
+    let fits : SFits w32 c.args.row.key = search rules in
     let told = c.place_told.ensures (subst IsRising (sym c.as_slice.ensures.value) rising)
     ∙ ap (place_in c.args.row.kind _) c.as_slice.ensures.value
-    ∙ ap (λ i. place_in c.args.row.kind i c.args.rows.now.items) (to_z-of_z w16 c.args.row.id fits) in
+    ∙ ap (λ i. place_in c.args.row.kind i c.args.rows.now.items) (to_z-of_z w32 c.args.row.key fits) in
     kept-told c.args.rows.now.items c.args.row c.place_told.result told (search rules)

@@ -1,12 +1,11 @@
 use Rattle.std.proofs.Common.{◌≡◌, map, drop}
-use Rattle.std.specs.Prelude.{option_map}
-use Rattle.res_map.specs.Split.{split, place}
+use Rattle.res_map.specs.Split.{split}
 use Rattle.res_map.specs.Map.{is_named}
 use Rattle.res_map.specs.View.{view_reference}
 use Rattle.res_map.proofs.Steps.{place_from}
 use Rattle.res_map.proofs.search.place_named.Given as goal
 
--- what is found in the references that are left is found in all
+-- what is found in the references that are left is found in those from the place on
 abbrev pub invariant-loop-i : goal.invariant-loop-i
 invariant-loop-i l = place_from l.i (split (is_named l.kind l.text) (map view_reference (drop l.i l.refs)))
-    ≡ option_map place (split (is_named l.kind l.text) (map view_reference l.refs))
+    ≡ place_from l.from (split (is_named l.kind l.text) (map view_reference (drop l.from l.refs)))

@@ -1,4 +1,5 @@
-use Rattle.std.proofs.Common.{◌∙◌, ap, sym, subst, w16}
+use Rattle.std.proofs.Common.{◌∙◌, ap, sym, subst, w16, w32, to_z, of_z}
+use Rattle.std.proofs.Math.Facts.{sfits_widen}
 use Rattle.std.proofs.lemmas.Int.{to_z-of_z}
 use Rattle.byteorder.specs.Endian.{big_number}
 use Rattle.res_map.specs.Map.{Map, is_resource}
@@ -10,7 +11,8 @@ returns c =
     let rows = c.self.inside.index.items in
     c.place_told.ensures (subst IsRising (sym c.as_slice.ensures.value) c.self.invariant.1.rising)
     ∙ ap (place_in c.kind_of.result _) c.as_slice.ensures.value
-    ∙ ap (λ i. place_in c.kind_of.result i rows) (to_z-of_z w16 c.args.id c.ranges.id)
+    ∙ ap (λ i. place_in c.kind_of.result (to_z w32 (of_z w32 i)) rows) (to_z-of_z w16 c.args.id c.ranges.id)
+    ∙ ap (λ i. place_in c.kind_of.result i rows) (to_z-of_z w32 c.args.id (sfits_widen tt c.ranges.id))
     ∙ ap (λ k. place_in k c.args.id rows) c.kind_of.ensures
     ∙ c.self.invariant.1.tells (big_number 4 c.args.ty.0) c.args.id
     ∙ ap (λ (m : Map). first_place (is_resource (big_number 4 c.args.ty.0) c.args.id) m.references) c.self.view_is

@@ -1,6 +1,6 @@
 use Rattle.std.proofs.Common.{◌≡◌, ◌∙◌, ap, subst, map, List}
 use Rattle.res_map.specs.declared.stored.StoredReference.{StoredReference}
-use Rattle.res_map.specs.Index.{IsIndex}
+use Rattle.res_map.specs.Index.{IsIndex, is_printed}
 use Rattle.res_map.specs.View.{view_reference}
 use Rattle.fork_format.specs.Content.{Group}
 use Rattle.fork_format.specs.View.{view_group}
@@ -17,4 +17,6 @@ invariant_of-result c =
           (c.in_ok-kinds.ensures ∙ ap (map (λ (g : Group). g.kind)) is) (c.in_ok-refs.ensures ∙ ap of_groups is),
       subst (λ (l : List StoredReference). IsIndex is_resource c.in_ok-index.index.items (map view_reference l))
           c.as_slice.ensures.value c.in_ok-index.ensures,
+      subst (λ (l : List StoredReference). IsIndex is_printed c.in_ok-names.names.items (map view_reference l))
+          c.as_slice-2.ensures.value c.in_ok-names.ensures,
     )

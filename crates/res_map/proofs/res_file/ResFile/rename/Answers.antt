@@ -4,4 +4,5 @@ pub invariant_of-self : goal.invariant_of-self
 invariant_of-self c = (
   c.put_name_in_file.ensures.ordered c.self.inside.kinds.items c.self.invariant.0,
   c.put_name_in_file.ensures.indexed c.self.invariant.1,
+  c.put_name_in_file.ensures.named c.self.invariant.2,
 )

@@ -1,5 +1,6 @@
 use Rattle.std.proofs.Common.{refl, ap, map}
-use Rattle.res_map.specs.Map.{Map, Reference}
+use Rattle.res_map.specs.Index.{is_printed}
+use Rattle.res_map.specs.Map.{Map, Reference, is_resource}
 use Rattle.res_map.specs.View.{view_reference}
 use Rattle.res_map.proofs.Order.{ordered-set}
 use Rattle.res_map.proofs.Rows.{index-set}
@@ -10,7 +11,10 @@ invariant_of-self c = (
   ordered-set _ (λ (r : Reference). refl) _ c.args.self.now
       (map view_reference c.self.inside.refs.items) (map view_reference c.put_handle.new.refs.items) c.args.index
       (ap (λ (m : Map). m.references) c.self.view_is) c.requires c.put_handle.ensures c.self.invariant.0,
-  index-set _ (λ (r : Reference). refl) (λ (r : Reference). refl) _ c.args.self.now
+  index-set is_resource _ (λ r k i. refl) _ c.args.self.now
       (map view_reference c.self.inside.refs.items) (map view_reference c.put_handle.new.refs.items) c.args.index
       (ap (λ (m : Map). m.references) c.self.view_is) c.requires c.put_handle.ensures c.self.invariant.1,
+  index-set is_printed _ (λ r k i. refl) _ c.args.self.now
+      (map view_reference c.self.inside.refs.items) (map view_reference c.put_handle.new.refs.items) c.args.index
+      (ap (λ (m : Map). m.references) c.self.view_is) c.requires c.put_handle.ensures c.self.invariant.2,
 )

@@ -4,4 +4,5 @@ pub invariant_of-self : goal.invariant_of-self
 invariant_of-self c = (
   c.put_bytes.ensures.ordered c.self.inside.kinds.items c.self.invariant.0,
   c.put_bytes.ensures.indexed c.self.inside.index.items c.self.invariant.1,
+  c.put_bytes.ensures.named c.self.inside.names.items c.self.invariant.2,
 )

@@ -1,0 +1,9 @@
+use Rattle.std.proofs.Common.{◌≡◌, ℕ, ℤ, map, take}
+use Rattle.res_map.specs.Index.{place_in, first_place, is_printed}
+use Rattle.res_map.specs.View.{view_reference}
+use Rattle.res_map.proofs.index.named_rows_of.Given as goal
+
+-- the rows so far tell of the references so far
+abbrev pub invariant-loop-i : goal.invariant-loop-i
+invariant-loop-i l = (kind : ℕ) (id : ℤ)
+    → place_in kind id l.rows.items ≡ first_place (is_printed kind id) (map view_reference (take l.i l.refs))

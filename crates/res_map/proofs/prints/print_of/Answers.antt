@@ -1,0 +1,7 @@
+use Rattle.std.proofs.Common.{rules}
+use Rattle.res_map.specs.Print.{print}
+use Rattle.res_map.proofs.prints.print_of.Goals as goal
+
+pub returns : goal.returns
+unfolding print
+returns c = search rules
