@@ -1,3 +1,4 @@
+pub mod Heads
 pub mod Names
 pub mod Trying
 pub mod Step

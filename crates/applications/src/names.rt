@@ -3,6 +3,7 @@
 ghost use Rattle.std.specs.Prelude.{◌≡◌, [], map, IfOk, OnOk};
 ghost use Rattle.applications.specs.Names.{Bindings, bound_to, bind, binding, lent_binding};
 
+use crate::key::Key;
 use mac_words::Label;
 use std::alloc::{AllocError, Global};
 use std::collections::BTreeMap;
@@ -12,7 +13,7 @@ use std::marker::Model;
 /// hashed: no choice of names makes a look-up slow.
 #[derive(Drop)]
 pub struct Names {
-    bound: BTreeMap<Label, usize>,
+    bound: BTreeMap<Key, usize>,
 }
 
 /// A name that is bound, with the number of its handle or pointer.
@@ -29,13 +30,13 @@ impl Model for Names {
 }
 
 /// Returns the names of a map, in their order, each with its number.
-fn listed(alloc: Global, bound: &BTreeMap<Label, usize>) -> Result<Vec<Bound<'_>>, AllocError>
+fn listed(alloc: Global, bound: &BTreeMap<Key, usize>) -> Result<Vec<Bound<'_>>, AllocError>
     ensures { IfOk result (λ listed. map lent_binding listed.items ≡ map binding bound.now.entries) }
 {
     let mut listed = Vec::new(alloc);
-    for (name, number) in bound {
+    for (key, number) in bound {
         listed.push(Bound {
-            name,
+            name: &key.label,
             number: *number,
         })?;
     }
@@ -56,7 +57,7 @@ impl Names {
     pub fn number(&self, name: &Label) -> Option<usize>
         ensures { result ≡ bound_to name.now.0.items self.now }
     {
-        self.bound.get(name).copied()
+        self.bound.get(&Key::of(name)).copied()
     }
 
     /// Returns the names that are bound, in their order, each with its number.
@@ -70,7 +71,7 @@ impl Names {
     pub fn bind(&mut self, name: &Label, number: usize) -> Result<(), AllocError>
         ensures { OnOk result (self.new ≡ bind name.now.0.items number self.old) }
     {
-        self.bound.insert(name.clone()?, number)?;
+        self.bound.insert(Key::of(name), number)?;
         Ok(())
     }
 }
