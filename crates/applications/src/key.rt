@@ -2,7 +2,8 @@
 
 ghost use Rattle.std.specs.Prelude.{◌≡◌, Some, nat_eq, slice_index};
 ghost use Rattle.std.specs.Cmp.{on_equiv, on_per, on_po, on_total, partial_equiv_from_equiv};
-ghost use Rattle.std.specs.Cmp.Lexicographic.{pointwise, slice_cmp, nat_list_eq_equiv, nat_list_cmp_total, texts_po, texts_ties};
+ghost use Rattle.std.specs.Cmp.Lexicographic.{pointwise, slice_cmp};
+ghost use Rattle.std.specs.Cmp.Lexicographic.{nat_list_eq_equiv, nat_list_cmp_total, texts_po, texts_ties};
 ghost use Rattle.std.specs.Ordering.{nat_cmp};
 ghost use Rattle.std.proofs.Common.{refl};
 ghost use Rattle.applications.specs.Heads.{AreBytes, front};
@@ -90,7 +91,7 @@ fn head_of(bytes: &[u8]) -> u64
 }
 
 /// Returns a copy of a name.
-fn copied(name: &Label) -> Label
+pub(crate) fn copy_of(name: &Label) -> Label
     ensures { result.0.items ≡ name.now.0.items }
 {
     let mut bytes = ArrayVec::new();
@@ -107,7 +108,7 @@ impl Key {
     {
         Key {
             head: head_of(name.0.as_slice()),
-            label: copied(name),
+            label: copy_of(name),
         }
     }
 }

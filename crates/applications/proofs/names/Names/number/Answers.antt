@@ -3,8 +3,8 @@ use Rattle.applications.proofs.Binding.{lookup-bound}
 use Rattle.applications.specs.Names.{binding, bound_to}
 use Rattle.applications.proofs.names.Names.number.Goals as goal
 
-pub returns : goal.returns
-returns c =
+pub returns-in-None : goal.returns-in-None
+returns-in-None c =
     c.copied.ensures
     ∙ c.get.ensures.value
     ∙ lookup-bound c.of.result c.self.inside.bound.entries
