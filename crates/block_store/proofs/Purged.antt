@@ -3,5 +3,6 @@ pub mod Purges
 pub mod Looks
 pub mod PurgedSums
 pub mod Rising
+pub mod Fewest
 pub mod Growing
 pub mod Sparing

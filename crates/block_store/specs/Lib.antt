@@ -4,6 +4,7 @@ pub mod Run
 pub mod Room
 pub mod Grow
 pub mod Find
+pub mod Fewest
 pub mod Slot
 pub mod Sparing
 pub mod Rest

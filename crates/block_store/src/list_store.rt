@@ -16,7 +16,9 @@ use crate::entries::{
     StoredBlock, fill, free_slot, free_total, index_at, tidy_entries, write_at, zeros,
 };
 use crate::flags::Flags;
-use crate::list_walk::{has_free_above, look_at, purgeable_above, run_above, walk_over};
+use crate::list_walk::{
+    fewest_over, has_free_above, look_at, purgeable_above, run_above, walk_over,
+};
 use crate::looking::{next_purgeable_in, place_in, purgeable_in, room_above_in};
 use crate::measures::{GREATEST_ZONE, LEAST_ZONE, MASTERS_SIZE, SLOTS_A_BLOCK, UNIT};
 use crate::nonrelocatable_blocks::{free_place, put_masters};
@@ -167,6 +169,10 @@ impl BlockStore for ListStore {
 
     fn find_run(&self, bytes: u32, purges: u32, sparing: Sparing) -> Option<u32> {
         find_run_in(&mut walk_over(&self.blocks), bytes, purges, sparing)
+    }
+
+    fn fewest_purges(&self, bytes: u32, sparing: Sparing) -> Option<u32> {
+        fewest_over(&self.blocks, bytes, sparing)
     }
 
     fn next_run(&self, run: u32) -> Option<u32> {

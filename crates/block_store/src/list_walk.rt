@@ -1,6 +1,6 @@
-//! A walk over a list of blocks, and what is found in a list from a place on.
+//! A walk over a list of blocks, and what is found in a list.
 
-ghost use Rattle.std.specs.Prelude.{◌≡◌, ◌<◌, ◌^◌, drop, IsSome, IfSome};
+ghost use Rattle.std.specs.Prelude.{◌≡◌, ◌<◌, ◌^◌, ℕ, false, drop, IsSome, IfSome, MatchOption};
 ghost use Rattle.std.specs.Option.{option_map};
 ghost use Rattle.block_store.specs.Block.{size, sizes};
 ghost use Rattle.block_store.specs.Run.{segments, has_free, run_at};
@@ -8,10 +8,13 @@ ghost use Rattle.block_store.specs.Room.{spot_at, lowest_purged, count_of};
 ghost use Rattle.block_store.specs.Sparing.{spared};
 ghost use Rattle.block_store.specs.Seen.{seen};
 ghost use Rattle.block_store.specs.Compact.{next_run};
+ghost use Rattle.block_store.specs.Fewest.{serves, IsFewest};
 ghost use Rattle.block_store.specs.Inner.ListStore.{block_of, blocks_of};
 
 use crate::entries::{StoredBlock, index_at};
+use crate::looking::purgeable_in;
 use crate::packing::run_start;
+use crate::run_search::find_run_in;
 use crate::runs::{next_run_in, purgeable_in_run_in, run_has_free_in};
 use crate::sparing::{Seen, Sparing};
 use crate::walk::Walk;
@@ -67,6 +70,25 @@ pub fn look_at(entries: &[StoredBlock], place: u32) -> Option<Seen>
 {
     let i = index_at(entries, place)?;
     Some(look(&entries[i]))
+}
+
+/// Returns the least number of purges after which a run has at least `bytes` free bytes, where no run has them before
+/// any purge; `None` where no purges serve.
+pub fn fewest_over(entries: &[StoredBlock], bytes: u32, sparing: Sparing) -> Option<u32>
+    requires fits { sizes (blocks_of entries.now) < 2 ^ 32 }
+    requires unserved { serves bytes sparing (blocks_of entries.now) 0 ≡ false }
+    ensures { MatchOption result ((purges : ℕ) → serves bytes sparing (blocks_of entries.now) purges ≡ false)
+        (λ fewest. IsFewest (serves bytes sparing (blocks_of entries.now)) fewest) }
+{
+    let most = purgeable_in(&mut walk_over(entries), sparing);
+    let mut purges = 0;
+    while purges < most {
+        purges += 1;
+        if find_run_in(&mut walk_over(entries), bytes, purges, sparing).is_some() {
+            return Some(purges);
+        }
+    }
+    None
 }
 
 /// Returns the place of the run above the run at a place, if there is one.

@@ -13,6 +13,7 @@ ghost use Rattle.block_store.specs.Run.{has, has_free, settle, low, high, with_r
 ghost use Rattle.block_store.specs.Room.{spot, spot_at, filled, may_be_purged, lowest_purged, count_of};
 ghost use Rattle.block_store.specs.Grow.{freed, grow_up, taken};
 ghost use Rattle.block_store.specs.Find.{FindsLowest, FindsLowestRun, IsEdge};
+ghost use Rattle.block_store.specs.Fewest.{serves, IsFewest};
 ghost use Rattle.block_store.specs.Compact.{largest_free, largest_run, next_run, NoneRises, lowered, Aligned, Placed};
 ghost use Rattle.block_store.specs.Slot.{Unused, Used, is_used, is_resource};
 ghost use Rattle.block_store.specs.Sparing.{purged, spared, most_purges};
@@ -80,6 +81,13 @@ pub trait BlockStore {
     /// Returns the place of the lowest run with at least `bytes` free bytes, after `purges` purges, if there is one.
     fn find_run(&self, bytes: u32, purges: u32, sparing: Sparing) -> Option<u32>
         ensures { FindsLowestRun (has_free bytes) (purged purges sparing (zone self.now)) result };
+
+    /// Returns the least number of purges after which a run has at least `bytes` free bytes, where no run has them
+    /// before any purge; `None` where no purges serve.
+    fn fewest_purges(&self, bytes: u32, sparing: Sparing) -> Option<u32>
+        requires { serves bytes sparing (zone self.now) 0 ≡ false }
+        ensures { MatchOption result ((purges : ℕ) → serves bytes sparing (zone self.now) purges ≡ false)
+            (λ fewest. IsFewest (serves bytes sparing (zone self.now)) fewest) };
 
     /// Returns the place of the run above a run; `None` above the highest run. The lowest run is at place 0.
     fn next_run(&self, run: u32) -> Option<u32>

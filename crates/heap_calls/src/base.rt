@@ -5,7 +5,8 @@ ghost use Rattle.block_store.specs.Find.{FindsLowestRun};
 ghost use Rattle.block_store.specs.Sparing.{purged, most_purges};
 ghost use Rattle.block_store.specs.Rest.{IsRest};
 ghost use Rattle.block_store.specs.Run.{run_spot, has_free};
-ghost use Rattle.heap_calls.specs.Inner.SearchLaws.{base-ends, base-stays};
+ghost use Rattle.mac_words.proofs.Plain.{not_some};
+ghost use Rattle.heap_calls.specs.Inner.SearchLaws.{base-ends};
 ghost use Rattle.block_store.proofs.Purged.Rising.{run-rises};
 ghost use Rattle.heap_calls.specs.Inner.Base.{IsBaseAt, base, base_searches};
 ghost use Rattle.heap_calls.specs.Inner.Numbered.{KeepsNonrelocatable};
@@ -16,7 +17,7 @@ ghost use Rattle.heap_calls.specs.Inner.Telling.{base_gone, zone_slot_gone};
 ghost use Rattle.block_store.specs.declared.measures.TheConstants.{GREATEST_ZONE, MASTERS_SIZE};
 
 use crate::anchor::Anchor;
-use crate::least::{Sought, any_goes, least_search};
+use crate::least::{FindsFewest, Sought, any_goes, least_search};
 use crate::search::Room;
 use crate::sink::PurgeSink;
 use crate::telling::tell;
@@ -64,7 +65,13 @@ impl Sought for LowestRun {
 
     ghost ends = { λ sought zone k allows. base-ends sought.bytes sought.sparing zone k };
 
-    ghost stays = { λ sought zone k found allows. base-stays sought.bytes sought.sparing zone k found };
+    ghost absent = { λ sought zone k. not_some (run_spot (has_free sought.bytes) (purged k sought.sparing zone)) };
+}
+
+impl FindsFewest for LowestRun {
+    fn fewest_purges<S: BlockStore>(&self, store: &S) -> Option<u32> {
+        store.fewest_purges(self.bytes, self.sparing)
+    }
 }
 
 /// Finds the lowest run with `bytes` free bytes, after as few purges as serve.

@@ -13,7 +13,8 @@ ghost use Rattle.heap_calls.specs.Inner.Growing.{FindsGrowth, growing, growing_s
 ghost use Rattle.heap_calls.specs.Inner.Growing.{SameBlocks, IsToGrow, CanGrowUp, GrewUp};
 ghost use Rattle.heap_calls.specs.Inner.GrowingInPlace.{made_zone};
 ghost use Rattle.heap_calls.specs.Moves.{place_moves, grow_moves, room_moves};
-ghost use Rattle.heap_calls.specs.Inner.SearchLaws.{growth-rises, growth-ends, growth-stays};
+ghost use Rattle.mac_words.proofs.Plain.{not_some};
+ghost use Rattle.heap_calls.specs.Inner.SearchLaws.{growth-rises, growth-ends};
 ghost use Rattle.heap_calls.specs.Inner.Least.{CanGrow};
 ghost use Rattle.heap_calls.specs.Inner.Numbered.{KeepsNonrelocatable};
 ghost use Rattle.heap_calls.specs.Inner.Packed.{Packs};
@@ -24,7 +25,9 @@ ghost use Rattle.block_store.specs.declared.measures.TheConstants.{GREATEST_ZONE
 
 use crate::anchor::Anchor;
 use crate::growing_in_place::{Grown, bytes_at};
-use crate::least::{Sought, any_goes, least_search};
+use crate::least::{
+    FindsFewest, Sought, any_goes, fewest_by_searches, fewest_within, least_search,
+};
 use crate::search::{Placement, placement_after};
 use crate::sink::PurgeSink;
 use crate::telling::tell;
@@ -128,9 +131,18 @@ impl Sought for FirstGrowth {
     ghost ends = { λ sought zone k can. growth-ends sought.number sought.size sought.bytes sought.more sought.sparing
         zone k };
 
-    ghost stays = { λ sought zone k found can. growth-stays sought.number sought.size sought.bytes sought.more
-        sought.sparing zone k
-        found };
+    ghost absent = { λ sought zone k. not_some (grow_mover (is_relocatable sought.number)
+        (grown sought.size (spot (is_relocatable sought.number) zone)) (purged k sought.sparing zone)) };
+}
+
+impl FindsFewest for FirstGrowth {
+    /// A block grows at the latest where a run has room for it at its new size.
+    fn fewest_purges<S: BlockStore>(&self, store: &S) -> Option<u32> {
+        match store.fewest_purges(self.bytes, self.sparing) {
+            Some(enough) => Some(fewest_within(store, self, enough)),
+            None => fewest_by_searches(store, self),
+        }
+    }
 }
 
 /// Finds how the block of the slot `number` grows by `more` bytes to the physical size `bytes`, and to `size` bytes

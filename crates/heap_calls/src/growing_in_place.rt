@@ -20,7 +20,7 @@ ghost use Rattle.heap_calls.specs.Searches.{room_searches, in_place_searches};
 ghost use Rattle.block_store.specs.declared.measures.TheConstants.{GREATEST_ZONE};
 
 use crate::anchor::Anchor;
-use crate::least::{Sought, least_search};
+use crate::least::{FindsFewest, Sought, fewest_by_searches, least_search};
 use crate::sink::PurgeSink;
 use crate::telling::tell;
 use block_store::{BlockStore, MASTERS_SIZE, Seen, Sparing};
@@ -213,7 +213,13 @@ impl Sought for RunAbove {
         (spot_at sought.place zone) k
         allows };
 
-    ghost stays = { λ sought zone k found allows le there. there };
+    ghost absent = { λ sought zone k none. tt };
+}
+
+impl FindsFewest for RunAbove {
+    fn fewest_purges<S: BlockStore>(&self, store: &S) -> Option<u32> {
+        fewest_by_searches(store, self)
+    }
 }
 
 /// Finds the least number of blocks to purge from the run above the block at `place` so that the run has `bytes` free

@@ -1,11 +1,11 @@
 //! The least number of purges after which what is searched for is there.
 
-ghost use Rattle.std.specs.Prelude.{◌≡◌, ◌≤◌, ◌<◌, ℕ, Bool, true, false, Option, List, is_some, nat_lt};
+ghost use Rattle.std.specs.Prelude.{◌≡◌, ◌≤◌, ◌<◌, ℕ, Bool, true, false, Option, None, List, MatchOption, is_some, nat_lt};
 ghost use Rattle.block_store.specs.Block.{Block};
 ghost use Rattle.block_store.specs.Compact.{least_or_last};
+ghost use Rattle.block_store.specs.Fewest.{IsFewest};
 ghost use Rattle.block_store.specs.Sparing.{most_purges};
 ghost use Rattle.block_store.specs.declared.measures.TheConstants.{GREATEST_ZONE};
-ghost use Rattle.heap_calls.specs.Inner.Least.{NoneBelow};
 
 use block_store::{BlockStore, GREATEST_ZONE, Sparing};
 
@@ -51,9 +51,22 @@ pub trait Sought: Copy {
     ghost ends: { (sought : Self) (zone : List Block) (k : ℕ) → Allows sought zone → most sought zone ≤ k
         → is_there sought zone k ≡ is_there sought zone (most sought zone) };
 
-    /// So a search after further purges finds what it found once every block was purged that may be.
-    ghost stays: { (sought : Self) (zone : List Block) (k : ℕ) (found : Option Self.Found) → Allows sought zone
-        → most sought zone ≤ k → Finds sought zone k found → Finds sought zone (most sought zone) found };
+    /// A search for what isn't there finds nothing.
+    ghost absent: { (sought : Self) (zone : List Block) (k : ℕ) → is_there sought zone k ≡ false
+        → Finds sought zone k None };
+}
+
+/// What is searched for, and the question how many purges it takes.
+pub trait FindsFewest: Sought {
+    /// Returns the least number of purges after which what is searched for is there, where it isn't there before any
+    /// purge; `None` where no purges serve.
+    fn fewest_purges<S: BlockStore>(&self, store: &S) -> Option<u32>
+        requires allows { Self.Allows self.now (S.zone store.now) }
+        requires after_none { Self.is_there self.now (S.zone store.now) 0 ≡ false }
+        requires few { Self.most self.now (S.zone store.now) ≤ GREATEST_ZONE }
+        ensures { MatchOption result
+            (Self.is_there self.now (S.zone store.now) (Self.most self.now (S.zone store.now)) ≡ false)
+            (λ fewest. IsFewest (Self.is_there self.now (S.zone store.now)) fewest) };
 }
 
 /// The result of the searches: what was found, and the number of purges before it.
@@ -63,10 +76,9 @@ pub struct Searched<F> {
     pub purges: u32,
 }
 
-/// Finds what is searched for after as few purges as serve, or after all that there can be where none serve. One
-/// search is made where no purge is needed, and two where no purge serves; else about two searches are made for each
-/// binary digit of the number of purges.
-pub fn least_search<S: BlockStore, L: Sought>(store: &S, sought: &L) -> Searched<L::Found>
+/// Finds what is searched for after as few purges as serve, or after all that there can be where none serve. One search
+/// is made where no purge is needed or no purge serves, and else one more, after the fewest.
+pub fn least_search<S: BlockStore, L: FindsFewest>(store: &S, sought: &L) -> Searched<L::Found>
     requires { L.Allows sought.now (S.zone store.now) }
     ensures least { result.purges ≡ least_or_last (L.is_there sought.now (S.zone store.now))
         (L.most sought.now (S.zone store.now)) }
@@ -78,93 +90,55 @@ pub fn least_search<S: BlockStore, L: Sought>(store: &S, sought: &L) -> Searched
     if found.is_some() || !sought.goes_on(store) {
         return Searched { found, purges: 0 };
     }
-    let after_all = sought.search_after(store, GREATEST_ZONE);
-    if after_all.is_some() {
-        return fewest(store, sought);
-    }
+    let Some(purges) = sought.fewest_purges(store) else {
+        return Searched {
+            found: None,
+            purges: sought.most_purges(store),
+        };
+    };
     Searched {
-        found: after_all,
-        purges: sought.most_purges(store),
+        found: sought.search_after(store, purges),
+        purges,
     }
 }
 
-/// Two numbers of purges: after `before` purges what is searched for is not there yet, and after those of `searched` it
-/// is.
-#[derive(Clone, Copy)]
-struct Between<F> {
-    before: u32,
-    searched: Searched<F>,
-}
-
-/// Finds what is searched for after as few purges as serve, where it is there after all purges, and not after none.
-fn fewest<S: BlockStore, L: Sought>(store: &S, sought: &L) -> Searched<L::Found>
+/// Finds by searches alone the least number of purges after which what is searched for is there, where it isn't there
+/// before any purge; `None` where no purges serve.
+pub fn fewest_by_searches<S: BlockStore, L: Sought>(store: &S, sought: &L) -> Option<u32>
     requires allows { L.Allows sought.now (S.zone store.now) }
     requires after_none { L.is_there sought.now (S.zone store.now) 0 ≡ false }
-    requires after_all { L.is_there sought.now (S.zone store.now) GREATEST_ZONE ≡ true }
-    ensures least { NoneBelow (L.is_there sought.now (S.zone store.now)) result.purges }
-    ensures there { L.is_there sought.now (S.zone store.now) result.purges ≡ true }
-    ensures some { is_some result.found ≡ true }
-    ensures found { L.Finds sought.now (S.zone store.now) result.purges result.found }
+    requires few { L.most sought.now (S.zone store.now) ≤ GREATEST_ZONE }
+    ensures { MatchOption result
+        (L.is_there sought.now (S.zone store.now) (L.most sought.now (S.zone store.now)) ≡ false)
+        (λ fewest. IsFewest (L.is_there sought.now (S.zone store.now)) fewest) }
 {
-    halve(store, sought, double(store, sought))
+    if sought.search_after(store, GREATEST_ZONE).is_none() {
+        return None;
+    }
+    Some(fewest_within(store, sought, sought.most_purges(store)))
 }
 
-/// Doubles the number of purges until what is searched for is there.
-fn double<S: BlockStore, L: Sought>(store: &S, sought: &L) -> Between<L::Found>
+/// Finds by searches alone the least number of purges after which what is searched for is there, where it is there
+/// after `enough`, and not before any purge. The numbers double until it is there; then what lies between the last two
+/// is halved.
+pub fn fewest_within<S: BlockStore, L: Sought>(store: &S, sought: &L, enough: u32) -> u32
     requires allows { L.Allows sought.now (S.zone store.now) }
     requires after_none { L.is_there sought.now (S.zone store.now) 0 ≡ false }
-    requires after_all { L.is_there sought.now (S.zone store.now) GREATEST_ZONE ≡ true }
-    ensures before { L.is_there sought.now (S.zone store.now) result.before ≡ false }
-    ensures less { result.before < result.searched.purges }
-    ensures there { L.is_there sought.now (S.zone store.now) result.searched.purges ≡ true }
-    ensures some { is_some result.searched.found ≡ true }
-    ensures found { L.Finds sought.now (S.zone store.now) result.searched.purges result.searched.found }
+    requires enough { L.is_there sought.now (S.zone store.now) enough ≡ true }
+    ensures { IsFewest (L.is_there sought.now (S.zone store.now)) result }
 {
     let mut before = 0;
-    let mut purges = 1;
-    loop {
-        let found = sought.search_after(store, purges);
-        if found.is_some() {
-            let searched = Searched { found, purges };
-            return Between { before, searched };
-        }
-        before = purges;
-        purges *= 2;
-    }
-}
-
-/// Halves what lies between two numbers of purges, until the second is the least after which what is searched for is
-/// there.
-fn halve<S: BlockStore, L: Sought>(
-    store: &S,
-    sought: &L,
-    between: Between<L::Found>,
-) -> Searched<L::Found>
-    requires allows { L.Allows sought.now (S.zone store.now) }
-    requires before { L.is_there sought.now (S.zone store.now) between.before ≡ false }
-    requires less { between.before < between.searched.purges }
-    requires there { L.is_there sought.now (S.zone store.now) between.searched.purges ≡ true }
-    requires some { is_some between.searched.found ≡ true }
-    requires found { L.Finds sought.now (S.zone store.now) between.searched.purges between.searched.found }
-    ensures least { NoneBelow (L.is_there sought.now (S.zone store.now)) result.purges }
-    ensures there { L.is_there sought.now (S.zone store.now) result.purges ≡ true }
-    ensures some { is_some result.found ≡ true }
-    ensures found { L.Finds sought.now (S.zone store.now) result.purges result.found }
-{
-    let mut before = between.before;
-    let mut found = between.searched.found;
-    let mut purges = between.searched.purges;
+    let mut purges = enough;
     while purges - before > 1 {
-        let middle = before + (purges - before) / 2;
-        let middle_found = sought.search_after(store, middle);
-        if middle_found.is_some() {
-            found = middle_found;
+        let step = ((purges - before) / 2).min(before + 1);
+        let middle = before + step;
+        if sought.search_after(store, middle).is_some() {
             purges = middle;
         } else {
             before = middle;
         }
     }
-    Searched { found, purges }
+    purges
 }
 
 /// Reports whether any block may be purged.

@@ -17,7 +17,7 @@ ghost use Rattle.heap_calls.specs.Searches.{purge_mem_searches};
 use crate::compaction::{compact, has_room};
 use crate::growing_in_place::Grown;
 use crate::heap::Heap;
-use crate::least::{Sought, any_goes, least_search};
+use crate::least::{FindsFewest, Sought, any_goes, fewest_by_searches, least_search};
 use crate::refusal::Refusal;
 use crate::sink::PurgeSink;
 use crate::telling::tell;
@@ -200,7 +200,13 @@ impl Sought for FreeBlock {
 
     ghost ends = { λ sought zone k allows. room-ends sought.bytes Nothing zone k };
 
-    ghost stays = { λ sought zone k found allows le there. there };
+    ghost absent = { λ sought zone k none. tt };
+}
+
+impl FindsFewest for FreeBlock {
+    fn fewest_purges<S: BlockStore>(&self, store: &S) -> Option<u32> {
+        fewest_by_searches(store, self)
+    }
 }
 
 /// Returns how many blocks are purged, lowest first, until a free block of `bytes` bytes stands; the number of all

@@ -11,13 +11,14 @@ ghost use Rattle.heap_calls.specs.Moves.{place_moves};
 ghost use Rattle.heap_calls.specs.Inner.Numbered.{KeepsNonrelocatable};
 ghost use Rattle.heap_calls.specs.Inner.Packed.{Packs, placement_moves};
 ghost use Rattle.heap_calls.specs.Inner.Telling.{placement_gone};
-ghost use Rattle.heap_calls.specs.Inner.SearchLaws.{placement-ends, placement-stays};
+ghost use Rattle.mac_words.proofs.Plain.{not_some};
+ghost use Rattle.heap_calls.specs.Inner.SearchLaws.{placement-ends};
 ghost use Rattle.block_store.proofs.Purged.Growing.{place-rises};
 ghost use Rattle.heap_calls.specs.Inner.Search.{FindsPlacement, IsAt, placement, placement_searches};
 ghost use Rattle.block_store.specs.declared.measures.TheConstants.{GREATEST_ZONE};
 
 use crate::anchor::Anchor;
-use crate::least::{Sought, any_goes, least_search};
+use crate::least::{FindsFewest, Sought, any_goes, least_search};
 use crate::sink::PurgeSink;
 use crate::telling::tell;
 use block_store::{BlockStore, Sparing};
@@ -111,7 +112,13 @@ impl Sought for LowestPlacement {
 
     ghost ends = { λ sought zone k allows. placement-ends sought.bytes sought.sparing zone k };
 
-    ghost stays = { λ sought zone k found allows. placement-stays sought.bytes sought.sparing zone k found };
+    ghost absent = { λ sought zone k. not_some (place sought.bytes (purged k sought.sparing zone)) };
+}
+
+impl FindsFewest for LowestPlacement {
+    fn fewest_purges<S: BlockStore>(&self, store: &S) -> Option<u32> {
+        store.fewest_purges(self.bytes, self.sparing)
+    }
 }
 
 /// Finds where a relocatable block of `bytes` bytes is put after as few purges as serve.

@@ -1,10 +1,11 @@
 use Rattle.std.proofs.Common.{◌≡◌, ℕ, ◌≤◌, ◌<◌, ◌⊎◌, inl, inr, zero, suc, Bool, true, false, nat_lt, Option, Some, None}
-use Rattle.std.proofs.Common.{refl, sym, ◌∙◌, ap, cond, arith}
+use Rattle.std.proofs.Common.{MatchOption, refl, sym, ◌∙◌, ap, cond, arith}
 use Rattle.std.proofs.lemmas.Bool.{true≢false, false_from_ne_true}
 use Rattle.std.proofs.lemmas.Bool.Decides.{nat_tests}
 use Rattle.std.specs.Option.{option_map, option_or}
 use Rattle.block_store.specs.Room.{least}
 use Rattle.block_store.specs.Compact.{least_or_last}
+use Rattle.block_store.specs.Fewest.{IsFewest}
 
 -- The least of 0 .. n that passes, or has an answer.
 
@@ -71,14 +72,26 @@ pub none-before : (test : ℕ → Bool) → ((k m : ℕ) → k ≤ m → test k 
     → test n ≡ false → test k ≡ false
 none-before test rises n k le none = false_from_ne_true (test k) (λ is. true≢false (sym (rises k n le is) ∙ none))
 
--- the least that passes, where the last does
-pub least_or_last-is : (test : ℕ → Bool) (n k : ℕ) → test n ≡ true → test k ≡ true
-    → ((j : ℕ) → j < k → test j ≡ false) → least_or_last test n ≡ k
-least_or_last-is test n k last here before = cases (nat_lt n k) refl
+-- the least number that passes is the least of 0 .. n, where those above n answer as n does
+pub fewest-last : (test : ℕ → Bool) (n k : ℕ) → ((j : ℕ) → n ≤ j → test j ≡ test n) → IsFewest test k
+    → k ≡ least_or_last test n
+fewest-last test n k ends fewest = sym (least_or_last-at test n k (le (nat_lt n k) refl) fewest.below
+    (inl fewest.there))
   where
-    cases : (t : Bool) → nat_lt n k ≡ t → least_or_last test n ≡ k
-    cases true e = absurd (true≢false (sym last ∙ before n (grind (arith, nat_tests, e))))
-    cases false e = least_or_last-at test n k (grind (arith, nat_tests, e)) before (inl here)
+    le : (t : Bool) → nat_lt n k ≡ t → k ≤ n
+    le true e =
+        let less : n < k = grind (arith, nat_tests, e) in
+        absurd (true≢false (sym fewest.there ∙ ends k (omega (arith, less)) ∙ fewest.below n less))
+    le false e = grind (arith, nat_tests, e)
+
+-- it is the least of a test that answers the same
+pub fewest-same : (test other : ℕ → Bool) → ((k : ℕ) → test k ≡ other k) → (n : ℕ) (r : Option ℕ)
+    → MatchOption r ((k : ℕ) → other k ≡ false) (IsFewest other) → MatchOption r (test n ≡ false) (IsFewest test)
+fewest-same test other same n None none = same n ∙ none n
+fewest-same test other same n (Some k) fewest = record {
+  there = same k ∙ fewest.there;
+  below = λ j less. same j ∙ fewest.below j less;
+}
 
 -- the last, where one that is no less fails
 pub least_or_last-fails : (test : ℕ → Bool) → ((k m : ℕ) → k ≤ m → test k ≡ true → test m ≡ true) → (n most : ℕ)

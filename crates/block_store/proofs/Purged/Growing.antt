@@ -2,6 +2,7 @@ use Rattle.std.proofs.Common.{◌≡◌, ℕ, ◌+◌, ◌-◌, ◌≤◌, ◌<�
 use Rattle.std.proofs.Common.{refl, sym, ◌∙◌, ap, cond, arith, Option, Some, None, is_some, nat_le, unwrap_or}
 use Rattle.std.proofs.lemmas.Bool.{true≢false, leb-true, leb-false, cond-true}
 use Rattle.std.proofs.lemmas.Option.{none-some, same_Some}
+use Rattle.std.specs.Cmp.{both_ways}
 use Rattle.std.specs.Option.{option_map, option_or}
 use Rattle.std.specs.Prelude.{option_and_then}
 use Rattle.mac_words.proofs.Plain.{is_some-map}
@@ -48,6 +49,12 @@ run-placed p zone pos is = cases (nat_le p (largest_run zone)) refl
     cases true e = place-some p zone pos (leb-true p (largest_run zone) e)
     cases false e = absurd (true≢false (sym is ∙ ap is_some
         (run-none p (segments zone).first (segments zone).rest (leb-false p (largest_run zone) e))))
+
+-- so it has one just where a run has them
+pub placed-is : (p : ℕ) (zone : List Block) → 0 < p
+    → is_some (place p zone) ≡ is_some (run_spot (has_free p) zone)
+placed-is p zone pos = both_ways (is_some (place p zone)) (is_some (run_spot (has_free p) zone)) (placed-run p zone)
+    (run-placed p zone pos)
 
 -- and has one after more purges
 pub place-rises : (p : ℕ) (n : Sparing) (zone : List Block) (k m : ℕ) → 0 < p → k ≤ m
@@ -213,6 +220,25 @@ way-rises a (Some x) b b' c c' f g h is = refl
 way-rises None None (Some y) None c c' f g h is = absurd (true≢false (sym (g refl)))
 way-rises None None b (Some y) c c' f g h is = refl
 way-rises None None None None c c' f g h is = h is
+
+-- a block grows where it has a place of its own
+pub grows-placed : (test : Block → Bool) (new : Block) (zone : List Block) → is_some (spot test zone) ≡ true
+    → is_some (place (size new) zone) ≡ true → is_some (grow_mover test new zone) ≡ true
+grows-placed test new zone there placed = cases (spot test zone) there
+  where
+    away : is_some (move_away test new zone) ≡ true
+    away = is_some-map _ (place (size new) zone) ∙ placed
+
+    second : {A : Type 0} (a b c : Option A) → is_some b ≡ true → is_some (option_or a (option_or b c)) ≡ true
+    second (Some x) b c e = refl
+    second None (Some y) c e = refl
+    second None None c e = absurd (true≢false (sym e))
+
+    cases : (o : Option Spot) → is_some o ≡ true
+        → is_some (option_and_then (λ s. option_or (grow_up new s) (option_or (move_away test new zone)
+        (grow_last test new (growth new s) zone))) o) ≡ true
+    cases None e = absurd (true≢false (sym e))
+    cases (Some s) e = second (grow_up new s) (move_away test new zone) (grow_last test new (growth new s) zone) away
 
 -- a block that is spared, and may move, grows after more purges
 pub grow-rises : (number : ℕ) (new : Block) (n : Sparing) (zone : List Block)

@@ -1,20 +1,23 @@
 use Rattle.std.proofs.Common.{◌≡◌, ℕ, ◌+◌, ◌≤◌, ◌<◌, zero, suc, nat_lt, Bool, true, false, cond}
-use Rattle.std.proofs.Common.{Option, Some, None, is_some, List, refl, sym, ◌∙◌, ap, arith}
+use Rattle.std.proofs.Common.{Option, Some, None, is_some, IsSomeAnd, List, refl, sym, ◌∙◌, ap, subst, arith}
 use Rattle.std.specs.Option.{option_or}
 use Rattle.std.proofs.lemmas.Bool.Decides.{nat_tests}
-use Rattle.block_store.specs.Block.{Block, size}
-use Rattle.block_store.specs.Room.{least, may_be_purged, place}
-use Rattle.block_store.specs.Grow.{grow_mover}
+use Rattle.block_store.specs.Block.{Block, size, is_relocatable}
+use Rattle.block_store.specs.Room.{Spot, spot, least, may_be_purged, place}
+use Rattle.block_store.specs.Grow.{growth, grow_mover}
 use Rattle.block_store.specs.Find.{FindsLowest}
 use Rattle.block_store.specs.Compact.{least_or_last}
+use Rattle.block_store.specs.Fewest.{serves}
 use Rattle.block_store.specs.Sparing.{spared, purged, most_purges}
 use Rattle.block_store.specs.declared.sparing.Sparing.{Sparing}
+use Rattle.block_store.proofs.Purged.Growing.{placed-is, grows-placed}
 use Rattle.heap_calls.specs.Inner.Search.{tries, FindsPlacement}
-use Rattle.heap_calls.specs.Inner.Growing.{FindsGrowth}
+use Rattle.heap_calls.specs.Inner.Growing.{FindsGrowth, grown}
+use Rattle.heap_calls.specs.Inner.Least.{CanGrow}
 use Rattle.heap_calls.specs.declared.search.Placement.{Placement}
 use Rattle.heap_calls.specs.declared.growing.Growth.{Growth}
 use Rattle.heap_calls.proofs.Room.Searching.{more-none, more-some, placement-some}
-use Rattle.heap_calls.proofs.Sizes.Growth.{growth-some}
+use Rattle.heap_calls.proofs.Sizes.Growth.{growth-some, growth-stays}
 
 -- The least number of purges that serves.
 
@@ -73,3 +76,26 @@ pub growth-there : (test : Block → Bool) (new : Block) (zone : List Block) →
     → FindsGrowth test new zone o → is_some o ≡ is_some (grow_mover test new zone)
 growth-there test new zone pos None found = ap is_some (sym found)
 growth-there test new zone pos (Some g) found = sym (growth-some test new zone pos (Some g) found refl)
+
+-- a block grows where a run has room for it
+pub growth-served : (slot n p d : ℕ) (sparing : Sparing) (zone : List Block) → CanGrow slot n p d sparing zone → (k : ℕ)
+    → serves p sparing zone k ≡ true
+    → is_some (grow_mover (is_relocatable slot) (grown n (spot (is_relocatable slot) zone)) (purged k sparing zone))
+    ≡ true
+growth-served slot n p d sparing zone can k is =
+    grows-placed test new after (there (spot test after)
+    (growth-stays test new d sparing (λ m. refl) can.spared can.stays k zone can.more))
+    (subst (λ b. is_some (place b after) ≡ true) (sym can.takes) (placed-is p after can.positive ∙ is))
+  where
+    test : Block → Bool
+    test = is_relocatable slot
+
+    new : Block
+    new = grown n (spot (is_relocatable slot) zone)
+
+    after : List Block
+    after = purged k sparing zone
+
+    there : (o : Option Spot) → IsSomeAnd o (λ s. growth new s ≡ d) → is_some o ≡ true
+    there None h = absurd h
+    there (Some s) h = refl

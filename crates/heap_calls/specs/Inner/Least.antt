@@ -26,7 +26,3 @@ IsMost most sparing o = IsSomeAnd o (λ s. most ≡ count_of (spared sparing) (s
 abbrev pub enough_above : ℕ → ℕ → Sparing → Option Spot → Bool
 enough_above d k sparing None = false
 enough_above d k sparing (Some s) = has_free d (purge k (spared sparing) (segments s.above).first)
-
--- No smaller number passes a test.
-abbrev pub NoneBelow : (ℕ → Bool) → ℕ → Type 0
-NoneBelow test n = (k : ℕ) → k < n → test k ≡ false

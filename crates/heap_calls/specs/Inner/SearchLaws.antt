@@ -9,11 +9,7 @@ use Rattle.block_store.specs.Sparing.{spared, purged, most_purges}
 use Rattle.block_store.specs.declared.sparing.Sparing.{Sparing}
 use Rattle.block_store.proofs.Purged.Rising.{purge-all, purged-all, enough-rises}
 use Rattle.block_store.proofs.Purged.Growing.{grow-rises}
-use Rattle.block_store.specs.Find.{FindsLowestRun}
-use Rattle.heap_calls.specs.declared.search.Placement.{Placement}
-use Rattle.heap_calls.specs.declared.growing.Growth.{Growth}
-use Rattle.heap_calls.specs.Inner.Search.{FindsPlacement}
-use Rattle.heap_calls.specs.Inner.Growing.{grown, FindsGrowth}
+use Rattle.heap_calls.specs.Inner.Growing.{grown}
 use Rattle.heap_calls.specs.Inner.Least.{CanGrow, IsMost, enough_above}
 
 -- The laws of searches: what is there after some purges is there after more, and once every block is purged that may
@@ -23,20 +19,10 @@ pub placement-ends : (p : ℕ) (n : Sparing) (zone : List Block) (k : ℕ) → m
     → is_some (place p (purged k n zone)) ≡ is_some (place p (purged (most_purges n zone) n zone))
 placement-ends p n zone k le = ap (λ z. is_some (place p z)) (purged-all n zone k le)
 
-pub placement-stays : (p : ℕ) (n : Sparing) (zone : List Block) (k : ℕ) (found : Option Placement) → most_purges n zone
-    ≤ k
-    → FindsPlacement p (purged k n zone) found → FindsPlacement p (purged (most_purges n zone) n zone) found
-placement-stays p n zone k found le = subst (λ z. FindsPlacement p z found) (purged-all n zone k le)
-
 pub base-ends : (p : ℕ) (n : Sparing) (zone : List Block) (k : ℕ) → most_purges n zone ≤ k
     → is_some (run_spot (has_free p) (purged k n zone))
     ≡ is_some (run_spot (has_free p) (purged (most_purges n zone) n zone))
 base-ends p n zone k le = ap (λ z. is_some (run_spot (has_free p) z)) (purged-all n zone k le)
-
-pub base-stays : (p : ℕ) (n : Sparing) (zone : List Block) (k : ℕ) (found : Option ℕ) → most_purges n zone ≤ k
-    → FindsLowestRun (has_free p) (purged k n zone) found
-    → FindsLowestRun (has_free p) (purged (most_purges n zone) n zone) found
-base-stays p n zone k found le = subst (λ z. FindsLowestRun (has_free p) z found) (purged-all n zone k le)
 
 pub room-ends : (p : Option ℕ) (n : Sparing) (zone : List Block) (k : ℕ) → most_purges n zone ≤ k
     → has_room p (purged k n zone) ≡ has_room p (purged (most_purges n zone) n zone)
@@ -60,13 +46,6 @@ module _ (slot n p d : ℕ) (sparing : Sparing) (zone : List Block) where
       (purged (most_purges sparing zone) sparing zone))
   unfolding new
   growth-ends k le = ap (λ z. is_some (grow_mover (is_relocatable slot) new z)) (purged-all sparing zone k le)
-
-  pub growth-stays : (k : ℕ) (found : Option Growth) → most_purges sparing zone ≤ k
-      → FindsGrowth (is_relocatable slot) (grown n (spot (is_relocatable slot) zone)) (purged k sparing zone) found
-      → FindsGrowth (is_relocatable slot) (grown n (spot (is_relocatable slot) zone))
-      (purged (most_purges sparing zone) sparing zone) found
-  unfolding new
-  growth-stays k found le = subst (λ z. FindsGrowth (is_relocatable slot) new z found) (purged-all sparing zone k le)
 
 pub above-rises : (d : ℕ) (n : Sparing) (o : Option Spot) (k m : ℕ) → k ≤ m → enough_above d k n o ≡ true
     → enough_above d m n o ≡ true
