@@ -30,7 +30,8 @@ rises : (n a b : ℕ) (us vs : List ℕ) → AreBytes us → a < b → spelled n
 rises zero a b us vs h l = l
 rises (suc n) a b us vs h l =
     let small : slice_index us 0 < 256 = h 0 in
-    rises n (a * 256 + slice_index us 0) (b * 256 + slice_index vs 0) (drop 1 us) (drop 1 vs) (behind us h) (omega arith)
+    rises n (a * 256 + slice_index us 0) (b * 256 + slice_index vs 0) (drop 1 us) (drop 1 vs) (behind us h)
+    (omega (arith, small, l))
   where
     behind : (us : List ℕ) → AreBytes us → AreBytes (drop 1 us)
     behind [] h place = h place
@@ -53,16 +54,19 @@ in_order (suc n) a [] (y ∷ ys) g h apart =
     below (spelled (suc n) a []) (spelled (suc n) a (y ∷ ys)) (least (suc n) a (y ∷ ys)) apart
 in_order (suc n) a (x ∷ xs) [] g h apart =
     above (spelled (suc n) a (x ∷ xs)) (spelled (suc n) a []) (least (suc n) a (x ∷ xs)) apart
-in_order (suc n) a (x ∷ xs) (y ∷ ys) g h apart = cases (in_order n (a * 256 + x) xs ys (λ k. g (suc k)) (λ k. h (suc k))) (nat_cmp x y) (ranks x y)
+in_order (suc n) a (x ∷ xs) (y ∷ ys) g h apart =
+    cases (in_order n (a * 256 + x) xs ys (λ k. g (suc k)) (λ k. h (suc k))) (nat_cmp x y) (ranks x y)
   where
     cases : ((spelled n (a * 256 + x) xs ≡ spelled n (a * 256 + x) ys → ⊥)
         → nat_cmp (spelled n (a * 256 + x) xs) (spelled n (a * 256 + x) ys) ≡ slice_cmp nat_cmp xs ys)
         → (o : Ordering) → MatchOrdering o (x < y) (x ≡ y) (y < x)
         → nat_cmp (spelled n (a * 256 + x) xs) (spelled n (a * 256 + y) ys) ≡ ordering_then o (slice_cmp nat_cmp xs ys)
     cases behind Less l =
-        sym (nat_cmp_is (spelled n (a * 256 + x) xs) (spelled n (a * 256 + y) ys) Less (rises n (a * 256 + x) (a * 256 + y) xs ys (λ k. g (suc k)) (omega (arith, l))))
+        sym (nat_cmp_is (spelled n (a * 256 + x) xs) (spelled n (a * 256 + y) ys) Less
+        (rises n (a * 256 + x) (a * 256 + y) xs ys (λ k. g (suc k)) (omega (arith, l))))
     cases behind Greater l =
-        sym (nat_cmp_is (spelled n (a * 256 + x) xs) (spelled n (a * 256 + y) ys) Greater (rises n (a * 256 + y) (a * 256 + x) ys xs (λ k. h (suc k)) (omega (arith, l))))
+        sym (nat_cmp_is (spelled n (a * 256 + x) xs) (spelled n (a * 256 + y) ys) Greater
+        (rises n (a * 256 + y) (a * 256 + x) ys xs (λ k. h (suc k)) (omega (arith, l))))
     cases behind Equal l =
         let e : x ≡ y = l in
         subst (λ z. nat_cmp (spelled n (a * 256 + x) xs) (spelled n (a * 256 + z) ys) ≡ slice_cmp nat_cmp xs ys) e

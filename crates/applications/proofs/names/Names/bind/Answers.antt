@@ -9,7 +9,8 @@ invariant_of-self-2 c =
     let before = c.self.inside.bound.entries in
     let after = c.insert.new.self.entries in
     ap (λ n. bound_to n (map binding after)) c.copy_of.ensures
-    ∙ ap (bound_to name) (put-bound c.of.result name c.args.number before after c.in_ok-insert.ensures.entries c.of.ensures)
+    ∙ ap (bound_to name)
+    (put-bound c.of.result name c.args.number before after c.in_ok-insert.ensures.entries c.of.ensures)
     ∙ bound-again name c.args.number (map binding before)
 
 pub returns : goal.returns
