@@ -76,8 +76,8 @@ pub struct Searched<F> {
     pub purges: u32,
 }
 
-/// Finds what is searched for after as few purges as serve, or after all that there can be where none serve. One search
-/// is made where no purge is needed or no purge serves, and else one more, after the fewest.
+/// Finds what is searched for after as few purges as serve, or after all that there can be where none serve: by a
+/// search before any purge, the question for the fewest purges, and a search after so many.
 pub fn least_search<S: BlockStore, L: FindsFewest>(store: &S, sought: &L) -> Searched<L::Found>
     requires { L.Allows sought.now (S.zone store.now) }
     ensures least { result.purges ≡ least_or_last (L.is_there sought.now (S.zone store.now))

@@ -1,9 +1,9 @@
-use Rattle.std.proofs.Common.{◌≡◌, ℕ, ◌≤◌, Bool, true, false, List, nat_lt, refl, sym, ◌∙◌, ap, subst, is_some, arith}
+use Rattle.std.proofs.Common.{◌≡◌, ℕ, ◌≤◌, Bool, true, false, List, nat_lt, refl, sym, ◌∙◌, ap, is_some, arith}
 use Rattle.std.proofs.lemmas.Bool.Decides.{nat_tests}
 use Rattle.block_store.specs.Block.{Block}
 use Rattle.block_store.specs.Run.{has_free, run_spot}
 use Rattle.block_store.specs.Fewest.{serves}
-use Rattle.block_store.specs.Sparing.{purged, most_purges}
+use Rattle.block_store.specs.Sparing.{most_purges}
 use Rattle.block_store.specs.declared.sparing.Sparing.{Sparing}
 use Rattle.block_store.proofs.Purged.Rising.{purged-all}
 

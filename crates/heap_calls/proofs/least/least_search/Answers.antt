@@ -1,4 +1,4 @@
-use Rattle.std.proofs.Common.{◌≡◌, false, sym, ap, ◌∙◌, arith}
+use Rattle.std.proofs.Common.{sym, ap, ◌∙◌, arith}
 use Rattle.block_store.proofs.Plain.Trials.{least_or_last-fails, least_or_last-le, fewest-last}
 use Rattle.heap_calls.proofs.least.least_search.Goals as goal
 
