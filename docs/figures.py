@@ -426,9 +426,9 @@ def grown(names):
 
 
 def looked_up(names, most):
-    """so many lines that look up the name that was bound last"""
+    """so many lines that look up the name that was bound last but one"""
     lines = lambda: b"".join(b"NewEmptyHandle %s\n" % n for n in names(most))
-    return lambda count: script_of(lines() + b"HGetState %s\n" % names(most)[-1] * count)
+    return lambda count: script_of(lines() + b"HGetState %s\n" % names(most)[-2] * count)
 
 
 def set_again(count):
@@ -629,8 +629,8 @@ UNLUCKY = [
     ("searches for what isn't there among 65,536 references", 5000, sought),
     ("names that collide", 16384, bound(colliding)),
     ("ordinary names", 16384, bound(ordinary)),
-    ("look-ups of the last of 32,768 names that collide", 10000, looked_up(colliding, MOST_COLLIDING)),
-    ("look-ups of the last of 32,768 ordinary names", 10000, looked_up(ordinary, MOST_COLLIDING)),
+    ("look-ups of the last but one of 32,768 names that collide", 10000, looked_up(colliding, MOST_COLLIDING)),
+    ("look-ups of the last but one of 32,768 ordinary names", 10000, looked_up(ordinary, MOST_COLLIDING)),
     ("names of grow-zone scripts that collide", 16384, grown(colliding)),
     ("ordinary names of grow-zone scripts", 16384, grown(ordinary)),
     ("names of 63 bytes that end apart, upward", 250000, bound(ending_apart)),

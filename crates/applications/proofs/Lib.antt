@@ -1,3 +1,4 @@
+mod Heads
 mod Binding
 mod Rounds
 mod Saying

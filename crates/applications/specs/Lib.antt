@@ -1,4 +1,6 @@
+pub mod Heads
 pub mod Names
+pub mod Latest
 pub mod Trying
 pub mod Step
 pub mod Application

@@ -1,6 +1,6 @@
 use Rattle.std.specs.Prelude.{ℕ, Option, Some, None, List, [], ◌∷◌, bytes_eq, if◌then◌else◌}
-use Rattle.mac_words.specs.declared.name.Label.{Label}
 use Rattle.script_text.specs.Named.{put_named}
+use Rattle.applications.specs.declared.key.Key.{Key}
 use Rattle.applications.specs.declared.names.Bound.{Bound}
 
 -- The numbers that names are bound to, in the order of the names.
@@ -17,8 +17,8 @@ abbrev pub bind : List ℕ → ℕ → Bindings → Bindings
 bind name number names = put_named name number names
 
 -- A name with the number that the name is bound to.
-abbrev pub binding : Label × ℕ → List ℕ × ℕ
-binding e = (e.0.0.items, e.1)
+abbrev pub binding : Key × ℕ → List ℕ × ℕ
+binding e = (e.0.label.0.items, e.1)
 
 -- A name that is lent with its number.
 abbrev pub lent_binding : Bound → List ℕ × ℕ

@@ -6,6 +6,7 @@ mod application;
 mod finding;
 mod giving;
 mod jumping;
+mod key;
 mod laws;
 mod names;
 mod naming;

@@ -1,8 +1,11 @@
 //! The names of a script.
 
 ghost use Rattle.std.specs.Prelude.{◌≡◌, [], map, IfOk, OnOk};
+ghost use Rattle.std.specs.Option.{option_map};
 ghost use Rattle.applications.specs.Names.{Bindings, bound_to, bind, binding, lent_binding};
+ghost use Rattle.applications.specs.Latest.{IsLatest, if_last, known};
 
+use crate::key::{Key, copy_of};
 use mac_words::Label;
 use std::alloc::{AllocError, Global};
 use std::collections::BTreeMap;
@@ -12,7 +15,15 @@ use std::marker::Model;
 /// hashed: no choice of names makes a look-up slow.
 #[derive(Drop)]
 pub struct Names {
-    bound: BTreeMap<Label, usize>,
+    bound: BTreeMap<Key, usize>,
+    latest: Option<Latest>,
+}
+
+/// The name that was bound last, which is often the next that is looked up, with its number.
+#[derive(Drop)]
+struct Latest {
+    name: Label,
+    number: usize,
 }
 
 /// A name that is bound, with the number of its handle or pointer.
@@ -26,16 +37,34 @@ impl Model for Names {
     ghost Value = { Bindings };
 
     ghost view = { λ n. map binding n.bound.entries };
+
+    ghost invariant = { λ n. IsLatest (option_map known n.latest) (map binding n.bound.entries) };
+}
+
+/// Returns the number of the name that was bound last, if this is the name.
+fn number_of(latest: &Option<Latest>, name: &Label) -> Option<usize>
+    ensures { result ≡ if_last name.now.0.items (option_map known latest.now) }
+{
+    match latest {
+        Some(latest) => {
+            if latest.name == *name {
+                Some(latest.number)
+            } else {
+                None
+            }
+        }
+        None => None,
+    }
 }
 
 /// Returns the names of a map, in their order, each with its number.
-fn listed(alloc: Global, bound: &BTreeMap<Label, usize>) -> Result<Vec<Bound<'_>>, AllocError>
+fn listed(alloc: Global, bound: &BTreeMap<Key, usize>) -> Result<Vec<Bound<'_>>, AllocError>
     ensures { IfOk result (λ listed. map lent_binding listed.items ≡ map binding bound.now.entries) }
 {
     let mut listed = Vec::new(alloc);
-    for (name, number) in bound {
+    for (key, number) in bound {
         listed.push(Bound {
-            name,
+            name: &key.label,
             number: *number,
         })?;
     }
@@ -49,6 +78,7 @@ impl Names {
     {
         Names {
             bound: BTreeMap::new(alloc),
+            latest: None,
         }
     }
 
@@ -56,7 +86,10 @@ impl Names {
     pub fn number(&self, name: &Label) -> Option<usize>
         ensures { result ≡ bound_to name.now.0.items self.now }
     {
-        self.bound.get(name).copied()
+        match number_of(&self.latest, name) {
+            Some(number) => Some(number),
+            None => self.bound.get(&Key::of(name)).copied(),
+        }
     }
 
     /// Returns the names that are bound, in their order, each with its number.
@@ -70,7 +103,11 @@ impl Names {
     pub fn bind(&mut self, name: &Label, number: usize) -> Result<(), AllocError>
         ensures { OnOk result (self.new ≡ bind name.now.0.items number self.old) }
     {
-        self.bound.insert(name.clone()?, number)?;
+        self.bound.insert(Key::of(name), number)?;
+        self.latest = Some(Latest {
+            name: copy_of(name),
+            number,
+        });
         Ok(())
     }
 }
