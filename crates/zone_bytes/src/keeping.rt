@@ -1,8 +1,9 @@
 //! The landmarks that a zone keeps.
 
-ghost use Rattle.std.specs.Prelude.{◌≡◌, ◌≤◌, ◌<◌, ◌⊎◌, ◌++◌, ℕ, List, [], Some, IfOk};
+ghost use Rattle.std.specs.Prelude.{◌≡◌, ◌≤◌, ◌<◌, ◌⊎◌, ◌++◌, ℕ, List, [], Some, false, IfOk, MatchOption};
 ghost use Rattle.block_store.specs.Block.{Block, free_sum, is_room, sizes};
 ghost use Rattle.block_store.specs.Compact.{largest_run};
+ghost use Rattle.block_store.specs.Fewest.{serves, IsFewest};
 ghost use Rattle.block_store.specs.Find.{FindsLowest, FindsLowestRun};
 ghost use Rattle.block_store.specs.Run.{RunSpot, has_free, run_at, settle};
 ghost use Rattle.block_store.specs.Sparing.{opened, purged};
@@ -12,8 +13,10 @@ ghost use Rattle.zone_bytes.specs.Lawful.{IsSound};
 ghost use Rattle.zone_bytes.specs.Marked.{AreMarked, AreOf};
 ghost use Rattle.zone_bytes.specs.Marks.{AreTops, Became, Begins, Replaced};
 ghost use Rattle.zone_bytes.specs.Purgeable.{MayStart, NoneGoes};
+ghost use Rattle.zone_summary.specs.Emptied.{all_purged};
 
 use crate::edges::Edges;
+use crate::fewest::fewest_by_marks;
 use crate::finding_room::find_room_by_marks;
 use crate::finding_runs::find_run_by_marks;
 use crate::going::{first_going, lowest_after, lowest_packed};
@@ -183,6 +186,28 @@ impl Landmarks {
         ensures { FindsLowestRun (has_free bytes) (purged purges sparing (zone_in part.now.bytes)) result }
     {
         find_run_by_marks(&self.marks, part, self.under(), bytes, purges, sparing)
+    }
+
+    /// Returns the least number of purges after which a run has at least `bytes` free bytes, where no run has them
+    /// before any purge; `None` where no purges serve. The run at `found` is the lowest that has them after all purges.
+    pub fn fewest_purges(
+        &self,
+        part: &Part,
+        found: Option<u32>,
+        bytes: u32,
+        sparing: Sparing,
+    ) -> Option<u32>
+        requires sound { (first : ℕ) × (unused : ℕ) × IsSound part.now.bytes first unused }
+        requires marks { AreOf self.now (zone_in part.now.bytes) }
+        requires run { FindsLowestRun (has_free bytes) (all_purged sparing (zone_in part.now.bytes)) found }
+        requires unserved { serves bytes sparing (zone_in part.now.bytes) 0 ≡ false }
+        ensures { MatchOption result ((purges : ℕ) → serves bytes sparing (zone_in part.now.bytes) purges ≡ false)
+            (λ fewest. IsFewest (serves bytes sparing (zone_in part.now.bytes)) fewest) }
+    {
+        let Some(run) = found else {
+            return None;
+        };
+        Some(fewest_by_marks(&self.marks, part, self.start(), run, bytes, sparing))
     }
 
     /// Returns the greatest number of free bytes in one run.
