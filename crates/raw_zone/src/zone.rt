@@ -273,6 +273,11 @@ impl BlockStore for RawZone {
         }
     }
 
+    fn fewest_purges(&self, bytes: u32, sparing: Sparing) -> Option<u32> {
+        let found = self.find_run(bytes, GREATEST_ZONE, sparing);
+        self.marks.fewest_purges(&self.part, found, bytes, sparing)
+    }
+
     fn next_run(&self, run: u32) -> Option<u32> {
         match next_run_in(&mut walk_from(&self.part, run)) {
             Some(bytes) => Some(run + bytes),
