@@ -154,7 +154,7 @@ impl RawZone {
         let lowest = self.marks.lowest_packed(run, self.free);
         let packed = settle_run(&mut self.part, &mut self.edges, run);
         self.marks
-            .note_packed(&self.part, &self.edges, run, run, packed.stop, lowest);
+            .note_settled(&self.part, &self.edges, run, packed, lowest);
         packed
     }
 

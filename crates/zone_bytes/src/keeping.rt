@@ -26,6 +26,7 @@ use crate::marking::{
 use crate::measuring::within;
 use crate::paging::{groups_of, page_bytes, page_end};
 use crate::placing::size_at;
+use crate::settling::PackedRun;
 use block_store::Sparing;
 use raw_region::Part;
 use std::alloc::{AllocError, Global};
@@ -318,5 +319,27 @@ impl Landmarks {
         let from = self.next_at((lo / page) as usize);
         let next = lay_edges(&mut self.marks, &mut self.tops, part, edges, base, from);
         self.lay(part, next, from.index, page, hi);
+    }
+
+    /// Renews the landmarks after the run at `run` was packed. Where no block moved down, the zone is as it was, and so
+    /// are the landmarks.
+    pub fn note_settled(
+        &mut self,
+        part: &Part,
+        edges: &Edges,
+        run: u32,
+        packed: PackedRun,
+        lowest: u32,
+    )
+        requires sound { (first : ℕ) × (unused : ℕ) × IsSound part.now.bytes first unused }
+        requires marks { (old : List Block) × Replaced run packed.stop old (zone_in part.now.bytes) × AreOf self.old old }
+        requires still { packed.lowered ≡ 0 → AreOf self.old (zone_in part.now.bytes) }
+        requires edges { ByEdges edges.now run (zone_in part.now.bytes) }
+        requires lowest { NoneGoes lowest (zone_in part.now.bytes) }
+        ensures { AreOf self.new (zone_in part.now.bytes) }
+    {
+        if packed.lowered > 0 {
+            self.note_packed(part, edges, run, run, packed.stop, lowest);
+        }
     }
 }
