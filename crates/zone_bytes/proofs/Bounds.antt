@@ -1,3 +1,4 @@
 pub mod Given
 pub mod Short
 pub mod Going
+pub mod Space

@@ -2,7 +2,7 @@
 
 ghost use Rattle.std.specs.Prelude.{◌≡◌, ◌≤◌, ◌<◌, ◌⊎◌, ◌++◌, ℕ, List, [], Some, IfOk};
 ghost use Rattle.block_store.specs.Block.{Block, free_sum, is_room, sizes};
-ghost use Rattle.block_store.specs.Compact.{largest_run};
+ghost use Rattle.block_store.specs.Compact.{largest_free, largest_run};
 ghost use Rattle.block_store.specs.Find.{FindsLowest, FindsLowestRun};
 ghost use Rattle.block_store.specs.Run.{RunSpot, has_free, run_at, settle};
 ghost use Rattle.block_store.specs.Sparing.{opened, purged};
@@ -16,6 +16,7 @@ ghost use Rattle.zone_bytes.specs.Purgeable.{MayStart, NoneGoes};
 use crate::edges::Edges;
 use crate::finding_room::find_room_by_marks;
 use crate::finding_runs::find_run_by_marks;
+use crate::free_space::{largest_after_by_marks, largest_free_by_marks};
 use crate::going::{first_going, lowest_after, lowest_packed};
 use crate::grouping::renew_tops;
 use crate::landmark::{GROUP, Landmark, UNKNOWN};
@@ -193,6 +194,26 @@ impl Landmarks {
         ensures { result ≡ largest_run (zone_in part.now.bytes) }
     {
         largest_run_by_marks(&self.marks, part)
+    }
+
+    /// Returns the size of the largest free block.
+    pub fn largest_free(&self, part: &Part) -> u32
+        requires sound { (first : ℕ) × (unused : ℕ) × IsSound part.now.bytes first unused }
+        requires marks { AreOf self.now (zone_in part.now.bytes) }
+        ensures { result ≡ largest_free (zone_in part.now.bytes) }
+    {
+        largest_free_by_marks(&self.marks, &self.tops, part)
+    }
+
+    /// Returns the size of the largest free block after the given number of purges. Landmarks can't be used if
+    /// `sparing` counts a block as free that is not free.
+    pub fn largest_after(&self, part: &Part, purges: u32, sparing: Sparing) -> u32
+        requires sound { (first : ℕ) × (unused : ℕ) × IsSound part.now.bytes first unused }
+        requires marks { AreOf self.now (zone_in part.now.bytes) }
+        requires plain { (zone : List Block) → opened sparing zone ≡ zone }
+        ensures { result ≡ largest_free (purged purges sparing (zone_in part.now.bytes)) }
+    {
+        largest_after_by_marks(&self.marks, &self.tops, part, self.under(), purges, sparing)
     }
 
     /// Renews the landmarks after the blocks from `lo` to `hi` became others.
