@@ -6,12 +6,12 @@ ghost use Rattle.block_store.specs.Compact.{largest_free};
 ghost use Rattle.block_store.specs.Sparing.{opened, purged};
 ghost use Rattle.zone_bytes.specs.Decode.{zone_in};
 ghost use Rattle.zone_bytes.specs.Lawful.{IsSound};
-ghost use Rattle.zone_bytes.specs.Marks.{AreMarks, AreTops, AtEach, Begins, NoRoom, NoneBelow, above_all};
+ghost use Rattle.zone_bytes.specs.Marks.{AreMarks, AreGroups, AtEach, Begins, NoRoom, NoneBelow, above_all};
 ghost use Rattle.zone_bytes.specs.Purgeable.{MayStart, NoneGoes};
 ghost use Rattle.zone_bytes.specs.Stepping.{left_in, IsOnWay};
 ghost use Rattle.zone_bytes.specs.declared.landmark.TheConstants.{GROUP};
 
-use crate::landmark::{GROUP, Landmark};
+use crate::landmark::{GROUP, Group, Landmark};
 use crate::marking::place_of_mark;
 use crate::measuring::{greater, span_at, within};
 use crate::raw_walk::{step_at, walk_from};
@@ -77,15 +77,15 @@ fn larger_in_group(marks: &[Landmark], part: &Part, group: usize, most: u32) -> 
 
 /// Returns the size of the largest free block. A group of landmarks and the stretch of a landmark are passed by where
 /// the bound on their free blocks is no more than a free block that was found.
-pub fn largest_free_by_marks(marks: &[Landmark], tops: &[u32], part: &Part) -> u32
+pub fn largest_free_by_marks(marks: &[Landmark], groups: &[Group], part: &Part) -> u32
     requires sound { (first : ℕ) × (unused : ℕ) × IsSound part.now.bytes first unused }
     requires marks { AreMarks above_all (zone_in part.now.bytes) marks.now }
-    requires tops { AreTops tops.now marks.now }
+    requires groups { AreGroups groups.now marks.now }
     ensures { result ≡ largest_free (zone_in part.now.bytes) }
 {
     let mut largest = larger_between(part, 0, place_of_mark(marks, 0), 0);
-    for group in 0..tops.len() {
-        if largest < tops[group] {
+    for group in 0..groups.len() {
+        if largest < groups[group].most {
             largest = larger_in_group(marks, part, group, largest);
         }
     }
@@ -97,7 +97,7 @@ pub fn largest_free_by_marks(marks: &[Landmark], tops: &[u32], part: &Part) -> u
 /// a block as free that is not free.
 pub fn largest_after_by_marks(
     marks: &[Landmark],
-    tops: &[u32],
+    groups: &[Group],
     part: &Part,
     from: u32,
     purges: u32,
@@ -105,12 +105,12 @@ pub fn largest_after_by_marks(
 ) -> u32
     requires sound { (first : ℕ) × (unused : ℕ) × IsSound part.now.bytes first unused }
     requires marks { AreMarks above_all (zone_in part.now.bytes) marks.now }
-    requires tops { AreTops tops.now marks.now }
+    requires groups { AreGroups groups.now marks.now }
     requires from { MayStart from (zone_in part.now.bytes) }
     requires plain { (zone : List Block) → opened sparing zone ≡ zone }
     ensures { result ≡ largest_free (purged purges sparing (zone_in part.now.bytes)) }
 {
-    let stands = largest_free_by_marks(marks, tops, part);
+    let stands = largest_free_by_marks(marks, groups, part);
     let above = largest_after_in(&mut walk_from(part, from), purges, sparing);
     greater(stands, above)
 }

@@ -7,7 +7,7 @@ use Rattle.zone_bytes.proofs.Bounds.Space.{zone-largest}
 use Rattle.zone_bytes.proofs.Marks.Rooms.{none-group, none-past}
 use Rattle.zone_bytes.proofs.Places.AtPlace.{left-zone, on-way}
 use Rattle.zone_bytes.proofs.free_space.largest_free_by_marks.Goals as goal
-use Rattle.zone_bytes.proofs.free_space.largest_free_by_marks.Goals.{then-largest-tops, else-largest-tops}
+use Rattle.zone_bytes.proofs.free_space.largest_free_by_marks.Goals.{then-largest-groups, else-largest-groups}
 
 pub larger_between-largest-requires : goal.larger_between-largest-requires
 larger_between-largest-requires c = let i = c.requires.sound in on-way c.args.part.now.bytes i.0 i.1 i.2
@@ -33,17 +33,17 @@ loop-group-preserved c =
     let marks = c.args.marks.now in
     let group = c.loop-group.group in
     let v = c.loop-group.invariant in
-    elim c.if-largest-tops.branch [
-      | then-largest-tops w ↦ record {
+    elim c.if-largest-groups.branch [
+      | then-largest-groups w ↦ record {
         none = subst (λ m. NoneBelow (m + 1) zone marks (GROUP * (group + 1))) (sym w.largest-is)
             (subst (NoneBelow (w.larger_in_group-largest.result + 1) zone marks)
             (let e : GROUP * group + GROUP ≡ GROUP * (group + 1) = omega arith in e) w.larger_in_group-largest.ensures.none);
         reached = (let e = w.largest-is in let r = w.larger_in_group-largest.ensures.reached in omega (arith, e, r));
       }
-      | else-largest-tops w ↦ record {
+      | else-largest-groups w ↦ record {
         none = subst (λ m. NoneBelow (m + 1) zone marks (GROUP * (group + 1))) (sym w.largest-is)
-            (none-group xs i.0 i.1 i.2 (c.loop-group.largest + 1) marks c.requires.marks c.args.tops.now c.requires.tops
-            group c.loop-group-test.true (let f = w.if-largest-tops.false in omega (arith, f)) v.none);
+            (none-group xs i.0 i.1 i.2 (c.loop-group.largest + 1) marks c.requires.marks c.args.groups.now c.requires.groups
+            group c.loop-group-test.true (let f = w.if-largest-groups.false in omega (arith, f)) v.none);
         reached = (let e = w.largest-is in let r = v.reached in omega (arith, e, r));
       }
     ]
@@ -53,7 +53,7 @@ returns c =
     let i = c.requires.sound in
     let xs = c.args.part.now.bytes in
     let t = c.loop-group-test.false in
-    let w = c.requires.tops.whole in
+    let w = c.requires.groups.whole in
     let v = c.loop-group.invariant in
     zone-largest xs i.0 i.1 i.2 c.loop-group.largest
     (none-past (c.loop-group.largest + 1) (zone_in xs) c.args.marks.now (GROUP * c.loop-group.group)
