@@ -44,7 +44,7 @@ pub struct Landmarks {
 }
 
 impl Landmarks {
-    /// Makes the landmarks of a zone, by one walk over the zone. All room that they ever take is asked of the host here.
+    /// Makes the landmarks of a zone, by walks over the zone. All room that they ever take is asked of the host here.
     /// Where the host refuses it, there are none: each search then begins at the bottom, and finds the same.
     pub fn of(alloc: Global, part: &Part) -> Landmarks
         requires sound { (first : ℕ) × (unused : ℕ) × IsSound part.now.bytes first unused }
@@ -55,6 +55,7 @@ impl Landmarks {
             Err(_) => Landmarks::none(alloc, part),
         };
         landmarks.renew(part, 0, part.len() as u32);
+        landmarks.seek(part);
         landmarks
     }
 
