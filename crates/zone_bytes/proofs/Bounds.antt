@@ -2,3 +2,4 @@ pub mod Given
 pub mod Short
 pub mod Going
 pub mod Fewest
+pub mod Space

@@ -28,11 +28,10 @@ use Rattle.zone_summary.specs.declared.stretch.Stretch.TheVariants.{Whole, Ended
 use Rattle.zone_summary.proofs.Monoid.{stretch_of-append}
 use Rattle.zone_summary.proofs.Runs.{prefix-more}
 use Rattle.zone_summary.proofs.Sums.{load-blocks}
-use Rattle.zone_bytes.proofs.Marks.Between.{CountAlike, alike-as, alike-back, alike-more, alike-same, between-parts}
 use Rattle.zone_bytes.proofs.Bounds.Going.{none-passes, stays-here}
 use Rattle.zone_bytes.proofs.Marks.Lowering.{begins-end, seen-from, tally-here}
 use Rattle.zone_bytes.proofs.Marks.Passing.{at-left, begins-left}
-use Rattle.zone_bytes.proofs.Searches.Pieces.{piece-of, zone-long}
+use Rattle.zone_bytes.proofs.Searches.Pieces.{stretch-at, zone-long}
 
 -- a walk that counts them looks at one block
 module _ (n : Sparing) (b : Block) (above : List Block) where
@@ -113,15 +112,8 @@ first-begins xs bytes run n f =
 module _ (xs : List ℕ) (first unused : ℕ) (i : IsSound xs first unused) where
   pub stretch-from : (t : Tally) (from to : ℕ) → Begins from 0 (zone_in xs) → Begins to 0 (zone_in xs) → from ≤ to
       → IsTally t (between from to from (left_in from xs)) → IsStretch t from to xs
-  stretch-from t from to b e l k =
-      let p = piece-of xs first unused i from to b e l in
-      let s = seen-from xs first unused i from b in
-      let u = p.1.up in
-      let same : CountAlike (between from to 0 (zone_in xs)) p.0 = alike-more (between from to 0 (zone_in xs)) _ p.0
-      (alike-same _ _ (ap (between from to 0) (s.is ∙ ap (λ k. s.below ++ k) p.1.is)))
-      (between-parts from to s.below p.0 (left_in to xs) s.low (omega (arith, u))
-      (inl (let q : to ≡ from + sizes p.0 = omega (arith, u) in q))) in
-      (p.0, p.1, alike-as t p.0 _ (alike-back _ p.0 same) (tally-here xs first unused i t from to b k))
+  stretch-from t from to b e l k = stretch-at xs first unused i t from to to b (tally-here xs first unused i t from to b k)
+      e l (omega arith) (inl refl)
 
 module _ (xs : List ℕ) (from to : ℕ) where
   pub open-past : (more : ℕ) → IsStretch (tally.Known (Whole more)) from to xs
