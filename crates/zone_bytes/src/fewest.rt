@@ -1,16 +1,16 @@
 //! The least number of purges after which a run has enough free bytes. The lowest run that has them once all blocks are
 //! purged that may be is the first to have them: all such blocks below it are purged, and as few of its own as serve.
 
-ghost use Rattle.std.specs.Prelude.{◌≡◌, ◌≤◌, ◌<◌, ◌+◌, ◌^◌, ℕ, Some, false};
+ghost use Rattle.std.specs.Prelude.{◌≡◌, ◌≤◌, ◌<◌, ◌+◌, ◌^◌, ℕ, Some, false, get_or, length};
 ghost use Rattle.block_store.specs.Block.{sizes};
 ghost use Rattle.block_store.specs.Find.{FindsLowestRun};
 ghost use Rattle.block_store.specs.Run.{has_free};
 ghost use Rattle.block_store.specs.Sparing.{opened, spared};
 ghost use Rattle.zone_bytes.specs.Decode.{zone_in};
 ghost use Rattle.zone_bytes.specs.Lawful.{IsSound};
-ghost use Rattle.zone_bytes.specs.Marks.{AreMarks, Begins, above_all};
+ghost use Rattle.zone_bytes.specs.Marks.{AreGroups, AreMarks, Begins, above_all, no_mark};
 ghost use Rattle.zone_bytes.specs.Purgeable.{NoneGoes};
-ghost use Rattle.zone_bytes.specs.Searching.{IsStretch};
+ghost use Rattle.zone_bytes.specs.Searching.{IsBefore, IsStretch};
 ghost use Rattle.zone_bytes.specs.Stepping.{left_in};
 ghost use Rattle.zone_bytes.specs.declared.landmark.Tally.TheVariants as tally;
 ghost use Rattle.zone_summary.specs.Emptied.{all_purged};
@@ -18,7 +18,7 @@ ghost use Rattle.zone_summary.specs.Fewest.{count_within, purges_for};
 ghost use Rattle.zone_summary.specs.Stretches.{prefix, stretch_of};
 ghost use Rattle.block_store.specs.Fewest.{serves, IsFewest};
 
-use crate::landmark::{Landmark, Tally};
+use crate::landmark::{GROUP, Group, Landmark, Tally};
 use crate::marking::{index_above, place_of_mark};
 use crate::measuring::{measure_up_to, within};
 use crate::purgeable::frees_one;
@@ -109,42 +109,83 @@ fn runs_of(part: &Part, told: Tally, at: u32, next: u32) -> Stretch
     }
 }
 
-/// Returns the free bytes of the run at `run`, by landmarks.
-fn free_by_marks(marks: &[Landmark], part: &Part, run: u32) -> u32
+/// What is known of the blocks from a landmark on, and the index of the landmark up to which it is known.
+#[derive(Clone, Copy, Drop)]
+struct Told {
+    tally: Tally,
+    behind: usize,
+}
+
+/// Returns what is known of the blocks from a landmark on: of those of its group, if it is the first of the group and the
+/// group's tally says what they come to, or else of its own.
+fn told_from(marks: &[Landmark], groups: &[Group], part: &Part, index: usize) -> Told
     requires sound { (first : ℕ) × (unused : ℕ) × IsSound part.now.bytes first unused }
     requires marks { AreMarks above_all (zone_in part.now.bytes) marks.now }
+    requires groups { AreGroups groups.now marks.now }
+    requires inside { index < length marks.now }
+    ensures further { index < result.behind }
+    ensures inside { result.behind ≤ length marks.now }
+    ensures stretch { (next : ℕ) → IsBefore result.behind marks.now part.now.bytes next →
+        IsStretch result.tally (get_or marks.now index no_mark).at next part.now.bytes }
+{
+    if index % GROUP == 0 {
+        let group = groups[index / GROUP];
+        match group.tally {
+            Tally::Known(_) => {
+                return Told {
+                    tally: group.tally,
+                    behind: index + GROUP,
+                };
+            }
+            Tally::Unknown => {}
+        }
+    }
+    Told {
+        tally: marks[index].tally,
+        behind: index + 1,
+    }
+}
+
+/// Returns the free bytes of the run at `run`, by landmarks.
+fn free_by_marks(marks: &[Landmark], groups: &[Group], part: &Part, run: u32) -> u32
+    requires sound { (first : ℕ) × (unused : ℕ) × IsSound part.now.bytes first unused }
+    requires marks { AreMarks above_all (zone_in part.now.bytes) marks.now }
+    requires groups { AreGroups groups.now marks.now }
     requires begins { Begins run 0 (zone_in part.now.bytes) }
     ensures { result ≡ prefix (stretch_of (left_in run part.now.bytes)) }
 {
     let end = part.len() as u32;
-    let first = index_above(marks, run, 0);
-    let mut at = within(place_of_mark(marks, first), end);
+    let mut index = index_above(marks, run, 0);
+    let mut at = within(place_of_mark(marks, index), end);
     let mut free = match runs_between(part, run, at) {
         Stretch::Ended(low, _, _) => return low,
         Stretch::Whole(low) => low,
     };
-    for index in first..marks.len() {
-        let next = within(place_of_mark(marks, index + 1), end);
-        match runs_of(part, marks[index].tally, at, next) {
+    while index < marks.len() {
+        let told = told_from(marks, groups, part, index);
+        let next = within(place_of_mark(marks, told.behind), end);
+        match runs_of(part, told.tally, at, next) {
             Stretch::Ended(low, _, _) => return free + low,
             Stretch::Whole(more) => free += more,
         }
         at = next;
+        index = told.behind;
     }
     free
 }
 
 /// Returns the free bytes of the run at `run`, as a search sees it first.
-fn free_at(marks: &[Landmark], part: &Part, run: u32, sparing: Sparing) -> u32
+fn free_at(marks: &[Landmark], groups: &[Group], part: &Part, run: u32, sparing: Sparing) -> u32
     requires sound { (first : ℕ) × (unused : ℕ) × IsSound part.now.bytes first unused }
     requires marks { AreMarks above_all (zone_in part.now.bytes) marks.now }
+    requires groups { AreGroups groups.now marks.now }
     requires begins { Begins run 0 (zone_in part.now.bytes) }
     ensures { result ≡ prefix (stretch_of (opened sparing (left_in run part.now.bytes))) }
 {
     if frees_one(sparing) {
         free_of_run(&mut walk_from(part, run), sparing)
     } else {
-        free_by_marks(marks, part, run)
+        free_by_marks(marks, groups, part, run)
     }
 }
 
@@ -152,6 +193,7 @@ fn free_at(marks: &[Landmark], part: &Part, run: u32, sparing: Sparing) -> u32
 /// any purge. The run at `run` is the lowest that has them after all purges, and no block below `from` may be purged.
 pub fn fewest_by_marks(
     marks: &[Landmark],
+    groups: &[Group],
     part: &Part,
     from: u32,
     run: u32,
@@ -160,6 +202,7 @@ pub fn fewest_by_marks(
 ) -> u32
     requires sound { (first : ℕ) × (unused : ℕ) × IsSound part.now.bytes first unused }
     requires marks { AreMarks above_all (zone_in part.now.bytes) marks.now }
+    requires groups { AreGroups groups.now marks.now }
     requires begins { Begins from 0 (zone_in part.now.bytes) }
     requires none { NoneGoes from (zone_in part.now.bytes) }
     requires run { FindsLowestRun (has_free bytes) (all_purged sparing (zone_in part.now.bytes)) (Some run) }
@@ -168,7 +211,7 @@ pub fn fewest_by_marks(
 {
     let first = within(from, run);
     let below = count_in(&mut walk_from(part, first), run - first, sparing);
-    let free = free_at(marks, part, run, sparing);
+    let free = free_at(marks, groups, part, run, sparing);
     let lacks = bytes.saturating_sub(free);
     below + count_for(&mut walk_from(part, run), lacks, sparing)
 }

@@ -217,7 +217,15 @@ impl Landmarks {
         let Some(run) = found else {
             return None;
         };
-        Some(fewest_by_marks(&self.marks, part, self.start(), run, bytes, sparing))
+        Some(fewest_by_marks(
+            &self.marks,
+            &self.groups,
+            part,
+            self.start(),
+            run,
+            bytes,
+            sparing,
+        ))
     }
 
     /// Returns the greatest number of free bytes in one run.

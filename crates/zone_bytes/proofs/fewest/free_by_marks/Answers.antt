@@ -8,45 +8,43 @@ use Rattle.zone_bytes.specs.declared.landmark.Tally.TheVariants as tally
 use Rattle.zone_bytes.proofs.Bounds.Fewest.{ended-past, open-past, prefix-fits}
 use Rattle.zone_bytes.proofs.Marks.Lowering.{begins-way}
 use Rattle.zone_bytes.proofs.Places.Stepped.{left-none}
-use Rattle.zone_bytes.proofs.Searches.Pieces.{bounded-edge, bounded-end, bounded-mark, edge-within, next-stretch}
+use Rattle.zone_bytes.proofs.Searches.Pieces.{bounded-edge, bounded-end, before, bounded-mark, edge-within}
 use Rattle.zone_bytes.proofs.fewest.free_by_marks.Goals.{After-within-at, After-within-next}
 use Rattle.zone_bytes.proofs.fewest.free_by_marks.Goals as goal
 
 -- the first landmark above the run
-first : (c : After-within-at) → (c.within-at.result ≡ next_of 4294967295 (drop c.index_above-first.result c.args.marks.now))
+first : (c : After-within-at) → (c.within-at.result ≡ next_of 4294967295 (drop c.index_above-index.result c.args.marks.now))
     ⊎ (c.within-at.result ≡ c.len-end.result)
 first c = subst (λ q. (c.within-at.result ≡ q) ⊎ (c.within-at.result ≡ c.len-end.result)) c.place_of_mark.ensures
     c.within-at.ensures.one
 
 edge_at : (c : After-within-at) → Begins c.within-at.result 0 (zone_in c.args.part.now.bytes)
 edge_at c = let i = c.requires.sound in
-    bounded-edge c.args.part.now.bytes i.0 i.1 i.2 c.args.marks.now c.requires.marks c.index_above-first.result
+    bounded-edge c.args.part.now.bytes i.0 i.1 i.2 c.args.marks.now c.requires.marks c.index_above-index.result
     c.within-at.result c.len-end.result c.len-end.ensures.count (first c) c.within-at.ensures.low
 
 -- and the next one
 next : (c : After-within-next)
-    → (c.within-next.result ≡ next_of 4294967295 (drop (c.loop-index.index + 1) c.args.marks.now))
+    → (c.within-next.result ≡ next_of 4294967295 (drop c.told_from-told.result.behind c.args.marks.now))
     ⊎ (c.within-next.result ≡ c.len-end.result)
 next c = subst (λ q. (c.within-next.result ≡ q) ⊎ (c.within-next.result ≡ c.len-end.result))
     c.place_of_mark-in-loop-index.ensures c.within-next.ensures.one
 
 edge_next : (c : After-within-next) → Begins c.within-next.result 0 (zone_in c.args.part.now.bytes)
 edge_next c = let i = c.requires.sound in
-    bounded-edge c.args.part.now.bytes i.0 i.1 i.2 c.args.marks.now c.requires.marks (c.loop-index.index + 1)
+    bounded-edge c.args.part.now.bytes i.0 i.1 i.2 c.args.marks.now c.requires.marks c.told_from-told.result.behind
     c.within-next.result c.len-end.result c.len-end.ensures.count (next c) c.within-next.ensures.low
 
-stretch : (c : After-within-next) → IsStretch (get_or c.args.marks.now c.loop-index.index no_mark).tally
-    c.loop-index.at c.within-next.result c.args.part.now.bytes
+stretch : (c : After-within-next)
+    → IsStretch c.told_from-told.result.tally c.loop-index.at c.within-next.result c.args.part.now.bytes
 stretch c =
-    let i = c.requires.sound in
     let xs = c.args.part.now.bytes in
-    let p = c.place_of_mark-in-loop-index.ensures in
-    let t = c.within-next.ensures.least in
-    subst (λ q. IsStretch (get_or c.args.marks.now c.loop-index.index no_mark).tally q c.within-next.result xs)
+    let w = c.within-next.ensures in
+    subst (λ q. IsStretch c.told_from-told.result.tally q c.within-next.result xs)
     (sym (c.loop-index.invariant.here c.loop-index-test.true))
-    (next-stretch xs i.0 i.1 i.2 c.args.marks.now c.requires.marks c.loop-index.index c.within-next.result
-    c.len-end.result c.loop-index-test.true c.len-end.ensures.count (next c) c.within-next.ensures.low
-    (omega (arith, p, t)))
+    (c.told_from-told.ensures.stretch c.within-next.result (before c.args.marks.now c.told_from-told.result.behind
+    c.within-next.result c.place_of_mark-in-loop-index.result c.len-end.result xs c.place_of_mark-in-loop-index.ensures
+    c.len-end.ensures.count w.one w.low w.least))
 
 pub runs_between-requires-clause-ends : goal.runs_between-requires-clause-ends
 runs_between-requires-clause-ends c = edge_at (goal.at.runs_between-requires-clause-ends c).After-within-at
@@ -55,7 +53,7 @@ pub runs_between-requires-clause-order : goal.runs_between-requires-clause-order
 runs_between-requires-clause-order c =
     let i = c.requires.sound in
     let l = edge-within c.args.part.now.bytes i.0 i.1 i.2 c.args.run c.requires.begins in
-    let a = c.index_above-first.ensures.above in
+    let a = c.index_above-index.ensures.above in
     let e = c.len-end.ensures.count in
     elim (first (goal.at.runs_between-requires-clause-order c).After-within-at) [
       | inl q ↦ omega (arith, q, a)
@@ -77,11 +75,12 @@ loop-index-init c =
     let s = subst (λ r. IsStretch (tally.Known r) c.args.run c.within-at.result xs) c.in-Whole.is c.runs_between.ensures in
     record {
       same = open-past xs c.args.run c.within-at.result c.in-Whole.low s;
+      inside = c.index_above-index.ensures.index;
       few = omega (arith, prefix-fits xs c.args.run c.within-at.result (Whole c.in-Whole.low) s);
       edge = edge_at d;
-      here = bounded-mark xs i.0 i.1 i.2 c.args.marks.now c.requires.marks c.index_above-first.result
+      here = bounded-mark xs i.0 i.1 i.2 c.args.marks.now c.requires.marks c.index_above-index.result
           c.within-at.result c.len-end.result c.len-end.ensures.count (first d) (omega (arith, p, t));
-      end = bounded-end xs i.0 i.1 i.2 c.args.marks.now c.index_above-first.result c.within-at.result
+      end = bounded-end xs i.0 i.1 i.2 c.args.marks.now c.index_above-index.result c.within-at.result
           c.len-end.result c.len-end.ensures.count (first d) c.within-at.ensures.low;
     }
 
@@ -137,12 +136,13 @@ loop-index-preserved c =
     c.runs_of.ensures in
     record {
       same = omega (arith, v.same, open-past xs c.loop-index.at c.within-next.result c.in-Whole-runs_of.more s);
+      inside = c.told_from-told.ensures.inside;
       few = omega
           (arith, v.few, prefix-fits xs c.loop-index.at c.within-next.result (Whole c.in-Whole-runs_of.more) s);
       edge = edge_next d;
-      here = bounded-mark xs i.0 i.1 i.2 c.args.marks.now c.requires.marks (c.loop-index.index + 1)
+      here = bounded-mark xs i.0 i.1 i.2 c.args.marks.now c.requires.marks c.told_from-told.result.behind
           c.within-next.result c.len-end.result c.len-end.ensures.count (next d) (omega (arith, p, t));
-      end = bounded-end xs i.0 i.1 i.2 c.args.marks.now (c.loop-index.index + 1) c.within-next.result
+      end = bounded-end xs i.0 i.1 i.2 c.args.marks.now c.told_from-told.result.behind c.within-next.result
           c.len-end.result c.len-end.ensures.count (next d) c.within-next.ensures.low;
     }
 
