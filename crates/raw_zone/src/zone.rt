@@ -8,8 +8,8 @@ ghost use Rattle.block_store.specs.Sparing.{purged};
 use block_store::{
     BlockStore, Flags, GREATEST_ZONE, HEADER_SIZE, LEAST_ZONE, MASTERS_SIZE, SLOTS_A_BLOCK, Seen,
     Sparing, UNIT, Walk, find_free_in, find_run_in, free_after_in, largest_after_in,
-    largest_free_in, next_purgeable_in, next_run_in, purgeable_in, purgeable_in_run_in,
-    room_above_in, run_has_free_in, run_of_in,
+    next_purgeable_in, next_run_in, purgeable_in, purgeable_in_run_in, room_above_in,
+    run_has_free_in, run_of_in,
 };
 use raw_region::Part;
 use std::alloc::{AllocError, Global};
@@ -17,10 +17,10 @@ use std::marker::Model;
 use zone_bytes::{
     Edges, Landmarks, PackedRun, SlotBlock, add_masters, block_of_slot, carve,
     carve_nonrelocatable, changed_bound, content_at, count_purgeable, falls_short, flag_at,
-    free_block, free_slot, frees_one, given_at, given_with, has_room_behind, hoist_block,
-    kept_flags, make_fresh, mark_slot, move_bytes, next_purgeable, padded_size, purge_above,
-    purge_lowest, purgeable_at, purgeable_left, put_bytes, raise_run, read_header, read_word,
-    resize_block, settle_run, size_at, slot_place, slot_resource, walk_above, walk_from,
+    free_after_from, free_block, free_slot, frees_one, given_at, given_with, has_room_behind,
+    hoist_block, kept_flags, make_fresh, mark_slot, move_bytes, next_purgeable, padded_size,
+    purge_above, purge_lowest, purgeable_at, purgeable_left, put_bytes, raise_run, read_header,
+    read_word, resize_block, settle_run, size_at, slot_place, slot_resource, walk_above, walk_from,
 };
 
 /// A zone in the bytes of a part: each block begins with its header, and the slots lie in the master pointer blocks.
@@ -154,7 +154,7 @@ impl RawZone {
         let lowest = self.marks.lowest_packed(run, self.free);
         let packed = settle_run(&mut self.part, &mut self.edges, run);
         self.marks
-            .note_packed(&self.part, &self.edges, run, run, packed.stop, lowest);
+            .note_settled(&self.part, &self.edges, run, packed, lowest);
         packed
     }
 
@@ -230,7 +230,7 @@ impl BlockStore for RawZone {
     }
 
     fn largest_free(&self) -> u32 {
-        largest_free_in(&mut walk_from(&self.part, 0))
+        self.marks.largest_free(&self.part)
     }
 
     fn largest_run(&self) -> u32 {
@@ -271,6 +271,11 @@ impl BlockStore for RawZone {
         } else {
             self.marks.find_run(&self.part, bytes, purges, sparing)
         }
+    }
+
+    fn fewest_purges(&self, bytes: u32, sparing: Sparing) -> Option<u32> {
+        let found = self.find_run(bytes, GREATEST_ZONE, sparing);
+        self.marks.fewest_purges(&self.part, found, bytes, sparing)
     }
 
     fn next_run(&self, run: u32) -> Option<u32> {
@@ -328,11 +333,23 @@ impl BlockStore for RawZone {
     }
 
     fn free_after(&self, purges: u32, sparing: Sparing) -> u32 {
-        free_after_in(&mut walk_from(&self.part, 0), purges, sparing)
+        if frees_one(sparing) {
+            return free_after_in(&mut walk_from(&self.part, 0), purges, sparing);
+        }
+        if self.most_purgeable == 0 {
+            return self.free;
+        }
+        free_after_from(&self.part, self.free, self.marks.start(), purges, sparing)
     }
 
     fn largest_after(&self, purges: u32, sparing: Sparing) -> u32 {
-        largest_after_in(&mut walk_from(&self.part, 0), purges, sparing)
+        if frees_one(sparing) {
+            return largest_after_in(&mut walk_from(&self.part, 0), purges, sparing);
+        }
+        if self.most_purgeable == 0 {
+            return self.marks.largest_free(&self.part);
+        }
+        self.marks.largest_after(&self.part, purges, sparing)
     }
 
     fn purge(&mut self, purges: u32, sparing: Sparing) {

@@ -6,6 +6,7 @@ pub mod Lowering
 pub mod Rooms
 pub mod Keeping
 pub mod Owed
-pub mod Tops
+pub mod Groups
+pub mod Tallies
 pub mod Edges
 pub mod Sought

@@ -13,6 +13,7 @@ pub mod NextRuns
 pub mod Moved
 pub mod Hoists
 pub mod Changed
+pub mod Still
 pub mod PackedAt
 pub mod RaisedAt
 pub mod HoistedAt

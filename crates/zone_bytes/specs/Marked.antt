@@ -3,13 +3,13 @@ use Rattle.std.specs.Prelude.{◌≡◌, ◌≤◌, ℕ, List}
 use Rattle.block_store.specs.Block.{Block, free_sum}
 use Rattle.zone_bytes.specs.Decode.{zone_in}
 use Rattle.zone_bytes.specs.Lawful.{IsSound}
-use Rattle.zone_bytes.specs.Marks.{AreMarks, AreTops, above_all}
+use Rattle.zone_bytes.specs.Marks.{AreMarks, AreGroups, above_all}
 use Rattle.zone_bytes.specs.Purgeable.{NoneGoes, purgeable_sum}
 use Rattle.zone_bytes.specs.declared.keeping.Landmarks.{Landmarks}
 
--- The landmarks are those of the zone, and the tops are those of the landmarks' groups.
+-- The landmarks are those of the zone, and the groups are those of the landmarks' groups.
 abbrev pub AreMarked : Landmarks → List Block → Type 0
-AreMarked landmarks zone = AreMarks above_all zone landmarks.marks.items × AreTops landmarks.tops.items landmarks.marks.items
+AreMarked landmarks zone = AreMarks above_all zone landmarks.marks.items × AreGroups landmarks.groups.items landmarks.marks.items
 
 -- So they are, and no block below the place that is kept with them may be purged.
 abbrev pub AreOf : Landmarks → List Block → Type 0

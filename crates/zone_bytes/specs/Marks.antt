@@ -1,15 +1,18 @@
 -- Landmarks of a zone: places at which blocks begin, each with a bound on the free blocks up to the next.
 use Rattle.std.specs.Prelude.{◌≡◌, ℕ, ◌+◌, ◌*◌, ◌≤◌, ◌<◌, ◌⊎◌, Bool, true, false, not, ◌&&◌, if◌then◌else◌, nat_le, nat_lt}
-use Rattle.std.specs.Prelude.{List, [], ◌∷◌, ◌++◌, length, drop, get_or}
+use Rattle.std.specs.Prelude.{List, [], ◌∷◌, ◌++◌, length, take, drop, get_or}
 use Rattle.block_store.specs.Block.{Block, size, sizes, free_of, is_room}
 use Rattle.block_store.specs.Run.{in_run}
 use Rattle.zone_bytes.specs.Stepping.{left_in, IsOnWay}
+use Rattle.zone_bytes.specs.declared.landmark.Group.{Group}
 use Rattle.zone_bytes.specs.declared.landmark.Landmark.{Landmark}
 use Rattle.zone_bytes.specs.declared.landmark.Tally.{Tally}
 use Rattle.zone_bytes.specs.declared.landmark.Tally.TheVariants as tally
 use Rattle.zone_bytes.specs.declared.measuring.Measured.{Measured}
 use Rattle.zone_bytes.specs.declared.landmark.TheConstants.{GROUP}
-use Rattle.zone_summary.specs.Stretches.{stretch_of}
+use Rattle.zone_summary.specs.Rows.{load}
+use Rattle.zone_summary.specs.Stretches.{join, stretch_of}
+use Rattle.zone_summary.specs.declared.stretch.Stretch.{Stretch}
 use Rattle.zone_summary.specs.declared.stretch.Stretch.TheVariants.{Whole}
 
 -- The relation `R` holds of each of the blocks from the place `at` on and its place.
@@ -73,11 +76,42 @@ AreMarks end zone [] = Unit {0}
 AreMarks end zone (m ∷ marks) = Begins m.at 0 zone × AtEach (AtMost m.most m.at (next_of end marks)) 0 zone
     × IsTally m.tally (between m.at (next_of end marks) 0 zone) × (m.at ≤ next_of end marks) × AreMarks end zone marks
 
--- The landmarks are in groups, and no landmark of a group notes more than the group's top.
-pub record AreTops (tops : List ℕ) (marks : List Landmark) : Type 0 where
-  pub whole : length marks ≡ GROUP * length tops
+-- What two tallies tell of the blocks of both, those of `low` first; nothing where one of them tells nothing.
+abbrev pub join_tallies : Tally → Tally → Tally
+join_tallies (tally.Known low) (tally.Known high) = tally.Known (join low high)
+join_tallies (tally.Known low) tally.Unknown = tally.Unknown
+join_tallies tally.Unknown high = tally.Unknown
+
+-- What the tallies of landmarks tell of the blocks of all of them.
+abbrev pub tally_of : List Landmark → Tally
+tally_of [] = tally.Known (Whole 0)
+tally_of (m ∷ marks) = join_tallies m.tally (tally_of marks)
+
+-- What is known of blocks holds in sum so many free bytes, as `load` counts them.
+abbrev pub known_load : Tally → ℕ
+known_load (tally.Known runs) = load runs
+known_load tally.Unknown = 0
+
+abbrev pub known_loads : List Landmark → ℕ
+known_loads [] = 0
+known_loads (m ∷ marks) = known_load m.tally + known_loads marks
+
+-- A group that stands for none.
+abbrev pub no_group : Group
+no_group = record { most = 0; tally = tally.Known (Whole 0) }
+
+-- The landmarks of the group with this number.
+abbrev pub marks_in : ℕ → List Landmark → List Landmark
+marks_in group marks = take GROUP (drop (GROUP * group) marks)
+
+-- The landmarks are in groups, no landmark of a group notes more than the group does, and where a group knows what its
+-- blocks come to in runs, its landmarks do.
+pub record AreGroups (groups : List Group) (marks : List Landmark) : Type 0 where
+  pub whole : length marks ≡ GROUP * length groups
   pub each : (group index : ℕ) → GROUP * group ≤ index → index < GROUP * group + GROUP → index < length marks
-      → (get_or marks index no_mark).most ≤ get_or tops group 0
+      → (get_or marks index no_mark).most ≤ (get_or groups group no_group).most
+  pub known : (group : ℕ) (runs : Stretch) → group < length groups
+      → (get_or groups group no_group).tally ≡ tally.Known runs → tally_of (marks_in group marks) ≡ tally.Known runs
 
 -- No free block of `bytes` bytes or more lies below the landmark at `index`; if there is no such landmark, none lies
 -- in the zone.

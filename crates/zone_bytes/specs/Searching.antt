@@ -1,5 +1,6 @@
 -- Searches for a run and for room that use the landmarks of a zone.
-use Rattle.std.specs.Prelude.{◌≡◌, ℕ, ◌+◌, ◌≤◌, ◌⊎◌, ◌&&◌, nat_le, true, Option, Some, None, List, ◌∷◌, ◌++◌, length}
+use Rattle.std.specs.Prelude.{◌≡◌, ℕ, ◌+◌, ◌≤◌, ◌<◌, ◌⊎◌, ◌&&◌, nat_le, true, Option, Some, None, List, ◌∷◌, ◌++◌, length}
+use Rattle.std.specs.Prelude.{drop, get_or}
 use Rattle.std.specs.Option.{option_map}
 use Rattle.block_store.specs.Block.{Block, size, sizes, is_room}
 use Rattle.block_store.specs.Inner.RunScan.{scan_from, suits}
@@ -12,11 +13,13 @@ use Rattle.block_store.specs.declared.sparing.Sparing.{Sparing}
 use Rattle.block_store.specs.declared.sparing.Sparing.TheVariants as sparing
 use Rattle.block_store.specs.declared.stretch.RoomScan.{RoomScan}
 use Rattle.zone_bytes.specs.Decode.{zone_in}
-use Rattle.zone_bytes.specs.Marks.{Begins, IsTally, ends_run}
+use Rattle.zone_bytes.specs.Marks.{Begins, IsTally, above_all, ends_run, next_of, no_mark}
 use Rattle.zone_bytes.specs.Stepping.{left_in}
 use Rattle.zone_bytes.specs.declared.finding_room.Scanned.{Scanned}
 use Rattle.zone_bytes.specs.declared.finding_room.Scanned.TheVariants as scanned
 use Rattle.zone_bytes.specs.declared.beginning.Passed.{Passed}
+use Rattle.zone_bytes.specs.declared.finding_runs.Reached.{Reached}
+use Rattle.zone_bytes.specs.declared.landmark.Landmark.{Landmark}
 use Rattle.zone_bytes.specs.declared.landmark.Tally.{Tally}
 use Rattle.zone_summary.specs.Stretches.{is_ended, join, stretch_of}
 use Rattle.zone_summary.specs.declared.stretch.Stretch.TheVariants.{Whole}
@@ -78,6 +81,22 @@ pub record IsPassed (s : RunScan) (at : ℕ) (xs : List ℕ) (p : Passed) : Type
   pub high_piece : IsPiece p.end at xs high
   pub goes_on : stretch_of high ≡ Whole p.free
   pub barred : is_ended p.runs ≡ true → IsBarred s.place xs here high p
+
+-- The place to which a search by landmarks goes below the landmark at an index: that of the landmark, or the zone's end if
+-- it is lower.
+pub record IsBefore (index : ℕ) (marks : List Landmark) (xs : List ℕ) (next : ℕ) : Type 0 where
+  pub either : (next ≡ next_of above_all (drop index marks)) ⊎ (next ≡ length xs)
+  pub low : next ≤ length xs
+  pub least : next ≤ next_of above_all (drop index marks)
+
+-- A search has come, by landmarks, to the landmark at an index, or to the zone's end.
+pub record HasCome (s : RunScan) (marks : List Landmark) (xs : List ℕ) (r : Reached) : Type 0 where
+  pub ready : IsReady xs s
+  pub passed : IsPassed s r.at xs r.passed
+  pub edge : Begins r.at 0 (zone_in xs)
+  pub inside : r.index ≤ length marks
+  pub here : r.index < length marks → r.at ≡ (get_or marks r.index no_mark).at
+  pub end : length marks ≤ r.index → length xs ≤ r.at
 
 -- The place of the lowest run with `bytes` free bytes or more after the given number of purges.
 abbrev pub lowest_place : ℕ → ℕ → Sparing → List ℕ → Option ℕ

@@ -9,12 +9,12 @@ ghost use Rattle.block_store.specs.Room.{spot};
 ghost use Rattle.block_store.specs.Sparing.{opened, purged, spared};
 ghost use Rattle.zone_bytes.specs.Decode.{zone_in};
 ghost use Rattle.zone_bytes.specs.Lawful.{IsSound};
-ghost use Rattle.zone_bytes.specs.Marks.{AreMarks, AreTops, Begins, above_all};
+ghost use Rattle.zone_bytes.specs.Marks.{AreMarks, AreGroups, Begins, above_all};
 ghost use Rattle.zone_bytes.specs.Purgeable.{MayStart};
 ghost use Rattle.zone_bytes.specs.Searching.{IsRoomScan, finds_room, lowest_room, room_begun};
 ghost use Rattle.zone_bytes.specs.Stepping.{left_in};
 
-use crate::landmark::Landmark;
+use crate::landmark::{Group, Landmark};
 use crate::marking::find_by_marks;
 use crate::measuring::is_under;
 use crate::raw_walk::{step_at, walk_from};
@@ -118,7 +118,7 @@ fn room_purging(
 /// used if `sparing` counts a block as free that is not free.
 pub fn find_room_by_marks(
     marks: &[Landmark],
-    tops: &[u32],
+    groups: &[Group],
     part: &Part,
     from: u32,
     bytes: u32,
@@ -127,12 +127,12 @@ pub fn find_room_by_marks(
 ) -> Option<u32>
     requires sound { (first : ℕ) × (unused : ℕ) × IsSound part.now.bytes first unused }
     requires marks { AreMarks above_all (zone_in part.now.bytes) marks.now }
-    requires tops { AreTops tops.now marks.now }
+    requires groups { AreGroups groups.now marks.now }
     requires from { MayStart from (zone_in part.now.bytes) }
     requires plain { (zone : List Block) → opened sparing zone ≡ zone }
     ensures { FindsLowest (is_room bytes) (purged purges sparing (zone_in part.now.bytes)) result }
 {
-    let lowest = find_by_marks(marks, tops, part, bytes);
+    let lowest = find_by_marks(marks, groups, part, bytes);
     if is_under(lowest, from) {
         return lowest;
     }

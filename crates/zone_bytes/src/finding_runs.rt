@@ -11,9 +11,9 @@ ghost use Rattle.block_store.specs.Sparing.{opened, purged, spared};
 ghost use Rattle.block_store.specs.declared.run_search.RunScan.{RunScan as RunOf};
 ghost use Rattle.zone_bytes.specs.Decode.{zone_in};
 ghost use Rattle.zone_bytes.specs.Lawful.{IsSound};
-ghost use Rattle.zone_bytes.specs.Marks.{AreMarks, Begins, above_all, ends_run, no_mark};
+ghost use Rattle.zone_bytes.specs.Marks.{AreGroups, AreMarks, Begins, above_all, ends_run, no_mark};
 ghost use Rattle.zone_bytes.specs.Purgeable.{MayStart};
-ghost use Rattle.zone_bytes.specs.Searching.{IsFound, IsKnown, IsPassed, IsPiece, IsReady, IsStretch};
+ghost use Rattle.zone_bytes.specs.Searching.{HasCome, IsBefore, IsFound, IsKnown, IsPassed, IsPiece, IsReady, IsStretch};
 ghost use Rattle.zone_bytes.specs.Searching.{finds_from, finds_purging, lowest_place};
 ghost use Rattle.zone_bytes.specs.Stepping.{left_in, IsOnWay};
 ghost use Rattle.zone_bytes.specs.declared.landmark.Tally.TheVariants as tally;
@@ -22,7 +22,7 @@ ghost use Rattle.zone_summary.specs.Stretches.{best, prefix, suffix};
 ghost use Rattle.zone_summary.specs.declared.stretch.Stretch.{Stretch as StretchOf};
 
 use crate::beginning::{Passed, begin_search, begun_at, pass_known};
-use crate::landmark::{Landmark, Tally};
+use crate::landmark::{GROUP, Group, Landmark, Tally};
 use crate::marking::{index_above, place_of_mark};
 use crate::measuring::within;
 use crate::raw_walk::step_at;
@@ -141,10 +141,88 @@ fn pass_stretch(passed: Passed, mark: Landmark, next: u32, bytes: u32) -> Option
     Some(farther)
 }
 
+/// Where a search by landmarks has come to: what it passed, the place up to which it did, and the index of the landmark
+/// that stands there; where there is none, the place is the zone's end.
+#[derive(Clone, Copy, Drop)]
+pub struct Reached {
+    pub passed: Passed,
+    pub at: u32,
+    pub index: usize,
+}
+
+/// Takes a search past the stretches of the landmarks below the index `behind`, whose blocks `tally` is of; `None` where
+/// it isn't known what they come to in runs, or where a run has `bytes` free bytes with them.
+fn pass_up_to(
+    marks: &[Landmark],
+    part: &Part,
+    reached: Reached,
+    tally: Tally,
+    behind: usize,
+    bytes: u32,
+) -> Option<Reached>
+    requires sound { (first : ℕ) × (unused : ℕ) × IsSound part.now.bytes first unused }
+    requires marks { AreMarks above_all (zone_in part.now.bytes) marks.now }
+    requires inside { behind ≤ length marks.now }
+    requires come { (scan : RunOf) × HasCome scan marks.now part.now.bytes reached }
+    requires stretch { (next : ℕ) → IsBefore behind marks.now part.now.bytes next →
+        IsStretch tally reached.at next part.now.bytes }
+    ensures short { IfSome result (λ r. best r.passed.runs < bytes) }
+    ensures behind { IfSome result (λ r. r.index ≡ behind) }
+    ensures come { IfSome result (λ r. (scan : RunOf) → HasCome scan marks.now part.now.bytes reached →
+        HasCome scan marks.now part.now.bytes r) }
+{
+    let next = within(place_of_mark(marks, behind), part.len() as u32);
+    let mark = Landmark {
+        at: reached.at,
+        most: 0,
+        tally,
+    };
+    match pass_stretch(reached.passed, mark, next, bytes) {
+        Some(passed) => Some(Reached {
+            passed,
+            at: next,
+            index: behind,
+        }),
+        None => None,
+    }
+}
+
+/// Takes a search past the stretches of a group, if it has come to the first of the group's landmarks, or past the
+/// stretch of one landmark; `None` where neither can be passed.
+fn pass_far(
+    marks: &[Landmark],
+    groups: &[Group],
+    part: &Part,
+    reached: Reached,
+    bytes: u32,
+) -> Option<Reached>
+    requires sound { (first : ℕ) × (unused : ℕ) × IsSound part.now.bytes first unused }
+    requires marks { AreMarks above_all (zone_in part.now.bytes) marks.now }
+    requires groups { AreGroups groups.now marks.now }
+    requires inside { reached.index < length marks.now }
+    requires come { (scan : RunOf) × HasCome scan marks.now part.now.bytes reached }
+    ensures short { IfSome result (λ r. best r.passed.runs < bytes) }
+    ensures behind { IfSome result (λ r. reached.index < r.index) }
+    ensures come { IfSome result (λ r. (scan : RunOf) → HasCome scan marks.now part.now.bytes reached →
+        HasCome scan marks.now part.now.bytes r) }
+{
+    if reached.index % GROUP == 0 {
+        let group = groups[reached.index / GROUP];
+        let behind = reached.index + GROUP;
+        let farther = pass_up_to(marks, part, reached, group.tally, behind, bytes);
+        if farther.is_some() {
+            return farther;
+        }
+    }
+    let mark = marks[reached.index];
+    pass_up_to(marks, part, reached, mark.tally, reached.index + 1, bytes)
+}
+
 /// Returns the place of the run that a search with no purges left finds, from the place of a landmark or the zone's end
 /// on. Blocks are walked over only where a run has enough free bytes.
 fn reach_run(
     marks: &[Landmark],
+    groups: &[Group],
     part: &Part,
     first: usize,
     scan: RunScan,
@@ -152,27 +230,29 @@ fn reach_run(
 ) -> Option<u32>
     requires sound { (first : ℕ) × (unused : ℕ) × IsSound part.now.bytes first unused }
     requires marks { AreMarks above_all (zone_in part.now.bytes) marks.now }
+    requires groups { AreGroups groups.now marks.now }
+    requires first { first ≤ length marks.now }
     requires ready { IsReady part.now.bytes scan }
     requires short { scan.free < bytes }
     requires here { first < length marks.now → scan.place ≡ (get_or marks.now first no_mark).at }
     requires end { length marks.now ≤ first → length part.now.bytes ≤ scan.place }
     ensures { result ≡ finds_from bytes scan part.now.bytes }
 {
-    let end = part.len() as u32;
-    let mut at = scan.place;
-    let mut passed = Passed {
-        runs: Stretch::Whole(scan.free),
-        barred: at,
-        end: at,
-        free: 0,
+    let mut reached = Reached {
+        passed: Passed {
+            runs: Stretch::Whole(scan.free),
+            barred: scan.place,
+            end: scan.place,
+            free: 0,
+        },
+        at: scan.place,
+        index: first,
     };
-    for index in first..marks.len() {
-        let next = within(place_of_mark(marks, index + 1), end);
-        let Some(farther) = pass_stretch(passed, marks[index], next, bytes) else {
-            return walk_on(part, scan, passed, at, bytes);
+    while reached.index < marks.len() {
+        let Some(farther) = pass_far(marks, groups, part, reached, bytes) else {
+            return walk_on(part, scan, reached.passed, reached.at, bytes);
         };
-        passed = farther;
-        at = next;
+        reached = farther;
     }
     None
 }
@@ -194,6 +274,7 @@ fn without_purges(scan: RunScan) -> RunScan
 /// that begins where it is known to find that run, and goes on by landmarks once no purges are left.
 fn runs_from(
     marks: &[Landmark],
+    groups: &[Group],
     part: &Part,
     begun: RunScan,
     bytes: u32,
@@ -202,6 +283,7 @@ fn runs_from(
 ) -> Option<u32>
     requires sound { (first : ℕ) × (unused : ℕ) × IsSound part.now.bytes first unused }
     requires marks { AreMarks above_all (zone_in part.now.bytes) marks.now }
+    requires groups { AreGroups groups.now marks.now }
     requires plain { (zone : List Block) → opened sparing zone ≡ zone }
     requires begins { Begins begun.place 0 (zone_in part.now.bytes) }
     requires free { begun.free ≤ begun.place }
@@ -217,7 +299,7 @@ fn runs_from(
     if is_found(scan, bytes) {
         return Some(scan.start);
     }
-    reach_run(marks, part, first, scan, bytes)
+    reach_run(marks, groups, part, first, scan, bytes)
 }
 
 /// Returns the place of the lowest run with at least `bytes` free bytes after the given number of purges. The blocks
@@ -225,6 +307,7 @@ fn runs_from(
 /// free that is not free.
 pub fn find_run_by_marks(
     marks: &[Landmark],
+    groups: &[Group],
     part: &Part,
     from: u32,
     bytes: u32,
@@ -233,13 +316,22 @@ pub fn find_run_by_marks(
 ) -> Option<u32>
     requires sound { (first : ℕ) × (unused : ℕ) × IsSound part.now.bytes first unused }
     requires marks { AreMarks above_all (zone_in part.now.bytes) marks.now }
+    requires groups { AreGroups groups.now marks.now }
     requires from { MayStart from (zone_in part.now.bytes) }
     requires plain { (zone : List Block) → opened sparing zone ≡ zone }
     ensures { FindsLowestRun (has_free bytes) (purged purges sparing (zone_in part.now.bytes)) result }
 {
     if purges == 0 {
-        return runs_from(marks, part, begun_at(0, purges), bytes, purges, sparing);
+        return runs_from(
+            marks,
+            groups,
+            part,
+            begun_at(0, purges),
+            bytes,
+            purges,
+            sparing,
+        );
     }
     let begun = begin_search(marks, part, from, bytes, purges);
-    runs_from(marks, part, begun, bytes, purges, sparing)
+    runs_from(marks, groups, part, begun, bytes, purges, sparing)
 }

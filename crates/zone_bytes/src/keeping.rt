@@ -1,8 +1,9 @@
 //! The landmarks that a zone keeps.
 
-ghost use Rattle.std.specs.Prelude.{◌≡◌, ◌≤◌, ◌<◌, ◌⊎◌, ◌++◌, ℕ, List, [], Some, IfOk};
+ghost use Rattle.std.specs.Prelude.{◌≡◌, ◌≤◌, ◌<◌, ◌⊎◌, ◌++◌, ℕ, List, [], Some, false, IfOk, MatchOption};
 ghost use Rattle.block_store.specs.Block.{Block, free_sum, is_room, sizes};
-ghost use Rattle.block_store.specs.Compact.{largest_run};
+ghost use Rattle.block_store.specs.Compact.{largest_free, largest_run};
+ghost use Rattle.block_store.specs.Fewest.{serves, IsFewest};
 ghost use Rattle.block_store.specs.Find.{FindsLowest, FindsLowestRun};
 ghost use Rattle.block_store.specs.Run.{RunSpot, has_free, run_at, settle};
 ghost use Rattle.block_store.specs.Sparing.{opened, purged};
@@ -10,40 +11,43 @@ ghost use Rattle.zone_bytes.specs.Decode.{zone_in};
 ghost use Rattle.zone_bytes.specs.Edges.{AreEdges, AreLaid, ByEdges};
 ghost use Rattle.zone_bytes.specs.Lawful.{IsSound};
 ghost use Rattle.zone_bytes.specs.Marked.{AreMarked, AreOf};
-ghost use Rattle.zone_bytes.specs.Marks.{AreTops, Became, Begins, Replaced};
+ghost use Rattle.zone_bytes.specs.Marks.{AreGroups, Became, Begins, Replaced};
 ghost use Rattle.zone_bytes.specs.Purgeable.{MayStart, NoneGoes};
+ghost use Rattle.zone_summary.specs.Emptied.{all_purged};
 
 use crate::edges::Edges;
+use crate::fewest::fewest_by_marks;
 use crate::finding_room::find_room_by_marks;
 use crate::finding_runs::find_run_by_marks;
+use crate::free_space::{largest_after_by_marks, largest_free_by_marks};
 use crate::going::{first_going, lowest_after, lowest_packed};
-use crate::grouping::renew_tops;
-use crate::landmark::{GROUP, Landmark, UNKNOWN};
+use crate::landmark::{GROUP, Group, Landmark, UNKNOWN, UNKNOWN_GROUP};
 use crate::largest::largest_run_by_marks;
 use crate::marking::{
-    NextMark, change_marks, find_by_marks, lay_edges, lay_marks, mark_below, place_of_mark,
+    NextMark, change_marks, find_by_marks, lay_anew, lay_edges, mark_below, place_of_mark,
 };
 use crate::measuring::within;
 use crate::paging::{groups_of, page_bytes, page_end};
 use crate::placing::size_at;
+use crate::settling::PackedRun;
 use block_store::Sparing;
 use raw_region::Part;
 use std::alloc::{AllocError, Global};
 
 /// Landmarks of a zone: places at which blocks begin, one for each page of the zone's bytes. Each has a bound on the
 /// size of each free block up to the next landmark, and a tally of the blocks there: how many bytes are free, and
-/// whether a run ends there. Each group of landmarks has a bound on its free blocks. With them is kept a place below
+/// whether a run ends there. Each group of landmarks has both of all its blocks. With them is kept a place below
 /// which no block may be purged. Landmarks lie in the host's memory, and can be thrown away and made anew at any time.
 #[derive(Drop)]
 pub struct Landmarks {
     marks: Vec<Landmark>,
-    tops: Vec<u32>,
+    groups: Vec<Group>,
     page: u32,
     lowest: u32,
 }
 
 impl Landmarks {
-    /// Makes the landmarks of a zone, by one walk over the zone. All room that they ever take is asked of the host here.
+    /// Makes the landmarks of a zone, by walks over the zone. All room that they ever take is asked of the host here.
     /// Where the host refuses it, there are none: each search then begins at the bottom, and finds the same.
     pub fn of(alloc: Global, part: &Part) -> Landmarks
         requires sound { (first : ℕ) × (unused : ℕ) × IsSound part.now.bytes first unused }
@@ -54,6 +58,7 @@ impl Landmarks {
             Err(_) => Landmarks::none(alloc, part),
         };
         landmarks.renew(part, 0, part.len() as u32);
+        landmarks.seek(part);
         landmarks
     }
 
@@ -64,7 +69,7 @@ impl Landmarks {
     {
         Landmarks {
             marks: Vec::new(alloc),
-            tops: Vec::new(alloc),
+            groups: Vec::new(alloc),
             page: page_bytes(part),
             lowest: 0,
         }
@@ -79,12 +84,12 @@ impl Landmarks {
         requires sound { (first : ℕ) × (unused : ℕ) × IsSound part.now.bytes first unused }
         ensures { IfOk result (λ landmarks. AreOf landmarks (zone_in part.now.bytes)) }
     {
-        let groups = groups_of(part);
-        let marks = Vec::from_elem(alloc, UNKNOWN, groups * GROUP)?;
-        let tops = Vec::from_elem(alloc, UNKNOWN.most, groups)?;
+        let count = groups_of(part);
+        let marks = Vec::from_elem(alloc, UNKNOWN, count * GROUP)?;
+        let groups = Vec::from_elem(alloc, UNKNOWN_GROUP, count)?;
         Ok(Landmarks {
             marks,
-            tops,
+            groups,
             page: page_bytes(part),
             lowest: 0,
         })
@@ -152,7 +157,7 @@ impl Landmarks {
         requires marks { AreOf self.now (zone_in part.now.bytes) }
         ensures { FindsLowest (is_room bytes) (zone_in part.now.bytes) result }
     {
-        find_by_marks(&self.marks, &self.tops, part, bytes)
+        find_by_marks(&self.marks, &self.groups, part, bytes)
     }
 
     /// Returns the place of the lowest free block of at least `bytes` bytes after the given number of purges.
@@ -165,7 +170,7 @@ impl Landmarks {
     {
         find_room_by_marks(
             &self.marks,
-            &self.tops,
+            &self.groups,
             part,
             self.under(),
             bytes,
@@ -182,7 +187,45 @@ impl Landmarks {
         requires plain { (zone : List Block) → opened sparing zone ≡ zone }
         ensures { FindsLowestRun (has_free bytes) (purged purges sparing (zone_in part.now.bytes)) result }
     {
-        find_run_by_marks(&self.marks, part, self.under(), bytes, purges, sparing)
+        find_run_by_marks(
+            &self.marks,
+            &self.groups,
+            part,
+            self.under(),
+            bytes,
+            purges,
+            sparing,
+        )
+    }
+
+    /// Returns the least number of purges after which a run has at least `bytes` free bytes, where no run has them
+    /// before any purge; `None` where no purges serve. The run at `found` is the lowest that has them after all purges.
+    pub fn fewest_purges(
+        &self,
+        part: &Part,
+        found: Option<u32>,
+        bytes: u32,
+        sparing: Sparing,
+    ) -> Option<u32>
+        requires sound { (first : ℕ) × (unused : ℕ) × IsSound part.now.bytes first unused }
+        requires marks { AreOf self.now (zone_in part.now.bytes) }
+        requires run { FindsLowestRun (has_free bytes) (all_purged sparing (zone_in part.now.bytes)) found }
+        requires unserved { serves bytes sparing (zone_in part.now.bytes) 0 ≡ false }
+        ensures { MatchOption result ((purges : ℕ) → serves bytes sparing (zone_in part.now.bytes) purges ≡ false)
+            (λ fewest. IsFewest (serves bytes sparing (zone_in part.now.bytes)) fewest) }
+    {
+        let Some(run) = found else {
+            return None;
+        };
+        Some(fewest_by_marks(
+            &self.marks,
+            &self.groups,
+            part,
+            self.start(),
+            run,
+            bytes,
+            sparing,
+        ))
     }
 
     /// Returns the greatest number of free bytes in one run.
@@ -191,7 +234,34 @@ impl Landmarks {
         requires marks { AreOf self.now (zone_in part.now.bytes) }
         ensures { result ≡ largest_run (zone_in part.now.bytes) }
     {
-        largest_run_by_marks(&self.marks, part)
+        largest_run_by_marks(&self.marks, &self.groups, part)
+    }
+
+    /// Returns the size of the largest free block.
+    pub fn largest_free(&self, part: &Part) -> u32
+        requires sound { (first : ℕ) × (unused : ℕ) × IsSound part.now.bytes first unused }
+        requires marks { AreOf self.now (zone_in part.now.bytes) }
+        ensures { result ≡ largest_free (zone_in part.now.bytes) }
+    {
+        largest_free_by_marks(&self.marks, &self.groups, part)
+    }
+
+    /// Returns the size of the largest free block after the given number of purges. Landmarks can't be used if
+    /// `sparing` counts a block as free that is not free.
+    pub fn largest_after(&self, part: &Part, purges: u32, sparing: Sparing) -> u32
+        requires sound { (first : ℕ) × (unused : ℕ) × IsSound part.now.bytes first unused }
+        requires marks { AreOf self.now (zone_in part.now.bytes) }
+        requires plain { (zone : List Block) → opened sparing zone ≡ zone }
+        ensures { result ≡ largest_free (purged purges sparing (zone_in part.now.bytes)) }
+    {
+        largest_after_by_marks(
+            &self.marks,
+            &self.groups,
+            part,
+            self.under(),
+            purges,
+            sparing,
+        )
     }
 
     /// Renews the landmarks after the blocks from `lo` to `hi` became others.
@@ -217,7 +287,15 @@ impl Landmarks {
         let page = page_bytes(part);
         if lo / page == hi / page {
             let likely = self.page_of(hi);
-            change_marks(&mut self.marks, &mut self.tops, part, lo, hi, true, likely);
+            change_marks(
+                &mut self.marks,
+                &mut self.groups,
+                part,
+                lo,
+                hi,
+                true,
+                likely,
+            );
         } else {
             self.forget(part, lo, hi);
             self.renew(part, lo, hi);
@@ -244,7 +322,15 @@ impl Landmarks {
         ensures lowest { self.new.lowest ≡ self.old.lowest }
     {
         let likely = self.page_of(hi);
-        change_marks(&mut self.marks, &mut self.tops, part, lo, hi, false, likely);
+        change_marks(
+            &mut self.marks,
+            &mut self.groups,
+            part,
+            lo,
+            hi,
+            false,
+            likely,
+        );
     }
 
     /// Moves the landmarks of the pages from `lo` to `hi` to where their blocks are, by one walk over these blocks.
@@ -275,12 +361,19 @@ impl Landmarks {
     fn lay(&mut self, part: &Part, next: NextMark, first: usize, page: u32, hi: u32)
         requires sound { (first : ℕ) × (unused : ℕ) × IsSound part.now.bytes first unused }
         requires laid { AreLaid next.index next.at (zone_in part.now.bytes) self.old.marks.items }
-        requires tops { AreTops self.old.tops.items self.old.marks.items }
+        requires groups { AreGroups self.old.groups.items self.old.marks.items }
         ensures marks { AreMarked self.new (zone_in part.now.bytes) }
         ensures lowest { self.new.lowest ≡ self.old.lowest }
     {
-        let end = lay_marks(&mut self.marks, &mut self.tops, part, next, page, hi);
-        renew_tops(&self.marks, &mut self.tops, first, end);
+        lay_anew(
+            &mut self.marks,
+            &mut self.groups,
+            part,
+            next,
+            first,
+            page,
+            hi,
+        );
     }
 
     /// Makes `edges` ready to note the edges of blocks that are to be packed from `lo` on: those of the pages above
@@ -316,7 +409,29 @@ impl Landmarks {
         self.forget(part, lo, hi);
         let page = page_bytes(part);
         let from = self.next_at((lo / page) as usize);
-        let next = lay_edges(&mut self.marks, &mut self.tops, part, edges, base, from);
+        let next = lay_edges(&mut self.marks, &mut self.groups, part, edges, base, from);
         self.lay(part, next, from.index, page, hi);
+    }
+
+    /// Renews the landmarks after the run at `run` was packed. Where no block moved down, the zone is as it was, and so
+    /// are the landmarks.
+    pub fn note_settled(
+        &mut self,
+        part: &Part,
+        edges: &Edges,
+        run: u32,
+        packed: PackedRun,
+        lowest: u32,
+    )
+        requires sound { (first : ℕ) × (unused : ℕ) × IsSound part.now.bytes first unused }
+        requires marks { (old : List Block) × Replaced run packed.stop old (zone_in part.now.bytes) × AreOf self.old old }
+        requires still { packed.lowered ≡ 0 → AreOf self.old (zone_in part.now.bytes) }
+        requires edges { ByEdges edges.now run (zone_in part.now.bytes) }
+        requires lowest { NoneGoes lowest (zone_in part.now.bytes) }
+        ensures { AreOf self.new (zone_in part.now.bytes) }
+    {
+        if packed.lowered > 0 {
+            self.note_packed(part, edges, run, run, packed.stop, lowest);
+        }
     }
 }

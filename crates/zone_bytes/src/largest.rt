@@ -7,14 +7,14 @@ ghost use Rattle.block_store.specs.Compact.{largest_run};
 ghost use Rattle.zone_bytes.specs.Decode.{zone_in};
 ghost use Rattle.zone_bytes.specs.Largest.{CameOn, most_past};
 ghost use Rattle.zone_bytes.specs.Lawful.{IsSound};
-ghost use Rattle.zone_bytes.specs.Marks.{AreMarks, above_all};
+ghost use Rattle.zone_bytes.specs.Marks.{AreGroups, AreMarks, above_all};
 ghost use Rattle.zone_bytes.specs.Searching.{IsStretch};
 ghost use Rattle.zone_bytes.specs.Stepping.{left_in, IsOnWay};
 ghost use Rattle.zone_summary.specs.Rows.{load};
 ghost use Rattle.zone_summary.specs.Stretches.{stretch_of};
 
-use crate::landmark::{Landmark, Tally};
-use crate::marking::{index_above, place_of_mark};
+use crate::landmark::{GROUP, Group, Landmark, Tally};
+use crate::marking::place_of_mark;
 use crate::measuring::{greater, span_at, within};
 use raw_region::Part;
 use zone_summary::Stretch;
@@ -102,23 +102,65 @@ fn past_stretch(part: &Part, mark: Landmark, next: u32, sum: RunSum) -> RunSum
     }
 }
 
-/// Returns the greatest number of free bytes in one run.
-pub fn largest_run_by_marks(marks: &[Landmark], part: &Part) -> u32
+/// Takes a walk past the stretches of the landmarks from the index `low` up to the index `high`.
+fn past_marks(marks: &[Landmark], part: &Part, low: usize, high: usize, sum: RunSum) -> RunSum
     requires sound { (first : ℕ) × (unused : ℕ) × IsSound part.now.bytes first unused }
     requires marks { AreMarks above_all (zone_in part.now.bytes) marks.now }
-    ensures { result ≡ largest_run (zone_in part.now.bytes) }
+    requires inside { high ≤ length marks.now }
+    requires way { IsOnWay sum.at part.now.bytes }
+    requires free { sum.free ≤ sum.at }
+    ensures { CameOn part.now.bytes sum result }
 {
     let end = part.len() as u32;
-    let last = index_above(marks, end, marks.len());
+    let mut sum = sum;
+    for index in low..high {
+        let next = within(place_of_mark(marks, index + 1), end);
+        sum = past_stretch(part, marks[index], next, sum);
+    }
+    sum
+}
+
+/// Takes a walk past the stretches of a group's landmarks.
+fn past_group(
+    marks: &[Landmark],
+    groups: &[Group],
+    part: &Part,
+    group: usize,
+    sum: RunSum,
+) -> RunSum
+    requires sound { (first : ℕ) × (unused : ℕ) × IsSound part.now.bytes first unused }
+    requires marks { AreMarks above_all (zone_in part.now.bytes) marks.now }
+    requires groups { AreGroups groups.now marks.now }
+    requires inside { group < length groups.now }
+    requires way { IsOnWay sum.at part.now.bytes }
+    requires free { sum.free ≤ sum.at }
+    ensures { CameOn part.now.bytes sum result }
+{
+    let low = group * GROUP;
+    match groups[group].tally {
+        Tally::Known(runs) if sum.at == marks[low].at => {
+            let next = within(place_of_mark(marks, low + GROUP), part.len() as u32);
+            past_known(sum, runs, next)
+        }
+        _ => past_marks(marks, part, low, low + GROUP, sum),
+    }
+}
+
+/// Returns the greatest number of free bytes in one run.
+pub fn largest_run_by_marks(marks: &[Landmark], groups: &[Group], part: &Part) -> u32
+    requires sound { (first : ℕ) × (unused : ℕ) × IsSound part.now.bytes first unused }
+    requires marks { AreMarks above_all (zone_in part.now.bytes) marks.now }
+    requires groups { AreGroups groups.now marks.now }
+    ensures { result ≡ largest_run (zone_in part.now.bytes) }
+{
     let mut sum = RunSum {
         most: 0,
         free: 0,
         at: 0,
     };
-    for index in 0..last {
-        let next = within(place_of_mark(marks, index + 1), end);
-        sum = past_stretch(part, marks[index], next, sum);
+    for group in 0..groups.len() {
+        sum = past_group(marks, groups, part, group, sum);
     }
-    let all = runs_up_to(part, sum, end);
+    let all = runs_up_to(part, sum, part.len() as u32);
     greater(all.most, all.free)
 }

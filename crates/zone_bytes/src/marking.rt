@@ -7,14 +7,14 @@ ghost use Rattle.block_store.specs.Find.{FindsLowest};
 ghost use Rattle.zone_bytes.specs.Decode.{zone_in};
 ghost use Rattle.zone_bytes.specs.Edges.{AreLaid, ByEdges, IsBare};
 ghost use Rattle.zone_bytes.specs.Lawful.{IsSound};
-ghost use Rattle.zone_bytes.specs.Marks.{AtEach, AtMost, NoRoom, NoneBelow, Begins, AreMarks, AreTops, Replaced, no_mark};
+ghost use Rattle.zone_bytes.specs.Marks.{AtEach, AtMost, NoRoom, NoneBelow, Begins, AreMarks, AreGroups, Replaced, no_mark};
 ghost use Rattle.zone_bytes.specs.Marks.{Lowered, IsTally, Measures, above_all, between, next_of};
 ghost use Rattle.zone_bytes.specs.Stepping.{left_in, IsOnWay};
 ghost use Rattle.zone_bytes.specs.declared.landmark.TheConstants.{GROUP};
 
 use crate::edges::Edges;
-use crate::grouping::{raise_top, renew_tops};
-use crate::landmark::{GROUP, Landmark, Tally, UNKNOWN};
+use crate::grouping::{raise_group, renew_groups};
+use crate::landmark::{GROUP, Group, Landmark, Tally, UNKNOWN};
 use crate::measuring::{Measured, greater, measure_up_to, room_between};
 use crate::paging::page_end;
 use raw_region::Part;
@@ -120,17 +120,17 @@ fn room_in_group(marks: &[Landmark], part: &Part, group: usize, bytes: u32) -> O
 }
 
 /// Returns the place of the lowest free block of at least `bytes` bytes.
-pub fn find_by_marks(marks: &[Landmark], tops: &[u32], part: &Part, bytes: u32) -> Option<u32>
+pub fn find_by_marks(marks: &[Landmark], groups: &[Group], part: &Part, bytes: u32) -> Option<u32>
     requires sound { (first : ℕ) × (unused : ℕ) × IsSound part.now.bytes first unused }
     requires marks { AreMarks above_all (zone_in part.now.bytes) marks.now }
-    requires tops { AreTops tops.now marks.now }
+    requires groups { AreGroups groups.now marks.now }
     ensures { FindsLowest (is_room bytes) (zone_in part.now.bytes) result }
 {
     if let Some(place) = room_in_stretch(part, UNKNOWN, place_of_mark(marks, 0), bytes) {
         return Some(place);
     }
-    for group in 0..tops.len() {
-        if bytes <= tops[group] {
+    for group in 0..groups.len() {
+        if bytes <= groups[group].most {
             if let Some(place) = room_in_group(marks, part, group, bytes) {
                 return Some(place);
             }
@@ -204,7 +204,7 @@ fn changed_mark(
 /// have some of these blocks. The search for the last of these landmarks begins at the index `likely`.
 pub fn change_marks(
     marks: &mut [Landmark],
-    tops: &mut [u32],
+    groups: &mut [Group],
     part: &Part,
     lo: u32,
     hi: u32,
@@ -213,9 +213,9 @@ pub fn change_marks(
 )
     requires sound { (first : ℕ) × (unused : ℕ) × IsSound part.now.bytes first unused }
     requires marks { (old : List Block) × Replaced lo hi old (zone_in part.now.bytes) × AreMarks above_all old marks.old }
-    requires tops { AreTops tops.old marks.old }
+    requires groups { AreGroups groups.old marks.old }
     ensures marks { AreMarks above_all (zone_in part.now.bytes) marks.new }
-    ensures tops { AreTops tops.new marks.new }
+    ensures groups { AreGroups groups.new marks.new }
     ensures long { length marks.new ≡ length marks.old }
 {
     let last = index_above(marks, hi, likely);
@@ -227,11 +227,11 @@ pub fn change_marks(
         let old = marks[first];
         let mark = changed_mark(old, next, above, part, lo, hi, walks);
         marks[first] = mark;
-        raise_top(tops, first, mark.most);
+        raise_group(groups, first, mark.most);
         above = mark.at;
         next = old.at;
     }
-    renew_tops(marks, tops, first, last);
+    renew_groups(marks, groups, first, last);
 }
 
 /// Measures the stretch of a new landmark: up to the first edge at or above `place`, or, for the last landmark, to the
@@ -287,7 +287,7 @@ fn packed_mark(part: &Part, at: u32, edge: u32, base: u32) -> Landmark
 /// on no walk is needed.
 pub fn lay_edges(
     marks: &mut [Landmark],
-    tops: &mut [u32],
+    groups: &mut [Group],
     part: &Part,
     edges: &Edges,
     base: u32,
@@ -296,9 +296,9 @@ pub fn lay_edges(
     requires sound { (first : ℕ) × (unused : ℕ) × IsSound part.now.bytes first unused }
     requires laid { AreLaid from.index from.at (zone_in part.now.bytes) marks.old }
     requires edges { ByEdges edges.now base (zone_in part.now.bytes) }
-    requires tops { AreTops tops.old marks.old }
+    requires groups { AreGroups groups.old marks.old }
     ensures laid { AreLaid result.index result.at (zone_in part.now.bytes) marks.new }
-    ensures tops { AreTops tops.new marks.new }
+    ensures groups { AreGroups groups.new marks.new }
     ensures long { length marks.new ≡ length marks.old }
 {
     let last = marks.len().saturating_sub(1);
@@ -310,7 +310,7 @@ pub fn lay_edges(
         let edge = greater(next.at, place);
         let mark = packed_mark(part, next.at, edge, base);
         marks[next.index] = mark;
-        raise_top(tops, next.index, mark.most);
+        raise_group(groups, next.index, mark.most);
         next = NextMark {
             index: next.index + 1,
             at: edge,
@@ -321,9 +321,9 @@ pub fn lay_edges(
 
 /// Lays the landmarks from the next one on anew, each at the first edge in its page or above it, up to the first
 /// landmark at or above `hi` that stands there already. Returns the index of that landmark.
-pub fn lay_marks(
+fn lay_marks(
     marks: &mut [Landmark],
-    tops: &mut [u32],
+    groups: &mut [Group],
     part: &Part,
     next: NextMark,
     page: u32,
@@ -331,9 +331,9 @@ pub fn lay_marks(
 ) -> usize
     requires sound { (first : ℕ) × (unused : ℕ) × IsSound part.now.bytes first unused }
     requires laid { AreLaid next.index next.at (zone_in part.now.bytes) marks.old }
-    requires tops { AreTops tops.old marks.old }
+    requires groups { AreGroups groups.old marks.old }
     ensures marks { AreMarks above_all (zone_in part.now.bytes) marks.new }
-    ensures tops { AreTops tops.new marks.new }
+    ensures groups { AreGroups groups.new marks.new }
     ensures long { length marks.new ≡ length marks.old }
 {
     let mut at = next.at;
@@ -348,9 +348,31 @@ pub fn lay_marks(
             most: stretch.most,
             tally: Tally::Known(stretch.runs),
         };
-        raise_top(tops, index, stretch.most);
+        raise_group(groups, index, stretch.most);
         at = stretch.edge;
         end = end.saturating_add(page);
     }
     marks.len()
+}
+
+/// Lays the landmarks from the next one on anew, up to the first one at or above `hi` that stands where it is to stand,
+/// and computes anew what is known of the groups of these landmarks and of those from the index `first` on.
+pub fn lay_anew(
+    marks: &mut [Landmark],
+    groups: &mut [Group],
+    part: &Part,
+    next: NextMark,
+    first: usize,
+    page: u32,
+    hi: u32,
+)
+    requires sound { (first : ℕ) × (unused : ℕ) × IsSound part.now.bytes first unused }
+    requires laid { AreLaid next.index next.at (zone_in part.now.bytes) marks.old }
+    requires groups { AreGroups groups.old marks.old }
+    ensures marks { AreMarks above_all (zone_in part.now.bytes) marks.new }
+    ensures groups { AreGroups groups.new marks.new }
+    ensures long { length marks.new ≡ length marks.old }
+{
+    let end = lay_marks(marks, groups, part, next, page, hi);
+    renew_groups(marks, groups, first, end);
 }

@@ -5,7 +5,5 @@ pub mod Groups
 pub mod Searching
 pub mod Pages
 pub mod Purges
-pub mod Halving
-pub mod TurnedPages
-pub mod Counts
+pub mod Fewest
 mod Examples

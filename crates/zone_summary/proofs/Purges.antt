@@ -1,6 +1,6 @@
--- What blocks come to after purges: those below a place purged, and those above it as they are.
-use Rattle.std.proofs.Common.{◌≡◌, ℕ, ◌+◌, ◌≤◌, zero, suc, Bool, true, false, List, [], ◌∷◌, ◌++◌, map, is_some, nat_le}
-use Rattle.std.proofs.Common.{refl, sym, ◌∙◌, ap, arith, cond}
+-- What blocks come to after purges: all those below a place, and some of those above it.
+use Rattle.std.proofs.Common.{◌≡◌, ℕ, ◌+◌, zero, suc, Bool, true, false, List, [], ◌∷◌, ◌++◌, map, is_some, nat_le}
+use Rattle.std.proofs.Common.{refl, sym, ◌∙◌, ap, arith, cond, append-nil}
 use Rattle.std.proofs.lemmas.Bool.Decides.{nat_tests}
 use Rattle.block_store.specs.Block.{Block, Free, Nonrelocatable, Masters, Relocatable, size, add, tidy}
 use Rattle.block_store.specs.Compact.{largest_run}
@@ -12,7 +12,7 @@ use Rattle.block_store.proofs.Purged.Rising.{lowest_purged-goes, lowest_purged-s
 use Rattle.block_store.proofs.Regroup.MostRoom.{run-none, run-some}
 use Rattle.zone_summary.specs.Emptied.{emptied}
 use Rattle.zone_summary.specs.Stretches.{join, best, one, stretch_of}
-use Rattle.zone_summary.specs.Turns.{serves}
+use Rattle.block_store.specs.Fewest.{serves}
 use Rattle.zone_summary.specs.declared.stretch.Stretch.TheVariants.{Whole}
 use Rattle.zone_summary.proofs.Monoid.{join-assoc, join-unit_left, stretch_of-append}
 use Rattle.zone_summary.proofs.Runs.{best-runs}
@@ -57,36 +57,19 @@ module _ (sp : Block → Bool) where
           (let c = count-here false b low e in let z : count_of sp (b ∷ low) + j ≡ count_of sp low + j = omega (arith, c) in z)
           ∙ lowest_purged-stays (count_of sp low + j) sp b (low ++ rest) e ∙ ap (λ t. b ∷ t) more
 
-  -- and no more than there are stay below it
-  purged-within : (j : ℕ) (page high : List Block) → j ≤ count_of sp page
-      → lowest_purged j sp (page ++ high) ≡ lowest_purged j sp page ++ high
-  purged-within zero page high h = refl
-  purged-within (suc j) [] high h = absurd (omega (arith, h))
-  purged-within (suc j) (b ∷ page) high h = step (may_be_purged sp b) refl (purged-within j page high)
-      (purged-within (suc j) page high)
-    where
-      step : (t : Bool) → may_be_purged sp b ≡ t
-          → (j ≤ count_of sp page → lowest_purged j sp (page ++ high) ≡ lowest_purged j sp page ++ high)
-          → (suc j ≤ count_of sp page
-          → lowest_purged (suc j) sp (page ++ high) ≡ lowest_purged (suc j) sp page ++ high)
-          → lowest_purged (suc j) sp (b ∷ (page ++ high)) ≡ lowest_purged (suc j) sp (b ∷ page) ++ high
-      step true e here past = lowest_purged-goes j sp b (page ++ high) e
-          ∙ ap (λ t. Free (size b) ∷ t) (here (omega (arith, h, count-here true b page e)))
-          ∙ ap (λ t. t ++ high) (sym (lowest_purged-goes j sp b page e))
-      step false e here past = lowest_purged-stays (suc j) sp b (page ++ high) e
-          ∙ ap (λ t. b ∷ t) (past (omega (arith, h, count-here false b page e)))
-          ∙ ap (λ t. t ++ high) (sym (lowest_purged-stays (suc j) sp b page e))
+  pub all-purged : (blocks : List Block) → lowest_purged (count_of sp blocks) sp blocks ≡ map (emptied sp) blocks
+  all-purged blocks = let z : count_of sp blocks ≡ count_of sp blocks + 0 = omega arith in
+      ap (λ k. lowest_purged k sp blocks) z
+      ∙ ap (lowest_purged (count_of sp blocks + 0) sp) (sym (append-nil blocks)) ∙ purged-below 0 blocks []
+      ∙ append-nil (map (emptied sp) blocks)
 
-  -- the most of a run after the purges below a page, and some of those in it
-  pub largest-purged : (j : ℕ) (low page high : List Block) → j ≤ count_of sp page
-      → largest_run (purge (count_of sp low + j) sp (low ++ (page ++ high)))
-      ≡ best (join (stretch_of (map (emptied sp) low)) (join (stretch_of (lowest_purged j sp page)) (stretch_of high)))
-  largest-purged j low page high h = let k = count_of sp low + j in
-      sym (best-runs (purge k sp (low ++ (page ++ high))))
-      ∙ ap best (stretch_of-tidy (lowest_purged k sp (low ++ (page ++ high)))
-      ∙ ap stretch_of (purged-below j low (page ++ high) ∙ ap (λ t. map (emptied sp) low ++ t) (purged-within j page high h))
-      ∙ stretch_of-append (map (emptied sp) low) (lowest_purged j sp page ++ high)
-      ∙ ap (join (stretch_of (map (emptied sp) low))) (stretch_of-append (lowest_purged j sp page) high))
+  -- the most of a run after the purges below a place, and some of those above it
+  largest-purged : (j : ℕ) (low rest : List Block) → largest_run (purge (count_of sp low + j) sp (low ++ rest))
+      ≡ best (join (stretch_of (map (emptied sp) low)) (stretch_of (lowest_purged j sp rest)))
+  largest-purged j low rest = let k = count_of sp low + j in
+      sym (best-runs (purge k sp (low ++ rest)))
+      ∙ ap best (stretch_of-tidy (lowest_purged k sp (low ++ rest)) ∙ ap stretch_of (purged-below j low rest)
+      ∙ stretch_of-append (map (emptied sp) low) (lowest_purged j sp rest))
 
 -- a run has enough where the most of a run is enough
 run-there : (p : ℕ) (zone : List Block) → is_some (run_spot (has_free p) zone) ≡ nat_le p (largest_run zone)
@@ -96,11 +79,10 @@ run-there p zone = cases (nat_le p (largest_run zone)) refl
     cases true e = run-some p (segments zone).first (segments zone).rest (grind (arith, nat_tests, e))
     cases false e = ap is_some (run-none p (segments zone).first (segments zone).rest (grind (arith, nat_tests, e)))
 
-pub serves-is : (p : ℕ) (n : Sparing) (zone low page high : List Block) (j : ℕ) → opened n zone ≡ low ++ (page ++ high)
-    → j ≤ count_of (spared n) page → serves p n zone (count_of (spared n) low + j)
-    ≡ nat_le p (best (join (stretch_of (map (emptied (spared n)) low))
-    (join (stretch_of (lowest_purged j (spared n) page)) (stretch_of high))))
-serves-is p n zone low page high j e h = let k = count_of (spared n) low + j in
+pub serves-is : (p : ℕ) (n : Sparing) (zone low rest : List Block) (j : ℕ) → opened n zone ≡ low ++ rest
+    → serves p n zone (count_of (spared n) low + j)
+    ≡ nat_le p (best (join (stretch_of (map (emptied (spared n)) low)) (stretch_of (lowest_purged j (spared n) rest))))
+serves-is p n zone low rest j e = let k = count_of (spared n) low + j in
     run-there p (purged k n zone)
     ∙ ap (λ blocks. nat_le p (largest_run (purge k (spared n) blocks))) e
-    ∙ ap (nat_le p) (largest-purged (spared n) j low page high h)
+    ∙ ap (nat_le p) (largest-purged (spared n) j low rest)

@@ -8,15 +8,15 @@ use Rattle.zone_summary.specs.Stretches.{join, prefix, beyond, best, one, stretc
 use Rattle.zone_summary.specs.declared.stretch.Stretch.{Stretch}
 use Rattle.zone_summary.specs.declared.stretch.Stretch.TheVariants.{Whole, Ended}
 
-prefix-more : (n : ℕ) (s : Stretch) → prefix (join (Whole n) s) ≡ n + prefix s
+pub prefix-more : (n : ℕ) (s : Stretch) → prefix (join (Whole n) s) ≡ n + prefix s
 prefix-more n (Whole a) = refl
 prefix-more n (Ended p i s) = refl
 
-beyond-more : (n : ℕ) (s : Stretch) → beyond (join (Whole n) s) ≡ beyond s
+pub beyond-more : (n : ℕ) (s : Stretch) → beyond (join (Whole n) s) ≡ beyond s
 beyond-more n (Whole a) = refl
 beyond-more n (Ended p i s) = refl
 
-prefix-ended : (s : Stretch) → prefix (join (Ended 0 0 0) s) ≡ 0
+pub prefix-ended : (s : Stretch) → prefix (join (Ended 0 0 0) s) ≡ 0
 prefix-ended (Whole a) = refl
 prefix-ended (Ended p i s) = refl
 

@@ -20,12 +20,12 @@ met-always Masters = refl
 met-always (Relocatable id flags content) = refl
 
 module _ (p : ℕ) (sp : Block → Bool) where
-  found-more : (start free place : ℕ) (b : Block) (above : List Block) → in_run b ≡ true
+  pub found-more : (start free place : ℕ) (b : Block) (above : List Block) → in_run b ≡ true
       → found_from p sp start free place (b ∷ above) ≡ found_from p sp start (free + free_of b) (place + size b) above
   found-more start free place b above e = cond-true (in_run b) _ _ e
       ∙ ap (λ m. scan_runs None p sp 0 start (free + free_of b) m (place + size b) above) (met-always b)
 
-  found-ended : (start free place : ℕ) (b : Block) (above : List Block) → in_run b ≡ false → free < p
+  pub found-ended : (start free place : ℕ) (b : Block) (above : List Block) → in_run b ≡ false → free < p
       → found_from p sp start free place (b ∷ above) ≡ found_from p sp (place + size b) 0 (place + size b) above
   found-ended start free place b above e less = cond-false (in_run b) _ _ e
       ∙ cond-false (nat_le p free) _ _ (lt-leb p free less)
@@ -36,7 +36,7 @@ module _ (p : ℕ) (sp : Block → Bool) where
   had-short had (Whole a) h = (omega arith, omega arith)
   had-short had (Ended q i s) h = (omega arith, omega arith)
 
-  suffix-over : (had : ℕ) (s : Stretch) → suffix (join (Whole had) (join (Ended 0 0 0) s)) ≡ suffix (join (Whole 0) s)
+  pub suffix-over : (had : ℕ) (s : Stretch) → suffix (join (Whole had) (join (Ended 0 0 0) s)) ≡ suffix (join (Whole 0) s)
   suffix-over had (Whole a) = refl
   suffix-over had (Ended q i s) = refl
 

@@ -1,5 +1,5 @@
 pub mod Emptied
+pub mod Fewest
 pub mod Rows
 pub mod Searches
 pub mod Stretches
-pub mod Turns

@@ -3,15 +3,11 @@
 #![tactic(auto)]
 
 mod beginning;
-mod fewest;
 mod grouping;
 mod reaching;
 mod stretch;
-mod turning;
 
 pub use beginning::{OpenFrom, open_from};
-pub use fewest::{PagePurged, count_below, fewest_in};
 pub use grouping::{GROUP, all, note, renew};
 pub use reaching::{Reach, first_reach, joined, reach_page};
 pub use stretch::Stretch;
-pub use turning::{Turn, turn_page};

@@ -192,7 +192,7 @@ module _ (xs : List ℕ) (from at : ℕ) (p : Passed xs from at (λ _ b. is_purg
       (stays-above at (from + sizes p.done) (left_in at xs) (omega (arith, u))))
 
 -- blocks of which none may be purged, below others
-none-passes : (n : Sparing) (b : Block) → is_purgeable b ≡ false → may_be_purged (spared n) b ≡ false
+pub none-passes : (n : Sparing) (b : Block) → is_purgeable b ≡ false → may_be_purged (spared n) b ≡ false
 none-passes n b e = ap (λ t. t && not (spared n b)) e
 
 next-above : (n : Sparing) (k bound x : ℕ) (below above : List Block) → AtEach (Stays bound) x below

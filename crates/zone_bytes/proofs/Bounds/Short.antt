@@ -83,7 +83,7 @@ given-opened (sparing.Freed slot) zone =
     omega (arith, f, l)
 
 -- each block that may go would give something
-one-gives : (sp : Block → Bool) (b : Block) → cond {A = ℕ} (may_be_purged sp b) 1 0 ≤ purgeable_of b
+pub one-gives : (sp : Block → Bool) (b : Block) → cond {A = ℕ} (may_be_purged sp b) 1 0 ≤ purgeable_of b
 one-gives sp (Free n) = omega arith
 one-gives sp (Nonrelocatable id content) = omega arith
 one-gives sp Masters = omega arith

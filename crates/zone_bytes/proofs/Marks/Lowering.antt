@@ -24,7 +24,7 @@ at-each S x blocks f = at-map (λ _ _. Unit {0}) S x blocks (λ p b l u _. f p b
     (at-all (λ _ _. Unit {0}) x blocks (λ p b l. tt))
 
 -- the first of some landmarks is no higher than where they end
-marks-below : (end : ℕ) (zone : List Block) (marks : List Landmark) → AreMarks end zone marks → next_of end marks ≤ end
+pub marks-below : (end : ℕ) (zone : List Block) (marks : List Landmark) → AreMarks end zone marks → next_of end marks ≤ end
 marks-below end zone [] a = omega arith
 marks-below end zone (m ∷ marks) a = let n = marks-below end zone marks a.4 in let r = a.3 in omega (arith, n, r)
 

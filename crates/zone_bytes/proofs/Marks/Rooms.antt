@@ -13,7 +13,8 @@ use Rattle.zone_bytes.specs.Decode.{zone_in}
 use Rattle.zone_bytes.specs.Lawful.{IsSound}
 use Rattle.zone_bytes.specs.Table.{slot_in}
 use Rattle.zone_bytes.specs.Stepping.{left_in}
-use Rattle.zone_bytes.specs.Marks.{AtEach, AtMost, NoRoom, NoneBelow, Begins, AreMarks, AreTops, RoomAt, next_of, no_mark}
+use Rattle.zone_bytes.specs.Marks.{AtEach, AtMost, NoRoom, NoneBelow, Begins, AreMarks, AreGroups, RoomAt, next_of, no_group, no_mark}
+use Rattle.zone_bytes.specs.declared.landmark.Group.{Group}
 use Rattle.zone_bytes.specs.declared.landmark.Landmark.{Landmark}
 use Rattle.zone_bytes.specs.declared.landmark.TheConstants.{GROUP}
 use Rattle.zone_bytes.proofs.Laws.Lawful.{sizes-length}
@@ -172,9 +173,10 @@ module _ (xs : List ℕ) (first unused : ℕ) (i : IsSound xs first unused) (byt
       (none-next index (omega (arith, u)) (f index (omega arith) (omega arith)) n))
 
   -- over a group whose top is less
-  pub none-group : (tops : List ℕ) → AreTops tops marks → (group : ℕ) → group < length tops → get_or tops group 0 < bytes
+  pub none-group : (groups : List Group) → AreGroups groups marks → (group : ℕ) → group < length groups
+      → (get_or groups group no_group).most < bytes
       → NoneBelow bytes (zone_in xs) marks (GROUP * group) → NoneBelow bytes (zone_in xs) marks (GROUP * (group + 1))
-  none-group tops t group u l n =
+  none-group groups t group u l n =
       let w = t.whole in
       subst (NoneBelow bytes (zone_in xs) marks) (let e : GROUP * group + GROUP ≡ GROUP * (group + 1) = omega arith in e)
       (none-along GROUP (GROUP * group) (omega (arith, w, u))

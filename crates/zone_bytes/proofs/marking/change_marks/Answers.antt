@@ -2,6 +2,7 @@ use Rattle.std.proofs.Common.{◌-◌, length-set, arith}
 use Rattle.zone_bytes.specs.Decode.{zone_in}
 use Rattle.zone_bytes.proofs.Marks.Lowering.{begins-lowered, changing-start, changing-step, changing-done, changing-below}
 use Rattle.zone_bytes.proofs.Marks.Lowering.{last-mark, replaced-order}
+use Rattle.zone_bytes.proofs.Marks.Tallies.{loads-small}
 use Rattle.zone_bytes.proofs.marking.change_marks.Goals as goal
 use Rattle.zone_bytes.proofs.marking.change_marks.Goals.{then-loop-first-test+else-lo-above, else-loop-first-test}
 use Rattle.zone_bytes.specs.Marks.{no_mark}
@@ -9,7 +10,7 @@ use Rattle.zone_bytes.specs.Marks.{no_mark}
 pub loop-first-init : goal.loop-first-init
 loop-first-init c = (
   c.index_above-last.ensures.index,
-  c.requires.tops,
+  c.requires.groups,
   λ old z a. let h = c.ranges.hi.fits in
       changing-start c.args.lo c.args.hi old (zone_in c.args.part.now.bytes) z
       (replaced-order c.args.lo c.args.hi old (zone_in c.args.part.now.bytes) z) c.place_of_mark-above.result
@@ -50,7 +51,7 @@ loop-first-preserved c =
     let l = c.loop-first.invariant.0 in
     let new = zone_in c.args.part.now.bytes in (
       (let n = length-set c.loop-first.marks (c.loop-first.first - 1) c.changed_mark-mark.result in omega (arith, l, n)),
-      c.raise_top.ensures c.loop-first.marks c.changed_mark-mark.result (omega arith) c.loop-first.invariant.1,
+      c.raise_group.ensures c.loop-first.marks c.changed_mark-mark.result (omega arith) c.loop-first.invariant.1,
       λ old z a.
           changing-step c.args.lo c.args.hi old new z (replaced-order c.args.lo c.args.hi old new z) c.loop-first.next
           c.loop-first.above c.loop-first.first c.loop-first.marks no_mark c.changed_mark-mark.result (omega (arith, s)) l
@@ -71,3 +72,18 @@ returns-clause-marks c =
       | else-loop-first-test w ↦ let s = w.loop-first-test.false in
           changing-done c.args.lo c.args.hi old new c.loop-first.next c.loop-first.above c.loop-first.first c.loop-first.marks (omega (arith, s)) g
     ]
+
+pub renew_groups-requires-clause-fits : goal.renew_groups-requires-clause-fits
+renew_groups-requires-clause-fits c =
+    let i = c.requires.sound in
+    let old = c.requires.marks.0 in
+    let new = zone_in c.args.part.now.bytes in
+    let z = c.requires.marks.1 in
+    let g = c.loop-first.invariant.2 old z c.requires.marks.2 in
+    loads-small c.args.part.now.bytes i.0 i.1 i.2 4294967295 c.loop-first.marks (elim c.loop-first-test.branch [
+      | then-loop-first-test+else-lo-above w ↦ changing-below c.args.lo c.args.hi old new z
+          (replaced-order c.args.lo c.args.hi old new z) c.loop-first.next c.loop-first.above c.loop-first.first
+          c.loop-first.marks w.if-lo-above.false g
+      | else-loop-first-test w ↦ let s = w.loop-first-test.false in
+          changing-done c.args.lo c.args.hi old new c.loop-first.next c.loop-first.above c.loop-first.first c.loop-first.marks (omega (arith, s)) g
+    ])

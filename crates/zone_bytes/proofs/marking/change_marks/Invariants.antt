@@ -1,12 +1,12 @@
 use Rattle.std.proofs.Common.{◌≤◌, List, length, take, drop}
 use Rattle.block_store.specs.Block.{Block}
 use Rattle.zone_bytes.specs.Decode.{zone_in}
-use Rattle.zone_bytes.specs.Marks.{AreMarks, AreTops, Replaced}
+use Rattle.zone_bytes.specs.Marks.{AreMarks, AreGroups, Replaced}
 use Rattle.zone_bytes.proofs.Marks.Lowering.{Changing}
 use Rattle.zone_bytes.proofs.marking.change_marks.Given as goal
 
 abbrev pub invariant-loop-first : goal.invariant-loop-first
-invariant-loop-first l = (l.first ≤ length l.marks) × AreTops l.tops l.marks
+invariant-loop-first l = (l.first ≤ length l.marks) × AreGroups l.groups l.marks
     × ((old : List Block) → Replaced l.lo l.hi old (zone_in l.part.bytes) → AreMarks 4294967295 old l.initial.marks
     → Changing l.lo l.hi old (zone_in l.part.bytes) l.next l.above (take l.first l.marks) (drop l.first l.marks))
 

@@ -37,7 +37,7 @@ loop-next-preserved c =
         ];
         last = λ e. absurd (omega (arith, e, long, inside));
       },
-      c.raise_top.ensures c.loop-next.marks m (omega arith) v.1,
+      c.raise_group.ensures c.loop-next.marks m (omega arith) v.1,
       (let u = v.2 in omega (arith, u)),
       (omega (arith, long, n)),
     )

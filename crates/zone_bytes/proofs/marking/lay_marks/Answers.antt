@@ -9,7 +9,7 @@ use Rattle.zone_bytes.proofs.marking.lay_marks.Goals as goal
 pub loop-index-init : goal.loop-index-init
 loop-index-init c =
     let l = c.requires.laid in
-    (refl, c.requires.tops, l.below, l.above, l.begins, l.last)
+    (refl, c.requires.groups, l.below, l.above, l.begins, l.last)
 
 pub returns-then-marks-index-clause-marks : goal.returns-then-marks-index-clause-marks
 returns-then-marks-index-clause-marks c =
@@ -38,7 +38,7 @@ loop-index-preserved c =
     let b = v.4 (omega (arith, l)) in
     let s = c.stretch_from-stretch in (
       length-set c.loop-index.marks c.loop-index.index _ ∙ n,
-      c.raise_top.ensures c.loop-index.marks (record { at = c.loop-index.at; most = s.result.most; tally = tally.Known s.result.runs })
+      c.raise_group.ensures c.loop-index.marks (record { at = c.loop-index.at; most = s.result.most; tally = tally.Known s.result.runs })
           (omega arith) v.1,
       marks-next (zone_in xs) c.loop-index.marks c.loop-index.index s.result.edge
           (record { at = c.loop-index.at; most = s.result.most; tally = tally.Known s.result.runs })

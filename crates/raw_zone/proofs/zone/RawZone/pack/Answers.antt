@@ -5,6 +5,7 @@ use Rattle.block_store.specs.Run.{RunSpot, run_at, movers, settle, with_run}
 use Rattle.block_store.specs.Rest.{IsRest, lowered_in_run}
 use Rattle.zone_bytes.specs.Decode.{zone_in}
 use Rattle.zone_bytes.specs.Edges.{AreEdges}
+use Rattle.zone_bytes.specs.Marked.{AreOf}
 use Rattle.zone_bytes.specs.Purgeable.{NoneGoes}
 use Rattle.zone_bytes.specs.Table.{slot_in}
 use Rattle.zone_bytes.specs.Beside.{rest_in}
@@ -14,6 +15,7 @@ use Rattle.zone_bytes.proofs.Runs.RunsAt.{a-run, lay-is, lay-bytes, may-end, may
 use Rattle.raw_zone.specs.Parted.{zone_of, rest_of}
 use Rattle.zone_bytes.proofs.Runs.Changed.{ChangedRun, if-one, settled-run, replaced-run}
 use Rattle.zone_bytes.proofs.Runs.Edged.{settled-edges}
+use Rattle.zone_bytes.proofs.Runs.Still.{still}
 use Rattle.zone_bytes.proofs.Marks.Owed.{with-marks}
 use Rattle.raw_zone.proofs.zone.RawZone.pack.Goals as goal
 use Rattle.raw_zone.proofs.zone.RawZone.pack.Goals.{After-self, After-settle_run-packed}
@@ -59,14 +61,14 @@ done c =
       c.settle_run-packed.ensures.top ∙ ap (λ z. c.args.run + sizes (movers z.run)) l,
     )
 
-pub note_packed-requires-clause-sound : goal.note_packed-requires-clause-sound
-note_packed-requires-clause-sound c =
-    let d = done (goal.at.note_packed-requires-clause-sound c).After-settle_run-packed in
+pub note_settled-requires-clause-sound : goal.note_settled-requires-clause-sound
+note_settled-requires-clause-sound c =
+    let d = done (goal.at.note_settled-requires-clause-sound c).After-settle_run-packed in
     (c.self.inside.first, c.self.inside.unused, d.2.made.sound)
 
-pub note_packed-requires-clause-marks : goal.note_packed-requires-clause-marks
-note_packed-requires-clause-marks c =
-    let d = done (goal.at.note_packed-requires-clause-marks c).After-settle_run-packed in (
+pub note_settled-requires-clause-marks : goal.note_settled-requires-clause-marks
+note_settled-requires-clause-marks c =
+    let d = done (goal.at.note_settled-requires-clause-marks c).After-settle_run-packed in (
       zone_in c.self.inside.part.bytes,
       replaced-run c.args.run c.settle_run-packed.result.stop c.self.invariant.sound.tidied d.1 d.4 d.2,
       c.self.invariant.marked,
@@ -81,7 +83,7 @@ invariant_of-self c =
     let p = d.2.purgeable in
     let b = c.self.invariant.bound in
     with-marks _ _ _ _ _ _ (kept-made _ _ _ _ _ _ d.2.made (c.self.invariant.free_is ∙ sym d.2.free))
-    c.note_packed.ensures (omega (arith, p, b))
+    c.note_settled.ensures (omega (arith, p, b))
 
 pub returns-clause-zone : goal.returns-clause-zone
 returns-clause-zone c =
@@ -124,18 +126,25 @@ returns-clause-top c =
     (if-one (run_at c.args.run (zone_in c.self.inside.part.bytes))
     (λ r. c.settle_run-packed.result.top ≡ c.args.run + sizes (movers r.run)) d.0 d.1 d.5)
 
-pub note_packed-requires-clause-edges : goal.note_packed-requires-clause-edges
-note_packed-requires-clause-edges c =
-    let d = done (goal.at.note_packed-requires-clause-edges c).After-settle_run-packed in
+pub note_settled-requires-clause-edges : goal.note_settled-requires-clause-edges
+note_settled-requires-clause-edges c =
+    let d = done (goal.at.note_settled-requires-clause-edges c).After-settle_run-packed in
     let xs = c.self.inside.part.bytes in
     let l = lay-is xs c.self.inside.first c.self.inside.unused c.self.invariant.sound c.args.run d.0 d.1 in
     settled-edges c.args.run c.settle_run-packed.new.edges d.1 d.2 (subst
     (λ z. AreEdges c.settle_run-packed.new.edges c.args.run (movers z.run)) l
     (c.settle_run-packed.ensures.edges c.args.run [] (omega arith) (c.await_edges.ensures c.args.run)))
 
-pub note_packed-requires-clause-lowest : goal.note_packed-requires-clause-lowest
-note_packed-requires-clause-lowest c =
-    let d = done (goal.at.note_packed-requires-clause-lowest c).After-settle_run-packed in
+pub note_settled-requires-clause-lowest : goal.note_settled-requires-clause-lowest
+note_settled-requires-clause-lowest c =
+    let d = done (goal.at.note_settled-requires-clause-lowest c).After-settle_run-packed in
     subst (NoneGoes c.lowest_packed-lowest.result) (sym d.2.is)
     (c.lowest_packed-lowest.ensures (zone_in c.self.inside.part.bytes) d.0 c.self.invariant.marked d.1
     c.self.invariant.free_is)
+
+pub note_settled-requires-clause-still : goal.note_settled-requires-clause-still
+note_settled-requires-clause-still c = λ z.
+    let d = done (goal.at.note_settled-requires-clause-still c).After-settle_run-packed in
+    subst (AreOf c.self.inside.marks) (sym (d.2.made.zone
+    ∙ still c.args.run (zone_in c.self.inside.part.bytes) d.0 c.self.invariant.sound.tidied d.1 (sym d.3 ∙ z)))
+    c.self.invariant.marked

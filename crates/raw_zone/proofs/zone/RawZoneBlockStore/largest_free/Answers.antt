@@ -1,19 +1,10 @@
-use Rattle.std.proofs.Common.{◌∙◌, ap, sym, subst, ◌<◌, ◌^◌}
-use Rattle.block_store.specs.Block.{sizes}
+use Rattle.std.proofs.Common.{◌∙◌, ap}
 use Rattle.block_store.specs.Compact.{largest_free}
 use Rattle.raw_zone.specs.Parted.{zone_of}
-use Rattle.zone_bytes.proofs.Places.AtPlace.{left-zone, on-way, sizes-fit}
 use Rattle.raw_zone.proofs.zone.RawZoneBlockStore.largest_free.Goals as goal
 
-pub walk_from-requires : goal.walk_from-requires
-walk_from-requires c = let z = c.self.inside in on-way z.part.bytes z.first z.unused c.self.invariant.sound
-
-pub largest_free_in-requires : goal.largest_free_in-requires
-largest_free_in-requires c =
-    let z = c.self.inside in
-    subst (λ l. sizes l < 2 ^ 32) (sym c.walk_from.ensures)
-    (sizes-fit z.part.bytes z.first z.unused c.self.invariant.sound)
+pub largest_free-requires-clause-sound : goal.largest_free-requires-clause-sound
+largest_free-requires-clause-sound c = (c.self.inside.first, c.self.inside.unused, c.self.invariant.sound)
 
 pub returns : goal.returns
-returns c = c.largest_free_in.ensures
-    ∙ ap largest_free (c.walk_from.ensures ∙ left-zone c.self.inside.part.bytes ∙ ap zone_of c.self.view_is)
+returns c = c.largest_free.ensures ∙ ap (λ v. largest_free (zone_of v)) c.self.view_is

@@ -1,0 +1,51 @@
+-- A run of which no block moves down when it is packed lies packed.
+use Rattle.std.proofs.Common.{◌≡◌, ℕ, ◌+◌, true, false, not, Some, List, [], ◌∷◌, ◌++◌, refl, sym, ap, ◌∙◌, arith}
+use Rattle.std.proofs.Common.{append_assoc}
+use Rattle.std.proofs.lemmas.Bool.{cond-true}
+use Rattle.block_store.specs.Block.{Block, Free, Nonrelocatable, Masters, Relocatable, add, count, free, free_sum}
+use Rattle.block_store.specs.Block.{is_mover, tidy}
+use Rattle.block_store.specs.Rest.{lowered_in_run}
+use Rattle.block_store.specs.Run.{RunSpot, movers, run_at, settle, with_run}
+use Rattle.block_store.specs.Inner.Packing.{Loose}
+use Rattle.block_store.proofs.Regroup.Packed.{falls-mover, tidy-below, tidy-free}
+use Rattle.block_store.proofs.Regroup.RunLists.{run_at-is, run_at-parts}
+use Rattle.block_store.proofs.Zone.Joining.{joined-free}
+use Rattle.block_store.proofs.Zone.Leading.{none-count}
+use Rattle.block_store.proofs.Zone.Passing.{filter-none}
+
+-- Free blocks one after another are one Free block
+frees : (n : ℕ) (run above : List Block) → Loose run → count is_mover run ≡ 0
+    → tidy (Free n ∷ (run ++ above)) ≡ tidy (free (n + free_sum run) ++ above)
+frees n [] above l e =
+    tidy-free n above ∙ (let z : n ≡ n + 0 = omega arith in ap (λ k. tidy (free k ++ above)) z)
+frees n (Free m ∷ run) above l e =
+    let z : (n + m) + free_sum run ≡ n + (m + free_sum run) = omega arith in
+    let c : count is_mover run ≡ 0 = (let d : 0 + count is_mover run ≡ 0 = e in omega arith) in
+    tidy-free n (Free m ∷ (run ++ above)) ∙ joined-free n m (run ++ above) ∙ sym (tidy-free (n + m) (run ++ above))
+    ∙ frees (n + m) run above l.1 c ∙ ap (λ k. tidy (free k ++ above)) z
+frees n (Nonrelocatable id content ∷ run) above l e = let f : false ≡ true = l.0 in cc
+frees n (Masters ∷ run) above l e = let f : false ≡ true = l.0 in cc
+frees n (Relocatable id flags content ∷ run) above l e =
+    absurd (let m = falls-mover (Relocatable id flags content) run refl l.0 in omega (arith, m, e))
+
+still-run : (run above : List Block) → Loose run → lowered_in_run run ≡ 0
+    → tidy (settle run ++ above) ≡ tidy (run ++ above)
+still-run [] above l e = refl
+still-run (Free n ∷ run) above l e =
+    ap (λ m. tidy ((m ++ free (n + free_sum run)) ++ above))
+    (filter-none is_mover run (none-count is_mover run (omega (arith, e)))) ∙ sym (frees n run above l.1 e)
+still-run (Nonrelocatable id content ∷ run) above l e = let f : false ≡ true = l.0 in cc
+still-run (Masters ∷ run) above l e = let f : false ≡ true = l.0 in cc
+still-run (Relocatable id flags content ∷ run) above l e =
+    let b = Relocatable id flags content in
+    let z : 0 + free_sum run ≡ free_sum run = omega arith in
+    ap (λ m. tidy ((m ++ free (0 + free_sum run)) ++ above)) (cond-true (not flags.locked) _ _ l.0)
+    ∙ ap (λ k. add b (tidy ((movers run ++ free k) ++ above))) z ∙ ap (add b) (still-run run above l.1 e)
+
+-- so the zone stays as it is
+pub still : (place : ℕ) (zone : List Block) (r : RunSpot) → tidy zone ≡ zone → run_at place zone ≡ Some r
+    → lowered_in_run r.run ≡ 0 → tidy (with_run settle r) ≡ zone
+still place zone r t e z =
+    ap tidy (append_assoc r.below (settle r.run) r.above)
+    ∙ tidy-below r.below (settle r.run ++ r.above) (r.run ++ r.above)
+    (still-run r.run r.above (run_at-parts place zone r e).loose z) ∙ ap tidy (run_at-is place zone r e) ∙ t
