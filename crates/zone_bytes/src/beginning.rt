@@ -12,7 +12,7 @@ ghost use Rattle.zone_bytes.specs.Lawful.{IsSound};
 ghost use Rattle.zone_bytes.specs.Marks.{AreMarks, Begins, above_all, no_mark};
 ghost use Rattle.zone_bytes.specs.Purgeable.{MayStart};
 ghost use Rattle.zone_bytes.specs.Searching.{IsPassed, IsPiece, RunBegins, finds_purging, lowest_place};
-ghost use Rattle.zone_summary.specs.Rows.{load};
+ghost use Rattle.zone_summary.specs.Stretches.{load};
 ghost use Rattle.zone_summary.specs.Stretches.{prefix, stretch_of, suffix};
 
 use crate::landmark::{Landmark, Tally};

@@ -17,7 +17,7 @@ ghost use Rattle.zone_bytes.specs.Searching.{HasCome, IsBefore, IsFound, IsKnown
 ghost use Rattle.zone_bytes.specs.Searching.{finds_from, finds_purging, lowest_place};
 ghost use Rattle.zone_bytes.specs.Stepping.{left_in, IsOnWay};
 ghost use Rattle.zone_bytes.specs.declared.landmark.Tally.TheVariants as tally;
-ghost use Rattle.zone_summary.specs.Rows.{load};
+ghost use Rattle.zone_summary.specs.Stretches.{load};
 ghost use Rattle.zone_summary.specs.Stretches.{best, prefix, suffix};
 ghost use Rattle.zone_summary.specs.declared.stretch.Stretch.{Stretch as StretchOf};
 

@@ -10,7 +10,7 @@ ghost use Rattle.zone_bytes.specs.Lawful.{IsSound};
 ghost use Rattle.zone_bytes.specs.Marks.{AreGroups, AreMarks, above_all};
 ghost use Rattle.zone_bytes.specs.Searching.{IsStretch};
 ghost use Rattle.zone_bytes.specs.Stepping.{left_in, IsOnWay};
-ghost use Rattle.zone_summary.specs.Rows.{load};
+ghost use Rattle.zone_summary.specs.Stretches.{load};
 ghost use Rattle.zone_summary.specs.Stretches.{stretch_of};
 
 use crate::landmark::{GROUP, Group, Landmark, Tally};

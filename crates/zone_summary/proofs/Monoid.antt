@@ -2,7 +2,7 @@
 use Rattle.std.proofs.Common.{◌≡◌, ℕ, ◌+◌, ◌≤◌, max, List, [], ◌∷◌, ◌++◌, refl, sym, ◌∙◌, ap, arith}
 use Rattle.std.proofs.Common.{add-zero, zero-add, add_assoc}
 use Rattle.block_store.specs.Block.{Block}
-use Rattle.zone_summary.specs.Stretches.{join, suffix, best, one, stretch_of, join_all}
+use Rattle.zone_summary.specs.Stretches.{join, suffix, best, one, stretch_of}
 use Rattle.zone_summary.specs.declared.stretch.Stretch.{Stretch}
 use Rattle.zone_summary.specs.declared.stretch.Stretch.TheVariants.{Whole, Ended}
 
@@ -27,17 +27,12 @@ join-assoc (Ended p i s) (Whole b) (Ended q j t) = ap (λ v. Ended p (max (max i
 join-assoc (Ended p i s) (Ended q j t) (Whole c) = refl
 join-assoc (Ended p i s) (Ended q j t) (Ended r k u) = ap (λ v. Ended p v u) (inner_assoc i j k (s + q) (t + r))
 
--- lists of blocks, and lists of stretches
+-- lists of blocks
 pub stretch_of-append : (lower upper : List Block)
     → stretch_of (lower ++ upper) ≡ join (stretch_of lower) (stretch_of upper)
 stretch_of-append [] upper = sym (join-unit_left (stretch_of upper))
 stretch_of-append (b ∷ lower) upper = ap (join (one b)) (stretch_of-append lower upper)
     ∙ sym (join-assoc (one b) (stretch_of lower) (stretch_of upper))
-
-pub join_all-append : (low high : List Stretch) → join_all (low ++ high) ≡ join (join_all low) (join_all high)
-join_all-append [] high = sym (join-unit_left (join_all high))
-join_all-append (s ∷ low) high = ap (join s) (join_all-append low high)
-    ∙ sym (join-assoc s (join_all low) (join_all high))
 
 -- stretches that come to those of blocks
 pub joined-is : (lower upper : List Block) (s t r : Stretch) → r ≡ join s t → s ≡ stretch_of lower

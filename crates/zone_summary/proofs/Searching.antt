@@ -5,7 +5,6 @@ use Rattle.std.proofs.lemmas.Bool.{lt-leb, cond-true, cond-false}
 use Rattle.block_store.specs.Block.{Block, Free, Nonrelocatable, Masters, Relocatable, size, sizes, free_of, free_sum}
 use Rattle.block_store.specs.Inner.RunScan.{met_after, scan_runs}
 use Rattle.block_store.specs.Run.{in_run, has}
-use Rattle.block_store.proofs.Regroup.RunSkips.{goes-through}
 use Rattle.zone_summary.specs.Searches.{found_from}
 use Rattle.zone_summary.specs.Stretches.{counted, join, suffix, best, is_ended, stretch_of}
 use Rattle.zone_summary.specs.declared.stretch.Stretch.{Stretch}
@@ -149,11 +148,3 @@ whole-open (b ∷ above) w e = step (in_run b) refl e (whole-open above)
     step true i e more = let r = whole-rest (free_of b) w (stretch_of above) e in let m = more r.0 r.1 in
         (rw i m.0, omega (arith, r.2, m.1))
     step false i e more = absurd (ended-whole w (stretch_of above) e)
-
--- past such blocks the run has their free bytes too
-pub scan-through : (p : ℕ) (sp : Block → Bool) (start had place w : ℕ) (blocks rest : List Block)
-    → stretch_of blocks ≡ Whole w
-    → found_from p sp start had place (blocks ++ rest) ≡ found_from p sp start (had + w) (place + sizes blocks) rest
-scan-through p sp start had place w blocks rest e = let o = whole-open blocks w e in
-    goes-through p sp start had true place blocks rest o.0
-    ∙ ap (λ n. found_from p sp start (had + n) (place + sizes blocks) rest) o.1

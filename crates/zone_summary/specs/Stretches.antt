@@ -51,7 +51,7 @@ abbrev pub is_ended : Stretch → Bool
 is_ended (Whole a) = false
 is_ended (Ended p i s) = true
 
--- Stretches as one, lowest first.
-abbrev pub join_all : List Stretch → Stretch
-join_all [] = Whole 0
-join_all (s ∷ above) = join s (join_all above)
+-- What a stretch holds in sum: no less than any number that it gives to a join.
+abbrev pub load : Stretch → ℕ
+load (Whole a) = a
+load (Ended p i s) = p + i + s

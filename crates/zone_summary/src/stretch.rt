@@ -3,14 +3,8 @@
 ghost use Rattle.std.specs.Prelude.{◌≡◌, ◌+◌, ◌^◌, ◌<◌, ◌++◌, List, max};
 ghost use Rattle.block_store.specs.Block.{Block};
 ghost use Rattle.block_store.specs.Compact.{largest_run};
-ghost use Rattle.block_store.specs.Seen.{seen};
-ghost use Rattle.block_store.specs.Sparing.{spared};
-ghost use Rattle.block_store.specs.Walk.{seen_size};
 ghost use Rattle.zone_summary.specs.Stretches as stretches;
-ghost use Rattle.zone_summary.specs.Stretches.{one, prefix, stretch_of, suffix};
-ghost use Rattle.zone_summary.specs.Emptied.{emptied};
-
-use block_store::{Seen, Sparing, free_of_seen, is_in_run, may_purge_now, size_of_seen};
+ghost use Rattle.zone_summary.specs.Stretches.{prefix, stretch_of, suffix};
 
 /// What the blocks of a stretch come to in runs, in free bytes.
 #[derive(Clone, Copy)]
@@ -35,29 +29,6 @@ impl Stretch {
 
     /// The stretch of one block that ends a run.
     pub const END: Stretch = Stretch::Ended(0, 0, 0);
-
-    /// Returns what one block comes to.
-    pub fn of(block: Seen) -> Stretch
-        ensures { (b : Block) → seen b ≡ block → result ≡ one b }
-    {
-        if is_in_run(block) {
-            Stretch::Whole(free_of_seen(block))
-        } else {
-            Stretch::END
-        }
-    }
-
-    /// Returns what one block comes to once it was purged, if it may be.
-    pub fn purged(block: Seen, sparing: Sparing) -> Stretch
-        requires { seen_size block < 2 ^ 32 }
-        ensures { (b : Block) → seen b ≡ block → result ≡ one (emptied (spared sparing) b) }
-    {
-        if may_purge_now(block, sparing) {
-            Stretch::Whole(size_of_seen(block))
-        } else {
-            Stretch::of(block)
-        }
-    }
 
     /// Returns what this stretch comes to with the one that follows it.
     pub fn join(self, high: Stretch) -> Stretch

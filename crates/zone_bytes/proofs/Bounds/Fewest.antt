@@ -21,7 +21,7 @@ use Rattle.zone_bytes.specs.Searching.{IsStretch}
 use Rattle.zone_bytes.specs.Stepping.{left_in}
 use Rattle.zone_bytes.specs.declared.landmark.Tally.{Tally}
 use Rattle.zone_bytes.specs.declared.landmark.Tally.TheVariants as tally
-use Rattle.zone_summary.specs.Rows.{load}
+use Rattle.zone_summary.specs.Stretches.{load}
 use Rattle.zone_summary.specs.Stretches.{join, prefix, stretch_of}
 use Rattle.zone_summary.specs.declared.stretch.Stretch.{Stretch}
 use Rattle.zone_summary.specs.declared.stretch.Stretch.TheVariants.{Whole, Ended}

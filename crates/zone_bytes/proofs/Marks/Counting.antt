@@ -11,7 +11,7 @@ use Rattle.zone_bytes.proofs.Marks.Passing.{at-append, at-map, passed-all}
 use Rattle.zone_bytes.proofs.Marks.Spanned.{free-size}
 use Rattle.zone_bytes.proofs.Places.Stepped.{left-none}
 use Rattle.zone_bytes.proofs.Tiles.Tiling.{span-append}
-use Rattle.zone_summary.specs.Rows.{load}
+use Rattle.zone_summary.specs.Stretches.{load}
 use Rattle.zone_summary.specs.Stretches.{counted, join, one, prefix, stretch_of, suffix}
 use Rattle.zone_summary.specs.declared.stretch.Stretch.{Stretch}
 use Rattle.zone_summary.specs.declared.stretch.Stretch.TheVariants.{Whole, Ended}

@@ -16,7 +16,7 @@ use Rattle.zone_bytes.proofs.Marks.Passing.{begins-here}
 use Rattle.zone_bytes.proofs.Searches.Pieces.{edge-within}
 use Rattle.zone_bytes.proofs.Searches.RunStarting.{edge-above, run-begins, run-here}
 use Rattle.zone_bytes.proofs.Tiles.Tiling.{span-append}
-use Rattle.zone_summary.specs.Rows.{load}
+use Rattle.zone_summary.specs.Stretches.{load}
 use Rattle.zone_summary.specs.Stretches.{counted, join, prefix, stretch_of, suffix}
 use Rattle.zone_summary.specs.declared.stretch.Stretch.{Stretch}
 use Rattle.zone_summary.specs.declared.stretch.Stretch.TheVariants.{Whole}

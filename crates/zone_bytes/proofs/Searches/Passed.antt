@@ -20,7 +20,7 @@ use Rattle.zone_bytes.proofs.Places.Stepped.{left-none}
 use Rattle.zone_bytes.proofs.Searches.Begun.{open-more, piece-more, piece-none}
 use Rattle.zone_bytes.proofs.Searches.Knowing.{known-through}
 use Rattle.zone_bytes.proofs.Searches.Pieces.{edge-within}
-use Rattle.zone_summary.specs.Rows.{load}
+use Rattle.zone_summary.specs.Stretches.{load}
 use Rattle.zone_summary.specs.Searches.{found_from}
 use Rattle.zone_summary.specs.Stretches.{best, is_ended, join, prefix, stretch_of, suffix}
 use Rattle.zone_summary.specs.declared.stretch.Stretch.{Stretch}

@@ -17,7 +17,7 @@ use Rattle.zone_bytes.specs.declared.largest.RunSum.{RunSum}
 use Rattle.zone_bytes.proofs.Marks.Lowering.{begins-way}
 use Rattle.zone_bytes.proofs.Places.AtPlace.{left-zone}
 use Rattle.zone_bytes.proofs.Places.Stepped.{left-none}
-use Rattle.zone_summary.specs.Rows.{load}
+use Rattle.zone_summary.specs.Stretches.{load}
 use Rattle.zone_summary.specs.Stretches.{counted, join, stretch_of}
 use Rattle.zone_summary.specs.declared.stretch.Stretch.{Stretch}
 use Rattle.zone_summary.specs.declared.stretch.Stretch.TheVariants.{Whole, Ended}
