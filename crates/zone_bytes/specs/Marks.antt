@@ -10,8 +10,7 @@ use Rattle.zone_bytes.specs.declared.landmark.Tally.{Tally}
 use Rattle.zone_bytes.specs.declared.landmark.Tally.TheVariants as tally
 use Rattle.zone_bytes.specs.declared.measuring.Measured.{Measured}
 use Rattle.zone_bytes.specs.declared.landmark.TheConstants.{GROUP}
-use Rattle.zone_summary.specs.Rows.{load}
-use Rattle.zone_summary.specs.Stretches.{join, stretch_of}
+use Rattle.zone_summary.specs.Stretches.{join, stretch_of, load}
 use Rattle.zone_summary.specs.declared.stretch.Stretch.{Stretch}
 use Rattle.zone_summary.specs.declared.stretch.Stretch.TheVariants.{Whole}
 

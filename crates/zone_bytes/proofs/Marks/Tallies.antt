@@ -16,8 +16,7 @@ use Rattle.zone_bytes.proofs.Laws.Lawful.{sizes-length}
 use Rattle.zone_bytes.proofs.Marks.Between.{none-above}
 use Rattle.zone_bytes.proofs.Marks.Lowering.{marks-below}
 use Rattle.zone_bytes.proofs.Tiles.Tiling.{span-append}
-use Rattle.zone_summary.specs.Rows.{load}
-use Rattle.zone_summary.specs.Stretches.{join, stretch_of}
+use Rattle.zone_summary.specs.Stretches.{join, stretch_of, load}
 use Rattle.zone_summary.specs.declared.stretch.Stretch.TheVariants.{Whole}
 use Rattle.zone_summary.proofs.Monoid.{join-assoc, join-unit_left, join-unit_right, stretch_of-append}
 use Rattle.zone_summary.proofs.Sums.{load-blocks, load-join}
