@@ -11,3 +11,5 @@ pub mod Contents
 pub mod Places
 mod Rows
 mod Called
+mod Weights
+mod Handles

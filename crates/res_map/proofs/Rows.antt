@@ -315,7 +315,7 @@ pub key-test : (x : Reference) (kind : ℕ) (id : ℤ) → x.kind ≡ kind → x
 key-test x kind id is-kind is-id k i =
     ap (λ m. m == k && int_eq x.stored.id i) is-kind ∙ ap (λ m. kind == k && int_eq m i) is-id
 
-key-of : (kind : ℕ) (id : ℤ) (k : ℕ) (i : ℤ) → (kind == k && int_eq id i) ≡ true → (kind ≡ k) × (id ≡ i)
+pub key-of : (kind : ℕ) (id : ℤ) (k : ℕ) (i : ℤ) → (kind == k && int_eq id i) ≡ true → (kind ≡ k) × (id ≡ i)
 key-of kind id k i e =
     let two = both (kind == k) (int_eq id i) e in
     ((Decides-eqb kind k).0 two.0, (Decides-int_eq id i).0 two.1)
@@ -597,13 +597,13 @@ set-told rows seen at row read same inside is here point rising =
     (ap (is_row row.kind row.key) (get_or_default rows at row read inside ∙ sym is) ∙ here)
 
 -- where the first row at or behind those of a type and ID is of another, nothing is told of them
-pub never-told : (rows seen : List Row) (at : ℕ) (row : Row) → seen ≡ rows
+pub never-there : (rows seen : List Row) (at : ℕ) (row : Row) → seen ≡ rows
     → (IsRising seen → Below row.kind row.key seen at)
     → ((at < length rows) → (r : Row) → r ≡ get_or rows at r → rank_of r ≡ rank row.kind row.key → ⊥) → at ≤ length seen
-    → place_in row.kind row.key rows ≢ None → IsRising rows → IsToldAs row.kind row.key (Some row.place) rows rows
-never-told rows seen at row same point other inside some rising =
+    → place_in row.kind row.key rows ≢ None → IsRising rows → ⊥
+never-there rows seen at row same point other inside some rising =
     let where-to = subst (λ (l : List Row). (at ≤ length l) × (IsRising l → Below row.kind row.key l at)) same (inside, point) in
-    absurd (some (told-none row.kind row.key rows at rising (where-to.1 rising) other where-to.0))
+    some (told-none row.kind row.key rows at rising (where-to.1 rising) other where-to.0)
 
 -- something is told where a search found it
 pub told-some : (o : Option ℕ) (p : ℕ) (q : Option ℕ) → o ≡ q → o ≡ Some p → q ≢ None
@@ -773,33 +773,33 @@ placed-there at row placed is = subst (λ o. IfSome o (λ (r : Row). r.place ≡
     cases None = tt
     cases (Some r) = refl
 
--- a reference that is taken out, with its name
-pub out-of-names : (rows new : List Row) (row : Option Row) (at : ℕ) (refs left seen : List Reference)
-    → at < length refs → IfSome (slice_get refs at) (λ r. row ≡ named_row at r.kind r.stored.name)
+-- a reference that is taken out, with the row that it had, if it had one
+pub out-of-rows : (test : ℕ → ℤ → Reference → Bool) (own : Reference → Option Row)
+    → ((r : Reference) → IsRowOf test (own r) r) → (rows new : List Row) (row : Option Row) (at : ℕ)
+    (refs left seen : List Reference) → at < length refs → IfSome (slice_get refs at) (λ r. row ≡ own r)
     → left ≡ remove refs at → seen ≡ left
     → ((references : List Reference) (old : Reference) → slice_get references at ≡ Some old
-    → IsRowOf is_printed row old → seen ≡ remove references at
-    → IsIndex is_printed rows references → IsIndex is_printed new (remove references at))
-    → IsIndex is_printed rows refs → IsIndex is_printed new left
-out-of-names rows new row at refs left seen inside read gone same leaves index =
+    → IsRowOf test row old → seen ≡ remove references at
+    → IsIndex test rows references → IsIndex test new (remove references at))
+    → IsIndex test rows refs → IsIndex test new left
+out-of-rows test own is-own rows new row at refs left seen inside read gone same leaves index =
     cases (slice_get refs at) refl read
   where
-    cases : (o : Option Reference) → slice_get refs at ≡ o → IfSome o (λ r. row ≡ named_row at r.kind r.stored.name)
-        → IsIndex is_printed new left
+    cases : (o : Option Reference) → slice_get refs at ≡ o → IfSome o (λ r. row ≡ own r) → IsIndex test new left
     cases None e is = absurd (get-inside refs at inside e)
     cases (Some r) e is =
-        subst (IsIndex is_printed new) (sym gone)
-        (leaves refs r e (subst (λ o. IsRowOf is_printed o r) (sym is) (row-named at r)) (same ∙ gone) index)
+        subst (IsIndex test new) (sym gone)
+        (leaves refs r e (subst (λ o. IsRowOf test o r) (sym is) (is-own r)) (same ∙ gone) index)
 
-pub read-there : (row : Option Row) (at : ℕ) (refs : List Reference) → at < length refs
-    → IfSome (slice_get refs at) (λ r. row ≡ named_row at r.kind r.stored.name) → IfSome row (λ r. r.place ≡ at)
-read-there row at refs inside read = cases (slice_get refs at) refl read
+pub read-there : (own : Reference → Option Row) (at : ℕ) → ((r : Reference) → IfSome (own r) (λ x. x.place ≡ at))
+    → (row : Option Row) (refs : List Reference) → at < length refs → IfSome (slice_get refs at) (λ r. row ≡ own r)
+    → IfSome row (λ x. x.place ≡ at)
+read-there own at there row refs inside read = cases (slice_get refs at) refl read
   where
-    cases : (o : Option Reference) → slice_get refs at ≡ o → IfSome o (λ r. row ≡ named_row at r.kind r.stored.name)
-        → IfSome row (λ r. r.place ≡ at)
+    cases : (o : Option Reference) → slice_get refs at ≡ o → IfSome o (λ r. row ≡ own r)
+        → IfSome row (λ x. x.place ≡ at)
     cases None e is = absurd (get-inside refs at inside e)
-    cases (Some r) e is =
-        subst (λ o. IfSome o (λ (x : Row). x.place ≡ at)) (sym is) (named-place at r.kind r.stored.name)
+    cases (Some r) e is = subst (λ o. IfSome o (λ (x : Row). x.place ≡ at)) (sym is) (there r)
 
 -- a reference that may get another name
 name-stays : (text : List ℕ) (old : Option (List ℕ)) → name_by text old ≡ None → old ≡ None
@@ -826,7 +826,7 @@ renamed-in-names rows new row at id text refs named seen inside read set same te
         (tells refs r (renamed id text r) e read refl (name-stays text r.stored.name) (same ∙ set) index)
 
 -- what is told of a reference that may have got another name
-read-back : (references : List Reference) (at : ℕ) (was new : Reference) → slice_get references at ≡ Some was
+pub read-back : (references : List Reference) (at : ℕ) (was new : Reference) → slice_get references at ≡ Some was
     → slice_get (slice_set references at new) at ≡ Some new
 read-back [] at was new e = cc
 read-back (r ∷ references) zero was new e = refl

@@ -1,6 +1,7 @@
 use Rattle.std.specs.Prelude.{◌≡◌, ℕ, ℤ, ◌+◌, ◌-◌, ◌*◌, Bool, false, ◌&&◌, ◌==◌, Option, Some, None, List, [], ◌∷◌, if◌then◌else◌}
-use Rattle.std.specs.Prelude.{option_map, nat_le, nat_lt, min, ◌<◌, ◌^◌, IfSome}
-use Rattle.std.specs.Int.{cast_unsigned, w32}
+use Rattle.std.specs.Prelude.{option_map, nat_le, nat_lt, min, ◌<◌, ◌≤◌, ◌^◌, ◌/◌, ◌%◌, IfSome, length}
+use Rattle.std.specs.List.{sum_by}
+use Rattle.std.specs.Int.{cast_signed, cast_unsigned, w32}
 use Rattle.std.specs.List.Sorted.{IsNonDecreasingBy}
 use Rattle.std.specs.Ordering.{int_eq}
 use Rattle.res_map.specs.Split.{split, place}
@@ -9,7 +10,7 @@ use Rattle.res_map.specs.Map.{Reference}
 use Rattle.res_map.specs.declared.index.Row.{Row}
 
 -- An index of references: rows, each with the place of a reference, that stand in an order by type and key. The key is
--- an ID, or the print of a name.
+-- an ID, or the print of a name. In the index by handle, type and key are the two halves of a handle's number.
 
 -- The number of a type and key in the order of the rows.
 abbrev pub rank : ℕ → ℤ → ℕ
@@ -65,6 +66,48 @@ is_printed kind key r = r.kind == kind && has_print key r.stored.name
 abbrev pub named_row : ℕ → ℕ → Option (List ℕ) → Option Row
 named_row place kind None = None
 named_row place kind (Some name) = Some (record { kind = kind; key = print name; place = place })
+
+-- The row of a handle that the reference at a place has: the upper and the lower 32 bits of the handle's number.
+abbrev pub handle_row : ℕ → ℕ → Row
+handle_row place h =
+    record { kind = h / 4294967296; key = cast_signed w32 (h % 4294967296); place = place }
+
+-- The row by handle of a reference at a place, if it has a handle.
+abbrev pub held_row : ℕ → Option ℕ → Option Row
+held_row place handle = option_map (handle_row place) handle
+
+-- The reference has the handle whose halves these are.
+abbrev pub is_held : ℕ → ℤ → Reference → Bool
+is_held kind key r = is_own (held_row 0 r.handle) kind key
+
+-- What a row weighs, where types and keys have weights; with no row, nothing.
+abbrev pub weight : (ℕ → ℤ → ℕ) → Option Row → ℕ
+weight f None = 0
+weight f (Some row) = f row.kind row.key
+
+-- What the rows weigh together, and the handles of the references.
+abbrev pub row_weights : (ℕ → ℤ → ℕ) → List Row → ℕ
+row_weights f rows = sum_by (λ (row : Row). f row.kind row.key) rows
+
+abbrev pub held_weights : (ℕ → ℤ → ℕ) → List Reference → ℕ
+held_weights f references = sum_by (λ (r : Reference). weight f (held_row 0 r.handle)) references
+
+-- There is a row for each reference that has a handle, and no other: whatever types and keys weigh, the rows weigh what
+-- the handles do.
+abbrev pub IsEach : List Row → List Reference → Type 0
+IsEach rows references = (f : ℕ → ℤ → ℕ) → row_weights f rows ≡ held_weights f references
+
+-- The rows are those of the references, and a row more of this type and key.
+abbrev pub IsEachAnd : Row → List Row → List Reference → Type 0
+IsEachAnd row rows references =
+    (f : ℕ → ℤ → ℕ) → row_weights f rows ≡ held_weights f references + f row.kind row.key
+
+-- The rows are an index of the references by handle, with a row for each that has a handle, in a vector with room for a
+-- row for each reference.
+pub record IsHolding (rows : List Row) (capacity : ℕ) (references : List Reference) : Type 0 where
+  pub index : IsIndex is_held rows references
+  pub each : IsEach rows references
+  pub room : length references ≤ capacity
 
 -- The rows of one that may be there.
 abbrev pub rows_in : Option Row → List Row

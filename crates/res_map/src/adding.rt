@@ -5,11 +5,13 @@ ghost use Rattle.std.specs.Prelude.{IfOk, OnOk, OnErr};
 ghost use Rattle.std.specs.List.{insert, remove};
 ghost use Rattle.res_map.specs.Map.{IsOrdered, is_resource, added, new_reference};
 ghost use Rattle.std.specs.Prelude.{option_map};
-ghost use Rattle.res_map.specs.Index.{IsIndex, is_printed, moved};
+ghost use Rattle.std.specs.Prelude.{vec_capacity};
+ghost use Rattle.res_map.specs.Index.{IsHolding, IsIndex, is_printed, moved};
 ghost use Rattle.res_map.specs.Inner.{end_of};
 ghost use Rattle.res_map.specs.View.{view_reference};
 
 use crate::changing::name_of;
+use crate::holding::{enter_held, held_row_at, held_row_of, leave_held, make_room};
 use crate::index::{Row, enter, enter_any, leave, leave_named, named_row_at, named_row_of, row_at};
 use crate::search::{end_of, place_of};
 use crate::stored::{Rest, StoredReference};
@@ -120,6 +122,7 @@ pub fn put_in_file(
     refs: &mut Vec<StoredReference>,
     rows: &mut Vec<Row>,
     names: &mut Vec<Row>,
+    held: &mut Vec<Row>,
     new: StoredReference,
 ) -> Result<(), AllocError>
     ensures added { OnOk result (map view_reference refs.new.items
@@ -131,14 +134,19 @@ pub fn put_in_file(
         → IsIndex is_resource rows.new.items (map view_reference refs.new.items) }
     ensures named { IsIndex is_printed names.old.items (map view_reference refs.old.items)
         → IsIndex is_printed names.new.items (map view_reference refs.new.items) }
+    ensures held { IsHolding held.old.items (vec_capacity held.old) (map view_reference refs.old.items)
+        → IsHolding held.new.items (vec_capacity held.new) (map view_reference refs.new.items) }
 {
     rows.reserve(1)?;
     names.reserve(1)?;
+    make_room(held, refs.as_slice())?;
     let (kind, key, len) = (new.kind, new.id as i32, refs.len());
     let named = named_row_of(&new, 0);
+    let holder = held_row_of(&new, 0);
     let place = put_in(kinds, refs, new)?;
     enter(rows, Row { kind, key, place }, len);
     enter_any(names, row_placed(named, place), place, len);
+    enter_held(held, row_placed(holder, place), place, len);
     Ok(())
 }
 
@@ -169,6 +177,7 @@ pub fn take_out_of_file(
     refs: &mut Vec<StoredReference>,
     rows: &mut Vec<Row>,
     names: &mut Vec<Row>,
+    held: &mut Vec<Row>,
     index: usize,
 )
     requires { index < length refs.old.items }
@@ -179,10 +188,14 @@ pub fn take_out_of_file(
         → IsIndex is_resource rows.new.items (map view_reference refs.new.items) }
     ensures named { IsIndex is_printed names.old.items (map view_reference refs.old.items)
         → IsIndex is_printed names.new.items (map view_reference refs.new.items) }
+    ensures held { IsHolding held.old.items (vec_capacity held.old) (map view_reference refs.old.items)
+        → IsHolding held.new.items (vec_capacity held.new) (map view_reference refs.new.items) }
 {
     let row = row_at(refs.as_slice(), index);
     let named = named_row_at(refs.as_slice(), index);
+    let holder = held_row_at(refs.as_slice(), index);
     take_out(kinds, refs, index);
     leave(rows, row, place_of(refs.as_slice(), row.kind, row.key));
     leave_named(names, refs.as_slice(), named, index);
+    leave_held(held, refs.as_slice(), holder, index);
 }

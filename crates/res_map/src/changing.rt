@@ -5,7 +5,7 @@ ghost use Rattle.std.specs.Prelude.{List, ℕ, IfOk, IfSome, OnOk, OnErr};
 ghost use Rattle.windows.specs.Writes.{written};
 ghost use Rattle.res_map.specs.Map.{IsOrdered, with_handle, with_attrs, stored_anew, with_datum, resized_datum};
 ghost use Rattle.res_map.specs.Map.{Reference, is_resource, name_by, renamed};
-ghost use Rattle.res_map.specs.Index.{IsIndex, is_printed, named_row};
+ghost use Rattle.res_map.specs.Index.{IsHolding, IsIndex, is_printed, named_row};
 ghost use Rattle.res_map.specs.declared.index.Row.{Row};
 ghost use Rattle.res_map.specs.View.{view_name, view_reference};
 
@@ -87,6 +87,7 @@ fn write(r: &mut StoredReference, from: usize, bytes: &[u8]) -> Result<(), Alloc
     ensures kind { r.new.kind ≡ r.old.kind }
     ensures id { r.new.id ≡ r.old.id }
     ensures name { (view_reference r.new).stored.name ≡ (view_reference r.old).stored.name }
+    ensures handle { (view_reference r.new).handle ≡ (view_reference r.old).handle }
 {
     overwrite(&mut r.rest.datum, from, bytes)
 }
@@ -111,6 +112,8 @@ pub fn put_bytes(
         → IsIndex is_resource rows (map view_reference refs.new.items) }
     ensures named { (rows : List Row) → IsIndex is_printed rows (map view_reference refs.old.items)
         → IsIndex is_printed rows (map view_reference refs.new.items) }
+    ensures held { (rows : List Row) (capacity : ℕ) → IsHolding rows capacity (map view_reference refs.old.items)
+        → IsHolding rows capacity (map view_reference refs.new.items) }
 {
     write(&mut refs[index], from, bytes)
 }
@@ -123,6 +126,7 @@ fn resize(r: &mut StoredReference, size: usize) -> Result<(), AllocError>
     ensures kind { r.new.kind ≡ r.old.kind }
     ensures id { r.new.id ≡ r.old.id }
     ensures name { (view_reference r.new).stored.name ≡ (view_reference r.old).stored.name }
+    ensures handle { (view_reference r.new).handle ≡ (view_reference r.old).handle }
 {
     r.rest.datum.resize(size, 0)
 }
@@ -144,6 +148,8 @@ pub fn put_size(
         → IsIndex is_resource rows (map view_reference refs.new.items) }
     ensures named { (rows : List Row) → IsIndex is_printed rows (map view_reference refs.old.items)
         → IsIndex is_printed rows (map view_reference refs.new.items) }
+    ensures held { (rows : List Row) (capacity : ℕ) → IsHolding rows capacity (map view_reference refs.old.items)
+        → IsHolding rows capacity (map view_reference refs.new.items) }
 {
     resize(&mut refs[index], size)
 }
@@ -208,6 +214,8 @@ fn put_name_told(
         → IsOrdered kinds (map view_reference refs.new.items) }
     ensures indexed { IsIndex is_resource rows.old.items (map view_reference refs.old.items)
         → IsIndex is_resource rows.new.items (map view_reference refs.new.items) }
+    ensures held { (rows : List Row) (capacity : ℕ) → IsHolding rows capacity (map view_reference refs.old.items)
+        → IsHolding rows capacity (map view_reference refs.new.items) }
 {
     let old = row_at(refs.as_slice(), index);
     put_name(refs, index, id, text, name);
@@ -252,6 +260,8 @@ pub fn put_name_in_file(
         → IsOrdered kinds (map view_reference refs.new.items) }
     ensures indexed { IsIndex is_resource rows.old.items (map view_reference refs.old.items)
         → IsIndex is_resource rows.new.items (map view_reference refs.new.items) }
+    ensures held { (rows : List Row) (capacity : ℕ) → IsHolding rows capacity (map view_reference refs.old.items)
+        → IsHolding rows capacity (map view_reference refs.new.items) }
     ensures named { IsIndex is_printed names.old.items (map view_reference refs.old.items)
         → IsIndex is_printed names.new.items (map view_reference refs.new.items) }
 {

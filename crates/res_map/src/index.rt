@@ -1,12 +1,12 @@
 //! An index of references: rows that are searched by halving.
 
-ghost use Rattle.std.specs.Prelude.{◌≡◌, ◌≢◌, ◌<◌, ◌≤◌, true, false, ℕ, ℤ, length, vec_len, map, OnOk, IfOk};
+ghost use Rattle.std.specs.Prelude.{◌≡◌, ◌≢◌, ◌<◌, ◌≤◌, ◌+◌, ◌==◌, ◌&&◌, true, false, ℕ, ℤ, length, vec_len, map, OnOk, IfOk};
 ghost use Rattle.std.specs.Prelude.{Bool, ◌++◌, vec_capacity, nat_lt, option_map, None, Some, IfSome, List, slice_get, slice_set};
 ghost use Rattle.std.specs.List.{insert, remove};
-ghost use Rattle.std.specs.Ordering.{nat_cmp};
+ghost use Rattle.std.specs.Ordering.{int_eq, nat_cmp};
 ghost use Rattle.std.specs.List.Sorted.{IsPartitionPoint};
 ghost use Rattle.res_map.specs.Map.{Reference, is_resource};
-ghost use Rattle.res_map.specs.Index.{IsAt, IsRowOf, is_printed, named_row, rows_in};
+ghost use Rattle.res_map.specs.Index.{IsAt, IsRowOf, is_printed, named_row, rows_in, row_weights};
 ghost use Rattle.res_map.specs.Index.{IsIndex, IsRising, IsToldAs, IsWithin, rank, rank_of};
 ghost use Rattle.res_map.specs.Index.{is_row, place_in, first_place};
 ghost use Rattle.res_map.specs.Index.{moved, raised, raised_within, lowered, sooner};
@@ -44,7 +44,7 @@ fn is_below(row: &Row, kind: u32, key: i32) -> bool
 }
 
 /// Reports whether a row is of a type and key.
-fn is_at(row: &Row, kind: u32, key: i32) -> bool
+pub fn is_at(row: &Row, kind: u32, key: i32) -> bool
     ensures at { result ≡ is_row kind key row.now }
     ensures rank { rank_of row.now ≡ rank kind key → result ≡ true }
 {
@@ -194,16 +194,19 @@ fn raise(rows: &mut [Row], from: usize)
 fn raise_all(rows: &mut Vec<Row>, from: usize)
     ensures items { rows.new.items ≡ map (moved (raised_within from)) rows.old.items }
     ensures room { vec_len rows.old < vec_capacity rows.old → vec_len rows.new < vec_capacity rows.new }
+    ensures capacity { vec_capacity rows.old ≤ vec_capacity rows.new }
 {
     raise(rows.as_mut_slice(), from);
 }
 
 /// Makes the places in rows one higher that are `from` or higher. All that are told are below `len`.
-fn open_gap(rows: &mut Vec<Row>, from: usize, len: usize)
+pub fn open_gap(rows: &mut Vec<Row>, from: usize, len: usize)
     ensures room { vec_len rows.old < vec_capacity rows.old → vec_len rows.new < vec_capacity rows.new }
     ensures rising { IsRising rows.old.items → IsRising rows.new.items }
     ensures tells { IsWithin len rows.old.items → (kind : ℕ) (key : ℤ)
         → place_in kind key rows.new.items ≡ option_map (raised from) (place_in kind key rows.old.items) }
+    ensures weights { (f : ℕ → ℤ → ℕ) → row_weights f rows.new.items ≡ row_weights f rows.old.items }
+    ensures capacity { vec_capacity rows.old ≤ vec_capacity rows.new }
 {
     if from < len {
         raise_all(rows, from);
@@ -229,8 +232,9 @@ fn lower(rows: &mut [Row], from: usize)
 }
 
 /// Makes the places in all rows one lower that are higher than `from`.
-fn lower_all(rows: &mut Vec<Row>, from: usize)
-    ensures { rows.new.items ≡ map (moved (lowered from)) rows.old.items }
+pub fn lower_all(rows: &mut Vec<Row>, from: usize)
+    ensures items { rows.new.items ≡ map (moved (lowered from)) rows.old.items }
+    ensures capacity { vec_capacity rows.old ≤ vec_capacity rows.new }
 {
     lower(rows.as_mut_slice(), from);
 }
@@ -240,17 +244,22 @@ fn put_row(rows: &mut Vec<Row>, row: Row)
     ensures rising { IsRising rows.old.items → IsRising rows.new.items }
     ensures tells { vec_len rows.old < vec_capacity rows.old → IsRising rows.old.items
         → IsToldAs row.kind row.key (Some row.place) rows.old.items rows.new.items }
+    ensures weights { vec_len rows.old < vec_capacity rows.old → (f : ℕ → ℤ → ℕ)
+        → row_weights f rows.new.items ≡ row_weights f rows.old.items + f row.kind row.key }
+    ensures capacity { vec_capacity rows.old ≤ vec_capacity rows.new }
 {
     let at = rows_below(rows.as_slice(), row.kind, row.key);
     let _done = rows.insert(at, row);
 }
 
 /// Sets the place in the first row of a type and key.
-fn set_row(rows: &mut Vec<Row>, row: Row)
+pub fn set_row(rows: &mut Vec<Row>, row: Row)
     ensures room { vec_len rows.old < vec_capacity rows.old → vec_len rows.new < vec_capacity rows.new }
     ensures rising { IsRising rows.old.items → IsRising rows.new.items }
     ensures tells { place_in row.kind row.key rows.old.items ≢ None → IsRising rows.old.items
         → IsToldAs row.kind row.key (Some row.place) rows.old.items rows.new.items }
+    ensures weights { (f : ℕ → ℤ → ℕ) → row_weights f rows.new.items ≡ row_weights f rows.old.items }
+    ensures capacity { vec_capacity rows.old ≤ vec_capacity rows.new }
 {
     let at = rows_below(rows.as_slice(), row.kind, row.key);
     if at < rows.len() && is_at(&rows[at], row.kind, row.key) {
@@ -278,6 +287,47 @@ fn is_sooner(first: Option<usize>, place: usize) -> bool
     match first {
         None => false,
         Some(told) => told < place,
+    }
+}
+
+/// Returns the sooner of a place and one that may be told.
+fn sooner(first: Option<usize>, place: usize) -> usize
+    ensures { Some result ≡ sooner place first }
+{
+    match first {
+        Some(told) if told < place => told,
+        _ => place,
+    }
+}
+
+/// Puts in a row before all others of its type and key; where a sooner place is told of them, the row tells that place.
+/// There is room for it.
+pub fn put_sooner(rows: &mut Vec<Row>, row: Row)
+    ensures rising { IsRising rows.old.items → IsRising rows.new.items }
+    ensures tells { vec_len rows.old < vec_capacity rows.old → IsRising rows.old.items
+        → IsToldAs row.kind row.key (sooner row.place (place_in row.kind row.key rows.old.items))
+        rows.old.items rows.new.items }
+    ensures weights { vec_len rows.old < vec_capacity rows.old → (f : ℕ → ℤ → ℕ)
+        → row_weights f rows.new.items ≡ row_weights f rows.old.items + f row.kind row.key }
+    ensures capacity { vec_capacity rows.old ≤ vec_capacity rows.new }
+{
+    let first = place_told(rows.as_slice(), row.kind, row.key);
+    let place = sooner(first, row.place);
+    put_row(rows, Row { place, ..row });
+}
+
+/// Takes out the first row of a type and key, which those of `row` are, if there is one.
+pub fn take_row(rows: &mut Vec<Row>, row: Row)
+    ensures rising { IsRising rows.old.items → IsRising rows.new.items }
+    ensures others { (k : ℕ) (i : ℤ) → (row.kind == k && int_eq row.key i) ≡ false
+        → place_in k i rows.new.items ≡ place_in k i rows.old.items }
+    ensures weights { place_in row.kind row.key rows.old.items ≢ None → IsRising rows.old.items → (f : ℕ → ℤ → ℕ)
+        → row_weights f rows.new.items + f row.kind row.key ≡ row_weights f rows.old.items }
+    ensures capacity { vec_capacity rows.old ≤ vec_capacity rows.new }
+{
+    let at = rows_below(rows.as_slice(), row.kind, row.key);
+    if at < rows.len() && is_at(&rows[at], row.kind, row.key) {
+        let _gone = rows.remove(at);
     }
 }
 

@@ -5,6 +5,7 @@
 
 mod adding;
 mod changing;
+mod holding;
 mod index;
 mod laws;
 mod lent;

@@ -12,17 +12,17 @@ ghost use Rattle.res_map.specs.Split.{split, place};
 ghost use Rattle.res_map.specs.Map.{Reference, Map, IsOrdered, is_of, is_resource, is_named, has_handle, types};
 ghost use Rattle.res_map.specs.Map.{of_type, nth, split_nth, map_of, with_handle, with_attrs, stored_anew, renamed};
 ghost use Rattle.res_map.specs.Map.{with_datum, resized_datum, added, new_reference};
-ghost use Rattle.res_map.specs.Index.{IsIndex, is_printed};
+ghost use Rattle.std.specs.Prelude.{vec_capacity};
+ghost use Rattle.res_map.specs.Index.{IsHolding, IsIndex, is_printed};
 ghost use Rattle.res_map.specs.View.{view_reference, view_lent};
 
 use crate::adding::{new_one, put_in_file, take_out_of_file};
-use crate::changing::{
-    name_of, put_attrs, put_bytes, put_datum, put_handle, put_name_in_file, put_size,
-};
+use crate::changing::{name_of, put_attrs, put_bytes, put_datum, put_name_in_file, put_size};
+use crate::holding::{place_held, put_handle_in_file};
 use crate::index::{Row, index_of, named_index_of, place_told};
 use crate::lent::{LentReference, entry_of, type_of};
 use crate::reading::{read_groups, read_types};
-use crate::search::{count_of, handles_of, nth_place, place_called, place_holding};
+use crate::search::{count_of, handles_of, nth_place, place_called};
 use crate::stored::StoredReference;
 use fork_format::{Content, kind_of};
 use mac_words::{Attrs, Name, OsType};
@@ -43,6 +43,7 @@ pub struct ResFile {
     pub(crate) refs: Vec<StoredReference>,
     pub(crate) index: Vec<Row>,
     pub(crate) names: Vec<Row>,
+    pub(crate) held: Vec<Row>,
 }
 
 impl Model for ResFile {
@@ -51,10 +52,12 @@ impl Model for ResFile {
     ghost view = { λ f. record { area = f.area; attrs = f.attrs; references = map view_reference f.refs.items } };
 
     // Each type stands once, in the order of the first references; the references of one type stand together; and the
-    // indexes tell the place of the first reference of each type and ID, and of each type and print of a name.
+    // indexes tell the place of the first reference of each type and ID, of each type and print of a name, and of each
+    // handle.
     ghost invariant = { λ f. IsOrdered f.kinds.items (map view_reference f.refs.items)
         × IsIndex is_resource f.index.items (map view_reference f.refs.items)
-        × IsIndex is_printed f.names.items (map view_reference f.refs.items) };
+        × IsIndex is_printed f.names.items (map view_reference f.refs.items)
+        × IsHolding f.held.items (vec_capacity f.held) (map view_reference f.refs.items) };
 }
 
 impl ResFile {
@@ -69,6 +72,7 @@ impl ResFile {
         let refs = read_groups(alloc, groups)?;
         let index = index_of(alloc, refs.as_slice())?;
         let names = named_index_of(alloc, refs.as_slice())?;
+        let held = Vec::with_capacity(alloc, refs.len())?;
         Ok(ResFile {
             area: content.area,
             attrs: content.attrs,
@@ -76,6 +80,7 @@ impl ResFile {
             refs,
             index,
             names,
+            held,
         })
     }
 
@@ -119,7 +124,7 @@ impl ResFile {
     pub fn find_handle(&self, handle: usize) -> Option<usize>
         ensures { result ≡ option_map place (split (has_handle handle) self.now.references) }
     {
-        place_holding(self.refs.as_slice(), handle)
+        place_held(self.held.as_slice(), handle)
     }
 
     /// Returns the place of the n-th reference of a type, from 1.
@@ -167,7 +172,7 @@ impl ResFile {
           references = slice_set self.old.references index (with_handle handle r);
         }) }
     {
-        put_handle(&mut self.refs, index, handle);
+        put_handle_in_file(&mut self.refs, &mut self.held, index, handle);
     }
 
     /// Sets the attributes of a reference.
@@ -256,6 +261,7 @@ impl ResFile {
             &mut self.refs,
             &mut self.index,
             &mut self.names,
+            &mut self.held,
             index,
         );
     }
@@ -282,6 +288,7 @@ impl ResFile {
             &mut self.refs,
             &mut self.index,
             &mut self.names,
+            &mut self.held,
             new,
         )
     }

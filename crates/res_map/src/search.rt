@@ -2,7 +2,7 @@
 
 ghost use Rattle.std.specs.Prelude.{◌≡◌, ◌≤◌, map, length, option_map, filter_map, OnOk, IfOk, IfSome, ℕ};
 ghost use Rattle.res_map.specs.Split.{split, place};
-ghost use Rattle.res_map.specs.Map.{Reference, is_of, is_resource, same_name, is_named, has_handle, of_type};
+ghost use Rattle.res_map.specs.Map.{Reference, is_of, is_resource, same_name, is_named, of_type};
 ghost use Rattle.res_map.specs.Map.{split_nth};
 ghost use Rattle.std.specs.Prelude.{◌+◌, drop};
 ghost use Rattle.std.specs.Ordering.{int_eq};
@@ -114,29 +114,6 @@ pub fn place_called(rows: &[Row], refs: &[StoredReference], kind: u32, text: &[u
         None => None,
         Some(from) => place_named(refs, kind, text, from),
     }
-}
-
-/// Reports whether a reference has a handle.
-fn holds(r: &StoredReference, handle: usize) -> bool
-    ensures { result ≡ has_handle handle (view_reference r.now) }
-{
-    match r.rest.handle {
-        None => false,
-        Some(held) => held == handle,
-    }
-}
-
-/// Returns the place of the first reference that has a handle.
-#[tactic(auto, using(crate::proofs::Steps::found_here, crate::proofs::Steps::found_on))]
-pub fn place_holding(refs: &[StoredReference], handle: usize) -> Option<usize>
-    ensures { result ≡ option_map place (split (has_handle handle) (map view_reference refs.now)) }
-{
-    for i in 0..refs.len() {
-        if holds(&refs[i], handle) {
-            return Some(i);
-        }
-    }
-    None
 }
 
 /// Reports whether a reference has a type.

@@ -6,6 +6,7 @@ use Rattle.res_map.specs.View.{view_reference}
 use Rattle.res_map.proofs.Splitting.{set-seen_at, same-seen_at}
 use Rattle.res_map.proofs.Order.{ordered-seen_at}
 use Rattle.res_map.proofs.Rows.{index-seen_at, id-alike, name-alike}
+use Rattle.res_map.proofs.Handles.{holding-seen_at}
 use Rattle.res_map.proofs.changing.put_bytes.Goals as goal
 
 pub returns-clause-written : goal.returns-clause-written
@@ -30,3 +31,7 @@ pub returns-clause-named : goal.returns-clause-named
 returns-clause-named c = index-seen_at is_printed c.args.refs.now.items c.args.index c.index_mut.result.now
     c.write.new.r c.requires.inside c.index_mut.ensures.value (name-alike (view_reference c.index_mut.result.now)
     (view_reference c.write.new.r) c.write.ensures.kind c.write.ensures.name)
+
+pub returns-clause-held : goal.returns-clause-held
+returns-clause-held c = holding-seen_at c.args.refs.now.items c.args.index c.index_mut.result.now c.write.new.r
+    c.requires.inside c.index_mut.ensures.value c.write.ensures.handle

@@ -1,15 +1,16 @@
 use Rattle.std.specs.Prelude.{slice_get}
-use Rattle.std.proofs.Common.{◌≡◌, ◌∙◌, ap, List, IfSome, sym, subst, rules, refl, map, ◌<◌, ℕ, w16, w32, SFits, to_z, of_z}
+use Rattle.std.proofs.Common.{[], ◌≡◌, ◌∙◌, ap, List, IfSome, sym, subst, rules, refl, map, ◌<◌, ℕ, w16, w32, SFits, to_z, of_z}
 use Rattle.std.proofs.Math.Facts.{sfits_widen}
 use Rattle.std.proofs.lemmas.Int.{to_z-of_z}
 use Rattle.std.proofs.lemmas.List.{length-map}
-use Rattle.res_map.specs.Map.{Reference, is_resource, renamed}
+use Rattle.res_map.specs.Map.{Map, Reference, is_resource, renamed}
 use Rattle.res_map.specs.Index.{first_place}
 use Rattle.res_map.specs.View.{view_reference}
 use Rattle.res_map.specs.declared.index.Row.{Row}
 use Rattle.res_map.specs.declared.stored.StoredReference.{StoredReference}
 use Rattle.res_map.proofs.Order.{ordered-changed}
 use Rattle.res_map.proofs.Rows.{renamed-in-index}
+use Rattle.res_map.proofs.Handles.{holding-set}
 use Rattle.res_map.proofs.changing.put_name_told.Goals as goal
 
 pub returns-clause-indexed : goal.returns-clause-indexed
@@ -34,5 +35,13 @@ pub returns-clause-ordered : goal.returns-clause-ordered
 returns-clause-ordered c = λ kinds. ordered-changed
     (renamed (to_z w16 (of_z w16 c.args.id)) c.args.text.now) (λ (r : Reference). refl) kinds
     (map view_reference c.args.refs.now.items) (map view_reference c.put_name.new.refs.items) c.args.index
+    (subst (λ (n : ℕ). c.args.index < n) (sym (length-map c.args.refs.now.items view_reference)) c.requires.inside)
+    c.put_name.ensures
+
+pub returns-clause-held : goal.returns-clause-held
+returns-clause-held c = λ rows capacity. holding-set
+    (renamed (to_z w16 (of_z w16 c.args.id)) c.args.text.now) (λ (r : Reference). refl) rows capacity
+    (let m : Map = record { area = []; attrs = 0; references = map view_reference c.args.refs.now.items } in m)
+    (map view_reference c.args.refs.now.items) (map view_reference c.put_name.new.refs.items) c.args.index refl
     (subst (λ (n : ℕ). c.args.index < n) (sym (length-map c.args.refs.now.items view_reference)) c.requires.inside)
     c.put_name.ensures

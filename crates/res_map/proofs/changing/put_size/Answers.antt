@@ -5,6 +5,7 @@ use Rattle.res_map.specs.View.{view_reference}
 use Rattle.res_map.proofs.Splitting.{set-seen_at, same-seen_at}
 use Rattle.res_map.proofs.Order.{ordered-seen_at}
 use Rattle.res_map.proofs.Rows.{index-seen_at, id-alike, name-alike}
+use Rattle.res_map.proofs.Handles.{holding-seen_at}
 use Rattle.res_map.proofs.changing.put_size.Goals as goal
 
 pub returns-clause-resized : goal.returns-clause-resized
@@ -29,3 +30,7 @@ pub returns-clause-named : goal.returns-clause-named
 returns-clause-named c = index-seen_at is_printed c.args.refs.now.items c.args.index c.index_mut.result.now
     c.resize.new.r c.requires c.index_mut.ensures.value (name-alike (view_reference c.index_mut.result.now)
     (view_reference c.resize.new.r) c.resize.ensures.kind c.resize.ensures.name)
+
+pub returns-clause-held : goal.returns-clause-held
+returns-clause-held c = holding-seen_at c.args.refs.now.items c.args.index c.index_mut.result.now c.resize.new.r
+    c.requires c.index_mut.ensures.value c.resize.ensures.handle

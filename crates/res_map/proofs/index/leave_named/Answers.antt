@@ -12,7 +12,7 @@ pub returns-in-None : goal.returns-in-None
 returns-in-None c = λ references x there own left index.
     let none : c.args.row ≡ None = search rules in
     index-gone is_printed c.args.rows.now.items c.lower_all.new.rows.items c.args.place references x there
-    (subst (λ (o : Option Row). IsRowOf is_printed o x) none own) index c.lower_all.ensures
+    (subst (λ (o : Option Row). IsRowOf is_printed o x) none own) index c.lower_all.ensures.items
 
 pub returns-in-Some : goal.returns-in-Some
 returns-in-Some c = λ references x there own left index.

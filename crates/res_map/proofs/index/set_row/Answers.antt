@@ -3,7 +3,8 @@ use Rattle.std.proofs.lemmas.Int.{to_z-of_z}
 use Rattle.std.proofs.lemmas.List.{get_or_default}
 use borrow.Author.Tests.{both_ways}
 use Rattle.res_map.specs.Index.{rank, rank_of}
-use Rattle.res_map.proofs.Rows.{set-rising, set-told, never-told}
+use Rattle.res_map.proofs.Rows.{set-rising, set-told, never-there}
+use Rattle.res_map.proofs.Weights.{set-weights}
 use Rattle.res_map.proofs.index.set_row.Goals as goal
 use Rattle.res_map.proofs.index.set_row.Goals.{else-at-len-via-then-at-len+else-is_at, else-at-len-via-else-at-len}
 
@@ -20,13 +21,17 @@ returns-else-at-len-clause-tells c =
     let fits : SFits w32 c.args.row.key = search rules in
     let is = to_z-of_z w32 c.args.row.key fits in
     elim c.else-at-len.branch [
-      | else-at-len-via-then-at-len+else-is_at w ↦ λ some rising. never-told c.args.rows.now.items c.as_slice.result.now
+      | else-at-len-via-then-at-len+else-is_at w ↦ λ some rising. absurd (never-there c.args.rows.now.items c.as_slice.result.now
           c.rows_below-at.result c.args.row c.as_slice.ensures.value (search rules)
           (λ less row read same. both_ways w.is_at.result w.if-is_at.false (w.is_at.ensures.rank
           (ap rank_of (w.index.ensures ∙ get_or_default c.args.rows.now.items c.rows_below-at.result _ row less ∙ sym read)
           ∙ same ∙ ap (rank c.args.row.kind) (sym is))))
-          c.rows_below-at.ensures.inside some rising
-      | else-at-len-via-else-at-len w ↦ λ some rising. never-told c.args.rows.now.items c.as_slice.result.now
+          c.rows_below-at.ensures.inside some rising)
+      | else-at-len-via-else-at-len w ↦ λ some rising. absurd (never-there c.args.rows.now.items c.as_slice.result.now
           c.rows_below-at.result c.args.row c.as_slice.ensures.value (search rules)
-          (λ less row read same. search rules) c.rows_below-at.ensures.inside some rising
+          (λ less row read same. search rules) c.rows_below-at.ensures.inside some rising)
     ]
+
+pub returns-then-is_at-clause-weights : goal.returns-then-is_at-clause-weights
+returns-then-is_at-clause-weights c = set-weights c.args.rows.now.items c.rows_below-at.result c.args.row
+    c.index.result.now (search rules) c.index.ensures (search rules)

@@ -1,4 +1,5 @@
-use Rattle.std.proofs.Common.{◌≡◌, ◌∙◌, ap, subst, map, List}
+use Rattle.std.proofs.Common.{◌≡◌, ◌∙◌, ap, subst, map, List, rules}
+use Rattle.std.proofs.lemmas.List.{length-map}
 use Rattle.res_map.specs.declared.stored.StoredReference.{StoredReference}
 use Rattle.res_map.specs.Index.{IsIndex, is_printed}
 use Rattle.res_map.specs.View.{view_reference}
@@ -6,6 +7,7 @@ use Rattle.fork_format.specs.Content.{Group}
 use Rattle.fork_format.specs.View.{view_group}
 use Rattle.res_map.specs.Map.{is_resource, of_groups}
 use Rattle.res_map.proofs.Contents.{ordered_groups}
+use Rattle.res_map.proofs.Handles.{holding-none}
 use Rattle.res_map.proofs.res_file.ResFile.open.Goals as goal
 
 pub invariant_of-result : goal.invariant_of-result
@@ -19,4 +21,7 @@ invariant_of-result c =
           c.as_slice.ensures.value c.in_ok-index.ensures,
       subst (λ (l : List StoredReference). IsIndex is_printed c.in_ok-names.names.items (map view_reference l))
           c.as_slice-2.ensures.value c.in_ok-names.ensures,
+      holding-none groups c.in_ok-held.held.items _ (map view_reference c.in_ok-refs.refs.items)
+          (c.in_ok-refs.ensures ∙ ap of_groups is) c.in_ok-held.ensures.items
+          (let size = length-map c.in_ok-refs.refs.items view_reference in search (rules, size)),
     )

@@ -1,3 +1,4 @@
+use Rattle.std.specs.Prelude.{vec_capacity}
 use Rattle.res_map.proofs.res_file.ResFile.rename.Goals as goal
 
 pub invariant_of-self : goal.invariant_of-self
@@ -5,4 +6,5 @@ invariant_of-self c = (
   c.put_name_in_file.ensures.ordered c.self.inside.kinds.items c.self.invariant.0,
   c.put_name_in_file.ensures.indexed c.self.invariant.1,
   c.put_name_in_file.ensures.named c.self.invariant.2,
+  c.put_name_in_file.ensures.held c.self.inside.held.items (vec_capacity c.self.inside.held) c.self.invariant.3,
 )

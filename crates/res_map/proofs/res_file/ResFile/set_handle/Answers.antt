@@ -9,12 +9,13 @@ use Rattle.res_map.proofs.res_file.ResFile.set_handle.Goals as goal
 pub invariant_of-self : goal.invariant_of-self
 invariant_of-self c = (
   ordered-set _ (λ (r : Reference). refl) _ c.args.self.now
-      (map view_reference c.self.inside.refs.items) (map view_reference c.put_handle.new.refs.items) c.args.index
-      (ap (λ (m : Map). m.references) c.self.view_is) c.requires c.put_handle.ensures c.self.invariant.0,
+      (map view_reference c.self.inside.refs.items) (map view_reference c.put_handle_in_file.new.refs.items) c.args.index
+      (ap (λ (m : Map). m.references) c.self.view_is) c.requires c.put_handle_in_file.ensures.set c.self.invariant.0,
   index-set is_resource _ (λ r k i. refl) _ c.args.self.now
-      (map view_reference c.self.inside.refs.items) (map view_reference c.put_handle.new.refs.items) c.args.index
-      (ap (λ (m : Map). m.references) c.self.view_is) c.requires c.put_handle.ensures c.self.invariant.1,
+      (map view_reference c.self.inside.refs.items) (map view_reference c.put_handle_in_file.new.refs.items) c.args.index
+      (ap (λ (m : Map). m.references) c.self.view_is) c.requires c.put_handle_in_file.ensures.set c.self.invariant.1,
   index-set is_printed _ (λ r k i. refl) _ c.args.self.now
-      (map view_reference c.self.inside.refs.items) (map view_reference c.put_handle.new.refs.items) c.args.index
-      (ap (λ (m : Map). m.references) c.self.view_is) c.requires c.put_handle.ensures c.self.invariant.2,
+      (map view_reference c.self.inside.refs.items) (map view_reference c.put_handle_in_file.new.refs.items) c.args.index
+      (ap (λ (m : Map). m.references) c.self.view_is) c.requires c.put_handle_in_file.ensures.set c.self.invariant.2,
+  c.put_handle_in_file.ensures.held c.self.invariant.3,
 )

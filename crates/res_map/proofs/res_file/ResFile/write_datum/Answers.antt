@@ -1,3 +1,4 @@
+use Rattle.std.specs.Prelude.{vec_capacity}
 use Rattle.res_map.proofs.res_file.ResFile.write_datum.Goals as goal
 
 pub invariant_of-self : goal.invariant_of-self
@@ -5,4 +6,5 @@ invariant_of-self c = (
   c.put_bytes.ensures.ordered c.self.inside.kinds.items c.self.invariant.0,
   c.put_bytes.ensures.indexed c.self.inside.index.items c.self.invariant.1,
   c.put_bytes.ensures.named c.self.inside.names.items c.self.invariant.2,
+  c.put_bytes.ensures.held c.self.inside.held.items (vec_capacity c.self.inside.held) c.self.invariant.3,
 )

@@ -1,12 +1,12 @@
 use Rattle.std.proofs.Common.{◌≡◌, map, drop}
 use Rattle.std.specs.Prelude.{option_map}
 use Rattle.res_map.specs.Split.{split, place}
-use Rattle.res_map.specs.Map.{has_handle}
+use Rattle.res_map.specs.Index.{is_held}
 use Rattle.res_map.specs.View.{view_reference}
 use Rattle.res_map.proofs.Steps.{place_from}
-use Rattle.res_map.proofs.search.place_holding.Given as goal
+use Rattle.res_map.proofs.holding.place_holding.Given as goal
 
 -- what is found in the references that are left is found in all
 abbrev pub invariant-loop-i : goal.invariant-loop-i
-invariant-loop-i l = place_from l.i (split (has_handle l.handle) (map view_reference (drop l.i l.refs)))
-    ≡ option_map place (split (has_handle l.handle) (map view_reference l.refs))
+invariant-loop-i l = place_from l.i (split (is_held l.kind l.key) (map view_reference (drop l.i l.refs)))
+    ≡ option_map place (split (is_held l.kind l.key) (map view_reference l.refs))
