@@ -1,14 +1,19 @@
 -- The least number of purges after which a run has enough free bytes. Inside Macintosh: Memory, chapter 1, "Purging and
 -- Reallocating Relocatable Blocks".
-use Rattle.std.specs.Prelude.{◌≡◌, ◌<◌, ℕ, Bool, true, false, is_some, List}
-use Rattle.block_store.specs.Block.{Block}
-use Rattle.block_store.specs.Run.{has_free, run_spot}
+use Rattle.std.specs.Prelude.{◌≡◌, ◌<◌, ◌&&◌, ℕ, Bool, true, false, is_some, List}
+use Rattle.block_store.specs.Block.{Block, is_relocatable}
+use Rattle.block_store.specs.Run.{has, has_free, run_spot}
 use Rattle.block_store.specs.Sparing.{purged}
 use Rattle.block_store.specs.declared.sparing.Sparing.{Sparing}
 
 -- After so many purges a run has enough free bytes.
 abbrev pub serves : ℕ → Sparing → List Block → ℕ → Bool
 serves enough n zone purges = is_some (run_spot (has_free enough) (purged purges n zone))
+
+-- After so many purges the run of the block of a master pointer has enough free bytes.
+abbrev pub serves_block : ℕ → ℕ → Sparing → List Block → ℕ → Bool
+serves_block number enough n zone purges =
+    is_some (run_spot (λ run. has (is_relocatable number) run && has_free enough run) (purged purges n zone))
 
 -- No smaller number passes a test.
 abbrev pub NoneBelow : (ℕ → Bool) → ℕ → Type 0

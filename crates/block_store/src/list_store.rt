@@ -17,7 +17,7 @@ use crate::entries::{
 };
 use crate::flags::Flags;
 use crate::list_walk::{
-    fewest_over, has_free_above, look_at, purgeable_above, run_above, walk_over,
+    fewest_over, fewest_over_block, has_free_above, look_at, purgeable_above, run_above, walk_over,
 };
 use crate::looking::{next_purgeable_in, place_in, purgeable_in, room_above_in};
 use crate::measures::{GREATEST_ZONE, LEAST_ZONE, MASTERS_SIZE, SLOTS_A_BLOCK, UNIT};
@@ -135,8 +135,8 @@ impl BlockStore for ListStore {
         place_in(&mut walk_over(&self.blocks), number)
     }
 
-    fn find_free(&self, bytes: u32, purges: u32, sparing: Sparing) -> Option<u32> {
-        find_free_in(&mut walk_over(&self.blocks), bytes, purges, sparing)
+    fn find_free(&self, bytes: u32) -> Option<u32> {
+        find_free_in(&mut walk_over(&self.blocks), bytes, 0, Sparing::Nothing)
     }
 
     fn next_purgeable(&self, purges: u32, sparing: Sparing) -> Option<u32> {
@@ -147,16 +147,23 @@ impl BlockStore for ListStore {
         purgeable_in(&mut walk_over(&self.blocks), sparing)
     }
 
-    fn room_above(&self, number: u32, bytes: u32, purges: u32, sparing: Sparing) -> bool {
-        room_above_in(&mut walk_over(&self.blocks), number, bytes, purges, sparing)
+    fn room_above(&self, number: u32, bytes: u32) -> bool {
+        room_above_in(
+            &mut walk_over(&self.blocks),
+            number,
+            bytes,
+            0,
+            Sparing::Nothing,
+        )
     }
 
-    fn free_after(&self, purges: u32, sparing: Sparing) -> u32 {
-        free_after_in(&mut walk_over(&self.blocks), purges, sparing)
+    fn free_if_purged(&self) -> u32 {
+        let most = self.purgeable(Sparing::Nothing);
+        free_after_in(&mut walk_over(&self.blocks), most, Sparing::Nothing)
     }
 
-    fn largest_after(&self, purges: u32, sparing: Sparing) -> u32 {
-        largest_after_in(&mut walk_over(&self.blocks), purges, sparing)
+    fn largest_after(&self, purges: u32) -> u32 {
+        largest_after_in(&mut walk_over(&self.blocks), purges, Sparing::Nothing)
     }
 
     fn purge(&mut self, purges: u32, sparing: Sparing) {
@@ -167,8 +174,8 @@ impl BlockStore for ListStore {
         purge_above(&mut self.blocks, place, purges, sparing);
     }
 
-    fn find_run(&self, bytes: u32, purges: u32, sparing: Sparing) -> Option<u32> {
-        find_run_in(&mut walk_over(&self.blocks), bytes, purges, sparing)
+    fn find_run(&self, bytes: u32) -> Option<u32> {
+        find_run_in(&mut walk_over(&self.blocks), bytes, 0, Sparing::Nothing)
     }
 
     fn fewest_purges(&self, bytes: u32, sparing: Sparing) -> Option<u32> {
@@ -179,8 +186,18 @@ impl BlockStore for ListStore {
         run_above(&self.blocks, run)
     }
 
-    fn run_of(&self, number: u32, bytes: u32, purges: u32, sparing: Sparing) -> Option<u32> {
-        run_of_in(&mut walk_over(&self.blocks), number, bytes, purges, sparing)
+    fn run_of(&self, number: u32, bytes: u32) -> Option<u32> {
+        run_of_in(
+            &mut walk_over(&self.blocks),
+            number,
+            bytes,
+            0,
+            Sparing::Nothing,
+        )
+    }
+
+    fn fewest_for_block(&self, number: u32, bytes: u32, sparing: Sparing) -> Option<u32> {
+        fewest_over_block(&self.blocks, number, bytes, sparing)
     }
 
     fn run_after(&self, place: u32, bytes: u32, purges: u32, sparing: Sparing) -> bool {

@@ -8,13 +8,13 @@ ghost use Rattle.block_store.specs.Room.{spot_at, lowest_purged, count_of};
 ghost use Rattle.block_store.specs.Sparing.{spared};
 ghost use Rattle.block_store.specs.Seen.{seen};
 ghost use Rattle.block_store.specs.Compact.{next_run};
-ghost use Rattle.block_store.specs.Fewest.{serves, IsFewest};
+ghost use Rattle.block_store.specs.Fewest.{serves, serves_block, IsFewest};
 ghost use Rattle.block_store.specs.Inner.ListStore.{block_of, blocks_of};
 
 use crate::entries::{StoredBlock, index_at};
 use crate::looking::purgeable_in;
 use crate::packing::run_start;
-use crate::run_search::find_run_in;
+use crate::run_search::{find_run_in, run_of_in};
 use crate::runs::{next_run_in, purgeable_in_run_in, run_has_free_in};
 use crate::sparing::{Seen, Sparing};
 use crate::walk::Walk;
@@ -72,20 +72,39 @@ pub fn look_at(entries: &[StoredBlock], place: u32) -> Option<Seen>
     Some(look(&entries[i]))
 }
 
-/// Returns the least number of purges after which a run has at least `bytes` free bytes, where no run has them before
-/// any purge; `None` where no purges serve.
+/// Returns the least number of purges after which a run has at least `bytes` free bytes; `None` where no purges serve.
 pub fn fewest_over(entries: &[StoredBlock], bytes: u32, sparing: Sparing) -> Option<u32>
-    requires fits { sizes (blocks_of entries.now) < 2 ^ 32 }
-    requires unserved { serves bytes sparing (blocks_of entries.now) 0 ≡ false }
+    requires { sizes (blocks_of entries.now) < 2 ^ 32 }
     ensures { MatchOption result ((purges : ℕ) → serves bytes sparing (blocks_of entries.now) purges ≡ false)
         (λ fewest. IsFewest (serves bytes sparing (blocks_of entries.now)) fewest) }
 {
     let most = purgeable_in(&mut walk_over(entries), sparing);
-    let mut purges = 0;
-    while purges < most {
-        purges += 1;
+    for purges in 0..=most {
         if find_run_in(&mut walk_over(entries), bytes, purges, sparing).is_some() {
             return Some(purges);
+        }
+    }
+    None
+}
+
+/// Returns the least number of purges after which the run of a master pointer's block has at least `bytes` free bytes;
+/// `None` where no purges serve.
+pub fn fewest_over_block(
+    entries: &[StoredBlock],
+    number: u32,
+    bytes: u32,
+    sparing: Sparing,
+) -> Option<u32>
+    requires { sizes (blocks_of entries.now) < 2 ^ 32 }
+    ensures { MatchOption result
+        ((purges : ℕ) → serves_block number bytes sparing (blocks_of entries.now) purges ≡ false)
+        (λ fewest. IsFewest (serves_block number bytes sparing (blocks_of entries.now)) fewest) }
+{
+    let most = purgeable_in(&mut walk_over(entries), sparing);
+    for count in 0..=most {
+        let found = run_of_in(&mut walk_over(entries), number, bytes, count, sparing);
+        if found.is_some() {
+            return Some(count);
         }
     }
     None

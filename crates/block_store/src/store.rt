@@ -13,10 +13,11 @@ ghost use Rattle.block_store.specs.Run.{has, has_free, settle, low, high, with_r
 ghost use Rattle.block_store.specs.Room.{spot, spot_at, filled, may_be_purged, lowest_purged, count_of};
 ghost use Rattle.block_store.specs.Grow.{freed, grow_up, taken};
 ghost use Rattle.block_store.specs.Find.{FindsLowest, FindsLowestRun, IsEdge};
-ghost use Rattle.block_store.specs.Fewest.{serves, IsFewest};
+ghost use Rattle.block_store.specs.Fewest.{serves, serves_block, IsFewest};
 ghost use Rattle.block_store.specs.Compact.{largest_free, largest_run, next_run, NoneRises, lowered, Aligned, Placed};
 ghost use Rattle.block_store.specs.Slot.{Unused, Used, is_used, is_resource};
-ghost use Rattle.block_store.specs.Sparing.{purged, spared, most_purges};
+ghost use Rattle.block_store.specs.Sparing.{purged, opened, spared, most_purges};
+ghost use Rattle.block_store.specs.declared.sparing.Sparing.TheVariants.{Nothing};
 ghost use Rattle.block_store.specs.Rest.{Rest, IsRest, with_slot, with_moves, lowered_in_run};
 ghost use Rattle.block_store.specs.declared.measures.TheConstants.{GREATEST_ZONE, SLOTS_A_BLOCK};
 ghost use Rattle.block_store.specs.Seen.{seen, with_flags, moved_away};
@@ -74,18 +75,17 @@ pub trait BlockStore {
         requires { IsTrue (is_used ((rest self.now).slots number)) }
         ensures { FindsLowest (is_relocatable number) (zone self.now) result };
 
-    /// Returns the place of the lowest free block of at least `bytes` bytes, after `purges` purges, if there is one.
-    fn find_free(&self, bytes: u32, purges: u32, sparing: Sparing) -> Option<u32>
-        ensures { FindsLowest (is_room bytes) (purged purges sparing (zone self.now)) result };
+    /// Returns the place of the lowest free block of at least `bytes` bytes, if there is one.
+    fn find_free(&self, bytes: u32) -> Option<u32>
+        ensures { FindsLowest (is_room bytes) (zone self.now) result };
 
-    /// Returns the place of the lowest run with at least `bytes` free bytes, after `purges` purges, if there is one.
-    fn find_run(&self, bytes: u32, purges: u32, sparing: Sparing) -> Option<u32>
-        ensures { FindsLowestRun (has_free bytes) (purged purges sparing (zone self.now)) result };
+    /// Returns the place of the lowest run with at least `bytes` free bytes, if there is one.
+    fn find_run(&self, bytes: u32) -> Option<u32>
+        ensures { FindsLowestRun (has_free bytes) (zone self.now) result };
 
-    /// Returns the least number of purges after which a run has at least `bytes` free bytes, where no run has them
-    /// before any purge; `None` where no purges serve.
+    /// Returns the least number of purges after which a run has at least `bytes` free bytes: 0 where one has them
+    /// without any; `None` where no purges serve.
     fn fewest_purges(&self, bytes: u32, sparing: Sparing) -> Option<u32>
-        requires { serves bytes sparing (zone self.now) 0 ≡ false }
         ensures { MatchOption result ((purges : ℕ) → serves bytes sparing (zone self.now) purges ≡ false)
             (λ fewest. IsFewest (serves bytes sparing (zone self.now)) fewest) };
 
@@ -102,24 +102,30 @@ pub trait BlockStore {
     fn purgeable(&self, sparing: Sparing) -> u32
         ensures { result ≡ most_purges sparing (zone self.now) };
 
-    /// Reports whether `bytes` free bytes follow the block of a master pointer, after `purges` purges.
-    fn room_above(&self, number: u32, bytes: u32, purges: u32, sparing: Sparing) -> bool
-        ensures { IfSome (spot (is_relocatable number) (purged purges sparing (zone self.now))) (λ s.
-            result ≡ is_some (taken bytes s.above)) };
+    /// Reports whether `bytes` free bytes follow the block of a master pointer.
+    fn room_above(&self, number: u32, bytes: u32) -> bool
+        ensures { IfSome (spot (is_relocatable number) (zone self.now)) (λ s. result ≡ is_some (taken bytes s.above)) };
 
-    /// Returns the place of the run of a master pointer's block, where the run has `bytes` free bytes after `purges`
-    /// purges.
-    fn run_of(&self, number: u32, bytes: u32, purges: u32, sparing: Sparing) -> Option<u32>
-        ensures { FindsLowestRun (λ run. has (is_relocatable number) run && has_free bytes run)
-            (purged purges sparing (zone self.now)) result };
+    /// Returns the place of the run of a master pointer's block, where the run has `bytes` free bytes.
+    fn run_of(&self, number: u32, bytes: u32) -> Option<u32>
+        ensures { FindsLowestRun (λ run. has (is_relocatable number) run && has_free bytes run) (zone self.now) result };
 
-    /// Returns the number of free bytes after `purges` purges.
-    fn free_after(&self, purges: u32, sparing: Sparing) -> u32
-        ensures { result ≡ free_sum (purged purges sparing (zone self.now)) };
+    /// Returns the least number of purges after which the run of a master pointer's block has at least `bytes` free
+    /// bytes: 0 where it has them without any; `None` where no purges serve. The block itself is not purged.
+    fn fewest_for_block(&self, number: u32, bytes: u32, sparing: Sparing) -> Option<u32>
+        requires there { IsSome (spot (is_relocatable number) (zone self.now)) }
+        requires spared { (b : Block) → is_relocatable number b ≡ true → spared sparing b ≡ true }
+        requires whole { (blocks : List Block) → opened sparing blocks ≡ blocks }
+        ensures { MatchOption result ((purges : ℕ) → serves_block number bytes sparing (zone self.now) purges ≡ false)
+            (λ fewest. IsFewest (serves_block number bytes sparing (zone self.now)) fewest) };
+
+    /// Returns the number of free bytes that there would be if every block that may be purged were purged.
+    fn free_if_purged(&self) -> u32
+        ensures { result ≡ free_sum (purged (most_purges Nothing (zone self.now)) Nothing (zone self.now)) };
 
     /// Returns the size in bytes of the largest free block after `purges` purges; 0 where there is no free block.
-    fn largest_after(&self, purges: u32, sparing: Sparing) -> u32
-        ensures { result ≡ largest_free (purged purges sparing (zone self.now)) };
+    fn largest_after(&self, purges: u32) -> u32
+        ensures { result ≡ largest_free (purged purges Nothing (zone self.now)) };
 
     /// Purges the `purges` lowest blocks that may be purged, and makes the block that counts as free a free block.
     fn purge(&mut self, purges: u32, sparing: Sparing)

@@ -8,7 +8,7 @@ use Rattle.std.specs.Option.{option_map}
 use Rattle.std.specs.Prelude.{nat_le, nat_lt}
 use Rattle.block_store.specs.Block.{Block, Free, Nonrelocatable, Masters, Relocatable, size, sizes, is_purgeable, content_of}
 use Rattle.block_store.specs.Block.{rename, rename_block, tidy}
-use Rattle.block_store.specs.Find.{IsEdge, FindsLowestRun}
+use Rattle.block_store.specs.Find.{IsEdge}
 use Rattle.block_store.specs.Run.{run_spot, has_free}
 use Rattle.block_store.specs.Room.{Spot, spot_at, raised, may_be_purged, put_at_base, room}
 use Rattle.block_store.specs.Sparing.{spared, opened, purged}
@@ -50,13 +50,6 @@ pub number_here : (entries : List Anchor) (i slot : ℕ) (e : Anchor) → i < le
 number_here entries i slot e less is =
     at_drop_more (λ (es : List Anchor). number_from i (leads_to slot) es) entries i e less
     ∙ cond-true (leads_to slot (slice_index_or entries i e)) i _ is
-
-pub number_next : (entries : List Anchor) (i slot : ℕ) (e : Anchor) → i < length entries
-    → leads_to slot (slice_index_or entries i e) ≡ false
-    → number_from i (leads_to slot) (drop i entries) ≡ number_from (i + 1) (leads_to slot) (drop (i + 1) entries)
-number_next entries i slot e less is =
-    at_drop_more (λ (es : List Anchor). number_from i (leads_to slot) es) entries i e less
-    ∙ cond-false (leads_to slot (slice_index_or entries i e)) i _ is
 
 -- Where blocks stand apart, those from a place on are the ones above those that end there.
 spot-end : (bs : List Block) → Apart bs → spot_at (sizes bs) bs ≡ None
@@ -194,17 +187,16 @@ pub some-map : {A B : Type 0} (f : A → B) (o : Option A) → is_some (option_m
 some-map f None = refl
 some-map f (Some x) = refl
 
--- where a run was found for room at its base, its purges are those of the search
-pub base-told : (entries : List Anchor) (p k : ℕ) (sparing : Sparing) (zone : List Block) (run : Option ℕ)
-    → FindsLowestRun (has_free p) (purged k sparing zone) run
+-- where there is a run for room at its base, its purges are those of the search
+pub base-told : (entries : List Anchor) (p k : ℕ) (sparing : Sparing) (zone : List Block)
     → base p sparing zone ≡ run_spot (has_free p) (purged k sparing zone) → k + 1 ≡ base_searches p sparing zone
-    → is_some run ≡ true → gone_from entries sparing k (blocks_from 0 zone) ≡ base_gone entries p sparing zone
-base-told entries p k sparing zone None found least searches some = cc
-base-told entries p k sparing zone (Some run) found least searches some =
+    → is_some (run_spot (has_free p) (purged k sparing zone)) ≡ true
+    → gone_from entries sparing k (blocks_from 0 zone) ≡ base_gone entries p sparing zone
+base-told entries p k sparing zone least searches some =
     ap (gone_from entries sparing k) (from-bottom zone)
     ∙ ap (λ n. gone_from entries sparing n zone)
     (let z : k ≡ base_searches p sparing zone - 1 = omega (arith, searches) in z)
-    ∙ sym (cond-true (is_some (base p sparing zone)) _ _ (ap is_some (least ∙ found.1)))
+    ∙ sym (cond-true (is_some (base p sparing zone)) _ _ (ap is_some least ∙ some))
 
 -- the blocks of a store that are purged, where the names that a search spares are those of slots
 pub gone-spared : (entries : List Anchor) (sp : Block → Bool) (sparing : Sparing)

@@ -2,7 +2,7 @@ use Rattle.std.proofs.Common.{◌≡◌, ℕ, ◌+◌, ◌-◌, ◌≤◌, ◌<�
 use Rattle.std.proofs.Common.{refl, sym, ◌∙◌, ap, cond, arith, map, subst, Option, Some, None, is_some, Ok, Err, slice_get}
 use Rattle.std.proofs.lemmas.Bool.{cond-true, cond-false, lt-leb}
 use Rattle.std.proofs.lemmas.List.{append-nil, length-map}
-use Rattle.std.specs.Option.{option_map, IfSome, IsSomeAnd}
+use Rattle.std.specs.Option.{option_map, IfSome}
 use Rattle.mac_words.specs.Size.{phys}
 use Rattle.mac_words.specs.declared.code.OsErr.{OsErr}
 use Rattle.mac_words.proofs.Plain.{is_some-map}
@@ -32,8 +32,7 @@ use Rattle.heap_calls.specs.Gone.{Gone, Tells, gone, room_gone, in_place_gone, g
 use Rattle.heap_calls.specs.Gone.{set_handle_size_gone, set_pointer_size_gone, hand_and_hand_gone, pointer_and_hand_gone}
 use Rattle.heap_calls.specs.Searches.{room_searches, resized_at}
 use Rattle.heap_calls.specs.Inner.Search.{tries}
-use Rattle.heap_calls.specs.Inner.Growing.{Stays, FindsGrowth, IsToGrow, grown, growing, growing_searches}
-use Rattle.heap_calls.specs.declared.growing.Growth.{Growth}
+use Rattle.heap_calls.specs.Inner.Growing.{Stays, grown, growing, growing_searches}
 use Rattle.heap_calls.specs.Inner.GrowingInPlace.{enough, FindsPurges}
 use Rattle.heap_calls.specs.Inner.Numbered.{handle_number, pointer_number, name_of, state_of, memory_of, no_number}
 use Rattle.heap_calls.specs.Inner.Numbered.{Agrees}
@@ -50,7 +49,6 @@ use Rattle.heap_calls.proofs.Numbering.Answering.{content_of-rename}
 use Rattle.heap_calls.proofs.Numbering.Numbers.{is_relocatable-number}
 use Rattle.heap_calls.proofs.Numbering.Rebuilding.{reached_in}
 use Rattle.heap_calls.proofs.Sizes.Behind.{either}
-use Rattle.heap_calls.proofs.Room.LeastSearches.{growth-there}
 use Rattle.heap_calls.proofs.Sizes.Growth.{opened-stays}
 use Rattle.heap_calls.proofs.Sizes.GrowingInPlace.{Grows, first-beyond, spot_if}
 
@@ -119,39 +117,24 @@ module _ (entries : List Anchor) (nd : Sparing) (try : List Block → Option (Li
 
 -- the block of a slot that grows, and may move
 module _ (entries : List Anchor) (nd : Sparing) (number n : ℕ) (zone : List Block) (stays : Stays nd (is_relocatable number))
-    (more : IsToGrow (is_relocatable number) n zone) (k : ℕ) (o : Option Growth)
+    (k : ℕ) (least_is : growing (is_relocatable number) (grown n (spot (is_relocatable number) zone)) nd zone
+    ≡ grow_mover (is_relocatable number) (grown n (spot (is_relocatable number) zone)) (purged k nd zone))
   where
-    abbrev test : Block → Bool
-    test = is_relocatable number
+    abbrev try : List Block → Option (List Block)
+    try = grow_mover (is_relocatable number) (grown n (spot (is_relocatable number) zone))
 
-    abbrev wanted : Block
-    wanted = grown n (spot test zone)
+    pub growth-told : k + 1 ≡ growing_searches (is_relocatable number)
+        (grown n (spot (is_relocatable number) zone)) nd zone
+        → is_some (grow_mover (is_relocatable number) (grown n (spot (is_relocatable number) zone)) (purged k nd zone))
+        ≡ true
+        → gone_from entries nd k (blocks_from 0 zone)
+        ≡ try_gone entries (grow_mover (is_relocatable number) (grown n (spot (is_relocatable number) zone))) nd zone
+    growth-told = try-told entries nd try zone (opened-stays (is_relocatable number) nd zone stays) k least_is
 
-    some : 0 < size wanted
-    some = cases (spot test zone) more
-      where
-        cases : (o : Option Spot) → IsSomeAnd o (λ s. size s.here < size (resized n s.here)) → 0 < size (grown n o)
-        cases None h = absurd h
-        cases (Some s) h = omega (arith, h)
-
-    module _ (found : FindsGrowth (is_relocatable number) (grown n (spot (is_relocatable number) zone)) (purged k nd zone) o)
-        (least_is : growing (is_relocatable number) (grown n (spot (is_relocatable number) zone)) nd zone
-        ≡ grow_mover (is_relocatable number) (grown n (spot (is_relocatable number) zone)) (purged k nd zone))
-      where
-        there : is_some o ≡ is_some (grow_mover test wanted (purged k nd zone))
-        there = growth-there test wanted (purged k nd zone) some o found
-
-        pub growth-told : k + 1 ≡ growing_searches (is_relocatable number)
-            (grown n (spot (is_relocatable number) zone)) nd zone → is_some o ≡ true
-            → gone_from entries nd k (blocks_from 0 zone)
-            ≡ try_gone entries (grow_mover (is_relocatable number) (grown n (spot (is_relocatable number) zone))) nd zone
-        growth-told looks is = try-told entries nd (grow_mover test wanted) zone (opened-stays test nd zone stays) k
-            least_is looks (sym there ∙ is)
-
-        pub growth-untold : is_some o ≡ false → try_gone entries
-            (grow_mover (is_relocatable number) (grown n (spot (is_relocatable number) zone))) nd zone ≡ []
-        growth-untold is = try-untold entries nd (grow_mover test wanted) zone (opened-stays test nd zone stays) k
-            least_is (sym there ∙ is)
+    pub growth-untold : is_some (grow_mover (is_relocatable number) (grown n (spot (is_relocatable number) zone))
+        (purged k nd zone)) ≡ false → try_gone entries
+        (grow_mover (is_relocatable number) (grown n (spot (is_relocatable number) zone))) nd zone ≡ []
+    growth-untold = try-untold entries nd try zone (opened-stays (is_relocatable number) nd zone stays) k least_is
 
 -- a block that stays where it is
 module _ (entries : List Anchor) (nd : Sparing) (place : ℕ) (zone : List Block) (n more : ℕ) (up : Bool)

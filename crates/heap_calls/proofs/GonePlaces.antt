@@ -1,5 +1,5 @@
 use Rattle.std.proofs.Common.{◌≡◌, ◌≢◌, ℕ, ◌+◌, ◌-◌, ◌<◌, zero, suc, Bool, true, false, not, ◌&&◌, List, [], ◌∷◌, ◌++◌, length, map}
-use Rattle.std.proofs.Common.{refl, sym, ◌∙◌, ap, cond, arith, Option, Some, Result, Ok, Err, is_some, slice_get, subst, append-nil, inl, inr}
+use Rattle.std.proofs.Common.{refl, sym, ◌∙◌, ap, cond, arith, Option, Some, Result, Ok, Err, is_some, slice_get, inl, inr}
 use Rattle.std.specs.Option.{option_map}
 use Rattle.std.proofs.lemmas.Bool.{cond-true, false≢true}
 use Rattle.std.proofs.lemmas.List.{map-id, length-map, length-replicate}
@@ -20,7 +20,6 @@ use Rattle.block_store.specs.declared.sparing.Sparing.TheVariants as sparing
 use Rattle.block_store.proofs.Plain.Trials.{least-map}
 use Rattle.block_store.proofs.Renamed.Renaming.{is_purgeable-rename, place-rename, purge-rename, freed-rename}
 use Rattle.heap_calls.specs.declared.anchor.Anchor.{Anchor}
-use Rattle.heap_calls.specs.declared.search.Placement.{Placement}
 use Rattle.heap_calls.specs.declared.anchor.Anchor.TheVariants.{Handle}
 use Rattle.heap_calls.specs.declared.log.Log.{Log}
 use Rattle.heap_calls.specs.declared.refusal.Refusal.{Refusal}
@@ -28,7 +27,7 @@ use Rattle.heap_calls.specs.declared.refusal.Refusal.TheVariants.{Code, HostMemo
 use Rattle.heap_calls.specs.State.{State, Memory}
 use Rattle.heap_calls.specs.Answer.{Known, handle_at, nothing}
 use Rattle.heap_calls.specs.Purging.{is_loose}
-use Rattle.heap_calls.specs.Gone.{Gone, gone, gone_of, room_gone, found_gone, reallocate_handle_gone, refill_gone, Tells}
+use Rattle.heap_calls.specs.Gone.{Gone, gone, gone_of, room_gone, found_gone, reallocate_handle_gone, refill_gone}
 use Rattle.heap_calls.specs.Inside.{has_block}
 use Rattle.heap_calls.specs.Inner.Filling.{IsSizeOf}
 use Rattle.heap_calls.specs.Inner.Given.{slot_of}
@@ -36,7 +35,7 @@ use Rattle.heap_calls.specs.Inner.Loose.{FindsLoose, loose, loose_at}
 use Rattle.heap_calls.specs.Inner.NewBlock.{fresh_block}
 use Rattle.heap_calls.specs.Searches.{room_searches}
 use Rattle.heap_calls.specs.Inner.Numbered.{handle_number, pointer_number, name_of, no_number, state_of, memory_of}
-use Rattle.heap_calls.specs.Inner.Search.{FindsPlacement, placement, placement_searches, tries}
+use Rattle.heap_calls.specs.Inner.Search.{placement, placement_searches, tries}
 use Rattle.heap_calls.specs.Inner.Telling.{gone_named, gone_from, blocks_from, placement_gone, renewed_gone}
 use Rattle.heap_calls.proofs.Filled.Refilled.{freed-gone}
 use Rattle.heap_calls.proofs.GoneBlocks.{from-bottom}
@@ -46,7 +45,6 @@ use Rattle.heap_calls.proofs.Numbering.Answering.{handle_at-refused}
 use Rattle.heap_calls.proofs.Numbering.Looking.{count_of-rename}
 use Rattle.heap_calls.proofs.Numbering.Loosening.{known, handle_at-by}
 use Rattle.heap_calls.proofs.Numbering.Numbers.{Apart, is_relocatable-number}
-use Rattle.heap_calls.proofs.Room.LeastSearches.{placement-there}
 use Rattle.std.proofs.Common.{◌*◌, Some, None}
 use Rattle.std.specs.Prelude.{unwrap_or}
 use Rattle.std.proofs.lemmas.List.{length-replicate}
@@ -66,17 +64,16 @@ use Rattle.heap_calls.proofs.NewBlocks.NewHandles.{slotted-is}
 
 -- What a sink is told of blocks that are purged for the place of a relocatable block.
 
--- where a placement was found, its purges are those of the search
+-- where there is a placement, its purges are those of the search
 pub placement-told : (entries : List Anchor) (p k : ℕ) (sparing : Sparing) (zone : List Block)
-    (found : Option Placement) → 0 < p → FindsPlacement p (purged k sparing zone) found
     → placement p sparing zone ≡ place p (purged k sparing zone) → k + 1 ≡ placement_searches p sparing zone
-    → is_some found ≡ true → gone_from entries sparing k (blocks_from 0 zone) ≡ placement_gone entries p sparing zone
-placement-told entries p k sparing zone found positive finds least searches some =
+    → is_some (place p (purged k sparing zone)) ≡ true
+    → gone_from entries sparing k (blocks_from 0 zone) ≡ placement_gone entries p sparing zone
+placement-told entries p k sparing zone least searches some =
     ap (gone_from entries sparing k) (from-bottom zone)
     ∙ ap (λ n. gone_from entries sparing n zone)
     (let z : k ≡ placement_searches p sparing zone - 1 = omega (arith, searches) in z)
-    ∙ sym (cond-true (is_some (placement p sparing zone)) _ _ (ap is_some least
-    ∙ sym (placement-there p (purged k sparing zone) positive found finds) ∙ some))
+    ∙ sym (cond-true (is_some (placement p sparing zone)) _ _ (ap is_some least ∙ some))
 
 -- a search sees each block first as it sees the zone
 pub opened-each : (sparing : Sparing) (zone : List Block) → opened sparing zone ≡ map (opened_block sparing) zone
@@ -244,11 +241,6 @@ reallocate_gone-none value zone rest es log handle n (Code code) is found =
     ap (λ (m : Memory). reallocate_handle_gone handle n m.heap) (sym is) ∙ reallocate_gone-loose handle n s
     ∙ ap (λ r. found_gone r (λ k. put_gone (length s.names) k.number n (freed (is_relocatable k.number) s.zone))) found
 reallocate_gone-none value zone rest es log handle n HostMemory is found = absurd found
-
--- a sink that is left as it was is told of nothing
-pub tells-none : {A : Type 0} (told : A → List Gone → Type 0) (more : List Gone) (sink : A) → more ≡ []
-    → Tells told more sink sink
-tells-none told more sink none before was = subst (told sink) (sym (ap (λ l. before ++ l) none ∙ append-nil before)) was
 
 -- as many bytes as are wanted, or no block can have either number
 pub renewed_gone-sized : (entries : List Anchor) (slot wanted n : ℕ) (zone : List Block) → IsSizeOf wanted n

@@ -1,5 +1,6 @@
 pub mod GrowingInPlace
 pub mod Growth
+pub mod FewestForGrowth
 pub mod Carrying
 pub mod Resizing
 pub mod Steady

@@ -1,13 +1,9 @@
 //! Room at the base of a run of movable blocks.
 
 ghost use Rattle.std.specs.Prelude.{◌≡◌, ◌⊎◌, ◌+◌, ◌≤◌, ◌<◌, ◌%◌, IfOk, OnErr, IsErr, IsTrue, MatchOption, is_some, OnOk, true};
-ghost use Rattle.block_store.specs.Find.{FindsLowestRun};
-ghost use Rattle.block_store.specs.Sparing.{purged, most_purges};
+ghost use Rattle.block_store.specs.Sparing.{purged};
 ghost use Rattle.block_store.specs.Rest.{IsRest};
 ghost use Rattle.block_store.specs.Run.{run_spot, has_free};
-ghost use Rattle.mac_words.proofs.Plain.{not_some};
-ghost use Rattle.heap_calls.specs.Inner.SearchLaws.{base-ends};
-ghost use Rattle.block_store.proofs.Purged.Rising.{run-rises};
 ghost use Rattle.heap_calls.specs.Inner.Base.{IsBaseAt, base, base_searches};
 ghost use Rattle.heap_calls.specs.Inner.Numbered.{KeepsNonrelocatable};
 ghost use Rattle.heap_calls.specs.Inner.NewSlot.{HasMore, IsMade, TakesSlot, zone_searches};
@@ -17,76 +13,24 @@ ghost use Rattle.heap_calls.specs.Inner.Telling.{base_gone, zone_slot_gone};
 ghost use Rattle.block_store.specs.declared.measures.TheConstants.{GREATEST_ZONE, MASTERS_SIZE};
 
 use crate::anchor::Anchor;
-use crate::least::{FindsFewest, Sought, any_goes, least_search};
+use crate::least::{Searched, count_for_run};
 use crate::search::Room;
 use crate::sink::PurgeSink;
 use crate::telling::tell;
 use block_store::{BlockStore, MASTERS_SIZE, Sparing};
 use std::alloc::AllocError;
 
-/// The result of a search for a run: the run, if there is one, and the number of purges before it.
-#[derive(Clone, Copy)]
-pub struct FoundRun {
-    pub run: Option<u32>,
-    pub purges: u32,
-}
-
-/// The search for the lowest run that has `bytes` free bytes.
-#[derive(Clone, Copy)]
-struct LowestRun {
-    bytes: u32,
-    sparing: Sparing,
-}
-
-impl Sought for LowestRun {
-    type Found = u32;
-
-    ghost Allows = { λ sought zone. Unit {0} };
-
-    ghost is_there = { λ sought zone k. is_some (run_spot (has_free sought.bytes) (purged k sought.sparing zone)) };
-
-    ghost most = { λ sought zone. most_purges sought.sparing zone };
-
-    ghost Finds = { λ sought zone k found. FindsLowestRun (has_free sought.bytes) (purged k sought.sparing zone) found };
-
-    fn search_after<S: BlockStore>(&self, store: &S, purges: u32) -> Option<u32> {
-        store.find_run(self.bytes, purges, self.sparing)
-    }
-
-    fn goes_on<S: BlockStore>(&self, store: &S) -> bool {
-        any_goes(store, self.sparing)
-    }
-
-    fn most_purges<S: BlockStore>(&self, store: &S) -> u32 {
-        store.purgeable(self.sparing)
-    }
-
-    ghost rises = { λ sought zone k m allows. run-rises sought.bytes sought.sparing zone k m };
-
-    ghost ends = { λ sought zone k allows. base-ends sought.bytes sought.sparing zone k };
-
-    ghost absent = { λ sought zone k. not_some (run_spot (has_free sought.bytes) (purged k sought.sparing zone)) };
-}
-
-impl FindsFewest for LowestRun {
-    fn fewest_purges<S: BlockStore>(&self, store: &S) -> Option<u32> {
-        store.fewest_purges(self.bytes, self.sparing)
-    }
-}
-
-/// Finds the lowest run with `bytes` free bytes, after as few purges as serve.
-fn find_base<S: BlockStore>(store: &S, bytes: u32, sparing: Sparing) -> FoundRun
-    ensures found { FindsLowestRun (has_free bytes) (purged result.purges sparing (S.zone store.now)) result.run }
+/// Counts the purges after which a run has `bytes` free bytes: the least number that serves, or all that there can be
+/// where none serves.
+fn count_for_base<S: BlockStore>(store: &S, bytes: u32, sparing: Sparing) -> Searched
+    ensures there { result.there ≡ is_some (run_spot (has_free bytes)
+        (purged result.purges sparing (S.zone store.now))) }
     ensures least { base bytes sparing (S.zone store.now) ≡ run_spot (has_free bytes)
         (purged result.purges sparing (S.zone store.now)) }
     ensures searches { result.purges + 1 ≡ base_searches bytes sparing (S.zone store.now) }
     ensures few { result.purges ≤ GREATEST_ZONE }
 {
-    let searched = least_search(store, &LowestRun { bytes, sparing });
-    FoundRun {
-        run: searched.found,
-        purges: searched.purges,
-    }
+    count_for_run(store, bytes, sparing)
 }
 
 /// Makes a free block of `bytes` bytes at the base of the lowest run that has as many free bytes after as few purges
@@ -109,15 +53,18 @@ pub fn make_base<S: BlockStore>(
     ensures rest { IsRest (S.rest store.old) (S.rest store.new) }
     ensures host { IsErr result → IsTrue S.TAKES_HOST }
 {
-    let found = find_base(store, bytes, sparing);
-    let searches = found.purges + 1;
-    let Some(run) = found.run else {
+    let counted = count_for_base(store, bytes, sparing);
+    let searches = counted.purges + 1;
+    if !counted.there {
         return Ok(Room {
             place: None,
             searches,
         });
+    }
+    store.purge(counted.purges, sparing);
+    let Some(run) = store.find_run(bytes) else {
+        unreachable!()
     };
-    store.purge(found.purges, sparing);
     store.raise(run, bytes)?;
     Ok(Room {
         place: Some(run),
@@ -141,11 +88,11 @@ pub fn tell_base<S: BlockStore, K: PurgeSink>(
     ensures listens { K.listens sink.new ≡ K.listens sink.old }
     ensures host { IsErr result → K.listens sink.old ≡ true }
 {
-    let found = find_base(store, bytes, sparing);
-    if found.run.is_none() {
+    let counted = count_for_base(store, bytes, sparing);
+    if !counted.there {
         return Ok(());
     }
-    tell(store, names, 0, found.purges, sparing, sink)
+    tell(store, names, 0, counted.purges, sparing, sink)
 }
 
 /// Puts a master pointer block, with 64 unused slots, at the base of a run, where there is room for the block.

@@ -5,7 +5,6 @@ ghost use Rattle.mac_words.specs.Size.{phys as physical_size};
 ghost use Rattle.block_store.specs.Room.{place};
 ghost use Rattle.block_store.specs.Run.{runs};
 ghost use Rattle.block_store.specs.Rest.{KeepsSlots, counted};
-ghost use Rattle.block_store.specs.Sparing.{purged};
 ghost use Rattle.block_store.specs.Compact.{has_room, runs_settled, compacted, lowered_in_runs};
 ghost use Rattle.heap_calls.specs.Asked.{packing};
 ghost use Rattle.heap_calls.specs.Inner.Given.{seen_in_run};
@@ -14,7 +13,7 @@ ghost use Rattle.heap_calls.specs.Moves.{compact_mem_moves};
 ghost use Rattle.heap_calls.specs.Searches.{stretches, compact_mem_searches};
 
 use crate::heap::Heap;
-use block_store::{BlockStore, HEADER_SIZE, Seen, Sparing};
+use block_store::{BlockStore, HEADER_SIZE, Seen};
 use mac_words::{OsErr, phys};
 
 impl<S: BlockStore> Heap<S> {
@@ -59,7 +58,7 @@ pub fn compact<S: BlockStore>(store: &mut S, bytes: Option<u32>) -> u32
 {
     let mut run = 0;
     let mut stretches = 0;
-    while !has_room(store, bytes, 0) {
+    while !has_room(store, bytes) {
         let above = store.next_run(run);
         stretches += u32::from(in_run(store.block_at(run)));
         store.settle(run);
@@ -83,14 +82,12 @@ fn in_run(seen: Option<Seen>) -> bool
     }
 }
 
-/// Reports whether a free block of `bytes` bytes stands after the given number of purges; there is none where `bytes`
-/// is `None`.
-pub fn has_room<S: BlockStore>(store: &S, bytes: Option<u32>, purges: u32) -> bool
-    ensures after { result ≡ has_room bytes (purged purges Sparing.Nothing (S.zone store.now)) }
-    ensures now { purges ≡ 0 → result ≡ has_room bytes (S.zone store.now) }
+/// Reports whether a free block of `bytes` bytes stands; there is none where `bytes` is `None`.
+pub fn has_room<S: BlockStore>(store: &S, bytes: Option<u32>) -> bool
+    ensures { result ≡ has_room bytes (S.zone store.now) }
 {
     match bytes {
         None => false,
-        Some(bytes) => store.find_free(bytes, purges, Sparing::Nothing).is_some(),
+        Some(bytes) => store.find_free(bytes).is_some(),
     }
 }

@@ -1,21 +1,18 @@
 //! The growth of a block that may move.
 
-ghost use Rattle.std.specs.Prelude.{◌≡◌, ◌+◌, ◌-◌, ◌≤◌, ◌<◌, ◌&&◌, Some, None, IsSome, IfSome, IsSomeAnd, IsTrue};
+ghost use Rattle.std.specs.Prelude.{◌≡◌, ◌+◌, ◌-◌, ◌≤◌, ◌<◌, Some, None, IsSome, IfSome, IsSomeAnd, IsTrue};
 ghost use Rattle.std.specs.Prelude.{IsErr, OnOk, OnErr, IfOk, is_some, true, false};
 ghost use Rattle.mac_words.specs.Size.{phys as physical_size};
 ghost use Rattle.block_store.specs.Block.{is_relocatable, resized, is_mover, size as size_of};
-ghost use Rattle.block_store.specs.Room.{spot, place, room};
-ghost use Rattle.block_store.specs.Grow.{growth, grow_mover, move_away};
-ghost use Rattle.block_store.specs.Sparing.{purged, most_purges, spared};
+ghost use Rattle.block_store.specs.Room.{spot, room};
+ghost use Rattle.block_store.specs.Grow.{growth, grow_mover};
+ghost use Rattle.block_store.specs.Sparing.{purged, spared};
 ghost use Rattle.block_store.specs.Rest.{IsRest, KeepsSlots};
-ghost use Rattle.heap_calls.specs.Inner.Search.{FindsPlacement, IsAt};
 ghost use Rattle.heap_calls.specs.Inner.Growing.{FindsGrowth, growing, growing_searches, Spares, Stays, grown};
-ghost use Rattle.heap_calls.specs.Inner.Growing.{SameBlocks, IsToGrow, CanGrowUp, GrewUp};
+ghost use Rattle.heap_calls.specs.Inner.Growing.{IsToGrow, CanGrowUp, GrewUp};
 ghost use Rattle.heap_calls.specs.Inner.GrowingInPlace.{made_zone};
-ghost use Rattle.heap_calls.specs.Moves.{place_moves, grow_moves, room_moves};
-ghost use Rattle.mac_words.proofs.Plain.{not_some};
-ghost use Rattle.heap_calls.specs.Inner.SearchLaws.{growth-rises, growth-ends};
-ghost use Rattle.heap_calls.specs.Inner.Least.{CanGrow};
+ghost use Rattle.heap_calls.specs.Moves.{grow_moves, room_moves};
+ghost use Rattle.heap_calls.specs.Inner.Least.{smaller};
 ghost use Rattle.heap_calls.specs.Inner.Numbered.{KeepsNonrelocatable};
 ghost use Rattle.heap_calls.specs.Inner.Packed.{Packs};
 ghost use Rattle.heap_calls.specs.Inner.Telling.{try_gone};
@@ -25,10 +22,8 @@ ghost use Rattle.block_store.specs.declared.measures.TheConstants.{GREATEST_ZONE
 
 use crate::anchor::Anchor;
 use crate::growing_in_place::{Grown, bytes_at};
-use crate::least::{
-    FindsFewest, Sought, any_goes, fewest_by_searches, fewest_within, least_search,
-};
-use crate::search::{Placement, placement_after};
+use crate::least::Searched;
+use crate::search::{Placement, pack_placement, placement_now};
 use crate::sink::PurgeSink;
 use crate::telling::tell;
 use block_store::{BlockStore, Sparing};
@@ -44,125 +39,68 @@ pub enum Growth {
     Last(u32),
 }
 
-/// The result of a search: how the block grows, if it can, and the number of purges before it.
-#[derive(Clone, Copy)]
-pub struct FoundGrowth {
-    pub growth: Option<Growth>,
-    pub purges: u32,
-}
-
-/// Finds how the block of the slot `number` grows by `more` bytes to the physical size `bytes`, and to `size` bytes
-/// of content, after `purges` purges.
-fn growth_after<S: BlockStore>(
+/// Finds how the block of the slot `number` grows by `more` bytes to the physical size `bytes`, and to `size` bytes of
+/// content, in the zone as it stands.
+fn growth_now<S: BlockStore>(
     store: &S,
     number: u32,
     size: u32,
     bytes: u32,
     more: u32,
-    purges: u32,
-    sparing: Sparing,
 ) -> Option<Growth>
     requires takes { size_of (grown size (spot (is_relocatable number) (S.zone store.now))) ≡ bytes }
-    requires more { IsSomeAnd (spot (is_relocatable number) (purged purges sparing (S.zone store.now)))
+    requires more { IsSomeAnd (spot (is_relocatable number) (S.zone store.now))
         (λ s. growth (grown size (spot (is_relocatable number) (S.zone store.now))) s ≡ more) }
     ensures { FindsGrowth (is_relocatable number) (grown size (spot (is_relocatable number) (S.zone store.now)))
-        (purged purges sparing (S.zone store.now)) result }
+        (S.zone store.now) result }
 {
-    if store.room_above(number, more, purges, sparing) {
+    if store.room_above(number, more) {
         return Some(Growth::Up);
     }
-    if let Some(placement) = placement_after(store, bytes, purges, sparing) {
+    if let Some(placement) = placement_now(store, bytes) {
         return Some(Growth::Away(placement));
     }
-    let Some(run) = store.run_of(number, more, purges, sparing) else {
+    let Some(run) = store.run_of(number, more) else {
         return None;
     };
     Some(Growth::Last(run))
 }
 
-/// The search for a way in which the block of the slot `number` grows by `more` bytes to the physical size `bytes`,
-/// and to `size` bytes of content.
-#[derive(Clone, Copy)]
-struct FirstGrowth {
-    number: u32,
-    size: u32,
-    bytes: u32,
-    more: u32,
-    sparing: Sparing,
+/// Returns the smaller of two numbers, of those that are given.
+fn smaller(one: Option<u32>, other: Option<u32>) -> Option<u32>
+    ensures { result ≡ smaller one other }
+{
+    let Some(first) = one else {
+        return other;
+    };
+    let Some(second) = other else {
+        return one;
+    };
+    Some(first.min(second))
 }
 
-impl Sought for FirstGrowth {
-    type Found = Growth;
-
-    ghost Allows = { λ sought zone. CanGrow sought.number sought.size sought.bytes sought.more sought.sparing zone };
-
-    ghost is_there = { λ sought zone k. is_some (grow_mover (is_relocatable sought.number)
-        (grown sought.size (spot (is_relocatable sought.number) zone)) (purged k sought.sparing zone)) };
-
-    ghost most = { λ sought zone. most_purges sought.sparing zone };
-
-    ghost Finds = { λ sought zone k found. FindsGrowth (is_relocatable sought.number)
-        (grown sought.size (spot (is_relocatable sought.number) zone)) (purged k sought.sparing zone) found };
-
-    fn search_after<S: BlockStore>(&self, store: &S, purges: u32) -> Option<Growth> {
-        growth_after(
-            store,
-            self.number,
-            self.size,
-            self.bytes,
-            self.more,
-            purges,
-            self.sparing,
-        )
-    }
-
-    fn goes_on<S: BlockStore>(&self, store: &S) -> bool {
-        any_goes(store, self.sparing)
-    }
-
-    fn most_purges<S: BlockStore>(&self, store: &S) -> u32 {
-        store.purgeable(self.sparing)
-    }
-
-    ghost rises = { λ sought zone k m can. growth-rises sought.number sought.size sought.bytes sought.more
-        sought.sparing zone k m
-        can };
-
-    ghost ends = { λ sought zone k can. growth-ends sought.number sought.size sought.bytes sought.more sought.sparing
-        zone k };
-
-    ghost absent = { λ sought zone k. not_some (grow_mover (is_relocatable sought.number)
-        (grown sought.size (spot (is_relocatable sought.number) zone)) (purged k sought.sparing zone)) };
-}
-
-impl FindsFewest for FirstGrowth {
-    /// A block grows at the latest where a run has room for it at its new size.
-    fn fewest_purges<S: BlockStore>(&self, store: &S) -> Option<u32> {
-        match store.fewest_purges(self.bytes, self.sparing) {
-            Some(enough) => Some(fewest_within(store, self, enough)),
-            None => fewest_by_searches(store, self),
-        }
-    }
-}
-
-/// Finds how the block of the slot `number` grows by `more` bytes to the physical size `bytes`, and to `size` bytes
-/// of content, after as few purges as serve.
-pub fn find_growth<S: BlockStore>(
+/// Counts the purges after which the block of the slot `number`, which may move, grows by `more` bytes to the physical
+/// size `bytes`, and to `size` bytes of content: the least number that serves, or all that there can be where none
+/// serves. The block grows where it has a place of its own, and where its run has `more` free bytes; the run has them
+/// where there is room above the block.
+fn count_for_growth<S: BlockStore>(
     store: &S,
     number: u32,
     size: u32,
     bytes: u32,
     more: u32,
     sparing: Sparing,
-) -> FoundGrowth
+) -> Searched
     requires takes { size_of (grown size (spot (is_relocatable number) (S.zone store.now))) ≡ bytes }
     requires positive { 0 < bytes }
     requires spared { Spares sparing (is_relocatable number) }
     requires stays { Stays sparing (is_relocatable number) }
     requires more { IsSomeAnd (spot (is_relocatable number) (S.zone store.now))
         (λ s. growth (grown size (spot (is_relocatable number) (S.zone store.now))) s ≡ more) }
-    ensures found { FindsGrowth (is_relocatable number) (grown size (spot (is_relocatable number) (S.zone store.now)))
-        (purged result.purges sparing (S.zone store.now)) result.growth }
+    requires mover { IsSomeAnd (spot (is_relocatable number) (S.zone store.now)) (λ s. IsTrue (is_mover s.here)) }
+    ensures there { result.there ≡ is_some (grow_mover (is_relocatable number)
+        (grown size (spot (is_relocatable number) (S.zone store.now)))
+        (purged result.purges sparing (S.zone store.now))) }
     ensures least { growing (is_relocatable number) (grown size (spot (is_relocatable number) (S.zone store.now)))
         sparing (S.zone store.now) ≡ grow_mover (is_relocatable number)
         (grown size (spot (is_relocatable number) (S.zone store.now)))
@@ -171,17 +109,17 @@ pub fn find_growth<S: BlockStore>(
         (grown size (spot (is_relocatable number) (S.zone store.now))) sparing (S.zone store.now) }
     ensures few { result.purges ≤ GREATEST_ZONE }
 {
-    let sought = FirstGrowth {
-        number,
-        size,
-        bytes,
-        more,
-        sparing,
-    };
-    let searched = least_search(store, &sought);
-    FoundGrowth {
-        growth: searched.found,
-        purges: searched.purges,
+    let for_place = store.fewest_purges(bytes, sparing);
+    let in_run = store.fewest_for_block(number, more, sparing);
+    match smaller(for_place, in_run) {
+        Some(purges) => Searched {
+            there: true,
+            purges,
+        },
+        None => Searched {
+            there: false,
+            purges: store.purgeable(sparing),
+        },
     }
 }
 
@@ -197,27 +135,6 @@ fn grow_up<S: BlockStore>(store: &mut S, number: u32, size: u32) -> Result<(), A
         unreachable!()
     };
     store.resize(place, size)
-}
-
-/// Returns the place that a placement stands for, once the run of the placement, if it is a run, is packed.
-fn pack_placement<S: BlockStore>(store: &mut S, bytes: u32, placement: Placement) -> u32
-    requires positive { 0 < bytes }
-    requires found { FindsPlacement bytes (S.zone store.old) (Some placement) }
-    ensures place { IsAt (place bytes (S.zone store.old)) (S.zone store.new) (Some result) }
-    ensures blocks { SameBlocks (S.zone store.old) (S.zone store.new) }
-    ensures nonrelocatable { KeepsNonrelocatable (S.zone store.old) (S.zone store.new) }
-    ensures rest { KeepsSlots (S.rest store.old) (S.rest store.new) }
-    ensures moves { Packs (place_moves bytes (S.zone store.old)) (S.rest store.old) (S.rest store.new) }
-{
-    let run = match placement {
-        Placement::Free(place) => return place,
-        Placement::Run(run) => run,
-    };
-    store.settle(run);
-    let Some(place) = store.find_free(bytes, 0, Sparing::Nothing) else {
-        unreachable!()
-    };
-    place
 }
 
 /// Moves the block of the slot `number`, whose physical size at its new size is `bytes`, to a place of its own.
@@ -339,15 +256,25 @@ pub fn grow_movable<S: BlockStore>(
         unreachable!()
     };
     let more = takes - bytes_of(store, slot);
-    let found = find_growth(store, slot, bytes, takes, more, sparing);
-    let searches = found.purges + 1;
-    let Some(growth) = found.growth else {
+    if let Some(growth) = growth_now(store, slot, bytes, takes, more) {
+        carry_out(store, slot, bytes, takes, growth)?;
+        return Ok(Grown {
+            done: true,
+            searches: 1,
+        });
+    }
+    let counted = count_for_growth(store, slot, bytes, takes, more, sparing);
+    let searches = counted.purges + 1;
+    if !counted.there {
         return Ok(Grown {
             done: false,
             searches,
         });
+    }
+    store.purge(counted.purges, sparing);
+    let Some(growth) = growth_now(store, slot, bytes, takes, more) else {
+        unreachable!()
     };
-    store.purge(found.purges, sparing);
     carry_out(store, slot, bytes, takes, growth)?;
     Ok(Grown {
         done: true,
@@ -367,6 +294,7 @@ pub fn tell_growth<S: BlockStore, K: PurgeSink>(
 ) -> Result<(), AllocError>
     requires spared { Spares sparing (is_relocatable slot) }
     requires stays { Stays sparing (is_relocatable slot) }
+    requires mover { IsSomeAnd (spot (is_relocatable slot) (S.zone store.now)) (λ s. IsTrue (is_mover s.here)) }
     requires more { IsToGrow (is_relocatable slot) bytes (S.zone store.now) }
     requires fits { IsSome (physical_size bytes) }
     requires idle { IsIdle K.told K.waits sink.old }
@@ -381,9 +309,12 @@ pub fn tell_growth<S: BlockStore, K: PurgeSink>(
         unreachable!()
     };
     let more = takes - bytes_of(store, slot);
-    let found = find_growth(store, slot, bytes, takes, more, sparing);
-    if found.growth.is_none() {
+    if growth_now(store, slot, bytes, takes, more).is_some() {
         return Ok(());
     }
-    tell(store, names, 0, found.purges, sparing, sink)
+    let counted = count_for_growth(store, slot, bytes, takes, more, sparing);
+    if !counted.there {
+        return Ok(());
+    }
+    tell(store, names, 0, counted.purges, sparing, sink)
 }

@@ -3,7 +3,7 @@
 ghost use Rattle.std.specs.Prelude.{◌≡◌, ◌≤◌, ◌<◌, ◌-◌, ◌+◌, ◌%◌, ◌++◌, ◌∷◌, true, false, Some, IsSome, IfSome};
 ghost use Rattle.std.specs.Prelude.{IsSomeAnd, IfOk, OnOk, OnErr, IsErr, IsTrue};
 ghost use Rattle.mac_words.specs.Size.{padded, phys as physical_size};
-ghost use Rattle.block_store.specs.Block.{size, sizes, resized};
+ghost use Rattle.block_store.specs.Block.{size, resized};
 ghost use Rattle.block_store.specs.Find.{IsEdge};
 ghost use Rattle.block_store.specs.Run.{in_run, has_free, segments};
 ghost use Rattle.block_store.specs.Room.{spot_at, purge, count_of};
@@ -20,7 +20,7 @@ ghost use Rattle.heap_calls.specs.Searches.{room_searches, in_place_searches};
 ghost use Rattle.block_store.specs.declared.measures.TheConstants.{GREATEST_ZONE};
 
 use crate::anchor::Anchor;
-use crate::least::{FindsFewest, Sought, fewest_by_searches, least_search};
+use crate::least::{Sought, least_search};
 use crate::sink::PurgeSink;
 use crate::telling::tell;
 use block_store::{BlockStore, MASTERS_SIZE, Seen, Sparing};
@@ -181,22 +181,14 @@ struct RunAbove {
 }
 
 impl Sought for RunAbove {
-    type Found = ();
-
     ghost Allows = { λ sought zone. IsMost sought.most sought.sparing (spot_at sought.place zone) };
 
     ghost is_there = { λ sought zone k. enough_above sought.bytes k sought.sparing (spot_at sought.place zone) };
 
     ghost most = { λ sought zone. sought.most };
 
-    ghost Finds = { λ sought zone k found. Unit {0} };
-
-    fn search_after<S: BlockStore>(&self, store: &S, purges: u32) -> Option<()> {
-        if store.run_after(self.place, self.bytes, purges, self.sparing) {
-            Some(())
-        } else {
-            None
-        }
+    fn is_there_after<S: BlockStore>(&self, store: &S, purges: u32) -> bool {
+        store.run_after(self.place, self.bytes, purges, self.sparing)
     }
 
     fn goes_on<S: BlockStore>(&self, store: &S) -> bool {
@@ -212,14 +204,6 @@ impl Sought for RunAbove {
     ghost ends = { λ sought zone k allows. above-ends sought.bytes sought.most sought.sparing
         (spot_at sought.place zone) k
         allows };
-
-    ghost absent = { λ sought zone k none. tt };
-}
-
-impl FindsFewest for RunAbove {
-    fn fewest_purges<S: BlockStore>(&self, store: &S) -> Option<u32> {
-        fewest_by_searches(store, self)
-    }
 }
 
 /// Finds the least number of blocks to purge from the run above the block at `place` so that the run has `bytes` free
@@ -241,12 +225,12 @@ fn least_purges<S: BlockStore>(store: &S, place: u32, bytes: u32, sparing: Spari
     };
     let searched = least_search(store, &sought);
     let searches = searched.purges + 1;
-    let Some(()) = searched.found else {
+    if !searched.there {
         return Fewest {
             purges: None,
             searches,
         };
-    };
+    }
     Fewest {
         purges: Some(searched.purges),
         searches,

@@ -1,9 +1,9 @@
 //! The least number of purges after which what is searched for is there.
 
-ghost use Rattle.std.specs.Prelude.{◌≡◌, ◌≤◌, ◌<◌, ℕ, Bool, true, false, Option, None, List, MatchOption, is_some, nat_lt};
+ghost use Rattle.std.specs.Prelude.{◌≡◌, ◌≤◌, ◌<◌, ℕ, Bool, true, false, List, nat_lt};
 ghost use Rattle.block_store.specs.Block.{Block};
 ghost use Rattle.block_store.specs.Compact.{least_or_last};
-ghost use Rattle.block_store.specs.Fewest.{IsFewest};
+ghost use Rattle.block_store.specs.Fewest.{IsFewest, serves};
 ghost use Rattle.block_store.specs.Sparing.{most_purges};
 ghost use Rattle.block_store.specs.declared.measures.TheConstants.{GREATEST_ZONE};
 
@@ -11,9 +11,6 @@ use block_store::{BlockStore, GREATEST_ZONE, Sparing};
 
 /// What is searched for in a zone after a number of purges.
 pub trait Sought: Copy {
-    /// Where it was found.
-    type Found: Copy;
-
     /// What has to be known of the zone.
     ghost Allows: { Self → List Block → Type 0 };
 
@@ -23,14 +20,10 @@ pub trait Sought: Copy {
     /// How many purges there can be.
     ghost most: { Self → List Block → ℕ };
 
-    /// What a search after a number of purges finds.
-    ghost Finds: { Self → List Block → ℕ → Option Self.Found → Type 0 };
-
-    /// Makes one search, after `purges` purges.
-    fn search_after<S: BlockStore>(&self, store: &S, purges: u32) -> Option<Self::Found>
+    /// Reports whether what is searched for is there after `purges` purges.
+    fn is_there_after<S: BlockStore>(&self, store: &S, purges: u32) -> bool
         requires { Allows self.now (S.zone store.now) }
-        ensures there { is_some result ≡ is_there self.now (S.zone store.now) purges }
-        ensures found { Finds self.now (S.zone store.now) purges result };
+        ensures { result ≡ is_there self.now (S.zone store.now) purges };
 
     /// Reports whether there can be a purge at all.
     fn goes_on<S: BlockStore>(&self, store: &S) -> bool
@@ -50,78 +43,54 @@ pub trait Sought: Copy {
     /// Once every block that may be purged is purged, a further purge changes nothing.
     ghost ends: { (sought : Self) (zone : List Block) (k : ℕ) → Allows sought zone → most sought zone ≤ k
         → is_there sought zone k ≡ is_there sought zone (most sought zone) };
-
-    /// A search for what isn't there finds nothing.
-    ghost absent: { (sought : Self) (zone : List Block) (k : ℕ) → is_there sought zone k ≡ false
-        → Finds sought zone k None };
 }
 
-/// What is searched for, and the question how many purges it takes.
-pub trait FindsFewest: Sought {
-    /// Returns the least number of purges after which what is searched for is there, where it isn't there before any
-    /// purge; `None` where no purges serve.
-    fn fewest_purges<S: BlockStore>(&self, store: &S) -> Option<u32>
-        requires allows { Self.Allows self.now (S.zone store.now) }
-        requires after_none { Self.is_there self.now (S.zone store.now) 0 ≡ false }
-        requires few { Self.most self.now (S.zone store.now) ≤ GREATEST_ZONE }
-        ensures { MatchOption result
-            (Self.is_there self.now (S.zone store.now) (Self.most self.now (S.zone store.now)) ≡ false)
-            (λ fewest. IsFewest (Self.is_there self.now (S.zone store.now)) fewest) };
-}
-
-/// The result of the searches: what was found, and the number of purges before it.
+/// Whether what is searched for is there after some number of purges, and the least such number, or the number of all
+/// purges that there can be.
 #[derive(Clone, Copy)]
-pub struct Searched<F> {
-    pub found: Option<F>,
+pub struct Searched {
+    pub there: bool,
     pub purges: u32,
 }
 
-/// Finds what is searched for after as few purges as serve, or after all that there can be where none serve: by a
-/// search before any purge, the question for the fewest purges, and a search after so many.
-pub fn least_search<S: BlockStore, L: FindsFewest>(store: &S, sought: &L) -> Searched<L::Found>
+/// Finds the least number of purges after which what is searched for is there, or all that there can be where none
+/// serve.
+pub fn least_search<S: BlockStore, L: Sought>(store: &S, sought: &L) -> Searched
     requires { L.Allows sought.now (S.zone store.now) }
     ensures least { result.purges ≡ least_or_last (L.is_there sought.now (S.zone store.now))
         (L.most sought.now (S.zone store.now)) }
-    ensures there { is_some result.found ≡ L.is_there sought.now (S.zone store.now) result.purges }
-    ensures found { L.Finds sought.now (S.zone store.now) result.purges result.found }
+    ensures there { result.there ≡ L.is_there sought.now (S.zone store.now) result.purges }
     ensures few { result.purges ≤ GREATEST_ZONE }
 {
-    let found = sought.search_after(store, 0);
-    if found.is_some() || !sought.goes_on(store) {
-        return Searched { found, purges: 0 };
-    }
-    let Some(purges) = sought.fewest_purges(store) else {
+    if sought.is_there_after(store, 0) {
         return Searched {
-            found: None,
-            purges: sought.most_purges(store),
+            there: true,
+            purges: 0,
         };
-    };
+    }
+    if !sought.goes_on(store) {
+        return Searched {
+            there: false,
+            purges: 0,
+        };
+    }
+    let there = sought.is_there_after(store, GREATEST_ZONE);
+    let most = sought.most_purges(store);
+    if !there {
+        return Searched {
+            there,
+            purges: most,
+        };
+    }
     Searched {
-        found: sought.search_after(store, purges),
-        purges,
+        there,
+        purges: fewest_within(store, sought, most),
     }
 }
 
-/// Finds by searches alone the least number of purges after which what is searched for is there, where it isn't there
-/// before any purge; `None` where no purges serve.
-pub fn fewest_by_searches<S: BlockStore, L: Sought>(store: &S, sought: &L) -> Option<u32>
-    requires allows { L.Allows sought.now (S.zone store.now) }
-    requires after_none { L.is_there sought.now (S.zone store.now) 0 ≡ false }
-    requires few { L.most sought.now (S.zone store.now) ≤ GREATEST_ZONE }
-    ensures { MatchOption result
-        (L.is_there sought.now (S.zone store.now) (L.most sought.now (S.zone store.now)) ≡ false)
-        (λ fewest. IsFewest (L.is_there sought.now (S.zone store.now)) fewest) }
-{
-    if sought.search_after(store, GREATEST_ZONE).is_none() {
-        return None;
-    }
-    Some(fewest_within(store, sought, sought.most_purges(store)))
-}
-
-/// Finds by searches alone the least number of purges after which what is searched for is there, where it is there
-/// after `enough`, and not before any purge. The numbers double until it is there; then what lies between the last two
-/// is halved.
-pub fn fewest_within<S: BlockStore, L: Sought>(store: &S, sought: &L, enough: u32) -> u32
+/// Finds the least number of purges after which what is searched for is there, where it is there after `enough`, and not
+/// before any purge. The numbers double until it is there; then what lies between the last two is halved.
+fn fewest_within<S: BlockStore, L: Sought>(store: &S, sought: &L, enough: u32) -> u32
     requires allows { L.Allows sought.now (S.zone store.now) }
     requires after_none { L.is_there sought.now (S.zone store.now) 0 ≡ false }
     requires enough { L.is_there sought.now (S.zone store.now) enough ≡ true }
@@ -132,7 +101,7 @@ pub fn fewest_within<S: BlockStore, L: Sought>(store: &S, sought: &L, enough: u3
     while purges - before > 1 {
         let step = ((purges - before) / 2).min(before + 1);
         let middle = before + step;
-        if sought.search_after(store, middle).is_some() {
+        if sought.is_there_after(store, middle) {
             purges = middle;
         } else {
             before = middle;
@@ -147,4 +116,24 @@ pub fn any_goes<S: BlockStore>(store: &S, sparing: Sparing) -> bool
     ensures few { most_purges sparing (S.zone store.now) ≤ GREATEST_ZONE }
 {
     store.next_purgeable(0, sparing).is_some()
+}
+
+/// Counts the purges after which a run has at least `bytes` free bytes: the least number that serves, or all that there
+/// can be where none serves.
+pub fn count_for_run<S: BlockStore>(store: &S, bytes: u32, sparing: Sparing) -> Searched
+    ensures least { result.purges ≡ least_or_last (serves bytes sparing (S.zone store.now))
+        (most_purges sparing (S.zone store.now)) }
+    ensures there { result.there ≡ serves bytes sparing (S.zone store.now) result.purges }
+    ensures few { result.purges ≤ GREATEST_ZONE }
+{
+    match store.fewest_purges(bytes, sparing) {
+        Some(purges) => Searched {
+            there: true,
+            purges,
+        },
+        None => Searched {
+            there: false,
+            purges: store.purgeable(sparing),
+        },
+    }
 }

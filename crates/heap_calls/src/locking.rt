@@ -8,7 +8,7 @@ ghost use Rattle.heap_calls.specs.Answer.{h_lock, h_unlock, move_h_hi, h_lock_hi
 use crate::anchor::slot_of;
 use crate::heap::Heap;
 use crate::refusal::Refusal;
-use block_store::{BlockStore, Seen, Sparing};
+use block_store::{BlockStore, Seen};
 use mac_words::OsErr;
 
 impl<S: BlockStore> Heap<S> {
@@ -82,7 +82,7 @@ impl<S: BlockStore> Heap<S> {
         if !can_move(self.store.block_at(place)) {
             return Err(Refusal::Code(OsErr::LOCKED));
         }
-        let Some(run) = self.store.run_of(found.slot, 0, 0, Sparing::Nothing) else {
+        let Some(run) = self.store.run_of(found.slot, 0) else {
             return Ok(());
         };
         self.store.hoist(run, found.slot);

@@ -1,6 +1,6 @@
 //! Purging.
 
-ghost use Rattle.std.specs.Prelude.{◌≡◌, ◌≢◌, true, Err, OnOk, OnErr, IsErr};
+ghost use Rattle.std.specs.Prelude.{◌≡◌, ◌≢◌, ◌<◌, true, Err, OnOk, OnErr, IsErr, IfSome};
 ghost use Rattle.block_store.specs.Block.{free_sum};
 ghost use Rattle.block_store.specs.Compact.{has_room};
 ghost use Rattle.block_store.specs.Sparing.{purged, most_purges};
@@ -17,7 +17,7 @@ ghost use Rattle.heap_calls.specs.Searches.{purge_mem_searches};
 use crate::compaction::{compact, has_room};
 use crate::growing_in_place::Grown;
 use crate::heap::Heap;
-use crate::least::{FindsFewest, Sought, any_goes, fewest_by_searches, least_search};
+use crate::least::{Sought, any_goes, least_search};
 use crate::refusal::Refusal;
 use crate::sink::PurgeSink;
 use crate::telling::tell;
@@ -64,10 +64,10 @@ impl<S: BlockStore> Heap<S> {
     {
         self.log.code = OsErr::NO_ERR;
         Space {
-            total: self.store.free_after(GREATEST_ZONE, Sparing::Nothing),
+            total: self.store.free_if_purged(),
             contiguous: self
                 .store
-                .largest_after(GREATEST_ZONE, Sparing::Nothing)
+                .largest_after(GREATEST_ZONE)
                 .saturating_sub(HEADER_SIZE),
         }
     }
@@ -76,7 +76,7 @@ impl<S: BlockStore> Heap<S> {
     pub fn free_or_purgeable(&self) -> u32
         ensures { result ≡ free_sum (purged_all self.now.heap.zone) }
     {
-        self.store.free_after(GREATEST_ZONE, Sparing::Nothing)
+        self.store.free_if_purged()
     }
 
     /// `MaxMem`: purges every block that may be purged, compacts all runs of movable blocks, and returns the logical
@@ -155,7 +155,7 @@ impl<S: BlockStore> Heap<S> {
         let bytes = phys(size);
         let purges = purges_for(&self.store, bytes);
         self.store.purge(purges, Sparing::Nothing);
-        let served = has_room(&self.store, bytes, 0);
+        let served = has_room(&self.store, bytes);
         self.account(Grown {
             done: served,
             searches: purges + 1,
@@ -170,21 +170,16 @@ struct FreeBlock {
 }
 
 impl Sought for FreeBlock {
-    type Found = ();
-
-    ghost Allows = { λ sought zone. Unit {0} };
+    ghost Allows = { λ sought zone. IfSome sought.bytes (λ p. 0 < p) };
 
     ghost is_there = { λ sought zone k. has_room sought.bytes (purged k Nothing zone) };
 
     ghost most = { λ sought zone. most_purges Nothing zone };
 
-    ghost Finds = { λ sought zone k found. Unit {0} };
-
-    fn search_after<S: BlockStore>(&self, store: &S, purges: u32) -> Option<()> {
-        if has_room(store, self.bytes, purges) {
-            Some(())
-        } else {
-            None
+    fn is_there_after<S: BlockStore>(&self, store: &S, purges: u32) -> bool {
+        match self.bytes {
+            None => false,
+            Some(bytes) => bytes <= store.largest_after(purges),
         }
     }
 
@@ -199,14 +194,6 @@ impl Sought for FreeBlock {
     ghost rises = { λ sought zone k m allows. has_room-rises sought.bytes Nothing zone k m };
 
     ghost ends = { λ sought zone k allows. room-ends sought.bytes Nothing zone k };
-
-    ghost absent = { λ sought zone k none. tt };
-}
-
-impl FindsFewest for FreeBlock {
-    fn fewest_purges<S: BlockStore>(&self, store: &S) -> Option<u32> {
-        fewest_by_searches(store, self)
-    }
 }
 
 /// Returns how many blocks are purged, lowest first, until a free block of `bytes` bytes stands; the number of all
@@ -214,6 +201,7 @@ impl FindsFewest for FreeBlock {
 ///
 /// *Inside Macintosh: Memory*, chapter 1, "Purging and Reallocating Relocatable Blocks".
 fn purges_for<S: BlockStore>(store: &S, bytes: Option<u32>) -> u32
+    requires { IfSome bytes (λ p. 0 < p) }
     ensures { result ≡ blocks_purged bytes (S.zone store.now) }
 {
     least_search(store, &FreeBlock { bytes }).purges

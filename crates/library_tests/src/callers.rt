@@ -2,7 +2,7 @@
 
 use crate::forks::{NOTE, joined};
 use arrayvec::ArrayVec;
-use block_store::{BlockStore, ListStore, Sparing};
+use block_store::{BlockStore, ListStore};
 use fork_format::{Content, read_fork, write_fork};
 use heap_calls::{Heap, NoSink};
 use mac_words::{Attrs, Name, OsErr, OsType, phys};
@@ -25,7 +25,7 @@ fn a_block_takes_its_header_and_padding(rt: HostRuntime) {
 fn a_block_is_carved_from_a_free_one(rt: HostRuntime) -> Result<(), Fail> {
     let mut store = ListStore::new(rt.alloc(), 1024)?;
     assert_eq!(rt; store.free_bytes(), 752);
-    if let Some(place) = store.find_free(128, 0, Sparing::Nothing) {
+    if let Some(place) = store.find_free(128) {
         store.carve_nonrelocatable(place, 100)?;
     }
     assert_eq!(rt; store.free_bytes(), 624);

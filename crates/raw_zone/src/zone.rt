@@ -7,25 +7,27 @@ ghost use Rattle.block_store.specs.Sparing.{purged};
 
 use block_store::{
     BlockStore, Flags, GREATEST_ZONE, HEADER_SIZE, LEAST_ZONE, MASTERS_SIZE, SLOTS_A_BLOCK, Seen,
-    Sparing, UNIT, Walk, find_free_in, find_run_in, free_after_in, largest_after_in,
-    next_purgeable_in, next_run_in, purgeable_in, purgeable_in_run_in, room_above_in,
-    run_has_free_in, run_of_in,
+    Sparing, UNIT, Walk, find_run_in, next_purgeable_in, next_run_in, purgeable_in,
+    purgeable_in_run_in, run_has_free_in, run_of_in,
 };
 use raw_region::Part;
 use std::alloc::{AllocError, Global};
 use std::marker::Model;
 use zone_bytes::{
-    Edges, Landmarks, PackedRun, SlotBlock, add_masters, block_of_slot, carve,
-    carve_nonrelocatable, changed_bound, content_at, count_purgeable, falls_short, flag_at,
-    free_after_from, free_block, free_slot, frees_one, given_at, given_with, has_room_behind,
-    hoist_block, kept_flags, make_fresh, mark_slot, move_bytes, next_purgeable, padded_size,
-    purge_above, purge_lowest, purgeable_at, purgeable_left, put_bytes, raise_run, read_header,
-    read_word, resize_block, settle_run, size_at, slot_place, slot_resource, walk_above, walk_from,
+    Edges, PackedRun, SlotBlock, add_masters, block_of_slot, carve, carve_nonrelocatable,
+    content_at, flag_at, hoist_block, kept_flags, make_fresh, mark_slot, move_bytes, padded_size,
+    put_bytes, raise_run, read_header, read_word, resize_block, settle_run, size_at, slot_place,
+    slot_resource, walk_above, walk_from,
+};
+use zone_marks::{
+    Landmarks, count_purgeable, falls_short, free_block, free_slot, frees_one, given_at,
+    has_room_behind, landmarks_of, next_purgeable, purge_above, purge_lowest, purgeable_at,
+    purgeable_left, purgeable_with,
 };
 
 /// A zone in the bytes of a part: each block begins with its header, and the slots lie in the master pointer blocks.
 /// The slots of no handle are one list, threaded through their words. Beside the part stand the first slot of that
-/// list, the number of its slots, the number of free bytes, and a bound on the bytes that may be purged.
+/// list, the number of its slots, the number of free bytes, and the number of bytes that purges would free.
 ///
 /// *Inside Macintosh: Memory*, chapter 2, "Organization of Memory".
 pub struct RawZone {
@@ -33,7 +35,7 @@ pub struct RawZone {
     first: u32,
     unused: u32,
     free: u32,
-    most_purgeable: u32,
+    purgeable: u32,
     moves: u64,
     marks: Landmarks,
     edges: Edges,
@@ -69,13 +71,14 @@ impl RawZone {
     ghost use Rattle.block_store.specs.Block.{fresh, sizes, tidy, Relocatable, content_of, is_nonrelocatable, is_relocatable};
     ghost use Rattle.block_store.specs.Slot.{is_used};
     ghost use Rattle.zone_bytes.specs.Laid.{LaysOut};
-    ghost use Rattle.zone_bytes.specs.Purgeable.{purgeable_at};
+    ghost use Rattle.zone_bytes.specs.PurgeableBytes.{purgeable_at};
     ghost use Rattle.block_store.specs.declared.measures.TheConstants.{GREATEST_ZONE, LEAST_ZONE, SLOTS_A_BLOCK};
     ghost use Rattle.block_store.specs.declared.measures.TheConstants.{UNIT};
     ghost use Rattle.block_store.specs.Run.{movers, settle, run_at, with_run, has};
     ghost use Rattle.block_store.specs.Rest.{IsRest, lowered_in_run};
     ghost use Rattle.raw_zone.specs.Parted.{zone_of, rest_of};
     ghost use Rattle.block_store.specs.Room.{spot, spot_at};
+    ghost use Rattle.block_store.specs.Fewest.{serves};
     ghost use Rattle.block_store.specs.Find.{FindsLowest};
     ghost use Rattle.block_store.specs.Seen.{seen};
     ghost use Rattle.block_store.specs.declared.sparing.Seen.TheVariants as see;
@@ -98,13 +101,13 @@ impl RawZone {
         let end = part.len() as u32;
         make_fresh(&mut part, end);
         let marks = Landmarks::of(alloc, &part);
-        let edges = Edges::new(alloc, &part);
+        let edges = Edges::new(alloc, landmarks_of(&part));
         RawZone {
             part,
             first: HEADER_SIZE,
             unused: SLOTS_A_BLOCK as u32,
             free: end - MASTERS_SIZE,
-            most_purgeable: 0,
+            purgeable: 0,
             moves: 0,
             marks,
             edges,
@@ -133,7 +136,7 @@ impl RawZone {
             first: _first,
             unused: _unused,
             free: _free,
-            most_purgeable: _most_purgeable,
+            purgeable: _purgeable,
             moves: _moves,
             marks: _marks,
             edges: _edges,
@@ -166,9 +169,19 @@ impl RawZone {
     {
         let freed = purge_lowest(&mut self.part, &self.marks, purges, sparing);
         self.free += freed.bytes;
-        self.most_purgeable = purgeable_left(&self.part, self.most_purgeable, freed.bytes, sparing);
+        self.purgeable = purgeable_left(&self.part, self.purgeable, freed.bytes, sparing);
         self.marks.note(&self.part, freed.from, freed.to);
         self.marks.seek(&self.part);
+    }
+
+    /// Reports whether a run has at least `bytes` free bytes without any purge.
+    fn has_run(&self, bytes: u32, sparing: Sparing) -> bool
+        ensures { result ≡ serves bytes sparing (zone_of self.now) 0 }
+    {
+        if is_as_it_stands(0, sparing) {
+            return self.find_run(bytes).is_some();
+        }
+        find_run_in(&mut walk_from(&self.part, 0), bytes, 0, sparing).is_some()
     }
 
     /// Returns the block of a handle.
@@ -201,10 +214,9 @@ impl RawZone {
             zone_of self.new ≡ s.below ++ Relocatable number flags (content_of s.here) ∷ s.above) }
         ensures rest { IsRest (rest_of self.old) (rest_of self.new) }
     {
-        let given = given_with(flags, size_at(&self.part, place));
         zone_bytes::adopt(&mut self.part, place, number, flags);
         self.marks.note_block(&self.part, place);
-        self.most_purgeable = changed_bound(self.most_purgeable, 0, given);
+        self.purgeable = purgeable_with(&self.part, place, self.purgeable, 0);
     }
 }
 
@@ -249,33 +261,28 @@ impl BlockStore for RawZone {
         slot_place(&self.part, number)
     }
 
-    fn find_free(&self, bytes: u32, purges: u32, sparing: Sparing) -> Option<u32> {
-        if falls_short(self.free, self.most_purgeable, bytes, purges, sparing) {
+    fn find_free(&self, bytes: u32) -> Option<u32> {
+        if self.free < bytes {
             return None;
         }
-        if is_as_it_stands(purges, sparing) {
-            self.marks.find(&self.part, bytes)
-        } else if frees_one(sparing) {
-            find_free_in(&mut walk_from(&self.part, 0), bytes, purges, sparing)
-        } else {
-            self.marks.find_after(&self.part, bytes, purges, sparing)
-        }
+        self.marks.find(&self.part, bytes)
     }
 
-    fn find_run(&self, bytes: u32, purges: u32, sparing: Sparing) -> Option<u32> {
-        if falls_short(self.free, self.most_purgeable, bytes, purges, sparing) {
+    fn find_run(&self, bytes: u32) -> Option<u32> {
+        if self.free < bytes {
             return None;
         }
-        if frees_one(sparing) {
-            find_run_in(&mut walk_from(&self.part, 0), bytes, purges, sparing)
-        } else {
-            self.marks.find_run(&self.part, bytes, purges, sparing)
-        }
+        self.marks.find_run(&self.part, bytes)
     }
 
     fn fewest_purges(&self, bytes: u32, sparing: Sparing) -> Option<u32> {
-        let found = self.find_run(bytes, GREATEST_ZONE, sparing);
-        self.marks.fewest_purges(&self.part, found, bytes, sparing)
+        if self.has_run(bytes, sparing) {
+            return Some(0);
+        }
+        if falls_short(self.free_if_purged(), bytes, sparing) {
+            return None;
+        }
+        self.marks.fewest_purges(&self.part, bytes, sparing)
     }
 
     fn next_run(&self, run: u32) -> Option<u32> {
@@ -286,7 +293,7 @@ impl BlockStore for RawZone {
     }
 
     fn next_purgeable(&self, purges: u32, sparing: Sparing) -> Option<u32> {
-        if self.most_purgeable == 0 {
+        if self.purgeable == 0 {
             return None;
         }
         if frees_one(sparing) {
@@ -296,7 +303,7 @@ impl BlockStore for RawZone {
     }
 
     fn purgeable(&self, sparing: Sparing) -> u32 {
-        if self.most_purgeable == 0 {
+        if self.purgeable == 0 {
             return 0;
         }
         if frees_one(sparing) {
@@ -305,51 +312,40 @@ impl BlockStore for RawZone {
         count_purgeable(&self.part, self.marks.start(), sparing)
     }
 
-    fn room_above(&self, number: u32, bytes: u32, purges: u32, sparing: Sparing) -> bool {
-        if is_as_it_stands(purges, sparing) {
-            has_room_behind(&self.part, &self.marks, number, bytes)
-        } else {
-            room_above_in(
-                &mut walk_from(&self.part, 0),
-                number,
-                bytes,
-                purges,
-                sparing,
-            )
-        }
+    fn room_above(&self, number: u32, bytes: u32) -> bool {
+        has_room_behind(&self.part, &self.marks, number, bytes)
     }
 
-    fn run_of(&self, number: u32, bytes: u32, purges: u32, sparing: Sparing) -> Option<u32> {
-        if falls_short(self.free, self.most_purgeable, bytes, purges, sparing) {
+    fn run_of(&self, number: u32, bytes: u32) -> Option<u32> {
+        if self.free < bytes {
             return None;
         }
         run_of_in(
             &mut walk_from(&self.part, 0),
             number,
             bytes,
-            purges,
-            sparing,
+            0,
+            Sparing::Nothing,
         )
     }
 
-    fn free_after(&self, purges: u32, sparing: Sparing) -> u32 {
-        if frees_one(sparing) {
-            return free_after_in(&mut walk_from(&self.part, 0), purges, sparing);
+    fn fewest_for_block(&self, number: u32, bytes: u32, sparing: Sparing) -> Option<u32> {
+        if falls_short(self.free_if_purged(), bytes, sparing) {
+            return None;
         }
-        if self.most_purgeable == 0 {
-            return self.free;
-        }
-        free_after_from(&self.part, self.free, self.marks.start(), purges, sparing)
+        self.marks
+            .fewest_for_block(&self.part, number, bytes, sparing)
     }
 
-    fn largest_after(&self, purges: u32, sparing: Sparing) -> u32 {
-        if frees_one(sparing) {
-            return largest_after_in(&mut walk_from(&self.part, 0), purges, sparing);
-        }
-        if self.most_purgeable == 0 {
+    fn free_if_purged(&self) -> u32 {
+        self.free + self.purgeable
+    }
+
+    fn largest_after(&self, purges: u32) -> u32 {
+        if self.purgeable == 0 {
             return self.marks.largest_free(&self.part);
         }
-        self.marks.largest_after(&self.part, purges, sparing)
+        self.marks.largest_after(&self.part, purges)
     }
 
     fn purge(&mut self, purges: u32, sparing: Sparing) {
@@ -369,7 +365,7 @@ impl BlockStore for RawZone {
     fn purge_after(&mut self, place: u32, purges: u32, sparing: Sparing) {
         let freed = purge_above(&mut self.part, place, purges, sparing);
         self.free += freed.bytes;
-        self.most_purgeable = changed_bound(self.most_purgeable, freed.bytes, 0);
+        self.purgeable -= freed.bytes;
         self.marks.note(&self.part, freed.from, freed.to);
     }
 
@@ -431,7 +427,7 @@ impl BlockStore for RawZone {
         let given = self.purgeable_of(number);
         let freed = free_slot(&mut self.part, &self.marks, number);
         self.free += freed.bytes;
-        self.most_purgeable = changed_bound(self.most_purgeable, given, 0);
+        self.purgeable -= given;
         self.marks.note(&self.part, freed.from, freed.to);
     }
 
@@ -440,7 +436,7 @@ impl BlockStore for RawZone {
         let gives = given_at(given, bytes);
         let resized = resize_block(&mut self.part, place, bytes, self.free);
         self.free = resized.free;
-        self.most_purgeable = changed_bound(self.most_purgeable, given, gives);
+        self.purgeable = self.purgeable - given + gives;
         self.marks.note(&self.part, place, resized.top);
         Ok(())
     }
@@ -456,10 +452,9 @@ impl BlockStore for RawZone {
 
     fn set_flags(&mut self, place: u32, flags: Flags) {
         let given = purgeable_at(&self.part, place);
-        let gives = given_with(flags, size_at(&self.part, place));
         flag_at(&mut self.part, place, flags);
         self.marks.note_block(&self.part, place);
-        self.most_purgeable = changed_bound(self.most_purgeable, given, gives);
+        self.purgeable = purgeable_with(&self.part, place, self.purgeable, given);
     }
 
     fn take_slot(&mut self) -> Option<u32> {

@@ -3,9 +3,6 @@ pub mod FreeTags
 pub mod Below
 pub mod Freed
 pub mod Above
-pub mod Released
 pub mod ByName
 pub mod Handles
 pub mod NonrelocatableFreed
-pub mod Passing
-pub mod PurgeStarts

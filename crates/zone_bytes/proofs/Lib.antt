@@ -8,6 +8,4 @@ pub mod Laws
 pub mod Regions
 pub mod Placed
 pub mod Joined
-pub mod Marks
 pub mod Bounds
-pub mod Searches

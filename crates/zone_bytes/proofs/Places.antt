@@ -5,3 +5,6 @@ pub mod HeaderTells
 pub mod Options
 pub mod Edges
 pub mod LedTo
+pub mod Became
+pub mod Noted
+pub mod Steps

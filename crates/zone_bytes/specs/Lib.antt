@@ -17,14 +17,9 @@ pub mod Laid
 pub mod Looking
 pub mod Hoisting
 pub mod Laying
-pub mod Marked
-pub mod Marks
 pub mod Edges
 pub mod Mastering
 pub mod Joining
-pub mod Purgeable
-pub mod Purging
-pub mod Searching
 pub mod Adopting
-pub mod Largest
-pub mod Beginning
+pub mod Changes
+pub mod PurgeableBytes

@@ -4,9 +4,6 @@ ghost use Rattle.std.specs.Prelude.{◌≡◌, ◌+◌, ◌∷◌, ◌++◌, [],
 ghost use Rattle.block_store.specs.Block.{Block, sizes};
 ghost use Rattle.zone_bytes.specs.Edges.{AreEdges, Starts};
 
-use crate::landmark::GROUP;
-use crate::paging::groups_of;
-use raw_region::Part;
 use std::alloc::Global;
 
 /// Places at which relocatable blocks of a run begin once the run is packed: for each page above the run's first page,
@@ -21,11 +18,11 @@ pub struct Edges {
 }
 
 impl Edges {
-    /// Makes a list of no edges, with room for as many as the zone has landmarks.
-    pub fn new(alloc: Global, part: &Part) -> Edges
+    /// Makes a list of no edges, with room for `room` of them.
+    pub fn new(alloc: Global, room: usize) -> Edges
         ensures { (base : ℕ) → AreEdges result base [] }
     {
-        let places = match Vec::from_elem(alloc, 0, groups_of(part) * GROUP) {
+        let places = match Vec::from_elem(alloc, 0, room) {
             Ok(places) => places,
             Err(_) => Vec::new(alloc),
         };

@@ -9,7 +9,7 @@ ghost use Rattle.zone_bytes.specs.Table.{Lays, slot_in};
 ghost use Rattle.zone_bytes.specs.Lawful.{IsSound};
 ghost use Rattle.zone_bytes.specs.Stepping.{left_in, IsOnWay};
 ghost use Rattle.zone_bytes.specs.Laying.{free_first};
-ghost use Rattle.zone_bytes.specs.Marks.{Replaced};
+ghost use Rattle.zone_bytes.specs.Changes.{Replaced};
 ghost use Rattle.zone_bytes.specs.Beside.{KeepsPlace};
 
 use crate::carving::padded_size;

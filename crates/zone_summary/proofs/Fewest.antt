@@ -36,11 +36,11 @@ stretch-on : (b : Block) (above : List Block) → in_run b ≡ true
     → stretch_of (b ∷ above) ≡ join (Whole (free_of b)) (stretch_of above)
 stretch-on b above e = ap (λ r. join (counted r (free_of b)) (stretch_of above)) e
 
-stretch-off : (b : Block) (above : List Block) → in_run b ≡ false
+pub stretch-off : (b : Block) (above : List Block) → in_run b ≡ false
     → stretch_of (b ∷ above) ≡ join (Ended 0 0 0) (stretch_of above)
 stretch-off b above e = ap (λ r. join (counted r (free_of b)) (stretch_of above)) e
 
-prefix-on : (b : Block) (above : List Block) → in_run b ≡ true
+pub prefix-on : (b : Block) (above : List Block) → in_run b ≡ true
     → prefix (stretch_of (b ∷ above)) ≡ free_of b + prefix (stretch_of above)
 prefix-on b above e = ap prefix (stretch-on b above e) ∙ prefix-more (free_of b) (stretch_of above)
 
@@ -158,7 +158,7 @@ record IsFreed (sp : Block → Bool) (bytes : ℕ) (blocks : List Block) : Type 
   fewer : (k : ℕ) → k < purges_for sp bytes blocks → IsShort sp k bytes blocks
 
 module _ (sp : Block → Bool) where
-  gone : (b : Block) → may_be_purged sp b ≡ true → (in_run b ≡ true) × (free_of b ≡ 0)
+  pub gone : (b : Block) → may_be_purged sp b ≡ true → (in_run b ≡ true) × (free_of b ≡ 0)
   gone (Free n) e = absurd (true≢false (sym e))
   gone (Nonrelocatable id content) e = absurd (true≢false (sym e))
   gone Masters e = absurd (true≢false (sym e))
@@ -429,4 +429,4 @@ never-serves p n zone f =
     let none : serves p n zone most ≡ false =
     ap (λ z. is_some (run_spot (has_free p) z)) (purged-most most n zone (omega arith)) ∙ ap is_some f in
     none-serve p n zone most (omega arith)
-    (λ k l. none-before (serves p n zone) (λ k m le is. run-rises p n zone k m le is) most k l none)
+    (λ k l. none-before (serves p n zone) (λ k m le is. run-rises p n zone k m le is) most k (omega (arith, l)) none) none

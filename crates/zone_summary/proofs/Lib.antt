@@ -4,4 +4,5 @@ pub mod Sums
 pub mod Searching
 pub mod Purges
 pub mod Fewest
+pub mod BlockRuns
 mod Examples

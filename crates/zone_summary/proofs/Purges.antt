@@ -34,7 +34,7 @@ stretch_of-tidy [] = refl
 stretch_of-tidy (b ∷ bs) = stretch_of-add b (tidy bs) ∙ ap (join (one b)) (stretch_of-tidy bs)
 
 module _ (sp : Block → Bool) where
-  count-here : (t : Bool) (b : Block) (bs : List Block) → may_be_purged sp b ≡ t
+  pub count-here : (t : Bool) (b : Block) (bs : List Block) → may_be_purged sp b ≡ t
       → count_of sp (b ∷ bs) ≡ cond {A = ℕ} t 1 0 + count_of sp bs
   count-here t b bs e = ap {B = ℕ} (λ (t : Bool). cond {A = ℕ} t 1 0 + count_of sp bs) e
 

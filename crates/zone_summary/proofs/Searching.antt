@@ -1,10 +1,12 @@
 -- The search for a run passes blocks by what they come to.
-use Rattle.std.proofs.Common.{◌≡◌, ℕ, ◌+◌, ◌<◌, Bool, true, false, not, None, List, [], ◌∷◌, ◌++◌, nat_le}
-use Rattle.std.proofs.Common.{refl, sym, ◌∙◌, ap, arith, append-nil}
+use Rattle.std.proofs.Common.{◌≡◌, ℕ, ◌+◌, ◌<◌, ◌≤◌, zero, suc, Bool, true, false, not, None, Some, List, [], ◌∷◌, ◌++◌, nat_le}
+use Rattle.std.proofs.Common.{refl, sym, ◌∙◌, ap, arith, append-nil, cond, map}
 use Rattle.std.proofs.lemmas.Bool.{lt-leb, cond-true, cond-false}
 use Rattle.block_store.specs.Block.{Block, Free, Nonrelocatable, Masters, Relocatable, size, sizes, free_of, free_sum}
 use Rattle.block_store.specs.Inner.RunScan.{met_after, scan_runs}
+use Rattle.block_store.specs.Room.{count_of, may_be_purged}
 use Rattle.block_store.specs.Run.{in_run, has}
+use Rattle.zone_summary.specs.Emptied.{emptied}
 use Rattle.zone_summary.specs.Searches.{found_from}
 use Rattle.zone_summary.specs.Stretches.{counted, join, suffix, best, is_ended, stretch_of}
 use Rattle.zone_summary.specs.declared.stretch.Stretch.{Stretch}
@@ -126,6 +128,51 @@ module _ (p : ℕ) (sp : Block → Bool) where
       r.1 ∙ scan-forget r.0 (suffix s) (place + sizes low) 0 (place + sizes low) mid rest e
       (omega (arith, best-on s (stretch_of mid), both))
       (rw (join-unit_left (stretch_of mid)) (omega (arith, best-high s (stretch_of mid), both)))
+
+-- blocks of which none may be purged
+pub emptied-none : (sp : Block → Bool) (blocks : List Block) → count_of sp blocks ≤ 0 → map (emptied sp) blocks ≡ blocks
+emptied-none sp [] few = refl
+emptied-none sp (b ∷ above) few = step (may_be_purged sp b) few (emptied-none sp above)
+  where
+    step : (t : Bool) → cond {A = ℕ} t 1 0 + count_of sp above ≤ 0
+        → (count_of sp above ≤ 0 → map (emptied sp) above ≡ above)
+        → cond t (Free (size b)) b ∷ map (emptied sp) above ≡ b ∷ above
+    step true few more = absurd (omega (arith, few))
+    step false few more = ap (λ l. b ∷ l) (more (omega (arith, few)))
+
+-- a search with a purge for each block that may be purged finds what one finds once they all were
+pub scan-emptied : (p : ℕ) (sp : Block → Bool) (k start free place : ℕ) (blocks : List Block) → count_of sp blocks ≤ k
+    → scan_runs None p sp k start free true place blocks ≡ found_from p sp start free place (map (emptied sp) blocks)
+scan-emptied p sp zero start free place blocks few =
+    ap (found_from p sp start free place) (sym (emptied-none sp blocks few))
+scan-emptied p sp (suc k) start free place [] few = refl
+scan-emptied p sp (suc k) start free place (b ∷ above) few =
+    step (may_be_purged sp b) refl few (λ k start free place. scan-emptied p sp k start free place above)
+  where
+    rest : List Block
+    rest = map (emptied sp) above
+
+    Finds : Type 0
+    Finds = (k start free place : ℕ) → count_of sp above ≤ k
+        → scan_runs None p sp k start free true place above ≡ found_from p sp start free place rest
+
+    stays : may_be_purged sp b ≡ false → count_of sp above ≤ suc k → Finds → (t : Bool) → in_run b ≡ t
+        → scan_runs None p sp (suc k) start free true place (b ∷ above) ≡ found_from p sp start free place (b ∷ rest)
+    stays e few more true i = cond-false (may_be_purged sp b) _ _ e ∙ cond-true (in_run b) _ _ i
+        ∙ ap (λ m. scan_runs None p sp (suc k) start (free + free_of b) m (place + size b) above) (met-always b)
+        ∙ more (suc k) start (free + free_of b) (place + size b) few ∙ sym (found-more p sp start free place b rest i)
+    stays e few more false i = cond-false (may_be_purged sp b) _ _ e ∙ cond-false (in_run b) _ _ i
+        ∙ ap (cond (nat_le p free) (Some start)) (more (suc k) (place + size b) 0 (place + size b) few)
+        ∙ sym (cond-false (in_run b) _ _ i)
+
+    step : (t : Bool) → may_be_purged sp b ≡ t → cond {A = ℕ} t 1 0 + count_of sp above ≤ suc k → Finds
+        → scan_runs None p sp (suc k) start free true place (b ∷ above)
+        ≡ found_from p sp start free place (emptied sp b ∷ rest)
+    step true e few more = cond-true (may_be_purged sp b) _ _ e
+        ∙ more k start (free + size b) (place + size b) (omega (arith, few))
+        ∙ ap (λ c. found_from p sp start free place (c ∷ rest)) (sym (cond-true (may_be_purged sp b) (Free (size b)) b e))
+    step false e few more = stays e (omega (arith, few)) more (in_run b) refl
+        ∙ ap (λ c. found_from p sp start free place (c ∷ rest)) (sym (cond-false (may_be_purged sp b) (Free (size b)) b e))
 
 -- blocks of which none ends a run
 pub whole-rest : (n w : ℕ) (s : Stretch) → join (Whole n) s ≡ Whole w → (c : ℕ) × (s ≡ Whole c) × (n + c ≡ w)

@@ -1,8 +1,9 @@
 -- The lowest blocks that may be purged, counted: up to a place, and until so many bytes are free. Inside Macintosh: Memory,
 -- chapter 1, "Purging and Reallocating Relocatable Blocks".
-use Rattle.std.specs.Prelude.{ℕ, ◌+◌, ◌-◌, zero, suc, Bool, if◌then◌else◌, List, [], ◌∷◌}
+use Rattle.std.specs.Prelude.{ℕ, ◌+◌, ◌-◌, zero, suc, Bool, if◌then◌else◌, List, [], ◌∷◌, Option, Some, None}
 use Rattle.block_store.specs.Block.{Block, size}
 use Rattle.block_store.specs.Room.{may_be_purged}
+use Rattle.block_store.specs.Run.{in_run}
 
 -- How many of the lowest blocks that may be purged free so many bytes; all of them where they free fewer.
 abbrev pub purges_for : (Block → Bool) → ℕ → List Block → ℕ
@@ -18,3 +19,12 @@ count_within spared zero blocks = 0
 count_within spared (suc bytes) [] = 0
 count_within spared (suc bytes) (b ∷ above) =
     (if may_be_purged spared b then 1 else 0) + count_within spared (suc bytes - size b) above
+
+-- How many of the lowest blocks of a run that may be purged free so many bytes, after `done` others; none where they free
+-- fewer. The run ends where a block that is in none does.
+abbrev pub run_purges_for : (Block → Bool) → ℕ → ℕ → List Block → Option ℕ
+run_purges_for spared done zero blocks = Some done
+run_purges_for spared done (suc bytes) [] = None
+run_purges_for spared done (suc bytes) (b ∷ above) =
+    if may_be_purged spared b then run_purges_for spared (suc done) (suc bytes - size b) above
+    else (if in_run b then run_purges_for spared done (suc bytes) above else None)

@@ -59,4 +59,14 @@ impl Stretch {
             Stretch::Ended(p, i, s) => greater(p, greater(i, s)),
         }
     }
+
+    /// Returns the free bytes of the run at the lower end.
+    pub fn lowest(self) -> u32
+        ensures { result ≡ prefix self }
+    {
+        match self {
+            Stretch::Whole(a) => a,
+            Stretch::Ended(p, _, _) => p,
+        }
+    }
 }

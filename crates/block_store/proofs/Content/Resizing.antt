@@ -1,6 +1,6 @@
 use Rattle.std.proofs.Common.{◌≡◌, ℕ, ◌+◌, ◌-◌, ◌≤◌, ◌<◌, zero, suc, Bool, true, false, ◌==◌, List, [], ◌∷◌, ◌++◌}
 use Rattle.std.proofs.Common.{length, take, drop, get_or, slice_set, refl, sym, ◌∙◌, ap, cond, map, subst, arith}
-use Rattle.std.proofs.Common.{Option, Some, None, Result, Ok, Err, nat_le, is_some, ◌⊎◌, inl, inr}
+use Rattle.std.proofs.Common.{Option, Some, None, Result, Ok, Err, nat_le, ◌⊎◌, inl, inr}
 use Rattle.std.proofs.lemmas.Option.{none-some, same_Some}
 use Rattle.std.proofs.lemmas.Bool.{cond-true, cond-false, or_parts}
 use Rattle.std.proofs.lemmas.Bool.Decides.{nat_tests, Decides-eqb}
@@ -12,7 +12,6 @@ use Rattle.block_store.specs.Block.{Block, Free, Nonrelocatable, Masters, Reloca
 use Rattle.block_store.specs.Block.{is_relocatable, is_masters, resized, resized_content, content_of, with_content}
 use Rattle.block_store.specs.Block.{count, total, add, tidy}
 use Rattle.block_store.specs.Room.{Spot, spot, spot_at, raised}
-use Rattle.block_store.specs.Find.{FindsLowest}
 use Rattle.block_store.specs.Run.{has}
 use Rattle.block_store.specs.Grow.{taken, growth, grow_up, freed}
 use Rattle.block_store.specs.Inner.ListStore.{block_of, blocks_of, nth_spot}
@@ -538,39 +537,3 @@ next-at place (b ∷ bs) s s' some e e' = cases (place == 0) refl (nat_le (size 
         let r = map-some (spot_at k bs) s' (sym (step (place + size s.here) k (omega arith) (omega arith)) ∙ e') in
         sym (ap (λ (s : Spot). s.above) p.2) ∙ rest p.0 r.0 (omega arith) p.1 r.1
         ∙ ap (λ (r : Spot). r.here ∷ r.above) r.2
-
-pub taken-grow_up : (new : Block) (s : Spot) → IsSome (taken (growth new s) s.above) → IsSome (grow_up new s)
-taken-grow_up new s is = cases (taken (growth new s) s.above) is
-  where
-    cases : (o : Option (List Block)) → IsSome o → IsSome (option_map (λ above. s.below ++ new ∷ above) o)
-    cases None is = is
-    cases (Some above) is = refl
-
-size-of : (number : ℕ) (b : Block) → is_relocatable number b ≡ true → size b ≡ padded (length (content_of b))
-size-of number (Free m) e = let f : false ≡ true = e in cc
-size-of number (Nonrelocatable id content) e = refl
-size-of number Masters e = let f : false ≡ true = e in cc
-size-of number (Relocatable id flags content) e = refl
-
--- a slot's block may grow where a Free block with room follows it
-pub room-next : (number place was n m : ℕ) (zone : List Block) → FindsLowest (is_relocatable number) zone (Some place)
-    → IfSome (spot_at place zone) (λ s. length (content_of s.here) ≡ was)
-    → FindsLowest (is_room m) zone (Some (place + padded was)) → m ≡ padded n - padded was
-    → IsSomeAnd (spot_at place zone) (λ s. (size (resized n s.here) ≤ size s.here)
-    ⊎ IsSome (grow_up (resized n s.here) s))
-room-next number place was n m zone (s, found, at, below) held (s', found', at', below') same =
-    let passes = spot-passes (is_relocatable number) zone s found in
-    let long : length (content_of s.here) ≡ was = subst (λ (o : Option Spot). IfSome o
-    (λ s. length (content_of s.here) ≡ was)) at held in
-    let here : size s.here ≡ padded was = size-of number s.here passes ∙ ap padded long in
-    let new : size (resized n s.here) ≡ padded n = size-resized number n s.here passes in
-    let next = next-at place zone s s' (let z : 0 < padded was = omega arith in
-    omega arith) at (ap (λ k. spot_at (place + k) zone) here ∙ at') in
-    let room = spot-passes (is_room m) zone s' found' in
-    let more : m ≡ growth (resized n s.here) s = omega arith in
-    let some : IsSome (taken m (s'.here ∷ s'.above)) = ap is_some (cond-true (is_room m s'.here) _ _ room) in
-    let taken-there : IsSome (taken (growth (resized n s.here) s) s.above) =
-    subst (λ (k : ℕ). IsSome (taken k s.above)) more (subst (λ (l : List Block). IsSome (taken m l)) (sym next)
-    some) in
-    subst (λ (o : Option Spot). IsSomeAnd o (λ s. (size (resized n s.here) ≤ size s.here)
-    ⊎ IsSome (grow_up (resized n s.here) s))) (sym at) (inr (taken-grow_up (resized n s.here) s taken-there))

@@ -8,9 +8,9 @@ use Rattle.block_store.specs.Block.{is_relocatable, add, tidy, content_of, with_
 use Rattle.block_store.specs.Run.{RunSpot, in_run, run_at, with_run, movers, others, settle, low, high, has_free}
 use Rattle.block_store.specs.Room.{Spot, raised, spot_at, filled, may_be_purged, lowest_purged}
 use Rattle.block_store.specs.Grow.{growth, taken, grow_up, freed}
-use Rattle.block_store.specs.Sparing.{spared, opened, purged}
+use Rattle.block_store.specs.Sparing.{spared, opened}
 use Rattle.block_store.specs.Compact.{Placed}
-use Rattle.block_store.specs.Seen.{with_flags, moved_away}
+use Rattle.block_store.specs.Seen.{with_flags}
 use Rattle.block_store.specs.Inner.Packing.{Loose}
 use Rattle.block_store.specs.declared.flags.Flags.{Flags}
 use Rattle.block_store.specs.declared.sparing.Sparing.{Sparing}
@@ -18,7 +18,6 @@ use Rattle.block_store.specs.declared.sparing.Sparing.TheVariants as sparing
 use Rattle.block_store.proofs.Regroup.RunLists.{run_at-parts, run_at-is}
 use Rattle.block_store.proofs.Zone.Aligned.{spot_at-is}
 use Rattle.block_store.proofs.Zone.Totals.{total-append}
-use Rattle.block_store.proofs.Zone.Listing.{size-freed}
 use Rattle.block_store.proofs.Zone.Spots.{size-content}
 use Rattle.block_store.proofs.Zone.Passing.{filter-keeps}
 
@@ -134,10 +133,6 @@ placed-opened place sparing.Nothing bs p = p
 placed-opened place (sparing.One slot) bs p = p
 placed-opened place (sparing.Two slot other) bs p = p
 placed-opened place (sparing.Freed slot) bs p = placed-freed place (is_relocatable slot) bs p
-
-pub placed-purged : (place k : ℕ) (n : Sparing) (bs : List Block) → Placed place bs → Placed place (purged k n bs)
-placed-purged place k n bs p = placed-tidy place (lowest_purged k (spared n) (opened n bs))
-    (placed-lowest_purged place k (spared n) (opened n bs) (placed-opened place n bs p))
 
 -- blocks above others that were purged
 pub placed-purged_above : (place k : ℕ) (spared : Block → Bool) (below : List Block) (b : Block) (above : List Block)
@@ -255,26 +250,6 @@ pub placed-filled_at : (place : ℕ) (zone : List Block) (new : Block) (s : Spot
     → spot_at place zone ≡ Some s → StandsAt place new → size new ≤ size s.here → Placed 0 (filled new s)
 placed-filled_at place zone new s p at stands fits = placed-filled 0 new s (stands-spot place zone s new at stands) fits
     (placed-spot place zone s p at)
-
--- the spot after the block that passes went away
-pub placed-moved : (place : ℕ) (test : Block → Bool) (s : Spot) → Placed place (s.below ++ s.here ∷ s.above)
-    → Placed place ((moved_away test s).below ++ (moved_away test s).here ∷ (moved_away test s).above)
-placed-moved place test s p =
-    let here = place + sizes s.below in
-    let rest = placed-above place s.below (s.here ∷ s.above) p in
-    let same : here ≡ place + sizes (freed test s.below) = ap (λ n. place + n) (sym (size-freed test s.below)) in
-    placed-append place (freed test s.below) (s.here ∷ freed test s.above)
-    (placed-freed place test s.below (placed-below place s.below (s.here ∷ s.above) p))
-    (placed-at here (place + sizes (freed test s.below)) (s.here ∷ freed test s.above) same
-    (placed-cons here s.here (freed test s.above) (placed-here here s.here s.above rest)
-    (placed-freed (here + size s.here) test s.above (placed-next here s.here s.above rest))))
-
--- a block that isn't nonrelocatable moved to a spot
-pub placed-moved_filled : (place : ℕ) (test : Block → Bool) (new : Block) (s : Spot) → ((k : ℕ) → StandsAt k new)
-    → size new ≤ size s.here → Placed place (s.below ++ s.here ∷ s.above)
-    → Placed place (filled new (moved_away test s))
-placed-moved_filled place test new s stands fits p = placed-filled place new (moved_away test s)
-    (stands (place + sizes (freed test s.below))) fits (placed-moved place test s p)
 
 -- bytes taken from the Free block that comes first
 pub placed-taken : (place d : ℕ) (above rest : List Block) → Placed place above → taken d above ≡ Some rest
@@ -505,25 +480,3 @@ stands-resized place n (Free m) s = s
 stands-resized place n (Nonrelocatable id content) s = s
 stands-resized place n Masters s = s
 stands-resized place n (Relocatable id flags content) s = s
-
--- the block at a place is cut where it stands
-pub placed-cut_at : (place n : ℕ) (zone : List Block) (s : Spot) → Placed 0 zone → spot_at place zone ≡ Some s
-    → size (resized n s.here) ≤ size s.here → Placed 0 (filled (resized n s.here) s)
-placed-cut_at place n zone s p at fits = placed-filled_at place zone (resized n s.here) s p at
-    (stands-resized place n s.here (stands-here place zone s p at)) fits
-
--- the block at a place grows into the Free block that follows it
-pub placed-grown_at : (place n : ℕ) (zone : List Block) (s : Spot) (after : List Block) → Placed 0 zone
-    → spot_at place zone ≡ Some s → size s.here ≤ size (resized n s.here) → grow_up (resized n s.here) s ≡ Some after
-    → Placed 0 after
-placed-grown_at place n zone s after p at more is =
-    placed-grow_up 0 (resized n s.here) s after (stands-spot place zone s (resized n s.here) at
-    (stands-resized place n s.here (stands-here place zone s p at))) more (placed-spot place zone s p at) is
-
--- a slot's block, at another size, goes to the spot of a place
-pub placed-moved_at : (place number n : ℕ) (zone : List Block) (b : Block) (s : Spot) → Placed 0 zone
-    → spot_at place zone ≡ Some s → is_relocatable number b ≡ true → size (resized n b) ≤ size s.here
-    → Placed 0 (filled (resized n b) (moved_away (is_relocatable number) s))
-placed-moved_at place number n zone b s p at slot fits =
-    placed-moved_filled 0 (is_relocatable number) (resized n b) s
-    (λ k. stands-resized k n b (stands-slot k number b slot)) fits (placed-spot place zone s p at)

@@ -8,10 +8,6 @@ pub map-none : {A B : Type 0} (f : A → B) (o : Option A) → option_map f o �
 map-none f None e = refl
 map-none f (Some x) e = cc
 
-pub some_mapped : {A B : Type 0} (f : A → B) (o : Option A) → IsSome (option_map f o) → IsSome o
-some_mapped f None p = p
-some_mapped f (Some x) p = refl
-
 -- a value that is there, with what is known of it
 pub some_and : {A : Type 0} (o : Option A) (P : A → Type 0) → IsSomeAnd o P → (x : A) × (o ≡ Some x) × P x
 some_and None P p = absurd p

@@ -1,5 +1,5 @@
 use Rattle.std.proofs.Common.{◌≡◌, ℕ, ◌≤◌, ◌<◌, ◌⊎◌, inl, inr, zero, suc, Bool, true, false, nat_lt, Option, Some, None}
-use Rattle.std.proofs.Common.{MatchOption, refl, sym, ◌∙◌, ap, cond, arith}
+use Rattle.std.proofs.Common.{refl, sym, ◌∙◌, ap, cond, arith}
 use Rattle.std.proofs.lemmas.Bool.{true≢false, false_from_ne_true}
 use Rattle.std.proofs.lemmas.Bool.Decides.{nat_tests}
 use Rattle.std.specs.Option.{option_map, option_or}
@@ -83,15 +83,6 @@ fewest-last test n k ends fewest = sym (least_or_last-at test n k (le (nat_lt n 
         let less : n < k = grind (arith, nat_tests, e) in
         absurd (true≢false (sym fewest.there ∙ ends k (omega (arith, less)) ∙ fewest.below n less))
     le false e = grind (arith, nat_tests, e)
-
--- it is the least of a test that answers the same
-pub fewest-same : (test other : ℕ → Bool) → ((k : ℕ) → test k ≡ other k) → (n : ℕ) (r : Option ℕ)
-    → MatchOption r ((k : ℕ) → other k ≡ false) (IsFewest other) → MatchOption r (test n ≡ false) (IsFewest test)
-fewest-same test other same n None none = same n ∙ none n
-fewest-same test other same n (Some k) fewest = record {
-  there = same k ∙ fewest.there;
-  below = λ j less. same j ∙ fewest.below j less;
-}
 
 -- the last, where one that is no less fails
 pub least_or_last-fails : (test : ℕ → Bool) → ((k m : ℕ) → k ≤ m → test k ≡ true → test m ≡ true) → (n most : ℕ)

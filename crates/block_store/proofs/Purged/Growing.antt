@@ -33,14 +33,6 @@ placed-run p zone is = cases (nat_le p (largest_run zone)) refl
     cases true e = run-some p (segments zone).first (segments zone).rest (leb-true p (largest_run zone) e)
     cases false e = absurd (true≢false (sym is ∙ ap is_some (place-none p zone (leb-false p (largest_run zone) e))))
 
--- and none where no run has them
-pub none-placed : (p : ℕ) (zone : List Block) → run_spot (has_free p) zone ≡ None → place p zone ≡ None
-none-placed p zone none = cases (place p zone) refl
-  where
-    cases : (o : Option Spot) → place p zone ≡ o → o ≡ None
-    cases None is = refl
-    cases (Some after) is = absurd (true≢false (sym (placed-run p zone (ap is_some is)) ∙ ap is_some none))
-
 run-placed : (p : ℕ) (zone : List Block) → 0 < p → is_some (run_spot (has_free p) zone) ≡ true
     → is_some (place p zone) ≡ true
 run-placed p zone pos is = cases (nat_le p (largest_run zone)) refl

@@ -137,12 +137,6 @@ free_is (Nonrelocatable id content) e = let f : false ≡ true = e in cc
 free_is Masters e = let f : false ≡ true = e in cc
 free_is (Relocatable id flags content) e = let f : false ≡ true = e in cc
 
-go-not_free : (sp : Block → Bool) (b : Block) → is_free b ≡ true → may_be_purged sp b ≡ false
-go-not_free sp (Free n) e = refl
-go-not_free sp (Nonrelocatable id content) e = refl
-go-not_free sp Masters e = refl
-go-not_free sp (Relocatable id flags content) e = let f : false ≡ true = e in cc
-
 pub lowest_purged-free : (sp : Block → Bool) (k left : ℕ) (b : Block) (above : List Block) → left_past sp k b
     ≡ Some left
     → lowest_purged k sp (b ∷ above) ≡ Free (size b) ∷ lowest_purged left sp above

@@ -8,7 +8,7 @@ use Rattle.std.proofs.lemmas.Option.{none-some, same_Some}
 use Rattle.std.specs.List.{remove, insert}
 use Rattle.std.proofs.lemmas.List.Elements.{filter-append}
 use Rattle.std.proofs.lemmas.Bool.{cond-true, cond-false, or_parts}
-use Rattle.std.specs.Option.{option_map, is_some, IfSome, IsSomeAnd, MatchOption}
+use Rattle.std.specs.Option.{option_map, IfSome, IsSomeAnd}
 use Rattle.std.proofs.lemmas.Bool.Decides.{nat_tests}
 use Rattle.std.specs.Bool.{IsTrue}
 use Rattle.block_store.specs.Block.{Block, Free, Nonrelocatable, Masters, Relocatable, sizes, total, count, free, free_of}
@@ -751,25 +751,3 @@ pub low-total : (of : Block → ℕ) → Adds of → (bytes : ℕ) (run : List B
     → total of (low (Free bytes) run) ≡ total of run
 low-total of adds bytes run loose le = let a = packed-total of adds bytes run loose le in
     let z : of (Free bytes) + total of (packed bytes run) ≡ total of run = omega arith in z
-
--- what passes at an index is had
-has-nth : (t : Block → Bool) (i : ℕ) (bs : List Block) → IsSomeAnd (nth_spot i bs) (λ s. IsTrue (t s.here))
-    → has t bs ≡ true
-has-nth t i [] p = absurd p
-has-nth t zero (b ∷ bs) p = ap (λ u. u || has t bs) p
-has-nth t (suc i) (b ∷ bs) p = cases (nth_spot i bs) (λ q. has-nth t i bs q) p
-  where
-    either : (u : Bool) → (u || true) ≡ true
-    either true = refl
-    either false = refl
-
-    cases : (o : Option Spot) → (IsSomeAnd o (λ s. IsTrue (t s.here)) → has t bs ≡ true)
-        → IsSomeAnd (option_map (raised b) o) (λ s. IsTrue (t s.here)) → (t b || has t bs) ≡ true
-    cases None rest p = absurd p
-    cases (Some s) rest p = ap (λ u. t b || u) (rest p) ∙ either (t b)
-
-pub has-found : (t : Block → Bool) (bs : List Block) (n : ℕ) (o : Option ℕ)
-    → MatchOption o (has t bs ≡ false) (λ i. (i < n) × IsSomeAnd (nth_spot i bs) (λ s. IsTrue (t s.here)))
-    → is_some o ≡ has t bs
-has-found t bs n None m = sym m
-has-found t bs n (Some i) m = sym (has-nth t i bs m.1)

@@ -8,8 +8,7 @@ use Rattle.std.specs.Option.{option_map}
 use Rattle.block_store.specs.Block.{Block, size, sizes}
 use Rattle.block_store.specs.Run.{in_run, Stretch, Segments, segments, joined, RunSpot, run_raised, run_from, run_at}
 use Rattle.block_store.specs.Run.{lowest_run, run_spot}
-use Rattle.block_store.specs.Compact.{beyond}
-use Rattle.block_store.specs.Inner.Packing.{Loose, run_of_index}
+use Rattle.block_store.specs.Inner.Packing.{Loose}
 use Rattle.block_store.proofs.Zone.Zones.{joined-segments}
 
 -- the runs of the parts are made of what runs may have
@@ -135,19 +134,6 @@ pub walked-later : (bottom : Bool) (place : ℕ) (zone : List Block) → (bottom
     → walked bottom place zone ≡ walked false place zone
 walked-later true place zone some = run_from-later place (segments zone).first (segments zone).rest (some refl)
 walked-later false place zone some = refl
-
--- the run begins here
-pub walked-here : (zone : List Block) → walked true 0 zone ≡ Some (run_of_index 0 zone)
-walked-here zone = cases (segments zone)
-  where
-    cases : (s : Segments) → run_from 0 s.first s.rest ≡ Some (record
-        { below = []; run = s.first; above = beyond s.rest })
-    cases s = elim s.rest as (λ parts. run_from 0 s.first parts
-        ≡ Some (record { below = []; run = s.first; above = beyond parts })) [ [] ↦ refl | p ∷ parts ↦ refl ]
-
--- it is past all blocks
-pub walked-none : (bottom : Bool) (place : ℕ) → (bottom ≡ true → place ≡ 0 → ⊥) → walked bottom place [] ≡ None
-walked-none bottom place some = walked-later bottom place [] some
 
 -- the walk goes on
 later-step : (place : ℕ) (b : Block) (s : Segments) (t : Bool) → size b ≤ place

@@ -129,18 +129,6 @@ goes-through p sp start free met place (b ∷ passed) rest h = cases (in_run b) 
     cases true h more = more h
     cases false h more = let f : true ≡ false = h in cc
 
--- where no purges are left, it doesn't matter which blocks are spared
-pub spared-alike : (w : Option ℕ) (p : ℕ) (sp sp' : Block → Bool) (start free : ℕ) (met : Bool) (place : ℕ)
-    (bs : List Block) → scan_runs w p sp 0 start free met place bs ≡ scan_runs w p sp' 0 start free met place bs
-spared-alike w p sp sp' start free met place [] = refl
-spared-alike w p sp sp' start free met place (b ∷ bs) =
-    ap (λ o. cond (in_run b) o (cond (met && nat_le p free) (Some start)
-    (scan_runs w p sp 0 (place + size b) 0 (any_run w) (place + size b) bs)))
-    (spared-alike w p sp sp' start (free + free_of b) (met_after w met b) (place + size b) bs)
-    ∙ ap (λ o. cond (in_run b) (scan_runs w p sp' 0 start (free + free_of b) (met_after w met b) (place + size b) bs)
-    (cond (met && nat_le p free) (Some start) o))
-    (spared-alike w p sp sp' (place + size b) 0 (any_run w) (place + size b) bs)
-
 -- where the blocks end
 pub scan-end : (w : Option ℕ) (p : ℕ) (sp : Block → Bool) (k start free : ℕ) (met : Bool) (place : ℕ)
     → scan_runs w p sp k start free met place [] ≡ cond (met && nat_le p free) (Some start) None

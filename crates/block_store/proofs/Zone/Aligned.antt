@@ -3,12 +3,12 @@ use Rattle.std.proofs.Common.{filter, length, refl, sym, ◌∙◌, ap, cond, su
 use Rattle.std.proofs.lemmas.Option.{none-some, same_Some}
 use Rattle.std.specs.Option.{option_map}
 use Rattle.mac_words.specs.Size.{padded}
-use Rattle.block_store.specs.Block.{Block, Free, Nonrelocatable, Masters, Relocatable, size, sizes, free, free_of, free_sum}
+use Rattle.block_store.specs.Block.{Block, Free, Nonrelocatable, Masters, Relocatable, size, free, free_of, free_sum}
 use Rattle.block_store.specs.Block.{is_room, is_mover, is_relocatable, add, tidy, with_content, resized}
 use Rattle.block_store.specs.Run.{RunSpot, run_at, with_run, movers, others, settle, low, high}
 use Rattle.block_store.specs.Room.{Spot, raised, spot_at, filled, may_be_purged, lowest_purged}
 use Rattle.block_store.specs.Grow.{growth, taken, grow_up, freed}
-use Rattle.block_store.specs.Sparing.{spared, opened, purged}
+use Rattle.block_store.specs.Sparing.{spared, opened}
 use Rattle.block_store.specs.Compact.{Aligned}
 use Rattle.block_store.specs.Seen.{with_flags}
 use Rattle.block_store.specs.declared.flags.Flags.{Flags}
@@ -28,11 +28,6 @@ size-sixteens (Free n) e = e
 size-sixteens (Nonrelocatable id content) e = let z : padded (length content) % 16 ≡ 0 = omega arith in z
 size-sixteens Masters e = refl
 size-sixteens (Relocatable id flags content) e = let z : padded (length content) % 16 ≡ 0 = omega arith in z
-
-pub sizes-aligned : (bs : List Block) → Aligned bs → sizes bs % 16 ≡ 0
-sizes-aligned [] a = refl
-sizes-aligned (b ∷ bs) a = let x = size-sixteens b a.0 in let y = sizes-aligned bs a.1 in
-    let z : (size b + sizes bs) % 16 ≡ 0 = omega arith in z
 
 pub free_sum-aligned : (bs : List Block) → Aligned bs → free_sum bs % 16 ≡ 0
 free_sum-aligned [] a = refl
@@ -108,9 +103,6 @@ aligned-opened sparing.Nothing bs a = a
 aligned-opened (sparing.One slot) bs a = a
 aligned-opened (sparing.Two slot other) bs a = a
 aligned-opened (sparing.Freed slot) bs a = aligned-freed _ bs a
-
-pub aligned-purged : (k : ℕ) (n : Sparing) (bs : List Block) → Aligned bs → Aligned (purged k n bs)
-aligned-purged k n bs a = aligned-tidy _ (aligned-lowest_purged k (spared n) (opened n bs) (aligned-opened n bs a))
 
 -- what a store's calls make of a block
 pub sixteens-content : (x : List ℕ) (b : Block) → Sixteens b → Sixteens (with_content x b)

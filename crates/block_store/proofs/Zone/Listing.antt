@@ -132,10 +132,6 @@ add-free_other (suc n) (entry.Nonrelocatable place content) above some never = r
 add-free_other (suc n) entry.Masters above some never = refl
 add-free_other (suc n) (entry.Relocatable slot flags content) above some never = refl
 
-pub add-free_last : (n : ℕ) → (n ≡ 0 → ⊥) → add (Free n) [] ≡ Free n ∷ []
-add-free_last zero some = absurd (some refl)
-add-free_last (suc n) some = refl
-
 -- blocks with the one at an index joined with the next: unchanged
 pub joined-same : (es : List StoredBlock) (i : ℕ) (e : StoredBlock) → i < length es → e ≡ get_or es i e
     → add (block_of e) (drop (i + 1) (blocks_of es)) ≡ block_of e ∷ drop (i + 1) (blocks_of es)

@@ -5,7 +5,6 @@ use Rattle.std.proofs.lemmas.Option.{none-some, same_Some}
 use Rattle.std.proofs.lemmas.Bool.{cond-true, cond-false}
 use Rattle.std.proofs.lemmas.Bool.Decides.{nat_tests}
 use Rattle.std.specs.Option.{option_map, IfSome, IsSomeAnd}
-use Rattle.std.specs.Bool.{IsTrue}
 use Rattle.std.proofs.lemmas.List.{set_split, map-append, take-map, drop-map, length-append, length-take, length-drop}
 use Rattle.std.proofs.lemmas.List.{set-set}
 use Rattle.mac_words.specs.Size.{padded}
@@ -19,7 +18,6 @@ use Rattle.block_store.specs.declared.entries.StoredBlock.{StoredBlock}
 use Rattle.block_store.specs.declared.entries.StoredBlock.TheVariants as entry
 use Rattle.block_store.specs.Inner.ListStore.{block_of, blocks_of, nth_spot}
 use Rattle.block_store.proofs.Zone.Totals.{total-append}
-use Rattle.block_store.proofs.Zone.Tidy.{spot-passes}
 use Rattle.block_store.proofs.Zone.Apart.{Apart, apart-size}
 use Rattle.block_store.proofs.Zone.Listing.{set-in_front, nth_spot-at, drop-blocks}
 use Rattle.block_store.proofs.Plain.Options.{has_place}
@@ -55,12 +53,6 @@ finds test zone None apart is = has_place (λ (s : Spot). sizes s.below) (λ k. 
     (λ s e. spot_at-spot test zone s apart e) None is
 finds test zone (Some place) apart is = has_place (λ (s : Spot). sizes s.below) (λ k. spot_at k zone) (spot test zone)
     (λ s e. spot_at-spot test zone s apart e) (Some place) is
-
--- what is found has the place that it had
-pub found-passes : (test : Block → Bool) (zone : List Block) (place : ℕ) → FindsLowest test zone (Some place)
-    → IsSomeAnd (spot_at place zone) (λ s. IsTrue (test s.here))
-found-passes test zone place (s, found, at, below) = subst (λ (o : Option Spot). IsSomeAnd o
-    (λ s. IsTrue (test s.here))) (sym at) (spot-passes test zone s found)
 
 -- what holds of the spot of an entry holds of the spot at its place
 pub by_entry : (es es' : List StoredBlock) (place i : ℕ) (e : StoredBlock) (P : Option Spot → Type 0) → es' ≡ es

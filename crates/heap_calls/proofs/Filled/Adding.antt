@@ -1,12 +1,11 @@
 use Rattle.std.proofs.Common.{◌≡◌, ℕ, false, true, List, length, refl, sym, ◌∙◌, ap, subst, Some, None}
 use Rattle.std.proofs.Common.{Ok}
 use Rattle.std.proofs.Common.{Err, Result, slice_get, slice_set}
-use Rattle.std.specs.Bool.{IsTrue}
 use Rattle.mac_words.specs.declared.code.OsErr.{OsErr}
 use Rattle.mac_words.specs.declared.code.TheConstants.OsErr.{MEM_FULL}
 use Rattle.block_store.specs.declared.flags.Flags.{Flags}
 use Rattle.block_store.specs.Block.{Block}
-use Rattle.block_store.specs.Slot.{Used, is_used}
+use Rattle.block_store.specs.Slot.{Used}
 use Rattle.block_store.specs.Rest.{Rest, IsRest, with_slot}
 use Rattle.heap_calls.specs.declared.log.Log.{Log}
 use Rattle.heap_calls.specs.declared.anchor.Anchor.{Anchor}
@@ -21,12 +20,6 @@ use Rattle.heap_calls.proofs.NewBlocks.NewHandles.{with_handle}
 use Rattle.heap_calls.proofs.Numbering.Roles.{agrees-cast, cast-done, inside-done}
 
 -- New resources one after another.
-
--- a new handle's slot is used
-pub added-used : (zone : List Block) (rest : Rest) (es : List Anchor) (slot : ℕ)
-    → Agrees zone rest (with_handle es slot)
-    → IsTrue (is_used (rest.slots slot))
-added-used zone rest es slot agrees = agrees.used (length es) slot false (get-last es (Handle slot false))
 
 -- its resource flag is set
 module _ (zone zone' : List Block) (rest rest' : Rest) (es : List Anchor) (slot : ℕ)

@@ -127,13 +127,6 @@ nonrelocatable-put n bytes fits even zone zone' after o place is at placed tidie
     either true = refl
     either false = refl
 
--- no base where there is no place
-pub no_base : (n bytes : ℕ) → bytes ≡ padded n → (zone zone' : List Block) (o : Option ℕ) → o ≡ None
-    → IsBaseAt bytes (base bytes sparing.Nothing zone) zone' o → base (padded n) sparing.Nothing zone ≡ None
-no_base n bytes fits zone zone' o is found =
-    let Q : Option ℕ → Type 0 = λ o. IsBaseAt bytes (base bytes sparing.Nothing zone) zone' o in
-    ap (λ p. base p sparing.Nothing zone) (sym fits) ∙ subst Q is found
-
 -- the searches for room see no names
 pub new_pointer_searches-is : (n : ℕ) (zone : List Block) (rest : Rest) (es : List Anchor)
     → new_pointer_searches n (state_of zone rest.slots es) ≡ nonrelocatable_searches n zone

@@ -171,7 +171,7 @@ module _ (value : Memory) (zone : List Block) (rest : Rest) (es : List Anchor) (
         (row s true found free ∙ ap (λ z. (Ok tt, record state { zone = z })) (hoisted-rename f g h slot
         (is_relocatable-number es h slot at apart small) zone ∙ ap (rename f g) (sym done))) now
 
--- the run of a block, found in a tidy zone with no purge and no Free bytes wanted
+-- the run of a block, found with no Free bytes wanted
 and-free : (test : List Block → Bool) (zone : List Block) → run_spot (λ run. test run && has_free 0 run) zone
     ≡ run_spot test zone
 and-free test zone = ap (λ (p : List Block → Bool). run_spot p zone)
@@ -181,16 +181,10 @@ and-free test zone = ap (λ (p : List Block → Bool). run_spot p zone)
     and_true true = refl
     and_true false = refl
 
-pub run-found : (test : List Block → Bool) (zone zone' : List Block) (r : Option ℕ) → zone' ≡ zone
-    → FindsLowestRun (λ run. test run && has_free 0 run) zone' r → FindsLowestRun test zone r
-run-found test zone zone' None same e = sym (and-free test zone)
-    ∙ ap (run_spot (λ run. test run && has_free 0 run)) (sym same) ∙ e
-run-found test zone zone' (Some p) same found = (
-  found.0,
-  sym (and-free test zone) ∙ ap (run_spot (λ run. test run && has_free 0 run)) (sym same) ∙ found.1,
-  ap (run_at p) (sym same) ∙ found.2,
-  found.3,
-)
+pub run-found : (test : List Block → Bool) (zone : List Block) (r : Option ℕ)
+    → FindsLowestRun (λ run. test run && has_free 0 run) zone r → FindsLowestRun test zone r
+run-found test zone None e = sym (and-free test zone) ∙ e
+run-found test zone (Some p) found = (found.0, sym (and-free test zone) ∙ found.1, found.2, found.3)
 
 pub hoist-allowed : (test : Block → Bool) (p : ℕ) (zone : List Block) → FindsLowestRun (has test) zone (Some p)
     → IsSomeAnd (run_at p zone) (λ r. IsTrue (has test r.run))

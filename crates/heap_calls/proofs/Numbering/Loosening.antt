@@ -17,8 +17,8 @@ use Rattle.block_store.proofs.Renamed.Renaming.{spot-rename, is_mover-rename, ti
 use Rattle.heap_calls.specs.declared.log.Log.{Log}
 use Rattle.heap_calls.specs.State.{State, Memory}
 use Rattle.heap_calls.specs.Answer.{Answer, Known, Held, handle_at, known_as, held_at, for_found, on_block, refused}
-use Rattle.heap_calls.specs.Answer.{rebuilt, noting, silent, searching, code_of}
-use Rattle.heap_calls.specs.Inner.Given.{IsAnswer, last_after, seen_flags}
+use Rattle.heap_calls.specs.Answer.{rebuilt, silent, searching}
+use Rattle.heap_calls.specs.Inner.Given.{IsAnswer, seen_flags}
 use Rattle.heap_calls.specs.Purging.{bit, is_resource, block_bits, h_get_state, is_loose, emptied_at, empty_handle}
 use Rattle.heap_calls.specs.Purging.{reallocated, reallocate_handle}
 use Rattle.heap_calls.specs.Inside.{is_owned}
@@ -35,19 +35,6 @@ use Rattle.heap_calls.proofs.Numbering.Numbers.{Apart, is_relocatable-number}
 use Rattle.heap_calls.proofs.Numbering.Changing.{silent-kept, silent-refused}
 
 -- Handles that have no block that is locked, and calls that search for room.
-
--- a call that searches for room, and was noted
-pub noted-searching : {T : Type 0} (n : ℕ) (call : State → Answer T) (old mid new : Memory) (r : Result T Refusal)
-    → IsAnswer (searching n (silent call old)) r mid
-    → new ≡ record mid { log = record mid.log { code = last_after r mid.log.code } }
-    → IsAnswer (searching n (noting call old)) r new
-noted-searching {T = T} n call old mid new (Ok value) is e =
-    (λ i. ((is i).0, record ((is i).1) { log = record ((is i).1.log) { code = code_of {T = T} ((is i).0) } }))
-    ∙ ap (λ (m : Memory). (Ok value, m)) (sym e)
-noted-searching {T = T} n call old mid new (Err (Code code)) is e =
-    (λ i. ((is i).0, record ((is i).1) { log = record ((is i).1.log) { code = code_of {T = T} ((is i).0) } }))
-    ∙ ap (λ (m : Memory). (Err code, m)) (sym e)
-noted-searching n call old mid new (Err HostMemory) is e = tt
 
 -- a handle as it is known
 abbrev pub known : (ℕ → Slot) → ℕ → ℕ → Bool → Known

@@ -7,20 +7,17 @@ use Rattle.std.proofs.lemmas.Option.{same_Some, slice_get_within, slice_get-map,
 use Rattle.std.proofs.lemmas.Bool.{cond-true, cond-false, false_from_ne_true}
 use Rattle.std.proofs.lemmas.Bool.Decides.{Decides-eqb}
 use Rattle.std.specs.Option.{option_map}
-use Rattle.mac_words.specs.declared.code.TheConstants.OsErr.{PROFILE}
 use Rattle.block_store.specs.Block.{Block, Free, Nonrelocatable, Masters, Relocatable, rename, is_relocatable}
 use Rattle.block_store.specs.Run.{has}
 use Rattle.block_store.specs.Room.{spot}
 use Rattle.block_store.specs.Find.{FindsLowest}
 use Rattle.block_store.specs.Slot.{Slot, NoSlot, Unused, Used, set_slot, AreSlots, is_used}
-use Rattle.block_store.specs.Slot as store
 use Rattle.block_store.specs.Rest.{Rest}
 use Rattle.block_store.proofs.Renamed.Renaming.{has-rename}
 use Rattle.block_store.proofs.Regroup.Settling.{has-spot}
 use Rattle.heap_calls.specs.State.{State, Memory, Meaning, Role, Plain, Resource, SystemResource, uses_slot}
 use Rattle.heap_calls.specs.State as names
-use Rattle.heap_calls.specs.Answer.{Answer, refused, without, dispose_handle, disposed_of}
-use Rattle.heap_calls.specs.Answer.{for_found}
+use Rattle.heap_calls.specs.Answer.{without}
 use Rattle.heap_calls.specs.Inside.{inside, cast, cast_as, owned_as, guarded_as, released, released_as}
 use Rattle.heap_calls.specs.Inner.Given.{slot_of, slot_at}
 use Rattle.heap_calls.specs.Inner.Numbered.{state_of, memory_of, name_of, handle_number, pointer_number, number_from}
@@ -72,29 +69,6 @@ pub released-is : (zone : List Block) (slots : ℕ → Slot) (es : List Anchor) 
     → released h (state_of zone slots es) ≡ without h (state_of zone slots es)
 released-is zone slots es h slot at = ap (λ r. released_as r (state_of zone slots es))
     (handle_at-by zone slots es (Some h) h slot refl at)
-
--- DisposeHandle of a handle, by its slot
-pub disposed-by : (zone : List Block) (slots : ℕ → Slot) (es : List Anchor) (handle : Option ℕ) (f : Found)
-    → slot_of handle es ≡ Ok f → dispose_handle handle (state_of zone slots es)
-    ≡ cond (store.is_resource (slots f.slot)) (refused PROFILE (state_of zone slots es))
-    (Ok tt, released f.number (state_of zone slots es))
-disposed-by zone slots es handle f is =
-    let p = slot_of-ok handle es f is in
-    let s : State = state_of zone slots es in
-    ap (λ r. for_found r s (λ k. disposed_of k.role k.number s))
-    (handle_at-by zone slots es handle f.number f.slot p.0 p.1)
-    ∙ by_role (slots f.slot) f.guarded s
-    ∙ ap (λ (t : State). let a : Answer (Unit {0}) = cond (store.is_resource (slots f.slot)) (refused PROFILE s)
-    (Ok tt, t) in a)
-    (sym (ap (λ r. released_as r s) (handle_at-by zone slots es (Some f.number) f.number f.slot refl p.1)))
-  where
-    by_role : (slot : Slot) (guarded : Bool) (s : State) → disposed_of (role_of slot guarded) f.number s
-        ≡ cond (store.is_resource slot) (refused PROFILE s) (Ok tt, without f.number s)
-    by_role NoSlot guarded s = refl
-    by_role Unused guarded s = refl
-    by_role (Used false) guarded s = refl
-    by_role (Used true) false s = refl
-    by_role (Used true) true s = refl
 
 -- a handle has a block where its slot leads to one
 pub block-there : (zone : List Block) (slots : ℕ → Slot) (es : List Anchor) (h slot : ℕ) {guarded : Bool}

@@ -1,23 +1,28 @@
-use Rattle.std.proofs.Common.{◌≡◌, ℕ, ◌+◌, ◌≤◌, ◌<◌, zero, suc, nat_lt, Bool, true, false, cond}
-use Rattle.std.proofs.Common.{Option, Some, None, is_some, IsSomeAnd, List, refl, sym, ◌∙◌, ap, subst, arith}
-use Rattle.std.specs.Option.{option_or}
+use Rattle.std.proofs.Common.{◌≡◌, ℕ, ◌+◌, ◌≤◌, ◌<◌, inr, zero, suc, nat_le, nat_lt, max, Bool, true, false, cond}
+use Rattle.std.proofs.Common.{◌||◌, Option, Some, None, is_some, List, [], ◌∷◌, refl, sym}
+use Rattle.std.proofs.Common.{◌∙◌, ap, arith}
+use Rattle.std.specs.Option.{option_or, IfSome}
+use Rattle.std.proofs.lemmas.Bool.{cond-true, le-leb, leb-true, leb-false, lt-leb}
 use Rattle.std.proofs.lemmas.Bool.Decides.{nat_tests}
-use Rattle.block_store.specs.Block.{Block, size, is_relocatable}
-use Rattle.block_store.specs.Room.{Spot, spot, least, may_be_purged, place}
-use Rattle.block_store.specs.Grow.{growth, grow_mover}
+use Rattle.block_store.specs.Block.{Block, Free, Nonrelocatable, Masters, Relocatable, size, free_of, is_room, is_relocatable}
+use Rattle.block_store.specs.Block.{tidy}
+use Rattle.block_store.specs.Run.{has, has_free, run_spot}
+use Rattle.block_store.specs.Room.{spot, least, may_be_purged, place}
+use Rattle.block_store.specs.Grow.{grow_mover}
 use Rattle.block_store.specs.Find.{FindsLowest}
-use Rattle.block_store.specs.Compact.{least_or_last}
-use Rattle.block_store.specs.Fewest.{serves}
-use Rattle.block_store.specs.Sparing.{spared, purged, most_purges}
+use Rattle.block_store.specs.Compact.{least_or_last, largest_free}
+use Rattle.block_store.specs.Fewest.{serves, IsFewest}
+use Rattle.block_store.specs.Sparing.{spared, opened, purged, most_purges}
 use Rattle.block_store.specs.declared.sparing.Sparing.{Sparing}
-use Rattle.block_store.proofs.Purged.Growing.{placed-is, grows-placed}
-use Rattle.heap_calls.specs.Inner.Search.{tries, FindsPlacement}
-use Rattle.heap_calls.specs.Inner.Growing.{FindsGrowth, grown}
-use Rattle.heap_calls.specs.Inner.Least.{CanGrow}
+use Rattle.block_store.proofs.Plain.Trials.{fewest-last, least_or_last-at}
+use Rattle.block_store.proofs.Purged.Growing.{placed-is}
+use Rattle.block_store.proofs.Purged.Rising.{purged-all}
+use Rattle.heap_calls.specs.Inner.Search.{tries, FindsPlacement, placement, placement_searches}
+use Rattle.heap_calls.specs.Inner.Growing.{FindsGrowth, Stays, grown, growing, growing_searches}
 use Rattle.heap_calls.specs.declared.search.Placement.{Placement}
 use Rattle.heap_calls.specs.declared.growing.Growth.{Growth}
 use Rattle.heap_calls.proofs.Room.Searching.{more-none, more-some, placement-some}
-use Rattle.heap_calls.proofs.Sizes.Growth.{growth-some, growth-stays}
+use Rattle.heap_calls.proofs.Sizes.Growth.{growth-some, opened-stays}
 
 -- The least number of purges that serves.
 
@@ -55,6 +60,59 @@ pub tries-of : {A : Type 0} (answer : ℕ → Option A) (n k : ℕ) → k ≡ le
     → k + 1 ≡ tries answer n
 tries-of answer n k e = ap (λ m. m + 1) e ∙ sym (tries-last answer n)
 
+-- where there is an answer at first, it is the least
+pub first-is : (test : ℕ → Bool) (n : ℕ) → test 0 ≡ true → 0 ≡ least_or_last test n
+first-is test zero is = refl
+first-is test (suc n) is = sym (cond-true {A = ℕ} (test 0) 0 _ is)
+
+pub first-least : {A : Type 0} (answer : ℕ → Option A) (n : ℕ) → is_some (answer 0) ≡ true → least answer n ≡ answer 0
+first-least answer n is = least-of answer n 0 (first-is (λ k. is_some (answer k)) n is)
+
+pub first-tries : {A : Type 0} (answer : ℕ → Option A) (n : ℕ) → is_some (answer 0) ≡ true → 1 ≡ tries answer n
+first-tries answer n is = tries-of answer n 0 (first-is (λ k. is_some (answer k)) n is)
+
+-- a search that counts no block as Free sees a tidy zone as it stands
+pub purged-first : (n : Sparing) (zone : List Block) → tidy zone ≡ zone → opened n zone ≡ zone → purged 0 n zone ≡ zone
+purged-first n zone tidied same = ap tidy same ∙ tidied
+
+-- the least number of purges after which a run has so many bytes
+module _ (p : ℕ) (n : Sparing) (zone : List Block) where
+  pub run-fewest : (k : ℕ) → IsFewest (serves p n zone) k → k ≡ least_or_last (serves p n zone) (most_purges n zone)
+  run-fewest k fewest = fewest-last (serves p n zone) (most_purges n zone) k
+      (λ j le. ap (λ z. is_some (run_spot (has_free p) z)) (purged-all n zone j le)) fewest
+
+  pub run-never : ((k : ℕ) → serves p n zone k ≡ false)
+      → most_purges n zone ≡ least_or_last (serves p n zone) (most_purges n zone)
+  run-never none = sym (least_or_last-at (serves p n zone) (most_purges n zone) (most_purges n zone) (omega arith)
+      (λ j less. none j) (inr refl))
+
+  -- is the least after which a block has a place
+  pub placement-least : 0 < p → (k : ℕ) → k ≡ least_or_last (serves p n zone) (most_purges n zone)
+      → k ≡ least_or_last (λ j. is_some (place p (purged j n zone))) (most_purges n zone)
+  placement-least pos k e = e ∙ ap (λ (test : ℕ → Bool). least_or_last test (most_purges n zone))
+      (λ i j. (sym (placed-is p (purged j n zone) pos)) i)
+
+-- a Free block has so many bytes just where the largest has
+pub room-largest : (p : ℕ) (zone : List Block) → 0 < p → nat_le p (largest_free zone) ≡ has (is_room p) zone
+room-largest p [] pos = lt-leb p 0 pos
+room-largest p (b ∷ zone) pos = le-max (free_of b) (largest_free zone)
+    ∙ ap (λ t. t || nat_le p (largest_free zone)) (here b)
+    ∙ ap (λ t. is_room p b || t) (room-largest p zone pos)
+  where
+    le-max : (n m : ℕ) → nat_le p (max n m) ≡ (nat_le p n || nat_le p m)
+    le-max n m = cases (nat_le p n) refl (nat_le p m) refl
+      where
+        cases : (t : Bool) → nat_le p n ≡ t → (u : Bool) → nat_le p m ≡ u → nat_le p (max n m) ≡ (t || u)
+        cases true e u f = le-leb p (max n m) (omega (arith, leb-true p n e))
+        cases false e true f = le-leb p (max n m) (omega (arith, leb-true p m f))
+        cases false e false f = lt-leb p (max n m) (omega (arith, leb-false p n e, leb-false p m f))
+
+    here : (b : Block) → nat_le p (free_of b) ≡ is_room p b
+    here (Free n) = refl
+    here (Nonrelocatable id content) = lt-leb p 0 pos
+    here Masters = lt-leb p 0 pos
+    here (Relocatable id flags content) = lt-leb p 0 pos
+
 -- what a search for the next block to go tells
 pub next-goes : (n : Sparing) (k : ℕ) (zone : List Block) (r : Option ℕ)
     → FindsLowest (may_be_purged (spared n)) (purged k n zone) r → is_some r ≡ nat_lt k (most_purges n zone)
@@ -77,25 +135,43 @@ pub growth-there : (test : Block → Bool) (new : Block) (zone : List Block) →
 growth-there test new zone pos None found = ap is_some (sym found)
 growth-there test new zone pos (Some g) found = sym (growth-some test new zone pos (Some g) found refl)
 
--- a block grows where a run has room for it
-pub growth-served : (slot n p d : ℕ) (sparing : Sparing) (zone : List Block) → CanGrow slot n p d sparing zone → (k : ℕ)
-    → serves p sparing zone k ≡ true
-    → is_some (grow_mover (is_relocatable slot) (grown n (spot (is_relocatable slot) zone)) (purged k sparing zone))
-    ≡ true
-growth-served slot n p d sparing zone can k is =
-    grows-placed test new after (there (spot test after)
-    (growth-stays test new d sparing (λ m. refl) can.spared can.stays k zone can.more))
-    (subst (λ b. is_some (place b after) ≡ true) (sym can.takes) (placed-is p after can.positive ∙ is))
+-- a place that is there without a purge is the one that is searched for
+module _ (p : ℕ) (n : Sparing) (zone : List Block) (whole : purged 0 n zone ≡ zone) (pos : 0 < p)
   where
-    test : Block → Bool
-    test = is_relocatable slot
+    first : (placed : Placement) → FindsPlacement p zone (Some placed) → is_some (place p (purged 0 n zone)) ≡ true
+    first placed found = ap (λ z. is_some (place p z)) whole ∙ sym (placement-there p zone pos (Some placed) found)
 
-    new : Block
-    new = grown n (spot (is_relocatable slot) zone)
+    pub once-least : (o : Option Placement) → FindsPlacement p zone o
+        → IfSome o (λ s. placement p n zone ≡ place p zone)
+    once-least None found = tt
+    once-least (Some placed) found = first-least (λ k. place p (purged k n zone)) (most_purges n zone)
+        (first placed found) ∙ ap (place p) whole
 
-    after : List Block
-    after = purged k sparing zone
+    pub once-searches : (o : Option Placement) → FindsPlacement p zone o → IfSome o (λ s. 1 ≡ placement_searches p n zone)
+    once-searches None found = tt
+    once-searches (Some placed) found = first-tries (λ k. place p (purged k n zone)) (most_purges n zone)
+        (first placed found)
 
-    there : (o : Option Spot) → IsSomeAnd o (λ s. growth new s ≡ d) → is_some o ≡ true
-    there None h = absurd h
-    there (Some s) h = refl
+-- a block that grows without a purge is searched for once
+module _ (slot n : ℕ) (sparing : Sparing) (zone : List Block) (stays : Stays sparing (is_relocatable slot))
+    (tidied : tidy zone ≡ zone)
+  where
+    pub growth-whole : purged 0 sparing zone ≡ zone
+    growth-whole = purged-first sparing zone tidied (opened-stays (is_relocatable slot) sparing zone stays)
+
+    module _ (there : is_some (grow_mover (is_relocatable slot) (grown n (spot (is_relocatable slot) zone)) zone) ≡ true)
+      where
+        pub first-grows : is_some (grow_mover (is_relocatable slot) (grown n (spot (is_relocatable slot) zone))
+            (purged 0 sparing zone)) ≡ true
+        first-grows = ap (λ z. is_some (grow_mover (is_relocatable slot) (grown n (spot (is_relocatable slot) zone)) z))
+            growth-whole ∙ there
+
+        pub growth-once : growing (is_relocatable slot) (grown n (spot (is_relocatable slot) zone)) sparing zone
+            ≡ grow_mover (is_relocatable slot) (grown n (spot (is_relocatable slot) zone)) (purged 0 sparing zone)
+        growth-once = first-least (λ k. grow_mover (is_relocatable slot) (grown n (spot (is_relocatable slot) zone))
+            (purged k sparing zone)) (most_purges sparing zone) first-grows
+
+        pub growth-once-searches : 1
+            ≡ growing_searches (is_relocatable slot) (grown n (spot (is_relocatable slot) zone)) sparing zone
+        growth-once-searches = first-tries (λ k. grow_mover (is_relocatable slot)
+            (grown n (spot (is_relocatable slot) zone)) (purged k sparing zone)) (most_purges sparing zone) first-grows

@@ -79,6 +79,12 @@ pub placement-at : (p k : ℕ) (n : Sparing) (zone : List Block) → k + 1 ≡ p
 placement-at p k n zone looks = ap (λ j. place_moves p (purged j n zone))
     (searches-back k (placement_searches p n zone) looks)
 
+-- without any, where one search was made
+pub placement-once : (p : ℕ) (n : Sparing) (zone : List Block) (o : Option Placement) → purged 0 n zone ≡ zone
+    → IfSome o (λ s. 1 ≡ placement_searches p n zone) → IfSome o (λ s. placement_moves p n zone ≡ place_moves p zone)
+placement-once p n zone None whole looks = tt
+placement-once p n zone (Some placed) whole looks = placement-at p 0 n zone looks ∙ ap (place_moves p) whole
+
 pub content-at : (n bytes : ℕ) → is_some (phys n) ≡ true → bytes ≡ padded n → (nd : Sparing) (zone : List Block)
     → placement_moves bytes nd zone ≡ content_moves nd n zone
 content-at n bytes fits is nd zone = ap (λ p. placement_moves p nd zone) is

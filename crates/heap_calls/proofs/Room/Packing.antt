@@ -50,10 +50,6 @@ pub tidy-left : (below above : List Block) → tidy (tidy below ++ above) ≡ ti
 tidy-left [] above = refl
 tidy-left (b ∷ below) above = tidy-add b (tidy below) above ∙ ap (add b) (tidy-left below above)
 
-pub tidy-right : (below above : List Block) → tidy (below ++ tidy above) ≡ tidy (below ++ above)
-tidy-right [] above = tidy-tidy above
-tidy-right (b ∷ below) above = ap (add b) (tidy-right below above)
-
 -- blocks that don't join with what is above them
 abbrev pub Closed : List Block → Type 0
 Closed below = (above : List Block) → tidy (below ++ above) ≡ tidy below ++ tidy above
@@ -153,12 +149,6 @@ low-is : (new : Block) (p : ℕ) (r : RunSpot) → size new ≡ p → Closed r.b
 low-is new p r e closed =
     ap tidy (append_assoc r.below (low new r.run) r.above) ∙ closed (low new r.run ++ r.above)
     ∙ ap (λ n. tidy r.below ++ add new (tidy ((movers r.run ++ free (free_sum r.run - n)) ++ r.above))) e
-
-not_free-alone : (new : Block) (above : List Block) → 0 < size new → free_of new ≡ 0 → add new above ≡ new ∷ above
-not_free-alone (Free n) above pos e = absurd (let z : n ≡ 0 = e in let w : 0 < n = pos in omega arith)
-not_free-alone (Nonrelocatable id content) above pos e = refl
-not_free-alone Masters above pos e = refl
-not_free-alone (Relocatable id flags content) above pos e = refl
 
 -- a block filled into the lowest bytes of a run that was packed upward stands at its bottom
 pub low-filled : (p : ℕ) (r : RunSpot) → 0 < p → Closed r.below

@@ -1,13 +1,12 @@
 use Rattle.std.proofs.Common.{◌≡◌, ℕ, ◌+◌, Bool, true, false, ◌==◌, List, refl, sym, ◌∙◌, ap, subst, cond, Option, Some}
 use Rattle.std.proofs.Common.{None}
 use Rattle.std.specs.Option.{option_map, IfSome, IsSomeAnd, MatchOption}
-use Rattle.std.specs.Prelude.{is_some}
 use Rattle.std.specs.Bool.{IsTrue}
 use Rattle.std.proofs.lemmas.List.{length-replicate}
 use Rattle.std.proofs.lemmas.Option.{none-some}
 use Rattle.std.proofs.lemmas.Bool.{cond-true, cond-false}
 use Rattle.std.proofs.lemmas.Bool.Decides.{Decides-eqb}
-use Rattle.mac_words.specs.Size.{padded, phys}
+use Rattle.mac_words.specs.Size.{padded}
 use Rattle.block_store.specs.Block.{Block, size, is_room}
 use Rattle.block_store.specs.Room.{Spot, spot_at, filled, room, put_in_place, place}
 use Rattle.block_store.specs.Slot.{Unused, Used}
@@ -16,8 +15,8 @@ use Rattle.block_store.specs.Sparing.{spared, opened, purged, most_purges}
 use Rattle.block_store.specs.declared.sparing.Sparing.{Sparing}
 use Rattle.block_store.proofs.Regroup.HavingRoom.{place-room}
 use Rattle.block_store.proofs.Plain.Trials.{least-map, least-some}
-use Rattle.heap_calls.specs.Inner.Search.{placement, placement_searches, IsAt}
-use Rattle.heap_calls.specs.Inner.NewBlock.{fresh_block, zone_with_block, place_searches, given_back}
+use Rattle.heap_calls.specs.Inner.Search.{placement, IsAt}
+use Rattle.heap_calls.specs.Inner.NewBlock.{fresh_block, zone_with_block, given_back}
 
 -- What a placement tells of room for a new block.
 
@@ -78,13 +77,6 @@ carved-put n bytes fits sparing zone zone' after o place number is at h =
     room-placement (fresh_block number n) sparing zone ∙ ap (λ p. option_map (filled (fresh_block number n))
     (placement p sparing zone)) (fresh-size n bytes fits number)
     ∙ ap (option_map (filled (fresh_block number n))) found.1 ∙ ap Some (sym done)
-
--- the searches for a placement
-pub place-searches : (n bytes : ℕ) → is_some (phys n) ≡ true → bytes ≡ padded n → (sparing : Sparing)
-    (zone : List Block)
-    → placement_searches bytes sparing zone ≡ place_searches sparing n zone
-place-searches n bytes fits is sparing zone = ap (λ p. placement_searches p sparing zone) is
-    ∙ sym (cond-true (is_some (phys n)) (placement_searches (padded n) sparing zone) 0 fits)
 
 -- a slot that was taken and is given back
 pub slot-back : (more rest1 rest' : Rest) (slot : ℕ) → more.slots slot ≡ Unused → rest1.unused + 1 ≡ more.unused

@@ -1,5 +1,5 @@
 use Rattle.std.proofs.Common.{◌≡◌, ℕ, ◌-◌, zero, suc, Bool, true, false, ◌&&◌, ◌||◌, List, [], ◌∷◌, ◌++◌, filter, refl}
-use Rattle.std.proofs.Common.{sym, ◌∙◌, ap, cond, Option, Some, None, Result, Ok, Err, nat_le}
+use Rattle.std.proofs.Common.{sym, ◌∙◌, ap, cond, Option, Some, None, Result, Ok, Err}
 use Rattle.std.specs.Option.{option_map, option_or, IfSome, IsSomeAnd}
 use Rattle.std.specs.Prelude.{option_and_then}
 use Rattle.std.specs.Bool.{IsTrue}
@@ -13,7 +13,7 @@ use Rattle.block_store.specs.Run.{RunSpot, change_run, run_spot, run_at, with_ru
 use Rattle.block_store.specs.Run.{settle, low, high, Stretch, segments, joined}
 use Rattle.block_store.specs.Room.{Spot, spot, filled, place, lowest_purged, purge, room, count_of}
 use Rattle.block_store.specs.Grow.{freed, growth, taken, grow_up, taken_low, grow_nonrelocatable, move_away, grow_last}
-use Rattle.block_store.specs.Grow.{grow_mover, grow_at, grow}
+use Rattle.block_store.specs.Grow.{grow_mover}
 use Rattle.block_store.specs.Sparing.{spared, opened, purged}
 use Rattle.block_store.specs.Seen.{with_flags, moved_away}
 use Rattle.block_store.specs.Compact.{settled_runs, settled}
@@ -256,14 +256,6 @@ nonrelocatable-grow_nonrelocatable sp new s after same e = cases (grow_up new s)
         (nonrelocatable-taken_low (growth new s) sp s.above rest lower p) ∙ ap (λ t. t || has (is_nonrelocatable p) s.above) (same p))
         p
 
--- a trial after as few purges as serve
-pub nonrelocatable-room : (try : List Block → Option (List Block)) (sp : Block → Bool) (zone after : List Block)
-    → ((before after : List Block) → try before ≡ Some after → KeepsNonrelocatable before after) → room try sp zone ≡ Some after
-    → KeepsNonrelocatable zone after
-nonrelocatable-room try sp zone after each e =
-    least-some (KeepsNonrelocatable zone) (λ k. try (purge k sp zone)) (count_of sp zone) after
-    (λ k y is. nonrelocatable-then zone (purge k sp zone) y (nonrelocatable-purge k sp zone) (each (purge k sp zone) y is)) e
-
 -- the lowest run that passes, changed
 nonrelocatable-changed : (change : List Block → List Block) → ((run : List Block) → NoNonrelocatable run → NoNonrelocatable (change run))
     → (passes : List Block → Bool) (zone after : List Block) → change_run passes change zone ≡ Some after
@@ -367,31 +359,3 @@ nonrelocatable-grow_mover slot n b zone after mine e = cases (spot (is_relocatab
         (λ p. none p ∙ sym (not_nonrelocatable-relocatable p slot s.here (spot-passes (is_relocatable slot) zone s is)))
         (grow_up new s) (move_away (is_relocatable slot) new zone)
         (grow_last (is_relocatable slot) new (growth new s) zone) refl refl refl e
-
--- a slot's block at another size
-pub nonrelocatable-grow : (slot n : ℕ) (sp : Block → Bool) (zone after : List Block)
-    → grow (is_relocatable slot) sp n zone ≡ Some after → KeepsNonrelocatable zone after
-nonrelocatable-grow slot n sp zone after e = cases (spot (is_relocatable slot) zone) refl e
-  where
-    sized : (s : Spot) → spot (is_relocatable slot) zone ≡ Some s → (t u : Bool)
-        → cond t (Some (filled (resized n s.here) s)) (cond u (room
-        (grow_mover (is_relocatable slot) (resized n s.here)) sp zone) (grow_nonrelocatable sp (resized n s.here) s))
-        ≡ Some after → KeepsNonrelocatable zone after
-    sized s is true u e =
-        nonrelocatable-then zone (filled (resized n s.here) s) after
-        (nonrelocatable-then zone (s.below ++ s.here ∷ s.above) (filled (resized n s.here) s)
-        (nonrelocatable-same zone (s.below ++ s.here ∷ s.above) (sym (spot-is (is_relocatable slot) zone s is)))
-        (nonrelocatable-filled (resized n s.here) s (alike-resized n s.here)))
-        (nonrelocatable-same (filled (resized n s.here) s) after (sym (same_Some _ _ e)))
-    sized s is false true e = nonrelocatable-room (grow_mover (is_relocatable slot) (resized n s.here)) sp zone after
-        (λ y z. nonrelocatable-grow_mover slot n s.here y z (spot-passes (is_relocatable slot) zone s is)) e
-    sized s is false false e =
-        nonrelocatable-then zone (s.below ++ s.here ∷ s.above) after (nonrelocatable-same zone (s.below ++ s.here ∷ s.above)
-        (sym (spot-is (is_relocatable slot) zone s is))) (nonrelocatable-grow_nonrelocatable sp (resized n s.here) s after
-        (alike-resized n s.here) e)
-
-    cases : (o : Option Spot) → spot (is_relocatable slot) zone ≡ o
-        → option_and_then (λ (s : Spot). grow_at (is_relocatable slot) sp (resized n s.here) zone s) o ≡ Some after
-        → KeepsNonrelocatable zone after
-    cases None is e = absurd (none-some _ e)
-    cases (Some s) is e = sized s is (nat_le (size (resized n s.here)) (size s.here)) (is_mover s.here) e

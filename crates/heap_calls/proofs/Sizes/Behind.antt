@@ -66,14 +66,6 @@ size-is n m e = cases (is_some (phys n)) refl e
     cases true is e = (same_Some _ _ e, is)
     cases false is e = absurd (none-some _ e)
 
--- a block can't have so many bytes
-pub too-long : (n : ℕ) → size_for n ≡ None → is_some (phys n) ≡ false
-too-long n e = cases (is_some (phys n)) e
-  where
-    cases : (t : Bool) → cond t (Some n) None ≡ None → t ≡ false
-    cases true e = absurd (none-some _ (sym e))
-    cases false e = refl
-
 pub length-known : (slot place n : ℕ) (zone : List Block) → FindsLowest (is_relocatable slot) zone (Some place)
     → IfSome (spot_at place zone) (λ s. n ≡ length (content_of s.here))
     → (n ≡ length_of slot zone) × (n ≤ sizes zone)

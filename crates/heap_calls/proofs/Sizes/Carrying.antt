@@ -35,7 +35,7 @@ use Rattle.heap_calls.specs.declared.growing.Growth.TheVariants as grows
 use Rattle.heap_calls.specs.Inner.Growing.{grown, growing, growing_searches, Spares, Stays, FindsGrowth, IsToGrow}
 use Rattle.heap_calls.specs.Inner.Growing.{block_of, SameBlocks, CanGrowUp, GrewUp}
 use Rattle.heap_calls.specs.Searches.{room_searches}
-use Rattle.heap_calls.proofs.Sizes.Growth.{opened-stays, find-purged, find-tidy, spot-find}
+use Rattle.heap_calls.proofs.Sizes.Growth.{opened-stays, find-purged, find-tidy, spot-find, growth-stays}
 use Rattle.heap_calls.proofs.Numbering.Changing.{phys-some}
 use Rattle.block_store.proofs.Regroup.Regrouping.{put_run, changed, run_at-change, tidy-change, apart-settle}
 use Rattle.block_store.proofs.Regroup.Regrouping.{apart-high, all-high}
@@ -509,15 +509,29 @@ module _ (nd : Sparing) (number n k : ℕ) (zone : List Block) (spares : Spares 
         cases (Some s) (Some t) e h = let P : Block → Type 0 = λ b. size b < size (resized n b) in
             subst P (sym (same_Some _ _ e)) h
 
-    -- the growth that was carried out after the purges
+    pub purged-more : (zone1 : List Block) (d : ℕ) → zone1 ≡ purged k nd zone
+        → IsSomeAnd (spot (is_relocatable number) zone) (λ s. growth (grown n (spot (is_relocatable number) zone)) s ≡ d)
+        → IsSomeAnd (spot (is_relocatable number) zone1) (λ s. growth (grown n (spot (is_relocatable number) zone1)) s ≡ d)
+    purged-more zone1 d e h =
+        let P : Block → List Block → Type 0 = λ b z. IsSomeAnd (spot (is_relocatable number) z) (λ s. growth b s ≡ d) in
+        subst (λ b. P b zone1) (sym (purged-grown zone1 e)) (subst (λ z. P (grown n (spot (is_relocatable number) zone)) z)
+        (sym e) (growth-stays (is_relocatable number) (grown n (spot (is_relocatable number) zone)) d nd (λ m. refl) spares
+        stays k zone h))
+
+    -- the growth in the zone after the purges
+    pub purged-mover : (zone1 : List Block) → zone1 ≡ purged k nd zone
+        → grow_mover (is_relocatable number) (grown n (spot (is_relocatable number) zone)) (purged k nd zone)
+        ≡ grow_mover (is_relocatable number) (grown n (spot (is_relocatable number) zone1)) zone1
+    purged-mover zone1 is = ap (grow_mover (is_relocatable number) (grown n (spot (is_relocatable number) zone))) (sym is)
+        ∙ ap (λ b. grow_mover (is_relocatable number) b zone1) (sym (purged-grown zone1 is))
+
+    -- as it was carried out
     pub carried : (zone1 zone2 : List Block) → zone1 ≡ purged k nd zone
         → growing (is_relocatable number) (grown n (spot (is_relocatable number) zone)) nd zone
         ≡ grow_mover (is_relocatable number) (grown n (spot (is_relocatable number) zone)) (purged k nd zone)
         → grow_mover (is_relocatable number) (grown n (spot (is_relocatable number) zone1)) zone1 ≡ Some zone2
         → growing (is_relocatable number) (grown n (spot (is_relocatable number) zone)) nd zone ≡ Some zone2
-    carried zone1 zone2 is least done =
-        least ∙ ap (grow_mover (is_relocatable number) (grown n (spot (is_relocatable number) zone))) (sym is)
-        ∙ ap (λ b. grow_mover (is_relocatable number) b zone1) (sym (purged-grown zone1 is)) ∙ done
+    carried zone1 zone2 is least done = least ∙ purged-mover zone1 is ∙ done
 
 -- the same told of the spot that there is
 module _ (nd : Sparing) (number n : ℕ) (zone : List Block) (stays : Stays nd (is_relocatable number))
@@ -559,6 +573,27 @@ grown-size number n takes zone grows fits = cases (spot (is_relocatable number) 
     cases None is h = absurd h
     cases (Some s) is h = size-resized number n s.here (spot-passes (is_relocatable number) zone s is)
         ∙ sym ((phys-some n takes fits).1)
+
+-- and how many more than it had
+pub grown-more : (number n takes held : ℕ) (zone : List Block) → IsToGrow (is_relocatable number) n zone
+    → size (grown n (spot (is_relocatable number) zone)) ≡ takes
+    → IfSome (spot (is_relocatable number) zone) (λ s. held ≡ size s.here)
+    → IsSomeAnd (spot (is_relocatable number) zone)
+    (λ s. growth (grown n (spot (is_relocatable number) zone)) s ≡ takes - held)
+grown-more number n takes held zone grows is had = cases (spot (is_relocatable number) zone) grows is had
+  where
+    cases : (o : Option Spot) → IsSomeAnd o (λ s. size s.here < size (resized n s.here)) → size (grown n o) ≡ takes
+        → IfSome o (λ s. held ≡ size s.here) → IsSomeAnd o (λ s. growth (grown n o) s ≡ takes - held)
+    cases None h is had = absurd h
+    cases (Some s) h is had = ap (λ m. m - size s.here) is ∙ ap (λ m. takes - m) (sym had)
+
+pub grown-positive : (number n : ℕ) (zone : List Block) → IsToGrow (is_relocatable number) n zone
+    → 0 < size (grown n (spot (is_relocatable number) zone))
+grown-positive number n zone grows = cases (spot (is_relocatable number) zone) grows
+  where
+    cases : (o : Option Spot) → IsSomeAnd o (λ s. size s.here < size (resized n s.here)) → 0 < size (grown n o)
+    cases None h = absurd h
+    cases (Some s) h = omega (arith, h)
 
 -- the slots stay while a block is moved to the top of its run, which is packed
 pub rest-last : (a b c d : Rest) (o : Option RunSpot) → IsSome o → IsRest a b

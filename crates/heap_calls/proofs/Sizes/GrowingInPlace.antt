@@ -444,10 +444,6 @@ spot_if o s P e p = let Q : Option Spot → Type 0 = λ o. IfSome o P in subst Q
 pub same_spot : (o : Option Spot) (s : Spot) (P : Spot → Type 0) → o ≡ Some s → IsSomeAnd o P → P s
 same_spot o s P e p = let Q : Option Spot → Type 0 = λ o. IsSomeAnd o P in subst Q e p
 
-pub if_spot : (o : Option Spot) (P : Spot → Type 0) → ((s : Spot) → o ≡ Some s → P s) → IfSome o P
-if_spot None P each = tt
-if_spot (Some s) P each = each s refl
-
 pub some_if : (o : Option Spot) (s : Spot) (P : Spot → Type 0) → o ≡ Some s → P s → IfSome o P
 some_if o s P e p = let Q : Option Spot → Type 0 = λ o. IfSome o P in subst Q (sym e) p
 

@@ -141,15 +141,21 @@ pub find-purged : (test : Block → Bool) (n : Sparing) → ((m : ℕ) → test 
 find-purged test n none spares stays k zone = find-tidy test none (lowest_purged k (spared n) (opened n zone))
     ∙ find-lowest_purged test (spared n) none spares k (opened n zone) ∙ find-opened test n none zone stays
 
-pub growth-stays : (test : Block → Bool) (new : Block) (d : ℕ) (n : Sparing) → ((m : ℕ) → test (Free m) ≡ false)
-    → Spares n test → Stays n test → (k : ℕ) (zone : List Block) → IsSomeAnd (spot test zone) (λ s. growth new s ≡ d)
-    → IsSomeAnd (spot test (purged k n zone)) (λ s. growth new s ≡ d)
-growth-stays test new d n none spares stays k zone h =
+pub block-stays : (test : Block → Bool) (P : Block → Type 0) (n : Sparing) → ((m : ℕ) → test (Free m) ≡ false)
+    → Spares n test → Stays n test → (k : ℕ) (zone : List Block) → IsSomeAnd (spot test zone) (λ s. P s.here)
+    → IsSomeAnd (spot test (purged k n zone)) (λ s. P s.here)
+block-stays test P n none spares stays k zone h =
     by_here (spot test zone) (spot test (purged k n zone)) (spot-find test zone
     ∙ sym (spot-find test (purged k n zone) ∙ find-purged test n none spares stays k zone)) h
   where
     by_here : (a b : Option Spot) → option_map (λ (s : Spot). s.here) a ≡ option_map (λ (s : Spot). s.here) b
-        → IsSomeAnd a (λ s. growth new s ≡ d) → IsSomeAnd b (λ s. growth new s ≡ d)
+        → IsSomeAnd a (λ s. P s.here) → IsSomeAnd b (λ s. P s.here)
     by_here None b e h = absurd h
     by_here (Some s) None e h = absurd (none-some _ (sym e))
-    by_here (Some s) (Some t) e h = ap (λ b. size new - size b) (sym (same_Some _ _ e)) ∙ h
+    by_here (Some s) (Some t) e h = subst P (same_Some _ _ e) h
+
+pub growth-stays : (test : Block → Bool) (new : Block) (d : ℕ) (n : Sparing) → ((m : ℕ) → test (Free m) ≡ false)
+    → Spares n test → Stays n test → (k : ℕ) (zone : List Block) → IsSomeAnd (spot test zone) (λ s. growth new s ≡ d)
+    → IsSomeAnd (spot test (purged k n zone)) (λ s. growth new s ≡ d)
+growth-stays test new d n none spares stays k zone h =
+    block-stays test (λ b. size new - size b ≡ d) n none spares stays k zone h

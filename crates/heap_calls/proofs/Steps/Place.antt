@@ -1,9 +1,8 @@
-use Rattle.std.proofs.Common.{◌≡◌, ℕ, Bool, true, false, List, [], ◌∷◌, ◌++◌, refl, ◌∙◌, ap, cond}
+use Rattle.std.proofs.Common.{◌≡◌, Bool, true, false, List, [], ◌∷◌, refl, ◌∙◌, cond}
 use Rattle.block_store.specs.Rest.{Site}
 use Rattle.heap_calls.specs.State.{Memory}
 use Rattle.heap_calls.specs.Inside.{has_block, refill_inside}
-use Rattle.heap_calls.specs.Path.{Step, NewFilled, NewEmpty, Refill, Release, Cast, stepped, read_by, refusal, walk}
-use Rattle.heap_calls.specs.Path.{reads}
+use Rattle.heap_calls.specs.Path.{Step, NewFilled, NewEmpty, Refill, Release, Cast, stepped, walk}
 use Rattle.heap_calls.proofs.Tries.Elsewhere.{elsewhere}
 
 -- Steps on a heap don't hang on where it lies, and leave that, the code that MemError tells and what is busy.
@@ -20,36 +19,6 @@ step-elsewhere window (Refill h flags bytes) m = by_block (has_block h m.heap)
     by_block false = refl
 step-elsewhere window (Release h) m = refl
 step-elsewhere window (Cast change h) m = refl
-
-pub refusal-elsewhere : (window : Site) (step : Step) (m : Memory)
-    → refusal step (elsewhere window m) ≡ refusal step m
-refusal-elsewhere window (NewFilled role flags bytes) m = refl
-refusal-elsewhere window (NewEmpty role) m = refl
-refusal-elsewhere window (Refill h flags bytes) m = refl
-refusal-elsewhere window (Release h) m = refl
-refusal-elsewhere window (Cast change h) m = refl
-
-read-elsewhere : (window : Site) (step : Step) (m : Memory) → read_by step (elsewhere window m) ≡ read_by step m
-read-elsewhere window (NewFilled role flags bytes) m = refl
-read-elsewhere window (NewEmpty role) m = refl
-read-elsewhere window (Refill h flags bytes) m = refl
-read-elsewhere window (Release h) m = refl
-read-elsewhere window (Cast change h) m = refl
-
-pub steps-elsewhere : (window : Site) (steps : List Step) (m : Memory)
-    → walk steps (elsewhere window m) ≡ elsewhere window (walk steps m)
-steps-elsewhere window [] m = refl
-steps-elsewhere window (step ∷ steps) m = ap (walk steps) (step-elsewhere window step m)
-    ∙ steps-elsewhere window steps (stepped step m)
-
-pub reads-elsewhere : (window : Site) (steps : List Step) (m : Memory)
-    → reads steps (elsewhere window m) ≡ reads steps m
-reads-elsewhere window [] m = refl
-reads-elsewhere window (step ∷ steps) m =
-    ap (λ (first : List (ℕ × List ℕ)). first ++ reads steps (stepped step (elsewhere window m)))
-    (read-elsewhere window step m)
-    ∙ ap (λ (n : Memory). read_by step m ++ reads steps n) (step-elsewhere window step m)
-    ∙ ap (λ (later : List (ℕ × List ℕ)). read_by step m ++ later) (reads-elsewhere window steps (stepped step m))
 
 -- what a step leaves of a memory
 pub record Rests (m n : Memory) : Type 0 where

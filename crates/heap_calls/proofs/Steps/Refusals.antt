@@ -1,21 +1,20 @@
-use Rattle.std.proofs.Common.{◌≡◌, ◌≤◌, ◌<◌, Bool, true, false, List, length, refl, sym, ◌∙◌, ap, cond, arith}
+use Rattle.std.proofs.Common.{◌≡◌, ◌≤◌, Bool, true, false, List, length, refl, sym, ◌∙◌, ap, cond, arith}
 use Rattle.std.proofs.Common.{Option, Some, None, Result, Ok, Err}
 use Rattle.std.specs.Option.{option_map}
 use Rattle.std.specs.Prelude.{unwrap_or}
 use Rattle.std.proofs.lemmas.Option.{none-some}
 use Rattle.mac_words.specs.declared.code.OsErr.{OsErr}
-use Rattle.block_store.specs.Block.{Block, sizes, count, is_masters}
+use Rattle.block_store.specs.Block.{Block}
 use Rattle.heap_calls.specs.State.{State, Memory, Meaning}
 use Rattle.heap_calls.specs.Answer.{nothing}
 use Rattle.heap_calls.specs.Slots.{slotted}
 use Rattle.heap_calls.specs.Refused.{slotted_zone}
-use Rattle.heap_calls.specs.Staying.{ease, staying}
+use Rattle.heap_calls.specs.Staying.{staying}
 use Rattle.heap_calls.specs.Inside.{has_block, refill_inside, new_inside, new_empty_inside}
 use Rattle.heap_calls.specs.Path.{Step, NewFilled, NewEmpty, Refill, Release, Cast, stepped, refusal, refusal_of}
 use Rattle.heap_calls.specs.Path.{left_zone}
 use Rattle.heap_calls.proofs.Promises.RefusedCalls.{Leaves, done}
 use Rattle.heap_calls.proofs.Tries.Keeping.{slotted-le}
-use Rattle.heap_calls.proofs.Tries.Parting.{less_stays}
 use Rattle.heap_calls.proofs.Steps.Ways.{with_new, filled-goes, emptied-goes, refill-goes, slotted-names}
 
 -- What a refused step leaves of a heap.
@@ -75,14 +74,4 @@ step-no_more step m code refused =
     let left = left-le step m.heap in
     let z : staying (stepped step m).heap.zone ≡ staying (left_zone step m.heap) =
     ap (λ (s : State). staying s.zone) (step-refused step m code refused) in
-    omega arith
-
--- and where more can be had later, less stays than before the step
-pub step-less_later : (step : Step) (m : Memory) (code : OsErr) → refusal step m ≡ Some code → (later : List Block)
-    → sizes later ≡ sizes (stepped step m).heap.zone
-    → count is_masters (stepped step m).heap.zone ≤ count is_masters later
-    → ease (stepped step m).heap.zone < ease later → staying later < staying m.heap.zone
-step-less_later step m code refused later same few rose =
-    let kept = step-no_more step m code refused in
-    let less = less_stays (stepped step m).heap.zone later same few rose in
     omega arith

@@ -1,4 +1,4 @@
-use Rattle.std.proofs.Common.{◌≡◌, ◌≢◌, ℕ, ◌≤◌, Bool, true, false, not, ◌&&◌, ◌==◌, List, ◌∷◌, ◌++◌, refl, sym}
+use Rattle.std.proofs.Common.{◌≡◌, ◌≢◌, ℕ, ◌≤◌, Bool, true, false, ◌&&◌, ◌==◌, List, ◌∷◌, ◌++◌, refl, sym}
 use Rattle.std.proofs.Common.{◌∙◌, ap, subst, cond, arith, Option, Some, None, Result, Ok, Err, slice_get}
 use Rattle.std.specs.Option.{option_map, ok_or}
 use Rattle.std.specs.Prelude.{is_some}
@@ -6,25 +6,23 @@ use Rattle.mac_words.specs.declared.code.OsErr.{OsErr}
 use Rattle.mac_words.specs.declared.code.TheConstants.OsErr.{NIL_HANDLE, LOCKED}
 use Rattle.block_store.specs.declared.flags.Flags.{Flags}
 use Rattle.block_store.specs.Block.{Block, Free, Nonrelocatable, Masters, Relocatable, sizes, total, count, is_mover, is_masters}
-use Rattle.block_store.specs.Block.{is_relocatable, is_purgeable, is_nonrelocatable}
+use Rattle.block_store.specs.Block.{is_relocatable, is_nonrelocatable}
 use Rattle.block_store.specs.Run.{has}
 use Rattle.block_store.specs.Room.{Spot, spot}
-use Rattle.block_store.specs.Rest.{Site}
-use Rattle.block_store.proofs.Zone.Tidy.{spot-is, spot-passes}
+use Rattle.block_store.proofs.Zone.Tidy.{spot-is}
 use Rattle.block_store.proofs.Zone.Totals.{total-append}
-use Rattle.block_store.proofs.Zone.Passing.{has-append, has-count}
+use Rattle.block_store.proofs.Zone.Passing.{has-count}
 use Rattle.block_store.proofs.Zone.Keeping.{SeesNoFree, apart}
 use Rattle.block_store.proofs.Zone.Alike.{Alike, alike-then, stands-is, stands-none, locks}
 use Rattle.block_store.proofs.Nonrelocatable.Counts.{has-counts, not_nonrelocatable-relocatable}
 use Rattle.block_store.proofs.Regroup.Settling.{has-spot}
-use Rattle.heap_calls.specs.State.{State, Memory, Meaning, Handle, Pointer, Disposed}
+use Rattle.heap_calls.specs.State.{State, Meaning, Handle, Pointer, Disposed}
 use Rattle.heap_calls.specs.Answer.{Answer, Held, refused, known_as, held_at, look_up, for_found, flagged, change_flags}
 use Rattle.heap_calls.specs.Answer.{h_unlock, hoisted}
 use Rattle.heap_calls.specs.Locked.{is_locked, locked_place}
 use Rattle.heap_calls.specs.Standing.{pointer_place}
-use Rattle.heap_calls.specs.Emptying.{has_purgeable}
 use Rattle.heap_calls.specs.Owned.{resource_meant, resource_role_at}
-use Rattle.heap_calls.specs.Inside.{inside, held_high, loosened, has_block}
+use Rattle.heap_calls.specs.Inside.{held_high, loosened, has_block}
 use Rattle.heap_calls.proofs.Promises.Knowing.{Known, for_handle, look_up-spot, none-handle, known-less}
 use Rattle.heap_calls.proofs.Promises.KnownChanges.{known-flags, hoisted-le, hoisted-all}
 use Rattle.heap_calls.proofs.Promises.AlikeCalls.{Steady, LeavesFlags, never, steady-never, alike-flags}
@@ -32,8 +30,6 @@ use Rattle.heap_calls.proofs.Promises.AlikeCalls.{alike-locked_high, flagged-num
 use Rattle.heap_calls.proofs.Promises.LockedLaws.{steady-locked, loose-unlocked, other-flags, fewer}
 use Rattle.heap_calls.proofs.Promises.StandingLaws.{steady-nonrelocatable, flagged-nonrelocatable}
 use Rattle.heap_calls.proofs.Promises.EmptyingLaws.{masters}
-use Rattle.heap_calls.proofs.Steps.Place.{Rests}
-use Rattle.heap_calls.proofs.Tries.Elsewhere.{elsewhere}
 
 -- What the Segment Manager's two steps leave of a heap: a block that is held high, and one that is loosened.
 
@@ -240,27 +236,6 @@ loosened-roles h s k = ap (λ (ns : List Meaning). resource_meant (slice_get ns 
 
 -- They don't hang on where the heap lies, and leave that, the code that MemError tells, what is busy, and both counts.
 
-pub inside-elsewhere : (change : State → State) (window : Site) (m : Memory)
-    → inside change (elsewhere window m) ≡ elsewhere window (inside change m)
-inside-elsewhere change window m = refl
-
-pub inside-rests : (change : State → State) (m : Memory) → Rests m (inside change m)
-inside-rests change m = record { busy = refl; code = refl; window = refl }
-
-pub inside-searches : (change : State → State) (m : Memory) → (inside change m).log.searches ≡ m.log.searches
-inside-searches change m = refl
-
-pub inside-moves : (change : State → State) (m : Memory) → (inside change m).moves ≡ m.moves
-inside-moves change m = refl
-
-pub held-elsewhere : (h : ℕ) (window : Site) (m : Memory)
-    → inside (held_high h) (elsewhere window m) ≡ elsewhere window (inside (held_high h) m)
-held-elsewhere h = inside-elsewhere (held_high h)
-
-pub loosened-elsewhere : (h : ℕ) (window : Site) (m : Memory)
-    → inside (loosened h) (elsewhere window m) ≡ elsewhere window (inside (loosened h) m)
-loosened-elsewhere h = inside-elsewhere (loosened h)
-
 -- What they come to.
 
 -- a handle with a block is found
@@ -288,60 +263,6 @@ block-found h s bytes known there {code = code} =
         by_spot (spot (is_relocatable h) s.zone) (sym (has-spot (is_relocatable h) s.zone) ∙ there)
     by_name (Some Pointer) is = let f : false ≡ true = is in cc
     by_name (Some Disposed) is = let f : false ≡ true = is in cc
-
--- a block that passes, in a zone
-has-here : (test : Block → Bool) (below : List Block) (b : Block) (above : List Block) → test b ≡ true
-    → has test (below ++ b ∷ above) ≡ true
-has-here test below b above passes = has-append test below (b ∷ above) (rw passes refl)
-
-has-place : (h : ℕ) (zone : List Block) → has (is_locked h) zone ≡ true → is_some (locked_place h zone) ≡ true
-has-place h zone there = mapped (spot (is_locked h) zone) ∙ sym (has-spot (is_locked h) zone) ∙ there
-  where
-    mapped : (o : Option Spot) → is_some (option_map (λ (at : Spot). sizes at.below) o) ≡ is_some o
-    mapped None = refl
-    mapped (Some at) = refl
-
--- a block that is locked, and one that isn't a mover
-locked-now : (h : ℕ) (b : Block) → is_relocatable h b ≡ true → is_locked h (flagged locking b) ≡ true
-locked-now h (Free n) is = is
-locked-now h (Nonrelocatable id content) is = is
-locked-now h Masters is = is
-locked-now h (Relocatable id flags content) is = rw is refl
-
-locked-already : (h : ℕ) (b : Block) → is_relocatable h b ≡ true → is_mover b ≡ false → is_locked h b ≡ true
-locked-already h (Free n) is stands = is
-locked-already h (Nonrelocatable id content) is stands = is
-locked-already h Masters is stands = is
-locked-already h (Relocatable id flags content) is stands = cases flags.locked stands
-  where
-    cases : (t : Bool) → not t ≡ false → (id == h && t) ≡ true
-    cases true e = rw is refl
-    cases false e = let f : true ≡ false = e in cc
-
--- the block of a handle that has one is locked once it was held high
-pub held-is_locked : (h : ℕ) (s : State) (bytes : ℕ → List ℕ) → Known s bytes → has_block h s ≡ true
-    → is_some (locked_place h (held_high h s).zone) ≡ true
-held-is_locked h s bytes known there =
-    has-place h (held_high h s).zone
-    (held-goes (λ t. has (is_locked h) t.zone ≡ true) h s
-    (λ code e. absurd (block-found h s bytes known there e))
-    (λ at found stands. subst (λ (z : List Block). has (is_locked h) z ≡ true)
-    (sym (spot-is (is_relocatable h) s.zone at found))
-    (has-here (is_locked h) at.below at.here at.above
-    (locked-already h at.here (spot-passes (is_relocatable h) s.zone at found) stands)))
-    (flags-go (λ t. has (is_locked h) t.zone ≡ true) locking h now
-    (λ code e. absurd (block-found h now bytes (known-moved h s bytes known) still e))
-    (λ at found. has-here (is_locked h) at.below (flagged locking at.here) at.above
-    (locked-now h at.here (spot-passes (is_relocatable h) now.zone at found)))))
-  where
-    now : State
-    now = moved_high h s
-
-    still : has_block h now ≡ true
-    still = has-counts (is_relocatable h) s.zone now.zone
-        (let less = hoisted-le (one h) (λ n. refl) h s.zone in
-        let more = hoisted-all (one h) (λ n. refl) h s.zone in
-        omega arith) ∙ there
 
 -- a block that isn't locked
 unlocked-now : (h : ℕ) (b : Block) → locks (is_locked h) (flagged unlocking b) ≡ 0
@@ -396,39 +317,3 @@ loosened-none h s bytes known there =
 
     none : total (locks (is_locked h)) now.zone ≤ 0
     none = none-locked h s bytes known there
-
--- a block of a handle that isn't locked may be purged once it is purgeable
-purgeable-now : (h : ℕ) (b : Block) → is_relocatable h b ≡ true → locks (is_locked h) b ≤ 0
-    → (is_relocatable h (flagged purging b) && is_purgeable (flagged purging b)) ≡ true
-purgeable-now h (Free n) is open_now = is
-purgeable-now h (Nonrelocatable id content) is open_now = is
-purgeable-now h Masters is open_now = is
-purgeable-now h (Relocatable id flags content) is open_now = cases (id == h) is flags.locked open_now
-  where
-    cases : (t : Bool) → t ≡ true → (l : Bool) → cond {A = ℕ} (t && l) 1 0 ≤ 0 → (t && (not l && true)) ≡ true
-    cases false e l le = e
-    cases true e true le = absurd (let f : 1 ≤ 0 = le in omega arith)
-    cases true e false le = refl
-
--- the block of a handle that has one may be purged once it was loosened
-pub loosened-has_purgeable : (h : ℕ) (s : State) (bytes : ℕ → List ℕ) → Known s bytes → has_block h s ≡ true
-    → has_purgeable h (loosened h s).zone ≡ true
-loosened-has_purgeable h s bytes known there =
-    flags-go (λ t. has_purgeable h t.zone ≡ true) purging h now
-    (λ code e. absurd (block-found h now bytes (known-flags unlocking (Some h) s bytes known) still e))
-    (λ at found.
-    let none = none-locked h s bytes known there in
-    has-here (λ b. is_relocatable h b && is_purgeable b) at.below (flagged purging at.here) at.above
-    (purgeable-now h at.here (spot-passes (is_relocatable h) now.zone at found)
-    (omega (
-      arith,
-      ap (total (locks (is_locked h))) (spot-is (is_relocatable h) now.zone at found),
-      total-append (locks (is_locked h)) at.below (at.here ∷ at.above),
-    ))))
-  where
-    now : State
-    now = (h_unlock (Some h) s).1
-
-    still : has_block h now ≡ true
-    still = has-counts (is_relocatable h) s.zone now.zone
-        (flags-total (one h) (λ n. refl) (one-flags h) unlocking h s) ∙ there

@@ -1,20 +1,29 @@
 -- What blocks would give if they were emptied, through each change of a zone.
-use Rattle.std.proofs.Common.{◌≡◌, ℕ, zero, suc, ◌+◌, ◌-◌, ◌≤◌, ◌<◌, ◌^◌, Bool, true, false, not, cond, Option, Some, None}
-use Rattle.std.proofs.Common.{List, [], ◌∷◌, ◌++◌, refl, ap, arith}
-use Rattle.std.proofs.lemmas.Bool.{and_parts, cond-true}
+use Rattle.std.proofs.Common.{◌≡◌, ℕ, zero, suc, ◌+◌, ◌-◌, ◌≤◌, ◌<◌, ◌^◌, Bool, true, false, not, ◌&&◌, cond, Option, Some, None}
+use Rattle.std.proofs.Common.{List, [], ◌∷◌, ◌++◌, map, refl, sym, ap, ◌∙◌, arith}
+use Rattle.std.proofs.lemmas.Bool.{and_parts, false≢true}
+use Rattle.std.specs.Option.{option_map}
 use Rattle.block_store.specs.Block.{Block, Free, Nonrelocatable, Masters, Relocatable, size, sizes, total, free_of, free_sum}
-use Rattle.block_store.specs.Block.{is_purgeable, fresh, tidy}
+use Rattle.block_store.specs.Block.{count, is_purgeable, is_room, fresh, tidy}
 use Rattle.block_store.specs.Grow.{freed, growth, taken, grow_up}
-use Rattle.block_store.specs.Room.{Spot, spot, filled, may_be_purged, lowest_purged}
-use Rattle.block_store.proofs.Zone.Keeping.{SeesNoFree, unless, unless-le, freely, freed-is, tidied, taken-le}
-use Rattle.block_store.proofs.Zone.Tidy.{total-tidy, spot-is, spot-passes}
+use Rattle.block_store.specs.Room.{Spot, spot, raised, filled, may_be_purged, lowest_purged}
+use Rattle.block_store.specs.Sparing.{most_purges, purged, spared}
+use Rattle.block_store.specs.declared.sparing.Sparing.TheVariants as sparing
+use Rattle.block_store.proofs.Purged.PurgedSums.{free-purged}
+use Rattle.block_store.proofs.Content.Sized.{total-sized}
+use Rattle.block_store.proofs.Zone.Keeping.{SeesNoFree, unless, unless-none, freely, freed-is, tidied}
+use Rattle.block_store.proofs.Zone.Tidy.{total-tidy}
 use Rattle.block_store.proofs.Zone.Totals.{total-append, total-le}
-use Rattle.block_store.proofs.Zone.Views.{map-some}
+use Rattle.block_store.proofs.Zone.Views.{map-some, taken-some}
+use Rattle.zone_summary.specs.Emptied.{emptied}
+use Rattle.zone_summary.proofs.Purges.{all-purged}
 use Rattle.zone_bytes.specs.Decode.{zone_in}
 use Rattle.zone_bytes.specs.Lawful.{IsSound}
+use Rattle.zone_bytes.specs.Changes.{Became}
 use Rattle.zone_bytes.specs.Table.{slot_in}
-use Rattle.zone_bytes.specs.Purgeable.{purgeable_of, purgeable_sum, purgeable_at}
+use Rattle.zone_bytes.specs.PurgeableBytes.{purgeable_of, purgeable_sum, purgeable_at}
 use Rattle.zone_bytes.proofs.Laws.Lawful.{sizes-length}
+use Rattle.zone_bytes.proofs.Places.Walks.{free_span-le}
 
 -- no Free block would give anything
 pub none-free : SeesNoFree purgeable_of
@@ -36,32 +45,41 @@ given-filled new s =
     let p = given-parts s.below new (Free (size s.here - size new) ∷ s.above) in
     omega (arith, t, p)
 
--- blocks that pass were freed
-pub given-freed : (test : Block → Bool) (zone : List Block)
-    → purgeable_sum (tidy (freed test zone)) ≤ purgeable_sum zone
-given-freed test zone =
-    let t = given-tidy (freed test zone) in
-    let f = freed-is purgeable_of none-free test zone in
-    let l = unless-le test purgeable_of zone in
-    omega (arith, t, f, l)
+-- blocks that would give nothing were freed
+pub given-freed : (test : Block → Bool) → ((b : Block) → test b ≡ true → purgeable_of b ≡ 0) → (zone : List Block)
+    → purgeable_sum (tidy (freed test zone)) ≡ purgeable_sum zone
+given-freed test nothing zone = given-tidy (freed test zone) ∙ freed-is purgeable_of none-free test zone ∙ same zone
+  where
+    one : (b : Block) (t : Bool) → test b ≡ t → cond t 0 (purgeable_of b) ≡ purgeable_of b
+    one b true e = sym (nothing b e)
+    one b false e = refl
 
--- what the lowest of them would give is gone
-pub given-released : (test : Block → Bool) (zone : List Block) (o : Option Spot) → spot test zone ≡ o
-    → purgeable_sum (tidy (freed test zone)) + purgeable_at o ≤ purgeable_sum zone
-given-released test zone None e = let g = given-freed test zone in omega (arith, g)
-given-released test zone (Some s) e =
-    let of = unless test purgeable_of in
-    let w = spot-is test zone s e in
-    let t = given-tidy (freed test zone) in
-    let f = freed-is purgeable_of none-free test zone in
-    let u = ap (total of) w in
-    let p = total-append of s.below (s.here ∷ s.above) in
-    let h : of s.here ≡ 0 = cond-true (test s.here) 0 (purgeable_of s.here) (spot-passes test zone s e) in
-    let l = unless-le test purgeable_of s.below in
-    let m = unless-le test purgeable_of s.above in
-    let z = ap purgeable_sum w in
-    let q = given-parts s.below s.here s.above in
-    omega (arith, t, f, u, p, h, l, m, z, q)
+    same : (zone : List Block) → total (unless test purgeable_of) zone ≡ purgeable_sum zone
+    same [] = refl
+    same (b ∷ zone) = omega (arith, one b (test b) refl, same zone)
+
+-- where one block at most passes, what it would give is gone with it
+pub given-released : (test : Block → Bool) (zone : List Block) → count test zone ≤ 1
+    → purgeable_sum (tidy (freed test zone)) + purgeable_at (spot test zone) ≡ purgeable_sum zone
+given-released test zone once =
+    omega (arith, given-tidy (freed test zone), freed-is purgeable_of none-free test zone, beside zone once)
+  where
+    beside : (zone : List Block) → count test zone ≤ 1
+        → total (unless test purgeable_of) zone + purgeable_at (spot test zone) ≡ purgeable_sum zone
+    beside [] once = refl
+    beside (b ∷ zone) once =
+        cases (test b) (spot test zone) (beside zone) (unless-none test purgeable_of zone) once
+      where
+        cases : (t : Bool) (o : Option Spot)
+            → (count test zone ≤ 1 → total (unless test purgeable_of) zone + purgeable_at o ≡ purgeable_sum zone)
+            → (count test zone ≤ 0 → total (unless test purgeable_of) zone ≡ purgeable_sum zone)
+            → cond {A = ℕ} t 1 0 + count test zone ≤ 1
+            → cond {A = ℕ} t 0 (purgeable_of b) + total (unless test purgeable_of) zone
+            + purgeable_at (cond t (Some (record { below = []; here = b; above = zone })) (option_map (raised b) o))
+            ≡ purgeable_of b + purgeable_sum zone
+        cases true o more none once = omega (arith, none (omega (arith, once)))
+        cases false None more none once = omega (arith, more (omega (arith, once)))
+        cases false (Some s) more none once = omega (arith, more (omega (arith, once)))
 
 -- what is emptied becomes Free
 pub given-lowest_purged : (k : ℕ) (sp : Block → Bool) (zone : List Block)
@@ -96,39 +114,86 @@ given-sizes zone = total-le purgeable_of size (λ b. one (is_purgeable b) (size 
     one true n = omega arith
     one false n = omega arith
 
+-- all that may be purged is purged
+pub all-given : (zone : List Block) → free_sum (purged (most_purges sparing.Nothing zone) sparing.Nothing zone)
+    ≡ free_sum zone + purgeable_sum zone
+all-given zone = free-purged sparing.Nothing (most_purges sparing.Nothing zone) zone
+    ∙ ap free_sum (all-purged (spared sparing.Nothing) zone) ∙ sum zone
+  where
+    one : (b : Block) → free_of (emptied (spared sparing.Nothing) b) ≡ free_of b + purgeable_of b
+    one (Free n) = omega arith
+    one (Nonrelocatable id content) = refl
+    one Masters = refl
+    one (Relocatable id flags content) = cases (is_purgeable b)
+      where
+        b : Block
+        b = Relocatable id flags content
+
+        cases : (t : Bool) → free_of (cond (t && true) (Free (size b)) b) ≡ 0 + cond {A = ℕ} t (size b) 0
+        cases true = omega arith
+        cases false = refl
+
+    sum : (zone : List Block) → free_sum (map (emptied (spared sparing.Nothing)) zone) ≡ free_sum zone + purgeable_sum zone
+    sum [] = refl
+    sum (b ∷ zone) = omega (arith, one b, sum zone)
+
+-- no zone has, and would give, more bytes than a number holds
+pub given-fits : (xs : List ℕ) (first unused : ℕ) → IsSound xs first unused
+    → free_sum (zone_in xs) + purgeable_sum (zone_in xs) < 2 ^ 32
+given-fits xs first unused i =
+    let g = given-sizes (zone_in xs) in
+    let f = free_span-le (zone_in xs) in
+    let l = sizes-length xs (zone_in xs) (slot_in xs) i.unused i.lays in
+    let m = i.lays.small in
+    omega (arith, g, f, l, m)
+
+-- a Free block that has room would give nothing
+given-room : (p : ℕ) (b : Block) → is_room p b ≡ true → purgeable_of b ≡ 0
+given-room p (Free n) e = refl
+given-room p (Nonrelocatable id content) e = refl
+given-room p Masters e = refl
+given-room p (Relocatable id flags content) e = absurd (false≢true e)
+
 -- a block that grew into the Free block above it
 pub given-grown : (new : Block) (s : Spot) (z : List Block) → grow_up new s ≡ Some z
-    → purgeable_sum z ≤ purgeable_sum s.below + (purgeable_of new + purgeable_sum s.above)
+    → purgeable_sum z ≡ purgeable_sum s.below + (purgeable_of new + purgeable_sum s.above)
 given-grown new s z e =
     map-some (λ above. s.below ++ new ∷ above) (taken (growth new s) s.above) z
-    (purgeable_sum z ≤ purgeable_sum s.below + (purgeable_of new + purgeable_sum s.above)) e
-    (λ above took is.
+    (purgeable_sum z ≡ purgeable_sum s.below + (purgeable_of new + purgeable_sum s.above)) e
+    (λ above took is. taken-some (growth new s) s.above above
+    (purgeable_sum z ≡ purgeable_sum s.below + (purgeable_of new + purgeable_sum s.above)) took
+    (λ next rest was room now.
     let i = ap purgeable_sum is in
-    let p = given-parts s.below new above in
-    let t = taken-le purgeable_of none-free (growth new s) s.above above took in
-    omega (arith, i, p, t))
+    let p = total-sized purgeable_of none-free s.below new (size next - growth new s) rest in
+    let n = ap (λ l. purgeable_sum (s.below ++ new ∷ l)) now in
+    let w = ap purgeable_sum was in
+    let r = given-room (growth new s) next room in
+    omega (arith, i, p, n, w, r)))
 
 -- a fresh zone would give nothing
 pub given-fresh : (n : ℕ) → purgeable_sum (fresh n) ≡ 0
 given-fresh n = let f = freely purgeable_of none-free (n - 272) in omega (arith, f)
 
--- a block that would give nothing, at the lower end of another's place
+-- a block that would give nothing, at the lower end of a Free block's place
 pub given-put : (new : Block) → purgeable_of new ≡ 0 → (s : Spot) (zone : List Block)
-    → zone ≡ s.below ++ s.here ∷ s.above → purgeable_sum (filled new s) ≤ purgeable_sum zone
-given-put new none s zone whole =
+    → zone ≡ s.below ++ s.here ∷ s.above → (n : ℕ) → s.here ≡ Free n → purgeable_sum (filled new s) ≡ purgeable_sum zone
+given-put new none s zone whole n free =
     let f = given-filled new s in
     let z = ap purgeable_sum whole in
     let p = given-parts s.below s.here s.above in
-    omega (arith, none, f, z, p)
+    let h = ap purgeable_of free in
+    omega (arith, none, f, z, p, h)
 
 -- a block became another
-pub given-became : (below : List Block) (b c : Block) (above zone : List Block) → zone ≡ below ++ b ∷ above
-    → purgeable_sum (below ++ c ∷ above) + purgeable_of b ≡ purgeable_sum zone + purgeable_of c
-given-became below b c above zone whole =
-    let z = ap purgeable_sum whole in
-    let p = given-parts below b above in
-    let q = given-parts below c above in
-    omega (arith, z, p, q)
+pub given-became : (place : ℕ) (old new : List Block) (b : Became place old new)
+    → (purgeable_sum new + purgeable_of b.here ≡ purgeable_sum old + purgeable_of b.there)
+    × (purgeable_of b.here ≤ purgeable_sum old)
+given-became place old new b =
+    let y = ap purgeable_sum b.was in
+    let z = ap purgeable_sum b.is in
+    let p = given-parts b.below b.here b.above in
+    let q = given-parts b.below b.there b.above in
+    (omega (arith, y, z, p, q), omega (arith, y, p))
 
 -- the zone that bytes spell would give no more than it has
 pub given-small : (xs : List ℕ) (first unused : ℕ) → IsSound xs first unused → purgeable_sum (zone_in xs) < 2 ^ 32

@@ -15,7 +15,7 @@ use Rattle.block_store.proofs.Zone.Keeping.{unless-le, freed-is, purged-le, tidi
 use Rattle.block_store.proofs.Zone.Tidy.{spot-is, spot-passes}
 use Rattle.block_store.proofs.Zone.Totals.{total-append, total-le}
 use Rattle.block_store.proofs.Zone.Views.{run_spot-is}
-use Rattle.zone_bytes.specs.Purgeable.{purgeable_of, purgeable_sum}
+use Rattle.zone_bytes.specs.PurgeableBytes.{purgeable_of, purgeable_sum}
 use Rattle.zone_bytes.proofs.Bounds.Given.{none-free, given-lowest_purged}
 
 -- where a zone has less than p Free bytes, no run has so many
@@ -65,12 +65,6 @@ free-given s none k zone =
     let o = ap free_sum (none zone) in
     let q = ap purgeable_sum (none zone) in
     omega (arith, f, g, e, o, q)
-
-pub free-none : (s : Sparing) → FreesNone s → (zone : List Block) → free_sum (purged 0 s zone) ≡ free_sum zone
-free-none s none zone =
-    let f = free-purged s 0 zone in
-    let o = ap free_sum (none zone) in
-    omega (arith, f, o)
 
 -- what counts as Free would give nothing more
 given-opened : (s : Sparing) (zone : List Block) → purgeable_sum (opened s zone) ≤ purgeable_sum zone

@@ -14,7 +14,7 @@ use Rattle.block_store.specs.Slot.{is_resource}
 use Rattle.block_store.proofs.Zone.Tidy.{total-tidy}
 use Rattle.block_store.proofs.Zone.Totals.{total-append}
 use Rattle.zone_bytes.specs.Layout.{head_of, Tiles, IsSlot, names, Leads, Apart, Each, Pairs}
-use Rattle.zone_bytes.specs.Marks.{Replaced}
+use Rattle.zone_bytes.specs.Changes.{Replaced}
 use Rattle.zone_bytes.specs.Joining.{Freeing, MayRelease, HasHandle}
 use Rattle.zone_bytes.specs.Table.{Has, Table, Says, Lays, empty_word}
 use Rattle.zone_bytes.proofs.Tiles.Tiling.{span-append, length-tiles, tiles-split}

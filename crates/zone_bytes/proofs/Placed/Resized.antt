@@ -19,8 +19,8 @@ use Rattle.zone_bytes.proofs.Laws.Lawful.{Made, made}
 use Rattle.zone_bytes.proofs.Places.Options.{the-if, if-spot, one-spot}
 use Rattle.zone_bytes.proofs.Placed.Standing.{Standing}
 use Rattle.zone_bytes.specs.Laying.{free_first, past_free}
-use Rattle.zone_bytes.specs.Marks.{Replaced}
-use Rattle.zone_bytes.specs.Purgeable.{purgeable_of, purgeable_sum}
+use Rattle.zone_bytes.specs.Changes.{Replaced}
+use Rattle.zone_bytes.specs.PurgeableBytes.{purgeable_of, purgeable_sum}
 use Rattle.zone_bytes.proofs.Bounds.Given.{given-filled, given-grown, given-parts}
 use Rattle.zone_bytes.proofs.Tiles.Keeping.{span-free}
 use Rattle.zone_bytes.proofs.Placed.Sizes.{HasRoom, some-blocks, headed-above}
@@ -30,7 +30,7 @@ pub record Resized (xs now : List ℕ) (first unused n : ℕ) (s : Spot) : Type 
   pub blocks : List Block
   pub made : Made now first unused blocks (slot_in xs)
   pub masters : count is_masters blocks ≡ count is_masters (zone_in xs)
-  pub given : purgeable_sum blocks + purgeable_of s.here ≤ purgeable_sum (zone_in xs) + purgeable_of (resized n s.here)
+  pub given : purgeable_sum blocks + purgeable_of s.here ≡ purgeable_sum (zone_in xs) + purgeable_of (resized n s.here)
   pub cut : size (resized n s.here) ≤ size s.here → blocks ≡ filled (resized n s.here) s
   pub grown : size s.here < size (resized n s.here) → IfSome (grow_up (resized n s.here) s) (λ after. blocks ≡ after)
 

@@ -17,8 +17,8 @@ use Rattle.zone_bytes.specs.Decode.{zone_in}
 use Rattle.zone_bytes.specs.Table.{slot_in}
 use Rattle.zone_bytes.specs.Lawful.{IsSound}
 use Rattle.zone_bytes.specs.Placing.{lay_at}
-use Rattle.zone_bytes.specs.Marks.{Replaced}
-use Rattle.zone_bytes.specs.Purgeable.{purgeable_of, purgeable_sum}
+use Rattle.zone_bytes.specs.Changes.{Replaced}
+use Rattle.zone_bytes.specs.PurgeableBytes.{purgeable_of, purgeable_sum}
 use Rattle.zone_bytes.proofs.Runs.Runs.{run_at-splits}
 use Rattle.zone_bytes.proofs.Laws.Lawful.{Made}
 use Rattle.zone_bytes.proofs.Runs.RunsAt.{if-run, one-run, settle-made}

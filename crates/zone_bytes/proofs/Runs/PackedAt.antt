@@ -1,5 +1,5 @@
 -- A zone in bytes, one of whose runs was packed.
-use Rattle.std.proofs.Common.{◌≡◌, ℕ, ◌+◌, ◌≤◌, Option, Some, None, List, ◌++◌, cond, refl, sym, ap, ◌∙◌, arith}
+use Rattle.std.proofs.Common.{◌≡◌, ℕ, ◌+◌, Option, Some, None, List, ◌++◌, cond, refl, sym, ap, ◌∙◌, arith}
 use Rattle.std.proofs.Common.{append_assoc}
 use Rattle.std.specs.Option.{IfSome, IsSomeAnd}
 use Rattle.raw_region.specs.Memory.{Bytes}
@@ -15,8 +15,8 @@ use Rattle.block_store.proofs.Regroup.RunLists.{run_at-parts}
 use Rattle.zone_bytes.specs.Layout.{Each}
 use Rattle.zone_bytes.specs.Settling.{InRun}
 use Rattle.zone_bytes.specs.Decode.{zone_in}
-use Rattle.zone_bytes.specs.Marks.{Replaced}
-use Rattle.zone_bytes.specs.Purgeable.{purgeable_of, purgeable_sum}
+use Rattle.zone_bytes.specs.Changes.{Replaced}
+use Rattle.zone_bytes.specs.PurgeableBytes.{purgeable_of, purgeable_sum}
 use Rattle.zone_bytes.specs.Table.{slot_in}
 use Rattle.zone_bytes.specs.Lawful.{IsSound, IsKept}
 use Rattle.zone_bytes.specs.Beside.{KeepsPlace, rest_in}
@@ -96,11 +96,9 @@ module _ {xs : List ℕ} {first unused place top stop : ℕ} {old : List Block}
       → ChangedRun change old r new first unused table → n ≡ free_sum (zone_in xs) → IsKept new first unused n
   kept-changed change new table n d e = kept-made _ _ _ _ _ _ d.made (e ∙ free-packed ∙ sym d.free)
 
-  pub bound-changed : (change : List Block → List Block) (new : List ℕ) (table : ℕ → Slot) (most : ℕ)
-      → ChangedRun change old r new first unused table → purgeable_sum (zone_in xs) ≤ most
-      → purgeable_sum (zone_in new) ≤ most
-  bound-changed change new table most d b =
-      let p = purgeable-packed in let q = d.purgeable in omega (arith, p, q, b)
+  pub purgeable-changed : (change : List Block → List Block) (new : List ℕ) (table : ℕ → Slot)
+      → ChangedRun change old r new first unused table → purgeable_sum (zone_in xs) ≡ purgeable_sum (zone_in new)
+  purgeable-changed change new table d = purgeable-packed ∙ sym d.purgeable
 
   pub replaced-changed : (change : List Block → List Block) (new : List ℕ) (table : ℕ → Slot)
       → ChangedRun change old r new first unused table → Replaced place stop (zone_in xs) (zone_in new)

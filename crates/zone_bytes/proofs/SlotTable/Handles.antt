@@ -14,7 +14,7 @@ use Rattle.block_store.specs.declared.flags.Flags.{Flags}
 use Rattle.block_store.specs.Block.{Block, Free, Nonrelocatable, Masters, Relocatable, size, sizes, is_relocatable}
 use Rattle.block_store.specs.Room.{Spot, spot, raised}
 use Rattle.block_store.specs.Slot.{Slot, NoSlot, Unused, Used, is_used, is_resource}
-use Rattle.zone_bytes.specs.Layout.{flag_word, head_of, Tile, Tiles, IsSlot, names, Leads, Apart, Each}
+use Rattle.zone_bytes.specs.Layout.{flag_word, head_of, Tile, Tiles, names, Leads, Apart, Each}
 use Rattle.zone_bytes.specs.Looking.{place_of_word}
 use Rattle.zone_bytes.specs.Table.{Has, empty_word, Says, Lays}
 use Rattle.zone_bytes.proofs.Places.Stepped.{word-at}
@@ -162,9 +162,6 @@ module _ (xs : List ℕ) (blocks : List Block) (slots : ℕ → Slot) (unused : 
 
     told : Says blocks xs unused s (Used flag.0)
     told = subst (Says blocks xs unused s) flag.1 (h.says s)
-
-    pub handle-slot : IsSlot s blocks
-    handle-slot = told.0
 
     pub handle-in : (s % 4 ≡ 0) × (s + 4 ≤ length xs)
     handle-in = slot-in xs blocks slots unused h s told.0

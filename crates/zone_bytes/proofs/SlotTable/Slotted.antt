@@ -30,9 +30,6 @@ module _ (xs : List ℕ) (first count : ℕ) (i : IsSound xs first count) where
     pub may-take : (t : Table) × Lays xs t.blocks t.slots (first ∷ t.unused)
     may-take = (table, laid)
 
-    pub first-unused : slot_in xs first ≡ Unused
-    first-unused = laid.unused_slots.0.1
-
     pub taken-made : (new : List ℕ) (next : ℕ)
         → ((t : Table) → Lays xs t.blocks t.slots (first ∷ t.unused)
         → Lays new t.blocks (set_slot t.slots first (Used false)) t.unused × (next ≡ first_of t.unused))

@@ -41,15 +41,6 @@ module _ (xs : List ℕ) (spot : RunSpot) (unused : List ℕ) (place stop : ℕ)
       pub after : Lays new (spot.below ++ (settle spot.run ++ spot.above)) (slot_in xs) unused
       after = lays-settled (lay_of spot xs) place stop moves (slot_in xs) unused new refl is-run laid d
 
-      pub settled-lays : Lays new (zone_in new) (slot_in new) unused
-      settled-lays = respelled new (spot.below ++ (settle spot.run ++ spot.above)) (slot_in xs) unused after
-
-      pub settled-zone : zone_in new ≡ spot.below ++ (settle spot.run ++ spot.above)
-      settled-zone = zone-of new (spot.below ++ (settle spot.run ++ spot.above)) (slot_in xs) unused after
-
-      pub settled-slots : (s : ℕ) → slot_in new s ≡ slot_in xs s
-      settled-slots s = slots-of new (spot.below ++ (settle spot.run ++ spot.above)) (slot_in xs) unused after s
-
 -- a list of unused slots that isn't empty
 pub record SomeUnused (first : ℕ) (unused : List ℕ) : Type 0 where
   pub rest : List ℕ

@@ -1,4 +1,4 @@
-use Rattle.std.proofs.Common.{◌+◌, refl, sym, ◌∙◌, arith}
+use Rattle.std.proofs.Common.{◌+◌, sym, ◌∙◌, arith}
 use Rattle.block_store.proofs.Regroup.NextRuns.{run-edge}
 use Rattle.heap_calls.proofs.Room.SettlingRuns.{Counts, IsCompacted, SettledTo, begins, few, one-more, goes-on, higher}
 use Rattle.heap_calls.proofs.Room.SettlingRuns.{ends-there, ends-above}
@@ -50,7 +50,7 @@ more g c =
     (g.S.BlockStore.rest store) c.loop-bytes.run c.loop-bytes.stretches c.from-stretches.result
     (g.S.BlockStore.zone after) (g.S.BlockStore.rest after)
     (g.met.S.BlockStore.tidied start) (g.met.S.BlockStore.tidied store)
-    (sym (c.has_room.ensures.now refl) ∙ c.loop-bytes-test.true) c.loop-bytes.invariant (counts g c.before.before)
+    (sym (c.has_room.ensures) ∙ c.loop-bytes-test.true) c.loop-bytes.invariant (counts g c.before.before)
     c.settle.ensures.zone c.settle.ensures.rest
 
 -- all runs are settled
@@ -106,7 +106,7 @@ served g c =
     let store = c.loop-bytes.store in
     ends-there c.args.bytes (g.S.BlockStore.zone start) (g.S.BlockStore.rest start) (g.S.BlockStore.zone store)
     (g.S.BlockStore.rest store) c.loop-bytes.run c.loop-bytes.stretches c.loop-bytes.invariant
-    (sym (c.has_room.ensures.now refl) ∙ c.loop-bytes-test.false)
+    (sym (c.has_room.ensures) ∙ c.loop-bytes-test.false)
 
 pub returns-clause-zone : goal.returns-clause-zone
 returns-clause-zone g c = (served g c).zone_is

@@ -1,133 +1,207 @@
-use Rattle.block_store.specs.Sparing.{spared}
 use Rattle.std.specs.Option.{IfSome}
-use Rattle.heap_calls.specs.Moves.{room_moves}
-use Rattle.block_store.specs.Grow.{grow_mover}
-use Rattle.block_store.specs.Block.{resized}
-use Rattle.std.proofs.Common.{◌≡◌, ◌+◌, Some, None, sym, ◌∙◌, ap, subst, Option, List, refl}
-use Rattle.block_store.specs.Block.{Block, is_relocatable, is_nonrelocatable, size as size_of}
-use Rattle.block_store.specs.Run.{has}
-use Rattle.block_store.specs.Room.{spot}
+use Rattle.std.proofs.Common.{◌≡◌, ◌+◌, ◌-◌, true, Some, None, is_some, sym, ◌∙◌, ap, refl}
+use Rattle.std.proofs.lemmas.Bool.{not-false, not-true, true≢false}
 use Rattle.mac_words.specs.Size.{phys as physical_size}
-use Rattle.block_store.specs.Sparing.{purged}
-use Rattle.heap_calls.specs.Inner.Growing.{FindsGrowth, grown}
-use Rattle.heap_calls.specs.declared.growing.Growth.{Growth}
-use Rattle.heap_calls.proofs.Sizes.Carrying.{purged-grown, purged-grows, grown-zone, grown-searches, grown-size}
-use Rattle.heap_calls.proofs.Sizes.Carrying.{carried}
-use Rattle.heap_calls.proofs.Room.Staying.{nonrelocatable-purged}
+use Rattle.mac_words.proofs.Plain.{not_some}
+use Rattle.block_store.specs.Block.{is_relocatable, is_nonrelocatable, resized, size as size_of}
+use Rattle.block_store.specs.Grow.{grow_mover}
 use Rattle.block_store.specs.Rest.{counted}
-use Rattle.heap_calls.specs.Moves.{grow_moves}
-use Rattle.heap_calls.proofs.Room.MoveCounts.{packs-none, packs-after, no-growth, grown-moves}
+use Rattle.block_store.specs.Room.{spot}
+use Rattle.block_store.specs.Run.{has}
+use Rattle.block_store.specs.Sparing.{purged, spared}
+use Rattle.heap_calls.specs.Inner.Growing.{grown}
 use Rattle.heap_calls.specs.Inner.Packed.{Packs}
+use Rattle.heap_calls.specs.Moves.{grow_moves, room_moves}
+use Rattle.heap_calls.proofs.Room.LeastSearches.{growth-there, growth-whole, growth-once, growth-once-searches}
+use Rattle.heap_calls.proofs.Room.MoveCounts.{packs-none, packs-after, no-growth, grown-moves}
+use Rattle.heap_calls.proofs.Room.Staying.{nonrelocatable-purged}
+use Rattle.heap_calls.proofs.Sizes.Carrying.{purged-grown, purged-grows, purged-more, purged-mover, grown-zone}
+use Rattle.heap_calls.proofs.Sizes.Carrying.{grown-searches, grown-size, grown-more, grown-positive, carried}
 use Rattle.heap_calls.proofs.growing.grow_movable.Given.{Over}
-use Rattle.heap_calls.proofs.growing.grow_movable.Goals.{After-carry_out}
+use Rattle.heap_calls.proofs.growing.grow_movable.Goals.{After-carry_out, After-purge, After-carry_out-2}
 use Rattle.heap_calls.proofs.growing.grow_movable.Goals as goal
 
-pub returns-in_default-growth-clause-zone : goal.returns-in_default-growth-clause-zone
-returns-in_default-growth-clause-zone g c =
+-- The block grows without a purge.
+
+grows : (g : Over) (c : After-carry_out g) → is_some (grow_mover (is_relocatable c.args.slot)
+    (grown c.args.bytes (spot (is_relocatable c.args.slot) (g.S.BlockStore.zone c.args.store.now)))
+    (g.S.BlockStore.zone c.args.store.now)) ≡ true
+grows g c =
     let zone = g.S.BlockStore.zone c.args.store.now in
     let t = is_relocatable c.args.slot in
-    let P : Option Growth → Type 0 = λ o. FindsGrowth t (grown c.args.bytes (spot t zone))
-    (purged c.find_growth-found.result.purges c.args.sparing zone) o in
-    let none : P None = subst P c.in_default-growth.is c.find_growth-found.ensures.found in
-    grown-zone c.args.sparing c.args.slot c.args.bytes zone c.requires.stays None
-    (c.find_growth-found.ensures.least ∙ none)
+    sym (growth-there t (grown c.args.bytes (spot t zone)) zone (grown-positive c.args.slot c.args.bytes zone c.requires.more)
+    (Some c.in-Some-growth_now.growth) c.in-Some-growth_now.ensures)
 
-pub carry_out-requires-clause-block : goal.carry_out-requires-clause-block
-carry_out-requires-clause-block g c =
-    purged-grows c.args.sparing c.args.slot c.args.bytes c.find_growth-found.result.purges
-    (g.S.BlockStore.zone c.args.store.now) c.requires.spared c.requires.stays (g.S.BlockStore.zone c.purge.new.self)
-    c.purge.ensures.zone c.requires.more
-
-pub carry_out-requires-clause-takes : goal.carry_out-requires-clause-takes
-carry_out-requires-clause-takes g c =
+pub returns-in-Some-growth_now-clause-zone : goal.returns-in-Some-growth_now-clause-zone
+returns-in-Some-growth_now-clause-zone g c =
     let zone = g.S.BlockStore.zone c.args.store.now in
-    let fits : physical_size c.args.bytes ≡ Some c.in-Some.takes = sym c.phys.ensures ∙ c.in-Some.is in
-    ap size_of (purged-grown c.args.sparing c.args.slot c.args.bytes c.find_growth-found.result.purges zone
-    c.requires.spared c.requires.stays (g.S.BlockStore.zone c.purge.new.self) c.purge.ensures.zone)
-    ∙ grown-size c.args.slot c.args.bytes c.in-Some.takes zone c.requires.more fits
-
-pub carry_out-requires-clause-found : goal.carry_out-requires-clause-found
-carry_out-requires-clause-found g c =
-    let zone = g.S.BlockStore.zone c.args.store.now in
-    let zone' = g.S.BlockStore.zone c.purge.new.self in
     let t = is_relocatable c.args.slot in
-    let P : Option Growth → Type 0 = λ o. FindsGrowth t (grown c.args.bytes (spot t zone))
-    (purged c.find_growth-found.result.purges c.args.sparing zone) o in
-    let Q : List Block → Type 0 = λ z. FindsGrowth t (grown c.args.bytes (spot t zone)) z
-    (Some c.in-Some-growth.growth) in
-    let R : Block → Type 0 = λ b. FindsGrowth t b zone' (Some c.in-Some-growth.growth) in
-    subst R (sym (purged-grown c.args.sparing c.args.slot c.args.bytes c.find_growth-found.result.purges zone
-    c.requires.spared c.requires.stays zone' c.purge.ensures.zone))
-    (subst Q (sym c.purge.ensures.zone) (subst P c.in-Some-growth.is c.find_growth-found.ensures.found))
+    let tidied = g.met.S.BlockStore.tidied c.args.store.now in
+    let there = grows g (goal.at.returns-in-Some-growth_now-clause-zone g c).After-carry_out in
+    grown-zone c.args.sparing c.args.slot c.args.bytes zone c.requires.stays
+    (Some (g.S.BlockStore.zone c.carry_out.new.store))
+    (growth-once c.args.slot c.args.bytes c.args.sparing zone c.requires.stays tidied there
+    ∙ ap (grow_mover t (grown c.args.bytes (spot t zone)))
+    (growth-whole c.args.slot c.args.bytes c.args.sparing zone c.requires.stays tidied)
+    ∙ c.in_ok-carry_out.ensures.ok)
 
-pub returns-clause-zone : goal.returns-clause-zone
-returns-clause-zone g c =
+pub returns-in-Some-growth_now-clause-searches : goal.returns-in-Some-growth_now-clause-searches
+returns-in-Some-growth_now-clause-searches g c =
     let zone = g.S.BlockStore.zone c.args.store.now in
-    let zone' = g.S.BlockStore.zone c.carry_out.new.store in
-    grown-zone c.args.sparing c.args.slot c.args.bytes zone c.requires.stays (Some zone')
-    (carried c.args.sparing c.args.slot c.args.bytes c.find_growth-found.result.purges zone c.requires.spared
-    c.requires.stays (g.S.BlockStore.zone c.purge.new.self) zone' c.purge.ensures.zone
-    c.find_growth-found.ensures.least c.in_ok-carry_out.ensures.ok)
-
-pub returns-in_default-growth-clause-searches : goal.returns-in_default-growth-clause-searches
-returns-in_default-growth-clause-searches g c =
-    grown-searches c.args.sparing c.args.slot c.args.bytes (g.S.BlockStore.zone c.args.store.now) c.requires.stays
-    (c.find_growth-found.result.purges + 1) c.find_growth-found.ensures.searches
-
-pub returns-clause-searches : goal.returns-clause-searches
-returns-clause-searches g c =
-    grown-searches c.args.sparing c.args.slot c.args.bytes (g.S.BlockStore.zone c.args.store.now) c.requires.stays
-    (c.find_growth-found.result.purges + 1) c.find_growth-found.ensures.searches
-
-pub returns-in_err-carry_out-clause-nonrelocatable : goal.returns-in_err-carry_out-clause-nonrelocatable
-returns-in_err-carry_out-clause-nonrelocatable g c place =
-    c.carry_out.ensures.nonrelocatable place ∙ ap (has (is_nonrelocatable place)) c.purge.ensures.zone
-    ∙ nonrelocatable-purged c.find_growth-found.result.purges c.args.sparing (g.S.BlockStore.zone c.args.store.now) place
-
-pub returns-clause-nonrelocatable : goal.returns-clause-nonrelocatable
-returns-clause-nonrelocatable g c place =
-    c.carry_out.ensures.nonrelocatable place ∙ ap (has (is_nonrelocatable place)) c.purge.ensures.zone
-    ∙ nonrelocatable-purged c.find_growth-found.result.purges c.args.sparing (g.S.BlockStore.zone c.args.store.now) place
-
-pub returns-in_default-growth-clause-moves : goal.returns-in_default-growth-clause-moves
-returns-in_default-growth-clause-moves g c =
-    let zone = g.S.BlockStore.zone c.args.store.now in
-    let rest = g.S.BlockStore.rest c.args.store.now in
-    let t = is_relocatable c.args.slot in
-    let k = c.find_growth-found.result.purges in
-    let P : Option Growth → Type 0 = λ o. FindsGrowth t (grown c.args.bytes (spot t zone))
-    (purged k c.args.sparing zone) o in
-    let none : P None = subst P c.in_default-growth.is c.find_growth-found.ensures.found in
-    grown-moves c.args.sparing c.args.slot c.args.bytes zone c.requires.stays k c.find_growth-found.ensures.searches
-    rest rest
-    (packs-none rest rest (grow_moves t (grown c.args.bytes (spot t zone)) (purged k c.args.sparing zone))
-    refl (no-growth t (grown c.args.bytes (spot t zone)) (purged k c.args.sparing zone) none))
+    let tidied = g.met.S.BlockStore.tidied c.args.store.now in
+    let there = grows g (goal.at.returns-in-Some-growth_now-clause-searches g c).After-carry_out in
+    grown-searches c.args.sparing c.args.slot c.args.bytes zone c.requires.stays 1
+    (growth-once-searches c.args.slot c.args.bytes c.args.sparing zone c.requires.stays tidied there)
 
 -- the blocks that packing moved
-packed : (g : Over) (c : After-carry_out g) → IfSome
+packed-once : (g : Over) (c : After-carry_out g) → IfSome
     (spot (is_relocatable c.args.slot) (g.S.BlockStore.zone c.args.store.now))
     (λ s. Packs (room_moves (grow_mover (is_relocatable c.args.slot) (resized c.args.bytes s.here))
     (grow_moves (is_relocatable c.args.slot) (resized c.args.bytes s.here)) (spared c.args.sparing)
     (g.S.BlockStore.zone c.args.store.now)) (g.S.BlockStore.rest c.args.store.now)
     (g.S.BlockStore.rest c.carry_out.new.store))
+packed-once g c =
+    let zone = g.S.BlockStore.zone c.args.store.now in
+    let rest = g.S.BlockStore.rest c.args.store.now in
+    let t = is_relocatable c.args.slot in
+    let tidied = g.met.S.BlockStore.tidied c.args.store.now in
+    grown-moves c.args.sparing c.args.slot c.args.bytes zone c.requires.stays 0
+    (growth-once-searches c.args.slot c.args.bytes c.args.sparing zone c.requires.stays tidied (grows g c))
+    rest (g.S.BlockStore.rest c.carry_out.new.store)
+    (c.carry_out.ensures.moves ∙ ap (λ z. counted rest.moves (grow_moves t (grown c.args.bytes (spot t zone)) z))
+    (sym (growth-whole c.args.slot c.args.bytes c.args.sparing zone c.requires.stays tidied)))
+
+pub returns-in_err-carry_out-clause-moves : goal.returns-in_err-carry_out-clause-moves
+returns-in_err-carry_out-clause-moves g c = packed-once g (goal.at.returns-in_err-carry_out-clause-moves g c).After-carry_out
+
+pub returns-in-Some-growth_now-clause-moves : goal.returns-in-Some-growth_now-clause-moves
+returns-in-Some-growth_now-clause-moves g c =
+    packed-once g (goal.at.returns-in-Some-growth_now-clause-moves g c).After-carry_out
+
+-- It doesn't grow.
+
+pub returns-then-not-counted-clause-zone : goal.returns-then-not-counted-clause-zone
+returns-then-not-counted-clause-zone g c =
+    let zone = g.S.BlockStore.zone c.args.store.now in
+    let t = is_relocatable c.args.slot in
+    let counts = c.count_for_growth-counted in
+    grown-zone c.args.sparing c.args.slot c.args.bytes zone c.requires.stays None
+    (counts.ensures.least ∙ not_some (grow_mover t (grown c.args.bytes (spot t zone))
+    (purged counts.result.purges c.args.sparing zone)) (sym counts.ensures.there ∙ not-true counts.result.there c.if-not-counted.true))
+
+pub returns-then-not-counted-clause-searches : goal.returns-then-not-counted-clause-searches
+returns-then-not-counted-clause-searches g c =
+    let counts = c.count_for_growth-counted in
+    grown-searches c.args.sparing c.args.slot c.args.bytes (g.S.BlockStore.zone c.args.store.now) c.requires.stays
+    (counts.result.purges + 1) counts.ensures.searches
+
+pub returns-then-not-counted-clause-moves : goal.returns-then-not-counted-clause-moves
+returns-then-not-counted-clause-moves g c =
+    let zone = g.S.BlockStore.zone c.args.store.now in
+    let rest = g.S.BlockStore.rest c.args.store.now in
+    let t = is_relocatable c.args.slot in
+    let new = grown c.args.bytes (spot t zone) in
+    let counts = c.count_for_growth-counted in
+    let after = purged counts.result.purges c.args.sparing zone in
+    grown-moves c.args.sparing c.args.slot c.args.bytes zone c.requires.stays counts.result.purges
+    counts.ensures.searches rest rest
+    (packs-none rest rest (grow_moves t new after) refl (no-growth t new after
+    (not_some (grow_mover t new after) (sym counts.ensures.there ∙ not-true counts.result.there c.if-not-counted.true))))
+
+-- It grows after purges.
+
+takes-after : (g : Over) (c : After-purge g) → size_of (grown c.args.bytes
+    (spot (is_relocatable c.args.slot) (g.S.BlockStore.zone c.purge.new.self))) ≡ c.in-Some.takes
+takes-after g c =
+    let zone = g.S.BlockStore.zone c.args.store.now in
+    let fits : physical_size c.args.bytes ≡ Some c.in-Some.takes = sym c.phys.ensures ∙ c.in-Some.is in
+    ap size_of (purged-grown c.args.sparing c.args.slot c.args.bytes c.count_for_growth-counted.result.purges zone
+    c.requires.spared c.requires.stays (g.S.BlockStore.zone c.purge.new.self) c.purge.ensures.zone)
+    ∙ grown-size c.args.slot c.args.bytes c.in-Some.takes zone c.requires.more fits
+
+pub growth_now-requires-2-clause-takes : goal.growth_now-requires-2-clause-takes
+growth_now-requires-2-clause-takes g c = takes-after g (goal.at.growth_now-requires-2-clause-takes g c).After-purge
+
+pub growth_now-requires-2-clause-more : goal.growth_now-requires-2-clause-more
+growth_now-requires-2-clause-more g c =
+    let zone = g.S.BlockStore.zone c.args.store.now in
+    let fits : physical_size c.args.bytes ≡ Some c.in-Some.takes = sym c.phys.ensures ∙ c.in-Some.is in
+    purged-more c.args.sparing c.args.slot c.args.bytes c.count_for_growth-counted.result.purges zone
+    c.requires.spared c.requires.stays (g.S.BlockStore.zone c.purge.new.self) (c.in-Some.takes - c.bytes_of.result)
+    c.purge.ensures.zone
+    (grown-more c.args.slot c.args.bytes c.in-Some.takes c.bytes_of.result zone c.requires.more
+    (grown-size c.args.slot c.args.bytes c.in-Some.takes zone c.requires.more fits) c.bytes_of.ensures)
+
+pub unreachable-requires-in_default-growth_now-2 : goal.unreachable-requires-in_default-growth_now-2
+unreachable-requires-in_default-growth_now-2 g c =
+    let counts = c.count_for_growth-counted in
+    true≢false (sym (sym counts.ensures.there ∙ not-false counts.result.there c.if-not-counted.false)
+    ∙ ap is_some (purged-mover c.args.sparing c.args.slot c.args.bytes counts.result.purges
+    (g.S.BlockStore.zone c.args.store.now) c.requires.spared c.requires.stays (g.S.BlockStore.zone c.purge.new.self)
+    c.purge.ensures.zone ∙ c.in_default-growth_now-2.ensures))
+
+pub carry_out-requires-2-clause-block : goal.carry_out-requires-2-clause-block
+carry_out-requires-2-clause-block g c =
+    purged-grows c.args.sparing c.args.slot c.args.bytes c.count_for_growth-counted.result.purges
+    (g.S.BlockStore.zone c.args.store.now) c.requires.spared c.requires.stays (g.S.BlockStore.zone c.purge.new.self)
+    c.purge.ensures.zone c.requires.more
+
+pub carry_out-requires-2-clause-takes : goal.carry_out-requires-2-clause-takes
+carry_out-requires-2-clause-takes g c = takes-after g (goal.at.carry_out-requires-2-clause-takes g c).After-purge
+
+pub returns-clause-zone : goal.returns-clause-zone
+returns-clause-zone g c =
+    let zone' = g.S.BlockStore.zone c.carry_out-2.new.store in
+    let counts = c.count_for_growth-counted in
+    grown-zone c.args.sparing c.args.slot c.args.bytes (g.S.BlockStore.zone c.args.store.now) c.requires.stays (Some zone')
+    (carried c.args.sparing c.args.slot c.args.bytes counts.result.purges (g.S.BlockStore.zone c.args.store.now)
+    c.requires.spared c.requires.stays (g.S.BlockStore.zone c.purge.new.self) zone' c.purge.ensures.zone
+    counts.ensures.least c.in_ok-carry_out-2.ensures.ok)
+
+pub returns-clause-searches : goal.returns-clause-searches
+returns-clause-searches g c =
+    let counts = c.count_for_growth-counted in
+    grown-searches c.args.sparing c.args.slot c.args.bytes (g.S.BlockStore.zone c.args.store.now) c.requires.stays
+    (counts.result.purges + 1) counts.ensures.searches
+
+pub returns-in_err-carry_out-2-clause-nonrelocatable : goal.returns-in_err-carry_out-2-clause-nonrelocatable
+returns-in_err-carry_out-2-clause-nonrelocatable g c place =
+    c.carry_out-2.ensures.nonrelocatable place ∙ ap (has (is_nonrelocatable place)) c.purge.ensures.zone
+    ∙ nonrelocatable-purged c.count_for_growth-counted.result.purges c.args.sparing
+    (g.S.BlockStore.zone c.args.store.now) place
+
+pub returns-clause-nonrelocatable : goal.returns-clause-nonrelocatable
+returns-clause-nonrelocatable g c place =
+    c.carry_out-2.ensures.nonrelocatable place ∙ ap (has (is_nonrelocatable place)) c.purge.ensures.zone
+    ∙ nonrelocatable-purged c.count_for_growth-counted.result.purges c.args.sparing
+    (g.S.BlockStore.zone c.args.store.now) place
+
+-- the blocks that packing moved
+packed : (g : Over) (c : After-carry_out-2 g) → IfSome
+    (spot (is_relocatable c.args.slot) (g.S.BlockStore.zone c.args.store.now))
+    (λ s. Packs (room_moves (grow_mover (is_relocatable c.args.slot) (resized c.args.bytes s.here))
+    (grow_moves (is_relocatable c.args.slot) (resized c.args.bytes s.here)) (spared c.args.sparing)
+    (g.S.BlockStore.zone c.args.store.now)) (g.S.BlockStore.rest c.args.store.now)
+    (g.S.BlockStore.rest c.carry_out-2.new.store))
 packed g c =
     let zone = g.S.BlockStore.zone c.args.store.now in
     let zone1 = g.S.BlockStore.zone c.purge.new.self in
     let rest = g.S.BlockStore.rest c.args.store.now in
     let rest1 = g.S.BlockStore.rest c.purge.new.self in
-    let rest2 = g.S.BlockStore.rest c.carry_out.new.store in
+    let rest2 = g.S.BlockStore.rest c.carry_out-2.new.store in
     let t = is_relocatable c.args.slot in
-    let k = c.find_growth-found.result.purges in
-    let same = purged-grown c.args.sparing c.args.slot c.args.bytes k zone c.requires.spared c.requires.stays zone1
-    c.purge.ensures.zone in
-    grown-moves c.args.sparing c.args.slot c.args.bytes zone c.requires.stays k c.find_growth-found.ensures.searches
-    rest rest2
+    let counts = c.count_for_growth-counted in
+    let same = purged-grown c.args.sparing c.args.slot c.args.bytes counts.result.purges zone c.requires.spared
+    c.requires.stays zone1 c.purge.ensures.zone in
+    grown-moves c.args.sparing c.args.slot c.args.bytes zone c.requires.stays counts.result.purges
+    counts.ensures.searches rest rest2
     (packs-after rest rest1 rest2 _ c.purge.ensures.rest.moves
-    (c.carry_out.ensures.moves ∙ ap (λ b. counted rest1.moves (grow_moves t b zone1)) same
+    (c.carry_out-2.ensures.moves ∙ ap (λ b. counted rest1.moves (grow_moves t b zone1)) same
     ∙ ap (λ z. counted rest1.moves (grow_moves t (grown c.args.bytes (spot t zone)) z)) c.purge.ensures.zone))
 
-pub returns-in_err-carry_out-clause-moves : goal.returns-in_err-carry_out-clause-moves
-returns-in_err-carry_out-clause-moves g c = packed g (goal.at.returns-in_err-carry_out-clause-moves g c).After-carry_out
+pub returns-in_err-carry_out-2-clause-moves : goal.returns-in_err-carry_out-2-clause-moves
+returns-in_err-carry_out-2-clause-moves g c =
+    packed g (goal.at.returns-in_err-carry_out-2-clause-moves g c).After-carry_out-2
 
 pub returns-clause-moves : goal.returns-clause-moves
-returns-clause-moves g c = packed g (goal.at.returns-clause-moves g c).After-carry_out
+returns-clause-moves g c = packed g (goal.at.returns-clause-moves g c).After-carry_out-2

@@ -1,37 +1,31 @@
-use Rattle.std.proofs.Common.{sym, ap, ◌∙◌, arith}
+use Rattle.std.proofs.Common.{arith, sym, ◌∙◌}
 use Rattle.block_store.proofs.Plain.Trials.{least_or_last-fails, least_or_last-le, fewest-last}
+use Rattle.heap_calls.proofs.Room.LeastSearches.{first-is}
 use Rattle.heap_calls.proofs.least.least_search.Goals as goal
 
--- it isn't there after all purges
-pub returns-in_default-clause-least : goal.returns-in_default-clause-least
-returns-in_default-clause-least g c =
+pub returns-then-is_there_after-clause-least : goal.returns-then-is_there_after-clause-least
+returns-then-is_there_after-clause-least g c =
     let sought = c.args.sought.now in
     let zone = g.S.BlockStore.zone c.args.store.now in
-    let most = g.L.Sought.most sought zone in
-    c.most_purges.ensures
+    first-is (g.L.Sought.is_there sought zone) (g.L.Sought.most sought zone)
+    (sym c.is_there_after.ensures ∙ c.if-is_there_after.true)
+
+-- it isn't there after more purges than there can be
+pub returns-then-not-there-clause-least : goal.returns-then-not-there-clause-least
+returns-then-not-there-clause-least g c =
+    let sought = c.args.sought.now in
+    let zone = g.S.BlockStore.zone c.args.store.now in
+    c.most_purges-most.ensures
     ∙ sym (least_or_last-fails (g.L.Sought.is_there sought zone)
-    (λ k m le is. g.met.L.Sought.rises sought zone k m c.requires le is) most most (omega arith) c.in_default.ensures)
+    (λ k m le is. g.met.L.Sought.rises sought zone k m c.requires le is) (g.L.Sought.most sought zone) 134217728
+    c.goes_on.ensures.few (sym c.is_there_after-there.ensures ∙ c.if-not-there.true))
 
-pub returns-in_default-clause-there : goal.returns-in_default-clause-there
-returns-in_default-clause-there g c =
-    let sought = c.args.sought.now in
-    let zone = g.S.BlockStore.zone c.args.store.now in
-    sym (ap (g.L.Sought.is_there sought zone) c.most_purges.ensures ∙ c.in_default.ensures)
-
-pub returns-in_default-clause-found : goal.returns-in_default-clause-found
-returns-in_default-clause-found g c =
-    let sought = c.args.sought.now in
-    let zone = g.S.BlockStore.zone c.args.store.now in
-    g.met.L.Sought.absent sought zone c.most_purges.result
-    (ap (g.L.Sought.is_there sought zone) c.most_purges.ensures ∙ c.in_default.ensures)
-
--- it is there after the fewest
 pub returns-clause-least : goal.returns-clause-least
 returns-clause-least g c =
     let sought = c.args.sought.now in
     let zone = g.S.BlockStore.zone c.args.store.now in
-    fewest-last (g.L.Sought.is_there sought zone) (g.L.Sought.most sought zone) c.in-Some.purges
-    (λ j le. g.met.L.Sought.ends sought zone j c.requires le) c.in-Some.ensures
+    fewest-last (g.L.Sought.is_there sought zone) (g.L.Sought.most sought zone) c.fewest_within.result
+    (λ j le. g.met.L.Sought.ends sought zone j c.requires le) c.fewest_within.ensures
 
 pub returns-clause-few : goal.returns-clause-few
 returns-clause-few g c =
@@ -41,8 +35,8 @@ returns-clause-few g c =
     let most = g.L.Sought.most sought zone in
     omega (
       arith,
-      fewest-last test most c.in-Some.purges (λ j le. g.met.L.Sought.ends sought zone j c.requires le)
-          c.in-Some.ensures,
+      fewest-last test most c.fewest_within.result (λ j le. g.met.L.Sought.ends sought zone j c.requires le)
+          c.fewest_within.ensures,
       least_or_last-le test most,
       c.goes_on.ensures.few,
     )

@@ -1,27 +1,48 @@
-use Rattle.std.proofs.Common.{None, Option, sym, ◌∙◌, ap, subst, refl}
-use Rattle.block_store.specs.Sparing.{purged}
+use Rattle.std.proofs.Common.{◌∙◌, sym, ap, refl}
+use Rattle.std.proofs.lemmas.Bool.{not-true}
+use Rattle.mac_words.proofs.Plain.{not_some}
+use Rattle.block_store.specs.Block.{is_relocatable, is_nonrelocatable}
 use Rattle.block_store.specs.Rest.{counted}
+use Rattle.block_store.specs.Room.{place}
+use Rattle.block_store.specs.Run.{has}
+use Rattle.block_store.specs.Sparing.{purged}
+use Rattle.block_store.proofs.Zone.Absence.{none-purged}
 use Rattle.heap_calls.specs.Inner.Packed.{placement_moves}
-use Rattle.heap_calls.specs.Inner.Search.{FindsPlacement}
-use Rattle.heap_calls.specs.declared.search.Placement.{Placement}
-use Rattle.heap_calls.proofs.Room.MoveCounts.{packs-none, no-place, placement-at}
+use Rattle.heap_calls.specs.Moves.{place_moves}
+use Rattle.heap_calls.proofs.Room.MoveCounts.{packs-none, packs-after, no-place, placement-at}
+use Rattle.heap_calls.proofs.Room.Staying.{nonrelocatable-purged}
 use Rattle.heap_calls.proofs.search.make_room.Goals as goal
 
-pub returns-in_default-clause-moves : goal.returns-in_default-clause-moves
-returns-in_default-clause-moves g c =
+pub returns-then-not-counted-clause-moves : goal.returns-then-not-counted-clause-moves
+returns-then-not-counted-clause-moves g c =
     let zone = g.S.BlockStore.zone c.args.store.now in
     let rest = g.S.BlockStore.rest c.args.store.now in
-    let k = c.find_placement-found.result.purges in
-    let P : Option Placement → Type 0 = λ o. FindsPlacement c.args.bytes (purged k c.args.sparing zone) o in
-    let none : P None = subst P c.in_default.is c.find_placement-found.ensures.found in
+    let counted = c.count_for_placement-counted in
+    let after = purged counted.result.purges c.args.sparing zone in
     packs-none rest rest (placement_moves c.args.bytes c.args.sparing zone) refl
-    (placement-at c.args.bytes k c.args.sparing zone c.find_placement-found.ensures.searches
-    ∙ no-place c.args.bytes (purged k c.args.sparing zone) c.requires none)
+    (placement-at c.args.bytes counted.result.purges c.args.sparing zone counted.ensures.searches
+    ∙ no-place c.args.bytes after c.requires
+    (not_some (place c.args.bytes after) (sym counted.ensures.there ∙ not-true counted.result.there c.if-not-counted.true)))
+
+pub returns-clause-kept : goal.returns-clause-kept
+returns-clause-kept g c number none =
+    c.pack_placement-place-2.ensures.kept number
+    (ap (has (is_relocatable number)) c.purge.ensures.zone ∙ none-purged (is_relocatable number) (λ n. refl)
+    c.count_for_placement-counted.result.purges c.args.sparing (g.S.BlockStore.zone c.args.store.now) none)
+
+pub returns-clause-nonrelocatable : goal.returns-clause-nonrelocatable
+returns-clause-nonrelocatable g c place =
+    c.pack_placement-place-2.ensures.nonrelocatable place ∙ ap (has (is_nonrelocatable place)) c.purge.ensures.zone
+    ∙ nonrelocatable-purged c.count_for_placement-counted.result.purges c.args.sparing
+    (g.S.BlockStore.zone c.args.store.now) place
 
 pub returns-clause-moves : goal.returns-clause-moves
 returns-clause-moves g c =
     let zone = g.S.BlockStore.zone c.args.store.now in
-    let rest = g.S.BlockStore.rest c.args.store.now in
-    let k = c.find_placement-found.result.purges in
-    c.take_placement-place.ensures.moves ∙ ap (counted rest.moves)
-    (sym (placement-at c.args.bytes k c.args.sparing zone c.find_placement-found.ensures.searches))
+    let rest1 = g.S.BlockStore.rest c.purge.new.self in
+    let packed = c.pack_placement-place-2 in
+    let counts = c.count_for_placement-counted in
+    packs-after (g.S.BlockStore.rest c.args.store.now) rest1 (g.S.BlockStore.rest packed.new.store)
+    (placement_moves c.args.bytes c.args.sparing zone) c.purge.ensures.rest.moves
+    (packed.ensures.moves ∙ ap (counted rest1.moves) (ap (place_moves c.args.bytes) c.purge.ensures.zone
+    ∙ sym (placement-at c.args.bytes counts.result.purges c.args.sparing zone counts.ensures.searches)))

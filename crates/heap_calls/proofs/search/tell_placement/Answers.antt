@@ -1,4 +1,5 @@
-use Rattle.std.proofs.Common.{◌∙◌, List, ap, not, subst}
+use Rattle.std.proofs.Common.{◌∙◌, List, sym, subst}
+use Rattle.std.proofs.lemmas.Bool.{not-false}
 use Rattle.std.proofs.lemmas.Result.{on_ok_weaker}
 use Rattle.heap_calls.specs.Gone.{Gone, Tells}
 use Rattle.heap_calls.proofs.GoneBlocks.{edge-bottom}
@@ -10,11 +11,10 @@ tell-requires-clause-edge g c = edge-bottom (g.S.BlockStore.zone c.args.store.no
 
 pub returns-clause-told : goal.returns-clause-told
 returns-clause-told g c =
-    let zone = g.S.BlockStore.zone c.args.store.now in
-    let found = c.find_placement-found in
-    let same = placement-told c.args.names.now c.args.bytes found.result.purges c.args.sparing zone
-    found.result.placement c.requires.positive found.ensures.found found.ensures.least found.ensures.searches
-    (c.is_none.ensures ∙ ap not c.if-is_none.false) in
+    let counted = c.count_for_placement-counted in
+    let same = placement-told c.args.names.now c.args.bytes counted.result.purges c.args.sparing
+    (g.S.BlockStore.zone c.args.store.now) counted.ensures.least counted.ensures.searches
+    (sym counted.ensures.there ∙ not-false counted.result.there c.if-not-counted.false) in
     on_ok_weaker c.tell.result
     (λ told. subst (λ (l : List Gone). Tells g.K.PurgeSink.told l c.args.sink.now c.tell.new.sink) same told)
     c.tell.ensures.told

@@ -3,7 +3,7 @@ use Rattle.heap_words.specs.Headers.{tag_number}
 use Rattle.zone_bytes.specs.Stepping.{header_seen}
 use Rattle.zone_bytes.proofs.Tiles.Tags.{tag-small}
 use Rattle.zone_bytes.proofs.Places.Stepped.{next-header, stepped}
-use Rattle.zone_bytes.proofs.Marks.Spanned.{steps}
+use Rattle.zone_bytes.proofs.Places.Steps.{steps}
 use Rattle.zone_bytes.proofs.raw_walk.step_at.Goals as goal
 
 pub read_header-header-requires-clause-within : goal.read_header-header-requires-clause-within

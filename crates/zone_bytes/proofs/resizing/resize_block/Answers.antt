@@ -2,7 +2,7 @@ use Rattle.std.proofs.Common.{◌≡◌, ◌+◌, ◌%◌, ◌==◌, ◌∙◌, 
 use Rattle.block_store.specs.Block.{size}
 use Rattle.zone_bytes.specs.Decode.{zone_in}
 use Rattle.zone_bytes.specs.Laying.{free_first}
-use Rattle.zone_bytes.specs.Marks.{Replaced}
+use Rattle.zone_bytes.specs.Changes.{Replaced}
 use Rattle.zone_bytes.specs.Stepping.{left_in}
 use Rattle.zone_bytes.proofs.Placed.Resized.{resize-replaced, kept-replaced}
 use Rattle.mac_words.specs.Size.{padded}

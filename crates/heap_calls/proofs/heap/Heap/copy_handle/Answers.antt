@@ -10,7 +10,7 @@ use Rattle.heap_calls.specs.Refused.{copying_zone}
 use Rattle.heap_calls.specs.Inner.Numbered.{memory_of, handle_number, pointer_number}
 use Rattle.heap_calls.specs.Inner.Telling.{zone_slot_gone, new_gone}
 use Rattle.heap_calls.proofs.GoneCopies.{copy_gone-is, copy_gone-none, copy_gone-nil, copy_slot_gone-is, copying_zone-is}
-use Rattle.heap_calls.proofs.GonePlaces.{tells-none}
+use Rattle.heap_calls.proofs.GoneForSizes.{tells-none}
 use Rattle.heap_calls.proofs.Numbering.Changing.{memory-same}
 use Rattle.heap_calls.proofs.NewBlocks.NewHandles.{kept-still}
 use Rattle.heap_calls.specs.declared.anchor.Anchor.TheVariants.{Handle}

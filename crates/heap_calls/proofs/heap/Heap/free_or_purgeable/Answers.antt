@@ -1,12 +1,10 @@
-use Rattle.std.proofs.Common.{◌∙◌, sym, ap, refl}
+use Rattle.std.proofs.Common.{◌∙◌, sym, ap}
 use Rattle.block_store.specs.Block.{free_sum}
-use Rattle.block_store.specs.Room.{purge}
 use Rattle.heap_calls.specs.State.{Memory}
-use Rattle.heap_calls.specs.Answer.{nothing}
 use Rattle.heap_calls.specs.Purging.{purged_all}
 use Rattle.heap_calls.specs.Inner.Numbered.{handle_number, pointer_number}
 use Rattle.heap_calls.proofs.Numbering.Changing.{free_sum-rename}
-use Rattle.heap_calls.proofs.Numbering.PurgeTrials.{all-gone, purged_all-is, purged_all-rename}
+use Rattle.heap_calls.proofs.Numbering.PurgeTrials.{purged_all-rename}
 use Rattle.heap_calls.proofs.heap.Heap.free_or_purgeable.Goals as goal
 
 pub returns : goal.returns
@@ -15,9 +13,7 @@ returns g c =
     let zone = g.S.BlockStore.zone a.store in
     let f = handle_number a.names.items in
     let k = pointer_number a.names.items in
-    c.free_after.ensures
-    ∙ ap free_sum (purged_all-is zone (purge 134217728 nothing zone) 134217728
-    (all-gone zone (g.met.S.BlockStore.small a.store)) refl)
+    c.free_if_purged.ensures
     ∙ sym (free_sum-rename f k (purged_all zone))
     ∙ ap free_sum (sym (purged_all-rename f k zone))
     ∙ ap (λ (m : Memory). free_sum (purged_all m.heap.zone)) c.self.view_is

@@ -63,7 +63,7 @@ returns-in_default-run_of-clause-answer g c =
     let there = c.in-Some.ensures in
     let free : is_mover there.0.here ≡ true = mover g (goal.at.returns-in_default-run_of-clause-answer g
     c).After-can_move ∙ c.if-not-can_move.false in
-    let none = run-found (has (is_relocatable f.slot)) zone _ None (g.met.S.BlockStore.tidied a.store)
+    let none = run-found (has (is_relocatable f.slot)) zone None
     c.in_default-run_of.ensures in
     move_h_hi-done c.args.self.now zone rest es a.log c.args.handle f.number f.slot c.self.view_is is.0 is.1
     c.self.invariant.apart (omega arith) zone rest there.0 there.1 free (rest-same rest) (hoisted-none f.slot zone none)
@@ -74,8 +74,8 @@ hoist-requires g c =
     let zone = g.S.BlockStore.zone c.self.inside.store in
     let slot = c.in_ok-found.found.slot in
     hoist-allowed (is_relocatable slot) c.in-Some-run_of.run' zone
-    (run-found (has (is_relocatable slot)) zone _ (Some c.in-Some-run_of.run')
-    (g.met.S.BlockStore.tidied c.self.inside.store) c.in-Some-run_of.ensures)
+    (run-found (has (is_relocatable slot)) zone (Some c.in-Some-run_of.run')
+    c.in-Some-run_of.ensures)
 
 pub invariant_of-self : goal.invariant_of-self
 invariant_of-self g c =
@@ -84,7 +84,7 @@ invariant_of-self g c =
     let zone' = g.S.BlockStore.zone c.hoist.new.self in
     let slot = c.in_ok-found.found.slot in
     let run = c.in-Some-run_of.run' in
-    let found = run-found (has (is_relocatable slot)) zone _ (Some run) (g.met.S.BlockStore.tidied a.store)
+    let found = run-found (has (is_relocatable slot)) zone (Some run)
     c.in-Some-run_of.ensures in
     let now = tidy (with_run (high (is_relocatable slot)) found.0) in
     let done = at_run run zone zone found.0 (λ r. zone' ≡ tidy (with_run (high (is_relocatable slot)) r)) refl found.2
@@ -106,8 +106,8 @@ returns-clause-answer g c =
     let there = c.in-Some.ensures in
     let free : is_mover there.0.here ≡ true = mover g (goal.at.returns-clause-answer g c).After-can_move
     ∙ c.if-not-can_move.false in
-    let found = run-found (has (is_relocatable f.slot)) zone _ (Some c.in-Some-run_of.run')
-    (g.met.S.BlockStore.tidied a.store) c.in-Some-run_of.ensures in
+    let found = run-found (has (is_relocatable f.slot)) zone (Some c.in-Some-run_of.run')
+    c.in-Some-run_of.ensures in
     move_h_hi-done c.args.self.now zone rest es a.log c.args.handle f.number f.slot c.self.view_is is.0 is.1
     c.self.invariant.apart (omega arith) zone' (g.S.BlockStore.rest c.hoist.new.self) there.0 there.1 free
     c.hoist.ensures.rest

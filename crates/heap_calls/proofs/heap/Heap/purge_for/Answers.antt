@@ -41,7 +41,7 @@ returns-clause-answer g c =
     (memory_of zone' rest' es (record a.log { searches = counted a.log.searches (c.purges_for-purges.result + 1) }))
     (purge_mem-done c.args.self.now n zone zone' rest rest' es a.log served c.self.view_is
     (c.purge.ensures.zone ∙ ap (λ k. purge k nothing zone) many) c.purge.ensures.rest
-    (c.has_room-served.ensures.now refl ∙ ap (λ (p : Option ℕ). has_room p zone') c.phys-bytes.ensures))
+    (c.has_room-served.ensures ∙ ap (λ (p : Option ℕ). has_room p zone') c.phys-bytes.ensures))
     (purge_mem_searches-is c.args.self.now n zone rest es a.log c.self.view_is ∙ ap (λ k. k + 1) (sym many)) refl))
 
 pub invariant_of-self : goal.invariant_of-self

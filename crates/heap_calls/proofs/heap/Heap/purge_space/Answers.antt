@@ -1,6 +1,8 @@
-use Rattle.std.proofs.Common.{refl}
+use Rattle.std.proofs.Common.{refl, ◌∙◌, ap}
 use Rattle.block_store.specs.Room.{purge}
+use Rattle.block_store.specs.Compact.{largest_free}
 use Rattle.heap_calls.specs.Answer.{nothing}
+use Rattle.heap_calls.specs.Purging.{purged_all}
 use Rattle.heap_calls.proofs.Numbering.PurgeTrials.{all-gone, purged_all-is, purge_space-done}
 use Rattle.heap_calls.proofs.heap.Heap.purge_space.Goals as goal
 
@@ -8,8 +10,8 @@ pub returns : goal.returns
 returns g c =
     let a = c.self.inside in
     let zone = g.S.BlockStore.zone a.store in
-    purge_space-done c.args.self.now zone (purge 134217728 nothing zone) (g.S.BlockStore.rest a.store) a.names.items a.log
-    c.free_after.result c.largest_after.result c.saturating_sub.result c.self.view_is
-    (purged_all-is zone (purge 134217728 nothing zone) 134217728 (all-gone zone (g.met.S.BlockStore.small a.store)) refl)
-    c.free_after.ensures
-    c.largest_after.ensures c.saturating_sub.ensures
+    let all = purged_all-is zone (purge 134217728 nothing zone) 134217728 (all-gone zone (g.met.S.BlockStore.small a.store))
+    refl in
+    purge_space-done c.args.self.now zone (purged_all zone) (g.S.BlockStore.rest a.store) a.names.items a.log
+    c.free_if_purged.result c.largest_after.result c.saturating_sub.result c.self.view_is refl c.free_if_purged.ensures
+    (c.largest_after.ensures ∙ ap largest_free all) c.saturating_sub.ensures

@@ -6,7 +6,8 @@ use Rattle.heap_calls.specs.Purging.{reallocate_handle}
 use Rattle.heap_calls.specs.Inner.Numbered.{memory_of}
 use Rattle.heap_calls.specs.Inner.Telling.{renewed_gone}
 use Rattle.heap_calls.specs.declared.anchor.Anchor.{Anchor}
-use Rattle.heap_calls.proofs.GonePlaces.{reallocate_gone-is, reallocate_gone-none, tells-none}
+use Rattle.heap_calls.proofs.GoneForSizes.{tells-none}
+use Rattle.heap_calls.proofs.GonePlaces.{reallocate_gone-is, reallocate_gone-none}
 use Rattle.heap_calls.proofs.Numbering.Loosening.{loose_in, loose_not_searched, no_moves-loose}
 use Rattle.heap_calls.proofs.Room.MoveCounts.{not-moved, moving-done}
 use Rattle.heap_calls.proofs.Numbering.PurgeTrials.{searching-done}

@@ -6,7 +6,8 @@ use Rattle.heap_calls.specs.declared.anchor.Anchor.TheVariants.{Handle}
 use Rattle.heap_calls.specs.declared.refusal.Refusal.TheVariants.{HostMemory}
 use Rattle.heap_calls.specs.Gone.{Gone, Tells, refill_gone}
 use Rattle.heap_calls.specs.Inner.Telling.{renewed_gone}
-use Rattle.heap_calls.proofs.GonePlaces.{refill_gone-is, refill_gone-none, tells-none}
+use Rattle.heap_calls.proofs.GoneForSizes.{tells-none}
+use Rattle.heap_calls.proofs.GonePlaces.{refill_gone-is, refill_gone-none}
 use Rattle.heap_calls.proofs.Numbering.Reserved.{fits-same}
 use Rattle.heap_calls.specs.declared.log.Log.{Log}
 use Rattle.heap_calls.specs.Answer.{silent}

@@ -1,7 +1,6 @@
-use Rattle.std.proofs.Common.{◌≡◌, ◌≤◌, ◌∙◌, ◌++◌, ◌∷◌, true, false, ℕ, IsTrue, refl, ap, sym, subst, arith}
+use Rattle.std.proofs.Common.{◌≡◌, ◌∙◌, ◌++◌, ◌∷◌, true, false, ℕ, IsTrue, refl, ap, sym, subst, arith}
 use Rattle.std.specs.Option.{IfSome, IsSomeAnd}
 use Rattle.block_store.specs.Block.{Nonrelocatable, Relocatable, is_nonrelocatable, is_relocatable, is_masters, content_of, count, free_sum}
-use Rattle.block_store.specs.Block.{size}
 use Rattle.block_store.specs.Run.{has}
 use Rattle.block_store.specs.Room.{spot_at}
 use Rattle.block_store.specs.Slot.{is_used}
@@ -12,14 +11,13 @@ use Rattle.zone_bytes.specs.Beside.{rest_in}
 use Rattle.raw_zone.specs.Held.{Held}
 use Rattle.raw_zone.specs.Raw.{held}
 use Rattle.raw_zone.specs.Parted.{zone_of, rest_of}
-use Rattle.zone_bytes.proofs.Places.AtPlace.{low, way-at, left-at, inside, some-here}
+use Rattle.zone_bytes.proofs.Places.AtPlace.{low, way-at, inside, some-here}
 use Rattle.zone_bytes.proofs.Places.Options.{if-spot, one-spot}
 use Rattle.zone_bytes.proofs.Laws.Lawful.{Made, rest-made, kept-made}
 use Rattle.zone_bytes.proofs.Blocks.Adopted.{NonrelocatableAt, nonrelocatable-at, adopt-reads-in, adopted-at, masters-adopted}
 use Rattle.zone_bytes.proofs.Blocks.Adopted.{free-adopted}
-use Rattle.zone_bytes.proofs.Marks.Owed.{with-marks}
-use Rattle.zone_bytes.specs.Purgeable.{purgeable_sum}
-use Rattle.zone_bytes.proofs.Bounds.Given.{given-became, given-small}
+use Rattle.zone_marks.proofs.Marks.Owed.{with-marks}
+use Rattle.zone_bytes.specs.Changes.{Became}
 use Rattle.raw_zone.proofs.zone.RawZone.adopt.Goals as goal
 use Rattle.raw_zone.proofs.zone.RawZone.adopt.Goals.{After-adopt}
 
@@ -39,22 +37,6 @@ asked z view place number e block used none = record {
   used = subst (λ v. IsTrue (is_used ((rest_of v).slots number))) (sym e) used;
   no_block = subst (λ v. has (is_relocatable number) (zone_of v) ≡ false) (sym e) none;
 }
-
-pub size_at-requires-clause-way : goal.size_at-requires-clause-way
-size_at-requires-clause-way c =
-    let i = c.self.inside in
-    let q = c.requires in
-    let a = (asked (held i) c.args.self.now c.args.place c.args.number c.self.view_is q.block q.used q.no_block).nonrelocatable in
-    way-at i.part.bytes i.first i.unused c.self.invariant.sound c.args.place a.s a.is
-
-pub size_at-requires-clause-some : goal.size_at-requires-clause-some
-size_at-requires-clause-some c =
-    let i = c.self.inside in
-    let q = c.requires in
-    let a = (asked (held i) c.args.self.now c.args.place c.args.number c.self.view_is q.block q.used q.no_block).nonrelocatable in
-    let n = inside i.part.bytes i.first i.unused c.self.invariant.sound c.args.place a.s a.is in
-    let m = some-here i.part.bytes i.first i.unused c.self.invariant.sound c.args.place a.s a.is in
-    omega (arith, n, m)
 
 pub adopt-requires-clause-way : goal.adopt-requires-clause-way
 adopt-requires-clause-way c =
@@ -104,6 +86,21 @@ done c =
           a.used a.no_block c.adopt.new.part.bytes c.adopt.ensures.bytes,
     )
 
+abbrev became : (c : After-adopt) → Became c.args.place (zone_in c.self.inside.part.bytes) (zone_in c.adopt.new.part.bytes)
+became c =
+    let i = c.self.inside in
+    let d = done c in
+    let a = d.0 in record {
+      below = a.s.below;
+      here = Nonrelocatable a.id a.content;
+      there = Relocatable c.args.number c.args.flags a.content;
+      above = a.s.above;
+      was = a.whole;
+      is = d.1.zone;
+      low = low i.part.bytes i.first i.unused c.self.invariant.sound c.args.place a.s a.is;
+      span = refl;
+    }
+
 pub note_block-requires-clause-sound : goal.note_block-requires-clause-sound
 note_block-requires-clause-sound c = (
   c.self.inside.first,
@@ -112,43 +109,34 @@ note_block-requires-clause-sound c = (
 )
 
 pub note_block-requires-clause-marks : goal.note_block-requires-clause-marks
-note_block-requires-clause-marks c =
-    let i = c.self.inside in
-    let d = done (goal.at.note_block-requires-clause-marks c).After-adopt in
-    let a = d.0 in (
-      zone_in i.part.bytes,
-      record {
-        below = a.s.below;
-        here = Nonrelocatable a.id a.content;
-        there = Relocatable c.args.number c.args.flags a.content;
-        above = a.s.above;
-        was = a.whole;
-        is = d.1.zone;
-        low = low i.part.bytes i.first i.unused c.self.invariant.sound c.args.place a.s a.is;
-        span = refl;
-      },
-      c.self.invariant.marked,
-    )
+note_block-requires-clause-marks c = (
+  zone_in c.self.inside.part.bytes,
+  became (goal.at.note_block-requires-clause-marks c).After-adopt,
+  c.self.invariant.marked,
+)
+
+pub purgeable_with-self-inside-requires-clause-sound : goal.purgeable_with-self-inside-requires-clause-sound
+purgeable_with-self-inside-requires-clause-sound c = (
+  c.self.inside.first,
+  c.self.inside.unused,
+  (done (goal.at.purgeable_with-self-inside-requires-clause-sound c).After-adopt).1.sound,
+)
+
+pub purgeable_with-self-inside-requires-clause-became : goal.purgeable_with-self-inside-requires-clause-became
+purgeable_with-self-inside-requires-clause-became c = (
+  zone_in c.self.inside.part.bytes,
+  became (goal.at.purgeable_with-self-inside-requires-clause-became c).After-adopt,
+  refl,
+  c.self.invariant.purgeable_is,
+)
 
 pub invariant_of-self : goal.invariant_of-self
 invariant_of-self c =
-    let d = done (goal.at.invariant_of-self c).After-adopt in
-    let a = d.0 in
-    let y = c.size_at.ensures a.s.here a.s.above
-    (left-at c.self.inside.part.bytes c.self.inside.first c.self.inside.unused c.self.invariant.sound c.args.place a.s
-    a.is) in
-    let h = ap size a.here in
-    let g = c.given_with-given.ensures (Relocatable c.args.number c.args.flags a.content) (omega (arith, y, h)) in
-    let p = given-became a.s.below (Nonrelocatable a.id a.content) (Relocatable c.args.number c.args.flags a.content) a.s.above
-    (zone_in c.self.inside.part.bytes) a.whole in
-    let s = given-small _ c.self.inside.first c.self.inside.unused d.1.sound in
-    let t = ap purgeable_sum d.1.zone in
-    with-marks _ _ _ _ _ _ (kept-made _ _ _ _ _ _ d.1 (c.self.invariant.free_is ∙ ap free_sum a.whole
+    let d = (goal.at.invariant_of-self c).After-adopt in
+    let a = (done d).0 in
+    with-marks _ _ _ _ _ _ (kept-made _ _ _ _ _ _ (done d).1 (c.self.invariant.free_is ∙ ap free_sum a.whole
     ∙ sym (free-adopted a.s.below a.id c.args.number c.args.flags a.content a.s.above))) c.note_block.ensures
-    (subst (λ v. purgeable_sum v ≤ c.changed_bound-self-inside.result) (sym d.1.zone)
-    (c.changed_bound-self-inside.ensures (purgeable_sum (zone_in c.self.inside.part.bytes))
-    (purgeable_sum (a.s.below ++ Relocatable c.args.number c.args.flags a.content ∷ a.s.above)) c.self.invariant.bound
-    (omega (arith, g, p)) (omega (arith, s, t))))
+    (c.purgeable_with-self-inside.ensures (zone_in c.self.inside.part.bytes) (became d) refl c.self.invariant.purgeable_is)
 
 pub returns-clause-zone : goal.returns-clause-zone
 returns-clause-zone c =

@@ -5,9 +5,9 @@ use Rattle.block_store.specs.Sparing.{purged}
 use Rattle.zone_bytes.specs.Beside.{rest_in}
 use Rattle.zone_bytes.specs.Decode.{zone_in}
 use Rattle.zone_bytes.proofs.Joined.Handles.{Gained, gained-fits, gained-kept, gained-rest}
-use Rattle.zone_bytes.proofs.Joined.PurgeStarts.{purge-gained}
+use Rattle.zone_marks.proofs.Joined.PurgeStarts.{purge-gained}
 use Rattle.raw_zone.specs.Parted.{zone_of, rest_of}
-use Rattle.zone_bytes.proofs.Marks.Owed.{with-marks, replaced-as}
+use Rattle.zone_marks.proofs.Marks.Owed.{with-marks, replaced-as}
 use Rattle.raw_zone.proofs.zone.RawZone.empty.Goals as goal
 use Rattle.raw_zone.proofs.zone.RawZone.empty.Goals.{After-purge_lowest-freed}
 
@@ -66,7 +66,7 @@ invariant_of-self c =
     let d = done (goal.at.invariant_of-self c).After-purge_lowest-freed in
     with-marks _ _ _ _ _ _ (gained-kept _ _ _ _ _ _ d c.self.inside.free c.self.invariant.free_is) c.seek.ensures
     (c.purgeable_left-self-inside.ensures c.args.purges (zone_in c.self.inside.part.bytes) d.made.zone
-    (ap free_sum d.made.zone ∙ d.sum) c.self.invariant.bound)
+    (ap free_sum d.made.zone ∙ d.sum) c.self.invariant.purgeable_is)
 
 pub returns-clause-zone : goal.returns-clause-zone
 returns-clause-zone c = (done (goal.at.returns-clause-zone c).After-purge_lowest-freed).made.zone

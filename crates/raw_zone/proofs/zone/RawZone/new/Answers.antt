@@ -1,8 +1,8 @@
 use Rattle.std.proofs.Common.{sym, ◌-◌, ◌∙◌, ap, arith}
 use Rattle.block_store.specs.Block.{fresh}
 use Rattle.zone_bytes.proofs.FreshZones.FreshZone.{fresh-made, fresh-all, fresh-unused, free-fresh}
-use Rattle.zone_bytes.proofs.Marks.Owed.{with-marks}
-use Rattle.zone_bytes.specs.Purgeable.{purgeable_sum}
+use Rattle.zone_marks.proofs.Marks.Owed.{with-marks}
+use Rattle.zone_bytes.specs.PurgeableBytes.{purgeable_sum}
 use Rattle.zone_bytes.proofs.Bounds.Given.{given-fresh}
 use Rattle.raw_zone.proofs.zone.RawZone.new.Goals as goal
 use Rattle.zone_bytes.proofs.Laws.Lawful.{kept-made}

@@ -5,8 +5,8 @@ use Rattle.block_store.specs.Run.{RunSpot, run_at, movers, settle, with_run}
 use Rattle.block_store.specs.Rest.{IsRest, lowered_in_run}
 use Rattle.zone_bytes.specs.Decode.{zone_in}
 use Rattle.zone_bytes.specs.Edges.{AreEdges}
-use Rattle.zone_bytes.specs.Marked.{AreOf}
-use Rattle.zone_bytes.specs.Purgeable.{NoneGoes}
+use Rattle.zone_marks.specs.Marked.{AreOf}
+use Rattle.zone_marks.specs.Purgeable.{NoneGoes}
 use Rattle.zone_bytes.specs.Table.{slot_in}
 use Rattle.zone_bytes.specs.Beside.{rest_in}
 use Rattle.zone_bytes.specs.Placing.{lay_at}
@@ -16,7 +16,7 @@ use Rattle.raw_zone.specs.Parted.{zone_of, rest_of}
 use Rattle.zone_bytes.proofs.Runs.Changed.{ChangedRun, if-one, settled-run, replaced-run}
 use Rattle.zone_bytes.proofs.Runs.Edged.{settled-edges}
 use Rattle.zone_bytes.proofs.Runs.Still.{still}
-use Rattle.zone_bytes.proofs.Marks.Owed.{with-marks}
+use Rattle.zone_marks.proofs.Marks.Owed.{with-marks}
 use Rattle.raw_zone.proofs.zone.RawZone.pack.Goals as goal
 use Rattle.raw_zone.proofs.zone.RawZone.pack.Goals.{After-self, After-settle_run-packed}
 
@@ -81,7 +81,7 @@ pub invariant_of-self : goal.invariant_of-self
 invariant_of-self c =
     let d = done (goal.at.invariant_of-self c).After-settle_run-packed in
     let p = d.2.purgeable in
-    let b = c.self.invariant.bound in
+    let b = c.self.invariant.purgeable_is in
     with-marks _ _ _ _ _ _ (kept-made _ _ _ _ _ _ d.2.made (c.self.invariant.free_is ∙ sym d.2.free))
     c.note_settled.ensures (omega (arith, p, b))
 

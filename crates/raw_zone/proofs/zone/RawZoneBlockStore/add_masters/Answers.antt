@@ -11,9 +11,9 @@ use Rattle.zone_bytes.proofs.Places.Options.{the-if}
 use Rattle.zone_bytes.proofs.SlotTable.Slotted.{count-small}
 use Rattle.zone_bytes.proofs.Placed.NonrelocatableCarved.{Roomy, roomy, free-roomy}
 use Rattle.zone_bytes.proofs.Placed.MastersCarved.{masters-made, masters-free, masters-all, masters-zone, masters-slots}
-use Rattle.zone_bytes.proofs.Marks.Owed.{with-marks, filled-replaced}
+use Rattle.zone_marks.proofs.Marks.Owed.{with-marks, filled-replaced}
 use Rattle.raw_zone.specs.Parted.{zone_of, rest_of}
-use Rattle.zone_bytes.specs.Purgeable.{purgeable_sum}
+use Rattle.zone_bytes.specs.PurgeableBytes.{purgeable_sum}
 use Rattle.zone_bytes.proofs.Bounds.Given.{given-put}
 use Rattle.raw_zone.proofs.zone.RawZoneBlockStore.add_masters.Goals as goal
 use Rattle.raw_zone.proofs.zone.RawZoneBlockStore.add_masters.Goals.{After-self, After-add_masters}
@@ -85,9 +85,9 @@ invariant_of-self c =
     let z = ap free_sum m.zone in
     let f = c.self.invariant.free_is in
     let r = there a in
-    let g = given-put Masters refl r.s (zone_in c.self.inside.part.bytes) r.at.whole in
+    let g = given-put Masters refl r.s (zone_in c.self.inside.part.bytes) r.at.whole r.bytes r.here in
     let y = ap purgeable_sum m.zone in
-    let b = c.self.invariant.bound in
+    let b = c.self.invariant.purgeable_is in
     with-marks _ _ _ _ _ _ (kept-made _ _ _ _ _ _ m (omega (arith, q, z, f))) c.note.ensures (omega (arith, g, y, b))
 
 pub returns-clause-ok : goal.returns-clause-ok

@@ -21,11 +21,11 @@ use Rattle.zone_bytes.proofs.Places.Options.{if-spot, one-spot}
 use Rattle.zone_bytes.proofs.Laws.Lawful.{Made, rest-made, kept-made}
 use Rattle.zone_bytes.proofs.Blocks.Carved.{free-at, slot-reads-in, may-carve, carve-made, carved-tidy, carved-filled}
 use Rattle.zone_bytes.proofs.Blocks.Carved.{FreeAt, new, masters-carved, free-carved, free-has}
-use Rattle.zone_bytes.proofs.Marks.Owed.{with-marks}
-use Rattle.zone_bytes.proofs.Marks.Keeping.{carved-replaced}
-use Rattle.zone_bytes.specs.Marks.{Replaced}
+use Rattle.zone_marks.proofs.Marks.Owed.{with-marks}
+use Rattle.zone_marks.proofs.Marks.Keeping.{carved-replaced}
+use Rattle.zone_bytes.specs.Changes.{Replaced}
 use Rattle.block_store.proofs.Content.Sized.{total-sized}
-use Rattle.zone_bytes.specs.Purgeable.{purgeable_of, purgeable_sum}
+use Rattle.zone_bytes.specs.PurgeableBytes.{purgeable_of, purgeable_sum}
 use Rattle.zone_bytes.proofs.Bounds.Given.{none-free, given-parts}
 use Rattle.raw_zone.proofs.zone.RawZoneBlockStore.carve.Goals as goal
 use Rattle.raw_zone.proofs.zone.RawZoneBlockStore.carve.Goals.{After-carve}
@@ -202,7 +202,7 @@ invariant_of-self c =
     let p = ap purgeable_sum a.whole in
     let o = given-parts a.s.below (Free a.bytes) a.s.above in
     let t = total-sized purgeable_of none-free a.s.below (new c.args.number c.args.size) (left d) a.s.above in
-    let m = c.self.invariant.bound in
+    let m = c.self.invariant.purgeable_is in
     with-marks _ _ _ _ _ _ (kept-made _ _ _ _ _ _ (done d) (omega (arith, q, w, f, b, r, n))) c.note.ensures
     (omega (arith, z, p, o, t, m))
 

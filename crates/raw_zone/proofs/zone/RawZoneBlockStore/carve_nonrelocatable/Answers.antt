@@ -12,9 +12,9 @@ use Rattle.zone_bytes.proofs.Laws.Lawful.{Made, rest-made, kept-made}
 use Rattle.zone_bytes.proofs.Places.Options.{the-if}
 use Rattle.zone_bytes.proofs.Placed.NonrelocatableCarved.{Roomy, roomy, nonrelocatable-made, nonrelocatable-free, nonrelocatable-masters, nonrelocatable-zone}
 use Rattle.zone_bytes.proofs.Placed.NonrelocatableCarved.{free-roomy}
-use Rattle.zone_bytes.proofs.Marks.Owed.{with-marks, filled-replaced}
+use Rattle.zone_marks.proofs.Marks.Owed.{with-marks, filled-replaced}
 use Rattle.raw_zone.specs.Parted.{zone_of, rest_of}
-use Rattle.zone_bytes.specs.Purgeable.{purgeable_sum}
+use Rattle.zone_bytes.specs.PurgeableBytes.{purgeable_sum}
 use Rattle.zone_bytes.proofs.Bounds.Given.{given-put}
 use Rattle.raw_zone.proofs.zone.RawZoneBlockStore.carve_nonrelocatable.Goals as goal
 use Rattle.raw_zone.proofs.zone.RawZoneBlockStore.carve_nonrelocatable.Goals.{After-self, After-carve_nonrelocatable}
@@ -85,9 +85,10 @@ invariant_of-self c =
     let z = ap free_sum m.zone in
     let f = c.self.invariant.free_is in
     let p = c.padded_size.ensures in
-    let g = given-put (Nonrelocatable c.args.place (replicate c.args.size 0)) refl r.s (zone_in c.self.inside.part.bytes) r.at.whole in
+    let g = given-put (Nonrelocatable c.args.place (replicate c.args.size 0)) refl r.s (zone_in c.self.inside.part.bytes) r.at.whole
+    r.bytes r.here in
     let y = ap purgeable_sum m.zone in
-    let b = c.self.invariant.bound in
+    let b = c.self.invariant.purgeable_is in
     with-marks _ _ _ _ _ _ (kept-made _ _ _ _ _ _ m (omega (arith, q, z, f, p))) c.note.ensures
     (omega (arith, g, y, b))
 

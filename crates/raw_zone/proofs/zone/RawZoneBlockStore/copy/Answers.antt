@@ -13,7 +13,7 @@ use Rattle.zone_bytes.proofs.Laws.Lawful.{rest-made}
 use Rattle.zone_bytes.proofs.Placed.Standing.{standing}
 use Rattle.zone_bytes.proofs.Placed.Copied.{holds-inside, copied, copied-kept, copied-masters}
 use Rattle.zone_bytes.proofs.Places.AtPlace.{whole}
-use Rattle.zone_bytes.proofs.Marks.Owed.{with-written}
+use Rattle.zone_marks.proofs.Marks.Owed.{with-written}
 use Rattle.raw_zone.specs.Parted.{zone_of, rest_of}
 use Rattle.raw_zone.proofs.zone.RawZoneBlockStore.copy.Goals as goal
 use Rattle.raw_zone.proofs.zone.RawZoneBlockStore.copy.Goals.{After-move_bytes}
@@ -115,7 +115,7 @@ invariant_of-self c =
     (copied z.part.bytes z.first z.unused c.args.source c.args.bytes c.args.place c.args.from
     c.self.invariant.sound t.0 s.0 t.1 s.1 t.2 s.2).zone
     (whole z.part.bytes z.first z.unused c.self.invariant.sound c.args.place s.0 s.1) (omega (arith, k, w))
-    c.self.invariant.marked c.self.invariant.bound)
+    c.self.invariant.marked c.self.invariant.purgeable_is)
 
 pub returns-clause-zone : goal.returns-clause-zone
 returns-clause-zone c =

@@ -1,28 +1,14 @@
-use Rattle.std.proofs.Common.{◌∙◌, ap, sym, subst, ◌<◌, ◌^◌}
-use Rattle.block_store.specs.Block.{free_sum, is_room, sizes}
-use Rattle.block_store.specs.Find.{FindsLowest}
-use Rattle.block_store.specs.Sparing.{purged}
+use Rattle.std.proofs.Common.{◌≡◌, None, subst, arith}
+use Rattle.block_store.specs.Block.{is_room}
+use Rattle.block_store.specs.Room.{spot}
 use Rattle.raw_zone.specs.Parted.{zone_of}
-use Rattle.zone_bytes.proofs.Places.AtPlace.{left-zone, on-way, sizes-fit}
 use Rattle.zone_bytes.specs.Decode.{zone_in}
 use Rattle.zone_bytes.proofs.Bounds.Short.{no-room}
 use Rattle.raw_zone.proofs.zone.RawZoneBlockStore.find_free.Goals as goal
 
-pub returns-then-falls_short : goal.returns-then-falls_short
-returns-then-falls_short c =
-    no-room c.args.bytes (purged c.args.purges c.args.sparing (zone_of c.args.self.now))
-    (subst (λ v. free_sum (purged c.args.purges c.args.sparing (zone_of v)) < c.args.bytes) c.self.view_is
-    (c.falls_short.ensures c.if-falls_short.true (zone_in c.self.inside.part.bytes) c.self.invariant.free_is
-    c.self.invariant.bound))
-
-pub walk_from-requires : goal.walk_from-requires
-walk_from-requires c = on-way c.self.inside.part.bytes c.self.inside.first c.self.inside.unused c.self.invariant.sound
-
-pub find_free_in-requires : goal.find_free_in-requires
-find_free_in-requires c = subst (λ z. sizes z < 2 ^ 32) (sym c.walk_from.ensures)
-    (sizes-fit c.self.inside.part.bytes c.self.inside.first c.self.inside.unused c.self.invariant.sound)
-
-pub returns-then-frees_one : goal.returns-then-frees_one
-returns-then-frees_one c = subst (λ z. FindsLowest (is_room c.args.bytes) (purged c.args.purges c.args.sparing z)
-    c.find_free_in.result) (c.walk_from.ensures ∙ left-zone c.self.inside.part.bytes ∙ ap zone_of c.self.view_is)
-    c.find_free_in.ensures
+pub returns-then-self-bytes : goal.returns-then-self-bytes
+returns-then-self-bytes c =
+    let f = c.self.invariant.free_is in
+    let l = c.if-self-bytes.true in
+    subst (λ v. spot (is_room c.args.bytes) (zone_of v) ≡ None) c.self.view_is
+    (no-room c.args.bytes (zone_in c.self.inside.part.bytes) (omega (arith, f, l)))

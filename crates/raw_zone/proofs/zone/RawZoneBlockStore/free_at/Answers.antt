@@ -1,6 +1,7 @@
-use Rattle.std.proofs.Common.{◌≡◌, true, Some, sym, ap, ◌∙◌, subst, arith}
+use Rattle.std.proofs.Common.{◌≡◌, ℕ, true, Some, refl, sym, ap, ◌∙◌, subst, arith}
 use Rattle.std.specs.Option.{IsSomeAnd}
-use Rattle.block_store.specs.Block.{is_nonrelocatable, tidy}
+use Rattle.std.proofs.lemmas.Bool.{false≢true}
+use Rattle.block_store.specs.Block.{Block, Free, Nonrelocatable, Masters, Relocatable, is_nonrelocatable, tidy}
 use Rattle.block_store.specs.Grow.{freed}
 use Rattle.block_store.specs.Rest.{IsRest}
 use Rattle.block_store.specs.Room.{Spot, spot_at}
@@ -9,11 +10,11 @@ use Rattle.zone_bytes.specs.Decode.{zone_in}
 use Rattle.zone_bytes.proofs.Places.Options.{the-spot}
 use Rattle.zone_bytes.proofs.Joined.Handles.{Gained, gained-fits, gained-kept, gained-rest}
 use Rattle.zone_bytes.proofs.Joined.NonrelocatableFreed.{standing, may-free_nonrelocatable, nonrelocatable-gained, freed-is}
-use Rattle.zone_bytes.specs.Marked.{AreOf}
+use Rattle.zone_marks.specs.Marked.{AreOf}
 use Rattle.zone_bytes.proofs.Places.AtPlace.{whole}
 use Rattle.raw_zone.specs.Parted.{zone_of, rest_of}
-use Rattle.zone_bytes.proofs.Marks.Owed.{with-marks, replaced-as}
-use Rattle.zone_bytes.specs.Purgeable.{purgeable_sum}
+use Rattle.zone_marks.proofs.Marks.Owed.{with-marks, replaced-as}
+use Rattle.zone_bytes.specs.PurgeableBytes.{purgeable_of, purgeable_sum}
 use Rattle.zone_bytes.proofs.Bounds.Given.{given-freed}
 use Rattle.raw_zone.proofs.zone.RawZoneBlockStore.free_at.Goals as goal
 use Rattle.raw_zone.proofs.zone.RawZoneBlockStore.free_at.Goals.{After-self, After-free_block-freed}
@@ -64,12 +65,19 @@ overflow_add-self c =
 pub invariant_of-self-inside : goal.invariant_of-self-inside
 invariant_of-self-inside c = ((done (goal.at.invariant_of-self-inside c).After-free_block-freed).made.lawful, tt)
 
+-- a nonrelocatable block would give nothing
+nothing : (place : ℕ) (b : Block) → is_nonrelocatable place b ≡ true → purgeable_of b ≡ 0
+nothing place (Free n) e = refl
+nothing place (Nonrelocatable id content) e = refl
+nothing place Masters e = refl
+nothing place (Relocatable id flags content) e = absurd (false≢true e)
+
 pub invariant_of-self : goal.invariant_of-self
 invariant_of-self c =
     let d = done (goal.at.invariant_of-self c).After-free_block-freed in
     let z = ap purgeable_sum d.made.zone in
-    let g = given-freed (is_nonrelocatable c.args.place) (zone_in c.self.inside.part.bytes) in
-    let b = c.self.invariant.bound in
+    let g = given-freed (is_nonrelocatable c.args.place) (nothing c.args.place) (zone_in c.self.inside.part.bytes) in
+    let b = c.self.invariant.purgeable_is in
     with-marks _ _ _ _ _ _ (gained-kept _ _ _ _ _ _ d c.self.inside.free c.self.invariant.free_is) c.note.ensures
     (omega (arith, z, g, b))
 

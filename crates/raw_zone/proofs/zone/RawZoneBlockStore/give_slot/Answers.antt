@@ -9,7 +9,7 @@ use Rattle.zone_bytes.specs.Beside.{rest_in}
 use Rattle.zone_bytes.specs.Table.{slot_in}
 use Rattle.zone_bytes.proofs.Laws.Lawful.{Made, rest-made, kept-made}
 use Rattle.zone_bytes.proofs.SlotTable.Slotted.{may-give, given-made, count-small}
-use Rattle.zone_bytes.proofs.Marks.Owed.{with-same}
+use Rattle.zone_marks.proofs.Marks.Owed.{with-same}
 use Rattle.raw_zone.proofs.zone.RawZoneBlockStore.give_slot.Goals as goal
 
 pub give_slot-requires : goal.give_slot-requires
@@ -45,7 +45,7 @@ done c =
 
 pub invariant_of-self : goal.invariant_of-self
 invariant_of-self c = with-same _ _ _ _ _ _ _ (kept-made _ _ _ _ _ _ (done c) c.self.invariant.free_is) (done c).zone
-    c.self.invariant.marked c.self.invariant.bound
+    c.self.invariant.marked c.self.invariant.purgeable_is
 
 pub returns-clause-rest : goal.returns-clause-rest
 returns-clause-rest c =

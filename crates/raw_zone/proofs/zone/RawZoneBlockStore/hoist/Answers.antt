@@ -1,4 +1,4 @@
-use Rattle.std.proofs.Common.{◌≡◌, IsTrue, true, sym, subst}
+use Rattle.std.proofs.Common.{◌≡◌, ◌∙◌, IsTrue, true, sym, subst}
 use Rattle.std.specs.Option.{IfSome}
 use Rattle.block_store.specs.Block.{tidy, is_relocatable}
 use Rattle.block_store.specs.Run.{run_at, has, settle, high, with_run}
@@ -7,10 +7,10 @@ use Rattle.zone_bytes.specs.Decode.{zone_in}
 use Rattle.zone_bytes.specs.Table.{slot_in}
 use Rattle.zone_bytes.proofs.Runs.Changed.{ChangedRun, if-one}
 use Rattle.zone_bytes.proofs.Runs.PackedAt.{IsPacked, is-packed, kept-changed, rest-changed}
-use Rattle.zone_bytes.proofs.Runs.PackedAt.{bound-changed, replaced-changed}
+use Rattle.zone_bytes.proofs.Runs.PackedAt.{purgeable-changed, replaced-changed}
 use Rattle.zone_bytes.proofs.Runs.HoistedAt.{slot-inside, hoist-bytes, may-hoist, hoist-changed}
 use Rattle.raw_zone.specs.Parted.{zone_of, rest_of, zone-tidied, zone-once}
-use Rattle.zone_bytes.proofs.Marks.Owed.{with-marks}
+use Rattle.zone_marks.proofs.Marks.Owed.{with-marks}
 use Rattle.raw_zone.proofs.zone.RawZoneBlockStore.hoist.Goals as goal
 use Rattle.raw_zone.proofs.zone.RawZoneBlockStore.hoist.Goals.{After-self, After-note-arg-2-1}
 
@@ -72,8 +72,8 @@ invariant_of-self c =
     let d = done (goal.at.invariant_of-self c).After-note-arg-2-1 in
     with-marks _ _ _ _ _ _ (kept-changed d.0 (high (is_relocatable c.args.number)) c.hoist_block.new.part.bytes
     (slot_in c.self.inside.part.bytes) c.self.inside.free d.1 c.self.invariant.free_is) c.note.ensures
-    (bound-changed d.0 (high (is_relocatable c.args.number)) c.hoist_block.new.part.bytes
-    (slot_in c.self.inside.part.bytes) c.self.inside.most_purgeable d.1 c.self.invariant.bound)
+    (c.self.invariant.purgeable_is ∙ purgeable-changed d.0 (high (is_relocatable c.args.number))
+    c.hoist_block.new.part.bytes (slot_in c.self.inside.part.bytes) d.1)
 
 pub returns-clause-zone : goal.returns-clause-zone
 returns-clause-zone c =

@@ -1,42 +1,27 @@
-use Rattle.std.proofs.Common.{◌∙◌, ap, sym, subst, ◌<◌, ◌^◌, arith}
-use Rattle.block_store.specs.Block.{sizes}
+use Rattle.std.proofs.Common.{◌∙◌, ap, sym, arith}
 use Rattle.block_store.specs.Compact.{largest_free}
 use Rattle.block_store.specs.Sparing.{purged}
+use Rattle.block_store.specs.declared.sparing.Sparing.TheVariants as sparing
 use Rattle.raw_zone.specs.Parted.{zone_of}
 use Rattle.zone_bytes.specs.Decode.{zone_in}
-use Rattle.zone_bytes.proofs.Bounds.Space.{stands-still}
-use Rattle.zone_bytes.proofs.Places.AtPlace.{left-zone, on-way, sizes-fit}
+use Rattle.zone_marks.proofs.Bounds.Space.{stands-still}
 use Rattle.raw_zone.proofs.zone.RawZoneBlockStore.largest_after.Goals as goal
-
-pub walk_from-requires : goal.walk_from-requires
-walk_from-requires c = let z = c.self.inside in on-way z.part.bytes z.first z.unused c.self.invariant.sound
-
-pub largest_after_in-requires : goal.largest_after_in-requires
-largest_after_in-requires c =
-    let z = c.self.inside in
-    subst (λ l. sizes l < 2 ^ 32) (sym c.walk_from.ensures)
-    (sizes-fit z.part.bytes z.first z.unused c.self.invariant.sound)
-
-pub returns-then-frees_one : goal.returns-then-frees_one
-returns-then-frees_one c =
-    c.largest_after_in.ensures ∙ ap (λ l. largest_free (purged c.args.purges c.args.sparing l))
-    (c.walk_from.ensures ∙ left-zone c.self.inside.part.bytes ∙ ap zone_of c.self.view_is)
 
 pub largest_free-requires-clause-sound : goal.largest_free-requires-clause-sound
 largest_free-requires-clause-sound c = (c.self.inside.first, c.self.inside.unused, c.self.invariant.sound)
 
 pub returns-then-self-eq0 : goal.returns-then-self-eq0
 returns-then-self-eq0 c =
-    let b = c.self.invariant.bound in
+    let b = c.self.invariant.purgeable_is in
     let z = c.if-self-eq0.true in
     c.largest_free.ensures
-    ∙ sym (ap largest_free (stands-still c.args.sparing (c.frees_one.ensures c.if-frees_one.false) c.args.purges
-    (zone_in c.self.inside.part.bytes) c.self.invariant.sound.tidied (omega (arith, b, z))))
-    ∙ ap (λ v. largest_free (purged c.args.purges c.args.sparing (zone_of v))) c.self.view_is
+    ∙ sym (ap largest_free (stands-still c.args.purges (zone_in c.self.inside.part.bytes) c.self.invariant.sound.tidied
+    (omega (arith, b, z))))
+    ∙ ap (λ v. largest_free (purged c.args.purges sparing.Nothing (zone_of v))) c.self.view_is
 
 pub largest_after-requires-clause-sound : goal.largest_after-requires-clause-sound
 largest_after-requires-clause-sound c = (c.self.inside.first, c.self.inside.unused, c.self.invariant.sound)
 
 pub returns : goal.returns
 returns c = c.largest_after.ensures
-    ∙ ap (λ v. largest_free (purged c.args.purges c.args.sparing (zone_of v))) c.self.view_is
+    ∙ ap (λ v. largest_free (purged c.args.purges sparing.Nothing (zone_of v))) c.self.view_is

@@ -6,13 +6,13 @@ use Rattle.block_store.specs.Sparing.{purged, spared}
 use Rattle.raw_zone.specs.Parted.{zone_of}
 use Rattle.zone_bytes.proofs.Places.AtPlace.{left-zone, on-way, sizes-fit}
 use Rattle.zone_bytes.specs.Decode.{zone_in}
-use Rattle.zone_bytes.specs.Purgeable.{purgeable_sum}
+use Rattle.zone_bytes.specs.PurgeableBytes.{purgeable_sum}
 use Rattle.zone_bytes.proofs.Bounds.Short.{none-next}
 use Rattle.raw_zone.proofs.zone.RawZoneBlockStore.next_purgeable.Goals as goal
 
 pub returns-then-self-eq0 : goal.returns-then-self-eq0
 returns-then-self-eq0 c =
-    let b = c.self.invariant.bound in
+    let b = c.self.invariant.purgeable_is in
     let z = c.if-self-eq0.true in
     none-next c.args.sparing c.args.purges (zone_of c.args.self.now)
     (subst (λ v. purgeable_sum (zone_of v) ≤ 0) c.self.view_is (omega (arith, b, z)))

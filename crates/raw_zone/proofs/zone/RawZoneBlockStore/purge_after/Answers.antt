@@ -1,4 +1,4 @@
-use Rattle.std.proofs.Common.{◌≡◌, Some, ◌∷◌, ◌++◌, ap, sym, subst, arith}
+use Rattle.std.proofs.Common.{◌≡◌, ◌+◌, Some, ◌∷◌, ◌++◌, ◌∙◌, ap, sym, subst, arith}
 use Rattle.std.specs.Option.{IfSome, IsSome}
 use Rattle.block_store.specs.Block.{tidy}
 use Rattle.block_store.specs.Rest.{IsRest}
@@ -8,11 +8,11 @@ use Rattle.zone_bytes.specs.Beside.{rest_in}
 use Rattle.zone_bytes.specs.Decode.{zone_in}
 use Rattle.zone_bytes.proofs.Places.Options.{if-spot, a-spot}
 use Rattle.zone_bytes.proofs.Joined.Handles.{Gained, gained-fits, gained-kept, gained-rest}
-use Rattle.zone_bytes.proofs.Joined.PurgeStarts.{spot-at, may-purge, above-gained}
+use Rattle.zone_marks.proofs.Joined.PurgeStarts.{spot-at, may-purge, above-gained}
 use Rattle.raw_zone.specs.Parted.{zone_of, rest_of}
-use Rattle.zone_bytes.proofs.Marks.Owed.{with-marks, replaced-as}
-use Rattle.zone_bytes.specs.Purgeable.{purgeable_sum}
-use Rattle.zone_bytes.proofs.Bounds.Given.{given-purged, given-small}
+use Rattle.zone_marks.proofs.Marks.Owed.{with-marks, replaced-as}
+use Rattle.zone_bytes.specs.PurgeableBytes.{purgeable_sum}
+use Rattle.zone_bytes.proofs.Bounds.Given.{given-purged}
 use Rattle.zone_bytes.proofs.Places.AtPlace.{whole}
 use Rattle.raw_zone.proofs.zone.RawZoneBlockStore.purge_after.Goals as goal
 use Rattle.raw_zone.proofs.zone.RawZoneBlockStore.purge_after.Goals.{After-self, After-purge_above-freed}
@@ -75,18 +75,32 @@ note-requires-clause-marks c =
 pub invariant_of-self-inside : goal.invariant_of-self-inside
 invariant_of-self-inside c = ((done (goal.at.invariant_of-self-inside c).After-purge_above-freed (here (goal.at.invariant_of-self-inside c).After-self)).made.lawful, tt)
 
+-- what the blocks would free, before and afterwards
+given : (c : After-purge_above-freed)
+    → (s : Spot) × (spot_at c.args.place (zone_in c.self.inside.part.bytes) ≡ Some s)
+    → purgeable_sum (zone_in c.purge_above-freed.new.part.bytes) + c.purge_above-freed.result.bytes
+    ≡ purgeable_sum (zone_in c.self.inside.part.bytes)
+given c a =
+    let n = c.self.inside in
+    let d = done c a in
+    ap (λ z. purgeable_sum z + c.purge_above-freed.result.bytes) d.made.zone
+    ∙ given-purged a.0.below a.0.here c.args.purges (spared c.args.sparing) a.0.above (zone_in n.part.bytes)
+    (whole n.part.bytes n.first n.unused c.self.invariant.sound c.args.place a.0 a.1) c.purge_above-freed.result.bytes d.sum
+
+pub overflow_sub-self : goal.overflow_sub-self
+overflow_sub-self c =
+    let g = given (goal.at.overflow_sub-self c).After-purge_above-freed (here (goal.at.overflow_sub-self c).After-self) in
+    let p = c.self.invariant.purgeable_is in
+    omega (arith, g, p)
+
 pub invariant_of-self : goal.invariant_of-self
 invariant_of-self c =
-    let n = c.self.inside in
     let a = here (goal.at.invariant_of-self c).After-self in
     let d = done (goal.at.invariant_of-self c).After-purge_above-freed a in
-    let z = ap purgeable_sum d.made.zone in
-    let g = given-purged a.0.below a.0.here c.args.purges (spared c.args.sparing) a.0.above (zone_in n.part.bytes)
-    (whole n.part.bytes n.first n.unused c.self.invariant.sound c.args.place a.0 a.1) c.purge_above-freed.result.bytes d.sum in
-    let s = given-small c.purge_above-freed.new.part.bytes n.first n.unused d.made.sound in
-    with-marks _ _ _ _ _ _ (gained-kept _ _ _ _ _ _ d n.free c.self.invariant.free_is) c.note.ensures
-    (c.changed_bound-self-inside.ensures (purgeable_sum (zone_in n.part.bytes))
-    (purgeable_sum (zone_in c.purge_above-freed.new.part.bytes)) c.self.invariant.bound (omega (arith, z, g)) s)
+    let g = given (goal.at.invariant_of-self c).After-purge_above-freed a in
+    let p = c.self.invariant.purgeable_is in
+    with-marks _ _ _ _ _ _ (gained-kept _ _ _ _ _ _ d c.self.inside.free c.self.invariant.free_is) c.note.ensures
+    (omega (arith, g, p))
 
 pub returns-clause-zone : goal.returns-clause-zone
 returns-clause-zone c =

@@ -14,7 +14,7 @@ use Rattle.zone_bytes.proofs.Runs.Changed.{ChangedRun, if-one, replaced-run}
 use Rattle.zone_bytes.proofs.Runs.RaisedAt.{room-run, may-lift, lifted-run, lifted-zone}
 use Rattle.zone_bytes.proofs.Places.Walks.{free_span-le}
 use Rattle.zone_bytes.proofs.Runs.Edged.{lifted-edges}
-use Rattle.zone_bytes.proofs.Marks.Owed.{with-marks}
+use Rattle.zone_marks.proofs.Marks.Owed.{with-marks}
 use Rattle.raw_zone.specs.Parted.{zone_of, rest_of}
 use Rattle.raw_zone.proofs.zone.RawZoneBlockStore.raise.Goals as goal
 use Rattle.raw_zone.proofs.zone.RawZoneBlockStore.raise.Goals.{After-raise_run-stop}
@@ -70,7 +70,7 @@ pub invariant_of-self : goal.invariant_of-self
 invariant_of-self c =
     let d = done (goal.at.invariant_of-self c).After-raise_run-stop in
     let p = d.2.purgeable in
-    let b = c.self.invariant.bound in
+    let b = c.self.invariant.purgeable_is in
     with-marks _ _ _ _ _ _ (kept-made _ _ _ _ _ _ d.2.made (c.self.invariant.free_is ∙ sym d.2.free)) c.note_packed.ensures
     (omega (arith, p, b))
 

@@ -1,4 +1,4 @@
-use Rattle.std.proofs.Common.{◌≡◌, IsTrue, refl, sym, ap, ◌∙◌, subst, arith}
+use Rattle.std.proofs.Common.{◌≡◌, ◌+◌, IsTrue, refl, sym, ap, ◌∙◌, subst, arith}
 use Rattle.block_store.specs.Block.{is_relocatable, tidy}
 use Rattle.block_store.specs.Grow.{freed}
 use Rattle.block_store.specs.Slot.{is_used}
@@ -7,11 +7,10 @@ use Rattle.zone_bytes.specs.Beside.{rest_in}
 use Rattle.zone_bytes.specs.Decode.{zone_in}
 use Rattle.zone_bytes.proofs.Joined.Handles.{Gained, gained-fits, gained-kept, gained-rest, table-of, has-handle}
 use Rattle.zone_bytes.proofs.Joined.Handles.{released-gained}
-use Rattle.raw_zone.specs.Parted.{zone_of, rest_of}
-use Rattle.zone_bytes.proofs.Marks.Owed.{with-marks, replaced-as}
-use Rattle.block_store.specs.Room.{spot}
-use Rattle.zone_bytes.specs.Purgeable.{purgeable_sum, purgeable_at}
-use Rattle.zone_bytes.proofs.Bounds.Given.{given-released, given-small}
+use Rattle.raw_zone.specs.Parted.{zone_of, rest_of, zone-once}
+use Rattle.zone_marks.proofs.Marks.Owed.{with-marks, replaced-as}
+use Rattle.zone_bytes.specs.PurgeableBytes.{purgeable_sum}
+use Rattle.zone_bytes.proofs.Bounds.Given.{given-released}
 use Rattle.raw_zone.proofs.zone.RawZoneBlockStore.release.Goals as goal
 use Rattle.raw_zone.proofs.zone.RawZoneBlockStore.release.Goals.{After-free_slot-freed}
 
@@ -43,19 +42,30 @@ overflow_add-self c =
 pub invariant_of-self-inside : goal.invariant_of-self-inside
 invariant_of-self-inside c = ((done (goal.at.invariant_of-self-inside c).After-free_slot-freed).made.lawful, tt)
 
+given : (c : After-free_slot-freed) → purgeable_sum (zone_in c.free_slot-freed.new.part.bytes) + c.purgeable_of-given.result
+    ≡ purgeable_sum (zone_in c.self.inside.part.bytes)
+given c =
+    let zone = zone_of c.args.self.now in
+    let test = is_relocatable c.args.number in
+    ap (λ z. purgeable_sum z + c.purgeable_of-given.result)
+    ((done c).made.zone ∙ ap (λ v. tidy (freed test (zone_of v))) c.self.view_is)
+    ∙ ap (λ n. purgeable_sum (tidy (freed test zone)) + n) c.purgeable_of-given.ensures
+    ∙ given-released test zone (zone-once c.args.self.now c.args.number)
+    ∙ sym (ap (λ v. purgeable_sum (zone_of v)) c.self.view_is)
+
+pub overflow_sub-self : goal.overflow_sub-self
+overflow_sub-self c =
+    let g = given (goal.at.overflow_sub-self c).After-free_slot-freed in
+    let p = c.self.invariant.purgeable_is in
+    omega (arith, g, p)
+
 pub invariant_of-self : goal.invariant_of-self
 invariant_of-self c =
-    let n = c.self.inside in
-    let d = done (goal.at.invariant_of-self c).After-free_slot-freed in
-    let z = ap purgeable_sum d.made.zone in
-    let p = subst (λ v. c.purgeable_of-given.result ≡ purgeable_at (spot (is_relocatable c.args.number) (zone_of v)))
-    (sym c.self.view_is) c.purgeable_of-given.ensures in
-    let g = given-released (is_relocatable c.args.number) (zone_in n.part.bytes)
-    (spot (is_relocatable c.args.number) (zone_in n.part.bytes)) refl in
-    let s = given-small c.free_slot-freed.new.part.bytes n.first n.unused d.made.sound in
-    with-marks _ _ _ _ _ _ (gained-kept _ _ _ _ _ _ d n.free c.self.invariant.free_is) c.note.ensures
-    (c.changed_bound-self-inside.ensures (purgeable_sum (zone_in n.part.bytes))
-    (purgeable_sum (zone_in c.free_slot-freed.new.part.bytes)) c.self.invariant.bound (omega (arith, z, p, g)) s)
+    let a = (goal.at.invariant_of-self c).After-free_slot-freed in
+    let g = given a in
+    let p = c.self.invariant.purgeable_is in
+    with-marks _ _ _ _ _ _ (gained-kept _ _ _ _ _ _ (done a) c.self.inside.free c.self.invariant.free_is) c.note.ensures
+    (omega (arith, g, p))
 
 pub returns-clause-zone : goal.returns-clause-zone
 returns-clause-zone c = (done (goal.at.returns-clause-zone c).After-free_slot-freed).made.zone

@@ -1,4 +1,4 @@
-use Rattle.std.proofs.Common.{◌≡◌, ℕ, ◌<◌, ◌≤◌, Some, sym, ap, ◌∙◌, subst, arith}
+use Rattle.std.proofs.Common.{◌≡◌, ℕ, ◌+◌, ◌<◌, ◌≤◌, ◌^◌, Some, sym, ap, ◌∙◌, subst, arith}
 use Rattle.std.specs.Option.{IfSome, IsSomeAnd}
 use Rattle.block_store.specs.Block.{count, is_masters, resized, size, sizes}
 use Rattle.block_store.specs.Room.{Spot, spot_at, filled}
@@ -15,9 +15,9 @@ use Rattle.zone_bytes.proofs.Placed.Resized.{resize-made, cut-zone, grown-zone}
 use Rattle.raw_zone.specs.Held.{Held}
 use Rattle.raw_zone.specs.Raw.{held}
 use Rattle.raw_zone.specs.Parted.{zone_of, rest_of}
-use Rattle.zone_bytes.proofs.Marks.Owed.{with-marks}
-use Rattle.zone_bytes.specs.Purgeable.{purgeable_sum}
-use Rattle.zone_bytes.proofs.Bounds.Given.{given-small}
+use Rattle.zone_marks.proofs.Marks.Owed.{with-marks}
+use Rattle.zone_bytes.specs.PurgeableBytes.{purgeable_sum}
+use Rattle.zone_bytes.proofs.Bounds.Given.{given-parts, given-small}
 use Rattle.raw_zone.proofs.zone.RawZoneBlockStore.resize.Goals as goal
 use Rattle.raw_zone.proofs.zone.RawZoneBlockStore.resize.Goals.{After-resize_block-resized}
 
@@ -91,9 +91,14 @@ invariant_of-self-inside c =
       tt,
     )
 
-pub invariant_of-self : goal.invariant_of-self
-invariant_of-self c =
-    let a = there (goal.at.invariant_of-self c).After-resize_block-resized in
+-- what the blocks would free, before and afterwards
+given : (c : After-resize_block-resized)
+    → (purgeable_sum (zone_in c.resize_block-resized.new.part.bytes) + c.purgeable_at-given.result
+    ≡ purgeable_sum (zone_in c.self.inside.part.bytes) + c.given_at-gives.result)
+    × (c.purgeable_at-given.result ≤ purgeable_sum (zone_in c.self.inside.part.bytes))
+    × (purgeable_sum (zone_in c.resize_block-resized.new.part.bytes) < 2 ^ 32)
+given c =
+    let a = there c in
     let r = resize-made c.self.inside.part.bytes c.resize_block-resized.new.part.bytes c.self.inside.first
     c.self.inside.unused c.args.place c.args.bytes c.self.invariant.sound a.0 a.1 a.3 a.2
     c.resize_block-resized.ensures.cut c.resize_block-resized.ensures.grown in
@@ -101,12 +106,40 @@ invariant_of-self c =
     let w = c.purgeable_at-given.ensures a.0.here a.0.above a.3.left in
     let g = c.given_at-gives.ensures a.0.here (sym w) in
     let p = r.given in
-    let s = given-small c.resize_block-resized.new.part.bytes c.self.inside.first c.self.inside.unused r.made.sound in
+    let h = ap purgeable_sum a.3.whole ∙ given-parts a.0.below a.0.here a.0.above in (
+      omega (arith, z, w, g, p),
+      omega (arith, w, h),
+      given-small c.resize_block-resized.new.part.bytes c.self.inside.first c.self.inside.unused r.made.sound,
+    )
+
+pub overflow_sub-self : goal.overflow_sub-self
+overflow_sub-self c =
+    let g = given (goal.at.overflow_sub-self c).After-resize_block-resized in
+    let p = c.self.invariant.purgeable_is in
+    let l = g.1 in
+    omega (arith, p, l)
+
+pub overflow_add-self : goal.overflow_add-self
+overflow_add-self c =
+    let g = given (goal.at.overflow_add-self c).After-resize_block-resized in
+    let p = c.self.invariant.purgeable_is in
+    let e = g.0 in
+    let s = g.2 in
+    omega (arith, p, e, s)
+
+pub invariant_of-self : goal.invariant_of-self
+invariant_of-self c =
+    let d = (goal.at.invariant_of-self c).After-resize_block-resized in
+    let a = there d in
+    let r = resize-made c.self.inside.part.bytes c.resize_block-resized.new.part.bytes c.self.inside.first
+    c.self.inside.unused c.args.place c.args.bytes c.self.invariant.sound a.0 a.1 a.3 a.2
+    c.resize_block-resized.ensures.cut c.resize_block-resized.ensures.grown in
+    let g = given d in
+    let e = g.0 in
+    let l = g.1 in
+    let p = c.self.invariant.purgeable_is in
     with-marks _ _ _ _ _ _ (record { sound = r.made.sound; free_is = c.resize_block-resized.ensures.free })
-    c.note.ensures
-    (c.changed_bound-self-inside.ensures (purgeable_sum (zone_in c.self.inside.part.bytes))
-    (purgeable_sum (zone_in c.resize_block-resized.new.part.bytes)) c.self.invariant.bound
-    (omega (arith, z, w, g, p)) s)
+    c.note.ensures (omega (arith, e, l, p))
 
 pub returns-clause-cut : goal.returns-clause-cut
 returns-clause-cut c =

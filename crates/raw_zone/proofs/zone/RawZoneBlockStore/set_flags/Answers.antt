@@ -1,4 +1,4 @@
-use Rattle.std.proofs.Common.{◌≡◌, ℕ, ◌<◌, ◌≤◌, ◌∙◌, ◌++◌, ◌∷◌, Some, length, ap, sym, subst, arith}
+use Rattle.std.proofs.Common.{◌≡◌, ℕ, ◌<◌, ◌∙◌, ◌++◌, ◌∷◌, Some, length, ap, sym, subst, arith}
 use Rattle.std.specs.Option.{IfSome, IsSome}
 use Rattle.block_store.specs.Block.{count, is_masters, free_sum}
 use Rattle.block_store.specs.Room.{Spot, spot_at}
@@ -16,9 +16,9 @@ use Rattle.zone_bytes.proofs.Places.AtPlace.{whole, low, way-at, left-at, inside
 use Rattle.zone_bytes.proofs.Places.Options.{if-spot, a-spot}
 use Rattle.zone_bytes.proofs.Laws.Lawful.{Made, rest-made, kept-made}
 use Rattle.zone_bytes.proofs.Blocks.Marked.{flagged-made, masters-flagged, free-flagged}
-use Rattle.zone_bytes.proofs.Marks.Owed.{size-flags, with-marks}
-use Rattle.zone_bytes.specs.Purgeable.{purgeable_sum}
-use Rattle.zone_bytes.proofs.Bounds.Given.{given-became, given-small}
+use Rattle.zone_marks.proofs.Marks.Owed.{size-flags, with-marks}
+use Rattle.zone_bytes.specs.Changes.{Became}
+use Rattle.zone_bytes.specs.PurgeableBytes.{purgeable_of}
 use Rattle.raw_zone.proofs.zone.RawZoneBlockStore.set_flags.Goals as goal
 use Rattle.raw_zone.proofs.zone.RawZoneBlockStore.set_flags.Goals.{After-flag_at}
 
@@ -45,14 +45,6 @@ pub purgeable_at-given-requires-clause-some : goal.purgeable_at-given-requires-c
 purgeable_at-given-requires-clause-some c = below-end (held c.self.inside) c.args.self.now c.self.view_is c.self.inside.first
     c.self.inside.unused c.args.place c.self.invariant.sound c.requires
 
-pub size_at-requires-clause-way : goal.size_at-requires-clause-way
-size_at-requires-clause-way c = way (held c.self.inside) c.args.self.now c.self.view_is c.self.inside.first
-    c.self.inside.unused c.args.place c.self.invariant.sound c.requires
-
-pub size_at-requires-clause-some : goal.size_at-requires-clause-some
-size_at-requires-clause-some c = below-end (held c.self.inside) c.args.self.now c.self.view_is c.self.inside.first
-    c.self.inside.unused c.args.place c.self.invariant.sound c.requires
-
 pub flag_at-requires-clause-way : goal.flag_at-requires-clause-way
 flag_at-requires-clause-way c = way (held c.self.inside) c.args.self.now c.self.view_is c.self.inside.first
     c.self.inside.unused c.args.place c.self.invariant.sound c.requires
@@ -76,6 +68,28 @@ done c =
           (low z.part.bytes z.first z.unused i c.args.place a.0 a.1)),
     )
 
+abbrev became : (c : After-flag_at) → Became c.args.place (zone_in c.self.inside.part.bytes) (zone_in c.flag_at.new.part.bytes)
+became c =
+    let z = c.self.inside in
+    let i = c.self.invariant.sound in
+    let d = done c in record {
+      below = d.0.below;
+      here = d.0.here;
+      there = with_flags c.args.flags d.0.here;
+      above = d.0.above;
+      was = whole z.part.bytes z.first z.unused i c.args.place d.0 d.1;
+      is = d.2.zone;
+      low = low z.part.bytes z.first z.unused i c.args.place d.0 d.1;
+      span = size-flags c.args.flags d.0.here;
+    }
+
+given : (c : After-flag_at) → c.purgeable_at-given.result ≡ purgeable_of (done c).0.here
+given c =
+    let z = c.self.inside in
+    let d = done c in
+    c.purgeable_at-given.ensures d.0.here d.0.above
+    (left-at z.part.bytes z.first z.unused c.self.invariant.sound c.args.place d.0 d.1)
+
 pub note_block-requires-clause-sound : goal.note_block-requires-clause-sound
 note_block-requires-clause-sound c = (
   c.self.inside.first,
@@ -84,47 +98,34 @@ note_block-requires-clause-sound c = (
 )
 
 pub note_block-requires-clause-marks : goal.note_block-requires-clause-marks
-note_block-requires-clause-marks c =
-    let z = c.self.inside in
-    let i = c.self.invariant.sound in
-    let d = done (goal.at.note_block-requires-clause-marks c).After-flag_at in (
-      zone_in z.part.bytes,
-      record {
-        below = d.0.below;
-        here = d.0.here;
-        there = with_flags c.args.flags d.0.here;
-        above = d.0.above;
-        was = whole z.part.bytes z.first z.unused i c.args.place d.0 d.1;
-        is = d.2.zone;
-        low = low z.part.bytes z.first z.unused i c.args.place d.0 d.1;
-        span = size-flags c.args.flags d.0.here;
-      },
-      c.self.invariant.marked,
-    )
+note_block-requires-clause-marks c = (
+  zone_in c.self.inside.part.bytes,
+  became (goal.at.note_block-requires-clause-marks c).After-flag_at,
+  c.self.invariant.marked,
+)
+
+pub purgeable_with-self-inside-requires-clause-sound : goal.purgeable_with-self-inside-requires-clause-sound
+purgeable_with-self-inside-requires-clause-sound c = (
+  c.self.inside.first,
+  c.self.inside.unused,
+  (done (goal.at.purgeable_with-self-inside-requires-clause-sound c).After-flag_at).2.sound,
+)
+
+pub purgeable_with-self-inside-requires-clause-became : goal.purgeable_with-self-inside-requires-clause-became
+purgeable_with-self-inside-requires-clause-became c =
+    let d = (goal.at.purgeable_with-self-inside-requires-clause-became c).After-flag_at in
+    (zone_in c.self.inside.part.bytes, became d, given d, c.self.invariant.purgeable_is)
 
 pub invariant_of-self-inside : goal.invariant_of-self-inside
 invariant_of-self-inside c = ((done (goal.at.invariant_of-self-inside c).After-flag_at).2.lawful, tt)
 
 pub invariant_of-self : goal.invariant_of-self
 invariant_of-self c =
-    let d = done (goal.at.invariant_of-self c).After-flag_at in
-    let s = d.0 in
-    let m = d.2 in
-    let z = c.self.inside in
-    let i = c.self.invariant.sound in
-    let h = whole z.part.bytes z.first z.unused i c.args.place s d.1 in
-    let w = c.purgeable_at-given.ensures s.here s.above (left-at z.part.bytes z.first z.unused i c.args.place s d.1) in
-    let y = c.size_at.ensures s.here s.above (left-at z.part.bytes z.first z.unused i c.args.place s d.1) in
-    let g = c.given_with-gives.ensures s.here (sym y) in
-    let p = given-became s.below s.here (with_flags c.args.flags s.here) s.above (zone_in z.part.bytes) h in
-    let k = given-small _ z.first z.unused m.sound in
-    let t = ap purgeable_sum m.zone in
-    with-marks _ _ _ _ _ _ (kept-made _ _ _ _ _ _ m (c.self.invariant.free_is ∙ ap free_sum h
-    ∙ sym (free-flagged c.args.flags s.below s.here s.above))) c.note_block.ensures
-    (subst (λ v. purgeable_sum v ≤ c.changed_bound-self-inside.result) (sym m.zone)
-    (c.changed_bound-self-inside.ensures (purgeable_sum (zone_in z.part.bytes))
-    (purgeable_sum (s.below ++ with_flags c.args.flags s.here ∷ s.above)) c.self.invariant.bound
-    (omega (arith, w, g, p)) (omega (arith, k, t))))
+    let d = (goal.at.invariant_of-self c).After-flag_at in
+    let b = became d in
+    with-marks _ _ _ _ _ _ (kept-made _ _ _ _ _ _ (done d).2 (c.self.invariant.free_is ∙ ap free_sum b.was
+    ∙ sym (free-flagged c.args.flags b.below b.here b.above))) c.note_block.ensures
+    (c.purgeable_with-self-inside.ensures (zone_in c.self.inside.part.bytes) b (given d) c.self.invariant.purgeable_is)
 
 pub returns-clause-zone : goal.returns-clause-zone
 returns-clause-zone c =

@@ -8,7 +8,7 @@ use Rattle.zone_bytes.specs.Table.{slot_in}
 use Rattle.zone_bytes.proofs.Laws.Lawful.{Made, rest-made, kept-made}
 use Rattle.zone_bytes.proofs.SlotTable.Handled.{a-handle, marked-made}
 use Rattle.raw_zone.specs.Parted.{zone_of, rest_of}
-use Rattle.zone_bytes.proofs.Marks.Owed.{with-same}
+use Rattle.zone_marks.proofs.Marks.Owed.{with-same}
 use Rattle.raw_zone.proofs.zone.RawZoneBlockStore.set_resource.Goals as goal
 
 pub mark_slot-requires : goal.mark_slot-requires
@@ -36,7 +36,7 @@ invariant_of-self-inside c =
 
 pub invariant_of-self : goal.invariant_of-self
 invariant_of-self c = with-same _ _ _ _ _ _ _ (kept-made _ _ _ _ _ _ (done c) c.self.invariant.free_is) (done c).zone
-    c.self.invariant.marked c.self.invariant.bound
+    c.self.invariant.marked c.self.invariant.purgeable_is
 
 pub returns-clause-rest : goal.returns-clause-rest
 returns-clause-rest c =

@@ -8,7 +8,7 @@ use Rattle.zone_bytes.specs.Beside.{rest_in}
 use Rattle.zone_bytes.specs.Table.{slot_in}
 use Rattle.zone_bytes.proofs.Laws.Lawful.{Made, rest-made, kept-made}
 use Rattle.zone_bytes.proofs.SlotTable.Slotted.{may-take, taken-made}
-use Rattle.zone_bytes.proofs.Marks.Owed.{with-same}
+use Rattle.zone_marks.proofs.Marks.Owed.{with-same}
 use Rattle.raw_zone.proofs.zone.RawZoneBlockStore.take_slot.Goals as goal
 
 pub take_slot-self-inside-requires : goal.take_slot-self-inside-requires
@@ -33,7 +33,7 @@ done c = let n = c.if-self-eq0.false in
 
 pub invariant_of-self : goal.invariant_of-self
 invariant_of-self c = with-same _ _ _ _ _ _ _ (kept-made _ _ _ _ _ _ (done c) c.self.invariant.free_is) (done c).zone
-    c.self.invariant.marked c.self.invariant.bound
+    c.self.invariant.marked c.self.invariant.purgeable_is
 
 pub returns-clause-rest : goal.returns-clause-rest
 returns-clause-rest c =

@@ -12,7 +12,7 @@ use Rattle.zone_bytes.proofs.Places.AtPlace.{whole, low}
 use Rattle.zone_bytes.proofs.Places.Options.{if-spot, the-spot, one-spot}
 use Rattle.zone_bytes.proofs.Laws.Lawful.{rest-made, kept-made}
 use Rattle.zone_bytes.proofs.Blocks.Writes.{content-inside, written-in, masters-kept, free-kept}
-use Rattle.zone_bytes.proofs.Marks.Owed.{with-written}
+use Rattle.zone_marks.proofs.Marks.Owed.{with-written}
 use Rattle.raw_zone.proofs.zone.RawZoneBlockStore.write.Goals as goal
 
 pub overflow_add-place : goal.overflow_add-place
@@ -87,7 +87,7 @@ invariant_of-self c =
     rw c.put_bytes.ensures.bytes (with-written _ _ _ _ _ _ a.0.below a.0.above a.0.here c.args.from c.args.bytes.now
     (zone_in z.part.bytes) (kept-made _ _ _ _ _ _ m (c.self.invariant.free_is ∙ ap free_sum h
     ∙ sym (free-kept (written c.args.from c.args.bytes.now (content_of a.0.here)) a.0.below a.0.here a.0.above)))
-    m.zone h a.2 c.self.invariant.marked c.self.invariant.bound)
+    m.zone h a.2 c.self.invariant.marked c.self.invariant.purgeable_is)
 
 pub returns-clause-zone : goal.returns-clause-zone
 returns-clause-zone c =

@@ -1,5 +1,5 @@
 use Rattle.std.proofs.Common.{◌++◌, ◌∷◌, [], ◌<◌, length, rules}
-use Rattle.zone_bytes.proofs.Marks.Edges.{edges-more, edges-next, starts-last}
+use Rattle.zone_bytes.proofs.Places.Noted.{edges-more, edges-next, starts-last}
 use Rattle.zone_bytes.proofs.edges.Edges.pass.Goals as goal
 
 pub loop-self-init : goal.loop-self-init

@@ -1,0 +1,36 @@
+-- The place of a block that became another.
+use Rattle.std.proofs.Common.{◌≡◌, ℕ, ◌+◌, ◌<◌, List, ◌∷◌, inl, inr, length, sym, ap, ◌∙◌, arith}
+use Rattle.std.proofs.lemmas.Bool.{cases_lt}
+use Rattle.block_store.specs.Block.{Block, sizes}
+use Rattle.zone_bytes.specs.Decode.{zone_in}
+use Rattle.zone_bytes.specs.Lawful.{IsSound}
+use Rattle.zone_bytes.specs.Changes.{Became}
+use Rattle.zone_bytes.specs.Stepping.{left_in, IsOnWay}
+use Rattle.zone_bytes.specs.Table.{slot_in}
+use Rattle.zone_bytes.proofs.Laws.Lawful.{sizes-length}
+use Rattle.zone_bytes.proofs.Places.AtPlace.{way-above, left-above}
+use Rattle.zone_bytes.proofs.Places.Stepped.{left-none}
+use Rattle.zone_bytes.proofs.Tiles.Tiling.{span-append}
+
+module _ (xs : List ℕ) (first unused : ℕ) (i : IsSound xs first unused) (place : ℕ) (old : List Block)
+    (b : Became place old (zone_in xs)) where
+  pub became-way : IsOnWay place xs
+  became-way = way-above xs first unused i b.below (b.there ∷ b.above) place b.is b.low
+
+  pub became-left : left_in place xs ≡ b.there ∷ b.above
+  became-left = left-above xs first unused i b.below (b.there ∷ b.above) place b.is b.low
+
+  pub became-inside : place < length xs
+  became-inside = elim (cases_lt place (length xs)) [
+    | inl l ↦ l
+    | inr l ↦ let e : length (b.there ∷ b.above) ≡ 0 = ap length (sym became-left ∙ left-none place xs became-way l) in
+        absurd (omega (arith, e))
+  ]
+
+  pub became-fits : place + sizes (b.there ∷ b.above) ≡ length xs
+  became-fits =
+      let z = ap sizes b.is in
+      let a = span-append b.below (b.there ∷ b.above) in
+      let l = b.low in
+      let k = sizes-length xs (zone_in xs) (slot_in xs) i.unused i.lays in
+      omega (arith, z, a, l, k)

@@ -1,0 +1,37 @@
+-- Edges that are noted while blocks are moved.
+use Rattle.std.proofs.Common.{◌≡◌, ℕ, ◌+◌, ◌<◌, inl, inr, List, []}
+use Rattle.std.proofs.Common.{◌∷◌, ◌++◌, length, get_or, set, sym, ap, ◌∙◌, subst, arith}
+use Rattle.std.proofs.lemmas.Bool.Decides.{eqb_tells}
+use Rattle.std.proofs.lemmas.List.{get_or-set_same, get_or-set_other}
+use Rattle.block_store.specs.Block.{Block, size, sizes}
+use Rattle.zone_bytes.specs.Edges.{Starts, AreEdges}
+use Rattle.zone_bytes.specs.declared.edges.Edges.{Edges}
+
+-- where blocks begin
+starts-left : (p x : ℕ) (below above : List Block) → Starts p x below → Starts p x (below ++ above)
+starts-left p x [] above s = absurd s
+starts-left p x (b ∷ below) above (inl e) = inl e
+starts-left p x (b ∷ below) above (inr s) = inr (starts-left p (x + size b) below above s)
+
+pub starts-last : (p x : ℕ) (before : List Block) (block : Block) → x + sizes before ≡ p
+    → Starts p x (before ++ block ∷ [])
+starts-last p x [] block e = inl (omega (arith, e))
+starts-last p x (b ∷ before) block e = inr (starts-last p (x + size b) before block (omega (arith, e)))
+
+pub edges-more : (e : Edges) (base : ℕ) (below above : List Block) → AreEdges e base below
+    → AreEdges e base (below ++ above)
+edges-more e base below above a n l = starts-left (get_or e.places.items n 0) base below above (a n l)
+
+-- one more edge
+pub edges-next : (e : Edges) (place base : ℕ) (blocks : List Block) → e.count < length e.places.items
+    → Starts place base blocks → AreEdges e base blocks → (n : ℕ) → n < e.count + 1
+    → Starts (get_or (set e.places.items e.count place) n 0) base blocks
+edges-next e place base blocks l s a n u = elim (eqb_tells n e.count) [
+  | inl t ↦ subst (λ k. Starts k base blocks) (sym (ap (λ k. get_or (set e.places.items e.count place) k 0) t.1
+      ∙ get_or-set_same e.places.items e.count place 0 l)) s
+  | inr t ↦ subst (λ k. Starts k base blocks) (sym (get_or-set_other e.places.items e.count n place 0 t.1))
+      (a n (lower n t.1 u))
+]
+  where
+    lower : (k : ℕ) → (k ≡ e.count → ⊥) → k < e.count + 1 → k < e.count
+    lower k f v = grind (arith, f, v)

@@ -1,6 +1,0 @@
-use Rattle.std.proofs.Common.{◌≡◌, length}
-use Rattle.zone_bytes.specs.Marks.{AreGroups}
-use Rattle.zone_bytes.proofs.grouping.renew_groups.Given as goal
-
-abbrev pub invariant-loop-group : goal.invariant-loop-group
-invariant-loop-group l = AreGroups l.groups l.marks × (length l.groups ≡ l.group-end)

@@ -1,7 +1,0 @@
-use Rattle.zone_bytes.proofs.marking.measured_mark.Goals as goal
-
-pub returns-clause-bound : goal.returns-clause-bound
-returns-clause-bound c = c.measure_up_to-stretch.ensures.below.most
-
-pub returns-clause-tally : goal.returns-clause-tally
-returns-clause-tally c = c.measure_up_to-stretch.ensures.below.runs

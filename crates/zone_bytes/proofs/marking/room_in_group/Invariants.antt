@@ -1,6 +1,0 @@
-use Rattle.zone_bytes.specs.Decode.{zone_in}
-use Rattle.zone_bytes.specs.Marks.{NoneBelow}
-use Rattle.zone_bytes.proofs.marking.room_in_group.Given as goal
-
-abbrev pub invariant-loop-index : goal.invariant-loop-index
-invariant-loop-index l = NoneBelow l.bytes (zone_in l.part.bytes) l.marks l.index

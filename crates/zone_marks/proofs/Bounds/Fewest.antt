@@ -1,0 +1,144 @@
+-- The blocks that may be purged below a run, counted from an edge of a zone below which none may be.
+use Rattle.std.proofs.Common.{◌≡◌, ℕ, zero, suc, ◌+◌, ◌-◌, ◌≤◌, ◌<◌, Bool, true, false, List, [], ◌∷◌, ◌++◌}
+use Rattle.std.proofs.Common.{◌&&◌, Some, inl, refl, sym, ap, ◌∙◌, subst, cond, arith}
+use Rattle.block_store.specs.Block.{Block, Free, count, size, sizes, is_purgeable, is_relocatable}
+use Rattle.block_store.specs.Find.{FindsLowestRun}
+use Rattle.block_store.specs.Run.{has, has_free}
+use Rattle.block_store.specs.Inner.Stretch.{opened_block}
+use Rattle.block_store.specs.Room.{count_of, may_be_purged}
+use Rattle.block_store.specs.Sparing.{most_purges, opened, purged, spared}
+use Rattle.block_store.specs.declared.measures.TheConstants.{GREATEST_ZONE}
+use Rattle.block_store.specs.declared.sparing.Sparing.{Sparing}
+use Rattle.block_store.specs.declared.sparing.Sparing.TheVariants as sparing
+use Rattle.block_store.proofs.Purged.Looks.{opened-none}
+use Rattle.block_store.proofs.Purged.Purges.{sizes-opened}
+use Rattle.block_store.proofs.Purged.Stretches.{opened-more, size-opened}
+use Rattle.zone_summary.specs.Fewest.{count_within}
+use Rattle.zone_summary.proofs.BlockRuns.{IsRunOf, run-of}
+use Rattle.zone_summary.proofs.Fewest.{count-few, count-past, opened-append}
+use Rattle.zone_bytes.specs.Decode.{zone_in}
+use Rattle.zone_bytes.specs.Lawful.{IsSound}
+use Rattle.zone_bytes.specs.Changes.{AtEach, Begins}
+use Rattle.zone_marks.specs.Marks.{IsTally, between}
+use Rattle.zone_marks.specs.Purgeable.{NoneGoes, Stays}
+use Rattle.zone_marks.specs.Searching.{IsStretch}
+use Rattle.zone_bytes.specs.Stepping.{left_in}
+use Rattle.zone_marks.specs.declared.landmark.Tally.{Tally}
+use Rattle.zone_marks.specs.declared.landmark.Tally.TheVariants as tally
+use Rattle.zone_summary.specs.Stretches.{load}
+use Rattle.zone_summary.specs.Stretches.{is_ended, join, prefix, stretch_of}
+use Rattle.zone_summary.specs.declared.stretch.Stretch.{Stretch}
+use Rattle.zone_summary.specs.declared.stretch.Stretch.TheVariants.{Whole, Ended}
+use Rattle.zone_summary.proofs.Monoid.{stretch_of-append}
+use Rattle.std.proofs.lemmas.Bool.{false≢true}
+use Rattle.zone_summary.proofs.Sums.{load-blocks}
+use Rattle.zone_marks.proofs.Bounds.Going.{none-passes, stays-here}
+use Rattle.zone_marks.proofs.Marks.Lowering.{begins-end, seen-from, tally-here}
+use Rattle.zone_marks.proofs.Marks.Passing.{at-left, begins-left}
+use Rattle.zone_marks.proofs.Searches.Pieces.{stretch-at, zone-long}
+
+-- a walk that counts them looks at one block
+module _ (n : Sparing) (b : Block) (above : List Block) where
+  pub within-more : (left : ℕ) → 0 < left → count_within (spared n) left (opened n (b ∷ above))
+      ≡ cond {A = ℕ} (may_be_purged (spared n) (opened_block n b)) 1 0
+      + count_within (spared n) (left - size b) (opened n above)
+  within-more zero l = absurd (omega (arith, l))
+  within-more (suc k) l = ap (count_within (spared n) (suc k)) (opened-more n b above)
+      ∙ ap (λ s. cond {A = ℕ} (may_be_purged (spared n) (opened_block n b)) 1 0
+      + count_within (spared n) (suc k - s) (opened n above)) (size-opened n b)
+
+-- a block that may not be purged may not be as a search sees it first
+opened-stays : (n : Sparing) (b : Block) → is_purgeable b ≡ false → may_be_purged (spared n) (opened_block n b) ≡ false
+opened-stays sparing.Nothing b e = none-passes sparing.Nothing b e
+opened-stays (sparing.One slot) b e = none-passes (sparing.One slot) b e
+opened-stays (sparing.Two slot other) b e = none-passes (sparing.Two slot other) b e
+opened-stays (sparing.Freed slot) b e = cases (is_relocatable slot b)
+  where
+    cases : (t : Bool) → may_be_purged (spared (sparing.Freed slot)) (cond t (Free (size b)) b) ≡ false
+    cases true = refl
+    cases false = none-passes (sparing.Freed slot) b e
+
+pub count-none : (n : Sparing) (bound x : ℕ) (below : List Block) → AtEach (Stays bound) x below → x + sizes below ≤ bound
+    → count_of (spared n) (opened n below) ≡ 0
+count-none n bound x [] s l = ap (count_of (spared n)) (opened-none n)
+count-none n bound x (b ∷ below) s l =
+    let t = ap (λ t. cond {A = ℕ} t 1 0) (opened-stays n b (stays-here bound x b s.0 (omega (arith, l)))) in
+    let r = count-none n bound (x + size b) below s.1 (omega (arith, l)) in
+    omega (arith, ap (count_of (spared n)) (opened-more n b below), t, r)
+
+pub count-below : (xs : List ℕ) (first unused : ℕ) (i : IsSound xs first unused) (from edge run : ℕ) (n : Sparing)
+    (low rest : List Block) → Begins edge 0 (zone_in xs) → edge ≤ from → NoneGoes from (zone_in xs) → edge ≤ run
+    → zone_in xs ≡ low ++ rest → sizes low ≡ run
+    → count_within (spared n) (run - edge) (opened n (left_in edge xs)) ≡ count_of (spared n) (opened n low)
+count-below xs first unused i from edge run n low rest b under none less is at =
+    let sp = spared n in
+    let e = seen-from xs first unused i edge b in
+    let l = e.low in
+    let past = count-past sp (opened n e.below) (opened n (left_in edge xs)) run
+    (omega (arith, sizes-opened n e.below, l, less)) in
+    let all = count-past sp (opened n low) (opened n rest) run (omega (arith, sizes-opened n low, at)) in
+    let zones : opened n e.below ++ opened n (left_in edge xs) ≡ opened n low ++ opened n rest =
+    sym (opened-append n e.below (left_in edge xs)) ∙ ap (opened n) (sym e.is ∙ is) ∙ opened-append n low rest in
+    let none_below = count-none n from 0 e.below
+    (at-left (Stays from) 0 e.below (left_in edge xs) (subst (NoneGoes from) e.is none)) (omega (arith, l, under)) in
+    let p : run - edge ≡ run - sizes (opened n e.below) = omega (arith, sizes-opened n e.below, l) in
+    let z : run - sizes (opened n low) ≡ 0 = omega (arith, sizes-opened n low, at) in
+    omega (
+      arith,
+      past,
+      all,
+      ap (count_within sp run) zones,
+      none_below,
+      ap (λ k. count_within sp k (opened n (left_in edge xs))) p,
+      ap (λ k. count_within sp k (opened n rest)) z,
+    )
+
+-- no zone has more blocks than bytes
+pub most-fits : (xs : List ℕ) (first unused : ℕ) → IsSound xs first unused → (n : Sparing)
+    → most_purges n (zone_in xs) ≤ GREATEST_ZONE
+most-fits xs first unused i n = omega (
+  arith,
+  count-few (spared n) (opened n (zone_in xs)),
+  sizes-opened n (zone_in xs),
+  zone-long xs first unused i,
+  i.lays.small,
+)
+
+-- a block begins at the run
+pub run-begins : (xs : List ℕ) (run : ℕ) (low rest : List Block) → zone_in xs ≡ low ++ rest → sizes low ≡ run
+    → Begins run 0 (zone_in xs)
+run-begins xs run low rest is at =
+    subst (Begins run 0) (sym is) (begins-left run 0 low rest
+    (subst (λ k. Begins k 0 low) (let e : 0 + sizes low ≡ run = omega (arith, at) in e) (begins-end 0 low)))
+
+-- the run of a block, as a walk from the bottom finds it
+pub block-run : (xs : List ℕ) (number p run : ℕ) (n : Sparing) (blocks : List Block) → blocks ≡ zone_in xs
+    → count (is_relocatable number) (zone_in xs) ≤ 1 → ((b : Block) → is_relocatable number b ≡ true → spared n b ≡ true)
+    → ((blocks : List Block) → opened n blocks ≡ blocks)
+    → FindsLowestRun (λ run. has (is_relocatable number) run && has_free 0 run) (purged 0 sparing.Nothing blocks) (Some run)
+    → IsRunOf number p n (zone_in xs) run
+block-run xs number p run n blocks e once keeps whole f = run-of number p n (zone_in xs) (whole (zone_in xs)) keeps run once
+    (subst (λ z. FindsLowestRun (λ run. has (is_relocatable number) run && has_free 0 run)
+    (purged 0 sparing.Nothing z) (Some run)) e f)
+
+-- what blocks that are known come to, below others
+module _ (xs : List ℕ) (first unused : ℕ) (i : IsSound xs first unused) where
+  pub stretch-from : (t : Tally) (from to : ℕ) → Begins from 0 (zone_in xs) → Begins to 0 (zone_in xs) → from ≤ to
+      → IsTally t (between from to from (left_in from xs)) → IsStretch t from to xs
+  stretch-from t from to b e l k = stretch-at xs first unused i t from to to b (tally-here xs first unused i t from to b k)
+      e l (omega arith) (inl refl)
+
+-- what blocks come to, by what those up to a place do
+module _ (xs : List ℕ) (from to : ℕ) (runs : Stretch) (s : IsStretch (tally.Known runs) from to xs) where
+  pub known-past : stretch_of (left_in from xs) ≡ join runs (stretch_of (left_in to xs))
+  known-past = ap stretch_of s.1.is ∙ stretch_of-append s.0 (left_in to xs)
+      ∙ ap (λ r. join r (stretch_of (left_in to xs))) s.2
+
+  pub known-fits : from + load runs ≤ to
+  known-fits = omega (arith, s.1.up, load-blocks s.0, ap load s.2)
+
+-- the run at the lower end, once it has ended
+pub ended-lowest : (s t : Stretch) → is_ended s ≡ true → prefix s ≡ prefix (join s t)
+ended-lowest (Whole a) t e = absurd (false≢true e)
+ended-lowest (Ended p i q) (Whole b) e = refl
+ended-lowest (Ended p i q) (Ended r j u) e = refl

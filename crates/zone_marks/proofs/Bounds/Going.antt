@@ -1,0 +1,298 @@
+-- A place below which no block may be purged, through each change of a zone.
+use Rattle.std.proofs.Common.{◌≡◌, ℕ, ◌+◌, ◌-◌, ◌≤◌, ◌<◌, zero, suc, Bool, true, false, not, ◌&&◌, List, [], ◌∷◌, ◌++◌}
+use Rattle.std.proofs.Common.{refl, sym, ap, ◌∙◌, subst, cond, arith, inl, inr, Some, append_assoc}
+use Rattle.std.proofs.Common.{None, length}
+use Rattle.std.proofs.lemmas.Bool.{cases_lt, false≢true}
+use Rattle.std.specs.Option.{option_map}
+use Rattle.block_store.specs.Block.{Block, Free, Nonrelocatable, Masters, Relocatable, size, sizes, free, free_of, free_sum}
+use Rattle.block_store.specs.Block.{is_mover, is_purgeable}
+use Rattle.block_store.specs.Find.{FindsLowest}
+use Rattle.block_store.specs.Room.{Spot, spot, count_of, lowest_purged, may_be_purged}
+use Rattle.block_store.specs.Run.{RunSpot, run_at, movers, settle}
+use Rattle.block_store.specs.Sparing.{most_purges, opened, purged, spared}
+use Rattle.block_store.specs.declared.sparing.Sparing.{Sparing}
+use Rattle.block_store.specs.declared.sparing.Seen.{Seen}
+use Rattle.block_store.specs.declared.sparing.Sparing.TheVariants as sparing
+use Rattle.block_store.specs.Inner.Packing.{Loose}
+use Rattle.block_store.proofs.Regroup.RunLists.{run_at-is, run_at-parts}
+use Rattle.block_store.proofs.Regroup.Packed.{settle-total}
+use Rattle.block_store.proofs.Purged.Looks.{next_from, next-is, next-stays, place_from, place-tidy}
+use Rattle.block_store.proofs.Purged.Purges.{sizes-lowest_purged}
+use Rattle.block_store.proofs.Zone.Apart.{apart-tidy}
+use Rattle.block_store.proofs.Zone.Spots.{finds}
+use Rattle.block_store.proofs.Zone.Tidy.{spot-is, total-tidy}
+use Rattle.block_store.proofs.Zone.Totals.{total-append}
+use Rattle.zone_bytes.specs.Decode.{zone_in}
+use Rattle.zone_bytes.specs.Lawful.{IsSound}
+use Rattle.zone_bytes.specs.Changes.{AtEach, Begins, Replaced}
+use Rattle.zone_marks.specs.Purgeable.{NoneGoes, Stays}
+use Rattle.zone_bytes.specs.Stepping.{left_in, Steps}
+use Rattle.zone_marks.proofs.Marks.Lowering.{Seen as Edge, seen-from}
+use Rattle.zone_marks.proofs.Searches.Pieces.{left-long}
+use Rattle.zone_marks.proofs.Marks.Passing.{Passed, at-all, at-append, at-left, at-map, at-right}
+use Rattle.zone_bytes.proofs.Runs.Runs.{run_at-splits}
+use Rattle.zone_bytes.proofs.Tiles.Tiling.{span-append}
+
+-- a lower place
+pub stays-lower : (bound lower x : ℕ) (blocks : List Block) → lower ≤ bound → AtEach (Stays bound) x blocks
+    → AtEach (Stays lower) x blocks
+stays-lower bound lower x blocks l = at-map (Stays bound) (Stays lower) x blocks (λ p b _ _ s q. s (omega (arith, l, q)))
+
+-- blocks at or above it
+pub stays-above : (bound x : ℕ) (blocks : List Block) → bound ≤ x → AtEach (Stays bound) x blocks
+stays-above bound x blocks l = at-all (Stays bound) x blocks (λ p b m q. absurd (omega (arith, l, m, q)))
+
+-- a block that ends below the place
+pub stays-here : (bound x : ℕ) (b : Block) → Stays bound x b → x + size b ≤ bound → is_purgeable b ≡ false
+stays-here bound x (Free n) s l = refl
+stays-here bound x (Nonrelocatable id content) s l = refl
+stays-here bound x Masters s l = refl
+stays-here bound x (Relocatable id flags content) s l = s (omega (arith, l))
+
+-- blocks that end below it
+pub stays-whole : (bound other x : ℕ) (blocks : List Block) → x + sizes blocks ≤ bound → AtEach (Stays bound) x blocks
+    → AtEach (Stays other) x blocks
+stays-whole bound other x blocks l = at-map (Stays bound) (Stays other) x blocks
+    (λ p b _ u s _. stays-here bound p b s (omega (arith, u, l)))
+
+-- a block became one of as many bytes, which may be purged if it might
+pub stays-same : (bound x : ℕ) (below above : List Block) (b c : Block) → size c ≡ size b → is_purgeable c ≡ is_purgeable b
+    → AtEach (Stays bound) x (below ++ b ∷ above) → AtEach (Stays bound) x (below ++ c ∷ above)
+stays-same bound x [] above b c s g e = (
+  λ l. g ∙ e.0 l,
+  subst (λ n. AtEach (Stays bound) (x + n) above) (sym s) e.1,
+)
+stays-same bound x (d ∷ below) above b c s g e = (e.0, stays-same bound (x + size d) below above b c s g e.1)
+
+-- some blocks became others
+module _ (lo hi : ℕ) (old new : List Block) (r : Replaced lo hi old new) (bound : ℕ) (n : NoneGoes bound old) where
+  old-parts : NoneGoes bound (r.below ++ (r.here ++ r.above))
+  old-parts = subst (NoneGoes bound) r.was n
+
+  pub stays-replaced : (lower : ℕ) → lower ≤ bound → AtEach (Stays lower) lo r.there → NoneGoes lower new
+  stays-replaced lower l there =
+      let w = r.low in
+      let s = r.span in
+      let e : 0 + sizes r.below ≡ lo = omega (arith, w) in
+      let f : lo + sizes r.here ≡ lo + sizes r.there = omega (arith, s) in
+      let over = at-right (Stays bound) 0 r.below (r.here ++ r.above) old-parts in
+      subst (NoneGoes lower) (sym r.is)
+      (at-append (Stays lower) 0 r.below (r.there ++ r.above)
+      (stays-lower bound lower 0 r.below l (at-left (Stays bound) 0 r.below (r.here ++ r.above) old-parts))
+      (subst (λ x. AtEach (Stays lower) x (r.there ++ r.above)) (sym e)
+      (at-append (Stays lower) lo r.there r.above there
+      (stays-lower bound lower (lo + sizes r.there) r.above l
+      (subst (λ x. AtEach (Stays bound) x r.above) f
+      (at-right (Stays bound) lo r.here r.above (subst (λ x. AtEach (Stays bound) x (r.here ++ r.above)) e over)))))))
+
+  -- above it
+  pub stays-under : (lower : ℕ) → lower ≤ bound → lower ≤ lo → NoneGoes lower new
+  stays-under lower l m = stays-replaced lower l (stays-above lower lo r.there m)
+
+-- movable blocks that move down past free bytes
+pub stays-packed : (bound free x y used : ℕ) (run : List Block) → Loose run → x ≤ y + used
+    → used + free_sum run ≤ free → AtEach (Stays bound) x run → AtEach (Stays (bound - free)) y (movers run)
+stays-packed bound free x y used [] l e f s = tt
+stays-packed bound free x y used (Free n ∷ run) l e f s =
+    stays-packed bound free (x + n) y (used + n) run l.1 (omega (arith, e)) (omega (arith, f)) s.1
+stays-packed bound free x y used (Nonrelocatable id content ∷ run) l e f s = absurd (let z : false ≡ true = l.0 in cc)
+stays-packed bound free x y used (Masters ∷ run) l e f s = absurd (let z : false ≡ true = l.0 in cc)
+stays-packed bound free x y used (Relocatable id flags content ∷ run) l e f s = cases (is_mover b) l.0
+    (λ q. s.0 (omega (arith, e, f, q)))
+    (stays-packed bound free (x + size b) (y + size b) used run l.1 (omega (arith, e)) (omega (arith, f)) s.1)
+  where
+    b : Block
+    b = Relocatable id flags content
+
+    cases : (t : Bool) → t ≡ true → Stays (bound - free) y b → AtEach (Stays (bound - free)) (y + size b) (movers run)
+        → AtEach (Stays (bound - free)) y (cond t (b ∷ movers run) (movers run))
+    cases true m here above = (here, above)
+    cases false m here above = absurd (false≢true m)
+
+stays-free : (bound x n : ℕ) → AtEach (Stays bound) x (free n)
+stays-free bound x zero = tt
+stays-free bound x (suc n) = (λ _. refl, tt)
+
+-- a run was packed
+pub stays-settled : (bound lower run all : ℕ) (zone : List Block) (r : RunSpot) → run_at run zone ≡ Some r
+    → all ≡ free_sum zone → NoneGoes bound zone → (bound ≤ run → lower ≡ bound) → (run < bound → lower ≡ bound - all)
+    → NoneGoes lower (r.below ++ (settle r.run ++ r.above))
+stays-settled bound lower run all zone r e f n same moved = elim (cases_lt run bound) [
+  | inl l ↦ subst (λ k. NoneGoes k (r.below ++ (settle r.run ++ r.above))) (sym (moved l)) (shifted l)
+  | inr l ↦ subst (λ k. NoneGoes k (r.below ++ (settle r.run ++ r.above))) (sym (same l))
+      (stays-under run (run + sizes r.run) zone (r.below ++ (settle r.run ++ r.above)) changed bound n bound (omega arith) l)
+]
+  where
+    loose : Loose r.run
+    loose = (run_at-parts run zone r e).loose
+
+    changed : Replaced run (run + sizes r.run) zone (r.below ++ (settle r.run ++ r.above))
+    changed = record {
+      below = r.below;
+      here = r.run;
+      there = settle r.run;
+      above = r.above;
+      was = sym (run_at-is run zone r e);
+      is = refl;
+      low = (run_at-splits run zone r e).bottom;
+      high = refl;
+      span = settle-total size (λ n m. refl) r.run loose;
+    }
+
+    few : free_sum r.run ≤ all
+    few =
+        let z = ap free_sum (sym (run_at-is run zone r e)) in
+        let a = total-append free_of r.below (r.run ++ r.above) in
+        let b = total-append free_of r.run r.above in
+        omega (arith, z, a, b, f)
+
+    there : AtEach (Stays bound) run r.run
+    there =
+        let w = (run_at-splits run zone r e).bottom in
+        let q : 0 + sizes r.below ≡ run = omega (arith, w) in
+        at-left (Stays bound) run r.run r.above (subst (λ x. AtEach (Stays bound) x (r.run ++ r.above)) q
+        (at-right (Stays bound) 0 r.below (r.run ++ r.above) (subst (NoneGoes bound) (sym (run_at-is run zone r e)) n)))
+
+    shifted : run < bound → NoneGoes (bound - all) (r.below ++ (settle r.run ++ r.above))
+    shifted l = stays-replaced run (run + sizes r.run) zone (r.below ++ (settle r.run ++ r.above)) changed bound n
+        (bound - all) (omega arith)
+        (at-append (Stays (bound - all)) run (movers r.run) (free (free_sum r.run))
+        (stays-packed bound all run run 0 r.run loose (omega arith) (omega (arith, few)) there)
+        (stays-free (bound - all) (run + sizes (movers r.run)) (free_sum r.run)))
+
+-- the walk over blocks of which none may be purged
+pub goes-not : (b : Block) → may_be_purged (spared sparing.Nothing) b ≡ false → is_purgeable b ≡ false
+goes-not b e = only (is_purgeable b) e
+  where
+    only : (t : Bool) → (t && true) ≡ false → t ≡ false
+    only true e = e
+    only false e = e
+
+module _ (xs : List ℕ) (from at : ℕ) (p : Passed xs from at (λ _ b. is_purgeable b ≡ false)) where
+  pub passed-stays : (block : Seen) (end : ℕ) (s : Steps at block end xs)
+      → may_be_purged (spared sparing.Nothing) s.here ≡ false → Passed xs from end (λ _ b. is_purgeable b ≡ false)
+  passed-stays block end s e =
+      let u = p.up in
+      let v = s.up in
+      let a = span-append p.done (s.here ∷ []) in
+      record {
+        done = p.done ++ s.here ∷ [];
+        is = p.is ∙ ap (λ k. p.done ++ k) s.is ∙ sym (append_assoc p.done (s.here ∷ []) (left_in end xs));
+        up = omega (arith, u, v, a);
+        each = at-append (λ _ b. is_purgeable b ≡ false) from p.done (s.here ∷ []) p.each (goes-not s.here e, tt);
+        way = s.way;
+      }
+
+  pub all-stay : AtEach (Stays at) from (left_in from xs)
+  all-stay =
+      let u = p.up in
+      subst (AtEach (Stays at) from) (sym p.is)
+      (at-append (Stays at) from p.done (left_in at xs)
+      (at-map (λ _ b. is_purgeable b ≡ false) (Stays at) from p.done (λ _ b _ _ r _. r) p.each)
+      (stays-above at (from + sizes p.done) (left_in at xs) (omega (arith, u))))
+
+-- blocks of which none may be purged, below others
+pub none-passes : (n : Sparing) (b : Block) → is_purgeable b ≡ false → may_be_purged (spared n) b ≡ false
+none-passes n b e = ap (λ t. t && not (spared n b)) e
+
+next-above : (n : Sparing) (k bound x : ℕ) (below above : List Block) → AtEach (Stays bound) x below
+    → x + sizes below ≤ bound
+    → next_from x (spared n) k (below ++ above) ≡ next_from (x + sizes below) (spared n) k above
+next-above n k bound x [] above s l = let e : x ≡ x + 0 = omega arith in ap (λ y. next_from y (spared n) k above) e
+next-above n k bound x (b ∷ below) above s l =
+    next-stays x (spared n) k b (below ++ above)
+    (none-passes n b (stays-here bound x b s.0 (omega (arith, l))))
+    ∙ next-above n k bound (x + size b) below above s.1 (omega (arith, l))
+    ∙ (let e : x + size b + sizes below ≡ x + (size b + sizes below) = omega arith in
+    ap (λ y. next_from y (spared n) k above) e)
+
+count-above : (n : Sparing) (bound x : ℕ) (below above : List Block) → AtEach (Stays bound) x below
+    → x + sizes below ≤ bound → count_of (spared n) (below ++ above) ≡ count_of (spared n) above
+count-above n bound x [] above s l = refl
+count-above n bound x (b ∷ below) above s l =
+    let t = ap (λ t. cond {A = ℕ} t 1 0) (none-passes n b (stays-here bound x b s.0 (omega (arith, l)))) in
+    let r = count-above n bound (x + size b) below above s.1 (omega (arith, l)) in
+    omega (arith, t, r)
+
+-- what a walk from an edge of a zone finds
+pub stays-from : (xs : List ℕ) (first unused : ℕ) (i : IsSound xs first unused) (from : ℕ) → Begins from 0 (zone_in xs)
+    → NoneGoes from (zone_in xs) → (bound : ℕ) → AtEach (Stays bound) from (left_in from xs)
+    → NoneGoes bound (zone_in xs)
+stays-from xs first unused i from b g bound s =
+    let e = seen-from xs first unused i from b in
+    let l = e.low in
+    let k : from ≡ 0 + sizes e.below = omega (arith, l) in
+    subst (NoneGoes bound) (sym e.is)
+    (at-append (Stays bound) 0 e.below (left_in from xs)
+    (stays-whole from bound 0 e.below (omega (arith, l))
+    (at-left (Stays from) 0 e.below (left_in from xs) (subst (NoneGoes from) e.is g)))
+    (subst (λ x. AtEach (Stays bound) x (left_in from xs)) k s))
+
+-- what a search that looks from the bottom of blocks found
+found-from : (edge : ℕ) (test : Block → Bool) (blocks : List Block) (place : ℕ)
+    → FindsLowest test blocks (Some place) → place_from edge test blocks ≡ Some (edge + place)
+found-from edge test blocks place f = ap (option_map (λ (s : Spot). edge + sizes s.below)) f.1
+    ∙ ap (λ n. Some (edge + n)) f.3
+
+-- it lies among them
+found-within : (test : Block → Bool) (blocks : List Block) (place : ℕ) → FindsLowest test blocks (Some place)
+    → place ≤ sizes blocks
+found-within test blocks place f =
+    let z = ap sizes (spot-is test blocks f.0 f.1) in
+    let a = span-append f.0.below (f.0.here ∷ f.0.above) in
+    let p = f.3 in
+    omega (arith, z, a, p)
+
+-- from an edge of a zone on
+module _ (xs : List ℕ) (first unused : ℕ) (i : IsSound xs first unused) (from : ℕ) (b : Begins from 0 (zone_in xs))
+    (g : NoneGoes from (zone_in xs)) (n : Sparing) (plain : (zone : List Block) → opened n zone ≡ zone) where
+  edge : Edge xs first unused i from
+  edge = seen-from xs first unused i from b
+
+  below-stays : AtEach (Stays from) 0 edge.below
+  below-stays = at-left (Stays from) 0 edge.below (left_in from xs) (subst (NoneGoes from) edge.is g)
+
+  pub count-from : most_purges n (left_in from xs) ≡ most_purges n (zone_in xs)
+  count-from =
+      let l = edge.low in
+      ap (count_of (spared n)) (plain (left_in from xs))
+      ∙ sym (ap (count_of (spared n)) (plain (zone_in xs) ∙ edge.is)
+      ∙ count-above n from 0 edge.below (left_in from xs) below-stays (omega (arith, l)))
+
+  -- the place of the block to be purged next
+  module _ (k : ℕ) where
+    abbrev pub goes : Block → Bool
+    goes = may_be_purged (spared n)
+
+    next-is-there : option_map (λ (s : Spot). sizes s.below) (spot goes (purged k n (zone_in xs)))
+        ≡ place_from from goes (purged k n (left_in from xs))
+    next-is-there =
+        let l = edge.low in
+        let e : 0 + sizes edge.below ≡ from = omega (arith, l) in
+        sym (next-is n k (zone_in xs))
+        ∙ ap (next_from 0 (spared n) k) (plain (zone_in xs) ∙ edge.is)
+        ∙ next-above n k from 0 edge.below (left_in from xs) below-stays (omega (arith, l))
+        ∙ ap (λ y. next_from y (spared n) k (left_in from xs)) e
+        ∙ ap (λ z. next_from from (spared n) k z) (sym (plain (left_in from xs)))
+        ∙ sym (place-tidy from goes (λ m. refl) (lowest_purged k (spared n) (opened n (left_in from xs))))
+
+    pub next-none : FindsLowest goes (purged k n (left_in from xs)) None → FindsLowest goes (purged k n (zone_in xs)) None
+    next-none f = finds goes (purged k n (zone_in xs)) None
+        (apart-tidy (lowest_purged k (spared n) (opened n (zone_in xs))))
+        (sym (next-is-there ∙ ap (option_map (λ (s : Spot). from + sizes s.below)) f))
+
+    pub next-some : (place : ℕ) → FindsLowest goes (purged k n (left_in from xs)) (Some place)
+        → FindsLowest goes (purged k n (zone_in xs)) (Some (from + place))
+    next-some place f = finds goes (purged k n (zone_in xs)) (Some (from + place))
+        (apart-tidy (lowest_purged k (spared n) (opened n (zone_in xs))))
+        (sym (next-is-there ∙ found-from from goes (purged k n (left_in from xs)) place f))
+
+    pub next-fits : (place : ℕ) → FindsLowest goes (purged k n (left_in from xs)) (Some place)
+        → from + place ≤ length xs
+    next-fits place f =
+        let w = found-within goes (purged k n (left_in from xs)) place f in
+        let t = total-tidy size (λ n m. refl) (lowest_purged k (spared n) (opened n (left_in from xs))) in
+        let s = sizes-lowest_purged k (spared n) (opened n (left_in from xs)) in
+        let o = ap sizes (plain (left_in from xs)) in
+        let l = left-long xs first unused i from b in
+        omega (arith, w, t, s, o, l)

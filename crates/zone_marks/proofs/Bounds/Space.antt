@@ -1,0 +1,288 @@
+-- The largest Free block of a zone, as it stands and after purges.
+use Rattle.std.proofs.Common.{◌≡◌, ◌⊎◌, ℕ, ◌+◌, ◌≤◌, ◌<◌, zero, suc, inl, inr, Bool, true, false, max, cond, List}
+use Rattle.std.proofs.Common.{[], ◌∷◌, ◌++◌, refl, sym, ap, ◌∙◌, subst, arith}
+use Rattle.std.proofs.lemmas.Bool.{cond-false}
+use Rattle.block_store.specs.Block.{Block, Free, Nonrelocatable, Masters, Relocatable, add, free_of}
+use Rattle.block_store.specs.Block.{is_room, size, sizes, tidy}
+use Rattle.block_store.specs.Compact.{largest_free}
+use Rattle.block_store.specs.Room.{lowest_purged, may_be_purged}
+use Rattle.block_store.specs.Sparing.{purged, spared}
+use Rattle.block_store.specs.declared.sparing.Sparing.TheVariants as sparing
+use Rattle.block_store.proofs.Purged.Looks.{top_free}
+use Rattle.block_store.proofs.Purged.PurgedSums.{largest-purged, largest_stretch}
+use Rattle.block_store.proofs.Zone.Apart.{Apart, apart-size, apart-tidied, two}
+use Rattle.zone_bytes.specs.Decode.{zone_in}
+use Rattle.zone_bytes.specs.Lawful.{IsSound}
+use Rattle.zone_bytes.specs.Changes.{AtEach, Begins}
+use Rattle.zone_marks.specs.Marks.{NoRoom, Spans}
+use Rattle.zone_marks.specs.Purgeable.{MayStart, NoneGoes, Stays}
+use Rattle.zone_bytes.specs.PurgeableBytes.{purgeable_of, purgeable_sum}
+use Rattle.zone_bytes.specs.Stepping.{left_in, IsOnWay}
+use Rattle.zone_bytes.specs.Table.{slot_in}
+use Rattle.zone_marks.proofs.Bounds.Going.{none-passes, stays-here}
+use Rattle.zone_bytes.proofs.Bounds.Short.{one-gives}
+use Rattle.zone_bytes.proofs.Laws.Lawful.{sizes-length}
+use Rattle.zone_marks.proofs.Marks.Lowering.{seen-from}
+use Rattle.zone_marks.proofs.Marks.Passing.{Passed, at-left, at-map, at-right, passed-more, passed-start, passed-step}
+use Rattle.zone_marks.proofs.Marks.Spanned.{no-room}
+use Rattle.zone_bytes.proofs.Places.AtPlace.{left-zone}
+
+abbrev spares : Block → Bool
+spares = spared sparing.Nothing
+
+-- no room for so many bytes is none for more
+room-more : (p q : ℕ) (b : Block) → p ≤ q → is_room p b ≡ false → is_room q b ≡ false
+room-more p q (Free n) l e = grind (arith, l, e)
+room-more p q (Nonrelocatable id content) l e = refl
+room-more p q Masters l e = refl
+room-more p q (Relocatable id flags content) l e = refl
+
+room-less : (m : ℕ) (b : Block) → is_room (m + 1) b ≡ false → free_of b ≤ m
+room-less m (Free n) e = grind (arith, e)
+room-less m (Nonrelocatable id content) e = omega arith
+room-less m Masters e = omega arith
+room-less m (Relocatable id flags content) e = omega arith
+
+pub no-more-room : (p q lo hi x : ℕ) (blocks : List Block) → p ≤ q → AtEach (NoRoom p lo hi) x blocks
+    → AtEach (NoRoom q lo hi) x blocks
+no-more-room p q lo hi x blocks l = at-map (NoRoom p lo hi) (NoRoom q lo hi) x blocks
+    (λ _ b _ _ r m n. room-more p q b l (r m n))
+
+-- where no room is for more, none is larger
+largest-within : (m hi x : ℕ) (blocks : List Block) → x + sizes blocks < hi → AtEach (NoRoom (m + 1) 0 hi) x blocks
+    → largest_free blocks ≤ m
+largest-within m hi x [] l e = omega arith
+largest-within m hi x (b ∷ blocks) l e =
+    let f = room-less m b (e.0 (omega arith) (omega (arith, l))) in
+    let r = largest-within m hi (x + size b) blocks (omega (arith, l)) e.1 in
+    omega (arith, f, r)
+
+-- the largest of some blocks above others is no larger than that of all
+largest-above : (below above : List Block) → largest_free above ≤ largest_free (below ++ above)
+largest-above [] above = omega arith
+largest-above (b ∷ below) above = let r = largest-above below above in omega (arith, r)
+
+largest-below : (below above : List Block) → largest_free below ≤ largest_free (below ++ above)
+largest-below [] above = omega arith
+largest-below (b ∷ below) above = let r = largest-below below above in omega (arith, r)
+
+-- a walk that keeps the size of the largest Free block that it passed
+pub record Growing (xs : List ℕ) (from at most largest : ℕ) : Type 0 where
+  pub passed : Passed xs from at (λ _ b. is_room (largest + 1) b ≡ false)
+  pub no_less : most ≤ largest
+  pub reached : max largest (largest_free (left_in at xs)) ≤ max most (largest_free (left_in from xs))
+
+module _ (xs : List ℕ) (from most : ℕ) where
+  pub growing-start : IsOnWay from xs → Growing xs from from most most
+  growing-start w = record {
+    passed = passed-start xs from (λ _ b. is_room (most + 1) b ≡ false) w;
+    no_less = omega arith;
+    reached = omega arith;
+  }
+
+  pub growing-step : (at end free largest next : ℕ) (barrier : Bool) → Growing xs from at most largest
+      → Spans at end free barrier xs → largest ≤ next → free ≤ next → (next ≡ largest) ⊎ (next ≡ free)
+      → Growing xs from end most next
+  growing-step at end free largest next barrier g s l m o =
+      let n = g.no_less in
+      let r = g.reached in
+      let z = ap largest_free s.is in
+      let b = s.bytes in
+      record {
+        passed = passed-step xs from (λ _ c. is_room (next + 1) c ≡ false) at end free barrier
+            (passed-more xs from at (λ _ c. is_room (largest + 1) c ≡ false) (λ _ c. is_room (next + 1) c ≡ false)
+            (λ _ c. room-more (largest + 1) (next + 1) c (omega (arith, l))) g.passed) s
+            (λ c e k. no-room (next + 1) c k (λ _ q. omega (arith, e, m, q)));
+        no_less = omega (arith, n, l);
+        reached = elim o [
+          | inl e ↦ omega (arith, r, z, b, m, e)
+          | inr e ↦ omega (arith, r, z, b, l, e)
+        ];
+      }
+
+module _ (xs : List ℕ) (first unused : ℕ) (i : IsSound xs first unused) where
+  pub zone-largest : (m : ℕ) → AtEach (NoRoom (m + 1) 0 4294967295) 0 (zone_in xs) → m ≤ largest_free (zone_in xs)
+      → m ≡ largest_free (zone_in xs)
+  zone-largest m e l =
+      let z = sizes-length xs (zone_in xs) (slot_in xs) i.unused i.lays in
+      let s = i.lays.small in
+      let w = largest-within m 4294967295 0 (zone_in xs) (omega (arith, z, s)) e in
+      omega (arith, w, l)
+
+  pub left-largest : (p : ℕ) → Begins p 0 (zone_in xs) → largest_free (left_in p xs) ≤ largest_free (zone_in xs)
+  left-largest p b =
+      let s = seen-from xs first unused i p b in
+      let z = ap largest_free s.is in
+      let l = largest-above s.below (left_in p xs) in
+      omega (arith, z, l)
+
+-- a block that stays
+purged-stays : (k : ℕ) (sp : Block → Bool) (b : Block) (above : List Block) → may_be_purged sp b ≡ false
+    → lowest_purged k sp (b ∷ above) ≡ b ∷ lowest_purged k sp above
+purged-stays zero sp b above e = refl
+purged-stays (suc k) sp b above e = cond-false (may_be_purged sp b) _ _ e
+
+-- blocks that stay, below others
+purged-above : (k bound x : ℕ) (below above : List Block) → AtEach (Stays bound) x below → x + sizes below ≤ bound
+    → lowest_purged k spares (below ++ above) ≡ below ++ lowest_purged k spares above
+purged-above k bound x [] above s l = refl
+purged-above k bound x (b ∷ below) above s l =
+    purged-stays k spares b (below ++ above) (none-passes sparing.Nothing b (stays-here bound x b s.0 (omega (arith, l))))
+    ∙ ap (λ q. b ∷ q) (purged-above k bound (x + size b) below above s.1 (omega (arith, l)))
+
+-- where nothing would be given, nothing is purged
+none-given : (sp : Block → Bool) (b : Block) → purgeable_of b ≤ 0 → may_be_purged sp b ≡ false
+none-given sp b l = cases (may_be_purged sp b) (one-gives sp b)
+  where
+    cases : (t : Bool) → cond {A = ℕ} t 1 0 ≤ purgeable_of b → t ≡ false
+    cases true g = absurd (omega (arith, g, l))
+    cases false g = refl
+
+none-purged : (k : ℕ) (sp : Block → Bool) (bs : List Block) → purgeable_sum bs ≤ 0 → lowest_purged k sp bs ≡ bs
+none-purged zero sp [] l = refl
+none-purged (suc k) sp [] l = refl
+none-purged k sp (b ∷ bs) l =
+    purged-stays k sp b bs (none-given sp b (omega (arith, l))) ∙ ap (λ q. b ∷ q) (none-purged k sp bs (omega (arith, l)))
+
+pub stands-still : (k : ℕ) (zone : List Block) → tidy zone ≡ zone → purgeable_sum zone ≤ 0
+    → purged k sparing.Nothing zone ≡ zone
+stands-still k zone t l = ap tidy (none-purged k spares zone l) ∙ t
+
+-- the largest stretch of Free blocks, by purges
+stretch-rises : (f g : ℕ) (bs : List Block) → f ≤ g → largest_stretch f bs ≤ largest_stretch g bs
+stretch-rises f g [] l = l
+stretch-rises f g (Free n ∷ bs) l = stretch-rises (f + n) (g + n) bs (omega (arith, l))
+stretch-rises f g (Nonrelocatable id content ∷ bs) l = omega (arith, l)
+stretch-rises f g (Masters ∷ bs) l = omega (arith, l)
+stretch-rises f g (Relocatable id flags content ∷ bs) l = omega (arith, l)
+
+stretch-above : (f : ℕ) (below above : List Block) → largest_stretch 0 above ≤ largest_stretch f (below ++ above)
+stretch-above f [] above = stretch-rises 0 f above (omega arith)
+stretch-above f (Free n ∷ below) above = stretch-above (f + n) below above
+stretch-above f (Nonrelocatable id content ∷ below) above = let r = stretch-above 0 below above in omega (arith, r)
+stretch-above f (Masters ∷ below) above = let r = stretch-above 0 below above in omega (arith, r)
+stretch-above f (Relocatable id flags content ∷ below) above = let r = stretch-above 0 below above in omega (arith, r)
+
+purged-rises : (f k : ℕ) (sp : Block → Bool) (bs : List Block)
+    → max f (largest_free bs) ≤ largest_stretch f (lowest_purged k sp bs)
+purged-rises f zero sp [] = omega arith
+purged-rises f (suc k) sp [] = omega arith
+purged-rises f k sp (Free n ∷ bs) =
+    let r = purged-rises (f + n) k sp bs in
+    let e = ap (largest_stretch f) (purged-stays k sp (Free n) bs refl) in
+    omega (arith, r, e)
+purged-rises f k sp (Nonrelocatable id content ∷ bs) =
+    let r = purged-rises 0 k sp bs in
+    let e = ap (largest_stretch f) (purged-stays k sp (Nonrelocatable id content) bs refl) in
+    omega (arith, r, e)
+purged-rises f k sp (Masters ∷ bs) =
+    let r = purged-rises 0 k sp bs in
+    let e = ap (largest_stretch f) (purged-stays k sp Masters bs refl) in
+    omega (arith, r, e)
+purged-rises f zero sp (Relocatable id flags content ∷ bs) = let r = purged-rises 0 0 sp bs in omega (arith, r)
+purged-rises f (suc k) sp (Relocatable id flags content ∷ bs) =
+    cases (may_be_purged sp b) (purged-rises (f + size b) k sp bs) (purged-rises 0 (suc k) sp bs)
+  where
+    b : Block
+    b = Relocatable id flags content
+
+    cases : (t : Bool) → max (f + size b) (largest_free bs) ≤ largest_stretch (f + size b) (lowest_purged k sp bs)
+        → max 0 (largest_free bs) ≤ largest_stretch 0 (lowest_purged (suc k) sp bs) → max f (max 0 (largest_free bs))
+        ≤ largest_stretch f (cond t (Free (size b) ∷ lowest_purged k sp bs) (b ∷ lowest_purged (suc k) sp bs))
+    cases true e g = omega (arith, e)
+    cases false e g = omega (arith, g)
+
+-- two lists end, or begin with one and the same block
+abbrev SameFirst : List Block → List Block → Type 0
+SameFirst [] [] = Unit {0}
+SameFirst [] (c ∷ new) = ⊥
+SameFirst (b ∷ old) [] = ⊥
+SameFirst (b ∷ old) (c ∷ new) = b ≡ c
+
+-- a stretch ends below a block that was there, unless it begins with the block
+stretch-ends : (f : ℕ) (old new : List Block) → Apart old → (f ≡ 0) ⊎ (top_free old ≡ 0) → SameFirst old new
+    → largest_stretch f new ≤ max f (largest_stretch 0 new)
+stretch-ends f [] [] a e s = omega arith
+stretch-ends f [] (c ∷ new) a e s = absurd s
+stretch-ends f (b ∷ old) [] a e s = absurd s
+stretch-ends f (b ∷ old) (c ∷ new) a (inl e) s =
+    let z = ap (λ g. largest_stretch g (c ∷ new)) e in omega (arith, z)
+stretch-ends f (b ∷ old) (Free n ∷ new) a (inr e) s =
+    let z : 0 < size b = apart-size b old a.0 in
+    let k = ap size s in
+    let t = ap (λ q. top_free (q ∷ old)) s in
+    absurd (omega (arith, z, k, t, e))
+stretch-ends f (b ∷ old) (Nonrelocatable id content ∷ new) a (inr e) s = omega arith
+stretch-ends f (b ∷ old) (Masters ∷ new) a (inr e) s = omega arith
+stretch-ends f (b ∷ old) (Relocatable id flags content ∷ new) a (inr e) s = omega arith
+
+top-apart : (n : ℕ) (bs : List Block) → add (Free n) bs ≡ Free n ∷ bs → top_free bs ≡ 0
+top-apart n [] e = refl
+top-apart zero (Free m ∷ bs) e = absurd (let z : 0 < 0 = apart-size (Free zero) (Free m ∷ bs) e in omega (arith, z))
+top-apart (suc n) (Free m ∷ bs) e = absurd (two (Free (suc n + m)) (Free (suc n)) (Free m) bs e)
+top-apart n (Nonrelocatable id content ∷ bs) e = refl
+top-apart n (Masters ∷ bs) e = refl
+top-apart n (Relocatable id flags content ∷ bs) e = refl
+
+stretch-parts : (f : ℕ) (below old new : List Block) → Apart (below ++ old) → (f ≡ 0) ⊎ (top_free (below ++ old) ≡ 0)
+    → SameFirst old new → largest_stretch f (below ++ new) ≤ max (max f (largest_free below)) (largest_stretch 0 new)
+stretch-parts f [] old new a e s = let r = stretch-ends f old new a e s in omega (arith, r)
+stretch-parts f (Free n ∷ below) old new a (inl e) s =
+    let r = stretch-parts (f + n) below old new a.1 (inr (top-apart n (below ++ old) a.0)) s in omega (arith, r, e)
+stretch-parts f (Free n ∷ below) old new a (inr e) s =
+    let z : 0 < n = apart-size (Free n) (below ++ old) a.0 in absurd (omega (arith, z, e))
+stretch-parts f (Nonrelocatable id content ∷ below) old new a e s =
+    let r = stretch-parts 0 below old new a.1 (inl refl) s in omega (arith, r)
+stretch-parts f (Masters ∷ below) old new a e s =
+    let r = stretch-parts 0 below old new a.1 (inl refl) s in omega (arith, r)
+stretch-parts f (Relocatable id flags content ∷ below) old new a e s =
+    let r = stretch-parts 0 below old new a.1 (inl refl) s in omega (arith, r)
+
+-- where the first block stays, the lists begin alike
+same-first : (k bound x : ℕ) (bs : List Block) → x < bound → AtEach (Stays bound) x bs
+    → SameFirst bs (lowest_purged k spares bs)
+same-first zero bound x [] l s = tt
+same-first (suc k) bound x [] l s = tt
+same-first k bound x (b ∷ bs) l s =
+    subst (SameFirst (b ∷ bs)) (sym (purged-stays k spares b bs (none-passes sparing.Nothing b (s.0 l)))) refl
+
+-- the largest Free block from a place on, and of the zone as it stands, after purges from there on
+module _ (xs : List ℕ) (first unused : ℕ) (i : IsSound xs first unused) (k from : ℕ) (m : MayStart from (zone_in xs)) where
+  after-is : (zone : List Block) → largest_free (purged k sparing.Nothing zone)
+      ≡ largest_stretch 0 (lowest_purged k spares zone)
+  after-is zone = largest-purged sparing.Nothing k zone
+
+  rises : largest_free (zone_in xs) ≤ largest_free (purged k sparing.Nothing (zone_in xs))
+  rises =
+      let r = purged-rises 0 k spares (zone_in xs) in
+      let a = after-is (zone_in xs) in
+      omega (arith, r, a)
+
+  parted : from < m.bound → largest_free (purged k sparing.Nothing (zone_in xs))
+      ≡ max (largest_free (zone_in xs)) (largest_free (purged k sparing.Nothing (left_in from xs)))
+  parted l =
+      let s = seen-from xs first unused i from m.begins in
+      let rest = left_in from xs in
+      let w = s.low in
+      let stays = subst (NoneGoes m.bound) s.is m.none in
+      let e = after-is (zone_in xs) ∙ ap (λ z. largest_stretch 0 (lowest_purged k spares z)) s.is
+      ∙ ap (largest_stretch 0) (purged-above k m.bound 0 s.below rest
+      (at-left (Stays m.bound) 0 s.below rest stays) (omega (arith, w, l))) in
+      let up = stretch-parts 0 s.below rest (lowest_purged k spares rest)
+      (subst Apart s.is (apart-tidied (zone_in xs) i.tidied)) (inl refl)
+      (same-first k m.bound (0 + sizes s.below) rest (omega (arith, w, l))
+      (at-right (Stays m.bound) 0 s.below rest stays)) in
+      let down = stretch-above 0 s.below (lowest_purged k spares rest) in
+      let r = after-is rest in
+      let b = largest-below s.below rest in
+      let z = ap largest_free s.is in
+      omega (arith, e, up, down, r, b, z, rises)
+
+  pub largest-from : largest_free (purged k sparing.Nothing (zone_in xs))
+      ≡ max (largest_free (zone_in xs)) (largest_free (purged k sparing.Nothing (left_in from xs)))
+  largest-from = elim m.low [
+    | inl l ↦ parted l
+    | inr e ↦
+        let z = ap (λ q. largest_free (purged k sparing.Nothing q)) (ap (λ p. left_in p xs) e ∙ left-zone xs) in
+        omega (arith, rises, z)
+  ]

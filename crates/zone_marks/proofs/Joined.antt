@@ -1,0 +1,3 @@
+pub mod Released
+pub mod Passing
+pub mod PurgeStarts

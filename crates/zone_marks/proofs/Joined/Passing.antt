@@ -1,0 +1,318 @@
+-- One step of a pass that empties blocks, and its end.
+use Rattle.std.proofs.Common.{◌≡◌, ℕ, Bool, false, cond, ◌==◌, ◌+◌, ◌-◌, ◌%◌, ◌<◌, ◌≤◌, zero, suc, Some}
+use Rattle.std.proofs.Common.{None, List, [], ◌∷◌, ◌++◌, length, sym, refl, ap, ◌∙◌, subst, arith, append_assoc}
+use Rattle.std.proofs.lemmas.List.{append-nil}
+use Rattle.std.proofs.lemmas.Option.{none-some}
+use Rattle.heap_words.specs.Words.{word_at}
+use Rattle.block_store.specs.Block.{Block, Free, Nonrelocatable, Masters, Relocatable, size, sizes, free, free_of, free_sum}
+use Rattle.block_store.specs.Block.{tidy, is_masters}
+use Rattle.block_store.specs.Room.{lowest_purged}
+use Rattle.block_store.specs.Seen.{seen}
+use Rattle.block_store.specs.Sparing.{spared, opened}
+use Rattle.block_store.specs.Inner.Stretch.{is_free, opened_block}
+use Rattle.block_store.specs.Inner.Purging.{left_past}
+use Rattle.block_store.specs.Inner.Joining.{Closed}
+use Rattle.block_store.specs.declared.sparing.Sparing.{Sparing}
+use Rattle.block_store.specs.declared.sparing.Sparing.TheVariants as sparing
+use Rattle.block_store.proofs.Zone.Totals.{total-append}
+use Rattle.block_store.proofs.Zone.Apart.{Apart, apart-tidied, tidy-apart}
+use Rattle.block_store.proofs.Zone.Joining.{joined-below, closed-apart, closed-tidy, closed-free}
+use Rattle.block_store.proofs.Purged.Purges.{lowest_purged-free, lowest_purged-kept, kept-not_free, opened-same}
+use Rattle.block_store.proofs.Purged.Stretches.{opened-more, size-opened}
+use Rattle.zone_bytes.specs.Layout.{kind}
+use Rattle.zone_bytes.specs.Stepping.{header_seen}
+use Rattle.zone_bytes.specs.Table.{Lays}
+use Rattle.zone_bytes.specs.Joining.{Freeing, MayFree}
+use Rattle.zone_bytes.specs.Changes.{Replaced}
+use Rattle.zone_marks.specs.Purging.{Purge, Purging, Purged}
+use Rattle.zone_bytes.proofs.Tiles.Tiling.{span-append}
+use Rattle.zone_bytes.proofs.Tiles.Keeping.{span-free}
+use Rattle.zone_bytes.proofs.Places.Stepped.{stepped}
+use Rattle.zone_bytes.proofs.Joined.Ways.{way, left, inside, Read, read}
+use Rattle.zone_bytes.proofs.Joined.Handles.{free-fits}
+
+-- what is opened of a Masters block
+past-none : (sp : Block → Bool) (k : ℕ) → left_past sp k Masters ≡ None
+past-none sp zero = refl
+past-none sp (suc k) = refl
+
+opened-masters : (n : Sparing) → opened_block n Masters ≡ Masters
+opened-masters sparing.Nothing = refl
+opened-masters (sparing.One slot) = refl
+opened-masters (sparing.Two slot other) = refl
+opened-masters (sparing.Freed slot) = refl
+
+-- a block that becomes Free isn't a Masters block
+past-plain : (n : Sparing) (k l : ℕ) (b : Block) → left_past (spared n) k (opened_block n b) ≡ Some l
+    → is_masters b ≡ false
+past-plain n k l (Free m) e = refl
+past-plain n k l (Nonrelocatable id content) e = refl
+past-plain n k l Masters e =
+    absurd (none-some l (sym (ap (left_past (spared n) k) (opened-masters n) ∙ past-none (spared n) k) ∙ e))
+past-plain n k l (Relocatable slot flags content) e = refl
+
+opened-none : (n : Sparing) → opened n [] ≡ []
+opened-none sparing.Nothing = refl
+opened-none (sparing.One slot) = refl
+opened-none (sparing.Two slot other) = refl
+opened-none (sparing.Freed slot) = refl
+
+lowest_purged-none : (k : ℕ) (sp : Block → Bool) → lowest_purged k sp [] ≡ []
+lowest_purged-none zero sp = refl
+lowest_purged-none (suc k) sp = refl
+
+-- the Free bytes of Free bytes
+pub sum-free : (n : ℕ) → free_sum (free n) ≡ n
+sum-free zero = refl
+sum-free (suc n) = omega arith
+
+-- the bytes that become Free with a block
+more-free : (b : Block) (m : ℕ) → m ≡ cond (kind b == 0) 0 (size b) → free_of b + m ≡ size b
+more-free (Free n) m e = let f : m ≡ 0 = e in omega (arith, f)
+more-free (Nonrelocatable id content) m e = let f : m ≡ size (Nonrelocatable id content) = e in omega (arith, f)
+more-free Masters m e = let f : m ≡ 272 = e in omega (arith, f)
+more-free (Relocatable slot flags content) m e = let f : m ≡ size (Relocatable slot flags content) = e in
+    omega (arith, f)
+
+module _ (p : Purge) (n : Sparing) (start at k freed : ℕ) (xs : List ℕ) (u : Purging p n start at k freed xs) where
+  abbrev gap : List Block
+  gap = free (at - start)
+
+  here-laid : Lays xs ((u.done ++ gap) ++ u.rest) p.slots p.unused
+  here-laid = subst (λ q. Lays xs q p.slots p.unused) (sym (append_assoc u.done gap u.rest)) u.lays
+
+  here-low : sizes (u.done ++ gap) ≡ at
+  here-low =
+      let a = span-append u.done gap in
+      let b = span-free (at - start) in
+      let l = u.low in
+      let o = u.up in
+      omega (arith, a, b, l, o)
+
+  pub freed-fits : freed ≤ 134217728
+  freed-fits =
+      let f = free-fits xs (u.done ++ (gap ++ u.rest)) p.slots p.unused u.lays in
+      let c = u.count in
+      omega (arith, f, c)
+
+  -- the blocks up to there became others
+  replaced-as : (zone : List Block) → zone ≡ u.done ++ (gap ++ u.rest) → Replaced p.from at p.zone zone
+  replaced-as zone e = record {
+    below = u.below;
+    here = u.was;
+    there = u.now ++ gap;
+    above = u.rest;
+    was = u.zone_is;
+    is = e ∙ ap (λ d. d ++ (gap ++ u.rest)) u.done_is ∙ append_assoc u.below u.now (gap ++ u.rest)
+        ∙ ap (λ q. u.below ++ q) (sym (append_assoc u.now gap u.rest));
+    low = u.base;
+    high = u.span;
+    span =
+        (let a = span-append u.now gap in
+        let b = span-free (at - start) in
+        let d = ap sizes u.done_is in
+        let e = span-append u.below u.now in
+        let l = u.low in
+        let o = u.up in
+        let f = u.base in
+        let g = u.span in
+        omega (arith, a, b, d, e, l, o, f, g));
+  }
+
+  -- no purges are left, and no block counts as Free
+  pub stopped : k ≡ 0 → at ≤ start → ((blocks : List Block) → opened n blocks ≡ blocks) → Purged p at freed xs
+  stopped z l none =
+      let e : gap ≡ [] = (let f : at - start ≡ 0 = omega (arith, l) in ap free f) in
+      let a = closed-apart u.done u.rest (apart-tidied u.done u.tidied) u.closed (apart-tidied u.rest u.apart) in
+      let whole : u.done ++ (gap ++ u.rest) ≡ u.done ++ u.rest = ap (λ q. u.done ++ (q ++ u.rest)) e in
+      let left : lowest_purged k (spared n) (opened n u.rest) ≡ u.rest =
+      ap (λ j. lowest_purged j (spared n) (opened n u.rest)) z ∙ none u.rest in
+      let is : tidy p.goal ≡ u.done ++ (gap ++ u.rest) =
+      sym u.will ∙ ap (λ q. tidy (u.done ++ (gap ++ q))) left ∙ ap tidy whole ∙ tidy-apart (u.done ++ u.rest) a
+      ∙ sym whole in
+      record {
+        lays = subst (λ q. Lays xs q p.slots p.unused) (sym is) u.lays;
+        count = ap free_sum is ∙ u.count;
+        replaced = replaced-as (tidy p.goal) is;
+      }
+
+  -- the next block
+  pub record Next : Type 0 where
+    pub here : Block
+    pub above : List Block
+    pub is : u.rest ≡ here ∷ above
+    pub tells : Read xs here at
+    pub told : (m t : ℕ) → m + t ≡ word_at at xs → m % 16 ≡ 0 → t ≤ 3
+        → header_seen t m (word_at (at + 4) xs) (word_at (at + 8) xs) (word_at (at + 12) xs) ≡ seen here
+
+  pub next : at < length xs → Next
+  next l = of u.rest refl
+    where
+      of : (rest : List Block) → u.rest ≡ rest → Next
+      of [] e = let i = inside xs (u.done ++ gap) u.rest p.slots p.unused here-laid at here-low in let z =
+          ap sizes e in absurd (omega (arith, i, z, l))
+      of (b ∷ above) e =
+          let laid = subst (λ q. Lays xs ((u.done ++ gap) ++ q) p.slots p.unused) e here-laid in
+          record {
+            here = b;
+            above = above;
+            is = e;
+            tells = read xs (u.done ++ gap) b above p.slots p.unused laid at here-low;
+            told = λ m t f g h.
+                let s = stepped at xs (way xs (u.done ++ gap) (b ∷ above) p.slots p.unused laid at here-low) l m t f
+                g h in
+                let q = sym s.is ∙ left xs (u.done ++ gap) (b ∷ above) p.slots p.unused laid at here-low in
+                let same : s.here ≡ b = cc in
+                s.told ∙ ap seen same;
+          }
+
+  -- no block is left
+  pub purged : length xs ≤ at → Purged p at freed xs
+  purged l = of u.rest refl
+    where
+      of : (rest : List Block) → u.rest ≡ rest → Purged p at freed xs
+      of [] e =
+          let w : tidy (u.done ++ (gap ++ [])) ≡ tidy p.goal =
+          sym (ap (λ q. tidy (u.done ++ (gap ++ q))) (ap (λ q. lowest_purged k (spared n) (opened n q)) e
+          ∙ ap (lowest_purged k (spared n)) (opened-none n) ∙ lowest_purged-none k (spared n))) ∙ u.will in
+          let z : u.done ++ (gap ++ u.rest) ≡ tidy p.goal =
+          ap (λ q. u.done ++ (gap ++ q)) e ∙ ap (λ q. u.done ++ q) (append-nil gap)
+          ∙ sym (closed-free u.done (at - start) u.tidied u.closed)
+          ∙ ap (λ q. tidy (u.done ++ q)) (sym (append-nil gap)) ∙ w in
+          record {
+            lays = subst (λ q. Lays xs q p.slots p.unused) z u.lays;
+            count = sym (ap free_sum z) ∙ u.count;
+            replaced = replaced-as (tidy p.goal) (sym z);
+          }
+      of (b ∷ above) e =
+          let laid = subst (λ q. Lays xs ((u.done ++ gap) ++ q) p.slots p.unused) e here-laid in
+          let r = read xs (u.done ++ gap) b above p.slots p.unused laid at here-low in
+          let i = r.inside in
+          let s = r.some in
+          absurd (omega (arith, i, s, l))
+
+  module _ (v : Next) where
+    apart-above : tidy v.above ≡ v.above
+    apart-above = tidy-apart v.above (subst Apart v.is (apart-tidied u.rest u.apart)).1
+
+    zone-next : p.zone ≡ u.below ++ ((u.was ++ v.here ∷ []) ++ v.above)
+    zone-next = u.zone_is
+        ∙ ap (λ q. u.below ++ q)
+        (ap (λ q. u.was ++ q) v.is ∙ sym (append_assoc u.was (v.here ∷ []) v.above))
+
+    span-next : (stop : ℕ) → stop ≡ at + size v.here → p.from + sizes (u.was ++ v.here ∷ []) ≡ stop
+    span-next stop t = let a = span-append u.was (v.here ∷ []) in let s = u.span in omega (arith, a, s, t)
+
+    will-next : tidy (u.done ++ (gap ++ lowest_purged k (spared n) (opened_block n v.here ∷ opened n v.above)))
+        ≡ tidy p.goal
+    will-next =
+        ap (λ q. tidy (u.done ++ (gap ++ lowest_purged k (spared n) q)))
+        (sym (ap (opened n) v.is ∙ opened-more n v.here v.above)) ∙ u.will
+
+    -- the block becomes Free
+    module _ (m : ℕ) (e : left_past (spared n) k (opened_block n v.here) ≡ Some m) where
+      abbrev pub freeing : Freeing
+      freeing = record { below = u.done; here = v.here; above = v.above; slots = p.slots; unused = p.unused }
+
+      pub may-free : MayFree freeing start at xs
+      may-free = record {
+        lays = subst (λ q. Lays xs (u.done ++ (gap ++ q)) p.slots p.unused) v.is u.lays;
+        low = u.low;
+        up = u.up;
+        plain = past-plain n k m v.here e;
+      }
+
+      pub freed-next : (new : List ℕ)
+          → ((f : Freeing) → MayFree f start at xs
+          → Lays new (f.below ++ (free (at + size f.here - start) ++ f.above)) f.slots f.unused)
+          → (stop : ℕ) → stop ≡ at + size v.here → (more : ℕ) → more ≡ cond (kind v.here == 0) 0 (size v.here)
+          → Purging p n start stop m (freed + more) new
+      freed-next new made stop t more f =
+          let o = u.up in
+          let g : at - start + size v.here ≡ stop - start = omega (arith, o, t) in
+          let after = lowest_purged m (spared n) (opened n v.above) in
+          record {
+            done = u.done;
+            rest = v.above;
+            lays = subst (λ q. Lays new (u.done ++ (free (q - start) ++ v.above)) p.slots p.unused) (sym t)
+                (made freeing may-free);
+            low = u.low;
+            up = omega (arith, o, t);
+            tidied = u.tidied;
+            closed = u.closed;
+            will = ap (λ q. tidy (u.done ++ (free q ++ after))) (sym g)
+                ∙ sym (joined-below u.done (at - start) (size v.here) after)
+                ∙ ap (λ q. tidy (u.done ++ (gap ++ Free q ∷ after))) (sym (size-opened n v.here))
+                ∙ ap (λ q. tidy (u.done ++ (gap ++ q)))
+                (sym (lowest_purged-free (spared n) k m (opened_block n v.here) (opened n v.above) e)) ∙ will-next;
+            count =
+                (let a = total-append free_of u.done (free (stop - start) ++ v.above) in
+                let b = total-append free_of (free (stop - start)) v.above in
+                let c = total-append free_of u.done (gap ++ v.here ∷ v.above) in
+                let d = total-append free_of gap (v.here ∷ v.above) in
+                let s1 = sum-free (stop - start) in
+                let s2 = sum-free (at - start) in
+                let w = ap (λ q. free_sum (u.done ++ (gap ++ q))) v.is in
+                let y = u.count in
+                let z = more-free v.here more f in
+                omega (arith, a, b, c, d, s1, s2, w, y, z, g));
+            apart = apart-above;
+            below = u.below;
+            was = u.was ++ v.here ∷ [];
+            now = u.now;
+            zone_is = zone-next;
+            done_is = u.done_is;
+            base = u.base;
+            span = span-next stop t;
+          }
+
+    -- the block stays
+    module _ (e : left_past (spared n) k (opened_block n v.here) ≡ None) (stop : ℕ) (t : stop ≡ at + size v.here) where
+      alone : is_free (opened_block n v.here) ≡ false
+      alone = kept-not_free (spared n) k (opened_block n v.here) e
+
+      same : opened_block n v.here ≡ v.here
+      same = opened-same n v.here alone
+
+      abbrev more : List Block
+      more = u.done ++ (gap ++ v.here ∷ [])
+
+      closed-now : (tidy more ≡ more) × Closed more
+      closed-now = closed-tidy u.done (at - start) v.here u.tidied u.closed (sym (ap is_free same) ∙ alone)
+
+      regrouped : (above : List Block) → u.done ++ (gap ++ v.here ∷ above) ≡ more ++ (free (stop - stop) ++ above)
+      regrouped above =
+          ap (λ q. u.done ++ q) (sym (append_assoc gap (v.here ∷ []) above))
+          ∙ sym (append_assoc u.done (gap ++ v.here ∷ []) above)
+          ∙ (let z : 0 ≡ stop - stop = omega arith in ap (λ q. more ++ (free q ++ above)) z)
+
+      pub kept-next : Purging p n stop stop k freed xs
+      kept-next = record {
+        done = more;
+        rest = v.above;
+        lays = subst (λ q. Lays xs q p.slots p.unused) (ap (λ q. u.done ++ (gap ++ q)) v.is ∙ regrouped v.above) u.lays;
+        low =
+            (let a = span-append u.done (gap ++ v.here ∷ []) in
+            let b = span-append gap (v.here ∷ []) in
+            let c = span-free (at - start) in
+            let l = u.low in
+            let o = u.up in
+            omega (arith, a, b, c, l, o, t));
+        up = omega arith;
+        tidied = closed-now.0;
+        closed = closed-now.1;
+        will = ap tidy (sym (regrouped (lowest_purged k (spared n) (opened n v.above))))
+            ∙ ap (λ b. tidy (u.done ++ (gap ++ b ∷ lowest_purged k (spared n) (opened n v.above)))) (sym same)
+            ∙ ap (λ q. tidy (u.done ++ (gap ++ q)))
+            (sym (lowest_purged-kept (spared n) k (opened_block n v.here) (opened n v.above) e)) ∙ will-next;
+        count = ap free_sum (sym (ap (λ q. u.done ++ (gap ++ q)) v.is ∙ regrouped v.above)) ∙ u.count;
+        apart = apart-above;
+        below = u.below;
+        was = u.was ++ v.here ∷ [];
+        now = u.now ++ (gap ++ v.here ∷ []);
+        zone_is = zone-next;
+        done_is = ap (λ d. d ++ (gap ++ v.here ∷ [])) u.done_is
+            ∙ append_assoc u.below u.now (gap ++ v.here ∷ []);
+        base = u.base;
+        span = span-next stop t;
+      }

@@ -1,0 +1,269 @@
+-- Where a pass that empties blocks begins, and what it makes of the zone that bytes spell.
+use Rattle.std.proofs.Common.{◌≡◌, ℕ, zero, suc, Bool, true, false, cond, if◌then◌else◌, ◌+◌, ◌-◌, ◌<◌, ◌≤◌}
+use Rattle.std.proofs.Common.{Option, Some, None, List, [], ◌∷◌, ◌++◌, sym, refl, ap, ◌∙◌, subst, arith, append_assoc}
+use Rattle.std.proofs.lemmas.Bool.{cond-false, false≢true}
+use Rattle.std.proofs.lemmas.List.{append-nil}
+use Rattle.std.proofs.lemmas.Option.{none-some, same_Some}
+use Rattle.std.specs.Option.{option_map}
+use Rattle.block_store.specs.Block.{Block, Free, Nonrelocatable, Masters, Relocatable, size, sizes, free, free_sum, tidy, count, is_masters}
+use Rattle.block_store.specs.Inner.Joining.{last_free}
+use Rattle.block_store.specs.Room.{Spot, raised, spot, spot_at, may_be_purged, lowest_purged}
+use Rattle.block_store.specs.Sparing.{spared, opened, purged}
+use Rattle.block_store.specs.declared.sparing.Sparing.{Sparing}
+use Rattle.block_store.proofs.Zone.Apart.{Apart, apart-tidied, apart-above, tidy-apart}
+use Rattle.block_store.proofs.Zone.Tidy.{total-tidy, spot-is, spot-passes}
+use Rattle.block_store.proofs.Zone.Totals.{total-append}
+use Rattle.block_store.proofs.Zone.Joining.{Ending, apart-front, closed-more, closed-under}
+use Rattle.block_store.proofs.Purged.Purges.{masters-lowest_purged, masters-opened}
+use Rattle.zone_bytes.specs.Decode.{zone_in}
+use Rattle.zone_bytes.specs.Layout.{kind}
+use Rattle.zone_bytes.specs.Joining.{Freeing, MayRelease}
+use Rattle.zone_bytes.specs.Lawful.{IsSound}
+use Rattle.zone_marks.specs.Purging.{Purging, Purged, MayPurge, purge_above, purge_zone}
+use Rattle.zone_bytes.specs.Stepping.{left_in}
+use Rattle.zone_bytes.specs.Table.{Lays, slot_in}
+use Rattle.zone_bytes.proofs.Tiles.Tiling.{span-append}
+use Rattle.zone_bytes.proofs.Tiles.Keeping.{span-free}
+use Rattle.zone_bytes.proofs.Places.AtPlace.{whole, low, left-zone}
+use Rattle.zone_marks.proofs.Joined.Released.{end, below-is, lower-low}
+use Rattle.block_store.proofs.Zone.Spots.{free-some}
+use Rattle.zone_bytes.proofs.Joined.Ways.{Read, read}
+use Rattle.zone_bytes.proofs.Joined.Above.{free-is, not_free-is}
+use Rattle.zone_bytes.proofs.Joined.Handles.{Gained, gained}
+
+-- above a block
+module _ (f : Freeing) (place : ℕ) (xs : List ℕ) (m : MayPurge f place xs) where
+  abbrev all : List Block
+  all = f.below ++ f.here ∷ f.above
+
+  pub place-read : Read xs f.here place
+  place-read = read xs f.below f.here f.above f.slots f.unused m.lays place m.low
+
+  above-tidy : tidy f.above ≡ f.above
+  above-tidy = tidy-apart f.above (apart-above f.below (f.here ∷ f.above) (apart-tidied all m.tidied)).1
+
+  module _ (purges : ℕ) (n now : Sparing) (same : (b : Block)
+      → spared now b ≡ spared n b) (none : (blocks : List Block) → opened now blocks ≡ blocks) (stop : ℕ)
+      (t : stop ≡ place + size f.here) where
+    after : lowest_purged purges (spared now) (opened now f.above) ≡ lowest_purged purges (spared n) f.above
+    after = ap (lowest_purged purges (spared now)) (none f.above) ∙ (λ i. lowest_purged purges (λ b. same b i) f.above)
+
+    -- a block that isn't Free
+    pub above-other : 0 < kind f.here → Purging (purge_above stop f purges n) now stop stop purges 0 xs
+    above-other k =
+        let a = apart-tidied all m.tidied in
+        let front = f.below ++ f.here ∷ [] in
+        let regrouped : (above : List Block) → f.below ++ f.here ∷ above ≡ front ++ (free (stop - stop) ++ above) =
+        λ above. sym (append_assoc f.below (f.here ∷ []) above)
+        ∙ (let z : 0 ≡ stop - stop = omega arith in ap (λ q. front ++ (free q ++ above)) z) in
+        record {
+          done = front;
+          rest = f.above;
+          lays = subst (λ q. Lays xs q f.slots f.unused) (regrouped f.above) m.lays;
+          low = (let s = span-append f.below (f.here ∷ []) in let l = m.low in omega (arith, s, l, t));
+          up = omega arith;
+          tidied = tidy-apart front
+              (apart-front front f.above (subst Apart (sym (append_assoc f.below (f.here ∷ []) f.above)) a));
+          closed = closed-more f.below f.here (not_free-is f.here k);
+          will = ap (λ q. tidy (front ++ (free (stop - stop) ++ q))) after
+              ∙ ap tidy (sym (regrouped (lowest_purged purges (spared n) f.above)));
+          count = ap free_sum (sym (regrouped f.above)) ∙ (let z : free_sum all ≡ free_sum all + 0 = omega arith in z);
+          apart = above-tidy;
+          below = front;
+          was = [];
+          now = [];
+          zone_is = sym (append_assoc f.below (f.here ∷ []) f.above);
+          done_is = sym (append-nil front);
+          base = (let s = span-append f.below (f.here ∷ []) in let l = m.low in omega (arith, s, l, t));
+          span = omega arith;
+        }
+
+    -- a Free one
+    pub above-free : kind f.here ≡ 0 → Purging (purge_above place f purges n) now place stop purges 0 xs
+    above-free k =
+        let a = apart-tidied all m.tidied in
+        let s = place-read.some in
+        let b = free-is f.here k in
+        let one : free (stop - place) ≡ f.here ∷ [] =
+        (let z : stop - place ≡ size f.here = omega (arith, t) in ap free z)
+        ∙ free-some (size f.here) (omega (arith, s)) ∙ ap (λ q. q ∷ []) (sym b) in
+        let regrouped : (above : List Block)
+        → f.below ++ f.here ∷ above ≡ f.below ++ (free (stop - place) ++ above) =
+        λ above. ap (λ q. f.below ++ (q ++ above)) (sym one) in
+        record {
+          done = f.below;
+          rest = f.above;
+          lays = subst (λ q. Lays xs q f.slots f.unused) (regrouped f.above) m.lays;
+          low = m.low;
+          up = omega (arith, t);
+          tidied = tidy-apart f.below (apart-front f.below (f.here ∷ f.above) a);
+          closed = closed-under f.below (size f.here) f.above (subst (λ q. Apart (f.below ++ q ∷ f.above)) b a);
+          will = ap (λ q. tidy (f.below ++ (free (stop - place) ++ q))) after
+              ∙ ap tidy (sym (regrouped (lowest_purged purges (spared n) f.above)));
+          count = ap free_sum (sym (regrouped f.above)) ∙ (let z : free_sum all ≡ free_sum all + 0 = omega arith in z);
+          apart = above-tidy;
+          below = f.below;
+          was = f.here ∷ [];
+          now = [];
+          zone_is = refl;
+          done_is = sym (append-nil f.below);
+          base = m.low;
+          span = omega (arith, t);
+        }
+
+-- a block that goes is no Masters block
+goes-plain : (sp : Block → Bool) (b : Block) → may_be_purged sp b ≡ true → is_masters b ≡ false
+goes-plain sp (Free n) e = refl
+goes-plain sp (Nonrelocatable id content) e = refl
+goes-plain sp Masters e = absurd (false≢true e)
+goes-plain sp (Relocatable id flags content) e = refl
+
+-- the blocks below the lowest that goes stay
+lowest_purged-spot : (k : ℕ) (sp : Block → Bool) (zone : List Block) (s : Spot) → spot (may_be_purged sp) zone ≡ Some s
+    → lowest_purged k sp zone ≡ s.below ++ lowest_purged k sp (s.here ∷ s.above)
+lowest_purged-spot zero sp zone s e = spot-is (may_be_purged sp) zone s e
+lowest_purged-spot (suc k) sp [] s e = absurd (none-some _ e)
+lowest_purged-spot (suc k) sp (b ∷ zone) s e = cases (may_be_purged sp b) refl (spot (may_be_purged sp) zone)
+    (lowest_purged-spot (suc k) sp zone) e
+  where
+    cases : (t : Bool) → may_be_purged sp b ≡ t → (o : Option Spot)
+        → ((s : Spot) → o ≡ Some s → lowest_purged (suc k) sp zone ≡ s.below ++ lowest_purged (suc k) sp (s.here ∷ s.above))
+        → cond t (Some (record { below = []; here = b; above = zone })) (option_map (raised b) o) ≡ Some s
+        → lowest_purged (suc k) sp (b ∷ zone) ≡ s.below ++ lowest_purged (suc k) sp (s.here ∷ s.above)
+    cases true is o more e = ap (λ (s : Spot). s.below ++ lowest_purged (suc k) sp (s.here ∷ s.above)) (same_Some _ _ e)
+    cases false is None more e = absurd (none-some _ e)
+    cases false is (Some s') more e = cond-false (may_be_purged sp b) (Free (size b) ∷ lowest_purged k sp zone)
+        (b ∷ lowest_purged (suc k) sp zone) is
+        ∙ ap (λ q. b ∷ q) (more s' refl)
+        ∙ ap (λ (s : Spot). s.below ++ lowest_purged (suc k) sp (s.here ∷ s.above)) (same_Some _ _ e)
+
+masters-tidy : (blocks : List Block) → count is_masters (tidy blocks) ≡ count is_masters blocks
+masters-tidy blocks = total-tidy (λ (b : Block). if is_masters b then 1 else 0) (λ n m. refl) blocks
+
+module _ (xs : List ℕ) (first number : ℕ) (i : IsSound xs first number) (purges : ℕ) (n : Sparing) where
+  -- over the whole zone
+  pub all-start : Purging (purge_zone 0 xs i.unused purges n) n 0 0 purges 0 xs
+  all-start = record {
+    done = [];
+    rest = zone_in xs;
+    lays = i.lays;
+    low = refl;
+    up = omega arith;
+    tidied = refl;
+    closed = tt;
+    will = refl;
+    count = omega arith;
+    apart = i.tidied;
+    below = [];
+    was = [];
+    now = [];
+    zone_is = refl;
+    done_is = refl;
+    base = refl;
+    span = refl;
+  }
+
+  -- from the lowest block on that goes
+  module _ (s : Spot) (e : spot (may_be_purged (spared n)) (zone_in xs) ≡ Some s) (place : ℕ) (low : sizes s.below ≡ place)
+      (none : (blocks : List Block) → opened n blocks ≡ blocks) where
+    abbrev pub going : Freeing
+    going = record { below = s.below; here = s.here; above = s.above; slots = slot_in xs; unused = i.unused }
+
+    pub going-is : zone_in xs ≡ s.below ++ s.here ∷ s.above
+    going-is = spot-is (may_be_purged (spared n)) (zone_in xs) s e
+
+    pub may-go : MayRelease going place xs
+    may-go = record {
+      lays = subst (λ z. Lays xs z (slot_in xs) i.unused) going-is i.lays;
+      low = low;
+      plain = goes-plain (spared n) s.here (spot-passes (may_be_purged (spared n)) (zone_in xs) s e);
+      tidied = sym (ap tidy going-is) ∙ i.tidied ∙ going-is;
+    }
+
+    module _ (start : ℕ) (found : (below above : List Block) → left_in 0 xs ≡ below ++ above → sizes below ≡ place
+        → start + last_free 0 below ≡ place) where
+      abbrev under : Ending s.below
+      under = end going place xs may-go
+
+      abbrev here : List Block
+      here = s.here ∷ s.above
+
+      abbrev gap : List Block
+      gap = free (place - start)
+
+      regrouped : (blocks : List Block) → s.below ++ blocks ≡ under.lower ++ (gap ++ blocks)
+      regrouped blocks = ap (λ q. q ++ blocks) (below-is going place xs may-go start found)
+          ∙ append_assoc under.lower gap blocks
+
+      zone-is : zone_in xs ≡ under.lower ++ (gap ++ here)
+      zone-is = going-is ∙ regrouped here
+
+      start-low : sizes under.lower ≡ start
+      start-low = lower-low going place xs may-go start found
+
+      start-up : start ≤ place
+      start-up = let f = found s.below here (left-zone xs ∙ going-is) low in omega (arith, f)
+
+      pub lowest-start : Purging (purge_zone start xs i.unused purges n) n start place purges 0 xs
+      lowest-start = record {
+        done = under.lower;
+        rest = here;
+        lays = subst (λ z. Lays xs z (slot_in xs) i.unused) zone-is i.lays;
+        low = start-low;
+        up = start-up;
+        tidied = tidy-apart under.lower under.apart;
+        closed = under.closed;
+        will = ap (λ q. tidy (under.lower ++ (gap ++ lowest_purged purges (spared n) q))) (none here)
+            ∙ ap tidy (sym (regrouped (lowest_purged purges (spared n) here)))
+            ∙ ap tidy (sym (lowest_purged-spot purges (spared n) (zone_in xs) s e))
+            ∙ ap (λ q. tidy (lowest_purged purges (spared n) q)) (sym (none (zone_in xs)));
+        count = ap free_sum (sym zone-is) ∙ (let z : free_sum (zone_in xs) ≡ free_sum (zone_in xs) + 0 = omega arith in z);
+        apart = tidy-apart here (apart-above s.below here (subst Apart going-is (apart-tidied (zone_in xs) i.tidied)));
+        below = under.lower;
+        was = gap;
+        now = [];
+        zone_is = zone-is;
+        done_is = sym (append-nil under.lower);
+        base = start-low;
+        span = (let f = span-free (place - start) in let u = start-up in omega (arith, f, u));
+      }
+
+  pub purge-gained : (from stop : ℕ) (new : List ℕ) (more : ℕ)
+      → Purged (purge_zone from xs i.unused purges n) stop more new
+      → Gained xs new first number more (purged purges n (zone_in xs))
+  purge-gained from stop new more d =
+      let left = lowest_purged purges (spared n) (opened n (zone_in xs)) in
+      gained xs new first number more i left d.lays d.count (masters-tidy left
+      ∙ masters-lowest_purged purges (spared n) (opened n (zone_in xs)) ∙ masters-opened n (zone_in xs))
+
+  -- above a place
+  module _ (place : ℕ) (s : Spot) (e : spot_at place (zone_in xs) ≡ Some s) where
+    abbrev pub spot-at : Freeing
+    spot-at = record { below = s.below; here = s.here; above = s.above; slots = slot_in xs; unused = i.unused }
+
+    is : zone_in xs ≡ s.below ++ s.here ∷ s.above
+    is = whole xs first number i place s e
+
+    pub may-purge : MayPurge spot-at place xs
+    may-purge = record {
+      lays = subst (λ z. Lays xs z (slot_in xs) i.unused) is i.lays;
+      low = low xs first number i place s e;
+      tidied = sym (ap tidy is) ∙ i.tidied ∙ is;
+    }
+
+    abbrev left : List Block
+    left = s.below ++ s.here ∷ lowest_purged purges (spared n) s.above
+
+    pub above-gained : (from stop : ℕ) (new : List ℕ) (more : ℕ)
+        → ((f : Freeing) → MayPurge f place xs → Purged (purge_above from f purges n) stop more new)
+        → Gained xs new first number more (tidy (s.below ++ s.here ∷ lowest_purged purges (spared n) s.above))
+    above-gained from stop new more after =
+        let d = after spot-at may-purge in
+        gained xs new first number more i left d.lays (d.count ∙ ap (λ z. free_sum z + more) (sym is))
+        (masters-tidy left
+        ∙ total-append (λ (b : Block). if is_masters b then 1 else 0) s.below
+        (s.here ∷ lowest_purged purges (spared n) s.above)
+        ∙ ap (λ m. count is_masters s.below + ((if is_masters s.here then 1 else 0) + m))
+        (masters-lowest_purged purges (spared n) s.above)
+        ∙ sym (total-append (λ (b : Block). if is_masters b then 1 else 0) s.below (s.here ∷ s.above))
+        ∙ ap (count is_masters) (sym is))

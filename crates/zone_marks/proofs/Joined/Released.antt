@@ -1,0 +1,151 @@
+-- A block that is made Free, and its Free neighbours one with it.
+use Rattle.std.proofs.Common.{◌≤◌, ◌≡◌, ℕ, ◌+◌, ◌-◌, ◌<◌, ◌⊎◌, length, List, [], ◌∷◌, ◌++◌, sym, refl, ap, ◌∙◌, subst}
+use Rattle.std.proofs.Common.{arith, append_assoc}
+use Rattle.block_store.specs.Block.{Block, Free, size, sizes, free, add, tidy}
+use Rattle.block_store.specs.Inner.Joining.{last_free}
+use Rattle.block_store.proofs.Zone.Apart.{apart-tidied, apart-above, tidy-apart}
+use Rattle.block_store.proofs.Zone.Joining.{Ending, ending, apart-front, released-tidy}
+use Rattle.zone_bytes.specs.Stepping.{left_in, IsOnWay}
+use Rattle.zone_bytes.specs.Table.{Lays}
+use Rattle.zone_bytes.specs.Laying.{free_first}
+use Rattle.zone_bytes.specs.Changes.{Begins, Replaced}
+use Rattle.zone_marks.proofs.Marks.Passing.{parts}
+use Rattle.zone_marks.proofs.Marks.Keeping.{joined-replaced, first-small}
+use Rattle.zone_bytes.specs.Joining.{LeadsUp, Freeing, MayFree, MayRelease, Joining, MayJoin}
+use Rattle.zone_bytes.proofs.Tiles.Tiling.{span-append}
+use Rattle.zone_bytes.proofs.Tiles.Keeping.{span-free}
+use Rattle.zone_bytes.proofs.Joined.Ways.{way, left, inside, Read, read}
+
+module _ (f : Freeing) (place : ℕ) (xs : List ℕ) (m : MayRelease f place xs) where
+  abbrev all : List Block
+  all = f.below ++ f.here ∷ f.above
+
+  -- a walk from a landmark comes to the block
+  pub leads-up : (from : ℕ) → Begins from 0 all → (from < place) ⊎ (from ≡ 0) → LeadsUp from place xs
+  leads-up from b u =
+      let r = parts from 0 all b in
+      let l = r.low in
+      let k : sizes r.below ≡ from = omega (arith, l) in
+      let h = subst (λ z. Lays xs z f.slots f.unused) r.is m.lays in
+      record {
+        below = r.below;
+        is = left xs [] all f.slots f.unused m.lays 0 refl ∙ r.is
+            ∙ ap (λ z. r.below ++ z) (sym (left xs r.below r.above f.slots f.unused h from k));
+        low = k;
+        under = u;
+        way = way xs r.below r.above f.slots f.unused h from k;
+      }
+
+  pub here-read : Read xs f.here place
+  here-read = read xs f.below f.here f.above f.slots f.unused m.lays place m.low
+
+  pub end : Ending f.below
+  end = ending f.below (apart-front f.below (f.here ∷ f.above) (apart-tidied all m.tidied))
+
+  above-tidy : tidy f.above ≡ f.above
+  above-tidy = tidy-apart f.above (apart-above f.below (f.here ∷ f.above) (apart-tidied all m.tidied)).1
+
+  -- the Free block below begins at `start`
+  module _ (start : ℕ) (found : (below above : List Block) → left_in 0 xs ≡ below ++ above → sizes below ≡ place
+      → start + last_free 0 below ≡ place) where
+    starts : start + last_free 0 f.below ≡ place
+    starts = found f.below (f.here ∷ f.above) (left xs [] all f.slots f.unused m.lays 0 refl) m.low
+
+    gap : last_free 0 f.below ≡ place - start
+    gap = let s = starts in omega (arith, s)
+
+    pub below-is : f.below ≡ end.lower ++ free (place - start)
+    below-is = end.is ∙ ap (λ n. end.lower ++ free n) gap
+
+    abbrev pub lower : Freeing
+    lower = record { below = end.lower; here = f.here; above = f.above; slots = f.slots; unused = f.unused }
+
+    pub lower-low : sizes end.lower ≡ start
+    lower-low =
+        let a = span-append end.lower (free (place - start)) in
+        let b = span-free (place - start) in
+        let e = ap sizes below-is in
+        let l = m.low in
+        let s = starts in
+        omega (arith, a, b, e, l, s)
+
+    pub may-free : MayFree lower start place xs
+    may-free = record {
+      lays = subst (λ k. Lays xs k f.slots f.unused) (ap (λ k. k ++ f.here ∷ f.above) below-is
+          ∙ append_assoc end.lower (free (place - start)) (f.here ∷ f.above)) m.lays;
+      low = lower-low;
+      up = (let s = starts in omega (arith, s));
+      plain = m.plain;
+    }
+
+    abbrev pub freed : Joining
+    freed = record { below = end.lower; above = f.above; slots = f.slots; unused = f.unused }
+
+    -- after the block became one with the Free bytes below it
+    module _ (stop : ℕ) (t : stop ≡ place + size f.here) (mid : List ℕ)
+        (made : (g : Freeing) → MayFree g start place xs
+        → Lays mid (g.below ++ (free (place + size g.here - start) ++ g.above)) g.slots g.unused) where
+      pub may-join : MayJoin freed start stop mid
+      may-join = record {
+        lays = subst (λ n. Lays mid (end.lower ++ (free (n - start) ++ f.above)) f.slots f.unused) (sym t)
+            (made lower may-free);
+        low = lower-low;
+        some = (let s = starts in let k = here-read.some in omega (arith, s, k, t));
+      }
+
+      low-stop : sizes (end.lower ++ free (stop - start)) ≡ stop
+      low-stop =
+          let a = span-append end.lower (free (stop - start)) in
+          let b = span-free (stop - start) in
+          let l = lower-low in
+          let s = starts in
+          omega (arith, a, b, l, s, t)
+
+      lays-stop : Lays mid ((end.lower ++ free (stop - start)) ++ f.above) f.slots f.unused
+      lays-stop = subst (λ k. Lays mid k f.slots f.unused)
+          (sym (append_assoc end.lower (free (stop - start)) f.above)) may-join.lays
+
+      -- what is above it
+      pub stop-way : IsOnWay stop mid
+      stop-way = way mid (end.lower ++ free (stop - start)) f.above f.slots f.unused lays-stop stop low-stop
+
+      pub stop-left : left_in stop mid ≡ f.above
+      stop-left = left mid (end.lower ++ free (stop - start)) f.above f.slots f.unused lays-stop stop low-stop
+
+      pub stop-fits : stop + sizes f.above ≡ length mid
+      stop-fits = inside mid (end.lower ++ free (stop - start)) f.above f.slots f.unused lays-stop stop low-stop
+
+      pub stop-more : (more : ℕ) → more ≡ free_first (left_in stop mid) → stop + more ≤ 134217728
+      stop-more more e =
+          let h = e ∙ ap free_first stop-left in
+          let f = first-small f.above in
+          let l = stop-fits in
+          let m = lays-stop.small in
+          omega (arith, h, f, l, m)
+
+      pub freed-replaced : (more : ℕ) → more ≡ free_first (left_in stop mid)
+          → Replaced start (stop + more) all (tidy (f.below ++ Free (size f.here) ∷ f.above))
+      freed-replaced more e =
+          let k = here-read.some in
+          let s = starts in
+          let h = e ∙ ap free_first stop-left in
+          let z = released-tidy f.below end.lower (place - start) (size f.here) f.above (omega (arith, k)) below-is
+          end.apart end.closed above-tidy in
+          joined-replaced end.lower (place - start) f.here f.above start (stop + more) (place - start + size f.here)
+          all (tidy (f.below ++ Free (size f.here) ∷ f.above))
+          (ap (λ k. k ++ f.here ∷ f.above) below-is ∙ append_assoc end.lower (free (place - start)) (f.here ∷ f.above))
+          z refl (omega (arith, k)) lower-low (omega (arith, h, s, t))
+
+      -- and with the one above it
+      pub released : (new : List ℕ)
+          → ((j : Joining) → MayJoin j start stop mid
+          → Lays new (j.below ++ add (Free (stop - start)) j.above) j.slots j.unused)
+          → Lays new (tidy (f.below ++ Free (size f.here) ∷ f.above)) f.slots f.unused
+      released new joined =
+          let k = here-read.some in
+          let s = starts in
+          let e : stop - start ≡ place - start + size f.here = omega (arith, s, t) in
+          let z = released-tidy f.below end.lower (place - start) (size f.here) f.above (omega (arith, k)) below-is
+          end.apart end.closed above-tidy in
+          subst (λ q. Lays new q f.slots f.unused) (ap (λ n. end.lower ++ add (Free n) f.above) e
+          ∙ sym z) (joined freed may-join)

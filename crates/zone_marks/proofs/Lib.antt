@@ -1,0 +1,4 @@
+pub mod Joined
+pub mod Marks
+pub mod Bounds
+pub mod Searches

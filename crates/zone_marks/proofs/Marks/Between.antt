@@ -1,0 +1,151 @@
+-- The blocks that begin between two places, and what a tally says of them.
+use Rattle.std.proofs.Common.{◌≡◌, ℕ, ◌+◌, ◌≤◌, ◌<◌, ◌⊎◌, inl, inr, Bool, true, false, ◌&&◌, not, cond, List, [], ◌∷◌}
+use Rattle.std.proofs.Common.{◌++◌, nat_le, nat_lt, refl, sym, ap, ◌∙◌, arith}
+use Rattle.std.proofs.lemmas.Bool.{le-leb, lt-ltb, le-ltb, leb-true, ltb-false, and_parts}
+use Rattle.std.proofs.lemmas.List.{append-nil}
+use Rattle.block_store.specs.Block.{Block, Free, Nonrelocatable, Masters, Relocatable, size, sizes, free_of}
+use Rattle.block_store.specs.Run.{in_run}
+use Rattle.zone_bytes.specs.Changes.{AtEach}
+use Rattle.zone_marks.specs.Marks.{IsTally, between, ends_run}
+use Rattle.zone_marks.specs.declared.landmark.Tally.{Tally}
+use Rattle.zone_marks.specs.declared.landmark.Tally.TheVariants as tally
+use Rattle.zone_summary.specs.Stretches.{counted, join, one, stretch_of}
+use Rattle.zone_summary.specs.declared.stretch.Stretch.TheVariants.{Whole}
+use Rattle.zone_summary.proofs.Monoid.{join-unit_left, stretch_of-append}
+
+-- blocks that come to the same in runs
+pub record CountAlike (some others : List Block) : Type 0 where
+  pub same : stretch_of some ≡ stretch_of others
+
+pub alike-as : (t : Tally) (some others : List Block) → CountAlike some others → IsTally t others → IsTally t some
+alike-as (tally.Known runs) some others a i = a.same ∙ i
+alike-as tally.Unknown some others a i = tt
+
+pub alike-same : (some others : List Block) → some ≡ others → CountAlike some others
+alike-same some others e = record { same = ap stretch_of e }
+
+pub alike-back : (some others : List Block) → CountAlike some others → CountAlike others some
+alike-back some others a = record { same = sym a.same }
+
+pub alike-more : (a b c : List Block) → CountAlike a b → CountAlike b c → CountAlike a c
+alike-more a b c x y = record { same = x.same ∙ y.same }
+
+pub alike-append : (a b c d : List Block) → CountAlike a c → CountAlike b d → CountAlike (a ++ b) (c ++ d)
+alike-append a b c d x y = record {
+  same = stretch_of-append a b ∙ ap (λ s. join s (stretch_of b)) x.same ∙ ap (join (stretch_of c)) y.same
+      ∙ sym (stretch_of-append c d);
+}
+
+pub alike-first : (b : Block) (some others : List Block) → CountAlike some others → CountAlike (b ∷ some) (b ∷ others)
+alike-first b some others a = record { same = ap (join (one b)) a.same }
+
+-- one block
+not-same : (t u : Bool) → not t ≡ not u → t ≡ u
+not-same true true e = refl
+not-same true false e = cc
+not-same false true e = cc
+not-same false false e = refl
+
+pub one-same : (b c : Block) → free_of c ≡ free_of b → ends_run c ≡ ends_run b → one c ≡ one b
+one-same b c f r = ap (counted (in_run c)) f ∙ ap (λ t. counted t (free_of b)) (not-same (in_run c) (in_run b) r)
+
+not-not : (t : Bool) → not (not t) ≡ t
+not-not true = refl
+not-not false = refl
+
+pub one-spanned : (b : Block) (free : ℕ) (barrier : Bool) → free ≡ free_of b → barrier ≡ ends_run b
+    → counted (not barrier) free ≡ one b
+one-spanned b free barrier f r = ap (counted (not barrier)) f ∙ ap (λ t. counted (not t) (free_of b)) r
+    ∙ ap (λ t. counted t (free_of b)) (not-not (in_run b))
+
+-- a block of no bytes more counts the same
+pub one-empty : (b : Block) → size b ≤ 0 → one b ≡ Whole 0
+one-empty (Free n) l = ap Whole (omega (arith, l))
+one-empty (Nonrelocatable id content) l = absurd (omega (arith, l))
+one-empty Masters l = absurd (omega (arith, l))
+one-empty (Relocatable id flags content) l = absurd (omega (arith, l))
+
+alike-empty : (b : Block) (some others : List Block) → size b ≤ 0 → CountAlike some others → CountAlike (b ∷ some)
+    others
+alike-empty b some others l a =
+    record { same = ap (λ s. join s (stretch_of some)) (one-empty b l) ∙ join-unit_left (stretch_of some) ∙ a.same }
+
+module _ (lo hi : ℕ) where
+  pub between-append : (x : ℕ) (below above : List Block)
+      → between lo hi x (below ++ above) ≡ between lo hi x below ++ between lo hi (x + sizes below) above
+  between-append x [] above = ap (λ y. between lo hi y above) (let e : x ≡ x + 0 = omega arith in e)
+  between-append x (b ∷ below) above =
+      ap (λ k. cond (nat_le lo x && nat_lt x hi) (b ∷ k) k) (between-append (x + size b) below above
+      ∙ ap (λ y. between lo hi (x + size b) below ++ between lo hi y above)
+      (let e : x + size b + sizes below ≡ x + (size b + sizes below) = omega arith in e))
+      ∙ either (nat_le lo x && nat_lt x hi)
+    where
+      either : (t : Bool) → cond t
+          (b ∷ between lo hi (x + size b) below ++ between lo hi (x + (size b + sizes below)) above)
+          (between lo hi (x + size b) below ++ between lo hi (x + (size b + sizes below)) above)
+          ≡ cond t (b ∷ between lo hi (x + size b) below) (between lo hi (x + size b) below)
+          ++ between lo hi (x + (size b + sizes below)) above
+      either true = refl
+      either false = refl
+
+  -- none of the blocks below begins there
+  pub none-below : (x : ℕ) (blocks : List Block) → x + sizes blocks ≤ lo → CountAlike (between lo hi x blocks) []
+  none-below x [] l = record { same = refl }
+  none-below x (b ∷ blocks) l =
+      cases (nat_le lo x && nat_lt x hi) refl (none-below (x + size b) blocks (omega (arith, l)))
+    where
+      cases : (t : Bool) → (nat_le lo x && nat_lt x hi) ≡ t → CountAlike (between lo hi (x + size b) blocks) []
+          → CountAlike (cond t (b ∷ between lo hi (x + size b) blocks) (between lo hi (x + size b) blocks)) []
+      cases true e rest =
+          let k = leb-true lo x (and_parts (nat_le lo x) (nat_lt x hi) e).0 in
+          alike-empty b (between lo hi (x + size b) blocks) [] (omega (arith, l, k)) rest
+      cases false e rest = rest
+
+  -- none of the blocks above does
+  pub none-above : (x : ℕ) (blocks : List Block) → hi ≤ x → between lo hi x blocks ≡ []
+  none-above x [] l = refl
+  none-above x (b ∷ blocks) l = cases (nat_le lo x) (none-above (x + size b) blocks (omega (arith, l)))
+    where
+      cases : (t : Bool) → between lo hi (x + size b) blocks ≡ []
+          → cond (t && nat_lt x hi) (b ∷ between lo hi (x + size b) blocks) (between lo hi (x + size b) blocks) ≡ []
+      cases true rest = rw (le-ltb x hi l) rest
+      cases false rest = rest
+
+  -- each of the blocks within does
+  pub all-within : (x : ℕ) (blocks : List Block) → lo ≤ x → x + sizes blocks ≤ hi
+      → CountAlike (between lo hi x blocks) blocks
+  all-within x [] l h = record { same = refl }
+  all-within x (b ∷ blocks) l h =
+      cases (nat_lt x hi) refl (all-within (x + size b) blocks (omega (arith, l)) (omega (arith, h)))
+    where
+      cases : (t : Bool) → nat_lt x hi ≡ t → CountAlike (between lo hi (x + size b) blocks) blocks
+          → CountAlike (cond (nat_le lo x && nat_lt x hi) (b ∷ between lo hi (x + size b) blocks)
+          (between lo hi (x + size b) blocks)) (b ∷ blocks)
+      cases true e rest = rw (le-leb lo x l) (rw e (alike-first b (between lo hi (x + size b) blocks) blocks rest))
+      cases false e rest = rw (le-leb lo x l) (rw e (let k = ltb-false x hi e in
+          alike-back (b ∷ blocks) (between lo hi (x + size b) blocks) (alike-empty b blocks
+          (between lo hi (x + size b) blocks) (omega (arith, h, k))
+          (alike-back (between lo hi (x + size b) blocks) blocks rest))))
+
+  -- and so do those of which each begins below the bound
+  pub all-begin : (x : ℕ) (blocks : List Block) → lo ≤ x → AtEach (λ p _. p < hi) x blocks
+      → between lo hi x blocks ≡ blocks
+  all-begin x [] l e = refl
+  all-begin x (b ∷ blocks) l e =
+      rw (le-leb lo x l) (rw (lt-ltb x hi e.0) (ap (λ k. b ∷ k) (all-begin (x + size b) blocks (omega (arith, l)) e.1)))
+
+  -- the blocks of a zone that begin there, where it is parted so
+  pub between-parts : (below here above : List Block) → sizes below ≡ lo → lo + sizes here ≤ hi
+      → (hi ≡ lo + sizes here) ⊎ (above ≡ []) → CountAlike (between lo hi 0 (below ++ (here ++ above))) here
+  between-parts below here above l h e =
+      alike-more _ _ _ (alike-same _ _ (between-append 0 below (here ++ above)))
+      (alike-append _ _ [] here (none-below 0 below (omega (arith, l)))
+      (alike-more _ _ _ (alike-same _ _ (between-append (0 + sizes below) here above
+      ∙ ap (λ k. between lo hi (0 + sizes below) here ++ k) top ∙ append-nil (between lo hi (0 + sizes below) here)))
+      (all-within (0 + sizes below) here (omega (arith, l)) (omega (arith, l, h)))))
+    where
+      top : between lo hi (0 + sizes below + sizes here) above ≡ []
+      top = elim e [
+        | inl k ↦ none-above (0 + sizes below + sizes here) above (omega (arith, k, l))
+        | inr k ↦ ap (between lo hi (0 + sizes below + sizes here)) k
+      ]

@@ -1,0 +1,117 @@
+-- A walk that counts what it passes.
+use Rattle.std.proofs.Common.{◌≡◌, ℕ, ◌+◌, ◌≤◌, ◌<◌, ◌⊎◌, Bool, true, false, not, List, [], ◌∷◌, ◌++◌, length, append_assoc, refl}
+use Rattle.std.proofs.Common.{sym, ap, ◌∙◌, arith, inl, inr}
+use Rattle.std.proofs.lemmas.List.{append-nil}
+use Rattle.block_store.specs.Block.{Block, sizes, free_of}
+use Rattle.zone_bytes.specs.Changes.{AtEach}
+use Rattle.zone_marks.specs.Marks.{Measures, Spans, between}
+use Rattle.zone_bytes.specs.Stepping.{left_in, IsOnWay}
+use Rattle.zone_marks.proofs.Marks.Between.{CountAlike, alike-same, alike-more, all-begin, all-within, between-append}
+use Rattle.zone_marks.proofs.Marks.Between.{none-above, one-spanned}
+use Rattle.zone_marks.proofs.Marks.Passing.{at-append, at-map, passed-all}
+use Rattle.zone_marks.proofs.Marks.Spanned.{free-size}
+use Rattle.zone_bytes.proofs.Places.Stepped.{left-none}
+use Rattle.zone_bytes.proofs.Tiles.Tiling.{span-append}
+use Rattle.zone_summary.specs.Stretches.{load}
+use Rattle.zone_summary.specs.Stretches.{counted, join, one, prefix, stretch_of, suffix}
+use Rattle.zone_summary.specs.declared.stretch.Stretch.{Stretch}
+use Rattle.zone_summary.specs.declared.stretch.Stretch.TheVariants.{Whole, Ended}
+use Rattle.zone_summary.proofs.Monoid.{join-unit_right, joined-is}
+use Rattle.zone_summary.proofs.Sums.{load-blocks}
+
+-- the blocks from a place on up to another, each of which began below a bound
+pub record Counted (xs : List ℕ) (from at stop most : ℕ) (runs : Stretch) : Type 0 where
+  pub done : List Block
+  pub is : left_in from xs ≡ done ++ left_in at xs
+  pub up : from + sizes done ≡ at
+  pub each : AtEach (λ p b. (free_of b ≤ most) × (p < stop)) from done
+  pub way : IsOnWay at xs
+  pub comes : stretch_of done ≡ runs
+
+prefix-counted : (t : Bool) (n : ℕ) → prefix (counted t n) ≤ n
+prefix-counted true n = omega arith
+prefix-counted false n = omega arith
+
+suffix-load : (s : Stretch) → suffix s ≤ load s
+suffix-load (Whole a) = omega arith
+suffix-load (Ended p i s) = omega arith
+
+module _ (xs : List ℕ) (from stop : ℕ) where
+  pub counted-start : (most : ℕ) → IsOnWay from xs → Counted xs from from stop most (Whole 0)
+  counted-start most w = record { done = []; is = refl; up = omega arith; each = tt; way = w; comes = refl }
+
+  pub counted-step : (at end most most' bytes : ℕ) (runs block next : Stretch) (barrier : Bool)
+      → Counted xs from at stop most runs → Spans at end bytes barrier xs → at < stop → most ≤ most' → bytes ≤ most'
+      → block ≡ counted (not barrier) bytes → next ≡ join runs block → Counted xs from end stop most' next
+  counted-step at end most most' bytes runs block next barrier c s l m n t j =
+      let u = c.up in
+      let v = s.up in
+      let a = span-append c.done (s.here ∷ []) in
+      let e = s.bytes in
+      record {
+        done = c.done ++ s.here ∷ [];
+        is = c.is ∙ ap (λ k. c.done ++ k) s.is ∙ sym (append_assoc c.done (s.here ∷ []) (left_in end xs));
+        up = omega (arith, u, v, a);
+        each = at-append (λ p b. (free_of b ≤ most') × (p < stop)) from c.done (s.here ∷ [])
+            (at-map (λ p b. (free_of b ≤ most) × (p < stop)) (λ p b. (free_of b ≤ most') × (p < stop)) from c.done
+            (λ _ _ _ _ r. ((let f = r.0 in omega (arith, f, m)), r.1)) c.each)
+            ((omega (arith, n, e), omega (arith, u, l)), tt);
+        way = s.way;
+        comes = sym (joined-is c.done (s.here ∷ []) runs block next j (sym c.comes)
+            (t ∙ one-spanned s.here bytes barrier e s.ends ∙ sym (join-unit_right (one s.here))));
+      }
+
+  -- what the blocks come to and one block more fit
+  pub counted-fits : (at end most bytes : ℕ) (runs block : Stretch) (barrier : Bool) → Counted xs from at stop most runs
+      → Spans at end bytes barrier xs → block ≡ counted (not barrier) bytes → suffix runs + prefix block ≤ end
+  counted-fits at end most bytes runs block barrier c s t =
+      let u = c.up in
+      let v = s.up in
+      let f = suffix-load runs in
+      let k = ap load c.comes in
+      let b = load-blocks c.done in
+      let p = prefix-counted (not barrier) bytes in
+      let q = ap prefix t in
+      let g = free-size s.here in
+      let e = s.bytes in
+      omega (arith, u, v, f, k, b, p, q, g, e)
+
+  -- what it tells of the blocks that begin below a bound which it came to
+  module _ (at most : ℕ) (runs : Stretch) (c : Counted xs from at stop most runs) where
+    pub counted-tells : (hi edge : ℕ) → CountAlike (between from hi from c.done) c.done → (hi ≤ at) ⊎ (length xs ≤ at)
+        → Measures from hi from (left_in from xs) (record { edge = edge; most = most; runs = runs })
+    counted-tells hi edge a e = record {
+      most = passed-all xs from (λ _ b. free_of b ≤ most) (λ _ b. free_of b ≤ most) from hi at (record {
+        done = c.done;
+        is = c.is;
+        up = c.up;
+        each = at-map (λ p b. (free_of b ≤ most) × (p < stop)) (λ _ b. free_of b ≤ most) from c.done
+            (λ _ _ _ _ r. r.0) c.each;
+        way = c.way;
+      }) (λ _ _ r. r) e;
+      runs = alike.same ∙ c.comes;
+    }
+      where
+        nothing : between from hi at (left_in at xs) ≡ []
+        nothing = elim e [
+          | inl l ↦ none-above from hi at (left_in at xs) l
+          | inr l ↦ ap (between from hi at) (left-none at xs c.way l)
+        ]
+
+        alike : CountAlike (between from hi from (left_in from xs)) c.done
+        alike = alike-more _ _ _ (alike-same _ _ (ap (between from hi from) c.is
+            ∙ between-append from hi from c.done (left_in at xs)
+            ∙ ap (λ y. between from hi from c.done ++ between from hi y (left_in at xs)) c.up
+            ∙ ap (λ k. between from hi from c.done ++ k) nothing ∙ append-nil (between from hi from c.done))) a
+
+    pub counted-edge : (edge : ℕ) → Measures from at from (left_in from xs)
+        (record { edge = edge; most = most; runs = runs })
+    counted-edge edge = counted-tells at edge
+        (all-within from at from c.done (omega arith) (let u = c.up in omega (arith, u))) (inl (omega arith))
+
+    pub counted-below : (place edge : ℕ) → stop ≤ place → (place ≤ at) ⊎ (length xs ≤ at)
+        → Measures from place from (left_in from xs) (record { edge = edge; most = most; runs = runs })
+    counted-below place edge l e = counted-tells place edge
+        (alike-same _ _ (all-begin from place from c.done (omega arith)
+        (at-map (λ p b. (free_of b ≤ most) × (p < stop)) (λ p _. p < place) from c.done
+        (λ _ _ _ _ r. let s = r.1 in omega (arith, s, l)) c.each))) e

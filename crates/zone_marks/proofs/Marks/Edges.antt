@@ -1,0 +1,135 @@
+-- Landmarks that are laid by edges which were noted while blocks were moved.
+use Rattle.std.proofs.Common.{◌≡◌, ℕ, ◌+◌, ◌≤◌, ◌⊎◌, inl, inr, Bool, true, false, ◌&&◌, cond, nat_le, nat_lt, List, []}
+use Rattle.std.proofs.Common.{◌∷◌, ◌++◌, length, take, drop, refl, sym, ap, ◌∙◌, subst, arith}
+use Rattle.std.proofs.lemmas.Bool.{leb-true, le-ltb, false≢true}
+use Rattle.std.proofs.lemmas.List.{drop_more}
+use Rattle.block_store.specs.Block.{Block, Free, Nonrelocatable, Masters, Relocatable, size, sizes, free_of}
+use Rattle.zone_bytes.specs.Layout.{Each}
+use Rattle.zone_bytes.specs.Edges.{Starts, AreEdges, IsMover, ByEdges}
+use Rattle.zone_marks.specs.LaidMarks.{IsBare, AreLaid}
+use Rattle.zone_marks.specs.Marks.{AreMarks, AtMost, between, next_of, no_mark}
+use Rattle.zone_bytes.specs.Changes.{AtEach, Begins}
+use Rattle.zone_marks.specs.declared.landmark.Landmark.{Landmark}
+use Rattle.zone_bytes.specs.declared.edges.Edges.{Edges}
+use Rattle.zone_marks.specs.declared.landmark.Tally.TheVariants as tally
+use Rattle.zone_summary.specs.Stretches.{counted, join, one, stretch_of}
+use Rattle.zone_summary.specs.declared.stretch.Stretch.TheVariants.{Whole}
+use Rattle.zone_summary.proofs.Monoid.{join-unit_left}
+use Rattle.zone_marks.proofs.Marks.Between.{CountAlike, alike-as, alike-same, alike-more, alike-append, between-append}
+use Rattle.zone_marks.proofs.Marks.Between.{none-below, none-above}
+use Rattle.zone_marks.proofs.Marks.Lowering.{at-each, drop-all, mark-first, marks-parted}
+use Rattle.zone_marks.proofs.Marks.Passing.{at-append, at-all, begins-left, begins-right, begins-within}
+use Rattle.zone_marks.proofs.Marks.Spanned.{free-size}
+
+starts-begins : (p x : ℕ) (blocks : List Block) → Starts p x blocks → Begins p x blocks
+starts-begins p x [] s = absurd s
+starts-begins p x (b ∷ blocks) (inl e) = inl e
+starts-begins p x (b ∷ blocks) (inr s) = inr (starts-begins p (x + size b) blocks s)
+
+-- blocks that may move have no Free byte and end no run
+mover-free : (b : Block) → IsMover b → free_of b ≡ 0
+mover-free (Free n) m = absurd (false≢true m)
+mover-free (Nonrelocatable id content) m = refl
+mover-free Masters m = refl
+mover-free (Relocatable id flags content) m = refl
+
+mover-one : (b : Block) → IsMover b → one b ≡ Whole 0
+mover-one (Free n) m = absurd (false≢true m)
+mover-one (Nonrelocatable id content) m = absurd (false≢true m)
+mover-one Masters m = absurd (false≢true m)
+mover-one (Relocatable id flags content) m = ap (λ t. counted t 0) m
+
+movers-bare : (lo hi x : ℕ) (movers : List Block) → Each IsMover movers → AtEach (AtMost 0 lo hi) x movers
+movers-bare lo hi x [] m = tt
+movers-bare lo hi x (b ∷ movers) m =
+    (λ l h. (let f = mover-free b m.0 in omega (arith, f)), movers-bare lo hi (x + size b) movers m.1)
+
+movers-alike : (lo hi x : ℕ) (movers : List Block) → Each IsMover movers → CountAlike (between lo hi x movers) []
+movers-alike lo hi x [] m = record { same = refl }
+movers-alike lo hi x (b ∷ movers) m =
+    cases (nat_le lo x && nat_lt x hi) (movers-alike lo hi (x + size b) movers m.1)
+  where
+    rest : List Block
+    rest = between lo hi (x + size b) movers
+
+    cases : (t : Bool) → CountAlike rest [] → CountAlike (cond t (b ∷ rest) rest) []
+    cases true a = record {
+      same = ap (λ s. join s (stretch_of rest)) (mover-one b m.0) ∙ join-unit_left (stretch_of rest) ∙ a.same;
+    }
+    cases false a = a
+
+-- nothing lies between two places of which the first is no lower
+between-none : (lo hi x : ℕ) (blocks : List Block) → hi ≤ lo → between lo hi x blocks ≡ []
+between-none lo hi x [] l = refl
+between-none lo hi x (b ∷ blocks) l = cases (nat_le lo x) refl (between-none lo hi (x + size b) blocks l)
+  where
+    rest : List Block
+    rest = between lo hi (x + size b) blocks
+
+    cases : (t : Bool) → nat_le lo x ≡ t → rest ≡ [] → cond (t && nat_lt x hi) (b ∷ rest) rest ≡ []
+    cases true e r = rw (le-ltb x hi (let k = leb-true lo x e in omega (arith, k, l))) r
+    cases false e r = r
+
+module _ (base : ℕ) (below movers above : List Block) (low : sizes below ≡ base) (solid : Each IsMover movers) where
+  abbrev zone : List Block
+  zone = below ++ (movers ++ above)
+
+  bare-same : (p q : ℕ) → p ≡ q → IsBare p q zone
+  bare-same p q e = (
+    at-all (AtMost 0 p q) 0 zone (λ x b _. λ l h. absurd (omega (arith, l, h, e))),
+    alike-as (tally.Known (Whole 0)) _ [] (alike-same _ _ (between-none p q 0 zone (omega (arith, e)))) refl,
+  )
+
+  bare-within : (p q : ℕ) → base ≤ p → q ≤ base + sizes movers → IsBare p q zone
+  bare-within p q l h =
+      let R = AtMost 0 p q in
+      let x = 0 + sizes below in (
+        at-append R 0 below (movers ++ above)
+            (at-each R 0 below (λ y b u v. λ m n. let f = free-size b in omega (arith, f, v, m, l, low)))
+            (at-append R x movers above (movers-bare p q x movers solid)
+            (at-all R (x + sizes movers) above (λ y b u. λ m n. absurd (omega (arith, u, n, h, low))))),
+        alike-as (tally.Known (Whole 0)) _ [] (alike-more _ _ _ (alike-same _ _ (between-append p q 0 below (movers ++ above)
+            ∙ ap (λ k. between p q 0 below ++ k) (between-append p q x movers above)))
+            (alike-append _ _ [] [] (none-below p q 0 below (omega (arith, l, low)))
+            (alike-append _ _ [] [] (movers-alike p q x movers solid)
+            (alike-same _ _ (none-above p q (x + sizes movers) above (omega (arith, h, low)))))))
+            refl,
+      )
+
+-- an edge of the blocks that lie packed
+module _ (edges : Edges) (base : ℕ) (zone : List Block) (a : ByEdges edges base zone) (place : ℕ)
+    (s : (x : ℕ) (blocks : List Block) → AreEdges edges x blocks → Starts place x blocks) where
+  pub edge-begins : Begins place 0 zone
+  edge-begins = elim a [
+    | inl n ↦ absurd (s base [] n)
+    | inr p ↦ subst (Begins place 0) (sym p.is) (begins-right place 0 p.below (p.movers ++ p.above)
+        (subst (λ x. Begins place x (p.movers ++ p.above)) (let l = p.low in let e : base ≡ 0 + sizes p.below =
+        omega (arith, l) in e) (begins-left place base p.movers p.above (starts-begins place base p.movers
+        (s base p.movers p.edges_are)))))
+  ]
+
+  -- from the bottom of these blocks on nothing else lies up to it
+  pub edge-bare : (at edge : ℕ) → (edge ≡ at) ⊎ (edge ≡ place) → base ≤ at → IsBare at edge zone
+  edge-bare at edge o l = elim a [
+    | inl n ↦ absurd (s base [] n)
+    | inr p ↦ subst (IsBare at edge) (sym p.is) (elim o [
+      | inl e ↦ bare-same base p.below p.movers p.above p.low p.solid at edge (sym e)
+      | inr e ↦ bare-within base p.below p.movers p.above p.low p.solid at edge l
+          (let w = (begins-within place base p.movers (starts-begins place base p.movers
+          (s base p.movers p.edges_are))).1 in omega (arith, e, w))
+    ])
+  ]
+
+-- the landmark at an index is to be laid where it is
+pub laid-there : (zone : List Block) (marks : List Landmark) (index at : ℕ) → index ≤ length marks
+    → at ≡ next_of 4294967295 (drop index marks) → AreMarks 4294967295 zone marks → AreLaid index at zone marks
+laid-there zone marks index at l e a =
+    let p = marks-parted 4294967295 zone marks index a in
+    record {
+      below = subst (λ n. AreMarks n zone (take index marks)) (sym e) p.0;
+      above = p.1;
+      inside = l;
+      begins = λ m. subst (λ n. Begins n 0 zone) (sym (e ∙ mark-first 4294967295 marks index no_mark m))
+          (subst (AreMarks 4294967295 zone) (drop_more marks index no_mark m) p.1).0;
+      last = λ k. e ∙ ap (λ n. next_of 4294967295 (drop n marks)) k ∙ ap (next_of 4294967295) (drop-all marks);
+    }

@@ -1,0 +1,141 @@
+-- The groups of landmarks.
+use Rattle.std.proofs.Common.{◌≡◌, ◌⊎◌, ℕ, ◌+◌, ◌-◌, ◌*◌, ◌≤◌, ◌<◌, inl, inr, List, length, take, drop, get_or, set, sym, ap}
+use Rattle.std.proofs.Common.{◌∙◌, subst, arith, length-set, replicate}
+use Rattle.std.proofs.lemmas.Bool.{cases_lt}
+use Rattle.std.proofs.lemmas.Bool.Decides.{eqb_tells}
+use Rattle.std.proofs.lemmas.List.{get_or-take, get_or-drop, get_or-set_same, get_or-set_other, length-take-le, length-drop}
+use Rattle.std.proofs.lemmas.List.{get_or-replicate, length-replicate, drop-take, drop-set-lt, take-set-le}
+use Rattle.zone_marks.specs.Marks.{AreGroups, marks_in, no_group, no_mark, tally_of}
+use Rattle.zone_marks.specs.declared.landmark.Group.{Group}
+use Rattle.zone_marks.specs.declared.landmark.Landmark.{Landmark}
+use Rattle.zone_marks.specs.declared.landmark.Tally.TheVariants as tally
+use Rattle.zone_marks.specs.declared.landmark.TheConstants.{GROUP}
+use Rattle.zone_summary.specs.declared.stretch.Stretch.{Stretch}
+
+-- nothing known is nothing that is known
+pub unknown-known : (runs : Stretch) → tally.Unknown ≡ tally.Known runs → ⊥
+unknown-known runs e = cc
+
+-- the landmarks of a group that has not the one that becomes another
+marks-apart : (marks : List Landmark) (m : Landmark) (index low n : ℕ) → (index < low) ⊎ (low + n ≤ index)
+    → take n (drop low (set marks index m)) ≡ take n (drop low marks)
+marks-apart marks m index low n (inl l) = ap (take n) (drop-set-lt low marks index m l)
+marks-apart marks m index low n (inr l) =
+    sym (drop-take low n (set marks index m)) ∙ ap (drop low) (take-set-le (low + n) marks index m l) ∙ drop-take low n marks
+
+-- a landmark becomes another, of which its group knows no more than a bound
+pub group-raised : (groups : List Group) (marks : List Landmark) (group index : ℕ) (g : Group) (m : Landmark)
+    → AreGroups groups marks → group < length groups → GROUP * group ≤ index → index < GROUP * group + GROUP
+    → (get_or groups group no_group).most ≤ g.most → m.most ≤ g.most → g.tally ≡ tally.Unknown
+    → AreGroups (set groups group g) (set marks index m)
+group-raised groups marks group index g m a l low high was is none = record {
+  whole = (
+      let w = a.whole in
+      let s = length-set groups group g in
+      let t = length-set marks index m in
+      omega (arith, w, s, t)
+      );
+  each = λ other j u v h. elim (eqb_tells other group) [
+    | inl t ↦ subst (λ z. (get_or (set marks index m) j no_mark).most ≤ z)
+        (sym (ap (λ k. k.most) (same-group other t.1)))
+        (here j (let k = t.1 in omega (arith, u, k)) (let k = t.1 in omega (arith, v, k))
+        (let s = length-set marks index m in omega (arith, s, h)))
+    | inr t ↦ subst (λ z. (get_or (set marks index m) j no_mark).most ≤ z)
+        (sym (ap (λ k. k.most) (get_or-set_other groups group other g no_group t.1)))
+        (subst (λ z. z.most ≤ (get_or groups other no_group).most)
+        (sym (get_or-set_other marks index j m no_mark
+        (λ e. t.1 (let z : other ≡ group = omega (arith, e, u, v, low, high) in z))))
+        (a.each other j u v (let s = length-set marks index m in omega (arith, s, h))))
+  ];
+  known = λ other runs h e. elim (eqb_tells other group) [
+    | inl t ↦ absurd (unknown-known runs (sym none ∙ sym (ap (λ k. k.tally) (same-group other t.1)) ∙ e))
+    | inr t ↦ ap tally_of (marks-apart marks m index (GROUP * other) GROUP (elim (apart other t.1) [
+      | inl z ↦ inl (omega (arith, z, low))
+      | inr z ↦ inr (omega (arith, z, high))
+    ]))
+        ∙ a.known other runs (let s = length-set groups group g in omega (arith, s, h))
+        (sym (ap (λ k. k.tally) (get_or-set_other groups group other g no_group t.1)) ∙ e)
+  ];
+}
+  where
+    same-group : (other : ℕ) → other ≡ group → get_or (set groups group g) other no_group ≡ g
+    same-group other e = ap (λ k. get_or (set groups group g) k no_group) e ∙ get_or-set_same groups group g no_group l
+
+    here : (j : ℕ) → GROUP * group ≤ j → j < GROUP * group + GROUP → j < length marks
+        → (get_or (set marks index m) j no_mark).most ≤ g.most
+    here j u v h = elim (eqb_tells j index) [
+      | inl t ↦ subst (λ z. z.most ≤ g.most)
+          (sym (ap (λ k. get_or (set marks index m) k no_mark) t.1
+          ∙ get_or-set_same marks index m no_mark (let k = t.1 in omega (arith, k, h)))) is
+      | inr t ↦ subst (λ z. z.most ≤ g.most) (sym (get_or-set_other marks index j m no_mark t.1))
+          (let k = a.each group j u v h in omega (arith, k, was))
+    ]
+
+    apart : (other : ℕ) → (other ≡ group → ⊥) → (group < other) ⊎ (other < group)
+    apart other n = elim (cases_lt group other) [
+      | inl z ↦ inl z
+      | inr z ↦ elim (cases_lt other group) [
+        | inl y ↦ inr y
+        | inr y ↦ absurd (n (omega (arith, z, y)))
+      ]
+    ]
+
+-- what is known of a group is computed anew
+pub group-renewed : (groups : List Group) (marks : List Landmark) (group low n : ℕ) (g : Group) → AreGroups groups marks
+    → group < length groups → low ≡ group * 16 → n ≡ 16
+    → ((index : ℕ) → index < length (take n (drop low marks))
+    → (get_or (take n (drop low marks)) index no_mark).most ≤ g.most)
+    → g.tally ≡ tally_of (take n (drop low marks)) → AreGroups (set groups group g) marks
+group-renewed groups marks group low n g a l e k f s = record {
+  whole = (let w = a.whole in let s = length-set groups group g in omega (arith, w, s));
+  each = λ other index u v m. elim (eqb_tells other group) [
+    | inl t ↦ subst (λ z. (get_or marks index no_mark).most ≤ z) (sym (ap (λ k. k.most) (same-group other t.1)))
+        (here index (let g = t.1 in omega (arith, e, u, g)) (let g = t.1 in omega (arith, e, k, v, g)) m)
+    | inr t ↦ subst (λ z. (get_or marks index no_mark).most ≤ z)
+        (sym (ap (λ k. k.most) (get_or-set_other groups group other g no_group t.1))) (a.each other index u v m)
+  ];
+  known = λ other runs h d. elim (eqb_tells other group) [
+    | inl t ↦ ap (λ o. tally_of (marks_in o marks)) t.1 ∙ ap tally_of part ∙ sym s
+        ∙ sym (ap (λ k. k.tally) (same-group other t.1)) ∙ d
+    | inr t ↦ a.known other runs (let q = length-set groups group g in omega (arith, q, h))
+        (sym (ap (λ k. k.tally) (get_or-set_other groups group other g no_group t.1)) ∙ d)
+  ];
+}
+  where
+    same-group : (other : ℕ) → other ≡ group → get_or (set groups group g) other no_group ≡ g
+    same-group other q = ap (λ k. get_or (set groups group g) k no_group) q ∙ get_or-set_same groups group g no_group l
+
+    part : marks_in group marks ≡ take n (drop low marks)
+    part = ap (λ z. take z (drop (GROUP * group) marks)) (sym k)
+        ∙ ap (λ z. take n (drop z marks)) (let z : GROUP * group ≡ low = omega (arith, e) in z)
+
+    here : (index : ℕ) → low ≤ index → index < low + n → index < length marks
+        → (get_or marks index no_mark).most ≤ g.most
+    here index u v m =
+        let d : Landmark = no_mark in
+        let j = index - low in
+        let w = a.whole in
+        let t : length (take n (drop low marks)) ≡ n = length-take-le n (drop low marks)
+        (let s = length-drop low marks in omega (arith, s, w, l, e, k)) in
+        let s : get_or (take n (drop low marks)) j d ≡ get_or marks index d =
+        get_or-take n (drop low marks) j d (omega (arith, u, v)) ∙ get_or-drop low marks j d
+        ∙ ap (λ i. get_or marks i d) (let q : low + (index - low) ≡ index = omega (arith, u) in q) in
+        subst (λ b. b.most ≤ g.most) s (f j (omega (arith, t, u, v)))
+
+-- landmarks that all note the same, and of which groups know no more
+pub same-groups : (count groups : ℕ) (m : Landmark) → count ≡ GROUP * groups
+    → AreGroups (replicate groups (record { most = m.most; tally = tally.Unknown })) (replicate count m)
+same-groups count groups m e = record {
+  whole = (let s = length-replicate count m in let t = length-replicate groups g in omega (arith, e, s, t));
+  each = λ group index b h l.
+      let s = length-replicate count m in
+      let r = ap (λ k. k.most) (get_or-replicate count index m no_mark (omega (arith, l, s))) in
+      let t = ap (λ k. k.most) (get_or-replicate groups group g no_group (omega (arith, l, s, e, b))) in
+      omega (arith, r, t);
+  known = λ group runs h d. absurd (unknown-known runs
+      (sym (ap (λ k. k.tally) (get_or-replicate groups group g no_group
+      (let t = length-replicate groups g in omega (arith, h, t)))) ∙ d));
+}
+  where
+    g : Group
+    g = record { most = m.most; tally = tally.Unknown }

@@ -1,0 +1,391 @@
+-- Landmarks once a stretch of the zone became another.
+use Rattle.std.proofs.Common.{◌≡◌, ℕ, ◌+◌, ◌-◌, ◌≤◌, ◌<◌, ◌⊎◌, inl, inr, List, [], ◌∷◌, ◌++◌, sym, refl, ap, ◌∙◌, subst, arith, length, take, drop, take-append-drop, get_or, set, replicate, zero, suc, true, false, ◌==◌}
+use Rattle.std.proofs.lemmas.Bool.Decides.{eqb_tells}
+use Rattle.std.proofs.lemmas.List.{take_more, take-set, drop-set, take_more_set, drop_more, drop-drop}
+use Rattle.block_store.specs.Block.{Block, size, sizes}
+use Rattle.zone_bytes.specs.Decode.{zone_in}
+use Rattle.zone_bytes.specs.Lawful.{IsSound}
+use Rattle.zone_bytes.specs.Stepping.{left_in, IsOnWay}
+use Rattle.zone_bytes.specs.Changes.{AtEach, Begins, Replaced}
+use Rattle.zone_marks.specs.Marks.{AtMost, AreMarks, IsTally, Lowered, between, next_of, no_mark}
+use Rattle.zone_marks.specs.declared.landmark.Landmark.{Landmark}
+use Rattle.zone_marks.specs.declared.landmark.Tally.{Tally}
+use Rattle.zone_marks.specs.declared.landmark.Tally.TheVariants as tally
+use Rattle.zone_bytes.proofs.Places.AtPlace.{way-above, left-above}
+use Rattle.zone_marks.proofs.Marks.Passing.{at-map, at-all, at-append, at-left, at-right, begins-here, begins-left}
+use Rattle.zone_marks.proofs.Marks.Passing.{begins-right, begins-either, begins-within, parts}
+use Rattle.zone_marks.proofs.Marks.Spanned.{free-size}
+use Rattle.zone_marks.proofs.Marks.Between.{CountAlike, alike-as, alike-same, alike-back, alike-more, alike-append}
+use Rattle.zone_marks.proofs.Marks.Between.{between-append, none-below, none-above}
+
+-- what holds of each block by its place alone
+pub at-each : (S : ℕ → Block → Type 0) (x : ℕ) (blocks : List Block)
+    → ((p : ℕ) (b : Block) → x ≤ p → p + size b ≤ x + sizes blocks → S p b) → AtEach S x blocks
+at-each S x blocks f = at-map (λ _ _. Unit {0}) S x blocks (λ p b l u _. f p b l u)
+    (at-all (λ _ _. Unit {0}) x blocks (λ p b l. tt))
+
+-- the first of some landmarks is no higher than where they end
+pub marks-below : (end : ℕ) (zone : List Block) (marks : List Landmark) → AreMarks end zone marks → next_of end marks ≤ end
+marks-below end zone [] a = omega arith
+marks-below end zone (m ∷ marks) a = let n = marks-below end zone marks a.4 in let r = a.3 in omega (arith, n, r)
+
+-- places that rise still rise once they are lowered
+lowered-order : (lo hi a b p q : ℕ) → a ≤ b → Lowered lo hi a p → Lowered lo hi b q → p ≤ q
+lowered-order lo hi a b p q l (inl x) (inl y) = let s = x.2 in let t = y.2 in omega (arith, s, t)
+lowered-order lo hi a b p q l (inl x) (inr y) =
+    let s = x.2 in let u = x.0 in let t = y.0 in omega (arith, s, u, t, l)
+lowered-order lo hi a b p q l (inr x) (inl y) = let s = x.0 in let t = y.2 in let h = y.1 in elim x.1 [
+  | inl u ↦ omega (arith, s, t, u)
+  | inr u ↦ absurd (omega (arith, u, l, h))
+]
+lowered-order lo hi a b p q l (inr x) (inr y) = let s = x.0 in let t = y.0 in omega (arith, s, t, l)
+
+module _ (lo hi : ℕ) (old new : List Block) (z : Replaced lo hi old new) (o : lo ≤ hi) where
+  pub at-low : Begins lo 0 new
+  at-low = subst (Begins lo 0) (sym z.is) (begins-right lo 0 z.below (z.there ++ z.above)
+      (subst (λ y. Begins lo y (z.there ++ z.above)) (let l = z.low in let e : lo ≡ 0 + sizes z.below = omega (arith, l) in e)
+      (begins-here lo (z.there ++ z.above))))
+
+  pub begins-lowered : (at now : ℕ) → Lowered lo hi at now → Begins at 0 old → Begins now 0 new
+  begins-lowered at now (inl w) b = subst (λ p. Begins p 0 new) (sym w.2) at-low
+  begins-lowered at now (inr w) b = subst (λ p. Begins p 0 new) (sym w.0) (elim w.1 [
+    | inl l ↦ elim (begins-either at 0 z.below (z.here ++ z.above) (subst (Begins at 0) z.was b)) [
+      | inl d ↦ subst (Begins at 0) (sym z.is) (begins-left at 0 z.below (z.there ++ z.above) d)
+      | inr d ↦ same (let v = (begins-within at (0 + sizes z.below) (z.here ++ z.above) d).0 in let k = z.low in
+          omega (arith, l, v, k))
+    ]
+    | inr h ↦ elim (begins-either at 0 z.below (z.here ++ z.above) (subst (Begins at 0) z.was b)) [
+      | inl d ↦ same (let v = (begins-within at 0 z.below d).1 in let k = z.low in omega (arith, h, v, k, o))
+      | inr d ↦ subst (Begins at 0) (sym z.is) (begins-right at 0 z.below (z.there ++ z.above)
+          (elim (begins-either at (0 + sizes z.below) z.here z.above d) [
+            | inl e ↦ begins-right at (0 + sizes z.below) z.there z.above (subst (λ y. Begins at y z.above)
+                (let v = (begins-within at (0 + sizes z.below) z.here e).1 in let k = z.low in let g = z.high in
+                let s = z.span in let q : at ≡ 0 + sizes z.below + sizes z.there = omega (arith, h, v, k, g, s) in q)
+                (begins-here at z.above))
+            | inr e ↦ begins-right at (0 + sizes z.below) z.there z.above
+                (subst (λ n. Begins at (0 + sizes z.below + n) z.above) (sym z.span) e)
+          ]))
+    ]
+  ])
+    where
+      same : at ≡ lo → Begins at 0 new
+      same e = subst (λ p. Begins p 0 new) (sym e) at-low
+
+  -- the bound of a stretch, where it is no less than the blocks that became others
+  module _ (most most' at next at' above : ℕ) (a : Lowered lo hi at at') (n : Lowered lo hi next above)
+      (m : most ≤ most') (k : at' ≤ lo → lo < above → hi - lo ≤ most') where
+    low-in : (p : ℕ) (b : Block) → p + size b ≤ lo → AtMost most at next p b → AtMost most' at' above p b
+    low-in p b u r l h = elim a [
+      | inl w ↦ let s = w.2 in let f = free-size b in omega (arith, s, f, u, l)
+      | inr w ↦ let s = w.0 in let f = r (omega (arith, s, l)) (elim n [
+        | inl v ↦ let g = v.2 in let j = v.0 in omega (arith, g, h, j)
+        | inr v ↦ let g = v.0 in omega (arith, g, h)
+      ]) in omega (arith, f, m)
+    ]
+
+    middle : (p : ℕ) (b : Block) → lo ≤ p → p + size b ≤ hi → AtMost most' at' above p b
+    middle p b v u l h = let f = free-size b in elim a [
+      | inl w ↦ let s = w.2 in let q = k (omega (arith, s)) (omega (arith, v, h)) in omega (arith, f, q, u, v)
+      | inr w ↦ let s = w.0 in elim w.1 [
+        | inl d ↦ let q = k (omega (arith, s, d)) (omega (arith, v, h)) in omega (arith, f, q, u, v)
+        | inr d ↦ omega (arith, f, u, l, s, d)
+      ]
+    ]
+
+    high-in : (p : ℕ) (b : Block) → hi ≤ p → AtMost most at next p b → AtMost most' at' above p b
+    high-in p b v r l h =
+        let f = r (elim a [
+          | inl w ↦ let j = w.1 in omega (arith, j, v)
+          | inr w ↦ let s = w.0 in omega (arith, s, l)
+        ]) (elim n [
+          | inl w ↦ let s = w.2 in absurd (omega (arith, s, h, v, o))
+          | inr w ↦ let s = w.0 in omega (arith, s, h)
+        ]) in omega (arith, f, m)
+
+    pub bound-lowered : AtEach (AtMost most at next) 0 old → AtEach (AtMost most' at' above) 0 new
+    bound-lowered e =
+        let R = AtMost most at next in
+        let S = AtMost most' at' above in
+        let w = subst (AtEach R 0) z.was e in
+        let i = z.low in
+        let j = z.high in
+        let s = z.span in
+        let r = at-right R (0 + sizes z.below) z.here z.above (at-right R 0 z.below (z.here ++ z.above) w) in
+        subst (AtEach S 0) (sym z.is) (at-append S 0 z.below (z.there ++ z.above)
+        (at-map R S 0 z.below (λ p b l u. low-in p b (omega (arith, u, i))) (at-left R 0 z.below (z.here ++ z.above) w))
+        (at-append S (0 + sizes z.below) z.there z.above
+        (at-each S (0 + sizes z.below) z.there (λ p b l u. middle p b (omega (arith, l, i)) (omega (arith, u, i, j, s))))
+        (at-map R S (0 + sizes z.below + sizes z.there) z.above
+        (λ p b l u. high-in p b (omega (arith, l, i, j, s)))
+        (subst (λ q. AtEach R (0 + sizes z.below + q) z.above) (sym s) r))))
+
+  -- the blocks of a stretch apart from those that became others
+  pub apart-alike : (a c : ℕ) → (hi ≤ a) ⊎ (c ≤ lo) → CountAlike (between a c 0 new) (between a c 0 old)
+  apart-alike a c e =
+      let x = 0 + sizes z.below in
+      alike-more _ _ _ (alike-same _ _ (ap (between a c 0) z.is ∙ between-append a c 0 z.below (z.there ++ z.above)
+      ∙ ap (λ k. between a c 0 z.below ++ k) (between-append a c x z.there z.above)))
+      (alike-back _ _ (alike-more _ _ _ (alike-same _ _ (ap (between a c 0) z.was
+      ∙ between-append a c 0 z.below (z.here ++ z.above)
+      ∙ ap (λ k. between a c 0 z.below ++ k) (between-append a c x z.here z.above)))
+      (alike-append (between a c 0 z.below) _ (between a c 0 z.below) _ (alike-same _ _ refl)
+      (alike-append (between a c x z.here) _ (between a c x z.there) _
+      (alike-more _ [] _ (none z.here (omega arith)) (alike-back _ [] (none z.there (let s = z.span in omega (arith, s)))))
+      (alike-same _ _ (ap (λ n. between a c (x + n) z.above) (sym z.span)))))))
+    where
+      none : (blocks : List Block) → sizes blocks ≤ sizes z.here → CountAlike (between a c (0 + sizes z.below) blocks)
+          []
+      none blocks s = let l = z.low in let h = z.high in elim e [
+        | inl k ↦ none-below a c (0 + sizes z.below) blocks (omega (arith, k, l, h, s))
+        | inr k ↦ alike-same _ _ (none-above a c (0 + sizes z.below) blocks (omega (arith, k, l)))
+      ]
+
+  -- landmarks above the stretch stay
+  pub marks-over : (end : ℕ) (marks : List Landmark) → hi ≤ end → hi ≤ next_of end marks → AreMarks end old marks
+      → AreMarks end new marks
+  marks-over end [] e u a = tt
+  marks-over end (m ∷ marks) e u a =
+      let r = a.3 in
+      let v : hi ≤ next_of end marks = omega (arith, u, r) in (
+        begins-lowered m.at m.at (inr (refl, inr u)) a.0,
+        bound-lowered m.most m.most m.at (next_of end marks) m.at (next_of end marks) (inr (refl, inr u))
+            (inr (refl, inr v)) (omega arith) (λ l _. omega (arith, l, u)) a.1,
+        alike-as m.tally _ _ (apart-alike m.at (next_of end marks) (inl u)) a.2,
+        r,
+        marks-over end marks e v a.4,
+      )
+
+  -- and so do those below it
+  pub marks-under : (end : ℕ) (marks : List Landmark) → end ≤ lo → AreMarks end old marks → AreMarks end new marks
+  marks-under end [] e a = tt
+  marks-under end (m ∷ marks) e a =
+      let r = a.3 in
+      let n = marks-below end old marks a.4 in
+      let u : next_of end marks ≤ lo = omega (arith, n, e) in
+      let l : m.at ≤ lo = omega (arith, r, u) in (
+        begins-lowered m.at m.at (inr (refl, inl l)) a.0,
+        bound-lowered m.most m.most m.at (next_of end marks) m.at (next_of end marks) (inr (refl, inl l))
+            (inr (refl, inl u)) (omega arith) (λ _ b. absurd (omega (arith, b, u))) a.1,
+        alike-as m.tally _ _ (apart-alike m.at (next_of end marks) (inr u)) a.2,
+        r,
+        marks-under end marks e a.4,
+      )
+
+-- landmarks of the zone that bytes spell
+module _ (xs : List ℕ) (first unused : ℕ) (i : IsSound xs first unused) where
+  pub begins-way : (p : ℕ) → Begins p 0 (zone_in xs) → IsOnWay p xs
+  begins-way p b = let r = parts p 0 (zone_in xs) b in
+      let l = r.low in way-above xs first unused i r.below r.above p r.is (omega (arith, l))
+
+  -- the zone is what is below a place and what is left from there on
+  pub record Seen (p : ℕ) : Type 0 where
+    pub below : List Block
+    pub is : zone_in xs ≡ below ++ left_in p xs
+    pub low : sizes below ≡ p
+
+  pub seen-from : (p : ℕ) → Begins p 0 (zone_in xs) → Seen p
+  seen-from p b =
+      let r = parts p 0 (zone_in xs) b in
+      let l = r.low in
+      let k : sizes r.below ≡ p = omega (arith, l) in
+      record {
+        below = r.below;
+        is = r.is ∙ ap (λ q. r.below ++ q) (sym (left-above xs first unused i r.below r.above p r.is k));
+        low = k;
+      }
+
+  pub begins-further : (p q : ℕ) → Begins p 0 (zone_in xs) → Begins q p (left_in p xs) → Begins q 0 (zone_in xs)
+  begins-further p q b e =
+      let s = seen-from p b in
+      let l = s.low in
+      subst (Begins q 0) (sym s.is) (begins-right q 0 s.below (left_in p xs)
+      (subst (λ y. Begins q y (left_in p xs)) (let k : p ≡ 0 + sizes s.below = omega (arith, l) in k) e))
+
+  pub bound-here : (most p to : ℕ) → Begins p 0 (zone_in xs) → AtEach (AtMost most p to) p (left_in p xs)
+      → AtEach (AtMost most p to) 0 (zone_in xs)
+  bound-here most p to b e =
+      let s = seen-from p b in
+      let l = s.low in
+      let S = AtMost most p to in
+      subst (AtEach S 0) (sym s.is) (at-append S 0 s.below (left_in p xs)
+      (at-each S 0 s.below (λ q c v u. λ m n. let f = free-size c in omega (arith, f, u, m, l)))
+      (subst (λ y. AtEach S y (left_in p xs)) (let k : p ≡ 0 + sizes s.below = omega (arith, l) in k) e))
+
+  pub tally-here : (t : Tally) (p to : ℕ) → Begins p 0 (zone_in xs) → IsTally t (between p to p (left_in p xs))
+      → IsTally t (between p to 0 (zone_in xs))
+  tally-here t p to b e =
+      let s = seen-from p b in
+      let l = s.low in
+      alike-as t _ _ (alike-more _ _ _ (alike-same _ _ (ap (between p to 0) s.is
+      ∙ between-append p to 0 s.below (left_in p xs)))
+      (alike-append _ _ [] _ (none-below p to 0 s.below (omega (arith, l)))
+      (alike-same _ _ (ap (λ y. between p to y (left_in p xs)) (let k : 0 + sizes s.below ≡ p = omega (arith, l) in k)))))
+      e
+
+-- landmarks one after another
+pub marks-split : (end : ℕ) (zone : List Block) (front back : List Landmark) → AreMarks end zone (front ++ back)
+    → AreMarks (next_of end back) zone front × AreMarks end zone back
+marks-split end zone [] back a = (tt, a)
+marks-split end zone (n ∷ []) back a = ((a.0, a.1, a.2, a.3, tt), a.4)
+marks-split end zone (n ∷ k ∷ front) back a =
+    let r = marks-split end zone (k ∷ front) back a.4 in ((a.0, a.1, a.2, a.3, r.0), r.1)
+
+pub marks-join : (end : ℕ) (zone : List Block) (front back : List Landmark) → AreMarks (next_of end back) zone front
+    → AreMarks end zone back → AreMarks end zone (front ++ back)
+marks-join end zone [] back a b = b
+marks-join end zone (n ∷ []) back a b = (a.0, a.1, a.2, a.3, b)
+marks-join end zone (n ∷ k ∷ front) back a b = (a.0, a.1, a.2, a.3, marks-join end zone (k ∷ front) back a.4 b)
+
+-- landmarks in two parts
+pub marks-parted : (end : ℕ) (zone : List Block) (marks : List Landmark) (n : ℕ) → AreMarks end zone marks
+    → AreMarks (next_of end (drop n marks)) zone (take n marks) × AreMarks end zone (drop n marks)
+marks-parted end zone marks n a = marks-split end zone (take n marks) (drop n marks)
+    (subst (AreMarks end zone) (sym (take-append-drop n marks)) a)
+
+pub marks-whole : (end : ℕ) (zone : List Block) (marks : List Landmark) (n at : ℕ) → at ≡ next_of end (drop n marks)
+    → AreMarks at zone (take n marks) → AreMarks end zone (drop n marks) → AreMarks end zone marks
+marks-whole end zone marks n at e a b = subst (AreMarks end zone) (take-append-drop n marks)
+    (marks-join end zone (take n marks) (drop n marks) (subst (λ k. AreMarks k zone (take n marks)) e a) b)
+
+-- the landmark at an index, as the first of those from there on
+pub mark-first : (end : ℕ) (marks : List Landmark) (i : ℕ) (d : Landmark) → i < length marks
+    → next_of end (drop i marks) ≡ (get_or marks i d).at
+mark-first end marks i d l = ap (next_of end) (drop_more marks i d l)
+
+-- the landmarks from one on are those of the new zone, and those below it still of the old one
+pub record Changing (lo hi : ℕ) (old new : List Block) (next above : ℕ) (front back : List Landmark) : Type 0 where
+  pub is : Lowered lo hi next above
+  pub low : AreMarks next old front
+  pub high : AreMarks 4294967295 new back
+  pub first : above ≡ next_of 4294967295 back
+
+pub drop-all : {A : Type 0} → (l : List A) → drop (length l) l ≡ []
+drop-all [] = refl
+drop-all (x ∷ l) = drop-all l
+
+pub equal-yes : (a b : ℕ) → a ≡ b → (a == b) ≡ true
+equal-yes a b e = elim (eqb_tells a b) [
+  | inl t ↦ t.0
+  | inr t ↦ absurd (t.1 e)
+]
+
+pub equal-no : (a b : ℕ) → a < b → (a == b) ≡ false
+equal-no a b l = elim (eqb_tells a b) [
+  | inl t ↦ let e = t.1 in absurd (omega (arith, e, l))
+  | inr t ↦ t.0
+]
+
+-- where blocks end
+pub begins-end : (x : ℕ) (blocks : List Block) → Begins (x + sizes blocks) x blocks
+begins-end x [] = omega arith
+begins-end x (b ∷ blocks) = inr (subst (λ p. Begins p (x + size b) blocks)
+    (let e : x + size b + sizes blocks ≡ x + (size b + sizes blocks) = omega arith in e) (begins-end (x + size b) blocks))
+
+-- landmarks that all stand at the bottom, with nothing known
+pub unlaid-marks : (zone : List Block) → sizes zone ≤ 134217728 → (n : ℕ)
+    → AreMarks 4294967295 zone (replicate n (record { at = 0; most = 4294967295; tally = tally.Unknown }))
+unlaid-marks zone l zero = tt
+unlaid-marks zone l (suc n) = (
+  begins-here 0 zone,
+  at-each (AtMost 4294967295 0 (next_of 4294967295
+      (replicate n (record { at = 0; most = 4294967295; tally = tally.Unknown })))) 0 zone
+      (λ p b _ u _ _. let f = free-size b in omega (arith, f, u, l)),
+  tt,
+  omega arith,
+  unlaid-marks zone l n,
+)
+
+pub replaced-order : (lo hi : ℕ) (old new : List Block) → Replaced lo hi old new → lo ≤ hi
+replaced-order lo hi old new z = let h = z.high in omega (arith, h)
+
+module _ (lo hi : ℕ) (old new : List Block) where
+  pub changing-start : Replaced lo hi old new → lo ≤ hi → (above left : ℕ) (marks : List Landmark) → hi ≤ 4294967295
+      → above ≡ next_of 4294967295 (drop left marks) → hi ≤ next_of 4294967295 (drop left marks)
+      → AreMarks 4294967295 old marks → Changing lo hi old new above above (take left marks) (drop left marks)
+  changing-start z o above left marks h e u a =
+      let r = marks-parted 4294967295 old marks left a in
+      record {
+        is = inr (refl, inr (omega (arith, u, e)));
+        low = subst (λ k. AreMarks k old (take left marks)) (sym e) r.0;
+        high = marks-over lo hi old new z o 4294967295 (drop left marks) h u r.1;
+        first = e;
+      }
+
+  -- the last of the landmarks of the old zone
+  pub last-mark : (next above left : ℕ) (marks back : List Landmark) (d : Landmark) → 0 < left → left ≤ length marks
+      → (g : Changing lo hi old new next above (take left marks) back)
+      → AreMarks (get_or marks (left - 1) d).at old (take (left - 1) marks)
+      × AreMarks next old (get_or marks (left - 1) d ∷ [])
+  last-mark next above left marks back d s l g =
+      let e : left - 1 + 1 ≡ left = omega (arith, s) in
+      marks-split next old (take (left - 1) marks) (get_or marks (left - 1) d ∷ [])
+      (subst (AreMarks next old) (ap (λ k. take k marks) (sym e)
+      ∙ take_more marks (left - 1) d (omega (arith, s, l))) g.low)
+
+  pub changing-step : Replaced lo hi old new → lo ≤ hi → (next above left : ℕ) (marks : List Landmark) (d m : Landmark)
+      → 0 < left → left ≤ length marks
+      → Changing lo hi old new next above (take left marks) (drop left marks)
+      → Lowered lo hi (get_or marks (left - 1) d).at m.at
+      → (AtEach (AtMost (get_or marks (left - 1) d).most (get_or marks (left - 1) d).at next) 0 old
+      → AtEach (AtMost m.most m.at above) 0 new)
+      → (IsTally (get_or marks (left - 1) d).tally (between (get_or marks (left - 1) d).at next 0 old)
+      → IsTally m.tally (between m.at above 0 new))
+      → Changing lo hi old new (get_or marks (left - 1) d).at m.at (take (left - 1) (set marks (left - 1) m))
+      (drop (left - 1) (set marks (left - 1) m))
+  changing-step z o next above left marks d m s l g w f c =
+      let r = last-mark next above left marks (drop left marks) d s l g in
+      let n = r.1 in
+      let e : left - 1 + 1 ≡ left = omega (arith, s) in
+      let q = drop-set marks (left - 1) m (omega (arith, s, l)) ∙ ap (λ k. m ∷ drop k marks) e in
+      record {
+        is = w;
+        low = subst (AreMarks (get_or marks (left - 1) d).at old) (sym (take-set marks (left - 1) m)) r.0;
+        high = subst (AreMarks 4294967295 new) (sym q) (
+          begins-lowered lo hi old new z o (get_or marks (left - 1) d).at m.at w n.0,
+          subst (λ k. AtEach (AtMost m.most m.at k) 0 new) g.first (f n.1),
+          subst (λ k. IsTally m.tally (between m.at k 0 new)) g.first (c n.2),
+          subst (λ k. m.at ≤ k) g.first (lowered-order lo hi (get_or marks (left - 1) d).at next m.at above n.3 w g.is),
+          g.high,
+        );
+        first = sym (ap (next_of 4294967295) q);
+      }
+
+  pub changing-done : (next above left : ℕ) (marks : List Landmark) → left ≤ 0
+      → Changing lo hi old new next above (take left marks) (drop left marks) → AreMarks 4294967295 new marks
+  changing-done next above left marks l g =
+      let e : left ≡ 0 = omega (arith, l) in
+      subst (λ k. AreMarks 4294967295 new (drop k marks)) e g.high
+
+  -- those below the stretch aren't gone over
+  pub changing-below : Replaced lo hi old new → lo ≤ hi → (next above left : ℕ) (marks : List Landmark) → above < lo
+      → Changing lo hi old new next above (take left marks) (drop left marks) → AreMarks 4294967295 new marks
+  changing-below z o next above left marks b g = marks-whole 4294967295 new marks left next (sym same ∙ g.first)
+      (marks-under lo hi old new z o next (take left marks) (omega (arith, same, b)) g.low) g.high
+    where
+      same : above ≡ next
+      same = elim g.is [
+        | inl w ↦ let k = w.2 in absurd (omega (arith, k, b))
+        | inr w ↦ w.0
+      ]
+
+-- new landmarks, one after another
+pub marks-next : (zone : List Block) (marks : List Landmark) (index to : ℕ) (m : Landmark) → index < length marks
+    → AreMarks m.at zone (take index marks) → Begins m.at 0 zone → AtEach (AtMost m.most m.at to) 0 zone
+    → IsTally m.tally (between m.at to 0 zone) → m.at ≤ to
+    → AreMarks to zone (take (index + 1) (set marks index m))
+marks-next zone marks index to m l a b e t r =
+    subst (AreMarks to zone) (sym (take_more_set marks index m l))
+    (marks-join to zone (take index marks) (m ∷ []) a (b, e, t, r, tt))
+
+-- and those that are still to come
+pub marks-left : (end : ℕ) (zone : List Block) (marks : List Landmark) (index : ℕ) (m : Landmark) → index < length marks
+    → AreMarks end zone (drop index marks) → AreMarks end zone (drop (index + 1) (set marks index m))
+marks-left end zone marks index m l a =
+    subst (AreMarks end zone) (sym (sym (drop-drop 1 index (set marks index m)) ∙ ap (drop 1) (drop-set marks index m l)))
+    (subst (AreMarks end zone) (drop_more marks index no_mark l) a).4
+
+pub mark-begins : (end : ℕ) (zone : List Block) (marks : List Landmark) (i : ℕ) (d : Landmark) → i < length marks
+    → AreMarks end zone marks → Begins (get_or marks i d).at 0 zone
+mark-begins end zone [] i d l a = absurd (omega (arith, l))
+mark-begins end zone (m ∷ marks) zero d l a = a.0
+mark-begins end zone (m ∷ marks) (suc i) d l a = mark-begins end zone marks i d (omega (arith, l)) a.4

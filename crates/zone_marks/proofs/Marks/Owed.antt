@@ -1,0 +1,128 @@
+-- What each change of a zone owes of its landmarks.
+use Rattle.std.proofs.Common.{◌≡◌, ℕ, ◌+◌, ◌-◌, ◌≤◌, false, cond, List, ◌∷◌, ◌++◌, length, refl, sym, ap, ◌∙◌, subst}
+use Rattle.std.proofs.Common.{arith}
+use Rattle.mac_words.specs.Size.{padded}
+use Rattle.windows.specs.Writes.{written}
+use Rattle.windows.proofs.Pieces.{length-written}
+use Rattle.block_store.specs.declared.flags.Flags.{Flags}
+use Rattle.block_store.specs.Block.{Block, Free, Nonrelocatable, Masters, Relocatable, size, free, free_of}
+use Rattle.block_store.specs.Block.{content_of, is_purgeable, with_content}
+use Rattle.block_store.specs.Inner.Stretch.{is_free}
+use Rattle.block_store.specs.Room.{filled}
+use Rattle.block_store.specs.Seen.{with_flags}
+use Rattle.block_store.proofs.Content.Sized.{cut-sized}
+use Rattle.block_store.proofs.Zone.Spots.{size-content}
+use Rattle.block_store.proofs.Zone.Totals.{total-append}
+use Rattle.zone_bytes.specs.Decode.{zone_in}
+use Rattle.zone_bytes.specs.Lawful.{IsKept}
+use Rattle.zone_marks.specs.Marked.{AreOf, IsMarked}
+use Rattle.zone_bytes.specs.Changes.{Replaced}
+use Rattle.zone_marks.specs.Marks.{ends_run}
+use Rattle.zone_bytes.specs.PurgeableBytes.{purgeable_of, purgeable_sum}
+use Rattle.zone_marks.specs.declared.keeping.Landmarks.{Landmarks}
+use Rattle.zone_marks.proofs.Bounds.Going.{stays-same}
+use Rattle.zone_marks.proofs.Marks.Keeping.{marks-same, carved-replaced}
+use Rattle.zone_bytes.proofs.Placed.NonrelocatableCarved.{Roomy}
+
+-- a block whose content is another of as many bytes
+free-content : (x : List ℕ) (b : Block) → free_of (with_content x b) ≡ free_of b
+free-content x (Free n) = refl
+free-content x (Nonrelocatable id content) = refl
+free-content x Masters = refl
+free-content x (Relocatable id flags content) = refl
+
+ends-content : (x : List ℕ) (b : Block) → ends_run (with_content x b) ≡ ends_run b
+ends-content x (Free n) = refl
+ends-content x (Nonrelocatable id content) = refl
+ends-content x Masters = refl
+ends-content x (Relocatable id flags content) = refl
+
+goes-content : (x : List ℕ) (b : Block) → is_purgeable (with_content x b) ≡ is_purgeable b
+goes-content x (Free n) = refl
+goes-content x (Nonrelocatable id content) = refl
+goes-content x Masters = refl
+goes-content x (Relocatable id flags content) = refl
+
+-- a block with other flags
+pub size-flags : (flags : Flags) (b : Block) → size (with_flags flags b) ≡ size b
+size-flags flags (Free n) = refl
+size-flags flags (Nonrelocatable id content) = refl
+size-flags flags Masters = refl
+size-flags flags (Relocatable id old content) = refl
+
+purgeable-content : (x : List ℕ) (b : Block) → length x ≡ length (content_of b)
+    → purgeable_of (with_content x b) ≡ purgeable_of b
+purgeable-content x (Free n) e = refl
+purgeable-content x (Nonrelocatable id content) e = refl
+purgeable-content x Masters e = refl
+purgeable-content x (Relocatable id flags content) e =
+    ap (λ n. cond {A = ℕ} (is_purgeable (Relocatable id flags content)) (padded n) 0) e
+
+module _ (xs : List ℕ) (first unused free purgeable : ℕ) (l : Landmarks) where
+  pub with-marks : IsKept xs first unused free → AreOf l (zone_in xs) → purgeable ≡ purgeable_sum (zone_in xs)
+      → IsMarked xs first unused free purgeable l
+  with-marks k a m = record { sound = k.sound; free_is = k.free_is; purgeable_is = m; marked = a }
+
+  -- the same zone
+  pub with-same : (zone : List Block) → IsKept xs first unused free → zone_in xs ≡ zone → AreOf l zone
+      → purgeable ≡ purgeable_sum zone → IsMarked xs first unused free purgeable l
+  with-same zone k e a m = with-marks k (subst (AreOf l) (sym e) a) (subst (λ z. purgeable ≡ purgeable_sum z) (sym e) m)
+
+  -- a block that takes as many bytes, of which as many are Free, and ends a run, and may be purged, if the other did
+  pub with-block : (below above : List Block) (b c : Block) (zone : List Block) → IsKept xs first unused free
+      → zone_in xs ≡ below ++ c ∷ above → zone ≡ below ++ b ∷ above → size c ≡ size b → free_of c ≡ free_of b
+      → ends_run c ≡ ends_run b → is_purgeable c ≡ is_purgeable b → AreOf l zone
+      → purgeable ≡ purgeable_sum (below ++ c ∷ above)
+      → IsMarked xs first unused free purgeable l
+  with-block below above b c zone k e was s f r g a m = with-marks k
+      (subst (AreOf l) (sym e) (let o = subst (AreOf l) was a in (
+        (marks-same 4294967295 l.marks.items below above b c s f r o.0.0, o.0.1),
+        stays-same l.lowest 0 below above b c s g o.1,
+      )))
+      (subst (λ z. purgeable ≡ purgeable_sum z) (sym e) m)
+
+  -- bytes were written over some of a block's content
+  pub with-written : (below above : List Block) (b : Block) (from : ℕ) (x : List ℕ) (zone : List Block)
+      → IsKept xs first unused free
+      → zone_in xs ≡ below ++ with_content (written from x (content_of b)) b ∷ above
+      → zone ≡ below ++ b ∷ above → from + length x ≤ length (content_of b) → AreOf l zone
+      → purgeable ≡ purgeable_sum zone → IsMarked xs first unused free purgeable l
+  with-written below above b from x zone k e was w a m =
+      let now = written from x (content_of b) in
+      let long = length-written from x (content_of b) w in
+      let p = purgeable-content now b long in
+      let o = ap purgeable_sum was in
+      let t = total-append purgeable_of below (b ∷ above) in
+      let u = total-append purgeable_of below (with_content now b ∷ above) in
+      with-block below above b (with_content now b) zone k e was (size-content now b long) (free-content now b)
+      (ends-content now b) (goes-content now b) a
+      (omega (arith, p, o, t, u, m))
+
+-- a block that isn't Free was put at the lower end of a Free one
+pub filled-replaced : (xs : List ℕ) (place need : ℕ) (r : Roomy xs place need) (new : Block) → is_free new ≡ false
+    → size new ≤ need → (bytes : ℕ) → bytes ≡ size r.s.here → (zone : List Block) → zone ≡ filled new r.s
+    → Replaced place (place + bytes) (zone_in xs) zone
+filled-replaced xs place need r new solid fits bytes e zone is =
+    let l : size r.s.here ≡ r.bytes = ap size r.here in
+    let f = r.room in
+    let k : size r.s.here + 0 - size new ≡ r.bytes - size new = omega (arith, l) in
+    subst (λ n. Replaced place (place + n) (zone_in xs) zone) (sym (e ∙ l))
+    (carved-replaced r.s.below r.bytes new r.s.above (zone_in xs) zone place
+    (r.at.whole ∙ ap (λ b. r.s.below ++ b ∷ r.s.above) r.here)
+    (is ∙ cut-sized new solid r.s r.at.apart 0 r.s.above r.head (omega (arith, l, f, fits))
+    ∙ ap (λ m. r.s.below ++ new ∷ (free m ++ r.s.above)) k) (omega (arith, f, fits)) r.at.low)
+
+-- the same change, of zones known by other names
+pub replaced-as : (lo hi : ℕ) (old new was is : List Block) → was ≡ old → is ≡ new → Replaced lo hi old new
+    → Replaced lo hi was is
+replaced-as lo hi old new was is e f r = record {
+  below = r.below;
+  here = r.here;
+  there = r.there;
+  above = r.above;
+  was = e ∙ r.was;
+  is = f ∙ r.is;
+  low = r.low;
+  high = r.high;
+  span = r.span;
+}

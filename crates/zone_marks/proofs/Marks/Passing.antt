@@ -1,0 +1,160 @@
+-- A walk that goes over blocks one after another, of each of which something holds.
+use Rattle.std.proofs.Common.{◌≡◌, ℕ, ◌+◌, ◌≤◌, ◌<◌, inl, inr, ◌⊎◌, Bool, List, [], ◌∷◌, ◌++◌, length, sym, refl, ap, ◌∙◌, subst}
+use Rattle.std.proofs.Common.{arith, append_assoc}
+use Rattle.block_store.specs.Block.{Block, size, sizes, free_of}
+use Rattle.zone_bytes.specs.Stepping.{left_in, IsOnWay}
+use Rattle.zone_bytes.specs.Changes.{AtEach, Begins}
+use Rattle.zone_marks.specs.Marks.{Spans}
+use Rattle.zone_bytes.proofs.Tiles.Tiling.{span-append}
+use Rattle.zone_bytes.proofs.Places.Stepped.{left-none}
+
+-- what holds of each block, from where it stands and where it ends
+pub at-map : (R S : ℕ → Block → Type 0) (x : ℕ) (blocks : List Block)
+    → ((p : ℕ) (b : Block) → x ≤ p → p + size b ≤ x + sizes blocks → R p b → S p b)
+    → AtEach R x blocks → AtEach S x blocks
+at-map R S x [] f e = tt
+at-map R S x (b ∷ blocks) f e = (
+  f x b (omega arith) (omega arith) e.0,
+  at-map R S (x + size b) blocks (λ p c l u r. f p c (omega (arith, l)) (omega (arith, u)) r) e.1,
+)
+
+pub at-all : (R : ℕ → Block → Type 0) (x : ℕ) (blocks : List Block) → ((p : ℕ) (b : Block) → x ≤ p → R p b)
+    → AtEach R x blocks
+at-all R x [] f = tt
+at-all R x (b ∷ blocks) f = (f x b (omega arith), at-all R (x + size b) blocks (λ p c l. f p c (omega (arith, l))))
+
+pub at-both : (R S T : ℕ → Block → Type 0) (x : ℕ) (blocks : List Block)
+    → ((p : ℕ) (b : Block) → R p b → S p b → T p b) → AtEach R x blocks → AtEach S x blocks → AtEach T x blocks
+at-both R S T x [] f r s = tt
+at-both R S T x (b ∷ blocks) f r s = (f x b r.0 s.0, at-both R S T (x + size b) blocks f r.1 s.1)
+
+pub at-append : (R : ℕ → Block → Type 0) (x : ℕ) (below above : List Block) → AtEach R x below
+    → AtEach R (x + sizes below) above → AtEach R x (below ++ above)
+at-append R x [] above r s = subst (λ y. AtEach R y above) (let e : x + 0 ≡ x = omega arith in e) s
+at-append R x (b ∷ below) above r s = (
+  r.0,
+  at-append R (x + size b) below above r.1
+      (subst (λ y. AtEach R y above) (let e : x + (size b + sizes below) ≡ x + size b + sizes below = omega arith in e) s),
+)
+
+pub at-left : (R : ℕ → Block → Type 0) (x : ℕ) (below above : List Block) → AtEach R x (below ++ above)
+    → AtEach R x below
+at-left R x [] above r = tt
+at-left R x (b ∷ below) above r = (r.0, at-left R (x + size b) below above r.1)
+
+pub at-right : (R : ℕ → Block → Type 0) (x : ℕ) (below above : List Block) → AtEach R x (below ++ above)
+    → AtEach R (x + sizes below) above
+at-right R x [] above r = subst (λ y. AtEach R y above) (let e : x ≡ x + 0 = omega arith in e) r
+at-right R x (b ∷ below) above r =
+    subst (λ y. AtEach R y above) (let e : x + size b + sizes below ≡ x + (size b + sizes below) = omega arith in e)
+    (at-right R (x + size b) below above r.1)
+
+-- where blocks begin
+pub begins-here : (x : ℕ) (blocks : List Block) → Begins x x blocks
+begins-here x [] = refl
+begins-here x (b ∷ blocks) = inl refl
+
+pub begins-right : (p x : ℕ) (below above : List Block) → Begins p (x + sizes below) above → Begins p x (below ++ above)
+begins-right p x [] above e = subst (λ y. Begins p y above) (let e : x + 0 ≡ x = omega arith in e) e
+begins-right p x (b ∷ below) above e = inr (begins-right p (x + size b) below above
+    (subst (λ y. Begins p y above) (let e : x + (size b + sizes below) ≡ x + size b + sizes below = omega arith in e) e))
+
+pub begins-left : (p x : ℕ) (below above : List Block) → Begins p x below → Begins p x (below ++ above)
+begins-left p x [] above e = subst (λ q. Begins q x above) (sym e) (begins-here x above)
+begins-left p x (b ∷ below) above (inl e) = inl e
+begins-left p x (b ∷ below) above (inr e) = inr (begins-left p (x + size b) below above e)
+
+pub begins-either : (p x : ℕ) (below above : List Block) → Begins p x (below ++ above)
+    → Begins p x below ⊎ Begins p (x + sizes below) above
+begins-either p x [] above e = inr (subst (λ y. Begins p y above) (let e : x ≡ x + 0 = omega arith in e) e)
+begins-either p x (b ∷ below) above (inl e) = inl (inl e)
+begins-either p x (b ∷ below) above (inr e) = elim (begins-either p (x + size b) below above e) [
+  | inl d ↦ inl (inr d)
+  | inr d ↦ inr (subst (λ y. Begins p y above)
+      (let e : x + size b + sizes below ≡ x + (size b + sizes below) = omega arith in e) d)
+]
+
+pub begins-within : (p x : ℕ) (blocks : List Block) → Begins p x blocks → (x ≤ p) × (p ≤ x + sizes blocks)
+begins-within p x [] e = (omega (arith, e), omega (arith, e))
+begins-within p x (b ∷ blocks) (inl e) = (omega (arith, e), omega (arith, e))
+begins-within p x (b ∷ blocks) (inr e) = let w = begins-within p (x + size b) blocks e in
+    let l = w.0 in let u = w.1 in (omega (arith, l), omega (arith, u))
+
+-- a place at which blocks begin parts them
+pub record PartsAt (p x : ℕ) (blocks : List Block) : Type 0 where
+  pub below : List Block
+  pub above : List Block
+  pub is : blocks ≡ below ++ above
+  pub low : x + sizes below ≡ p
+
+pub parts : (p x : ℕ) (blocks : List Block) → Begins p x blocks → PartsAt p x blocks
+parts p x [] e = record { below = []; above = []; is = refl; low = omega (arith, e) }
+parts p x (b ∷ blocks) (inl e) = record { below = []; above = b ∷ blocks; is = refl; low = omega (arith, e) }
+parts p x (b ∷ blocks) (inr e) =
+    let r = parts p (x + size b) blocks e in
+    let l = r.low in
+    record { below = b ∷ r.below; above = r.above; is = ap (λ k. b ∷ k) r.is; low = omega (arith, l) }
+
+-- the blocks from a place on up to another, of each of which something holds
+pub record Passed (xs : List ℕ) (from at : ℕ) (R : ℕ → Block → Type 0) : Type 0 where
+  pub done : List Block
+  pub is : left_in from xs ≡ done ++ left_in at xs
+  pub up : from + sizes done ≡ at
+  pub each : AtEach R from done
+  pub way : IsOnWay at xs
+
+-- where the lower of two bounds was come to
+pub past : (to end at stop : ℕ) → (stop ≡ to) ⊎ (stop ≡ end) → stop ≤ at → (to ≤ at) ⊎ (end ≤ at)
+past to end at stop (inl e) l = inl (omega (arith, e, l))
+past to end at stop (inr e) l = inr (omega (arith, e, l))
+
+pub passed-more : (xs : List ℕ) (from at : ℕ) (R S : ℕ → Block → Type 0) → ((p : ℕ) (b : Block) → R p b → S p b)
+    → Passed xs from at R
+    → Passed xs from at S
+passed-more xs from at R S f p = record {
+  done = p.done;
+  is = p.is;
+  up = p.up;
+  each = at-map R S from p.done (λ q b _ _ r. f q b r) p.each;
+  way = p.way;
+}
+
+module _ (xs : List ℕ) (from : ℕ) (R : ℕ → Block → Type 0) where
+  pub passed-start : IsOnWay from xs → Passed xs from from R
+  passed-start w = record { done = []; is = refl; up = omega arith; each = tt; way = w }
+
+  pub passed-step : (at end free : ℕ) (barrier : Bool) → Passed xs from at R → Spans at end free barrier xs
+      → ((b : Block) → free ≡ free_of b → 0 < size b → R at b) → Passed xs from end R
+  passed-step at end free barrier p s r =
+      let u = p.up in
+      let v = s.up in
+      let t = s.some in
+      let a = span-append p.done (s.here ∷ []) in
+      record {
+        done = p.done ++ s.here ∷ [];
+        is = p.is ∙ ap (λ k. p.done ++ k) s.is ∙ sym (append_assoc p.done (s.here ∷ []) (left_in end xs));
+        up = omega (arith, u, v, a);
+        each = at-append R from p.done (s.here ∷ []) p.each
+            (subst (λ q. R q s.here) (sym u) (r s.here s.bytes (omega (arith, v, t))), tt);
+        way = s.way;
+      }
+
+  pub passed-begins : (at : ℕ) → Passed xs from at R → Begins at from (left_in from xs)
+  passed-begins at p = subst (Begins at from) (sym p.is) (begins-right at from p.done (left_in at xs)
+      (subst (λ y. Begins at y (left_in at xs)) (sym p.up) (begins-here at (left_in at xs))))
+
+  -- so it is of each block that begins below a bound which the walk came to
+  pub passed-all : (S : ℕ → Block → Type 0) (lo hi at : ℕ) → Passed xs from at R
+      → ((p : ℕ) (b : Block) → R p b → S p b) → (hi ≤ at) ⊎ (length xs ≤ at)
+      → AtEach (λ p b. lo ≤ p → p < hi → S p b) from (left_in from xs)
+  passed-all S lo hi at p f e =
+      subst (AtEach T from) (sym p.is)
+      (at-append T from p.done (left_in at xs)
+      (at-map R T from p.done (λ q b l u r. λ m n. f q b r) p.each)
+      (subst (λ y. AtEach T y (left_in at xs)) (sym p.up) (elim e [
+        | inl h ↦ at-all T at (left_in at xs) (λ q b l. λ m n. absurd (omega (arith, l, n, h)))
+        | inr h ↦ subst (AtEach T at) (sym (left-none at xs p.way h)) tt
+      ])))
+    where
+      T : ℕ → Block → Type 0
+      T = λ p b. lo ≤ p → p < hi → S p b

@@ -1,0 +1,184 @@
+-- Room that is found stretch by stretch.
+use Rattle.std.proofs.Common.{◌≡◌, ℕ, true, false, ◌+◌, ◌≤◌, ◌<◌, Option, Some, None, inl, inr, List, [], ◌∷◌, ◌++◌, sym, refl, ap, ◌∙◌}
+use Rattle.std.proofs.Common.{subst, arith, cond, zero, suc, ◌*◌, length, drop, get_or}
+use Rattle.std.proofs.lemmas.List.{drop_more, drop_all}
+use Rattle.std.specs.Option.{option_map, IfSome, MatchOption}
+use Rattle.std.proofs.lemmas.Bool.Decides.{leb_tells}
+use Rattle.block_store.specs.Block.{Block, Free, Nonrelocatable, Masters, Relocatable, size, sizes, is_room, free_of}
+use Rattle.block_store.specs.Room.{Spot, spot, spot_at, raised}
+use Rattle.block_store.specs.Find.{FindsLowest}
+use Rattle.block_store.proofs.Zone.Apart.{Apart, apart-tidied, apart-size}
+use Rattle.block_store.proofs.Zone.Spots.{spot_at-spot}
+use Rattle.zone_bytes.specs.Decode.{zone_in}
+use Rattle.zone_bytes.specs.Lawful.{IsSound}
+use Rattle.zone_bytes.specs.Table.{slot_in}
+use Rattle.zone_bytes.specs.Stepping.{left_in}
+use Rattle.zone_bytes.specs.Changes.{AtEach, Begins}
+use Rattle.zone_marks.specs.Marks.{AtMost, NoRoom, NoneBelow, AreMarks, AreGroups, RoomAt, next_of, no_group, no_mark}
+use Rattle.zone_marks.specs.declared.landmark.Group.{Group}
+use Rattle.zone_marks.specs.declared.landmark.Landmark.{Landmark}
+use Rattle.zone_marks.specs.declared.landmark.TheConstants.{GROUP}
+use Rattle.zone_bytes.proofs.Laws.Lawful.{sizes-length}
+use Rattle.zone_marks.proofs.Marks.Passing.{at-map, at-all, at-append, at-both, at-left}
+use Rattle.zone_marks.proofs.Marks.Lowering.{seen-from, begins-further, marks-parted, mark-first}
+
+filled : (x : ℕ) (blocks : List Block) → Apart blocks → AtEach (λ _ b. 0 < size b) x blocks
+filled x [] a = tt
+filled x (b ∷ blocks) a = (apart-size b blocks a.0, filled (x + size b) blocks a.1)
+
+-- a bound says where no room is
+pub bound-room : (most bytes lo hi : ℕ) (x : ℕ) (blocks : List Block) → most < bytes
+    → AtEach (AtMost most lo hi) x blocks → AtEach (NoRoom bytes lo hi) x blocks
+bound-room most bytes lo hi x blocks l e = at-map (AtMost most lo hi) (NoRoom bytes lo hi) x blocks
+    (λ p b _ _ r m n. low b (r m n)) e
+  where
+    low : (b : Block) → free_of b ≤ most → is_room bytes b ≡ false
+    low (Free n) f = grind (arith, f, l)
+    low (Nonrelocatable id content) f = refl
+    low Masters f = refl
+    low (Relocatable slot flags content) f = refl
+
+-- past blocks that are no room
+spot-past : (bytes x : ℕ) (below : List Block) (b : Block) (above : List Block)
+    → AtEach (λ _ c. is_room bytes c ≡ false) x below → is_room bytes b ≡ true
+    → spot (is_room bytes) (below ++ b ∷ above) ≡ Some (record { below = below; here = b; above = above })
+spot-past bytes x [] b above n r =
+    ap (λ v. cond v (Some (record { below = []; here = b; above = above })) (option_map (raised b) (spot (is_room bytes) above))) r
+spot-past bytes x (c ∷ below) b above n r =
+    ap (λ v. cond v (Some (record { below = []; here = c; above = below ++ b ∷ above })) (option_map (raised c)
+    (spot (is_room bytes) (below ++ b ∷ above)))) n.0
+    ∙ ap (option_map (raised c)) (spot-past bytes (x + size c) below b above n.1 r)
+
+spot-none : (bytes x : ℕ) (blocks : List Block) → AtEach (λ _ c. is_room bytes c ≡ false) x blocks
+    → spot (is_room bytes) blocks ≡ None
+spot-none bytes x [] n = refl
+spot-none bytes x (c ∷ blocks) n =
+    ap (λ v. cond v (Some (record { below = []; here = c; above = blocks })) (option_map (raised c)
+    (spot (is_room bytes) blocks))) n.0
+    ∙ ap (option_map (raised c)) (spot-none bytes (x + size c) blocks n.1)
+
+module _ (xs : List ℕ) (first unused : ℕ) (i : IsSound xs first unused) (bytes : ℕ) where
+  apart : Apart (zone_in xs)
+  apart = apart-tidied (zone_in xs) i.tidied
+
+  -- blocks that end where the search begins
+  none-below : (below above : List Block) (p : ℕ) → zone_in xs ≡ below ++ above → sizes below ≡ p
+      → AtEach (NoRoom bytes 0 p) 0 (zone_in xs) → AtEach (λ _ c. is_room bytes c ≡ false) 0 below
+  none-below below above p z l n =
+      at-map (λ q c. (0 < size c) × NoRoom bytes 0 p q c) (λ _ c. is_room bytes c ≡ false) 0 below
+      (λ q c v u r. let s = r.0 in r.1 (omega arith) (omega (arith, u, s, l)))
+      (at-left (λ q c. (0 < size c) × NoRoom bytes 0 p q c) 0 below above
+      (subst (AtEach (λ q c. (0 < size c) × NoRoom bytes 0 p q c) 0) z
+      (at-both (λ _ c. 0 < size c) (NoRoom bytes 0 p) (λ q c. (0 < size c) × NoRoom bytes 0 p q c) 0 (zone_in xs)
+      (λ q c s r. (s, r)) (filled 0 (zone_in xs) apart) n)))
+
+  -- one stretch more
+  pub none-further : (p to : ℕ) → Begins p 0 (zone_in xs) → AtEach (NoRoom bytes 0 p) 0 (zone_in xs)
+      → AtEach (NoRoom bytes p to) p (left_in p xs) → AtEach (NoRoom bytes 0 to) 0 (zone_in xs)
+  none-further p to b n e =
+      let s = seen-from xs first unused i p b in
+      let l = s.low in
+      let S = NoRoom bytes 0 to in
+      subst (AtEach S 0) (sym s.is) (at-append S 0 s.below (left_in p xs)
+      (at-map (λ _ c. is_room bytes c ≡ false) S 0 s.below (λ q c _ _ r _ _. r)
+      (none-below s.below (left_in p xs) p s.is l n))
+      (subst (λ y. AtEach S y (left_in p xs)) (let k : p ≡ 0 + sizes s.below = omega (arith, l) in k)
+      (at-map (NoRoom bytes p to) S p (left_in p xs) (λ q c v _ r _ h. r v h) e)))
+
+  pub none-whole : (p to : ℕ) → AtEach (NoRoom bytes 0 p) 0 (zone_in xs) → AtEach (NoRoom bytes p to) 0 (zone_in xs)
+      → AtEach (NoRoom bytes 0 to) 0 (zone_in xs)
+  none-whole p to n e = at-both (NoRoom bytes 0 p) (NoRoom bytes p to) (NoRoom bytes 0 to) 0 (zone_in xs)
+      (λ q c r s _ h. either q c r s h) n e
+    where
+      either : (q : ℕ) (c : Block) → NoRoom bytes 0 p q c → NoRoom bytes p to q c → q < to → is_room bytes c ≡ false
+      either q c r s h = elim (leb_tells p q) [
+        | inl l ↦ s l.1 h
+        | inr l ↦ r (omega arith) l.1
+      ]
+
+  -- the lowest one
+  pub lowest-found : (p place : ℕ) → Begins p 0 (zone_in xs) → AtEach (NoRoom bytes 0 p) 0 (zone_in xs)
+      → Begins place p (left_in p xs) → AtEach (NoRoom bytes p place) p (left_in p xs) → RoomAt bytes place xs
+      → FindsLowest (is_room bytes) (zone_in xs) (Some place)
+  lowest-found p place b n e f r =
+      let s = seen-from xs first unused i place (begins-further xs first unused i p place b e) in
+      let z = s.is ∙ ap (λ k. s.below ++ k) r.is in
+      let g = none-below s.below (left_in place xs) place s.is s.low (none-further p place b n f) in
+      let t : Spot = record { below = s.below; here = r.here; above = r.above } in
+      let found = ap (spot (is_room bytes)) z ∙ spot-past bytes 0 s.below r.here r.above g r.room in (
+        t,
+        found,
+        subst (λ q. spot_at q (zone_in xs) ≡ Some t) s.low
+            (spot_at-spot (is_room bytes) (zone_in xs) t apart found),
+        s.low,
+      )
+
+  -- and where there is none
+  pub none-found : AtEach (NoRoom bytes 0 4294967295) 0 (zone_in xs) → spot (is_room bytes) (zone_in xs) ≡ None
+  none-found n =
+      let l = sizes-length xs (zone_in xs) (slot_in xs) i.unused i.lays in
+      let m = i.lays.small in
+      spot-none bytes 0 (zone_in xs) (at-map (NoRoom bytes 0 4294967295) (λ _ c. is_room bytes c ≡ false) 0 (zone_in xs)
+      (λ q c _ u r. r (omega arith) (omega (arith, u, l, m))) n)
+
+  pub nothing-below : AtEach (NoRoom bytes 0 0) 0 (zone_in xs)
+  nothing-below = at-all (NoRoom bytes 0 0) 0 (zone_in xs) (λ q c _ _ h. absurd (omega (arith, h)))
+
+-- what an answer gives, where another is known of it
+pub if-none : (o : Option ℕ) (A B : Type 0) → (A → B) → MatchOption o A (λ _. Unit {0}) → MatchOption o B (λ _. Unit {0})
+if-none None A B f a = f a
+if-none (Some p) A B f a = tt
+
+pub if-three : (o : Option ℕ) (P Q R S : ℕ → Type 0) → ((p : ℕ) → P p → Q p → R p → S p) → IfSome o P → IfSome o Q
+    → IfSome o R → IfSome o S
+if-three None P Q R S f p q r = tt
+if-three (Some n) P Q R S f p q r = f n p q r
+
+-- the stretch of a landmark that notes less
+pub stretch-room : (bytes : ℕ) (zone : List Block) (marks : List Landmark) (index : ℕ) → index < length marks
+    → AreMarks 4294967295 zone marks → (get_or marks index no_mark).most < bytes
+    → AtEach (NoRoom bytes (get_or marks index no_mark).at
+    (next_of 4294967295 (drop (index + 1) marks))) 0 zone
+stretch-room bytes zone marks index u a l =
+    let d : Landmark = no_mark in
+    let m = get_or marks index d in
+    bound-room m.most bytes m.at (next_of 4294967295 (drop (index + 1) marks)) 0 zone l
+    (subst (AreMarks 4294967295 zone) (drop_more marks index d u) (marks-parted 4294967295 zone marks index a).1).1
+
+-- no room lies in the zone, once none lies below any landmark
+pub none-past : (bytes : ℕ) (zone : List Block) (marks : List Landmark) (index : ℕ) → length marks ≤ index
+    → NoneBelow bytes zone marks index → AtEach (NoRoom bytes 0 4294967295) 0 zone
+none-past bytes zone marks index l n =
+    subst (λ k. AtEach (NoRoom bytes 0 (next_of 4294967295 k)) 0 zone) (drop_all index marks l) n
+
+module _ (xs : List ℕ) (first unused : ℕ) (i : IsSound xs first unused) (bytes : ℕ) (marks : List Landmark)
+    (a : AreMarks 4294967295 (zone_in xs) marks) where
+  -- over one landmark that notes less
+  none-next : (index : ℕ) → index < length marks → (get_or marks index no_mark).most < bytes
+      → NoneBelow bytes (zone_in xs) marks index → NoneBelow bytes (zone_in xs) marks (index + 1)
+  none-next index u l n =
+      let d : Landmark = no_mark in
+      none-whole xs first unused i bytes (get_or marks index d).at (next_of 4294967295 (drop (index + 1) marks))
+      (subst (λ p. AtEach (NoRoom bytes 0 p) 0 (zone_in xs)) (mark-first 4294967295 marks index d u) n)
+      (stretch-room bytes (zone_in xs) marks index u a l)
+
+  -- over so many of them
+  none-along : (count index : ℕ) → index + count ≤ length marks
+      → ((j : ℕ) → index ≤ j → j < index + count → (get_or marks j no_mark).most < bytes)
+      → NoneBelow bytes (zone_in xs) marks index → NoneBelow bytes (zone_in xs) marks (index + count)
+  none-along zero index u f n =
+      subst (NoneBelow bytes (zone_in xs) marks) (let e : index ≡ index + 0 = omega arith in e) n
+  none-along (suc count) index u f n =
+      subst (NoneBelow bytes (zone_in xs) marks) (let e : index + 1 + count ≡ index + suc count = omega arith in e)
+      (none-along count (index + 1) (omega (arith, u)) (λ j l h. f j (omega (arith, l)) (omega (arith, h)))
+      (none-next index (omega (arith, u)) (f index (omega arith) (omega arith)) n))
+
+  -- over a group whose top is less
+  pub none-group : (groups : List Group) → AreGroups groups marks → (group : ℕ) → group < length groups
+      → (get_or groups group no_group).most < bytes
+      → NoneBelow bytes (zone_in xs) marks (GROUP * group) → NoneBelow bytes (zone_in xs) marks (GROUP * (group + 1))
+  none-group groups t group u l n =
+      let w = t.whole in
+      subst (NoneBelow bytes (zone_in xs) marks) (let e : GROUP * group + GROUP ≡ GROUP * (group + 1) = omega arith in e)
+      (none-along GROUP (GROUP * group) (omega (arith, w, u))
+      (λ j b h. let k = t.each group j b h (omega (arith, w, u, h)) in omega (arith, k, l)) n)

@@ -1,0 +1,77 @@
+-- A block that is sought from an edge at or below it.
+use Rattle.std.proofs.Common.{◌≡◌, ℕ, ◌+◌, Bool, true, false, cond, ◌<◌, ◌≤◌, ◌^◌, Option, Some, None, List, [], ◌∷◌, ◌++◌}
+use Rattle.std.proofs.Common.{refl, sym, ap, ◌∙◌, subst, arith}
+use Rattle.std.proofs.lemmas.Option.{none-some, same_Some}
+use Rattle.std.specs.Option.{option_map, IfSome}
+use Rattle.block_store.specs.Block.{Block, sizes, tidy}
+use Rattle.block_store.specs.Room.{Spot, spot, raised}
+use Rattle.block_store.proofs.Zone.Apart.{Apart, apart-tidied, apart-above, apart-size, tidy-apart}
+use Rattle.zone_bytes.specs.Decode.{zone_in}
+use Rattle.zone_bytes.specs.Lawful.{IsSound}
+use Rattle.zone_bytes.specs.Changes.{Begins}
+use Rattle.zone_bytes.specs.Stepping.{left_in}
+use Rattle.zone_bytes.specs.Table.{slot_in}
+use Rattle.zone_bytes.proofs.Tiles.Tiling.{span-append}
+use Rattle.zone_bytes.proofs.Laws.Lawful.{sizes-length}
+use Rattle.zone_marks.proofs.Marks.Lowering.{seen-from}
+use Rattle.zone_bytes.proofs.Places.Options.{if-spot, the-if}
+
+-- the lowest block that passes, seen with fewer blocks below it
+pub record SeenFrom (test : Block → Bool) (below rest : List Block) (s : Spot) : Type 0 where
+  pub there : Spot
+  pub found : spot test rest ≡ Some there
+  pub same : there.above ≡ s.above
+  pub low : sizes below + sizes there.below ≡ sizes s.below
+
+pub seen-past : (test : Block → Bool) (below rest : List Block) (s : Spot) → Apart (below ++ rest)
+    → spot test (below ++ rest) ≡ Some s → sizes below ≤ sizes s.below → SeenFrom test below rest s
+seen-past test [] rest s a e l = record { there = s; found = e; same = refl; low = omega arith }
+seen-past test (b ∷ below) rest s a e l = cases (test b) (spot test (below ++ rest)) (seen-past test below rest) e
+  where
+    cases : (t : Bool) (o : Option Spot)
+        → ((r : Spot) → Apart (below ++ rest) → o ≡ Some r → sizes below ≤ sizes r.below → SeenFrom test below rest r)
+        → cond t (Some (record { below = []; here = b; above = below ++ rest })) (option_map (raised b) o) ≡ Some s
+        → SeenFrom test (b ∷ below) rest s
+    cases true o more q =
+        let k = apart-size b (below ++ rest) a.0 in
+        let z = ap (λ (r : Spot). sizes r.below) (same_Some _ _ q) in
+        absurd (omega (arith, k, z, l))
+    cases false None more q = absurd (none-some _ q)
+    cases false (Some r) more q =
+        let z = ap (λ (r : Spot). sizes r.below) (same_Some _ _ q) in
+        let f = more r a.1 refl (omega (arith, z, l)) in
+        record {
+          there = f.there;
+          found = f.found;
+          same = f.same ∙ ap (λ (r : Spot). r.above) (same_Some _ _ q);
+          low = (let k = f.low in omega (arith, k, z));
+        }
+
+module _ (xs : List ℕ) (first unused : ℕ) (i : IsSound xs first unused) (p : ℕ) (b : Begins p 0 (zone_in xs)) where
+  pub left-tidy : tidy (left_in p xs) ≡ left_in p xs
+  left-tidy =
+      let s = seen-from xs first unused i p b in
+      tidy-apart (left_in p xs) (apart-above s.below (left_in p xs)
+      (subst Apart s.is (apart-tidied (zone_in xs) i.tidied)))
+
+  pub left-fits : sizes (left_in p xs) < 2 ^ 32
+  left-fits =
+      let s = seen-from xs first unused i p b in
+      let z = ap sizes s.is in
+      let a = span-append s.below (left_in p xs) in
+      let l = sizes-length xs (zone_in xs) (slot_in xs) i.unused i.lays in
+      let m = i.lays.small in
+      omega (arith, z, a, l, m)
+
+  -- what follows the block is what follows it in the zone
+  pub sought : (test : Block → Bool) (P : List Block → Type 0)
+      → IfSome (spot test (zone_in xs)) (λ (s : Spot). p ≤ sizes s.below)
+      → IfSome (spot test (left_in p xs)) (λ (s : Spot). P s.above)
+      → IfSome (spot test (zone_in xs)) (λ (s : Spot). P s.above)
+  sought test P low found = if-spot (spot test (zone_in xs)) (λ s. P s.above) (λ s e.
+      let f = seen-from xs first unused i p b in
+      let l = the-if (spot test (zone_in xs)) (λ s. p ≤ sizes s.below) s e low in
+      let k = f.low in
+      let r = seen-past test f.below (left_in p xs) s (subst Apart f.is (apart-tidied (zone_in xs) i.tidied))
+      (sym (ap (spot test) f.is) ∙ e) (omega (arith, l, k)) in
+      subst P r.same (the-if (spot test (left_in p xs)) (λ s. P s.above) r.there r.found found))

@@ -1,0 +1,76 @@
+-- What a block's header tells of where it ends, and its Free bytes.
+use Rattle.std.proofs.Common.{◌≡◌, ℕ, Bool, true, false, not, cond, ◌==◌, ◌+◌, ◌%◌, ◌<◌, ◌≤◌, List, length, drop}
+use Rattle.std.proofs.Common.{sym, refl, ap, ◌∙◌, subst, arith, nat_le}
+use Rattle.heap_words.specs.Words.{word_at}
+use Rattle.block_store.specs.Block.{Block, Free, Nonrelocatable, Masters, Relocatable, size, free_of, is_room}
+use Rattle.zone_bytes.specs.Layout.{kind, head_of, Tile}
+use Rattle.zone_bytes.specs.Settling.{runs_on}
+use Rattle.zone_bytes.specs.Stepping.{left_in, IsOnWay}
+use Rattle.zone_marks.specs.Marks.{Spans, RoomAt}
+use Rattle.zone_bytes.proofs.Runs.Ends.{runs-told}
+use Rattle.zone_bytes.proofs.Places.Stepped.{stepped}
+use Rattle.zone_bytes.proofs.Places.HeaderTells.{here-on, size-at, same-here}
+
+-- the Free bytes of a block by its kind and size
+free-told : (b : Block) (n t : ℕ) → t ≡ kind b → n ≡ size b → cond (t == 0) n 0 ≡ free_of b
+free-told b n t k z = ap (λ j. cond (j == 0) n 0) k ∙ of-kind b z
+  where
+    of-kind : (b : Block) → n ≡ size b → cond (kind b == 0) n 0 ≡ free_of b
+    of-kind (Free m) z = z
+    of-kind (Nonrelocatable id content) z = refl
+    of-kind Masters z = refl
+    of-kind (Relocatable slot flags content) z = refl
+
+-- two words of a header tell where its block ends, its Free bytes, and whether it ends a run
+pub span-made : (at : ℕ) (xs : List ℕ) (w : IsOnWay at xs) → at < length xs → (n t : ℕ) → n + t ≡ word_at at xs
+    → n % 16 ≡ 0 → t ≤ 3 → (free : ℕ) → free ≡ cond (t == 0) n 0 → (barrier : Bool)
+    → barrier ≡ not (runs_on t (word_at (at + 12) xs)) → Spans at (at + n) free barrier xs
+span-made at xs w l n t e h k free f barrier b =
+    let s = stepped at xs w l n t e h k in
+    let z = size-at at xs w l n t e h k s.here (left_in (at + n) xs) s.is in
+    let o = here-on at xs w l n t e h k in
+    let same = same-here at xs t o s.here (left_in (at + n) xs) s.is in
+    let tile = subst (λ c. Tile (head_of o.resource c) (size c) (drop at xs)) same o.tile in
+    record {
+      here = s.here;
+      is = s.is;
+      up = ap (λ m. at + m) (sym z);
+      bytes = f ∙ free-told s.here n t (o.tag ∙ ap kind same) z;
+      ends = b ∙ ap not (runs-told o.resource xs at o.small s.here tile n t (word_at (at + 12) xs) e h k refl);
+      way = s.way;
+      some = (let m = tile.some in omega (arith, m, z));
+    }
+
+-- a block that isn't room by its Free bytes
+pub room-free : (p : ℕ) (b : Block) → 0 < free_of b → p ≤ free_of b → is_room p b ≡ true
+room-free p (Free n) s l = grind arith
+room-free p (Nonrelocatable id content) s l = absurd (omega (arith, s))
+room-free p Masters s l = absurd (omega (arith, s))
+room-free p (Relocatable slot flags content) s l = absurd (omega (arith, s))
+
+pub room-here : (p at end free : ℕ) (barrier : Bool) (xs : List ℕ) → Spans at end free barrier xs → 0 < free → p ≤ free
+    → RoomAt p at xs
+room-here p at end free barrier xs s some fits =
+    let k = s.bytes in
+    record {
+      here = s.here;
+      above = left_in end xs;
+      is = s.is;
+      room = room-free p s.here (omega (arith, some, k)) (omega (arith, fits, k));
+    }
+
+pub no-room : (p : ℕ) (b : Block) → 0 < size b → (0 < free_of b → p ≤ free_of b → ⊥) → is_room p b ≡ false
+no-room p (Free n) s f = none (nat_le p n) refl
+  where
+    none : (v : _) → nat_le p n ≡ v → nat_le p n ≡ false
+    none true e = absurd (f s (grind (arith, e)))
+    none false e = e
+no-room p (Nonrelocatable id content) s f = refl
+no-room p Masters s f = refl
+no-room p (Relocatable slot flags content) s f = refl
+
+pub free-size : (b : Block) → free_of b ≤ size b
+free-size (Free n) = omega arith
+free-size (Nonrelocatable id content) = omega arith
+free-size Masters = omega arith
+free-size (Relocatable slot flags content) = omega arith

@@ -1,0 +1,6 @@
+pub mod Going
+pub mod Pieces
+pub mod Knowing
+pub mod RunStarting
+pub mod Begun
+pub mod Passed

@@ -1,0 +1,97 @@
+-- What is known of the blocks below a place, and of the run in which the place lies.
+use Rattle.std.proofs.Common.{◌≡◌, ℕ, ◌+◌, ◌≤◌, ◌⊎◌, inl, inr, Bool, true, false, not, List, [], ◌∷◌, ◌++◌, append_assoc}
+use Rattle.std.proofs.Common.{refl, sym, ap, ◌∙◌, subst, arith}
+use Rattle.std.proofs.lemmas.Bool.{false≢true}
+use Rattle.block_store.specs.Block.{Block, free_of}
+use Rattle.block_store.specs.Run.{in_run}
+use Rattle.zone_marks.specs.Beginning.{IsOpen}
+use Rattle.zone_bytes.specs.Decode.{zone_in}
+use Rattle.zone_bytes.specs.Lawful.{IsSound}
+use Rattle.zone_bytes.specs.Changes.{Begins}
+use Rattle.zone_marks.specs.Marks.{Spans}
+use Rattle.zone_marks.specs.Searching.{IsPiece, RunBegins}
+use Rattle.zone_bytes.specs.Stepping.{left_in}
+use Rattle.zone_marks.specs.declared.beginning.OpenRun.{OpenRun}
+use Rattle.zone_marks.proofs.Marks.Passing.{begins-here}
+use Rattle.zone_marks.proofs.Searches.RunStarting.{edge-above, run-begins, run-here}
+use Rattle.zone_bytes.proofs.Tiles.Tiling.{span-append}
+use Rattle.zone_summary.specs.Stretches.{load}
+use Rattle.zone_summary.specs.Stretches.{counted, join, stretch_of}
+use Rattle.zone_summary.specs.declared.stretch.Stretch.TheVariants.{Whole}
+use Rattle.zone_summary.proofs.Monoid.{stretch_of-append}
+use Rattle.zone_summary.proofs.Sums.{load-blocks}
+
+-- a piece of no blocks
+pub piece-none : (xs : List ℕ) (at : ℕ) → Begins at 0 (zone_in xs) → IsPiece at at xs []
+piece-none xs at b = record { is = refl; up = omega arith; edge = b }
+
+-- a piece and the one above it
+pub piece-more : (xs : List ℕ) (from at to : ℕ) (low high : List Block) → IsPiece from at xs low → IsPiece at to xs high
+    → IsPiece from to xs (low ++ high)
+piece-more xs from at to low high p q = record {
+  is = p.is ∙ ap (λ k. low ++ k) q.is ∙ sym (append_assoc low high (left_in to xs));
+  up = (let u = p.up in let v = q.up in let a = span-append low high in omega (arith, u, v, a));
+  edge = q.edge;
+}
+
+-- two pieces among which no run ends
+pub open-more : (low high : List Block) (a b : ℕ) → stretch_of low ≡ Whole a → stretch_of high ≡ Whole b
+    → stretch_of (low ++ high) ≡ Whole (a + b)
+open-more low high a b e f = stretch_of-append low high ∙ ap (λ s. join s (stretch_of high)) e ∙ ap (join (Whole a)) f
+
+-- a run is open where it begins
+pub open-begun : (xs : List ℕ) (start : ℕ) → (start ≡ 0) ⊎ RunBegins start xs
+    → IsOpen xs (record { start = start; free = 0; at = start })
+open-begun xs start (inl z) = record {
+  begins = inr z;
+  here = [];
+  piece = piece-none xs start (subst (λ q. Begins q 0 (zone_in xs)) (sym z) (begins-here 0 (zone_in xs)));
+  goes_on = refl;
+}
+open-begun xs start (inr r) = record {
+  begins = inl r;
+  here = [];
+  piece = piece-none xs start (run-begins xs start r);
+  goes_on = refl;
+}
+
+-- farther, past blocks among which none ends
+pub open-farther : (xs : List ℕ) (r : OpenRun) (o : IsOpen xs r) (at next free : ℕ) (here : List Block) → r.at ≡ at
+    → IsPiece at next xs here → stretch_of here ≡ Whole free
+    → IsOpen xs (record { start = r.start; free = r.free + free; at = next })
+open-farther xs r o at next free here e p s = record {
+  begins = o.begins;
+  here = o.here ++ here;
+  piece = piece-more xs r.start r.at next o.here here o.piece (subst (λ q. IsPiece q next xs here) (sym e) p);
+  goes_on = open-more o.here here r.free free o.goes_on s;
+}
+
+-- its free bytes lie below its place
+pub open-few : (xs : List ℕ) (r : OpenRun) → IsOpen xs r → r.free ≤ r.at
+open-few xs r o =
+    let l = load-blocks o.here in
+    let e = ap load o.goes_on in
+    let u = o.piece.up in
+    omega (arith, l, e, u)
+
+-- past one block
+module _ (xs : List ℕ) (first unused : ℕ) (i : IsSound xs first unused) (r : OpenRun) (o : IsOpen xs r) (end free : ℕ)
+    (barrier : Bool) (s : Spans r.at end free barrier xs) where
+  pub open-past-bar : barrier ≡ true → IsOpen xs (record { start = end; free = 0; at = end })
+  open-past-bar e = open-begun xs end
+      (inr (run-here xs first unused i r.at end free barrier o.piece.edge s e))
+
+  mover : barrier ≡ false → in_run s.here ≡ true
+  mover e = only (in_run s.here) (sym s.ends ∙ e)
+    where
+      only : (t : Bool) → not t ≡ false → t ≡ true
+      only true e = refl
+      only false e = absurd (false≢true (sym e))
+
+  pub open-past-one : barrier ≡ false → IsOpen xs (record { start = r.start; free = r.free + free; at = end })
+  open-past-one e = open-farther xs r o r.at end free (s.here ∷ []) refl (record {
+    is = s.is;
+    up = (let u = s.up in omega (arith, u));
+    edge = edge-above xs first unused i r.at end free barrier o.piece.edge s;
+  }) (ap (λ t. join (counted t (free_of s.here)) (Whole 0)) (mover e)
+      ∙ ap Whole (let b = s.bytes in let q : free_of s.here + 0 ≡ free = omega (arith, b) in q))

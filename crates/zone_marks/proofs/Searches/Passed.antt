@@ -1,0 +1,219 @@
+-- A search for a run that passes blocks by what they come to in runs.
+use Rattle.std.proofs.Common.{◌≡◌, ℕ, ◌+◌, ◌≤◌, ◌<◌, ◌^◌, ◌&&◌, ◌⊎◌, inl, inr, Bool, true, false, nat_le, None, Option, List, [], ◌++◌, length}
+use Rattle.std.proofs.Common.{append_assoc, append-nil, refl, sym, ap, ◌∙◌, subst, arith}
+use Rattle.std.proofs.lemmas.Bool.{cond-false}
+use Rattle.block_store.specs.Block.{Block}
+use Rattle.block_store.specs.Inner.RunScan.{scan_runs}
+use Rattle.block_store.specs.Sparing.{opened, spared}
+use Rattle.block_store.specs.declared.run_search.RunScan.{RunScan}
+use Rattle.block_store.specs.declared.sparing.Sparing.{Sparing}
+use Rattle.block_store.specs.declared.sparing.Sparing.TheVariants as sparing
+use Rattle.block_store.proofs.Purged.Looks.{opened-none}
+use Rattle.block_store.proofs.Regroup.RunSkips.{scan-end}
+use Rattle.zone_bytes.specs.Decode.{zone_in}
+use Rattle.zone_bytes.specs.Lawful.{IsSound}
+use Rattle.zone_bytes.specs.Changes.{Begins}
+use Rattle.zone_marks.specs.Searching.{IsBarred, IsFound, IsKnown, IsPassed, IsPiece, IsReady, IsStretch, begun, finds_from, finds_purging}
+use Rattle.zone_bytes.specs.Stepping.{left_in}
+use Rattle.zone_marks.specs.declared.beginning.Passed.{Passed}
+use Rattle.zone_marks.specs.declared.landmark.Tally.TheVariants as tally
+use Rattle.zone_marks.proofs.Marks.Lowering.{begins-further, begins-way}
+use Rattle.zone_marks.proofs.Marks.Passing.{begins-here}
+use Rattle.zone_bytes.proofs.Places.Stepped.{left-none}
+use Rattle.zone_marks.proofs.Searches.Begun.{open-more, piece-more, piece-none}
+use Rattle.zone_marks.proofs.Searches.Knowing.{known-through}
+use Rattle.zone_marks.proofs.Searches.Pieces.{edge-within}
+use Rattle.zone_summary.specs.Stretches.{load}
+use Rattle.zone_summary.specs.Searches.{found_from}
+use Rattle.zone_summary.specs.Stretches.{best, is_ended, join, prefix, stretch_of, suffix}
+use Rattle.zone_summary.specs.declared.stretch.Stretch.{Stretch}
+use Rattle.zone_summary.specs.declared.stretch.Stretch.TheVariants.{Whole, Ended}
+use Rattle.zone_summary.proofs.Monoid.{best-low, join-assoc, stretch_of-append}
+use Rattle.zone_summary.proofs.Searching.{scan-begun, scan-never, whole-open, whole-rest}
+use Rattle.zone_summary.proofs.Sums.{ends-load, load-blocks, load-join}
+
+abbrev spares : Block → Bool
+spares = spared sparing.Nothing
+
+-- what a search with no purges left finds
+pub ready-finds : (bytes : ℕ) (xs : List ℕ) (s : RunScan) → IsReady xs s
+    → finds_from bytes s xs ≡ found_from bytes (spared sparing.Nothing) s.start s.free s.place (left_in s.place xs)
+ready-finds bytes xs s r =
+    ap (λ l. scan_runs None bytes (spared sparing.Nothing) l s.start s.free s.met s.place (left_in s.place xs)) r.left
+    ∙ ap (λ m. scan_runs None bytes (spared sparing.Nothing) 0 s.start s.free m s.place (left_in s.place xs)) r.met
+
+pub ready-known : (bytes : ℕ) (xs : List ℕ) (s : RunScan) → IsReady xs s
+    → IsKnown bytes (finds_from bytes s xs) s.place xs s
+ready-known bytes xs s r = record {
+  begins = r.begins;
+  left = r.left;
+  met = r.met;
+  free = r.free;
+  finds = refl;
+  here = inr refl;
+}
+
+pub ready-begun : (xs : List ℕ) → IsReady xs (begun 0 0)
+ready-begun xs = record { begins = begins-here 0 (zone_in xs); left = refl; met = refl; free = omega arith }
+
+pub known-ready : (bytes : ℕ) (answer : Option ℕ) (at : ℕ) (xs : List ℕ) (s : RunScan) → IsKnown bytes answer at xs s
+    → IsReady xs s
+known-ready bytes answer at xs s k = record { begins = k.begins; left = k.left; met = k.met; free = k.free }
+
+-- before it has passed any
+pub passed-none : (xs : List ℕ) (s : RunScan) → IsReady xs s
+    → IsPassed s s.place xs (record { runs = Whole s.free; barred = s.place; end = s.place; free = 0 })
+passed-none xs s r = record {
+  here = [];
+  piece = piece-none xs s.place r.begins;
+  sums = ap Whole (let e : s.free + 0 ≡ s.free = omega arith in e);
+  high = [];
+  high_piece = piece-none xs s.place r.begins;
+  goes_on = refl;
+  barred = λ e. let f : false ≡ true = e in cc;
+}
+
+open-ended : (s : Stretch) (free : ℕ) → is_ended (join s (Whole free)) ≡ true → is_ended s ≡ true
+open-ended (Whole a) free e = e
+open-ended (Ended p i s) free e = refl
+
+-- past more blocks
+module _ (xs : List ℕ) (s : RunScan) (at next : ℕ) (p : Passed) (q : IsPassed s at xs p) (here : List Block)
+    (piece : IsPiece at next xs here) (all : Stretch) where
+  sum : (runs : Stretch) → stretch_of here ≡ runs → all ≡ join p.runs runs
+      → join (Whole s.free) (stretch_of (q.here ++ here)) ≡ all
+  sum runs t e = ap (join (Whole s.free)) (stretch_of-append q.here here)
+      ∙ sym (join-assoc (Whole s.free) (stretch_of q.here) (stretch_of here))
+      ∙ ap (λ r. join r (stretch_of here)) q.sums ∙ ap (join p.runs) t ∙ sym e
+
+  pub passed-open : (free : ℕ) → stretch_of here ≡ Whole free → all ≡ join p.runs (Whole free)
+      → IsPassed s next xs (record { runs = all; barred = p.barred; end = p.end; free = p.free + free })
+  passed-open free t e = record {
+    here = q.here ++ here;
+    piece = piece-more xs s.place at next q.here here q.piece piece;
+    sums = sum (Whole free) t e;
+    high = q.high ++ here;
+    high_piece = piece-more xs p.end at next q.high here q.high_piece piece;
+    goes_on = open-more q.high here p.free free q.goes_on t;
+    barred = λ d. let b = q.barred (open-ended p.runs free (subst (λ r. is_ended r ≡ true) e d)) in record {
+      low = b.low;
+      mid = b.mid;
+      is = ap (λ k. k ++ here) b.is ∙ append_assoc b.low (b.mid ++ q.high) here
+          ∙ ap (λ k. b.low ++ k) (append_assoc b.mid q.high here);
+      up = b.up;
+      edge = b.edge;
+      piece = b.piece;
+      ended = b.ended;
+    };
+  }
+
+  pub passed-ended : (runs : Stretch) → stretch_of here ≡ runs → is_ended runs ≡ true → all ≡ join p.runs runs
+      → Begins at 0 (zone_in xs) → IsPassed s next xs (record { runs = all; barred = at; end = next; free = 0 })
+  passed-ended runs t d e k = record {
+    here = q.here ++ here;
+    piece = piece-more xs s.place at next q.here here q.piece piece;
+    sums = sum runs t e;
+    high = [];
+    high_piece = piece-none xs next piece.edge;
+    goes_on = refl;
+    barred = λ _. record {
+      low = q.here;
+      mid = here;
+      is = ap (λ k. q.here ++ k) (sym (append-nil here));
+      up = q.piece.up;
+      edge = k;
+      piece = piece;
+      ended = ap is_ended t ∙ d;
+    };
+  }
+
+-- no sum is too high
+module _ (xs : List ℕ) (first unused : ℕ) (i : IsSound xs first unused) (s : RunScan) (r : IsReady xs s) (at next : ℕ)
+    (p : Passed) (q : IsPassed s at xs p) (runs : Stretch) (t : IsStretch (tally.Known runs) at next xs) where
+  pub passed-fits : (suffix p.runs + prefix runs < 2 ^ 32) × (p.free + load runs < 2 ^ 32)
+  passed-fits =
+      let m = i.lays.small in
+      let w = edge-within xs first unused i next t.1.edge in
+      let v = t.1.up in
+      let l = load-blocks t.0 in
+      let f = ap load t.2 in (
+        (let h = ends-load p.runs runs in
+            let j = load-join (Whole s.free) (stretch_of q.here) in
+            let k = load-blocks q.here in
+            let e = ap load q.sums in
+            let u = q.piece.up in
+            let g = r.free in
+            omega (arith, m, w, v, l, f, h, j, k, e, u, g)),
+        (let k = load-blocks q.high in
+            let e = ap load q.goes_on in
+            let u = q.high_piece.up in
+            omega (arith, m, w, v, l, f, k, e, u)),
+      )
+
+-- where the blocks that were passed brought no run to enough
+module _ (bytes : ℕ) (xs : List ℕ) (s : RunScan) (r : IsReady xs s) (at : ℕ) (p : Passed) (q : IsPassed s at xs p)
+    (short : best p.runs < bytes) where
+  short-here : best (join (Whole s.free) (stretch_of q.here)) < bytes
+  short-here = let e = ap best q.sums in omega (arith, e, short)
+
+  -- a search in which no run ended goes on with their free bytes
+  pub known-open : (free : ℕ) → p.runs ≡ Whole free → IsKnown bytes (finds_from bytes s xs) at xs
+      (record { left = s.left; start = s.start; free = free; met = s.met; place = at })
+  known-open free e =
+      let w = whole-rest s.free free (stretch_of q.here) (q.sums ∙ e) in
+      let o = whole-open q.here w.0 w.1 in
+      subst (λ n. IsKnown bytes (finds_from bytes s xs) at xs
+      (record { left = s.left; start = s.start; free = n; met = s.met; place = at })) w.2
+      (known-through bytes (finds_from bytes s xs) xs s.place at w.0 s q.here (ready-known bytes xs s r) refl q.piece o.0 o.1)
+
+  -- and one that has blocks with an end of a run behind it may begin at them
+  pub known-barred : (b : IsBarred s.place xs q.here q.high p) → IsKnown bytes (finds_from bytes s xs) p.barred xs (begun p.barred 0)
+  known-barred b = record {
+    begins = b.edge;
+    left = refl;
+    met = refl;
+    free = omega arith;
+    finds = ready-finds bytes xs s r ∙ ap (found_from bytes spares s.start s.free s.place) whole
+        ∙ scan-begun bytes spares s.start s.free s.place b.low b.mid (q.high ++ left_in at xs) b.ended less
+        ∙ ap (λ y. found_from bytes spares y 0 y (b.mid ++ (q.high ++ left_in at xs))) b.up
+        ∙ ap (found_from bytes spares p.barred 0 p.barred)
+        (sym (b.piece.is ∙ ap (λ k. b.mid ++ k) q.high_piece.is));
+    here = inr refl;
+  }
+    where
+      whole : left_in s.place xs ≡ b.low ++ (b.mid ++ (q.high ++ left_in at xs))
+      whole = q.piece.is ∙ ap (λ k. k ++ left_in at xs) b.is ∙ append_assoc b.low (b.mid ++ q.high) (left_in at xs)
+          ∙ ap (λ k. b.low ++ k) (append_assoc b.mid q.high (left_in at xs))
+
+      less : best (join (Whole s.free) (stretch_of (b.low ++ b.mid))) < bytes
+      less =
+          let a = ap best (ap (join (Whole s.free)) (ap stretch_of (b.is ∙ sym (append_assoc b.low b.mid q.high))
+          ∙ stretch_of-append (b.low ++ b.mid) q.high)
+          ∙ sym (join-assoc (Whole s.free) (stretch_of (b.low ++ b.mid)) (stretch_of q.high))) in
+          let l = best-low (join (Whole s.free) (stretch_of (b.low ++ b.mid))) (stretch_of q.high) in
+          let h = short-here in
+          omega (arith, a, l, h)
+
+  -- at the zone's end none is found
+  pub passed-all : left_in at xs ≡ [] → finds_from bytes s xs ≡ None
+  passed-all e = ready-finds bytes xs s r
+      ∙ ap (found_from bytes spares s.start s.free s.place) (q.piece.is ∙ ap (λ k. q.here ++ k) e ∙ append-nil q.here)
+      ∙ scan-never bytes spares s.start s.free s.place q.here short-here
+
+-- a walk that has come to the zone's end without a run
+pub walked-out : (bytes : ℕ) (n : Sparing) (xs : List ℕ) (first unused : ℕ) → IsSound xs first unused
+    → (from last : RunScan) → Begins from.place 0 (zone_in xs) → Begins last.place from.place (left_in from.place xs)
+    → (IsFound bytes last ⊎ ((length xs ≤ last.place) ⊎ (4294967295 ≤ last.place)))
+    → (last.met && nat_le bytes last.free) ≡ false → finds_purging bytes n last xs ≡ None
+walked-out bytes n xs first unused i from last b e came f =
+    let edge = begins-further xs first unused i from.place last.place b e in
+    let w = edge-within xs first unused i last.place edge in
+    let m = i.lays.small in
+    let none = left-none last.place xs (begins-way xs first unused i last.place edge) (elim came [
+      | inl k ↦ let y : true ≡ false = sym k ∙ f in absurd (cc)
+      | inr (inl l) ↦ l
+      | inr (inr l) ↦ absurd (omega (arith, l, w, m))
+    ]) in
+    ap (scan_runs None bytes (spared n) last.left last.start last.free last.met last.place) (ap (opened n) none ∙ opened-none n)
+    ∙ scan-end None bytes (spared n) last.left last.start last.free last.met last.place
+    ∙ cond-false (last.met && nat_le bytes last.free) _ _ f

@@ -1,0 +1,65 @@
+use Rattle.std.proofs.Common.{◌≡◌, ◌+◌, ◌<◌, ◌^◌, inl, get_or, length, List, sym, subst, arith}
+use Rattle.zone_marks.specs.Marks.{above_all, no_mark}
+use Rattle.zone_marks.proofs.Marks.Lowering.{mark-first}
+use Rattle.zone_marks.proofs.Searches.Passed.{passed-fits, passed-none, ready-begun}
+use Rattle.zone_marks.proofs.Searches.Pieces.{mark-edge, mark-rises, stretch-of}
+use Rattle.zone_marks.proofs.beginning.below_mark.Goals as goal
+use Rattle.zone_summary.specs.Stretches.{load, prefix, suffix}
+use Rattle.zone_summary.specs.declared.stretch.Stretch.TheVariants.{Whole}
+use Rattle.zone_bytes.specs.Lawful.{IsSound}
+use Rattle.zone_marks.specs.Marks.{AreMarks}
+use Rattle.zone_bytes.specs.Decode.{zone_in}
+use Rattle.zone_marks.specs.Searching.{IsPassed, IsStretch, begun}
+use Rattle.zone_marks.specs.declared.beginning.Passed.{Passed}
+use Rattle.zone_marks.specs.declared.landmark.Landmark.{Landmark}
+use Rattle.zone_marks.specs.declared.landmark.Tally.TheVariants as tally
+use Rattle.zone_summary.specs.declared.stretch.Stretch.{Stretch}
+
+pub loop-index-init : goal.loop-index-init
+loop-index-init c = let xs = c.args.part.now.bytes in
+    subst (λ at. IsPassed (begun 0 0) at xs (record { runs = Whole 0; barred = 0; end = 0; free = 0 })) (sym c.requires.bottom)
+    (passed-none xs (begun 0 0) (ready-begun xs))
+
+-- the stretch of a landmark that is not the last
+piece : (xs : List _) (first unused : _) (i : IsSound xs first unused) (marks : List Landmark)
+    (a : AreMarks above_all (zone_in xs) marks) (index last : _) (runs : Stretch) → last < length marks → index < last
+    → (get_or marks index no_mark).tally ≡ tally.Known runs
+    → IsStretch (tally.Known runs) (get_or marks index no_mark).at (get_or marks (index + 1) no_mark).at xs
+piece xs first unused i marks a index last runs l h t =
+    let f = mark-first above_all marks (index + 1) no_mark (omega (arith, l, h)) in
+    let r = mark-rises xs first unused i marks a index (omega (arith, l, h)) in
+    subst (λ t. IsStretch t (get_or marks index no_mark).at (get_or marks (index + 1) no_mark).at xs) t
+    (stretch-of xs first unused i marks a index (omega (arith, l, h)) (get_or marks (index + 1) no_mark).at
+    (mark-edge xs first unused i marks a (index + 1) (omega (arith, l, h))) (omega (arith, f, r)) (omega (arith, f))
+    (inl (sym f)))
+
+-- no sum is too high
+fits : (xs : List _) (first unused : _) (i : IsSound xs first unused) (marks : List Landmark)
+    (a : AreMarks above_all (zone_in xs) marks) (index last : _) (runs : Stretch) (below : Passed) → last < length marks
+    → index < last → (get_or marks index no_mark).tally ≡ tally.Known runs
+    → IsPassed (begun 0 0) (get_or marks index no_mark).at xs below
+    → (suffix below.runs + prefix runs < 2 ^ 32) × (below.free + load runs < 2 ^ 32)
+fits xs first unused i marks a index last runs below l h t q =
+    passed-fits xs first unused i (begun 0 0) (ready-begun xs) (get_or marks index no_mark).at
+    (get_or marks (index + 1) no_mark).at below q runs (piece xs first unused i marks a index last runs l h t)
+
+pub pass_known-below-requires-clause-joins : goal.pass_known-below-requires-clause-joins
+pass_known-below-requires-clause-joins c = let i = c.requires.sound in
+    (fits c.args.part.now.bytes i.0 i.1 i.2 c.args.marks.now c.requires.marks c.loop-index.index c.args.last c.in-Known.runs
+    c.loop-index.below c.requires.inside c.loop-index-test.true c.in-Known.is c.loop-index.invariant).0
+
+pub pass_known-below-requires-clause-sums : goal.pass_known-below-requires-clause-sums
+pass_known-below-requires-clause-sums c = let i = c.requires.sound in
+    (fits c.args.part.now.bytes i.0 i.1 i.2 c.args.marks.now c.requires.marks c.loop-index.index c.args.last c.in-Known.runs
+    c.loop-index.below c.requires.inside c.loop-index-test.true c.in-Known.is c.loop-index.invariant).1
+
+pub loop-index-preserved : goal.loop-index-preserved
+loop-index-preserved c =
+    let i = c.requires.sound in
+    let xs = c.args.part.now.bytes in
+    let l = c.requires.inside in
+    let h = c.loop-index-test.true in
+    let p = piece xs i.0 i.1 i.2 c.args.marks.now c.requires.marks c.loop-index.index c.args.last c.in-Known.runs
+    l h c.in-Known.is in
+    c.pass_known-below.ensures xs (begun 0 0) p.0 c.loop-index.invariant
+    (mark-edge xs i.0 i.1 i.2 c.args.marks.now c.requires.marks c.loop-index.index (omega (arith, l, h))) p.1 p.2

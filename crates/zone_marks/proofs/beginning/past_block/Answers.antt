@@ -1,0 +1,34 @@
+use Rattle.std.proofs.Common.{arith}
+use Rattle.zone_marks.proofs.Marks.Lowering.{begins-way}
+use Rattle.zone_marks.proofs.Searches.Begun.{open-few, open-past-bar, open-past-one}
+use Rattle.zone_marks.proofs.beginning.past_block.Goals as goal
+
+pub span_at-span-requires-clause-way : goal.span_at-span-requires-clause-way
+span_at-span-requires-clause-way c =
+    let i = c.requires.sound in
+    begins-way c.args.part.now.bytes i.0 i.1 i.2 c.args.run.at c.requires.run.piece.edge
+
+pub returns-then-span-clause-run : goal.returns-then-span-clause-run
+returns-then-span-clause-run c =
+    let i = c.requires.sound in
+    let s = c.span_at-span in
+    open-past-bar c.args.part.now.bytes i.0 i.1 i.2 c.args.run c.requires.run s.result.end s.result.free s.result.barrier
+    s.ensures c.if-span.true
+
+pub returns-clause-run : goal.returns-clause-run
+returns-clause-run c =
+    let i = c.requires.sound in
+    let s = c.span_at-span in
+    open-past-one c.args.part.now.bytes i.0 i.1 i.2 c.args.run c.requires.run s.result.end s.result.free s.result.barrier
+    s.ensures c.if-span.false
+
+pub overflow_add-result : goal.overflow_add-result
+overflow_add-result c =
+    let i = c.requires.sound in
+    let s = c.span_at-span in
+    let o = open-past-one c.args.part.now.bytes i.0 i.1 i.2 c.args.run c.requires.run s.result.end s.result.free
+    s.result.barrier s.ensures c.if-span.false in
+    let l = open-few c.args.part.now.bytes _ o in
+    let f = s.result.end in
+    let g = c.span_at-span.ensures.way.small in
+    omega (arith, l)

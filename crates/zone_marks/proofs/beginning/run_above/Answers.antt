@@ -1,0 +1,23 @@
+use Rattle.std.proofs.Common.{inr}
+use Rattle.zone_marks.proofs.Marks.Lowering.{begins-way}
+use Rattle.zone_marks.proofs.Searches.RunStarting.{edge-above, run-here}
+use Rattle.zone_marks.proofs.beginning.run_above.Goals as goal
+
+pub span_at-span-requires-clause-way : goal.span_at-span-requires-clause-way
+span_at-span-requires-clause-way c =
+    let i = c.requires.sound in
+    begins-way c.args.part.now.bytes i.0 i.1 i.2 c.loop-place.place c.loop-place.invariant
+
+pub returns-then-span : goal.returns-then-span
+returns-then-span c =
+    let i = c.requires.sound in
+    let s = c.span_at-span in
+    inr (run-here c.args.part.now.bytes i.0 i.1 i.2 c.loop-place.place s.result.end s.result.free s.result.barrier
+    c.loop-place.invariant s.ensures c.if-span.true)
+
+pub loop-place-preserved : goal.loop-place-preserved
+loop-place-preserved c =
+    let i = c.requires.sound in
+    let s = c.span_at-span in
+    edge-above c.args.part.now.bytes i.0 i.1 i.2 c.loop-place.place s.result.end s.result.free s.result.barrier
+    c.loop-place.invariant s.ensures

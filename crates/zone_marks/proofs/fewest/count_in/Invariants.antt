@@ -1,0 +1,16 @@
+use Rattle.std.proofs.Common.{◌≡◌, ◌+◌, ◌≤◌, length}
+use Rattle.block_store.specs.Block.{sizes}
+use Rattle.block_store.specs.Sparing.{opened, spared}
+use Rattle.zone_summary.specs.Fewest.{count_within}
+use Rattle.zone_marks.proofs.fewest.count_in.Given as goal
+
+-- those so far, and those of what is still to come
+abbrev pub invariant-loop-left : goal.invariant-loop-left
+invariant-loop-left g l = record {
+  few : l.total + sizes (g.W.Walk.rest l.walk) ≤ sizes (g.W.Walk.rest l.initial.walk);
+  is : l.total + count_within (spared l.sparing) l.left (opened l.sparing (g.W.Walk.rest l.walk))
+      ≡ count_within (spared l.sparing) l.bytes (opened l.sparing (g.W.Walk.rest l.initial.walk));
+}
+
+abbrev pub decreases-loop-left : goal.decreases-loop-left
+decreases-loop-left g l = length (g.W.Walk.rest l.walk)

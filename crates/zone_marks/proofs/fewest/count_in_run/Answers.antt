@@ -1,0 +1,38 @@
+use Rattle.std.proofs.Common.{◌∙◌, ◌≡◌, ◌-◌, ◌+◌, ap, arith, sym}
+use Rattle.block_store.specs.Block.{size}
+use Rattle.block_store.specs.Sparing.{spared}
+use Rattle.block_store.proofs.Walks.Telling.{told, told-size, told-sizes}
+use Rattle.zone_summary.specs.Fewest.{run_purges_for}
+use Rattle.zone_summary.proofs.Fewest.{goes-size}
+use Rattle.zone_summary.proofs.BlockRuns.{run-goes, run-stays}
+use Rattle.zone_marks.proofs.fewest.count_in_run.Goals as goal
+
+pub loop-left-preserved-then-may_purge_now : goal.loop-left-preserved-then-may_purge_now
+loop-left-preserved-then-may_purge_now g c =
+    let sp = spared c.args.sparing in
+    let after = g.W.Walk.rest c.next_block.new.self in
+    let t = told (g.W.Walk.rest c.loop-left.walk) after c.next_block.result c.in-Some.block c.next_block.ensures
+    c.in-Some.is in
+    let goes = sym (c.may_purge_now.ensures t.block t.is) ∙ c.if-may_purge_now.true in
+    let less : c.saturating_sub-left.result ≡ c.loop-left.left - size t.block =
+    c.saturating_sub-left.ensures ∙ ap (λ k. c.loop-left.left - k) (c.size_of_seen.ensures ∙ told-size t) in
+    record {
+      few = omega (arith, c.loop-left.invariant.few, told-sizes t, told-size t, goes-size sp t.block goes);
+      is = ap (λ k. run_purges_for sp (c.loop-left.total + 1) k after) less
+          ∙ sym (run-goes sp c.loop-left.total c.loop-left.left t.block after (omega (arith, c.loop-left-test.true)) goes)
+          ∙ sym (ap (run_purges_for sp c.loop-left.total c.loop-left.left) t.before_is) ∙ c.loop-left.invariant.is;
+    }
+
+pub loop-left-preserved : goal.loop-left-preserved
+loop-left-preserved g c =
+    let sp = spared c.args.sparing in
+    let after = g.W.Walk.rest c.next_block.new.self in
+    let t = told (g.W.Walk.rest c.loop-left.walk) after c.next_block.result c.in-Some.block c.next_block.ensures
+    c.in-Some.is in
+    record {
+      few = omega (arith, c.loop-left.invariant.few, told-sizes t);
+      is = sym (run-stays sp c.loop-left.total c.loop-left.left t.block after (omega (arith, c.loop-left-test.true))
+          (sym (c.may_purge_now.ensures t.block t.is) ∙ c.if-may_purge_now.false)
+          (sym (c.is_in_run.ensures t.block t.is) ∙ c.if-not-is_in_run.false))
+          ∙ sym (ap (run_purges_for sp c.loop-left.total c.loop-left.left) t.before_is) ∙ c.loop-left.invariant.is;
+    }

@@ -1,0 +1,14 @@
+use Rattle.std.proofs.Common.{subst}
+use Rattle.zone_marks.specs.Searching.{IsStretch}
+use Rattle.zone_marks.proofs.finding_runs.pass_stretch.Goals as goal
+
+pub pass_known-farther-requires-clause-joins : goal.pass_known-farther-requires-clause-joins
+pass_known-farther-requires-clause-joins c = (c.requires.fits c.in-Known.runs c.in-Known.is).0
+
+pub pass_known-farther-requires-clause-sums : goal.pass_known-farther-requires-clause-sums
+pass_known-farther-requires-clause-sums c = (c.requires.fits c.in-Known.runs c.in-Known.is).1
+
+pub returns-clause-passed : goal.returns-clause-passed
+returns-clause-passed c = λ xs scan q e s.
+    let t = subst (λ t. IsStretch t c.args.mark.at c.args.next xs) c.in-Known.is s in
+    c.pass_known-farther.ensures xs scan t.0 q e t.1 t.2

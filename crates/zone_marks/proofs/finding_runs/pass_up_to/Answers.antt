@@ -1,0 +1,42 @@
+use Rattle.std.proofs.Common.{length, refl, subst}
+use Rattle.zone_marks.specs.Searching.{IsBefore, IsStretch}
+use Rattle.zone_marks.proofs.Searches.Passed.{passed-fits}
+use Rattle.zone_marks.proofs.Searches.Pieces.{before, bounded-edge, bounded-end, bounded-mark}
+use Rattle.zone_marks.proofs.finding_runs.pass_up_to.Goals as goal
+use Rattle.zone_marks.proofs.finding_runs.pass_up_to.Goals.{After-within-next}
+
+-- up to where
+up-to : (c : After-within-next) → IsBefore c.args.behind c.args.marks.now c.args.part.now.bytes c.within-next.result
+up-to c =
+    let w = c.within-next.ensures in
+    before c.args.marks.now c.args.behind c.within-next.result c.place_of_mark.result c.len.result c.args.part.now.bytes
+    c.place_of_mark.ensures c.len.ensures.count w.one w.low w.least
+
+pub pass_stretch-requires : goal.pass_stretch-requires
+pass_stretch-requires c = record {
+  fits = λ runs e.
+      let i = c.requires.sound in
+      let xs = c.args.part.now.bytes in
+      let d = (goal.at.pass_stretch-requires c).After-within-next in
+      let h = c.requires.come.1 in
+      passed-fits xs i.0 i.1 i.2 c.requires.come.0 h.ready c.args.reached.at c.within-next.result c.args.reached.passed h.passed
+      runs (subst (λ t. IsStretch t c.args.reached.at c.within-next.result xs) e
+      (c.requires.stretch c.within-next.result (up-to d)));
+}
+
+pub returns-in-Some-clause-come : goal.returns-in-Some-clause-come
+returns-in-Some-clause-come c = λ scan h.
+    let i = c.requires.sound in
+    let xs = c.args.part.now.bytes in
+    let d = (goal.at.returns-in-Some-clause-come c).After-within-next in
+    let b = up-to d in
+    let marks = c.args.marks.now in
+    let next = c.within-next.result in
+    record {
+      ready = h.ready;
+      passed = c.in-Some.ensures.passed xs scan h.passed h.edge (c.requires.stretch next b);
+      edge = bounded-edge xs i.0 i.1 i.2 marks c.requires.marks c.args.behind next (length xs) refl b.either b.low;
+      inside = c.requires.inside;
+      here = bounded-mark xs i.0 i.1 i.2 marks c.requires.marks c.args.behind next (length xs) refl b.either b.least;
+      end = bounded-end xs i.0 i.1 i.2 marks c.args.behind next (length xs) refl b.either b.low;
+    }

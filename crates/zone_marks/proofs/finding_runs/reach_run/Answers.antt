@@ -1,0 +1,27 @@
+use Rattle.std.proofs.Common.{sym, arith}
+use Rattle.zone_marks.proofs.Marks.Lowering.{begins-way}
+use Rattle.zone_bytes.proofs.Places.Stepped.{left-none}
+use Rattle.zone_marks.proofs.Searches.Passed.{passed-all, passed-none}
+use Rattle.zone_marks.proofs.finding_runs.reach_run.Goals as goal
+
+pub loop-reached-init : goal.loop-reached-init
+loop-reached-init c = record {
+  come = record {
+    ready = c.requires.ready;
+    passed = passed-none c.args.part.now.bytes c.args.scan c.requires.ready;
+    edge = c.requires.ready.begins;
+    inside = c.requires.first;
+    here = c.requires.here;
+    end = c.requires.end;
+  };
+  short = (let s = c.requires.short in omega (arith, s));
+}
+
+pub returns : goal.returns
+returns c =
+    let i = c.requires.sound in
+    let xs = c.args.part.now.bytes in
+    let v = c.loop-reached.invariant in
+    let r = c.loop-reached.reached in
+    sym (passed-all c.args.bytes xs c.args.scan c.requires.ready r.at r.passed v.come.passed v.short
+    (left-none r.at xs (begins-way xs i.0 i.1 i.2 r.at v.come.edge) (v.come.end c.loop-reached-test.false)))

@@ -1,0 +1,54 @@
+use Rattle.std.proofs.Common.{◌≡◌, ◌&&◌, nat_le, true, false, None, refl, sym, ap, ◌∙◌, subst, arith}
+use Rattle.block_store.specs.Inner.RunScan.{scan_from}
+use Rattle.block_store.specs.Sparing.{opened, spared}
+use Rattle.zone_bytes.specs.Changes.{Begins}
+use Rattle.zone_bytes.specs.Stepping.{left_in}
+use Rattle.zone_marks.proofs.Marks.Passing.{Passed, passed-begins, begins-within}
+use Rattle.zone_marks.proofs.Searches.Going.{seen-sized, passed-block, edge-further}
+use Rattle.zone_marks.proofs.finding_runs.scan_up_to.Goals as goal
+
+pub loop-scan-preserved : goal.loop-scan-preserved
+loop-scan-preserved c =
+    let xs = c.args.part.now.bytes in
+    let i = c.loop-scan.invariant in
+    let scan = c.loop-scan.scan in
+    let step = c.step_at-step in
+    let s = step.ensures in
+    let r = c.scan_run-scan.ensures in
+    let find = scan_from None c.args.bytes (spared c.args.sparing) in
+    let z = seen-sized xs scan.place step.result.block step.result.end s in
+    let u = s.up in
+    let p = r.place in
+    let end : c.scan_run-scan.result.place ≡ step.result.end = omega (arith, z, u, p) in
+    let short : (scan.met && nat_le c.args.bytes scan.free) ≡ false = sym c.is_found.ensures ∙ c.if-not-is_found.true in
+    record {
+      same = i.same ∙ ap (λ k. find scan (opened c.args.sparing k)) s.is
+          ∙ r.scan s.here (left_in step.result.end xs) c.args.bytes s.told short
+          ∙ ap (λ q. find c.scan_run-scan.result (opened c.args.sparing (left_in q xs))) (sym end);
+      passed = subst (λ q. Passed xs c.args.scan.place q (λ _ _. Unit {0})) (sym end)
+          (passed-block xs scan.place step.result.block step.result.end s c.args.scan.place i.passed);
+      free = r.free;
+      met = r.met refl i.met;
+      left = (let l = r.left in let k = i.left in omega (arith, l, k));
+      stays = λ f. let e : true ≡ false = sym (i.stays f) ∙ short in cc;
+      up_to = λ b.
+          subst (λ q. Begins c.args.to q (left_in q xs)) (sym end)
+          (edge-further xs scan.place step.result.block step.result.end s c.args.to
+          (let l = c.loop-scan-test.true in let w = c.within-stop.ensures.least in omega (arith, l, w)) (i.up_to b));
+    }
+
+pub returns-else-not-is_found-clause-begins : goal.returns-else-not-is_found-clause-begins
+returns-else-not-is_found-clause-begins c = passed-begins c.args.part.now.bytes c.args.scan.place (λ _ _. Unit {0})
+    c.loop-scan.scan.place c.loop-scan.invariant.passed
+
+pub returns-else-not-is_found-clause-up_to : goal.returns-else-not-is_found-clause-up_to
+returns-else-not-is_found-clause-up_to c = λ b. (begins-within c.args.to c.loop-scan.scan.place
+    (left_in c.loop-scan.scan.place c.args.part.now.bytes) (c.loop-scan.invariant.up_to b)).0
+
+pub returns-after-loop-scan-clause-begins : goal.returns-after-loop-scan-clause-begins
+returns-after-loop-scan-clause-begins c = passed-begins c.args.part.now.bytes c.args.scan.place (λ _ _. Unit {0})
+    c.loop-scan.scan.place c.loop-scan.invariant.passed
+
+pub returns-after-loop-scan-clause-up_to : goal.returns-after-loop-scan-clause-up_to
+returns-after-loop-scan-clause-up_to c = λ b. (begins-within c.args.to c.loop-scan.scan.place
+    (left_in c.loop-scan.scan.place c.args.part.now.bytes) (c.loop-scan.invariant.up_to b)).0

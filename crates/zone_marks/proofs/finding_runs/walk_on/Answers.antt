@@ -1,0 +1,27 @@
+use Rattle.std.proofs.Common.{None, sym, ◌∙◌}
+use Rattle.block_store.specs.Sparing.{opened, spared}
+use Rattle.block_store.proofs.Regroup.RunScans.{scan_kept}
+use Rattle.zone_bytes.specs.Stepping.{left_in}
+use Rattle.zone_marks.proofs.Marks.Lowering.{begins-way}
+use Rattle.zone_marks.proofs.Searches.Passed.{walked-out}
+use Rattle.zone_marks.proofs.finding_runs.walk_on.Goals as goal
+
+pub scan_up_to-last-requires-clause-way : goal.scan_up_to-last-requires-clause-way
+scan_up_to-last-requires-clause-way c =
+    let i = c.requires.sound in
+    begins-way c.args.part.now.bytes i.0 i.1 i.2 c.args.scan.place c.requires.begins
+
+pub returns-then-is_found : goal.returns-then-is_found
+returns-then-is_found c =
+    let last = c.scan_up_to-last.result in
+    let n = c.args.sparing in
+    sym (c.scan_up_to-last.ensures.same
+    ∙ scan_kept None c.args.bytes (spared n) last.left last.start last.free last.met last.place
+    (opened n (left_in last.place c.args.part.now.bytes)) (sym c.is_found.ensures ∙ c.if-is_found.true))
+
+pub returns : goal.returns
+returns c =
+    let i = c.requires.sound in
+    let r = c.scan_up_to-last in
+    sym (r.ensures.same ∙ walked-out c.args.bytes c.args.sparing c.args.part.now.bytes i.0 i.1 i.2 c.args.scan r.result
+    c.requires.begins r.ensures.begins r.ensures.came (sym c.is_found.ensures ∙ c.if-is_found.false))

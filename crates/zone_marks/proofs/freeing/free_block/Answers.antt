@@ -1,0 +1,87 @@
+use Rattle.std.proofs.Common.{arith}
+use Rattle.zone_marks.proofs.Joined.Released.{leads-up, stop-way, stop-more, freed-replaced, here-read, lower, may-free, freed, may-join, released}
+use Rattle.zone_marks.proofs.freeing.free_block.Goals as goal
+
+pub last_free_below-start-requires-clause-up : goal.last_free_below-start-requires-clause-up
+last_free_below-start-requires-clause-up c = leads-up c.requires.0 c.args.place c.args.part.now.bytes c.requires.1
+    c.below-from.result (c.below-from.ensures.begins _ c.requires.2) c.below-from.ensures.below
+
+pub last_free_below-start-requires-clause-inside : goal.last_free_below-start-requires-clause-inside
+last_free_below-start-requires-clause-inside c = let i =
+    (here-read c.requires.0 c.args.place c.args.part.now.bytes c.requires.1).inside in omega (arith, i)
+
+pub free_up-end-requires : goal.free_up-end-requires
+free_up-end-requires c =
+    let r = c.last_free_below-start in (
+      lower c.requires.0 c.args.place c.args.part.now.bytes c.requires.1 r.result r.ensures,
+      may-free c.requires.0 c.args.place c.args.part.now.bytes c.requires.1 r.result r.ensures,
+    )
+
+pub join_above-requires : goal.join_above-requires
+join_above-requires c =
+    let f = c.requires.0 in
+    let xs = c.args.part.now.bytes in
+    let r = c.last_free_below-start in
+    let u = c.free_up-end in
+    let t = u.ensures.end (lower f c.args.place xs c.requires.1 r.result r.ensures)
+    (may-free f c.args.place xs c.requires.1 r.result r.ensures) in (
+      freed f c.args.place xs c.requires.1 r.result r.ensures,
+      may-join f c.args.place xs c.requires.1 r.result
+          r.ensures u.result t u.new.part.bytes u.ensures.lays,
+    )
+
+pub overflow_sub-result : goal.overflow_sub-result
+overflow_sub-result c =
+    let r = c.last_free_below-start in
+    let t = c.free_up-end.ensures.end (lower c.requires.0 c.args.place c.args.part.now.bytes c.requires.1 r.result
+    r.ensures) (may-free c.requires.0 c.args.place c.args.part.now.bytes c.requires.1 r.result r.ensures) in
+    omega (arith, t)
+
+pub returns-clause-bytes : goal.returns-clause-bytes
+returns-clause-bytes c = λ f m.
+    let r = c.last_free_below-start in
+    let t = c.free_up-end.ensures.end (lower f c.args.place c.args.part.now.bytes m r.result r.ensures)
+    (may-free f c.args.place c.args.part.now.bytes m r.result r.ensures) in
+    omega (arith, t)
+
+pub returns-clause-lays : goal.returns-clause-lays
+returns-clause-lays c = λ f m.
+    let xs = c.args.part.now.bytes in
+    let r = c.last_free_below-start in
+    let u = c.free_up-end in
+    let t = u.ensures.end (lower f c.args.place xs m r.result r.ensures)
+    (may-free f c.args.place xs m r.result r.ensures) in
+    released f c.args.place xs m r.result r.ensures u.result t u.new.part.bytes u.ensures.lays
+    c.join_above.new.part.bytes c.join_above.ensures.lays
+
+pub returns-clause-replaced : goal.returns-clause-replaced
+returns-clause-replaced c = λ f m.
+    let xs = c.args.part.now.bytes in
+    let r = c.last_free_below-start in
+    let u = c.free_up-end in
+    let t = u.ensures.end (lower f c.args.place xs m r.result r.ensures)
+    (may-free f c.args.place xs m r.result r.ensures) in
+    freed-replaced f c.args.place xs m r.result r.ensures u.result t u.new.part.bytes u.ensures.lays
+    c.free_behind-more.result c.free_behind-more.ensures
+
+pub free_behind-more-requires : goal.free_behind-more-requires
+free_behind-more-requires c =
+    let f = c.requires.0 in
+    let xs = c.args.part.now.bytes in
+    let r = c.last_free_below-start in
+    let u = c.free_up-end in
+    let t = u.ensures.end (lower f c.args.place xs c.requires.1 r.result r.ensures)
+    (may-free f c.args.place xs c.requires.1 r.result r.ensures) in
+    stop-way f c.args.place xs c.requires.1 r.result r.ensures u.result t u.new.part.bytes u.ensures.lays
+
+pub overflow_add-result : goal.overflow_add-result
+overflow_add-result c =
+    let f = c.requires.0 in
+    let xs = c.args.part.now.bytes in
+    let r = c.last_free_below-start in
+    let u = c.free_up-end in
+    let t = u.ensures.end (lower f c.args.place xs c.requires.1 r.result r.ensures)
+    (may-free f c.args.place xs c.requires.1 r.result r.ensures) in
+    let k = stop-more f c.args.place xs c.requires.1 r.result r.ensures u.result t u.new.part.bytes u.ensures.lays
+    c.free_behind-more.result c.free_behind-more.ensures in
+    omega (arith, k)

@@ -1,0 +1,70 @@
+use Rattle.std.proofs.Common.{◌≡◌, ◌+◌, sym, ap, ◌∙◌, subst, arith}
+use Rattle.block_store.specs.Block.{free_sum}
+use Rattle.zone_marks.specs.Marked.{AreOf}
+use Rattle.zone_marks.proofs.Marks.Keeping.{same-replaced}
+use Rattle.zone_bytes.specs.Table.{Lays}
+use Rattle.zone_bytes.proofs.Joined.ByName.{handle-fits, leads, emptied-is, leading, may-release, leading-is}
+use Rattle.zone_bytes.proofs.Joined.ByName.{leading-free, leading-replaced}
+use Rattle.zone_marks.proofs.freeing.free_slot.Goals as goal
+
+pub read_word-word-requires : goal.read_word-word-requires
+read_word-word-requires c = handle-fits c.requires.0 c.args.slot c.args.part.now.bytes c.requires.1
+
+pub free_block-requires : goal.free_block-requires
+free_block-requires c =
+    let e = c.read_word-word.ensures in
+    let z = c.if-word-eq0.true in
+    let f = leads c.requires.0 c.args.slot c.args.part.now.bytes c.requires.1 (omega (arith, e, z)) in (
+      leading c.requires.0 c.args.slot c.args.part.now.bytes c.requires.1 f,
+      may-release c.requires.0 c.args.slot
+          c.args.part.now.bytes c.requires.1 f c.read_word-word.result e,
+      subst (AreOf c.args.marks.now) f.block.is c.requires.2,
+    )
+
+pub returns-then-word-eq0-clause-lays : goal.returns-then-word-eq0-clause-lays
+returns-then-word-eq0-clause-lays c = λ t h.
+    let e = c.read_word-word.ensures in
+    let z = c.if-word-eq0.true in
+    let f = leads t c.args.slot c.args.part.now.bytes h (omega (arith, e, z)) in
+    subst (λ k. Lays c.free_block.new.part.bytes k t.slots t.unused)
+    (sym (leading-is t c.args.slot c.args.part.now.bytes h f))
+    (c.free_block.ensures.lays (leading t c.args.slot c.args.part.now.bytes h f)
+    (may-release t c.args.slot c.args.part.now.bytes h f c.read_word-word.result e))
+
+pub returns-then-word-eq0-clause-bytes : goal.returns-then-word-eq0-clause-bytes
+returns-then-word-eq0-clause-bytes c = λ t h.
+    let e = c.read_word-word.ensures in
+    let z = c.if-word-eq0.true in
+    let f = leads t c.args.slot c.args.part.now.bytes h (omega (arith, e, z)) in
+    leading-free t c.args.slot c.args.part.now.bytes h f c.free_block.result.bytes
+    (c.free_block.ensures.bytes (leading t c.args.slot c.args.part.now.bytes h f)
+    (may-release t c.args.slot c.args.part.now.bytes h f c.read_word-word.result e))
+
+pub returns-else-word-eq0-clause-lays : goal.returns-else-word-eq0-clause-lays
+returns-else-word-eq0-clause-lays c = λ t h.
+    let e = c.read_word-word.ensures in
+    let z = c.if-word-eq0.false in
+    subst (λ k. Lays c.args.part.now.bytes k t.slots t.unused)
+    (sym (emptied-is t c.args.slot c.args.part.now.bytes h (λ q. omega (arith, e, z, q)))) h.lays
+
+pub returns-else-word-eq0-clause-bytes : goal.returns-else-word-eq0-clause-bytes
+returns-else-word-eq0-clause-bytes c = λ t h.
+    let e = c.read_word-word.ensures in
+    let z = c.if-word-eq0.false in
+    ap free_sum (emptied-is t c.args.slot c.args.part.now.bytes h (λ q. omega (arith, e, z, q)))
+    ∙ (let k : free_sum t.blocks ≡ free_sum t.blocks + 0 = omega arith in k)
+
+pub returns-then-word-eq0-clause-replaced : goal.returns-then-word-eq0-clause-replaced
+returns-then-word-eq0-clause-replaced c = λ t h.
+    let e = c.read_word-word.ensures in
+    let z = c.if-word-eq0.true in
+    let f = leads t c.args.slot c.args.part.now.bytes h (omega (arith, e, z)) in
+    leading-replaced t c.args.slot c.args.part.now.bytes h f c.free_block.result.from c.free_block.result.to
+    (c.free_block.ensures.replaced (leading t c.args.slot c.args.part.now.bytes h f)
+    (may-release t c.args.slot c.args.part.now.bytes h f c.read_word-word.result e))
+
+pub returns-else-word-eq0-clause-replaced : goal.returns-else-word-eq0-clause-replaced
+returns-else-word-eq0-clause-replaced c = λ t h.
+    let e = c.read_word-word.ensures in
+    let z = c.if-word-eq0.false in
+    same-replaced t.blocks _ (emptied-is t c.args.slot c.args.part.now.bytes h (λ q. omega (arith, e, z, q)))

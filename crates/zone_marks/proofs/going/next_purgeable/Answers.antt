@@ -1,0 +1,48 @@
+use Rattle.std.proofs.Common.{ap, arith, subst}
+use Rattle.block_store.specs.Block.{sizes}
+use Rattle.block_store.specs.Find.{FindsLowest}
+use Rattle.block_store.specs.Room.{may_be_purged}
+use Rattle.block_store.specs.Sparing.{purged, spared}
+use Rattle.std.proofs.Common.{Some, None}
+use Rattle.zone_marks.proofs.Bounds.Going.{next-fits, next-none, next-some}
+use Rattle.zone_marks.proofs.Marks.Lowering.{begins-way}
+use Rattle.zone_marks.proofs.Searches.Pieces.{left-long}
+use Rattle.zone_marks.proofs.going.next_purgeable.Goals as goal
+
+pub walk_from-requires : goal.walk_from-requires
+walk_from-requires c = let i = c.requires.sound in
+    begins-way c.args.part.now.bytes i.0 i.1 i.2 c.args.from c.requires.begins
+
+pub next_purgeable_in-requires : goal.next_purgeable_in-requires
+next_purgeable_in-requires c =
+    let i = c.requires.sound in
+    let l = left-long c.args.part.now.bytes i.0 i.1 i.2 c.args.from c.requires.begins in
+    let e = ap sizes c.walk_from.ensures in
+    let m = i.2.lays.small in
+    omega (arith, l, e, m)
+
+pub returns-in_default : goal.returns-in_default
+returns-in_default c =
+    let i = c.requires.sound in
+    next-none c.args.part.now.bytes i.0 i.1 i.2 c.args.from c.requires.begins c.requires.none c.args.sparing
+    c.requires.plain c.args.purges
+    (subst (λ l. FindsLowest (may_be_purged (spared c.args.sparing)) (purged c.args.purges c.args.sparing l) None)
+    c.walk_from.ensures c.in_default.ensures)
+
+pub overflow_add-result : goal.overflow_add-result
+overflow_add-result c =
+    let i = c.requires.sound in
+    let f = next-fits c.args.part.now.bytes i.0 i.1 i.2 c.args.from c.requires.begins c.requires.none c.args.sparing
+    c.requires.plain c.args.purges c.in-Some.above
+    (subst (λ l. FindsLowest (may_be_purged (spared c.args.sparing)) (purged c.args.purges c.args.sparing l)
+    (Some c.in-Some.above)) c.walk_from.ensures c.in-Some.ensures) in
+    let m = i.2.lays.small in
+    omega (arith, f, m)
+
+pub returns : goal.returns
+returns c =
+    let i = c.requires.sound in
+    next-some c.args.part.now.bytes i.0 i.1 i.2 c.args.from c.requires.begins c.requires.none c.args.sparing
+    c.requires.plain c.args.purges c.in-Some.above
+    (subst (λ l. FindsLowest (may_be_purged (spared c.args.sparing)) (purged c.args.purges c.args.sparing l)
+    (Some c.in-Some.above)) c.walk_from.ensures c.in-Some.ensures)

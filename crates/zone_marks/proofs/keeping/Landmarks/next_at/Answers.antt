@@ -1,0 +1,12 @@
+use Rattle.std.proofs.Common.{◌≤◌, ◌∙◌, ap, drop, length, rules}
+use Rattle.zone_marks.specs.Marks.{above_all, next_of}
+use Rattle.zone_marks.proofs.Marks.Edges.{laid-there}
+use Rattle.zone_marks.proofs.keeping.Landmarks.next_at.Goals as goal
+
+pub returns : goal.returns
+returns c =
+    let marks = c.args.self.now.marks.items in
+    let index = c.min-index.result in
+    let l : index ≤ length marks = search rules in
+    let e = c.place_of_mark.ensures ∙ ap (λ k. next_of above_all (drop index k)) c.deref.ensures.value in
+    record { laid = λ zone a. laid-there zone marks index c.place_of_mark.result l e a.0 }

@@ -1,0 +1,34 @@
+use Rattle.std.proofs.Common.{arith}
+use Rattle.zone_bytes.specs.Decode.{zone_in}
+use Rattle.zone_marks.proofs.Marks.Keeping.{became-replaced}
+use Rattle.zone_bytes.proofs.Places.Became.{became-fits, became-inside, became-left, became-way}
+use Rattle.zone_marks.proofs.keeping.Landmarks.note_block.Goals as goal
+
+pub size_at-size-requires-clause-way : goal.size_at-size-requires-clause-way
+size_at-size-requires-clause-way c = let i = c.requires.sound in
+    became-way c.args.part.now.bytes i.0 i.1 i.2 c.args.place c.requires.marks.0 c.requires.marks.1
+
+pub size_at-size-requires-clause-some : goal.size_at-size-requires-clause-some
+size_at-size-requires-clause-some c = let i = c.requires.sound in
+    became-inside c.args.part.now.bytes i.0 i.1 i.2 c.args.place c.requires.marks.0 c.requires.marks.1
+
+pub overflow_add-place : goal.overflow_add-place
+overflow_add-place c =
+    let i = c.requires.sound in
+    let b = c.requires.marks.1 in
+    let f = became-fits c.args.part.now.bytes i.0 i.1 i.2 c.args.place c.requires.marks.0 b in
+    let s = c.size_at-size.ensures b.there b.above
+    (became-left c.args.part.now.bytes i.0 i.1 i.2 c.args.place c.requires.marks.0 b) in
+    let m = i.2.lays.small in
+    omega (arith, f, s, m)
+
+pub note-requires-clause-marks : goal.note-requires-clause-marks
+note-requires-clause-marks c =
+    let i = c.requires.sound in
+    let b = c.requires.marks.1 in
+    let s = c.size_at-size.ensures b.there b.above
+    (became-left c.args.part.now.bytes i.0 i.1 i.2 c.args.place c.requires.marks.0 b) in (
+      c.requires.marks.0,
+      became-replaced c.args.place c.size_at-size.result c.requires.marks.0 (zone_in c.args.part.now.bytes) b s,
+      c.requires.marks.2,
+    )

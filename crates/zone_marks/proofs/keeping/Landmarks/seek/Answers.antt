@@ -1,0 +1,20 @@
+use Rattle.zone_bytes.specs.Decode.{zone_in}
+use Rattle.zone_marks.proofs.Bounds.Going.{stays-from}
+use Rattle.zone_marks.proofs.Marks.Lowering.{begins-way}
+use Rattle.zone_marks.proofs.keeping.Landmarks.seek.Goals as goal
+
+pub first_going-self-requires : goal.first_going-self-requires
+first_going-self-requires c =
+    let i = c.requires.sound in
+    let xs = c.args.part.now.bytes in
+    begins-way xs i.0 i.1 i.2 c.start.result (c.start.ensures.begins (zone_in xs) c.requires.marks)
+
+pub returns : goal.returns
+returns c =
+    let i = c.requires.sound in
+    let xs = c.args.part.now.bytes in
+    let m = c.requires.marks in (
+      m.0,
+      stays-from xs i.0 i.1 i.2 c.start.result (c.start.ensures.begins (zone_in xs) m) (c.start.ensures.none (zone_in xs) m)
+          c.first_going-self.result c.first_going-self.ensures,
+    )

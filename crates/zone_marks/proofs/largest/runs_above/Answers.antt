@@ -1,0 +1,155 @@
+use Rattle.std.proofs.Common.{◌≡◌, ◌⊎◌, ◌∙◌, ap, arith, drop, inl, inr, subst, sym}
+use Rattle.zone_summary.specs.Stretches.{join, load, prefix, stretch_of}
+use Rattle.zone_summary.proofs.Monoid.{join-assoc, join-unit_right}
+use Rattle.zone_summary.proofs.Sums.{ends-load, load-join}
+use Rattle.zone_bytes.specs.Decode.{zone_in}
+use Rattle.zone_bytes.specs.Changes.{Begins}
+use Rattle.zone_marks.specs.Marks.{next_of}
+use Rattle.zone_marks.specs.Searching.{IsStretch}
+use Rattle.zone_bytes.specs.Stepping.{left_in}
+use Rattle.zone_marks.proofs.Bounds.Fewest.{ended-lowest, known-fits, known-past}
+use Rattle.zone_marks.proofs.Marks.Lowering.{begins-way}
+use Rattle.zone_bytes.proofs.Places.Stepped.{left-none}
+use Rattle.zone_marks.proofs.Searches.Pieces.{bounded-edge, bounded-end, before, bounded-mark, edge-within}
+use Rattle.zone_marks.proofs.largest.runs_above.Goals.{After-within-at, After-within-next, After-loop-index}
+use Rattle.zone_marks.proofs.largest.runs_above.Goals as goal
+
+-- the first landmark above the place
+first : (c : After-within-at) → (c.within-at.result ≡ next_of 4294967295 (drop c.index_above-index.result c.args.marks.now))
+    ⊎ (c.within-at.result ≡ c.len-end.result)
+first c = subst (λ q. (c.within-at.result ≡ q) ⊎ (c.within-at.result ≡ c.len-end.result)) c.place_of_mark.ensures
+    c.within-at.ensures.one
+
+edge_at : (c : After-within-at) → Begins c.within-at.result 0 (zone_in c.args.part.now.bytes)
+edge_at c = let i = c.requires.sound in
+    bounded-edge c.args.part.now.bytes i.0 i.1 i.2 c.args.marks.now c.requires.marks c.index_above-index.result
+    c.within-at.result c.len-end.result c.len-end.ensures.count (first c) c.within-at.ensures.low
+
+-- and the next one
+next : (c : After-within-next)
+    → (c.within-next.result ≡ next_of 4294967295 (drop c.told_from-told.result.behind c.args.marks.now))
+    ⊎ (c.within-next.result ≡ c.len-end.result)
+next c = subst (λ q. (c.within-next.result ≡ q) ⊎ (c.within-next.result ≡ c.len-end.result))
+    c.place_of_mark-in-loop-index.ensures c.within-next.ensures.one
+
+edge_next : (c : After-within-next) → Begins c.within-next.result 0 (zone_in c.args.part.now.bytes)
+edge_next c = let i = c.requires.sound in
+    bounded-edge c.args.part.now.bytes i.0 i.1 i.2 c.args.marks.now c.requires.marks c.told_from-told.result.behind
+    c.within-next.result c.len-end.result c.len-end.ensures.count (next c) c.within-next.ensures.low
+
+stretch : (c : After-within-next)
+    → IsStretch c.told_from-told.result.tally c.loop-index.at c.within-next.result c.args.part.now.bytes
+stretch c =
+    let xs = c.args.part.now.bytes in
+    let w = c.within-next.ensures in
+    subst (λ q. IsStretch c.told_from-told.result.tally q c.within-next.result xs)
+    (sym (c.loop-index.invariant.here c.loop-index-test.true))
+    (c.told_from-told.ensures.stretch c.within-next.result (before c.args.marks.now c.told_from-told.result.behind
+    c.within-next.result c.place_of_mark-in-loop-index.result c.len-end.result xs c.place_of_mark-in-loop-index.ensures
+    c.len-end.ensures.count w.one w.low w.least))
+
+pub runs_between-runs-requires-clause-ends : goal.runs_between-runs-requires-clause-ends
+runs_between-runs-requires-clause-ends c = edge_at (goal.at.runs_between-runs-requires-clause-ends c).After-within-at
+
+pub runs_between-runs-requires-clause-order : goal.runs_between-runs-requires-clause-order
+runs_between-runs-requires-clause-order c =
+    let i = c.requires.sound in
+    let l = edge-within c.args.part.now.bytes i.0 i.1 i.2 c.args.from c.requires.begins in
+    let a = c.index_above-index.ensures.above in
+    let e = c.len-end.ensures.count in
+    elim (first (goal.at.runs_between-runs-requires-clause-order c).After-within-at) [
+      | inl q ↦ omega (arith, q, a)
+      | inr q ↦ omega (arith, q, l, e)
+    ]
+
+pub loop-index-init : goal.loop-index-init
+loop-index-init c =
+    let i = c.requires.sound in
+    let xs = c.args.part.now.bytes in
+    let d = (goal.at.loop-index-init c).After-within-at in
+    let p = c.place_of_mark.ensures in
+    let t = c.within-at.ensures.least in
+    record {
+      same = known-past xs c.args.from c.within-at.result c.runs_between-runs.result c.runs_between-runs.ensures;
+      inside = c.index_above-index.ensures.index;
+      few = omega (arith, known-fits xs c.args.from c.within-at.result c.runs_between-runs.result c.runs_between-runs.ensures);
+      edge = edge_at d;
+      here = bounded-mark xs i.0 i.1 i.2 c.args.marks.now c.requires.marks c.index_above-index.result
+          c.within-at.result c.len-end.result c.len-end.ensures.count (first d) (omega (arith, p, t));
+      end = bounded-end xs i.0 i.1 i.2 c.args.marks.now c.index_above-index.result c.within-at.result
+          c.len-end.result c.len-end.ensures.count (first d) c.within-at.ensures.low;
+    }
+
+pub returns-then-suffices-clause-low : goal.returns-then-suffices-clause-low
+returns-then-suffices-clause-low c =
+    ended-lowest c.loop-index.runs (stretch_of (left_in c.loop-index.at c.args.part.now.bytes))
+    (c.suffices.ensures c.if-suffices.true).1 ∙ sym (ap prefix c.loop-index.invariant.same)
+
+pub runs_of-requires-clause-ends : goal.runs_of-requires-clause-ends
+runs_of-requires-clause-ends c = edge_next (goal.at.runs_of-requires-clause-ends c).After-within-next
+
+pub runs_of-requires-clause-order : goal.runs_of-requires-clause-order
+runs_of-requires-clause-order c = let s = stretch (goal.at.runs_of-requires-clause-order c).After-within-next in
+    let u = s.1.up in omega (arith, u)
+
+pub runs_of-requires-clause-stretch : goal.runs_of-requires-clause-stretch
+runs_of-requires-clause-stretch c = stretch (goal.at.runs_of-requires-clause-stretch c).After-within-next
+
+pub join-runs-requires : goal.join-runs-requires
+join-runs-requires c =
+    let i = c.requires.sound in
+    let xs = c.args.part.now.bytes in
+    let m = i.2.lays.small in
+    omega (
+      arith,
+      ends-load c.loop-index.runs c.runs_of.result,
+      known-fits xs c.loop-index.at c.within-next.result c.runs_of.result c.runs_of.ensures,
+      m,
+      c.loop-index.invariant.few,
+      c.within-next.ensures.low,
+      c.len-end.ensures.count,
+    )
+
+pub loop-index-preserved : goal.loop-index-preserved
+loop-index-preserved c =
+    let i = c.requires.sound in
+    let xs = c.args.part.now.bytes in
+    let d = (goal.at.loop-index-preserved c).After-within-next in
+    let p = c.place_of_mark-in-loop-index.ensures in
+    let t = c.within-next.ensures.least in
+    let v = c.loop-index.invariant in
+    let rest = stretch_of (left_in c.within-next.result xs) in
+    record {
+      same = v.same ∙ ap (join c.loop-index.runs)
+          (known-past xs c.loop-index.at c.within-next.result c.runs_of.result c.runs_of.ensures)
+          ∙ sym (join-assoc c.loop-index.runs c.runs_of.result rest) ∙ ap (λ r. join r rest) (sym c.join-runs.ensures.is);
+      inside = c.told_from-told.ensures.inside;
+      few = omega (
+        arith,
+        load-join c.loop-index.runs c.runs_of.result,
+        ap load c.join-runs.ensures.is,
+        v.few,
+        known-fits xs c.loop-index.at c.within-next.result c.runs_of.result c.runs_of.ensures,
+      );
+      edge = edge_next d;
+      here = bounded-mark xs i.0 i.1 i.2 c.args.marks.now c.requires.marks c.told_from-told.result.behind
+          c.within-next.result c.len-end.result c.len-end.ensures.count (next d) (omega (arith, p, t));
+      end = bounded-end xs i.0 i.1 i.2 c.args.marks.now c.told_from-told.result.behind c.within-next.result
+          c.len-end.result c.len-end.ensures.count (next d) c.within-next.ensures.low;
+    }
+
+-- no block is left behind the last landmark
+whole : (c : After-loop-index) → stretch_of (left_in c.args.from c.args.part.now.bytes) ≡ c.loop-index.runs
+whole c =
+    let i = c.requires.sound in
+    let xs = c.args.part.now.bytes in
+    let v = c.loop-index.invariant in
+    v.same ∙ ap (λ l. join c.loop-index.runs (stretch_of l)) (left-none c.loop-index.at xs
+    (begins-way xs i.0 i.1 i.2 c.loop-index.at v.edge) (v.end c.loop-index-test.false))
+    ∙ join-unit_right c.loop-index.runs
+
+pub returns-clause-low : goal.returns-clause-low
+returns-clause-low c = sym (ap prefix (whole c))
+
+pub returns-clause-all : goal.returns-clause-all
+returns-clause-all c none = sym (whole c)

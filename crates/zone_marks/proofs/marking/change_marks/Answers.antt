@@ -1,0 +1,89 @@
+use Rattle.std.proofs.Common.{◌-◌, length-set, arith}
+use Rattle.zone_bytes.specs.Decode.{zone_in}
+use Rattle.zone_marks.proofs.Marks.Lowering.{begins-lowered, changing-start, changing-step, changing-done, changing-below}
+use Rattle.zone_marks.proofs.Marks.Lowering.{last-mark, replaced-order}
+use Rattle.zone_marks.proofs.Marks.Tallies.{loads-small}
+use Rattle.zone_marks.proofs.marking.change_marks.Goals as goal
+use Rattle.zone_marks.proofs.marking.change_marks.Goals.{then-loop-first-test+else-lo-above, else-loop-first-test}
+use Rattle.zone_marks.specs.Marks.{no_mark}
+
+pub loop-first-init : goal.loop-first-init
+loop-first-init c = (
+  c.index_above-last.ensures.index,
+  c.requires.groups,
+  λ old z a. let h = c.ranges.hi.fits in
+      changing-start c.args.lo c.args.hi old (zone_in c.args.part.now.bytes) z
+      (replaced-order c.args.lo c.args.hi old (zone_in c.args.part.now.bytes) z) c.place_of_mark-above.result
+      c.index_above-last.result c.args.marks.now (omega (arith, h)) c.place_of_mark-above.ensures
+      c.index_above-last.ensures.above a,
+)
+
+pub changed_mark-mark-requires-clause-ordered : goal.changed_mark-mark-requires-clause-ordered
+changed_mark-mark-requires-clause-ordered c = replaced-order c.args.lo c.args.hi c.requires.marks.0
+    (zone_in c.args.part.now.bytes) c.requires.marks.1
+
+pub changed_mark-mark-requires-clause-rising : goal.changed_mark-mark-requires-clause-rising
+changed_mark-mark-requires-clause-rising c =
+    let old = c.requires.marks.0 in
+    let s = c.loop-first-test.true in
+    (last-mark c.args.lo c.args.hi old (zone_in c.args.part.now.bytes) c.loop-first.next c.loop-first.above
+    c.loop-first.first c.loop-first.marks _ no_mark (omega (arith, s)) c.loop-first.invariant.0
+    (c.loop-first.invariant.2 old c.requires.marks.1 c.requires.marks.2)).1.3
+
+pub changed_mark-mark-requires-clause-lowered : goal.changed_mark-mark-requires-clause-lowered
+changed_mark-mark-requires-clause-lowered c =
+    (c.loop-first.invariant.2 c.requires.marks.0 c.requires.marks.1 c.requires.marks.2).is
+
+pub changed_mark-mark-requires-clause-begins : goal.changed_mark-mark-requires-clause-begins
+changed_mark-mark-requires-clause-begins c = λ at w.
+    let old = c.requires.marks.0 in
+    let new = zone_in c.args.part.now.bytes in
+    let z = c.requires.marks.1 in
+    let s = c.loop-first-test.true in
+    let r = last-mark c.args.lo c.args.hi old new c.loop-first.next c.loop-first.above c.loop-first.first c.loop-first.marks _
+    no_mark (omega (arith, s)) c.loop-first.invariant.0
+    (c.loop-first.invariant.2 old z c.requires.marks.2) in
+    begins-lowered c.args.lo c.args.hi old new z (replaced-order c.args.lo c.args.hi old new z) _ at w r.1.0
+
+pub loop-first-preserved : goal.loop-first-preserved
+loop-first-preserved c =
+    let s = c.loop-first-test.true in
+    let l = c.loop-first.invariant.0 in
+    let new = zone_in c.args.part.now.bytes in (
+      (let n = length-set c.loop-first.marks (c.loop-first.first - 1) c.changed_mark-mark.result in omega (arith, l, n)),
+      c.raise_group.ensures c.loop-first.marks c.changed_mark-mark.result (omega arith) c.loop-first.invariant.1,
+      λ old z a.
+          changing-step c.args.lo c.args.hi old new z (replaced-order c.args.lo c.args.hi old new z) c.loop-first.next
+          c.loop-first.above c.loop-first.first c.loop-first.marks no_mark c.changed_mark-mark.result (omega (arith, s)) l
+          (c.loop-first.invariant.2 old z a) c.changed_mark-mark.ensures.at
+          (λ e. c.changed_mark-mark.ensures.bound old z e) (λ e. c.changed_mark-mark.ensures.tally old z e),
+    )
+
+pub returns-clause-marks : goal.returns-clause-marks
+returns-clause-marks c =
+    let old = c.requires.marks.0 in
+    let new = zone_in c.args.part.now.bytes in
+    let z = c.requires.marks.1 in
+    let g = c.loop-first.invariant.2 old z c.requires.marks.2 in
+    elim c.loop-first-test.branch [
+      | then-loop-first-test+else-lo-above w ↦ changing-below c.args.lo c.args.hi old new z
+          (replaced-order c.args.lo c.args.hi old new z) c.loop-first.next c.loop-first.above c.loop-first.first
+          c.loop-first.marks w.if-lo-above.false g
+      | else-loop-first-test w ↦ let s = w.loop-first-test.false in
+          changing-done c.args.lo c.args.hi old new c.loop-first.next c.loop-first.above c.loop-first.first c.loop-first.marks (omega (arith, s)) g
+    ]
+
+pub renew_groups-requires-clause-fits : goal.renew_groups-requires-clause-fits
+renew_groups-requires-clause-fits c =
+    let i = c.requires.sound in
+    let old = c.requires.marks.0 in
+    let new = zone_in c.args.part.now.bytes in
+    let z = c.requires.marks.1 in
+    let g = c.loop-first.invariant.2 old z c.requires.marks.2 in
+    loads-small c.args.part.now.bytes i.0 i.1 i.2 4294967295 c.loop-first.marks (elim c.loop-first-test.branch [
+      | then-loop-first-test+else-lo-above w ↦ changing-below c.args.lo c.args.hi old new z
+          (replaced-order c.args.lo c.args.hi old new z) c.loop-first.next c.loop-first.above c.loop-first.first
+          c.loop-first.marks w.if-lo-above.false g
+      | else-loop-first-test w ↦ let s = w.loop-first-test.false in
+          changing-done c.args.lo c.args.hi old new c.loop-first.next c.loop-first.above c.loop-first.first c.loop-first.marks (omega (arith, s)) g
+    ])

@@ -1,0 +1,75 @@
+use Rattle.std.proofs.Common.{◌≡◌, ℕ, ◌≤◌, ◌⊎◌, inl, inr, refl, sym, subst, arith}
+use Rattle.zone_bytes.specs.Decode.{zone_in}
+use Rattle.zone_bytes.specs.Changes.{AtEach}
+use Rattle.zone_marks.specs.Marks.{AtMost, IsTally, Lowered, between}
+use Rattle.zone_marks.proofs.Marks.Between.{alike-as}
+use Rattle.zone_marks.proofs.Marks.Lowering.{begins-way, bound-here, bound-lowered, tally-here, apart-alike}
+use Rattle.zone_marks.proofs.marking.changed_mark.Goals as goal
+
+-- a stretch that is apart from what became others ends where it did
+same-end : (lo hi at next above : ℕ) → at ≤ next → (hi ≤ at) ⊎ (next ≤ lo) → Lowered lo hi next above → above ≡ next
+same-end lo hi at next above r e (inl w) = elim e [
+  | inl h ↦ let t = w.1 in absurd (omega (arith, r, h, t))
+  | inr l ↦ let t = w.0 in absurd (omega (arith, l, t))
+]
+same-end lo hi at next above r e (inr w) = w.0
+
+pub returns-then-hi-mark : goal.returns-then-hi-mark
+returns-then-hi-mark c =
+    let lo = c.args.lo in
+    let hi = c.args.hi in
+    let at = c.args.mark.at in
+    let next = c.args.next in
+    let new = zone_in c.args.part.now.bytes in
+    let apart : (hi ≤ at) ⊎ (next ≤ lo) = elim c.then-hi-mark.either [
+      | inl h ↦ inl h
+      | inr w ↦ inr w.1
+    ] in
+    let same = same-end lo hi at next c.args.above c.requires.rising apart c.requires.lowered in
+    let stays : Lowered lo hi at at = inr (
+      refl,
+      elim apart [
+        | inl h ↦ inr h
+        | inr l ↦ inl (let r = c.requires.rising in omega (arith, l, r))
+      ],
+    ) in
+    record {
+      at = stays;
+      bound = λ old z e. bound-lowered lo hi old new z c.requires.ordered c.args.mark.most c.args.mark.most at next at
+          c.args.above stays c.requires.lowered (omega arith) (λ a b. elim apart [
+            | inl h ↦ omega (arith, a, h)
+            | inr l ↦ absurd (omega (arith, b, l, same))
+          ]) e;
+      tally = λ old z t. subst (λ k. IsTally c.args.mark.tally (between at k 0 new)) (sym same)
+          (alike-as c.args.mark.tally _ _ (apart-alike lo hi old new z c.requires.ordered at next apart) t);
+    }
+
+pub measured_mark-requires : goal.measured_mark-requires
+measured_mark-requires c =
+    begins-way c.args.part.now.bytes c.requires.sound.0 c.requires.sound.1 c.requires.sound.2 c.lowered_mark-at.result
+    (c.requires.begins c.lowered_mark-at.result c.lowered_mark-at.ensures)
+
+pub returns-then-walks-clause-bound : goal.returns-then-walks-clause-bound
+returns-then-walks-clause-bound c = λ old z e.
+    subst (λ p. AtEach (AtMost c.measured_mark.result.most p c.args.above) 0 (zone_in c.args.part.now.bytes))
+    (sym c.measured_mark.ensures.at)
+    (bound-here c.args.part.now.bytes c.requires.sound.0 c.requires.sound.1 c.requires.sound.2
+    c.measured_mark.result.most c.lowered_mark-at.result c.args.above
+    (c.requires.begins c.lowered_mark-at.result c.lowered_mark-at.ensures) c.measured_mark.ensures.bound)
+
+pub returns-then-walks-clause-tally : goal.returns-then-walks-clause-tally
+returns-then-walks-clause-tally c = λ old z e.
+    subst (λ p. IsTally c.measured_mark.result.tally (between p c.args.above 0 (zone_in c.args.part.now.bytes)))
+    (sym c.measured_mark.ensures.at)
+    (tally-here c.args.part.now.bytes c.requires.sound.0 c.requires.sound.1 c.requires.sound.2
+    c.measured_mark.result.tally c.lowered_mark-at.result c.args.above
+    (c.requires.begins c.lowered_mark-at.result c.lowered_mark-at.ensures) c.measured_mark.ensures.tally)
+
+pub returns-clause-bound : goal.returns-clause-bound
+returns-clause-bound c = λ old z e.
+    let m = c.greater.ensures in
+    let f = m.first in
+    let s = m.second in
+    bound-lowered c.args.lo c.args.hi old _ z c.requires.ordered c.args.mark.most c.greater.result c.args.mark.at
+    c.args.next c.lowered_mark-at.result c.args.above c.lowered_mark-at.ensures c.requires.lowered (omega (arith, f))
+    (λ _ _. omega (arith, s)) e

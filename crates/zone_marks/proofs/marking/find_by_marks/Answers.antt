@@ -1,0 +1,35 @@
+use Rattle.std.proofs.Common.{◌≡◌, ◌+◌, ◌*◌, subst, arith}
+use Rattle.zone_bytes.specs.Decode.{zone_in}
+use Rattle.zone_marks.specs.Marks.{NoneBelow}
+use Rattle.zone_marks.specs.declared.landmark.TheConstants.{GROUP}
+use Rattle.zone_marks.proofs.Marks.Passing.{begins-here}
+use Rattle.zone_marks.proofs.Marks.Rooms.{nothing-below, none-found, none-past, none-group}
+use Rattle.zone_marks.proofs.marking.find_by_marks.Goals as goal
+use Rattle.zone_marks.proofs.marking.find_by_marks.Goals.{then-bytes-groups+in_default-room_in_group, else-bytes-groups}
+
+pub room_in_stretch-requires-clause-begins : goal.room_in_stretch-requires-clause-begins
+room_in_stretch-requires-clause-begins c = begins-here 0 (zone_in c.args.part.now.bytes)
+
+pub room_in_stretch-requires-clause-below : goal.room_in_stretch-requires-clause-below
+room_in_stretch-requires-clause-below c =
+    let i = c.requires.sound in nothing-below c.args.part.now.bytes i.0 i.1 i.2 c.args.bytes
+
+pub loop-group-preserved : goal.loop-group-preserved
+loop-group-preserved c =
+    let i = c.requires.sound in
+    let group = c.loop-group.group in
+    elim c.if-bytes-groups.branch [
+      | then-bytes-groups+in_default-room_in_group w ↦ subst (NoneBelow c.args.bytes (zone_in c.args.part.now.bytes) c.args.marks.now)
+          (let e : GROUP * group + GROUP ≡ GROUP * (group + 1) = omega arith in e) w.in_default-room_in_group.ensures.none
+      | else-bytes-groups w ↦ none-group c.args.part.now.bytes i.0 i.1 i.2 c.args.bytes c.args.marks.now
+          c.requires.marks c.args.groups.now c.requires.groups group c.loop-group-test.true w.if-bytes-groups.false c.loop-group.invariant
+    ]
+
+pub returns : goal.returns
+returns c =
+    let i = c.requires.sound in
+    let t = c.loop-group-test.false in
+    let w = c.requires.groups.whole in
+    none-found c.args.part.now.bytes i.0 i.1 i.2 c.args.bytes
+    (none-past c.args.bytes (zone_in c.args.part.now.bytes) c.args.marks.now (GROUP * c.loop-group.group)
+    (omega (arith, t, w)) c.loop-group.invariant)

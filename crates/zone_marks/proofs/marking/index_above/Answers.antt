@@ -1,0 +1,44 @@
+use Rattle.std.proofs.Common.{◌≡◌, ◌+◌, ◌-◌, ◌≤◌, ◌<◌, ℕ, List, sym, subst, get_or, arith}
+use Rattle.zone_marks.specs.declared.landmark.Landmark.{Landmark}
+use Rattle.zone_marks.specs.Marks.{next_of, no_mark}
+use Rattle.zone_marks.proofs.Marks.Lowering.{drop-all, mark-first}
+use Rattle.zone_marks.proofs.marking.index_above.Goals as goal
+
+pub loop-low-init : goal.loop-low-init
+loop-low-init c = (
+  omega arith,
+  omega arith,
+  (let f = c.ranges.place.fits in subst (λ k. c.args.place ≤ next_of 4294967295 k) (sym (drop-all c.args.marks.now))
+      (omega (arith, f))),
+  λ l. absurd (omega (arith, l)),
+)
+
+-- the last of so many
+last-below : (marks : List Landmark) (middle place : ℕ) → (get_or marks middle no_mark).at < place
+    → (get_or marks (middle + 1 - 1) no_mark).at < place
+last-below marks middle place l = subst (λ k. (get_or marks k no_mark).at < place)
+    (let e : middle ≡ middle + 1 - 1 = omega arith in e) l
+
+pub loop-low-preserved-then-marks-middle : goal.loop-low-preserved-then-marks-middle
+loop-low-preserved-then-marks-middle c =
+    let l = c.loop-low-test.true in
+    let i = c.loop-low.invariant in
+    let t = c.if-marks-middle.true in (
+      omega (arith, l),
+      i.1,
+      i.2,
+      λ _. last-below c.args.marks.now _ c.args.place t,
+    )
+
+pub loop-low-preserved : goal.loop-low-preserved
+loop-low-preserved c =
+    let l = c.loop-low-test.true in
+    let i = c.loop-low.invariant in
+    let h = i.1 in
+    let t = c.if-marks-middle.false in (
+      omega (arith, l),
+      omega (arith, l, h),
+      subst (λ k. c.args.place ≤ k) (sym (mark-first 4294967295 c.args.marks.now _ no_mark
+          (omega (arith, l, h)))) (omega (arith, t)),
+      i.3,
+    )

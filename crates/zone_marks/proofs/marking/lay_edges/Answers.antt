@@ -1,0 +1,44 @@
+use Rattle.std.proofs.Common.{◌+◌, ◌<◌, inl, inr, length, length-set, take, subst, sym, arith}
+use Rattle.zone_bytes.specs.Decode.{zone_in}
+use Rattle.zone_bytes.specs.Changes.{AtEach, Begins}
+use Rattle.zone_marks.specs.Marks.{AtMost, AreMarks, IsTally, between}
+use Rattle.zone_marks.proofs.Marks.Edges.{edge-begins, edge-bare}
+use Rattle.zone_marks.proofs.Marks.Lowering.{marks-next, marks-left}
+use Rattle.zone_marks.proofs.marking.lay_edges.Goals as goal
+
+pub packed_mark-mark-requires-clause-bare : goal.packed_mark-mark-requires-clause-bare
+packed_mark-mark-requires-clause-bare c = edge-bare c.args.edges.now c.args.base (zone_in c.args.part.now.bytes)
+    c.requires.edges c.in-Some.place c.in-Some.ensures c.loop-next.next.at c.greater-edge.result c.greater-edge.ensures.one
+
+pub loop-next-preserved : goal.loop-next-preserved
+loop-next-preserved c =
+    let zone = zone_in c.args.part.now.bytes in
+    let v = c.loop-next.invariant in
+    let n = v.3 in
+    let l = c.loop-next-test.true in
+    let s = c.saturating_sub-last.ensures in
+    let inside : c.loop-next.next.index + 1 < length c.loop-next.marks = omega (arith, l, s, n) in
+    let m = c.packed_mark-mark.result in
+    let edge = c.greater-edge.result in
+    let long = length-set c.loop-next.marks c.loop-next.next.index m in
+    let at = c.packed_mark-mark.ensures.at in (
+      record {
+        below = marks-next zone c.loop-next.marks c.loop-next.next.index edge m (omega (arith, inside))
+            (subst (λ k. AreMarks k zone (take c.loop-next.next.index c.loop-next.marks)) (sym at) v.0.below)
+            (subst (λ k. Begins k 0 zone) (sym at) (v.0.begins (omega (arith, inside))))
+            (subst (λ k. AtEach (AtMost m.most k edge) 0 zone) (sym at) c.packed_mark-mark.ensures.bound)
+            (subst (λ k. IsTally m.tally (between k edge 0 zone)) (sym at) c.packed_mark-mark.ensures.tally)
+            (let f = c.greater-edge.ensures.first in omega (arith, f, at));
+        above = marks-left 4294967295 zone c.loop-next.marks c.loop-next.next.index m (omega (arith, inside)) v.0.above;
+        inside = omega (arith, long, inside);
+        begins = λ _. elim c.greater-edge.ensures.one [
+          | inl e ↦ subst (λ k. Begins k 0 zone) (sym e) (v.0.begins (omega (arith, inside)))
+          | inr e ↦ subst (λ k. Begins k 0 zone) (sym e) (edge-begins c.args.edges.now c.args.base zone c.requires.edges
+              c.in-Some.place c.in-Some.ensures)
+        ];
+        last = λ e. absurd (omega (arith, e, long, inside));
+      },
+      c.raise_group.ensures c.loop-next.marks m (omega arith) v.1,
+      (let u = v.2 in omega (arith, u)),
+      (omega (arith, long, n)),
+    )

@@ -1,0 +1,17 @@
+use Rattle.std.proofs.Common.{inl, arith}
+use Rattle.zone_marks.proofs.Marks.Passing.{begins-here}
+use Rattle.zone_marks.proofs.Marks.Lowering.{mark-begins}
+use Rattle.zone_marks.proofs.marking.mark_below.Goals as goal
+use Rattle.zone_marks.specs.Marks.{no_mark}
+
+pub returns-then-above-eq0-clause-begins : goal.returns-then-above-eq0-clause-begins
+returns-then-above-eq0-clause-begins c = λ end zone a. begins-here 0 zone
+
+pub returns-clause-below : goal.returns-clause-below
+returns-clause-below c = inl (c.index_above-above.ensures.below (let n = c.if-above-eq0.false in omega (arith, n)))
+
+pub returns-clause-begins : goal.returns-clause-begins
+returns-clause-begins c = λ end zone a.
+    let n = c.if-above-eq0.false in
+    let h = c.index_above-above.ensures.index in
+    mark-begins end zone c.args.marks.now _ no_mark (omega (arith, n, h)) a

@@ -1,0 +1,19 @@
+use Rattle.zone_marks.proofs.Marks.Lowering.{begins-way, bound-here, tally-here}
+use Rattle.zone_marks.proofs.marking.packed_mark.Goals as goal
+
+pub measured_mark-requires : goal.measured_mark-requires
+measured_mark-requires c =
+    let i = c.requires.sound in
+    begins-way c.args.part.now.bytes i.0 i.1 i.2 c.args.at c.requires.begins
+
+pub returns-clause-bound : goal.returns-clause-bound
+returns-clause-bound c =
+    let i = c.requires.sound in
+    bound-here c.args.part.now.bytes i.0 i.1 i.2 c.measured_mark.result.most c.args.at c.args.edge c.requires.begins
+    c.measured_mark.ensures.bound
+
+pub returns-clause-tally : goal.returns-clause-tally
+returns-clause-tally c =
+    let i = c.requires.sound in
+    tally-here c.args.part.now.bytes i.0 i.1 i.2 c.measured_mark.result.tally c.args.at c.args.edge c.requires.begins
+    c.measured_mark.ensures.tally

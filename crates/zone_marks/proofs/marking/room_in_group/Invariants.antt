@@ -1,0 +1,6 @@
+use Rattle.zone_bytes.specs.Decode.{zone_in}
+use Rattle.zone_marks.specs.Marks.{NoneBelow}
+use Rattle.zone_marks.proofs.marking.room_in_group.Given as goal
+
+abbrev pub invariant-loop-index : goal.invariant-loop-index
+invariant-loop-index l = NoneBelow l.bytes (zone_in l.part.bytes) l.marks l.index

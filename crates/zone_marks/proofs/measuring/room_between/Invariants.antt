@@ -1,0 +1,10 @@
+use Rattle.std.proofs.Common.{◌-◌, ◌≡◌, false}
+use Rattle.block_store.specs.Block.{is_room}
+use Rattle.zone_marks.proofs.Marks.Passing.{Passed}
+use Rattle.zone_marks.proofs.measuring.room_between.Given as goal
+
+abbrev pub invariant-loop-at : goal.invariant-loop-at
+invariant-loop-at l = Passed l.part.bytes l.from l.at (λ _ b. is_room l.bytes b ≡ false)
+
+abbrev pub decreases-loop-at : goal.decreases-loop-at
+decreases-loop-at l = l.stop - l.at

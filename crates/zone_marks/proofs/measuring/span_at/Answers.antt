@@ -1,0 +1,46 @@
+use Rattle.std.proofs.Common.{◌≡◌, ℕ, ◌+◌, ◌-◌, ◌%◌, ◌≤◌, ◌<◌, arith}
+use Rattle.zone_bytes.proofs.Places.Stepped.{next-header, stepped}
+use Rattle.zone_marks.proofs.Marks.Spanned.{span-made}
+use Rattle.zone_marks.proofs.measuring.span_at.Goals as goal
+
+-- the two parts of a first word
+whole : (first w : ℕ) → first ≡ w → first - first % 16 + first % 16 ≡ w
+whole first w e = omega (arith, e)
+
+even : (first : ℕ) → (first - first % 16) % 16 ≡ 0
+even first = omega arith
+
+small : (first w : ℕ) → first ≡ w → w % 16 < 4 → first % 16 ≤ 3
+small first w e l = omega (arith, e, l)
+
+pub read_word-first-requires : goal.read_word-first-requires
+read_word-first-requires c =
+    let h = next-header c.args.at c.args.part.now.bytes c.requires.way c.requires.some in
+    let f = h.fits in
+    (h.even, omega (arith, f))
+
+pub overflow_add-result : goal.overflow_add-result
+overflow_add-result c =
+    let a = c.args in
+    let xs = a.part.now.bytes in
+    let r = c.read_word-first in
+    let h = next-header a.at xs c.requires.way c.requires.some in
+    let s = stepped a.at xs c.requires.way c.requires.some (r.result - r.result % 16) (r.result % 16)
+    (whole r.result _ r.ensures) (even r.result) (small r.result _ r.ensures h.tag) in
+    let u = s.way.walk.up in
+    let m = s.way.small in
+    omega (arith, u, m)
+
+pub ends_run_at-requires-clause-inside : goal.ends_run_at-requires-clause-inside
+ends_run_at-requires-clause-inside c =
+    (next-header c.args.at c.args.part.now.bytes c.requires.way c.requires.some).fits
+
+pub returns : goal.returns
+returns c =
+    let a = c.args in
+    let xs = a.part.now.bytes in
+    let r = c.read_word-first in
+    let h = next-header a.at xs c.requires.way c.requires.some in
+    span-made a.at xs c.requires.way c.requires.some (r.result - r.result % 16) (r.result % 16) (whole r.result _ r.ensures)
+    (even r.result) (small r.result _ r.ensures h.tag) c.free_by_tag.result c.free_by_tag.ensures c.ends_run_at.result
+    c.ends_run_at.ensures

@@ -1,0 +1,27 @@
+use Rattle.std.proofs.Common.{◌<◌, ◌^◌, ◌∙◌, ap, sym, subst, arith}
+use Rattle.block_store.specs.Block.{free_sum, sizes}
+use Rattle.zone_bytes.specs.PurgeableBytes.{purgeable_sum}
+use Rattle.zone_bytes.proofs.Bounds.Short.{free-given}
+use Rattle.zone_bytes.proofs.Places.AtPlace.{left-zone, on-way, sizes-fit}
+use Rattle.zone_marks.proofs.purgeable.purgeable_left.Goals as goal
+
+pub walk_from-requires : goal.walk_from-requires
+walk_from-requires c = on-way c.args.part.now.bytes c.requires.0 c.requires.1 c.requires.2
+
+pub purgeable_bytes_in-requires : goal.purgeable_bytes_in-requires
+purgeable_bytes_in-requires c = subst (λ l. sizes l < 2 ^ 32) (sym c.walk_from.ensures)
+    (sizes-fit c.args.part.now.bytes c.requires.0 c.requires.1 c.requires.2)
+
+pub returns-then-frees_one : goal.returns-then-frees_one
+returns-then-frees_one c = λ k zone e f m.
+    let s = c.purgeable_bytes_in.ensures
+    ∙ ap purgeable_sum (c.walk_from.ensures ∙ left-zone c.args.part.now.bytes) in
+    omega (arith, s)
+
+pub returns-else-frees_one : goal.returns-else-frees_one
+returns-else-frees_one c = λ k zone e f m.
+    let g = free-given c.args.sparing (c.frees_one.ensures c.if-frees_one.false) k zone in
+    let p = ap purgeable_sum e in
+    let q = ap free_sum e in
+    let s = c.saturating_sub.ensures in
+    omega (arith, g, p, q, f, m, s)

@@ -1,0 +1,18 @@
+use Rattle.std.proofs.Common.{arith, rules}
+use Rattle.zone_marks.proofs.Joined.Passing.{purged, stopped}
+use Rattle.zone_marks.proofs.purging.purge_from.Goals as goal
+
+pub returns-else-goes_on-clause-purged : goal.returns-else-goes_on-clause-purged
+returns-else-goes_on-clause-purged c = λ p u.
+    let s = c.loop-pass in
+    let l = c.goes_on.ensures (search rules) in
+    stopped p c.args.sparing s.pass.start s.pass.at s.pass.left s.pass.freed s.part.bytes (s.invariant.passing p u)
+    l.0 l.1 l.2
+
+pub returns-after-loop-pass-clause-purged : goal.returns-after-loop-pass-clause-purged
+returns-after-loop-pass-clause-purged c = λ p u.
+    let s = c.loop-pass in
+    let l = c.loop-pass-test.false in
+    let m = c.loop-pass.invariant.same in
+    purged p c.args.sparing s.pass.start s.pass.at s.pass.left s.pass.freed s.part.bytes (s.invariant.passing p u)
+    (omega (arith, l, m, c.len-end.ensures.count))

@@ -1,0 +1,69 @@
+use Rattle.std.proofs.Common.{arith, refl, sym, subst}
+use Rattle.zone_bytes.specs.Decode.{zone_in}
+use Rattle.zone_marks.specs.Purging.{Purged, purge_zone}
+use Rattle.zone_marks.proofs.Joined.PurgeStarts.{all-start, going, going-is, may-go, lowest-start}
+use Rattle.zone_marks.proofs.Joined.Released.{leads-up, here-read}
+use Rattle.zone_bytes.specs.Changes.{Begins}
+use Rattle.zone_marks.proofs.purging.purge_lowest.Goals as goal
+
+pub purge_from-requires : goal.purge_from-requires
+purge_from-requires c =
+    let i = c.requires.sound.2 in
+    let xs = c.args.part.now.bytes in (
+      purge_zone 0 xs i.unused c.args.purges c.args.sparing,
+      all-start xs c.requires.sound.0 c.requires.sound.1 i c.args.purges c.args.sparing,
+    )
+
+pub returns-in_default-clause-purged : goal.returns-in_default-clause-purged
+returns-in_default-clause-purged c = λ first unused i.
+    let xs = c.args.part.now.bytes in
+    subst (λ k. Purged (purge_zone k xs i.unused c.args.purges c.args.sparing) c.purge_from.result.to
+    c.purge_from.result.bytes c.purge_from.new.part.bytes) (sym c.purge_from.ensures.from)
+    (c.purge_from.ensures.purged (purge_zone 0 xs i.unused c.args.purges c.args.sparing)
+    (all-start xs first unused i c.args.purges c.args.sparing))
+
+pub last_free_below-start-requires-clause-up : goal.last_free_below-start-requires-clause-up
+last_free_below-start-requires-clause-up c =
+    let i = c.requires.sound in
+    let xs = c.args.part.now.bytes in
+    let f = c.in-Some.ensures.lowest in
+    let p = c.in-Some.ensures.plain refl in
+    let m = may-go xs i.0 i.1 i.2 c.args.purges c.args.sparing f.0 f.1 c.in-Some.place f.3 p in
+    leads-up (going xs i.0 i.1 i.2 c.args.purges c.args.sparing f.0 f.1 c.in-Some.place f.3 p) c.in-Some.place xs m
+    c.below-from.result
+    (subst (Begins c.below-from.result 0) (going-is xs i.0 i.1 i.2 c.args.purges c.args.sparing f.0 f.1 c.in-Some.place f.3 p)
+    (c.below-from.ensures.begins (zone_in xs) c.requires.marks)) c.below-from.ensures.below
+
+pub last_free_below-start-requires-clause-inside : goal.last_free_below-start-requires-clause-inside
+last_free_below-start-requires-clause-inside c =
+    let i = c.requires.sound in
+    let xs = c.args.part.now.bytes in
+    let f = c.in-Some.ensures.lowest in
+    let p = c.in-Some.ensures.plain refl in
+    let r = here-read (going xs i.0 i.1 i.2 c.args.purges c.args.sparing f.0 f.1 c.in-Some.place f.3 p) c.in-Some.place xs
+    (may-go xs i.0 i.1 i.2 c.args.purges c.args.sparing f.0 f.1 c.in-Some.place f.3 p) in
+    let k = r.inside in
+    omega (arith, k)
+
+pub purge_from-requires-2 : goal.purge_from-requires-2
+purge_from-requires-2 c =
+    let i = c.requires.sound in
+    let xs = c.args.part.now.bytes in
+    let f = c.in-Some.ensures.lowest in
+    let p = c.in-Some.ensures.plain refl in
+    let s = c.last_free_below-start in (
+      purge_zone s.result xs i.2.unused c.args.purges c.args.sparing,
+      lowest-start xs i.0 i.1 i.2 c.args.purges c.args.sparing f.0 f.1 c.in-Some.place f.3 p s.result s.ensures,
+    )
+
+pub returns-clause-purged : goal.returns-clause-purged
+returns-clause-purged c = λ first unused i.
+    let xs = c.args.part.now.bytes in
+    let f = c.in-Some.ensures.lowest in
+    let p = c.in-Some.ensures.plain refl in
+    let s = c.last_free_below-start in
+    let u = c.purge_from-2 in
+    subst (λ k. Purged (purge_zone k xs i.unused c.args.purges c.args.sparing) u.result.to u.result.bytes u.new.part.bytes)
+    (sym u.ensures.from)
+    (u.ensures.purged (purge_zone s.result xs i.unused c.args.purges c.args.sparing)
+    (lowest-start xs first unused i c.args.purges c.args.sparing f.0 f.1 c.in-Some.place f.3 p s.result s.ensures))

@@ -1,0 +1,7 @@
+pub mod Marks
+pub mod Marked
+pub mod Beginning
+pub mod Purgeable
+pub mod Searching
+pub mod Purging
+pub mod LaidMarks

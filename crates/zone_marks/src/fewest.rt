@@ -1,0 +1,201 @@
+//! The least number of purges after which a run has enough free bytes. The lowest run that has them once all blocks are
+//! purged that may be is the first to have them: all such blocks below it are purged, and as few of its own as serve.
+//! The run of a block that is not purged stays where it is, so the same is counted for it.
+
+ghost use Rattle.std.specs.Prelude.{◌≡◌, ◌≤◌, ◌<◌, ◌+◌, ◌^◌, ◌++◌, ℕ, List, Some, IfSome, MatchOption, true, false};
+ghost use Rattle.block_store.specs.Block.{Block, count, is_relocatable, sizes};
+ghost use Rattle.block_store.specs.Find.{FindsLowestRun};
+ghost use Rattle.block_store.specs.Run.{has_free};
+ghost use Rattle.block_store.specs.Room.{count_of};
+ghost use Rattle.block_store.specs.Sparing.{opened, spared};
+ghost use Rattle.zone_bytes.specs.Decode.{zone_in};
+ghost use Rattle.zone_bytes.specs.Lawful.{IsSound};
+ghost use Rattle.zone_marks.specs.Marks.{AreGroups, AreMarks, above_all};
+ghost use Rattle.zone_bytes.specs.Changes.{Begins};
+ghost use Rattle.zone_marks.specs.Purgeable.{NoneGoes};
+ghost use Rattle.zone_bytes.specs.Stepping.{left_in};
+ghost use Rattle.zone_summary.specs.Emptied.{all_purged};
+ghost use Rattle.zone_summary.specs.Fewest.{count_within, purges_for, run_purges_for};
+ghost use Rattle.zone_summary.specs.Stretches.{prefix, stretch_of};
+ghost use Rattle.block_store.specs.Fewest.{serves, serves_block, IsFewest};
+
+use crate::landmark::{Group, Landmark};
+use crate::largest::runs_above;
+use crate::measuring::within;
+use crate::purgeable::frees_one;
+use block_store::{
+    Sparing, Walk, is_counted_free, is_in_run, may_purge, may_purge_now, run_of_in, size_of_seen,
+};
+use raw_region::Part;
+use zone_bytes::walk_from;
+
+/// Returns the number of blocks that may be purged, of those of a walk that begin in the first `bytes` bytes.
+fn count_in<W: Walk>(walk: &mut W, bytes: u32, sparing: Sparing) -> u32
+    requires { sizes (W.rest walk.old) < 2 ^ 32 }
+    ensures is { result ≡ count_within (spared sparing) bytes (opened sparing (W.rest walk.old)) }
+    ensures few { result ≤ sizes (W.rest walk.old) }
+{
+    let mut left = bytes;
+    let mut total = 0;
+    while left > 0 {
+        let Some(block) = walk.next_block() else {
+            return total;
+        };
+        if may_purge(block, sparing) {
+            total += 1;
+        }
+        left = left.saturating_sub(size_of_seen(block));
+    }
+    total
+}
+
+/// Returns how many of the lowest blocks of a walk that may be purged free `bytes` bytes.
+fn count_for<W: Walk>(walk: &mut W, bytes: u32, sparing: Sparing) -> u32
+    requires { sizes (W.rest walk.old) < 2 ^ 32 }
+    ensures is { result ≡ purges_for (spared sparing) bytes (opened sparing (W.rest walk.old)) }
+    ensures few { result ≤ sizes (W.rest walk.old) }
+{
+    let mut left = bytes;
+    let mut total = 0;
+    while left > 0 {
+        let Some(block) = walk.next_block() else {
+            return total;
+        };
+        if may_purge(block, sparing) {
+            total += 1;
+            left = left.saturating_sub(size_of_seen(block));
+        }
+    }
+    total
+}
+
+/// Returns how many of the lowest blocks that may be purged, of the run at which a walk begins, free `bytes` bytes; `None`
+/// where all of them free fewer.
+fn count_in_run<W: Walk>(walk: &mut W, bytes: u32, sparing: Sparing) -> Option<u32>
+    requires { sizes (W.rest walk.old) < 2 ^ 32 }
+    ensures is { result ≡ run_purges_for (spared sparing) 0 bytes (W.rest walk.old) }
+    ensures few { IfSome result (λ own. own ≤ sizes (W.rest walk.old)) }
+{
+    let mut left = bytes;
+    let mut total = 0;
+    while left > 0 {
+        let Some(block) = walk.next_block() else {
+            return None;
+        };
+        if may_purge_now(block, sparing) {
+            total += 1;
+            left = left.saturating_sub(size_of_seen(block));
+        } else if !is_in_run(block) {
+            return None;
+        }
+    }
+    Some(total)
+}
+
+/// Returns the free bytes of the run at which a walk begins, as a search sees it first.
+fn free_of_run<W: Walk>(walk: &mut W, sparing: Sparing) -> u32
+    requires { sizes (W.rest walk.old) < 2 ^ 32 }
+    ensures { result ≡ prefix (stretch_of (opened sparing (W.rest walk.old))) }
+{
+    let mut free = 0;
+    while let Some(block) = walk.next_block() {
+        if is_counted_free(block, sparing) {
+            free += size_of_seen(block);
+        } else if !is_in_run(block) {
+            return free;
+        }
+    }
+    free
+}
+
+/// Returns the free bytes of the run at `run`, as a search sees it first.
+fn free_at(marks: &[Landmark], groups: &[Group], part: &Part, run: u32, sparing: Sparing) -> u32
+    requires sound { (first : ℕ) × (unused : ℕ) × IsSound part.now.bytes first unused }
+    requires marks { AreMarks above_all (zone_in part.now.bytes) marks.now }
+    requires groups { AreGroups groups.now marks.now }
+    requires begins { Begins run 0 (zone_in part.now.bytes) }
+    ensures { result ≡ prefix (stretch_of (opened sparing (left_in run part.now.bytes))) }
+{
+    if frees_one(sparing) {
+        free_of_run(&mut walk_from(part, run), sparing)
+    } else {
+        runs_above(marks, groups, part, run, true).lowest()
+    }
+}
+
+/// Returns the number of blocks below the run at `run` that may be purged, where no block below `from` may be.
+fn count_below(part: &Part, from: u32, run: u32, sparing: Sparing) -> u32
+    requires sound { (first : ℕ) × (unused : ℕ) × IsSound part.now.bytes first unused }
+    requires begins { Begins from 0 (zone_in part.now.bytes) }
+    requires none { NoneGoes from (zone_in part.now.bytes) }
+    requires run { Begins run 0 (zone_in part.now.bytes) }
+    ensures is { (low rest : List Block) → zone_in part.now.bytes ≡ low ++ rest → sizes low ≡ run
+        → result ≡ count_of (spared sparing) (opened sparing low) }
+    ensures few { result ≤ run }
+{
+    let first = within(from, run);
+    count_in(&mut walk_from(part, first), run - first, sparing)
+}
+
+/// Returns the least number of purges after which a run has at least `bytes` free bytes, where no run has them before
+/// any purge. The run at `run` is the lowest that has them after all purges, and no block below `from` may be purged.
+pub fn fewest_by_marks(
+    marks: &[Landmark],
+    groups: &[Group],
+    part: &Part,
+    from: u32,
+    run: u32,
+    bytes: u32,
+    sparing: Sparing,
+) -> u32
+    requires sound { (first : ℕ) × (unused : ℕ) × IsSound part.now.bytes first unused }
+    requires marks { AreMarks above_all (zone_in part.now.bytes) marks.now }
+    requires groups { AreGroups groups.now marks.now }
+    requires begins { Begins from 0 (zone_in part.now.bytes) }
+    requires none { NoneGoes from (zone_in part.now.bytes) }
+    requires run { FindsLowestRun (has_free bytes) (all_purged sparing (zone_in part.now.bytes)) (Some run) }
+    requires unserved { serves bytes sparing (zone_in part.now.bytes) 0 ≡ false }
+    ensures { IsFewest (serves bytes sparing (zone_in part.now.bytes)) result }
+{
+    let below = count_below(part, from, run, sparing);
+    let free = free_at(marks, groups, part, run, sparing);
+    let lacks = bytes.saturating_sub(free);
+    below + count_for(&mut walk_from(part, run), lacks, sparing)
+}
+
+/// Returns the least number of purges after which the run of a master pointer's block has at least `bytes` free bytes: 0
+/// where it has them without any; `None` where no purges serve. The block itself may not be purged, and no block below
+/// `from` may be.
+pub fn fewest_for_block(
+    marks: &[Landmark],
+    groups: &[Group],
+    part: &Part,
+    from: u32,
+    number: u32,
+    bytes: u32,
+    sparing: Sparing,
+) -> Option<u32>
+    requires sound { (first : ℕ) × (unused : ℕ) × IsSound part.now.bytes first unused }
+    requires marks { AreMarks above_all (zone_in part.now.bytes) marks.now }
+    requires groups { AreGroups groups.now marks.now }
+    requires begins { Begins from 0 (zone_in part.now.bytes) }
+    requires none { NoneGoes from (zone_in part.now.bytes) }
+    requires once { count (is_relocatable number) (zone_in part.now.bytes) ≤ 1 }
+    requires spared { (b : Block) → is_relocatable number b ≡ true → spared sparing b ≡ true }
+    requires whole { (blocks : List Block) → opened sparing blocks ≡ blocks }
+    ensures { MatchOption result
+        ((purges : ℕ) → serves_block number bytes sparing (zone_in part.now.bytes) purges ≡ false)
+        (λ fewest. IsFewest (serves_block number bytes sparing (zone_in part.now.bytes)) fewest) }
+{
+    let Some(run) = run_of_in(&mut walk_from(part, 0), number, 0, 0, Sparing::Nothing) else {
+        return None;
+    };
+    let free = free_at(marks, groups, part, run, sparing);
+    if bytes <= free {
+        return Some(0);
+    }
+    let Some(own) = count_in_run(&mut walk_from(part, run), bytes - free, sparing) else {
+        return None;
+    };
+    Some(count_below(part, from, run, sparing) + own)
+}

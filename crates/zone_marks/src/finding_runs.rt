@@ -1,0 +1,314 @@
+//! The search for a run by landmarks: stretches with which no run comes to enough free bytes are passed without a walk
+//! over their blocks.
+
+ghost use Rattle.std.specs.Prelude.{◌≡◌, ◌+◌, ◌≤◌, ◌<◌, ◌⊎◌, ◌&&◌, ◌^◌, ℕ, List, Option, false, true, nat_le};
+ghost use Rattle.std.specs.Prelude.{get_or, length, IfSome};
+ghost use Rattle.block_store.specs.Block.{Block, free_sum};
+ghost use Rattle.block_store.specs.Find.{FindsLowestRun};
+ghost use Rattle.block_store.specs.Run.{has, has_free};
+ghost use Rattle.block_store.specs.declared.run_search.RunScan.{RunScan as RunOf};
+ghost use Rattle.zone_bytes.specs.Decode.{zone_in};
+ghost use Rattle.zone_bytes.specs.Lawful.{IsSound};
+ghost use Rattle.zone_marks.specs.Marks.{AreGroups, AreMarks, above_all, ends_run, no_mark};
+ghost use Rattle.zone_bytes.specs.Changes.{Begins};
+ghost use Rattle.zone_marks.specs.Purgeable.{MayStart};
+ghost use Rattle.zone_marks.specs.Searching.{HasCome, IsBefore, IsFound, IsKnown, IsPassed, IsPiece, IsReady, IsStretch};
+ghost use Rattle.zone_marks.specs.Searching.{finds_from, finds_purging};
+ghost use Rattle.zone_bytes.specs.Stepping.{left_in, IsOnWay};
+ghost use Rattle.zone_marks.specs.declared.landmark.Tally.TheVariants as tally;
+ghost use Rattle.zone_summary.specs.Emptied.{all_purged};
+ghost use Rattle.zone_summary.specs.Stretches.{load};
+ghost use Rattle.zone_summary.specs.Stretches.{best, prefix, suffix};
+ghost use Rattle.zone_summary.specs.declared.stretch.Stretch.{Stretch as StretchOf};
+
+use crate::beginning::{Passed, begin_search, begun_at, pass_known};
+use crate::landmark::{Group, Landmark, Tally};
+use crate::largest::told_from;
+use crate::marking::{index_above, place_of_mark};
+use crate::measuring::within;
+use block_store::{RunScan, Sparing, scan_run};
+use raw_region::Part;
+use zone_bytes::step_at;
+use zone_summary::Stretch;
+
+/// Reports whether the run so far is the one that is sought.
+fn is_found(scan: RunScan, bytes: u32) -> bool
+    ensures { result ≡ (scan.met && nat_le bytes scan.free) }
+{
+    scan.met && bytes <= scan.free
+}
+
+/// Searches up to the first block at or above `to`, or until the run is found.
+fn scan_up_to(part: &Part, scan: RunScan, to: u32, bytes: u32, sparing: Sparing) -> RunScan
+    requires way { IsOnWay scan.place part.now.bytes }
+    requires free { scan.free ≤ scan.place }
+    requires met { scan.met ≡ true }
+    ensures same { finds_purging bytes sparing scan part.now.bytes ≡ finds_purging bytes sparing result part.now.bytes }
+    ensures begins { Begins result.place scan.place (left_in scan.place part.now.bytes) }
+    ensures free { result.free ≤ result.place }
+    ensures met { result.met ≡ true }
+    ensures left { result.left ≤ scan.left }
+    ensures stays { IsFound bytes scan → IsFound bytes result }
+    ensures came { IsFound bytes result ⊎ ((length part.now.bytes ≤ result.place) ⊎ (to ≤ result.place)) }
+    ensures up_to { Begins to scan.place (left_in scan.place part.now.bytes) → result.place ≤ to }
+{
+    let stop = within(to, part.len() as u32);
+    let mut scan = scan;
+    while scan.place < stop && !is_found(scan, bytes) {
+        let step = step_at(part, scan.place);
+        scan = scan_run(step.block, None, scan, sparing);
+    }
+    scan
+}
+
+/// Takes a search up to the place `next` past blocks among which no run ends and of which `free` bytes are free.
+fn past_open(scan: RunScan, free: u32, next: u32, bytes: u32) -> RunScan
+    requires { (scan.met && nat_le bytes scan.free) ≡ false → scan.free + free < 2 ^ 32 }
+    ensures { (answer : Option ℕ) (at : ℕ) (xs : List ℕ) (here : List Block) → IsKnown bytes answer at xs scan →
+        IsPiece at next xs here → has ends_run here ≡ false → free_sum here ≡ free →
+        IsKnown bytes answer next xs result }
+{
+    if is_found(scan, bytes) {
+        return scan;
+    }
+    RunScan {
+        left: scan.left,
+        start: scan.start,
+        free: scan.free + free,
+        met: scan.met,
+        place: next,
+    }
+}
+
+/// Returns the state at the place `at` of a search that passed blocks up to there.
+fn behind_passed(part: &Part, scan: RunScan, passed: Passed, at: u32, bytes: u32) -> RunScan
+    requires sound { (first : ℕ) × (unused : ℕ) × IsSound part.now.bytes first unused }
+    requires ready { IsReady part.now.bytes scan }
+    requires passed { IsPassed scan at part.now.bytes passed }
+    requires short { best passed.runs < bytes }
+    ensures { IsKnown bytes (finds_from bytes scan part.now.bytes) at part.now.bytes result }
+{
+    match passed.runs {
+        Stretch::Whole(free) => RunScan {
+            left: scan.left,
+            start: scan.start,
+            free,
+            met: scan.met,
+            place: at,
+        },
+        Stretch::Ended(_, _, _) => {
+            let begun = begun_at(passed.barred, 0);
+            let walked = scan_up_to(part, begun, passed.end, bytes, Sparing::Nothing);
+            past_open(walked, passed.free, at, bytes)
+        }
+    }
+}
+
+/// Returns the place of the run that a search finds, by a walk from where it is.
+fn walk_on(part: &Part, scan: RunScan, bytes: u32, sparing: Sparing) -> Option<u32>
+    requires sound { (first : ℕ) × (unused : ℕ) × IsSound part.now.bytes first unused }
+    requires begins { Begins scan.place 0 (zone_in part.now.bytes) }
+    requires free { scan.free ≤ scan.place }
+    requires met { scan.met ≡ true }
+    ensures { result ≡ finds_purging bytes sparing scan part.now.bytes }
+{
+    let last = scan_up_to(part, scan, u32::MAX, bytes, sparing);
+    if is_found(last, bytes) {
+        return Some(last.start);
+    }
+    None
+}
+
+/// Takes a search past the blocks of a landmark, which reach up to the place `next`; `None` where it isn't known what they
+/// come to in runs, or where a run has `bytes` free bytes with them.
+fn pass_stretch(passed: Passed, mark: Landmark, next: u32, bytes: u32) -> Option<Passed>
+    requires fits { (runs : StretchOf) → mark.tally ≡ tally.Known runs
+        → (suffix passed.runs + prefix runs < 2 ^ 32) × (passed.free + load runs < 2 ^ 32) }
+    ensures short { IfSome result (λ p. best p.runs < bytes) }
+    ensures passed { IfSome result (λ p. (xs : List ℕ) (scan : RunOf) → IsPassed scan mark.at xs passed
+        → Begins mark.at 0 (zone_in xs) → IsStretch mark.tally mark.at next xs → IsPassed scan next xs p) }
+{
+    let Tally::Known(runs) = mark.tally else {
+        return None;
+    };
+    let farther = pass_known(passed, mark.at, runs, next);
+    if bytes <= farther.runs.best() {
+        return None;
+    }
+    Some(farther)
+}
+
+/// Where a search by landmarks has come to: what it passed, the place up to which it did, and the index of the landmark
+/// that stands there; where there is none, the place is the zone's end.
+#[derive(Clone, Copy, Drop)]
+pub struct Reached {
+    pub passed: Passed,
+    pub at: u32,
+    pub index: usize,
+}
+
+/// Takes a search past the stretches of the landmarks below the index `behind`, whose blocks `tally` is of; `None` where
+/// it isn't known what they come to in runs, or where a run has `bytes` free bytes with them.
+fn pass_up_to(
+    marks: &[Landmark],
+    part: &Part,
+    reached: Reached,
+    tally: Tally,
+    behind: usize,
+    bytes: u32,
+) -> Option<Reached>
+    requires sound { (first : ℕ) × (unused : ℕ) × IsSound part.now.bytes first unused }
+    requires marks { AreMarks above_all (zone_in part.now.bytes) marks.now }
+    requires inside { behind ≤ length marks.now }
+    requires come { (scan : RunOf) × HasCome scan marks.now part.now.bytes reached }
+    requires stretch { (next : ℕ) → IsBefore behind marks.now part.now.bytes next →
+        IsStretch tally reached.at next part.now.bytes }
+    ensures short { IfSome result (λ r. best r.passed.runs < bytes) }
+    ensures behind { IfSome result (λ r. r.index ≡ behind) }
+    ensures come { IfSome result (λ r. (scan : RunOf) → HasCome scan marks.now part.now.bytes reached →
+        HasCome scan marks.now part.now.bytes r) }
+{
+    let next = within(place_of_mark(marks, behind), part.len() as u32);
+    let mark = Landmark {
+        at: reached.at,
+        most: 0,
+        tally,
+    };
+    match pass_stretch(reached.passed, mark, next, bytes) {
+        Some(passed) => Some(Reached {
+            passed,
+            at: next,
+            index: behind,
+        }),
+        None => None,
+    }
+}
+
+/// Takes a search past the stretches of a group, if it has come to the first of the group's landmarks, or past the
+/// stretch of one landmark; `None` where neither can be passed.
+fn pass_far(
+    marks: &[Landmark],
+    groups: &[Group],
+    part: &Part,
+    reached: Reached,
+    bytes: u32,
+) -> Option<Reached>
+    requires sound { (first : ℕ) × (unused : ℕ) × IsSound part.now.bytes first unused }
+    requires marks { AreMarks above_all (zone_in part.now.bytes) marks.now }
+    requires groups { AreGroups groups.now marks.now }
+    requires inside { reached.index < length marks.now }
+    requires come { (scan : RunOf) × HasCome scan marks.now part.now.bytes reached }
+    ensures short { IfSome result (λ r. best r.passed.runs < bytes) }
+    ensures behind { IfSome result (λ r. reached.index < r.index) }
+    ensures come { IfSome result (λ r. (scan : RunOf) → HasCome scan marks.now part.now.bytes reached →
+        HasCome scan marks.now part.now.bytes r) }
+{
+    let told = told_from(marks, groups, part, reached.index);
+    let farther = pass_up_to(marks, part, reached, told.tally, told.behind, bytes);
+    if farther.is_some() {
+        return farther;
+    }
+    let mark = marks[reached.index];
+    pass_up_to(marks, part, reached, mark.tally, reached.index + 1, bytes)
+}
+
+/// Returns the place of the run that a search with no purges left finds, from the place of a landmark or the zone's end
+/// on. Blocks are walked over only where a run has enough free bytes.
+fn reach_run(
+    marks: &[Landmark],
+    groups: &[Group],
+    part: &Part,
+    first: usize,
+    scan: RunScan,
+    bytes: u32,
+) -> Option<u32>
+    requires sound { (first : ℕ) × (unused : ℕ) × IsSound part.now.bytes first unused }
+    requires marks { AreMarks above_all (zone_in part.now.bytes) marks.now }
+    requires groups { AreGroups groups.now marks.now }
+    requires first { first ≤ length marks.now }
+    requires ready { IsReady part.now.bytes scan }
+    requires short { scan.free < bytes }
+    requires here { first < length marks.now → scan.place ≡ (get_or marks.now first no_mark).at }
+    requires end { length marks.now ≤ first → length part.now.bytes ≤ scan.place }
+    ensures { result ≡ finds_from bytes scan part.now.bytes }
+{
+    let mut reached = Reached {
+        passed: Passed {
+            runs: Stretch::Whole(scan.free),
+            barred: scan.place,
+            end: scan.place,
+            free: 0,
+        },
+        at: scan.place,
+        index: first,
+    };
+    while reached.index < marks.len() {
+        let Some(farther) = pass_far(marks, groups, part, reached, bytes) else {
+            let behind = behind_passed(part, scan, reached.passed, reached.at, bytes);
+            return walk_on(part, behind, bytes, Sparing::Nothing);
+        };
+        reached = farther;
+    }
+    None
+}
+
+/// Returns the place of the run that a search with no purges left finds: by a walk up to the next landmark, and by
+/// landmarks from there on.
+fn run_from(
+    marks: &[Landmark],
+    groups: &[Group],
+    part: &Part,
+    begun: RunScan,
+    bytes: u32,
+) -> Option<u32>
+    requires sound { (first : ℕ) × (unused : ℕ) × IsSound part.now.bytes first unused }
+    requires marks { AreMarks above_all (zone_in part.now.bytes) marks.now }
+    requires groups { AreGroups groups.now marks.now }
+    requires ready { IsReady part.now.bytes begun }
+    ensures { result ≡ finds_from bytes begun part.now.bytes }
+{
+    let first = index_above(marks, begun.place, 0);
+    let at = within(place_of_mark(marks, first), part.len() as u32);
+    let scan = scan_up_to(part, begun, at, bytes, Sparing::Nothing);
+    if is_found(scan, bytes) {
+        return Some(scan.start);
+    }
+    reach_run(marks, groups, part, first, scan, bytes)
+}
+
+/// Returns the place of the lowest run with at least `bytes` free bytes.
+pub fn find_run_by_marks(
+    marks: &[Landmark],
+    groups: &[Group],
+    part: &Part,
+    bytes: u32,
+) -> Option<u32>
+    requires sound { (first : ℕ) × (unused : ℕ) × IsSound part.now.bytes first unused }
+    requires marks { AreMarks above_all (zone_in part.now.bytes) marks.now }
+    requires groups { AreGroups groups.now marks.now }
+    ensures { FindsLowestRun (has_free bytes) (zone_in part.now.bytes) result }
+{
+    run_from(marks, groups, part, begun_at(0, 0), bytes)
+}
+
+/// Returns the place of the lowest run with at least `bytes` free bytes once all blocks that may be purged were. The
+/// blocks below `from` are those of the zone as it stands.
+pub fn find_run_purged(
+    marks: &[Landmark],
+    part: &Part,
+    from: u32,
+    bytes: u32,
+    sparing: Sparing,
+) -> Option<u32>
+    requires sound { (first : ℕ) × (unused : ℕ) × IsSound part.now.bytes first unused }
+    requires marks { AreMarks above_all (zone_in part.now.bytes) marks.now }
+    requires from { MayStart from (zone_in part.now.bytes) }
+    ensures { FindsLowestRun (has_free bytes) (all_purged sparing (zone_in part.now.bytes)) result }
+{
+    walk_on(
+        part,
+        begin_search(marks, part, from, bytes, sparing),
+        bytes,
+        sparing,
+    )
+}

@@ -1,0 +1,420 @@
+//! The landmarks that a zone keeps.
+
+ghost use Rattle.std.specs.Prelude.{◌≡◌, ◌≤◌, ◌<◌, ◌⊎◌, ◌++◌, ℕ, List, [], Some, true, false, IfOk, MatchOption};
+ghost use Rattle.block_store.specs.Block.{Block, count, free_sum, is_relocatable, is_room, sizes};
+ghost use Rattle.block_store.specs.Compact.{largest_free, largest_run};
+ghost use Rattle.block_store.specs.Fewest.{serves, serves_block, IsFewest};
+ghost use Rattle.block_store.specs.Find.{FindsLowest, FindsLowestRun};
+ghost use Rattle.block_store.specs.Run.{RunSpot, has_free, run_at, settle};
+ghost use Rattle.block_store.specs.Sparing.{opened, purged, spared};
+ghost use Rattle.block_store.specs.declared.sparing.Sparing.TheVariants.{Nothing};
+ghost use Rattle.zone_bytes.specs.Decode.{zone_in};
+ghost use Rattle.zone_bytes.specs.Edges.{AreEdges, ByEdges};
+ghost use Rattle.zone_marks.specs.LaidMarks.{AreLaid};
+ghost use Rattle.zone_bytes.specs.Lawful.{IsSound};
+ghost use Rattle.zone_marks.specs.Marked.{AreMarked, AreOf};
+ghost use Rattle.zone_marks.specs.Marks.{AreGroups};
+ghost use Rattle.zone_bytes.specs.Changes.{Became, Begins, Replaced};
+ghost use Rattle.zone_marks.specs.Purgeable.{MayStart, NoneGoes};
+
+use crate::fewest::{fewest_by_marks, fewest_for_block};
+use crate::finding_runs::{find_run_by_marks, find_run_purged};
+use crate::free_space::{largest_after_by_marks, largest_free_by_marks};
+use crate::going::{first_going, lowest_after, lowest_packed};
+use crate::landmark::{GROUP, Group, Landmark, UNKNOWN, UNKNOWN_GROUP};
+use crate::largest::largest_run_by_marks;
+use crate::marking::{
+    NextMark, change_marks, find_by_marks, lay_anew, lay_edges, mark_below, place_of_mark,
+};
+use crate::measuring::within;
+use crate::paging::{groups_of, page_bytes, page_end};
+use block_store::Sparing;
+use raw_region::Part;
+use std::alloc::{AllocError, Global};
+use zone_bytes::{Edges, PackedRun, size_at};
+
+/// Landmarks of a zone: places at which blocks begin, one for each page of the zone's bytes. Each has a bound on the
+/// size of each free block up to the next landmark, and a tally of the blocks there: how many bytes are free, and
+/// whether a run ends there. Each group of landmarks has both of all its blocks. With them is kept a place below
+/// which no block may be purged. Landmarks lie in the host's memory, and can be thrown away and made anew at any time.
+#[derive(Drop)]
+pub struct Landmarks {
+    marks: Vec<Landmark>,
+    groups: Vec<Group>,
+    page: u32,
+    lowest: u32,
+}
+
+impl Landmarks {
+    /// Makes the landmarks of a zone, by walks over the zone. All room that they ever take is asked of the host here.
+    /// Where the host refuses it, there are none: each search then begins at the bottom, and finds the same.
+    pub fn of(alloc: Global, part: &Part) -> Landmarks
+        requires sound { (first : ℕ) × (unused : ℕ) × IsSound part.now.bytes first unused }
+        ensures { AreOf result (zone_in part.now.bytes) }
+    {
+        let mut landmarks = match Landmarks::unlaid(alloc, part) {
+            Ok(landmarks) => landmarks,
+            Err(_) => Landmarks::none(alloc, part),
+        };
+        landmarks.renew(part, 0, part.len() as u32);
+        landmarks.seek(part);
+        landmarks
+    }
+
+    /// Makes no landmarks.
+    fn none(alloc: Global, part: &Part) -> Landmarks
+        requires sound { (first : ℕ) × (unused : ℕ) × IsSound part.now.bytes first unused }
+        ensures { AreOf result (zone_in part.now.bytes) }
+    {
+        Landmarks {
+            marks: Vec::new(alloc),
+            groups: Vec::new(alloc),
+            page: page_bytes(part),
+            lowest: 0,
+        }
+    }
+
+    /// Makes landmarks that all stand at the bottom, with nothing known of the blocks.
+    ///
+    /// # Errors
+    ///
+    /// The host is out of memory.
+    fn unlaid(alloc: Global, part: &Part) -> Result<Landmarks, AllocError>
+        requires sound { (first : ℕ) × (unused : ℕ) × IsSound part.now.bytes first unused }
+        ensures { IfOk result (λ landmarks. AreOf landmarks (zone_in part.now.bytes)) }
+    {
+        let count = groups_of(part);
+        let marks = Vec::from_elem(alloc, UNKNOWN, count * GROUP)?;
+        let groups = Vec::from_elem(alloc, UNKNOWN_GROUP, count)?;
+        Ok(Landmarks {
+            marks,
+            groups,
+            page: page_bytes(part),
+            lowest: 0,
+        })
+    }
+
+    /// Returns the page of a place, near whose landmark a search by place begins.
+    fn page_of(&self, place: u32) -> usize {
+        match place.checked_div(self.page) {
+            Some(page) => page as usize,
+            None => 0,
+        }
+    }
+
+    /// Returns the place of a landmark below `place`, or 0 if there is none.
+    pub fn below(&self, place: u32) -> u32
+        ensures below { (result < place) ⊎ (result ≡ 0) }
+        ensures begins { (zone : List Block) → AreOf self.now zone → Begins result 0 zone }
+    {
+        mark_below(&self.marks, place, self.page_of(place))
+    }
+
+    /// Returns the place of a block below which no block may be purged, from which those that may be are sought.
+    pub fn start(&self) -> u32
+        ensures begins { (zone : List Block) → AreOf self.now zone → Begins result 0 zone }
+        ensures none { (zone : List Block) → AreOf self.now zone → NoneGoes result zone }
+    {
+        self.below(self.lowest.saturating_add(1))
+    }
+
+    /// Returns the place of a block up to which no block may be purged, or the zone's bottom.
+    fn under(&self) -> u32
+        ensures { (zone : List Block) → AreOf self.now zone → MayStart result zone }
+    {
+        self.below(self.lowest)
+    }
+
+    /// Moves the place below which no block may be purged up to the lowest block that may be.
+    pub fn seek(&mut self, part: &Part)
+        requires sound { (first : ℕ) × (unused : ℕ) × IsSound part.now.bytes first unused }
+        requires marks { AreOf self.old (zone_in part.now.bytes) }
+        ensures { AreOf self.new (zone_in part.now.bytes) }
+    {
+        self.lowest = first_going(part, self.start(), u32::MAX);
+    }
+
+    /// Returns a place below which no block may be purged after the run at `run` is packed.
+    pub fn lowest_packed(&self, run: u32, free: u32) -> u32
+        ensures { (zone : List Block) (r : RunSpot) → AreOf self.now zone → run_at run zone ≡ Some r →
+            free ≡ free_sum zone → NoneGoes result (r.below ++ (settle r.run ++ r.above)) }
+    {
+        lowest_packed(self.lowest, run, free)
+    }
+
+    /// Returns a place below which no block may be purged after blocks from `place` on become others.
+    pub fn lowest_under(&self, place: u32) -> u32
+        ensures { (hi : ℕ) (old new : List Block) → AreOf self.now old → Replaced place hi old new →
+            NoneGoes result new }
+    {
+        within(self.lowest, place)
+    }
+
+    /// Returns the place of the lowest free block of at least `bytes` bytes.
+    pub fn find(&self, part: &Part, bytes: u32) -> Option<u32>
+        requires sound { (first : ℕ) × (unused : ℕ) × IsSound part.now.bytes first unused }
+        requires marks { AreOf self.now (zone_in part.now.bytes) }
+        ensures { FindsLowest (is_room bytes) (zone_in part.now.bytes) result }
+    {
+        find_by_marks(&self.marks, &self.groups, part, bytes)
+    }
+
+    /// Returns the place of the lowest run with at least `bytes` free bytes.
+    pub fn find_run(&self, part: &Part, bytes: u32) -> Option<u32>
+        requires sound { (first : ℕ) × (unused : ℕ) × IsSound part.now.bytes first unused }
+        requires marks { AreOf self.now (zone_in part.now.bytes) }
+        ensures { FindsLowestRun (has_free bytes) (zone_in part.now.bytes) result }
+    {
+        find_run_by_marks(&self.marks, &self.groups, part, bytes)
+    }
+
+    /// Returns the least number of purges after which a run has at least `bytes` free bytes, where no run has them
+    /// before any purge; `None` where no purges serve.
+    pub fn fewest_purges(&self, part: &Part, bytes: u32, sparing: Sparing) -> Option<u32>
+        requires sound { (first : ℕ) × (unused : ℕ) × IsSound part.now.bytes first unused }
+        requires marks { AreOf self.now (zone_in part.now.bytes) }
+        requires unserved { serves bytes sparing (zone_in part.now.bytes) 0 ≡ false }
+        ensures { MatchOption result ((purges : ℕ) → serves bytes sparing (zone_in part.now.bytes) purges ≡ false)
+            (λ fewest. IsFewest (serves bytes sparing (zone_in part.now.bytes)) fewest) }
+    {
+        let Some(run) = find_run_purged(&self.marks, part, self.under(), bytes, sparing) else {
+            return None;
+        };
+        Some(fewest_by_marks(
+            &self.marks,
+            &self.groups,
+            part,
+            self.start(),
+            run,
+            bytes,
+            sparing,
+        ))
+    }
+
+    /// Returns the least number of purges after which the run of a master pointer's block has at least `bytes` free
+    /// bytes: 0 where it has them without any; `None` where no purges serve. The block itself may not be purged.
+    pub fn fewest_for_block(
+        &self,
+        part: &Part,
+        number: u32,
+        bytes: u32,
+        sparing: Sparing,
+    ) -> Option<u32>
+        requires sound { (first : ℕ) × (unused : ℕ) × IsSound part.now.bytes first unused }
+        requires marks { AreOf self.now (zone_in part.now.bytes) }
+        requires once { count (is_relocatable number) (zone_in part.now.bytes) ≤ 1 }
+        requires spared { (b : Block) → is_relocatable number b ≡ true → spared sparing b ≡ true }
+        requires whole { (blocks : List Block) → opened sparing blocks ≡ blocks }
+        ensures { MatchOption result
+            ((purges : ℕ) → serves_block number bytes sparing (zone_in part.now.bytes) purges ≡ false)
+            (λ fewest. IsFewest (serves_block number bytes sparing (zone_in part.now.bytes)) fewest) }
+    {
+        fewest_for_block(
+            &self.marks,
+            &self.groups,
+            part,
+            self.start(),
+            number,
+            bytes,
+            sparing,
+        )
+    }
+
+    /// Returns the greatest number of free bytes in one run.
+    pub fn largest_run(&self, part: &Part) -> u32
+        requires sound { (first : ℕ) × (unused : ℕ) × IsSound part.now.bytes first unused }
+        requires marks { AreOf self.now (zone_in part.now.bytes) }
+        ensures { result ≡ largest_run (zone_in part.now.bytes) }
+    {
+        largest_run_by_marks(&self.marks, &self.groups, part)
+    }
+
+    /// Returns the size of the largest free block.
+    pub fn largest_free(&self, part: &Part) -> u32
+        requires sound { (first : ℕ) × (unused : ℕ) × IsSound part.now.bytes first unused }
+        requires marks { AreOf self.now (zone_in part.now.bytes) }
+        ensures { result ≡ largest_free (zone_in part.now.bytes) }
+    {
+        largest_free_by_marks(&self.marks, &self.groups, part)
+    }
+
+    /// Returns the size of the largest free block after the given number of purges.
+    pub fn largest_after(&self, part: &Part, purges: u32) -> u32
+        requires sound { (first : ℕ) × (unused : ℕ) × IsSound part.now.bytes first unused }
+        requires marks { AreOf self.now (zone_in part.now.bytes) }
+        ensures { result ≡ largest_free (purged purges Nothing (zone_in part.now.bytes)) }
+    {
+        largest_after_by_marks(&self.marks, &self.groups, part, self.under(), purges)
+    }
+
+    /// Renews the landmarks after the blocks from `lo` to `hi` became others.
+    pub fn note(&mut self, part: &Part, lo: u32, hi: u32)
+        requires sound { (first : ℕ) × (unused : ℕ) × IsSound part.now.bytes first unused }
+        requires marks { (old : List Block) × Replaced lo hi old (zone_in part.now.bytes)
+            × AreOf self.old old }
+        ensures { AreOf self.new (zone_in part.now.bytes) }
+    {
+        self.lowest = lowest_after(part, self.lowest, lo, hi);
+        self.change(part, lo, hi);
+    }
+
+    /// Changes the landmarks, and not the place that is kept with them, after the blocks from `lo` to `hi` became
+    /// others.
+    fn change(&mut self, part: &Part, lo: u32, hi: u32)
+        requires sound { (first : ℕ) × (unused : ℕ) × IsSound part.now.bytes first unused }
+        requires marks { (old : List Block) × Replaced lo hi old (zone_in part.now.bytes)
+            × AreMarked self.old old }
+        ensures marks { AreMarked self.new (zone_in part.now.bytes) }
+        ensures lowest { self.new.lowest ≡ self.old.lowest }
+    {
+        let page = page_bytes(part);
+        if lo / page == hi / page {
+            let likely = self.page_of(hi);
+            change_marks(
+                &mut self.marks,
+                &mut self.groups,
+                part,
+                lo,
+                hi,
+                true,
+                likely,
+            );
+        } else {
+            self.forget(part, lo, hi);
+            self.renew(part, lo, hi);
+        }
+    }
+
+    /// Renews the landmarks after the block at `place` became another of the same size.
+    pub fn note_block(&mut self, part: &Part, place: u32)
+        requires sound { (first : ℕ) × (unused : ℕ) × IsSound part.now.bytes first unused }
+        requires marks { (old : List Block) × Became place old (zone_in part.now.bytes) × AreOf self.old old }
+        ensures { AreOf self.new (zone_in part.now.bytes) }
+    {
+        let size = size_at(part, place);
+        self.note(part, place, place + size);
+    }
+
+    /// Changes the landmarks after the blocks from `lo` to `hi` became others, without a walk over these blocks: no
+    /// landmark stands strictly between `lo` and `hi` until `renew` is called.
+    fn forget(&mut self, part: &Part, lo: u32, hi: u32)
+        requires sound { (first : ℕ) × (unused : ℕ) × IsSound part.now.bytes first unused }
+        requires marks { (old : List Block) × Replaced lo hi old (zone_in part.now.bytes)
+            × AreMarked self.old old }
+        ensures marks { AreMarked self.new (zone_in part.now.bytes) }
+        ensures lowest { self.new.lowest ≡ self.old.lowest }
+    {
+        let likely = self.page_of(hi);
+        change_marks(
+            &mut self.marks,
+            &mut self.groups,
+            part,
+            lo,
+            hi,
+            false,
+            likely,
+        );
+    }
+
+    /// Moves the landmarks of the pages from `lo` to `hi` to where their blocks are, by one walk over these blocks.
+    fn renew(&mut self, part: &Part, lo: u32, hi: u32)
+        requires sound { (first : ℕ) × (unused : ℕ) × IsSound part.now.bytes first unused }
+        requires marks { AreMarked self.old (zone_in part.now.bytes) }
+        ensures marks { AreMarked self.new (zone_in part.now.bytes) }
+        ensures lowest { self.new.lowest ≡ self.old.lowest }
+    {
+        let page = page_bytes(part);
+        let next = self.next_at((lo / page) as usize);
+        self.lay(part, next, next.index, page, hi);
+    }
+
+    /// Returns the next landmark to be laid anew, which is to stand where it stands.
+    fn next_at(&self, index: usize) -> NextMark
+        ensures laid { (zone : List Block) → AreMarked self.now zone → AreLaid result.index result.at zone self.now.marks.items }
+    {
+        let index = self.marks.len().min(index);
+        NextMark {
+            index,
+            at: place_of_mark(&self.marks, index),
+        }
+    }
+
+    /// Lays the landmarks from the next one on anew, up to the first one at or above `hi` that stands where it is to
+    /// stand. The landmarks from the index `first` up to the next one were laid before.
+    fn lay(&mut self, part: &Part, next: NextMark, first: usize, page: u32, hi: u32)
+        requires sound { (first : ℕ) × (unused : ℕ) × IsSound part.now.bytes first unused }
+        requires laid { AreLaid next.index next.at (zone_in part.now.bytes) self.old.marks.items }
+        requires groups { AreGroups self.old.groups.items self.old.marks.items }
+        ensures marks { AreMarked self.new (zone_in part.now.bytes) }
+        ensures lowest { self.new.lowest ≡ self.old.lowest }
+    {
+        lay_anew(
+            &mut self.marks,
+            &mut self.groups,
+            part,
+            next,
+            first,
+            page,
+            hi,
+        );
+    }
+
+    /// Makes `edges` ready to note the edges of blocks that are to be packed from `lo` on: those of the pages above
+    /// the page of `lo`.
+    pub fn await_edges(&self, part: &Part, edges: &mut Edges, lo: u32)
+        requires sound { (first : ℕ) × (unused : ℕ) × IsSound part.now.bytes first unused }
+        ensures { (base : ℕ) → AreEdges edges.new base [] }
+    {
+        let page = page_bytes(part);
+        edges.restart(page_end((lo / page) as usize, page), page);
+    }
+
+    /// Renews the landmarks after the blocks from `lo` to `hi` became others, of which those from `base` on lie
+    /// packed, by the edges that were noted. The blocks between two noted edges are not walked over; the stretch below
+    /// the first edge (if it begins below `base`) and the stretches above the last edge are. No block below `lowest`
+    /// may be purged now.
+    pub fn note_packed(
+        &mut self,
+        part: &Part,
+        edges: &Edges,
+        base: u32,
+        lo: u32,
+        hi: u32,
+        lowest: u32,
+    )
+        requires sound { (first : ℕ) × (unused : ℕ) × IsSound part.now.bytes first unused }
+        requires marks { (old : List Block) × Replaced lo hi old (zone_in part.now.bytes) × AreOf self.old old }
+        requires edges { ByEdges edges.now base (zone_in part.now.bytes) }
+        requires lowest { NoneGoes lowest (zone_in part.now.bytes) }
+        ensures { AreOf self.new (zone_in part.now.bytes) }
+    {
+        self.lowest = lowest;
+        self.forget(part, lo, hi);
+        let page = page_bytes(part);
+        let from = self.next_at((lo / page) as usize);
+        let next = lay_edges(&mut self.marks, &mut self.groups, part, edges, base, from);
+        self.lay(part, next, from.index, page, hi);
+    }
+
+    /// Renews the landmarks after the run at `run` was packed. Where no block moved down, the zone is as it was, and so
+    /// are the landmarks.
+    pub fn note_settled(
+        &mut self,
+        part: &Part,
+        edges: &Edges,
+        run: u32,
+        packed: PackedRun,
+        lowest: u32,
+    )
+        requires sound { (first : ℕ) × (unused : ℕ) × IsSound part.now.bytes first unused }
+        requires marks { (old : List Block) × Replaced run packed.stop old (zone_in part.now.bytes) × AreOf self.old old }
+        requires still { packed.lowered ≡ 0 → AreOf self.old (zone_in part.now.bytes) }
+        requires edges { ByEdges edges.now run (zone_in part.now.bytes) }
+        requires lowest { NoneGoes lowest (zone_in part.now.bytes) }
+        ensures { AreOf self.new (zone_in part.now.bytes) }
+    {
+        if packed.lowered > 0 {
+            self.note_packed(part, edges, run, run, packed.stop, lowest);
+        }
+    }
+}

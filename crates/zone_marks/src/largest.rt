@@ -1,0 +1,135 @@
+//! What the blocks of a zone from a place on come to in runs, by landmarks: the blocks of a stretch are not walked over if
+//! it is known what they come to. So the greatest number of free bytes in one run is found.
+
+ghost use Rattle.std.specs.Prelude.{◌≡◌, ◌≤◌, ◌<◌, ℕ, true, false, get_or, length};
+ghost use Rattle.block_store.specs.Compact.{largest_run};
+ghost use Rattle.zone_bytes.specs.Decode.{zone_in};
+ghost use Rattle.zone_bytes.specs.Lawful.{IsSound};
+ghost use Rattle.zone_marks.specs.Marks.{AreGroups, AreMarks, above_all, no_mark};
+ghost use Rattle.zone_bytes.specs.Changes.{Begins};
+ghost use Rattle.zone_marks.specs.Searching.{IsBefore, IsStretch};
+ghost use Rattle.zone_bytes.specs.Stepping.{left_in};
+ghost use Rattle.zone_marks.specs.declared.landmark.Tally.TheVariants as tally;
+ghost use Rattle.zone_summary.specs.Stretches.{is_ended, prefix, stretch_of};
+
+use crate::landmark::{GROUP, Group, Landmark, Tally};
+use crate::marking::{index_above, place_of_mark};
+use crate::measuring::{measure_up_to, within};
+use raw_region::Part;
+use zone_summary::Stretch;
+
+/// Returns what the blocks from one place up to another come to in runs.
+fn runs_between(part: &Part, from: u32, to: u32) -> Stretch
+    requires sound { (first : ℕ) × (unused : ℕ) × IsSound part.now.bytes first unused }
+    requires begins { Begins from 0 (zone_in part.now.bytes) }
+    requires ends { Begins to 0 (zone_in part.now.bytes) }
+    requires order { from ≤ to }
+    ensures { IsStretch (tally.Known result) from to part.now.bytes }
+{
+    measure_up_to(part, from, to).runs
+}
+
+/// Returns what the blocks of a landmark come to in runs; the landmark stands at `at`, and its blocks reach up to `next`.
+fn runs_of(part: &Part, told: Tally, at: u32, next: u32) -> Stretch
+    requires sound { (first : ℕ) × (unused : ℕ) × IsSound part.now.bytes first unused }
+    requires begins { Begins at 0 (zone_in part.now.bytes) }
+    requires ends { Begins next 0 (zone_in part.now.bytes) }
+    requires order { at ≤ next }
+    requires stretch { IsStretch told at next part.now.bytes }
+    ensures { IsStretch (tally.Known result) at next part.now.bytes }
+{
+    match told {
+        Tally::Known(runs) => runs,
+        Tally::Unknown => runs_between(part, at, next),
+    }
+}
+
+/// What is known of the blocks from a landmark on, and the index of the landmark up to which it is known.
+#[derive(Clone, Copy, Drop)]
+pub struct Told {
+    pub tally: Tally,
+    pub behind: usize,
+}
+
+/// Returns what is known of the blocks from a landmark on: of those of its group, if it is the first of the group and the
+/// group's tally says what they come to, or else of its own.
+pub fn told_from(marks: &[Landmark], groups: &[Group], part: &Part, index: usize) -> Told
+    requires sound { (first : ℕ) × (unused : ℕ) × IsSound part.now.bytes first unused }
+    requires marks { AreMarks above_all (zone_in part.now.bytes) marks.now }
+    requires groups { AreGroups groups.now marks.now }
+    requires inside { index < length marks.now }
+    ensures further { index < result.behind }
+    ensures inside { result.behind ≤ length marks.now }
+    ensures stretch { (next : ℕ) → IsBefore result.behind marks.now part.now.bytes next →
+        IsStretch result.tally (get_or marks.now index no_mark).at next part.now.bytes }
+{
+    if index % GROUP == 0 {
+        let group = groups[index / GROUP];
+        match group.tally {
+            Tally::Known(_) => {
+                return Told {
+                    tally: group.tally,
+                    behind: index + GROUP,
+                };
+            }
+            Tally::Unknown => {}
+        }
+    }
+    Told {
+        tally: marks[index].tally,
+        behind: index + 1,
+    }
+}
+
+/// Reports whether the lowest run of a stretch is asked for and ends in the stretch, so that blocks above it don't count.
+fn suffices(runs: Stretch, lowest: bool) -> bool
+    ensures { result ≡ true → (lowest ≡ true) × (is_ended runs ≡ true) }
+{
+    match runs {
+        Stretch::Whole(_) => false,
+        Stretch::Ended(_, _, _) => lowest,
+    }
+}
+
+/// Returns what the blocks from the place `from` on come to in runs. If the `lowest` run alone is asked for, blocks above
+/// it may be left out.
+pub fn runs_above(
+    marks: &[Landmark],
+    groups: &[Group],
+    part: &Part,
+    from: u32,
+    lowest: bool,
+) -> Stretch
+    requires sound { (first : ℕ) × (unused : ℕ) × IsSound part.now.bytes first unused }
+    requires marks { AreMarks above_all (zone_in part.now.bytes) marks.now }
+    requires groups { AreGroups groups.now marks.now }
+    requires begins { Begins from 0 (zone_in part.now.bytes) }
+    ensures low { prefix result ≡ prefix (stretch_of (left_in from part.now.bytes)) }
+    ensures all { lowest ≡ false → result ≡ stretch_of (left_in from part.now.bytes) }
+{
+    let end = part.len() as u32;
+    let mut index = index_above(marks, from, 0);
+    let mut at = within(place_of_mark(marks, index), end);
+    let mut runs = runs_between(part, from, at);
+    while index < marks.len() {
+        if suffices(runs, lowest) {
+            return runs;
+        }
+        let told = told_from(marks, groups, part, index);
+        let next = within(place_of_mark(marks, told.behind), end);
+        runs = runs.join(runs_of(part, told.tally, at, next));
+        at = next;
+        index = told.behind;
+    }
+    runs
+}
+
+/// Returns the greatest number of free bytes in one run.
+pub fn largest_run_by_marks(marks: &[Landmark], groups: &[Group], part: &Part) -> u32
+    requires sound { (first : ℕ) × (unused : ℕ) × IsSound part.now.bytes first unused }
+    requires marks { AreMarks above_all (zone_in part.now.bytes) marks.now }
+    requires groups { AreGroups groups.now marks.now }
+    ensures { result ≡ largest_run (zone_in part.now.bytes) }
+{
+    runs_above(marks, groups, part, 0, false).best()
+}

@@ -1,0 +1,380 @@
+//! Searches by landmarks, and changes of the landmarks of a zone.
+
+ghost use Rattle.std.specs.Prelude.{◌≡◌, ◌≤◌, ◌<◌, ◌+◌, ◌-◌, ◌*◌, ◌⊎◌, ℕ, List, Some, IsTrue, MatchOption, IfSome, false, true};
+ghost use Rattle.std.specs.Prelude.{length, drop, get_or};
+ghost use Rattle.block_store.specs.Block.{Block, is_room};
+ghost use Rattle.block_store.specs.Find.{FindsLowest};
+ghost use Rattle.zone_bytes.specs.Decode.{zone_in};
+ghost use Rattle.zone_marks.specs.LaidMarks.{AreLaid, IsBare};
+ghost use Rattle.zone_bytes.specs.Edges.{ByEdges};
+ghost use Rattle.zone_bytes.specs.Lawful.{IsSound};
+ghost use Rattle.zone_bytes.specs.Changes.{AtEach, Begins, Replaced};
+ghost use Rattle.zone_marks.specs.Marks.{AtMost, NoRoom, NoneBelow, AreMarks, AreGroups, no_mark};
+ghost use Rattle.zone_marks.specs.Marks.{Lowered, IsTally, Measures, above_all, between, next_of};
+ghost use Rattle.zone_bytes.specs.Stepping.{left_in, IsOnWay};
+ghost use Rattle.zone_marks.specs.declared.landmark.TheConstants.{GROUP};
+
+use crate::grouping::{raise_group, renew_groups};
+use crate::landmark::{GROUP, Group, Landmark, Tally, UNKNOWN};
+use crate::measuring::{Measured, greater, measure_up_to, room_between};
+use crate::paging::page_end;
+use raw_region::Part;
+use zone_bytes::Edges;
+use zone_summary::Stretch;
+
+/// Returns the landmark to be compared next, of those from `low` up to `high`: the likely one, or one just beside it;
+/// if the landmark was not there either, the one in the middle.
+fn next_look(low: usize, high: usize, likely: usize) -> usize
+    requires { low < high }
+    ensures { (low ≤ result) × (result < high) }
+{
+    if low <= likely && likely < high {
+        likely
+    } else if likely < low && low - likely < 3 {
+        low
+    } else if high <= likely && likely - high < 2 {
+        high - 1
+    } else {
+        low + (high - low) / 2
+    }
+}
+
+/// Returns the index of the first landmark at or above `place`, or the number of landmarks if there is none; the
+/// landmarks are in order of place. The search begins at the index `likely`.
+pub fn index_above(marks: &[Landmark], place: u32, likely: usize) -> usize
+    ensures index { result ≤ length marks.now }
+    ensures above { place ≤ next_of above_all (drop result marks.now) }
+    ensures below { 0 < result → (get_or marks.now (result - 1) no_mark).at < place }
+{
+    let mut low = 0;
+    let mut high = marks.len();
+    while low < high {
+        let middle = next_look(low, high, likely);
+        if marks[middle].at < place {
+            low = middle + 1;
+        } else {
+            high = middle;
+        }
+    }
+    low
+}
+
+/// Returns the place of the last landmark below `place`, or 0 if there is none. The search begins at the index
+/// `likely`.
+pub fn mark_below(marks: &[Landmark], place: u32, likely: usize) -> u32
+    ensures below { (result < place) ⊎ (result ≡ 0) }
+    ensures begins { (end : ℕ) (zone : List Block) → AreMarks end zone marks.now → Begins result 0 zone }
+{
+    let above = index_above(marks, place, likely);
+    if above == 0 {
+        return 0;
+    }
+    marks[above - 1].at
+}
+
+/// Returns the place of a landmark. For an index equal to the number of landmarks, returns a place above every zone.
+pub fn place_of_mark(marks: &[Landmark], index: usize) -> u32
+    requires { index ≤ length marks.now }
+    ensures { result ≡ next_of above_all (drop index marks.now) }
+{
+    if index == marks.len() {
+        return u32::MAX;
+    }
+    marks[index].at
+}
+
+/// Returns the place of the lowest free block of at least `bytes` bytes in the stretch of a landmark, below which
+/// there is none.
+fn room_in_stretch(part: &Part, mark: Landmark, to: u32, bytes: u32) -> Option<u32>
+    requires sound { (first : ℕ) × (unused : ℕ) × IsSound part.now.bytes first unused }
+    requires begins { Begins mark.at 0 (zone_in part.now.bytes) }
+    requires below { AtEach (NoRoom bytes 0 mark.at) 0 (zone_in part.now.bytes) }
+    requires bound { mark.most < bytes → AtEach (NoRoom bytes mark.at to) 0 (zone_in part.now.bytes) }
+    ensures none { MatchOption result (AtEach (NoRoom bytes 0 to) 0 (zone_in part.now.bytes)) (λ _. Unit {0}) }
+    ensures found { IfSome result (λ place. FindsLowest (is_room bytes) (zone_in part.now.bytes) (Some place)) }
+{
+    if mark.most < bytes {
+        None
+    } else {
+        room_between(part, mark.at, to, bytes)
+    }
+}
+
+/// Returns the place of the lowest free block of at least `bytes` bytes in the stretches of a group's landmarks, below
+/// which there is none.
+fn room_in_group(marks: &[Landmark], part: &Part, group: usize, bytes: u32) -> Option<u32>
+    requires sound { (first : ℕ) × (unused : ℕ) × IsSound part.now.bytes first unused }
+    requires marks { AreMarks above_all (zone_in part.now.bytes) marks.now }
+    requires within { GROUP * group + GROUP ≤ length marks.now }
+    requires below { NoneBelow bytes (zone_in part.now.bytes) marks.now (GROUP * group) }
+    ensures none { MatchOption result
+        (NoneBelow bytes (zone_in part.now.bytes) marks.now (GROUP * group + GROUP)) (λ _. Unit {0}) }
+    ensures found { IfSome result (λ place. FindsLowest (is_room bytes) (zone_in part.now.bytes) (Some place)) }
+{
+    let low = group * GROUP;
+    for index in low..low + GROUP {
+        let to = place_of_mark(marks, index + 1);
+        if let Some(place) = room_in_stretch(part, marks[index], to, bytes) {
+            return Some(place);
+        }
+    }
+    None
+}
+
+/// Returns the place of the lowest free block of at least `bytes` bytes.
+pub fn find_by_marks(marks: &[Landmark], groups: &[Group], part: &Part, bytes: u32) -> Option<u32>
+    requires sound { (first : ℕ) × (unused : ℕ) × IsSound part.now.bytes first unused }
+    requires marks { AreMarks above_all (zone_in part.now.bytes) marks.now }
+    requires groups { AreGroups groups.now marks.now }
+    ensures { FindsLowest (is_room bytes) (zone_in part.now.bytes) result }
+{
+    if let Some(place) = room_in_stretch(part, UNKNOWN, place_of_mark(marks, 0), bytes) {
+        return Some(place);
+    }
+    for group in 0..groups.len() {
+        if bytes <= groups[group].most {
+            if let Some(place) = room_in_group(marks, part, group, bytes) {
+                return Some(place);
+            }
+        }
+    }
+    None
+}
+
+/// Returns the place of a landmark after the blocks from `lo` to `hi` became others.
+fn lowered_mark(at: u32, lo: u32, hi: u32) -> u32
+    ensures { Lowered lo hi at result }
+{
+    if lo < at && at < hi { lo } else { at }
+}
+
+/// Makes a landmark at `at`, with what a walk up to `above` finds of the blocks between.
+fn measured_mark(part: &Part, at: u32, above: u32) -> Landmark
+    requires { IsOnWay at part.now.bytes }
+    ensures at { result.at ≡ at }
+    ensures bound { AtEach (AtMost result.most at above) at (left_in at part.now.bytes) }
+    ensures tally { IsTally result.tally (between at above at (left_in at part.now.bytes)) }
+{
+    let stretch = measure_up_to(part, at, above);
+    Landmark {
+        at,
+        most: stretch.most,
+        tally: Tally::Known(stretch.runs),
+    }
+}
+
+/// Returns a landmark after the blocks from `lo` to `hi` became others; the next landmark stood at `next` and stands
+/// at `above`. If some of its own blocks became others, what is known of them is measured anew by a walk, or, unless
+/// `walks` is set, forgotten.
+fn changed_mark(
+    mark: Landmark,
+    next: u32,
+    above: u32,
+    part: &Part,
+    lo: u32,
+    hi: u32,
+    walks: bool,
+) -> Landmark
+    requires sound { (first : ℕ) × (unused : ℕ) × IsSound part.now.bytes first unused }
+    requires ordered { lo ≤ hi }
+    requires rising { mark.at ≤ next }
+    requires lowered { Lowered lo hi next above }
+    requires begins { (at : ℕ) → Lowered lo hi mark.at at → Begins at 0 (zone_in part.now.bytes) }
+    ensures at { Lowered lo hi mark.at result.at }
+    ensures bound { (old : List Block) → Replaced lo hi old (zone_in part.now.bytes) →
+        AtEach (AtMost mark.most mark.at next) 0 old →
+        AtEach (AtMost result.most result.at above) 0 (zone_in part.now.bytes) }
+    ensures tally { (old : List Block) → Replaced lo hi old (zone_in part.now.bytes) →
+        IsTally mark.tally (between mark.at next 0 old) →
+        IsTally result.tally (between result.at above 0 (zone_in part.now.bytes)) }
+{
+    if hi <= mark.at || next <= lo {
+        return mark;
+    }
+    let at = lowered_mark(mark.at, lo, hi);
+    if walks {
+        return measured_mark(part, at, above);
+    }
+    Landmark {
+        at,
+        most: greater(mark.most, hi - lo),
+        tally: Tally::Unknown,
+    }
+}
+
+/// Changes the landmarks after the blocks from `lo` to `hi` became others: only those landmarks change whose stretches
+/// have some of these blocks. The search for the last of these landmarks begins at the index `likely`.
+pub fn change_marks(
+    marks: &mut [Landmark],
+    groups: &mut [Group],
+    part: &Part,
+    lo: u32,
+    hi: u32,
+    walks: bool,
+    likely: usize,
+)
+    requires sound { (first : ℕ) × (unused : ℕ) × IsSound part.now.bytes first unused }
+    requires marks { (old : List Block) × Replaced lo hi old (zone_in part.now.bytes) × AreMarks above_all old marks.old }
+    requires groups { AreGroups groups.old marks.old }
+    ensures marks { AreMarks above_all (zone_in part.now.bytes) marks.new }
+    ensures groups { AreGroups groups.new marks.new }
+    ensures long { length marks.new ≡ length marks.old }
+{
+    let last = index_above(marks, hi, likely);
+    let mut first = last;
+    let mut above = place_of_mark(marks, last);
+    let mut next = above;
+    while first > 0 && lo <= above {
+        first -= 1;
+        let old = marks[first];
+        let mark = changed_mark(old, next, above, part, lo, hi, walks);
+        marks[first] = mark;
+        raise_group(groups, first, mark.most);
+        above = mark.at;
+        next = old.at;
+    }
+    renew_groups(marks, groups, first, last);
+}
+
+/// Measures the stretch of a new landmark: up to the first edge at or above `place`, or, for the last landmark, to the
+/// zone's top.
+fn stretch_from(part: &Part, at: u32, place: u32, last: bool) -> Measured
+    requires { IsOnWay at part.now.bytes }
+    ensures last { last ≡ true → result.edge ≡ above_all }
+    ensures edge { last ≡ false → Begins result.edge at (left_in at part.now.bytes) }
+    ensures order { at ≤ result.edge }
+    ensures measured { Measures at result.edge at (left_in at part.now.bytes) result }
+{
+    if last {
+        let whole = measure_up_to(part, at, u32::MAX);
+        Measured {
+            edge: u32::MAX,
+            most: whole.most,
+            runs: whole.runs,
+        }
+    } else {
+        measure_up_to(part, at, place)
+    }
+}
+
+/// The index of the landmark to be laid next, and the place where it is to stand.
+#[derive(Clone, Copy, Drop)]
+pub struct NextMark {
+    pub index: usize,
+    pub at: u32,
+}
+
+/// Makes a landmark at `at`, with what is known of the blocks up to `edge`: from `base` on these are relocatable
+/// blocks that lie packed, and below `base` they are measured by a walk.
+fn packed_mark(part: &Part, at: u32, edge: u32, base: u32) -> Landmark
+    requires sound { (first : ℕ) × (unused : ℕ) × IsSound part.now.bytes first unused }
+    requires begins { Begins at 0 (zone_in part.now.bytes) }
+    requires bare { base ≤ at → IsBare at edge (zone_in part.now.bytes) }
+    ensures at { result.at ≡ at }
+    ensures bound { AtEach (AtMost result.most at edge) 0 (zone_in part.now.bytes) }
+    ensures tally { IsTally result.tally (between at edge 0 (zone_in part.now.bytes)) }
+{
+    if base <= at {
+        return Landmark {
+            at,
+            most: 0,
+            tally: Tally::Known(Stretch::NONE),
+        };
+    }
+    measured_mark(part, at, edge)
+}
+
+/// Lays landmarks by the noted edges: the next landmark, with its stretch up to the first edge, and a landmark at each
+/// edge except the last. Returns the landmark to be laid after these, which is to stand at the last edge. From `base`
+/// on no walk is needed.
+pub fn lay_edges(
+    marks: &mut [Landmark],
+    groups: &mut [Group],
+    part: &Part,
+    edges: &Edges,
+    base: u32,
+    from: NextMark,
+) -> NextMark
+    requires sound { (first : ℕ) × (unused : ℕ) × IsSound part.now.bytes first unused }
+    requires laid { AreLaid from.index from.at (zone_in part.now.bytes) marks.old }
+    requires edges { ByEdges edges.now base (zone_in part.now.bytes) }
+    requires groups { AreGroups groups.old marks.old }
+    ensures laid { AreLaid result.index result.at (zone_in part.now.bytes) marks.new }
+    ensures groups { AreGroups groups.new marks.new }
+    ensures long { length marks.new ≡ length marks.old }
+{
+    let last = marks.len().saturating_sub(1);
+    let mut next = from;
+    while next.index < last {
+        let Some(place) = edges.get(next.index - from.index) else {
+            break;
+        };
+        let edge = greater(next.at, place);
+        let mark = packed_mark(part, next.at, edge, base);
+        marks[next.index] = mark;
+        raise_group(groups, next.index, mark.most);
+        next = NextMark {
+            index: next.index + 1,
+            at: edge,
+        };
+    }
+    next
+}
+
+/// Lays the landmarks from the next one on anew, each at the first edge in its page or above it, up to the first
+/// landmark at or above `hi` that stands there already. Returns the index of that landmark.
+fn lay_marks(
+    marks: &mut [Landmark],
+    groups: &mut [Group],
+    part: &Part,
+    next: NextMark,
+    page: u32,
+    hi: u32,
+) -> usize
+    requires sound { (first : ℕ) × (unused : ℕ) × IsSound part.now.bytes first unused }
+    requires laid { AreLaid next.index next.at (zone_in part.now.bytes) marks.old }
+    requires groups { AreGroups groups.old marks.old }
+    ensures marks { AreMarks above_all (zone_in part.now.bytes) marks.new }
+    ensures groups { AreGroups groups.new marks.new }
+    ensures long { length marks.new ≡ length marks.old }
+{
+    let mut at = next.at;
+    let mut end = page_end(next.index, page);
+    for index in next.index..marks.len() {
+        if hi <= at && marks[index].at == at {
+            return index;
+        }
+        let stretch = stretch_from(part, at, end, index + 1 == marks.len());
+        marks[index] = Landmark {
+            at,
+            most: stretch.most,
+            tally: Tally::Known(stretch.runs),
+        };
+        raise_group(groups, index, stretch.most);
+        at = stretch.edge;
+        end = end.saturating_add(page);
+    }
+    marks.len()
+}
+
+/// Lays the landmarks from the next one on anew, up to the first one at or above `hi` that stands where it is to stand,
+/// and computes anew what is known of the groups of these landmarks and of those from the index `first` on.
+pub fn lay_anew(
+    marks: &mut [Landmark],
+    groups: &mut [Group],
+    part: &Part,
+    next: NextMark,
+    first: usize,
+    page: u32,
+    hi: u32,
+)
+    requires sound { (first : ℕ) × (unused : ℕ) × IsSound part.now.bytes first unused }
+    requires laid { AreLaid next.index next.at (zone_in part.now.bytes) marks.old }
+    requires groups { AreGroups groups.old marks.old }
+    ensures marks { AreMarks above_all (zone_in part.now.bytes) marks.new }
+    ensures groups { AreGroups groups.new marks.new }
+    ensures long { length marks.new ≡ length marks.old }
+{
+    let end = lay_marks(marks, groups, part, next, page, hi);
+    renew_groups(marks, groups, first, end);
+}

@@ -1,0 +1,145 @@
+//! Walks over a stretch of a zone.
+
+ghost use Rattle.std.specs.Prelude.{◌≡◌, ◌+◌, ◌%◌, ◌==◌, ◌<◌, ◌≤◌, ◌^◌, ◌⊎◌, not, if◌then◌else◌, List, length};
+ghost use Rattle.std.specs.Prelude.{MatchOption, IfSome};
+ghost use Rattle.heap_words.specs.Words.{word_at};
+ghost use Rattle.zone_bytes.specs.Changes.{AtEach, Begins};
+ghost use Rattle.zone_marks.specs.Marks.{NoRoom, Spans, RoomAt, Measures};
+ghost use Rattle.zone_bytes.specs.Settling.{runs_on};
+ghost use Rattle.zone_bytes.specs.Stepping.{left_in, IsOnWay};
+ghost use Rattle.zone_summary.specs.Stretches.{counted};
+
+use block_store::UNIT;
+use raw_region::Part;
+use zone_bytes::read_word;
+use zone_summary::Stretch;
+
+/// Returns the lower of a place and the zone's end.
+pub fn within(to: u32, end: u32) -> u32
+    ensures low { result ≤ end }
+    ensures least { result ≤ to }
+    ensures one { (result ≡ to) ⊎ (result ≡ end) }
+{
+    if to < end { to } else { end }
+}
+
+/// Returns the greater of two numbers of bytes.
+pub fn greater(most: u32, bytes: u32) -> u32
+    ensures first { most ≤ result }
+    ensures second { bytes ≤ result }
+    ensures one { (result ≡ most) ⊎ (result ≡ bytes) }
+{
+    if most < bytes { bytes } else { most }
+}
+
+/// The end of a block, its free bytes, and whether it ends a run.
+#[derive(Clone, Copy, Drop)]
+pub struct Span {
+    pub end: u32,
+    pub free: u32,
+    pub barrier: bool,
+}
+
+impl Span {
+    /// Returns what the block comes to in runs.
+    fn runs(self) -> Stretch
+        ensures { result ≡ counted (not self.barrier) self.free }
+    {
+        if self.barrier {
+            Stretch::END
+        } else {
+            Stretch::Whole(self.free)
+        }
+    }
+}
+
+/// Returns the free bytes of a block of `size` bytes, by the number of its kind.
+fn free_by_tag(tag: u32, size: u32) -> u32
+    ensures { result ≡ (if tag == 0 then size else 0) }
+{
+    if tag == 0 { size } else { 0 }
+}
+
+/// Reports whether the block at `at` ends a run, by the number of its kind: a nonrelocatable block and a master
+/// pointer block do, and a relocatable block that is locked. The flags are read of a relocatable block only.
+fn ends_run_at(part: &Part, at: u32, tag: u32) -> bool
+    requires multiple { at % 4 ≡ 0 }
+    requires inside { at + 16 ≤ length part.now.bytes }
+    requires fits { at + 16 < 2 ^ 32 }
+    ensures { result ≡ not (runs_on tag (word_at (at + 12) part.now.bytes)) }
+{
+    if tag < 3 {
+        return tag > 0;
+    }
+    read_word(part, at + 12) >= 128
+}
+
+/// Measures the block at a place.
+pub fn span_at(part: &Part, at: u32) -> Span
+    requires way { IsOnWay at part.now.bytes }
+    requires some { at < length part.now.bytes }
+    ensures { Spans at result.end result.free result.barrier part.now.bytes }
+{
+    let first = read_word(part, at);
+    let tag = first % UNIT;
+    let size = first - tag;
+    Span {
+        end: at + size,
+        free: free_by_tag(tag, size),
+        barrier: ends_run_at(part, at, tag),
+    }
+}
+
+/// The result of a walk from a place: where the walk ended, the size of the largest free block that it passed, and what
+/// the blocks that it passed come to in runs.
+#[derive(Clone, Copy, Drop)]
+pub struct Measured {
+    pub edge: u32,
+    pub most: u32,
+    pub runs: Stretch,
+}
+
+/// Walks from one place to the first block that begins at or above another, or to the zone's end.
+pub fn measure_up_to(part: &Part, from: u32, place: u32) -> Measured
+    requires { IsOnWay from part.now.bytes }
+    ensures edge { Begins result.edge from (left_in from part.now.bytes) }
+    ensures order { from ≤ result.edge }
+    ensures passed { Measures from result.edge from (left_in from part.now.bytes) result }
+    ensures below { Measures from place from (left_in from part.now.bytes) result }
+{
+    let stop = within(place, part.len() as u32);
+    let mut most = 0;
+    let mut runs = Stretch::NONE;
+    let mut at = from;
+    while at < stop {
+        let span = span_at(part, at);
+        most = greater(most, span.free);
+        runs = runs.join(span.runs());
+        at = span.end;
+    }
+    Measured {
+        edge: at,
+        most,
+        runs,
+    }
+}
+
+/// Returns the place of the lowest free block of at least `bytes` bytes that begins at or above `from` and below `to`.
+pub fn room_between(part: &Part, from: u32, to: u32, bytes: u32) -> Option<u32>
+    requires { IsOnWay from part.now.bytes }
+    ensures none { MatchOption result (AtEach (NoRoom bytes from to) from (left_in from part.now.bytes)) (λ _. Unit {0}) }
+    ensures begins { IfSome result (λ place. Begins place from (left_in from part.now.bytes)) }
+    ensures lowest { IfSome result (λ place. AtEach (NoRoom bytes from place) from (left_in from part.now.bytes)) }
+    ensures room { IfSome result (λ place. RoomAt bytes place part.now.bytes) }
+{
+    let stop = within(to, part.len() as u32);
+    let mut at = from;
+    while at < stop {
+        let span = span_at(part, at);
+        if 0 < span.free && bytes <= span.free {
+            return Some(at);
+        }
+        at = span.end;
+    }
+    None
+}
