@@ -5,11 +5,12 @@ use Rattle.zone_bytes.specs.Changes.{AtEach, Begins}
 use Rattle.zone_marks.specs.Marks.{AtMost, AreMarks, IsTally, above_all, between}
 use Rattle.zone_marks.specs.declared.landmark.Landmark.{Landmark}
 use Rattle.zone_marks.specs.declared.landmark.Tally.TheVariants as tally
+use Rattle.zone_summary.specs.declared.stretch.Counting.TheVariants as counting
 use Rattle.zone_summary.specs.declared.stretch.Stretch.TheVariants.{Whole}
 
 -- None of the blocks that begin from `lo` up to `hi` ends a run or has a free byte.
 abbrev pub IsBare : ℕ → ℕ → List Block → Type 0
-IsBare lo hi zone = AtEach (AtMost 0 lo hi) 0 zone × IsTally (tally.Known (Whole 0)) (between lo hi 0 zone)
+IsBare lo hi zone = AtEach (AtMost 0 lo hi) 0 zone × IsTally counting.Runs (tally.Known (Whole 0)) (between lo hi 0 zone)
 
 -- Landmarks while they are laid anew: those below `index` are landmarks of the zone, and the last of them covers the
 -- blocks up to the place `at`, where the landmark at `index` is to stand. Those from `index` on, where they still

@@ -1,16 +1,19 @@
 -- Landmarks of a zone: places at which blocks begin, each with a bound on the free blocks up to the next.
-use Rattle.std.specs.Prelude.{◌≡◌, ℕ, ◌+◌, ◌*◌, ◌≤◌, ◌<◌, ◌⊎◌, Bool, true, false, not, ◌&&◌, if◌then◌else◌, nat_le, nat_lt}
+use Rattle.std.specs.Prelude.{◌≡◌, ℕ, zero, suc, ◌+◌, ◌*◌, ◌≤◌, ◌<◌, ◌⊎◌, Bool, true, false, not, ◌&&◌, if◌then◌else◌, nat_le, nat_lt}
 use Rattle.std.specs.Prelude.{List, [], ◌∷◌, length, take, drop, get_or}
 use Rattle.block_store.specs.Block.{Block, size, free_of, is_room}
 use Rattle.block_store.specs.Run.{in_run}
 use Rattle.zone_bytes.specs.Stepping.{left_in, IsOnWay}
 use Rattle.zone_marks.specs.declared.landmark.Group.{Group}
 use Rattle.zone_marks.specs.declared.landmark.Landmark.{Landmark}
+use Rattle.zone_marks.specs.declared.landmark.Tallies.{Tallies}
 use Rattle.zone_marks.specs.declared.landmark.Tally.{Tally}
 use Rattle.zone_marks.specs.declared.landmark.Tally.TheVariants as tally
 use Rattle.zone_marks.specs.declared.measuring.Measured.{Measured}
 use Rattle.zone_marks.specs.declared.landmark.TheConstants.{GROUP}
-use Rattle.zone_summary.specs.Stretches.{join, stretch_of, load}
+use Rattle.zone_summary.specs.Stretches.{join, spaces_of, stretch_by, stretch_of, load}
+use Rattle.zone_summary.specs.declared.stretch.Counting.{Counting}
+use Rattle.zone_summary.specs.declared.stretch.Counting.TheVariants as counting
 use Rattle.zone_summary.specs.declared.stretch.Stretch.{Stretch}
 use Rattle.zone_summary.specs.declared.stretch.Stretch.TheVariants.{Whole}
 use Rattle.zone_bytes.specs.Changes.{AtEach, Begins}
@@ -33,21 +36,35 @@ between lo hi at (b ∷ above) = if nat_le lo at && nat_lt at hi then b ∷ betw
 abbrev pub ends_run : Block → Bool
 ends_run b = not (in_run b)
 
--- What a tally says of blocks: what they come to in runs, or nothing.
--- See decision 149 (a tally says what the blocks up to the next landmark come to in runs, or nothing).
-abbrev pub IsTally : Tally → List Block → Type 0
-IsTally (tally.Known runs) blocks = stretch_of blocks ≡ runs
-IsTally tally.Unknown blocks = Unit {0}
+-- What a tally says of blocks, counted in one way: what they come to, or nothing.
+-- See decision 149 (a tally says what the blocks up to the next landmark come to, or nothing).
+abbrev pub IsTally : Counting → Tally → List Block → Type 0
+IsTally c (tally.Known stretch) blocks = stretch_by c blocks ≡ stretch
+IsTally c tally.Unknown blocks = Unit {0}
+
+-- What is known of blocks, counted in one way.
+abbrev pub told : Counting → Tallies → Tally
+told counting.Runs t = t.runs
+told counting.Spaces t = t.spaces
+
+-- What is known of blocks is of these, in each way.
+abbrev pub AreTold : Tallies → List Block → Type 0
+AreTold t blocks = (c : Counting) → IsTally c (told c t) blocks
 
 -- What a walk finds of the blocks that begin from `lo` up to `hi`: a bound on each free block, and what the blocks come
--- to in runs.
+-- to in runs and in spaces.
 pub record Measures (lo hi at : ℕ) (zone : List Block) (m : Measured) : Type 0 where
   pub most : AtEach (AtMost m.most lo hi) at zone
   pub runs : stretch_of (between lo hi at zone) ≡ m.runs
+  pub spaces : spaces_of (between lo hi at zone) ≡ m.spaces
+
+-- Of blocks that are none it is known what they come to, in each way.
+abbrev pub nothing : Tallies
+nothing = record { runs = tally.Known (Whole 0); spaces = tally.Known (Whole 0) }
 
 -- A landmark that stands for none.
 abbrev pub no_mark : Landmark
-no_mark = record { at = 0; most = 0; tally = tally.Known (Whole 0) }
+no_mark = record { at = 0; most = 0; tally = nothing }
 
 -- A place above every block.
 abbrev pub above_all : ℕ
@@ -59,12 +76,12 @@ next_of end [] = end
 next_of end (m ∷ marks) = m.at
 
 -- A block begins at each landmark, no free block from a landmark up to the next is larger than the landmark notes, the
--- landmark's tally is of the blocks there, and the landmarks are in order of place.
+-- landmark's tallies are of the blocks there, and the landmarks are in order of place.
 -- See decision 147 (landmarks rise; that they stand in their pages is no invariant).
 abbrev pub AreMarks : ℕ → List Block → List Landmark → Type 0
 AreMarks end zone [] = Unit {0}
 AreMarks end zone (m ∷ marks) = Begins m.at 0 zone × AtEach (AtMost m.most m.at (next_of end marks)) 0 zone
-    × IsTally m.tally (between m.at (next_of end marks) 0 zone) × (m.at ≤ next_of end marks) × AreMarks end zone marks
+    × AreTold m.tally (between m.at (next_of end marks) 0 zone) × (m.at ≤ next_of end marks) × AreMarks end zone marks
 
 -- What two tallies tell of the blocks of both, those of `low` first; nothing where one of them tells nothing.
 abbrev pub join_tallies : Tally → Tally → Tally
@@ -72,41 +89,48 @@ join_tallies (tally.Known low) (tally.Known high) = tally.Known (join low high)
 join_tallies (tally.Known low) tally.Unknown = tally.Unknown
 join_tallies tally.Unknown high = tally.Unknown
 
--- What the tallies of landmarks tell of the blocks of all of them.
-abbrev pub tally_of : List Landmark → Tally
-tally_of [] = tally.Known (Whole 0)
-tally_of (m ∷ marks) = join_tallies m.tally (tally_of marks)
+-- What the tallies of landmarks tell of the blocks of all of them, counted in one way.
+abbrev pub tally_of : Counting → List Landmark → Tally
+tally_of c [] = tally.Known (Whole 0)
+tally_of c (m ∷ marks) = join_tallies (told c m.tally) (tally_of c marks)
 
--- What is known of blocks holds in sum so many free bytes, as `load` counts them.
+-- What is known of blocks holds in sum so many bytes, as `load` counts them.
 abbrev pub known_load : Tally → ℕ
-known_load (tally.Known runs) = load runs
+known_load (tally.Known stretch) = load stretch
 known_load tally.Unknown = 0
 
-abbrev pub known_loads : List Landmark → ℕ
-known_loads [] = 0
-known_loads (m ∷ marks) = known_load m.tally + known_loads marks
+abbrev pub known_loads : Counting → List Landmark → ℕ
+known_loads c [] = 0
+known_loads c (m ∷ marks) = known_load (told c m.tally) + known_loads c marks
 
 -- A group that stands for none.
 abbrev pub no_group : Group
-no_group = record { most = 0; tally = tally.Known (Whole 0) }
+no_group = record { most = 0; tally = nothing }
 
 -- The landmarks of the group with this number.
 abbrev pub marks_in : ℕ → List Landmark → List Landmark
 marks_in group marks = take GROUP (drop (GROUP * group) marks)
 
 -- The landmarks are in groups, no landmark of a group notes more than the group does, and where a group knows what its
--- blocks come to in runs, its landmarks do.
+-- blocks come to, its landmarks do.
 pub record AreGroups (groups : List Group) (marks : List Landmark) : Type 0 where
   pub whole : length marks ≡ GROUP * length groups
   pub each : (group index : ℕ) → GROUP * group ≤ index → index < GROUP * group + GROUP → index < length marks
       → (get_or marks index no_mark).most ≤ (get_or groups group no_group).most
-  pub known : (group : ℕ) (runs : Stretch) → group < length groups
-      → (get_or groups group no_group).tally ≡ tally.Known runs → tally_of (marks_in group marks) ≡ tally.Known runs
+  pub known : (c : Counting) (group : ℕ) (s : Stretch) → group < length groups
+      → told c (get_or groups group no_group).tally ≡ tally.Known s → tally_of c (marks_in group marks) ≡ tally.Known s
 
 -- No free block of `bytes` bytes or more lies below the landmark at `index`; if there is no such landmark, none lies
 -- in the zone.
 abbrev pub NoneBelow : ℕ → List Block → List Landmark → ℕ → Type 0
 NoneBelow bytes zone marks index = AtEach (NoRoom bytes 0 (next_of above_all (drop index marks))) 0 zone
+
+-- Reports whether a block is free, or would be if it were purged, by the number of its kind and the flags in its header.
+abbrev pub gives_space : ℕ → ℕ → Bool
+gives_space zero flags = true
+gives_space (suc zero) flags = false
+gives_space (suc (suc zero)) flags = false
+gives_space (suc (suc (suc kind))) flags = nat_le 64 flags && nat_lt flags 128
 
 -- A block is from the place `at` to `end`, has `free` free bytes, and ends a run or not.
 pub record Spans (at end free : ℕ) (barrier : Bool) (xs : List ℕ) : Type 0 where

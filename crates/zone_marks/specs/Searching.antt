@@ -18,6 +18,7 @@ use Rattle.zone_marks.specs.declared.finding_runs.Reached.{Reached}
 use Rattle.zone_marks.specs.declared.landmark.Landmark.{Landmark}
 use Rattle.zone_marks.specs.declared.landmark.Tally.{Tally}
 use Rattle.zone_summary.specs.Stretches.{is_ended, join, stretch_of}
+use Rattle.zone_summary.specs.declared.stretch.Counting.{Counting}
 use Rattle.zone_summary.specs.declared.stretch.Stretch.TheVariants.{Whole}
 
 -- The run so far has at least `bytes` free bytes, and the block that it must have.
@@ -38,9 +39,9 @@ pub record IsPiece (from to : ℕ) (xs : List ℕ) (here : List Block) : Type 0 
   pub up : from + sizes here ≡ to
   pub edge : Begins to 0 (zone_in xs)
 
--- A tally is of the blocks from the place `from` up to the place `to`.
-abbrev pub IsStretch : Tally → ℕ → ℕ → List ℕ → Type 0
-IsStretch t from to xs = (here : List Block) × IsPiece from to xs here × IsTally t here
+-- A tally, counted in one way, is of the blocks from the place `from` up to the place `to`.
+abbrev pub IsStretch : Counting → Tally → ℕ → ℕ → List ℕ → Type 0
+IsStretch c t from to xs = (here : List Block) × IsPiece from to xs here × IsTally c t here
 
 -- A search that is at the place `at`, or has found a run, finds the run that is sought.
 pub record IsKnown (bytes : ℕ) (answer : Option ℕ) (at : ℕ) (xs : List ℕ) (s : RunScan) : Type 0 where

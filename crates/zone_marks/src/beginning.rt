@@ -82,7 +82,7 @@ fn below_mark(marks: &[Landmark], part: &Part, last: usize) -> Option<Passed>
         free: 0,
     };
     for index in 0..last {
-        let Tally::Known(runs) = marks[index].tally else {
+        let Tally::Known(runs) = marks[index].tally.runs else {
             return None;
         };
         below = pass_known(below, marks[index].at, runs, marks[index + 1].at);

@@ -20,7 +20,7 @@ ghost use Rattle.zone_summary.specs.Stretches.{prefix, stretch_of};
 ghost use Rattle.block_store.specs.Fewest.{serves, serves_block, IsFewest};
 
 use crate::landmark::{Group, Landmark};
-use crate::largest::runs_above;
+use crate::largest::stretch_above;
 use crate::measuring::within;
 use crate::purgeable::frees_one;
 use block_store::{
@@ -28,6 +28,7 @@ use block_store::{
 };
 use raw_region::Part;
 use zone_bytes::walk_from;
+use zone_summary::Counting;
 
 /// Returns the number of blocks that may be purged, of those of a walk that begin in the first `bytes` bytes.
 fn count_in<W: Walk>(walk: &mut W, bytes: u32, sparing: Sparing) -> u32
@@ -119,7 +120,7 @@ fn free_at(marks: &[Landmark], groups: &[Group], part: &Part, run: u32, sparing:
     if frees_one(sparing) {
         free_of_run(&mut walk_from(part, run), sparing)
     } else {
-        runs_above(marks, groups, part, run, true).lowest()
+        stretch_above(marks, groups, part, run, Counting::Runs, true).lowest()
     }
 }
 

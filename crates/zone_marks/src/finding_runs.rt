@@ -19,6 +19,7 @@ ghost use Rattle.zone_marks.specs.declared.landmark.Tally.TheVariants as tally;
 ghost use Rattle.zone_summary.specs.Emptied.{all_purged};
 ghost use Rattle.zone_summary.specs.Stretches.{load};
 ghost use Rattle.zone_summary.specs.Stretches.{best, prefix, suffix};
+ghost use Rattle.zone_summary.specs.declared.stretch.Counting.TheVariants as counting;
 ghost use Rattle.zone_summary.specs.declared.stretch.Stretch.{Stretch as StretchOf};
 
 use crate::beginning::{Passed, begin_search, begun_at, pass_known};
@@ -29,7 +30,7 @@ use crate::measuring::within;
 use block_store::{RunScan, Sparing, scan_run};
 use raw_region::Part;
 use zone_bytes::step_at;
-use zone_summary::Stretch;
+use zone_summary::{Counting, Stretch};
 
 /// Reports whether the run so far is the one that is sought.
 fn is_found(scan: RunScan, bytes: u32) -> bool
@@ -119,19 +120,19 @@ fn walk_on(part: &Part, scan: RunScan, bytes: u32, sparing: Sparing) -> Option<u
     None
 }
 
-/// Takes a search past the blocks of a landmark, which reach up to the place `next`; `None` where it isn't known what they
-/// come to in runs, or where a run has `bytes` free bytes with them.
-fn pass_stretch(passed: Passed, mark: Landmark, next: u32, bytes: u32) -> Option<Passed>
-    requires fits { (runs : StretchOf) → mark.tally ≡ tally.Known runs
+/// Takes a search past the blocks from the place `at` up to the place `next`, of which `told` says what they come to in
+/// runs; `None` where it isn't known, or where a run has `bytes` free bytes with them.
+fn pass_stretch(passed: Passed, told: Tally, at: u32, next: u32, bytes: u32) -> Option<Passed>
+    requires fits { (runs : StretchOf) → told ≡ tally.Known runs
         → (suffix passed.runs + prefix runs < 2 ^ 32) × (passed.free + load runs < 2 ^ 32) }
     ensures short { IfSome result (λ p. best p.runs < bytes) }
-    ensures passed { IfSome result (λ p. (xs : List ℕ) (scan : RunOf) → IsPassed scan mark.at xs passed
-        → Begins mark.at 0 (zone_in xs) → IsStretch mark.tally mark.at next xs → IsPassed scan next xs p) }
+    ensures passed { IfSome result (λ p. (xs : List ℕ) (scan : RunOf) → IsPassed scan at xs passed
+        → Begins at 0 (zone_in xs) → IsStretch counting.Runs told at next xs → IsPassed scan next xs p) }
 {
-    let Tally::Known(runs) = mark.tally else {
+    let Tally::Known(runs) = told else {
         return None;
     };
-    let farther = pass_known(passed, mark.at, runs, next);
+    let farther = pass_known(passed, at, runs, next);
     if bytes <= farther.runs.best() {
         return None;
     }
@@ -162,19 +163,14 @@ fn pass_up_to(
     requires inside { behind ≤ length marks.now }
     requires come { (scan : RunOf) × HasCome scan marks.now part.now.bytes reached }
     requires stretch { (next : ℕ) → IsBefore behind marks.now part.now.bytes next →
-        IsStretch tally reached.at next part.now.bytes }
+        IsStretch counting.Runs tally reached.at next part.now.bytes }
     ensures short { IfSome result (λ r. best r.passed.runs < bytes) }
     ensures behind { IfSome result (λ r. r.index ≡ behind) }
     ensures come { IfSome result (λ r. (scan : RunOf) → HasCome scan marks.now part.now.bytes reached →
         HasCome scan marks.now part.now.bytes r) }
 {
     let next = within(place_of_mark(marks, behind), part.len() as u32);
-    let mark = Landmark {
-        at: reached.at,
-        most: 0,
-        tally,
-    };
-    match pass_stretch(reached.passed, mark, next, bytes) {
+    match pass_stretch(reached.passed, tally, reached.at, next, bytes) {
         Some(passed) => Some(Reached {
             passed,
             at: next,
@@ -203,13 +199,20 @@ fn pass_far(
     ensures come { IfSome result (λ r. (scan : RunOf) → HasCome scan marks.now part.now.bytes reached →
         HasCome scan marks.now part.now.bytes r) }
 {
-    let told = told_from(marks, groups, part, reached.index);
+    let told = told_from(marks, groups, part, reached.index, Counting::Runs);
     let farther = pass_up_to(marks, part, reached, told.tally, told.behind, bytes);
     if farther.is_some() {
         return farther;
     }
     let mark = marks[reached.index];
-    pass_up_to(marks, part, reached, mark.tally, reached.index + 1, bytes)
+    pass_up_to(
+        marks,
+        part,
+        reached,
+        mark.tally.runs,
+        reached.index + 1,
+        bytes,
+    )
 }
 
 /// Returns the place of the run that a search with no purges left finds, from the place of a landmark or the zone's end

@@ -13,9 +13,10 @@ ghost use Rattle.zone_bytes.specs.Stepping.{left_in, IsOnWay};
 ghost use Rattle.zone_marks.specs.declared.landmark.TheConstants.{GROUP};
 
 use crate::landmark::{GROUP, Group, Landmark};
+use crate::largest::largest_space_by_marks;
 use crate::marking::place_of_mark;
 use crate::measuring::{greater, span_at, within};
-use block_store::{Sparing, largest_after_in};
+use block_store::{GREATEST_ZONE, Sparing, largest_after_in};
 use raw_region::Part;
 use zone_bytes::walk_from;
 
@@ -93,8 +94,8 @@ pub fn largest_free_by_marks(marks: &[Landmark], groups: &[Group], part: &Part) 
     largest
 }
 
-/// Returns the size of the largest free block after the given number of purges. The blocks below `from` are those of
-/// the zone as it stands, and only those above are walked over.
+/// Returns the size of the largest free block after the given number of purges. Where all blocks that may be purged are,
+/// landmarks tell it; else the blocks below `from` are those of the zone as it stands, and those above are walked over.
 pub fn largest_after_by_marks(
     marks: &[Landmark],
     groups: &[Group],
@@ -108,6 +109,9 @@ pub fn largest_after_by_marks(
     requires from { MayStart from (zone_in part.now.bytes) }
     ensures { result ≡ largest_free (purged purges Nothing (zone_in part.now.bytes)) }
 {
+    if GREATEST_ZONE <= purges {
+        return largest_space_by_marks(marks, groups, part);
+    }
     let stands = largest_free_by_marks(marks, groups, part);
     let above = largest_after_in(&mut walk_from(part, from), purges, Sparing::Nothing);
     greater(stands, above)

@@ -1,45 +1,75 @@
 //! Landmarks of a zone, by which its blocks are found without a walk from the bottom.
 
-use zone_summary::Stretch;
+ghost use Rattle.std.specs.Prelude.{◌≡◌};
+ghost use Rattle.zone_marks.specs.Marks.{told};
+
+use zone_summary::{Counting, Stretch};
 
 /// The number of landmarks in a group.
 pub const GROUP: usize = 16;
 
-/// What is known of the blocks that begin from a landmark up to the next one.
+/// What is known of blocks, counted in one way.
 #[derive(Clone, Copy, Drop)]
 pub enum Tally {
-    /// What the blocks come to in runs.
+    /// What the blocks come to.
     Known(Stretch),
     /// Nothing is known.
     Unknown,
 }
 
+/// What is known of blocks, counted in each way.
+#[derive(Clone, Copy, Drop)]
+pub struct Tallies {
+    /// What they come to in runs.
+    pub runs: Tally,
+    /// What they come to in spaces.
+    pub spaces: Tally,
+}
+
+impl Tallies {
+    /// Nothing is known.
+    pub const UNKNOWN: Tallies = Tallies {
+        runs: Tally::Unknown,
+        spaces: Tally::Unknown,
+    };
+
+    /// Returns what is known of the blocks, counted in one way.
+    pub fn told(self, counting: Counting) -> Tally
+        ensures { result ≡ told counting self }
+    {
+        match counting {
+            Counting::Runs => self.runs,
+            Counting::Spaces => self.spaces,
+        }
+    }
+}
+
 /// A place at which a block begins, and what is known of the blocks that begin from there up to the next landmark: a
-/// bound on the size of each free block, and a tally of all blocks.
+/// bound on the size of each free block, and tallies of all blocks.
 #[derive(Clone, Copy, Drop)]
 pub struct Landmark {
     pub at: u32,
     pub most: u32,
-    pub tally: Tally,
+    pub tally: Tallies,
 }
 
-/// What is known of the blocks of a group of landmarks: a bound on the size of each free block, and a tally of all
+/// What is known of the blocks of a group of landmarks: a bound on the size of each free block, and tallies of all
 /// blocks.
 #[derive(Clone, Copy, Drop)]
 pub struct Group {
     pub most: u32,
-    pub tally: Tally,
+    pub tally: Tallies,
 }
 
 /// A landmark of every zone: it stands at the bottom, and nothing is known of the blocks above it.
 pub const UNKNOWN: Landmark = Landmark {
     at: 0,
     most: u32::MAX,
-    tally: Tally::Unknown,
+    tally: Tallies::UNKNOWN,
 };
 
 /// A group of which nothing is known.
 pub const UNKNOWN_GROUP: Group = Group {
     most: u32::MAX,
-    tally: Tally::Unknown,
+    tally: Tallies::UNKNOWN,
 };

@@ -1,8 +1,10 @@
-//! What the blocks of a zone from a place on come to in runs, by landmarks: the blocks of a stretch are not walked over if
-//! it is known what they come to. So the greatest number of free bytes in one run is found.
+//! What the blocks of a zone from a place on come to in runs or in spaces, by landmarks: the blocks of a stretch are not
+//! walked over if it is known what they come to. So the greatest number of free bytes in one run is found, and the largest
+//! free block once all blocks that may be purged were.
 
 ghost use Rattle.std.specs.Prelude.{◌≡◌, ◌≤◌, ◌<◌, ℕ, true, false, get_or, length};
-ghost use Rattle.block_store.specs.Compact.{largest_run};
+ghost use Rattle.block_store.specs.Compact.{largest_free, largest_run};
+ghost use Rattle.block_store.specs.declared.sparing.Sparing.TheVariants.{Nothing};
 ghost use Rattle.zone_bytes.specs.Decode.{zone_in};
 ghost use Rattle.zone_bytes.specs.Lawful.{IsSound};
 ghost use Rattle.zone_marks.specs.Marks.{AreGroups, AreMarks, above_all, no_mark};
@@ -10,37 +12,42 @@ ghost use Rattle.zone_bytes.specs.Changes.{Begins};
 ghost use Rattle.zone_marks.specs.Searching.{IsBefore, IsStretch};
 ghost use Rattle.zone_bytes.specs.Stepping.{left_in};
 ghost use Rattle.zone_marks.specs.declared.landmark.Tally.TheVariants as tally;
-ghost use Rattle.zone_summary.specs.Stretches.{is_ended, prefix, stretch_of};
+ghost use Rattle.zone_summary.specs.Emptied.{all_purged};
+ghost use Rattle.zone_summary.specs.Stretches.{is_ended, prefix, stretch_by};
 
 use crate::landmark::{GROUP, Group, Landmark, Tally};
 use crate::marking::{index_above, place_of_mark};
 use crate::measuring::{measure_up_to, within};
 use raw_region::Part;
-use zone_summary::Stretch;
+use zone_summary::{Counting, Stretch};
 
-/// Returns what the blocks from one place up to another come to in runs.
-fn runs_between(part: &Part, from: u32, to: u32) -> Stretch
+/// Returns what the blocks from one place up to another come to.
+fn walked_between(part: &Part, from: u32, to: u32, counting: Counting) -> Stretch
     requires sound { (first : ℕ) × (unused : ℕ) × IsSound part.now.bytes first unused }
     requires begins { Begins from 0 (zone_in part.now.bytes) }
     requires ends { Begins to 0 (zone_in part.now.bytes) }
     requires order { from ≤ to }
-    ensures { IsStretch (tally.Known result) from to part.now.bytes }
+    ensures { IsStretch counting (tally.Known result) from to part.now.bytes }
 {
-    measure_up_to(part, from, to).runs
+    let measured = measure_up_to(part, from, to);
+    match counting {
+        Counting::Runs => measured.runs,
+        Counting::Spaces => measured.spaces,
+    }
 }
 
-/// Returns what the blocks of a landmark come to in runs; the landmark stands at `at`, and its blocks reach up to `next`.
-fn runs_of(part: &Part, told: Tally, at: u32, next: u32) -> Stretch
+/// Returns what the blocks of a landmark come to; the landmark stands at `at`, and its blocks reach up to `next`.
+fn stretch_of_mark(part: &Part, told: Tally, at: u32, next: u32, counting: Counting) -> Stretch
     requires sound { (first : ℕ) × (unused : ℕ) × IsSound part.now.bytes first unused }
     requires begins { Begins at 0 (zone_in part.now.bytes) }
     requires ends { Begins next 0 (zone_in part.now.bytes) }
     requires order { at ≤ next }
-    requires stretch { IsStretch told at next part.now.bytes }
-    ensures { IsStretch (tally.Known result) at next part.now.bytes }
+    requires stretch { IsStretch counting told at next part.now.bytes }
+    ensures { IsStretch counting (tally.Known result) at next part.now.bytes }
 {
     match told {
-        Tally::Known(runs) => runs,
-        Tally::Unknown => runs_between(part, at, next),
+        Tally::Known(stretch) => stretch,
+        Tally::Unknown => walked_between(part, at, next, counting),
     }
 }
 
@@ -53,7 +60,13 @@ pub struct Told {
 
 /// Returns what is known of the blocks from a landmark on: of those of its group, if it is the first of the group and the
 /// group's tally says what they come to, or else of its own.
-pub fn told_from(marks: &[Landmark], groups: &[Group], part: &Part, index: usize) -> Told
+pub fn told_from(
+    marks: &[Landmark],
+    groups: &[Group],
+    part: &Part,
+    index: usize,
+    counting: Counting,
+) -> Told
     requires sound { (first : ℕ) × (unused : ℕ) × IsSound part.now.bytes first unused }
     requires marks { AreMarks above_all (zone_in part.now.bytes) marks.now }
     requires groups { AreGroups groups.now marks.now }
@@ -61,14 +74,14 @@ pub fn told_from(marks: &[Landmark], groups: &[Group], part: &Part, index: usize
     ensures further { index < result.behind }
     ensures inside { result.behind ≤ length marks.now }
     ensures stretch { (next : ℕ) → IsBefore result.behind marks.now part.now.bytes next →
-        IsStretch result.tally (get_or marks.now index no_mark).at next part.now.bytes }
+        IsStretch counting result.tally (get_or marks.now index no_mark).at next part.now.bytes }
 {
     if index % GROUP == 0 {
-        let group = groups[index / GROUP];
-        match group.tally {
+        let tally = groups[index / GROUP].tally.told(counting);
+        match tally {
             Tally::Known(_) => {
                 return Told {
-                    tally: group.tally,
+                    tally,
                     behind: index + GROUP,
                 };
             }
@@ -76,52 +89,53 @@ pub fn told_from(marks: &[Landmark], groups: &[Group], part: &Part, index: usize
         }
     }
     Told {
-        tally: marks[index].tally,
+        tally: marks[index].tally.told(counting),
         behind: index + 1,
     }
 }
 
 /// Reports whether the lowest run of a stretch is asked for and ends in the stretch, so that blocks above it don't count.
-fn suffices(runs: Stretch, lowest: bool) -> bool
-    ensures { result ≡ true → (lowest ≡ true) × (is_ended runs ≡ true) }
+fn suffices(stretch: Stretch, lowest: bool) -> bool
+    ensures { result ≡ true → (lowest ≡ true) × (is_ended stretch ≡ true) }
 {
-    match runs {
+    match stretch {
         Stretch::Whole(_) => false,
         Stretch::Ended(_, _, _) => lowest,
     }
 }
 
-/// Returns what the blocks from the place `from` on come to in runs. If the `lowest` run alone is asked for, blocks above
+/// Returns what the blocks from the place `from` on come to. If the `lowest` run or space alone is asked for, blocks above
 /// it may be left out.
-pub fn runs_above(
+pub fn stretch_above(
     marks: &[Landmark],
     groups: &[Group],
     part: &Part,
     from: u32,
+    counting: Counting,
     lowest: bool,
 ) -> Stretch
     requires sound { (first : ℕ) × (unused : ℕ) × IsSound part.now.bytes first unused }
     requires marks { AreMarks above_all (zone_in part.now.bytes) marks.now }
     requires groups { AreGroups groups.now marks.now }
     requires begins { Begins from 0 (zone_in part.now.bytes) }
-    ensures low { prefix result ≡ prefix (stretch_of (left_in from part.now.bytes)) }
-    ensures all { lowest ≡ false → result ≡ stretch_of (left_in from part.now.bytes) }
+    ensures low { prefix result ≡ prefix (stretch_by counting (left_in from part.now.bytes)) }
+    ensures all { lowest ≡ false → result ≡ stretch_by counting (left_in from part.now.bytes) }
 {
     let end = part.len() as u32;
     let mut index = index_above(marks, from, 0);
     let mut at = within(place_of_mark(marks, index), end);
-    let mut runs = runs_between(part, from, at);
+    let mut stretch = walked_between(part, from, at, counting);
     while index < marks.len() {
-        if suffices(runs, lowest) {
-            return runs;
+        if suffices(stretch, lowest) {
+            return stretch;
         }
-        let told = told_from(marks, groups, part, index);
+        let told = told_from(marks, groups, part, index, counting);
         let next = within(place_of_mark(marks, told.behind), end);
-        runs = runs.join(runs_of(part, told.tally, at, next));
+        stretch = stretch.join(stretch_of_mark(part, told.tally, at, next, counting));
         at = next;
         index = told.behind;
     }
-    runs
+    stretch
 }
 
 /// Returns the greatest number of free bytes in one run.
@@ -131,5 +145,15 @@ pub fn largest_run_by_marks(marks: &[Landmark], groups: &[Group], part: &Part) -
     requires groups { AreGroups groups.now marks.now }
     ensures { result ≡ largest_run (zone_in part.now.bytes) }
 {
-    runs_above(marks, groups, part, 0, false).best()
+    stretch_above(marks, groups, part, 0, Counting::Runs, false).best()
+}
+
+/// Returns the size of the largest free block once all blocks that may be purged were.
+pub fn largest_space_by_marks(marks: &[Landmark], groups: &[Group], part: &Part) -> u32
+    requires sound { (first : ℕ) × (unused : ℕ) × IsSound part.now.bytes first unused }
+    requires marks { AreMarks above_all (zone_in part.now.bytes) marks.now }
+    requires groups { AreGroups groups.now marks.now }
+    ensures { result ≡ largest_free (all_purged Nothing (zone_in part.now.bytes)) }
+{
+    stretch_above(marks, groups, part, 0, Counting::Spaces, false).best()
 }

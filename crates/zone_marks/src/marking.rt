@@ -10,12 +10,12 @@ ghost use Rattle.zone_bytes.specs.Edges.{ByEdges};
 ghost use Rattle.zone_bytes.specs.Lawful.{IsSound};
 ghost use Rattle.zone_bytes.specs.Changes.{AtEach, Begins, Replaced};
 ghost use Rattle.zone_marks.specs.Marks.{AtMost, NoRoom, NoneBelow, AreMarks, AreGroups, no_mark};
-ghost use Rattle.zone_marks.specs.Marks.{Lowered, IsTally, Measures, above_all, between, next_of};
+ghost use Rattle.zone_marks.specs.Marks.{AreTold, Lowered, Measures, above_all, between, next_of};
 ghost use Rattle.zone_bytes.specs.Stepping.{left_in, IsOnWay};
 ghost use Rattle.zone_marks.specs.declared.landmark.TheConstants.{GROUP};
 
 use crate::grouping::{raise_group, renew_groups};
-use crate::landmark::{GROUP, Group, Landmark, Tally, UNKNOWN};
+use crate::landmark::{GROUP, Group, Landmark, Tallies, Tally, UNKNOWN};
 use crate::measuring::{Measured, greater, measure_up_to, room_between};
 use crate::paging::page_end;
 use raw_region::Part;
@@ -153,13 +153,13 @@ fn measured_mark(part: &Part, at: u32, above: u32) -> Landmark
     requires { IsOnWay at part.now.bytes }
     ensures at { result.at ≡ at }
     ensures bound { AtEach (AtMost result.most at above) at (left_in at part.now.bytes) }
-    ensures tally { IsTally result.tally (between at above at (left_in at part.now.bytes)) }
+    ensures tally { AreTold result.tally (between at above at (left_in at part.now.bytes)) }
 {
     let stretch = measure_up_to(part, at, above);
     Landmark {
         at,
         most: stretch.most,
-        tally: Tally::Known(stretch.runs),
+        tally: stretch.told(),
     }
 }
 
@@ -185,8 +185,8 @@ fn changed_mark(
         AtEach (AtMost mark.most mark.at next) 0 old →
         AtEach (AtMost result.most result.at above) 0 (zone_in part.now.bytes) }
     ensures tally { (old : List Block) → Replaced lo hi old (zone_in part.now.bytes) →
-        IsTally mark.tally (between mark.at next 0 old) →
-        IsTally result.tally (between result.at above 0 (zone_in part.now.bytes)) }
+        AreTold mark.tally (between mark.at next 0 old) →
+        AreTold result.tally (between result.at above 0 (zone_in part.now.bytes)) }
 {
     if hi <= mark.at || next <= lo {
         return mark;
@@ -198,7 +198,7 @@ fn changed_mark(
     Landmark {
         at,
         most: greater(mark.most, hi - lo),
-        tally: Tally::Unknown,
+        tally: Tallies::UNKNOWN,
     }
 }
 
@@ -251,6 +251,7 @@ fn stretch_from(part: &Part, at: u32, place: u32, last: bool) -> Measured
             edge: u32::MAX,
             most: whole.most,
             runs: whole.runs,
+            spaces: whole.spaces,
         }
     } else {
         measure_up_to(part, at, place)
@@ -265,20 +266,24 @@ pub struct NextMark {
 }
 
 /// Makes a landmark at `at`, with what is known of the blocks up to `edge`: from `base` on these are relocatable
-/// blocks that lie packed, and below `base` they are measured by a walk.
+/// blocks that lie packed, of which it isn't known what they come to in spaces, and below `base` they are measured by a
+/// walk.
 fn packed_mark(part: &Part, at: u32, edge: u32, base: u32) -> Landmark
     requires sound { (first : ℕ) × (unused : ℕ) × IsSound part.now.bytes first unused }
     requires begins { Begins at 0 (zone_in part.now.bytes) }
     requires bare { base ≤ at → IsBare at edge (zone_in part.now.bytes) }
     ensures at { result.at ≡ at }
     ensures bound { AtEach (AtMost result.most at edge) 0 (zone_in part.now.bytes) }
-    ensures tally { IsTally result.tally (between at edge 0 (zone_in part.now.bytes)) }
+    ensures tally { AreTold result.tally (between at edge 0 (zone_in part.now.bytes)) }
 {
     if base <= at {
         return Landmark {
             at,
             most: 0,
-            tally: Tally::Known(Stretch::NONE),
+            tally: Tallies {
+                runs: Tally::Known(Stretch::NONE),
+                spaces: Tally::Unknown,
+            },
         };
     }
     measured_mark(part, at, edge)
@@ -348,7 +353,7 @@ fn lay_marks(
         marks[index] = Landmark {
             at,
             most: stretch.most,
-            tally: Tally::Known(stretch.runs),
+            tally: stretch.told(),
         };
         raise_group(groups, index, stretch.most);
         at = stretch.edge;

@@ -1,5 +1,6 @@
 pub mod Monoid
 pub mod Runs
+pub mod Spaces
 pub mod Sums
 pub mod Searching
 pub mod Purges

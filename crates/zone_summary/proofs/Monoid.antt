@@ -2,7 +2,9 @@
 use Rattle.std.proofs.Common.{◌≡◌, ℕ, ◌+◌, ◌≤◌, max, List, [], ◌∷◌, ◌++◌, refl, sym, ◌∙◌, ap, arith}
 use Rattle.std.proofs.Common.{add-zero, zero-add, add_assoc}
 use Rattle.block_store.specs.Block.{Block}
-use Rattle.zone_summary.specs.Stretches.{join, suffix, best, one, stretch_of}
+use Rattle.zone_summary.specs.Stretches.{join, suffix, best, one, space, spaces_of, stretch_by, stretch_of}
+use Rattle.zone_summary.specs.declared.stretch.Counting.{Counting}
+use Rattle.zone_summary.specs.declared.stretch.Counting.TheVariants as counting
 use Rattle.zone_summary.specs.declared.stretch.Stretch.{Stretch}
 use Rattle.zone_summary.specs.declared.stretch.Stretch.TheVariants.{Whole, Ended}
 
@@ -34,10 +36,24 @@ stretch_of-append [] upper = sym (join-unit_left (stretch_of upper))
 stretch_of-append (b ∷ lower) upper = ap (join (one b)) (stretch_of-append lower upper)
     ∙ sym (join-assoc (one b) (stretch_of lower) (stretch_of upper))
 
+spaces_of-append : (lower upper : List Block) → spaces_of (lower ++ upper) ≡ join (spaces_of lower) (spaces_of upper)
+spaces_of-append [] upper = sym (join-unit_left (spaces_of upper))
+spaces_of-append (b ∷ lower) upper = ap (join (space b)) (spaces_of-append lower upper)
+    ∙ sym (join-assoc (space b) (spaces_of lower) (spaces_of upper))
+
+pub counted-none : (c : Counting) → stretch_by c [] ≡ Whole 0
+counted-none counting.Runs = refl
+counted-none counting.Spaces = refl
+
+pub stretch_by-append : (c : Counting) (lower upper : List Block)
+    → stretch_by c (lower ++ upper) ≡ join (stretch_by c lower) (stretch_by c upper)
+stretch_by-append counting.Runs lower upper = stretch_of-append lower upper
+stretch_by-append counting.Spaces lower upper = spaces_of-append lower upper
+
 -- stretches that come to those of blocks
-pub joined-is : (lower upper : List Block) (s t r : Stretch) → r ≡ join s t → s ≡ stretch_of lower
-    → t ≡ stretch_of upper → r ≡ stretch_of (lower ++ upper)
-joined-is lower upper s t r j e d = rw (j, e, d) (sym (stretch_of-append lower upper))
+pub joined-is : (c : Counting) (lower upper : List Block) (s t r : Stretch) → r ≡ join s t → s ≡ stretch_by c lower
+    → t ≡ stretch_by c upper → r ≡ stretch_by c (lower ++ upper)
+joined-is c lower upper s t r j e d = rw (j, e, d) (sym (stretch_by-append c lower upper))
 
 -- no end has more than the most, and neither neighbour has
 pub suffix-best : (s : Stretch) → suffix s ≤ best s

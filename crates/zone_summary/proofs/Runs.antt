@@ -20,7 +20,7 @@ pub prefix-ended : (s : Stretch) → prefix (join (Ended 0 0 0) s) ≡ 0
 prefix-ended (Whole a) = refl
 prefix-ended (Ended p i s) = refl
 
-beyond-ended : (s : Stretch) → beyond (join (Ended 0 0 0) s) ≡ best s
+pub beyond-ended : (s : Stretch) → beyond (join (Ended 0 0 0) s) ≡ best s
 beyond-ended (Whole a) = omega arith
 beyond-ended (Ended p i s) = omega arith
 

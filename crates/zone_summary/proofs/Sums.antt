@@ -2,7 +2,10 @@
 use Rattle.std.proofs.Common.{◌+◌, ◌≤◌, List, [], ◌∷◌, Bool, true, false, arith}
 use Rattle.block_store.specs.Block.{Block, Free, Nonrelocatable, Masters, Relocatable, size, sizes}
 use Rattle.block_store.specs.Run.{in_run}
-use Rattle.zone_summary.specs.Stretches.{counted, join, load, prefix, suffix, one, stretch_of}
+use Rattle.zone_summary.specs.Stretches.{counted, is_space, join, load, prefix, suffix, one, space, spaces_of, stretch_by}
+use Rattle.zone_summary.specs.Stretches.{stretch_of}
+use Rattle.zone_summary.specs.declared.stretch.Counting.{Counting}
+use Rattle.zone_summary.specs.declared.stretch.Counting.TheVariants as counting
 use Rattle.zone_summary.specs.declared.stretch.Stretch.{Stretch}
 use Rattle.zone_summary.specs.declared.stretch.Stretch.TheVariants.{Whole, Ended}
 
@@ -33,3 +36,18 @@ pub load-blocks : (blocks : List Block) → load (stretch_of blocks) ≤ sizes b
 load-blocks [] = omega arith
 load-blocks (b ∷ above) =
     omega (arith, load-join (one b) (stretch_of above), load-blocks above, counted-within b)
+
+space-within : (b : Block) → load (space b) ≤ size b
+space-within b = within (is_space b)
+  where
+    within : (t : Bool) → load (counted t (size b)) ≤ size b
+    within true = omega arith
+    within false = omega arith
+
+spaces-load : (blocks : List Block) → load (spaces_of blocks) ≤ sizes blocks
+spaces-load [] = omega arith
+spaces-load (b ∷ above) = omega (arith, load-join (space b) (spaces_of above), spaces-load above, space-within b)
+
+pub load-counted : (c : Counting) (blocks : List Block) → load (stretch_by c blocks) ≤ sizes blocks
+load-counted counting.Runs blocks = load-blocks blocks
+load-counted counting.Spaces blocks = spaces-load blocks

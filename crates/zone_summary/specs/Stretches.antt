@@ -1,8 +1,10 @@
--- What the blocks of a stretch of a zone come to in runs. Inside Macintosh: Memory, chapter 2, "Freeing Memory": MaxBlock
--- is asked of a whole zone, and answered here from what parts of it come to.
+-- What the blocks of a stretch of a zone come to in runs, and in spaces. Inside Macintosh: Memory, chapter 2, "Freeing
+-- Memory": MaxBlock and PurgeSpace are asked of a whole zone, and answered here from what parts of it come to.
 use Rattle.std.specs.Prelude.{ℕ, ◌+◌, max, Bool, true, false, List, [], ◌∷◌}
-use Rattle.block_store.specs.Block.{Block, free_of}
+use Rattle.block_store.specs.Block.{Block, Free, Nonrelocatable, Masters, Relocatable, free_of, is_purgeable, size}
 use Rattle.block_store.specs.Run.{in_run}
+use Rattle.zone_summary.specs.declared.stretch.Counting.{Counting}
+use Rattle.zone_summary.specs.declared.stretch.Counting.TheVariants as counting
 use Rattle.zone_summary.specs.declared.stretch.Stretch.{Stretch}
 use Rattle.zone_summary.specs.declared.stretch.Stretch.TheVariants.{Whole, Ended}
 
@@ -26,6 +28,27 @@ join (Ended p i s) (Ended q j t) = Ended p (max (max i j) (s + q)) t
 abbrev pub stretch_of : List Block → Stretch
 stretch_of [] = Whole 0
 stretch_of (b ∷ above) = join (one b) (stretch_of above)
+
+-- A block that is free, or would be if it were purged: neighbours of this kind are one space.
+abbrev pub is_space : Block → Bool
+is_space (Free n) = true
+is_space (Nonrelocatable id content) = false
+is_space Masters = false
+is_space (Relocatable id flags content) = is_purgeable (Relocatable id flags content)
+
+-- What one block comes to in spaces: it adds its bytes to a space, or ends one.
+abbrev pub space : Block → Stretch
+space b = counted (is_space b) (size b)
+
+-- What the blocks of a stretch come to in spaces, lowest first.
+abbrev pub spaces_of : List Block → Stretch
+spaces_of [] = Whole 0
+spaces_of (b ∷ above) = join (space b) (spaces_of above)
+
+-- What the blocks of a stretch come to, counted in one of the two ways.
+abbrev pub stretch_by : Counting → List Block → Stretch
+stretch_by counting.Runs blocks = stretch_of blocks
+stretch_by counting.Spaces blocks = spaces_of blocks
 
 -- The free bytes of the run at the lower end.
 abbrev pub prefix : Stretch → ℕ

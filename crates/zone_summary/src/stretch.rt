@@ -1,12 +1,24 @@
-//! What a stretch of blocks comes to in runs, and how two that are neighbours come to one.
+//! What a stretch of blocks comes to in runs or in spaces, and how two that are neighbours come to one.
 
 ghost use Rattle.std.specs.Prelude.{◌≡◌, ◌+◌, ◌^◌, ◌<◌, ◌++◌, List, max};
 ghost use Rattle.block_store.specs.Block.{Block};
-ghost use Rattle.block_store.specs.Compact.{largest_run};
+ghost use Rattle.block_store.specs.Compact.{largest_free, largest_run};
+ghost use Rattle.block_store.specs.declared.sparing.Sparing.TheVariants.{Nothing};
+ghost use Rattle.zone_summary.specs.Emptied.{all_purged};
 ghost use Rattle.zone_summary.specs.Stretches as stretches;
-ghost use Rattle.zone_summary.specs.Stretches.{prefix, stretch_of, suffix};
+ghost use Rattle.zone_summary.specs.Stretches.{prefix, spaces_of, stretch_by, stretch_of, suffix};
+ghost use Rattle.zone_summary.specs.declared.stretch.Counting.{Counting as CountingOf};
 
-/// What the blocks of a stretch come to in runs, in free bytes.
+/// How the bytes of blocks are counted.
+#[derive(Clone, Copy)]
+pub enum Counting {
+    /// The free bytes of runs, which are one block once the run is packed.
+    Runs,
+    /// The bytes of spaces: of blocks beside one another that are free, or would be if they were purged.
+    Spaces,
+}
+
+/// What the blocks of a stretch come to in runs, in free bytes; or in spaces, which are then meant by 'run'.
 #[derive(Clone, Copy)]
 pub enum Stretch {
     /// No block of them ends a run, and they have so many free bytes.
@@ -34,8 +46,8 @@ impl Stretch {
     pub fn join(self, high: Stretch) -> Stretch
         requires { suffix self + prefix high < 2 ^ 32 }
         ensures is { result ≡ stretches.join self high }
-        ensures blocks { (lower upper : List Block) → self ≡ stretch_of lower → high ≡ stretch_of upper
-            → result ≡ stretch_of (lower ++ upper) }
+        ensures blocks { (counting : CountingOf) (lower upper : List Block) → self ≡ stretch_by counting lower
+            → high ≡ stretch_by counting upper → result ≡ stretch_by counting (lower ++ upper) }
     {
         match self {
             Stretch::Whole(a) => match high {
@@ -53,6 +65,8 @@ impl Stretch {
     pub fn best(self) -> u32
         ensures is { result ≡ stretches.best self }
         ensures largest { (blocks : List Block) → self ≡ stretch_of blocks → result ≡ largest_run blocks }
+        ensures space { (blocks : List Block) → self ≡ spaces_of blocks
+            → result ≡ largest_free (all_purged Nothing blocks) }
     {
         match self {
             Stretch::Whole(a) => a,

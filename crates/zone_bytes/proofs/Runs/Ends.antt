@@ -26,7 +26,7 @@ unlocked flags r = cases flags.locked flags.purgeable r
     cases false false false = refl
 
 module _ (resource : ℕ → Bool) (xs : List ℕ) (from : ℕ) (small : length xs ≤ 134217728) where
-  flags-read : (slot : ℕ) (flags : Flags) (content : List ℕ)
+  pub flags-read : (slot : ℕ) (flags : Flags) (content : List ℕ)
       → Tile (head_of resource (Relocatable slot flags content)) (size (Relocatable slot flags content)) (drop from xs)
       → word_at (from + 12) xs ≡ flag_word flags (resource slot)
   unfolding head_of

@@ -1,4 +1,10 @@
 -- The blocks that may be purged below a run, counted from an edge of a zone below which none may be.
+use Rattle.zone_summary.specs.declared.stretch.Counting.{Counting}
+use Rattle.zone_marks.specs.Marks.{AreTold, told}
+use Rattle.zone_marks.specs.declared.landmark.Tallies.{Tallies}
+use Rattle.zone_summary.specs.Stretches.{stretch_by}
+use Rattle.zone_summary.proofs.Monoid.{stretch_by-append}
+use Rattle.zone_summary.proofs.Sums.{load-counted}
 use Rattle.std.proofs.Common.{◌≡◌, ℕ, zero, suc, ◌+◌, ◌-◌, ◌≤◌, ◌<◌, Bool, true, false, List, [], ◌∷◌, ◌++◌}
 use Rattle.std.proofs.Common.{◌&&◌, Some, inl, refl, sym, ap, ◌∙◌, subst, cond, arith}
 use Rattle.block_store.specs.Block.{Block, Free, count, size, sizes, is_purgeable, is_relocatable}
@@ -19,19 +25,16 @@ use Rattle.zone_summary.proofs.Fewest.{count-few, count-past, opened-append}
 use Rattle.zone_bytes.specs.Decode.{zone_in}
 use Rattle.zone_bytes.specs.Lawful.{IsSound}
 use Rattle.zone_bytes.specs.Changes.{AtEach, Begins}
-use Rattle.zone_marks.specs.Marks.{IsTally, between}
+use Rattle.zone_marks.specs.Marks.{between}
 use Rattle.zone_marks.specs.Purgeable.{NoneGoes, Stays}
 use Rattle.zone_marks.specs.Searching.{IsStretch}
 use Rattle.zone_bytes.specs.Stepping.{left_in}
-use Rattle.zone_marks.specs.declared.landmark.Tally.{Tally}
 use Rattle.zone_marks.specs.declared.landmark.Tally.TheVariants as tally
 use Rattle.zone_summary.specs.Stretches.{load}
-use Rattle.zone_summary.specs.Stretches.{is_ended, join, prefix, stretch_of}
+use Rattle.zone_summary.specs.Stretches.{is_ended, join, prefix}
 use Rattle.zone_summary.specs.declared.stretch.Stretch.{Stretch}
 use Rattle.zone_summary.specs.declared.stretch.Stretch.TheVariants.{Whole, Ended}
-use Rattle.zone_summary.proofs.Monoid.{stretch_of-append}
 use Rattle.std.proofs.lemmas.Bool.{false≢true}
-use Rattle.zone_summary.proofs.Sums.{load-blocks}
 use Rattle.zone_marks.proofs.Bounds.Going.{none-passes, stays-here}
 use Rattle.zone_marks.proofs.Marks.Lowering.{begins-end, seen-from, tally-here}
 use Rattle.zone_marks.proofs.Marks.Passing.{at-left, begins-left}
@@ -123,19 +126,19 @@ block-run xs number p run n blocks e once keeps whole f = run-of number p n (zon
 
 -- what blocks that are known come to, below others
 module _ (xs : List ℕ) (first unused : ℕ) (i : IsSound xs first unused) where
-  pub stretch-from : (t : Tally) (from to : ℕ) → Begins from 0 (zone_in xs) → Begins to 0 (zone_in xs) → from ≤ to
-      → IsTally t (between from to from (left_in from xs)) → IsStretch t from to xs
-  stretch-from t from to b e l k = stretch-at xs first unused i t from to to b (tally-here xs first unused i t from to b k)
-      e l (omega arith) (inl refl)
+  pub stretch-from : (t : Tallies) (from to : ℕ) → Begins from 0 (zone_in xs) → Begins to 0 (zone_in xs) → from ≤ to
+      → AreTold t (between from to from (left_in from xs)) → (w : Counting) → IsStretch w (told w t) from to xs
+  stretch-from t from to b e l k w = stretch-at xs first unused i w (told w t) from to to b
+      (tally-here xs first unused i t from to b k w) e l (omega arith) (inl refl)
 
 -- what blocks come to, by what those up to a place do
-module _ (xs : List ℕ) (from to : ℕ) (runs : Stretch) (s : IsStretch (tally.Known runs) from to xs) where
-  pub known-past : stretch_of (left_in from xs) ≡ join runs (stretch_of (left_in to xs))
-  known-past = ap stretch_of s.1.is ∙ stretch_of-append s.0 (left_in to xs)
-      ∙ ap (λ r. join r (stretch_of (left_in to xs))) s.2
+module _ (w : Counting) (xs : List ℕ) (from to : ℕ) (runs : Stretch) (s : IsStretch w (tally.Known runs) from to xs) where
+  pub known-past : stretch_by w (left_in from xs) ≡ join runs (stretch_by w (left_in to xs))
+  known-past = ap (stretch_by w) s.1.is ∙ stretch_by-append w s.0 (left_in to xs)
+      ∙ ap (λ r. join r (stretch_by w (left_in to xs))) s.2
 
   pub known-fits : from + load runs ≤ to
-  known-fits = omega (arith, s.1.up, load-blocks s.0, ap load s.2)
+  known-fits = omega (arith, s.1.up, load-counted w s.0, ap load s.2)
 
 -- the run at the lower end, once it has ended
 pub ended-lowest : (s t : Stretch) → is_ended s ≡ true → prefix s ≡ prefix (join s t)

@@ -1,4 +1,5 @@
--- The blocks that begin between two places, and what a tally says of them.
+-- The blocks that begin between two places, and what tallies say of them.
+use Rattle.std.proofs.Common.{subst}
 use Rattle.std.proofs.Common.{◌≡◌, ℕ, ◌+◌, ◌≤◌, ◌<◌, ◌⊎◌, inl, inr, Bool, true, false, ◌&&◌, not, cond, List, [], ◌∷◌}
 use Rattle.std.proofs.Common.{◌++◌, nat_le, nat_lt, refl, sym, ap, ◌∙◌, arith}
 use Rattle.std.proofs.lemmas.Bool.{le-leb, lt-ltb, le-ltb, leb-true, ltb-false, and_parts}
@@ -6,38 +7,55 @@ use Rattle.std.proofs.lemmas.List.{append-nil}
 use Rattle.block_store.specs.Block.{Block, Free, Nonrelocatable, Masters, Relocatable, size, sizes, free_of}
 use Rattle.block_store.specs.Run.{in_run}
 use Rattle.zone_bytes.specs.Changes.{AtEach}
-use Rattle.zone_marks.specs.Marks.{IsTally, between, ends_run}
+use Rattle.zone_marks.specs.Marks.{AreTold, IsTally, Measures, between, ends_run, told}
+use Rattle.zone_marks.specs.declared.measuring.Measured.{Measured}
+use Rattle.zone_marks.specs.declared.landmark.Tallies.{Tallies}
 use Rattle.zone_marks.specs.declared.landmark.Tally.{Tally}
 use Rattle.zone_marks.specs.declared.landmark.Tally.TheVariants as tally
-use Rattle.zone_summary.specs.Stretches.{counted, join, one, stretch_of}
+use Rattle.zone_summary.specs.Stretches.{counted, join, one, space, spaces_of, stretch_by, stretch_of}
+use Rattle.zone_summary.specs.declared.stretch.Counting.{Counting}
+use Rattle.zone_summary.specs.declared.stretch.Counting.TheVariants as counting
 use Rattle.zone_summary.specs.declared.stretch.Stretch.TheVariants.{Whole}
-use Rattle.zone_summary.proofs.Monoid.{join-unit_left, stretch_of-append}
+use Rattle.zone_summary.proofs.Monoid.{join-unit_left, stretch_by-append}
 
--- blocks that come to the same in runs
+-- blocks that come to the same, counted in each way
 pub record CountAlike (some others : List Block) : Type 0 where
-  pub same : stretch_of some ≡ stretch_of others
+  pub same : (w : Counting) → stretch_by w some ≡ stretch_by w others
 
-pub alike-as : (t : Tally) (some others : List Block) → CountAlike some others → IsTally t others → IsTally t some
-alike-as (tally.Known runs) some others a i = a.same ∙ i
-alike-as tally.Unknown some others a i = tt
+pub tally-as : (w : Counting) (t : Tally) (some others : List Block) → CountAlike some others → IsTally w t others
+    → IsTally w t some
+tally-as w (tally.Known s) some others a i = a.same w ∙ i
+tally-as w tally.Unknown some others a i = tt
+
+pub alike-as : (t : Tallies) (some others : List Block) → CountAlike some others → AreTold t others → AreTold t some
+alike-as t some others a i w = tally-as w (told w t) some others a (i w)
 
 pub alike-same : (some others : List Block) → some ≡ others → CountAlike some others
-alike-same some others e = record { same = ap stretch_of e }
+alike-same some others e = record { same = λ w. ap (stretch_by w) e }
 
 pub alike-back : (some others : List Block) → CountAlike some others → CountAlike others some
-alike-back some others a = record { same = sym a.same }
+alike-back some others a = record { same = λ w. sym (a.same w) }
 
 pub alike-more : (a b c : List Block) → CountAlike a b → CountAlike b c → CountAlike a c
-alike-more a b c x y = record { same = x.same ∙ y.same }
+alike-more a b c x y = record { same = λ w. x.same w ∙ y.same w }
 
 pub alike-append : (a b c d : List Block) → CountAlike a c → CountAlike b d → CountAlike (a ++ b) (c ++ d)
 alike-append a b c d x y = record {
-  same = stretch_of-append a b ∙ ap (λ s. join s (stretch_of b)) x.same ∙ ap (join (stretch_of c)) y.same
-      ∙ sym (stretch_of-append c d);
+  same = λ w. stretch_by-append w a b ∙ ap (λ s. join s (stretch_by w b)) (x.same w) ∙ ap (join (stretch_by w c)) (y.same w)
+      ∙ sym (stretch_by-append w c d);
 }
 
 pub alike-first : (b : Block) (some others : List Block) → CountAlike some others → CountAlike (b ∷ some) (b ∷ others)
-alike-first b some others a = record { same = ap (join (one b)) a.same }
+alike-first b some others a = alike-append (b ∷ []) some (b ∷ []) others (alike-same (b ∷ []) (b ∷ []) refl) a
+
+-- what a walk found is known, in each way
+pub measured-told : (lo hi at : ℕ) (zone : List Block) (m : Measured) (t : Tallies)
+    → t ≡ record { runs = tally.Known m.runs; spaces = tally.Known m.spaces } → Measures lo hi at zone m
+    → AreTold t (between lo hi at zone)
+measured-told lo hi at zone m t e k counting.Runs =
+    subst (λ t. IsTally counting.Runs (told counting.Runs t) (between lo hi at zone)) (sym e) k.runs
+measured-told lo hi at zone m t e k counting.Spaces =
+    subst (λ t. IsTally counting.Spaces (told counting.Spaces t) (between lo hi at zone)) (sym e) k.spaces
 
 -- one block
 not-same : (t u : Bool) → not t ≡ not u → t ≡ u
@@ -48,6 +66,14 @@ not-same false false e = refl
 
 pub one-same : (b c : Block) → free_of c ≡ free_of b → ends_run c ≡ ends_run b → one c ≡ one b
 one-same b c f r = ap (counted (in_run c)) f ∙ ap (λ t. counted t (free_of b)) (not-same (in_run c) (in_run b) r)
+
+pub alike-other : (b c : Block) (some : List Block) → one c ≡ one b → space c ≡ space b
+    → CountAlike (c ∷ some) (b ∷ some)
+alike-other b c some o s = record { same = either }
+  where
+    either : (w : Counting) → stretch_by w (c ∷ some) ≡ stretch_by w (b ∷ some)
+    either counting.Runs = ap (λ k. join k (stretch_of some)) o
+    either counting.Spaces = ap (λ k. join k (spaces_of some)) s
 
 not-not : (t : Bool) → not (not t) ≡ t
 not-not true = refl
@@ -65,10 +91,19 @@ one-empty (Nonrelocatable id content) l = absurd (omega (arith, l))
 one-empty Masters l = absurd (omega (arith, l))
 one-empty (Relocatable id flags content) l = absurd (omega (arith, l))
 
+space-empty : (b : Block) → size b ≤ 0 → space b ≡ Whole 0
+space-empty (Free n) l = ap Whole (omega (arith, l))
+space-empty (Nonrelocatable id content) l = absurd (omega (arith, l))
+space-empty Masters l = absurd (omega (arith, l))
+space-empty (Relocatable id flags content) l = absurd (omega (arith, l))
+
 alike-empty : (b : Block) (some others : List Block) → size b ≤ 0 → CountAlike some others → CountAlike (b ∷ some)
     others
-alike-empty b some others l a =
-    record { same = ap (λ s. join s (stretch_of some)) (one-empty b l) ∙ join-unit_left (stretch_of some) ∙ a.same }
+alike-empty b some others l a = record { same = λ w. either w ∙ a.same w }
+  where
+    either : (w : Counting) → stretch_by w (b ∷ some) ≡ stretch_by w some
+    either counting.Runs = ap (λ s. join s (stretch_of some)) (one-empty b l) ∙ join-unit_left (stretch_of some)
+    either counting.Spaces = ap (λ s. join s (spaces_of some)) (space-empty b l) ∙ join-unit_left (spaces_of some)
 
 module _ (lo hi : ℕ) where
   pub between-append : (x : ℕ) (below above : List Block)
@@ -90,7 +125,7 @@ module _ (lo hi : ℕ) where
 
   -- none of the blocks below begins there
   pub none-below : (x : ℕ) (blocks : List Block) → x + sizes blocks ≤ lo → CountAlike (between lo hi x blocks) []
-  none-below x [] l = record { same = refl }
+  none-below x [] l = record { same = λ w. refl }
   none-below x (b ∷ blocks) l =
       cases (nat_le lo x && nat_lt x hi) refl (none-below (x + size b) blocks (omega (arith, l)))
     where
@@ -114,7 +149,7 @@ module _ (lo hi : ℕ) where
   -- each of the blocks within does
   pub all-within : (x : ℕ) (blocks : List Block) → lo ≤ x → x + sizes blocks ≤ hi
       → CountAlike (between lo hi x blocks) blocks
-  all-within x [] l h = record { same = refl }
+  all-within x [] l h = record { same = λ w. refl }
   all-within x (b ∷ blocks) l h =
       cases (nat_lt x hi) refl (all-within (x + size b) blocks (omega (arith, l)) (omega (arith, h)))
     where

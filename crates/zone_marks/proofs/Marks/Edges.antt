@@ -11,11 +11,11 @@ use Rattle.zone_marks.specs.Marks.{AreMarks, AtMost, between, next_of, no_mark}
 use Rattle.zone_bytes.specs.Changes.{AtEach, Begins}
 use Rattle.zone_marks.specs.declared.landmark.Landmark.{Landmark}
 use Rattle.zone_bytes.specs.declared.edges.Edges.{Edges}
-use Rattle.zone_marks.specs.declared.landmark.Tally.TheVariants as tally
 use Rattle.zone_summary.specs.Stretches.{counted, join, one, stretch_of}
+use Rattle.zone_summary.specs.declared.stretch.Counting.TheVariants.{Runs}
 use Rattle.zone_summary.specs.declared.stretch.Stretch.TheVariants.{Whole}
-use Rattle.zone_summary.proofs.Monoid.{join-unit_left}
-use Rattle.zone_marks.proofs.Marks.Between.{CountAlike, alike-as, alike-same, alike-more, alike-append, between-append}
+use Rattle.zone_summary.proofs.Monoid.{join-unit_left, stretch_of-append}
+use Rattle.zone_marks.proofs.Marks.Between.{between-append}
 use Rattle.zone_marks.proofs.Marks.Between.{none-below, none-above}
 use Rattle.zone_marks.proofs.Marks.Lowering.{at-each, drop-all, mark-first, marks-parted}
 use Rattle.zone_marks.proofs.Marks.Passing.{at-append, at-all, begins-left, begins-right, begins-within}
@@ -44,19 +44,21 @@ movers-bare lo hi x [] m = tt
 movers-bare lo hi x (b ∷ movers) m =
     (λ l h. (let f = mover-free b m.0 in omega (arith, f)), movers-bare lo hi (x + size b) movers m.1)
 
-movers-alike : (lo hi x : ℕ) (movers : List Block) → Each IsMover movers → CountAlike (between lo hi x movers) []
-movers-alike lo hi x [] m = record { same = refl }
-movers-alike lo hi x (b ∷ movers) m =
-    cases (nat_le lo x && nat_lt x hi) (movers-alike lo hi (x + size b) movers m.1)
+movers-runs : (lo hi x : ℕ) (movers : List Block) → Each IsMover movers → stretch_of (between lo hi x movers) ≡ Whole 0
+movers-runs lo hi x [] m = refl
+movers-runs lo hi x (b ∷ movers) m =
+    cases (nat_le lo x && nat_lt x hi) (movers-runs lo hi (x + size b) movers m.1)
   where
     rest : List Block
     rest = between lo hi (x + size b) movers
 
-    cases : (t : Bool) → CountAlike rest [] → CountAlike (cond t (b ∷ rest) rest) []
-    cases true a = record {
-      same = ap (λ s. join s (stretch_of rest)) (mover-one b m.0) ∙ join-unit_left (stretch_of rest) ∙ a.same;
-    }
+    cases : (t : Bool) → stretch_of rest ≡ Whole 0 → stretch_of (cond t (b ∷ rest) rest) ≡ Whole 0
+    cases true a = ap (λ s. join s (stretch_of rest)) (mover-one b m.0) ∙ join-unit_left (stretch_of rest) ∙ a
     cases false a = a
+
+-- blocks that come to nothing in runs, beside others that do
+bare-both : (a b : List Block) → stretch_of a ≡ Whole 0 → stretch_of b ≡ Whole 0 → stretch_of (a ++ b) ≡ Whole 0
+bare-both a b e f = stretch_of-append a b ∙ ap (λ s. join s (stretch_of b)) e ∙ ap (join (Whole 0)) f
 
 -- nothing lies between two places of which the first is no lower
 between-none : (lo hi x : ℕ) (blocks : List Block) → hi ≤ lo → between lo hi x blocks ≡ []
@@ -77,7 +79,7 @@ module _ (base : ℕ) (below movers above : List Block) (low : sizes below ≡ b
   bare-same : (p q : ℕ) → p ≡ q → IsBare p q zone
   bare-same p q e = (
     at-all (AtMost 0 p q) 0 zone (λ x b _. λ l h. absurd (omega (arith, l, h, e))),
-    alike-as (tally.Known (Whole 0)) _ [] (alike-same _ _ (between-none p q 0 zone (omega (arith, e)))) refl,
+    ap stretch_of (between-none p q 0 zone (omega (arith, e))),
   )
 
   bare-within : (p q : ℕ) → base ≤ p → q ≤ base + sizes movers → IsBare p q zone
@@ -88,12 +90,12 @@ module _ (base : ℕ) (below movers above : List Block) (low : sizes below ≡ b
             (at-each R 0 below (λ y b u v. λ m n. let f = free-size b in omega (arith, f, v, m, l, low)))
             (at-append R x movers above (movers-bare p q x movers solid)
             (at-all R (x + sizes movers) above (λ y b u. λ m n. absurd (omega (arith, u, n, h, low))))),
-        alike-as (tally.Known (Whole 0)) _ [] (alike-more _ _ _ (alike-same _ _ (between-append p q 0 below (movers ++ above)
-            ∙ ap (λ k. between p q 0 below ++ k) (between-append p q x movers above)))
-            (alike-append _ _ [] [] (none-below p q 0 below (omega (arith, l, low)))
-            (alike-append _ _ [] [] (movers-alike p q x movers solid)
-            (alike-same _ _ (none-above p q (x + sizes movers) above (omega (arith, h, low)))))))
-            refl,
+        ap stretch_of (between-append p q 0 below (movers ++ above)
+            ∙ ap (λ k. between p q 0 below ++ k) (between-append p q x movers above))
+            ∙ bare-both (between p q 0 below) (between p q x movers ++ between p q (x + sizes movers) above)
+            ((none-below p q 0 below (omega (arith, l, low))).same Runs)
+            (bare-both (between p q x movers) (between p q (x + sizes movers) above) (movers-runs p q x movers solid)
+            (ap stretch_of (none-above p q (x + sizes movers) above (omega (arith, h, low))))),
       )
 
 -- an edge of the blocks that lie packed

@@ -5,16 +5,23 @@ use Rattle.std.proofs.lemmas.Bool.{cases_lt}
 use Rattle.std.proofs.lemmas.Bool.Decides.{eqb_tells}
 use Rattle.std.proofs.lemmas.List.{get_or-take, get_or-drop, get_or-set_same, get_or-set_other, length-take-le, length-drop}
 use Rattle.std.proofs.lemmas.List.{get_or-replicate, length-replicate, drop-take, drop-set-lt, take-set-le}
-use Rattle.zone_marks.specs.Marks.{AreGroups, marks_in, no_group, no_mark, tally_of}
+use Rattle.zone_marks.specs.Marks.{AreGroups, marks_in, no_group, no_mark, tally_of, told}
 use Rattle.zone_marks.specs.declared.landmark.Group.{Group}
 use Rattle.zone_marks.specs.declared.landmark.Landmark.{Landmark}
+use Rattle.zone_marks.specs.declared.landmark.Tallies.{Tallies}
 use Rattle.zone_marks.specs.declared.landmark.Tally.TheVariants as tally
 use Rattle.zone_marks.specs.declared.landmark.TheConstants.{GROUP}
+use Rattle.zone_summary.specs.declared.stretch.Counting.{Counting}
+use Rattle.zone_summary.specs.declared.stretch.Counting.TheVariants as counting
 use Rattle.zone_summary.specs.declared.stretch.Stretch.{Stretch}
 
--- nothing known is nothing that is known
-pub unknown-known : (runs : Stretch) → tally.Unknown ≡ tally.Known runs → ⊥
-unknown-known runs e = cc
+-- nothing known is nothing that is known, in either way
+abbrev pub unknown : Tallies
+unknown = record { runs = tally.Unknown; spaces = tally.Unknown }
+
+pub unknown-known : (w : Counting) (s : Stretch) → told w unknown ≡ tally.Known s → ⊥
+unknown-known counting.Runs s e = cc
+unknown-known counting.Spaces s e = cc
 
 -- the landmarks of a group that has not the one that becomes another
 marks-apart : (marks : List Landmark) (m : Landmark) (index low n : ℕ) → (index < low) ⊎ (low + n ≤ index)
@@ -26,7 +33,7 @@ marks-apart marks m index low n (inr l) =
 -- a landmark becomes another, of which its group knows no more than a bound
 pub group-raised : (groups : List Group) (marks : List Landmark) (group index : ℕ) (g : Group) (m : Landmark)
     → AreGroups groups marks → group < length groups → GROUP * group ≤ index → index < GROUP * group + GROUP
-    → (get_or groups group no_group).most ≤ g.most → m.most ≤ g.most → g.tally ≡ tally.Unknown
+    → (get_or groups group no_group).most ≤ g.most → m.most ≤ g.most → g.tally ≡ unknown
     → AreGroups (set groups group g) (set marks index m)
 group-raised groups marks group index g m a l low high was is none = record {
   whole = (
@@ -47,14 +54,14 @@ group-raised groups marks group index g m a l low high was is none = record {
         (λ e. t.1 (let z : other ≡ group = omega (arith, e, u, v, low, high) in z))))
         (a.each other j u v (let s = length-set marks index m in omega (arith, s, h))))
   ];
-  known = λ other runs h e. elim (eqb_tells other group) [
-    | inl t ↦ absurd (unknown-known runs (sym none ∙ sym (ap (λ k. k.tally) (same-group other t.1)) ∙ e))
-    | inr t ↦ ap tally_of (marks-apart marks m index (GROUP * other) GROUP (elim (apart other t.1) [
+  known = λ w other runs h e. elim (eqb_tells other group) [
+    | inl t ↦ absurd (unknown-known w runs (sym (ap (told w) none) ∙ sym (ap (λ k. told w k.tally) (same-group other t.1)) ∙ e))
+    | inr t ↦ ap (tally_of w) (marks-apart marks m index (GROUP * other) GROUP (elim (apart other t.1) [
       | inl z ↦ inl (omega (arith, z, low))
       | inr z ↦ inr (omega (arith, z, high))
     ]))
-        ∙ a.known other runs (let s = length-set groups group g in omega (arith, s, h))
-        (sym (ap (λ k. k.tally) (get_or-set_other groups group other g no_group t.1)) ∙ e)
+        ∙ a.known w other runs (let s = length-set groups group g in omega (arith, s, h))
+        (sym (ap (λ k. told w k.tally) (get_or-set_other groups group other g no_group t.1)) ∙ e)
   ];
 }
   where
@@ -85,7 +92,7 @@ pub group-renewed : (groups : List Group) (marks : List Landmark) (group low n :
     → group < length groups → low ≡ group * 16 → n ≡ 16
     → ((index : ℕ) → index < length (take n (drop low marks))
     → (get_or (take n (drop low marks)) index no_mark).most ≤ g.most)
-    → g.tally ≡ tally_of (take n (drop low marks)) → AreGroups (set groups group g) marks
+    → ((w : Counting) → told w g.tally ≡ tally_of w (take n (drop low marks))) → AreGroups (set groups group g) marks
 group-renewed groups marks group low n g a l e k f s = record {
   whole = (let w = a.whole in let s = length-set groups group g in omega (arith, w, s));
   each = λ other index u v m. elim (eqb_tells other group) [
@@ -94,11 +101,11 @@ group-renewed groups marks group low n g a l e k f s = record {
     | inr t ↦ subst (λ z. (get_or marks index no_mark).most ≤ z)
         (sym (ap (λ k. k.most) (get_or-set_other groups group other g no_group t.1))) (a.each other index u v m)
   ];
-  known = λ other runs h d. elim (eqb_tells other group) [
-    | inl t ↦ ap (λ o. tally_of (marks_in o marks)) t.1 ∙ ap tally_of part ∙ sym s
-        ∙ sym (ap (λ k. k.tally) (same-group other t.1)) ∙ d
-    | inr t ↦ a.known other runs (let q = length-set groups group g in omega (arith, q, h))
-        (sym (ap (λ k. k.tally) (get_or-set_other groups group other g no_group t.1)) ∙ d)
+  known = λ w other runs h d. elim (eqb_tells other group) [
+    | inl t ↦ ap (λ o. tally_of w (marks_in o marks)) t.1 ∙ ap (tally_of w) part ∙ sym (s w)
+        ∙ sym (ap (λ k. told w k.tally) (same-group other t.1)) ∙ d
+    | inr t ↦ a.known w other runs (let q = length-set groups group g in omega (arith, q, h))
+        (sym (ap (λ k. told w k.tally) (get_or-set_other groups group other g no_group t.1)) ∙ d)
   ];
 }
   where
@@ -124,7 +131,7 @@ group-renewed groups marks group low n g a l e k f s = record {
 
 -- landmarks that all note the same, and of which groups know no more
 pub same-groups : (count groups : ℕ) (m : Landmark) → count ≡ GROUP * groups
-    → AreGroups (replicate groups (record { most = m.most; tally = tally.Unknown })) (replicate count m)
+    → AreGroups (replicate groups (record { most = m.most; tally = unknown })) (replicate count m)
 same-groups count groups m e = record {
   whole = (let s = length-replicate count m in let t = length-replicate groups g in omega (arith, e, s, t));
   each = λ group index b h l.
@@ -132,10 +139,10 @@ same-groups count groups m e = record {
       let r = ap (λ k. k.most) (get_or-replicate count index m no_mark (omega (arith, l, s))) in
       let t = ap (λ k. k.most) (get_or-replicate groups group g no_group (omega (arith, l, s, e, b))) in
       omega (arith, r, t);
-  known = λ group runs h d. absurd (unknown-known runs
-      (sym (ap (λ k. k.tally) (get_or-replicate groups group g no_group
+  known = λ w group runs h d. absurd (unknown-known w runs
+      (sym (ap (λ k. told w k.tally) (get_or-replicate groups group g no_group
       (let t = length-replicate groups g in omega (arith, h, t)))) ∙ d));
 }
   where
     g : Group
-    g = record { most = m.most; tally = tally.Unknown }
+    g = record { most = m.most; tally = unknown }

@@ -4,10 +4,10 @@ use Rattle.std.proofs.Common.{zero, suc, append_assoc, Bool, true, false, ◌&&�
 use Rattle.block_store.specs.Block.{Block, Free, Nonrelocatable, Masters, Relocatable, size, sizes, free, free_of, add}
 use Rattle.zone_bytes.specs.Laying.{free_first}
 use Rattle.zone_bytes.specs.Changes.{AtEach, Became, Begins, Replaced}
-use Rattle.zone_marks.specs.Marks.{AtMost, AreMarks, between, ends_run, next_of}
+use Rattle.zone_marks.specs.Marks.{AtMost, AreMarks, between, next_of}
 use Rattle.zone_marks.specs.declared.landmark.Landmark.{Landmark}
-use Rattle.zone_marks.proofs.Marks.Between.{CountAlike, alike-as, alike-same, alike-first, one-same}
-use Rattle.zone_summary.specs.Stretches.{join, one, stretch_of}
+use Rattle.zone_marks.proofs.Marks.Between.{CountAlike, alike-as, alike-more, alike-same, alike-first, alike-other}
+use Rattle.zone_summary.specs.Stretches.{one, space}
 use Rattle.zone_bytes.proofs.Tiles.Tiling.{span-append}
 use Rattle.zone_bytes.proofs.Tiles.Keeping.{span-free}
 
@@ -26,19 +26,16 @@ bound-same most lo hi x [] above b c s f e = (
 )
 bound-same most lo hi x (d ∷ below) above b c s f e = (e.0, bound-same most lo hi (x + size d) below above b c s f e.1)
 
-tally-same : (lo hi x : ℕ) (below above : List Block) (b c : Block) → size c ≡ size b → free_of c ≡ free_of b
-    → ends_run c ≡ ends_run b
-    → CountAlike (between lo hi x (below ++ c ∷ above)) (between lo hi x (below ++ b ∷ above))
+tally-same : (lo hi x : ℕ) (below above : List Block) (b c : Block) → size c ≡ size b → one c ≡ one b
+    → space c ≡ space b → CountAlike (between lo hi x (below ++ c ∷ above)) (between lo hi x (below ++ b ∷ above))
 tally-same lo hi x [] above b c s f r = cases (nat_le lo x && nat_lt x hi)
     (ap (λ n. between lo hi (x + n) above) s)
   where
     cases : (t : Bool) → between lo hi (x + size c) above ≡ between lo hi (x + size b) above
         → CountAlike (cond t (c ∷ between lo hi (x + size c) above) (between lo hi (x + size c) above))
         (cond t (b ∷ between lo hi (x + size b) above) (between lo hi (x + size b) above))
-    cases true e = record {
-      same = ap (λ k. join (one c) (stretch_of k)) e
-          ∙ ap (λ o. join o (stretch_of (between lo hi (x + size b) above))) (one-same b c f r);
-    }
+    cases true e = alike-more _ _ _ (alike-same _ _ (ap (λ k. c ∷ k) e))
+        (alike-other b c (between lo hi (x + size b) above) f r)
     cases false e = alike-same _ _ e
 tally-same lo hi x (d ∷ below) above b c s f r = cases (nat_le lo x && nat_lt x hi)
     (tally-same lo hi (x + size d) below above b c s f r)
@@ -51,17 +48,17 @@ tally-same lo hi x (d ∷ below) above b c s f r = cases (nat_le lo x && nat_lt 
     cases true a = alike-first d _ _ a
     cases false a = a
 
--- a block became one of as many bytes, of which as many are Free, and that ends a run if it did
+-- a block became one of as many bytes, of which as many are Free, and that comes to the same in runs and in spaces
 pub marks-same : (end : ℕ) (marks : List Landmark) (below above : List Block) (b c : Block) → size c ≡ size b
-    → free_of c ≡ free_of b → ends_run c ≡ ends_run b → AreMarks end (below ++ b ∷ above) marks
+    → free_of c ≡ free_of b → one c ≡ one b → space c ≡ space b → AreMarks end (below ++ b ∷ above) marks
     → AreMarks end (below ++ c ∷ above) marks
-marks-same end [] below above b c s f r a = tt
-marks-same end (m ∷ marks) below above b c s f r a = (
+marks-same end [] below above b c s f r g a = tt
+marks-same end (m ∷ marks) below above b c s f r g a = (
   begins-same m.at 0 below above b c s a.0,
   bound-same m.most m.at (next_of end marks) 0 below above b c s f a.1,
-  alike-as m.tally _ _ (tally-same m.at (next_of end marks) 0 below above b c s f r) a.2,
+  alike-as m.tally _ _ (tally-same m.at (next_of end marks) 0 below above b c s r g) a.2,
   a.3,
-  marks-same end marks below above b c s f r a.4,
+  marks-same end marks below above b c s f r g a.4,
 )
 
 -- a block became one of as many bytes

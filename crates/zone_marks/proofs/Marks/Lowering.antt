@@ -7,10 +7,12 @@ use Rattle.zone_bytes.specs.Decode.{zone_in}
 use Rattle.zone_bytes.specs.Lawful.{IsSound}
 use Rattle.zone_bytes.specs.Stepping.{left_in, IsOnWay}
 use Rattle.zone_bytes.specs.Changes.{AtEach, Begins, Replaced}
-use Rattle.zone_marks.specs.Marks.{AtMost, AreMarks, IsTally, Lowered, between, next_of, no_mark}
+use Rattle.zone_marks.specs.Marks.{AtMost, AreMarks, AreTold, IsTally, Lowered, between, next_of, no_mark, told}
 use Rattle.zone_marks.specs.declared.landmark.Landmark.{Landmark}
-use Rattle.zone_marks.specs.declared.landmark.Tally.{Tally}
-use Rattle.zone_marks.specs.declared.landmark.Tally.TheVariants as tally
+use Rattle.zone_marks.specs.declared.landmark.Tallies.{Tallies}
+use Rattle.zone_summary.specs.declared.stretch.Counting.{Counting}
+use Rattle.zone_summary.specs.declared.stretch.Counting.TheVariants as counting
+use Rattle.zone_marks.proofs.Marks.Groups.{unknown}
 use Rattle.zone_bytes.proofs.Places.AtPlace.{way-above, left-above}
 use Rattle.zone_marks.proofs.Marks.Passing.{at-map, at-all, at-append, at-left, at-right, begins-here, begins-left}
 use Rattle.zone_marks.proofs.Marks.Passing.{begins-right, begins-either, begins-within, parts}
@@ -211,8 +213,8 @@ module _ (xs : List ℕ) (first unused : ℕ) (i : IsSound xs first unused) wher
       (at-each S 0 s.below (λ q c v u. λ m n. let f = free-size c in omega (arith, f, u, m, l)))
       (subst (λ y. AtEach S y (left_in p xs)) (let k : p ≡ 0 + sizes s.below = omega (arith, l) in k) e))
 
-  pub tally-here : (t : Tally) (p to : ℕ) → Begins p 0 (zone_in xs) → IsTally t (between p to p (left_in p xs))
-      → IsTally t (between p to 0 (zone_in xs))
+  pub tally-here : (t : Tallies) (p to : ℕ) → Begins p 0 (zone_in xs) → AreTold t (between p to p (left_in p xs))
+      → AreTold t (between p to 0 (zone_in xs))
   tally-here t p to b e =
       let s = seen-from p b in
       let l = s.low in
@@ -283,17 +285,22 @@ begins-end x (b ∷ blocks) = inr (subst (λ p. Begins p (x + size b) blocks)
 
 -- landmarks that all stand at the bottom, with nothing known
 pub unlaid-marks : (zone : List Block) → sizes zone ≤ 134217728 → (n : ℕ)
-    → AreMarks 4294967295 zone (replicate n (record { at = 0; most = 4294967295; tally = tally.Unknown }))
+    → AreMarks 4294967295 zone (replicate n (record { at = 0; most = 4294967295; tally = unknown }))
 unlaid-marks zone l zero = tt
 unlaid-marks zone l (suc n) = (
   begins-here 0 zone,
   at-each (AtMost 4294967295 0 (next_of 4294967295
-      (replicate n (record { at = 0; most = 4294967295; tally = tally.Unknown })))) 0 zone
+      (replicate n (record { at = 0; most = 4294967295; tally = unknown })))) 0 zone
       (λ p b _ u _ _. let f = free-size b in omega (arith, f, u, l)),
-  tt,
+  none,
   omega arith,
   unlaid-marks zone l n,
 )
+  where
+    none : (w : Counting) → IsTally w (told w unknown) (between 0
+        (next_of 4294967295 (replicate n (record { at = 0; most = 4294967295; tally = unknown }))) 0 zone)
+    none counting.Runs = tt
+    none counting.Spaces = tt
 
 pub replaced-order : (lo hi : ℕ) (old new : List Block) → Replaced lo hi old new → lo ≤ hi
 replaced-order lo hi old new z = let h = z.high in omega (arith, h)
@@ -328,8 +335,8 @@ module _ (lo hi : ℕ) (old new : List Block) where
       → Lowered lo hi (get_or marks (left - 1) d).at m.at
       → (AtEach (AtMost (get_or marks (left - 1) d).most (get_or marks (left - 1) d).at next) 0 old
       → AtEach (AtMost m.most m.at above) 0 new)
-      → (IsTally (get_or marks (left - 1) d).tally (between (get_or marks (left - 1) d).at next 0 old)
-      → IsTally m.tally (between m.at above 0 new))
+      → (AreTold (get_or marks (left - 1) d).tally (between (get_or marks (left - 1) d).at next 0 old)
+      → AreTold m.tally (between m.at above 0 new))
       → Changing lo hi old new (get_or marks (left - 1) d).at m.at (take (left - 1) (set marks (left - 1) m))
       (drop (left - 1) (set marks (left - 1) m))
   changing-step z o next above left marks d m s l g w f c =
@@ -343,7 +350,7 @@ module _ (lo hi : ℕ) (old new : List Block) where
         high = subst (AreMarks 4294967295 new) (sym q) (
           begins-lowered lo hi old new z o (get_or marks (left - 1) d).at m.at w n.0,
           subst (λ k. AtEach (AtMost m.most m.at k) 0 new) g.first (f n.1),
-          subst (λ k. IsTally m.tally (between m.at k 0 new)) g.first (c n.2),
+          subst (λ k. AreTold m.tally (between m.at k 0 new)) g.first (c n.2),
           subst (λ k. m.at ≤ k) g.first (lowered-order lo hi (get_or marks (left - 1) d).at next m.at above n.3 w g.is),
           g.high,
         );
@@ -371,7 +378,7 @@ module _ (lo hi : ℕ) (old new : List Block) where
 -- new landmarks, one after another
 pub marks-next : (zone : List Block) (marks : List Landmark) (index to : ℕ) (m : Landmark) → index < length marks
     → AreMarks m.at zone (take index marks) → Begins m.at 0 zone → AtEach (AtMost m.most m.at to) 0 zone
-    → IsTally m.tally (between m.at to 0 zone) → m.at ≤ to
+    → AreTold m.tally (between m.at to 0 zone) → m.at ≤ to
     → AreMarks to zone (take (index + 1) (set marks index m))
 marks-next zone marks index to m l a b e t r =
     subst (AreMarks to zone) (sym (take_more_set marks index m l))

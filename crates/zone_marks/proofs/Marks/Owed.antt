@@ -21,7 +21,9 @@ use Rattle.zone_marks.specs.Marks.{ends_run}
 use Rattle.zone_bytes.specs.PurgeableBytes.{purgeable_of, purgeable_sum}
 use Rattle.zone_marks.specs.declared.keeping.Landmarks.{Landmarks}
 use Rattle.zone_marks.proofs.Bounds.Going.{stays-same}
+use Rattle.zone_marks.proofs.Marks.Between.{one-same}
 use Rattle.zone_marks.proofs.Marks.Keeping.{marks-same, carved-replaced}
+use Rattle.zone_summary.specs.Stretches.{counted, one, space}
 use Rattle.zone_bytes.proofs.Placed.NonrelocatableCarved.{Roomy}
 
 -- a block whose content is another of as many bytes
@@ -36,6 +38,13 @@ ends-content x (Free n) = refl
 ends-content x (Nonrelocatable id content) = refl
 ends-content x Masters = refl
 ends-content x (Relocatable id flags content) = refl
+
+space-content : (x : List ℕ) (b : Block) → length x ≡ length (content_of b) → space (with_content x b) ≡ space b
+space-content x (Free n) e = refl
+space-content x (Nonrelocatable id content) e = refl
+space-content x Masters e = refl
+space-content x (Relocatable id flags content) e =
+    ap (λ n. counted (is_purgeable (Relocatable id flags content)) (padded n)) e
 
 goes-content : (x : List ℕ) (b : Block) → is_purgeable (with_content x b) ≡ is_purgeable b
 goes-content x (Free n) = refl
@@ -68,15 +77,16 @@ module _ (xs : List ℕ) (first unused free purgeable : ℕ) (l : Landmarks) whe
       → purgeable ≡ purgeable_sum zone → IsMarked xs first unused free purgeable l
   with-same zone k e a m = with-marks k (subst (AreOf l) (sym e) a) (subst (λ z. purgeable ≡ purgeable_sum z) (sym e) m)
 
-  -- a block that takes as many bytes, of which as many are Free, and ends a run, and may be purged, if the other did
+  -- a block that takes as many bytes, of which as many are Free, that comes to the same in runs and in spaces, and may be
+  -- purged if the other may
   pub with-block : (below above : List Block) (b c : Block) (zone : List Block) → IsKept xs first unused free
       → zone_in xs ≡ below ++ c ∷ above → zone ≡ below ++ b ∷ above → size c ≡ size b → free_of c ≡ free_of b
-      → ends_run c ≡ ends_run b → is_purgeable c ≡ is_purgeable b → AreOf l zone
+      → one c ≡ one b → space c ≡ space b → is_purgeable c ≡ is_purgeable b → AreOf l zone
       → purgeable ≡ purgeable_sum (below ++ c ∷ above)
       → IsMarked xs first unused free purgeable l
-  with-block below above b c zone k e was s f r g a m = with-marks k
+  with-block below above b c zone k e was s f r h g a m = with-marks k
       (subst (AreOf l) (sym e) (let o = subst (AreOf l) was a in (
-        (marks-same 4294967295 l.marks.items below above b c s f r o.0.0, o.0.1),
+        (marks-same 4294967295 l.marks.items below above b c s f r h o.0.0, o.0.1),
         stays-same l.lowest 0 below above b c s g o.1,
       )))
       (subst (λ z. purgeable ≡ purgeable_sum z) (sym e) m)
@@ -95,7 +105,8 @@ module _ (xs : List ℕ) (first unused free purgeable : ℕ) (l : Landmarks) whe
       let t = total-append purgeable_of below (b ∷ above) in
       let u = total-append purgeable_of below (with_content now b ∷ above) in
       with-block below above b (with_content now b) zone k e was (size-content now b long) (free-content now b)
-      (ends-content now b) (goes-content now b) a
+      (one-same b (with_content now b) (free-content now b) (ends-content now b)) (space-content now b long)
+      (goes-content now b) a
       (omega (arith, p, o, t, u, m))
 
 -- a block that isn't Free was put at the lower end of a Free one

@@ -7,7 +7,7 @@ use Rattle.block_store.specs.Block.{Block, size, sizes}
 use Rattle.zone_bytes.specs.Decode.{zone_in}
 use Rattle.zone_bytes.specs.Lawful.{IsSound}
 use Rattle.zone_marks.specs.Marks.{AreMarks, IsTally, between, join_tallies, known_load, known_loads, next_of, no_mark}
-use Rattle.zone_marks.specs.Marks.{tally_of}
+use Rattle.zone_marks.specs.Marks.{tally_of, told}
 use Rattle.zone_marks.specs.declared.landmark.Landmark.{Landmark}
 use Rattle.zone_marks.specs.declared.landmark.Tally.{Tally}
 use Rattle.zone_marks.specs.declared.landmark.Tally.TheVariants as tally
@@ -16,10 +16,11 @@ use Rattle.zone_bytes.proofs.Laws.Lawful.{sizes-length}
 use Rattle.zone_marks.proofs.Marks.Between.{none-above}
 use Rattle.zone_marks.proofs.Marks.Lowering.{marks-below}
 use Rattle.zone_bytes.proofs.Tiles.Tiling.{span-append}
-use Rattle.zone_summary.specs.Stretches.{join, stretch_of, load}
+use Rattle.zone_summary.specs.Stretches.{join, stretch_by, load}
+use Rattle.zone_summary.specs.declared.stretch.Counting.{Counting}
 use Rattle.zone_summary.specs.declared.stretch.Stretch.TheVariants.{Whole}
-use Rattle.zone_summary.proofs.Monoid.{join-assoc, join-unit_left, join-unit_right, stretch_of-append}
-use Rattle.zone_summary.proofs.Sums.{load-blocks, load-join}
+use Rattle.zone_summary.proofs.Monoid.{counted-none, join-assoc, join-unit_left, join-unit_right, stretch_by-append}
+use Rattle.zone_summary.proofs.Sums.{load-counted, load-join}
 
 -- tallies are joined as what they tell
 tallies-left : (t : Tally) → join_tallies (tally.Known (Whole 0)) t ≡ t
@@ -36,16 +37,17 @@ tallies-assoc (tally.Known a) (tally.Known b) tally.Unknown = refl
 tallies-assoc (tally.Known a) tally.Unknown t = refl
 tallies-assoc tally.Unknown s t = refl
 
-tally_of-append : (xs ys : List Landmark) → tally_of (xs ++ ys) ≡ join_tallies (tally_of xs) (tally_of ys)
-tally_of-append [] ys = sym (tallies-left (tally_of ys))
-tally_of-append (m ∷ xs) ys = ap (join_tallies m.tally) (tally_of-append xs ys)
-    ∙ sym (tallies-assoc m.tally (tally_of xs) (tally_of ys))
+tally_of-append : (w : Counting) (xs ys : List Landmark)
+    → tally_of w (xs ++ ys) ≡ join_tallies (tally_of w xs) (tally_of w ys)
+tally_of-append w [] ys = sym (tallies-left (tally_of w ys))
+tally_of-append w (m ∷ xs) ys = ap (join_tallies (told w m.tally)) (tally_of-append w xs ys)
+    ∙ sym (tallies-assoc (told w m.tally) (tally_of w xs) (tally_of w ys))
 
-pub tally_of-more : (marks : List Landmark) (i : ℕ) → i < length marks
-    → tally_of (take (i + 1) marks) ≡ join_tallies (tally_of (take i marks)) (get_or marks i no_mark).tally
-tally_of-more marks i l =
-    ap tally_of (take_more marks i no_mark l) ∙ tally_of-append (take i marks) (get_or marks i no_mark ∷ [])
-    ∙ ap (join_tallies (tally_of (take i marks))) (tallies-right (get_or marks i no_mark).tally)
+pub tally_of-more : (w : Counting) (marks : List Landmark) (i : ℕ) → i < length marks
+    → tally_of w (take (i + 1) marks) ≡ join_tallies (tally_of w (take i marks)) (told w (get_or marks i no_mark).tally)
+tally_of-more w marks i l =
+    ap (tally_of w) (take_more marks i no_mark l) ∙ tally_of-append w (take i marks) (get_or marks i no_mark ∷ [])
+    ∙ ap (join_tallies (tally_of w (take i marks))) (tallies-right (told w (get_or marks i no_mark).tally))
 
 -- what they hold in sum
 known_load-join : (s t : Tally) → known_load (join_tallies s t) ≤ known_load s + known_load t
@@ -53,27 +55,30 @@ known_load-join (tally.Known a) (tally.Known b) = load-join a b
 known_load-join (tally.Known a) tally.Unknown = omega arith
 known_load-join tally.Unknown t = omega arith
 
-pub loads-all : (marks : List Landmark) → known_load (tally_of marks) ≤ known_loads marks
-loads-all [] = omega arith
-loads-all (m ∷ marks) = omega (arith, known_load-join m.tally (tally_of marks), loads-all marks)
+pub loads-all : (w : Counting) (marks : List Landmark) → known_load (tally_of w marks) ≤ known_loads w marks
+loads-all w [] = omega arith
+loads-all w (m ∷ marks) = omega (arith, known_load-join (told w m.tally) (tally_of w marks), loads-all w marks)
 
-loads-append : (xs ys : List Landmark) → known_loads (xs ++ ys) ≡ known_loads xs + known_loads ys
-loads-append [] ys = omega arith
-loads-append (m ∷ xs) ys = omega (arith, loads-append xs ys)
+pub loads-append : (w : Counting) (xs ys : List Landmark) → known_loads w (xs ++ ys) ≡ known_loads w xs + known_loads w ys
+loads-append w [] ys = omega arith
+loads-append w (m ∷ xs) ys = omega (arith, loads-append w xs ys)
 
-loads-parted : (marks : List Landmark) (n : ℕ) → known_loads (take n marks) + known_loads (drop n marks) ≡ known_loads marks
-loads-parted marks n = sym (loads-append (take n marks) (drop n marks)) ∙ ap known_loads (take-append-drop n marks)
+loads-parted : (w : Counting) (marks : List Landmark) (n : ℕ)
+    → known_loads w (take n marks) + known_loads w (drop n marks) ≡ known_loads w marks
+loads-parted w marks n = sym (loads-append w (take n marks) (drop n marks)) ∙ ap (known_loads w) (take-append-drop n marks)
 
-pub loads-more : (marks : List Landmark) (i : ℕ) → i < length marks
-    → known_load (tally_of (take i marks)) + known_load (get_or marks i no_mark).tally ≤ known_loads marks
-loads-more marks i l =
-    let a = loads-all (take i marks) in
-    let p = loads-parted marks (i + 1) in
-    let q = ap known_loads (take_more marks i no_mark l) ∙ loads-append (take i marks) (get_or marks i no_mark ∷ []) in
+pub loads-more : (w : Counting) (marks : List Landmark) (i : ℕ) → i < length marks
+    → known_load (tally_of w (take i marks)) + known_load (told w (get_or marks i no_mark).tally) ≤ known_loads w marks
+loads-more w marks i l =
+    let a = loads-all w (take i marks) in
+    let p = loads-parted w marks (i + 1) in
+    let q = ap (known_loads w) (take_more marks i no_mark l)
+    ∙ loads-append w (take i marks) (get_or marks i no_mark ∷ []) in
     omega (arith, a, p, q)
 
-pub loads-part : (marks : List Landmark) (low n : ℕ) → known_loads (take n (drop low marks)) ≤ known_loads marks
-loads-part marks low n = omega (arith, loads-parted marks low, loads-parted (drop low marks) n)
+pub loads-part : (w : Counting) (marks : List Landmark) (low n : ℕ)
+    → known_loads w (take n (drop low marks)) ≤ known_loads w marks
+loads-part w marks low n = omega (arith, loads-parted w marks low, loads-parted w (drop low marks) n)
 
 -- two stretches, of which one begins where the other ends
 between-low : (a b c x : ℕ) (bs : List Block) → a ≤ x → b ≤ x → between a c x bs ≡ between b c x bs
@@ -106,15 +111,16 @@ between-few lo hi x (b ∷ bs) = either (nat_le lo x && nat_lt x hi) (between-fe
     either true e = omega (arith, e)
     either false e = omega (arith, e)
 
-tally-join : (s t : Tally) (xs ys : List Block) → IsTally s xs → IsTally t ys → IsTally (join_tallies s t) (xs ++ ys)
-tally-join (tally.Known a) (tally.Known b) xs ys e f = stretch_of-append xs ys ∙ ap (λ k. join k (stretch_of ys)) e
-    ∙ ap (join a) f
-tally-join (tally.Known a) tally.Unknown xs ys e f = tt
-tally-join tally.Unknown t xs ys e f = tt
+tally-join : (w : Counting) (s t : Tally) (xs ys : List Block) → IsTally w s xs → IsTally w t ys
+    → IsTally w (join_tallies s t) (xs ++ ys)
+tally-join w (tally.Known a) (tally.Known b) xs ys e f = stretch_by-append w xs ys
+    ∙ ap (λ k. join k (stretch_by w ys)) e ∙ ap (join a) f
+tally-join w (tally.Known a) tally.Unknown xs ys e f = tt
+tally-join w tally.Unknown t xs ys e f = tt
 
-tally-load : (t : Tally) (xs : List Block) → IsTally t xs → known_load t ≤ sizes xs
-tally-load (tally.Known runs) xs e = let l = load-blocks xs in let k = ap load e in omega (arith, l, k)
-tally-load tally.Unknown xs e = omega arith
+tally-load : (w : Counting) (t : Tally) (xs : List Block) → IsTally w t xs → known_load t ≤ sizes xs
+tally-load w (tally.Known stretch) xs e = let l = load-counted w xs in let k = ap load e in omega (arith, l, k)
+tally-load w tally.Unknown xs e = omega arith
 
 between-none : (end x : ℕ) (bs : List Block) → between end end x bs ≡ []
 between-none end x [] = refl
@@ -124,34 +130,34 @@ between-none end x (b ∷ bs) = elim (cases_lt x end) [
 ]
 
 -- what landmarks know together is of the blocks from the first of them to where they end
-pub group-tally : (end : ℕ) (zone : List Block) (marks : List Landmark) → AreMarks end zone marks
-    → IsTally (tally_of marks) (between (next_of end marks) end 0 zone)
-group-tally end zone [] a = ap stretch_of (between-none end 0 zone)
-group-tally end zone (m ∷ marks) a =
-    subst (IsTally (join_tallies m.tally (tally_of marks)))
+pub group-tally : (w : Counting) (end : ℕ) (zone : List Block) (marks : List Landmark) → AreMarks end zone marks
+    → IsTally w (tally_of w marks) (between (next_of end marks) end 0 zone)
+group-tally w end zone [] a = ap (stretch_by w) (between-none end 0 zone) ∙ counted-none w
+group-tally w end zone (m ∷ marks) a =
+    subst (IsTally w (join_tallies (told w m.tally) (tally_of w marks)))
     (sym (between-join m.at (next_of end marks) end 0 zone a.3 (marks-below end zone marks a.4)))
-    (tally-join m.tally (tally_of marks) _ _ a.2 (group-tally end zone marks a.4))
+    (tally-join w (told w m.tally) (tally_of w marks) _ _ (a.2 w) (group-tally w end zone marks a.4))
 
-loads-within : (end : ℕ) (zone : List Block) (marks : List Landmark) → AreMarks end zone marks
-    → known_loads marks ≤ sizes (between (next_of end marks) end 0 zone)
-loads-within end zone [] a = omega arith
-loads-within end zone (m ∷ marks) a =
+loads-within : (w : Counting) (end : ℕ) (zone : List Block) (marks : List Landmark) → AreMarks end zone marks
+    → known_loads w marks ≤ sizes (between (next_of end marks) end 0 zone)
+loads-within w end zone [] a = omega arith
+loads-within w end zone (m ∷ marks) a =
     let n = next_of end marks in
-    let l = tally-load m.tally (between m.at n 0 zone) a.2 in
-    let r = loads-within end zone marks a.4 in
+    let l = tally-load w (told w m.tally) (between m.at n 0 zone) (a.2 w) in
+    let r = loads-within w end zone marks a.4 in
     let j = ap sizes (between-join m.at n end 0 zone a.3 (marks-below end zone marks a.4)) in
     let s = span-append (between m.at n 0 zone) (between n end 0 zone) in
     omega (arith, l, r, j, s)
 
-loads-fit : (end : ℕ) (zone : List Block) (marks : List Landmark) → AreMarks end zone marks
-    → known_loads marks ≤ sizes zone
-loads-fit end zone marks a =
-    omega (arith, loads-within end zone marks a, between-few (next_of end marks) end 0 zone)
+loads-fit : (w : Counting) (end : ℕ) (zone : List Block) (marks : List Landmark) → AreMarks end zone marks
+    → known_loads w marks ≤ sizes zone
+loads-fit w end zone marks a =
+    omega (arith, loads-within w end zone marks a, between-few (next_of end marks) end 0 zone)
 
 pub loads-small : (xs : List ℕ) (first unused : ℕ) → IsSound xs first unused → (end : ℕ) (marks : List Landmark)
-    → AreMarks end (zone_in xs) marks → known_loads marks < 2 ^ 32
-loads-small xs first unused i end marks a =
-    let f = loads-fit end (zone_in xs) marks a in
+    → AreMarks end (zone_in xs) marks → (w : Counting) → known_loads w marks < 2 ^ 32
+loads-small xs first unused i end marks a w =
+    let f = loads-fit w end (zone_in xs) marks a in
     let l = sizes-length xs (zone_in xs) (slot_in xs) i.unused i.lays in
     let m = i.lays.small in
     omega (arith, f, l, m)

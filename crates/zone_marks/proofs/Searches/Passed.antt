@@ -1,4 +1,5 @@
 -- A search for a run that passes blocks by what they come to in runs.
+use Rattle.zone_summary.specs.declared.stretch.Counting.TheVariants.{Runs}
 use Rattle.std.proofs.Common.{◌≡◌, ℕ, ◌+◌, ◌≤◌, ◌<◌, ◌^◌, ◌&&◌, ◌⊎◌, inl, inr, Bool, true, false, nat_le, None, Option, List, [], ◌++◌, length}
 use Rattle.std.proofs.Common.{append_assoc, append-nil, refl, sym, ap, ◌∙◌, subst, arith}
 use Rattle.std.proofs.lemmas.Bool.{cond-false}
@@ -129,7 +130,7 @@ module _ (xs : List ℕ) (s : RunScan) (at next : ℕ) (p : Passed) (q : IsPasse
 
 -- no sum is too high
 module _ (xs : List ℕ) (first unused : ℕ) (i : IsSound xs first unused) (s : RunScan) (r : IsReady xs s) (at next : ℕ)
-    (p : Passed) (q : IsPassed s at xs p) (runs : Stretch) (t : IsStretch (tally.Known runs) at next xs) where
+    (p : Passed) (q : IsPassed s at xs p) (runs : Stretch) (t : IsStretch Runs (tally.Known runs) at next xs) where
   pub passed-fits : (suffix p.runs + prefix runs < 2 ^ 32) × (p.free + load runs < 2 ^ 32)
   passed-fits =
       let m = i.lays.small in

@@ -7,7 +7,7 @@ use Rattle.std.proofs.lemmas.List.{drop-drop, drop_more, drop_all}
 use Rattle.block_store.specs.Block.{Block, sizes}
 use Rattle.zone_bytes.specs.Decode.{zone_in}
 use Rattle.zone_bytes.specs.Lawful.{IsSound}
-use Rattle.zone_marks.specs.Marks.{AreMarks, IsTally, between, next_of, no_mark, tally_of}
+use Rattle.zone_marks.specs.Marks.{AreMarks, IsTally, between, next_of, no_mark, tally_of, told}
 use Rattle.zone_bytes.specs.Changes.{Begins}
 use Rattle.zone_marks.specs.Searching.{IsBefore, IsPiece, IsStretch}
 use Rattle.zone_bytes.specs.Stepping.{left_in}
@@ -17,7 +17,7 @@ use Rattle.zone_marks.specs.declared.landmark.Tally.{Tally}
 use Rattle.zone_marks.specs.declared.landmark.Tally.TheVariants as tally
 use Rattle.zone_marks.specs.declared.landmark.TheConstants.{GROUP}
 use Rattle.zone_bytes.proofs.Laws.Lawful.{sizes-length}
-use Rattle.zone_marks.proofs.Marks.Between.{CountAlike, alike-as, alike-back, alike-more, alike-same, between-parts}
+use Rattle.zone_marks.proofs.Marks.Between.{CountAlike, tally-as, alike-back, alike-more, alike-same, between-parts}
 use Rattle.zone_marks.proofs.Marks.Lowering.{Seen, begins-way, seen-from, marks-below, marks-parted, mark-begins, mark-first}
 use Rattle.zone_marks.proofs.Marks.Lowering.{begins-end}
 use Rattle.zone_marks.proofs.Marks.Passing.{PartsAt, begins-either, begins-here, begins-right, begins-within, parts}
@@ -25,6 +25,7 @@ use Rattle.zone_marks.proofs.Marks.Tallies.{group-tally}
 use Rattle.zone_bytes.proofs.Places.AtPlace.{left-above}
 use Rattle.zone_bytes.proofs.Places.Stepped.{left-none}
 use Rattle.zone_bytes.proofs.Tiles.Tiling.{span-append}
+use Rattle.zone_summary.specs.declared.stretch.Counting.{Counting}
 use Rattle.zone_summary.specs.declared.stretch.Stretch.{Stretch}
 
 -- an edge is one of those behind a piece that ends there
@@ -89,9 +90,10 @@ module _ (xs : List ℕ) (first unused : ℕ) (i : IsSound xs first unused) wher
           (let a = span-append s.below r.below in let k = s.low in let u = r.low in omega (arith, a, k, u))))
 
   -- what is known of the blocks from an edge on up to a landmark, up to an edge below it
-  pub stretch-at : (t : Tally) (at to next : ℕ) → Begins at 0 (zone_in xs) → IsTally t (between at to 0 (zone_in xs))
-      → Begins next 0 (zone_in xs) → at ≤ next → next ≤ to → (next ≡ to) ⊎ (next ≡ length xs) → IsStretch t at next xs
-  stretch-at t at to next b k e r h o = (p.0, p.1, alike-as t p.0 _ (alike-back _ p.0 same) k)
+  pub stretch-at : (w : Counting) (t : Tally) (at to next : ℕ) → Begins at 0 (zone_in xs)
+      → IsTally w t (between at to 0 (zone_in xs)) → Begins next 0 (zone_in xs) → at ≤ next → next ≤ to
+      → (next ≡ to) ⊎ (next ≡ length xs) → IsStretch w t at next xs
+  stretch-at w t at to next b k e r h o = (p.0, p.1, tally-as w t p.0 _ (alike-back _ p.0 same) k)
     where
       p : (here : List Block) × IsPiece at next xs here
       p = piece-of at next b e r
@@ -119,12 +121,12 @@ module _ (xs : List ℕ) (first unused : ℕ) (i : IsSound xs first unused) wher
     pub mark-edge : Begins (get_or marks index no_mark).at 0 (zone_in xs)
     mark-edge = knows.0
 
-    pub stretch-of : (next : ℕ) → Begins next 0 (zone_in xs) → (get_or marks index no_mark).at ≤ next
+    pub stretch-of : (w : Counting) (next : ℕ) → Begins next 0 (zone_in xs) → (get_or marks index no_mark).at ≤ next
         → next ≤ next_of 4294967295 (drop (index + 1) marks)
         → (next ≡ next_of 4294967295 (drop (index + 1) marks)) ⊎ (next ≡ length xs)
-        → IsStretch (get_or marks index no_mark).tally (get_or marks index no_mark).at next xs
-    stretch-of next e r h o = stretch-at (get_or marks index no_mark).tally (get_or marks index no_mark).at
-        (next_of 4294967295 (drop (index + 1) marks)) next mark-edge knows.2 e r h o
+        → IsStretch w (told w (get_or marks index no_mark).tally) (get_or marks index no_mark).at next xs
+    stretch-of w next e r h o = stretch-at w (told w (get_or marks index no_mark).tally) (get_or marks index no_mark).at
+        (next_of 4294967295 (drop (index + 1) marks)) next mark-edge (knows.2 w) e r h o
 
   -- where the search past a landmark's stretch comes to: the next landmark, or the zone's end
   pub bounded-edge : (marks : List Landmark) → AreMarks 4294967295 (zone_in xs) marks → (index next end : ℕ) → end ≡ length xs
@@ -157,12 +159,12 @@ module _ (xs : List ℕ) (first unused : ℕ) (i : IsSound xs first unused) wher
       let k : next ≡ 4294967295 = q ∙ ap (next_of 4294967295) (drop_all index marks l) in absurd (omega (arith, k, h, e, m))
 
   -- so the stretch of a landmark is known up to there
-  pub next-stretch : (marks : List Landmark) (a : AreMarks 4294967295 (zone_in xs) marks) (index next end : ℕ)
+  pub next-stretch : (w : Counting) (marks : List Landmark) (a : AreMarks 4294967295 (zone_in xs) marks) (index next end : ℕ)
       → index < length marks → end ≡ length xs
       → (next ≡ next_of 4294967295 (drop (index + 1) marks)) ⊎ (next ≡ end) → next ≤ end
       → next ≤ next_of 4294967295 (drop (index + 1) marks)
-      → IsStretch (get_or marks index no_mark).tally (get_or marks index no_mark).at next xs
-  next-stretch marks a index next end l e o h least = stretch-of marks a index l next
+      → IsStretch w (told w (get_or marks index no_mark).tally) (get_or marks index no_mark).at next xs
+  next-stretch w marks a index next end l e o h least = stretch-of marks a index l w next
       (bounded-edge marks a (index + 1) next end e o h)
       (elim o [
         | inl q ↦ let r = mark-rises marks a index l in omega (arith, q, r)
@@ -173,12 +175,12 @@ module _ (xs : List ℕ) (first unused : ℕ) (i : IsSound xs first unused) wher
       ])
 
   -- and so are the stretches of a group
-  pub group-stretch : (marks : List Landmark) → AreMarks 4294967295 (zone_in xs) marks → (low : ℕ) (t : Tally)
+  pub group-stretch : (w : Counting) (marks : List Landmark) → AreMarks 4294967295 (zone_in xs) marks → (low : ℕ) (t : Tally)
       → low < length marks
-      → ((runs : Stretch) → t ≡ tally.Known runs → tally_of (take GROUP (drop low marks)) ≡ tally.Known runs)
-      → (next : ℕ) → IsBefore (low + GROUP) marks xs next → IsStretch t (get_or marks low no_mark).at next xs
-  group-stretch marks a low t l known next b =
-      stretch-at t m.at to next (mark-edge marks a low l) (tells t known)
+      → ((runs : Stretch) → t ≡ tally.Known runs → tally_of w (take GROUP (drop low marks)) ≡ tally.Known runs)
+      → (next : ℕ) → IsBefore (low + GROUP) marks xs next → IsStretch w t (get_or marks low no_mark).at next xs
+  group-stretch w marks a low t l known next b =
+      stretch-at w t m.at to next (mark-edge marks a low l) (tells t known)
       (bounded-edge marks a (low + GROUP) next (length xs) refl b.either b.low) rises b.least b.either
     where
       m : Landmark
@@ -198,11 +200,11 @@ module _ (xs : List ℕ) (first unused : ℕ) (i : IsSound xs first unused) wher
       at-first : next_of to part ≡ m.at
       at-first = ap (λ k. next_of to (take GROUP k)) (drop_more marks low no_mark l)
 
-      tells : (t : Tally) → ((runs : Stretch) → t ≡ tally.Known runs → tally_of part ≡ tally.Known runs)
-          → IsTally t (between m.at to 0 (zone_in xs))
+      tells : (t : Tally) → ((runs : Stretch) → t ≡ tally.Known runs → tally_of w part ≡ tally.Known runs)
+          → IsTally w t (between m.at to 0 (zone_in xs))
       tells (tally.Known runs) f =
-          subst (λ k. IsTally k (between m.at to 0 (zone_in xs))) (f runs refl)
-          (subst (λ p. IsTally (tally_of part) (between p to 0 (zone_in xs))) at-first (group-tally to (zone_in xs) part are))
+          subst (λ k. IsTally w k (between m.at to 0 (zone_in xs))) (f runs refl)
+          (subst (λ p. IsTally w (tally_of w part) (between p to 0 (zone_in xs))) at-first (group-tally w to (zone_in xs) part are))
       tells tally.Unknown f = tt
 
       rises : m.at ≤ next

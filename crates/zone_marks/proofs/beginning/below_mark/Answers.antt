@@ -5,6 +5,7 @@ use Rattle.zone_marks.proofs.Searches.Passed.{passed-fits, passed-none, ready-be
 use Rattle.zone_marks.proofs.Searches.Pieces.{mark-edge, mark-rises, stretch-of}
 use Rattle.zone_marks.proofs.beginning.below_mark.Goals as goal
 use Rattle.zone_summary.specs.Stretches.{load, prefix, suffix}
+use Rattle.zone_summary.specs.declared.stretch.Counting.TheVariants.{Runs}
 use Rattle.zone_summary.specs.declared.stretch.Stretch.TheVariants.{Whole}
 use Rattle.zone_bytes.specs.Lawful.{IsSound}
 use Rattle.zone_marks.specs.Marks.{AreMarks}
@@ -23,20 +24,20 @@ loop-index-init c = let xs = c.args.part.now.bytes in
 -- the stretch of a landmark that is not the last
 piece : (xs : List _) (first unused : _) (i : IsSound xs first unused) (marks : List Landmark)
     (a : AreMarks above_all (zone_in xs) marks) (index last : _) (runs : Stretch) → last < length marks → index < last
-    → (get_or marks index no_mark).tally ≡ tally.Known runs
-    → IsStretch (tally.Known runs) (get_or marks index no_mark).at (get_or marks (index + 1) no_mark).at xs
+    → (get_or marks index no_mark).tally.runs ≡ tally.Known runs
+    → IsStretch Runs (tally.Known runs) (get_or marks index no_mark).at (get_or marks (index + 1) no_mark).at xs
 piece xs first unused i marks a index last runs l h t =
     let f = mark-first above_all marks (index + 1) no_mark (omega (arith, l, h)) in
     let r = mark-rises xs first unused i marks a index (omega (arith, l, h)) in
-    subst (λ t. IsStretch t (get_or marks index no_mark).at (get_or marks (index + 1) no_mark).at xs) t
-    (stretch-of xs first unused i marks a index (omega (arith, l, h)) (get_or marks (index + 1) no_mark).at
+    subst (λ t. IsStretch Runs t (get_or marks index no_mark).at (get_or marks (index + 1) no_mark).at xs) t
+    (stretch-of xs first unused i marks a index (omega (arith, l, h)) Runs (get_or marks (index + 1) no_mark).at
     (mark-edge xs first unused i marks a (index + 1) (omega (arith, l, h))) (omega (arith, f, r)) (omega (arith, f))
     (inl (sym f)))
 
 -- no sum is too high
 fits : (xs : List _) (first unused : _) (i : IsSound xs first unused) (marks : List Landmark)
     (a : AreMarks above_all (zone_in xs) marks) (index last : _) (runs : Stretch) (below : Passed) → last < length marks
-    → index < last → (get_or marks index no_mark).tally ≡ tally.Known runs
+    → index < last → (get_or marks index no_mark).tally.runs ≡ tally.Known runs
     → IsPassed (begun 0 0) (get_or marks index no_mark).at xs below
     → (suffix below.runs + prefix runs < 2 ^ 32) × (below.free + load runs < 2 ^ 32)
 fits xs first unused i marks a index last runs below l h t q =

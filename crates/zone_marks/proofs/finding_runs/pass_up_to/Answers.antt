@@ -1,5 +1,6 @@
 use Rattle.std.proofs.Common.{length, refl, subst}
 use Rattle.zone_marks.specs.Searching.{IsBefore, IsStretch}
+use Rattle.zone_summary.specs.declared.stretch.Counting.TheVariants.{Runs}
 use Rattle.zone_marks.proofs.Searches.Passed.{passed-fits}
 use Rattle.zone_marks.proofs.Searches.Pieces.{before, bounded-edge, bounded-end, bounded-mark}
 use Rattle.zone_marks.proofs.finding_runs.pass_up_to.Goals as goal
@@ -20,7 +21,7 @@ pass_stretch-requires c = record {
       let d = (goal.at.pass_stretch-requires c).After-within-next in
       let h = c.requires.come.1 in
       passed-fits xs i.0 i.1 i.2 c.requires.come.0 h.ready c.args.reached.at c.within-next.result c.args.reached.passed h.passed
-      runs (subst (λ t. IsStretch t c.args.reached.at c.within-next.result xs) e
+      runs (subst (λ t. IsStretch Runs t c.args.reached.at c.within-next.result xs) e
       (c.requires.stretch c.within-next.result (up-to d)));
 }
 

@@ -3,6 +3,9 @@ use Rattle.block_store.specs.Block.{sizes}
 use Rattle.block_store.specs.Compact.{largest_free}
 use Rattle.block_store.specs.Sparing.{purged}
 use Rattle.block_store.specs.declared.sparing.Sparing.TheVariants as sparing
+use Rattle.zone_bytes.specs.Decode.{zone_in}
+use Rattle.zone_summary.proofs.Fewest.{purged-most}
+use Rattle.zone_marks.proofs.Bounds.Fewest.{most-fits}
 use Rattle.zone_marks.proofs.Bounds.Space.{largest-from}
 use Rattle.zone_marks.proofs.Marks.Lowering.{begins-way}
 use Rattle.zone_marks.proofs.Marks.Sought.{left-fits}
@@ -32,3 +35,13 @@ returns c =
       | inl e ↦ omega (arith, f, s, a, u, v, e)
       | inr e ↦ omega (arith, f, s, a, u, v, e)
     ]
+
+-- as many purges as a zone can have blocks
+pub returns-then-purges-ge-GREATEST_ZONE : goal.returns-then-purges-ge-GREATEST_ZONE
+returns-then-purges-ge-GREATEST_ZONE c =
+    let i = c.requires.sound in
+    let xs = c.args.part.now.bytes in
+    let m = most-fits xs i.0 i.1 i.2 sparing.Nothing in
+    let t = c.if-purges-ge-GREATEST_ZONE.true in
+    c.largest_space_by_marks.ensures ∙ sym (ap largest_free (purged-most c.args.purges sparing.Nothing (zone_in xs)
+    (omega (arith, m, t))))

@@ -1,6 +1,5 @@
 use Rattle.std.proofs.Common.{◌/◌, refl, arith}
-use Rattle.zone_marks.proofs.Marks.Groups.{group-raised}
-use Rattle.zone_marks.specs.declared.landmark.Tally.TheVariants as tally
+use Rattle.zone_marks.proofs.Marks.Groups.{group-raised, unknown}
 use Rattle.zone_marks.proofs.grouping.raise_group.Goals as goal
 
 pub returns : goal.returns
@@ -10,5 +9,5 @@ returns c = λ marks mark l a.
     let f = g.first in
     let s = g.second in
     group-raised c.args.groups.now marks (c.args.index / 16) c.args.index
-    (record { most = c.greater.result; tally = tally.Unknown }) mark a (omega (arith, r)) (omega arith) (omega arith)
+    (record { most = c.greater.result; tally = unknown }) mark a (omega (arith, r)) (omega arith) (omega arith)
     (omega (arith, f)) (omega (arith, s, l)) refl

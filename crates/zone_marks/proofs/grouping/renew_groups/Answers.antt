@@ -4,10 +4,10 @@ use Rattle.zone_marks.proofs.Marks.Tallies.{loads-part}
 use Rattle.zone_marks.proofs.grouping.renew_groups.Goals as goal
 
 pub group_of-requires : goal.group_of-requires
-group_of-requires c =
+group_of-requires c = λ w.
     let g = c.loop-group.group in
-    let l = loads-part c.args.marks.now (g * 16) (g * 16 + 16 - g * 16) in
-    let f = c.requires.fits in
+    let l = loads-part w c.args.marks.now (g * 16) (g * 16 + 16 - g * 16) in
+    let f = c.requires.fits w in
     omega (arith, l, f)
 
 pub loop-group-preserved : goal.loop-group-preserved

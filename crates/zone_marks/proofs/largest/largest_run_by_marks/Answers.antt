@@ -5,9 +5,9 @@ use Rattle.zone_marks.proofs.Marks.Passing.{begins-here}
 use Rattle.zone_bytes.proofs.Places.AtPlace.{left-zone}
 use Rattle.zone_marks.proofs.largest.largest_run_by_marks.Goals as goal
 
-pub runs_above-requires-clause-begins : goal.runs_above-requires-clause-begins
-runs_above-requires-clause-begins c = begins-here 0 (zone_in c.args.part.now.bytes)
+pub stretch_above-requires-clause-begins : goal.stretch_above-requires-clause-begins
+stretch_above-requires-clause-begins c = begins-here 0 (zone_in c.args.part.now.bytes)
 
 pub returns : goal.returns
 returns c = c.best.ensures.largest (zone_in c.args.part.now.bytes)
-    (c.runs_above.ensures.all refl ∙ ap stretch_of (left-zone c.args.part.now.bytes))
+    (c.stretch_above.ensures.all refl ∙ ap stretch_of (left-zone c.args.part.now.bytes))

@@ -1,5 +1,6 @@
-use Rattle.std.proofs.Common.{◌≡◌, ◌*◌, ◌/◌, get_or, length, take, drop, refl, subst, arith}
-use Rattle.zone_marks.specs.Marks.{no_group, tally_of}
+use Rattle.std.proofs.Common.{◌≡◌, ◌*◌, ◌/◌, get_or, length, take, drop, refl, sym, ◌∙◌, subst, arith}
+use Rattle.zone_marks.specs.Marks.{no_mark, tally_of}
+use Rattle.zone_marks.specs.Searching.{IsStretch}
 use Rattle.zone_marks.specs.declared.landmark.TheConstants.{GROUP}
 use Rattle.zone_marks.specs.declared.landmark.Tally.TheVariants as tally
 use Rattle.zone_marks.proofs.Searches.Pieces.{group-stretch, next-stretch}
@@ -14,14 +15,15 @@ returns-in-Known-clause-stretch c = λ next b.
     let w = c.requires.groups.whole in
     let z = c.if-index-eq0.true in
     let e : GROUP * (low / 16) ≡ low = omega (arith, z) in
-    let t = (get_or c.args.groups.now (low / 16) no_group).tally in
-    group-stretch xs i.0 i.1 i.2 c.args.marks.now c.requires.marks low t l
-    (λ runs f. subst (λ n. tally_of (take GROUP (drop n c.args.marks.now)) ≡ tally.Known runs) e
-    (c.requires.groups.known (low / 16) runs (omega (arith, l, w)) f)) next b
+    let how = c.args.counting in
+    group-stretch xs i.0 i.1 i.2 how c.args.marks.now c.requires.marks low c.told-tally.result l
+    (λ s f. subst (λ n. tally_of how (take GROUP (drop n c.args.marks.now)) ≡ tally.Known s) e
+    (c.requires.groups.known how (low / 16) s (omega (arith, l, w)) (sym c.told-tally.ensures ∙ f))) next b
 
 pub returns-clause-stretch : goal.returns-clause-stretch
 returns-clause-stretch c = λ next b.
     let i = c.requires.sound in
     let xs = c.args.part.now.bytes in
-    next-stretch xs i.0 i.1 i.2 c.args.marks.now c.requires.marks c.args.index next (length xs) c.requires.inside refl
-    b.either b.low b.least
+    subst (λ t. IsStretch c.args.counting t (get_or c.args.marks.now c.args.index no_mark).at next xs) (sym c.told.ensures)
+    (next-stretch xs i.0 i.1 i.2 c.args.counting c.args.marks.now c.requires.marks c.args.index next (length xs)
+    c.requires.inside refl b.either b.low b.least)

@@ -1,7 +1,7 @@
 use Rattle.std.proofs.Common.{◌≡◌, ℕ, ◌≤◌, ◌⊎◌, inl, inr, refl, sym, subst, arith}
 use Rattle.zone_bytes.specs.Decode.{zone_in}
 use Rattle.zone_bytes.specs.Changes.{AtEach}
-use Rattle.zone_marks.specs.Marks.{AtMost, IsTally, Lowered, between}
+use Rattle.zone_marks.specs.Marks.{AtMost, AreTold, Lowered, between}
 use Rattle.zone_marks.proofs.Marks.Between.{alike-as}
 use Rattle.zone_marks.proofs.Marks.Lowering.{begins-way, bound-here, bound-lowered, tally-here, apart-alike}
 use Rattle.zone_marks.proofs.marking.changed_mark.Goals as goal
@@ -40,7 +40,7 @@ returns-then-hi-mark c =
             | inl h ↦ omega (arith, a, h)
             | inr l ↦ absurd (omega (arith, b, l, same))
           ]) e;
-      tally = λ old z t. subst (λ k. IsTally c.args.mark.tally (between at k 0 new)) (sym same)
+      tally = λ old z t. subst (λ k. AreTold c.args.mark.tally (between at k 0 new)) (sym same)
           (alike-as c.args.mark.tally _ _ (apart-alike lo hi old new z c.requires.ordered at next apart) t);
     }
 
@@ -59,7 +59,7 @@ returns-then-walks-clause-bound c = λ old z e.
 
 pub returns-then-walks-clause-tally : goal.returns-then-walks-clause-tally
 returns-then-walks-clause-tally c = λ old z e.
-    subst (λ p. IsTally c.measured_mark.result.tally (between p c.args.above 0 (zone_in c.args.part.now.bytes)))
+    subst (λ p. AreTold c.measured_mark.result.tally (between p c.args.above 0 (zone_in c.args.part.now.bytes)))
     (sym c.measured_mark.ensures.at)
     (tally-here c.args.part.now.bytes c.requires.sound.0 c.requires.sound.1 c.requires.sound.2
     c.measured_mark.result.tally c.lowered_mark-at.result c.args.above

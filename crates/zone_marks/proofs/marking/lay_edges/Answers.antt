@@ -1,7 +1,7 @@
 use Rattle.std.proofs.Common.{◌+◌, ◌<◌, inl, inr, length, length-set, take, subst, sym, arith}
 use Rattle.zone_bytes.specs.Decode.{zone_in}
 use Rattle.zone_bytes.specs.Changes.{AtEach, Begins}
-use Rattle.zone_marks.specs.Marks.{AtMost, AreMarks, IsTally, between}
+use Rattle.zone_marks.specs.Marks.{AtMost, AreMarks, AreTold, between}
 use Rattle.zone_marks.proofs.Marks.Edges.{edge-begins, edge-bare}
 use Rattle.zone_marks.proofs.Marks.Lowering.{marks-next, marks-left}
 use Rattle.zone_marks.proofs.marking.lay_edges.Goals as goal
@@ -27,7 +27,7 @@ loop-next-preserved c =
             (subst (λ k. AreMarks k zone (take c.loop-next.next.index c.loop-next.marks)) (sym at) v.0.below)
             (subst (λ k. Begins k 0 zone) (sym at) (v.0.begins (omega (arith, inside))))
             (subst (λ k. AtEach (AtMost m.most k edge) 0 zone) (sym at) c.packed_mark-mark.ensures.bound)
-            (subst (λ k. IsTally m.tally (between k edge 0 zone)) (sym at) c.packed_mark-mark.ensures.tally)
+            (subst (λ k. AreTold m.tally (between k edge 0 zone)) (sym at) c.packed_mark-mark.ensures.tally)
             (let f = c.greater-edge.ensures.first in omega (arith, f, at));
         above = marks-left 4294967295 zone c.loop-next.marks c.loop-next.next.index m (omega (arith, inside)) v.0.above;
         inside = omega (arith, long, inside);

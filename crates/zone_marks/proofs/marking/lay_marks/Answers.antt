@@ -1,7 +1,8 @@
 use Rattle.std.proofs.Common.{◌+◌, length, length-set, refl, sym, ◌∙◌, arith}
 use Rattle.zone_bytes.specs.Decode.{zone_in}
 use Rattle.zone_marks.specs.Marks.{no_mark}
-use Rattle.zone_marks.specs.declared.landmark.Tally.TheVariants as tally
+use Rattle.zone_bytes.specs.Stepping.{left_in}
+use Rattle.zone_marks.proofs.Marks.Between.{measured-told}
 use Rattle.zone_marks.proofs.Marks.Lowering.{begins-way, begins-further, bound-here, tally-here, marks-whole, marks-next}
 use Rattle.zone_marks.proofs.Marks.Lowering.{marks-left, mark-first, equal-yes, equal-no}
 use Rattle.zone_marks.proofs.marking.lay_marks.Goals as goal
@@ -38,13 +39,15 @@ loop-index-preserved c =
     let b = v.4 (omega (arith, l)) in
     let s = c.stretch_from-stretch in (
       length-set c.loop-index.marks c.loop-index.index _ ∙ n,
-      c.raise_group.ensures c.loop-index.marks (record { at = c.loop-index.at; most = s.result.most; tally = tally.Known s.result.runs })
+      c.raise_group.ensures c.loop-index.marks (record { at = c.loop-index.at; most = s.result.most; tally = c.told.result })
           (omega arith) v.1,
       marks-next (zone_in xs) c.loop-index.marks c.loop-index.index s.result.edge
-          (record { at = c.loop-index.at; most = s.result.most; tally = tally.Known s.result.runs })
+          (record { at = c.loop-index.at; most = s.result.most; tally = c.told.result })
           (omega (arith, l, n)) v.2 b
           (bound-here xs i.0 i.1 i.2 s.result.most c.loop-index.at s.result.edge b s.ensures.measured.most)
-          (tally-here xs i.0 i.1 i.2 (tally.Known s.result.runs) c.loop-index.at s.result.edge b s.ensures.measured.runs)
+          (tally-here xs i.0 i.1 i.2 c.told.result c.loop-index.at s.result.edge b
+          (measured-told c.loop-index.at s.result.edge c.loop-index.at (left_in c.loop-index.at xs) s.result c.told.result
+          c.told.ensures s.ensures.measured))
           s.ensures.order,
       marks-left 4294967295 (zone_in xs) c.loop-index.marks c.loop-index.index _ (omega (arith, l, n)) v.3,
       λ k. begins-further xs i.0 i.1 i.2 c.loop-index.at s.result.edge b (s.ensures.edge

@@ -23,5 +23,5 @@ returns c =
     no-groups = record {
       whole = refl;
       each = λ group index l h m. absurd (omega (arith, m));
-      known = λ group runs l e. absurd (omega (arith, l));
+      known = λ w group runs l e. absurd (omega (arith, l));
     }

@@ -4,12 +4,11 @@ use Rattle.zone_bytes.specs.Table.{slot_in}
 use Rattle.zone_marks.specs.Marks.{AreMarks, AreGroups}
 use Rattle.zone_marks.specs.declared.landmark.Group.{Group}
 use Rattle.zone_marks.specs.declared.landmark.Landmark.{Landmark}
-use Rattle.zone_marks.specs.declared.landmark.Tally.TheVariants as tally
 use Rattle.zone_marks.proofs.Bounds.Going.{stays-above}
 use Rattle.zone_bytes.proofs.Laws.Lawful.{sizes-length}
 use Rattle.zone_bytes.proofs.Places.AtPlace.{on-way}
 use Rattle.zone_marks.proofs.Marks.Lowering.{unlaid-marks}
-use Rattle.zone_marks.proofs.Marks.Groups.{same-groups}
+use Rattle.zone_marks.proofs.Marks.Groups.{same-groups, unknown}
 use Rattle.zone_marks.proofs.keeping.Landmarks.unlaid.Goals as goal
 
 pub page_bytes-requires : goal.page_bytes-requires
@@ -22,16 +21,16 @@ returns c =
     let s = sizes-length xs (zone_in xs) (slot_in xs) i.unused i.lays in
     let m = i.lays.small in
     let count = c.groups_of-count.result in
-    let unknown : Landmark = record { at = 0; most = 4294967295; tally = tally.Unknown } in
+    let blank : Landmark = record { at = 0; most = 4294967295; tally = unknown } in
     let marks = c.in_ok-marks.marks.items in
     let groups = c.in_ok-groups.groups.items in
-    let none : Group = record { most = 4294967295; tally = tally.Unknown } in
-    let f : marks ≡ replicate (count * 16) unknown = c.in_ok-marks.ensures.items_if_clones_equal (λ y e. e) in
+    let none : Group = record { most = 4294967295; tally = unknown } in
+    let f : marks ≡ replicate (count * 16) blank = c.in_ok-marks.ensures.items_if_clones_equal (λ y e. e) in
     let g : groups ≡ replicate count none = c.in_ok-groups.ensures.items_if_clones_equal (λ y e. e) in (
       (
         subst (AreMarks 4294967295 (zone_in xs)) (sym f) (unlaid-marks (zone_in xs) (omega (arith, s, m)) (count * 16)),
-        subst (AreGroups groups) (sym f) (subst (λ t. AreGroups t (replicate (count * 16) unknown)) (sym g)
-            (same-groups (count * 16) count unknown (omega arith))),
+        subst (AreGroups groups) (sym f) (subst (λ t. AreGroups t (replicate (count * 16) blank)) (sym g)
+            (same-groups (count * 16) count blank (omega arith))),
       ),
       stays-above 0 0 (zone_in xs) (omega arith),
     )

@@ -4,19 +4,19 @@ use Rattle.zone_summary.proofs.Monoid.{joined-is}
 use Rattle.zone_summary.proofs.stretch.Stretch.join.Goals as goal
 
 pub returns-in-Whole-high-clause-blocks : goal.returns-in-Whole-high-clause-blocks
-returns-in-Whole-high-clause-blocks c = λ lower upper e d. joined-is lower upper _ _ _ refl (sym c.in-Whole.is ∙ e)
+returns-in-Whole-high-clause-blocks c = λ counting lower upper e d. joined-is counting lower upper _ _ _ refl (sym c.in-Whole.is ∙ e)
     (sym c.in-Whole-high.is ∙ d)
 
 pub returns-in-Ended-high-clause-blocks : goal.returns-in-Ended-high-clause-blocks
-returns-in-Ended-high-clause-blocks c = λ lower upper e d. joined-is lower upper _ _ _ refl (sym c.in-Whole.is ∙ e)
+returns-in-Ended-high-clause-blocks c = λ counting lower upper e d. joined-is counting lower upper _ _ _ refl (sym c.in-Whole.is ∙ e)
     (sym c.in-Ended-high.is ∙ d)
 
 pub returns-in-Whole-high-2-clause-blocks : goal.returns-in-Whole-high-2-clause-blocks
-returns-in-Whole-high-2-clause-blocks c = λ lower upper e d. joined-is lower upper _ _ _ refl (sym c.in-Ended.is ∙ e)
+returns-in-Whole-high-2-clause-blocks c = λ counting lower upper e d. joined-is counting lower upper _ _ _ refl (sym c.in-Ended.is ∙ e)
     (sym c.in-Whole-high-2.is ∙ d)
 
 pub returns-in-Ended-high-2-clause-blocks : goal.returns-in-Ended-high-2-clause-blocks
-returns-in-Ended-high-2-clause-blocks c = λ lower upper e d. joined-is lower upper _ _ _
+returns-in-Ended-high-2-clause-blocks c = λ counting lower upper e d. joined-is counting lower upper _ _ _
     (ap (λ n. Ended c.in-Ended.p n c.in-Ended-high-2.t) (c.greater-in-Ended-high-2.ensures
     ∙ ap (λ n. max n (c.in-Ended.s + c.in-Ended-high-2.q)) c.greater.ensures))
     (sym c.in-Ended.is ∙ e) (sym c.in-Ended-high-2.is ∙ d)

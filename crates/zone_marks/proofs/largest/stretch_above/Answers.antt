@@ -1,6 +1,6 @@
 use Rattle.std.proofs.Common.{◌≡◌, ◌⊎◌, ◌∙◌, ap, arith, drop, inl, inr, subst, sym}
-use Rattle.zone_summary.specs.Stretches.{join, load, prefix, stretch_of}
-use Rattle.zone_summary.proofs.Monoid.{join-assoc, join-unit_right}
+use Rattle.zone_summary.specs.Stretches.{join, load, prefix, stretch_by}
+use Rattle.zone_summary.proofs.Monoid.{counted-none, join-assoc, join-unit_right}
 use Rattle.zone_summary.proofs.Sums.{ends-load, load-join}
 use Rattle.zone_bytes.specs.Decode.{zone_in}
 use Rattle.zone_bytes.specs.Changes.{Begins}
@@ -11,8 +11,8 @@ use Rattle.zone_marks.proofs.Bounds.Fewest.{ended-lowest, known-fits, known-past
 use Rattle.zone_marks.proofs.Marks.Lowering.{begins-way}
 use Rattle.zone_bytes.proofs.Places.Stepped.{left-none}
 use Rattle.zone_marks.proofs.Searches.Pieces.{bounded-edge, bounded-end, before, bounded-mark, edge-within}
-use Rattle.zone_marks.proofs.largest.runs_above.Goals.{After-within-at, After-within-next, After-loop-index}
-use Rattle.zone_marks.proofs.largest.runs_above.Goals as goal
+use Rattle.zone_marks.proofs.largest.stretch_above.Goals.{After-within-at, After-within-next, After-loop-index}
+use Rattle.zone_marks.proofs.largest.stretch_above.Goals as goal
 
 -- the first landmark above the place
 first : (c : After-within-at) → (c.within-at.result ≡ next_of 4294967295 (drop c.index_above-index.result c.args.marks.now))
@@ -38,26 +38,26 @@ edge_next c = let i = c.requires.sound in
     c.within-next.result c.len-end.result c.len-end.ensures.count (next c) c.within-next.ensures.low
 
 stretch : (c : After-within-next)
-    → IsStretch c.told_from-told.result.tally c.loop-index.at c.within-next.result c.args.part.now.bytes
+    → IsStretch c.args.counting c.told_from-told.result.tally c.loop-index.at c.within-next.result c.args.part.now.bytes
 stretch c =
     let xs = c.args.part.now.bytes in
     let w = c.within-next.ensures in
-    subst (λ q. IsStretch c.told_from-told.result.tally q c.within-next.result xs)
+    subst (λ q. IsStretch c.args.counting c.told_from-told.result.tally q c.within-next.result xs)
     (sym (c.loop-index.invariant.here c.loop-index-test.true))
     (c.told_from-told.ensures.stretch c.within-next.result (before c.args.marks.now c.told_from-told.result.behind
     c.within-next.result c.place_of_mark-in-loop-index.result c.len-end.result xs c.place_of_mark-in-loop-index.ensures
     c.len-end.ensures.count w.one w.low w.least))
 
-pub runs_between-runs-requires-clause-ends : goal.runs_between-runs-requires-clause-ends
-runs_between-runs-requires-clause-ends c = edge_at (goal.at.runs_between-runs-requires-clause-ends c).After-within-at
+pub walked_between-stretch-requires-clause-ends : goal.walked_between-stretch-requires-clause-ends
+walked_between-stretch-requires-clause-ends c = edge_at (goal.at.walked_between-stretch-requires-clause-ends c).After-within-at
 
-pub runs_between-runs-requires-clause-order : goal.runs_between-runs-requires-clause-order
-runs_between-runs-requires-clause-order c =
+pub walked_between-stretch-requires-clause-order : goal.walked_between-stretch-requires-clause-order
+walked_between-stretch-requires-clause-order c =
     let i = c.requires.sound in
     let l = edge-within c.args.part.now.bytes i.0 i.1 i.2 c.args.from c.requires.begins in
     let a = c.index_above-index.ensures.above in
     let e = c.len-end.ensures.count in
-    elim (first (goal.at.runs_between-runs-requires-clause-order c).After-within-at) [
+    elim (first (goal.at.walked_between-stretch-requires-clause-order c).After-within-at) [
       | inl q ↦ omega (arith, q, a)
       | inr q ↦ omega (arith, q, l, e)
     ]
@@ -70,9 +70,9 @@ loop-index-init c =
     let p = c.place_of_mark.ensures in
     let t = c.within-at.ensures.least in
     record {
-      same = known-past xs c.args.from c.within-at.result c.runs_between-runs.result c.runs_between-runs.ensures;
+      same = known-past c.args.counting xs c.args.from c.within-at.result c.walked_between-stretch.result c.walked_between-stretch.ensures;
       inside = c.index_above-index.ensures.index;
-      few = omega (arith, known-fits xs c.args.from c.within-at.result c.runs_between-runs.result c.runs_between-runs.ensures);
+      few = omega (arith, known-fits c.args.counting xs c.args.from c.within-at.result c.walked_between-stretch.result c.walked_between-stretch.ensures);
       edge = edge_at d;
       here = bounded-mark xs i.0 i.1 i.2 c.args.marks.now c.requires.marks c.index_above-index.result
           c.within-at.result c.len-end.result c.len-end.ensures.count (first d) (omega (arith, p, t));
@@ -82,28 +82,28 @@ loop-index-init c =
 
 pub returns-then-suffices-clause-low : goal.returns-then-suffices-clause-low
 returns-then-suffices-clause-low c =
-    ended-lowest c.loop-index.runs (stretch_of (left_in c.loop-index.at c.args.part.now.bytes))
+    ended-lowest c.loop-index.stretch (stretch_by c.args.counting (left_in c.loop-index.at c.args.part.now.bytes))
     (c.suffices.ensures c.if-suffices.true).1 ∙ sym (ap prefix c.loop-index.invariant.same)
 
-pub runs_of-requires-clause-ends : goal.runs_of-requires-clause-ends
-runs_of-requires-clause-ends c = edge_next (goal.at.runs_of-requires-clause-ends c).After-within-next
+pub stretch_of_mark-requires-clause-ends : goal.stretch_of_mark-requires-clause-ends
+stretch_of_mark-requires-clause-ends c = edge_next (goal.at.stretch_of_mark-requires-clause-ends c).After-within-next
 
-pub runs_of-requires-clause-order : goal.runs_of-requires-clause-order
-runs_of-requires-clause-order c = let s = stretch (goal.at.runs_of-requires-clause-order c).After-within-next in
+pub stretch_of_mark-requires-clause-order : goal.stretch_of_mark-requires-clause-order
+stretch_of_mark-requires-clause-order c = let s = stretch (goal.at.stretch_of_mark-requires-clause-order c).After-within-next in
     let u = s.1.up in omega (arith, u)
 
-pub runs_of-requires-clause-stretch : goal.runs_of-requires-clause-stretch
-runs_of-requires-clause-stretch c = stretch (goal.at.runs_of-requires-clause-stretch c).After-within-next
+pub stretch_of_mark-requires-clause-stretch : goal.stretch_of_mark-requires-clause-stretch
+stretch_of_mark-requires-clause-stretch c = stretch (goal.at.stretch_of_mark-requires-clause-stretch c).After-within-next
 
-pub join-runs-requires : goal.join-runs-requires
-join-runs-requires c =
+pub join-stretch-requires : goal.join-stretch-requires
+join-stretch-requires c =
     let i = c.requires.sound in
     let xs = c.args.part.now.bytes in
     let m = i.2.lays.small in
     omega (
       arith,
-      ends-load c.loop-index.runs c.runs_of.result,
-      known-fits xs c.loop-index.at c.within-next.result c.runs_of.result c.runs_of.ensures,
+      ends-load c.loop-index.stretch c.stretch_of_mark.result,
+      known-fits c.args.counting xs c.loop-index.at c.within-next.result c.stretch_of_mark.result c.stretch_of_mark.ensures,
       m,
       c.loop-index.invariant.few,
       c.within-next.ensures.low,
@@ -118,18 +118,18 @@ loop-index-preserved c =
     let p = c.place_of_mark-in-loop-index.ensures in
     let t = c.within-next.ensures.least in
     let v = c.loop-index.invariant in
-    let rest = stretch_of (left_in c.within-next.result xs) in
+    let rest = stretch_by c.args.counting (left_in c.within-next.result xs) in
     record {
-      same = v.same ∙ ap (join c.loop-index.runs)
-          (known-past xs c.loop-index.at c.within-next.result c.runs_of.result c.runs_of.ensures)
-          ∙ sym (join-assoc c.loop-index.runs c.runs_of.result rest) ∙ ap (λ r. join r rest) (sym c.join-runs.ensures.is);
+      same = v.same ∙ ap (join c.loop-index.stretch)
+          (known-past c.args.counting xs c.loop-index.at c.within-next.result c.stretch_of_mark.result c.stretch_of_mark.ensures)
+          ∙ sym (join-assoc c.loop-index.stretch c.stretch_of_mark.result rest) ∙ ap (λ r. join r rest) (sym c.join-stretch.ensures.is);
       inside = c.told_from-told.ensures.inside;
       few = omega (
         arith,
-        load-join c.loop-index.runs c.runs_of.result,
-        ap load c.join-runs.ensures.is,
+        load-join c.loop-index.stretch c.stretch_of_mark.result,
+        ap load c.join-stretch.ensures.is,
         v.few,
-        known-fits xs c.loop-index.at c.within-next.result c.runs_of.result c.runs_of.ensures,
+        known-fits c.args.counting xs c.loop-index.at c.within-next.result c.stretch_of_mark.result c.stretch_of_mark.ensures,
       );
       edge = edge_next d;
       here = bounded-mark xs i.0 i.1 i.2 c.args.marks.now c.requires.marks c.told_from-told.result.behind
@@ -139,14 +139,14 @@ loop-index-preserved c =
     }
 
 -- no block is left behind the last landmark
-whole : (c : After-loop-index) → stretch_of (left_in c.args.from c.args.part.now.bytes) ≡ c.loop-index.runs
+whole : (c : After-loop-index) → stretch_by c.args.counting (left_in c.args.from c.args.part.now.bytes) ≡ c.loop-index.stretch
 whole c =
     let i = c.requires.sound in
     let xs = c.args.part.now.bytes in
     let v = c.loop-index.invariant in
-    v.same ∙ ap (λ l. join c.loop-index.runs (stretch_of l)) (left-none c.loop-index.at xs
+    v.same ∙ ap (λ l. join c.loop-index.stretch (stretch_by c.args.counting l)) (left-none c.loop-index.at xs
     (begins-way xs i.0 i.1 i.2 c.loop-index.at v.edge) (v.end c.loop-index-test.false))
-    ∙ join-unit_right c.loop-index.runs
+    ∙ ap (join c.loop-index.stretch) (counted-none c.args.counting) ∙ join-unit_right c.loop-index.stretch
 
 pub returns-clause-low : goal.returns-clause-low
 returns-clause-low c = sym (ap prefix (whole c))
