@@ -453,7 +453,7 @@ impl BlockStore for RawZone {
     fn set_flags(&mut self, place: u32, flags: Flags) {
         let given = purgeable_at(&self.part, place);
         flag_at(&mut self.part, place, flags);
-        self.marks.note_block(&self.part, place);
+        self.marks.note_flags(&self.part, place, flags);
         self.purgeable = purgeable_with(&self.part, place, self.purgeable, given);
     }
 

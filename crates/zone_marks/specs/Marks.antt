@@ -11,7 +11,7 @@ use Rattle.zone_marks.specs.declared.landmark.Tally.{Tally}
 use Rattle.zone_marks.specs.declared.landmark.Tally.TheVariants as tally
 use Rattle.zone_marks.specs.declared.measuring.Measured.{Measured}
 use Rattle.zone_marks.specs.declared.landmark.TheConstants.{GROUP}
-use Rattle.zone_summary.specs.Stretches.{join, spaces_of, stretch_by, stretch_of, load}
+use Rattle.zone_summary.specs.Stretches.{join, stretch_by, stretch_of, load}
 use Rattle.zone_summary.specs.declared.stretch.Counting.{Counting}
 use Rattle.zone_summary.specs.declared.stretch.Counting.TheVariants as counting
 use Rattle.zone_summary.specs.declared.stretch.Stretch.{Stretch}
@@ -52,11 +52,10 @@ abbrev pub AreTold : Tallies → List Block → Type 0
 AreTold t blocks = (c : Counting) → IsTally c (told c t) blocks
 
 -- What a walk finds of the blocks that begin from `lo` up to `hi`: a bound on each free block, and what the blocks come
--- to in runs and in spaces.
+-- to in runs.
 pub record Measures (lo hi at : ℕ) (zone : List Block) (m : Measured) : Type 0 where
   pub most : AtEach (AtMost m.most lo hi) at zone
   pub runs : stretch_of (between lo hi at zone) ≡ m.runs
-  pub spaces : spaces_of (between lo hi at zone) ≡ m.spaces
 
 -- Of blocks that are none it is known what they come to, in each way.
 abbrev pub nothing : Tallies

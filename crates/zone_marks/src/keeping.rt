@@ -21,28 +21,29 @@ use crate::fewest::{fewest_by_marks, fewest_for_block};
 use crate::finding_runs::{find_run_by_marks, find_run_purged};
 use crate::free_space::{largest_after_by_marks, largest_free_by_marks};
 use crate::going::{first_going, lowest_after, lowest_packed};
-use crate::landmark::{GROUP, Group, Landmark, UNKNOWN, UNKNOWN_GROUP};
+use crate::landmark::{GROUP, Group, Kept, Landmark, UNKNOWN, UNKNOWN_GROUP};
 use crate::largest::largest_run_by_marks;
 use crate::marking::{
     NextMark, change_marks, find_by_marks, lay_anew, lay_edges, mark_below, place_of_mark,
 };
 use crate::measuring::within;
 use crate::paging::{groups_of, page_bytes, page_end};
-use block_store::Sparing;
+use block_store::{Flags, Sparing};
 use raw_region::Part;
 use std::alloc::{AllocError, Global};
 use zone_bytes::{Edges, PackedRun, size_at};
 
 /// Landmarks of a zone: places at which blocks begin, one for each page of the zone's bytes. Each has a bound on the
-/// size of each free block up to the next landmark, and a tally of the blocks there: how many bytes are free, and
-/// whether a run ends there. Each group of landmarks has both of all its blocks. With them is kept a place below
-/// which no block may be purged. Landmarks lie in the host's memory, and can be thrown away and made anew at any time.
+/// size of each free block up to the next landmark, and tallies of the blocks there: what they come to in runs, and, from
+/// the first time on that a block may be purged, in spaces. Each group of landmarks has both of all its blocks. With them
+/// is kept a place below which no block may be purged. Landmarks lie in the host's memory, and can be thrown away and made anew at any time.
 #[derive(Drop)]
 pub struct Landmarks {
     marks: Vec<Landmark>,
     groups: Vec<Group>,
     page: u32,
     lowest: u32,
+    kept: Kept,
 }
 
 impl Landmarks {
@@ -71,6 +72,7 @@ impl Landmarks {
             groups: Vec::new(alloc),
             page: page_bytes(part),
             lowest: 0,
+            kept: Kept::Runs,
         }
     }
 
@@ -91,6 +93,7 @@ impl Landmarks {
             groups,
             page: page_bytes(part),
             lowest: 0,
+            kept: Kept::Runs,
         })
     }
 
@@ -132,6 +135,19 @@ impl Landmarks {
         ensures { AreOf self.new (zone_in part.now.bytes) }
     {
         self.lowest = first_going(part, self.start(), u32::MAX);
+    }
+
+    /// Makes the landmarks know what blocks come to in spaces, from now on, by a walk over the zone the first time.
+    fn keep_spaces(&mut self, part: &Part)
+        requires sound { (first : ℕ) × (unused : ℕ) × IsSound part.now.bytes first unused }
+        requires marks { AreOf self.old (zone_in part.now.bytes) }
+        ensures { AreOf self.new (zone_in part.now.bytes) }
+    {
+        if let Kept::Both = self.kept {
+            return;
+        }
+        self.kept = Kept::Both;
+        self.renew(part, 0, u32::MAX);
     }
 
     /// Returns a place below which no block may be purged after the run at `run` is packed.
@@ -276,7 +292,7 @@ impl Landmarks {
                 part,
                 lo,
                 hi,
-                true,
+                self.kept,
                 likely,
             );
         } else {
@@ -295,6 +311,19 @@ impl Landmarks {
         self.note(part, place, place + size);
     }
 
+    /// Renews the landmarks after the flags of the block at `place` became others. Once a block is purgeable, it is kept
+    /// what blocks come to in spaces.
+    pub fn note_flags(&mut self, part: &Part, place: u32, flags: Flags)
+        requires sound { (first : ℕ) × (unused : ℕ) × IsSound part.now.bytes first unused }
+        requires marks { (old : List Block) × Became place old (zone_in part.now.bytes) × AreOf self.old old }
+        ensures { AreOf self.new (zone_in part.now.bytes) }
+    {
+        self.note_block(part, place);
+        if flags.purgeable {
+            self.keep_spaces(part);
+        }
+    }
+
     /// Changes the landmarks after the blocks from `lo` to `hi` became others, without a walk over these blocks: no
     /// landmark stands strictly between `lo` and `hi` until `renew` is called.
     fn forget(&mut self, part: &Part, lo: u32, hi: u32)
@@ -311,7 +340,7 @@ impl Landmarks {
             part,
             lo,
             hi,
-            false,
+            Kept::Nothing,
             likely,
         );
     }
@@ -356,6 +385,7 @@ impl Landmarks {
             first,
             page,
             hi,
+            self.kept,
         );
     }
 
@@ -392,7 +422,15 @@ impl Landmarks {
         self.forget(part, lo, hi);
         let page = page_bytes(part);
         let from = self.next_at((lo / page) as usize);
-        let next = lay_edges(&mut self.marks, &mut self.groups, part, edges, base, from);
+        let next = lay_edges(
+            &mut self.marks,
+            &mut self.groups,
+            part,
+            edges,
+            base,
+            from,
+            self.kept,
+        );
         self.lay(part, next, from.index, page, hi);
     }
 

@@ -44,6 +44,17 @@ impl Tallies {
     }
 }
 
+/// What landmarks are to know of blocks that became others.
+#[derive(Clone, Copy, Drop)]
+pub enum Kept {
+    /// Nothing, so that the blocks needn't be walked over.
+    Nothing,
+    /// What the blocks come to in runs.
+    Runs,
+    /// What they come to in runs and in spaces.
+    Both,
+}
+
 /// A place at which a block begins, and what is known of the blocks that begin from there up to the next landmark: a
 /// bound on the size of each free block, and tallies of all blocks.
 #[derive(Clone, Copy, Drop)]

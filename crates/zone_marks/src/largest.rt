@@ -17,7 +17,7 @@ ghost use Rattle.zone_summary.specs.Stretches.{is_ended, prefix, stretch_by};
 
 use crate::landmark::{GROUP, Group, Landmark, Tally};
 use crate::marking::{index_above, place_of_mark};
-use crate::measuring::{measure_up_to, within};
+use crate::measuring::{measure_up_to, spaces_up_to, within};
 use raw_region::Part;
 use zone_summary::{Counting, Stretch};
 
@@ -29,10 +29,9 @@ fn walked_between(part: &Part, from: u32, to: u32, counting: Counting) -> Stretc
     requires order { from ≤ to }
     ensures { IsStretch counting (tally.Known result) from to part.now.bytes }
 {
-    let measured = measure_up_to(part, from, to);
     match counting {
-        Counting::Runs => measured.runs,
-        Counting::Spaces => measured.spaces,
+        Counting::Runs => measure_up_to(part, from, to).runs,
+        Counting::Spaces => spaces_up_to(part, from, to),
     }
 }
 

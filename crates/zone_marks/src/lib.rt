@@ -28,7 +28,7 @@ pub use freeing::{Freed, free_block, free_slot, free_up};
 pub use going::{count_purgeable, first_going, lowest_after, lowest_packed, next_purgeable};
 pub use grouping::{raise_group, renew_groups};
 pub use keeping::Landmarks;
-pub use landmark::{GROUP, Group, Landmark, Tallies, Tally};
+pub use landmark::{GROUP, Group, Kept, Landmark, Tallies, Tally};
 pub use largest::{Told, largest_run_by_marks, largest_space_by_marks};
 pub use marking::{NextMark, change_marks, find_by_marks, lay_anew, lay_edges, mark_below};
 pub use measuring::{Measured, measure_up_to, room_between};

@@ -10,13 +10,14 @@ ghost use Rattle.zone_bytes.specs.Edges.{ByEdges};
 ghost use Rattle.zone_bytes.specs.Lawful.{IsSound};
 ghost use Rattle.zone_bytes.specs.Changes.{AtEach, Begins, Replaced};
 ghost use Rattle.zone_marks.specs.Marks.{AtMost, NoRoom, NoneBelow, AreMarks, AreGroups, no_mark};
-ghost use Rattle.zone_marks.specs.Marks.{AreTold, Lowered, Measures, above_all, between, next_of};
+ghost use Rattle.zone_summary.specs.declared.stretch.Counting.TheVariants.{Spaces};
+ghost use Rattle.zone_marks.specs.Marks.{AreTold, IsTally, Lowered, Measures, above_all, between, next_of};
 ghost use Rattle.zone_bytes.specs.Stepping.{left_in, IsOnWay};
 ghost use Rattle.zone_marks.specs.declared.landmark.TheConstants.{GROUP};
 
 use crate::grouping::{raise_group, renew_groups};
-use crate::landmark::{GROUP, Group, Landmark, Tallies, Tally, UNKNOWN};
-use crate::measuring::{Measured, greater, measure_up_to, room_between};
+use crate::landmark::{GROUP, Group, Kept, Landmark, Tallies, Tally, UNKNOWN};
+use crate::measuring::{Measured, greater, measure_up_to, room_between, spaces_up_to};
 use crate::paging::page_end;
 use raw_region::Part;
 use zone_bytes::Edges;
@@ -148,8 +149,19 @@ fn lowered_mark(at: u32, lo: u32, hi: u32) -> u32
     if lo < at && at < hi { lo } else { at }
 }
 
-/// Makes a landmark at `at`, with what a walk up to `above` finds of the blocks between.
-fn measured_mark(part: &Part, at: u32, above: u32) -> Landmark
+/// Returns what the blocks from `at` up to `above` come to in spaces, if that is to be known.
+fn spaces_told(part: &Part, at: u32, above: u32, kept: Kept) -> Tally
+    requires { IsOnWay at part.now.bytes }
+    ensures { IsTally Spaces result (between at above at (left_in at part.now.bytes)) }
+{
+    match kept {
+        Kept::Both => Tally::Known(spaces_up_to(part, at, above)),
+        _ => Tally::Unknown,
+    }
+}
+
+/// Makes a landmark at `at`, with what is to be known of the blocks up to `above`, by walks over them.
+fn measured_mark(part: &Part, at: u32, above: u32, kept: Kept) -> Landmark
     requires { IsOnWay at part.now.bytes }
     ensures at { result.at ≡ at }
     ensures bound { AtEach (AtMost result.most at above) at (left_in at part.now.bytes) }
@@ -159,13 +171,15 @@ fn measured_mark(part: &Part, at: u32, above: u32) -> Landmark
     Landmark {
         at,
         most: stretch.most,
-        tally: stretch.told(),
+        tally: Tallies {
+            runs: Tally::Known(stretch.runs),
+            spaces: spaces_told(part, at, above, kept),
+        },
     }
 }
 
 /// Returns a landmark after the blocks from `lo` to `hi` became others; the next landmark stood at `next` and stands
-/// at `above`. If some of its own blocks became others, what is known of them is measured anew by a walk, or, unless
-/// `walks` is set, forgotten.
+/// at `above`. If some of its own blocks became others, what is to be known of them is measured anew by walks.
 fn changed_mark(
     mark: Landmark,
     next: u32,
@@ -173,7 +187,7 @@ fn changed_mark(
     part: &Part,
     lo: u32,
     hi: u32,
-    walks: bool,
+    kept: Kept,
 ) -> Landmark
     requires sound { (first : ℕ) × (unused : ℕ) × IsSound part.now.bytes first unused }
     requires ordered { lo ≤ hi }
@@ -192,13 +206,13 @@ fn changed_mark(
         return mark;
     }
     let at = lowered_mark(mark.at, lo, hi);
-    if walks {
-        return measured_mark(part, at, above);
-    }
-    Landmark {
-        at,
-        most: greater(mark.most, hi - lo),
-        tally: Tallies::UNKNOWN,
+    match kept {
+        Kept::Nothing => Landmark {
+            at,
+            most: greater(mark.most, hi - lo),
+            tally: Tallies::UNKNOWN,
+        },
+        _ => measured_mark(part, at, above, kept),
     }
 }
 
@@ -210,7 +224,7 @@ pub fn change_marks(
     part: &Part,
     lo: u32,
     hi: u32,
-    walks: bool,
+    kept: Kept,
     likely: usize,
 )
     requires sound { (first : ℕ) × (unused : ℕ) × IsSound part.now.bytes first unused }
@@ -227,7 +241,7 @@ pub fn change_marks(
     while first > 0 && lo <= above {
         first -= 1;
         let old = marks[first];
-        let mark = changed_mark(old, next, above, part, lo, hi, walks);
+        let mark = changed_mark(old, next, above, part, lo, hi, kept);
         marks[first] = mark;
         raise_group(groups, first, mark.most);
         above = mark.at;
@@ -251,7 +265,6 @@ fn stretch_from(part: &Part, at: u32, place: u32, last: bool) -> Measured
             edge: u32::MAX,
             most: whole.most,
             runs: whole.runs,
-            spaces: whole.spaces,
         }
     } else {
         measure_up_to(part, at, place)
@@ -268,7 +281,7 @@ pub struct NextMark {
 /// Makes a landmark at `at`, with what is known of the blocks up to `edge`: from `base` on these are relocatable
 /// blocks that lie packed, of which it isn't known what they come to in spaces, and below `base` they are measured by a
 /// walk.
-fn packed_mark(part: &Part, at: u32, edge: u32, base: u32) -> Landmark
+fn packed_mark(part: &Part, at: u32, edge: u32, base: u32, kept: Kept) -> Landmark
     requires sound { (first : ℕ) × (unused : ℕ) × IsSound part.now.bytes first unused }
     requires begins { Begins at 0 (zone_in part.now.bytes) }
     requires bare { base ≤ at → IsBare at edge (zone_in part.now.bytes) }
@@ -286,7 +299,7 @@ fn packed_mark(part: &Part, at: u32, edge: u32, base: u32) -> Landmark
             },
         };
     }
-    measured_mark(part, at, edge)
+    measured_mark(part, at, edge, kept)
 }
 
 /// Lays landmarks by the noted edges: the next landmark, with its stretch up to the first edge, and a landmark at each
@@ -299,6 +312,7 @@ pub fn lay_edges(
     edges: &Edges,
     base: u32,
     from: NextMark,
+    kept: Kept,
 ) -> NextMark
     requires sound { (first : ℕ) × (unused : ℕ) × IsSound part.now.bytes first unused }
     requires laid { AreLaid from.index from.at (zone_in part.now.bytes) marks.old }
@@ -315,7 +329,7 @@ pub fn lay_edges(
             break;
         };
         let edge = greater(next.at, place);
-        let mark = packed_mark(part, next.at, edge, base);
+        let mark = packed_mark(part, next.at, edge, base, kept);
         marks[next.index] = mark;
         raise_group(groups, next.index, mark.most);
         next = NextMark {
@@ -335,6 +349,7 @@ fn lay_marks(
     next: NextMark,
     page: u32,
     hi: u32,
+    kept: Kept,
 ) -> usize
     requires sound { (first : ℕ) × (unused : ℕ) × IsSound part.now.bytes first unused }
     requires laid { AreLaid next.index next.at (zone_in part.now.bytes) marks.old }
@@ -353,7 +368,10 @@ fn lay_marks(
         marks[index] = Landmark {
             at,
             most: stretch.most,
-            tally: stretch.told(),
+            tally: Tallies {
+                runs: Tally::Known(stretch.runs),
+                spaces: spaces_told(part, at, stretch.edge, kept),
+            },
         };
         raise_group(groups, index, stretch.most);
         at = stretch.edge;
@@ -372,6 +390,7 @@ pub fn lay_anew(
     first: usize,
     page: u32,
     hi: u32,
+    kept: Kept,
 )
     requires sound { (first : ℕ) × (unused : ℕ) × IsSound part.now.bytes first unused }
     requires laid { AreLaid next.index next.at (zone_in part.now.bytes) marks.old }
@@ -380,6 +399,6 @@ pub fn lay_anew(
     ensures groups { AreGroups groups.new marks.new }
     ensures long { length marks.new ≡ length marks.old }
 {
-    let end = lay_marks(marks, groups, part, next, page, hi);
+    let end = lay_marks(marks, groups, part, next, page, hi, kept);
     renew_groups(marks, groups, first, end);
 }

@@ -5,13 +5,12 @@ ghost use Rattle.std.specs.Prelude.{MatchOption, IfSome};
 ghost use Rattle.block_store.specs.Block.{Block};
 ghost use Rattle.heap_words.specs.Words.{word_at};
 ghost use Rattle.zone_bytes.specs.Changes.{AtEach, Begins};
-ghost use Rattle.zone_marks.specs.Marks.{NoRoom, Spans, RoomAt, Measures, gives_space};
-ghost use Rattle.zone_marks.specs.declared.landmark.Tally.TheVariants as tally;
+ghost use Rattle.zone_marks.specs.Marks as marks;
+ghost use Rattle.zone_marks.specs.Marks.{NoRoom, Spans, RoomAt, Measures, between};
 ghost use Rattle.zone_bytes.specs.Settling.{runs_on};
 ghost use Rattle.zone_bytes.specs.Stepping.{left_in, IsOnWay};
-ghost use Rattle.zone_summary.specs.Stretches.{counted, space};
+ghost use Rattle.zone_summary.specs.Stretches.{counted, space, spaces_of};
 
-use crate::landmark::{Tallies, Tally};
 use block_store::UNIT;
 use raw_region::Part;
 use zone_bytes::read_word;
@@ -35,13 +34,12 @@ pub fn greater(most: u32, bytes: u32) -> u32
     if most < bytes { bytes } else { most }
 }
 
-/// The end of a block, its free bytes, whether it ends a run, and what it comes to in spaces.
+/// The end of a block, its free bytes, and whether it ends a run.
 #[derive(Clone, Copy, Drop)]
 pub struct Span {
     pub end: u32,
     pub free: u32,
     pub barrier: bool,
-    pub spaces: Stretch,
 }
 
 impl Span {
@@ -78,36 +76,11 @@ fn ends_run_at(part: &Part, at: u32, tag: u32) -> bool
     read_word(part, at + 12) >= 128
 }
 
-/// Returns what the block at `at` comes to in spaces, by the number of its kind and its size: a free block adds its bytes
-/// to a space, and so does a relocatable block that is purgeable and not locked. The flags are read of a relocatable
-/// block only.
-fn spaces_at(part: &Part, at: u32, tag: u32, size: u32) -> Stretch
-    requires multiple { at % 4 ≡ 0 }
-    requires inside { at + 16 ≤ length part.now.bytes }
-    requires fits { at + 16 < 2 ^ 32 }
-    ensures { result ≡ counted (gives_space tag (word_at (at + 12) part.now.bytes)) size }
-{
-    if tag == 0 {
-        return Stretch::Whole(size);
-    }
-    if tag < 3 {
-        return Stretch::END;
-    }
-    let flags = read_word(part, at + 12);
-    if 64 <= flags && flags < 128 {
-        Stretch::Whole(size)
-    } else {
-        Stretch::END
-    }
-}
-
 /// Measures the block at a place.
 pub fn span_at(part: &Part, at: u32) -> Span
     requires way { IsOnWay at part.now.bytes }
     requires some { at < length part.now.bytes }
-    ensures spans { Spans at result.end result.free result.barrier part.now.bytes }
-    ensures spaces { (here : Block) (above : List Block) → left_in at part.now.bytes ≡ here ∷ above
-        → result.spaces ≡ space here }
+    ensures { Spans at result.end result.free result.barrier part.now.bytes }
 {
     let first = read_word(part, at);
     let tag = first % UNIT;
@@ -116,30 +89,63 @@ pub fn span_at(part: &Part, at: u32) -> Span
         end: at + size,
         free: free_by_tag(tag, size),
         barrier: ends_run_at(part, at, tag),
-        spaces: spaces_at(part, at, tag, size),
     }
 }
 
+/// Returns what the block at a place comes to in spaces: a free block adds its bytes to a space, and so does a relocatable
+/// block that is purgeable and not locked. The flags are read of a relocatable block only.
+fn space_at(part: &Part, at: u32) -> Stretch
+    requires way { IsOnWay at part.now.bytes }
+    requires some { at < length part.now.bytes }
+    ensures { (here : Block) (above : List Block) → left_in at part.now.bytes ≡ here ∷ above → result ≡ space here }
+{
+    let first = read_word(part, at);
+    let tag = first % UNIT;
+    if gives_space(part, at, tag) {
+        Stretch::Whole(first - tag)
+    } else {
+        Stretch::END
+    }
+}
+
+/// Reports whether the block at `at` is free, or would be if it were purged, by the number of its kind.
+fn gives_space(part: &Part, at: u32, tag: u32) -> bool
+    requires multiple { at % 4 ≡ 0 }
+    requires inside { at + 16 ≤ length part.now.bytes }
+    requires fits { at + 16 < 2 ^ 32 }
+    ensures { result ≡ marks.gives_space tag (word_at (at + 12) part.now.bytes) }
+{
+    if tag < 3 {
+        return tag == 0;
+    }
+    let flags = read_word(part, at + 12);
+    64 <= flags && flags < 128
+}
+
+/// Walks from one place to the first block that begins at or above another, or to the zone's end, and returns what the
+/// blocks come to in spaces.
+pub fn spaces_up_to(part: &Part, from: u32, place: u32) -> Stretch
+    requires { IsOnWay from part.now.bytes }
+    ensures { spaces_of (between from place from (left_in from part.now.bytes)) ≡ result }
+{
+    let stop = within(place, part.len() as u32);
+    let mut spaces = Stretch::NONE;
+    let mut at = from;
+    while at < stop {
+        let span = span_at(part, at);
+        spaces = spaces.join(space_at(part, at));
+        at = span.end;
+    }
+    spaces
+}
+
 /// The result of a walk from a place: where the walk ended, the size of the largest free block that it passed, and what
-/// the blocks that it passed come to in runs and in spaces.
+/// the blocks that it passed come to in runs.
 #[derive(Clone, Copy, Drop)]
 pub struct Measured {
     pub edge: u32,
     pub most: u32,
     pub runs: Stretch,
-    pub spaces: Stretch,
-}
-
-impl Measured {
-    /// Returns what is known of the blocks that the walk passed.
-    pub fn told(self) -> Tallies
-        ensures { result ≡ record { runs = tally.Known self.runs; spaces = tally.Known self.spaces } }
-    {
-        Tallies {
-            runs: Tally::Known(self.runs),
-            spaces: Tally::Known(self.spaces),
-        }
-    }
 }
 
 /// Walks from one place to the first block that begins at or above another, or to the zone's end.
@@ -153,20 +159,17 @@ pub fn measure_up_to(part: &Part, from: u32, place: u32) -> Measured
     let stop = within(place, part.len() as u32);
     let mut most = 0;
     let mut runs = Stretch::NONE;
-    let mut spaces = Stretch::NONE;
     let mut at = from;
     while at < stop {
         let span = span_at(part, at);
         most = greater(most, span.free);
         runs = runs.join(span.runs());
-        spaces = spaces.join(span.spaces);
         at = span.end;
     }
     Measured {
         edge: at,
         most,
         runs,
-        spaces,
     }
 }
 

@@ -1,7 +1,5 @@
 -- The blocks that may be purged below a run, counted from an edge of a zone below which none may be.
 use Rattle.zone_summary.specs.declared.stretch.Counting.{Counting}
-use Rattle.zone_marks.specs.Marks.{AreTold, told}
-use Rattle.zone_marks.specs.declared.landmark.Tallies.{Tallies}
 use Rattle.zone_summary.specs.Stretches.{stretch_by}
 use Rattle.zone_summary.proofs.Monoid.{stretch_by-append}
 use Rattle.zone_summary.proofs.Sums.{load-counted}
@@ -25,7 +23,8 @@ use Rattle.zone_summary.proofs.Fewest.{count-few, count-past, opened-append}
 use Rattle.zone_bytes.specs.Decode.{zone_in}
 use Rattle.zone_bytes.specs.Lawful.{IsSound}
 use Rattle.zone_bytes.specs.Changes.{AtEach, Begins}
-use Rattle.zone_marks.specs.Marks.{between}
+use Rattle.zone_marks.specs.Marks.{IsTally, between}
+use Rattle.zone_marks.specs.declared.landmark.Tally.{Tally}
 use Rattle.zone_marks.specs.Purgeable.{NoneGoes, Stays}
 use Rattle.zone_marks.specs.Searching.{IsStretch}
 use Rattle.zone_bytes.specs.Stepping.{left_in}
@@ -36,7 +35,7 @@ use Rattle.zone_summary.specs.declared.stretch.Stretch.{Stretch}
 use Rattle.zone_summary.specs.declared.stretch.Stretch.TheVariants.{Whole, Ended}
 use Rattle.std.proofs.lemmas.Bool.{false≢true}
 use Rattle.zone_marks.proofs.Bounds.Going.{none-passes, stays-here}
-use Rattle.zone_marks.proofs.Marks.Lowering.{begins-end, seen-from, tally-here}
+use Rattle.zone_marks.proofs.Marks.Lowering.{begins-end, seen-from, one-here}
 use Rattle.zone_marks.proofs.Marks.Passing.{at-left, begins-left}
 use Rattle.zone_marks.proofs.Searches.Pieces.{stretch-at, zone-long}
 
@@ -126,10 +125,10 @@ block-run xs number p run n blocks e once keeps whole f = run-of number p n (zon
 
 -- what blocks that are known come to, below others
 module _ (xs : List ℕ) (first unused : ℕ) (i : IsSound xs first unused) where
-  pub stretch-from : (t : Tallies) (from to : ℕ) → Begins from 0 (zone_in xs) → Begins to 0 (zone_in xs) → from ≤ to
-      → AreTold t (between from to from (left_in from xs)) → (w : Counting) → IsStretch w (told w t) from to xs
-  stretch-from t from to b e l k w = stretch-at xs first unused i w (told w t) from to to b
-      (tally-here xs first unused i t from to b k w) e l (omega arith) (inl refl)
+  pub stretch-from : (w : Counting) (t : Tally) (from to : ℕ) → Begins from 0 (zone_in xs) → Begins to 0 (zone_in xs)
+      → from ≤ to → IsTally w t (between from to from (left_in from xs)) → IsStretch w t from to xs
+  stretch-from w t from to b e l k = stretch-at xs first unused i w t from to to b
+      (one-here xs first unused i w t from to b k) e l (omega arith) (inl refl)
 
 -- what blocks come to, by what those up to a place do
 module _ (w : Counting) (xs : List ℕ) (from to : ℕ) (runs : Stretch) (s : IsStretch w (tally.Known runs) from to xs) where

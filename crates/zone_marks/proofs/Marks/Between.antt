@@ -1,5 +1,4 @@
 -- The blocks that begin between two places, and what tallies say of them.
-use Rattle.std.proofs.Common.{subst}
 use Rattle.std.proofs.Common.{◌≡◌, ℕ, ◌+◌, ◌≤◌, ◌<◌, ◌⊎◌, inl, inr, Bool, true, false, ◌&&◌, not, cond, List, [], ◌∷◌}
 use Rattle.std.proofs.Common.{◌++◌, nat_le, nat_lt, refl, sym, ap, ◌∙◌, arith}
 use Rattle.std.proofs.lemmas.Bool.{le-leb, lt-ltb, le-ltb, leb-true, ltb-false, and_parts}
@@ -7,14 +6,14 @@ use Rattle.std.proofs.lemmas.List.{append-nil}
 use Rattle.block_store.specs.Block.{Block, Free, Nonrelocatable, Masters, Relocatable, size, sizes, free_of}
 use Rattle.block_store.specs.Run.{in_run}
 use Rattle.zone_bytes.specs.Changes.{AtEach}
-use Rattle.zone_marks.specs.Marks.{AreTold, IsTally, Measures, between, ends_run, told}
-use Rattle.zone_marks.specs.declared.measuring.Measured.{Measured}
+use Rattle.zone_marks.specs.Marks.{AreTold, IsTally, between, ends_run, told}
 use Rattle.zone_marks.specs.declared.landmark.Tallies.{Tallies}
 use Rattle.zone_marks.specs.declared.landmark.Tally.{Tally}
 use Rattle.zone_marks.specs.declared.landmark.Tally.TheVariants as tally
 use Rattle.zone_summary.specs.Stretches.{counted, join, one, space, spaces_of, stretch_by, stretch_of}
 use Rattle.zone_summary.specs.declared.stretch.Counting.{Counting}
 use Rattle.zone_summary.specs.declared.stretch.Counting.TheVariants as counting
+use Rattle.zone_summary.specs.declared.stretch.Stretch.{Stretch}
 use Rattle.zone_summary.specs.declared.stretch.Stretch.TheVariants.{Whole}
 use Rattle.zone_summary.proofs.Monoid.{join-unit_left, stretch_by-append}
 
@@ -48,14 +47,11 @@ alike-append a b c d x y = record {
 pub alike-first : (b : Block) (some others : List Block) → CountAlike some others → CountAlike (b ∷ some) (b ∷ others)
 alike-first b some others a = alike-append (b ∷ []) some (b ∷ []) others (alike-same (b ∷ []) (b ∷ []) refl) a
 
--- what a walk found is known, in each way
-pub measured-told : (lo hi at : ℕ) (zone : List Block) (m : Measured) (t : Tallies)
-    → t ≡ record { runs = tally.Known m.runs; spaces = tally.Known m.spaces } → Measures lo hi at zone m
-    → AreTold t (between lo hi at zone)
-measured-told lo hi at zone m t e k counting.Runs =
-    subst (λ t. IsTally counting.Runs (told counting.Runs t) (between lo hi at zone)) (sym e) k.runs
-measured-told lo hi at zone m t e k counting.Spaces =
-    subst (λ t. IsTally counting.Spaces (told counting.Spaces t) (between lo hi at zone)) (sym e) k.spaces
+-- what is known in each way
+pub told-both : (runs : Stretch) (spaces : Tally) (blocks : List Block) → stretch_of blocks ≡ runs
+    → IsTally counting.Spaces spaces blocks → AreTold (record { runs = tally.Known runs; spaces = spaces }) blocks
+told-both runs spaces blocks e t counting.Runs = e
+told-both runs spaces blocks e t counting.Spaces = t
 
 -- one block
 not-same : (t u : Bool) → not t ≡ not u → t ≡ u

@@ -2,7 +2,7 @@
 use Rattle.std.proofs.Common.{◌≡◌, ℕ, ◌+◌, ◌≤◌, ◌<◌, ◌⊎◌, Bool, true, false, not, List, [], ◌∷◌, ◌++◌, length, append_assoc, refl}
 use Rattle.std.proofs.Common.{sym, ap, ◌∙◌, arith, inl, inr}
 use Rattle.std.proofs.lemmas.List.{append-nil}
-use Rattle.block_store.specs.Block.{Block, size, sizes, free_of}
+use Rattle.block_store.specs.Block.{Block, sizes, free_of}
 use Rattle.zone_bytes.specs.Changes.{AtEach}
 use Rattle.zone_marks.specs.Marks.{Measures, Spans, between}
 use Rattle.zone_bytes.specs.Stepping.{left_in, IsOnWay}
@@ -13,41 +13,38 @@ use Rattle.zone_marks.proofs.Marks.Spanned.{free-size}
 use Rattle.zone_bytes.proofs.Places.Stepped.{left-none}
 use Rattle.zone_bytes.proofs.Tiles.Tiling.{span-append}
 use Rattle.zone_summary.specs.Stretches.{load}
-use Rattle.zone_summary.specs.Stretches.{counted, is_space, join, one, prefix, space, spaces_of, stretch_of, suffix}
-use Rattle.zone_summary.specs.declared.stretch.Counting.TheVariants.{Runs, Spaces}
+use Rattle.zone_summary.specs.Stretches.{counted, join, one, prefix, stretch_of, suffix}
+use Rattle.zone_summary.specs.declared.stretch.Counting.TheVariants.{Runs}
 use Rattle.zone_summary.specs.declared.stretch.Stretch.{Stretch}
 use Rattle.zone_summary.specs.declared.stretch.Stretch.TheVariants.{Whole, Ended}
 use Rattle.zone_summary.proofs.Monoid.{join-unit_right, joined-is}
-use Rattle.zone_summary.proofs.Sums.{load-blocks, load-counted}
+use Rattle.zone_summary.proofs.Sums.{load-blocks}
 
 -- the blocks from a place on up to another, each of which began below a bound
-pub record Counted (xs : List ℕ) (from at stop most : ℕ) (runs spaces : Stretch) : Type 0 where
+pub record Counted (xs : List ℕ) (from at stop most : ℕ) (runs : Stretch) : Type 0 where
   pub done : List Block
   pub is : left_in from xs ≡ done ++ left_in at xs
   pub up : from + sizes done ≡ at
   pub each : AtEach (λ p b. (free_of b ≤ most) × (p < stop)) from done
   pub way : IsOnWay at xs
   pub comes : stretch_of done ≡ runs
-  pub spaces_come : spaces_of done ≡ spaces
 
-prefix-counted : (t : Bool) (n : ℕ) → prefix (counted t n) ≤ n
+pub prefix-counted : (t : Bool) (n : ℕ) → prefix (counted t n) ≤ n
 prefix-counted true n = omega arith
 prefix-counted false n = omega arith
 
-suffix-load : (s : Stretch) → suffix s ≤ load s
+pub suffix-load : (s : Stretch) → suffix s ≤ load s
 suffix-load (Whole a) = omega arith
 suffix-load (Ended p i s) = omega arith
 
 module _ (xs : List ℕ) (from stop : ℕ) where
-  pub counted-start : (most : ℕ) → IsOnWay from xs → Counted xs from from stop most (Whole 0) (Whole 0)
-  counted-start most w =
-      record { done = []; is = refl; up = omega arith; each = tt; way = w; comes = refl; spaces_come = refl }
+  pub counted-start : (most : ℕ) → IsOnWay from xs → Counted xs from from stop most (Whole 0)
+  counted-start most w = record { done = []; is = refl; up = omega arith; each = tt; way = w; comes = refl }
 
-  pub counted-step : (at end most most' bytes : ℕ) (runs block next : Stretch) (barrier : Bool) (spaces given more : Stretch)
-      → Counted xs from at stop most runs spaces → (s : Spans at end bytes barrier xs) → at < stop → most ≤ most'
-      → bytes ≤ most' → block ≡ counted (not barrier) bytes → next ≡ join runs block → given ≡ space s.here
-      → more ≡ join spaces given → Counted xs from end stop most' next more
-  counted-step at end most most' bytes runs block next barrier spaces given more c s l m n t j g k =
+  pub counted-step : (at end most most' bytes : ℕ) (runs block next : Stretch) (barrier : Bool)
+      → Counted xs from at stop most runs → Spans at end bytes barrier xs → at < stop → most ≤ most' → bytes ≤ most'
+      → block ≡ counted (not barrier) bytes → next ≡ join runs block → Counted xs from end stop most' next
+  counted-step at end most most' bytes runs block next barrier c s l m n t j =
       let u = c.up in
       let v = s.up in
       let a = span-append c.done (s.here ∷ []) in
@@ -63,15 +60,12 @@ module _ (xs : List ℕ) (from stop : ℕ) where
         way = s.way;
         comes = sym (joined-is Runs c.done (s.here ∷ []) runs block next j (sym c.comes)
             (t ∙ one-spanned s.here bytes barrier e s.ends ∙ sym (join-unit_right (one s.here))));
-        spaces_come = sym (joined-is Spaces c.done (s.here ∷ []) spaces given more k (sym c.spaces_come)
-            (g ∙ sym (join-unit_right (space s.here))));
       }
 
   -- what the blocks come to and one block more fit
-  pub counted-fits : (at end most bytes : ℕ) (runs block spaces : Stretch) (barrier : Bool)
-      → Counted xs from at stop most runs spaces → Spans at end bytes barrier xs → block ≡ counted (not barrier) bytes
-      → suffix runs + prefix block ≤ end
-  counted-fits at end most bytes runs block spaces barrier c s t =
+  pub counted-fits : (at end most bytes : ℕ) (runs block : Stretch) (barrier : Bool) → Counted xs from at stop most runs
+      → Spans at end bytes barrier xs → block ≡ counted (not barrier) bytes → suffix runs + prefix block ≤ end
+  counted-fits at end most bytes runs block barrier c s t =
       let u = c.up in
       let v = s.up in
       let f = suffix-load runs in
@@ -83,23 +77,10 @@ module _ (xs : List ℕ) (from stop : ℕ) where
       let e = s.bytes in
       omega (arith, u, v, f, k, b, p, q, g, e)
 
-  pub spaces-fit : (at end most bytes : ℕ) (runs spaces given : Stretch) (barrier : Bool)
-      → Counted xs from at stop most runs spaces → (s : Spans at end bytes barrier xs) → given ≡ space s.here
-      → suffix spaces + prefix given ≤ end
-  spaces-fit at end most bytes runs spaces given barrier c s g =
-      let u = c.up in
-      let v = s.up in
-      let f = suffix-load spaces in
-      let k = ap load c.spaces_come in
-      let b = load-counted Spaces c.done in
-      let p = prefix-counted (is_space s.here) (size s.here) in
-      let q = ap prefix g in
-      omega (arith, u, v, f, k, b, p, q)
-
   -- what it tells of the blocks that begin below a bound which it came to
-  module _ (at most : ℕ) (runs spaces : Stretch) (c : Counted xs from at stop most runs spaces) where
+  module _ (at most : ℕ) (runs : Stretch) (c : Counted xs from at stop most runs) where
     pub counted-tells : (hi edge : ℕ) → CountAlike (between from hi from c.done) c.done → (hi ≤ at) ⊎ (length xs ≤ at)
-        → Measures from hi from (left_in from xs) (record { edge = edge; most = most; runs = runs; spaces = spaces })
+        → Measures from hi from (left_in from xs) (record { edge = edge; most = most; runs = runs })
     counted-tells hi edge a e = record {
       most = passed-all xs from (λ _ b. free_of b ≤ most) (λ _ b. free_of b ≤ most) from hi at (record {
         done = c.done;
@@ -110,7 +91,6 @@ module _ (xs : List ℕ) (from stop : ℕ) where
         way = c.way;
       }) (λ _ _ r. r) e;
       runs = alike.same Runs ∙ c.comes;
-      spaces = alike.same Spaces ∙ c.spaces_come;
     }
       where
         nothing : between from hi at (left_in at xs) ≡ []
@@ -126,12 +106,12 @@ module _ (xs : List ℕ) (from stop : ℕ) where
             ∙ ap (λ k. between from hi from c.done ++ k) nothing ∙ append-nil (between from hi from c.done))) a
 
     pub counted-edge : (edge : ℕ) → Measures from at from (left_in from xs)
-        (record { edge = edge; most = most; runs = runs; spaces = spaces })
+        (record { edge = edge; most = most; runs = runs })
     counted-edge edge = counted-tells at edge
         (all-within from at from c.done (omega arith) (let u = c.up in omega (arith, u))) (inl (omega arith))
 
     pub counted-below : (place edge : ℕ) → stop ≤ place → (place ≤ at) ⊎ (length xs ≤ at)
-        → Measures from place from (left_in from xs) (record { edge = edge; most = most; runs = runs; spaces = spaces })
+        → Measures from place from (left_in from xs) (record { edge = edge; most = most; runs = runs })
     counted-below place edge l e = counted-tells place edge
         (alike-same _ _ (all-begin from place from c.done (omega arith)
         (at-map (λ p b. (free_of b ≤ most) × (p < stop)) (λ p _. p < place) from c.done

@@ -10,6 +10,7 @@ use Rattle.zone_bytes.specs.Changes.{AtEach, Begins, Replaced}
 use Rattle.zone_marks.specs.Marks.{AtMost, AreMarks, AreTold, IsTally, Lowered, between, next_of, no_mark, told}
 use Rattle.zone_marks.specs.declared.landmark.Landmark.{Landmark}
 use Rattle.zone_marks.specs.declared.landmark.Tallies.{Tallies}
+use Rattle.zone_marks.specs.declared.landmark.Tally.{Tally}
 use Rattle.zone_summary.specs.declared.stretch.Counting.{Counting}
 use Rattle.zone_summary.specs.declared.stretch.Counting.TheVariants as counting
 use Rattle.zone_marks.proofs.Marks.Groups.{unknown}
@@ -17,7 +18,7 @@ use Rattle.zone_bytes.proofs.Places.AtPlace.{way-above, left-above}
 use Rattle.zone_marks.proofs.Marks.Passing.{at-map, at-all, at-append, at-left, at-right, begins-here, begins-left}
 use Rattle.zone_marks.proofs.Marks.Passing.{begins-right, begins-either, begins-within, parts}
 use Rattle.zone_marks.proofs.Marks.Spanned.{free-size}
-use Rattle.zone_marks.proofs.Marks.Between.{CountAlike, alike-as, alike-same, alike-back, alike-more, alike-append}
+use Rattle.zone_marks.proofs.Marks.Between.{CountAlike, alike-as, tally-as, alike-same, alike-back, alike-more, alike-append}
 use Rattle.zone_marks.proofs.Marks.Between.{between-append, none-below, none-above}
 
 -- what holds of each block by its place alone
@@ -213,16 +214,21 @@ module _ (xs : List ℕ) (first unused : ℕ) (i : IsSound xs first unused) wher
       (at-each S 0 s.below (λ q c v u. λ m n. let f = free-size c in omega (arith, f, u, m, l)))
       (subst (λ y. AtEach S y (left_in p xs)) (let k : p ≡ 0 + sizes s.below = omega (arith, l) in k) e))
 
-  pub tally-here : (t : Tallies) (p to : ℕ) → Begins p 0 (zone_in xs) → AreTold t (between p to p (left_in p xs))
-      → AreTold t (between p to 0 (zone_in xs))
-  tally-here t p to b e =
+  -- what is known of blocks from a place on
+  pub one-here : (w : Counting) (t : Tally) (p to : ℕ) → Begins p 0 (zone_in xs)
+      → IsTally w t (between p to p (left_in p xs)) → IsTally w t (between p to 0 (zone_in xs))
+  one-here w t p to b e =
       let s = seen-from p b in
       let l = s.low in
-      alike-as t _ _ (alike-more _ _ _ (alike-same _ _ (ap (between p to 0) s.is
+      tally-as w t _ _ (alike-more _ _ _ (alike-same _ _ (ap (between p to 0) s.is
       ∙ between-append p to 0 s.below (left_in p xs)))
       (alike-append _ _ [] _ (none-below p to 0 s.below (omega (arith, l)))
       (alike-same _ _ (ap (λ y. between p to y (left_in p xs)) (let k : 0 + sizes s.below ≡ p = omega (arith, l) in k)))))
       e
+
+  pub tally-here : (t : Tallies) (p to : ℕ) → Begins p 0 (zone_in xs) → AreTold t (between p to p (left_in p xs))
+      → AreTold t (between p to 0 (zone_in xs))
+  tally-here t p to b e w = one-here w (told w t) p to b (e w)
 
 -- landmarks one after another
 pub marks-split : (end : ℕ) (zone : List Block) (front back : List Landmark) → AreMarks end zone (front ++ back)

@@ -18,6 +18,7 @@ use Rattle.zone_marks.proofs.Marks.Lowering.{marks-below}
 use Rattle.zone_bytes.proofs.Tiles.Tiling.{span-append}
 use Rattle.zone_summary.specs.Stretches.{join, stretch_by, load}
 use Rattle.zone_summary.specs.declared.stretch.Counting.{Counting}
+use Rattle.zone_summary.specs.declared.stretch.Stretch.{Stretch}
 use Rattle.zone_summary.specs.declared.stretch.Stretch.TheVariants.{Whole}
 use Rattle.zone_summary.proofs.Monoid.{counted-none, join-assoc, join-unit_left, join-unit_right, stretch_by-append}
 use Rattle.zone_summary.proofs.Sums.{load-counted, load-join}
@@ -48,6 +49,16 @@ pub tally_of-more : (w : Counting) (marks : List Landmark) (i : ℕ) → i < len
 tally_of-more w marks i l =
     ap (tally_of w) (take_more marks i no_mark l) ∙ tally_of-append w (take i marks) (get_or marks i no_mark ∷ [])
     ∙ ap (join_tallies (tally_of w (take i marks))) (tallies-right (told w (get_or marks i no_mark).tally))
+
+-- where one landmark tells nothing, all of them tell nothing
+pub tally_of-unknown : (w : Counting) (marks : List Landmark) (i : ℕ) (s : Stretch) → i < length marks
+    → tally_of w (take i marks) ≡ tally.Known s → told w (get_or marks i no_mark).tally ≡ tally.Unknown
+    → tally_of w marks ≡ tally.Unknown
+tally_of-unknown w marks i s l k u =
+    ap (tally_of w) (sym (take-append-drop (i + 1) marks)) ∙ tally_of-append w (take (i + 1) marks) (drop (i + 1) marks)
+    ∙ ap (λ t. join_tallies t (tally_of w (drop (i + 1) marks)))
+    (tally_of-more w marks i l ∙ ap (λ t. join_tallies t (told w (get_or marks i no_mark).tally)) k
+    ∙ ap (join_tallies (tally.Known s)) u)
 
 -- what they hold in sum
 known_load-join : (s t : Tally) → known_load (join_tallies s t) ≤ known_load s + known_load t

@@ -13,22 +13,22 @@ returns-then-span-clause-run c =
     let i = c.requires.sound in
     let s = c.span_at-span in
     open-past-bar c.args.part.now.bytes i.0 i.1 i.2 c.args.run c.requires.run s.result.end s.result.free s.result.barrier
-    s.ensures.spans c.if-span.true
+    s.ensures c.if-span.true
 
 pub returns-clause-run : goal.returns-clause-run
 returns-clause-run c =
     let i = c.requires.sound in
     let s = c.span_at-span in
     open-past-one c.args.part.now.bytes i.0 i.1 i.2 c.args.run c.requires.run s.result.end s.result.free s.result.barrier
-    s.ensures.spans c.if-span.false
+    s.ensures c.if-span.false
 
 pub overflow_add-result : goal.overflow_add-result
 overflow_add-result c =
     let i = c.requires.sound in
     let s = c.span_at-span in
     let o = open-past-one c.args.part.now.bytes i.0 i.1 i.2 c.args.run c.requires.run s.result.end s.result.free
-    s.result.barrier s.ensures.spans c.if-span.false in
+    s.result.barrier s.ensures c.if-span.false in
     let l = open-few c.args.part.now.bytes _ o in
     let f = s.result.end in
-    let g = c.span_at-span.ensures.spans.way.small in
+    let g = c.span_at-span.ensures.way.small in
     omega (arith, l)

@@ -13,11 +13,11 @@ returns-then-span c =
     let i = c.requires.sound in
     let s = c.span_at-span in
     inr (run-here c.args.part.now.bytes i.0 i.1 i.2 c.loop-place.place s.result.end s.result.free s.result.barrier
-    c.loop-place.invariant s.ensures.spans c.if-span.true)
+    c.loop-place.invariant s.ensures c.if-span.true)
 
 pub loop-place-preserved : goal.loop-place-preserved
 loop-place-preserved c =
     let i = c.requires.sound in
     let s = c.span_at-span in
     edge-above c.args.part.now.bytes i.0 i.1 i.2 c.loop-place.place s.result.end s.result.free s.result.barrier
-    c.loop-place.invariant s.ensures.spans
+    c.loop-place.invariant s.ensures

@@ -12,7 +12,7 @@ loop-at-preserved c =
     let s = c.span_at-span in
     let g = c.greater-largest.ensures in
     growing-step c.args.part.now.bytes c.args.from c.args.most c.loop-at.at s.result.end s.result.free c.loop-at.largest
-    c.greater-largest.result s.result.barrier c.loop-at.invariant s.ensures.spans g.first g.second g.one
+    c.greater-largest.result s.result.barrier c.loop-at.invariant s.ensures g.first g.second g.one
 
 pub returns-clause-none : goal.returns-clause-none
 returns-clause-none c =

@@ -1,12 +1,29 @@
-use Rattle.std.proofs.Common.{ap, arith}
-use Rattle.zone_marks.specs.Marks.{known_load}
+use Rattle.std.proofs.Common.{ap, sym, ◌∙◌, arith}
+use Rattle.zone_marks.specs.Marks.{join_tallies, known_load}
+use Rattle.zone_marks.specs.declared.landmark.Tally.TheVariants as tally
 use Rattle.zone_summary.proofs.Sums.{ends-load}
+use Rattle.zone_marks.proofs.Marks.Tallies.{loads-more, tally_of-more, tally_of-unknown}
 use Rattle.zone_marks.proofs.grouping.joined.Goals as goal
 
-pub join-requires : goal.join-requires
-join-requires c =
+-- one landmark of which nothing is known
+pub returns-in_default : goal.returns-in_default
+returns-in_default c = sym (tally_of-unknown c.args.counting c.args.marks.now c.loop-mark.mark-index c.loop-mark.all
+    c.loop-mark-test.true (sym c.loop-mark.invariant) (sym c.told.ensures ∙ c.in_default.is))
+
+pub join-all-requires : goal.join-all-requires
+join-all-requires c =
+    let l = loads-more c.args.counting c.args.marks.now c.loop-mark.mark-index c.loop-mark-test.true in
+    let t = ap known_load c.loop-mark.invariant in
+    let h = ap known_load (sym c.in-Known.is ∙ c.told.ensures) in
+    let e = ends-load c.loop-mark.all c.in-Known.stretch in
     let r = c.requires in
-    let l = ap known_load c.in-Known.is in
-    let h = ap known_load c.in-Known-high.is in
-    let e = ends-load c.in-Known.lower c.in-Known-high.upper in
-    omega (arith, r, l, h, e)
+    omega (arith, l, t, h, e, r)
+
+pub loop-mark-preserved : goal.loop-mark-preserved
+loop-mark-preserved c =
+    let how = c.args.counting in
+    let marks = c.args.marks.now in
+    ap tally.Known c.join-all.ensures.is
+    ∙ ap (λ t. join_tallies t (tally.Known c.in-Known.stretch)) c.loop-mark.invariant
+    ∙ ap (join_tallies _) (sym c.in-Known.is ∙ c.told.ensures)
+    ∙ sym (tally_of-more how marks c.loop-mark.mark-index c.loop-mark-test.true)

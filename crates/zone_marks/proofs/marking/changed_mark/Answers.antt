@@ -49,24 +49,24 @@ measured_mark-requires c =
     begins-way c.args.part.now.bytes c.requires.sound.0 c.requires.sound.1 c.requires.sound.2 c.lowered_mark-at.result
     (c.requires.begins c.lowered_mark-at.result c.lowered_mark-at.ensures)
 
-pub returns-then-walks-clause-bound : goal.returns-then-walks-clause-bound
-returns-then-walks-clause-bound c = λ old z e.
+pub returns-in_default-clause-bound : goal.returns-in_default-clause-bound
+returns-in_default-clause-bound c = λ old z e.
     subst (λ p. AtEach (AtMost c.measured_mark.result.most p c.args.above) 0 (zone_in c.args.part.now.bytes))
     (sym c.measured_mark.ensures.at)
     (bound-here c.args.part.now.bytes c.requires.sound.0 c.requires.sound.1 c.requires.sound.2
     c.measured_mark.result.most c.lowered_mark-at.result c.args.above
     (c.requires.begins c.lowered_mark-at.result c.lowered_mark-at.ensures) c.measured_mark.ensures.bound)
 
-pub returns-then-walks-clause-tally : goal.returns-then-walks-clause-tally
-returns-then-walks-clause-tally c = λ old z e.
+pub returns-in_default-clause-tally : goal.returns-in_default-clause-tally
+returns-in_default-clause-tally c = λ old z e.
     subst (λ p. AreTold c.measured_mark.result.tally (between p c.args.above 0 (zone_in c.args.part.now.bytes)))
     (sym c.measured_mark.ensures.at)
     (tally-here c.args.part.now.bytes c.requires.sound.0 c.requires.sound.1 c.requires.sound.2
     c.measured_mark.result.tally c.lowered_mark-at.result c.args.above
     (c.requires.begins c.lowered_mark-at.result c.lowered_mark-at.ensures) c.measured_mark.ensures.tally)
 
-pub returns-clause-bound : goal.returns-clause-bound
-returns-clause-bound c = λ old z e.
+pub returns-in-Nothing-clause-bound : goal.returns-in-Nothing-clause-bound
+returns-in-Nothing-clause-bound c = λ old z e.
     let m = c.greater.ensures in
     let f = m.first in
     let s = m.second in

@@ -1,8 +1,9 @@
 use Rattle.std.proofs.Common.{◌+◌, length, length-set, refl, sym, ◌∙◌, arith}
 use Rattle.zone_bytes.specs.Decode.{zone_in}
 use Rattle.zone_marks.specs.Marks.{no_mark}
-use Rattle.zone_bytes.specs.Stepping.{left_in}
-use Rattle.zone_marks.proofs.Marks.Between.{measured-told}
+use Rattle.zone_marks.specs.declared.landmark.Tallies.{Tallies}
+use Rattle.zone_marks.specs.declared.landmark.Tally.TheVariants as tally
+use Rattle.zone_marks.proofs.Marks.Between.{told-both}
 use Rattle.zone_marks.proofs.Marks.Lowering.{begins-way, begins-further, bound-here, tally-here, marks-whole, marks-next}
 use Rattle.zone_marks.proofs.Marks.Lowering.{marks-left, mark-first, equal-yes, equal-no}
 use Rattle.zone_marks.proofs.marking.lay_marks.Goals as goal
@@ -29,6 +30,12 @@ stretch_from-stretch-requires c =
     let l = c.loop-index-test.true in
     begins-way c.args.part.now.bytes i.0 i.1 i.2 c.loop-index.at (c.loop-index.invariant.4 (omega (arith, l)))
 
+pub spaces_told-requires : goal.spaces_told-requires
+spaces_told-requires c =
+    let i = c.requires.sound in
+    let l = c.loop-index-test.true in
+    begins-way c.args.part.now.bytes i.0 i.1 i.2 c.loop-index.at (c.loop-index.invariant.4 (omega (arith, l)))
+
 pub loop-index-preserved : goal.loop-index-preserved
 loop-index-preserved c =
     let i = c.requires.sound in
@@ -37,17 +44,17 @@ loop-index-preserved c =
     let l = c.loop-index-test.true in
     let n = v.0 in
     let b = v.4 (omega (arith, l)) in
-    let s = c.stretch_from-stretch in (
+    let s = c.stretch_from-stretch in
+    let told : Tallies = record { runs = tally.Known s.result.runs; spaces = c.spaces_told.result } in (
       length-set c.loop-index.marks c.loop-index.index _ ∙ n,
-      c.raise_group.ensures c.loop-index.marks (record { at = c.loop-index.at; most = s.result.most; tally = c.told.result })
+      c.raise_group.ensures c.loop-index.marks (record { at = c.loop-index.at; most = s.result.most; tally = told })
           (omega arith) v.1,
       marks-next (zone_in xs) c.loop-index.marks c.loop-index.index s.result.edge
-          (record { at = c.loop-index.at; most = s.result.most; tally = c.told.result })
+          (record { at = c.loop-index.at; most = s.result.most; tally = told })
           (omega (arith, l, n)) v.2 b
           (bound-here xs i.0 i.1 i.2 s.result.most c.loop-index.at s.result.edge b s.ensures.measured.most)
-          (tally-here xs i.0 i.1 i.2 c.told.result c.loop-index.at s.result.edge b
-          (measured-told c.loop-index.at s.result.edge c.loop-index.at (left_in c.loop-index.at xs) s.result c.told.result
-          c.told.ensures s.ensures.measured))
+          (tally-here xs i.0 i.1 i.2 told c.loop-index.at s.result.edge b
+          (told-both _ _ _ s.ensures.measured.runs c.spaces_told.ensures))
           s.ensures.order,
       marks-left 4294967295 (zone_in xs) c.loop-index.marks c.loop-index.index _ (omega (arith, l, n)) v.3,
       λ k. begins-further xs i.0 i.1 i.2 c.loop-index.at s.result.edge b (s.ensures.edge

@@ -1,7 +1,7 @@
 use Rattle.std.proofs.Common.{◌≡◌, ◌⊎◌, length, sym, subst, arith}
 use Rattle.zone_bytes.specs.Changes.{Begins}
 use Rattle.zone_bytes.specs.Stepping.{left_in}
-use Rattle.zone_marks.proofs.Marks.Counting.{counted-start, counted-step, counted-fits, counted-edge, spaces-fit}
+use Rattle.zone_marks.proofs.Marks.Counting.{counted-start, counted-step, counted-fits, counted-edge}
 use Rattle.zone_marks.proofs.Marks.Counting.{counted-below}
 use Rattle.zone_marks.proofs.Marks.Passing.{begins-right, begins-here, past}
 use Rattle.zone_marks.proofs.measuring.measure_up_to.Goals as goal
@@ -12,20 +12,10 @@ loop-at-init c = counted-start c.args.part.now.bytes c.args.from c.within-stop.r
 pub join-runs-requires : goal.join-runs-requires
 join-runs-requires c =
     let f = counted-fits c.args.part.now.bytes c.args.from c.within-stop.result c.loop-at.at c.span_at-span.result.end
-    c.loop-at.most c.span_at-span.result.free c.loop-at.runs c.runs.result c.loop-at.spaces c.span_at-span.result.barrier
-    c.loop-at.invariant c.span_at-span.ensures.spans c.runs.ensures in
-    let u = c.span_at-span.ensures.spans.way.walk.up in
-    let m = c.span_at-span.ensures.spans.way.small in
-    omega (arith, f, u, m)
-
-pub join-spaces-requires : goal.join-spaces-requires
-join-spaces-requires c =
-    let s = c.span_at-span in
-    let f = spaces-fit c.args.part.now.bytes c.args.from c.within-stop.result c.loop-at.at s.result.end
-    c.loop-at.most s.result.free c.loop-at.runs c.loop-at.spaces s.result.spaces s.result.barrier
-    c.loop-at.invariant s.ensures.spans (s.ensures.spaces _ _ s.ensures.spans.is) in
-    let u = s.ensures.spans.way.walk.up in
-    let m = s.ensures.spans.way.small in
+    c.loop-at.most c.span_at-span.result.free c.loop-at.runs c.runs.result c.span_at-span.result.barrier
+    c.loop-at.invariant c.span_at-span.ensures c.runs.ensures in
+    let u = c.span_at-span.ensures.way.walk.up in
+    let m = c.span_at-span.ensures.way.small in
     omega (arith, f, u, m)
 
 pub loop-at-preserved : goal.loop-at-preserved
@@ -33,9 +23,8 @@ loop-at-preserved c =
     let m = c.greater-most.ensures in
     counted-step c.args.part.now.bytes c.args.from c.within-stop.result c.loop-at.at c.span_at-span.result.end
     c.loop-at.most c.greater-most.result c.span_at-span.result.free c.loop-at.runs c.runs.result c.join-runs.result
-    c.span_at-span.result.barrier c.loop-at.spaces c.span_at-span.result.spaces c.join-spaces.result c.loop-at.invariant
-    c.span_at-span.ensures.spans c.loop-at-test.true m.first m.second c.runs.ensures c.join-runs.ensures.is
-    (c.span_at-span.ensures.spaces _ _ c.span_at-span.ensures.spans.is) c.join-spaces.ensures.is
+    c.span_at-span.result.barrier c.loop-at.invariant c.span_at-span.ensures c.loop-at-test.true m.first m.second
+    c.runs.ensures c.join-runs.ensures.is
 
 pub returns-clause-edge : goal.returns-clause-edge
 returns-clause-edge c =
@@ -50,14 +39,14 @@ returns-clause-order c = let u = c.loop-at.invariant.up in omega (arith, u)
 
 pub returns-clause-passed : goal.returns-clause-passed
 returns-clause-passed c = counted-edge c.args.part.now.bytes c.args.from c.within-stop.result c.loop-at.at c.loop-at.most
-    c.loop-at.runs c.loop-at.spaces c.loop-at.invariant c.loop-at.at
+    c.loop-at.runs c.loop-at.invariant c.loop-at.at
 
 pub returns-clause-below : goal.returns-clause-below
 returns-clause-below c =
     let k = c.len.ensures.count in
     let l = c.loop-at-test.false in
     counted-below c.args.part.now.bytes c.args.from c.within-stop.result c.loop-at.at c.loop-at.most c.loop-at.runs
-    c.loop-at.spaces c.loop-at.invariant c.args.place c.loop-at.at c.within-stop.ensures.least
+    c.loop-at.invariant c.args.place c.loop-at.at c.within-stop.ensures.least
     (past c.args.place (length c.args.part.now.bytes) c.loop-at.at c.within-stop.result
     (subst (λ n. (c.within-stop.result ≡ c.args.place) ⊎ (c.within-stop.result ≡ n)) k c.within-stop.ensures.one)
     (omega (arith, l)))

@@ -16,13 +16,13 @@ returns-then-bytes-span-clause-lowest c = passed-all c.args.part.now.bytes c.arg
 
 pub returns-then-bytes-span-clause-room : goal.returns-then-bytes-span-clause-room
 returns-then-bytes-span-clause-room c = room-here c.args.bytes c.loop-at.at c.span_at-span.result.end
-    c.span_at-span.result.free c.span_at-span.result.barrier c.args.part.now.bytes c.span_at-span.ensures.spans c.if-span-gt0.true c.if-bytes-span.true
+    c.span_at-span.result.free c.span_at-span.result.barrier c.args.part.now.bytes c.span_at-span.ensures c.if-span-gt0.true c.if-bytes-span.true
 
 pub loop-at-preserved : goal.loop-at-preserved
 loop-at-preserved c =
     let s = c.span_at-span in
     passed-step c.args.part.now.bytes c.args.from (λ _ b. is_room c.args.bytes b ≡ false) c.loop-at.at s.result.end
-    s.result.free s.result.barrier c.loop-at.invariant s.ensures.spans (λ b e z. no-room c.args.bytes b z (λ p q. elim c.else-span-gt0.branch [
+    s.result.free s.result.barrier c.loop-at.invariant s.ensures (λ b e z. no-room c.args.bytes b z (λ p q. elim c.else-span-gt0.branch [
       | else-span-gt0-via-then-span-gt0+else-bytes-span w ↦ let l = w.if-bytes-span.false in omega (arith, l, e, q)
       | else-span-gt0-via-else-span-gt0 w ↦ let l = w.if-span-gt0.false in omega (arith, l, e, p)
     ]))

@@ -1,6 +1,6 @@
-use Rattle.std.proofs.Common.{◌≡◌, ℕ, ◌+◌, ◌-◌, ◌%◌, ◌≤◌, ◌<◌, ◌∙◌, arith}
+use Rattle.std.proofs.Common.{◌≡◌, ℕ, ◌+◌, ◌-◌, ◌%◌, ◌≤◌, ◌<◌, arith}
 use Rattle.zone_bytes.proofs.Places.Stepped.{next-header, stepped}
-use Rattle.zone_marks.proofs.Marks.Spanned.{space-made, span-made}
+use Rattle.zone_marks.proofs.Marks.Spanned.{span-made}
 use Rattle.zone_marks.proofs.measuring.span_at.Goals as goal
 
 -- the two parts of a first word
@@ -35,12 +35,8 @@ pub ends_run_at-requires-clause-inside : goal.ends_run_at-requires-clause-inside
 ends_run_at-requires-clause-inside c =
     (next-header c.args.at c.args.part.now.bytes c.requires.way c.requires.some).fits
 
-pub spaces_at-requires-clause-inside : goal.spaces_at-requires-clause-inside
-spaces_at-requires-clause-inside c =
-    (next-header c.args.at c.args.part.now.bytes c.requires.way c.requires.some).fits
-
-pub returns-clause-spans : goal.returns-clause-spans
-returns-clause-spans c =
+pub returns : goal.returns
+returns c =
     let a = c.args in
     let xs = a.part.now.bytes in
     let r = c.read_word-first in
@@ -48,12 +44,3 @@ returns-clause-spans c =
     span-made a.at xs c.requires.way c.requires.some (r.result - r.result % 16) (r.result % 16) (whole r.result _ r.ensures)
     (even r.result) (small r.result _ r.ensures h.tag) c.free_by_tag.result c.free_by_tag.ensures c.ends_run_at.result
     c.ends_run_at.ensures
-
-pub returns-clause-spaces : goal.returns-clause-spaces
-returns-clause-spaces c = λ here above is.
-    let a = c.args in
-    let xs = a.part.now.bytes in
-    let r = c.read_word-first in
-    let h = next-header a.at xs c.requires.way c.requires.some in
-    c.spaces_at.ensures ∙ space-made a.at xs c.requires.way c.requires.some (r.result - r.result % 16) (r.result % 16)
-    (whole r.result _ r.ensures) (even r.result) (small r.result _ r.ensures h.tag) here above is

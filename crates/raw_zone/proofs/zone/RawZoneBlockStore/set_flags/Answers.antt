@@ -90,17 +90,17 @@ given c =
     c.purgeable_at-given.ensures d.0.here d.0.above
     (left-at z.part.bytes z.first z.unused c.self.invariant.sound c.args.place d.0 d.1)
 
-pub note_block-requires-clause-sound : goal.note_block-requires-clause-sound
-note_block-requires-clause-sound c = (
+pub note_flags-requires-clause-sound : goal.note_flags-requires-clause-sound
+note_flags-requires-clause-sound c = (
   c.self.inside.first,
   c.self.inside.unused,
-  (done (goal.at.note_block-requires-clause-sound c).After-flag_at).2.sound,
+  (done (goal.at.note_flags-requires-clause-sound c).After-flag_at).2.sound,
 )
 
-pub note_block-requires-clause-marks : goal.note_block-requires-clause-marks
-note_block-requires-clause-marks c = (
+pub note_flags-requires-clause-marks : goal.note_flags-requires-clause-marks
+note_flags-requires-clause-marks c = (
   zone_in c.self.inside.part.bytes,
-  became (goal.at.note_block-requires-clause-marks c).After-flag_at,
+  became (goal.at.note_flags-requires-clause-marks c).After-flag_at,
   c.self.invariant.marked,
 )
 
@@ -124,7 +124,7 @@ invariant_of-self c =
     let d = (goal.at.invariant_of-self c).After-flag_at in
     let b = became d in
     with-marks _ _ _ _ _ _ (kept-made _ _ _ _ _ _ (done d).2 (c.self.invariant.free_is ∙ ap free_sum b.was
-    ∙ sym (free-flagged c.args.flags b.below b.here b.above))) c.note_block.ensures
+    ∙ sym (free-flagged c.args.flags b.below b.here b.above))) c.note_flags.ensures
     (c.purgeable_with-self-inside.ensures (zone_in c.self.inside.part.bytes) b (given d) c.self.invariant.purgeable_is)
 
 pub returns-clause-zone : goal.returns-clause-zone

@@ -1,0 +1,84 @@
+-- A walk that counts what it passes in spaces.
+use Rattle.std.proofs.Common.{◌≡◌, ℕ, ◌+◌, ◌≤◌, ◌<◌, ◌⊎◌, Bool, List, [], ◌∷◌, ◌++◌, length, append_assoc, refl}
+use Rattle.std.proofs.Common.{sym, ap, ◌∙◌, arith, inl, inr}
+use Rattle.std.proofs.lemmas.List.{append-nil}
+use Rattle.block_store.specs.Block.{size}
+use Rattle.zone_bytes.specs.Stepping.{left_in, IsOnWay}
+use Rattle.zone_marks.specs.Marks.{Spans, between}
+use Rattle.zone_marks.proofs.Marks.Between.{all-begin, between-append, none-above}
+use Rattle.zone_marks.proofs.Marks.Passing.{Passed, at-append, at-map}
+use Rattle.zone_bytes.proofs.Places.Stepped.{left-none}
+use Rattle.zone_bytes.proofs.Tiles.Tiling.{span-append}
+use Rattle.zone_summary.specs.Stretches.{is_space, join, load, prefix, space, spaces_of, suffix}
+use Rattle.zone_summary.specs.declared.stretch.Counting.TheVariants.{Spaces}
+use Rattle.zone_summary.specs.declared.stretch.Stretch.{Stretch}
+use Rattle.zone_summary.specs.declared.stretch.Stretch.TheVariants.{Whole}
+use Rattle.zone_summary.proofs.Monoid.{join-unit_right, joined-is}
+use Rattle.zone_summary.proofs.Sums.{load-counted}
+use Rattle.zone_marks.proofs.Marks.Counting.{prefix-counted, suffix-load}
+
+-- the blocks from a place on up to another, each of which began below a bound, come to so much
+pub record Spaced (xs : List ℕ) (from at stop : ℕ) (spaces : Stretch) : Type 0 where
+  pub passed : Passed xs from at (λ p _. p < stop)
+  pub comes : spaces_of passed.done ≡ spaces
+
+module _ (xs : List ℕ) (from stop : ℕ) where
+  pub spaced-start : IsOnWay from xs → Spaced xs from from stop (Whole 0)
+  spaced-start w = record {
+    passed = record { done = []; is = refl; up = omega arith; each = tt; way = w };
+    comes = refl;
+  }
+
+  pub spaced-step : (at end bytes : ℕ) (barrier : Bool) (spaces given more : Stretch) → Spaced xs from at stop spaces
+      → (s : Spans at end bytes barrier xs) → at < stop → given ≡ space s.here → more ≡ join spaces given
+      → Spaced xs from end stop more
+  spaced-step at end bytes barrier spaces given more c s l g j =
+      let p = c.passed in
+      let u = p.up in
+      let v = s.up in
+      let a = span-append p.done (s.here ∷ []) in
+      record {
+        passed = record {
+          done = p.done ++ s.here ∷ [];
+          is = p.is ∙ ap (λ k. p.done ++ k) s.is ∙ sym (append_assoc p.done (s.here ∷ []) (left_in end xs));
+          up = omega (arith, u, v, a);
+          each = at-append (λ q _. q < stop) from p.done (s.here ∷ []) p.each (omega (arith, u, l), tt);
+          way = s.way;
+        };
+        comes = sym (joined-is Spaces p.done (s.here ∷ []) spaces given more j (sym c.comes)
+            (g ∙ sym (join-unit_right (space s.here))));
+      }
+
+  -- what the blocks come to and one block more fit
+  pub spaced-fits : (at end bytes : ℕ) (barrier : Bool) (spaces given : Stretch) → Spaced xs from at stop spaces
+      → (s : Spans at end bytes barrier xs) → given ≡ space s.here → suffix spaces + prefix given ≤ end
+  spaced-fits at end bytes barrier spaces given c s g =
+      let u = c.passed.up in
+      let v = s.up in
+      let f = suffix-load spaces in
+      let k = ap load c.comes in
+      let b = load-counted Spaces c.passed.done in
+      let p = prefix-counted (is_space s.here) (size s.here) in
+      let q = ap prefix g in
+      omega (arith, u, v, f, k, b, p, q)
+
+  -- what it tells of the blocks that begin below a bound which it came to
+  pub spaced-tells : (at place : ℕ) (spaces : Stretch) → Spaced xs from at stop spaces → stop ≤ place
+      → (place ≤ at) ⊎ (length xs ≤ at) → spaces_of (between from place from (left_in from xs)) ≡ spaces
+  spaced-tells at place spaces c l e = ap spaces_of whole ∙ c.comes
+    where
+      p : Passed xs from at (λ q _. q < stop)
+      p = c.passed
+
+      nothing : between from place at (left_in at xs) ≡ []
+      nothing = elim e [
+        | inl h ↦ none-above from place at (left_in at xs) h
+        | inr h ↦ ap (between from place at) (left-none at xs p.way h)
+      ]
+
+      whole : between from place from (left_in from xs) ≡ p.done
+      whole = ap (between from place from) p.is ∙ between-append from place from p.done (left_in at xs)
+          ∙ ap (λ y. between from place from p.done ++ between from place y (left_in at xs)) p.up
+          ∙ ap (λ k. between from place from p.done ++ k) nothing ∙ append-nil (between from place from p.done)
+          ∙ all-begin from place from p.done (omega arith)
+          (at-map (λ q _. q < stop) (λ q _. q < place) from p.done (λ _ _ _ _ r. omega (arith, r, l)) p.each)
