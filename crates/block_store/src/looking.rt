@@ -2,17 +2,16 @@
 
 ghost use Rattle.std.specs.Prelude.{◌≡◌, ◌≤◌, ◌<◌, ◌^◌, is_some, IfSome};
 ghost use Rattle.std.specs.Option.{option_map};
-ghost use Rattle.block_store.specs.Block.{Block, sizes, is_relocatable, tidy};
+ghost use Rattle.block_store.specs.Block.{Block, sizes, is_relocatable, is_room, tidy};
 ghost use Rattle.block_store.specs.Room.{spot, may_be_purged, lowest_purged};
 ghost use Rattle.block_store.specs.Grow.{taken};
 ghost use Rattle.block_store.specs.Find.{FindsLowest};
 ghost use Rattle.block_store.specs.Sparing.{spared, opened, purged, most_purges};
 ghost use Rattle.block_store.specs.Seen.{seen};
-ghost use Rattle.block_store.specs.Inner.Stretch.{opened_block};
+ghost use Rattle.block_store.specs.Inner.Stretch.{is_enough, opened_block};
 ghost use Rattle.block_store.specs.Inner.Purging.{left_past, leading_free};
 
 use crate::sparing::{Seen, Sparing};
-use crate::stretch::suffices;
 use crate::walk::{Walk, is_counted_free, is_of, may_purge, size_of_seen};
 
 /// Returns the place of the block to which a master pointer leads, if there is one.
@@ -24,6 +23,32 @@ pub fn place_in<W: Walk>(walk: &mut W, number: u32) -> Option<u32>
     let mut below = 0;
     while let Some(block) = walk.next_block() {
         if is_of(block, number) {
+            return Some(below);
+        }
+        below += size_of_seen(block);
+    }
+    None
+}
+
+/// Reports whether a block is a free block of at least `bytes` bytes.
+fn has_room(block: Seen, bytes: u32) -> bool
+    ensures { (b : Block) → seen b ≡ block → result ≡ is_room bytes b }
+{
+    match block {
+        Seen::Free(n) => bytes <= n,
+        _ => false,
+    }
+}
+
+/// Returns the place of the lowest free block of at least `bytes` bytes.
+pub fn find_free_in<W: Walk>(walk: &mut W, bytes: u32) -> Option<u32>
+    requires small { sizes (W.rest walk.old) < 2 ^ 32 }
+    requires apart { tidy (W.rest walk.old) ≡ W.rest walk.old }
+    ensures { FindsLowest (is_room bytes) (W.rest walk.old) result }
+{
+    let mut below = 0;
+    while let Some(block) = walk.next_block() {
+        if has_room(block, bytes) {
             return Some(below);
         }
         below += size_of_seen(block);
@@ -121,6 +146,13 @@ fn free_first_in<W: Walk>(walk: &mut W, purges: u32, sparing: Sparing) -> u32
         total += size_of_seen(block);
     }
     total
+}
+
+/// Reports whether a stretch of `free` bytes is room for `bytes` bytes.
+fn suffices(free: u32, bytes: u32) -> bool
+    ensures { result ≡ is_enough bytes free }
+{
+    free > 0 && bytes <= free
 }
 
 /// Reports whether `bytes` free bytes follow the block of a master pointer, after `purges` purges.

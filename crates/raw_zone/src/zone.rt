@@ -292,14 +292,14 @@ impl BlockStore for RawZone {
         }
     }
 
-    fn next_purgeable(&self, purges: u32, sparing: Sparing) -> Option<u32> {
+    fn next_purgeable(&self, sparing: Sparing) -> Option<u32> {
         if self.purgeable == 0 {
             return None;
         }
         if frees_one(sparing) {
-            return next_purgeable_in(&mut walk_from(&self.part, 0), purges, sparing);
+            return next_purgeable_in(&mut walk_from(&self.part, 0), 0, sparing);
         }
-        next_purgeable(&self.part, self.marks.start(), purges, sparing)
+        next_purgeable(&self.part, self.marks.start(), 0, sparing)
     }
 
     fn purgeable(&self, sparing: Sparing) -> u32 {
