@@ -147,13 +147,7 @@ impl BlockStore for ListStore {
     }
 
     fn room_above(&self, number: u32, bytes: u32) -> bool {
-        room_above_in(
-            &mut walk_over(&self.blocks),
-            number,
-            bytes,
-            0,
-            Sparing::Nothing,
-        )
+        room_above_in(&mut walk_over(&self.blocks), number, bytes)
     }
 
     fn free_if_purged(&self) -> u32 {
@@ -186,13 +180,7 @@ impl BlockStore for ListStore {
     }
 
     fn run_of(&self, number: u32, bytes: u32) -> Option<u32> {
-        run_of_in(
-            &mut walk_over(&self.blocks),
-            number,
-            bytes,
-            0,
-            Sparing::Nothing,
-        )
+        run_of_in(&mut walk_over(&self.blocks), number, bytes)
     }
 
     fn fewest_for_block(&self, number: u32, bytes: u32, sparing: Sparing) -> Option<u32> {

@@ -320,13 +320,7 @@ impl BlockStore for RawZone {
         if self.free < bytes {
             return None;
         }
-        run_of_in(
-            &mut walk_from(&self.part, 0),
-            number,
-            bytes,
-            0,
-            Sparing::Nothing,
-        )
+        run_of_in(&mut walk_from(&self.part, 0), number, bytes)
     }
 
     fn fewest_for_block(&self, number: u32, bytes: u32, sparing: Sparing) -> Option<u32> {

@@ -1,10 +1,10 @@
-use Rattle.std.specs.Prelude.{ℕ, Bool, true, false, ◌&&◌, ◌||◌, ◌==◌}
-use Rattle.std.specs.Prelude.{if◌then◌else◌, nat_le, nat_lt}
+use Rattle.std.specs.Prelude.{ℕ, Bool, true, false, ◌||◌, ◌==◌}
+use Rattle.std.specs.Prelude.{if◌then◌else◌}
 use Rattle.block_store.specs.Block.{Block, Free, Nonrelocatable, Masters, Relocatable, size, is_relocatable}
 use Rattle.block_store.specs.declared.sparing.Sparing.{Sparing}
 use Rattle.block_store.specs.declared.sparing.Sparing.TheVariants as sparing
 
--- How a search sees a block, and a stretch of free bytes.
+-- How a search sees a block.
 
 abbrev pub is_free : Block → Bool
 is_free (Free n) = true
@@ -25,7 +25,3 @@ names sparing.Nothing number = false
 names (sparing.One slot) number = number == slot
 names (sparing.Two slot other) number = number == slot || number == other
 names (sparing.Freed slot) number = number == slot
-
--- A stretch of `free` bytes is a block with room for p bytes.
-abbrev pub is_enough : ℕ → ℕ → Bool
-is_enough p free = nat_lt 0 free && nat_le p free
