@@ -4,5 +4,4 @@ pub mod Looks
 pub mod PurgedSums
 pub mod Rising
 pub mod Fewest
-pub mod Growing
 pub mod Sparing

@@ -14,6 +14,7 @@ mod LoweredExamples
 pub mod Settling
 pub mod NextRuns
 pub mod MostRoom
+pub mod RoomAbove
 pub mod Regrouping
 pub mod Ends
 pub mod Behind

@@ -1,6 +1,6 @@
 -- The least number of purges after which a run has enough free bytes. Inside Macintosh: Memory, chapter 1, "Purging and
 -- Reallocating Relocatable Blocks".
-use Rattle.std.specs.Prelude.{◌≡◌, ◌<◌, ◌&&◌, ℕ, Bool, true, false, is_some, List}
+use Rattle.std.specs.Prelude.{◌≡◌, ◌<◌, ◌&&◌, ℕ, Bool, true, false, is_some, List, Option, Some, None, min}
 use Rattle.block_store.specs.Block.{Block, is_relocatable}
 use Rattle.block_store.specs.Run.{has, has_free, run_spot}
 use Rattle.block_store.specs.Sparing.{purged}
@@ -23,3 +23,9 @@ NoneBelow test n = (k : ℕ) → k < n → test k ≡ false
 pub record IsFewest (test : ℕ → Bool) (purges : ℕ) : Type 0 where
   pub there : test purges ≡ true
   pub below : NoneBelow test purges
+
+-- The smaller of two numbers, of those that are given.
+abbrev pub smaller : Option ℕ → Option ℕ → Option ℕ
+smaller None other = other
+smaller (Some first) None = Some first
+smaller (Some first) (Some second) = Some (min first second)

@@ -21,13 +21,12 @@ mod sizing;
 mod slots;
 mod sparing;
 mod store;
-mod stretch;
 mod walk;
 
 pub use flags::Flags;
 pub use list_store::ListStore;
 pub use list_zones::ListZones;
-pub use looking::{next_purgeable_in, place_in, purgeable_in, room_above_in};
+pub use looking::{find_free_in, next_purgeable_in, place_in, purgeable_in, room_above_in};
 pub use maker::ZoneMaker;
 pub use measures::{GREATEST_ZONE, HEADER_SIZE, LEAST_ZONE, MASTERS_SIZE, SLOTS_A_BLOCK, UNIT};
 pub use purged_sums::{free_after_in, largest_after_in};
@@ -37,7 +36,6 @@ pub use runs::{
 };
 pub use sparing::{Seen, Sparing};
 pub use store::BlockStore;
-pub use stretch::{RoomScan, find_free_in, scan_room, suffices};
 pub use walk::{
     Walk, free_of_seen, is_counted_free, is_in_run, is_of, may_purge, may_purge_now, size_of_seen,
 };

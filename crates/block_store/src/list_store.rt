@@ -19,7 +19,7 @@ use crate::flags::Flags;
 use crate::list_walk::{
     fewest_over, fewest_over_block, has_free_above, look_at, purgeable_above, run_above, walk_over,
 };
-use crate::looking::{next_purgeable_in, place_in, purgeable_in, room_above_in};
+use crate::looking::{find_free_in, next_purgeable_in, place_in, purgeable_in, room_above_in};
 use crate::measures::{GREATEST_ZONE, LEAST_ZONE, MASTERS_SIZE, SLOTS_A_BLOCK, UNIT};
 use crate::nonrelocatable_blocks::{free_place, put_masters};
 use crate::packing::{hoist_slot, raise_run, settle_run};
@@ -31,7 +31,6 @@ use crate::sizing::{move_slot, resize_at};
 use crate::slots::{SlotEntry, first_unused, has_flag};
 use crate::sparing::{Seen, Sparing};
 use crate::store::BlockStore;
-use crate::stretch::find_free_in;
 use std::alloc::{AllocError, Global};
 
 /// A store that keeps its blocks in a list, from bottom to top, and its master pointers in another list, in which a
@@ -136,11 +135,11 @@ impl BlockStore for ListStore {
     }
 
     fn find_free(&self, bytes: u32) -> Option<u32> {
-        find_free_in(&mut walk_over(&self.blocks), bytes, 0, Sparing::Nothing)
+        find_free_in(&mut walk_over(&self.blocks), bytes)
     }
 
-    fn next_purgeable(&self, purges: u32, sparing: Sparing) -> Option<u32> {
-        next_purgeable_in(&mut walk_over(&self.blocks), purges, sparing)
+    fn next_purgeable(&self, sparing: Sparing) -> Option<u32> {
+        next_purgeable_in(&mut walk_over(&self.blocks), 0, sparing)
     }
 
     fn purgeable(&self, sparing: Sparing) -> u32 {
@@ -148,13 +147,7 @@ impl BlockStore for ListStore {
     }
 
     fn room_above(&self, number: u32, bytes: u32) -> bool {
-        room_above_in(
-            &mut walk_over(&self.blocks),
-            number,
-            bytes,
-            0,
-            Sparing::Nothing,
-        )
+        room_above_in(&mut walk_over(&self.blocks), number, bytes)
     }
 
     fn free_if_purged(&self) -> u32 {
@@ -187,13 +180,7 @@ impl BlockStore for ListStore {
     }
 
     fn run_of(&self, number: u32, bytes: u32) -> Option<u32> {
-        run_of_in(
-            &mut walk_over(&self.blocks),
-            number,
-            bytes,
-            0,
-            Sparing::Nothing,
-        )
+        run_of_in(&mut walk_over(&self.blocks), number, bytes)
     }
 
     fn fewest_for_block(&self, number: u32, bytes: u32, sparing: Sparing) -> Option<u32> {

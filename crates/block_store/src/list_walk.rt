@@ -14,7 +14,7 @@ ghost use Rattle.block_store.specs.Inner.ListStore.{block_of, blocks_of};
 use crate::entries::{StoredBlock, index_at};
 use crate::looking::purgeable_in;
 use crate::packing::run_start;
-use crate::run_search::{find_run_in, run_of_in};
+use crate::run_search::{find_run_in, has_run_of};
 use crate::runs::{next_run_in, purgeable_in_run_in, run_has_free_in};
 use crate::sparing::{Seen, Sparing};
 use crate::walk::Walk;
@@ -102,8 +102,7 @@ pub fn fewest_over_block(
 {
     let most = purgeable_in(&mut walk_over(entries), sparing);
     for count in 0..=most {
-        let found = run_of_in(&mut walk_over(entries), number, bytes, count, sparing);
-        if found.is_some() {
+        if has_run_of(&mut walk_over(entries), number, bytes, count, sparing) {
             return Some(count);
         }
     }

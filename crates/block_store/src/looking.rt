@@ -1,18 +1,17 @@
 //! Searches among the blocks of a zone, some of which would be purged.
 
-ghost use Rattle.std.specs.Prelude.{◌≡◌, ◌≤◌, ◌<◌, ◌^◌, is_some, IfSome};
+ghost use Rattle.std.specs.Prelude.{◌≡◌, ◌<◌, ◌^◌, is_some, IfSome};
 ghost use Rattle.std.specs.Option.{option_map};
-ghost use Rattle.block_store.specs.Block.{Block, sizes, is_relocatable, tidy};
-ghost use Rattle.block_store.specs.Room.{spot, may_be_purged, lowest_purged};
+ghost use Rattle.block_store.specs.Block.{Block, sizes, is_relocatable, is_room, tidy};
+ghost use Rattle.block_store.specs.Room.{spot, may_be_purged};
 ghost use Rattle.block_store.specs.Grow.{taken};
 ghost use Rattle.block_store.specs.Find.{FindsLowest};
 ghost use Rattle.block_store.specs.Sparing.{spared, opened, purged, most_purges};
 ghost use Rattle.block_store.specs.Seen.{seen};
 ghost use Rattle.block_store.specs.Inner.Stretch.{opened_block};
-ghost use Rattle.block_store.specs.Inner.Purging.{left_past, leading_free};
+ghost use Rattle.block_store.specs.Inner.Purging.{left_past};
 
 use crate::sparing::{Seen, Sparing};
-use crate::stretch::suffices;
 use crate::walk::{Walk, is_counted_free, is_of, may_purge, size_of_seen};
 
 /// Returns the place of the block to which a master pointer leads, if there is one.
@@ -24,6 +23,32 @@ pub fn place_in<W: Walk>(walk: &mut W, number: u32) -> Option<u32>
     let mut below = 0;
     while let Some(block) = walk.next_block() {
         if is_of(block, number) {
+            return Some(below);
+        }
+        below += size_of_seen(block);
+    }
+    None
+}
+
+/// Reports whether a block is a free block of at least `bytes` bytes.
+fn has_room(block: Seen, bytes: u32) -> bool
+    ensures { (b : Block) → seen b ≡ block → result ≡ is_room bytes b }
+{
+    match block {
+        Seen::Free(n) => bytes <= n,
+        _ => false,
+    }
+}
+
+/// Returns the place of the lowest free block of at least `bytes` bytes.
+pub fn find_free_in<W: Walk>(walk: &mut W, bytes: u32) -> Option<u32>
+    requires small { sizes (W.rest walk.old) < 2 ^ 32 }
+    requires apart { tidy (W.rest walk.old) ≡ W.rest walk.old }
+    ensures { FindsLowest (is_room bytes) (W.rest walk.old) result }
+{
+    let mut below = 0;
+    while let Some(block) = walk.next_block() {
+        if has_room(block, bytes) {
             return Some(below);
         }
         below += size_of_seen(block);
@@ -87,56 +112,24 @@ pub fn left_after(block: Seen, left: u32, sparing: Sparing) -> Option<u32>
     }
 }
 
-/// Walks past the block of a master pointer, where the block stays after `purges` purges, and returns the purges left
-/// there.
-fn go_behind<W: Walk>(walk: &mut W, number: u32, purges: u32, sparing: Sparing) -> Option<u32>
-    ensures above { option_map (λ s. s.above)
-        (spot (is_relocatable number) (lowest_purged purges (spared sparing) (opened sparing (W.rest walk.old))))
-        ≡ option_map (λ left. lowest_purged left (spared sparing) (opened sparing (W.rest walk.new))) result }
-    ensures less { sizes (W.rest walk.new) ≤ sizes (W.rest walk.old) }
+/// Reports whether the walk begins with a free block of at least `bytes` bytes.
+fn begins_with_room<W: Walk>(walk: &mut W, bytes: u32) -> bool
+    ensures { result ≡ is_some (taken bytes (W.rest walk.old)) }
 {
-    let mut left = purges;
-    while let Some(block) = walk.next_block() {
-        let next = left_after(block, left, sparing);
-        if next.is_none() && is_of(block, number) {
-            return Some(left);
-        }
-        left = next.unwrap_or(left);
-    }
-    None
-}
-
-/// Returns the size in bytes of the free blocks with which the walk begins, after `purges` purges.
-fn free_first_in<W: Walk>(walk: &mut W, purges: u32, sparing: Sparing) -> u32
-    requires { sizes (W.rest walk.old) < 2 ^ 32 }
-    ensures { result ≡ leading_free (spared sparing) purges (opened sparing (W.rest walk.old)) }
-{
-    let mut left = purges;
-    let mut total = 0;
-    while let Some(block) = walk.next_block() {
-        let Some(next) = left_after(block, left, sparing) else {
-            return total;
-        };
-        left = next;
-        total += size_of_seen(block);
-    }
-    total
-}
-
-/// Reports whether `bytes` free bytes follow the block of a master pointer, after `purges` purges.
-pub fn room_above_in<W: Walk>(
-    walk: &mut W,
-    number: u32,
-    bytes: u32,
-    purges: u32,
-    sparing: Sparing,
-) -> bool
-    requires { sizes (W.rest walk.old) < 2 ^ 32 }
-    ensures { IfSome (spot (is_relocatable number) (purged purges sparing (W.rest walk.old))) (λ s.
-        result ≡ is_some (taken bytes s.above)) }
-{
-    let Some(left) = go_behind(walk, number, purges, sparing) else {
+    let Some(next) = walk.next_block() else {
         return false;
     };
-    suffices(free_first_in(walk, left, sparing), bytes)
+    has_room(next, bytes)
+}
+
+/// Reports whether a free block of at least `bytes` bytes follows the block of a master pointer.
+pub fn room_above_in<W: Walk>(walk: &mut W, number: u32, bytes: u32) -> bool
+    ensures { IfSome (spot (is_relocatable number) (W.rest walk.old)) (λ s. result ≡ is_some (taken bytes s.above)) }
+{
+    while let Some(block) = walk.next_block() {
+        if is_of(block, number) {
+            return begins_with_room(walk, bytes);
+        }
+    }
+    false
 }

@@ -2,9 +2,10 @@
 
 ghost use Rattle.std.specs.Prelude.{◌≡◌, ◌+◌, ◌≤◌, ◌<◌, ◌^◌, ◌&&◌, ◌∷◌, ℕ, List, None, true, false, nat_le};
 ghost use Rattle.std.specs.Option.{option_map};
-ghost use Rattle.block_store.specs.Block.{Block, sizes, is_relocatable};
+ghost use Rattle.block_store.specs.Block.{Block, sizes, is_relocatable, tidy};
 ghost use Rattle.block_store.specs.Run.{run_spot, has, has_free};
 ghost use Rattle.block_store.specs.Find.{FindsLowestRun};
+ghost use Rattle.block_store.specs.Fewest.{serves_block};
 ghost use Rattle.block_store.specs.Sparing.{spared, opened, purged};
 ghost use Rattle.block_store.specs.Seen.{seen};
 ghost use Rattle.block_store.specs.Walk.{seen_size};
@@ -115,18 +116,25 @@ pub fn find_run_in<W: Walk>(walk: &mut W, bytes: u32, purges: u32, sparing: Spar
     search_runs_in(walk, None, bytes, purges, sparing)
 }
 
-/// Returns the place of the run of a master pointer's block, where the run has `bytes` free bytes after `purges`
-/// purges.
-pub fn run_of_in<W: Walk>(
+/// Returns the place of the run of a master pointer's block, where the run has `bytes` free bytes.
+pub fn run_of_in<W: Walk>(walk: &mut W, number: u32, bytes: u32) -> Option<u32>
+    requires { sizes (W.rest walk.old) < 2 ^ 32 }
+    ensures { FindsLowestRun (λ run. has (is_relocatable number) run && has_free bytes run) (tidy (W.rest walk.old))
+        result }
+{
+    search_runs_in(walk, Some(number), bytes, 0, Sparing::Nothing)
+}
+
+/// Reports whether the run of a master pointer's block has `bytes` free bytes, after `purges` purges.
+pub fn has_run_of<W: Walk>(
     walk: &mut W,
     number: u32,
     bytes: u32,
     purges: u32,
     sparing: Sparing,
-) -> Option<u32>
+) -> bool
     requires { sizes (W.rest walk.old) < 2 ^ 32 }
-    ensures { FindsLowestRun (λ run. has (is_relocatable number) run && has_free bytes run)
-        (purged purges sparing (W.rest walk.old)) result }
+    ensures { result ≡ serves_block number bytes sparing (W.rest walk.old) purges }
 {
-    search_runs_in(walk, Some(number), bytes, purges, sparing)
+    search_runs_in(walk, Some(number), bytes, purges, sparing).is_some()
 }

@@ -94,9 +94,10 @@ pub trait BlockStore {
         requires { IsSome (run_at run (zone self.now)) }
         ensures { IfSome (run_at run (zone self.now)) (λ r. result ≡ next_run r) };
 
-    /// Returns the place of the block that is purged next, after `purges` purges, if there is one.
-    fn next_purgeable(&self, purges: u32, sparing: Sparing) -> Option<u32>
-        ensures { FindsLowest (may_be_purged (spared sparing)) (purged purges sparing (zone self.now)) result };
+    /// Returns the place of the block that is purged next, if there is one. A block that counts as free is joined with
+    /// its free neighbours.
+    fn next_purgeable(&self, sparing: Sparing) -> Option<u32>
+        ensures { FindsLowest (may_be_purged (spared sparing)) (tidy (opened sparing (zone self.now))) result };
 
     /// Returns the number of blocks that may be purged.
     fn purgeable(&self, sparing: Sparing) -> u32

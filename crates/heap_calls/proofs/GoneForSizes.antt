@@ -158,14 +158,6 @@ module _ (entries : List Anchor) (nd : Sparing) (place : ℕ) (zone : List Block
     beside is = cond-false (is_some (grow_up new grows.s)) _ _ (grown-up ∙ is)
         ∙ ap (λ d. try_gone entries (enough d) nd run) (sym grows.more_is)
 
-    -- has no room
-    pub still-untold : up ≡ false → IfSome (spot_at place zone)
-        (λ s. FindsPurges more (spared nd) (segments s.above).first None) → still_gone entries nd new grows.s ≡ []
-    still-untold is h =
-        let none : room (enough more) (spared nd) run ≡ None = spot_if (spot_at place zone) grows.s
-        (λ s. FindsPurges more (spared nd) (segments s.above).first None) grows.at h in
-        beside is ∙ cond-false (is_some (room (enough more) (spared nd) run)) _ _ (ap is_some none)
-
     -- or has room in the run above it
     pub still-told : OpensNone nd → tidy zone ≡ zone → up ≡ false → (k looks taken : ℕ)
         → IfSome (spot_at place zone) (λ s. taken ≡ size s.here)

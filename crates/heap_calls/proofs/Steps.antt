@@ -5,7 +5,6 @@ pub mod Standstill
 pub mod Survival
 pub mod Refusals
 pub mod Numbers
-pub mod Unmoved
 pub mod FewSearches
 pub mod Place
 pub mod Roles

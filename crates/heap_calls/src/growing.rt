@@ -12,7 +12,7 @@ ghost use Rattle.heap_calls.specs.Inner.Growing.{FindsGrowth, growing, growing_s
 ghost use Rattle.heap_calls.specs.Inner.Growing.{IsToGrow, CanGrowUp, GrewUp};
 ghost use Rattle.heap_calls.specs.Inner.GrowingInPlace.{made_zone};
 ghost use Rattle.heap_calls.specs.Moves.{grow_moves, room_moves};
-ghost use Rattle.heap_calls.specs.Inner.Least.{smaller};
+ghost use Rattle.block_store.specs.Fewest.{smaller};
 ghost use Rattle.heap_calls.specs.Inner.Numbered.{KeepsNonrelocatable};
 ghost use Rattle.heap_calls.specs.Inner.Packed.{Packs};
 ghost use Rattle.heap_calls.specs.Inner.Telling.{try_gone};

@@ -115,7 +115,7 @@ pub fn any_goes<S: BlockStore>(store: &S, sparing: Sparing) -> bool
     ensures more { result ≡ nat_lt 0 (most_purges sparing (S.zone store.now)) }
     ensures few { most_purges sparing (S.zone store.now) ≤ GREATEST_ZONE }
 {
-    store.next_purgeable(0, sparing).is_some()
+    store.next_purgeable(sparing).is_some()
 }
 
 /// Counts the purges after which a run has at least `bytes` free bytes: the least number that serves, or all that there

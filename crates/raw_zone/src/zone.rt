@@ -292,14 +292,14 @@ impl BlockStore for RawZone {
         }
     }
 
-    fn next_purgeable(&self, purges: u32, sparing: Sparing) -> Option<u32> {
+    fn next_purgeable(&self, sparing: Sparing) -> Option<u32> {
         if self.purgeable == 0 {
             return None;
         }
         if frees_one(sparing) {
-            return next_purgeable_in(&mut walk_from(&self.part, 0), purges, sparing);
+            return next_purgeable_in(&mut walk_from(&self.part, 0), 0, sparing);
         }
-        next_purgeable(&self.part, self.marks.start(), purges, sparing)
+        next_purgeable(&self.part, self.marks.start(), 0, sparing)
     }
 
     fn purgeable(&self, sparing: Sparing) -> u32 {
@@ -320,13 +320,7 @@ impl BlockStore for RawZone {
         if self.free < bytes {
             return None;
         }
-        run_of_in(
-            &mut walk_from(&self.part, 0),
-            number,
-            bytes,
-            0,
-            Sparing::Nothing,
-        )
+        run_of_in(&mut walk_from(&self.part, 0), number, bytes)
     }
 
     fn fewest_for_block(&self, number: u32, bytes: u32, sparing: Sparing) -> Option<u32> {

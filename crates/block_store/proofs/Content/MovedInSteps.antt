@@ -210,11 +210,6 @@ module _ (number place bytes : ℕ) (zone : List Block) (r : RoomAt place (padde
       abbrev content : List ℕ
       content = resized_content bytes (content_of old)
 
-      -- its bytes can be copied
-      pub copies-from : IsSomeAnd (spot_at source made) (λ s. n ≤ length (content_of s.here))
-      copies-from = subst (λ (o : Option Spot). IsSomeAnd o (λ s. n ≤ length (content_of s.here))) (sym found.2)
-          (let l = old-is.1 in omega (arith, l, least))
-
       pub copies-to : IsSomeAnd (spot_at place made) (λ s. 0 + n ≤ length (content_of s.here))
       copies-to = subst (λ (l : List Block). IsSomeAnd (spot_at place l) (λ s. 0 + n ≤ length (content_of s.here)))
           (sym made-is) (subst (λ (o : Option Spot). IsSomeAnd o (λ s. 0 + n ≤ length (content_of s.here)))

@@ -2,7 +2,7 @@ use Rattle.std.proofs.Common.{◌≡◌, ℕ, ◌+◌, ◌-◌, ◌≤◌, ◌<�
 use Rattle.std.proofs.Common.{length, take, drop, get_or, slice_set, refl, sym, ◌∙◌, ap, cond, map, subst, arith}
 use Rattle.std.proofs.Common.{Option, Some, None, Result, Ok, Err, nat_le, ◌⊎◌, inl, inr}
 use Rattle.std.proofs.lemmas.Option.{none-some, same_Some}
-use Rattle.std.proofs.lemmas.Bool.{cond-true, cond-false, or_parts}
+use Rattle.std.proofs.lemmas.Bool.{cond-true, or_parts}
 use Rattle.std.proofs.lemmas.Bool.Decides.{nat_tests, Decides-eqb}
 use Rattle.std.proofs.lemmas.List.{length-map, map-append, take-map, drop-map, length-take, length-append}
 use Rattle.std.proofs.lemmas.List.{length-replicate, take-append-drop}
@@ -494,46 +494,3 @@ pub masters-freed : (number : ℕ) (bs : List Block) → count is_masters (freed
     ≡ count is_masters bs
 masters-freed number bs = sym (total-tidy (λ (b : Block). cond (is_masters b) 1 0) (λ n m. refl)
     (freed (is_relocatable number) bs)) ∙ masters-released number bs
-
--- the block at the place where another ends is the next one
-pub next-at : (place : ℕ) (bs : List Block) (s s' : Spot) → 0 < size s.here → spot_at place bs ≡ Some s
-    → spot_at (place + size s.here) bs ≡ Some s' → s.above ≡ s'.here ∷ s'.above
-next-at place [] s s' some e e' = absurd (none-some _ e)
-next-at place (b ∷ bs) s s' some e e' = cases (place == 0) refl (nat_le (size b) place) refl
-    (λ s s' some e e'. next-at (place - size b) bs s s' some e e') e
-  where
-    map-some : (o : Option Spot) (s : Spot) → option_map (raised b) o ≡ Some s → (r : Spot) × (o ≡ Some r)
-        × (raised b r ≡ s)
-    map-some None s e = absurd (none-some _ e)
-    map-some (Some r) s e = (r, refl, same_Some _ _ e)
-
-    step : (n k : ℕ) → n ≡ size b + k → 0 < n → spot_at n (b ∷ bs) ≡ option_map (raised b) (spot_at k bs)
-    step n k is more =
-        cond-false (n == 0) _ _ (grind (arith, nat_tests)) ∙ cond-true (nat_le (size b) n) _ _
-        (grind (arith, nat_tests)) ∙ ap (λ m. option_map (raised b) (spot_at m bs))
-        (let z : n - size b ≡ k = omega arith in z)
-
-    first : (above : List Block) (r : Spot) → spot_at 0 above ≡ Some r → above ≡ r.here ∷ r.above
-    first [] r e = absurd (none-some _ e)
-    first (c ∷ above) r e = ap (λ (r : Spot). r.here ∷ r.above) (same_Some _ _ e)
-
-    cases : (t : Bool) → (place == 0) ≡ t → (u : Bool) → nat_le (size b) place ≡ u
-        → ((s s' : Spot) → 0 < size s.here → spot_at (place - size b) bs ≡ Some s
-        → spot_at (place - size b + size s.here) bs ≡ Some s' → s.above ≡ s'.here ∷ s'.above)
-        → cond t (Some (record { below = []; here = b; above = bs }))
-        (cond u (option_map (raised b) (spot_at (place - size b) bs)) None) ≡ Some s → s.above ≡ s'.here ∷ s'.above
-    cases true z u l rest e =
-        let same = same_Some _ _ e in
-        let here : size b ≡ size s.here = ap (λ (s : Spot). size s.here) same in
-        let none : place ≡ 0 = grind (arith, nat_tests) in
-        let r = map-some (spot_at 0 bs) s' (sym (step (place + size s.here) 0 (omega arith) (omega arith)) ∙ e') in
-        sym (ap (λ (s : Spot). s.above) same) ∙ first bs r.0 r.1 ∙ ap (λ (r : Spot). r.here ∷ r.above) r.2
-    cases false z false l rest e = absurd (none-some _ e)
-    cases false z true l rest e =
-        let p = map-some (spot_at (place - size b) bs) s e in
-        let here : size p.0.here ≡ size s.here = ap (λ (s : Spot). size s.here) p.2 in
-        let le : size b ≤ place = grind (arith, nat_tests) in
-        let k = place - size b + size p.0.here in
-        let r = map-some (spot_at k bs) s' (sym (step (place + size s.here) k (omega arith) (omega arith)) ∙ e') in
-        sym (ap (λ (s : Spot). s.above) p.2) ∙ rest p.0 r.0 (omega arith) p.1 r.1
-        ∙ ap (λ (r : Spot). r.here ∷ r.above) r.2

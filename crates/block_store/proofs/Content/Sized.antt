@@ -11,13 +11,7 @@ use Rattle.block_store.proofs.Zone.Apart.{Apart, longer, more-apart, apart-above
 use Rattle.block_store.proofs.Zone.Totals.{total-append}
 use Rattle.block_store.proofs.Regroup.Packed.{tidy-below}
 use Rattle.block_store.proofs.Content.Resizing.{grown-is}
-
--- a block that isn't Free joins with none
-pub stands-solid : (b : Block) → is_free b ≡ false → (bs : List Block) → add b bs ≡ b ∷ bs
-stands-solid (Free n) e bs = let f : true ≡ false = e in cc
-stands-solid (Nonrelocatable id content) e bs = refl
-stands-solid Masters e bs = refl
-stands-solid (Relocatable id flags content) e bs = refl
+use Rattle.block_store.proofs.Zone.Joining.{stands}
 
 -- what stood apart from some block stands apart from one that isn't Free
 below-solid : (a b c : Block) → is_free c ≡ false → (bs cs : List Block) → add a (b ∷ bs) ≡ a ∷ b ∷ bs
@@ -34,7 +28,7 @@ below-solid (Relocatable id flags content) b c e bs cs h = refl
 -- a block that isn't Free in the place of another, below others that stand apart
 pub apart-solid : (below : List Block) (b c : Block) (above now : List Block) → is_free c ≡ false
     → Apart (below ++ b ∷ above) → Apart now → Apart (below ++ c ∷ now)
-apart-solid [] b c above now e a d = (stands-solid c e now, d)
+apart-solid [] b c above now e a d = (stands c e now, d)
 apart-solid (x ∷ []) b c above now e a d =
     (below-solid x b c e above now a.0, apart-solid [] b c above now e a.1 d)
 apart-solid (x ∷ y ∷ below) b c above now e a d =

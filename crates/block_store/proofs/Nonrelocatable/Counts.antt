@@ -6,11 +6,10 @@ use Rattle.std.proofs.lemmas.Bool.Decides.{Decides-eqb}
 use Rattle.std.specs.Option.{option_map}
 use Rattle.block_store.specs.Block.{Block, Free, Nonrelocatable, Masters, Relocatable, size, count, free, is_room}
 use Rattle.block_store.specs.Block.{is_relocatable, is_nonrelocatable, tidy, with_content, resized}
-use Rattle.block_store.specs.Run.{RunSpot, run_at, with_run, settle, has}
+use Rattle.block_store.specs.Run.{has}
 use Rattle.block_store.specs.Room.{Spot, filled, may_be_purged, lowest_purged}
 use Rattle.block_store.specs.Grow.{growth, taken, grow_up, freed}
-use Rattle.block_store.specs.Sparing.{spared, opened, purged}
-use Rattle.block_store.specs.Inner.Packing.{Loose}
+use Rattle.block_store.specs.Sparing.{spared, opened}
 use Rattle.block_store.specs.Seen.{with_flags, moved_away}
 use Rattle.block_store.specs.declared.flags.Flags.{Flags}
 use Rattle.block_store.specs.declared.sparing.Sparing.{Sparing}
@@ -18,8 +17,6 @@ use Rattle.block_store.specs.declared.sparing.Sparing.TheVariants as sparing
 use Rattle.block_store.proofs.Zone.Totals.{total-append}
 use Rattle.block_store.proofs.Zone.Tidy.{total-tidy}
 use Rattle.block_store.proofs.Zone.Leading.{count-carved, count-none, none-count}
-use Rattle.block_store.proofs.Regroup.RunLists.{run_at-parts, run_at-is}
-use Rattle.block_store.proofs.Nonrelocatable.Placing.{NoneNonrelocatable, stands, none_nonrelocatable-run, none_nonrelocatable-settle}
 
 -- The nonrelocatable blocks are still there.
 
@@ -91,12 +88,6 @@ not_nonrelocatable-other p q other (Nonrelocatable id content) e = false_from_ne
 not_nonrelocatable-other p q other Masters e = refl
 not_nonrelocatable-other p q other (Relocatable id flags content) e = refl
 
--- the block of a slot is given back
-pub nonrelocatable-released : (p number : ℕ) (bs : List Block) → count (is_nonrelocatable p) (tidy (freed (is_relocatable number) bs))
-    ≡ count (is_nonrelocatable p) bs
-nonrelocatable-released p number bs = nonrelocatable-tidy p (freed (is_relocatable number) bs)
-    ∙ nonrelocatable-freed p (is_relocatable number) (not_nonrelocatable-relocatable p number) bs
-
 pub nonrelocatable-lowest_purged : (p k : ℕ) (spared : Block → Bool) (bs : List Block)
     → count (is_nonrelocatable p) (lowest_purged k spared bs) ≡ count (is_nonrelocatable p) bs
 nonrelocatable-lowest_purged p zero spared bs = refl
@@ -118,12 +109,6 @@ nonrelocatable-opened p sparing.Nothing bs = refl
 nonrelocatable-opened p (sparing.One slot) bs = refl
 nonrelocatable-opened p (sparing.Two slot other) bs = refl
 nonrelocatable-opened p (sparing.Freed slot) bs = nonrelocatable-freed p (is_relocatable slot) (not_nonrelocatable-relocatable p slot) bs
-
-pub nonrelocatable-purged : (p k : ℕ) (n : Sparing) (bs : List Block)
-    → count (is_nonrelocatable p) (purged k n bs) ≡ count (is_nonrelocatable p) bs
-nonrelocatable-purged p k n bs = nonrelocatable-tidy p (lowest_purged k (spared n) (opened n bs)) ∙ nonrelocatable-lowest_purged p k (spared n)
-    (opened n bs)
-    ∙ nonrelocatable-opened p n bs
 
 count-append : (test : Block → Bool) (below above : List Block)
     → count test (below ++ above) ≡ count test below + count test above
@@ -165,16 +150,6 @@ nonrelocatable-filled p new s same =
     (s.below ++ s.here ∷ s.above) refl in
     let z : cond {A = ℕ} (is_nonrelocatable p new) 1 0 ≡ cond (is_nonrelocatable p s.here) 1 0 =
     ap {B = ℕ} (λ (v : Bool). cond v 1 0) same in
-    let f : filled new s ≡ tidy (s.below ++ new ∷ Free (size s.here - size new) ∷ s.above) = refl in
-    omega (arith, e)
-
--- a new block in place of a Free one
-pub nonrelocatable-carved : (p : ℕ) (new : Block) (s : Spot) → is_nonrelocatable p s.here ≡ false
-    → count (is_nonrelocatable p) (filled new s) ≡ cond (is_nonrelocatable p new) 1 0 + count (is_nonrelocatable p) (s.below ++ s.here ∷ s.above)
-nonrelocatable-carved p new s none =
-    let e = count-carved (is_nonrelocatable p) (λ n. refl) s.below s.above s.here new (size s.here - size new)
-    (s.below ++ s.here ∷ s.above) refl in
-    let z : cond {A = ℕ} (is_nonrelocatable p s.here) 1 0 ≡ 0 = ap {B = ℕ} (λ (v : Bool). cond v 1 0) none in
     let f : filled new s ≡ tidy (s.below ++ new ∷ Free (size s.here - size new) ∷ s.above) = refl in
     omega (arith, e)
 
@@ -226,37 +201,3 @@ nonrelocatable-grow_up p new s after same is = cases (taken (growth new s) s.abo
         (nonrelocatable-taken p (growth new s) s.above above took)
         ∙ ap (λ (t : Bool). count (is_nonrelocatable p) s.below + (cond t 1 0 + count (is_nonrelocatable p) s.above)) same
         ∙ sym (count-append (is_nonrelocatable p) s.below (s.here ∷ s.above))
-
--- no block is nonrelocatable among blocks of which none is
-pub nonrelocatable-none_nonrelocatable : (p : ℕ) (bs : List Block) → NoneNonrelocatable bs → count (is_nonrelocatable p) bs ≡ 0
-nonrelocatable-none_nonrelocatable p [] l = refl
-nonrelocatable-none_nonrelocatable p (b ∷ bs) l = let z : cond {A = ℕ} (is_nonrelocatable p b) 1 0 ≡ 0 =
-    ap {B = ℕ} (λ (v : Bool). cond v 1 0) (one b l.0) in let r = nonrelocatable-none_nonrelocatable p bs l.1 in omega arith
-  where
-    one : (b : Block) → stands b ≡ false → is_nonrelocatable p b ≡ false
-    one (Free n) e = refl
-    one (Nonrelocatable id content) e = let f : true ≡ false = e in cc
-    one Masters e = refl
-    one (Relocatable id flags content) e = refl
-
--- a run that is changed
-pub nonrelocatable-run : (p : ℕ) (change : List Block → List Block) (place : ℕ) (zone : List Block) (r : RunSpot)
-    → (Loose r.run → NoneNonrelocatable (change r.run)) → run_at place zone ≡ Some r
-    → count (is_nonrelocatable p) (tidy (with_run change r)) ≡ count (is_nonrelocatable p) zone
-nonrelocatable-run p change place zone r none at =
-    let run = (run_at-parts place zone r at).loose in
-    let c : count (is_nonrelocatable p) (r.below ++ change r.run ++ r.above)
-    ≡ count (is_nonrelocatable p) (r.below ++ change r.run) + count (is_nonrelocatable p) r.above =
-    count-append (is_nonrelocatable p) (r.below ++ change r.run) r.above in
-    let d = count-append (is_nonrelocatable p) r.below (change r.run) in
-    let e = nonrelocatable-none_nonrelocatable p (change r.run) (none run) in
-    let f = count-append (is_nonrelocatable p) r.below (r.run ++ r.above) in
-    let g = count-append (is_nonrelocatable p) r.run r.above in
-    let h = nonrelocatable-none_nonrelocatable p r.run (none_nonrelocatable-run r.run run) in
-    nonrelocatable-tidy p (with_run change r) ∙ (let z : count (is_nonrelocatable p) (r.below ++ change r.run ++ r.above)
-    ≡ count (is_nonrelocatable p) (r.below ++ (r.run ++ r.above)) = omega arith in z)
-    ∙ ap (count (is_nonrelocatable p)) (run_at-is place zone r at)
-
-pub nonrelocatable-settled : (p place : ℕ) (zone : List Block) (r : RunSpot) → run_at place zone ≡ Some r
-    → count (is_nonrelocatable p) (tidy (with_run settle r)) ≡ count (is_nonrelocatable p) zone
-nonrelocatable-settled p place zone r at = nonrelocatable-run p settle place zone r (none_nonrelocatable-settle r.run) at

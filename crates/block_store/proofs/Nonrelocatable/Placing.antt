@@ -226,13 +226,6 @@ pub stands-spot : (place : ℕ) (zone : List Block) (s : Spot) (b : Block) → s
 stands-spot place zone s b at stands = let e = spot_at-below place zone s at in
     stands-at place (0 + sizes s.below) b (omega arith) stands
 
-pub stands-here : (place : ℕ) (zone : List Block) (s : Spot) → Placed 0 zone → spot_at place zone ≡ Some s
-    → StandsAt place s.here
-stands-here place zone s p at =
-    let e = spot_at-below place zone s at in
-    stands-at (0 + sizes s.below) place s.here (omega arith) (placed-here (0 + sizes s.below) s.here s.above
-    (placed-above 0 s.below (s.here ∷ s.above) (placed-spot place zone s p at)))
-
 -- a block at the lower end of a spot
 pub placed-filled : (place : ℕ) (new : Block) (s : Spot) → StandsAt (place + sizes s.below) new → size new ≤ size s.here
     → Placed place (s.below ++ s.here ∷ s.above) → Placed place (filled new s)

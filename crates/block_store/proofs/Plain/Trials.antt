@@ -1,11 +1,11 @@
 use Rattle.std.proofs.Common.{◌≡◌, ℕ, ◌≤◌, ◌<◌, ◌⊎◌, inl, inr, zero, suc, Bool, true, false, nat_lt, Option, Some, None}
-use Rattle.std.proofs.Common.{refl, sym, ◌∙◌, ap, cond, arith}
+use Rattle.std.proofs.Common.{refl, sym, ◌∙◌, ap, cond, arith, min, nat_le, ◌||◌, MatchOption}
 use Rattle.std.proofs.lemmas.Bool.{true≢false, false_from_ne_true}
 use Rattle.std.proofs.lemmas.Bool.Decides.{nat_tests}
 use Rattle.std.specs.Option.{option_map, option_or}
 use Rattle.block_store.specs.Room.{least}
 use Rattle.block_store.specs.Compact.{least_or_last}
-use Rattle.block_store.specs.Fewest.{IsFewest}
+use Rattle.block_store.specs.Fewest.{smaller, IsFewest}
 
 -- The least of 0 .. n that passes, or has an answer.
 
@@ -89,3 +89,33 @@ pub least_or_last-fails : (test : ℕ → Bool) → ((k m : ℕ) → k ≤ m →
     → n ≤ most → test most ≡ false → least_or_last test n ≡ n
 least_or_last-fails test rises n most le none = least_or_last-at test n n (omega arith)
     (λ j less. none-before test rises most j (omega (arith, le, less)) none) (inr refl)
+
+-- the least number that passes one of two tests is the smaller of the least that pass each
+pub fewest-either : (f g h : ℕ → Bool) → ((k : ℕ) → h k ≡ (f k || g k)) → (one other : Option ℕ)
+    → MatchOption one ((k : ℕ) → f k ≡ false) (IsFewest f) → MatchOption other ((k : ℕ) → g k ≡ false) (IsFewest g)
+    → MatchOption (smaller one other) ((k : ℕ) → h k ≡ false) (IsFewest h)
+fewest-either f g h is None None a b = λ k. is k ∙ rw (a k, b k) refl
+fewest-either f g h is None (Some m) a b = record {
+  there = is m ∙ rw (a m, b.there) refl;
+  below = λ k less. is k ∙ rw (a k, b.below k less) refl;
+}
+fewest-either f g h is (Some n) None a b = record {
+  there = is n ∙ ap (λ t. t || g n) a.there;
+  below = λ k less. is k ∙ rw (a.below k less, b k) refl;
+}
+fewest-either f g h is (Some n) (Some m) a b = record {
+  there = cases (nat_le n m) refl;
+  below = λ k less. is k ∙ rw (a.below k (omega (arith, less)), b.below k (omega (arith, less))) refl;
+}
+  where
+    right : (t : Bool) → (t || true) ≡ true
+    right true = refl
+    right false = refl
+
+    cases : (t : Bool) → nat_le n m ≡ t → h (min n m) ≡ true
+    cases true e =
+        let same : min n m ≡ n = grind (arith, nat_tests, e) in
+        ap h same ∙ is n ∙ ap (λ t. t || g n) a.there
+    cases false e =
+        let same : min n m ≡ m = grind (arith, nat_tests, e) in
+        ap h same ∙ is m ∙ ap (λ t. f m || t) b.there ∙ right (f m)

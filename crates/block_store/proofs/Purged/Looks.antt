@@ -1,23 +1,18 @@
 use Rattle.std.proofs.Common.{◌≡◌, ℕ, ◌+◌, ◌-◌, zero, suc, Bool, true, false, List, [], ◌∷◌, ◌++◌}
-use Rattle.std.proofs.Common.{refl, sym, ◌∙◌, ap, cond, arith, Option, Some, None, nat_le, is_some}
-use Rattle.std.proofs.Common.{unwrap_or}
+use Rattle.std.proofs.Common.{refl, sym, ◌∙◌, ap, cond, arith, Option, Some, None, is_some}
 use Rattle.std.proofs.lemmas.Option.{none-some, same_Some}
-use Rattle.std.proofs.lemmas.Bool.{cond-true, cond-false, lt-ltb}
+use Rattle.std.proofs.lemmas.Bool.{cond-true, cond-false}
 use Rattle.std.specs.Option.{option_map, IfSome}
-use Rattle.block_store.specs.Block.{Block, Free, Nonrelocatable, Masters, Relocatable, size, sizes, free, add}
+use Rattle.block_store.specs.Block.{Block, Free, Nonrelocatable, Masters, Relocatable, size, sizes, free, is_room, add}
 use Rattle.block_store.specs.Block.{tidy}
 use Rattle.block_store.specs.declared.sparing.Sparing.TheVariants as sparing
 use Rattle.block_store.specs.Room.{Spot, spot, may_be_purged, lowest_purged}
 use Rattle.block_store.specs.Grow.{taken}
 use Rattle.block_store.specs.Sparing.{spared, opened, purged}
-use Rattle.block_store.specs.Inner.Stretch.{is_free, opened_block, is_enough}
-use Rattle.block_store.specs.Inner.Purging.{left_past, leading_free}
+use Rattle.block_store.specs.Inner.Stretch.{opened_block}
 use Rattle.block_store.specs.declared.sparing.Sparing.{Sparing}
-use Rattle.block_store.proofs.Zone.Apart.{Apart, apart-size, apart-tidy}
 use Rattle.block_store.proofs.Zone.Listing.{spot-here, spot-above}
 use Rattle.block_store.proofs.Purged.Stretches.{opened-more, size-opened}
-use Rattle.block_store.proofs.Purged.Purges.{lowest_purged-free, lowest_purged-kept, kept-not_free}
-use Rattle.block_store.proofs.Zone.Tidy.{add-joined, told-past}
 
 -- Looks at blocks of which the lowest that may go are purged.
 
@@ -29,33 +24,11 @@ above_spot test bs = option_map (λ (s : Spot). s.above) (spot test bs)
 abbrev pub place_from : ℕ → (Block → Bool) → List Block → Option ℕ
 place_from place test bs = option_map (λ (s : Spot). place + sizes s.below) (spot test bs)
 
-pub above_spot-past : (test : Block → Bool) (b : Block) (bs : List Block) → test b ≡ false
-    → above_spot test (b ∷ bs) ≡ above_spot test bs
-above_spot-past test b bs fails = told-past (λ s. s.above) test b bs (λ s. refl) fails
-
 pub above_spot-here : (test : Block → Bool) (b : Block) (bs : List Block) → test b ≡ true
     → above_spot test (b ∷ bs) ≡ Some bs
 above_spot-here test b bs passes = ap (option_map (λ (s : Spot). s.above)) (cond-true (test b) _ _ passes)
 
--- Free blocks that are made one leave what is above the block that passes, and its place
-above_spot-add : (test : Block → Bool) → ((n : ℕ) → test (Free n) ≡ false) → (b : Block) (bs : List Block)
-    → above_spot test (add b bs) ≡ above_spot test (b ∷ bs)
-above_spot-add test none = add-joined (above_spot test) (λ bs. above_spot-past test (Free 0) bs (none 0))
-    (λ n m bs. above_spot-past test (Free (n + m)) bs (none (n + m))
-    ∙ sym (above_spot-past test (Free n) (Free m ∷ bs) (none n) ∙ above_spot-past test (Free m) bs (none m)))
-
-pub above_spot-tidy : (test : Block → Bool) → ((n : ℕ) → test (Free n) ≡ false) → (bs : List Block)
-    → above_spot test (tidy bs) ≡ option_map tidy (above_spot test bs)
-above_spot-tidy test none [] = refl
-above_spot-tidy test none (b ∷ bs) = above_spot-add test none b (tidy bs)
-    ∙ cases (test b) refl (above_spot-tidy test none bs)
-  where
-    cases : (t : Bool) → test b ≡ t → above_spot test (tidy bs) ≡ option_map tidy (above_spot test bs)
-        → above_spot test (b ∷ tidy bs) ≡ option_map tidy (above_spot test (b ∷ bs))
-    cases true e rest = above_spot-here test b (tidy bs) e ∙ ap (option_map tidy) (sym (above_spot-here test b bs e))
-    cases false e rest = above_spot-past test b (tidy bs) e ∙ rest
-        ∙ ap (option_map tidy) (sym (above_spot-past test b bs e))
-
+-- Free blocks that are made one leave the place of the block that passes
 place-add : (place : ℕ) (test : Block → Bool) → ((n : ℕ) → test (Free n) ≡ false) → (b : Block) (bs : List Block)
     → place_from place test (add b bs) ≡ place_from place test (b ∷ bs)
 place-add place test none (Free zero) bs = ap (λ n. place_from n test bs) (let z : place ≡ place + 0 = omega arith in z)
@@ -137,83 +110,31 @@ top_free (Nonrelocatable id content ∷ above) = 0
 top_free (Masters ∷ above) = 0
 top_free (Relocatable id flags content ∷ above) = 0
 
-top_free-add : (n : ℕ) (bs : List Block) → top_free (add (Free n) bs) ≡ n + top_free bs
-top_free-add zero bs = let z : top_free bs ≡ 0 + top_free bs = omega arith in z
-top_free-add (suc n) [] = let z : suc n ≡ suc n + 0 = omega arith in z
-top_free-add (suc n) (Free m ∷ bs) = refl
-top_free-add (suc n) (Nonrelocatable id content ∷ bs) = let z : suc n ≡ suc n + 0 = omega arith in z
-top_free-add (suc n) (Masters ∷ bs) = let z : suc n ≡ suc n + 0 = omega arith in z
-top_free-add (suc n) (Relocatable id flags content ∷ bs) = let z : suc n ≡ suc n + 0 = omega arith in z
-
-top_free-other : (b : Block) (bs : List Block) → is_free b ≡ false → top_free (add b bs) ≡ 0
-top_free-other (Free n) bs e = let f : true ≡ false = e in cc
-top_free-other (Nonrelocatable id content) bs e = refl
-top_free-other Masters bs e = refl
-top_free-other (Relocatable id flags content) bs e = refl
-
--- the Free bytes that come first, one block on
-leading-more : (sp : Block → Bool) (k left : ℕ) (b : Block) (above : List Block) → left_past sp k b ≡ Some left
-    → leading_free sp k (b ∷ above) ≡ size b + leading_free sp left above
-leading-more sp k left b above e = ap (λ o. unwrap_or (option_map (λ left. size b + leading_free sp left above) o) 0) e
-
-leading-none : (sp : Block → Bool) (k : ℕ) (b : Block) (above : List Block) → left_past sp k b ≡ None
-    → leading_free sp k (b ∷ above) ≡ 0
-leading-none sp k b above e = ap (λ o. unwrap_or (option_map (λ left. size b + leading_free sp left above) o) 0) e
-
--- they are the lowest block after the purges
-pub top_free-leading : (sp : Block → Bool) (k : ℕ) (bs : List Block)
-    → top_free (tidy (lowest_purged k sp bs)) ≡ leading_free sp k bs
-top_free-leading sp zero [] = refl
-top_free-leading sp (suc k) [] = refl
-top_free-leading sp k (b ∷ bs) = cases (left_past sp k b) refl (λ left. top_free-leading sp left bs)
+-- so many Free bytes can be taken where the lowest block has room for them
+pub taken-room : (d : ℕ) (b : Block) (above : List Block) → is_some (taken d (b ∷ above)) ≡ is_room d b
+taken-room d b above = shown (is_room d b)
   where
-    cases : (o : Option ℕ) → left_past sp k b ≡ o → ((left : ℕ)
-        → top_free (tidy (lowest_purged left sp bs)) ≡ leading_free sp left bs)
-        → top_free (tidy (lowest_purged k sp (b ∷ bs))) ≡ leading_free sp k (b ∷ bs)
-    cases None e rest = ap (λ l. top_free (tidy l)) (lowest_purged-kept sp k b bs e)
-        ∙ top_free-other b (tidy (lowest_purged k sp bs)) (kept-not_free sp k b e) ∙ sym (leading-none sp k b bs e)
-    cases (Some left) e rest =
-        ap (λ l. top_free (tidy l)) (lowest_purged-free sp k left b bs e) ∙ top_free-add (size b)
-        (tidy (lowest_purged left sp bs))
-        ∙ ap (λ n. size b + n) (rest left) ∙ sym (leading-more sp k left b bs e)
+    shown : (t : Bool) → is_some (cond t (Some (free (size b - d) ++ above)) None) ≡ t
+    shown true = refl
+    shown false = refl
 
--- in blocks that stand apart, so many Free bytes can be taken where the lowest block has them
-pub taken-top : (d : ℕ) (bs : List Block) → Apart bs → is_some (taken d bs) ≡ is_enough d (top_free bs)
-taken-top d [] apart = refl
-taken-top d (Free n ∷ bs) apart = shown (nat_le d n) (free (n - d) ++ bs)
-    ∙ rw (lt-ltb 0 n (apart-size (Free n) bs apart.0)) refl
+-- room above the block that passes
+pub follows-some : (test : Block → Bool) (bs above : List Block) (d : ℕ) (r : Bool) → above_spot test bs ≡ Some above
+    → r ≡ is_some (taken d above) → IfSome (spot test bs) (λ s. r ≡ is_some (taken d s.above))
+follows-some test bs above d r e is = cases (spot test bs) e
   where
-    shown : (t : Bool) (l : List Block) → is_some (cond t (Some l) None) ≡ t
-    shown true l = refl
-    shown false l = refl
-taken-top d (Nonrelocatable id content ∷ bs) apart = refl
-taken-top d (Masters ∷ bs) apart = refl
-taken-top d (Relocatable id flags content ∷ bs) apart = refl
+    cases : (o : Option Spot) → option_map (λ (s : Spot). s.above) o ≡ Some above
+        → IfSome o (λ s. r ≡ is_some (taken d s.above))
+    cases None e = tt
+    cases (Some s) e = is ∙ ap (λ l. is_some (taken d l)) (sym (same_Some _ _ e))
 
-pub taken-leading : (d : ℕ) (sp : Block → Bool) (k : ℕ) (bs : List Block)
-    → is_some (taken d (tidy (lowest_purged k sp bs))) ≡ is_enough d (leading_free sp k bs)
-taken-leading d sp k bs = taken-top d (tidy (lowest_purged k sp bs)) (apart-tidy (lowest_purged k sp bs))
-    ∙ ap (is_enough d) (top_free-leading sp k bs)
-
--- room above the block that passes, where Free neighbours are made one
-pub follows-none : (test : Block → Bool) → ((n : ℕ) → test (Free n) ≡ false) → (bs : List Block) (P : Spot → Type 0)
-    → above_spot test bs ≡ None → IfSome (spot test (tidy bs)) P
-follows-none test none bs P e = cases (spot test (tidy bs)) (above_spot-tidy test none bs ∙ ap (option_map tidy) e)
+pub follows-none : (test : Block → Bool) (bs : List Block) (P : Spot → Type 0) → above_spot test bs ≡ None
+    → IfSome (spot test bs) P
+follows-none test bs P e = cases (spot test bs) e
   where
     cases : (o : Option Spot) → option_map (λ (s : Spot). s.above) o ≡ None → IfSome o P
     cases None e = tt
     cases (Some s) e = absurd (none-some _ (sym e))
-
-pub follows-some : (test : Block → Bool) → ((n : ℕ) → test (Free n) ≡ false)
-    → (bs above : List Block) (d : ℕ) (r : Bool) → above_spot test bs ≡ Some above → r ≡ is_some (taken d (tidy above))
-    → IfSome (spot test (tidy bs)) (λ s. r ≡ is_some (taken d s.above))
-follows-some test none bs above d r e is = cases (spot test (tidy bs))
-    (above_spot-tidy test none bs ∙ ap (option_map tidy) e)
-  where
-    cases : (o : Option Spot) → option_map (λ (s : Spot). s.above) o ≡ Some (tidy above)
-        → IfSome o (λ s. r ≡ is_some (taken d s.above))
-    cases None e = tt
-    cases (Some s) e = is ∙ ap (λ l. is_some (taken d l)) (sym (same_Some _ _ e))
 
 -- no blocks, as a search begins to look at them
 pub opened-none : (n : Sparing) → opened n [] ≡ []

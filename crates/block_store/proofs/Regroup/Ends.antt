@@ -111,7 +111,7 @@ apart-free (suc n) (Nonrelocatable id content ∷ above) s a = (refl, a)
 apart-free (suc n) (Masters ∷ above) s a = (refl, a)
 apart-free (suc n) (Relocatable id flags content ∷ above) s a = (refl, a)
 
-apart-movers : (run above : List Block) → Apart above → Apart (movers run ++ above)
+pub apart-movers : (run above : List Block) → Apart above → Apart (movers run ++ above)
 apart-movers [] above a = a
 apart-movers (Free n ∷ run) above a = apart-movers run above a
 apart-movers (Nonrelocatable id content ∷ run) above a = apart-movers run above a

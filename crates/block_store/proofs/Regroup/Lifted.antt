@@ -19,6 +19,7 @@ use Rattle.block_store.proofs.Regroup.Packed.{tidy-below, loose-parts, loose-app
 use Rattle.block_store.proofs.Regroup.Parts.{in-free}
 use Rattle.block_store.proofs.Regroup.RunLists.{run_at-parts}
 use Rattle.block_store.proofs.Regroup.Regrouping.{apart-filter, all-filter}
+use Rattle.block_store.proofs.Zone.Joining.{add-twice}
 
 -- a run without relocatable blocks
 pub no-movers : (run : List Block) → sizes (movers run) ≡ 0 → movers run ≡ []
@@ -67,23 +68,12 @@ apart-low (suc n) run l some = (
   apart-filter is_mover (λ m. refl) run (free (free_sum run - suc n)) (apart-free (free_sum run - suc n)),
 )
 
--- two Free blocks are one
-add-both : (n m : ℕ) (bs : List Block) → add (Free (suc n)) (add (Free (suc m)) bs) ≡ add (Free (suc (n + suc m))) bs
-add-both n m [] = let e : suc n + suc m ≡ suc (n + suc m) = omega arith in ap (λ k. Free k ∷ []) e
-add-both n m (Free k ∷ bs) =
-    let e : suc n + (suc m + k) ≡ suc (n + suc m) + k = omega arith in ap (λ j. Free j ∷ bs) e
-add-both n m (Nonrelocatable id content ∷ bs) =
-    let e : suc n + suc m ≡ suc (n + suc m) = omega arith in ap (λ k. Free k ∷ Nonrelocatable id content ∷ bs) e
-add-both n m (Masters ∷ bs) = let e : suc n + suc m ≡ suc (n + suc m) = omega arith in ap (λ k. Free k ∷ Masters ∷ bs) e
-add-both n m (Relocatable id flags content ∷ bs) =
-    let e : suc n + suc m ≡ suc (n + suc m) = omega arith in ap (λ k. Free k ∷ Relocatable id flags content ∷ bs) e
-
 tidy-both : (n m : ℕ) (above : List Block) → 0 < n → tidy (Free n ∷ (free m ++ above)) ≡ tidy (free (n + m) ++ above)
 tidy-both zero m above l = absurd (omega (arith, l))
 tidy-both (suc n) zero above l = let e : suc n ≡ suc n + 0 = omega arith in ap (λ k. tidy (free k ++ above)) e
 tidy-both (suc n) (suc m) above l =
     let e : suc (n + suc m) ≡ suc n + suc m = omega arith in
-    add-both n m (tidy above) ∙ ap (λ k. tidy (free k ++ above)) e
+    add-twice n m (tidy above) ∙ ap (λ k. tidy (free k ++ above)) e
 
 -- where a run has no relocatable blocks, it is raised as it is packed
 pub low-none : (n : ℕ) (r : RunSpot) → 0 < n → n ≤ free_sum r.run → movers r.run ≡ []

@@ -1,13 +1,13 @@
 use Rattle.std.proofs.Common.{◌≡◌, ℕ, ◌+◌, ◌-◌, ◌%◌, ◌≤◌, ◌<◌, Bool, true, false, List, [], ◌∷◌, ◌++◌, refl, sym, ◌∙◌}
-use Rattle.std.proofs.Common.{ap, cond, map, arith, Option, Some, None, is_some, max, nat_le}
-use Rattle.std.proofs.lemmas.Bool.{le-leb, lt-leb, cond-true, cond-false}
+use Rattle.std.proofs.Common.{ap, cond, map, arith, ◌||◌, Option, Some, None, is_some, max, nat_le}
+use Rattle.std.proofs.lemmas.Bool.{le-leb, leb-true, leb-false, lt-leb, cond-true, cond-false}
 use Rattle.std.proofs.lemmas.Bool.Decides.{nat_tests}
 use Rattle.std.specs.Prelude.{option_and_then}
 use Rattle.std.specs.Option.{option_map, option_or, IfSome, IsSome}
 use Rattle.mac_words.specs.Size.{phys, padded}
 use Rattle.block_store.specs.Block.{Block, Free, Nonrelocatable, Masters, Relocatable, free_of, free_sum, is_room, tidy, rename}
 use Rattle.block_store.specs.Run.{in_run, Stretch, Segments, segments, runs, joined, RunSpot, run_raised, lowest_run}
-use Rattle.block_store.specs.Run.{run_spot, with_run, change_run, has_free, settle}
+use Rattle.block_store.specs.Run.{has, run_spot, with_run, change_run, has_free, settle}
 use Rattle.block_store.specs.Room.{Spot, raised, rename_spot, spot, place}
 use Rattle.block_store.specs.Compact.{largest, largest_free, largest_run, Aligned}
 use Rattle.block_store.proofs.Renamed.Renaming.{place-rename}
@@ -96,6 +96,27 @@ run-some p run (q ∷ parts) le = cases (has_free p run) refl (lowest_run (has_f
     cases false e (Some r) rest = refl
     cases false e None rest = rest (let f : nat_le p (free_sum run) ≡ false = e in grind (arith, nat_tests, f))
 
+-- a Free block has so many bytes just where the largest has
+pub room-largest : (p : ℕ) (zone : List Block) → 0 < p → nat_le p (largest_free zone) ≡ has (is_room p) zone
+room-largest p [] pos = lt-leb p 0 pos
+room-largest p (b ∷ zone) pos = le-max (free_of b) (largest_free zone)
+    ∙ ap (λ t. t || nat_le p (largest_free zone)) (here b)
+    ∙ ap (λ t. is_room p b || t) (room-largest p zone pos)
+  where
+    le-max : (n m : ℕ) → nat_le p (max n m) ≡ (nat_le p n || nat_le p m)
+    le-max n m = cases (nat_le p n) refl (nat_le p m) refl
+      where
+        cases : (t : Bool) → nat_le p n ≡ t → (u : Bool) → nat_le p m ≡ u → nat_le p (max n m) ≡ (t || u)
+        cases true e u f = le-leb p (max n m) (omega (arith, leb-true p n e))
+        cases false e true f = le-leb p (max n m) (omega (arith, leb-true p m f))
+        cases false e false f = lt-leb p (max n m) (omega (arith, leb-false p n e, leb-false p m f))
+
+    here : (b : Block) → nat_le p (free_of b) ≡ is_room p b
+    here (Free n) = refl
+    here (Nonrelocatable id content) = lt-leb p 0 pos
+    here Masters = lt-leb p 0 pos
+    here (Relocatable id flags content) = lt-leb p 0 pos
+
 -- no more bytes than the most of a run have a place
 pub place-none : (p : ℕ) (zone : List Block) → largest_run zone < p → place p zone ≡ None
 place-none p zone less =
@@ -117,6 +138,23 @@ place-some p zone pos le = cases (spot (is_room p) zone) (run_spot (has_free p) 
     cases None None e some = some
     cases None (Some r) e some = sym (has-spot (is_room p) (tidy (with_run settle r)))
         ∙ room-settled p pos r (run_spot-passes (has_free p) zone r e)
+
+-- a run has so many bytes just where the most are no fewer
+pub run-there : (p : ℕ) (zone : List Block) → is_some (run_spot (has_free p) zone) ≡ nat_le p (largest_run zone)
+run-there p zone = cases (nat_le p (largest_run zone)) refl
+  where
+    cases : (t : Bool) → nat_le p (largest_run zone) ≡ t → is_some (run_spot (has_free p) zone) ≡ t
+    cases true e = run-some p (segments zone).first (segments zone).rest (leb-true p (largest_run zone) e)
+    cases false e = ap is_some (run-none p (segments zone).first (segments zone).rest (leb-false p (largest_run zone) e))
+
+-- and just there a block has a place
+pub placed-is : (p : ℕ) (zone : List Block) → 0 < p
+    → is_some (place p zone) ≡ is_some (run_spot (has_free p) zone)
+placed-is p zone pos = cases (nat_le p (largest_run zone)) refl ∙ sym (run-there p zone)
+  where
+    cases : (t : Bool) → nat_le p (largest_run zone) ≡ t → is_some (place p zone) ≡ t
+    cases true e = place-some p zone pos (leb-true p (largest_run zone) e)
+    cases false e = ap is_some (place-none p zone (leb-false p (largest_run zone) e))
 
 -- what holds of the bytes that a block takes holds where there can be such a block
 pub phys-holds : (n : ℕ) (P : ℕ → Type 0) → P (padded n) → IfSome (phys n) P

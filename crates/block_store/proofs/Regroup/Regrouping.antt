@@ -15,6 +15,7 @@ use Rattle.block_store.proofs.Regroup.Parts.{AreParts, in-parts, segments-part, 
 use Rattle.block_store.proofs.Regroup.Packed.{loose-append}
 use Rattle.block_store.specs.Inner.Packing.{Loose}
 use Rattle.block_store.proofs.Zone.Passing.{filter-keeps}
+use Rattle.block_store.proofs.Zone.Joining.{apart-front}
 
 -- Another order of the blocks of a run, in the zone.
 
@@ -41,13 +42,6 @@ pub record IsRun (place : ℕ) (run : List Block) (parts : List Stretch) (r : Ru
   pub change : (run' : List Block) → Loose run' → run_at place (put_run run' r) ≡ Some (changed run' r)
   pub apart : Apart (joined run parts) → (run' : List Block) → Apart run' → Apart (put_run run' r)
 
-add-last : (b : Block) (l : List Block) → add b l ≡ b ∷ l → add b [] ≡ b ∷ []
-add-last (Free zero) l e = absurd (longer (Free zero) l e)
-add-last (Free (suc n)) l e = refl
-add-last (Nonrelocatable id content) l e = refl
-add-last Masters l e = refl
-add-last (Relocatable id flags content) l e = refl
-
 add-barrier : (b c : Block) (l : List Block) → in_run c ≡ false → add b [] ≡ b ∷ [] → add b (c ∷ l) ≡ b ∷ c ∷ l
 add-barrier (Free zero) c l out e = absurd (longer (Free zero) [] e)
 add-barrier (Free (suc n)) (Free k) l out e = let f : true ≡ false = out in cc
@@ -57,11 +51,6 @@ add-barrier (Free (suc n)) (Relocatable id flags content) l out e = refl
 add-barrier (Nonrelocatable id content) c l out e = refl
 add-barrier Masters c l out e = refl
 add-barrier (Relocatable id flags content) c l out e = refl
-
-pub apart-below : (xs ys : List Block) → Apart (xs ++ ys) → Apart xs
-apart-below [] ys a = tt
-apart-below (x ∷ []) ys a = (add-last x ys a.0, tt)
-apart-below (x ∷ y ∷ xs) ys a = (apart-next x y (xs ++ ys) xs a.0, apart-below (y ∷ xs) ys a.1)
 
 -- a run, a block that ends it, and what is above
 apart-run : (run : List Block) (b : Block) (above : List Block) → Apart run → in_run b ≡ false → Apart above
@@ -121,7 +110,7 @@ run_from-is place run (p ∷ parts) r all each e =
           ∙ ap (option_map (run_raised low)) (known.change run' all');
       apart = λ a run' a'.
           subst Apart (sym (regroup run p.barrier r'.below run' r'.above))
-          (apart-run run p.barrier (put_run run' r') (apart-below run (p.barrier ∷ joined p.run parts) a) each.0
+          (apart-run run p.barrier (put_run run' r') (apart-front run (p.barrier ∷ joined p.run parts) a) each.0
           (known.apart (apart-above run (p.barrier ∷ joined p.run parts) a).1 run' a'));
     }
 

@@ -5,8 +5,8 @@ use Rattle.std.proofs.lemmas.List.{append-nil, append_assoc}
 use Rattle.std.proofs.lemmas.Option.{none-some, same_Some}
 use Rattle.std.proofs.lemmas.Bool.Decides.{nat_tests}
 use Rattle.std.specs.Option.{option_map, IfSome}
-use Rattle.block_store.specs.Block.{Block, Free, Nonrelocatable, Masters, Relocatable, size, sizes, free_sum, free, is_mover}
-use Rattle.block_store.specs.Block.{add, tidy}
+use Rattle.block_store.specs.Block.{Block, Free, Nonrelocatable, Masters, Relocatable, size, sizes, free_sum, free}
+use Rattle.block_store.specs.Block.{tidy}
 use Rattle.block_store.specs.Run.{in_run, Stretch, Segments, segments, runs, joined, RunSpot, run_raised, run_at}
 use Rattle.block_store.specs.Run.{with_run, has, movers, settle}
 use Rattle.block_store.specs.Room.{Spot, raised, spot}
@@ -22,6 +22,7 @@ use Rattle.block_store.proofs.Regroup.Parts.{AreParts, in-parts, segments-part, 
 use Rattle.block_store.proofs.Regroup.Parts.{in-settle}
 use Rattle.block_store.specs.Inner.Packing.{Loose}
 use Rattle.block_store.proofs.Plain.Trials.{least_or_last-at}
+use Rattle.block_store.proofs.Regroup.Ends.{apart-movers}
 
 -- Settling the runs of a zone one after another, lowest first.
 
@@ -65,22 +66,6 @@ with-settled (suc k) run (p ∷ parts) r e = cases (settled_spot k p.run parts) 
         ∙ append_assoc (settle run ++ p.barrier ∷ []) (r'.below ++ settle r'.run) r'.above
         ∙ append_assoc (settle run) (p.barrier ∷ []) (r'.below ++ settle r'.run ++ r'.above)
         ∙ ap (λ l. settle run ++ p.barrier ∷ l) (rest r' refl)
-
--- blocks that join with no block above them
-mover-alone : (b : Block) (above : List Block) → is_mover b ≡ true → add b above ≡ b ∷ above
-mover-alone (Free n) above e = let f : false ≡ true = e in cc
-mover-alone (Nonrelocatable id content) above e = refl
-mover-alone Masters above e = refl
-mover-alone (Relocatable id flags content) above e = refl
-
-apart-movers : (run above : List Block) → Apart above → Apart (movers run ++ above)
-apart-movers [] above a = a
-apart-movers (b ∷ run) above a = cases (is_mover b) refl (apart-movers run above a)
-  where
-    cases : (t : Bool) → is_mover b ≡ t → Apart (movers run ++ above)
-        → Apart (cond t (b ∷ movers run) (movers run) ++ above)
-    cases true e rest = (mover-alone b (movers run ++ above) e, rest)
-    cases false e rest = rest
 
 apart-free : (n : ℕ) (b : Block) (above : List Block) → in_run b ≡ false → Apart (b ∷ above)
     → Apart (free n ++ b ∷ above)

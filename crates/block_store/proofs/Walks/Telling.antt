@@ -26,7 +26,7 @@ pub told-none : (before after : List Block) (answer : Option Seen) → Tells bef
 told-none [] after answer t e = refl
 told-none (b ∷ above) after answer t e = absurd (none-some (seen b) (sym e ∙ t.0))
 
-size-seen : (b : Block) → seen_size (seen b) ≡ size b
+pub size-seen : (b : Block) → seen_size (seen b) ≡ size b
 size-seen (Free n) = refl
 size-seen (Nonrelocatable id content) = refl
 size-seen Masters = refl

@@ -9,7 +9,8 @@ use Rattle.block_store.proofs.Zone.Apart.{Apart, longer, two, apart-next, apart-
 use Rattle.block_store.proofs.Zone.Spots.{free-some}
 use Rattle.block_store.proofs.Regroup.Packed.{tidy-below, tidy-free}
 
-add-twice : (g n : ℕ) (bs : List Block) → add (Free (suc g)) (add (Free (suc n)) bs) ≡ add (Free (suc (g + suc n))) bs
+-- two Free blocks are one
+pub add-twice : (g n : ℕ) (bs : List Block) → add (Free (suc g)) (add (Free (suc n)) bs) ≡ add (Free (suc (g + suc n))) bs
 add-twice g n [] = let e : suc g + suc n ≡ suc (g + suc n) = omega arith in ap (λ k. Free k ∷ []) e
 add-twice g n (Free m ∷ bs) =
     let e : suc g + (suc n + m) ≡ suc (g + suc n) + m = omega arith in ap (λ k. Free k ∷ bs) e

@@ -6,7 +6,8 @@ use Rattle.std.specs.Option.{option_map}
 use Rattle.block_store.specs.Block.{Block, Free, Nonrelocatable, Masters, Relocatable, size, sizes, add, tidy}
 use Rattle.block_store.specs.Room.{raised, spot_at}
 use Rattle.block_store.specs.Inner.Stretch.{is_free}
-use Rattle.block_store.proofs.Zone.Apart.{Apart, apart-above, apart-next, apart-size, apart-tidied, longer, tidy-apart}
+use Rattle.block_store.proofs.Zone.Apart.{Apart, apart-above, apart-size, apart-tidied, tidy-apart}
+use Rattle.block_store.proofs.Zone.Joining.{apart-front}
 
 -- A zone parted by a block that isn't Free.
 
@@ -40,22 +41,6 @@ tidy-parted [] b above e = add-solid b (tidy above) e
 tidy-parted (c ∷ below) b above e = ap (add c) (tidy-parted below b above e)
     ∙ add-before c (tidy below) b (tidy above) e
 
--- blocks below others stand apart by themselves
-pub apart-below : (below above : List Block) → Apart (below ++ above) → Apart below
-apart-below [] above a = tt
-apart-below (c ∷ []) above a = (alone c above a.0, tt)
-  where
-    alone : (c : Block) (bs : List Block) → add c bs ≡ c ∷ bs → add c [] ≡ c ∷ []
-    alone (Free zero) bs e = absurd (longer (Free zero) bs e)
-    alone (Free (suc n)) bs e = refl
-    alone (Nonrelocatable id content) bs e = refl
-    alone Masters bs e = refl
-    alone (Relocatable id flags content) bs e = refl
-apart-below (c ∷ d ∷ below) above a = (
-  apart-next c d (below ++ above) below a.0,
-  apart-below (d ∷ below) above a.1,
-)
-
 -- the block that stands above others is the one at the place where those end
 pub spot_at-parted : (below : List Block) (b : Block) (above : List Block) → Apart (below ++ b ∷ above)
     → spot_at (sizes below) (below ++ b ∷ above) ≡ Some (record { below = below; here = b; above = above })
@@ -75,5 +60,5 @@ pub tidy-renamed : (below : List Block) (b c : Block) (above : List Block) → i
 tidy-renamed below b c above e f t =
     let a = apart-tidied (below ++ b ∷ above) t in
     tidy-parted below c above f
-    ∙ (λ i. tidy-apart below (apart-below below (b ∷ above) a) i ++ c ∷ tidy-apart above
+    ∙ (λ i. tidy-apart below (apart-front below (b ∷ above) a) i ++ c ∷ tidy-apart above
     (apart-above below (b ∷ above) a).1 i)

@@ -213,14 +213,6 @@ module _ (slot place : ℕ) (flags : Flags) (x : List ℕ) (zone zone1 : List Bl
     here = let P : Option Spot → Type 0 = λ o. IsSomeAnd o (λ s. s.here ≡ fresh_block slot (length x)) in
         let h : P (Some found.0) = subst P found.1 fresh in h
 
-    -- there is room for the bytes
-    pub may-fill : IsSomeAnd (spot_at place zone) (λ s. 0 + length x ≤ length (content_of s.here))
-    may-fill =
-        let P : Option Spot → Type 0 = λ o. IsSomeAnd o (λ s. 0 + length x ≤ length (content_of s.here)) in
-        let long : length (content_of found.0.here) ≡ length x = ap (λ b. length (content_of b)) here
-        ∙ length-replicate (length x) 0 in
-        subst P (sym found.2) (omega (arith, long))
-
     module _ (done : IfSome (spot_at place zone) (λ s. zone1 ≡ s.below
         ++ with_content (written 0 x (content_of s.here)) s.here ∷ s.above))
       where

@@ -270,11 +270,6 @@ searched-done {T = T} row looks value zone zone' rest rest' es es' log log' r n 
 abbrev pub with_handle : List Anchor → ℕ → List Anchor
 with_handle es slot = es ++ Handle slot false ∷ []
 
--- a list that was copied and got a handle more
-pub one-more : (es copy more : List Anchor) (slot : ℕ) → copy ≡ es → more ≡ copy ++ Handle slot false ∷ []
-    → more ≡ with_handle es slot
-one-more es copy more slot same new = new ∙ ap (λ l. l ++ Handle slot false ∷ []) same
-
 -- NewHandle, where its block was put in its place
 module _ (zone : List Block) (rest : Rest) (es : List Anchor) (n : ℕ) (masters : rest.all ≡ 64 * count is_masters zone)
     (agrees : Agrees zone rest es)

@@ -5,7 +5,7 @@ use Rattle.std.proofs.lemmas.Bool.{cond-false}
 use Rattle.std.proofs.lemmas.Bool.Decides.{Decides-eqb}
 use Rattle.std.proofs.lemmas.Option.{same_Some}
 use Rattle.std.specs.Option.{option_map}
-use Rattle.std.specs.Prelude.{IsTrue, is_some, if◌then◌else◌}
+use Rattle.std.specs.Prelude.{is_some, if◌then◌else◌}
 use Rattle.mac_words.specs.Size.{phys}
 use Rattle.mac_words.specs.declared.code.OsErr.{OsErr}
 use Rattle.mac_words.specs.declared.code.TheConstants.OsErr.{MEM_FULL, LOCKED, PROFILE, PURGED}
@@ -726,15 +726,3 @@ masters-spared (asked.Show handle) = tt
 masters-spared (asked.PutPtr pointer i x) = tt
 masters-spared (asked.ShowPtr pointer) = tt
 masters-spared (asked.Where name) = tt
-
--- a zone with a Masters block has one after each call
-pub masters-kept : (a : Asked) (m : Memory) → OneBlockEach m.heap.zone → IsTrue (has is_masters m.heap.zone)
-    → IsTrue (has is_masters (answered a m).1.heap.zone)
-masters-kept a m once before = cases (has is_masters (answered a m).1.heap.zone) refl
-  where
-    cases : (t : Bool) → has is_masters (answered a m).1.heap.zone ≡ t → t ≡ true
-    cases true e = refl
-    cases false e =
-        let s = of-answered masters (λ n. refl) masters-goes masters-sized masters-filled a m once (masters-spared a) in
-        let b = has-count is_masters m.heap.zone before in
-        absurd (let c = count-none is_masters (answered a m).1.heap.zone e in omega arith)

@@ -1,27 +1,27 @@
-use Rattle.std.proofs.Common.{◌≡◌, ℕ, ◌+◌, ◌≤◌, ◌<◌, inr, zero, suc, nat_le, nat_lt, max, Bool, true, false, cond}
-use Rattle.std.proofs.Common.{◌||◌, Option, Some, None, is_some, List, [], ◌∷◌, refl, sym}
+use Rattle.std.proofs.Common.{◌≡◌, ℕ, ◌+◌, ◌<◌, inr, zero, suc, nat_lt, Bool, true, false, cond}
+use Rattle.std.proofs.Common.{Option, Some, None, is_some, List, refl, sym}
 use Rattle.std.proofs.Common.{◌∙◌, ap, arith}
 use Rattle.std.specs.Option.{option_or, IfSome}
-use Rattle.std.proofs.lemmas.Bool.{cond-true, le-leb, leb-true, leb-false, lt-leb}
+use Rattle.std.proofs.lemmas.Bool.{cond-true}
 use Rattle.std.proofs.lemmas.Bool.Decides.{nat_tests}
-use Rattle.block_store.specs.Block.{Block, Free, Nonrelocatable, Masters, Relocatable, size, free_of, is_room, is_relocatable}
-use Rattle.block_store.specs.Block.{tidy}
-use Rattle.block_store.specs.Run.{has, has_free, run_spot}
+use Rattle.block_store.specs.Block.{Block, size, is_relocatable}
+use Rattle.block_store.specs.Block.{count, tidy}
+use Rattle.block_store.specs.Run.{has_free, run_spot}
 use Rattle.block_store.specs.Room.{spot, least, may_be_purged, place}
 use Rattle.block_store.specs.Grow.{grow_mover}
 use Rattle.block_store.specs.Find.{FindsLowest}
-use Rattle.block_store.specs.Compact.{least_or_last, largest_free}
+use Rattle.block_store.specs.Compact.{least_or_last}
 use Rattle.block_store.specs.Fewest.{serves, IsFewest}
 use Rattle.block_store.specs.Sparing.{spared, opened, purged, most_purges}
 use Rattle.block_store.specs.declared.sparing.Sparing.{Sparing}
 use Rattle.block_store.proofs.Plain.Trials.{fewest-last, least_or_last-at}
-use Rattle.block_store.proofs.Purged.Growing.{placed-is}
+use Rattle.block_store.proofs.Regroup.MostRoom.{placed-is}
 use Rattle.block_store.proofs.Purged.Rising.{purged-all}
 use Rattle.heap_calls.specs.Inner.Search.{tries, FindsPlacement, placement, placement_searches}
 use Rattle.heap_calls.specs.Inner.Growing.{FindsGrowth, Stays, grown, growing, growing_searches}
 use Rattle.heap_calls.specs.declared.search.Placement.{Placement}
 use Rattle.heap_calls.specs.declared.growing.Growth.{Growth}
-use Rattle.heap_calls.proofs.Room.Searching.{more-none, more-some, placement-some}
+use Rattle.heap_calls.proofs.Room.Searching.{count-tidy, count-none, count-some, placement-some}
 use Rattle.heap_calls.proofs.Sizes.Growth.{growth-some, opened-stays}
 
 -- The least number of purges that serves.
@@ -92,36 +92,22 @@ module _ (p : ℕ) (n : Sparing) (zone : List Block) where
   placement-least pos k e = e ∙ ap (λ (test : ℕ → Bool). least_or_last test (most_purges n zone))
       (λ i j. (sym (placed-is p (purged j n zone) pos)) i)
 
--- a Free block has so many bytes just where the largest has
-pub room-largest : (p : ℕ) (zone : List Block) → 0 < p → nat_le p (largest_free zone) ≡ has (is_room p) zone
-room-largest p [] pos = lt-leb p 0 pos
-room-largest p (b ∷ zone) pos = le-max (free_of b) (largest_free zone)
-    ∙ ap (λ t. t || nat_le p (largest_free zone)) (here b)
-    ∙ ap (λ t. is_room p b || t) (room-largest p zone pos)
-  where
-    le-max : (n m : ℕ) → nat_le p (max n m) ≡ (nat_le p n || nat_le p m)
-    le-max n m = cases (nat_le p n) refl (nat_le p m) refl
-      where
-        cases : (t : Bool) → nat_le p n ≡ t → (u : Bool) → nat_le p m ≡ u → nat_le p (max n m) ≡ (t || u)
-        cases true e u f = le-leb p (max n m) (omega (arith, leb-true p n e))
-        cases false e true f = le-leb p (max n m) (omega (arith, leb-true p m f))
-        cases false e false f = lt-leb p (max n m) (omega (arith, leb-false p n e, leb-false p m f))
-
-    here : (b : Block) → nat_le p (free_of b) ≡ is_room p b
-    here (Free n) = refl
-    here (Nonrelocatable id content) = lt-leb p 0 pos
-    here Masters = lt-leb p 0 pos
-    here (Relocatable id flags content) = lt-leb p 0 pos
-
 -- what a search for the next block to go tells
-pub next-goes : (n : Sparing) (k : ℕ) (zone : List Block) (r : Option ℕ)
-    → FindsLowest (may_be_purged (spared n)) (purged k n zone) r → is_some r ≡ nat_lt k (most_purges n zone)
-next-goes n k zone None found =
-    let le : most_purges n zone ≤ k = more-none n k zone found in
-    grind (arith, nat_tests, le)
-next-goes n k zone (Some at) found =
-    let less : k < most_purges n zone = more-some n k zone found.0 found.1 in
-    grind (arith, nat_tests, less)
+pub next-goes : (n : Sparing) (zone : List Block) (r : Option ℕ)
+    → FindsLowest (may_be_purged (spared n)) (tidy (opened n zone)) r → is_some r ≡ nat_lt 0 (most_purges n zone)
+next-goes n zone None found =
+    let none : most_purges n zone ≡ 0 = sym (count-tidy (spared n) (opened n zone))
+    ∙ count-none (may_be_purged (spared n)) (tidy (opened n zone)) found in
+    grind (arith, nat_tests, none)
+next-goes n zone (Some at) found =
+    let all : count (may_be_purged (spared n)) (tidy (opened n zone)) ≡ most_purges n zone =
+    count-tidy (spared n) (opened n zone) in
+    let some : 0 < most_purges n zone = omega (
+      arith,
+      all,
+      count-some (may_be_purged (spared n)) (tidy (opened n zone)) found.0 found.1,
+    ) in
+    grind (arith, nat_tests, some)
 
 -- what a search for a placement tells
 pub placement-there : (p : ℕ) (zone : List Block) → 0 < p → (o : Option Placement) → FindsPlacement p zone o

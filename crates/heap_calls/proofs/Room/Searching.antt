@@ -1,4 +1,4 @@
-use Rattle.std.proofs.Common.{◌≡◌, ℕ, ◌+◌, ◌-◌, ◌≤◌, ◌<◌, zero, suc, Bool, true, false, ◌||◌, List, [], ◌∷◌, length}
+use Rattle.std.proofs.Common.{◌≡◌, ℕ, ◌+◌, ◌≤◌, ◌<◌, Bool, true, false, ◌||◌, List, [], ◌∷◌, length}
 use Rattle.std.proofs.Common.{refl, sym, ◌∙◌, ap, subst, cond, arith, Option, Some, None, is_some}
 use Rattle.std.proofs.lemmas.Option.{none-some}
 use Rattle.std.specs.Option.{option_map, IfSome}
@@ -6,46 +6,23 @@ use Rattle.mac_words.specs.Size.{padded}
 use Rattle.block_store.specs.Block.{Block, Free, Nonrelocatable, Masters, Relocatable, size, sizes, count, is_room, tidy}
 use Rattle.block_store.specs.Block.{is_relocatable}
 use Rattle.block_store.specs.Run.{has, has_free, settle, with_run, RunSpot, run_spot, run_at}
-use Rattle.block_store.specs.Room.{Spot, raised, spot, place, may_be_purged, lowest_purged, purge, count_of}
+use Rattle.block_store.specs.Room.{Spot, raised, spot, place, may_be_purged, count_of}
 use Rattle.block_store.specs.Grow.{freed}
 use Rattle.block_store.proofs.Zone.Tidy.{total-tidy}
 use Rattle.block_store.proofs.Zone.Totals.{total-le}
 use Rattle.block_store.proofs.Zone.Listing.{size-freed}
 use Rattle.block_store.proofs.Regroup.RunSpots.{run_spot-passes}
 use Rattle.block_store.proofs.Regroup.HavingRoom.{room-settled}
-use Rattle.block_store.specs.Sparing.{spared, opened, purged, most_purges}
+use Rattle.block_store.specs.Sparing.{spared, most_purges}
 use Rattle.heap_calls.specs.Inner.Search.{FindsPlacement}
 use Rattle.heap_calls.specs.declared.search.Placement.{Placement}
 use Rattle.heap_calls.specs.declared.search.Placement.TheVariants as see
 use Rattle.block_store.specs.declared.sparing.Sparing.{Sparing}
 use Rattle.block_store.specs.declared.sparing.Sparing.TheVariants as sparing
 
--- how many may go after k went
-count-lowest_purged : (k : ℕ) (t : Block → Bool) (bs : List Block) → count (may_be_purged t) (lowest_purged k t bs)
-    ≡ count_of t bs - k
-count-lowest_purged zero t bs = omega arith
-count-lowest_purged (suc k) t [] = omega arith
-count-lowest_purged (suc k) t (b ∷ bs) = cases (may_be_purged t b) refl (count-lowest_purged k t bs)
-    (count-lowest_purged (suc k) t bs)
-  where
-    cases : (m : Bool) → may_be_purged t b ≡ m → count (may_be_purged t) (lowest_purged k t bs) ≡ count_of t bs - k
-        → count (may_be_purged t) (lowest_purged (suc k) t bs) ≡ count_of t bs - suc k
-        → count (may_be_purged t) (cond m (Free (size b) ∷ lowest_purged k t bs) (b ∷ lowest_purged (suc k) t bs))
-        ≡ cond {A = ℕ} (may_be_purged t b) 1 0 + count_of t bs - suc k
-    cases true e one more =
-        let a : cond {A = ℕ} (may_be_purged t b) 1 0 ≡ 1 = ap {B = ℕ} (λ (t : Bool). cond t 1 0) e in
-        let g : 0 + count (may_be_purged t) (lowest_purged k t bs) ≡ cond {A = ℕ} (may_be_purged t b) 1 0 + count_of t
-        bs - suc k =
-        omega (arith, one) in g
-    cases false e one more =
-        let a : cond {A = ℕ} (may_be_purged t b) 1 0 ≡ 0 = ap {B = ℕ} (λ (t : Bool). cond t 1 0) e in
-        let g : cond {A = ℕ} (may_be_purged t b) 1 0 + count (may_be_purged t) (lowest_purged (suc k) t bs)
-        ≡ cond {A = ℕ} (may_be_purged t b) 1 0 + count_of t bs - suc k = omega (arith, more) in g
-
-pub count-purged : (k : ℕ) (t : Block → Bool) (bs : List Block) → count (may_be_purged t) (purge k t bs) ≡ count_of t bs
-    - k
-count-purged k t bs = total-tidy (λ (b : Block). cond (may_be_purged t b) 1 0) (λ n m. refl) (lowest_purged k t bs)
-    ∙ count-lowest_purged k t bs
+-- joining free neighbours leaves how many may go
+pub count-tidy : (t : Block → Bool) (bs : List Block) → count (may_be_purged t) (tidy bs) ≡ count_of t bs
+count-tidy t bs = total-tidy (λ (b : Block). cond (may_be_purged t b) 1 0) (λ n m. refl) bs
 
 -- no block passes, or some do
 pub count-none : (t : Block → Bool) (bs : List Block) → spot t bs ≡ None → count t bs ≡ 0
@@ -90,25 +67,6 @@ most-le (sparing.One a) bs = count-le (spared (sparing.One a)) bs
 most-le (sparing.Two a b) bs = count-le (spared (sparing.Two a b)) bs
 most-le (sparing.Freed a) bs = let e = size-freed (is_relocatable a) bs in
     omega (arith, count-le (spared (sparing.Freed a)) (freed (is_relocatable a) bs), e)
-
--- there is one more to go, or there is none
-pub more-none : (n : Sparing) (k : ℕ) (zone : List Block) → spot (may_be_purged (spared n)) (purged k n zone) ≡ None
-    → most_purges n zone ≤ k
-more-none n k zone e = omega (
-  arith,
-  count-none (may_be_purged (spared n)) (purged k n zone) e,
-  count-purged k (spared n)
-      (opened n zone),
-)
-
-pub more-some : (n : Sparing) (k : ℕ) (zone : List Block) (s : Spot)
-    → spot (may_be_purged (spared n)) (purged k n zone) ≡ Some s → k < most_purges n zone
-more-some n k zone s e = omega (
-  arith,
-  count-some (may_be_purged (spared n)) (purged k n zone) s e,
-  count-purged k (spared n)
-      (opened n zone),
-)
 
 pub has-none : (t : Block → Bool) (bs : List Block) → spot t bs ≡ None → has t bs ≡ false
 has-none t [] e = refl

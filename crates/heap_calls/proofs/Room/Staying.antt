@@ -12,7 +12,7 @@ use Rattle.block_store.specs.declared.flags.Flags.{Flags}
 use Rattle.block_store.specs.Run.{RunSpot, change_run, run_spot, run_at, with_run, has, has_free, movers, others}
 use Rattle.block_store.specs.Run.{settle, low, high, Stretch, segments, joined}
 use Rattle.block_store.specs.Room.{Spot, spot, filled, place, lowest_purged, purge, room, count_of}
-use Rattle.block_store.specs.Grow.{freed, growth, taken, grow_up, taken_low, grow_nonrelocatable, move_away, grow_last}
+use Rattle.block_store.specs.Grow.{freed, growth, grow_up, taken_low, grow_nonrelocatable, move_away, grow_last}
 use Rattle.block_store.specs.Grow.{grow_mover}
 use Rattle.block_store.specs.Sparing.{spared, opened, purged}
 use Rattle.block_store.specs.Seen.{with_flags, moved_away}
@@ -194,9 +194,6 @@ nonrelocatable-above_emptied below b above k sp p = has-counts (is_nonrelocatabl
 -- growth
 pub alike-resized : (n : ℕ) (b : Block) → SameNonrelocatable b (resized n b)
 alike-resized n b p = is_nonrelocatable-resized p n b
-
-nonrelocatable-taken : (d : ℕ) (above rest : List Block) → taken d above ≡ Some rest → KeepsNonrelocatable above rest
-nonrelocatable-taken d above rest e p = has-counts (is_nonrelocatable p) above rest (counts.nonrelocatable-taken p d above rest e)
 
 pub nonrelocatable-grow_up : (new : Block) (s : Spot) (after : List Block) → SameNonrelocatable s.here new → grow_up new s ≡ Some after
     → KeepsNonrelocatable (s.below ++ s.here ∷ s.above) after

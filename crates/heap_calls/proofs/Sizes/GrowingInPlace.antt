@@ -35,7 +35,7 @@ use Rattle.mac_words.proofs.Plain.{is_some-map, not_some}
 use Rattle.block_store.proofs.Nonrelocatable.Placing.{spot_at-below}
 use Rattle.block_store.proofs.Regroup.RunSpots.{barrier-size}
 use Rattle.block_store.proofs.Zone.Absence.{none-lowest_purged}
-use Rattle.heap_calls.specs.Inner.GrowingInPlace.{room_at, enough, above_taken, pushed_up, seen_size, FindsPurges}
+use Rattle.heap_calls.specs.Inner.GrowingInPlace.{room_at, enough, above_taken, pushed_up, FindsPurges}
 
 -- Growth of a block where it stands.
 
@@ -446,13 +446,6 @@ same_spot o s P e p = let Q : Option Spot → Type 0 = λ o. IsSomeAnd o P in su
 
 pub some_if : (o : Option Spot) (s : Spot) (P : Spot → Type 0) → o ≡ Some s → P s → IfSome o P
 some_if o s P e p = let Q : Option Spot → Type 0 = λ o. IfSome o P in subst Q (sym e) p
-
--- a block as it is seen
-pub seen_size-is : (b : Block) → seen_size (seen b) ≡ size b
-seen_size-is (Free n) = refl
-seen_size-is (Nonrelocatable id content) = refl
-seen_size-is Masters = refl
-seen_size-is (Relocatable id flags content) = refl
 
 pub seen-some : (o : Option Spot) (x : Seen) → option_map (λ (s : Spot). seen s.here) o ≡ Some x → (s : Spot)
     × (o ≡ Some s) × (x ≡ seen s.here)

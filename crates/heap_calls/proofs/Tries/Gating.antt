@@ -1,6 +1,5 @@
 use Rattle.std.proofs.Common.{◌≡◌, ℕ, ◌+◌, ◌≤◌, ◌<◌, ◌^◌, Bool, true, false, List, length, refl, sym, ◌∙◌, subst}
 use Rattle.std.proofs.Common.{cond, Option, Some, None}
-use Rattle.std.specs.Prelude.{IsTrue}
 use Rattle.mac_words.specs.declared.code.OsErr.{OsErr}
 use Rattle.block_store.specs.Block.{count, is_relocatable, is_masters}
 use Rattle.block_store.specs.Run.{has}
@@ -11,17 +10,14 @@ use Rattle.heap_calls.specs.Asked.{Asked, answered}
 use Rattle.heap_calls.specs.Asked as asked
 use Rattle.heap_calls.specs.Busy.{gate, gated, notes, keep_code, served}
 use Rattle.heap_calls.specs.LastPut.{put_by}
-use Rattle.heap_calls.specs.Locked.{OneBlockEach, locked_place, releases}
-use Rattle.heap_calls.specs.Standing.{NextIsNew, pointer_place, disposes}
+use Rattle.heap_calls.specs.Locked.{OneBlockEach}
 use Rattle.heap_calls.specs.Emptying.{takes_block, has_purgeable}
 use Rattle.heap_calls.specs.Refused.{RefusedLeaves, code_left, zone_behind}
 use Rattle.heap_calls.specs.Shown.{Shows}
 use Rattle.heap_calls.proofs.Promises.Knowing.{Known}
 use Rattle.heap_calls.proofs.Promises.LastPutLaws.{step-known}
 use Rattle.heap_calls.proofs.Promises.ShowingLaws.{shows-known}
-use Rattle.heap_calls.proofs.Promises.LockedLaws.{stays-locked}
-use Rattle.heap_calls.proofs.Promises.StandingLaws.{stays-nonrelocatable}
-use Rattle.heap_calls.proofs.Promises.EmptyingLaws.{only-purgeable-go, masters-kept}
+use Rattle.heap_calls.proofs.Promises.EmptyingLaws.{only-purgeable-go}
 use Rattle.heap_calls.proofs.Promises.FewSearches.{searches_few, unsearched}
 use Rattle.heap_calls.proofs.Promises.RefusedCalls.{refused_leaves}
 use Rattle.heap_calls.proofs.Gates.Served.{served-gated}
@@ -77,21 +73,6 @@ pub served-shows : (a : Asked) (m : Memory) (bytes : ℕ → List ℕ) → Known
 served-shows a m bytes known =
     served-holds (λ t n. Shows a t bytes) a m (shows-known a m bytes known) (λ why kept h shown is tells. cc)
 
--- a locked block stays where it is, unless the call releases it
-pub served-locked : (a : Asked) (m : Memory) → OneBlockEach m.heap.zone → (h place : ℕ) → releases h a ≡ false
-    → locked_place h m.heap.zone ≡ Some place → locked_place h (served a m).1.heap.zone ≡ Some place
-served-locked a m once h place keeps is =
-    served-holds (λ t n. locked_place h n.heap.zone ≡ Some place) a m (stays-locked a m once h place keeps is)
-    (λ why kept. is)
-
--- a pointer's block stays where it is, unless the call disposes of it
-pub served-nonrelocatable : (a : Asked) (m : Memory) → OneBlockEach m.heap.zone → NextIsNew m.heap → (p place : ℕ)
-    → disposes p a ≡ false → pointer_place p m.heap.zone ≡ Some place
-    → pointer_place p (served a m).1.heap.zone ≡ Some place
-served-nonrelocatable a m once new p place keeps is =
-    served-holds (λ t n. pointer_place p n.heap.zone ≡ Some place) a m (stays-nonrelocatable a m once new p place keeps is)
-    (λ why kept. is)
-
 -- a handle's block that goes might be purged, unless the call let it go
 pub served-purgeable : (a : Asked) (m : Memory) → OneBlockEach m.heap.zone → (h : ℕ) → takes_block h a ≡ false
     → has (is_relocatable h) m.heap.zone ≡ true → has (is_relocatable h) (served a m).1.heap.zone ≡ false
@@ -100,12 +81,6 @@ served-purgeable a m once h keeps before =
     served-holds (λ t n. has (is_relocatable h) n.heap.zone ≡ false → has_purgeable h m.heap.zone ≡ true) a m
     (only-purgeable-go a m once h keeps before)
     (λ why kept after. let f : true ≡ false = sym before ∙ after in cc)
-
--- a zone with a Masters block has one after a try
-pub served-masters : (a : Asked) (m : Memory) → OneBlockEach m.heap.zone → IsTrue (has is_masters m.heap.zone)
-    → IsTrue (has is_masters (served a m).1.heap.zone)
-served-masters a m once before =
-    served-holds (λ t n. IsTrue (has is_masters n.heap.zone)) a m (masters-kept a m once before) (λ why kept. before)
 
 -- a try searches for room at most once more than there are blocks
 pub served_searches : (a : Asked) (m : Memory) → 0 < count is_masters m.heap.zone → m.log.searches < 2 ^ 64

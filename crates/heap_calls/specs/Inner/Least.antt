@@ -1,16 +1,10 @@
-use Rattle.std.specs.Prelude.{◌≡◌, ℕ, Bool, false, Option, Some, None, IsSomeAnd, min}
+use Rattle.std.specs.Prelude.{◌≡◌, ℕ, Bool, false, Option, Some, None, IsSomeAnd}
 use Rattle.block_store.specs.Run.{segments, has_free}
 use Rattle.block_store.specs.Room.{Spot, purge, count_of}
 use Rattle.block_store.specs.Sparing.{spared}
 use Rattle.block_store.specs.declared.sparing.Sparing.{Sparing}
 
 -- What has to be known of a zone for a search in it.
-
--- The smaller of two numbers, of those that are given.
-abbrev pub smaller : Option ℕ → Option ℕ → Option ℕ
-smaller None other = other
-smaller (Some first) None = Some first
-smaller (Some first) (Some second) = Some (min first second)
 
 -- `most` is the number of blocks that may be purged from the run above a spot.
 abbrev pub IsMost : ℕ → Sparing → Option Spot → Type 0

@@ -6,8 +6,8 @@ use Rattle.block_store.specs.Inner.ListStore.{blocks_of}
 use Rattle.block_store.proofs.Purged.Fewest.{none-serve_block}
 use Rattle.block_store.proofs.list_walk.fewest_over_block.Goals as goal
 
-pub returns-else-is_some : goal.returns-else-is_some
-returns-else-is_some c =
+pub returns-else-has_run_of : goal.returns-else-has_run_of
+returns-else-has_run_of c =
     let zone = blocks_of c.args.entries.now in
     let most : most_purges c.args.sparing zone ≤ c.loop-count.count =
     grind (arith, nat_tests, c.purgeable_in-most.ensures, c.loop-count-test.true, c.walk_over.ensures) in

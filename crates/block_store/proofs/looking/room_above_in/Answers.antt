@@ -1,23 +1,22 @@
-use Rattle.std.proofs.Common.{◌∙◌, refl, sym, ap}
+use Rattle.std.proofs.Common.{◌∙◌, sym, ap}
 use Rattle.block_store.specs.Block.{is_relocatable}
-use Rattle.block_store.specs.Room.{lowest_purged}
-use Rattle.block_store.specs.Sparing.{spared, opened}
-use Rattle.block_store.specs.Inner.Stretch.{is_enough}
-use Rattle.block_store.proofs.Purged.Looks.{follows-none, follows-some, taken-leading}
+use Rattle.block_store.proofs.Purged.Looks.{above_spot, above_spot-here, follows-none, follows-some}
+use Rattle.block_store.proofs.Walks.Telling.{told, told-none}
 use Rattle.block_store.proofs.looking.room_above_in.Goals as goal
 
-pub returns-in_default : goal.returns-in_default
-returns-in_default g c =
-    follows-none (is_relocatable c.args.number) (λ n. refl)
-    (lowest_purged c.args.purges (spared c.args.sparing) (opened c.args.sparing (g.W.Walk.rest c.args.walk.now))) _
-    c.in_default.ensures.above
+pub returns-then-is_of : goal.returns-then-is_of
+returns-then-is_of g c =
+    let t = told (g.W.Walk.rest c.loop-block.walk) (g.W.Walk.rest c.next_block.new.self) c.next_block.result
+    c.in-Some.block c.next_block.ensures c.in-Some.is in
+    follows-some (is_relocatable c.args.number) (g.W.Walk.rest c.args.walk.now) (g.W.Walk.rest c.next_block.new.self)
+    c.args.bytes c.begins_with_room.result
+    (sym c.loop-block.invariant.above ∙ ap (above_spot (is_relocatable c.args.number)) t.before_is
+    ∙ above_spot-here (is_relocatable c.args.number) t.block (g.W.Walk.rest c.next_block.new.self)
+    (sym (c.is_of.ensures t.block t.is) ∙ c.if-is_of.true)) c.begins_with_room.ensures
 
 pub returns : goal.returns
 returns g c =
-    let sp = spared c.args.sparing in
-    let above = opened c.args.sparing (g.W.Walk.rest c.go_behind.new.walk) in
-    follows-some (is_relocatable c.args.number) (λ n. refl)
-    (lowest_purged c.args.purges sp (opened c.args.sparing (g.W.Walk.rest c.args.walk.now)))
-    (lowest_purged c.in-Some.left sp above) c.args.bytes c.suffices.result c.in-Some.ensures.above
-    (c.suffices.ensures ∙ ap (is_enough c.args.bytes) c.free_first_in.ensures
-    ∙ sym (taken-leading c.args.bytes sp c.in-Some.left above))
+    follows-none (is_relocatable c.args.number) (g.W.Walk.rest c.args.walk.now) _
+    (sym c.loop-block.invariant.above ∙ ap (above_spot (is_relocatable c.args.number))
+    (told-none (g.W.Walk.rest c.loop-block.walk) (g.W.Walk.rest c.next_block.new.self) c.next_block.result
+    c.next_block.ensures c.in_default.is))

@@ -6,7 +6,7 @@ use Rattle.heap_calls.proofs.least.any_goes.Goals as goal
 pub returns-clause-more : goal.returns-clause-more
 returns-clause-more g c =
     let zone = g.S.BlockStore.zone c.args.store.now in
-    c.is_some.ensures ∙ next-goes c.args.sparing 0 zone c.next_purgeable.result c.next_purgeable.ensures
+    c.is_some.ensures ∙ next-goes c.args.sparing zone c.next_purgeable.result c.next_purgeable.ensures
 
 pub returns-clause-few : goal.returns-clause-few
 returns-clause-few g c =

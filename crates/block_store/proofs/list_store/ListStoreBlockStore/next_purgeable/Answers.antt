@@ -1,11 +1,12 @@
 use Rattle.std.proofs.Common.{◌∙◌, ap, subst}
+use Rattle.block_store.specs.Block.{tidy}
 use Rattle.block_store.specs.Room.{may_be_purged}
 use Rattle.block_store.specs.Find.{FindsLowest}
-use Rattle.block_store.specs.Sparing.{purged, spared}
+use Rattle.block_store.specs.Sparing.{opened, spared}
 use Rattle.block_store.specs.Inner.ListStore.{blocks_of}
 use Rattle.block_store.proofs.list_store.ListStoreBlockStore.next_purgeable.Goals as goal
 
 pub returns : goal.returns
 returns c =
-    subst (λ z. FindsLowest (may_be_purged (spared c.args.sparing)) (purged c.args.purges c.args.sparing z)
+    subst (λ z. FindsLowest (may_be_purged (spared c.args.sparing)) (tidy (opened c.args.sparing z))
     c.next_purgeable_in.result) (c.walk_over.ensures ∙ ap blocks_of c.deref.ensures.value) c.next_purgeable_in.ensures

@@ -1,8 +1,8 @@
 use Rattle.std.proofs.Common.{◌∙◌, ap, sym, subst, ◌<◌, ◌≤◌, ◌^◌, arith}
-use Rattle.block_store.specs.Block.{sizes}
+use Rattle.block_store.specs.Block.{sizes, tidy}
 use Rattle.block_store.specs.Find.{FindsLowest}
 use Rattle.block_store.specs.Room.{may_be_purged}
-use Rattle.block_store.specs.Sparing.{purged, spared}
+use Rattle.block_store.specs.Sparing.{opened, spared}
 use Rattle.raw_zone.specs.Parted.{zone_of}
 use Rattle.zone_bytes.proofs.Places.AtPlace.{left-zone, on-way, sizes-fit}
 use Rattle.zone_bytes.specs.Decode.{zone_in}
@@ -14,7 +14,7 @@ pub returns-then-self-eq0 : goal.returns-then-self-eq0
 returns-then-self-eq0 c =
     let b = c.self.invariant.purgeable_is in
     let z = c.if-self-eq0.true in
-    none-next c.args.sparing c.args.purges (zone_of c.args.self.now)
+    none-next c.args.sparing 0 (zone_of c.args.self.now)
     (subst (λ v. purgeable_sum (zone_of v) ≤ 0) c.self.view_is (omega (arith, b, z)))
 
 pub walk_from-requires : goal.walk_from-requires
@@ -29,7 +29,7 @@ next_purgeable_in-requires c =
 pub returns-then-frees_one : goal.returns-then-frees_one
 returns-then-frees_one c =
     subst (λ l. FindsLowest (may_be_purged (spared c.args.sparing))
-    (purged c.args.purges c.args.sparing l) c.next_purgeable_in.result)
+    (tidy (opened c.args.sparing l)) c.next_purgeable_in.result)
     (c.walk_from.ensures ∙ left-zone c.self.inside.part.bytes ∙ ap zone_of c.self.view_is) c.next_purgeable_in.ensures
 
 pub next_purgeable-requires-clause-sound : goal.next_purgeable-requires-clause-sound
@@ -46,4 +46,4 @@ next_purgeable-requires-clause-none c =
 pub returns : goal.returns
 returns c =
     subst (λ v. FindsLowest (may_be_purged (spared c.args.sparing))
-    (purged c.args.purges c.args.sparing (zone_of v)) c.next_purgeable.result) c.self.view_is c.next_purgeable.ensures
+    (tidy (opened c.args.sparing (zone_of v))) c.next_purgeable.result) c.self.view_is c.next_purgeable.ensures
