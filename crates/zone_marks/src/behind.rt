@@ -11,7 +11,7 @@ ghost use Rattle.zone_marks.specs.Marked.{AreOf};
 ghost use Rattle.zone_bytes.specs.Changes.{Begins};
 
 use crate::keeping::Landmarks;
-use block_store::{Sparing, room_above_in};
+use block_store::room_above_in;
 use raw_region::Part;
 use zone_bytes::{read_word, walk_from};
 
@@ -46,5 +46,5 @@ pub fn has_room_behind(part: &Part, marks: &Landmarks, slot: u32, bytes: u32) ->
         result ≡ is_some (taken bytes s.above)) }
 {
     let from = edge_below(part, marks, slot);
-    room_above_in(&mut walk_from(part, from), slot, bytes, 0, Sparing::Nothing)
+    room_above_in(&mut walk_from(part, from), slot, bytes)
 }

@@ -188,7 +188,7 @@ pub fn fewest_for_block(
         ((purges : ℕ) → serves_block number bytes sparing (zone_in part.now.bytes) purges ≡ false)
         (λ fewest. IsFewest (serves_block number bytes sparing (zone_in part.now.bytes)) fewest) }
 {
-    let Some(run) = run_of_in(&mut walk_from(part, 0), number, 0, 0, Sparing::Nothing) else {
+    let Some(run) = run_of_in(&mut walk_from(part, 0), number, 0) else {
         return None;
     };
     let free = free_at(marks, groups, part, run, sparing);

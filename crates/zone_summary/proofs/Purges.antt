@@ -1,15 +1,13 @@
 -- What blocks come to after purges: all those below a place, and some of those above it.
-use Rattle.std.proofs.Common.{◌≡◌, ℕ, ◌+◌, zero, suc, Bool, true, false, List, [], ◌∷◌, ◌++◌, map, is_some, nat_le}
+use Rattle.std.proofs.Common.{◌≡◌, ℕ, ◌+◌, zero, suc, Bool, true, false, List, [], ◌∷◌, ◌++◌, map, nat_le}
 use Rattle.std.proofs.Common.{refl, sym, ◌∙◌, ap, arith, cond, append-nil}
-use Rattle.std.proofs.lemmas.Bool.Decides.{nat_tests}
 use Rattle.block_store.specs.Block.{Block, Free, Nonrelocatable, Masters, Relocatable, size, add, tidy}
 use Rattle.block_store.specs.Compact.{largest_run}
 use Rattle.block_store.specs.Room.{may_be_purged, lowest_purged, purge, count_of}
-use Rattle.block_store.specs.Run.{has_free, run_spot, segments}
 use Rattle.block_store.specs.Sparing.{opened, purged, spared}
 use Rattle.block_store.specs.declared.sparing.Sparing.{Sparing}
 use Rattle.block_store.proofs.Purged.Rising.{lowest_purged-goes, lowest_purged-stays}
-use Rattle.block_store.proofs.Regroup.MostRoom.{run-none, run-some}
+use Rattle.block_store.proofs.Regroup.MostRoom.{run-there}
 use Rattle.zone_summary.specs.Emptied.{emptied}
 use Rattle.zone_summary.specs.Stretches.{join, best, one, stretch_of}
 use Rattle.block_store.specs.Fewest.{serves}
@@ -70,14 +68,6 @@ module _ (sp : Block → Bool) where
       sym (best-runs (purge k sp (low ++ rest)))
       ∙ ap best (stretch_of-tidy (lowest_purged k sp (low ++ rest)) ∙ ap stretch_of (purged-below j low rest)
       ∙ stretch_of-append (map (emptied sp) low) (lowest_purged j sp rest))
-
--- a run has enough where the most of a run is enough
-run-there : (p : ℕ) (zone : List Block) → is_some (run_spot (has_free p) zone) ≡ nat_le p (largest_run zone)
-run-there p zone = cases (nat_le p (largest_run zone)) refl
-  where
-    cases : (t : Bool) → nat_le p (largest_run zone) ≡ t → is_some (run_spot (has_free p) zone) ≡ t
-    cases true e = run-some p (segments zone).first (segments zone).rest (grind (arith, nat_tests, e))
-    cases false e = ap is_some (run-none p (segments zone).first (segments zone).rest (grind (arith, nat_tests, e)))
 
 pub serves-is : (p : ℕ) (n : Sparing) (zone low rest : List Block) (j : ℕ) → opened n zone ≡ low ++ rest
     → serves p n zone (count_of (spared n) low + j)

@@ -1,4 +1,5 @@
 -- The blocks that may be purged below a run, counted from an edge of a zone below which none may be.
+use Rattle.block_store.specs.Block.{tidy}
 use Rattle.zone_summary.specs.declared.stretch.Counting.{Counting}
 use Rattle.zone_summary.specs.Stretches.{stretch_by}
 use Rattle.zone_summary.proofs.Monoid.{stretch_by-append}
@@ -10,7 +11,7 @@ use Rattle.block_store.specs.Find.{FindsLowestRun}
 use Rattle.block_store.specs.Run.{has, has_free}
 use Rattle.block_store.specs.Inner.Stretch.{opened_block}
 use Rattle.block_store.specs.Room.{count_of, may_be_purged}
-use Rattle.block_store.specs.Sparing.{most_purges, opened, purged, spared}
+use Rattle.block_store.specs.Sparing.{most_purges, opened, spared}
 use Rattle.block_store.specs.declared.measures.TheConstants.{GREATEST_ZONE}
 use Rattle.block_store.specs.declared.sparing.Sparing.{Sparing}
 use Rattle.block_store.specs.declared.sparing.Sparing.TheVariants as sparing
@@ -117,11 +118,11 @@ run-begins xs run low rest is at =
 pub block-run : (xs : List ℕ) (number p run : ℕ) (n : Sparing) (blocks : List Block) → blocks ≡ zone_in xs
     → count (is_relocatable number) (zone_in xs) ≤ 1 → ((b : Block) → is_relocatable number b ≡ true → spared n b ≡ true)
     → ((blocks : List Block) → opened n blocks ≡ blocks)
-    → FindsLowestRun (λ run. has (is_relocatable number) run && has_free 0 run) (purged 0 sparing.Nothing blocks) (Some run)
+    → FindsLowestRun (λ run. has (is_relocatable number) run && has_free 0 run) (tidy blocks) (Some run)
     → IsRunOf number p n (zone_in xs) run
 block-run xs number p run n blocks e once keeps whole f = run-of number p n (zone_in xs) (whole (zone_in xs)) keeps run once
     (subst (λ z. FindsLowestRun (λ run. has (is_relocatable number) run && has_free 0 run)
-    (purged 0 sparing.Nothing z) (Some run)) e f)
+    (tidy z) (Some run)) e f)
 
 -- what blocks that are known come to, below others
 module _ (xs : List ℕ) (first unused : ℕ) (i : IsSound xs first unused) where

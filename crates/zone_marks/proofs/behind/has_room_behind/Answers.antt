@@ -1,22 +1,16 @@
-use Rattle.std.proofs.Common.{◌≡◌, is_some, sym, subst, ◌<◌, ◌^◌}
+use Rattle.std.proofs.Common.{◌≡◌, is_some, subst}
 use Rattle.std.specs.Option.{IfSome}
-use Rattle.block_store.specs.Block.{is_relocatable, sizes, tidy}
+use Rattle.block_store.specs.Block.{is_relocatable}
 use Rattle.block_store.specs.Grow.{taken}
 use Rattle.block_store.specs.Room.{Spot, spot}
 use Rattle.zone_marks.proofs.Marks.Lowering.{begins-way}
-use Rattle.zone_marks.proofs.Marks.Sought.{left-tidy, left-fits, sought}
+use Rattle.zone_marks.proofs.Marks.Sought.{sought}
 use Rattle.zone_marks.proofs.behind.has_room_behind.Goals as goal
 
 pub walk_from-requires : goal.walk_from-requires
 walk_from-requires c =
     let i = c.requires.sound in
     begins-way c.args.part.now.bytes i.0 i.1 i.2 c.edge_below-from.result c.edge_below-from.ensures.begins
-
-pub room_above_in-requires : goal.room_above_in-requires
-room_above_in-requires c =
-    let i = c.requires.sound in
-    subst (λ l. sizes l < 2 ^ 32) (sym c.walk_from.ensures)
-    (left-fits c.args.part.now.bytes i.0 i.1 i.2 c.edge_below-from.result c.edge_below-from.ensures.begins)
 
 pub returns : goal.returns
 returns c =
@@ -26,7 +20,5 @@ returns c =
     sought xs i.0 i.1 i.2 e.result e.ensures.begins (is_relocatable c.args.slot)
     (λ above. c.room_above_in.result ≡ is_some (taken c.args.bytes above)) e.ensures.low
     (subst (λ l. IfSome (spot (is_relocatable c.args.slot) l)
-    (λ (s : Spot). c.room_above_in.result ≡ is_some (taken c.args.bytes s.above)))
-    (left-tidy xs i.0 i.1 i.2 e.result e.ensures.begins) (subst (λ l. IfSome (spot (is_relocatable c.args.slot) (tidy l))
     (λ (s : Spot). c.room_above_in.result ≡ is_some (taken c.args.bytes s.above))) c.walk_from.ensures
-    c.room_above_in.ensures))
+    c.room_above_in.ensures)

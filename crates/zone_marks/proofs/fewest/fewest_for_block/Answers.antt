@@ -1,11 +1,10 @@
 use Rattle.std.proofs.Common.{◌∙◌, ◌-◌, ◌+◌, ◌&&◌, ap, arith, subst, sym, None}
-use Rattle.block_store.specs.Block.{is_relocatable, sizes}
+use Rattle.block_store.specs.Block.{is_relocatable, sizes, tidy}
 use Rattle.block_store.specs.Fewest.{serves_block, IsFewest}
 use Rattle.block_store.specs.Find.{FindsLowestRun}
 use Rattle.block_store.specs.Room.{count_of}
 use Rattle.block_store.specs.Run.{has, has_free}
-use Rattle.block_store.specs.Sparing.{purged, spared}
-use Rattle.block_store.specs.declared.sparing.Sparing.TheVariants as sparing
+use Rattle.block_store.specs.Sparing.{spared}
 use Rattle.zone_summary.specs.Fewest.{run_purges_for}
 use Rattle.zone_summary.specs.Stretches.{prefix, stretch_of}
 use Rattle.zone_summary.proofs.BlockRuns.{enough-now, fewest-of, never-enough, no-run-of}
@@ -32,7 +31,7 @@ returns-in_default c =
     let xs = c.args.part.now.bytes in
     no-run-of c.args.number c.args.bytes c.args.sparing (zone_in xs) (c.requires.whole (zone_in xs)) c.requires.spared
     (subst (λ z. FindsLowestRun (λ run. has (is_relocatable c.args.number) run && has_free 0 run)
-    (purged 0 sparing.Nothing z) None) (c.walk_from.ensures ∙ left-zone xs) c.in_default.ensures)
+    (tidy z) None) (c.walk_from.ensures ∙ left-zone xs) c.in_default.ensures)
 
 pub free_at-free-requires-clause-begins : goal.free_at-free-requires-clause-begins
 free_at-free-requires-clause-begins c =
