@@ -56,7 +56,7 @@ pub length-at : (at : ℕ) (xs : List ℕ) → IsOnWay at xs → (id : ℕ) (con
     → left_in at xs ≡ Nonrelocatable id content ∷ above → word_at (at + 4) xs ≡ length content
 length-at at xs w id content above e =
     let v = subst (Walk w.resource at xs) (sym (left-is at xs w) ∙ e) w.walk in
-    same (word_at (at + 4) xs) (length content) (told-is w.resource at xs w.small (Nonrelocatable id content) v.high.0 tt)
+    same _ _ (told-is w.resource at xs w.small (Nonrelocatable id content) v.high.0 tt)
   where
     same : (a b : ℕ) → see.Nonrelocatable a ≡ see.Nonrelocatable b → a ≡ b
     same a b e = cc
@@ -70,21 +70,15 @@ header-over a b c d a' b' c' d' content = refl
 tile-named : (a b c d a' b' c' d' n : ℕ) (content ys : List ℕ) → Tile (header a b c d ++ content) n ys
     → Tile (header a' b' c' d' ++ content) n (written 0 (header a' b' c' d') ys)
 tile-named a b c d a' b' c' d' n content ys t =
-    let k = length-head a b c d content in
-    let m = length-head a' b' c' d' content in
-    let h = length-header a' b' c' d' in
-    let f = t.fits in
-    let r = t.room in
-    let e : length (header a' b' c' d' ++ content) ≡ length (header a b c d ++ content) = omega (arith, k, m) in
+    let e : length (header a' b' c' d' ++ content) ≡ length (header a b c d ++ content) = omega (arith, length-head) in
     record {
-      fits = (let q = length-written 0 (header a' b' c' d') ys (omega (arith, f, r, k, h)) in omega (arith, f, q));
+      fits = (let q = length-written 0 (header a' b' c' d') ys (omega (arith, length-head, length-header)) in omega (arith, q));
       whole = t.whole;
       some = t.some;
-      room = omega (arith, r, e);
+      room = omega (arith, e);
       begins = ap (λ q. take q (written 0 (header a' b' c' d') ys)) e
-          ∙ take-written_above 0 (header a' b' c' d') ys (length (header a b c d ++ content)) (omega (arith, k, h))
-          (omega (arith, f, r))
-          ∙ ap (written 0 (header a' b' c' d')) t.begins ∙ header-over a b c d a' b' c' d' content;
+          ∙ take-written_above 0 (header a' b' c' d') _ _ (omega (arith, length-head, length-header))
+          (omega arith) ∙ ap (written 0 (header a' b' c' d')) t.begins ∙ header-over a b c d a' b' c' d' content;
     }
 
 -- whether a handle that is emptied is a resource's
@@ -155,9 +149,7 @@ module _ (xs : List ℕ) (first count : ℕ) (i : IsSound xs first count) (below
   ]
 
   flag-is : (word_at number xs == 18) ≡ resource number
-  flag-is = flag-of flag.0 (word_at number xs)
-      (read_back number (empty_word flag.0) xs (emptied-small flag.0) emptied)
-      ∙ ap is_resource (sym flag.1)
+  flag-is = flag-of _ _ (read_back _ _ _ (emptied-small _) emptied) ∙ ap is_resource (sym flag.1)
 
   abbrev head : List ℕ
   head = named_header number flags content xs
@@ -172,49 +164,41 @@ module _ (xs : List ℕ) (first count : ℕ) (i : IsSound xs first count) (below
   fits-in = fits xs first count i place 0 [] below old above whole low
 
   same : SameOutside place (place + n) xs mid
-  same = let l = long in let f = fits-in in
-      outside-written place (place + n) xs xs place head (omega arith) (omega (arith, l))
-      (outside-same place (place + n) xs (omega arith) f)
+  same = outside-written _ _ _ _ _ head (omega arith) (omega (arith, long))
+      (outside-same place (place + n) xs (omega arith) fits-in)
 
   new-tile : Tile (head_of resource new) n (drop place mid)
   unfolding head_of
   new-tile =
-      let f = fits-in in
       let t = tile xs first count i place 0 [] below old above whole low in
-      let t1 = tile-named (n + 1) (length content) 0 0 (n + 3) (length content) number
-      (flag_word flags (word_at number xs == 18)) n content (drop place xs) t in
       let up : drop place mid ≡ written 0 head (drop place xs) =
-      drop-written_below place head xs place (omega arith) (omega (arith, f))
+      drop-written_below _ _ xs place (omega arith) (omega (arith, fits-in))
       ∙ (let v : place - place ≡ 0 = omega arith in ap (λ j. written j head (drop place xs)) v) in
       subst (λ r. Tile (header (n + 3) (length content) number (flag_word flags r) ++ content) n (drop place mid))
-      flag-is (subst (λ ys. Tile (head ++ content) n ys) (sym up) t1)
+      flag-is (subst (λ ys. Tile (head ++ content) n ys) (sym up) (tile-named _ _ 0 0 _ _ _ _ n _ _ t))
 
   one : Tiles (head_of resource) (piece place (place + n - place) mid) (new ∷ [])
   one =
-      let t = new-tile in
-      let f = t.fits in
+      let f = new-tile.fits in
       let l : place + n - place ≡ n = omega arith in
-      let k = length-take-le n (drop place mid) f in
       subst (λ j. Tiles (head_of resource) (take j (drop place mid)) (new ∷ [])) (sym l)
-      (tiles-one (head_of resource) new (take n (drop place mid)) k
-      (tile-take (head_of resource) (head_of resource new) n n (drop place mid) (omega arith) f t))
+      (tiles-one (head_of resource) _ _ (length-take-le n (drop place mid) f)
+      (tile-take (head_of resource) _ n n _ (omega arith) f new-tile))
 
   forth : (s : ℕ) → IsSlot s all → IsSlot s now
-  forth s j = slot-kept zone place (place + n) xs st s (new ∷ []) refl j
+  forth s j = slot-kept _ _ (place + n) xs st s (new ∷ []) refl j
 
   back : (s : ℕ) → IsSlot s now → IsSlot s all
-  back s j = elim (slot-split s below (new ∷ above) j) [
+  back s j = elim (slot-split s _ _ j) [
     | inl k ↦ slot-append_left s below (old ∷ above) k
     | inr k ↦ elim (slot-split (s - sizes below) (new ∷ []) above k.1) [
       | inl m ↦ absurd (no-slots new refl (s - sizes below) m)
-      | inr m ↦ slot-append_right s below (old ∷ above) k.0
-          (slot-append_right (s - sizes below) (old ∷ []) above m.0 m.1)
+      | inr m ↦ slot-append_right s _ _ k.0 (slot-append_right (s - sizes below) (old ∷ []) above m.0 m.1)
     ]
   ]
 
   tiles : Tiles (head_of resource) mid now
-  tiles = tiles-splice (head_of resource) xs mid below (old ∷ []) above (new ∷ []) place (place + n) low high
-      laid.lies.tiles same one
+  tiles = tiles-splice (head_of resource) _ _ _ (old ∷ []) _ (new ∷ []) _ _ low high laid.lies.tiles same one
 
   slot-fits : number ≤ length mid
   slot-fits = let k = slot-inside number now (forth number is-slot) in
@@ -226,39 +210,33 @@ module _ (xs : List ℕ) (first count : ℕ) (i : IsSound xs first count) (below
   -- the slots of other blocks lead to them
   others-lead : (o : ℕ) (bs : List Block) → Each (Clear place (place + n - place)) (names bs)
       → Each (Apart number) (names bs) → Leads o bs xs → Leads o bs done
-  others-lead o bs c a l = leads-written number (word place) mid o bs slot-fits
-      (each-map (Apart number) (Clear number (length (word place))) (λ t p. apart-clear number place t p) (names bs) a)
-      (leads-outside place (place + n) xs mid o bs same c l)
+  others-lead o bs c a l = leads-written _ _ _ o _ slot-fits
+      (each-map (Apart number) (Clear number (length (word place))) (λ t p. apart-clear _ _ t p) _ a)
+      (leads-outside _ _ _ _ o _ same c l)
 
   lies : Lies resource now done
   lies =
       let wl = length-word place in
       let c = clear zone place (place + n) xs st in
       let o : 0 + sizes below ≡ place = omega (arith, low) in
-      let rest = leads-right xs 0 below (old ∷ above) laid.lies.leads in
       record {
-        tiles = tiles-slot (head_of resource) (length-masters resource) mid (word place) number now wl
-            (forth number is-slot) tiles;
-        leads = leads-append done 0 below (new ∷ above)
-            (others-lead 0 below c.0 (each-left (Apart number) (names below) (names above) far-parts)
-            (leads-left xs 0 below (old ∷ above) laid.lies.leads)) (
+        tiles = tiles-slot (head_of resource) (length-masters resource) _ _ _ _ wl (forth number is-slot) tiles;
+        leads = leads-append _ 0 _ _ (others-lead 0 _ c.0 (each-left (Apart number) _ _ far-parts)
+            (leads-left _ 0 _ (old ∷ above) laid.lies.leads)) (
               piece-written number (word place) mid 4 (sym wl) slot-fits ∙ sym (ap word o),
-              others-lead (0 + sizes below + n) above c.1 (each-right (Apart number) (names below) (names above)
-                  far-parts) rest.1,
+              others-lead _ _ c.1 (each-right (Apart number) _ _
+                  far-parts) (leads-right xs 0 below (old ∷ above) laid.lies.leads).1,
             );
       }
 
   -- and the words of other slots stay
   others : (s : ℕ) → IsSlot s all → Apart number s → piece s 4 done ≡ piece s 4 xs
-  others s j p = piece-clear number (word place) mid s slot-fits (apart-clear number place s p)
-      ∙ piece-outside place (place + n) xs mid s same (outside zone place (place + n) xs st s j)
+  others s j p = piece-clear _ _ _ s slot-fits (apart-clear _ _ s p)
+      ∙ piece-outside _ _ _ _ s same (outside _ _ _ _ st s j)
 
   length-done : length done ≡ length xs
   length-done =
-      let wl = length-word place in
-      let k = same.kept in
-      let b = slot-reads-in in
-      length-written number (word place) mid (omega (arith, wl, k, b)) ∙ k
+      length-written number (word place) mid (omega (arith, length-word, same.kept, slot-reads-in)) ∙ same.kept
 
   pub adopted-made : Made done first count now (slot_in xs)
   adopted-made =
@@ -267,19 +245,17 @@ module _ (xs : List ℕ) (first count : ℕ) (i : IsSound xs first count) (below
       let each : (P : ℕ → Type 0) → P number → Each P (names all) → Each P (names now) =
       λ P p e. subst (Each P) (sym is) (each-put P number (names below) (names above) p (subst (Each P) was e)) in
       let has : HasSlots now = record {
-        slots = each (λ s. IsSlot s now) (forth number is-slot)
-            (each-map (λ s. IsSlot s all) (λ s. IsSlot s now) forth (names all) laid.has_slots.slots);
-        apart = subst (Pairs Apart) (sym is) (pairs-put number (names below) (names above) far-parts
+        slots = each (λ s. IsSlot s now) (forth _ is-slot)
+            (each-map (λ s. IsSlot s all) (λ s. IsSlot s now) forth _ laid.has_slots.slots);
+        apart = subst (Pairs Apart) (sym is) (pairs-put _ _ _ far-parts
             (subst (Pairs Apart) was laid.has_slots.apart));
       } in
-      let p = placed-right 0 below (old ∷ above) laid.placed in
-      let ok : ArePlaced 0 now = placed-append 0 below (new ∷ above) (placed-left 0 below (old ∷ above) laid.placed)
-      (tt, p.1) in
-      let lays = lays-added xs done all now (slot_in xs) i.unused laid lies has forth back ok length-done number flag.0
-      flag.1 is-slot
+      let ok : ArePlaced 0 now = placed-append 0 _ _ (placed-left 0 below (old ∷ above) laid.placed)
+      (tt, (placed-right 0 below (old ∷ above) laid.placed).1) in
+      let lays = lays-added _ _ _ _ (slot_in xs) _ laid lies has forth back ok length-done _ _ flag.1 is-slot
       (λ s h. subst (λ k. Has k s) (sym is) (has-put number s (names below) (names above) (subst (λ k. Has k s) was h)))
       (subst (λ k. Has k number) (sym is) (has-mine number (names below) (names above))) each others in
-      made done now (slot_in xs) i.unused lays first count
+      made _ _ (slot_in xs) _ lays _ _
       (tidy-renamed below old new above refl refl (sym (ap tidy whole) ∙ i.tidied ∙ whole)) i.begins i.counted
 
 -- the blocks of master pointers, and the Free bytes, stay
@@ -306,7 +282,7 @@ pub record NonrelocatableAt (xs : List ℕ) (place : ℕ) : Type 0 where
 
 pub nonrelocatable-at : (xs : List ℕ) (place : ℕ) → IsSomeAnd (spot_at place (zone_in xs)) (λ s. is_nonrelocatable place s.here ≡ true)
     → NonrelocatableAt xs place
-nonrelocatable-at xs place h = let a = the-spot (spot_at place (zone_in xs)) (λ s. is_nonrelocatable place s.here ≡ true) h in
+nonrelocatable-at xs place h = let a = the-spot _ (λ s. is_nonrelocatable place s.here ≡ true) h in
     of a.0 a.1 a.0.here refl a.2
   where
     of : (s : Spot) → spot_at place (zone_in xs) ≡ Some s → (b : Block) → s.here ≡ b → is_nonrelocatable place b ≡ true
@@ -328,15 +304,12 @@ module _ (xs : List ℕ) (first count : ℕ) (i : IsSound xs first count) (place
     (flags : Flags) (used : IsTrue (is_used (slot_in xs number)))
     (none : has (is_relocatable number) (zone_in xs) ≡ false) where
   pub adopt-reads-in : (number % 4 ≡ 0) × (number + 4 ≤ length xs)
-  adopt-reads-in = slot-reads-in xs first count i a.s.below a.id a.content a.s.above a.whole place a.low number flags
-      used none
+  adopt-reads-in = slot-reads-in _ _ _ i _ _ _ _ a.whole _ a.low _ flags used none
 
   pub adopted-at : (after : List ℕ) → ((id : ℕ) (content : List ℕ) (above : List Block)
       → left_in place xs ≡ Nonrelocatable id content ∷ above → after ≡ adopted number flags place content xs)
       → Made after first count (a.s.below ++ Relocatable number flags a.content ∷ a.s.above) (slot_in xs)
   adopted-at after bytes =
-      let e = bytes a.id a.content a.s.above (left-at xs first count i place a.s a.is
-      ∙ ap (λ b. b ∷ a.s.above) a.here) in
+      let e = bytes a.id a.content a.s.above (left-at _ _ _ i _ _ a.is ∙ ap (λ b. b ∷ a.s.above) a.here) in
       subst (λ ys. Made ys first count (a.s.below ++ Relocatable number flags a.content ∷ a.s.above) (slot_in xs))
-      (sym e) (adopted-made xs first count i a.s.below a.id a.content a.s.above a.whole place a.low number flags used
-      none)
+      (sym e) (adopted-made _ _ _ i _ _ _ _ a.whole _ a.low _ flags used none)

@@ -10,7 +10,7 @@ use Rattle.windows.specs.Writes.{piece}
 use Rattle.heap_words.specs.Words.{word, word_at}
 use Rattle.heap_words.proofs.Words.{read_back}
 use Rattle.block_store.specs.Block.{Block, Free, Nonrelocatable, Masters, Relocatable, size, sizes, count, is_relocatable}
-use Rattle.block_store.specs.Block.{is_masters, is_room, no_flags, free, add, tidy, free_of, free_sum}
+use Rattle.block_store.specs.Block.{is_masters, is_room, no_flags, free, add, tidy, free_sum}
 use Rattle.block_store.specs.Run.{has}
 use Rattle.block_store.specs.Room.{Spot, spot_at}
 use Rattle.block_store.specs.Slot.{Used, is_used, is_resource}
@@ -42,8 +42,7 @@ use Rattle.zone_bytes.proofs.Laws.Lawful.{Made, made}
 apart-put : (below : List Block) (n : ℕ) (new : Block) (above : List Block)
     → ((bs : List Block) → add new bs ≡ new ∷ bs)
     → ((c : Block) (n : ℕ) (bs cs : List Block) → add c (Free n ∷ bs) ≡ c ∷ Free n ∷ bs
-    → add c (new ∷ cs) ≡ c ∷ new ∷ cs)
-    → Apart (below ++ Free n ∷ above) → Apart (below ++ new ∷ Free n ∷ above)
+    → add c (new ∷ cs) ≡ c ∷ new ∷ cs) → Apart (below ++ Free n ∷ above) → Apart (below ++ new ∷ Free n ∷ above)
 apart-put [] n new above st sw a = (st (Free n ∷ above), a)
 apart-put (c ∷ []) n new above st sw a = (sw c n above (Free n ∷ above) a.0, apart-put [] n new above st sw a.1)
 apart-put (c ∷ d ∷ below) n new above st sw a = (
@@ -70,20 +69,17 @@ module _ (slot size : ℕ) where
       → tidy (below ++ Free n ∷ above) ≡ below ++ Free n ∷ above
       → tidy (below ++ new ∷ (free k ++ above)) ≡ below ++ new ∷ (free k ++ above)
   carved-tidy below n k above t =
-      tidy-apart (below ++ new ∷ (free k ++ above))
-      (apart-shrunk below new n k above (λ bs. refl)
-      (apart-put below n new above (λ bs. refl) (swap slot (replicate size 0))
-      (apart-tidied (below ++ Free n ∷ above) t)))
+      tidy-apart _ (apart-shrunk _ _ n k _ (λ bs. refl) (apart-put _ n _ _ (λ bs. refl) (swap _ _)
+      (apart-tidied _ t)))
 
   pub carved-filled : (below : List Block) (k : ℕ) (above : List Block)
       → tidy (below ++ new ∷ Free k ∷ above) ≡ tidy (below ++ new ∷ (free k ++ above))
-  carved-filled below k above = tidy-below below (new ∷ Free k ∷ above) (new ∷ (free k ++ above))
-      (ap (add new) (tidy-free k above))
+  carved-filled below k above = tidy-below below _ _ (ap (add new) (tidy-free k above))
 
 -- one name more
 pub pairs-put : (s : ℕ) (xs ys : List ℕ) → Each (Far s) (xs ++ ys) → Pairs Far (xs ++ ys) → Pairs Far (xs ++ s ∷ ys)
 pairs-put s [] ys e p = (e, p)
-pairs-put s (x ∷ xs) ys e p = (put xs ys (back e.0) p.0, pairs-put s xs ys e.1 p.1)
+pairs-put s (x ∷ xs) ys e p = (put _ _ (back e.0) p.0, pairs-put s xs ys e.1 p.1)
   where
     back : Far s x → Far x s
     back (inl h) = inr h
@@ -181,7 +177,7 @@ module _ (xs : List ℕ) (first count : ℕ) (i : IsSound xs first count) (below
 
   pub flags-are : cond {A = ℕ} (word_at number xs == 18) 32 0 ≡ flag_word no_flags (is_resource (slot_in xs number))
   flags-are =
-      flags-kept flag.0 (word_at number xs) (read_back number (empty_word flag.0) xs (emptied-small flag.0) emptied)
+      flags-kept _ _ (read_back _ _ _ (emptied-small _) emptied)
       ∙ ap (λ q. flag_word no_flags (is_resource q)) (sym flag.1)
 
   module _ (stop fl : ℕ) (t : stop ≡ top) (f : fl ≡ cond {A = ℕ} (word_at number xs == 18) 32 0) where
@@ -193,8 +189,7 @@ module _ (xs : List ℕ) (first count : ℕ) (i : IsSound xs first count) (below
       is_slot = is-slot;
       apart = (
         each-left (Far number) (names below) (names above) far-parts,
-        each-right (Far number) (names below)
-            (names above) far-parts,
+        each-right (Far number) (names below) (names above) far-parts,
       );
       resource = sym (f ∙ flags-are);
     })
@@ -209,35 +204,31 @@ module _ (xs : List ℕ) (first count : ℕ) (i : IsSound xs first count) (below
     put = new number size ∷ free rest
 
     same-span : sizes put ≡ sizes (Free n ∷ [])
-    same-span = let l = ap padded (length-replicate {A = ℕ} size 0) in let k = span-free rest in
-        omega (arith, l, k, t, room)
+    same-span = let l = ap padded (length-replicate {A = ℕ} size 0) in omega (arith, l, span-free, t, room)
 
     names-now : names (below ++ (put ++ above)) ≡ names below ++ number ∷ names above
     names-now = names-append below (put ++ above) ∙ ap (λ q. names below ++ number ∷ q) (names-free rest above)
 
     plain-put : (s : ℕ) → IsSlot s put → ⊥
-    plain-put s j = elim j [ inl k ↦ k | inr k ↦ free-slots rest (s - bytes_of (new number size)) k.1 ]
+    plain-put s j = elim j [ inl k ↦ k | inr k ↦ free-slots _ _ k.1 ]
 
     forth : (s : ℕ) → IsSlot s all → IsSlot s (below ++ (put ++ above))
-    forth s j = slot-kept z place top xs st s put same-span j
+    forth s j = slot-kept z _ _ xs st s put same-span j
 
     back : (s : ℕ) → IsSlot s (below ++ (put ++ above)) → IsSlot s all
-    back s j = elim (slot-split s below (put ++ above) j) [
+    back s j = elim (slot-split s _ (put ++ above) j) [
       | inl k ↦ slot-append_left s below (Free n ∷ above) k
       | inr k ↦ elim (slot-split (s - sizes below) put above k.1) [
         | inl m ↦ absurd (plain-put (s - sizes below) m)
         | inr m ↦
-            let l = m.0 in
             let f : s - sizes below - sizes put ≡ s - sizes below - sizes (Free n ∷ []) = ap
             (λ q. s - sizes below - q) same-span in
-            slot-append_right s below (Free n ∷ above) k.0
-            (slot-append_right (s - sizes below) (Free n ∷ []) above (omega (arith, same-span, l))
+            slot-append_right s _ _ k.0 (slot-append_right _ (Free n ∷ []) _ (omega (arith, same-span))
             (subst (λ q. IsSlot q above) f m.1))
       ]
     ]
 
-    pub carve-made : (now : List ℕ) → length now ≡ length xs
-        → ((z : Splice) → MayCarve z place stop number size fl xs
+    pub carve-made : (now : List ℕ) → length now ≡ length xs → ((z : Splice) → MayCarve z place stop number size fl xs
         → Lies z.resource (z.below ++ (Relocatable number no_flags (replicate size 0) ∷ free
         (stop - place - padded size) ++ z.above)) now)
         → ((z : Splice) → MayCarve z place stop number size fl xs → (s : ℕ)
@@ -246,28 +237,24 @@ module _ (xs : List ℕ) (first count : ℕ) (i : IsSound xs first count) (below
     carve-made now l lies others =
         let old : names all ≡ names below ++ names above = names-append below (Free n ∷ above) in
         let each : (P : ℕ → Type 0) → P number → Each P (names all) → Each P (names (below ++ (put ++ above))) =
-        λ P p e. subst (Each P) (sym names-now)
-        (each-put P number (names below) (names above) p (subst (Each P) old e)) in
+        λ P p e. subst (Each P) (sym names-now) (each-put P _ _ _ p (subst (Each P) old e)) in
         let has : HasSlots (below ++ (put ++ above)) = record {
-          slots = each (λ s. IsSlot s (below ++ (put ++ above))) (forth number is-slot)
-              (each-map (λ s. IsSlot s all) (λ s. IsSlot s (below ++ (put ++ above))) forth
-              (names all) laid.has_slots.slots);
+          slots = each (λ s. IsSlot s (below ++ (put ++ above))) (forth _ is-slot)
+              (each-map (λ s. IsSlot s all) (λ s. IsSlot s (below ++ (put ++ above))) forth _ laid.has_slots.slots);
           apart = subst (Pairs Far) (sym names-now)
-              (pairs-put number (names below) (names above) far-parts (subst (Pairs Far) old laid.has_slots.apart));
+              (pairs-put _ (names below) (names above) far-parts (subst (Pairs Far) old laid.has_slots.apart));
         } in
         let p = placed-right 0 below (Free n ∷ above) laid.placed in
         let q = placed-right (0 + sizes below) (Free n ∷ []) above p in
-        let ok : ArePlaced 0 (below ++ (put ++ above)) = placed-append 0 below (put ++ above)
-        (placed-left 0 below (Free n ∷ above) laid.placed)
-        (placed-append (0 + sizes below) put above (tt, placed-free _ rest)
+        let ok : ArePlaced 0 (below ++ (put ++ above)) = placed-append 0 _ _
+        (placed-left 0 below (Free n ∷ above) laid.placed) (placed-append _ put _ (tt, placed-free _ rest)
         (subst (λ k. ArePlaced (0 + sizes below + k) above) (sym same-span) q)) in
-        let lays = lays-added xs now all (below ++ (put ++ above)) (slot_in xs) i.unused laid
-        (lies z may) has forth back ok l number flag.0 flag.1 is-slot
-        (λ s h. subst (λ k. Has k s) (sym names-now)
+        let lays = lays-added _ _ _ _ (slot_in xs) _ laid
+        (lies z may) has forth back ok l _ _ flag.1 is-slot (λ s h. subst (λ k. Has k s) (sym names-now)
         (has-put number s (names below) (names above) (subst (λ k. Has k s) old h)))
         (subst (λ k. Has k number) (sym names-now) (has-mine number (names below) (names above)))
         each (λ s j a. others z may s j a) in
-        made now (below ++ (put ++ above)) (slot_in xs) i.unused lays first count
+        made _ _ (slot_in xs) _ lays _ _
         (carved-tidy number size below n rest above (sym (ap tidy whole) ∙ i.tidied ∙ whole)) i.begins i.counted
 
 -- a Free block at a place, with room
@@ -305,9 +292,8 @@ free-at xs place size h =
 pub masters-carved : (slot size : ℕ) (below : List Block) (n k : ℕ) (above : List Block)
     → count is_masters (below ++ new slot size ∷ (free k ++ above)) ≡ count is_masters (below ++ Free n ∷ above)
 masters-carved slot size below n k above =
-    total-append (λ b. if is_masters b then 1 else 0) below (new slot size ∷ (free k ++ above))
-    ∙ ap (λ m. count is_masters below + m) (none k)
-    ∙ sym (total-append (λ b. if is_masters b then 1 else 0) below (Free n ∷ above))
+    total-append (λ b. if is_masters b then 1 else 0) _ _ ∙ ap (λ m. count is_masters below + m) (none k)
+    ∙ sym (total-append (λ b. if is_masters b then 1 else 0) _ _)
   where
     plus : (m : ℕ) → 0 + (0 + m) ≡ 0 + m
     plus m = omega arith
@@ -319,11 +305,7 @@ masters-carved slot size below n k above =
 -- the Free bytes are fewer by what the block takes
 pub free-carved : (slot size : ℕ) (below : List Block) (n k : ℕ) (above : List Block)
     → free_sum (below ++ new slot size ∷ (free k ++ above)) + n ≡ free_sum (below ++ Free n ∷ above) + k
-free-carved slot size below n k above =
-    let a = total-append free_of below (new slot size ∷ (free k ++ above)) in
-    let b = total-append free_of below (Free n ∷ above) in
-    let r = rest k in
-    omega (arith, a, b, r)
+free-carved slot size below n k above = omega (arith, total-append, total-append, rest)
   where
     rest : (k : ℕ) → free_sum (free k ++ above) ≡ k + free_sum above
     rest zero = (let z : free_sum above ≡ 0 + free_sum above = omega arith in z)
@@ -331,4 +313,4 @@ free-carved slot size below n k above =
 
 -- a Free block is among the Free bytes
 pub free-has : (below : List Block) (n : ℕ) (above : List Block) → n ≤ free_sum (below ++ Free n ∷ above)
-free-has below n above = let a = total-append free_of below (Free n ∷ above) in omega (arith, a)
+free-has below n above = omega (arith, total-append)

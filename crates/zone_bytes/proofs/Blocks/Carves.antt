@@ -27,42 +27,30 @@ module _ (zone : Splice) (bottom top : ℕ) (xs : List ℕ) (h : IsSplice zone b
   all = zone.below ++ (zone.here ++ zone.above)
 
   pub bounds : (bottom ≤ top) × (top + sizes zone.above ≡ length xs)
-  bounds =
-      let l = length-tiles (head_of zone.resource) xs all h.lies.tiles in
-      let a = span-append zone.below (zone.here ++ zone.above) in
-      let b = span-append zone.here zone.above in
-      let p = h.low in
-      let q = h.high in
-      (omega (arith, q), omega (arith, l, a, b, p, q))
+  bounds = (omega arith, omega (arith, length-tiles, span-append, span-append))
 
   pub even : (bottom % 16 ≡ 0) × (top % 16 ≡ 0)
   even =
       let head = head_of zone.resource in
       let t = tiles-split head xs zone.below (zone.here ++ zone.above) h.lies.tiles in
       let u = tiles-split head (drop (sizes zone.below) xs) zone.here zone.above t.1 in
-      let a = span-whole head (take (sizes zone.below) xs) zone.below t.0 in
-      let b = span-whole head (take (sizes zone.here) (drop (sizes zone.below) xs)) zone.here u.0 in
-      let p = h.low in
-      let q = h.high in
-      (omega (arith, a, p), omega (arith, a, b, p, q))
+      (omega (arith, span-whole), omega (arith, span-whole))
 
   -- a slot is below the stretch or above it
   pub spot : (s : ℕ) → IsSlot s all
       → ((s + 4 ≤ bottom) × IsSlot s zone.below) ⊎ ((top ≤ s) × IsSlot (s - top) zone.above)
-  spot s i = elim (slot-split s zone.below (zone.here ++ zone.above) i) [
-    | inl j ↦ inl (let k = slot-inside s zone.below j in let p = h.low in omega (arith, k, p), j)
+  spot s i = elim (slot-split s _ _ i) [
+    | inl j ↦ inl (omega (arith, slot-inside), j)
     | inr j ↦ elim (slot-split (s - sizes zone.below) zone.here zone.above j.1) [
       | inl k ↦ absurd (h.no_masters (s - sizes zone.below) k)
       | inr k ↦
-          let p = h.low in
-          let t = h.high in
-          let e : s - sizes zone.below - sizes zone.here ≡ s - top = omega (arith, p, t) in
-          inr (omega (arith, p, t, j.0, k.0), subst (λ q. IsSlot q zone.above) e k.1)
+          let e : s - sizes zone.below - sizes zone.here ≡ s - top = omega arith in
+          inr (omega (arith, j.0, k.0), subst (λ q. IsSlot q zone.above) e k.1)
     ]
   ]
 
   pub outside : (s : ℕ) → IsSlot s all → Clear bottom (top - bottom) s
-  outside s i = elim (spot s i) [ inl j ↦ inl j.0 | inr j ↦ inr (let b = bounds in let k = j.0 in omega (arith, b, k)) ]
+  outside s i = elim (spot s i) [ inl j ↦ inl j.0 | inr j ↦ inr (omega arith) ]
 
   pub clear : Each (Clear bottom (top - bottom)) (names zone.below) × Each (Clear bottom (top - bottom))
       (names zone.above)
@@ -77,12 +65,8 @@ module _ (zone : Splice) (bottom top : ℕ) (xs : List ℕ) (h : IsSplice zone b
   slot-kept s here e i = elim (spot s i) [
     | inl j ↦ slot-append_left s zone.below (here ++ zone.above) j.1
     | inr j ↦
-        let p = h.low in
-        let t = h.high in
-        let k = j.0 in
-        let f : s - top ≡ s - sizes zone.below - sizes here = omega (arith, p, t, e) in
-        slot-append_right s zone.below (here ++ zone.above) (omega (arith, p, t, k))
-        (slot-append_right (s - sizes zone.below) here zone.above (omega (arith, p, t, k, e))
+        let f : s - top ≡ s - sizes zone.below - sizes here = omega (arith, e) in
+        slot-append_right s _ _ (omega arith) (slot-append_right _ _ _ (omega (arith, e))
         (subst (λ q. IsSlot q zone.above) f j.1))
   ]
 
@@ -96,21 +80,16 @@ module _ (zone : Splice) (bottom top : ℕ) (xs : List ℕ) (h : IsSplice zone b
       let w = length-word n in
       let e = even in
       let b = bounds in
-      let s = h.some in
-      let same = outside-written bottom top xs xs bottom (word n) (omega arith) (omega (arith, w, e, s))
+      let same = outside-written _ _ _ _ bottom (word n) (omega arith) (omega (arith, w, e))
       (outside-same bottom top xs b.0 (omega (arith, b))) in
-      let k = same.kept in
-      let d = length-drop bottom new in
-      let l = length-take-le n (drop bottom new) (omega (arith, d, k, b)) in
-      let tile = free-tile zone.resource n (piece bottom n new) l (omega (arith, e, s)) (omega (arith, e, s))
-      (take-take 4 n (drop bottom new) (omega (arith, e, s))
+      let l = length-take-le n (drop bottom new) (omega (arith, length-drop bottom new, b)) in
+      let tile = free-tile zone.resource n (piece bottom n new) l (omega (arith, e)) (omega (arith, e))
+      (take-take 4 n (drop bottom new) (omega (arith, e))
       ∙ piece-written bottom (word n) xs 4 (sym w) (omega (arith, b))) in
-      let one = tiles-one head (Free n) (piece bottom n new) l tile in
-      let q = h.high in
-      let f : n + 0 ≡ sizes zone.here = omega (arith, q) in (
+      let f : n + 0 ≡ sizes zone.here = omega arith in (
         record {
-          tiles = tiles-splice head xs new zone.below zone.here zone.above (Free n ∷ []) bottom top h.low h.high
-              h.lies.tiles same one;
+          tiles = tiles-splice head xs new zone.below zone.here _ (Free n ∷ []) bottom top h.low h.high
+              h.lies.tiles same (tiles-one head (Free n) (piece bottom n new) l tile);
           leads = leads-splice xs new zone.below zone.here zone.above (Free n ∷ []) bottom top h.low h.high f
               h.lies.leads same clear.0 clear.1 (tt, tt);
         },
@@ -125,12 +104,11 @@ unfolding head_of
 new-tile resource slot n ys fl r f t =
     let l = length-replicate {A = ℕ} n 0 in
     let h = length-append (header (padded n + 3) n slot fl) (replicate n 0) in
-    let k = length-header (padded n + 3) n slot fl in
     let e : header (padded n + 3) n slot fl ++ replicate n 0 ≡ header (padded (length (replicate n 0)) + 3)
     (length (replicate n 0)) slot (flag_word no_flags (resource slot)) ++ replicate n 0 =
     (λ i. header (padded (sym l i) + 3) (sym l i) slot (sym r i) ++ replicate n 0) in
     let m : length (header (padded (length (replicate n 0)) + 3) (length (replicate n 0)) slot
-    (flag_word no_flags (resource slot)) ++ replicate n 0) ≡ 16 + n = ap length (sym e) ∙ omega (arith, h, k, l) in
+    (flag_word no_flags (resource slot)) ++ replicate n 0) ≡ 16 + n = ap length (sym e) ∙ omega (arith, h, length-header, l) in
     record {
       fits = f;
       whole = omega arith;
@@ -165,32 +143,26 @@ module _ (zone : Splice) (bottom top : ℕ) (xs : List ℕ) (h : IsSplice zone b
   new-tiles mid s t w =
       let head = head_of zone.resource in
       let ys = piece bottom (top - bottom) mid in
-      let k = s.kept in
-      let o = s.ordered in
       let d = length-drop bottom mid in
-      let l : length ys ≡ top - bottom = length-take-le (top - bottom) (drop bottom mid) (omega (arith, d, k, o)) in
-      let tile = new-tile zone.resource slot n ys fl r (omega (arith, l, room))
+      let l : length ys ≡ top - bottom = length-take-le (top - bottom) (drop bottom mid) (omega (arith, d)) in
+      let tile = new-tile zone.resource _ n _ _ r (omega (arith, l, room))
       (take-take (16 + n) (top - bottom) (drop bottom mid) (omega (arith, room)) ∙ t) in
-      let e = even zone bottom top xs h in
       let cut : drop (padded n) ys ≡ piece (bottom + padded n) rest mid =
       ap (λ j. drop (padded n) (take j (drop bottom mid)))
       (let f : top - bottom ≡ padded n + rest = omega (arith, room) in f)
       ∙ drop-take (padded n) rest (drop bottom mid) ∙ ap (take rest) (drop-drop (padded n) bottom mid) in
       let m : length (piece (bottom + padded n) rest mid) ≡ rest = ap length (sym cut)
-      ∙ (let d = length-drop (padded n) ys in omega (arith, d, l)) in
+      ∙ (omega (arith, length-drop (padded n) ys, l)) in
       let above : Tiles head (piece (bottom + padded n) rest mid) (free rest) = elim w [
         | inl z ↦ subst (λ j. Tiles head (piece (bottom + padded n) j mid) (free j)) (sym z) refl
         | inr z ↦
-            let p = z.0 in
-            let some : 16 ≤ rest = omega (arith, p, e) in
-            let one = tiles-one head (Free rest) (piece (bottom + padded n) rest mid) m
-            (free-tile zone.resource rest (piece (bottom + padded n) rest mid) m (omega (arith, e)) some
+            let some : 16 ≤ rest = omega (arith, z.0, even) in
+            let one = tiles-one head _ _ m (free-tile zone.resource _ _ m (omega (arith, even)) some
             (take-take 4 rest (drop (bottom + padded n) mid) (omega (arith, some)) ∙ z.1)) in
-            subst (λ j. Tiles head (piece (bottom + padded n) rest mid) j) (sym (free-some rest p)) one
+            subst (λ j. Tiles head (piece (bottom + padded n) rest mid) j) (sym (free-some rest z.0)) one
       ] in (
         subst (λ j. Tile (head block) j ys) (sym span-new) tile,
-        subst (λ j. Tiles head j (free rest))
-            (sym (ap (λ j. drop j ys) span-new ∙ cut)) above,
+        subst (λ j. Tiles head j (free rest)) (sym (ap (λ j. drop j ys) span-new ∙ cut)) above,
       )
 
   leads-free : (o k : ℕ) (ys : List ℕ) → Leads o (free k) ys
@@ -203,34 +175,24 @@ module _ (zone : Splice) (bottom top : ℕ) (xs : List ℕ) (h : IsSplice zone b
       → Lies zone.resource (zone.below ++ (block ∷ free rest ++ zone.above)) (written slot (word bottom) mid)
   carved mid s t w =
       let head = head_of zone.resource in
-      let tiles = tiles-splice head xs mid zone.below zone.here zone.above (block ∷ free rest) bottom top h.low h.high
+      let tiles = tiles-splice head _ _ _ _ _ (block ∷ free rest) bottom top h.low h.high
       h.lies.tiles s (new-tiles mid s t w) in
-      let z = span-new in
-      let v = span-rest rest in
-      let q = h.high in
-      let same : size block + sizes (free rest) ≡ sizes zone.here = omega (arith, z, v, room, q) in
+      let same : size block + sizes (free rest) ≡ sizes zone.here = omega (arith, span-new, span-rest, room) in
       let at = slot-kept zone bottom top xs h slot (block ∷ free rest) same i in
       let wl = length-word bottom in
-      let k = s.kept in
-      let inside = slot-inside slot (zone.below ++ (block ∷ free rest ++ zone.above)) at in
-      let whole = length-tiles head mid (zone.below ++ (block ∷ free rest ++ zone.above)) tiles in
-      let fits : slot ≤ length mid = omega (arith, inside, whole) in
+      let fits : slot ≤ length mid = omega (arith, slot-inside, length-tiles) in
       let new = written slot (word bottom) mid in
       let far : (j : ℕ) → Apart slot j
-      → Clear slot (length (word bottom)) j = λ j p. elim p [ inl e ↦ inr (omega (arith, e, wl)) | inr e ↦ inl e ]
-      in
+      → Clear slot (length (word bottom)) j = λ j p. elim p [ inl e ↦ inr (omega (arith, e, wl)) | inr e ↦ inl e ] in
       let c = clear zone bottom top xs h in
-      let low = leads-written slot (word bottom) mid 0 zone.below fits
+      let low = leads-written slot (word bottom) _ 0 _ fits
       (each-map (Apart slot) (Clear slot (length (word bottom))) far (names zone.below) a.0)
-      (leads-outside bottom top xs mid 0 zone.below s c.0
-      (leads-left xs 0 zone.below (zone.here ++ zone.above) h.lies.leads)) in
-      let high = leads-written slot (word bottom) mid (0 + sizes zone.below + sizes zone.here) zone.above fits
+      (leads-outside _ _ _ _ 0 _ s c.0 (leads-left xs 0 zone.below (zone.here ++ zone.above) h.lies.leads)) in
+      let high = leads-written _ _ _ _ _ fits
       (each-map (Apart slot) (Clear slot (length (word bottom))) far (names zone.above) a.1)
-      (leads-outside bottom top xs mid (0 + sizes zone.below + sizes zone.here) zone.above s c.1
-      (leads-right xs (0 + sizes zone.below) zone.here zone.above
+      (leads-outside _ _ _ _ _ _ s c.1 (leads-right _ _ _ _
       (leads-right xs 0 zone.below (zone.here ++ zone.above) h.lies.leads))) in
-      let p = h.low in
-      let o : 0 + sizes zone.below ≡ bottom = omega (arith, p) in
+      let o : 0 + sizes zone.below ≡ bottom = omega arith in
       let here : piece slot 4 new ≡ word (0 + sizes zone.below) = piece-written slot (word bottom) mid 4 (sym wl) fits
       ∙ sym (ap word o) in
       let g : 0 + sizes zone.below + sizes zone.here ≡ 0 + sizes zone.below + (size block + sizes (free rest)) = omega
@@ -249,12 +211,8 @@ module _ (zone : Splice) (bottom top : ℕ) (xs : List ℕ) (h : IsSplice zone b
       → IsSlot s (zone.below ++ (zone.here ++ zone.above)) → Apart slot s
       → piece s 4 (written slot (word bottom) mid) ≡ piece s 4 xs
   others-carved mid o s j p =
-      let wl = length-word bottom in
-      let inside = slot-inside slot (zone.below ++ (zone.here ++ zone.above)) i in
-      let whole = length-tiles (head_of zone.resource) xs (zone.below ++ (zone.here ++ zone.above)) h.lies.tiles in
-      let k = o.kept in
-      piece-clear slot (word bottom) mid s (omega (arith, inside, whole, k))
-      (elim p [ inl e ↦ inr (omega (arith, e, wl)) | inr e ↦ inl e ])
+      piece-clear _ (word bottom) _ s (omega (arith, slot-inside, length-tiles))
+      (elim p [ inl e ↦ inr (omega (arith, e, length-word)) | inr e ↦ inl e ])
       ∙ piece-outside bottom top xs mid s o (outside zone bottom top xs h s j)
 
   -- what the writes in the stretch leave
@@ -264,35 +222,26 @@ module _ (zone : Splice) (bottom top : ℕ) (xs : List ℕ) (h : IsSplice zone b
   pub first-outside : SameOutside bottom top xs first
   first-outside =
       let b = bounds zone bottom top xs h in
-      let l = length-replicate {A = ℕ} n 0 in
-      let k = length-header (padded n + 3) n slot fl in
-      outside-written bottom top xs (written bottom (header (padded n + 3) n slot fl) xs) (bottom + 16)
-      (replicate n 0) (omega arith) (omega (arith, l, room))
-      (outside-written bottom top xs xs bottom (header (padded n + 3) n slot fl) (omega arith)
-      (omega (arith, k, room)) (outside-same bottom top xs b.0 (omega (arith, b))))
+      outside-written _ _ _ _ _ (replicate n 0) (omega arith) (omega (arith, length-replicate {A = ℕ} n 0, room))
+      (outside-written _ _ _ _ bottom (header (padded n + 3) n slot fl) (omega arith)
+      (omega (arith, length-header, room)) (outside-same bottom top xs b.0 (omega (arith, b))))
 
   pub first-head : piece bottom (16 + n) first ≡ header (padded n + 3) n slot fl ++ replicate n 0
   first-head =
-      let b = bounds zone bottom top xs h in
       let l = length-replicate {A = ℕ} n 0 in
-      let k = length-header (padded n + 3) n slot fl in
       let m = length-append (header (padded n + 3) n slot fl) (replicate n 0) in
-      ap (piece bottom (16 + n)) (written-written bottom (bottom + 16) (header (padded n + 3) n slot fl)
-      (replicate n 0) xs (omega (arith, k)) (omega (arith, b)))
-      ∙ piece-written bottom (header (padded n + 3) n slot fl ++ replicate n 0) xs (16 + n) (omega (arith, m, k, l))
-      (omega (arith, b))
+      ap (piece bottom (16 + n)) (written-written _ _ _
+      (replicate n 0) _ (omega (arith, length-header)) (omega (arith, bounds)))
+      ∙ piece-written _ (header (padded n + 3) n slot fl ++ replicate n 0) xs (16 + n) (omega (arith, m, length-header, l))
+      (omega (arith, bounds))
 
   pub with-rest : padded n < top - bottom → let mid = written (bottom + padded n) (word rest) first in
       SameOutside bottom top xs mid × (piece bottom (16 + n) mid ≡ header (padded n + 3) n slot fl ++ replicate n 0) ×
       (piece (bottom + padded n) 4 mid ≡ word rest)
   with-rest l =
-      let e = even zone bottom top xs h in
       let w = length-word rest in
-      let o = first-outside in
-      let k = o.kept in
-      let b = bounds zone bottom top xs h in (
-        outside-written bottom top xs first (bottom + padded n) (word rest) (omega arith) (omega (arith, w, e, l)) o,
-        piece-written_below (bottom + padded n) (word rest) first bottom (16 + n) (omega arith)
-            (omega (arith, k, b, l)) ∙ first-head,
-        piece-written (bottom + padded n) (word rest) first 4 (sym w) (omega (arith, k, b, l)),
+      let o = first-outside in (
+        outside-written bottom top xs first (bottom + padded n) (word rest) (omega arith) (omega (arith, w, even, l)) o,
+        piece-written_below _ (word rest) _ bottom (16 + n) (omega arith) (omega (arith, bounds, l)) ∙ first-head,
+        piece-written (bottom + padded n) (word rest) first 4 (sym w) (omega (arith, bounds, l)),
       )

@@ -2,13 +2,13 @@
 use Rattle.std.proofs.Common.{◌≡◌, ℕ, false, ◌+◌, ◌-◌, ◌<◌, inl, inr, if◌then◌else◌, List, [], ◌∷◌, ◌++◌, take, drop}
 use Rattle.std.proofs.Common.{sym, ap, ◌∙◌, subst, arith}
 use Rattle.std.proofs.lemmas.Bool.{false≢true}
-use Rattle.std.proofs.lemmas.List.{length-take-le, length-drop}
+use Rattle.std.proofs.lemmas.List.{length-take-le}
 use Rattle.windows.specs.Writes.{piece}
 use Rattle.heap_words.specs.Words.{word}
 use Rattle.block_store.specs.Block.{Block, Free, Nonrelocatable, Masters, Relocatable, size, sizes, tidy, count, is_masters}
 use Rattle.block_store.specs.Block.{total}
 use Rattle.block_store.proofs.Zone.Totals.{total-append}
-use Rattle.zone_bytes.specs.Layout.{head_of, Tile, Tiles, IsSlot, names, names_of, LeadsTo, Each, IsPlaced}
+use Rattle.zone_bytes.specs.Layout.{head_of, Tile, Tiles, IsSlot, names_of, LeadsTo, Each, IsPlaced}
 use Rattle.zone_bytes.specs.Splicing.{SameOutside}
 use Rattle.zone_bytes.specs.Decode.{zone_in}
 use Rattle.zone_bytes.specs.Table.{Lays, slot_in}
@@ -44,12 +44,12 @@ no-slots (Relocatable slot flags content) m s i = elim i [ inl k ↦ k | inr k �
 -- another block that counts as much leaves a sum
 pub total-same : (of : Block → ℕ) (below above : List Block) (b c : Block) → of c ≡ of b
     → total of (below ++ c ∷ above) ≡ total of (below ++ b ∷ above)
-total-same of below above b c e = total-append of below (c ∷ above)
-    ∙ ap (λ v. total of below + (v + total of above)) e ∙ sym (total-append of below (b ∷ above))
+total-same of below above b c e = total-append of _ _
+    ∙ ap (λ v. total of below + (v + total of above)) e ∙ sym (total-append of _ _)
 
 pub masters-same : (below above : List Block) (b c : Block) → is_masters c ≡ is_masters b
     → count is_masters (below ++ c ∷ above) ≡ count is_masters (below ++ b ∷ above)
-masters-same below above b c e = total-same (λ b. if is_masters b then 1 else 0) below above b c
+masters-same below above b c e = total-same (λ b. if is_masters b then 1 else 0) _ _ b c
     (ap (λ v. if v then 1 else 0) e)
 
 module _ (xs : List ℕ) (first count : ℕ) (i : IsSound xs first count) (below : List Block) (here : Block)
@@ -72,39 +72,32 @@ module _ (xs : List ℕ) (first count : ℕ) (i : IsSound xs first count) (below
       (n : names_of now ≡ names_of here) (m : is_masters now ≡ false) (p : IsPlaced place now) where
     one : Tiles (head_of (λ s. is_resource (slot_in xs s))) (piece place (top - place) new) (now ∷ [])
     one =
-        let d = length-drop place new in
-        let f = t.fits in
         let l : top - place ≡ size now = omega (arith, e) in
-        let k = length-take-le (size now) (drop place new) f in
+        let k = length-take-le (size now) (drop place new) t.fits in
         subst (λ j. Tiles (head_of (λ s. is_resource (slot_in xs s))) (take j (drop place new)) (now ∷ [])) (sym l)
-        (tiles-one (head_of (λ s. is_resource (slot_in xs s))) now (take (size now) (drop place new)) k
-        (tile-take (head_of (λ s. is_resource (slot_in xs s))) (head_of (λ s. is_resource (slot_in xs s)) now)
-        (size now) (size now) (drop place new) (omega arith) f t))
+        (tiles-one (head_of (λ s. is_resource (slot_in xs s))) _ _ k
+        (tile-take (head_of (λ s. is_resource (slot_in xs s))) _ _ _ _ (omega arith) t.fits t))
 
     leads : LeadsTo place now new
     leads =
         let all = below ++ (here ∷ [] ++ above) in
-        let st = is-splice xs below (here ∷ []) above (slot_in xs) i.unused laid place top low high rises
-        (no-slots here plain) in
-        let z = zone xs below (here ∷ []) above (slot_in xs) i.unused laid place top low high rises
-        (no-slots here plain) in
+        let st = is-splice _ _ _ _ (slot_in xs) _ laid _ _ low high rises (no-slots here plain) in
+        let z = zone _ _ (here ∷ []) above (slot_in xs) _ laid _ _ low high rises (no-slots here plain) in
         let l = leads-each (0 + sizes below) here xs (leads-right xs 0 below (here ∷ above) laid.lies.leads).0 in
         let o : 0 + sizes below ≡ place = omega (arith, low) in
         let l1 = subst (λ j. Each (λ s. piece s 4 xs ≡ word j) (names_of here)) o l in
-        let k = each-left (λ s. IsSlot s all) (names_of here) (names above)
-        (each-right (λ s. IsSlot s all) (names below) (names (here ∷ above))
+        let k = each-left (λ s. IsSlot s all) _ _ (each-right (λ s. IsSlot s all) _ _
         (subst (Each (λ s. IsSlot s all)) (names-append below (here ∷ above)) laid.has_slots.slots)) in
-        each-leads place now new (subst (Each (λ s. piece s 4 new ≡ word place)) (sym n)
+        each-leads _ _ _ (subst (Each (λ s. piece s 4 new ≡ word place)) (sym n)
         (each-both (λ s. IsSlot s all) (λ s. piece s 4 xs ≡ word place) (λ s. piece s 4 new ≡ word place)
-        (λ s j q. piece-outside place top xs new s same (outside z place top xs st s j) ∙ q) (names_of here) k l1))
+        (λ s j q. piece-outside place top xs new s same (outside z place top xs st s j) ∙ q) _ k l1))
 
     pub here-lays : Lays new (below ++ (now ∷ [] ++ above)) (slot_in xs) i.unused
     here-lays =
         let z : size now + 0 ≡ size here + 0 = omega (arith, e) in
-        replaced xs below (here ∷ []) above (slot_in xs) i.unused laid place top low high rises (no-slots here plain)
-        (now ∷ []) new same one z
-        (ap (λ k. k ++ []) n) (no-slots now m) (p, tt) (leads, tt)
+        replaced _ _ (here ∷ []) above (slot_in xs) _ laid _ _ low high rises (no-slots here plain)
+        (now ∷ []) new same one z (ap (λ k. k ++ []) n) (no-slots now m) (p, tt) (leads, tt)
 
     pub here-made : tidy (below ++ now ∷ above) ≡ below ++ now ∷ above
         → Made new first count (below ++ now ∷ above) (slot_in xs)
-    here-made y = made new (below ++ now ∷ above) (slot_in xs) i.unused here-lays first count y i.begins i.counted
+    here-made y = made _ _ (slot_in xs) _ here-lays _ _ y i.begins i.counted

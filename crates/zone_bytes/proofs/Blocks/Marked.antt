@@ -33,20 +33,15 @@ flagged-header a b c d w content = refl
 pub tile-flagged : (a b c d w n : ℕ) (content ys : List ℕ) → Tile (header a b c d ++ content) n ys
     → Tile (header a b c w ++ content) n (written 12 (word w) ys)
 tile-flagged a b c d w n content ys t =
-    let k = length-head a b c d content in
-    let m = length-head a b c w content in
-    let l = length-word w in
-    let f = t.fits in
-    let r = t.room in
-    let e : length (header a b c w ++ content) ≡ length (header a b c d ++ content) = omega (arith, k, m) in
+    let e : length (header a b c w ++ content) ≡ length (header a b c d ++ content) = omega (arith, length-head) in
     record {
-      fits = (let q = length-written 12 (word w) ys (omega (arith, f, r, k, l)) in omega (arith, f, q));
+      fits = (let q = length-written 12 (word w) ys (omega (arith, length-head, length-word)) in omega (arith, q));
       whole = t.whole;
       some = t.some;
-      room = omega (arith, r, e);
+      room = omega (arith, e);
       begins = ap (λ q. take q (written 12 (word w) ys)) e
-          ∙ take-written_above 12 (word w) ys (length (header a b c d ++ content)) (omega (arith, k, l))
-          (omega (arith, f, r)) ∙ ap (written 12 (word w)) t.begins ∙ flagged-header a b c d w content;
+          ∙ take-written_above 12 (word w) _ _ (omega (arith, length-head, length-word))
+          (omega arith) ∙ ap (written 12 (word w)) t.begins ∙ flagged-header a b c d w content;
     }
 
 flags-joined : (old flags : Flags) (r : Bool) → flag_word flags false + flag_word old r % 64 ≡ flag_word flags r
@@ -83,73 +78,61 @@ module _ (xs : List ℕ) (first count : ℕ) (i : IsSound xs first count) (place
       (low : sizes below ≡ place) → word_at place xs % 16 ≡ kind here
   tag below here above whole low =
       let t = tile xs first count i place 0 [] below here above whole low in
-      let f = first-reads resource xs place i.lays.small here t in
-      let k = kind-small here in
-      let w = t.whole in
-      omega (arith, f, k, w)
+      omega (arith, first-reads resource xs place i.lays.small here t, kind-small)
 
   same-here : (below : List Block) (here : Block) (above : List Block) (whole : zone_in xs ≡ below ++ here ∷ above)
       → Made xs first count (below ++ here ∷ above) (slot_in xs)
   same-here below here above whole =
-      made xs (below ++ here ∷ above) (slot_in xs) i.unused
-      (subst (λ z. Lays xs z (slot_in xs) i.unused) whole i.lays) first count
+      made _ _ (slot_in xs) _ (subst (λ z. Lays xs z (slot_in xs) i.unused) whole i.lays) _ _
       (sym (ap tidy whole) ∙ i.tidied ∙ whole) i.begins i.counted
 
   other : (below : List Block) (here : Block) (above : List Block) (whole : zone_in xs ≡ below ++ here ∷ above)
       (low : sizes below ≡ place) → (kind here == 3) ≡ false
       → Made (flagged flags place xs) first count (below ++ here ∷ above) (slot_in xs)
   other below here above whole low k =
-      let e = ap (λ t. t == 3) (tag below here above whole low) ∙ k in
       subst (λ ys. Made ys first count (below ++ here ∷ above) (slot_in xs))
       (sym (ap (λ v. cond v (written (place + 12) (word (flag_word flags false + word_at (place + 12) xs % 64))
-      xs) xs) e)) (same-here below here above whole)
+      xs) xs) (ap (λ t. t == 3) (tag below here above whole low) ∙ k))) (same-here _ _ _ whole)
 
   pub flagged-made : (below : List Block) (here : Block) (above : List Block)
       (whole : zone_in xs ≡ below ++ here ∷ above) (low : sizes below ≡ place)
       → Made (flagged flags place xs) first count (below ++ with_flags flags here ∷ above) (slot_in xs)
   unfolding head_of
-  flagged-made below (Free n) above whole low = other below (Free n) above whole low refl
-  flagged-made below (Nonrelocatable id content) above whole low = other below (Nonrelocatable id content) above whole low refl
-  flagged-made below Masters above whole low = other below Masters above whole low refl
+  flagged-made below (Free n) above whole low = other _ _ _ whole low refl
+  flagged-made below (Nonrelocatable id content) above whole low = other _ _ _ whole low refl
+  flagged-made below Masters above whole low = other _ _ _ whole low refl
   flagged-made below (Relocatable slot old content) above whole low =
       let here : Block = Relocatable slot old content in
       let t = tile xs first count i place 0 [] below here above whole low in
       let z = size here in
       let q = says z (z + 3) (length content) slot (flag_word old (resource slot)) content (drop place xs) t in
       let g = flag_word-small old (resource slot) in
-      let e = read_back (place + 12) (flag_word old (resource slot)) xs (omega (arith, g))
-      (word-at place 12 xs ∙ q.2) in
+      let e = read_back _ _ _ (omega (arith, g)) (word-at place 12 xs ∙ q.2) in
       let w : flag_word flags false + word_at (place + 12) xs % 64 ≡ flag_word flags (resource slot) = ap
-      (λ n. flag_word flags false + n % 64) e ∙ flags-joined old flags (resource slot) in
+      (λ n. flag_word flags false + n % 64) e ∙ flags-joined _ _ _ in
       let new = written (place + 12) (word (flag_word flags (resource slot))) xs in
       let is : flagged flags place xs ≡ new =
       ap (λ v. cond v (written (place + 12) (word (flag_word flags false + word_at (place + 12) xs % 64)) xs) xs)
       (ap (λ t. t == 3) (tag below here above whole low)) ∙ ap (λ n. written (place + 12) (word n) xs) w in
       let f = fits xs first count i place 0 [] below here above whole low in
-      let m = t.some in
-      let l = length-word (flag_word flags (resource slot)) in
-      let same = outside-written place (place + z) xs xs (place + 12) (word (flag_word flags (resource slot)))
-      (omega arith) (omega (arith, l, m)) (outside-same place (place + z) xs (omega arith) f) in
+      let same = outside-written _ _ _ _ _ (word (flag_word flags (resource slot)))
+      (omega arith) (omega (arith, length-word)) (outside-same place (place + z) xs (omega arith) f) in
       let up : drop place new ≡ written 12 (word (flag_word flags (resource slot))) (drop place xs) =
-      drop-written_below (place + 12) (word (flag_word flags (resource slot))) xs place (omega arith)
-      (omega (arith, f, m)) ∙ (let v : place + 12 - place ≡ 12 = omega arith in
+      drop-written_below (place + 12) _ _ _ (omega arith)
+      (omega (arith, f)) ∙ (let v : place + 12 - place ≡ 12 = omega arith in
       ap (λ j. written j (word (flag_word flags (resource slot))) (drop place xs)) v) in
-      let t1 = tile-flagged (z + 3) (length content) slot (flag_word old (resource slot))
-      (flag_word flags (resource slot)) z content (drop place xs) t in
+      let t1 = tile-flagged _ _ _ _ _ z _ _ t in
       subst (λ ys. Made ys first count (below ++ Relocatable slot flags content ∷ above) (slot_in xs)) (sym is)
-      (here-made xs first count i below here above whole place low refl (omega (arith, m))
-      (Relocatable slot flags content) new same
+      (here-made _ _ _ i _ _ _ whole _ low refl (omega arith) _ _ same
       (subst (λ ys. Tile (header (z + 3) (length content) slot (flag_word flags (resource slot)) ++ content) z ys)
-      (sym up) t1) refl refl refl tt
-      (tidy-flags flags below here above (sym (ap tidy whole) ∙ i.tidied ∙ whole)))
+      (sym up) t1) refl refl refl tt (tidy-flags flags below here above (sym (ap tidy whole) ∙ i.tidied ∙ whole)))
 
 pub masters-flagged : (flags : Flags) (below : List Block) (b : Block) (above : List Block)
     → count is_masters (below ++ with_flags flags b ∷ above) ≡ count is_masters (below ++ b ∷ above)
 masters-flagged flags below (Free n) above = refl
 masters-flagged flags below (Nonrelocatable id content) above = refl
 masters-flagged flags below Masters above = refl
-masters-flagged flags below (Relocatable slot old content) above = masters-same below above
-    (Relocatable slot old content) (Relocatable slot flags content) refl
+masters-flagged flags below (Relocatable slot old content) above = masters-same _ _ _ _ refl
 
 -- the Free bytes stay
 pub free-flagged : (flags : Flags) (below : List Block) (b : Block) (above : List Block)
@@ -157,5 +140,4 @@ pub free-flagged : (flags : Flags) (below : List Block) (b : Block) (above : Lis
 free-flagged flags below (Free n) above = refl
 free-flagged flags below (Nonrelocatable id content) above = refl
 free-flagged flags below Masters above = refl
-free-flagged flags below (Relocatable slot old content) above = total-same free_of below above
-    (Relocatable slot old content) (Relocatable slot flags content) refl
+free-flagged flags below (Relocatable slot old content) above = total-same free_of _ _ _ _ refl

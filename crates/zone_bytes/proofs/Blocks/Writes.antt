@@ -45,22 +45,18 @@ pub tile-written : (h0 content x : List ℕ) (n from : ℕ) (ys : List ℕ) → 
 tile-written h0 content x n from ys l w t =
     let a = length-append h0 content in
     let b = length-append h0 (written from x content) in
-    let k = length-written from x content w in
-    let f = t.fits in
-    let r = t.room in
-    let lw = length-written (16 + from) x ys (omega (arith, f, r, a, l, w)) in
     record {
-      fits = omega (arith, f, lw);
+      fits = omega (arith, length-written);
       whole = t.whole;
       some = t.some;
-      room = omega (arith, r, a, b, k);
+      room = omega (arith, a, b, length-written);
       begins =
-          (let e : length (h0 ++ written from x content) ≡ length (h0 ++ content) = omega (arith, a, b, k) in
+          (let e : length (h0 ++ written from x content) ≡ length (h0 ++ content) = omega (arith, a, b, length-written) in
           ap (λ m. take m (written (16 + from) x ys)) e)
-          ∙ take-written_above (16 + from) x ys (length (h0 ++ content)) (omega (arith, a, l, w)) (omega (arith, f, r))
+          ∙ take-written_above _ x _ _ (omega (arith, a, l, w)) (omega arith)
           ∙ ap (written (16 + from) x) t.begins
           ∙ (let e : 16 + from ≡ length h0 + from = omega (arith, l) in ap (λ m. written m x (h0 ++ content)) e)
-          ∙ written-past h0 content x from;
+          ∙ written-past _ _ x _;
     }
 
 pub content-room : (b : Block) → 16 ≤ size b → 16 + length (content_of b) ≤ size b
@@ -84,17 +80,17 @@ module _ (xs : List ℕ) (first count : ℕ) (i : IsSound xs first count) (place
       (low : sizes below ≡ place) where
     pub tile : Tile (head_of resource here) (size here) (drop place xs)
     tile =
-        let t = tiles-split (head_of resource) xs below (here ∷ above)
+        let t = tiles-split (head_of resource) _ _ (here ∷ above)
         (subst (Tiles (head_of resource) xs) whole i.lays.lies.tiles) in
         subst (λ j. Tile (head_of resource here) (size here) (drop j xs)) low t.1.0
 
     pub fits : place + size here ≤ length xs
-    fits = let f = tile.fits in let d = length-drop place xs in let s = tile.some in omega (arith, f, d, s)
+    fits = omega (arith, tile.fits, (length-drop place xs), tile.some)
 
     pub placed : IsPlaced place here
     placed = let o : 0 + sizes below ≡ place = omega (arith, low) in
         subst (λ j. IsPlaced j here) o
-        (placed-right 0 below (here ∷ above) (subst (λ z. ArePlaced 0 z) whole i.lays.placed)).0
+        (placed-right 0 _ (here ∷ above) (subst (λ z. ArePlaced 0 z) whole i.lays.placed)).0
 
   -- where nothing is held, nothing is written
   nothing : (below : List Block) (here : Block) (above : List Block) (whole : zone_in xs ≡ below ++ here ∷ above)
@@ -104,9 +100,8 @@ module _ (xs : List ℕ) (first count : ℕ) (i : IsSound xs first count) (place
       let f = fits below here above whole low in
       let m = (tile below here above whole low).some in
       let s = written-same (place + 16 + from) 0 x xs (omega (arith, f, m, w)) (nil x l) in
-      subst (λ ys. Made ys first count (below ++ here ∷ above) (slot_in xs)) (sym s)
-      (made xs (below ++ here ∷ above) (slot_in xs) i.unused
-      (subst (λ z. Lays xs z (slot_in xs) i.unused) whole i.lays) first count
+      subst (λ ys. Made ys first count (below ++ here ∷ above) (slot_in xs)) (sym s) (made _ _ (slot_in xs) _
+      (subst (λ z. Lays xs z (slot_in xs) i.unused) whole i.lays) _ _
       (sym (ap tidy whole) ∙ i.tidied ∙ whole) i.begins i.counted)
 
   pub written-in : (below : List Block) (here : Block) (above : List Block)
@@ -120,71 +115,61 @@ module _ (xs : List ℕ) (first count : ℕ) (i : IsSound xs first count) (place
       let t = tile below (Nonrelocatable id content) above whole low in
       let z = size (Nonrelocatable id content) in
       let h0 = header (z + 1) (length content) 0 0 in
-      let l = length-head (z + 1) (length content) 0 0 content in
-      let f = t.fits in let r = t.room in let d = length-drop place xs in let m = t.some in
-      let k = length-written from x content w in
-      let same = outside-written place (place + z) xs xs (place + 16 + from) x (omega arith) (omega (arith, l, r, w))
-      (outside-same place (place + z) xs (omega arith) (omega (arith, f, d, m))) in
+      let d = length-drop place xs in let k = length-written from x content w in
+      let same = outside-written _ _ _ _ _ x (omega arith) (omega (arith, length-head, w))
+      (outside-same place (place + z) xs (omega arith) (omega (arith, d))) in
       let now : Block = Nonrelocatable id (written from x content) in
       let e : size now ≡ z = ap padded k in
       let up : drop place new ≡ written (16 + from) x (drop place xs) =
-      drop-written_below (place + 16 + from) x xs place (omega arith) (omega (arith, f, d, m, l, r, w))
+      drop-written_below (place + 16 + from) x xs place (omega arith) (omega (arith, d, length-head, w))
       ∙ (let v : place + 16 + from - place ≡ 16 + from = omega arith in ap (λ j. written j x (drop place xs)) v) in
       let t1 = tile-written h0 content x z from (drop place xs) (length-header (z + 1) (length content) 0 0) w t in
       let t2 : Tile (header (size now + 1) (length (written from x content)) 0 0 ++ written from x content) (size now)
       (drop place new) =
       subst (λ ys. Tile (header (size now + 1) (length (written from x content)) 0 0 ++ written from x content)
-      (size now) ys) (sym up)
-      (rw (e, k) t1) in
-      here-made xs first count i below (Nonrelocatable id content) above whole place low refl
-      (omega (arith, m)) now new same t2 e refl refl (placed below (Nonrelocatable id content) above whole low)
+      (size now) ys) (sym up) (rw (e, k) t1) in
+      here-made _ _ _ i _ _ _ whole _ low refl
+      (omega arith) _ _ same t2 e refl refl (placed below (Nonrelocatable id content) above whole low)
       (tidy-content (written from x content) below (Nonrelocatable id content) above (sym (ap tidy whole) ∙ i.tidied ∙ whole))
   written-in below (Relocatable slot flags content) above whole low w =
       let t = tile below (Relocatable slot flags content) above whole low in
       let z = size (Relocatable slot flags content) in
-      let h0 = header (z + 3) (length content) slot (flag_word flags (resource slot)) in
-      let l = length-head (z + 3) (length content) slot (flag_word flags (resource slot)) content in
-      let f = t.fits in let r = t.room in let d = length-drop place xs in let m = t.some in
-      let k = length-written from x content w in
-      let same = outside-written place (place + z) xs xs (place + 16 + from) x (omega arith) (omega (arith, l, r, w))
-      (outside-same place (place + z) xs (omega arith) (omega (arith, f, d, m))) in
+      let d = length-drop place xs in let k = length-written from x content w in
+      let same = outside-written _ _ _ _ _ x (omega arith) (omega (arith, length-head, w))
+      (outside-same place (place + z) xs (omega arith) (omega (arith, d))) in
       let now : Block = Relocatable slot flags (written from x content) in
       let e : size now ≡ z = ap padded k in
       let up : drop place new ≡ written (16 + from) x (drop place xs) =
-      drop-written_below (place + 16 + from) x xs place (omega arith) (omega (arith, f, d, m, l, r, w))
+      drop-written_below (place + 16 + from) x xs place (omega arith) (omega (arith, d, length-head, w))
       ∙ (let v : place + 16 + from - place ≡ 16 + from = omega arith in ap (λ j. written j x (drop place xs)) v) in
-      let t1 = tile-written h0 content x z from (drop place xs)
+      let t1 = tile-written _ _ x z _ _
       (length-header (z + 3) (length content) slot (flag_word flags (resource slot))) w t in
       let t2 : Tile (header (size now + 3) (length (written from x content)) slot (flag_word flags (resource slot)) ++
       written from x content) (size now) (drop place new) =
       subst (λ ys. Tile (header (size now + 3) (length (written from x content)) slot
-      (flag_word flags (resource slot)) ++ written from x content) (size now) ys) (sym up)
-      (rw (e, k) t1) in
-      here-made xs first count i below (Relocatable slot flags content) above whole place low refl
-      (omega (arith, m)) now new same t2 e refl refl (placed below (Relocatable slot flags content) above whole low)
-      (tidy-content (written from x content) below (Relocatable slot flags content) above
-      (sym (ap tidy whole) ∙ i.tidied ∙ whole))
+      (flag_word flags (resource slot)) ++ written from x content) (size now) ys) (sym up) (rw (e, k) t1) in
+      here-made _ _ _ i _ _ _ whole _ low refl
+      (omega arith) _ _ same t2 e refl refl (placed below (Relocatable slot flags content) above whole low)
+      (tidy-content _ _ _ _ (sym (ap tidy whole) ∙ i.tidied ∙ whole))
 
   -- a block's content lies in the bytes
   pub content-inside : (below : List Block) (here : Block) (above : List Block)
       (whole : zone_in xs ≡ below ++ here ∷ above) (low : sizes below ≡ place)
       → place + 16 + length (content_of here) ≤ length xs
   content-inside below here above whole low = let f = fits below here above whole low in
-      let m = (tile below here above whole low).some in let r = content-room here m in omega (arith, f, m, r)
+      let m = (tile below here above whole low).some in omega (arith, f, m, content-room)
 
 pub masters-kept : (x : List ℕ) (below : List Block) (b : Block) (above : List Block)
     → count is_masters (below ++ with_content x b ∷ above) ≡ count is_masters (below ++ b ∷ above)
 masters-kept x below (Free n) above = refl
-masters-kept x below (Nonrelocatable id content) above = masters-same below above (Nonrelocatable id content) (Nonrelocatable id x) refl
+masters-kept x below (Nonrelocatable id content) above = masters-same _ _ _ _ refl
 masters-kept x below Masters above = refl
-masters-kept x below (Relocatable slot flags content) above = masters-same below above
-    (Relocatable slot flags content) (Relocatable slot flags x) refl
+masters-kept x below (Relocatable slot flags content) above = masters-same _ _ _ _ refl
 
 -- the Free bytes stay
 pub free-kept : (x : List ℕ) (below : List Block) (b : Block) (above : List Block)
     → free_sum (below ++ with_content x b ∷ above) ≡ free_sum (below ++ b ∷ above)
 free-kept x below (Free n) above = refl
-free-kept x below (Nonrelocatable id content) above = total-same free_of below above (Nonrelocatable id content) (Nonrelocatable id x) refl
+free-kept x below (Nonrelocatable id content) above = total-same free_of _ _ _ _ refl
 free-kept x below Masters above = refl
-free-kept x below (Relocatable slot flags content) above = total-same free_of below above
-    (Relocatable slot flags content) (Relocatable slot flags x) refl
+free-kept x below (Relocatable slot flags content) above = total-same free_of _ _ _ _ refl

@@ -5,7 +5,7 @@ use Rattle.std.proofs.lemmas.Bool.{and_parts, false≢true}
 use Rattle.std.specs.Option.{option_map}
 use Rattle.block_store.specs.Block.{Block, Free, Nonrelocatable, Masters, Relocatable, size, sizes, total, free_of, free_sum}
 use Rattle.block_store.specs.Block.{count, is_purgeable, is_room, fresh, tidy}
-use Rattle.block_store.specs.Grow.{freed, growth, taken, grow_up}
+use Rattle.block_store.specs.Grow.{freed, growth, grow_up}
 use Rattle.block_store.specs.Room.{Spot, spot, raised, filled, may_be_purged, lowest_purged}
 use Rattle.block_store.specs.Sparing.{most_purges, purged, spared}
 use Rattle.block_store.specs.declared.sparing.Sparing.TheVariants as sparing
@@ -20,7 +20,6 @@ use Rattle.zone_summary.proofs.Purges.{all-purged}
 use Rattle.zone_bytes.specs.Decode.{zone_in}
 use Rattle.zone_bytes.specs.Lawful.{IsSound}
 use Rattle.zone_bytes.specs.Changes.{Became}
-use Rattle.zone_bytes.specs.Table.{slot_in}
 use Rattle.zone_bytes.specs.PurgeableBytes.{purgeable_of, purgeable_sum, purgeable_at}
 use Rattle.zone_bytes.proofs.Laws.Lawful.{sizes-length}
 use Rattle.zone_bytes.proofs.Places.Walks.{free_span-le}
@@ -35,20 +34,17 @@ given-tidy zone = tidied purgeable_of none-free zone
 -- a block with others below and above
 pub given-parts : (below : List Block) (b : Block) (above : List Block)
     → purgeable_sum (below ++ b ∷ above) ≡ purgeable_sum below + (purgeable_of b + purgeable_sum above)
-given-parts below b above = total-append purgeable_of below (b ∷ above)
+given-parts below b above = total-append purgeable_of _ _
 
 -- a block at the lower end of another's place
 pub given-filled : (new : Block) (s : Spot)
     → purgeable_sum (filled new s) ≡ purgeable_sum s.below + (purgeable_of new + purgeable_sum s.above)
-given-filled new s =
-    let t = given-tidy (s.below ++ new ∷ Free (size s.here - size new) ∷ s.above) in
-    let p = given-parts s.below new (Free (size s.here - size new) ∷ s.above) in
-    omega (arith, t, p)
+given-filled new s = omega (arith, given-tidy, given-parts)
 
 -- blocks that would give nothing were freed
 pub given-freed : (test : Block → Bool) → ((b : Block) → test b ≡ true → purgeable_of b ≡ 0) → (zone : List Block)
     → purgeable_sum (tidy (freed test zone)) ≡ purgeable_sum zone
-given-freed test nothing zone = given-tidy (freed test zone) ∙ freed-is purgeable_of none-free test zone ∙ same zone
+given-freed test nothing zone = given-tidy _ ∙ freed-is purgeable_of none-free test zone ∙ same zone
   where
     one : (b : Block) (t : Bool) → test b ≡ t → cond t 0 (purgeable_of b) ≡ purgeable_of b
     one b true e = sym (nothing b e)
@@ -67,8 +63,7 @@ given-released test zone once =
     beside : (zone : List Block) → count test zone ≤ 1
         → total (unless test purgeable_of) zone + purgeable_at (spot test zone) ≡ purgeable_sum zone
     beside [] once = refl
-    beside (b ∷ zone) once =
-        cases (test b) (spot test zone) (beside zone) (unless-none test purgeable_of zone) once
+    beside (b ∷ zone) once = cases (test b) (spot test zone) (beside zone) (unless-none test purgeable_of _) once
       where
         cases : (t : Bool) (o : Option Spot)
             → (count test zone ≤ 1 → total (unless test purgeable_of) zone + purgeable_at o ≡ purgeable_sum zone)
@@ -86,7 +81,7 @@ pub given-lowest_purged : (k : ℕ) (sp : Block → Bool) (zone : List Block)
     → free_sum (lowest_purged k sp zone) + purgeable_sum (lowest_purged k sp zone) ≡ free_sum zone + purgeable_sum zone
 given-lowest_purged zero sp zone = refl
 given-lowest_purged (suc k) sp [] = refl
-given-lowest_purged (suc k) sp (b ∷ zone) = cases (may_be_purged sp b) refl (given-lowest_purged k sp zone)
+given-lowest_purged (suc k) sp (b ∷ zone) = cases (may_be_purged sp b) refl (given-lowest_purged k sp _)
     (given-lowest_purged (suc k) sp zone)
   where
     gives : (b : Block) → is_purgeable b ≡ true → (free_of b ≡ 0) × (purgeable_of b ≡ size b)
@@ -97,8 +92,7 @@ given-lowest_purged (suc k) sp (b ∷ zone) = cases (may_be_purged sp b) refl (g
 
     cases : (t : Bool) → may_be_purged sp b ≡ t
         → free_sum (lowest_purged k sp zone) + purgeable_sum (lowest_purged k sp zone) ≡ free_sum zone + purgeable_sum
-        zone
-        → free_sum (lowest_purged (suc k) sp zone) + purgeable_sum (lowest_purged (suc k) sp zone)
+        zone → free_sum (lowest_purged (suc k) sp zone) + purgeable_sum (lowest_purged (suc k) sp zone)
         ≡ free_sum zone + purgeable_sum zone
         → free_sum (cond t (Free (size b) ∷ lowest_purged k sp zone) (b ∷ lowest_purged (suc k) sp zone))
         + purgeable_sum (cond t (Free (size b) ∷ lowest_purged k sp zone) (b ∷ lowest_purged (suc k) sp zone))
@@ -108,7 +102,7 @@ given-lowest_purged (suc k) sp (b ∷ zone) = cases (may_be_purged sp b) refl (g
 
 -- no blocks would give more bytes than they take
 pub given-sizes : (zone : List Block) → purgeable_sum zone ≤ sizes zone
-given-sizes zone = total-le purgeable_of size (λ b. one (is_purgeable b) (size b)) zone
+given-sizes zone = total-le purgeable_of size (λ b. one (is_purgeable b) (size b)) _
   where
     one : (t : Bool) (n : ℕ) → cond t n 0 ≤ n
     one true n = omega arith
@@ -140,12 +134,7 @@ all-given zone = free-purged sparing.Nothing (most_purges sparing.Nothing zone) 
 -- no zone has, and would give, more bytes than a number holds
 pub given-fits : (xs : List ℕ) (first unused : ℕ) → IsSound xs first unused
     → free_sum (zone_in xs) + purgeable_sum (zone_in xs) < 2 ^ 32
-given-fits xs first unused i =
-    let g = given-sizes (zone_in xs) in
-    let f = free_span-le (zone_in xs) in
-    let l = sizes-length xs (zone_in xs) (slot_in xs) i.unused i.lays in
-    let m = i.lays.small in
-    omega (arith, g, f, l, m)
+given-fits xs first unused i = omega (arith, given-sizes, free_span-le, sizes-length)
 
 -- a Free block that has room would give nothing
 given-room : (p : ℕ) (b : Block) → is_room p b ≡ true → purgeable_of b ≡ 0
@@ -158,17 +147,14 @@ given-room p (Relocatable id flags content) e = absurd (false≢true e)
 pub given-grown : (new : Block) (s : Spot) (z : List Block) → grow_up new s ≡ Some z
     → purgeable_sum z ≡ purgeable_sum s.below + (purgeable_of new + purgeable_sum s.above)
 given-grown new s z e =
-    map-some (λ above. s.below ++ new ∷ above) (taken (growth new s) s.above) z
+    map-some (λ above. s.below ++ new ∷ above) _ z
     (purgeable_sum z ≡ purgeable_sum s.below + (purgeable_of new + purgeable_sum s.above)) e
-    (λ above took is. taken-some (growth new s) s.above above
+    (λ above took is. taken-some _ s.above _
     (purgeable_sum z ≡ purgeable_sum s.below + (purgeable_of new + purgeable_sum s.above)) took
     (λ next rest was room now.
-    let i = ap purgeable_sum is in
     let p = total-sized purgeable_of none-free s.below new (size next - growth new s) rest in
-    let n = ap (λ l. purgeable_sum (s.below ++ new ∷ l)) now in
-    let w = ap purgeable_sum was in
-    let r = given-room (growth new s) next room in
-    omega (arith, i, p, n, w, r)))
+    let a = ap (λ l. purgeable_sum (s.below ++ new ∷ l)) now in
+    omega (arith, ap purgeable_sum is, p, a, ap purgeable_sum was, given-room)))
 
 -- a fresh zone would give nothing
 pub given-fresh : (n : ℕ) → purgeable_sum (fresh n) ≡ 0
@@ -178,11 +164,7 @@ given-fresh n = let f = freely purgeable_of none-free (n - 272) in omega (arith,
 pub given-put : (new : Block) → purgeable_of new ≡ 0 → (s : Spot) (zone : List Block)
     → zone ≡ s.below ++ s.here ∷ s.above → (n : ℕ) → s.here ≡ Free n → purgeable_sum (filled new s) ≡ purgeable_sum zone
 given-put new none s zone whole n free =
-    let f = given-filled new s in
-    let z = ap purgeable_sum whole in
-    let p = given-parts s.below s.here s.above in
-    let h = ap purgeable_of free in
-    omega (arith, none, f, z, p, h)
+    omega (arith, none, given-filled, ap purgeable_sum whole, given-parts, ap purgeable_of free)
 
 -- a block became another
 pub given-became : (place : ℕ) (old new : List Block) (b : Became place old new)
@@ -190,18 +172,11 @@ pub given-became : (place : ℕ) (old new : List Block) (b : Became place old ne
     × (purgeable_of b.here ≤ purgeable_sum old)
 given-became place old new b =
     let y = ap purgeable_sum b.was in
-    let z = ap purgeable_sum b.is in
-    let p = given-parts b.below b.here b.above in
-    let q = given-parts b.below b.there b.above in
-    (omega (arith, y, z, p, q), omega (arith, y, p))
+    (omega (arith, y, ap purgeable_sum b.is, given-parts), omega (arith, y, given-parts))
 
 -- the zone that bytes spell would give no more than it has
 pub given-small : (xs : List ℕ) (first unused : ℕ) → IsSound xs first unused → purgeable_sum (zone_in xs) < 2 ^ 32
-given-small xs first unused i =
-    let g = given-sizes (zone_in xs) in
-    let l = sizes-length xs (zone_in xs) (slot_in xs) i.unused i.lays in
-    let m = i.lays.small in
-    omega (arith, g, l, m)
+given-small xs first unused i = omega (arith, given-sizes, sizes-length)
 
 -- blocks above one were emptied
 pub given-purged : (below : List Block) (b : Block) (k : ℕ) (sp : Block → Bool) (above zone : List Block)
@@ -209,13 +184,7 @@ pub given-purged : (below : List Block) (b : Block) (k : ℕ) (sp : Block → Bo
     → free_sum (tidy (below ++ b ∷ lowest_purged k sp above)) ≡ free_sum zone + freed
     → purgeable_sum (tidy (below ++ b ∷ lowest_purged k sp above)) + freed ≡ purgeable_sum zone
 given-purged below b k sp above zone whole freed f =
-    let e = given-lowest_purged k sp above in
-    let t = given-tidy (below ++ b ∷ lowest_purged k sp above) in
     let u = total-tidy free_of (λ n m. refl) (below ++ b ∷ lowest_purged k sp above) in
-    let p = given-parts below b (lowest_purged k sp above) in
-    let q = given-parts below b above in
-    let g = total-append free_of below (b ∷ lowest_purged k sp above) in
-    let h = total-append free_of below (b ∷ above) in
     let y = ap free_sum whole in
     let z = ap purgeable_sum whole in
-    omega (arith, e, t, u, p, q, g, h, y, z, f)
+    omega (arith, given-lowest_purged, given-tidy, u, given-parts, total-append, y, z, f)

@@ -1,6 +1,6 @@
 -- A zone that has too few bytes, and one that has nothing to give.
 use Rattle.std.proofs.Common.{◌≡◌, ℕ, ◌+◌, ◌≤◌, ◌<◌, Bool, true, false, not, ◌&&◌, cond, Option, Some, None, List}
-use Rattle.std.proofs.Common.{◌∷◌, ◌++◌, length, refl, ap, arith}
+use Rattle.std.proofs.Common.{length, refl, ap, arith}
 use Rattle.std.proofs.lemmas.Bool.Decides.{nat_tests}
 use Rattle.mac_words.specs.Size.{padded}
 use Rattle.block_store.specs.Block.{Block, Free, Nonrelocatable, Masters, Relocatable, count, free_of, free_sum, is_room}
@@ -27,11 +27,7 @@ no-run passes p means zone short = cases (run_spot passes zone) refl
     cases None e = refl
     cases (Some r) e =
         let v = run_spot-is passes zone r e in
-        let z = ap free_sum v.0 in
-        let m = means r.run v.2 in
-        let t = total-append free_of r.below (r.run ++ r.above) in
-        let u = total-append free_of r.run r.above in
-        absurd (omega (arith, z, m, t, u, short))
+        absurd (omega (arith, ap free_sum v.0, means, total-append, short))
 
 -- and no Free block has
 pub no-room : (p : ℕ) (zone : List Block) → free_sum zone < p → spot (is_room p) zone ≡ None
@@ -46,10 +42,8 @@ no-room p zone short = cases (spot (is_room p) zone) refl
     cases : (o : Option Spot) → spot (is_room p) zone ≡ o → o ≡ None
     cases None e = refl
     cases (Some s) e =
-        let z = ap free_sum (spot-is (is_room p) zone s e) in
-        let m = means s.here (spot-passes (is_room p) zone s e) in
-        let t = total-append free_of s.below (s.here ∷ s.above) in
-        absurd (omega (arith, z, m, t, short))
+        let a = means s.here (spot-passes (is_room p) zone s e) in
+        absurd (omega (arith, ap free_sum (spot-is (is_room p) zone s e), a, total-append, short))
 
 -- nothing counts as Free that isn't
 abbrev pub FreesNone : Sparing → Type 0
@@ -59,12 +53,8 @@ FreesNone s = (zone : List Block) → opened s zone ≡ zone
 pub free-given : (s : Sparing) → FreesNone s → (k : ℕ) (zone : List Block)
     → free_sum (purged k s zone) + purgeable_sum (purged k s zone) ≡ free_sum zone + purgeable_sum zone
 free-given s none k zone =
-    let f = free-purged s k zone in
     let g = tidied purgeable_of none-free (lowest_purged k (spared s) (opened s zone)) in
-    let e = given-lowest_purged k (spared s) (opened s zone) in
-    let o = ap free_sum (none zone) in
-    let q = ap purgeable_sum (none zone) in
-    omega (arith, f, g, e, o, q)
+    omega (arith, free-purged, g, given-lowest_purged, ap free_sum (none zone), ap purgeable_sum (none zone))
 
 -- what counts as Free would give nothing more
 given-opened : (s : Sparing) (zone : List Block) → purgeable_sum (opened s zone) ≤ purgeable_sum zone
@@ -72,9 +62,7 @@ given-opened sparing.Nothing zone = omega arith
 given-opened (sparing.One slot) zone = omega arith
 given-opened (sparing.Two slot other) zone = omega arith
 given-opened (sparing.Freed slot) zone =
-    let f = freed-is purgeable_of none-free (is_relocatable slot) zone in
-    let l = unless-le (is_relocatable slot) purgeable_of zone in
-    omega (arith, f, l)
+    omega (arith, freed-is purgeable_of none-free (is_relocatable slot) zone, unless-le)
 
 -- each block that may go would give something
 pub one-gives : (sp : Block → Bool) (b : Block) → cond {A = ℕ} (may_be_purged sp b) 1 0 ≤ purgeable_of b
@@ -90,14 +78,11 @@ one-gives sp (Relocatable id flags content) = cases (not flags.locked && flags.p
     cases false u = omega arith
 
 count-given : (sp : Block → Bool) (zone : List Block) → count (may_be_purged sp) zone ≤ purgeable_sum zone
-count-given sp zone = total-le (λ b. cond {A = ℕ} (may_be_purged sp b) 1 0) purgeable_of (one-gives sp) zone
+count-given sp zone = total-le (λ b. cond {A = ℕ} (may_be_purged sp b) 1 0) purgeable_of (one-gives sp) _
 
 -- where a zone would give nothing, no block may go
 pub none-goes : (s : Sparing) (zone : List Block) → purgeable_sum zone ≤ 0 → most_purges s zone ≡ 0
-none-goes s zone none =
-    let c = count-given (spared s) (opened s zone) in
-    let o = given-opened s zone in
-    omega (arith, c, o, none)
+none-goes s zone none = omega (arith, count-given, given-opened, none)
 
 pub none-next : (s : Sparing) (k : ℕ) (zone : List Block) → purgeable_sum zone ≤ 0
     → spot (may_be_purged (spared s)) (purged k s zone) ≡ None
@@ -107,10 +92,7 @@ none-next s k zone none = cases (spot (may_be_purged (spared s)) (purged k s zon
     cases None e = refl
     cases (Some b) e =
         let z = ap purgeable_sum (spot-is (may_be_purged (spared s)) (purged k s zone) b e) in
-        let t = total-append purgeable_of b.below (b.here ∷ b.above) in
-        let p = one-gives (spared s) b.here in
         let q : cond {A = ℕ} (may_be_purged (spared s) b.here) 1 0 ≡ 1 =
         ap (λ v. cond {A = ℕ} v 1 0) (spot-passes (may_be_purged (spared s)) (purged k s zone) b e) in
         let l = purged-le purgeable_of none-free k (spared s) (opened s zone) in
-        let o = given-opened s zone in
-        absurd (omega (arith, z, t, p, q, l, o, none))
+        absurd (omega (arith, z, total-append, one-gives, q, l, given-opened, none))

@@ -23,8 +23,7 @@ chain-above : (xs w : List ℕ) (at u n : ℕ) → at + length w ≤ u → at �
     → Chain (written at w xs) (slots_from u n)
 chain-above xs w at u zero h l c = tt
 chain-above xs w at u (suc n) h l c = (
-  piece-written_above at w xs u 4 h l
-      ∙ c.0,
+  piece-written_above at w xs u 4 h l ∙ c.0,
   chain-above xs w at (u + 4) n (omega (arith, h)) l c.1,
 )
 
@@ -58,26 +57,21 @@ pub chaining-step : (end slot : ℕ) (xs : List ℕ) → 512 ≤ end → 16 < sl
 chaining-step end slot xs h l q =
     let w = length-word (16 * slot + 1) in
     let k = q.kept in
-    let t = q.at in
-    let v = q.even in
     let up : slot ≡ slot - 4 + 4 = omega (arith, l) in
     record {
       more = suc q.more;
-      at = omega (arith, t, l);
+      at = omega (arith, l);
       chain = (
-        piece-written (slot - 4) (word (16 * slot + 1)) xs 4 (sym w) (omega (arith, k, t, h))
-            ∙ ap (λ j. word (16 * j + 1)) up,
+        piece-written _ _ xs 4 (sym w) (omega (arith, k, h)) ∙ ap (λ j. word (16 * j + 1)) up,
         subst (λ u. Chain (written (slot - 4) (word (16 * slot + 1)) xs) (slots_from u (suc q.more))) up
-            (chain-above xs (word (16 * slot + 1)) (slot - 4) slot (suc q.more) (omega (arith, w, l))
-            (omega (arith, k, t, h)) q.chain),
+            (chain-above _ _ (slot - 4) _ (suc q.more) (omega (arith, w, l)) (omega (arith, k, h)) q.chain),
       );
-      first = piece-written_below (slot - 4) (word (16 * slot + 1)) xs 0 16 (omega (arith, l, v))
-          (omega (arith, k, t, h)) ∙ q.first;
-      rest = piece-written_above (slot - 4) (word (16 * slot + 1)) xs 272 4 (omega (arith, w, t))
-          (omega (arith, k, t, h)) ∙ q.rest;
-      kept = length-written (slot - 4) (word (16 * slot + 1)) xs (omega (arith, w, k, t, h)) ∙ k;
-      low = omega (arith, l, v);
-      even = omega (arith, l, v);
+      first = piece-written_below (slot - 4) _ xs 0 16 (omega (arith, l)) (omega (arith, k, h)) ∙ q.first;
+      rest = piece-written_above (slot - 4) (word (16 * slot + 1)) xs 272 4 (omega (arith, w))
+          (omega (arith, k, h)) ∙ q.rest;
+      kept = length-written (slot - 4) (word (16 * slot + 1)) xs (omega (arith, w, k, h)) ∙ k;
+      low = omega (arith, l);
+      even = omega (arith, l);
     }
 
 above : (a b : ℕ) → a ≤ b → (a ≡ b → ⊥) → a % 4 ≡ 0 → b % 4 ≡ 0 → a + 4 ≤ b
@@ -103,7 +97,7 @@ apart-above s at (suc n) l = (inl l, apart-above s (at + 4) n (omega (arith, l))
 
 pub once-from : (at n : ℕ) → Pairs Apart (slots_from at n)
 once-from at zero = tt
-once-from at (suc n) = (apart-above at (at + 4) n (omega arith), once-from (at + 4) n)
+once-from at (suc n) = (apart-above _ (at + 4) n (omega arith), once-from (at + 4) n)
 
 fresh-is : (s : ℕ) → 16 ≤ s → s + 4 ≤ 272 → s % 4 ≡ 0 → fresh_slots s ≡ Unused
 fresh-is s a b c = ap (λ v. cond v Unused NoSlot) (test-true s a b c)
@@ -114,36 +108,31 @@ unfolding all_slots head_of
 fresh-lays end slot n xs e h m l q =
     let resource : ℕ → Bool = λ s. is_resource (fresh_slots s) in
     let head = head_of resource in
-    let t = q.at in
-    let o = q.low in
-    let k = q.kept in
-    let at : slot ≡ 16 = omega (arith, l, o) in
-    let count : suc q.more ≡ 64 = omega (arith, t, at) in
+    let at : slot ≡ 16 = omega (arith, l) in
+    let count : suc q.more ≡ 64 = omega (arith, at) in
     let chain : Chain xs (slots_from 16 64) = subst (λ j. Chain xs (slots_from 16 j)) count
     (subst (λ j. Chain xs (slots_from j (suc q.more))) at q.chain) in
     let some : free (end - 272) ≡ Free (end - 272) ∷ [] = free-some (end - 272) (omega (arith, h)) in
     let d = length-drop 272 xs in
     let hm = length-header 274 256 0 0 in
     let masters : Tile (head Masters) 272 xs = record {
-      fits = omega (arith, k, h);
+      fits = omega (arith, h);
       whole = refl;
       some = omega arith;
       room = omega (arith, hm);
-      begins = ap
-          (λ j. take j xs) hm ∙ q.first;
+      begins = ap (λ j. take j xs) hm ∙ q.first;
     } in
-    let above : Tiles head (drop 272 xs) (Free (end - 272) ∷ []) = tiles-one head (Free (end - 272)) (drop 272 xs)
-    (omega (arith, d, k)) (free-tile resource (end - 272) (drop 272 xs) (omega (arith, d, k))
-    (omega (arith, e, h)) (omega (arith, h)) q.rest) in
+    let above : Tiles head (drop 272 xs) (Free (end - 272) ∷ []) = tiles-one head (Free (end - 272)) _
+    (omega (arith, d)) (free-tile resource _ _ (omega (arith, d)) (omega (arith, e, h)) (omega (arith, h)) q.rest) in
     subst (λ f. Lays xs (Masters ∷ f) fresh_slots (slots_from 16 64)) (sym some) (record {
       lies = record { tiles = (masters, above); leads = (tt, (tt, tt)) };
       has_slots = record { slots = tt; apart = tt };
       placed = (tt, (tt, tt));
-      small = omega (arith, k, m);
+      small = omega (arith, m);
       used = tt;
       says = λ s. says-of s (nat_le 16 s && (nat_le (s + 4) 272 && (s % 4 == 0))) refl;
       chain = chain;
-      unused_slots = each-slot (λ u. IsSlot u (Masters ∷ Free (end - 272) ∷ []) × (fresh_slots u ≡ Unused)) 16 64
+      unused_slots = each-slot (λ u. IsSlot u (Masters ∷ Free (end - 272) ∷ []) × (fresh_slots u ≡ Unused)) _ 64
           (omega arith) (omega arith) refl (λ s a b c. (inl (a, b, c), fresh-is s a b c));
       once = once-from 16 64;
     })

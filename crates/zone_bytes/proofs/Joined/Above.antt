@@ -29,15 +29,10 @@ module _ (j : Joining) (start at : ℕ) (xs : List ℕ) (m : MayJoin j start at 
   here-laid = subst (λ k. Lays xs k j.slots j.unused) (sym (append_assoc j.below (free (at - start)) j.above)) m.lays
 
   here-low : sizes (j.below ++ free (at - start)) ≡ at
-  here-low =
-      let a = span-append j.below (free (at - start)) in
-      let b = span-free (at - start) in
-      let l = m.low in
-      let s = m.some in
-      omega (arith, a, b, l, s)
+  here-low = omega (arith, span-append, span-free)
 
   some : 0 < at - start
-  some = let s = m.some in omega (arith, s)
+  some = omega arith
 
   -- the block above
   pub record Next : Type 0 where
@@ -50,40 +45,37 @@ module _ (j : Joining) (start at : ℕ) (xs : List ℕ) (m : MayJoin j start at 
   next l = of j.above refl
     where
       of : (above : List Block) → j.above ≡ above → Next
-      of [] e = let n = inside xs (j.below ++ free (at - start)) j.above j.slots j.unused here-laid at here-low in
-          let z = ap sizes e in absurd (omega (arith, n, z, l))
+      of [] e = absurd (omega (arith, inside _ _ _ j.slots _ here-laid _ here-low, ap sizes e, l))
       of (b ∷ above) e = record {
         here = b;
         above = above;
         is = e;
-        tells = read xs (j.below ++ free (at - start)) b above j.slots j.unused
-            (subst (λ k. Lays xs ((j.below ++ free (at - start)) ++ k) j.slots j.unused) e here-laid) at here-low;
+        tells = read _ _ b _ j.slots _
+            (subst (λ k. Lays xs ((j.below ++ free (at - start)) ++ k) j.slots j.unused) e here-laid) _ here-low;
       }
 
   alone : add (Free (at - start)) j.above ≡ Free (at - start) ∷ j.above
       → Lays xs (j.below ++ add (Free (at - start)) j.above) j.slots j.unused
   alone e = subst (λ k. Lays xs (j.below ++ k) j.slots j.unused)
-      (ap (λ k. k ++ j.above) (free-some (at - start) some) ∙ sym e) m.lays
+      (ap (λ k. k ++ j.above) (free-some _ some) ∙ sym e) m.lays
 
   -- no block above
   pub joined-none : length xs ≤ at → Lays xs (j.below ++ add (Free (at - start)) j.above) j.slots j.unused
   joined-none l = alone (of j.above refl)
     where
       of : (above : List Block) → j.above ≡ above → add (Free (at - start)) above ≡ Free (at - start) ∷ above
-      of [] e = add-alone (at - start) some
+      of [] e = add-alone _ some
       of (b ∷ above) e =
-          let r = read xs (j.below ++ free (at - start)) b above j.slots j.unused
-          (subst (λ k. Lays xs ((j.below ++ free (at - start)) ++ k) j.slots j.unused) e here-laid) at here-low in
-          let i = r.inside in
-          let s = r.some in
-          absurd (omega (arith, i, s, l))
+          let r = read _ _ b _ j.slots _
+          (subst (λ k. Lays xs ((j.below ++ free (at - start)) ++ k) j.slots j.unused) e here-laid) _ here-low in
+          absurd (omega (arith, l))
 
   -- a block above that isn't Free
   pub joined-other : (l : at < length xs) → 0 < kind (next l).here
       → Lays xs (j.below ++ add (Free (at - start)) j.above) j.slots j.unused
   joined-other l k =
       let n = next l in
-      alone (ap (add (Free (at - start))) n.is ∙ add-other (at - start) n.here n.above some (not_free-is n.here k)
+      alone (ap (add (Free (at - start))) n.is ∙ add-other _ _ _ some (not_free-is _ k)
       ∙ ap (λ q. Free (at - start) ∷ q) (sym n.is))
 
   module _ (l : at < length xs) (k : kind (next l).here ≡ 0) where
@@ -94,22 +86,19 @@ module _ (j : Joining) (start at : ℕ) (xs : List ℕ) (m : MayJoin j start at 
     may-free = record {
       lays = subst (λ q. Lays xs (j.below ++ (free (at - start) ++ q)) j.slots j.unused) (next l).is m.lays;
       low = m.low;
-      up = (let s = m.some in omega (arith, s));
+      up = (omega arith);
       plain = ap is_masters (free-is (next l).here k);
     }
 
     -- a Free block above
-    pub joined-two : (new : List ℕ)
-        → ((f : Freeing) → MayFree f start at xs
+    pub joined-two : (new : List ℕ) → ((f : Freeing) → MayFree f start at xs
         → Lays new (f.below ++ (free (at + size f.here - start) ++ f.above)) f.slots f.unused)
         → Lays new (j.below ++ add (Free (at - start)) j.above) j.slots j.unused
     joined-two new made =
         let n = next l in
-        let s = m.some in
-        let e : at + size n.here - start ≡ at - start + size n.here = omega (arith, s) in
+        let e : at + size n.here - start ≡ at - start + size n.here = omega arith in
         let f : free (at + size n.here - start) ≡ Free (at - start + size n.here) ∷ [] = ap free e
-        ∙ free-some (at - start + size n.here) (omega (arith, s)) in
+        ∙ free-some _ (omega arith) in
         let g : add (Free (at - start)) j.above ≡ Free (at - start + size n.here) ∷ n.above =
-        ap (add (Free (at - start))) (n.is ∙ ap (λ b. b ∷ n.above) (free-is n.here k))
-        ∙ add-free (at - start) (size n.here) n.above some in
+        ap (add (Free (at - start))) (n.is ∙ ap (λ b. b ∷ n.above) (free-is _ k)) ∙ add-free _ _ _ some in
         subst (λ q. Lays new (j.below ++ q) j.slots j.unused) (ap (λ q. q ++ n.above) f ∙ sym g) (made one may-free)

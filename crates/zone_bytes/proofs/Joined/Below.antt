@@ -33,29 +33,26 @@ front-of (b ∷ front) rest [] above e l = absurd (omega (arith, l))
 front-of (b ∷ front) rest (c ∷ below) above e l =
     let h : b ≡ c = cc in
     let t : front ++ rest ≡ below ++ above = cc in
-    let s = ap size h in
-    let r = front-of front rest below above t (omega (arith, l, s)) in
+    let r = front-of front rest below above t (omega (arith, l, ap size h)) in
     (r.0, (λ i. sym h i ∷ r.1 i), r.2)
 
 last-more : (n : ℕ) (front : List Block) (c : Block) (more : List Block)
     → last_free 0 (c ∷ more) ≡ last_free n (front ++ c ∷ more)
 last-more n [] c more = refl
-last-more n (b ∷ front) c more = last-more (free_of b) front c more
+last-more n (b ∷ front) c more = last-more _ front c more
 
 module _ (xs : List ℕ) (from place : ℕ) (u : LeadsUp from place xs) where
   far : (below above : List Block) → left_in 0 xs ≡ below ++ above → sizes below ≡ place → from < place
       → LeftBelow xs place from from below above
   far below above e l f =
-      let w = u.low in
-      let r = front-of u.below (left_in from xs) below above (sym u.is ∙ e) (omega (arith, w, l, f)) in
-      let s = span-append u.below r.0 in
+      let r = front-of u.below (left_in from xs) below above (sym u.is ∙ e) (omega (arith, l, f)) in
       let k = ap sizes r.1 in
       let z : from - from ≡ 0 = omega arith in
       record {
         rest = r.0;
         is = r.2;
-        up = omega (arith, w, s, k, l);
-        last = ap (λ n. last_free n r.0) z ∙ same r.0 (omega (arith, w, s, k, l, f)) ∙ ap (last_free 0) (sym r.1);
+        up = omega (arith, span-append, k, l);
+        last = ap (λ n. last_free n r.0) z ∙ same r.0 (omega (arith, span-append, k, l, f)) ∙ ap (last_free 0) (sym r.1);
       }
     where
       same : (more : List Block) → 0 < sizes more → last_free 0 more ≡ last_free 0 (u.below ++ more)
@@ -82,11 +79,11 @@ module _ (xs : List ℕ) (from place : ℕ) (u : LeadsUp from place xs) where
 
 some-block : (at : ℕ) (xs : List ℕ) (w : IsOnWay at xs) (b : Block) (blocks : List Block)
     → left_in at xs ≡ b ∷ blocks → 16 ≤ size b
-some-block at xs w b blocks e = next w.rest w.walk (sym (left-is at xs w) ∙ e)
+some-block at xs w b blocks e = next w.rest w.walk (sym (left-is _ _ w) ∙ e)
   where
     next : (rest : List Block) → Walk w.resource at xs rest → rest ≡ b ∷ blocks → 16 ≤ size b
     next [] v q = absurd (let f : [] ≡ b ∷ blocks = q in cc)
-    next (c ∷ rest) v q = let s = v.high.0.some in let f : c ≡ b = cc in subst (λ d. 16 ≤ size d) f s
+    next (c ∷ rest) v q = let f : c ≡ b = cc in subst (λ d. 16 ≤ size d) f v.high.0.some
 
 free-kind : (b : Block) → kind b ≡ 0 → free_of b ≡ size b
 free-kind (Free n) k = refl
@@ -109,8 +106,8 @@ module _ (xs : List ℕ) (place at start : ℕ) (b : Below xs place at start) wh
     where
       next : (rest : List Block) → left_in at xs ≡ rest ++ above → at + sizes rest ≡ place
           → last_free (at - start) rest ≡ last_free 0 below → start + last_free 0 below ≡ place
-      next [] q u k = let o = b.ordered in omega (arith, u, k, o)
-      next (c ∷ rest) q u k = let m = some-block at xs b.way c (rest ++ above) q in absurd (omega (arith, u, m, l))
+      next [] q u k = omega (arith, u, k)
+      next (c ∷ rest) q u k = let m = some-block _ _ b.way c _ q in absurd (omega (arith, u, m, l))
 
   -- one block more
   module _ (l : at < place) (n t : ℕ) (e : n + t ≡ word_at at xs) (k : n % 16 ≡ 0) (m : t ≤ 3) (i : at < length xs)
@@ -142,17 +139,15 @@ module _ (xs : List ℕ) (place at start : ℕ) (b : Below xs place at start) wh
           next (c ∷ rest) below above q u v =
               let f = tells c (rest ++ above) q in
               let s : step.here ∷ left_in (at + n) xs ≡ c ∷ (rest ++ above) = sym step.is ∙ q in
-              let z = f.0 in
               record {
                 rest = rest;
                 is = (let r : left_in (at + n) xs ≡ rest ++ above = cc in r);
-                up = omega (arith, u, z);
+                up = omega (arith, u);
                 last = ap (λ j. last_free j rest) (g c f.0 f.1) ∙ v;
               }
 
       pub below-free : t ≡ 0 → Below xs place (at + n) at
-      below-free z = below-next at (omega arith) (λ c p q. let f = free-kind c (sym q ∙ z) in omega (arith, p, f))
+      below-free z = below-next at (omega arith) (λ c p q. omega (arith, p, free-kind))
 
       pub below-other : 0 < t → Below xs place (at + n) (at + n)
-      below-other z = below-next (at + n) (omega arith) (λ c p q. let f = free-other c (subst (λ j. 0 < j) q z) in
-          omega (arith, f))
+      below-other z = below-next (at + n) (omega arith) (λ c p q. omega (arith, free-other))

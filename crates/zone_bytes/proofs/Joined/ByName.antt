@@ -1,6 +1,6 @@
 -- The block that a handle's slot leads to.
 use Rattle.std.proofs.Common.{◌≡◌, ℕ, Bool, true, false, cond, ◌+◌, ◌%◌, ◌<◌, ◌≤◌, ◌⊎◌, inl, inr, List, [], ◌∷◌}
-use Rattle.std.proofs.Common.{◌++◌, length, take, sym, refl, ap, ◌∙◌, subst, arith}
+use Rattle.std.proofs.Common.{◌++◌, length, sym, refl, ap, ◌∙◌, subst, arith}
 use Rattle.std.proofs.lemmas.Bool.Decides.{eqb_tells}
 use Rattle.std.proofs.lemmas.List.{map-append}
 use Rattle.windows.specs.Writes.{piece}
@@ -45,7 +45,7 @@ named-more o slot b blocks xs n = record {
 named : (o slot : ℕ) (blocks : List Block) (xs : List ℕ) → Leads o blocks xs → Has (names blocks) slot
     → Named o slot blocks xs
 named o slot [] xs l h = absurd h
-named o slot (Free n ∷ blocks) xs l h = named-more o slot (Free n) blocks xs (named (o + n) slot blocks xs l.1 h)
+named o slot (Free n ∷ blocks) xs l h = named-more o _ _ _ _ (named _ _ blocks xs l.1 h)
 named o slot (Nonrelocatable id content ∷ blocks) xs l h =
     named-more o slot (Nonrelocatable id content) blocks xs (named (o + size (Nonrelocatable id content)) slot blocks xs l.1 h)
 named o slot (Masters ∷ blocks) xs l h = named-more o slot Masters blocks xs (named (o + 272) slot blocks xs l.1 h)
@@ -58,22 +58,20 @@ named o slot (Relocatable id flags content ∷ blocks) xs l (inl e) = record {
   leads = subst (λ s. piece s 4 xs ≡ word o) e l.0 ∙ (let z : o ≡ o + 0 = omega arith in ap word z);
 }
 named o slot (Relocatable id flags content ∷ blocks) xs l (inr h) =
-    named-more o slot (Relocatable id flags content) blocks xs
-    (named (o + size (Relocatable id flags content)) slot blocks xs l.1 h)
+    named-more o _ _ _ _ (named (o + size (Relocatable id flags content)) slot blocks xs l.1 h)
 
 -- no block has the name
 pub freed-none : (slot : ℕ) (blocks : List Block) → Each (Apart slot) (names blocks)
     → freed (is_relocatable slot) blocks ≡ blocks
 freed-none slot [] a = refl
-freed-none slot (Free n ∷ blocks) a = ap (λ k. Free n ∷ k) (freed-none slot blocks a)
-freed-none slot (Nonrelocatable id content ∷ blocks) a = ap (λ k. Nonrelocatable id content ∷ k) (freed-none slot blocks a)
-freed-none slot (Masters ∷ blocks) a = ap (λ k. Masters ∷ k) (freed-none slot blocks a)
+freed-none slot (Free n ∷ blocks) a = ap (λ k. Free n ∷ k) (freed-none _ _ a)
+freed-none slot (Nonrelocatable id content ∷ blocks) a = ap (λ k. Nonrelocatable id content ∷ k) (freed-none _ _ a)
+freed-none slot (Masters ∷ blocks) a = ap (λ k. Masters ∷ k) (freed-none _ _ a)
 freed-none slot (Relocatable id flags content ∷ blocks) a = elim (eqb_tells id slot) [
   | inl t ↦ absurd (apart-other slot id a.0 (sym t.1))
   | inr t ↦
       ap (λ v. cond v (Free (size (Relocatable id flags content))) (Relocatable id flags content) ∷ freed
-      (is_relocatable slot) blocks) t.0
-      ∙ ap (λ k. Relocatable id flags content ∷ k) (freed-none slot blocks a.1)
+      (is_relocatable slot) blocks) t.0 ∙ ap (λ k. Relocatable id flags content ∷ k) (freed-none _ _ a.1)
 ]
 
 -- one block has it
@@ -83,12 +81,12 @@ pub freed-one : (slot : ℕ) (below : List Block) (flags : Flags) (content : Lis
     (size (Relocatable slot flags content)) ∷ above
 freed-one slot below flags content above a b =
     map-append (λ c. cond (is_relocatable slot c) (Free (size c)) c) below (Relocatable slot flags content ∷ above)
-    ∙ ap (λ k. k ++ freed (is_relocatable slot) (Relocatable slot flags content ∷ above)) (freed-none slot below a)
+    ∙ ap (λ k. k ++ freed (is_relocatable slot) (Relocatable slot flags content ∷ above)) (freed-none _ _ a)
     ∙ ap (λ k. below ++ k) (elim (eqb_tells slot slot) [
       | inl t ↦
           ap (λ v. cond v (Free (size (Relocatable slot flags content))) (Relocatable slot flags content) ∷ freed
           (is_relocatable slot) above) t.0
-          ∙ ap (λ k. Free (size (Relocatable slot flags content)) ∷ k) (freed-none slot above b)
+          ∙ ap (λ k. Free (size (Relocatable slot flags content)) ∷ k) (freed-none _ _ b)
       | inr t ↦ absurd (t.1 refl)
     ])
 
@@ -96,10 +94,7 @@ freed-one slot below flags content above a b =
 pub free-more : (below : List Block) (b : Block) (above : List Block) → free_of b ≡ 0
     → free_sum (tidy (below ++ Free (size b) ∷ above)) ≡ free_sum (below ++ b ∷ above) + size b
 free-more below b above e =
-    let t = total-tidy free_of (λ n m. refl) (below ++ Free (size b) ∷ above) in
-    let u = total-append free_of below (Free (size b) ∷ above) in
-    let v = total-append free_of below (b ∷ above) in
-    omega (arith, t, u, v, e)
+    omega (arith, total-tidy free_of (λ n m. refl) (below ++ Free (size b) ∷ above), total-append, e)
 
 emptied-odd : (r : Bool) → empty_word r % 16 ≡ 2
 emptied-odd true = refl
@@ -110,8 +105,7 @@ emptied-fits true = omega arith
 emptied-fits false = omega arith
 
 module _ (t : Table) (slot : ℕ) (xs : List ℕ) (h : HasHandle t slot xs) where
-  said : IsSlot slot
-      t.blocks × (Has (names t.blocks)
+  said : IsSlot slot t.blocks × (Has (names t.blocks)
       slot ⊎ (Each (Apart slot) (names t.blocks) × (piece slot 4 xs ≡ word (empty_word h.resource))))
   said = subst (λ st. Says t.blocks xs t.unused slot st) h.used (h.lays.says slot)
 
@@ -131,12 +125,8 @@ module _ (t : Table) (slot : ℕ) (xs : List ℕ) (h : HasHandle t slot xs) wher
       let above : List Block = Relocatable slot n.flags n.content ∷ n.above in
       let laid = subst (Tiles head xs) n.is h.lays.lies.tiles in
       let s = tiles-split head xs n.below above laid in
-      let w = span-whole head (take (sizes n.below) xs) n.below s.0 in
-      let l = length-tiles head xs (n.below ++ above) laid in
-      let a = span-append n.below above in
-      let m = h.lays.small in
-      let r = read_back slot (0 + sizes n.below) xs (omega (arith, l, a, m)) n.leads in
-      record { block = n; place = omega (arith, r); whole = omega (arith, r, w) }
+      let r = read_back slot (0 + sizes n.below) xs (omega (arith, length-tiles, span-append)) n.leads in
+      record { block = n; place = omega (arith, r); whole = omega (arith, r, span-whole) }
 
   pub leads : word_at slot xs % 16 ≡ 0 → Found
   leads e = elim said.1 [
@@ -150,15 +140,14 @@ module _ (t : Table) (slot : ℕ) (xs : List ℕ) (h : HasHandle t slot xs) wher
   emptied n = elim said.1 [ inl k ↦ absurd (n (found k).whole) | inr k ↦ k.0 ]
 
   pub emptied-is : (word_at slot xs % 16 ≡ 0 → ⊥) → tidy (freed (is_relocatable slot) t.blocks) ≡ t.blocks
-  emptied-is n = ap tidy (freed-none slot t.blocks (emptied n)) ∙ h.tidied
+  emptied-is n = ap tidy (freed-none _ t.blocks (emptied n)) ∙ h.tidied
 
   module _ (f : Found) where
     abbrev pub leading : Freeing
     leading = record {
       below = f.block.below;
       here = Relocatable slot f.block.flags f.block.content;
-      above =
-          f.block.above;
+      above = f.block.above;
       slots = t.slots;
       unused = t.unused;
     }
@@ -177,13 +166,11 @@ module _ (t : Table) (slot : ℕ) (xs : List ℕ) (h : HasHandle t slot xs) wher
         let p = subst (Pairs Apart) (ap names f.block.is
         ∙ names-append f.block.below (Relocatable slot f.block.flags f.block.content ∷ f.block.above))
         h.lays.has_slots.apart in
-        ap tidy (ap (freed (is_relocatable slot)) f.block.is
-        ∙ freed-one slot f.block.below f.block.flags f.block.content f.block.above
+        ap tidy (ap (freed (is_relocatable slot)) f.block.is ∙ freed-one _ _ _ _ _
         (pairs-before slot (names f.block.below) (names f.block.above) p)
         (pairs-after slot (names f.block.below) (names f.block.above) p))
 
-    pub leading-replaced : (lo hi : ℕ)
-        → Replaced lo hi (leading.below ++ leading.here ∷ leading.above)
+    pub leading-replaced : (lo hi : ℕ) → Replaced lo hi (leading.below ++ leading.here ∷ leading.above)
         (tidy (leading.below ++ Free (size leading.here) ∷ leading.above))
         → Replaced lo hi t.blocks (tidy (freed (is_relocatable slot) t.blocks))
     leading-replaced lo hi r = record {
@@ -200,7 +187,4 @@ module _ (t : Table) (slot : ℕ) (xs : List ℕ) (h : HasHandle t slot xs) wher
 
     pub leading-free : (n : ℕ) → n ≡ size (Relocatable slot f.block.flags f.block.content)
         → free_sum (tidy (freed (is_relocatable slot) t.blocks)) ≡ free_sum t.blocks + n
-    leading-free n e =
-        ap free_sum leading-is
-        ∙ free-more f.block.below (Relocatable slot f.block.flags f.block.content) f.block.above refl
-        ∙ (λ i. free_sum (sym f.block.is i) + sym e i)
+    leading-free n e = ap free_sum leading-is ∙ free-more _ _ _ refl ∙ (λ i. free_sum (sym f.block.is i) + sym e i)

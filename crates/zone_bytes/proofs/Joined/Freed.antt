@@ -40,7 +40,7 @@ each-drop P (x ∷ xs) s ys h = (h.0, each-drop P xs s ys h.1)
 
 pairs-drop : (xs : List ℕ) (s : ℕ) (ys : List ℕ) → Pairs Apart (xs ++ s ∷ ys) → Pairs Apart (xs ++ ys)
 pairs-drop [] s ys h = h.1
-pairs-drop (x ∷ xs) s ys h = (each-drop (Apart x) xs s ys h.0, pairs-drop xs s ys h.1)
+pairs-drop (x ∷ xs) s ys h = (each-drop (Apart x) _ s _ h.0, pairs-drop xs s ys h.1)
 
 has-drop : (xs : List ℕ) (s : ℕ) (ys : List ℕ) (t : ℕ) → Has (xs ++ s ∷ ys) t → (t ≡ s) ⊎ Has (xs ++ ys) t
 has-drop [] s ys t (inl e) = inl (sym e)
@@ -74,25 +74,16 @@ module _ (f : Freeing) (start at : ℕ) (xs : List ℕ) (m : MayFree f start at 
   here-laid = subst (λ k. Lays xs k f.slots f.unused) (sym (append_assoc f.below gap (f.here ∷ f.above))) m.lays
 
   here-low : sizes (f.below ++ gap) ≡ at
-  here-low =
-      let a = span-append f.below gap in
-      let b = span-free (at - start) in
-      let l = m.low in
-      let u = m.up in
-      omega (arith, a, b, l, u)
+  here-low = omega (arith, span-append, span-free)
 
   pub here-read : Read xs f.here at
   here-read = read xs (f.below ++ gap) f.here f.above f.slots f.unused here-laid at here-low
 
   span-joined : start + sizes joined ≡ at + size f.here
-  span-joined =
-      let a = span-append gap (f.here ∷ []) in
-      let b = span-free (at - start) in
-      let u = m.up in
-      omega (arith, a, b, u)
+  span-joined = omega (arith, span-append, span-free)
 
   none : (s : ℕ) → IsSlot s joined → ⊥
-  none s i = elim (slot-split s gap (f.here ∷ []) i) [
+  none s i = elim (slot-split s _ _ i) [
     | inl j ↦ run-no_slot s gap (each-free (at - start)) j
     | inr j ↦ no-slots f.here m.plain (s - sizes gap) j.1
   ]
@@ -104,8 +95,7 @@ module _ (f : Freeing) (start at : ℕ) (xs : List ℕ) (m : MayFree f start at 
 
   named-here : (slot : ℕ) → names_of f.here ≡ slot ∷ [] → names all ≡ names f.below ++ slot ∷ names f.above
   named-here slot n = names-append f.below (joined ++ f.above) ∙ ap (λ k. names f.below ++ k)
-      (names-append joined f.above
-      ∙ ap (λ k. k ++ names f.above) (names-append gap (f.here ∷ [])
+      (names-append joined f.above ∙ ap (λ k. k ++ names f.above) (names-append gap (f.here ∷ [])
       ∙ ap (λ k. k ++ (names_of f.here ++ [])) (names-free (at - start)) ∙ ap (λ k. k ++ []) n))
 
   led-by : (slot : ℕ) (flags : Flags) (content : List ℕ) → f.here ≡ Relocatable slot flags content → Led
@@ -113,16 +103,14 @@ module _ (f : Freeing) (start at : ℕ) (xs : List ℕ) (m : MayFree f start at 
   led-by slot flags content e =
       let b : Block = Relocatable slot flags content in
       let t = subst (λ c. Tile (head_of resource c) (size c) (drop at xs)) e
-      (tile-at xs (f.below ++ gap) f.here f.above f.slots f.unused here-laid at here-low) in
+      (tile-at _ _ _ _ f.slots f.unused here-laid at here-low) in
       let y = size b in
-      let small = m.lays.small in
       let q = says y (y + 3) (length content) slot (flag_word flags (resource slot)) content (drop at xs) t in
       let g = flag_word-small flags (resource slot) in
-      let i = each-right (λ s. IsSlot s all) (names f.below) (slot ∷ names f.above)
+      let i = each-right (λ s. IsSlot s all) _ (slot ∷ names f.above)
       (subst (Each (λ s. IsSlot s all)) (named-here slot (ap names_of e)) laid.has_slots.slots) in
-      let j = slot-inside slot all i.0 in
       let l = length-tiles (head_of resource) xs all laid.lies.tiles in
-      let v = slot-reads resource xs at small slot flags content (omega (arith, j, l, small)) t in
+      let v = slot-reads resource xs at m.lays.small slot flags content (omega (arith, slot-inside, l, m.lays.small)) t in
       let w = read_back (at + 12) (flag_word flags (resource slot)) xs (omega (arith, g)) (word-at at 12 xs ∙ q.2) in
       record {
         named = ap names_of e ∙ ap (λ s. s ∷ []) (sym v);
@@ -136,11 +124,11 @@ module _ (f : Freeing) (start at : ℕ) (xs : List ℕ) (m : MayFree f start at 
       of-kind (Free n) e k = absurd (let q : 0 ≡ 3 = k in omega (arith, q))
       of-kind (Nonrelocatable id content) e k = absurd (let q : 1 ≡ 3 = k in omega (arith, q))
       of-kind Masters e k = absurd (let q : 2 ≡ 3 = k in omega (arith, q))
-      of-kind (Relocatable slot flags content) e k = led-by slot flags content e
+      of-kind (Relocatable slot flags content) e k = led-by _ _ _ e
 
   module _ (top : ℕ) (t : at + size f.here ≡ top) where
     some : start < top
-    some = let s = here-read.some in let u = m.up in omega (arith, s, u, t)
+    some = omega (arith, here-read.some, t)
 
     abbrev z : Splice
     z = zone xs f.below joined f.above f.slots f.unused laid start top m.low (span-joined ∙ t) some none
@@ -161,17 +149,17 @@ module _ (f : Freeing) (start at : ℕ) (xs : List ℕ) (m : MayFree f start at 
         now = f.below ++ (one ++ f.above)
 
         now-is : now ≡ f.below ++ (free (at + size f.here - start) ++ f.above)
-        now-is = ap (λ n. f.below ++ (n ++ f.above)) (sym (free-some (top - start) (let s = some in omega (arith, s))))
+        now-is = ap (λ n. f.below ++ (n ++ f.above)) (sym (free-some _ (let s = some in omega (arith, s))))
             ∙ ap (λ k. f.below ++ (free (k - start) ++ f.above)) (sym t)
 
         lies : Lies resource now mid
         lies = made z is
 
         span-one : sizes one ≡ sizes joined
-        span-one = let e = span-joined in let s = some in omega (arith, e, s, t)
+        span-one = let e = span-joined in omega (arith, e, t)
 
         into : (s : ℕ) → IsSlot s all → IsSlot s now
-        into s i = slot-kept z start top xs is s one span-one i
+        into s i = slot-kept z _ _ xs is s one span-one i
 
         back : (s : ℕ) → IsSlot s now → IsSlot s all
         back s i = slot-run s f.below one joined f.above (refl, tt) (sym span-one) i
@@ -180,8 +168,8 @@ module _ (f : Freeing) (start at : ℕ) (xs : List ℕ) (m : MayFree f start at 
         placed =
             let p = placed-right 0 f.below (joined ++ f.above) laid.placed in
             let q = placed-right (0 + sizes f.below) joined f.above p in
-            placed-append 0 f.below (one ++ f.above) (placed-left 0 f.below (joined ++ f.above) laid.placed)
-            (placed-append (0 + sizes f.below) one f.above (tt, tt)
+            placed-append 0 _ _ (placed-left 0 f.below (joined ++ f.above) laid.placed)
+            (placed-append _ one f.above (tt, tt)
             (subst (λ k. ArePlaced (0 + sizes f.below + k) f.above) (sym span-one) q))
 
         names-now : names now ≡ names f.below ++ names f.above
@@ -202,8 +190,7 @@ module _ (f : Freeing) (start at : ℕ) (xs : List ℕ) (m : MayFree f start at 
         pub other-lays : names_of f.here ≡ []
             → Lays mid (f.below ++ (free (at + size f.here - start) ++ f.above)) f.slots f.unused
         other-lays e =
-            subst (λ k. Lays mid k f.slots f.unused) now-is
-            (lays-kept xs mid all now f.slots f.unused laid lies (names-now
+            subst (λ k. Lays mid k f.slots f.unused) now-is (lays-kept xs mid _ _ f.slots _ laid lies (names-now
             ∙ sym (names-all ∙ ap (λ k. names f.below ++ (k ++ names f.above)) e))
             into back placed (λ s i a. outside-same s i) out.kept)
 
@@ -233,14 +220,13 @@ module _ (f : Freeing) (start at : ℕ) (xs : List ℕ) (m : MayFree f start at 
           pairs = subst (Pairs Apart) names-slot laid.has_slots.apart
 
           far : Each (Apart slot) (names now)
-          far = subst (Each (Apart slot)) (sym names-now)
-              (each-append (Apart slot) (names f.below) (names f.above)
+          far = subst (Each (Apart slot)) (sym names-now) (each-append (Apart slot) _ _
               (pairs-before slot (names f.below) (names f.above) pairs)
               (pairs-after slot (names f.below) (names f.above) pairs))
 
           has : HasSlots now
           has = record {
-            slots = each-map (λ s. IsSlot s all) (λ s. IsSlot s now) into (names now)
+            slots = each-map (λ s. IsSlot s all) (λ s. IsSlot s now) into _
                 (subset (λ s. IsSlot s all) laid.has_slots.slots);
             apart = subst (Pairs Apart) (sym names-now) (pairs-drop (names f.below) slot (names f.above) pairs);
           }
@@ -252,28 +238,24 @@ module _ (f : Freeing) (start at : ℕ) (xs : List ℕ) (m : MayFree f start at 
           slot-fits =
               let i = slot-inside slot all slot-is in
               let l = length-tiles (head_of resource) xs all laid.lies.tiles in
-              let k = out.kept in
-              (slot-even (head_of resource) xs slot all laid.lies.tiles slot-is, omega (arith, i, l, k))
+              (slot-even (head_of resource) xs slot all laid.lies.tiles slot-is, omega (arith, i, l))
 
           pub slot-lays : (w : ℕ) → w ≡ empty_word (is_resource (f.slots slot))
               → Lays (written slot (word w) mid) (f.below ++ (free (at + size f.here - start) ++ f.above)) f.slots
               f.unused
           slot-lays w e =
-              let b = slot-fits in
               let wl = length-word w in
-              let fits : slot ≤ length mid = omega (arith, b) in
+              let fits : slot ≤ length mid = omega (arith, slot-fits) in
               subst (λ k. Lays (written slot (word w) mid) k f.slots f.unused) now-is
-              (lays-removed xs (written slot (word w) mid) all now f.slots f.unused laid
-              (record {
-                tiles = tiles-slot (head_of resource) (length-masters resource) mid (word w) slot now wl
+              (lays-removed _ _ _ _ f.slots _ laid (record {
+                tiles = tiles-slot (head_of resource) (length-masters resource) _ _ _ _ wl
                     (into slot slot-is) lies.tiles;
-                leads = leads-written slot (word w) mid 0 now fits
+                leads = leads-written _ _ _ 0 _ fits
                     (each-map (Apart slot) _ (λ t p. apart-clear slot w t p) (names now) far) lies.leads;
               })
-              has into back placed (length-written slot (word w) mid (omega (arith, b, wl)) ∙ out.kept)
-              slot (is_resource (f.slots slot)) used fewer subset far (piece-written slot (word w) mid 4 (sym wl) fits
-              ∙ ap word e)
-              (λ s i a. piece-clear slot (word w) mid s fits
+              has into back placed (length-written slot (word w) mid (omega (arith, slot-fits, wl)) ∙ out.kept)
+              _ _ used fewer subset far (piece-written slot (word w) mid 4 (sym wl) fits
+              ∙ ap word e) (λ s i a. piece-clear _ _ _ s fits
               (apart-clear slot w s (elim (of-all (Apart s) a) [ inl p ↦ inr p | inr p ↦ inl p ]))
               ∙ outside-same s i))
 

@@ -19,11 +19,7 @@ use Rattle.zone_bytes.proofs.SlotTable.Handles.{used-is}
 -- the Free bytes are no more than a zone may have
 pub free-fits : (xs : List ℕ) (blocks : List Block) (slots : ℕ → Slot) (unused : List ℕ)
     → Lays xs blocks slots unused → free_sum blocks ≤ 134217728
-free-fits xs blocks slots unused h =
-    let l = sizes-length xs blocks slots unused h in
-    let f = free_span-le blocks in
-    let m = h.small in
-    omega (arith, l, f, m)
+free-fits xs blocks slots unused h = omega (arith, sizes-length, free_span-le)
 
 -- the zone has other blocks, of which so many bytes more are Free
 pub record Gained (xs new : List ℕ) (first number more : ℕ) (blocks : List Block) : Type 0 where
@@ -33,8 +29,7 @@ pub record Gained (xs new : List ℕ) (first number more : ℕ) (blocks : List B
   pub masters : count is_masters blocks ≡ count is_masters (zone_in xs)
 
 pub gained : (xs new : List ℕ) (first number more : ℕ) (i : IsSound xs first number) (blocks : List Block)
-    → Lays new (tidy blocks) (slot_in xs) i.unused
-    → free_sum (tidy blocks) ≡ free_sum (zone_in xs) + more
+    → Lays new (tidy blocks) (slot_in xs) i.unused → free_sum (tidy blocks) ≡ free_sum (zone_in xs) + more
     → count is_masters (tidy blocks) ≡ count is_masters (zone_in xs) → Gained xs new first number more (tidy blocks)
 gained xs new first number more i blocks h s m = record {
   made = made new (tidy blocks) (slot_in xs) i.unused h first number (tidy-tidy blocks) i.begins i.counted;
@@ -47,11 +42,10 @@ module _ (xs new : List ℕ) (first number more : ℕ) (blocks : List Block) (g 
   where
     module _ (free : ℕ) (e : free ≡ free_sum (zone_in xs)) where
       pub gained-fits : free + more ≤ 134217728
-      gained-fits = let s = g.sum in let f = g.fits in omega (arith, s, f, e)
+      gained-fits = omega (arith, e)
 
       pub gained-kept : IsKept new first number (free + more)
-      gained-kept = kept-made new first number (free + more) blocks (slot_in xs) g.made
-          (ap (λ n. n + more) e ∙ sym g.sum)
+      gained-kept = kept-made _ _ _ _ _ (slot_in xs) g.made (ap (λ n. n + more) e ∙ sym g.sum)
 
 pub gained-rest : (old new : Bytes) (first number more : ℕ) (blocks : List Block)
     → Gained old.bytes new.bytes first number more blocks → KeepsPlace old new
@@ -75,6 +69,6 @@ module _ (xs : List ℕ) (first number : ℕ) (i : IsSound xs first number) wher
       → free_sum (tidy (freed (is_relocatable slot) t.blocks)) ≡ free_sum t.blocks + more)
       → Gained xs new first number more (tidy (freed (is_relocatable slot) (zone_in xs)))
   released-gained slot used new more lays sum =
-      gained xs new first number more i (freed (is_relocatable slot) (zone_in xs))
+      gained _ _ _ _ _ i (freed (is_relocatable slot) (zone_in xs))
       (lays table-of (has-handle slot used)) (sum table-of (has-handle slot used))
       (masters-released slot (zone_in xs))

@@ -33,10 +33,9 @@ nonrelocatable-below : (place o : ℕ) (blocks : List Block) → ArePlaced o blo
     → freed (is_nonrelocatable place) blocks ≡ blocks
 nonrelocatable-below place o [] p l = refl
 nonrelocatable-below place o (Free n ∷ blocks) p l =
-    ap (λ k. Free n ∷ k) (nonrelocatable-below place (o + n) blocks p.1 (omega (arith, l)))
+    ap (λ k. Free n ∷ k) (nonrelocatable-below _ (o + n) blocks p.1 (omega (arith, l)))
 nonrelocatable-below place o (Nonrelocatable id content ∷ blocks) p l =
-    let e = p.0 in
-    ap (λ b. b ∷ freed (is_nonrelocatable place) blocks) (nonrelocatable-stays place id content (λ q. omega (arith, e, q, l)))
+    ap (λ b. b ∷ freed (is_nonrelocatable place) blocks) (nonrelocatable-stays place id content (λ q. omega (arith, q, l)))
     ∙ ap (λ k. Nonrelocatable id content ∷ k) (nonrelocatable-below place (o + size (Nonrelocatable id content)) blocks p.1 (omega (arith, l)))
 nonrelocatable-below place o (Masters ∷ blocks) p l =
     ap (λ k. Masters ∷ k) (nonrelocatable-below place (o + 272) blocks p.1 (omega (arith, l)))
@@ -48,10 +47,9 @@ nonrelocatable-above : (place o : ℕ) (blocks : List Block) → ArePlaced o blo
     → freed (is_nonrelocatable place) blocks ≡ blocks
 nonrelocatable-above place o [] p l = refl
 nonrelocatable-above place o (Free n ∷ blocks) p l =
-    ap (λ k. Free n ∷ k) (nonrelocatable-above place (o + n) blocks p.1 (omega (arith, l)))
+    ap (λ k. Free n ∷ k) (nonrelocatable-above _ (o + n) blocks p.1 (omega (arith, l)))
 nonrelocatable-above place o (Nonrelocatable id content ∷ blocks) p l =
-    let e = p.0 in
-    ap (λ b. b ∷ freed (is_nonrelocatable place) blocks) (nonrelocatable-stays place id content (λ q. omega (arith, e, q, l)))
+    ap (λ b. b ∷ freed (is_nonrelocatable place) blocks) (nonrelocatable-stays place id content (λ q. omega (arith, q, l)))
     ∙ ap (λ k. Nonrelocatable id content ∷ k) (nonrelocatable-above place (o + size (Nonrelocatable id content)) blocks p.1 (omega (arith, l)))
 nonrelocatable-above place o (Masters ∷ blocks) p l =
     ap (λ k. Masters ∷ k) (nonrelocatable-above place (o + 272) blocks p.1 (omega (arith, l)))
@@ -70,8 +68,7 @@ nonrelocatable-plain place (Relocatable slot flags content) e = absurd (false≢
 pub masters-freed : (below : List Block) (b : Block) (n : ℕ) (above : List Block) → is_masters b ≡ false
     → count is_masters (tidy (below ++ Free n ∷ above)) ≡ count is_masters (below ++ b ∷ above)
 masters-freed below b n above e =
-    total-tidy (λ (b : Block). if is_masters b then 1 else 0) (λ n m. refl) (below ++ Free n ∷ above)
-    ∙ masters-same below above b (Free n) (sym e)
+    total-tidy (λ (b : Block). if is_masters b then 1 else 0) (λ n m. refl) _ ∙ masters-same _ _ b _ (sym e)
 
 module _ (xs : List ℕ) (first number : ℕ) (i : IsSound xs first number) (place : ℕ) (s : Spot)
     (e : spot_at place (zone_in xs) ≡ Some s) (f : is_nonrelocatable place s.here ≡ true) where
@@ -97,22 +94,19 @@ module _ (xs : List ℕ) (first number : ℕ) (i : IsSound xs first number) (pla
       let p = subst (ArePlaced 0) is i.lays.placed in
       let l = low xs first number i place s e in
       let q = placed-right 0 s.below (s.here ∷ s.above) p in
-      let n = plain.2 in
       ap (freed (is_nonrelocatable place)) is
       ∙ map-append (λ c. cond (is_nonrelocatable place c) (Free (size c)) c) s.below (s.here ∷ s.above)
       ∙ ap (λ k. k ++ freed (is_nonrelocatable place) (s.here ∷ s.above))
-      (nonrelocatable-below place 0 s.below (placed-left 0 s.below (s.here ∷ s.above) p) (omega (arith, l)))
+      (nonrelocatable-below _ 0 _ (placed-left 0 _ _ p) (omega (arith, l)))
       ∙ ap (λ k. s.below ++ k) (ap (λ v. cond v (Free (size s.here)) s.here ∷ freed (is_nonrelocatable place) s.above) f
-      ∙ ap (λ k. Free (size s.here) ∷ k)
-      (nonrelocatable-above place (0 + sizes s.below + size s.here) s.above q.1 (omega (arith, l, n))))
+      ∙ ap (λ k. Free (size s.here) ∷ k) (nonrelocatable-above _ _ _ q.1 (omega (arith, l, plain.2))))
 
-  pub nonrelocatable-gained : (new : List ℕ) (more : ℕ)
-      → ((f : Freeing) → MayRelease f place xs
+  pub nonrelocatable-gained : (new : List ℕ) (more : ℕ) → ((f : Freeing) → MayRelease f place xs
       → Lays new (tidy (f.below ++ Free (size f.here) ∷ f.above)) f.slots f.unused)
       → ((f : Freeing) → MayRelease f place xs → more ≡ size f.here)
       → Gained xs new first number more (tidy (freed (is_nonrelocatable place) (zone_in xs)))
   nonrelocatable-gained new more lays bytes =
-      gained xs new first number more i (freed (is_nonrelocatable place) (zone_in xs))
+      gained _ _ _ _ _ i (freed (is_nonrelocatable place) (zone_in xs))
       (subst (λ z. Lays new (tidy z) (slot_in xs) i.unused) (sym freed-is) (lays standing may-free_nonrelocatable))
       (ap (λ z. free_sum (tidy z)) freed-is ∙ free-more s.below s.here s.above plain.1
       ∙ (λ j. free_sum (sym is j) + sym (bytes standing may-free_nonrelocatable) j))

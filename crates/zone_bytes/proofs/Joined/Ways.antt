@@ -1,5 +1,5 @@
 -- A walk that begins at a block of a zone that bytes lay.
-use Rattle.std.proofs.Common.{◌≡◌, ℕ, ◌+◌, ◌<◌, ◌≤◌, ◌^◌, ◌%◌, List, ◌∷◌, ◌++◌, length, take, drop, refl, ◌∙◌}
+use Rattle.std.proofs.Common.{◌≡◌, ℕ, ◌+◌, ◌<◌, ◌≤◌, ◌^◌, ◌%◌, List, ◌∷◌, ◌++◌, length, drop, refl, ◌∙◌}
 use Rattle.std.proofs.Common.{subst, arith}
 use Rattle.heap_words.specs.Words.{word_at}
 use Rattle.block_store.specs.Block.{Block, size, sizes}
@@ -28,30 +28,26 @@ module _ (xs : List ℕ) (below above : List Block) (slots : ℕ
   whole = length-tiles head xs all h.lies.tiles
 
   words : (blocks : List Block) → Each (λ s. IsSlot s all) (names blocks) → Each (λ s. s < 2 ^ 32) (names blocks)
-  words blocks e = each-map (λ s. IsSlot s all) (λ s. s < 2 ^ 32) (λ s j. let k = slot-inside s all j in let l =
-      whole in let m = h.small in omega (arith, k, l, m)) (names blocks) e
+  words blocks e = each-map (λ s. IsSlot s all) (λ s. s < 2 ^ 32) (λ s j. let l =
+      whole in omega (arith, slot-inside, l)) _ e
 
   pub inside : place + sizes above ≡ length xs
-  inside = let a = span-append below above in let l = whole in omega (arith, a, l, low)
+  inside = omega (arith, span-append, whole, low)
 
   parted : (w : IsOnWay place xs) × (w.rest ≡ above)
   parted =
       let t = tiles-split head xs below above h.lies.tiles in
-      let n = inside in
-      let w = span-whole head (take (sizes below) xs) below t.0 in
       let o : 0 + sizes below ≡ place = omega (arith, low) in (
         record {
           resource = λ s. is_resource (slots s);
           rest = above;
           walk = record {
             high = subst (λ j. Tiles head (drop j xs) above) low t.1;
-            up = n;
-            whole =
-                omega (arith, w, low);
+            up = inside;
+            whole = omega (arith, span-whole, low);
           };
           placed = subst (λ j. ArePlaced j above) o (placed-right 0 below above h.placed);
-          words = words above
-              (each-right (λ s. IsSlot s all) (names below) (names above)
+          words = words above (each-right (λ s. IsSlot s all) _ _
               (subst (Each (λ s. IsSlot s all)) (names-append below above) h.has_slots.slots));
           small = h.small;
         },
@@ -85,13 +81,11 @@ module _ (xs : List ℕ) (below : List Block) (b : Block) (above : List Block) (
       let t = tile-at in
       let n = inside xs below (b ∷ above) slots unused h place low in
       let w = way xs below (b ∷ above) slots unused h place low in
-      let s = t.some in
-      let v = w.walk.whole in
       record {
-        next = next-header place xs w (omega (arith, n, s));
+        next = next-header place xs w (omega (arith, n, t.some));
         inside = omega (arith, n);
-        some = s;
-        whole = (v, t.whole);
-        says = λ n t1 e k l. same_parts n t1 (size b) (kind b) (e
-            ∙ first-reads (λ s. is_resource (slots s)) xs place h.small b t) k t.whole l (kind-small b);
+        some = t.some;
+        whole = (w.walk.whole, t.whole);
+        says = λ n t1 e k l. same_parts n _ _ _ (e
+            ∙ first-reads (λ s. is_resource (slots s)) _ _ h.small b t) k t.whole l (kind-small b);
       }

@@ -41,13 +41,13 @@ none-named slots (Relocatable slot flags content ∷ blocks) u number e = elim (
 pub count-apart : (number : ℕ) (blocks : List Block) → Each (Apart number) (names blocks)
     → count (is_relocatable number) blocks ≡ 0
 count-apart number [] a = refl
-count-apart number (Free n ∷ blocks) a = let z = count-apart number blocks a in omega (arith, z)
+count-apart number (Free n ∷ blocks) a = let z = count-apart _ blocks a in omega (arith, z)
 count-apart number (Nonrelocatable id content ∷ blocks) a = let z = count-apart number blocks a in omega (arith, z)
 count-apart number (Masters ∷ blocks) a = let z = count-apart number blocks a in omega (arith, z)
 count-apart number (Relocatable slot flags content ∷ blocks) a = elim (eqb_tells slot number) [
   | inl t ↦ absurd (far a.0 t.1)
   | inr t ↦ ap (λ v. cond {A = ℕ} v 1 0 + count (is_relocatable number) blocks) t.0
-      ∙ (let z = count-apart number blocks a.1 in omega (arith, z))
+      ∙ (omega (arith, count-apart number blocks a.1))
 ]
   where
     far : Apart number slot → slot ≡ number → ⊥
@@ -63,17 +63,15 @@ counted-once number (Masters ∷ blocks) p = let z = counted-once number blocks 
 counted-once number (Relocatable slot flags content ∷ blocks) p = elim (eqb_tells slot number) [
   | inl t ↦
       let e : cond {A = ℕ} (eqb slot number) 1 0 ≡ 1 = ap (λ v. cond {A = ℕ} v 1 0) t.0 in
-      let z = count-apart number blocks (subst (λ k. Each (Apart k) (names blocks)) t.1 p.0) in
-      omega (arith, e, z)
+      omega (arith, e, count-apart number blocks (subst (λ k. Each (Apart k) (names blocks)) t.1 p.0))
   | inr t ↦
       let e : cond {A = ℕ} (eqb slot number) 1 0 ≡ 0 = ap (λ v. cond {A = ℕ} v 1 0) t.0 in
-      let z = counted-once number blocks p.1 in
-      omega (arith, e, z)
+      omega (arith, e, counted-once number blocks p.1)
 ]
 
 pub aligned-tiles : (head : Block → List ℕ) (xs : List ℕ) (blocks : List Block) → Tiles head xs blocks → Aligned blocks
 aligned-tiles head xs [] t = tt
-aligned-tiles head xs (Free n ∷ blocks) t = (t.0.whole, aligned-tiles head (drop n xs) blocks t.1)
+aligned-tiles head xs (Free n ∷ blocks) t = (t.0.whole, aligned-tiles head _ blocks t.1)
 aligned-tiles head xs (Nonrelocatable id content ∷ blocks) t =
     (refl, aligned-tiles head (drop (size (Nonrelocatable id content)) xs) blocks t.1)
 aligned-tiles head xs (Masters ∷ blocks) t = (refl, aligned-tiles head (drop 272 xs) blocks t.1)
@@ -82,7 +80,7 @@ aligned-tiles head xs (Relocatable slot flags content ∷ blocks) t =
 
 pub placed-of : (o : ℕ) (blocks : List Block) → ArePlaced o blocks → Placed o blocks
 placed-of o [] p = tt
-placed-of o (Free n ∷ blocks) p = placed-of (o + n) blocks p.1
+placed-of o (Free n ∷ blocks) p = placed-of _ blocks p.1
 placed-of o (Nonrelocatable id content ∷ blocks) p = (p.0, placed-of (o + padded (length content)) blocks p.1)
 placed-of o (Masters ∷ blocks) p = placed-of (o + 272) blocks p.1
 placed-of o (Relocatable slot flags content ∷ blocks) p = placed-of (o + padded (length content)) blocks p.1
@@ -104,8 +102,7 @@ module _ (xs : List ℕ) (blocks : List Block) (slots : ℕ → Slot) (unused : 
       let z = zone-of xs blocks slots unused h in
       let g = respelled xs blocks slots unused h in
       record {
-        small = (let l = length-tiles (head_of _) xs (zone_in xs) g.lies.tiles in let m = h.small in
-            omega (arith, l, m));
+        small = (omega (arith, length-tiles));
         no_block = λ number. none-named (slot_in xs) (zone_in xs) g.used number;
         once = λ number. counted-once number (zone_in xs) g.has_slots.apart;
         tidied = ap tidy z ∙ t ∙ sym z;

@@ -14,10 +14,7 @@ use Rattle.zone_bytes.proofs.Placed.Standing.{Standing, standing, held-piece, re
 -- a block at a place that holds so many bytes
 pub holds-inside : (xs : List ℕ) (place n : ℕ) (s : Spot) → Standing xs place s → n ≤ length (content_of s.here)
     → place + 16 + n ≤ length xs
-holds-inside xs place n s a l =
-    let i = a.inside in
-    let r = content-room s.here a.some in
-    omega (arith, i, r, l)
+holds-inside xs place n s a l = omega (arith, content-room, l)
 
 module _ (xs : List ℕ) (first unused source n place from : ℕ) (i : IsSound xs first unused) (t s : Spot)
     (at : spot_at source (zone_in xs) ≡ Some t) (to : spot_at place (zone_in xs) ≡ Some s)
@@ -36,26 +33,22 @@ module _ (xs : List ℕ) (first unused source n place from : ℕ) (i : IsSound x
       let a = standing xs first unused source i t at in
       ap (λ q. written (place + 16 + from) q xs)
       (sym (take-take n (length (content_of t.here)) (drop (source + 16) xs) l)
-      ∙ ap (take n) (held-piece (resource_in xs) t.here source xs a.tile))
+      ∙ ap (take n) (held-piece (resource_in xs) _ source xs a.tile))
 
   pub copied : Made new first unused (s.below
       ++ with_content (written from x (content_of s.here)) s.here ∷ s.above) (slot_in xs)
   copied =
       let a = standing xs first unused place i s to in
-      let k = length-x in
       subst (λ ys. Made ys first unused (s.below
       ++ with_content (written from x (content_of s.here)) s.here ∷ s.above) (slot_in xs))
-      (sym same) (written-in xs first unused i place from x s.below s.here s.above a.whole a.low (omega (arith, k, w)))
+      (sym same) (written-in _ _ _ i _ _ x _ _ _ a.whole a.low (omega (arith, length-x, w)))
 
   pub copied-kept : (free : ℕ) → free ≡ free_sum (zone_in xs) → IsKept new first unused free
   copied-kept free f =
       let a = standing xs first unused place i s to in
-      kept-made new first unused free (s.below ++ with_content (written from x
-      (content_of s.here)) s.here ∷ s.above) (slot_in xs)
-      copied (f ∙ ap free_sum a.whole ∙ sym (free-kept (written from x (content_of s.here)) s.below s.here s.above))
+      kept-made _ _ _ _ _ (slot_in xs) copied (f ∙ ap free_sum a.whole ∙ sym (free-kept _ _ _ _))
 
   pub copied-masters : count is_masters (zone_in new) ≡ count is_masters (zone_in xs)
   copied-masters =
-      let a = standing xs first unused place i s to in
-      ap (count is_masters) copied.zone ∙ masters-kept (written from x (content_of s.here)) s.below s.here s.above
-      ∙ ap (count is_masters) (sym a.whole)
+      ap (count is_masters) copied.zone ∙ masters-kept _ _ _ _
+      ∙ ap (count is_masters) (sym (standing _ _ _ _ i s to).whole)

@@ -31,18 +31,17 @@ free-false tag.Relocatable h = omega arith
 module _ (at : ℕ) (xs : List ℕ) (w : IsOnWay at xs) where
   -- at the end of the bytes there is none
   pub none-behind : length xs ≤ at → 0 ≡ free_first (left_in at xs)
-  none-behind l = go w.rest w.walk ∙ sym (ap free_first (left-is at xs w))
+  none-behind l = go w.rest w.walk ∙ sym (ap free_first (left-is _ _ w))
     where
       go : (rest : List Block) → Walk w.resource at xs rest → 0 ≡ free_first rest
       go [] v = refl
-      go (b ∷ rest) v = let u = v.up in let s = v.high.0.some in absurd (omega (arith, u, s, l))
+      go (b ∷ rest) v = absurd (omega (arith, l))
 
   module _ (l : at < length xs) (n : ℕ) (t : Tag) (e : n + tag_number t ≡ word_at at xs) (h : n % 16 ≡ 0) where
     pub first-free : tag_number t ≡ 0 → n ≡ free_first (left_in at xs)
     first-free z =
         let o = here-on at xs w l n (tag_number t) e h (tag-small t) in
-        size-at at xs w l n (tag_number t) e h (tag-small t) o.here o.above o.is
-        ∙ free o.here (sym o.tag ∙ z) ∙ sym (ap free_first o.is)
+        size-at _ _ w l n _ e h (tag-small t) _ _ o.is ∙ free o.here (sym o.tag ∙ z) ∙ sym (ap free_first o.is)
       where
         free : (b : Block) → kind b ≡ 0 → size b ≡ free_of b
         free (Free n) k = refl
@@ -53,7 +52,7 @@ module _ (at : ℕ) (xs : List ℕ) (w : IsOnWay at xs) where
     pub first-other : 0 < tag_number t → 0 ≡ free_first (left_in at xs)
     first-other z =
         let o = here-on at xs w l n (tag_number t) e h (tag-small t) in
-        other o.here (let k = o.tag in omega (arith, k, z)) ∙ sym (ap free_first o.is)
+        other o.here (omega (arith, z)) ∙ sym (ap free_first o.is)
       where
         other : (b : Block) → 0 < kind b → 0 ≡ free_of b
         other (Free n) k = absurd (omega (arith, k))

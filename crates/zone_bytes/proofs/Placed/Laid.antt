@@ -53,20 +53,13 @@ module _ (h : Header) (bottom top held : ℕ) (xs : List ℕ) (m : MayLay h bott
 
   one-outside : SameOutside bottom top xs one
   one-outside =
-      let k = header-length in
-      let r = m.room in
-      let w = m.whole in
-      let i = m.inside in
-      outside-written bottom top xs xs bottom (header_bytes h) (omega arith) (omega (arith, k, r, w))
-      (outside-same bottom top xs (omega (arith, r)) i)
+      outside-written _ _ _ _ _ (header_bytes h) (omega arith) (omega (arith, header-length))
+      (outside-same bottom top xs (omega arith) m.inside)
 
   two-outside : SameOutside bottom top xs two
   two-outside =
       let z = zeros-length in
-      let r = m.room in
-      let w = m.whole in
-      let d = m.fits in
-      outside-written bottom top xs one (bottom + 16 + held) zeros (omega arith) (omega (arith, z, r, w, d)) one-outside
+      outside-written bottom top xs one (bottom + 16 + held) zeros (omega arith) (omega (arith, z)) one-outside
 
   length-one : length one ≡ length xs
   length-one = one-outside.kept
@@ -80,32 +73,26 @@ module _ (h : Header) (bottom top held : ℕ) (xs : List ℕ) (m : MayLay h bott
       go : (t : Bool) → nat_lt (bottom + h.size) top ≡ t
           → SameOutside bottom top xs (cond t (written (bottom + h.size) (word (top - (bottom + h.size))) two) two)
       go true e =
-          let l = below-top (bottom + h.size) top e in
-          let k = length-word (top - (bottom + h.size)) in
-          let v = m.even in
-          outside-written bottom top xs two (bottom + h.size) (word (top - (bottom + h.size))) (omega arith)
-          (omega (arith, l, k, v)) two-outside
+          outside-written _ _ _ _ _ (word (top - (bottom + h.size))) (omega arith)
+          (omega (arith, below-top, length-word)) two-outside
       go false e = two-outside
 
   -- what is left is Free
   pub laid-left : (left ≡ 0) ⊎ ((0 < left) × (piece (bottom + h.size) 4 now ≡ word left))
   laid-left = go (nat_lt (bottom + h.size) top) refl
     where
-      go : (t : Bool) → nat_lt (bottom + h.size) top ≡ t
-          → (left ≡ 0) ⊎ ((0 < left) × (piece (bottom + h.size) 4
+      go : (t : Bool) → nat_lt (bottom + h.size) top ≡ t → (left ≡ 0) ⊎ ((0 < left) × (piece (bottom + h.size) 4
           (cond t (written (bottom + h.size) (word (top - (bottom + h.size))) two) two) ≡ word left))
       go true e =
-          let l = below-top (bottom + h.size) top e in
           let k = length-word (top - (bottom + h.size)) in
           let n = length-two in
-          let i = m.inside in
           let same : top - (bottom + h.size) ≡ left = omega arith in
           inr (
-            omega (arith, l),
-            piece-written (bottom + h.size) (word (top - (bottom + h.size))) two 4 (sym k) (omega (arith, l, n, i))
+            omega (arith, below-top),
+            piece-written _ (word (top - (bottom + h.size))) two 4 (sym k) (omega (arith, below-top, n))
                 ∙ ap word same,
           )
-      go false e = let l = not-below (bottom + h.size) top e in inl (omega (arith, l))
+      go false e = inl (omega (arith, not-below))
 
   -- the bytes of the block itself
   within : (k : ℕ) → k ≤ h.size → piece bottom k now ≡ piece bottom k two
@@ -114,28 +101,17 @@ module _ (h : Header) (bottom top held : ℕ) (xs : List ℕ) (m : MayLay h bott
       go : (t : Bool) → piece bottom k (cond t (written (bottom + h.size) (word (top - (bottom + h.size))) two) two)
           ≡ piece bottom k two
       go true =
-          let r = m.room in
-          let n = length-two in
-          let i = m.inside in
-          piece-written_below (bottom + h.size) (word (top - (bottom + h.size))) two bottom k (omega (arith, l))
-          (omega (arith, r, n, i))
+          piece-written_below _ (word (top - (bottom + h.size))) _ bottom k (omega (arith, l))
+          (omega (arith, length-two))
       go false = refl
 
   length-stood : length stood ≡ held
-  length-stood =
-      let d = length-drop (bottom + 16) xs in
-      let i = m.inside in
-      let l = m.fits in
-      length-take-le held (drop (bottom + 16) xs) (omega (arith, d, i, l))
+  length-stood = length-take-le held (drop (bottom + 16) xs) (omega (arith, length-drop (bottom + 16) xs))
 
   two-piece : (k : ℕ) → k ≤ held → piece (bottom + 16) k two ≡ take k stood
   two-piece k l =
-      let n = length-one in
-      let i = m.inside in
-      let d = m.fits in
-      let e = header-length in
-      piece-written_below (bottom + 16 + held) zeros one (bottom + 16) k (omega (arith, l)) (omega (arith, n, i, d))
-      ∙ piece-written_above bottom (header_bytes h) xs (bottom + 16) k (omega (arith, e)) (omega (arith, i, d))
+      piece-written_below _ zeros one (bottom + 16) k (omega (arith, l)) (omega (arith, length-one))
+      ∙ piece-written_above bottom (header_bytes h) xs (bottom + 16) k (omega (arith, header-length)) (omega arith)
       ∙ sym (take-take k held (drop (bottom + 16) xs) l)
 
   two-content : piece (bottom + 16) h.logical two ≡ resized_content h.logical stood
@@ -143,44 +119,33 @@ module _ (h : Header) (bottom top held : ℕ) (xs : List ℕ) (m : MayLay h bott
     where
       go : (h.logical ≤ held) ⊎ (held < h.logical) → piece (bottom + 16) h.logical two ≡ resized_content h.logical stood
       go (inl l) =
-          let s = length-stood in
-          let z : 0 ≡ h.logical - length stood = omega (arith, s, l) in
-          two-piece h.logical l ∙ sym (append-nil (take h.logical stood))
-          ∙ ap (λ k. take h.logical stood ++ replicate k 0) z
+          let z : 0 ≡ h.logical - length stood = omega (arith, length-stood, l) in
+          two-piece _ l ∙ sym (append-nil (take h.logical stood)) ∙ ap (λ k. take h.logical stood ++ replicate k 0) z
       go (inr l) =
           let s = length-stood in
-          let n = length-one in
-          let i = m.inside in
-          let d = m.fits in
-          let z = zeros-length in
           let more = h.logical - held in
           let sum : h.logical ≡ held + more = omega (arith, l) in
           let same : more ≡ h.logical - length stood = omega (arith, s) in
           ap (λ k. piece (bottom + 16) k two) sum ∙ take-add held more (drop (bottom + 16) two)
           ∙ ap (λ q. q ++ take more (drop held (drop (bottom + 16) two)))
-          (two-piece held (omega arith) ∙ take_all held stood (omega (arith, s))
+          (two-piece _ (omega arith) ∙ take_all held stood (omega (arith, s))
           ∙ sym (take_all h.logical stood (omega (arith, s, l))))
           ∙ ap (λ q. take h.logical stood ++ take more q) (drop-drop held (bottom + 16) two)
           ∙ ap (λ q. take h.logical stood ++ q)
-          (piece-written (bottom + 16 + held) zeros one more (sym z) (omega (arith, n, i, d)))
+          (piece-written _ zeros one more (sym zeros-length) (omega (arith, length-one)))
           ∙ ap (λ k. take h.logical stood ++ replicate k 0) same
 
   two-first : piece bottom 16 two ≡ header_bytes h
   two-first =
-      let n = length-one in
-      let i = m.inside in
-      let d = m.fits in
-      let e = header-length in
-      piece-written_below (bottom + 16 + held) zeros one bottom 16 (omega arith) (omega (arith, n, i, d))
-      ∙ piece-written bottom (header_bytes h) xs 16 (sym e) (omega (arith, i, d))
+      piece-written_below _ zeros one bottom 16 (omega arith) (omega (arith, length-one))
+      ∙ piece-written bottom (header_bytes h) xs 16 (sym header-length) (omega arith)
 
   pub laid-first : piece bottom 16 now ≡ header_bytes h
-  laid-first = let w = m.whole in within 16 (omega (arith, w)) ∙ two-first
+  laid-first = within 16 (omega arith) ∙ two-first
 
   laid-head : piece bottom (16 + h.logical) now ≡ header_bytes h ++ resized_content h.logical stood
   laid-head =
-      let w = m.whole in
-      within (16 + h.logical) w ∙ take-add 16 h.logical (drop bottom two)
+      within _ m.whole ∙ take-add 16 h.logical (drop bottom two)
       ∙ ap (λ q. q ++ take h.logical (drop 16 (drop bottom two))) two-first
       ∙ ap (λ q. header_bytes h ++ take h.logical q) (drop-drop 16 bottom two)
       ∙ ap (λ q. header_bytes h ++ q) two-content
@@ -189,18 +154,11 @@ module _ (h : Header) (bottom top held : ℕ) (xs : List ℕ) (m : MayLay h bott
       → Tile head h.size (drop bottom now)
   laid-tile head e =
       let a = length-append (header_bytes h) (resized_content h.logical stood) in
-      let b = length-resized h.logical stood in
-      let k = header-length in
-      let l : length head ≡ 16 + h.logical = sym (ap length e) ∙ omega (arith, a, b, k) in
-      let d = length-drop bottom now in
-      let n = laid-outside.kept in
-      let i = m.inside in
-      let r = m.room in
-      let w = m.whole in
+      let l : length head ≡ 16 + h.logical = sym (ap length e) ∙ omega (arith, a, length-resized, header-length) in
       record {
-        fits = omega (arith, d, n, i, r);
+        fits = omega (arith, length-drop bottom now, laid-outside.kept);
         whole = m.even.2;
-        some = omega (arith, w);
-        room = omega (arith, l, w);
+        some = omega arith;
+        room = omega (arith, l);
         begins = ap (λ j. take j (drop bottom now)) l ∙ laid-head ∙ e;
       }

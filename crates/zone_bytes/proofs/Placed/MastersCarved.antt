@@ -1,7 +1,7 @@
 -- A new Masters block at the lower end of a Free one.
 use Rattle.std.proofs.Common.{◌≡◌, ℕ, IsTrue, ◌+◌, ◌-◌, ◌*◌, ◌<◌, ◌≤◌, ◌%◌, ◌⊎◌, inl, inr, List, [], ◌∷◌, ◌++◌, length}
 use Rattle.std.proofs.Common.{take}
-use Rattle.std.proofs.Common.{zero, suc, refl, sym, ap, ◌∙◌, subst, arith, length-append}
+use Rattle.std.proofs.Common.{zero, suc, refl, sym, ap, ◌∙◌, subst, arith}
 use Rattle.std.proofs.lemmas.Bool.{false≢true}
 use Rattle.std.specs.Option.{IfSome}
 use Rattle.windows.specs.Writes.{piece}
@@ -30,9 +30,7 @@ use Rattle.zone_bytes.proofs.Placed.MoreSlots.{outside-within, piece-low, lays-m
 
 pub first-fits : (xs : List ℕ) (first unused : ℕ) (i : IsSound xs first unused) → first < 134217728
 first-fits xs first unused i =
-    let f = first-small (zone_in xs) (slot_in xs) i.unused xs i.unused i.lays i.lays.unused_slots in
-    let b = i.begins in
-    omega (arith, f, b)
+    omega (arith, first-small (zone_in xs) (slot_in xs) i.unused xs i.unused i.lays i.lays.unused_slots)
 
 module _ (xs : List ℕ) (place top : ℕ) (r : Roomy xs place 272) (t : top ≡ place + size r.s.here) where
   abbrev head : Header
@@ -40,55 +38,40 @@ module _ (xs : List ℕ) (place top : ℕ) (r : Roomy xs place 272) (t : top ≡
 
   pub may-master : MayLay head place top 256 xs
   may-master =
-      let a = r.at in
       let l = ap size r.here in
-      let f = r.room in
-      let i = a.inside in
-      let e = a.way.walk.whole in
-      let q = a.way_above.walk.whole in
       record {
-        even = (e, omega (arith, t, q), refl);
-        inside = omega (arith, t, i);
-        small = a.small;
-        room = omega (arith, t, l, f);
+        even = (r.at.way.walk.whole, omega (arith, t), refl);
+        inside = omega (arith, t);
+        small = r.at.small;
+        room = omega (arith, t, l);
         whole = omega arith;
-        fits = omega (arith, t, l, f);
+        fits = omega (arith, t, l);
       }
 
   abbrev mid : List ℕ
   mid = laid head place top 256 xs
 
   pub masters-inside : (place % 4 ≡ 0) × (place + 272 ≤ length mid)
-  masters-inside =
-      let a = r.at in
-      let l = ap size r.here in
-      let f = r.room in
-      let i = a.inside in
-      let e = a.way.walk.whole in
-      let k = (laid-outside head place top 256 xs may-master).kept in
-      (omega (arith, e), omega (arith, l, f, i, k))
+  masters-inside = (omega arith, omega (arith, ap size r.here, (laid-outside head place top 256 xs may-master).kept))
 
   module _ (first unused : ℕ) (i : IsSound xs first unused) (new : List ℕ) (thread : Thread first new (slots_at place))
       (o : SameOutside (place + 16) (place + 272) mid new) where
     same : SameOutside place top xs new
     same =
-        let l = ap size r.here in
-        let f = r.room in
-        outside-within place top (place + 16) (place + 272) xs mid new (omega arith) (omega (arith, t, l, f))
-        (laid-outside head place top 256 xs may-master) o
+        outside-within _ _ _ _ _ _ _ (omega arith) (omega (arith, t, ap size r.here))
+        (laid-outside _ _ _ _ _ may-master) o
 
     top-is : top ≡ place + r.bytes
     top-is = t ∙ ap (λ b. place + size b) r.here
 
     begins : piece place 16 new ≡ header 274 256 0 0
-    begins = piece-low (place + 16) (place + 272) place 16 mid new (omega arith) o
-        ∙ laid-first head place top 256 xs may-master
+    begins = piece-low _ _ place 16 mid new (omega arith) o ∙ laid-first head place top 256 xs may-master
 
     left : (r.bytes - 272 ≡ 0) ⊎ ((0 < r.bytes - 272) × (piece (place + 272) 4 new ≡ word (r.bytes - 272)))
     left =
-        let e : top - place - 272 ≡ r.bytes - 272 = let z = top-is in omega (arith, z) in
+        let e : top - place - 272 ≡ r.bytes - 272 = omega (arith, top-is) in
         subst (λ k. (k ≡ 0) ⊎ ((0 < k) × (piece (place + 272) 4 new ≡ word k))) e
-        (elim (laid-left head place top 256 xs may-master) [
+        (elim (laid-left _ _ _ _ _ may-master) [
           | inl z ↦ inl z
           | inr z ↦ inr (z.0, ap (take 4) o.high ∙ z.1)
         ])
@@ -99,20 +82,18 @@ module _ (xs : List ℕ) (place top : ℕ) (r : Roomy xs place 272) (t : top ≡
     pub masters-lays : Lays new (filled Masters r.s) (with_slots place (slot_in xs)) (slots_at place ++ i.unused)
     masters-lays =
         let l = ap size r.here in
-        let f = r.room in
         let k : r.bytes - 272 ≡ size r.s.here + 0 - 272 = omega (arith, l) in
         subst (λ bs. Lays new bs (with_slots place (slot_in xs)) (slots_at place ++ i.unused))
         (ap (λ m. r.s.below ++ Masters ∷ (free m ++ r.s.above)) k
-        ∙ sym (cut-sized Masters refl r.s r.at.apart 0 r.s.above r.head (omega (arith, l, f))))
-        (lays-masters xs r.s.below r.s.above r.bytes
-        (slot_in xs) i.unused was place top r.at.low top-is r.room new same begins left
+        ∙ sym (cut-sized _ refl _ r.at.apart 0 _ r.head (omega (arith, l)))) (lays-masters _ _ _ _
+        (slot_in xs) _ was _ _ r.at.low top-is r.room _ same begins left
         (subst (λ k. Thread k new (slots_at place)) i.begins thread))
 
     pub masters-lays-if : IfSome (spot_at place (zone_in xs)) (λ s.
         Lays new (filled Masters s) (with_slots place (slot_in xs)) (slots_at place ++ i.unused))
-    masters-lays-if = if-spot (spot_at place (zone_in xs)) _
+    masters-lays-if = if-spot _ _
         (λ s e. subst (λ q. Lays new (filled Masters q) (with_slots place (slot_in xs)) (slots_at place ++ i.unused))
-        (one-spot (spot_at place (zone_in xs)) r.s s r.is e) masters-lays)
+        (one-spot _ _ s r.is e) masters-lays)
 
 length-slots : (at n : ℕ) → length (slots_from at n) ≡ n
 length-slots at zero = refl
@@ -124,7 +105,7 @@ used-stays : (xs : List ℕ) (first unused place : ℕ) (i : IsSound xs first un
 used-stays xs first unused place i r k u =
     let e = r.at.whole ∙ ap (λ b. r.s.below ++ b ∷ r.s.above) r.here in
     let h = subst (λ z. Lays xs z (slot_in xs) i.unused) e i.lays in
-    kept-slot xs r.s.below r.s.above r.bytes (slot_in xs) i.unused h place (place + r.bytes) r.at.low refl r.room k
+    kept-slot _ _ _ _ (slot_in xs) _ h _ _ r.at.low refl r.room k
     (is-slot (r.s.below ++ Free r.bytes ∷ r.s.above) (slot_in xs k) u (h.says k))
   where
     is-slot : (bs : List Block) (state : Slot) → IsTrue (is_used state) → Says bs xs i.unused k state → IsSlot k bs
@@ -137,31 +118,22 @@ module _ (xs now : List ℕ) (first unused place : ℕ) (i : IsSound xs first un
     (h : Lays now (filled Masters r.s) (with_slots place (slot_in xs)) (slots_at place ++ i.unused)) where
   pub masters-made : Made now (place + 16) (unused + 64) (filled Masters r.s) (with_slots place (slot_in xs))
   masters-made =
-      let a = length-append (slots_at place) i.unused in
-      let b = length-slots (place + 16) 64 in
-      let c = i.counted in
-      made now (filled Masters r.s) (with_slots place (slot_in xs)) (slots_at place
-      ++ i.unused) h (place + 16) (unused + 64)
-      (tidy-tidy (r.s.below ++ Masters ∷ Free (size r.s.here - 272) ∷ r.s.above)) refl (omega (arith, a, b, c))
+      made _ _ (with_slots place (slot_in xs)) _ h _ _
+      (tidy-tidy (r.s.below ++ Masters ∷ Free (size r.s.here - 272) ∷ r.s.above)) refl (omega (arith, length-slots))
 
   pub masters-free : free_sum (zone_in now) + 272 ≡ free_sum (zone_in xs)
   masters-free =
-      let a = ap free_sum masters-made.zone in
-      let b = filled-free Masters refl r.s r.bytes r.here r.room in
-      let c = ap free_sum r.at.whole in
-      omega (arith, a, b, c)
+      let a = filled-free Masters refl r.s r.bytes r.here r.room in
+      omega (arith, ap free_sum masters-made.zone, a, ap free_sum r.at.whole)
 
   pub masters-all : 64 * count is_masters (zone_in now) ≡ 64 * count is_masters (zone_in xs) + 64
   masters-all =
-      let a = ap (count is_masters) masters-made.zone in
-      let b = filled-count Masters refl r.s r.bytes r.here r.room is_masters (λ n. refl) in
-      let c = ap (count is_masters) r.at.whole in
-      omega (arith, a, b, c)
+      let a = filled-count Masters refl r.s r.bytes r.here r.room is_masters (λ n. refl) in
+      omega (arith, ap (count is_masters) masters-made.zone, a, ap (count is_masters) r.at.whole)
 
   pub masters-zone : IfSome (spot_at place (zone_in xs)) (λ s. zone_in now ≡ filled Masters s)
-  masters-zone = if-spot (spot_at place (zone_in xs)) (λ s. zone_in now ≡ filled Masters s)
-      (λ s e. subst (λ q. zone_in now ≡ filled Masters q) (one-spot (spot_at place
-      (zone_in xs)) r.s s r.is e) masters-made.zone)
+  masters-zone = if-spot _ (λ s. zone_in now ≡ filled Masters s)
+      (λ s e. subst (λ q. zone_in now ≡ filled Masters q) (one-spot _ _ s r.is e) masters-made.zone)
 
   pub masters-slots : (k : ℕ) → IsTrue (is_used (slot_in xs k)) → slot_in now k ≡ slot_in xs k
-  masters-slots k u = masters-made.slots k ∙ used-stays xs first unused place i r k u
+  masters-slots k u = masters-made.slots k ∙ used-stays _ _ _ _ i r k u

@@ -30,8 +30,7 @@ use Rattle.zone_bytes.proofs.Placed.Threads.{thread-chain}
 
 -- a part of a stretch that was written anew
 pub outside-within : (lo hi a b : ℕ) (xs mid new : List ℕ) → lo ≤ a → b ≤ hi → SameOutside lo hi xs mid
-    → SameOutside a b mid new
-    → SameOutside lo hi xs new
+    → SameOutside a b mid new → SameOutside lo hi xs new
 outside-within lo hi a b xs mid new l h s t =
     let e : b + (hi - b) ≡ hi = omega (arith, h) in
     let up : (ys : List ℕ) → drop hi ys ≡ drop (hi - b) (drop b ys) =
@@ -63,8 +62,7 @@ not-at place top s l c = go (is_slot_at place s) refl
     go : (v : Bool) → is_slot_at place s ≡ v → is_slot_at place s ≡ false
     go false e = e
     go true e =
-        let b = slot-at place s e in
-        elim c [ inl h ↦ absurd (omega (arith, b, h)) | inr h ↦ absurd (omega (arith, b, h, l)) ]
+        elim c [ inl h ↦ absurd (omega (arith, slot-at, h)) | inr h ↦ absurd (omega (arith, slot-at, h, l)) ]
 
 each-from : (P : ℕ → Type 0) (place at n : ℕ) → place + 16 ≤ at → at + 4 * n ≤ place + 272 → at % 4 ≡ 0
     → ((s : ℕ) → place + 16 ≤ s → s + 4 ≤ place + 272 → s % 4 ≡ 0 → P s) → Each P (slots_from at n)
@@ -76,7 +74,7 @@ each-from P place at (suc n) l h e f = (
 
 each-at : (P : ℕ → Type 0) (place : ℕ) → place % 4 ≡ 0
     → ((s : ℕ) → place + 16 ≤ s → s + 4 ≤ place + 272 → s % 4 ≡ 0 → P s) → Each P (slots_at place)
-each-at P place e f = each-from P place (place + 16) 64 (omega arith) (omega arith) (omega (arith, e)) f
+each-at P place e f = each-from P _ (place + 16) 64 (omega arith) (omega arith) (omega (arith, e)) f
 
 has-append : (s : ℕ) (xs ys : List ℕ) → Has xs s ⊎ Has ys s → Has (xs ++ ys) s
 has-append s [] ys (inl h) = absurd h
@@ -88,7 +86,7 @@ has-append s (x ∷ xs) ys (inr h) = inr (has-append s xs ys (inr h))
 pairs-append : (xs ys : List ℕ) → Pairs Apart xs → Pairs Apart ys → Each (λ s. Each (Apart s) ys) xs
     → Pairs Apart (xs ++ ys)
 pairs-append [] ys p q e = q
-pairs-append (x ∷ xs) ys p q e = (each-append (Apart x) xs ys p.0 e.0, pairs-append xs ys p.1 q e.1)
+pairs-append (x ∷ xs) ys p q e = (each-append (Apart x) _ _ p.0 e.0, pairs-append xs ys p.1 q e.1)
 
 module _ (xs : List ℕ) (below above : List Block) (n : ℕ) (slots : ℕ → Slot) (unused : List ℕ)
     (h : Lays xs (below ++ (Free n ∷ [] ++ above)) slots unused) (place top : ℕ) (low : sizes below ≡ place)
@@ -130,11 +128,11 @@ module _ (xs : List ℕ) (below above : List Block) (n : ℕ) (slots : ℕ → S
   evens = even z place top xs st
 
   span : sizes put ≡ sizes (Free n ∷ [])
-  span = let k = span-free left in omega (arith, k, room)
+  span = omega (arith, span-free, room)
 
   -- the slots that were there stay
   far : (s : ℕ) → IsSlot s all → is_slot_at place s ≡ false
-  far s i = not-at place top s (omega (arith, t, room)) (outside z place top xs st s i)
+  far s i = not-at _ _ s (omega (arith, t, room)) (outside z _ _ _ st s i)
 
   pub kept-slot : (s : ℕ) → IsSlot s all → now s ≡ slots s
   kept-slot s i = ap (λ v. cond v Unused (slots s)) (far s i)
@@ -146,11 +144,8 @@ module _ (xs : List ℕ) (below above : List Block) (n : ℕ) (slots : ℕ → S
     unfolding head_of
     masters-tile =
         let l = length-header 274 256 0 0 in
-        let k = same.kept in
-        let o = same.ordered in
-        let d = length-drop place new in
         record {
-          fits = omega (arith, d, k, o, t, room);
+          fits = omega (arith, length-drop place new, t, room);
           whole = refl;
           some = omega arith;
           room = omega (arith, l);
@@ -159,51 +154,43 @@ module _ (xs : List ℕ) (below above : List Block) (n : ℕ) (slots : ℕ → S
 
     tiles : Tiles (head_of resource) (piece place (top - place) new) put
     tiles =
-        let k = same.kept in
-        let o = same.ordered in
-        let e = evens in
-        tiles-two resource Masters left place (top - place) new (omega (arith, t, room)) (omega (arith, k, o))
-        (omega (arith, e, t)) masters-tile rest
+        tiles-two resource _ _ _ _ new (omega (arith, t, room)) (omega arith)
+        (omega (arith, evens, t)) masters-tile rest
 
     lies : Lies resource with_masters new
     lies =
         let c = clear z place top xs st in
         record {
-          tiles = tiles-splice (head_of resource) xs new below (Free n ∷ []) above put place top low high h.lies.tiles
+          tiles = tiles-splice (head_of resource) _ _ _ (Free n ∷ []) _ put place top low high h.lies.tiles
               same tiles;
-          leads = leads-splice xs new below (Free n ∷ []) above put place top low high span h.lies.leads same c.0 c.1
+          leads = leads-splice _ _ below (Free n ∷ []) above put place top low high span h.lies.leads same c.0 c.1
               (tt, leads-free (place + 272) left new);
         }
 
     forth : (s : ℕ) → IsSlot s all → IsSlot s with_masters
-    forth s i = slot-kept z place top xs st s put span i
+    forth s i = slot-kept z _ _ xs st s put span i
 
     new-slot : (s : ℕ) → place + 16 ≤ s → s + 4 ≤ place + 272 → s % 4 ≡ 0 → IsSlot s with_masters
     new-slot s a b c =
-        let e = evens in
-        slot-append_right s below (put ++ above) (omega (arith, low, a))
-        (inl (omega (arith, low, a), omega (arith, low, b, a), omega (arith, low, a, c, e)))
+        slot-append_right s _ (put ++ above) (omega (arith, low, a))
+        (inl (omega (arith, low, a), omega (arith, low, b, a), omega (arith, low, a, c, evens)))
 
     back : (s : ℕ) → IsSlot s with_masters → is_slot_at place s ≡ false → IsSlot s all
-    back s i f = elim (slot-split s below (put ++ above) i) [
+    back s i f = elim (slot-split s _ _ i) [
       | inl j ↦ slot-append_left s below (Free n ∷ above) j
       | inr j ↦ elim (slot-split (s - sizes below) put above j.1) [
         | inl k ↦ elim k [
           | inl m ↦
-              let g = j.0 in
-              let e = evens in
-              let at = at-slot place s (omega (arith, m, low, g)) (omega (arith, m, low, g))
-              (omega (arith, m, low, g, e))
+              let at = at-slot place s (omega (arith, m, low)) (omega (arith, m, low)) (omega (arith, m, low, evens))
               in
               absurd (false≢true (sym f ∙ at))
           | inr m ↦ absurd (free-slots left (s - sizes below - 272) m.1)
         ]
         | inr k ↦
-            let l = k.0 in
             let f : s - sizes below - sizes put ≡ s - sizes below - sizes (Free n ∷ []) = ap
             (λ q. s - sizes below - q) span in
-            slot-append_right s below (Free n ∷ above) j.0 (slot-append_right (s - sizes below) (Free n ∷ []) above
-            (omega (arith, span, l)) (subst (λ q. IsSlot q above) f k.1))
+            slot-append_right s _ _ j.0 (slot-append_right _ (Free n ∷ []) _
+            (omega (arith, span)) (subst (λ q. IsSlot q above) f k.1))
       ]
     ]
 
@@ -214,7 +201,7 @@ module _ (xs : List ℕ) (below above : List Block) (n : ℕ) (slots : ℕ → S
         ∙ sym (names-append below (Free n ∷ above))
 
     kept-piece : (s : ℕ) → IsSlot s all → piece s 4 new ≡ piece s 4 xs
-    kept-piece s i = piece-outside place top xs new s same (outside z place top xs st s i)
+    kept-piece s i = piece-outside _ _ _ _ s same (outside z _ _ _ st s i)
 
     each-named : (P : ℕ → Type 0) → Each P (names all) → Each P (names with_masters)
     each-named P e = subst (Each P) (sym names-now) e
@@ -240,7 +227,7 @@ module _ (xs : List ℕ) (below above : List Block) (n : ℕ) (slots : ℕ → S
             let v = evens in
             subst (Says with_masters new (slots_at place ++ unused) s) (sym (ap (λ v. cond v Unused (slots s)) e)) (
               new-slot s b.0 b.1 b.2,
-              has-append s (slots_at place) unused
+              has-append s (slots_at place) _
                   (inl (has-slot (place + 16) 64 s b.0 (omega (arith, b)) (omega (arith, v)) b.2)),
             )
         go false e =
@@ -249,39 +236,36 @@ module _ (xs : List ℕ) (below above : List Block) (n : ℕ) (slots : ℕ → S
 
     pub lays-masters : Lays new with_masters now (slots_at place ++ unused)
     lays-masters =
-        let e = evens in
         let p = placed-right 0 below (Free n ∷ above) h.placed in
         let q = placed-right (0 + sizes below) (Free n ∷ []) above p in
         record {
-          lies = lies-agree resource (λ s. is_resource (now s)) new with_masters
+          lies = lies-agree resource (λ s. is_resource (now s)) _ _
               (each-named (λ s. resource s ≡ is_resource (now s)) (each-map (λ s. IsSlot s all)
               (λ s. resource s ≡ is_resource (now s)) (λ s i. sym (ap is_resource (kept-slot s i)))
-              (names all) h.has_slots.slots))
-              lies;
+              _ h.has_slots.slots)) lies;
           has_slots = record {
             slots = each-named (λ s. IsSlot s with_masters)
                 (each-map (λ s. IsSlot s all) (λ s. IsSlot s with_masters) forth (names all) h.has_slots.slots);
             apart = subst (Pairs Apart) (sym names-now) h.has_slots.apart;
           };
-          placed = placed-append 0 below (put ++ above) (placed-left 0 below (Free n ∷ above) h.placed)
-              (placed-append (0 + sizes below) put above (tt, placed-free (0 + sizes below + 272) left)
+          placed = placed-append 0 _ _ (placed-left 0 below (Free n ∷ above) h.placed)
+              (placed-append _ put above (tt, placed-free (0 + sizes below + 272) left)
               (subst (λ k. ArePlaced (0 + sizes below + k) above) (sym span) q));
-          small = (let k = same.kept in let m = h.small in omega (arith, k, m));
+          small = (omega arith);
           used = each-named (λ s. IsUsed (now s)) (each-both (λ s. IsSlot s all) (λ s. IsUsed (slots s))
               (λ s. IsUsed (now s))
               (λ s i u. subst IsUsed (sym (kept-slot s i)) u) (names all) h.has_slots.slots h.used);
           says = says;
-          chain = thread-chain (first_of unused) new (slots_at place) unused refl thread
-              (chain-kept xs new unused (each-map (λ s. IsSlot s all × (slots s ≡ Unused))
-              (λ s. piece s 4 new ≡ piece s 4 xs)
-              (λ s u. kept-piece s u.0) unused h.unused_slots) h.chain);
-          unused_slots = each-append (λ s. IsSlot s with_masters × (now s ≡ Unused)) (slots_at place) unused
-              (each-at (λ s. IsSlot s with_masters × (now s ≡ Unused)) place (omega (arith, e))
+          chain = thread-chain (first_of unused) new (slots_at place) _ refl thread
+              (chain-kept _ _ unused (each-map (λ s. IsSlot s all × (slots s ≡ Unused))
+              (λ s. piece s 4 new ≡ piece s 4 xs) (λ s u. kept-piece s u.0) unused h.unused_slots) h.chain);
+          unused_slots = each-append (λ s. IsSlot s with_masters × (now s ≡ Unused)) (slots_at place) _
+              (each-at (λ s. IsSlot s with_masters × (now s ≡ Unused)) _ (omega (arith, evens))
               (λ s a b c. (new-slot s a b c, ap (λ v. cond v Unused (slots s)) (at-slot place s a b c))))
               (each-map (λ s. IsSlot s all × (slots s ≡ Unused)) (λ s. IsSlot s with_masters × (now s ≡ Unused))
-              (λ s u. (forth s u.0, kept-slot s u.0 ∙ u.1)) unused h.unused_slots);
+              (λ s u. (forth s u.0, kept-slot s u.0 ∙ u.1)) _ h.unused_slots);
           once = pairs-append (slots_at place) unused (once-from (place + 16) 64) h.once
-              (each-at (λ s. Each (Apart s) unused) place (omega (arith, e)) (λ s a b c.
+              (each-at (λ s. Each (Apart s) unused) place (omega (arith, evens)) (λ s a b c.
               each-map (λ u. IsSlot u all × (slots u ≡ Unused)) (Apart s) (λ u v. apart-from s u a b
               (outside z place top xs st u v.0)) unused h.unused_slots));
         }

@@ -10,7 +10,7 @@ use Rattle.heap_words.specs.Words.{header}
 use Rattle.heap_words.specs.Headers.{header_bytes}
 use Rattle.heap_words.specs.declared.header.Header.{Header}
 use Rattle.heap_words.specs.declared.header.Tag.TheVariants as tag
-use Rattle.block_store.specs.Block.{Block, Free, Nonrelocatable, Masters, Relocatable, size, sizes, free, free_of, free_sum}
+use Rattle.block_store.specs.Block.{Block, Free, Nonrelocatable, Masters, Relocatable, size, sizes, free, free_sum}
 use Rattle.block_store.specs.Block.{count, is_masters}
 use Rattle.block_store.specs.Block.{is_room, resized_content, tidy}
 use Rattle.block_store.specs.Room.{Spot, spot_at, filled}
@@ -55,9 +55,8 @@ roomy xs first count place need i h =
       room = f.2;
       head = record {
         is = refl;
-        unjoined = unjoined-above f.0 a.0.above
-            (subst (λ b. Apart (b ∷ a.0.above)) f.1
-            (apart-above a.0.below (a.0.here ∷ a.0.above) st.apart));
+        unjoined = unjoined-above _ _ (subst (λ b. Apart (b ∷ a.0.above)) f.1
+            (apart-above _ (a.0.here ∷ a.0.above) st.apart));
       };
     }
   where
@@ -70,10 +69,7 @@ roomy xs first count place need i h =
 -- its bytes are among the Free ones
 pub free-roomy : (xs : List ℕ) (place need : ℕ) → Roomy xs place need → need ≤ free_sum (zone_in xs)
 free-roomy xs place need r =
-    let a = ap free_sum r.at.whole ∙ ap (λ b. free_sum (r.s.below ++ b ∷ r.s.above)) r.here in
-    let b = total-append free_of r.s.below (Free r.bytes ∷ r.s.above) in
-    let f = r.room in
-    omega (arith, a, b, f)
+    omega (arith, ap free_sum r.at.whole ∙ ap (λ b. free_sum (r.s.below ++ b ∷ r.s.above)) r.here, total-append)
 
 module _ (xs : List ℕ) (place n top z : ℕ) (r : Roomy xs place (padded n)) (t : top ≡ place + size r.s.here)
     (pz : z ≡ padded n) where
@@ -88,20 +84,13 @@ module _ (xs : List ℕ) (place n top z : ℕ) (r : Roomy xs place (padded n)) (
 
   pub may-lay : MayLay head place top 0 xs
   may-lay =
-      let a = r.at in
-      let l = ap size r.here in
-      let f = r.room in
-      let i = a.inside in
-      let g = a.some in
-      let e = a.way.walk.whole in
-      let q = a.way_above.walk.whole in
       record {
-        even = (e, omega (arith, t, q), omega (arith, pz));
-        inside = omega (arith, t, i);
-        small = a.small;
-        room = omega (arith, t, l, f, pz);
+        even = (r.at.way.walk.whole, omega (arith, t), omega (arith, pz));
+        inside = omega (arith, t);
+        small = r.at.small;
+        room = omega (arith, t, ap size r.here, pz);
         whole = omega (arith, pz);
-        fits = omega (arith, t, g);
+        fits = omega (arith, t);
       }
 
   head-is : header_bytes head ++ resized_content n [] ≡ head_of (resource_in xs) new
@@ -118,28 +107,24 @@ module _ (xs : List ℕ) (place n top z : ℕ) (r : Roomy xs place (padded n)) (
     pub nonrelocatable-lays : Lays (laid head place top 0 xs) (filled new r.s) (slot_in xs) i.unused
     nonrelocatable-lays =
         let a = r.at in
-        let g = a.some in
         let l = ap size r.here in
-        let f = r.room in
         let high : place + sizes (r.s.here ∷ []) ≡ top = omega (arith, t) in
-        let plain = no-slots r.s.here (ap is_masters r.here) in
-        let k : top - place - z ≡ size r.s.here + 0 - size new = let y = size-new in omega (arith, t, pz, y) in
+        let k : top - place - z ≡ size r.s.here + 0 - size new = omega (arith, t, pz, size-new) in
         subst (λ bs. Lays (laid head place top 0 xs) bs (slot_in xs) i.unused)
         (ap (λ m. r.s.below ++ new ∷ (free m ++ r.s.above)) k
-        ∙ sym (cut-sized new refl r.s a.apart 0 r.s.above r.head (let y = size-new in omega (arith, y, l, f))))
-        (laid-lays xs first count i r.s.below (r.s.here ∷ []) r.s.above a.whole place top a.low high (omega (
+        ∙ sym (cut-sized new refl r.s a.apart 0 r.s.above r.head (omega (arith, size-new, l))))
+        (laid-lays _ _ _ i _ (r.s.here ∷ []) _ a.whole _ _ a.low high (omega (
           arith,
           t,
-          g,
-        )) plain
-        head 0 may-lay new refl (size-new ∙ sym pz) (sym (ap (λ b. names_of b ++ []) r.here)) refl head-is tt)
+          a.some,
+        )) (no-slots r.s.here (ap is_masters r.here))
+        _ 0 may-lay _ refl (size-new ∙ sym pz) (sym (ap (λ b. names_of b ++ []) r.here)) refl head-is tt)
 
     pub nonrelocatable-lays-if : IfSome (spot_at place (zone_in xs)) (λ s. Lays (laid head place top 0 xs) (filled new s)
         (slot_in xs) i.unused)
-    nonrelocatable-lays-if = if-spot (spot_at place (zone_in xs)) (λ s. Lays (laid head place top 0 xs) (filled new s)
-        (slot_in xs) i.unused)
+    nonrelocatable-lays-if = if-spot _ (λ s. Lays (laid head place top 0 xs) (filled new s) (slot_in xs) i.unused)
         (λ s e. subst (λ q. Lays (laid head place top 0 xs) (filled new q) (slot_in xs) i.unused)
-        (one-spot (spot_at place (zone_in xs)) r.s s r.is e) nonrelocatable-lays)
+        (one-spot _ _ s r.is e) nonrelocatable-lays)
 
 -- a tidy list of blocks that was laid
 pub tidy-made : (xs now : List ℕ) (first unused : ℕ) (i : IsSound xs first unused) (blocks : List Block)
@@ -154,27 +139,22 @@ module _ (xs now : List ℕ) (first unused place n : ℕ) (i : IsSound xs first 
   block = Nonrelocatable place (replicate n 0)
 
   fits : size block ≤ r.bytes
-  fits = let l = ap padded (length-replicate {A = ℕ} n 0) in let f = r.room in omega (arith, l, f)
+  fits = let l = ap padded (length-replicate {A = ℕ} n 0) in omega (arith, l)
 
   pub nonrelocatable-made : Made now first unused (filled block r.s) (slot_in xs)
   nonrelocatable-made = tidy-made xs now first unused i (r.s.below ++ block ∷ Free (size r.s.here - size block) ∷ r.s.above) h
 
   pub nonrelocatable-free : free_sum (zone_in now) + padded n ≡ free_sum (zone_in xs)
   nonrelocatable-free =
-      let a = ap free_sum nonrelocatable-made.zone in
-      let b = filled-free block refl r.s r.bytes r.here fits in
-      let c = ap free_sum r.at.whole in
-      let l = ap padded (length-replicate {A = ℕ} n 0) in
-      omega (arith, a, b, c, l)
+      let a = filled-free block refl r.s r.bytes r.here fits in
+      let b = ap padded (length-replicate {A = ℕ} n 0) in
+      omega (arith, ap free_sum nonrelocatable-made.zone, a, ap free_sum r.at.whole, b)
 
   pub nonrelocatable-masters : count is_masters (zone_in now) ≡ count is_masters (zone_in xs)
   nonrelocatable-masters =
-      let a = ap (count is_masters) nonrelocatable-made.zone in
-      let b = filled-count block refl r.s r.bytes r.here fits is_masters (λ n. refl) in
-      let c = ap (count is_masters) r.at.whole in
-      omega (arith, a, b, c)
+      let a = filled-count block refl r.s r.bytes r.here fits is_masters (λ n. refl) in
+      omega (arith, ap (count is_masters) nonrelocatable-made.zone, a, ap (count is_masters) r.at.whole)
 
   pub nonrelocatable-zone : IfSome (spot_at place (zone_in xs)) (λ s. zone_in now ≡ filled block s)
-  nonrelocatable-zone = if-spot (spot_at place (zone_in xs)) (λ s. zone_in now ≡ filled block s)
-      (λ s e. subst (λ q. zone_in now ≡ filled block q) (one-spot (spot_at place
-      (zone_in xs)) r.s s r.is e) nonrelocatable-made.zone)
+  nonrelocatable-zone = if-spot _ (λ s. zone_in now ≡ filled block s)
+      (λ s e. subst (λ q. zone_in now ≡ filled block q) (one-spot _ _ s r.is e) nonrelocatable-made.zone)

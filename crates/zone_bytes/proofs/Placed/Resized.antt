@@ -40,10 +40,8 @@ masters-cut n s =
     let of : Block → ℕ = λ b. cond (is_masters b) 1 0 in
     let k = size s.here - size (resized n s.here) in
     let a = total-tidy of (λ n m. refl) (s.below ++ resized n s.here ∷ Free k ∷ s.above) in
-    let b = total-append of s.below (resized n s.here ∷ Free k ∷ s.above) in
-    let c = total-append of s.below (s.here ∷ s.above) in
     let d : of (resized n s.here) ≡ of s.here = ap (λ v. cond v 1 0) (is_masters-resized n s.here) in
-    omega (arith, a, b, c, d)
+    omega (arith, a, total-append, d)
 
 module _ (xs now : List ℕ) (first unused place n : ℕ) (i : IsSound xs first unused) (s : Spot)
     (e : spot_at place (zone_in xs) ≡ Some s) (at : Standing xs place s) (room : HasRoom n s)
@@ -55,8 +53,7 @@ module _ (xs now : List ℕ) (first unused place n : ℕ) (i : IsSound xs first 
   abbrev new : Block
   new = resized n s.here
 
-  given-whole : purgeable_sum (zone_in xs)
-      ≡ purgeable_sum s.below + (purgeable_of s.here + purgeable_sum s.above)
+  given-whole : purgeable_sum (zone_in xs) ≡ purgeable_sum s.below + (purgeable_of s.here + purgeable_sum s.above)
   given-whole = ap purgeable_sum at.whole ∙ given-parts s.below s.here s.above
 
   pub resize-made : Resized xs now first unused n s
@@ -67,10 +64,10 @@ module _ (xs now : List ℕ) (first unused place n : ℕ) (i : IsSound xs first 
           let h = the-if (spot_at place (zone_in xs)) _ s e (cut first unused i) le in
           record {
             blocks = filled new s;
-            made = made now (filled new s) (slot_in xs) i.unused h first unused
+            made = made _ _ (slot_in xs) _ h _ _
                 (tidy-tidy (s.below ++ new ∷ Free (size s.here - size new) ∷ s.above)) i.begins i.counted;
             masters = masters-cut n s ∙ ap (count is_masters) (sym at.whole);
-            given = (let f = given-filled new s in let p = given-whole in omega (arith, f, p));
+            given = (omega (arith, given-filled, given-whole));
             cut = λ l. refl;
             grown = λ more. absurd (omega (arith, le, more));
           }
@@ -81,26 +78,24 @@ module _ (xs now : List ℕ) (first unused place n : ℕ) (i : IsSound xs first 
           subst (λ o. IfSome o (λ after. Lays now after (slot_in xs) i.unused)) g.1 h in
           record {
             blocks = g.0;
-            made = made now g.0 (slot_in xs) i.unused l first unused
-                (tidy-grown n s g.0 more at.tidied g.1) i.begins i.counted;
+            made = made _ _ (slot_in xs) _ l _ _ (tidy-grown n s g.0 more at.tidied g.1) i.begins i.counted;
             masters = count-grown is_masters (λ m. refl) new s g.0 (is_masters-resized n s.here) g.1
                 ∙ ap (count is_masters) (sym at.whole);
-            given = (let f = given-grown new s g.0 g.1 in let p = given-whole in omega (arith, f, p));
+            given = (omega (arith, given-grown, given-whole));
             cut = λ le. absurd (omega (arith, le, more));
             grown = λ m. subst (λ o. IfSome o (λ after. g.0 ≡ after)) (sym g.1) refl;
           }
 
   pub cut-zone : IfSome (spot_at place (zone_in xs)) (λ s. size (resized n s.here) ≤ size s.here
       → zone_in now ≡ filled (resized n s.here) s)
-  cut-zone = if-spot (spot_at place (zone_in xs)) _ (λ t q. subst (λ r. size (resized n r.here) ≤ size r.here
-      → zone_in now ≡ filled (resized n r.here) r) (one-spot (spot_at place (zone_in xs)) s t e q)
+  cut-zone = if-spot _ _ (λ t q. subst (λ r. size (resized n r.here) ≤ size r.here
+      → zone_in now ≡ filled (resized n r.here) r) (one-spot _ s t e q)
       (λ le. resize-made.made.zone ∙ resize-made.cut le))
 
   pub grown-zone : IfSome (spot_at place (zone_in xs)) (λ s. size s.here < size (resized n s.here)
       → IfSome (grow_up (resized n s.here) s) (λ after. zone_in now ≡ after))
-  grown-zone = if-spot (spot_at place (zone_in xs)) _ (λ t q. subst (λ r. size r.here < size (resized n r.here)
-      → IfSome (grow_up (resized n r.here) r) (λ after. zone_in now ≡ after)) (one-spot (spot_at place
-      (zone_in xs)) s t e q)
+  grown-zone = if-spot _ _ (λ t q. subst (λ r. size r.here < size (resized n r.here)
+      → IfSome (grow_up (resized n r.here) r) (λ after. zone_in now ≡ after)) (one-spot _ s t e q)
       (λ more. subst (λ bs. IfSome (grow_up new s) (λ after. bs ≡ after)) (sym resize-made.made.zone)
       (resize-made.grown more)))
 
@@ -110,7 +105,6 @@ module _ (xs now : List ℕ) (first unused place n : ℕ) (i : IsSound xs first 
   resize-replaced solid fits =
       let m = free_first s.above in
       let k = size s.here + m - size new in
-      let f = span-free m in
       let g = span-free k in
       record {
         below = s.below;
@@ -127,13 +121,12 @@ module _ (xs now : List ℕ) (first unused place n : ℕ) (i : IsSound xs first 
               e ∙ grown-sized new solid s at.apart m (past_free s.above) heading g.0 more g.1
         ];
         low = at.low;
-        high = omega (arith, f);
-        span = omega (arith, f, g, fits);
+        high = omega (arith, span-free);
+        span = omega (arith, span-free, g, fits);
       }
     where
       heading : Heading s.above (free_first s.above) (past_free s.above)
-      heading = headed-above s.above
-          (apart-above (s.here ∷ []) s.above (apart-above s.below (s.here ∷ s.above) at.apart))
+      heading = headed-above _ (apart-above (s.here ∷ []) s.above (apart-above s.below (s.here ∷ s.above) at.apart))
 
 -- a block that stays as it is
 pub kept-replaced : (xs : List ℕ) (place : ℕ) (s : Spot) → Standing xs place s

@@ -16,7 +16,7 @@ use Rattle.block_store.specs.Block.{Block, Free, Nonrelocatable, Masters, Reloca
 use Rattle.block_store.specs.Block.{is_masters, is_room}
 use Rattle.block_store.specs.Block.{content_of, resized, resized_content, tidy}
 use Rattle.block_store.specs.Room.{Spot, spot_at, filled}
-use Rattle.block_store.specs.Grow.{grow_up, growth, taken}
+use Rattle.block_store.specs.Grow.{grow_up}
 use Rattle.block_store.specs.Inner.Stretch.{is_free}
 use Rattle.block_store.proofs.Zone.Apart.{Apart, longer, apart-above}
 use Rattle.block_store.proofs.Content.Resizing.{length-resized, grown-is}
@@ -48,8 +48,8 @@ use Rattle.zone_bytes.proofs.Placed.Stretched.{laid-lays, no-slots-two}
 -- blocks that stand apart, parted into the Free one that comes first and the others
 pub headed-above : (above : List Block) → Apart above → Heading above (free_first above) (past_free above)
 headed-above [] a = record { is = refl; unjoined = refl }
-headed-above (Free zero ∷ above) a = absurd (longer (Free zero) above a.0)
-headed-above (Free (suc n) ∷ above) a = record { is = refl; unjoined = unjoined-above (suc n) above a }
+headed-above (Free zero ∷ above) a = absurd (longer _ _ a.0)
+headed-above (Free (suc n) ∷ above) a = record { is = refl; unjoined = unjoined-above _ _ a }
 headed-above (Nonrelocatable id content ∷ above) a = record { is = refl; unjoined = refl }
 headed-above (Masters ∷ above) a = record { is = refl; unjoined = refl }
 headed-above (Relocatable id flags content ∷ above) a = record { is = refl; unjoined = refl }
@@ -62,11 +62,11 @@ free-whole at xs w =
   where
     go : (rest : List Block) → Walk w.resource at xs rest
         → (free_first rest % 16 ≡ 0) × (at + free_first rest ≤ length xs)
-    go [] v = let u = v.up in (refl, omega (arith, u))
-    go (Free n ∷ rest) v = let u = v.up in (v.high.0.whole, omega (arith, u))
-    go (Nonrelocatable id content ∷ rest) v = let u = v.up in (refl, omega (arith, u))
-    go (Masters ∷ rest) v = let u = v.up in (refl, omega (arith, u))
-    go (Relocatable id flags content ∷ rest) v = let u = v.up in (refl, omega (arith, u))
+    go [] v = (refl, omega arith)
+    go (Free n ∷ rest) v = (v.high.0.whole, omega arith)
+    go (Nonrelocatable id content ∷ rest) v = (refl, omega arith)
+    go (Masters ∷ rest) v = (refl, omega arith)
+    go (Relocatable id flags content ∷ rest) v = (refl, omega arith)
 
 free-part : (b : Block) → free_of b ≤ size b
 free-part (Free n) = omega arith
@@ -97,8 +97,7 @@ same-of n place (Nonrelocatable id content) k =
       still_none = refl;
       names = refl;
       placed = λ p. p;
-      size =
-          ap padded (length-resized n content);
+      size = ap padded (length-resized n content);
     }
 same-of n place Masters k = absurd (false≢true k)
 same-of n place (Relocatable id flags content) k =
@@ -109,8 +108,7 @@ same-of n place (Relocatable id flags content) k =
       still_none = refl;
       names = refl;
       placed = λ p. p;
-      size =
-          ap padded (length-resized n content);
+      size = ap padded (length-resized n content);
     }
 
 -- a block that holds none has one size
@@ -123,8 +121,7 @@ unsized n (Relocatable id flags content) k = absurd (false≢true (sym k))
 -- the header of a block at another size
 module _ (resource : ℕ → Bool) (n at : ℕ) (xs : List ℕ) (small : length xs ≤ 134217728) where
   sized-head : (b : Block) → Tile (head_of resource b) (size b) (drop at xs)
-      → Each (λ s. s < 2 ^ 32) (names_of b) → Holds b
-      → (word_at (at + 4) xs ≡ length (content_of b))
+      → Each (λ s. s < 2 ^ 32) (names_of b) → Holds b → (word_at (at + 4) xs ≡ length (content_of b))
       × (header (padded n + kind b) n (word_at (at + 8) xs) (word_at (at + 12) xs) ++ resized_content n (content_of b)
       ≡ head_of resource (resized n b))
   unfolding head_of
@@ -132,27 +129,23 @@ module _ (resource : ℕ → Bool) (n at : ℕ) (xs : List ℕ) (small : length 
   sized-head (Nonrelocatable id content) t w k =
       let z = size (Nonrelocatable id content) in
       let q = says z (z + 1) (length content) 0 0 content (drop at xs) t in
-      let l = length-head (z + 1) (length content) 0 0 content in
-      let f = t.fits in let r = t.room in let d = length-drop at xs in
-      let c = read_back (at + 4) (length content) xs (omega (arith, f, r, l, d, small)) (word-at at 4 xs ∙ q.0) in
+      let d = length-drop at xs in
+      let c = read_back (at + 4) (length content) xs (omega (arith, length-head, d, small)) (word-at at 4 xs ∙ q.0) in
       let v = read_back (at + 8) 0 xs (omega arith) (word-at at 8 xs ∙ q.1) in
       let e = read_back (at + 12) 0 xs (omega arith) (word-at at 12 xs ∙ q.2) in
-      let x = resized_content n content in
       let y = length-resized n content in
-      (c, (λ j. header (padded (sym y j) + 1) (sym y j) (v j) (e j) ++ x))
+      (c, (λ j. header (padded (sym y j) + 1) (sym y j) (v j) (e j) ++ (resized_content n content)))
   sized-head Masters t w k = absurd (false≢true k)
   sized-head (Relocatable slot flags content) t w k =
       let z = size (Relocatable slot flags content) in
       let q = says z (z + 3) (length content) slot (flag_word flags (resource slot)) content (drop at xs) t in
-      let l = length-head (z + 3) (length content) slot (flag_word flags (resource slot)) content in
-      let f = t.fits in let r = t.room in let d = length-drop at xs in
+      let d = length-drop at xs in
       let g = flag_word-small flags (resource slot) in
-      let c = read_back (at + 4) (length content) xs (omega (arith, f, r, l, d, small)) (word-at at 4 xs ∙ q.0) in
+      let c = read_back (at + 4) (length content) xs (omega (arith, length-head, d, small)) (word-at at 4 xs ∙ q.0) in
       let v = read_back (at + 8) slot xs w.0 (word-at at 8 xs ∙ q.1) in
       let e = read_back (at + 12) (flag_word flags (resource slot)) xs (omega (arith, g)) (word-at at 12 xs ∙ q.2) in
-      let x = resized_content n content in
       let y = length-resized n content in
-      (c, (λ j. header (padded (sym y j) + 3) (sym y j) (v j) (e j) ++ x))
+      (c, (λ j. header (padded (sym y j) + 3) (sym y j) (v j) (e j) ++ (resized_content n content)))
 
 -- the header that was read at a place
 pub record Read (header : Header) (place : ℕ) (xs : List ℕ) : Type 0 where
@@ -176,18 +169,13 @@ HasRoom n s = (size (resized n s.here) ≤ size s.here) ⊎ IsSome (grow_up (res
 -- a block at another size, for which there is room, takes no more bytes than there are
 pub room-fits : (xs : List ℕ) (place n : ℕ) (s : Spot) → Standing xs place s → HasRoom n s
     → sizes (s.below ++ s.here ∷ s.above) ≤ 134217728 → size (resized n s.here) ≤ 134217728
-room-fits xs place n s at (inl le) small = let i = at.inside in let m = at.small in omega (arith, le, i, m)
+room-fits xs place n s at (inl le) small = omega (arith, le)
 room-fits xs place n s at (inr more) small =
     let new = resized n s.here in
     let g = some-blocks (grow_up new s) more in
-    map-some (λ above. s.below ++ new ∷ above) (taken (growth new s) s.above) g.0
-    (size new ≤ 134217728) g.1
-    (λ above took is. taken-some (growth new s) s.above above (size new ≤ 134217728) took
-    (λ next rest was room now.
-    let t = total-append size s.below (s.here ∷ s.above) in
-    let w = ap sizes was in
-    let f = roomy-size (growth new s) next room in
-    omega (arith, t, w, f, small)))
+    map-some (λ above. s.below ++ new ∷ above) _ _ (size new ≤ 134217728) g.1
+    (λ above took is. taken-some _ s.above _ (size new ≤ 134217728) took (λ next rest was room now.
+    omega (arith, total-append, ap sizes was, roomy-size, small)))
   where
     roomy-size : (d : ℕ) (b : Block) → is_room d b ≡ true → d ≤ size b
     roomy-size d (Free n) r = grind (arith, nat_tests)
@@ -197,11 +185,10 @@ room-fits xs place n s at (inr more) small =
 
 module _ (xs : List ℕ) (place n : ℕ) (s : Spot) (at : Standing xs place s) (hd : Header) (r : Read hd place xs) where
   below-end : place < length xs
-  below-end = let i = at.inside in let g = at.some in omega (arith, i, g)
+  below-end = omega arith
 
   pub size-is : hd.size ≡ size s.here
-  size-is = size-at place xs at.way below-end hd.size (tag_number hd.tag) r.first r.even
-      (tag-small hd.tag) s.here s.above at.left
+  size-is = size-at _ _ at.way below-end _ _ r.first r.even (tag-small hd.tag) _ _ at.left
 
   pub kind-is : tag_number hd.tag ≡ kind s.here
   kind-is =
@@ -241,22 +228,18 @@ module _ (xs : List ℕ) (place n : ℕ) (s : Spot) (at : Standing xs place s) (
     heads = subst (λ k. Heading s.above k rest) (sym m-is) heading
 
     pub fits : padded n ≤ size s.here + m
-    fits = let y = same.size in elim room [
-      | inl le ↦ omega (arith, y, le)
+    fits = elim room [
+      | inl le ↦ omega (arith, same.size, le)
       | inr some ↦
           let g = some-blocks (grow_up new s) some in
           let is = grown-is new s g.0 g.1 in
-          let f = ap free_first is.2 in
-          let q = m-is in
-          let l = is.3 in
-          omega (arith, f, q, l, y)
+          omega (arith, ap free_first is.2, m-is, same.size)
     ]
 
     pub ends : (place + hd.size + m ≤ length xs) × ((place + hd.size + m) % 16 ≡ 0)
     ends =
         let w = free-whole (place + hd.size) xs way-behind in
-        let e = way-behind.walk.whole in
-        (omega (arith, w, mb), omega (arith, w, mb, e))
+        (omega (arith, w, mb), omega (arith, w, mb))
 
     tells : (word_at (place + 4) xs ≡ length (content_of s.here))
         × (header (padded n + kind s.here) n (word_at (place + 8) xs) (word_at (place + 12) xs)
@@ -268,19 +251,13 @@ module _ (xs : List ℕ) (place n : ℕ) (s : Spot) (at : Standing xs place s) (
 
     pub may-size : MayLay sized-header place (place + hd.size + m) hd.logical xs
     may-size =
-        let e = ends in
-        let w = at.way.walk.whole in
-        let c = content-room s.here at.some in
-        let l = long-is in
-        let y = size-is in
-        let f = fits in
         record {
-          even = (w, e.1, omega (arith, pz));
-          inside = e.0;
+          even = (at.way.walk.whole, ends.1, omega (arith, pz));
+          inside = ends.0;
           small = at.small;
-          room = omega (arith, pz, f, y);
+          room = omega (arith, pz, fits, size-is);
           whole = omega (arith, pz);
-          fits = omega (arith, c, l, y);
+          fits = omega (arith, content-room, long-is, size-is);
         }
 
     head-is : header_bytes sized-header ++ resized_content n (piece (place + 16) hd.logical xs) ≡ head_of
@@ -300,48 +277,41 @@ module _ (xs : List ℕ) (place n : ℕ) (s : Spot) (at : Standing xs place s) (
 
       sized-lays : Lays now result (slot_in xs) i.unused
       sized-lays =
-          let g = at.some in
           let y = size-is in
-          let f = span-free m in
-          let v = same.size in
-          let k : place + hd.size + m - place - z ≡ size s.here + m - size new = omega (arith, y, v, pz) in
+          let k : place + hd.size + m - place - z ≡ size s.here + m - size new = omega (arith, y, same.size, pz) in
           subst (λ bs. Lays now bs (slot_in xs) i.unused) (ap (λ j. s.below ++ new ∷ (free j ++ rest)) k)
-          (laid-lays xs first unused i s.below (s.here ∷ free m) rest (at.whole ∙ ap (λ l. s.below
-          ++ s.here ∷ l) heads.is) place
-          (place + hd.size + m) at.low (omega (arith, y, f)) (omega (
+          (laid-lays _ _ _ i _ (s.here ∷ free m) _ (at.whole ∙ ap (λ l. s.below
+          ++ s.here ∷ l) heads.is) _ _ at.low (omega (arith, y, span-free)) (omega (
             arith,
-            g,
+            at.some,
             y,
           )) (no-slots-two s.here m same.no_masters)
-          sized-header hd.logical may-size new same.still_none (v ∙ sym pz)
+          _ _ may-size _ same.still_none (same.size ∙ sym pz)
           (same.names ∙ sym (ap (λ l. names_of s.here ++ l) (names-free m) ∙ append-nil (names_of s.here)))
           (same.placed at.placed) head-is
           (subst (Each (λ k. piece k 4 xs ≡ word place)) (sym same.names) (leads-each place s.here xs at.leads)))
 
       pub cut-lays : size new ≤ size s.here → Lays now (filled new s) (slot_in xs) i.unused
       cut-lays le = subst (λ bs. Lays now bs (slot_in xs) i.unused)
-          (sym (cut-sized new same.solid s at.apart m rest heads le)) sized-lays
+          (sym (cut-sized _ same.solid s at.apart m _ heads le)) sized-lays
 
       pub grown-lays : size s.here < size new → IfSome (grow_up new s) (λ after. Lays now after (slot_in xs) i.unused)
-      grown-lays more = if-blocks (grow_up new s) (λ after. Lays now after (slot_in xs) i.unused)
+      grown-lays more = if-blocks _ (λ after. Lays now after (slot_in xs) i.unused)
           (λ after e. subst (λ bs. Lays now bs (slot_in xs) i.unused)
-          (sym (grown-sized new same.solid s at.apart m rest heads after more e)) sized-lays)
+          (sym (grown-sized _ same.solid s at.apart m _ heads _ more e)) sized-lays)
 
       pub free-sized : (count : ℕ) → count ≡ free_sum (zone_in xs)
           → (z ≤ count + hd.size) × (count ≤ 134217728) × (count + hd.size - z ≡ free_sum (zone_in now))
       free-sized count c =
           let a = ap free_sum (zone-of now result (slot_in xs) i.unused sized-lays) in
-          let k = size s.here + m - size new in
-          let b = free_sum-sized s.below new k rest same.solid in
+          let b = free_sum-sized s.below new (size s.here + m - size new) rest same.solid in
           let d = ap free_sum at.whole ∙ ap (λ l. free_sum (s.below ++ s.here ∷ l)) heads.is
-          ∙ free_sum-sized s.below s.here m rest same.held in
+          ∙ free_sum-sized _ _ m _ same.held in
           let e = total-le free_of size free-part (zone_in xs) in
-          let l = sizes-length xs (zone_in xs) (slot_in xs) i.unused i.lays in
-          let t = at.small in
           let f = fits in
           let y = size-is in
           let v = same.size in
-          (omega (arith, c, d, f, y, pz), omega (arith, c, e, l, t), omega (arith, a, b, c, d, f, y, v, pz))
+          (omega (arith, c, d, f, y, pz), omega (arith, c, e, sizes-length), omega (arith, a, b, c, d, f, y, v, pz))
 
 -- where a block holds no bytes, all stays
 module _ (xs : List ℕ) (place n : ℕ) (s : Spot) (at : Standing xs place s) (none : (kind s.here % 2 == 1) ≡ false)
@@ -356,23 +326,22 @@ module _ (xs : List ℕ) (place n : ℕ) (s : Spot) (at : Standing xs place s) (
 
   pub kept-grown : size s.here < size (resized n s.here)
       → IfSome (grow_up (resized n s.here) s) (λ after. Lays xs after (slot_in xs) i.unused)
-  kept-grown more = absurd (let z = ap size (unsized n s.here none) in omega (arith, z, more))
+  kept-grown more = absurd (let z = ap size (unsized n _ none) in omega (arith, z, more))
 
 -- at the spot of a place
 module _ (xs now : List ℕ) (place n : ℕ) (s : Spot) (e : spot_at place (zone_in xs) ≡ Some s) (unused : List ℕ) where
   pub cut-if : (size (resized n s.here) ≤ size s.here → Lays now (filled (resized n s.here) s) (slot_in xs) unused)
       → IfSome (spot_at place (zone_in xs)) (λ s. size (resized n s.here) ≤ size s.here
       → Lays now (filled (resized n s.here) s) (slot_in xs) unused)
-  cut-if f = if-spot (spot_at place (zone_in xs)) _ (λ t q. subst (λ r. size (resized n r.here) ≤ size r.here
-      → Lays now (filled (resized n r.here) r) (slot_in xs) unused) (one-spot (spot_at place (zone_in xs)) s t e q) f)
+  cut-if f = if-spot _ _ (λ t q. subst (λ r. size (resized n r.here) ≤ size r.here
+      → Lays now (filled (resized n r.here) r) (slot_in xs) unused) (one-spot _ s t e q) f)
 
   pub grown-if : (size s.here < size (resized n s.here)
       → IfSome (grow_up (resized n s.here) s) (λ after. Lays now after (slot_in xs) unused))
       → IfSome (spot_at place (zone_in xs)) (λ s. size s.here < size (resized n s.here)
       → IfSome (grow_up (resized n s.here) s) (λ after. Lays now after (slot_in xs) unused))
-  grown-if f = if-spot (spot_at place (zone_in xs)) _ (λ t q. subst (λ r. size r.here < size (resized n r.here)
-      → IfSome (grow_up (resized n r.here) r) (λ after. Lays now after (slot_in xs) unused))
-      (one-spot (spot_at place (zone_in xs)) s t e q) f)
+  grown-if f = if-spot _ _ (λ t q. subst (λ r. size r.here < size (resized n r.here)
+      → IfSome (grow_up (resized n r.here) r) (λ after. Lays now after (slot_in xs) unused)) (one-spot _ s t e q) f)
 
 -- the spot, and what is known of it
 pub room-at : (xs : List ℕ) (first unused place n : ℕ) → IsSound xs first unused

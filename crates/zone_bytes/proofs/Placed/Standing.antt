@@ -8,7 +8,7 @@ use Rattle.block_store.specs.Block.{Block, Free, Nonrelocatable, Masters, Reloca
 use Rattle.block_store.specs.Room.{Spot, spot_at}
 use Rattle.block_store.specs.Slot.{is_resource}
 use Rattle.block_store.proofs.Zone.Apart.{Apart, apart-tidied}
-use Rattle.zone_bytes.specs.Layout.{flag_word, head_of, Tile, Tiles, IsPlaced, ArePlaced, LeadsTo, Leads, IsSlot, names}
+use Rattle.zone_bytes.specs.Layout.{head_of, Tile, Tiles, IsPlaced, ArePlaced, LeadsTo, Leads, IsSlot, names}
 use Rattle.zone_bytes.specs.Layout.{names_of, Each}
 use Rattle.zone_bytes.proofs.SlotTable.Tables.{slot-in}
 use Rattle.zone_bytes.specs.Decode.{zone_in}
@@ -43,13 +43,12 @@ pub record Standing (xs : List ℕ) (place : ℕ) (s : Spot) : Type 0 where
   pub apart : Apart (s.below ++ s.here ∷ s.above)
 
 pub standing : (xs : List ℕ) (first count place : ℕ) → IsSound xs first count → (s : Spot)
-    → spot_at place (zone_in xs) ≡ Some s
-    → Standing xs place s
+    → spot_at place (zone_in xs) ≡ Some s → Standing xs place s
 standing xs first count place i s e =
     let all = whole xs first count i place s e in
     let at = low xs first count i place s e in
     let o : 0 + sizes s.below ≡ place = omega (arith, at) in
-    let t = tiles-split (head_of (resource_in xs)) xs s.below (s.here ∷ s.above)
+    let t = tiles-split (head_of (resource_in xs)) _ _ (s.here ∷ s.above)
     (subst (Tiles (head_of (resource_in xs)) xs) all i.lays.lies.tiles) in
     let y : tidy (s.below ++ s.here ∷ s.above) ≡ s.below ++ s.here ∷ s.above = sym (ap tidy all) ∙ i.tidied ∙ all in
     let p = append_one s.below s.here s.above in
@@ -70,13 +69,10 @@ standing xs first count place i s e =
           (placed-right 0 s.below (s.here ∷ s.above) (subst (λ z. ArePlaced 0 z) all i.lays.placed)).0;
       leads = subst (λ j. LeadsTo j s.here xs) o
           (leads-right xs 0 s.below (s.here ∷ s.above) (subst (λ z. Leads 0 z xs) all i.lays.lies.leads)).0;
-      names = each-map (λ k. IsSlot k (zone_in xs)) (λ k. k < 2 ^ 32)
-          (λ k j. let v = slot-in xs (zone_in xs) (slot_in xs) i.unused i.lays k j in let m = i.lays.small in omega
-          (arith, v, m))
-          (names_of s.here)
-          (each-left (λ k. IsSlot k (zone_in xs)) (names_of s.here) (names s.above) (each-right (λ k. IsSlot k
-          (zone_in xs))
-          (names s.below) (names (s.here ∷ s.above)) (subst (Each (λ k. IsSlot k (zone_in xs))) (ap names all
+      names = each-map (λ k. IsSlot k (zone_in xs)) (λ k. k < 2 ^ 32) (λ k j. omega
+          (arith, slot-in xs (zone_in xs) (slot_in xs) i.unused i.lays k j)) _
+          (each-left (λ k. IsSlot k (zone_in xs)) _ _ (each-right (λ k. IsSlot k (zone_in xs))
+          _ _ (subst (Each (λ k. IsSlot k (zone_in xs))) (ap names all
           ∙ names-append s.below (s.here ∷ s.above)) i.lays.has_slots.slots)));
       tidied = y;
       apart = apart-tidied (s.below ++ s.here ∷ s.above) y;
@@ -88,20 +84,17 @@ standing xs first count place i s e =
 
     span-one : (below : List Block) (b : Block) → sizes (below ++ b ∷ []) ≡ sizes below + size b
     span-one [] b = omega arith
-    span-one (c ∷ below) b = let r = span-one below b in omega (arith, r)
+    span-one (c ∷ below) b = omega (arith, span-one below b)
 
 -- the content stands behind the header
 pub held-piece : (resource : ℕ → Bool) (b : Block) (at : ℕ) (xs : List ℕ)
-    → Tile (head_of resource b) (size b) (drop at xs)
-    → piece (at + 16) (length (content_of b)) xs ≡ content_of b
+    → Tile (head_of resource b) (size b) (drop at xs) → piece (at + 16) (length (content_of b)) xs ≡ content_of b
 unfolding head_of
 held-piece resource (Free n) at xs t = refl
 held-piece resource (Nonrelocatable id content) at xs t =
     let z = size (Nonrelocatable id content) in
-    ap (take (length content)) (sym (drop-drop 16 at xs))
-    ∙ (says z (z + 1) (length content) 0 0 content (drop at xs) t).3
+    ap (take (length content)) (sym (drop-drop 16 at xs)) ∙ (says z _ _ 0 0 _ _ t).3
 held-piece resource Masters at xs t = refl
 held-piece resource (Relocatable slot flags content) at xs t =
     let z = size (Relocatable slot flags content) in
-    ap (take (length content)) (sym (drop-drop 16 at xs))
-    ∙ (says z (z + 3) (length content) slot (flag_word flags (resource slot)) content (drop at xs) t).3
+    ap (take (length content)) (sym (drop-drop 16 at xs)) ∙ (says z _ _ _ _ _ _ t).3

@@ -6,7 +6,7 @@ use Rattle.windows.specs.Writes.{piece}
 use Rattle.heap_words.specs.Words.{word}
 use Rattle.heap_words.specs.Headers.{header_bytes}
 use Rattle.heap_words.specs.declared.header.Header.{Header}
-use Rattle.block_store.specs.Block.{Block, Free, size, sizes, free, is_masters}
+use Rattle.block_store.specs.Block.{Block, size, sizes, free, is_masters}
 use Rattle.block_store.specs.Block.{resized_content}
 use Rattle.zone_bytes.specs.Layout.{head_of, Tile, Tiles, IsSlot, names, names_of, LeadsTo, Leads, Each, IsPlaced}
 use Rattle.zone_bytes.specs.Decode.{zone_in}
@@ -29,8 +29,7 @@ use Rattle.zone_bytes.proofs.Placed.Laid.{laid-outside, laid-left, laid-tile}
 
 -- a block and Free bytes above it
 pub tiles-two : (resource : ℕ → Bool) (b : Block) (k at len : ℕ) (new : List ℕ) → len ≡ size b + k
-    → at + len ≤ length new
-    → k % 16 ≡ 0 → Tile (head_of resource b) (size b) (drop at new)
+    → at + len ≤ length new → k % 16 ≡ 0 → Tile (head_of resource b) (size b) (drop at new)
     → (k ≡ 0) ⊎ ((0 < k) × (piece (at + size b) 4 new ≡ word k))
     → Tiles (head_of resource) (piece at len new) (b ∷ free k)
 tiles-two resource b k at len new e fits even t w =
@@ -39,22 +38,18 @@ tiles-two resource b k at len new e fits even t w =
     let cut : drop (size b) (piece at len new) ≡ piece (at + size b) k new =
     ap (λ j. drop (size b) (take j (drop at new))) e ∙ drop-take (size b) k (drop at new)
     ∙ ap (take k) (drop-drop (size b) at new) in
-    let n = length-drop (at + size b) new in
     let l : length (piece (at + size b) k new) ≡ k = length-take-le k (drop (at + size b) new) (omega (
       arith,
-      n,
+      (length-drop (at + size b) new),
       fits,
       e,
     )) in
     let above : Tiles head (piece (at + size b) k new) (free k) = elim w [
       | inl z ↦ subst (λ j. Tiles head (piece (at + size b) j new) (free j)) (sym z) refl
       | inr z ↦
-          let p = z.0 in
-          let some : 16 ≤ k = omega (arith, p, even) in
-          subst (λ j. Tiles head (piece (at + size b) k new) j) (sym (free-some k p))
-          (tiles-one head (Free k) (piece (at + size b) k new) l
-          (free-tile resource k (piece (at + size b) k new) l even some
-          (take-take 4 k (drop (at + size b) new) (omega (arith, some)) ∙ z.1)))
+          let some : 16 ≤ k = omega (arith, z.0, even) in
+          subst (λ j. Tiles head (piece (at + size b) k new) j) (sym (free-some k z.0)) (tiles-one head _ _ l
+          (free-tile resource k _ l even some (take-take 4 k (drop (at + size b) new) (omega (arith, some)) ∙ z.1)))
     ] in (
       tile-take head (head b) (size b) len (drop at new) (omega (arith, e)) (omega (arith, d, fits)) t,
       subst (λ j. Tiles head j (free k)) (sym cut) above,
@@ -92,9 +87,9 @@ module _ (xs : List ℕ) (first count : ℕ) (i : IsSound xs first count) (below
 
   of-old : Each (λ s. IsSlot s all) (names_of b)
   of-old =
-      let e = each-right (λ s. IsSlot s all) (names below) (names (old ++ above))
+      let e = each-right (λ s. IsSlot s all) _ _
       (subst (Each (λ s. IsSlot s all)) (names-append below (old ++ above)) was.has_slots.slots) in
-      subst (Each (λ s. IsSlot s all)) (sym n) (each-left (λ s. IsSlot s all) (names old) (names above)
+      subst (Each (λ s. IsSlot s all)) (sym n) (each-left (λ s. IsSlot s all) _ _
       (subst (Each (λ s. IsSlot s all)) (names-append old above) e))
 
   leads-new : LeadsTo place b new
@@ -102,30 +97,23 @@ module _ (xs : List ℕ) (first count : ℕ) (i : IsSound xs first count) (below
       let o = laid-outside h place top held xs may in
       let z = zone xs below old above (slot_in xs) i.unused was place top low high some plain in
       let st = is-splice xs below old above (slot_in xs) i.unused was place top low high some plain in
-      each-leads place b new (each-both (λ s. IsSlot s all) (λ s. piece s 4 xs ≡ word place)
+      each-leads _ b _ (each-both (λ s. IsSlot s all) (λ s. piece s 4 xs ≡ word place)
       (λ s. piece s 4 new ≡ word place)
-      (λ s j q. piece-outside place top xs new s o (outside z place top xs st s j) ∙ q) (names_of b) of-old lead)
+      (λ s j q. piece-outside _ _ _ _ s o (outside z _ _ _ st s j) ∙ q) _ of-old lead)
 
   tiles : Tiles (head_of (resource_in xs)) (piece place (top - place) new) (b ∷ free left)
   tiles =
       let o = laid-outside h place top held xs may in
-      let r = may.room in
-      let v = may.even in
-      let k = o.kept in
-      let t = may.inside in
       let one = laid-tile h place top held xs may (head_of (resource_in xs) b) head in
-      tiles-two (resource_in xs) b left place (top - place) new (omega (arith, same, r)) (omega (arith, k, t, r))
-      (omega (arith, v))
+      tiles-two (resource_in xs) b _ _ _ _ (omega (arith, same)) (omega arith) (omega arith)
       (subst (λ m. Tile (head_of (resource_in xs) b) m (drop place new)) (sym same) one)
       (subst (λ m. (left ≡ 0) ⊎ ((0 < left) × (piece (place + m) 4 new ≡ word left))) (sym same)
-      (laid-left h place top held xs may))
+      (laid-left h _ _ _ _ may))
 
   pub laid-lays : Lays new (below ++ ((b ∷ free left) ++ above)) (slot_in xs) i.unused
   laid-lays =
-      let r = may.room in
-      let f = span-free left in
-      replaced xs below old above (slot_in xs) i.unused was place top low high some plain (b ∷ free left) new
-      (laid-outside h place top held xs may) tiles (omega (arith, same, f, r, high))
+      replaced _ _ _ _ (slot_in xs) _ was _ _ low high some plain (b ∷ free left) new
+      (laid-outside h place top held xs may) tiles (omega (arith, same, span-free, high))
       (ap (λ k. names_of b ++ k) (names-free left) ∙ append-nil (names_of b) ∙ n)
       (no-slots-two b left solid) (p, placed-free (place + size b) left) (
         leads-new,

@@ -14,7 +14,7 @@ use Rattle.zone_bytes.proofs.Tiles.Splices.{outside-same, outside-written}
 thread-above : (end at u n : ℕ) (xs w : List ℕ) → at + length w ≤ u → at ≤ length xs → Thread end xs (slots_from u n)
     → Thread end (written at w xs) (slots_from u n)
 thread-above end at u zero xs w h l c = tt
-thread-above end at u (suc zero) xs w h l c = (piece-written_above at w xs u 4 h l ∙ c.0, tt)
+thread-above end at u (suc zero) xs w h l c = (piece-written_above _ w _ u 4 h l ∙ c.0, tt)
 thread-above end at u (suc (suc n)) xs w h l c =
     (piece-written_above at w xs u 4 h l ∙ c.0, thread-above end at (u + 4) (suc n) xs w (omega (arith, h)) l c.1)
 
@@ -26,7 +26,7 @@ threading-start place end xs e f =
       more = 0;
       at = omega arith;
       thread = (piece-written (place + 272 - 4) (word (16 * end + 1)) xs 4 (sym w) (omega (arith, f)), tt);
-      outside = outside-written (place + 16) (place + 272) xs xs (place + 272 - 4) (word (16 * end + 1)) (omega arith)
+      outside = outside-written _ _ _ _ _ (word (16 * end + 1)) (omega arith)
           (omega (arith, w)) (outside-same (place + 16) (place + 272) xs (omega arith) f);
       low = omega arith;
       even = omega (arith, e);
@@ -37,28 +37,22 @@ pub threading-step : (place end slot : ℕ) (old xs : List ℕ) → place % 4 �
     → Threading place end (slot - 4) old (written (slot - 4) (word (16 * slot + 1)) xs)
 threading-step place end slot old xs e l q =
     let w = length-word (16 * slot + 1) in
-    let t = q.at in
     let v = q.even in
-    let o = q.outside.ordered in
-    let k = q.outside.kept in
     let up : slot ≡ slot - 4 + 4 = omega (arith, l) in
     record {
       more = suc q.more;
-      at = omega (arith, t, l);
+      at = omega (arith, l);
       thread = (
-        piece-written (slot - 4) (word (16 * slot + 1)) xs 4 (sym w) (omega (arith, k, o, t))
-            ∙ ap (λ j. word (16 * j + 1)) up,
+        piece-written (slot - 4) (word (16 * slot + 1)) xs 4 (sym w) (omega arith) ∙ ap (λ j. word (16 * j + 1)) up,
         subst (λ u. Thread end (written (slot - 4) (word (16 * slot + 1)) xs) (slots_from u (suc q.more))) up
-            (thread-above end (slot - 4) slot (suc q.more) xs (word (16 * slot + 1)) (omega (arith, w, l))
-            (omega (arith, k, o, t)) q.thread),
+            (thread-above _ _ _ (suc q.more) xs (word (16 * slot + 1)) (omega (arith, w, l)) (omega arith) q.thread),
       );
-      outside = outside-written (place + 16) (place + 272) old xs (slot - 4) (word (16 * slot + 1)) (omega (
+      outside = outside-written _ _ _ _ (slot - 4) (word (16 * slot + 1)) (omega (
         arith,
         l,
         v,
         e,
-      ))
-          (omega (arith, w, t, l)) q.outside;
+      )) (omega (arith, w, l)) q.outside;
       low = omega (arith, l, v, e);
       even = omega (arith, l, v);
     }
@@ -66,10 +60,8 @@ threading-step place end slot old xs e l q =
 pub threaded : (place end slot : ℕ) (old xs : List ℕ) → slot ≤ place + 16 → Threading place end slot old xs
     → Thread end xs (slots_at place)
 threaded place end slot old xs l q =
-    let t = q.at in
-    let o = q.low in
-    let at : slot ≡ place + 16 = omega (arith, l, o) in
-    let count : suc q.more ≡ 64 = omega (arith, t, at) in
+    let at : slot ≡ place + 16 = omega (arith, l) in
+    let count : suc q.more ≡ 64 = omega (arith, at) in
     subst (λ j. Thread end xs (slots_from (place + 16) j)) count
     (subst (λ j. Thread end xs (slots_from j (suc q.more))) at q.thread)
 
@@ -78,4 +70,4 @@ pub thread-chain : (end : ℕ) (xs slots unused : List ℕ) → end ≡ first_of
     → Chain xs (slots ++ unused)
 thread-chain end xs [] unused e t c = c
 thread-chain end xs (s ∷ []) unused e t c = (t.0 ∙ ap (λ k. word (16 * k + 1)) e, c)
-thread-chain end xs (s ∷ u ∷ slots) unused e t c = (t.0, thread-chain end xs (u ∷ slots) unused e t.1 c)
+thread-chain end xs (s ∷ u ∷ slots) unused e t c = (t.0, thread-chain _ _ (u ∷ slots) unused e t.1 c)

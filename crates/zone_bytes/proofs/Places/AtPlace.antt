@@ -1,5 +1,5 @@
 -- The block at a place of a RawZone.
-use Rattle.std.proofs.Common.{◌≡◌, ℕ, Bool, ◌+◌, ◌<◌, ◌≤◌, ◌^◌, Some, List, [], ◌∷◌, ◌++◌, length, take, drop, sym}
+use Rattle.std.proofs.Common.{◌≡◌, ℕ, Bool, ◌+◌, ◌<◌, ◌≤◌, ◌^◌, Some, List, [], ◌∷◌, ◌++◌, length, drop, sym}
 use Rattle.std.proofs.Common.{refl, ap, ◌∙◌, subst, arith}
 use Rattle.block_store.specs.Block.{Block, size, sizes}
 use Rattle.block_store.specs.Room.{Spot, spot_at}
@@ -29,31 +29,24 @@ module _ (xs : List ℕ) (first count : ℕ) (i : IsSound xs first count) where
   words : (blocks : List Block) → Each (λ s. IsSlot s (zone_in xs)) (names blocks)
       → Each (λ s. s < 2 ^ 32) (names blocks)
   words blocks e = each-map (λ s. IsSlot s (zone_in xs)) (λ s. s < 2 ^ 32)
-      (λ s j. let k = slot-inside s (zone_in xs) j in
-      let l = sizes-length xs (zone_in xs) (slot_in xs) i.unused i.lays in let m = i.lays.small in
-      omega (arith, k, l, m)) (names blocks) e
+      (λ s j. omega (arith, slot-inside, sizes-length)) _ e
 
   -- the blocks above some lie on from where those end
   parted : (below above : List Block) (place : ℕ) → zone_in xs ≡ below ++ above → sizes below ≡ place
       → (w : IsOnWay place xs) × (w.rest ≡ above)
   parted below above place z b =
       let t = tiles-split (head_of resource) xs below above (subst (Tiles (head_of resource) xs) z i.lays.lies.tiles) in
-      let l = sizes-length xs (zone_in xs) (slot_in xs) i.unused i.lays in
-      let a = span-append below above in
-      let e = ap sizes z in
-      let w = span-whole (head_of resource) (take (sizes below) xs) below t.0 in
       let o : 0 + sizes below ≡ place = omega (arith, b) in (
         record {
           resource = resource;
           rest = above;
           walk = record {
             high = subst (λ j. Tiles (head_of resource) (drop j xs) above) b t.1;
-            up = omega
-                (arith, b, l, a, e);
-            whole = omega (arith, w, b);
+            up = omega (arith, b, sizes-length, span-append, ap sizes z);
+            whole = omega (arith, span-whole, b);
           };
           placed = subst (λ j. ArePlaced j above) o (placed-right 0 below above (subst (ArePlaced 0) z i.lays.placed));
-          words = words above (each-right (λ s. IsSlot s (zone_in xs)) (names below) (names above)
+          words = words above (each-right (λ s. IsSlot s (zone_in xs)) _ _
               (subst (Each (λ s. IsSlot s (zone_in xs))) (ap names z ∙ names-append below above)
               i.lays.has_slots.slots));
           small = i.lays.small;
@@ -63,19 +56,17 @@ module _ (xs : List ℕ) (first count : ℕ) (i : IsSound xs first count) where
 
   pub way-above : (below above : List Block) (place : ℕ) → zone_in xs ≡ below ++ above → sizes below ≡ place
       → IsOnWay place xs
-  way-above below above place z b = (parted below above place z b).0
+  way-above below above place z b = (parted _ _ _ z b).0
 
   pub left-above : (below above : List Block) (place : ℕ) → zone_in xs ≡ below ++ above → sizes below ≡ place
       → left_in place xs ≡ above
-  left-above below above place z b = left-is place xs (parted below above place z b).0
-      ∙ (parted below above place z b).1
+  left-above below above place z b = left-is _ _ (parted _ _ _ z b).0 ∙ (parted _ _ _ z b).1
 
   pub on-way : IsOnWay 0 xs
   on-way = way-above [] (zone_in xs) 0 refl refl
 
   pub sizes-fit : sizes (left_in 0 xs) < 2 ^ 32
-  sizes-fit = let e = ap sizes (left-zone xs) in let l = sizes-length xs (zone_in xs) (slot_in xs) i.unused i.lays in
-      let m = i.lays.small in omega (arith, e, l, m)
+  sizes-fit = omega (arith, ap sizes (left-zone xs), sizes-length)
 
   module _ (place : ℕ) (s : Spot) (e : spot_at place (zone_in xs) ≡ Some s) where
     pub whole : zone_in xs ≡ s.below ++ s.here ∷ s.above
@@ -91,23 +82,13 @@ module _ (xs : List ℕ) (first count : ℕ) (i : IsSound xs first count) where
     left-at = left-above s.below (s.here ∷ s.above) place whole low
 
     pub inside : place + size s.here ≤ length xs
-    inside =
-        let z = ap sizes whole in
-        let a = span-append s.below (s.here ∷ s.above) in
-        let l = sizes-length xs (zone_in xs) (slot_in xs) i.unused i.lays in
-        let b = low in
-        omega (arith, z, a, l, b)
+    inside = omega (arith, ap sizes whole, span-append, sizes-length, low)
 
     pub some-here : 16 ≤ size s.here
     some-here =
-        let t = tiles-split (head_of resource) xs s.below (s.here ∷ s.above)
+        let t = tiles-split (head_of resource) _ _ (s.here ∷ s.above)
         (subst (Tiles (head_of resource) xs) whole i.lays.lies.tiles) in
         t.1.0.some
 
     pub above-fit : sizes s.above < 2 ^ 32
-    above-fit =
-        let z = ap sizes whole in
-        let a = span-append s.below (s.here ∷ s.above) in
-        let l = sizes-length xs (zone_in xs) (slot_in xs) i.unused i.lays in
-        let m = i.lays.small in
-        omega (arith, z, a, l, m)
+    above-fit = omega (arith, ap sizes whole, span-append, sizes-length)

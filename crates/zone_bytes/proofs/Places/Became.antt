@@ -6,7 +6,6 @@ use Rattle.zone_bytes.specs.Decode.{zone_in}
 use Rattle.zone_bytes.specs.Lawful.{IsSound}
 use Rattle.zone_bytes.specs.Changes.{Became}
 use Rattle.zone_bytes.specs.Stepping.{left_in, IsOnWay}
-use Rattle.zone_bytes.specs.Table.{slot_in}
 use Rattle.zone_bytes.proofs.Laws.Lawful.{sizes-length}
 use Rattle.zone_bytes.proofs.Places.AtPlace.{way-above, left-above}
 use Rattle.zone_bytes.proofs.Places.Stepped.{left-none}
@@ -28,9 +27,4 @@ module _ (xs : List ℕ) (first unused : ℕ) (i : IsSound xs first unused) (pla
   ]
 
   pub became-fits : place + sizes (b.there ∷ b.above) ≡ length xs
-  became-fits =
-      let z = ap sizes b.is in
-      let a = span-append b.below (b.there ∷ b.above) in
-      let l = b.low in
-      let k = sizes-length xs (zone_in xs) (slot_in xs) i.unused i.lays in
-      omega (arith, z, a, l, k)
+  became-fits = omega (arith, ap sizes b.is, span-append, sizes-length)

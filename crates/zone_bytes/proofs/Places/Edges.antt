@@ -12,33 +12,29 @@ use Rattle.block_store.specs.declared.sparing.Seen.{Seen}
 use Rattle.zone_bytes.specs.Decode.{zone_in}
 use Rattle.zone_bytes.specs.Lawful.{IsSound}
 use Rattle.zone_bytes.specs.Stepping.{left_in, IsOnWay}
-use Rattle.zone_bytes.specs.Table.{slot_in}
 use Rattle.zone_bytes.proofs.Laws.Lawful.{sizes-length}
 use Rattle.zone_bytes.proofs.Places.AtPlace.{way-above, left-above, way-at, left-at, inside, some-here}
 use Rattle.zone_bytes.proofs.Places.Options.{a-spot}
 
 module _ (xs : List ℕ) (first count : ℕ) (i : IsSound xs first count) (place : ℕ) where
   pub edge-way : IsEdge place (zone_in xs) → IsOnWay place xs
-  edge-way (inl s) = let a = a-spot (spot_at place (zone_in xs)) s in way-at xs first count i place a.0 a.1
-  edge-way (inr e) = way-above xs first count i (zone_in xs) [] place (sym (append-nil (zone_in xs))) (sym e)
+  edge-way (inl s) = way-at _ _ _ i _ _ (a-spot _ s).1
+  edge-way (inr e) = way-above _ _ _ i _ [] place (sym (append-nil (zone_in xs))) (sym e)
 
   -- no block begins where the zone ends
   none-there : place ≡ sizes (zone_in xs) → (o : Option Spot) → spot_at place (zone_in xs) ≡ o → o ≡ None
   none-there e None q = refl
   none-there e (Some s) q =
-      let f = inside xs first count i place s q in
-      let m = some-here xs first count i place s q in
-      let l = sizes-length xs (zone_in xs) (slot_in xs) i.unused i.lays in
-      absurd (omega (arith, e, f, m, l))
+      absurd (omega (arith, e, inside xs first count i place s q, some-here xs first count i place s q, sizes-length))
 
   -- what a walk from there tells first
   pub edge-tells : IsEdge place (zone_in xs) → (told : Option Seen) (after : List _)
       → Tells (left_in place xs) told after → told ≡ option_map (λ (s : Spot). seen s.here) (spot_at place (zone_in xs))
   edge-tells (inl s) told after t =
       let a = a-spot (spot_at place (zone_in xs)) s in
-      (subst (λ l. Tells l told after) (left-at xs first count i place a.0 a.1) t).0
+      (subst (λ l. Tells l told after) (left-at _ _ _ i _ _ a.1) t).0
       ∙ sym (ap (option_map (λ (s : Spot). seen s.here)) a.1)
   edge-tells (inr e) told after t =
       let l = left-above xs first count i (zone_in xs) [] place (sym (append-nil (zone_in xs))) (sym e) in
       (subst (λ l. Tells l told after) l t).0
-      ∙ sym (ap (option_map (λ (s : Spot). seen s.here)) (none-there e (spot_at place (zone_in xs)) refl))
+      ∙ sym (ap (option_map (λ (s : Spot). seen s.here)) (none-there e _ refl))

@@ -28,25 +28,21 @@ module _ (resource : ℕ → Bool) (at : ℕ) (xs : List ℕ) (small : length xs
   contained (Nonrelocatable id content) t k =
       let z = size (Nonrelocatable id content) in
       let q = says z (z + 1) (length content) 0 0 content (drop at xs) t in
-      let l = length-head (z + 1) (length content) 0 0 content in
-      let f = t.fits in let r = t.room in let d = length-drop at xs in
-      let w = read_back (at + 4) (length content) xs (omega (arith, f, r, l, d, small)) (word-at at 4 xs ∙ q.0) in
+      let d = length-drop at xs in
+      let w = read_back (at + 4) (length content) xs (omega (arith, length-head, d, small)) (word-at at 4 xs ∙ q.0) in
       record {
-        fits = omega (arith, w, f, r, l, d);
-        is = ap (λ n. piece (at + 16) n xs) w
-            ∙ ap (take (length content)) (sym (drop-drop 16 at xs)) ∙ q.3;
+        fits = omega (arith, w, length-head, d);
+        is = ap (λ n. piece (at + 16) n xs) w ∙ ap (take (length content)) (sym (drop-drop 16 at xs)) ∙ q.3;
       }
   contained Masters t k = absurd (false≢true k)
   contained (Relocatable slot flags content) t k =
       let z = size (Relocatable slot flags content) in
       let q = says z (z + 3) (length content) slot (flag_word flags (resource slot)) content (drop at xs) t in
-      let l = length-head (z + 3) (length content) slot (flag_word flags (resource slot)) content in
-      let f = t.fits in let r = t.room in let d = length-drop at xs in
-      let w = read_back (at + 4) (length content) xs (omega (arith, f, r, l, d, small)) (word-at at 4 xs ∙ q.0) in
+      let d = length-drop at xs in
+      let w = read_back (at + 4) (length content) xs (omega (arith, length-head, d, small)) (word-at at 4 xs ∙ q.0) in
       record {
-        fits = omega (arith, w, f, r, l, d);
-        is = ap (λ n. piece (at + 16) n xs) w
-            ∙ ap (take (length content)) (sym (drop-drop 16 at xs)) ∙ q.3;
+        fits = omega (arith, w, length-head, d);
+        is = ap (λ n. piece (at + 16) n xs) w ∙ ap (take (length content)) (sym (drop-drop 16 at xs)) ∙ q.3;
       }
 
 pub empty : (b : Block) → (kind b % 2 == 1) ≡ false → content_of b ≡ []
@@ -70,32 +66,32 @@ pub record OnWay (at : ℕ) (xs : List ℕ) (t : ℕ) : Type 0 where
 
 pub here-on : (at : ℕ) (xs : List ℕ) (w : IsOnWay at xs) → at < length xs → (n t : ℕ) → n + t ≡ word_at at xs
     → n % 16 ≡ 0 → t ≤ 3 → OnWay at xs t
-here-on at xs w l n t e h k = next w.rest (left-is at xs w) w.walk
+here-on at xs w l n t e h k = next w.rest (left-is _ _ w) w.walk
   where
     next : (rest : List Block) → left_in at xs ≡ rest → Walk w.resource at xs rest → OnWay at xs t
-    next [] q v = let u = v.up in absurd (omega (arith, u, l))
+    next [] q v = absurd (omega (arith, l))
     next (b ∷ rest) q v =
-        let same = same_parts n t (size b) (kind b) (e ∙ first-reads w.resource xs at w.small b v.high.0) h
+        let same = same_parts n t _ _ (e ∙ first-reads w.resource _ _ w.small b v.high.0) h
         v.high.0.whole k (kind-small b) in
         record { here = b; above = rest; is = q; tag = same.1; resource = w.resource; tile = v.high.0; small = w.small }
 
 module _ (at : ℕ) (xs : List ℕ) (t : ℕ) (o : OnWay at xs t) where
   pub holds : (t % 2 == 1) ≡ true → Contained at xs o.here
-  holds k = contained o.resource at xs o.small o.here o.tile (ap (λ m. m % 2 == 1) (sym o.tag) ∙ k)
+  holds k = contained o.resource _ _ o.small _ o.tile (ap (λ m. m % 2 == 1) (sym o.tag) ∙ k)
 
   pub holds-none : (t % 2 == 1) ≡ false → content_of o.here ≡ []
-  holds-none k = empty o.here (ap (λ m. m % 2 == 1) (sym o.tag) ∙ k)
+  holds-none k = empty _ (ap (λ m. m % 2 == 1) (sym o.tag) ∙ k)
 
   pub same-here : (b : Block) (above : List Block) → left_in at xs ≡ b ∷ above → o.here ≡ b
-  same-here b above e = same-head o.here b o.above above (sym o.is ∙ e)
+  same-here b above e = same-head _ b _ _ (sym o.is ∙ e)
 
 pub size-at : (at : ℕ) (xs : List ℕ) (w : IsOnWay at xs) → at < length xs → (n t : ℕ) → n + t ≡ word_at at xs
     → n % 16 ≡ 0 → t ≤ 3 → (b : Block) (above : List Block) → left_in at xs ≡ b ∷ above → n ≡ size b
-size-at at xs w l n t e h k b above q = next w.rest (sym (left-is at xs w) ∙ q) w.walk
+size-at at xs w l n t e h k b above q = next w.rest (sym (left-is _ _ w) ∙ q) w.walk
   where
     next : (rest : List Block) → rest ≡ b ∷ above → Walk w.resource at xs rest → n ≡ size b
-    next [] r v = let u = v.up in absurd (omega (arith, u, l))
+    next [] r v = absurd (omega (arith, l))
     next (c ∷ rest) r v =
-        let same = same_parts n t (size c) (kind c) (e ∙ first-reads w.resource xs at w.small c v.high.0) h
+        let same = same_parts n t _ _ (e ∙ first-reads w.resource _ _ w.small c v.high.0) h
         v.high.0.whole k (kind-small c) in
         same.0 ∙ ap size (same-head c b rest above r)

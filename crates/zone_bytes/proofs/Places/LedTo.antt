@@ -50,7 +50,7 @@ module _ (xs : List ℕ) (first count : ℕ) (i : IsSound xs first count) (numbe
   led-at = spot_at-spot (is_relocatable number) (zone_in xs) s (apart-tidied (zone_in xs) i.tidied) e
 
   is-slot : IsSlot number (zone_in xs)
-  is-slot = (each-right (λ s. IsSlot s (zone_in xs)) (names s.below) (names (block ∷ s.above))
+  is-slot = (each-right (λ s. IsSlot s (zone_in xs)) _ (names (block ∷ s.above))
       (subst (Each (λ s. IsSlot s (zone_in xs))) (ap names whole ∙ names-append s.below (block ∷ s.above))
       i.lays.has_slots.slots)).0
 
@@ -60,14 +60,12 @@ module _ (xs : List ℕ) (first count : ℕ) (i : IsSound xs first count) (numbe
   pub led-place : word_at number xs ≡ sizes s.below
   led-place =
       let k = inside xs first count i (sizes s.below) s led-at in
-      let m = i.lays.small in
       let l = leads-right xs 0 s.below (block ∷ s.above) (subst (λ z. Leads 0 z xs) whole i.lays.lies.leads) in
       let o : 0 + sizes s.below ≡ sizes s.below = omega arith in
-      read_back number (sizes s.below) xs (omega (arith, k, m)) (l.0 ∙ ap word o)
+      read_back number (sizes s.below) xs (omega (arith, k)) (l.0 ∙ ap word o)
 
   led-left : left_in (word_at number xs) xs ≡ block ∷ s.above
-  led-left = ap (λ p. left_in p xs) led-place ∙ left-at xs first count i (sizes s.below) s led-at
-      ∙ ap (λ b. b ∷ s.above) here.2
+  led-left = ap (λ p. left_in p xs) led-place ∙ left-at _ _ _ i _ s led-at ∙ ap (λ b. b ∷ s.above) here.2
 
   pub leads-here : LeadsHere number xs
   leads-here = record {

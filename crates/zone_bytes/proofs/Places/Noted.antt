@@ -20,7 +20,7 @@ starts-last p x (b ∷ before) block e = inr (starts-last p (x + size b) before 
 
 pub edges-more : (e : Edges) (base : ℕ) (below above : List Block) → AreEdges e base below
     → AreEdges e base (below ++ above)
-edges-more e base below above a n l = starts-left (get_or e.places.items n 0) base below above (a n l)
+edges-more e base below above a n l = starts-left _ _ _ _ (a n l)
 
 -- one more edge
 pub edges-next : (e : Edges) (place base : ℕ) (blocks : List Block) → e.count < length e.places.items

@@ -33,17 +33,15 @@ module _ (resource : ℕ → Bool) (at : ℕ) (xs : List ℕ) (small : length xs
   told-is (Nonrelocatable id content) t w =
       let z = size (Nonrelocatable id content) in
       let q = says z (z + 1) (length content) 0 0 content (drop at xs) t in
-      let l = length-head (z + 1) (length content) 0 0 content in
-      let f = t.fits in let r = t.room in let d = length-drop at xs in
-      ap see.Nonrelocatable (read_back (at + 4) (length content) xs (omega (arith, f, r, l, d, small)) (word-at at 4 xs ∙ q.0))
+      let d = length-drop at xs in
+      ap see.Nonrelocatable (read_back _ _ _ (omega (arith, length-head, d, small)) (word-at at 4 xs ∙ q.0))
   told-is Masters t w = refl
   told-is (Relocatable slot flags content) t w =
       let z = size (Relocatable slot flags content) in
       let q = says z (z + 3) (length content) slot (flag_word flags (resource slot)) content (drop at xs) t in
-      let l = length-head (z + 3) (length content) slot (flag_word flags (resource slot)) content in
-      let f = t.fits in let r = t.room in let d = length-drop at xs in
+      let d = length-drop at xs in
       let g = flag_word-small flags (resource slot) in
-      let c = read_back (at + 4) (length content) xs (omega (arith, f, r, l, d, small)) (word-at at 4 xs ∙ q.0) in
+      let c = read_back (at + 4) (length content) xs (omega (arith, length-head, d, small)) (word-at at 4 xs ∙ q.0) in
       let v = read_back (at + 8) slot xs w.0 (word-at at 8 xs ∙ q.1) in
       let e = read_back (at + 12) (flag_word flags (resource slot)) xs (omega (arith, g)) (word-at at 12 xs ∙ q.2) in
       (λ i. see.Relocatable (v i) (flags_of (e i)) (c i))
@@ -60,31 +58,26 @@ module _ (at : ℕ) (xs : List ℕ) (w : IsOnWay at xs) where
   pub left-is : left_in at xs ≡ w.rest
   left-is =
       let d = length-drop at xs in
-      let s = w.small in
-      blocks-back w.resource (length xs) at w.rest (drop at xs) (omega (arith, d))
-      (omega (arith, d, s)) w.placed w.words w.walk.high
+      blocks-back w.resource _ _ _ _ (omega (arith, d)) (omega (arith, d)) w.placed w.words w.walk.high
 
   pub left-none : length xs ≤ at → left_in at xs ≡ []
   left-none l = left-is ∙ none w.rest w.walk
     where
       none : (rest : List Block) → Walk w.resource at xs rest → rest ≡ []
       none [] k = refl
-      none (b ∷ rest) k = let u = k.up in let s = k.high.0.some in absurd (omega (arith, u, s, l))
+      none (b ∷ rest) k = absurd (omega (arith, l))
 
   pub next-header : at < length xs → Next xs at
-  next-header l = walk-next w.resource xs w.small at w.rest w.walk l
+  next-header l = walk-next w.resource _ w.small _ _ w.walk l
 
 pub stepped-on : (resource : ℕ → Bool) (at : ℕ) (xs : List ℕ) (small : length xs ≤ 134217728) (rest : List Block)
     → Walk resource at xs rest → ArePlaced at rest → Each (λ s. s < 2 ^ 32) (names rest)
     → at < length xs → (n t : ℕ) → n + t ≡ word_at at xs → n % 16 ≡ 0 → t ≤ 3 → Stepped at xs n t
-stepped-on resource at xs small [] v p o l n t e h k = let u = v.up in absurd (omega (arith, u, l))
+stepped-on resource at xs small [] v p o l n t e h k = absurd (omega (arith, l))
 stepped-on resource at xs small (b ∷ rest) v p o l n t e h k =
     let P : ℕ → Type 0 = λ s. s < 2 ^ 32 in
-    let same = same_parts n t (size b) (kind b) (e ∙ first-reads resource xs at small b v.high.0) h v.high.0.whole k
-    (kind-small b) in
+    let same = same_parts n t _ _ (e ∙ first-reads resource _ _ small b v.high.0) h v.high.0.whole k (kind-small b) in
     let bytes = same.0 in
-    let u = v.up in
-    let w = v.whole in
     let now : IsOnWay at xs = record
     { resource = resource; rest = b ∷ rest; walk = v; placed = p; words = o; small = small } in
     let way : IsOnWay (at + n) xs = record {
@@ -93,8 +86,8 @@ stepped-on resource at xs small (b ∷ rest) v p o l n t e h k =
       walk = record {
         high = subst (λ j. Tiles (head_of resource) (drop (at + j) xs) rest) (sym bytes)
             (subst (λ j. Tiles (head_of resource) j rest) (drop-drop (size b) at xs) v.high.1);
-        up = omega (arith, u, bytes);
-        whole = omega (arith, w, h);
+        up = omega (arith, bytes);
+        whole = omega (arith, h);
       };
       placed = subst (λ j. ArePlaced (at + j) rest) (sym bytes) p.1;
       words = each-right P (names_of b) (names rest) o;
@@ -104,13 +97,13 @@ stepped-on resource at xs small (b ∷ rest) v p o l n t e h k =
       here = b;
       is = left-is at xs now ∙ ap (λ q. b ∷ q) (sym (left-is (at + n) xs way));
       told = (λ i. header_seen (same.1 i) (bytes i) (word_at (at + 4) xs) (word_at (at + 8) xs)
-          (word_at (at + 12) xs)) ∙ told-is resource at xs small b v.high.0 (each-left P (names_of b) (names rest) o);
+          (word_at (at + 12) xs)) ∙ told-is resource _ _ small b v.high.0 (each-left P _ _ o);
       way = way;
     }
 
 pub stepped : (at : ℕ) (xs : List ℕ) (w : IsOnWay at xs) → at < length xs → (n t : ℕ) → n + t ≡ word_at at xs
     → n % 16 ≡ 0 → t ≤ 3 → Stepped at xs n t
-stepped at xs w l n t e h k = stepped-on w.resource at xs w.small w.rest w.walk w.placed w.words l n t e h k
+stepped at xs w l n t e h k = stepped-on w.resource _ _ w.small _ w.walk w.placed w.words l n t e h k
 
 pub tells-step : (at : ℕ) (xs : List ℕ) (n t : ℕ) (s : Stepped at xs n t) (answer : Seen)
     → answer ≡ header_seen t n (word_at (at + 4) xs) (word_at (at + 8) xs) (word_at (at + 12) xs)
@@ -120,4 +113,4 @@ tells-step at xs n t s answer e = subst (λ l. Tells l (Some answer) (left_in (a
 
 pub tells-none : (at : ℕ) (xs : List ℕ) (w : IsOnWay at xs) → length xs ≤ at
     → Tells (left_in at xs) None (left_in at xs)
-tells-none at xs w l = subst (λ k. Tells k None k) (sym (left-none at xs w l)) (refl, refl)
+tells-none at xs w l = subst (λ k. Tells k None k) (sym (left-none _ _ w l)) (refl, refl)

@@ -21,7 +21,7 @@ steps at xs w l n t e h k answer a =
       told = sym (a ∙ s.told);
       up = ap (λ m. at + m) (sym z);
       way = s.way;
-      some = (let b = some-bytes s.here (left_in (at + n) xs) s.is in omega (arith, b, z));
+      some = (omega (arith, some-bytes, z));
     }
   where
     some-bytes : (b : Block) (above : List Block) → left_in at xs ≡ b ∷ above → 16 ≤ size b

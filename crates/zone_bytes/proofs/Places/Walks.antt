@@ -8,22 +8,14 @@ use Rattle.zone_bytes.proofs.Runs.Settled.{Next}
 
 module _ (resource : ℕ → Bool) (xs : List ℕ) (small : length xs ≤ 134217728) where
   pub walk-next : (at : ℕ) (rest : List Block) → Walk resource at xs rest → at < length xs → Next xs at
-  walk-next at [] w l = let u = w.up in absurd (omega (arith, u, l))
+  walk-next at [] w l = absurd (omega (arith, l))
   walk-next at (b ∷ rest) w l =
-      let t = w.high.0 in
-      let f = t.fits in
-      let s = t.some in
-      let d = length-drop at xs in
-      let r = first-reads resource xs at small b t in
-      let v = w.whole in
-      let h = t.whole in
-      let k = kind-small b in
+      let r = first-reads resource xs at small b w.high.0 in
       record {
-        even = omega (arith, v);
-        fits = omega (arith, f, s, d);
-        tag = omega (arith, r, h, k);
-        big = omega
-            (arith, r, s);
+        even = omega arith;
+        fits = omega (arith, length-drop at xs);
+        tag = omega (arith, r, kind-small);
+        big = omega (arith, r);
       }
 
 -- Free bytes are no more than bytes

@@ -49,10 +49,10 @@ changed-run change place zone r e keeps new first unused table t m =
       made = m;
       is = m.zone ∙ t ∙ append_assoc r.below (change r.run) r.above;
       span = keeps size (λ n k. refl) l;
-      masters = ap (count is_masters) m.zone ∙ total-changed masters (λ n k. refl) change place zone r e
+      masters = ap (count is_masters) m.zone ∙ total-changed masters (λ n k. refl) change _ _ r e
           (keeps masters (λ n k. refl) l);
       free = total-changed free_of (λ n k. refl) change place zone r e (keeps free_of (λ n k. refl) l);
-      purgeable = ap purgeable_sum m.zone ∙ total-changed purgeable_of (λ n k. refl) change place zone r e
+      purgeable = ap purgeable_sum m.zone ∙ total-changed purgeable_of (λ n k. refl) change _ _ r e
           (keeps purgeable_of (λ n k. refl) l);
     }
 
@@ -80,9 +80,8 @@ pub settled-run : (xs : List ℕ) (first unused : ℕ) (i : IsSound xs first unu
 settled-run xs first unused i place r e stop t moves new d =
     let m = settle-made xs first unused i place r e stop t moves new d in
     let z : r.below ++ (settle r.run ++ r.above) ≡ tidy (with_run settle r) =
-    sym (settled-tidy place (zone_in xs) r i.tidied e)
-    ∙ ap tidy (sym (append_assoc r.below (settle r.run) r.above)) in (
-      changed-run settle place (zone_in xs) r e (λ of adds l. settle-total of adds r.run l) new first unused
+    sym (settled-tidy _ _ r i.tidied e) ∙ ap tidy (sym (append_assoc r.below (settle r.run) r.above)) in (
+      changed-run settle _ _ r e (λ of adds l. settle-total of adds _ l) _ _ _
           (slot_in xs) (sym z ∙ sym (append_assoc r.below (settle r.run) r.above))
           (subst (λ k. Made new first unused k (slot_in xs)) z m.0),
       m.1,

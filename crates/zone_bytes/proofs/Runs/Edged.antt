@@ -50,8 +50,7 @@ module _ {zone : List Block} {r : RunSpot} {new : List ℕ} {first unused : ℕ}
           is = d.is ∙ ap (λ l. r.below ++ (l ++ r.above)) (lifted-some gap r.run some s)
               ∙ ap (λ l. r.below ++ Free gap ∷ l) (append_assoc (movers r.run) left r.above)
               ∙ sym (append_assoc r.below (Free gap ∷ []) (movers r.run ++ (left ++ r.above)));
-          low = (let b = (run_at-splits place zone r e).bottom in let p = span-append r.below (Free gap ∷ []) in
-              omega (arith, b, p));
+          low = (let b = (run_at-splits place zone r e).bottom in omega (arith, b, span-append));
           solid = movers-solid r.run;
           edges_are = a;
         })

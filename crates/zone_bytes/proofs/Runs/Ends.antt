@@ -34,22 +34,17 @@ module _ (resource : ℕ → Bool) (xs : List ℕ) (from : ℕ) (small : length 
       let n = size (Relocatable slot flags content) in
       let q = says n (n + 3) (length content) slot (flag_word flags (resource slot)) content (drop from xs) t in
       let g = flag_word-small flags (resource slot) in
-      read_back (from + 12) (flag_word flags (resource slot)) xs (omega (arith, g))
-      (ap (take 4) (sym (drop-drop 12 from xs)) ∙ q.2)
+      read_back _ _ _ (omega (arith, g)) (ap (take 4) (sym (drop-drop 12 from xs)) ∙ q.2)
 
   -- the words of a header tell it
   pub runs-told : (b : Block) → Tile (head_of resource b) (size b) (drop from xs) → (n t f : ℕ)
       → n + t ≡ word_at from xs → n % 16 ≡ 0 → t ≤ 3 → f ≡ word_at (from + 12) xs → runs_on t f ≡ in_run b
   runs-told b tile n t f e w l v =
-      let r = first-reads resource xs from small b tile in
-      let k = kind-small b in
-      let h = tile.whole in
-      let same : t ≡ kind b = omega (arith, e, r, w, l, k, h) in
+      let same : t ≡ kind b = omega (arith, e, first-reads resource xs from small b tile, w, l, kind-small) in
       ap (λ j. runs_on j f) same ∙ of-kind b tile
     where
       of-kind : (b : Block) → Tile (head_of resource b) (size b) (drop from xs) → runs_on (kind b) f ≡ in_run b
       of-kind (Free m) t = refl
       of-kind (Nonrelocatable id content) t = refl
       of-kind Masters t = refl
-      of-kind (Relocatable slot flags content) t = ap (λ j. nat_lt j 128) (v ∙ flags-read slot flags content t)
-          ∙ unlocked flags (resource slot)
+      of-kind (Relocatable slot flags content) t = ap (λ j. nat_lt j 128) (v ∙ flags-read _ _ _ t) ∙ unlocked _ _

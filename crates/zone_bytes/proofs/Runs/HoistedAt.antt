@@ -63,8 +63,7 @@ module _ {xs : List ℕ} {first unused place top stop : ℕ} {old : List Block}
 
   packed-parts : zone_in xs ≡ beneath ++ block ∷ (over ++ r.above)
   packed-parts =
-      packed-zone k
-      ∙ ap (λ l. r.below ++ (l ++ r.above)) (settle-parts number r.run cut loose-run)
+      packed-zone k ∙ ap (λ l. r.below ++ (l ++ r.above)) (settle-parts _ r.run cut loose-run)
       ∙ ap (λ l. r.below ++ l) (append_assoc (movers cut.low) (block ∷ over) r.above)
       ∙ sym (append_assoc r.below (movers cut.low) (block ∷ (over ++ r.above)))
 
@@ -74,7 +73,7 @@ module _ {xs : List ℕ} {first unused place top stop : ℕ} {old : List Block}
   slot-here : IsSlot number (beneath ++ block ∷ (over ++ r.above))
   slot-here =
       let P : ℕ → Type 0 = λ s. IsSlot s (beneath ++ block ∷ (over ++ r.above)) in
-      (each-right P (names beneath) (number ∷ names (over ++ r.above))
+      (each-right P _ (number ∷ names (over ++ r.above))
       (subst (Each P) (names-append beneath (block ∷ (over ++ r.above))) laid-was.has_slots.slots)).0
 
   -- the slot's word may be read
@@ -84,17 +83,14 @@ module _ {xs : List ℕ} {first unused place top stop : ℕ} {old : List Block}
   small-here : here ≤ 134217728
   small-here =
       let l = sizes-length xs (beneath ++ block ∷ (over ++ r.above)) (slot_in xs) k.sound.unused laid-was in
-      let a = span-append beneath (block ∷ (over ++ r.above)) in
-      let m = laid-was.small in
-      omega (arith, l, a, m)
+      omega (arith, l, span-append)
 
   -- and tells where the block is
   slot-tells : word_at number xs ≡ here
   slot-tells =
       let l = leads-right xs 0 beneath (block ∷ (over ++ r.above)) laid-was.lies.leads in
       let z : 0 + here ≡ here = omega arith in
-      let s = small-here in
-      read_back number (0 + here) xs (omega (arith, s)) l.0 ∙ z
+      read_back number (0 + here) xs (omega (arith, small-here)) l.0 ∙ z
 
   abbrev raw : Hoist
   raw = record {
@@ -108,10 +104,9 @@ module _ {xs : List ℕ} {first unused place top stop : ℕ} {old : List Block}
 
   hoist-is : hoist_at xs here ≡ raw
   hoist-is =
-      let zone = beneath ++ block ∷ (over ++ r.above) in
       let s : spot_at here (zone_in xs) ≡ Some (record { below = beneath; here = block; above = over ++ r.above }) =
-      ap (spot_at here) packed-parts ∙ spot_at-parts beneath block (over ++ r.above)
-      (apart-tidied zone (sym (ap tidy packed-parts) ∙ k.sound.tidied ∙ packed-parts)) in
+      ap (spot_at here) packed-parts ∙ spot_at-parts _ _ _
+      (apart-tidied _ (sym (ap tidy packed-parts) ∙ k.sound.tidied ∙ packed-parts)) in
       let f = first-run over r.above (loose-over number r.run cut loose-run) (run_at-ended place old r k.is).stops in
       let g : drop (length (segments (over ++ r.above)).first) (over ++ r.above) ≡ r.above =
       ap (λ l. drop (length l) (over ++ r.above)) f ∙ drop-append_seam over r.above in
@@ -126,21 +121,15 @@ module _ {xs : List ℕ} {first unused place top stop : ℕ} {old : List Block}
 
     may-move : MayHoist raw here stop
     may-move =
-        let a = span-append r.below (movers cut.low) in
-        let b = span-append (movers cut.low) (block ∷ over) in
-        let c = ap sizes (settle-parts number r.run cut loose-run) in
-        let d = span-settle r.run (in-run k) in
-        let z = bottom k in
-        let s = k.stop_is in
         record {
           lies = laid-was.lies;
           slots = laid-was.has_slots;
           bottom = refl;
-          top = omega (arith, a, b, c, d, z, s);
+          top = (let c = ap sizes (settle-parts number r.run cut loose-run) in
+              omega (arith, span-append, c, span-settle r.run (in-run k), bottom k));
           in_run = each-loose (block ∷ over) (
             loose-block number r.run cut loose-run,
-            loose-over number r.run cut
-                loose-run,
+            loose-over number r.run cut loose-run,
           );
           small = laid-was.small;
         }
@@ -150,14 +139,12 @@ module _ {xs : List ℕ} {first unused place top stop : ℕ} {old : List Block}
         (subst (λ j. MayHoist raw j stop) (sym (w ∙ slot-tells)) may-move)
 
     pub hoist-changed : ((name : ℕ) → count (is_relocatable name) old ≤ 1) → (new : List ℕ)
-        → Hoisted (hoist_at xs at) new
-        → ChangedRun (high (is_relocatable number)) old r new first unused (slot_in xs)
+        → Hoisted (hoist_at xs at) new → ChangedRun (high (is_relocatable number)) old r new first unused (slot_in xs)
     hoist-changed once new d =
         let test = is_relocatable number in
         let m = may-move in
         let q = subst (λ z. Hoisted z new) hoist-at d in
-        let lays = lays-run xs new beneath (block ∷ over) (over ++ block ∷ []) r.above
-        (slot_in xs) k.sound.unused laid-was m.in_run
+        let lays = lays-run _ _ _ (block ∷ over) _ _ (slot_in xs) _ laid-was m.in_run
         (in-now raw here stop m) (same-span raw here stop m) (same-names raw here stop m) q.lies q.others q.kept in
         let ones : Block → ℕ = λ b. cond {A = ℕ} (test b) 1 0 in
         let all : count test (r.below ++ (r.run ++ r.above)) ≡ count test old =
@@ -166,16 +153,12 @@ module _ {xs : List ℕ} {first unused place top stop : ℕ} {old : List Block}
         total-append ones r.below (r.run ++ r.above) in
         let b : count test (r.run ++ r.above) ≡ count test r.run + count test r.above =
         total-append ones r.run r.above in
-        let o = once number in
         let shape : beneath ++ ((over ++ block ∷ []) ++ r.above) ≡ with_run (high test) r =
         append_assoc r.below (movers cut.low) ((over ++ block ∷ []) ++ r.above)
         ∙ ap (λ l. r.below ++ l) (sym (append_assoc (movers cut.low) (over ++ block ∷ []) r.above)
-        ∙ ap (λ l. l ++ r.above) (sym (high-parts number r.run cut (omega (arith, all, a, b, o)))))
+        ∙ ap (λ l. l ++ r.above) (sym (high-parts number r.run cut (omega (arith, all, a, b, once)))))
         ∙ sym (append_assoc r.below (high test r.run) r.above) in
         let tidy-is = tidy-change place old r k.is k.tidied (high test r.run) (apart-high test (λ n. refl) r.run) in
-        changed-run (high test) place old r k.is (λ of adds l. high-total of adds number r.run l) new first unused
-        (slot_in xs) tidy-is
-        (subst (λ z. Made new first unused z (slot_in xs)) (sym tidy-is)
-        (made new (with_run (high test) r) (slot_in xs) k.sound.unused
-        (subst (λ z. Lays new z (slot_in xs) k.sound.unused) shape lays)
-        first unused tidy-is k.sound.begins k.sound.counted))
+        changed-run (high test) _ _ r k.is (λ of adds l. high-total of adds number r.run l) _ _ _
+        (slot_in xs) tidy-is (subst (λ z. Made new first unused z (slot_in xs)) (sym tidy-is) (made _ _ (slot_in xs) _
+        (subst (λ z. Lays new z (slot_in xs) k.sound.unused) shape lays) _ _ tidy-is k.sound.begins k.sound.counted))

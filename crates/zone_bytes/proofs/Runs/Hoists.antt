@@ -38,7 +38,7 @@ module _ (z : Hoist) (place stop : ℕ) (h : MayHoist z place stop) where
   in-now = each-append InRun z.over (z.block ∷ []) h.in_run.1 (h.in_run.0, tt)
 
   pub same-span : sizes (hoisted_run z) ≡ sizes was
-  same-span = let a = span-append z.over (z.block ∷ []) in omega (arith, a)
+  same-span = omega (arith, span-append)
 
   pub same-names : SameNames (names (unhoisted z)) (names (hoisted z))
   same-names =
@@ -47,8 +47,7 @@ module _ (z : Hoist) (place stop : ℕ) (h : MayHoist z place stop) where
       let w : names (unhoisted z) ≡ low ++ ((one ++ names z.over) ++ names z.above) =
       names-append z.below (was ++ z.above) ∙ ap (λ k. low ++ k) (names-append was z.above) in
       let n : names (hoisted z) ≡ low ++ ((names z.over ++ one) ++ names z.above) =
-      names-append z.below (hoisted_run z ++ z.above)
-      ∙ ap (λ k. low ++ k) (names-append (hoisted_run z) z.above
+      names-append z.below (hoisted_run z ++ z.above) ∙ ap (λ k. low ++ k) (names-append (hoisted_run z) z.above
       ∙ ap (λ k. k ++ names z.above) (names-append z.over (z.block ∷ [])
       ∙ ap (λ k. names z.over ++ k) (append-nil one))) in
       subst (λ k. SameNames k (names (hoisted z))) (sym w)
@@ -61,23 +60,17 @@ module _ (z : Hoist) (place stop : ℕ) (h : MayHoist z place stop) where
 
   pub wide : (place + size z.block ≤ stop) × (stop ≤ length z.bytes) × (place % 16 ≡ 0)
   wide =
-      let l = length-tiles head z.bytes (unhoisted z) h.lies.tiles in
-      let a = span-append z.below (was ++ z.above) in
-      let b = span-append was z.above in
       let w = span-whole head (take (sizes z.below) z.bytes) z.below parts-is.0 in
-      let p = h.bottom in
-      let t = h.top in
-      (omega (arith, t), omega (arith, l, a, b, p, t), omega (arith, w, p))
+      (omega arith, omega (arith, length-tiles, span-append, span-append was z.above), omega (arith, w))
 
   tile-here : Tile (head z.block) (size z.block) (drop place z.bytes)
   tile-here = subst (λ k. Tile (head z.block) (size z.block) (drop k z.bytes)) h.bottom parts-is.1.0
 
   run-tiles : Tiles head run-bytes was
   run-tiles =
-      let t = h.top in
-      let e : sizes was ≡ stop - place = omega (arith, t) in
+      let e : sizes was ≡ stop - place = omega arith in
       subst (λ k. Tiles head k was) (λ i. take (e i) (drop (h.bottom i) z.bytes))
-      (tiles-split head (drop (sizes z.below) z.bytes) was z.above parts-is.1).0
+      (tiles-split head _ was z.above parts-is.1).0
 
   first-is : word_at place z.bytes ≡ size z.block + kind z.block
   first-is = first-reads z.resource z.bytes place h.small z.block tile-here
@@ -85,23 +78,16 @@ module _ (z : Hoist) (place stop : ℕ) (h : MayHoist z place stop) where
   -- the block's header may be read
   pub next : Next z.bytes place
   next =
-      let v = wide in
-      let s = tile-here.some in
-      let w = tile-here.whole in
-      let f = first-is in
-      let k = kind-small z.block in
       record {
-        even = omega (arith, v);
-        fits = omega (arith, v, s);
-        tag = omega (arith, f, w, k);
-        big =
-            omega (arith, f, s);
+        even = omega (arith, wide);
+        fits = omega (arith, wide, tile-here.some);
+        tag = omega (arith, first-is, tile-here.whole, kind-small);
+        big = omega (arith, first-is, tile-here.some);
       }
 
   -- and tells its size
   pub size-read : (n t : ℕ) → n + t ≡ word_at place z.bytes → n % 16 ≡ 0 → t ≤ 3 → n ≡ size z.block
-  size-read n t e w l = (same_parts n t (size z.block) (kind z.block) (e ∙ first-is) w tile-here.whole l
-      (kind-small z.block)).0
+  size-read n t e w l = (same_parts n t _ _ (e ∙ first-is) w tile-here.whole l (kind-small _)).0
 
   -- what is turned, as it is read
   pub turned-read : (xs : List ℕ) (n : ℕ) (mid : List ℕ) → xs ≡ z.bytes → n ≡ size z.block
@@ -112,75 +98,58 @@ module _ (z : Hoist) (place stop : ℕ) (h : MayHoist z place stop) where
       (piece place (stop - place) (e i))) (e i))
 
   length-run : length run-bytes ≡ stop - place
-  length-run =
-      let v = wide in
-      let d = length-drop place z.bytes in
-      length-take-le (stop - place) (drop place z.bytes) (omega (arith, v, d))
+  length-run = length-take-le (stop - place) (drop place z.bytes) (omega (arith, wide, length-drop place z.bytes))
 
   length-turned : length turned-bytes ≡ stop - place
   length-turned =
-      let v = wide in
       let l = length-run in
       let a = length-append (drop (size z.block) run-bytes) (take (size z.block) run-bytes) in
-      let d = length-drop (size z.block) run-bytes in
-      let t = length-take-le (size z.block) run-bytes (omega (arith, v, l)) in
-      omega (arith, a, d, t, v, l)
+      let b = length-take-le (size z.block) run-bytes (omega (arith, l)) in
+      omega (arith, a, length-drop (size z.block) run-bytes, b, l)
 
   turned-tiles : Tiles head turned-bytes (hoisted_run z)
   turned-tiles =
-      let v = wide in
-      let l = length-run in
       let t = run-tiles in
-      tiles-append head (drop (size z.block) run-bytes) (take (size z.block) run-bytes) z.over (z.block ∷ []) t.1
-      (tiles-one head z.block (take (size z.block) run-bytes)
-      (length-take-le (size z.block) run-bytes (omega (arith, v, l)))
-      (tile-take head (head z.block) (size z.block) (size z.block) run-bytes (omega arith) (omega (arith, v, l)) t.0))
+      tiles-append head _ _ _ _ t.1 (tiles-one head _ _ (length-take-le (size z.block) run-bytes (omega arith))
+      (tile-take head _ _ _ _ (omega arith) (omega arith) t.0))
 
   -- the bytes before the slots are rewritten
   module _ (mid : List ℕ) (m : mid ≡ written place turned-bytes z.bytes) where
     outside : SameOutside place stop z.bytes mid
     outside =
         let v = wide in
-        let l = length-turned in
         subst (λ k. SameOutside place stop z.bytes k) (sym m)
-        (outside-written place stop z.bytes z.bytes place turned-bytes (omega arith) (omega (arith, l, v))
+        (outside-written _ _ _ _ _ turned-bytes (omega arith) (omega (arith, length-turned, v))
         (outside-same place stop z.bytes (omega (arith, v)) (omega (arith, v))))
 
     new-tiles : Tiles head (piece place (stop - place) mid) (hoisted_run z)
     new-tiles =
-        let v = wide in
         subst (λ k. Tiles head k (hoisted_run z))
-        (sym (ap (piece place (stop - place)) m ∙ piece-written place turned-bytes z.bytes (stop - place)
-        (sym length-turned) (omega (arith, v))))
-        turned-tiles
+        (sym (ap (piece place (stop - place)) m ∙ piece-written _ _ z.bytes _
+        (sym length-turned) (omega (arith, wide)))) turned-tiles
 
     low : Leads 0 z.below z.bytes
     low = leads-left z.bytes 0 z.below (was ++ z.above) h.lies.leads
 
     high : Leads stop z.above z.bytes
     high =
-        let p = h.bottom in
-        let t = h.top in
-        let o : 0 + sizes z.below + sizes was ≡ stop = omega (arith, p, t) in
-        subst (λ k. Leads k z.above z.bytes) o (leads-right z.bytes (0 + sizes z.below) was z.above
+        let o : 0 + sizes z.below + sizes was ≡ stop = omega arith in
+        subst (λ k. Leads k z.above z.bytes) o (leads-right _ _ was _
         (leads-right z.bytes 0 z.below (was ++ z.above) h.lies.leads))
 
     pub is-moved : IsMoved (record {
       resource = z.resource;
       below = z.below;
       run = hoisted_run z;
-      above =
-          z.above;
+      above = z.above;
       bytes = mid;
     }) place stop
     is-moved = moved.is-moved z.resource z.below was (hoisted_run z) z.above z.bytes mid place stop h.lies.tiles low high h.slots
-        h.bottom
-        h.top h.in_run in-now same-span same-names h.small outside new-tiles
+        h.bottom h.top h.in_run in-now same-span same-names h.small outside new-tiles
 
     pub is-hoisted : (new : List ℕ)
         → Pointed (record { resource = z.resource; below = z.below; run = hoisted_run z; above = z.above; bytes = mid })
-        new
-        → Hoisted z new
+        new → Hoisted z new
     is-hoisted new p = record {
       lies = p.lies;
       others = moved.others-pointed z.resource z.below was (hoisted_run z) z.above z.bytes mid place stop h.lies.tiles low high h.slots

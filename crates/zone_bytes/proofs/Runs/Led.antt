@@ -1,6 +1,6 @@
 -- A packed run whose slots lead to its blocks.
-use Rattle.std.proofs.Common.{◌≡◌, ℕ, ◌+◌, zero, suc, List, ◌++◌, subst, arith}
-use Rattle.block_store.specs.Block.{free, free_sum, sizes}
+use Rattle.std.proofs.Common.{◌≡◌, ℕ, ◌+◌, zero, suc, List, subst, arith}
+use Rattle.block_store.specs.Block.{free, sizes}
 use Rattle.block_store.specs.Run.{movers, settle}
 use Rattle.zone_bytes.specs.Layout.{Leads}
 use Rattle.zone_bytes.specs.Settling.{Lay, IsRunFrom, Packed, Settled}
@@ -15,21 +15,13 @@ leads-free xs o (suc n) = (tt, tt)
 
 -- a packed run whose slots lead to its blocks
 pub settled-of : (lay : Lay) (place stop gap moves : ℕ) (xs : List ℕ) → IsRunFrom lay place stop → Packed lay gap moves
-    xs
-    → Leads (0 + sizes lay.below) (movers lay.run) xs → Settled lay moves xs
+    xs → Leads (0 + sizes lay.below) (movers lay.run) xs → Settled lay moves xs
 settled-of lay place stop gap moves xs r p l =
-    let a = span-append (movers lay.run) (free (free_sum lay.run)) in
-    let b = span-free (free_sum lay.run) in
-    let m = span-movers lay.run r.in_run in
-    let f = free_sum-span lay.run in
-    let o : sizes lay.below + sizes lay.run ≡ 0 + sizes lay.below + sizes (settle lay.run) = omega (arith, a, b, m, f) in
+    let o : sizes lay.below + sizes lay.run ≡ 0 + sizes lay.below + sizes (settle lay.run) = omega (arith, span-append, span-free, span-movers, free_sum-span) in
     record {
       lies = record {
         tiles = p.tiles;
-        leads = leads-append xs 0 lay.below (settle lay.run ++ lay.above) p.low
-            (leads-append xs (0 + sizes lay.below) (settle lay.run) lay.above
-            (leads-append xs (0 + sizes lay.below) (movers lay.run) (free (free_sum lay.run)) l
-            (leads-free xs (0 + sizes lay.below + sizes (movers lay.run)) (free_sum lay.run)))
+        leads = leads-append _ 0 _ _ p.low (leads-append _ _ _ _ (leads-append _ _ _ _ l (leads-free _ _ _))
             (subst (λ k. Leads k lay.above xs) o p.high));
       };
       others = p.others;

@@ -4,7 +4,7 @@ use Rattle.std.proofs.Common.{sym, ap, ◌∙◌, subst, arith}
 use Rattle.std.proofs.Common.{append_assoc}
 use Rattle.std.proofs.lemmas.List.{append-nil}
 use Rattle.std.proofs.lemmas.List.Elements.{filter-append}
-use Rattle.block_store.specs.Block.{Block, Free, free, free_of, free_sum, is_mover, sizes, tidy}
+use Rattle.block_store.specs.Block.{Block, Free, free, free_sum, is_mover, sizes, tidy}
 use Rattle.block_store.specs.Run.{movers, settle, low}
 use Rattle.block_store.proofs.Zone.Apart.{tidy-apart}
 use Rattle.block_store.proofs.Zone.Totals.{total-append}
@@ -39,7 +39,7 @@ sum-free (suc n) = omega arith
 free-both : (n m : ℕ) → 0 < n → tidy (Free n ∷ free m) ≡ free (n + m)
 free-both zero m l = absurd (omega (arith, l))
 free-both (suc n) zero l = let e : suc n ≡ suc n + zero = omega arith in ap free e
-free-both (suc n) (suc m) l = sym (free-some (suc n + suc m) (omega arith))
+free-both (suc n) (suc m) l = sym (free-some _ (omega arith))
 
 -- without relocatable blocks
 pub lifted-none : (gap : ℕ) (run : List Block) → 0 < gap → gap ≤ free_sum run → movers run ≡ []
@@ -47,19 +47,18 @@ pub lifted-none : (gap : ℕ) (run : List Block) → 0 < gap → gap ≤ free_su
 lifted-none gap run some enough none =
     let e : gap + (free_sum run - gap) ≡ free_sum run = omega (arith, enough) in
     ap (λ l. tidy (Free gap ∷ (l ++ free (free_sum run - gap)))) none
-    ∙ free-both gap (free_sum run - gap) some ∙ ap free e ∙ sym (ap (λ l. l ++ free (free_sum run)) none)
+    ∙ free-both _ _ some ∙ ap free e ∙ sym (ap (λ l. l ++ free (free_sum run)) none)
 
 -- and with some
-pub lifted-some : (gap : ℕ) (run : List Block) → 0 < gap → (movers run ≡ [] → ⊥)
-    → lifted gap run ≡ low (Free gap) run
-lifted-some gap run some movers-some = tidy-apart (low (Free gap) run) (apart-low gap run some movers-some)
+pub lifted-some : (gap : ℕ) (run : List Block) → 0 < gap → (movers run ≡ [] → ⊥) → lifted gap run ≡ low (Free gap) run
+lifted-some gap run some movers-some = tidy-apart _ (apart-low gap run some movers-some)
 
 pub any-movers : (run : List Block) → (movers run ≡ []) ⊎ (movers run ≡ [] → ⊥)
 any-movers run = cases (movers run)
   where
     cases : (l : List Block) → (l ≡ []) ⊎ (l ≡ [] → ⊥)
     cases [] = inl refl
-    cases (b ∷ l) = inr (λ e. let n = ap length e in omega (arith, n))
+    cases (b ∷ l) = inr (λ e. omega (arith, ap length e))
 
 module _ (gap : ℕ) (run : List Block) (some : 0 < gap) (enough : gap ≤ free_sum run) (r : Each InRun run) where
   pub lifted-each : Each InRun (lifted gap run)
@@ -67,8 +66,7 @@ module _ (gap : ℕ) (run : List Block) (some : 0 < gap) (enough : gap ≤ free_
     | inl n ↦ subst (Each InRun) (sym (lifted-none gap run some enough n)) (each-settle run r)
     | inr s ↦ subst (Each InRun) (sym (lifted-some gap run some s)) (
       refl,
-      each-append InRun (movers run) (free (free_sum run - gap)) (each-movers run r)
-          (each-free (free_sum run - gap)),
+      each-append InRun (movers run) (free (free_sum run - gap)) (each-movers run r) (each-free (free_sum run - gap)),
     )
   ]
 
@@ -77,17 +75,14 @@ module _ (gap : ℕ) (run : List Block) (some : 0 < gap) (enough : gap ≤ free_
     | inl n ↦ ap sizes (lifted-none gap run some enough n) ∙ span-settle run r
     | inr s ↦
         let a = span-append (movers run) (free (free_sum run - gap)) in
-        let b = span-free (free_sum run - gap) in
-        let m = span-movers run r in
-        ap sizes (lifted-some gap run some s)
-        ∙ (let e : sizes (low (Free gap) run) ≡ sizes run = omega (arith, a, b, m, enough) in e)
+        ap sizes (lifted-some _ run some s)
+        ∙ (let e : sizes (low (Free gap) run) ≡ sizes run = omega (arith, a, span-free, span-movers, enough) in e)
   ]
 
   pub lifted-names : names (lifted gap run) ≡ names run
   lifted-names = elim (any-movers run) [
     | inl n ↦ ap names (lifted-none gap run some enough n) ∙ names-settle run r
-    | inr s ↦ ap names (lifted-some gap run some s)
-        ∙ names-append (movers run) (free (free_sum run - gap))
+    | inr s ↦ ap names (lifted-some _ run some s) ∙ names-append (movers run) (free (free_sum run - gap))
         ∙ ap (λ k. names (movers run) ++ k) (names-free (free_sum run - gap)) ∙ append-nil (names (movers run))
         ∙ names-movers run r
   ]
@@ -100,9 +95,8 @@ slots-now below run now above r s n h =
     let new = below ++ (now ++ above) in
     let k = run-names below run now above n in
     record {
-      slots = each-moved (λ s. IsSlot s new) (names was) (names new) k.from
-          (each-map (λ s. IsSlot s was) (λ s. IsSlot s new) (λ i. slot-run i below run now above r s) (names was)
-          h.slots);
+      slots = each-moved (λ s. IsSlot s new) _ _ k.from
+          (each-map (λ s. IsSlot s was) (λ s. IsSlot s new) (λ i. slot-run i _ _ _ _ r s) _ h.slots);
       apart = k.apart h.apart;
     }
 
@@ -111,16 +105,10 @@ others-now : (below run now above : List Block) → Each InRun run → sizes now
     → (old mid new : List ℕ) → SameOthers (below ++ (run ++ above)) old mid
     → SameOthers (below ++ (now ++ above)) mid new → SameOthers (below ++ (run ++ above)) old new
 others-now below run now above r e n old mid new p o s i a =
-    let k = run-names below run now above n in
-    o s (slot-run s below run now above r e i) (each-moved (Apart s) (names (below ++ (run ++ above)))
-    (names (below ++ (now ++ above))) k.from a) ∙ p s i a
+    o s (slot-run s _ _ _ _ r e i) (each-moved (Apart s) _ _ (run-names below run now above n).from a) ∙ p s i a
 
 pub gap-fits : (lay : Lay) (place gap : ℕ) → MayLift lay place gap → gap ≤ length lay.bytes
-gap-fits lay place gap h =
-    let e = h.enough in
-    let m = span-movers lay.run h.run.in_run in
-    let b = run-bounds lay place (place + sizes lay.run) h.run in
-    omega (arith, e, m, b)
+gap-fits lay place gap h = omega (arith, span-movers, run-bounds)
 
 -- the packed blocks, which are to be raised
 abbrev pub raise_of : Lay → ℕ → List ℕ → Raise
@@ -143,22 +131,19 @@ module _ (lay : Lay) (place gap : ℕ) (h : MayLift lay place gap) (moves : ℕ)
   settled = lay.below ++ (settle lay.run ++ lay.above)
 
   all-free : gap + (free_sum lay.run - gap) ≡ free_sum lay.run
-  all-free = let e = h.enough in omega (arith, e)
+  all-free = omega arith
 
   packed-is : settled ≡ packed (raise_of lay gap xs)
   packed-is = ap (λ n. lay.below ++ ((movers lay.run ++ free n) ++ lay.above)) (sym all-free)
 
   settled-slots : HasSlots settled
-  settled-slots = slots-now lay.below lay.run (settle lay.run) lay.above h.run.in_run
-      (span-settle lay.run h.run.in_run) (names-settle lay.run h.run.in_run) h.run.slots
+  settled-slots = slots-now _ _ _ _ h.run.in_run
+      (span-settle _ h.run.in_run) (names-settle _ h.run.in_run) h.run.slots
 
   pub may-raise : (top stop : ℕ) → top ≡ place + sizes (movers lay.run) → stop ≡ place + sizes lay.run
       → MayRaise (raise_of lay gap xs) place top stop gap
   may-raise top stop t s =
       let b = h.run.bottom in
-      let m = span-movers lay.run h.run.in_run in
-      let f = all-free in
-      let k = p.kept in
       let small = h.run.small in
       let o : sizes lay.below + gap ≡ place + gap = omega (arith, b) in
       let e : sizes lay.below + sizes lay.run ≡ stop = omega (arith, b, s) in
@@ -170,27 +155,26 @@ module _ (lay : Lay) (place gap : ℕ) (h : MayLift lay place gap) (moves : ℕ)
         slots = subst HasSlots packed-is settled-slots;
         bottom = b;
         middle = sym t;
-        end = omega (arith, t, s, m, f);
+        end = omega (arith, t, s, span-movers);
         same = refl;
         some = h.some;
         even = h.even;
         in_run = each-movers lay.run h.run.in_run;
-        small = omega (arith, k, small);
+        small = omega (arith, small);
       }
 
   -- the slots of no block stay
   others-twice : (new : List ℕ) → SameOthers settled xs new → SameOthers was lay.bytes new
-  others-twice new = others-now lay.below lay.run (settle lay.run) lay.above h.run.in_run
-      (span-settle lay.run h.run.in_run) (names-settle lay.run h.run.in_run) lay.bytes xs new p.others
+  others-twice new = others-now _ _ _ _ h.run.in_run
+      (span-settle _ h.run.in_run) (names-settle _ h.run.in_run) _ _ _ p.others
 
   pub is-lifted : (top : ℕ) → top ≡ place + sizes (movers lay.run) → place < top → (new : List ℕ)
       → Raised (raise_of lay gap xs) new → Lifted lay gap new
   is-lifted top t l new d =
-      let some-movers : movers lay.run ≡ [] → ⊥ = λ n. (let z = ap sizes n in omega (arith, z, t, l)) in
+      let some-movers : movers lay.run ≡ [] → ⊥ = λ n. (omega (arith, ap sizes n, t, l)) in
       let e = lifted-some gap lay.run h.some some-movers in
       record {
-        lies = subst (λ j. Lies lay.resource (lay.below ++ (j ++ lay.above)) new) (sym e)
-            d.lies;
+        lies = subst (λ j. Lies lay.resource (lay.below ++ (j ++ lay.above)) new) (sym e) d.lies;
         others = others-twice new (subst (λ j. SameOthers j xs new) (sym packed-is) d.others);
         kept = d.kept ∙ p.kept;
       }
@@ -202,8 +186,7 @@ module _ (lay : Lay) (place gap : ℕ) (h : MayLift lay place gap) (moves : ℕ)
       let e = lifted-none gap lay.run h.some h.enough none in
       record {
         lies = subst (λ j. Lies lay.resource (lay.below ++ (j ++ lay.above)) xs) (sym e)
-            (settled-of lay place (place + sizes lay.run) gap moves xs h.run p
-            (subst (λ l. Leads (0 + sizes lay.below) l xs) (sym none) tt)).lies;
+            (settled-of _ _ _ _ _ _ h.run p (subst (λ l. Leads (0 + sizes lay.below) l xs) (sym none) tt)).lies;
         others = p.others;
         kept = p.kept;
       }
@@ -229,21 +212,21 @@ module _ (lay : Lay) (place gap : ℕ) (h : MayLift lay place gap) (o : EndsRun 
 
   -- no relocatable block is among those that were packed: they are all
   pub none-lifted : top ≤ place → Lifted lay gap xs
-  none-lifted l = is-lifted-none lay place gap h moves xs (whole-packed lay place gap gap moves top stop xs gone rest h.run p n) top
+  none-lifted l = is-lifted-none _ _ _ h _ _ (whole-packed lay place gap gap moves top stop xs gone rest h.run p n) _
       (whole-top lay place gap gap moves top stop xs gone rest h.run p n) l
     where
       n : rest ≡ []
-      n = elim p.ended [ inl e ↦ e | inr e ↦ let b = e.0 in absurd (omega (arith, b, l)) ]
+      n = elim p.ended [ inl e ↦ e | inr e ↦ absurd (omega (arith, l)) ]
 
   pub none-stop : top ≤ place → stop ≡ place + sizes lay.run
   none-stop l = whole-stop lay place gap gap moves top stop xs gone rest h.run p
-      (elim p.ended [ inl e ↦ e | inr e ↦ let b = e.0 in absurd (omega (arith, b, l)) ])
+      (elim p.ended [ inl e ↦ e | inr e ↦ absurd (omega (arith, l)) ])
 
   pub none-edges : top ≤ place → (edges : Edges) → AreEdges edges (place + gap) (movers gone)
       → AreEdges edges (place + gap) (movers lay.run)
   none-edges l edges = subst (λ k. AreEdges edges (place + gap) (movers k))
       (all-of lay place gap gap moves top stop xs gone rest h.run p
-      (elim p.ended [ inl e ↦ e | inr e ↦ let b = e.0 in absurd (omega (arith, b, l)) ]))
+      (elim p.ended [ inl e ↦ e | inr e ↦ absurd (omega (arith, l)) ]))
 
   -- the relocatable blocks of both parts
   pub both-edges : (edges : Edges)
@@ -251,16 +234,12 @@ module _ (lay : Lay) (place gap : ℕ) (h : MayLift lay place gap) (o : EndsRun 
       → AreEdges edges (place + gap) (movers lay.run)
   both-edges edges = subst (AreEdges edges (place + gap)) (ap (λ l. movers gone ++ l)
       (filter-append is_mover (free (free_sum gone - gap)) rest
-      ∙ ap (λ l. l ++ movers rest) (movers-free (free_sum gone - gap))) ∙ sym (cut-movers lay gone rest p.split))
+      ∙ ap (λ l. l ++ movers rest) (movers-free _)) ∙ sym (cut-movers lay gone rest p.split))
 
   module _ (some : place < top) where
     enough : gap ≤ free_sum gone
     enough = elim p.ended [
-      | inl n ↦
-          let f = cut-free lay gone rest p.split in
-          let z = ap free_sum n in
-          let e = h.enough in
-          omega (arith, f, z, e)
+      | inl n ↦ omega (arith, cut-free, ap free_sum n)
       | inr e ↦ e.1
     ]
 
@@ -271,7 +250,7 @@ module _ (lay : Lay) (place gap : ℕ) (h : MayLift lay place gap) (o : EndsRun 
     raise-part = may-raise part place gap lift-part moves xs p.packed top stop p.top_at p.stop_at
 
     some-movers : movers gone ≡ [] → ⊥
-    some-movers n = let z = ap sizes n in let t = p.top_at in omega (arith, z, t, some)
+    some-movers n = omega (arith, ap sizes n, some)
 
     abbrev pub left : ℕ
     left = free_sum gone - gap
@@ -282,27 +261,16 @@ module _ (lay : Lay) (place gap : ℕ) (h : MayLift lay place gap) (o : EndsRun 
 
       upper-is : lay.below ++ (lifted gap gone ++ (rest ++ lay.above))
           ≡ (lay.below ++ (Free gap ∷ movers gone)) ++ ((free left ++ rest) ++ lay.above)
-      upper-is = ap (λ l. lay.below ++ (l ++ (rest ++ lay.above))) (lifted-some gap gone h.some some-movers)
+      upper-is = ap (λ l. lay.below ++ (l ++ (rest ++ lay.above))) (lifted-some _ gone h.some some-movers)
           ∙ ap (λ l. lay.below ++ (Free gap ∷ l)) (append_assoc (movers gone) (free left) (rest ++ lay.above))
           ∙ ap (λ l. lay.below ++ ((Free gap ∷ movers gone) ++ l)) (sym (append_assoc (free left) rest lay.above))
           ∙ sym (append_assoc lay.below (Free gap ∷ movers gone) ((free left ++ rest) ++ lay.above))
 
       upper-bottom : sizes (lay.below ++ (Free gap ∷ movers gone)) ≡ top + gap
-      upper-bottom =
-          let a = span-append lay.below (Free gap ∷ movers gone) in
-          let b = h.run.bottom in
-          let t = p.top_at in
-          omega (arith, a, b, t)
+      upper-bottom = omega (arith, span-append)
 
       upper-top : top + gap + sizes (free left ++ rest) ≡ place + sizes lay.run
-      upper-top =
-          let a = span-append (free left) rest in
-          let b = span-free left in
-          let m = span-movers gone cut-at.in_run in
-          let s = cut-span lay gone rest p.split in
-          let t = p.top_at in
-          let e = enough in
-          omega (arith, a, b, m, s, t, e)
+      upper-top = omega (arith, span-append, span-free, span-movers gone cut-at.in_run, cut-span, enough)
 
       part-each : Each InRun gone
       part-each = cut-at.in_run
@@ -310,14 +278,13 @@ module _ (lay : Lay) (place gap : ℕ) (h : MayLift lay place gap) (o : EndsRun 
       pub upper-run : IsRunFrom (upper lay gap gone rest ys) (top + gap) (top + gap + sizes (free left ++ rest))
       upper-run = record {
         lies = subst (λ l. Lies lay.resource l ys) upper-is part-lifted.lies;
-        slots = subst HasSlots upper-is (slots-now lay.below gone (lifted gap gone) (rest ++ lay.above) part-each
-            (lifted-span gap gone h.some enough part-each) (lifted-names gap gone h.some enough part-each)
-            cut-at.slots);
+        slots = subst HasSlots upper-is (slots-now _ _ _ _ part-each
+            (lifted-span _ _ h.some enough part-each) (lifted-names _ gone h.some enough part-each) cut-at.slots);
         bottom = upper-bottom;
         top = refl;
-        in_run = each-append InRun (free left) rest (each-free left)
+        in_run = each-append InRun _ _ (each-free left)
             (each-right InRun gone rest (subst (Each InRun) (sym p.split) h.run.in_run));
-        small = (let k = part-lifted.kept in let s = h.run.small in omega (arith, k, s));
+        small = (omega arith);
       }
 
       module _ (lowered : ℕ) (zs : List ℕ) (t : Settled (upper lay gap gone rest ys) lowered zs) where
@@ -326,14 +293,10 @@ module _ (lay : Lay) (place gap : ℕ) (h : MayLift lay place gap) (o : EndsRun 
 
         upper-settled : settle (free left ++ rest) ≡ movers rest ++ free (free_sum lay.run - gap)
         upper-settled =
-            let f = total-append free_of (free left) rest in
-            let g = sum-free left in
-            let c = cut-free lay gone rest p.split in
             let e = enough in
-            let n : free_sum (free left ++ rest) ≡ free_sum lay.run - gap = omega (arith, f, g, c, e) in
+            let n : free_sum (free left ++ rest) ≡ free_sum lay.run - gap = omega (arith, total-append, sum-free, cut-free, e) in
             ap (λ l. l ++ free (free_sum (free left ++ rest))) (filter-append is_mover (free left) rest
-            ∙ ap (λ l. l ++ movers rest) (movers-free left))
-            ∙ ap (λ k. movers rest ++ free k) n
+            ∙ ap (λ l. l ++ movers rest) (movers-free _)) ∙ ap (λ k. movers rest ++ free k) n
 
         all-is : (lay.below ++ (Free gap ∷ movers gone)) ++ (settle (free left ++ rest) ++ lay.above)
             ≡ lay.below ++ (lifted gap lay.run ++ lay.above)
@@ -345,22 +308,18 @@ module _ (lay : Lay) (place gap : ℕ) (h : MayLift lay place gap) (o : EndsRun 
             ∙ ap (λ l. lay.below ++ (Free gap ∷ (l ++ lay.above))) (sym (append_assoc (movers gone) (movers rest)
             (free (free_sum lay.run - gap))))
             ∙ ap (λ l. lay.below ++ (Free gap ∷ ((l ++ free (free_sum lay.run - gap)) ++ lay.above))) (sym whole-movers)
-            ∙ ap (λ l. lay.below ++ (l ++ lay.above)) (sym (lifted-some gap lay.run h.some any-mover))
+            ∙ ap (λ l. lay.below ++ (l ++ lay.above)) (sym (lifted-some _ lay.run h.some any-mover))
           where
             any-mover : movers lay.run ≡ [] → ⊥
-            any-mover n =
-                let z = ap sizes (sym whole-movers ∙ n) in
-                let a = span-append (movers gone) (movers rest) in
-                let t = p.top_at in
-                omega (arith, z, a, t, some)
+            any-mover n = omega (arith, ap sizes (sym whole-movers ∙ n), span-append, some)
 
         pub both-lifted : Lifted lay gap zs
         both-lifted = record {
           lies = subst (λ l. Lies lay.resource l zs) all-is t.lies;
           others = subst (λ l. SameOthers l lay.bytes zs) (cut-same lay gone rest p.split)
-              (others-now lay.below gone (lifted gap gone) (rest ++ lay.above) part-each
+              (others-now _ _ _ _ part-each
               (lifted-span gap gone h.some enough part-each) (lifted-names gap gone h.some enough part-each)
-              lay.bytes ys zs part-lifted.others (subst (λ l. SameOthers l ys zs) (sym upper-is) t.others));
+              _ _ _ part-lifted.others (subst (λ l. SameOthers l ys zs) (sym upper-is) t.others));
           kept = t.kept ∙ part-lifted.kept;
         }
 

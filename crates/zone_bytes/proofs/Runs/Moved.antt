@@ -22,11 +22,11 @@ module _ (resource : ℕ → Bool) (below was now above : List Block) (old mid :
     (t : Tiles (head_of resource) (piece place (stop - place) mid) now) where
   -- a slot is below the run or above it
   clear-of : (k : ℕ) → IsSlot k (below ++ (was ++ above)) → Clear place (stop - place) k
-  clear-of k i = elim (slot-split k below (was ++ above) i) [
-    | inl j ↦ inl (let l = slot-inside k below j in omega (arith, l, bottom))
+  clear-of k i = elim (slot-split k _ (was ++ above) i) [
+    | inl j ↦ inl (omega (arith, slot-inside, bottom))
     | inr j ↦ elim (slot-split (k - sizes below) was above j.1) [
       | inl l ↦ absurd (run-no_slot (k - sizes below) was in-was l)
-      | inr l ↦ inr (let o = s.ordered in let a = j.0 in let b = l.0 in omega (arith, o, bottom, top, a, b))
+      | inr l ↦ inr (omega (arith, bottom, top))
     ]
   ]
 
@@ -38,8 +38,7 @@ module _ (resource : ℕ → Bool) (below was now above : List Block) (old mid :
 
   clears : Each P (names below) × Each P (names (was ++ above))
   clears =
-      let all = each-map (λ j. IsSlot j (below ++ (was ++ above))) P clear-of (names (below ++ (was ++ above)))
-      slots.slots in
+      let all = each-map (λ j. IsSlot j (below ++ (was ++ above))) P clear-of _ slots.slots in
       let split = subst (λ j. Each P j) (names-append below (was ++ above)) all in
       (each-left P (names below) (names (was ++ above)) split, each-right P (names below) (names (was ++ above)) split)
 
@@ -51,31 +50,27 @@ module _ (resource : ℕ → Bool) (below was now above : List Block) (old mid :
 
   pub is-moved : IsMoved moved-lay place stop
   is-moved =
-      let k = s.kept in
-      let all = names (below ++ (was ++ above)) in
       record {
         tiles = tiles-splice (head_of resource) old mid below was above now place stop bottom top tiles s t;
         slots = record {
-          slots = each-moved (λ j. IsSlot j (below ++ (now ++ above))) all (names (below ++ (now ++ above))) n.from
+          slots = each-moved (λ j. IsSlot j (below ++ (now ++ above))) _ _ n.from
               (each-map (λ j. IsSlot j (below ++ (was ++ above))) (λ j. IsSlot j (below ++ (now ++ above)))
-              (λ j i. slot-run j below was now above in-was same i) all slots.slots);
+              (λ j i. slot-run j _ _ _ _ in-was same i) _ slots.slots);
           apart = n.apart slots.apart;
         };
         bottom = bottom;
         top = omega (arith, top, same);
         in_run = in-now;
-        small = omega (arith, k, small);
+        small = omega (arith, small);
         low = leads-outside place stop old mid 0 below s clears.0 low;
         high = leads-outside place stop old mid stop above s clears-run.1 high;
       }
 
   -- the other slots stay
   pub others-moved : SameOthers (below ++ (was ++ above)) old mid
-  others-moved k i a = piece-outside place stop old mid k s (clear-of k i)
+  others-moved k i a = piece-outside _ _ _ _ k s (clear-of k i)
 
   -- after the slots are rewritten
   pub others-pointed : (new : List ℕ) → Pointed moved-lay new → SameOthers (below ++ (was ++ above)) old new
   others-pointed new p k i a =
-      p.others k (slot-run k below was now above in-was same i)
-      (each-moved (Apart k) (names (below ++ (was ++ above))) (names (below ++ (now ++ above))) n.from a)
-      ∙ others-moved k i a
+      p.others k (slot-run k _ _ _ _ in-was same i) (each-moved (Apart k) _ _ n.from a) ∙ others-moved k i a

@@ -22,19 +22,17 @@ BehindFirst blocks = place_behind (sizes (segments blocks).first) (beyond (segme
 module _ (xs : List ℕ) (first count : ℕ) (i : IsSound xs first count) (place : ℕ) (r : RunSpot)
     (e : run_at place (zone_in xs) ≡ Some r) (walk : List Block) (w : walk ≡ left_in place xs) where
   walk-is : walk ≡ r.run ++ r.above
-  walk-is = w ∙ left-above xs first count i r.below (r.run ++ r.above) place (whole xs first count i place r e)
-      (run_at-splits place (zone_in xs) r e).bottom
+  walk-is = w ∙ left-above _ _ _ i _ _ _ (whole _ _ _ i place r e) (run_at-splits place (zone_in xs) r e).bottom
 
   behind : BehindFirst walk ≡ place_behind (sizes r.run) r.above
   behind =
       let l = loose-each r.run (in-run xs first count i place r e) in
       let s = (run_at-ended place (zone_in xs) r e).stops in
-      ap BehindFirst walk-is
-      ∙ (λ j. place_behind (sizes (first-run r.run r.above l s j)) (beyond-first r.run r.above l s j))
+      ap BehindFirst walk-is ∙ (λ j. place_behind (sizes (first-run _ _ l s j)) (beyond-first _ _ l s j))
 
   next-is : next_run r ≡ option_map (λ (d : ℕ). place + d) (BehindFirst walk)
   next-is =
-      ap (λ n. place_behind (n + sizes r.run) r.above) (run_at-splits place (zone_in xs) r e).bottom
+      ap (λ n. place_behind (n + sizes r.run) r.above) (run_at-splits _ (zone_in xs) r e).bottom
       ∙ behind-more place (sizes r.run) r.above ∙ ap (option_map (λ (d : ℕ). place + d)) (sym behind)
 
   pub next-none : None ≡ BehindFirst walk → None ≡ next_run r
@@ -45,8 +43,5 @@ module _ (xs : List ℕ) (first count : ℕ) (i : IsSound xs first count) (place
 
   pub next-fits : (d : ℕ) → Some d ≡ BehindFirst walk → place + d ≤ 134217728
   next-fits d n =
-      let b = behind-within (sizes r.run) r.above d (sym (n ∙ behind)) in
-      let f = left-fits xs first count i place r e in
-      let l = ap sizes (sym w ∙ walk-is) in
-      let a = span-append r.run r.above in
-      omega (arith, b, f, l, a)
+      let a = behind-within (sizes r.run) r.above d (sym (n ∙ behind)) in
+      omega (arith, a, left-fits xs first count i place r e, ap sizes (sym w ∙ walk-is), span-append)

@@ -21,7 +21,7 @@ use Rattle.zone_bytes.proofs.Tiles.Leading.{Clear, piece-clear, leads-append, le
 
 pub length-masters : (resource : ℕ → Bool) → length (head_of resource Masters) ≡ 16
 unfolding head_of
-length-masters resource = length-header 274 256 0 0
+length-masters resource = length-header _ _ 0 0
 
 -- a run has no Masters block
 pub run-no_slot : (s : ℕ) (run : List Block) → Each InRun run → IsSlot s run → ⊥
@@ -35,10 +35,7 @@ run-no_slot s (b ∷ run) h (inr i) = run-no_slot (s - size b) run h.1 i.1
 pub span-whole : (head : Block → List ℕ) (xs : List ℕ) (blocks : List Block) → Tiles head xs blocks
     → sizes blocks % 16 ≡ 0
 span-whole head xs [] t = refl
-span-whole head xs (b ∷ blocks) t =
-    let r = span-whole head (drop (size b) xs) blocks t.1 in
-    let w = t.0.whole in
-    omega (arith, r, w)
+span-whole head xs (b ∷ blocks) t = omega (arith, span-whole head (drop (size b) xs) blocks t.1)
 
 -- slots are at multiples of 4
 pub slot-even : (head : Block → List ℕ) (xs : List ℕ) (s : ℕ) (blocks : List Block) → Tiles head xs blocks
@@ -49,10 +46,7 @@ slot-even head xs s (Nonrelocatable id content ∷ blocks) t (inl i) = absurd i
 slot-even head xs s (Relocatable slot flags content ∷ blocks) t (inl i) = absurd i
 slot-even head xs s (Masters ∷ blocks) t (inl i) = i.2
 slot-even head xs s (b ∷ blocks) t (inr i) =
-    let r = slot-even head (drop (size b) xs) (s - size b) blocks t.1 i.1 in
-    let w = t.0.whole in
-    let l = i.0 in
-    omega (arith, r, w, l)
+    omega (arith, slot-even head (drop (size b) xs) (s - size b) blocks t.1 i.1)
 
 pub movers-more : (b : Block) (rest : List Block) → is_mover b ≡ true → movers (b ∷ rest) ≡ b ∷ movers rest
 movers-more b rest h = ap (λ v. cond v (b ∷ movers rest) (movers rest)) h
@@ -63,22 +57,18 @@ module _ (lay : Lay) (place stop : ℕ) (r : IsRunFrom lay place stop) where
       let l = length-tiles (head_of lay.resource) lay.bytes (lay.below ++ (lay.run ++ lay.above)) r.lies.tiles in
       let a = span-append lay.below (lay.run ++ lay.above) in
       let b = span-append lay.run lay.above in
-      let p = r.bottom in
-      let t = r.top in
-      (omega arith, omega (arith, l, a, b, p, t))
+      (omega arith, omega arith)
 
   -- a slot is below the run or above it
   pub slot-spot : (s : ℕ) → IsSlot s (lay.below ++ (lay.run ++ lay.above))
       → ((s + 4 ≤ place) × IsSlot s lay.below) ⊎ ((stop ≤ s) × IsSlot (s - stop) lay.above)
-  slot-spot s i = elim (slot-split s lay.below (lay.run ++ lay.above) i) [
-    | inl j ↦ inl (let k = slot-inside s lay.below j in let p = r.bottom in omega (arith, k, p), j)
+  slot-spot s i = elim (slot-split s _ _ i) [
+    | inl j ↦ inl (omega (arith, slot-inside), j)
     | inr j ↦ elim (slot-split (s - sizes lay.below) lay.run lay.above j.1) [
       | inl k ↦ absurd (run-no_slot (s - sizes lay.below) lay.run r.in_run k)
       | inr k ↦
-          let p = r.bottom in
-          let t = r.top in
-          let e : s - sizes lay.below - sizes lay.run ≡ s - stop = omega (arith, p, t) in
-          inr (omega (arith, p, t, j.0, k.0), subst (λ q. IsSlot q lay.above) e k.1)
+          let e : s - sizes lay.below - sizes lay.run ≡ s - stop = omega arith in
+          inr (omega (arith, j.0, k.0), subst (λ q. IsSlot q lay.above) e k.1)
     ]
   ]
 
@@ -86,9 +76,8 @@ module _ (lay : Lay) (place stop : ℕ) (r : IsRunFrom lay place stop) where
   start gap =
       let head = head_of lay.resource in
       let t = tiles-split head lay.bytes lay.below (lay.run ++ lay.above) r.lies.tiles in
-      let w = span-whole head (take (sizes lay.below) lay.bytes) lay.below t.0 in
       let p = r.bottom in
-      let even : place % 16 ≡ 0 = omega (arith, w, p) in
+      let even : place % 16 ≡ 0 = omega (arith, span-whole, p) in
       let z : 0 ≡ place - place = omega arith in
       let e : 0 + sizes lay.below ≡ place = omega (arith, p) in (
         record {
@@ -110,7 +99,7 @@ module _ (lay : Lay) (place stop : ℕ) (r : IsRunFrom lay place stop) where
             lead_low = leads-left lay.bytes 0 lay.below (lay.run ++ lay.above) r.lies.leads;
             lead_moved = tt;
             lead_high = subst (λ k. Leads k (lay.run ++ lay.above) lay.bytes) e
-                (leads-right lay.bytes 0 lay.below (lay.run ++ lay.above) r.lies.leads);
+                (leads-right _ 0 _ (lay.run ++ lay.above) r.lies.leads);
             named = ap (λ q. names q ++ names (lay.run ++ lay.above)) (append-nil lay.below)
                 ∙ sym (names-append lay.below (lay.run ++ lay.above));
             count = ap (λ k. 0 + lowered_in_run_from k lay.run) (sym z)
@@ -127,45 +116,32 @@ module _ (lay : Lay) (place stop : ℕ) (r : IsRunFrom lay place stop) where
   all-clear at n l h =
       let clear : (s : ℕ) → IsSlot s (lay.below ++ (lay.run ++ lay.above))
       → Clear at n s = λ s i. elim (slot-spot s i) [
-        | inl j ↦ inl (let k = j.0 in omega (arith, k, l))
-        | inr j ↦ inr (let k = j.0 in omega (arith, k, h))
+        | inl j ↦ inl (omega (arith, l))
+        | inr j ↦ inr (omega (arith, h))
       ] in
-      each-map (λ s. IsSlot s (lay.below ++ (lay.run ++ lay.above))) (Clear at n) clear
-      (names (lay.below ++ (lay.run ++ lay.above))) r.slots.slots
+      each-map (λ s. IsSlot s (lay.below ++ (lay.run ++ lay.above))) (Clear at n) clear _ r.slots.slots
 
   module _ (gap from to moves : ℕ) (xs : List ℕ) (moved : List Block) where
     -- where the packed blocks end, and that the rest lies in the bytes
     pub packed-bounds : (rest : List Block) → PackingAt lay gap stop from to moves xs moved rest
         → (place ≤ to) × (from ≤ length xs) × (sizes (lay.below ++ moved) ≡ to)
     packed-bounds rest q =
-        let b = run-bounds in
-        let u = q.up in
-        let k = q.kept in
-        let d = q.down in
-        let l = length-tiles (head_of lay.resource) (take to xs) (lay.below ++ moved) q.low in
-        let a = span-append lay.below moved in
-        let p = r.bottom in
-        let t = length-take-le to xs (omega (arith, b, u, k, d)) in
-        (omega (arith, l, a, p, t), omega (arith, b, u, k), omega (arith, l, t))
+        let t = length-take-le to xs (omega (arith, run-bounds)) in
+        (omega (arith, length-tiles, span-append, t), omega (arith, run-bounds), omega (arith, length-tiles, t))
 
     -- the next block is Free
     pub step-free : (n : ℕ) (rest : List Block) → PackingAt lay gap stop from to moves xs moved (Free n ∷ rest)
         → PackingAt lay gap stop (from + n) to moves xs moved rest
     step-free n rest q =
-        let w = q.high.0.whole in
-        let v = q.whole in
-        let d = q.down in
-        let u = q.up in
-        let f = q.free in
-        let e : from - to + n ≡ from + n - to = omega (arith, d) in
+        let e : from - to + n ≡ from + n - to = omega arith in
         record {
           low = q.low;
           high = subst (λ k. Tiles (head_of lay.resource) k (rest ++ lay.above)) (drop-drop n from xs) q.high.1;
           order = q.order;
-          free = omega (arith, f);
-          down = omega (arith, d);
-          up = omega (arith, u);
-          whole = (omega (arith, w, v), v.1);
+          free = omega arith;
+          down = omega arith;
+          up = omega arith;
+          whole = (omega (arith, q.whole), q.whole.1);
           kept = q.kept;
           in_run = q.in_run.1;
           lead_low = q.lead_low;
@@ -201,15 +177,13 @@ module _ (lay : Lay) (place stop : ℕ) (r : IsRunFrom lay place stop) where
       pub is-slot : IsSlot slot all
       is-slot =
           let P : ℕ → Type 0 = λ s. IsSlot s all in
-          (each-right P (names (lay.below ++ moved)) (slot ∷ names (rest ++ lay.above))
-          (subst (λ k. Each P k) (sym named) r.slots.slots)).0
+          (each-right P _ (slot ∷ names (rest ++ lay.above)) (subst (λ k. Each P k) (sym named) r.slots.slots)).0
 
       apart : Each (Apart slot) (names (lay.below ++ moved)) × Each (Apart slot) (names (rest ++ lay.above))
       apart =
           let p = subst (λ k. Pairs Apart k) (sym named) r.slots.apart in (
             pairs-before slot (names (lay.below ++ moved)) (names (rest ++ lay.above)) p,
-            pairs-after slot
-                (names (lay.below ++ moved)) (names (rest ++ lay.above)) p,
+            pairs-after slot (names (lay.below ++ moved)) (names (rest ++ lay.above)) p,
           )
 
       length-moved : length (piece from (size block) xs) ≡ size block
@@ -218,13 +192,9 @@ module _ (lay : Lay) (place stop : ℕ) (r : IsRunFrom lay place stop) where
       clear : Each (Clear to (length (piece from (size block) xs))) (names (lay.below ++ moved))
           × Each (Clear to (length (piece from (size block) xs))) (names (rest ++ lay.above))
       clear =
-          let l = length-moved in
           let b = packed-bounds (block ∷ rest) q in
-          let d = q.down in
-          let u = q.up in
           let P : ℕ → Type 0 = Clear to (length (piece from (size block) xs)) in
-          let c = subst (λ k. Each P k) (sym named) (all-clear to (length (piece from (size block) xs)) b.0
-          (omega (arith, l, d, u))) in (
+          let c = subst (λ k. Each P k) (sym named) (all-clear _ _ b.0 (omega (arith, length-moved))) in (
             each-left P (names (lay.below ++ moved)) (slot ∷ names (rest ++ lay.above)) c,
             (each-right P (names (lay.below ++ moved)) (slot ∷ names (rest ++ lay.above)) c).1,
           )
@@ -234,40 +204,26 @@ module _ (lay : Lay) (place stop : ℕ) (r : IsRunFrom lay place stop) where
           (lay.below ++ (moved ++ block ∷ []))
       slid-low =
           let head = head_of lay.resource in
-          let l = length-moved in
-          let b = packed-bounds (block ∷ rest) q in
-          let d = q.down in
           let e : take (to + size block) (slid (size block)) ≡ take to xs ++ piece from (size block) xs =
-          take-written_at to (piece from (size block) xs) xs (to + size block) (omega (arith, l))
-          (omega (arith, b, d)) in
-          let one = tiles-one head block (piece from (size block) xs) l
-          (tile-take head (head block) (size block) (size block) (drop from xs)
-          (omega arith) q.high.0.fits q.high.0) in
-          let both = tiles-append head (take to xs) (piece from (size block) xs) (lay.below ++ moved)
-          (block ∷ []) q.low one in
+          take-written_at _ (piece from (size block) xs) xs _ (omega (arith, length-moved))
+          (omega (arith, packed-bounds)) in
+          let one = tiles-one head _ _ length-moved (tile-take head _ _ _ _ (omega arith) q.high.0.fits q.high.0) in
           subst (λ k. Tiles head k (lay.below ++ (moved ++ block ∷ []))) (sym e)
           (subst (λ k. Tiles head (take to xs ++ piece from (size block) xs) k)
-          (append_assoc lay.below moved (block ∷ [])) both)
+          (append_assoc lay.below moved (block ∷ [])) (tiles-append head _ _ _ _ q.low one))
 
       -- the bytes above stay
       slid-high : Tiles (head_of lay.resource) (drop (from + size block) (slid (size block))) (rest ++ lay.above)
       slid-high =
           let l = length-moved in
-          let b = packed-bounds (block ∷ rest) q in
-          let d = q.down in
-          let e = drop-written_above to (piece from (size block) xs) xs (from + size block) (omega (arith, l, d))
-          (omega (arith, b, d)) in
+          let e = drop-written_above _ (piece from (size block) xs) _ (from + size block) (omega (arith, l))
+          (omega (arith, packed-bounds)) in
           subst (λ k. Tiles (head_of lay.resource) k (rest ++ lay.above)) (drop-drop (size block) from xs
           ∙ sym e) q.high.1
 
       pub length-slid : length (slid (size block)) ≡ length xs
       length-slid =
-          let l = length-moved in
-          let f = q.high.0.fits in
-          let n = length-drop from xs in
-          let b = packed-bounds (block ∷ rest) q in
-          let d = q.down in
-          length-written to (piece from (size block) xs) xs (omega (arith, l, f, n, b, d))
+          length-written to (piece from (size block) xs) xs (omega (arith, length-moved, length-drop from xs, packed-bounds))
 
       abbrev pub done : List ℕ
       done = written slot (word (to + gap)) (slid (size block))
@@ -277,26 +233,17 @@ module _ (lay : Lay) (place stop : ℕ) (r : IsRunFrom lay place stop) where
           let head = head_of lay.resource in
           let zs = slid (size block) in
           let w = length-word (to + gap) in
-          let n = length-slid in
-          let b = packed-bounds (block ∷ rest) q in
-          let u = q.up in
-          let d = q.down in
-          let rb = run-bounds in
           let k = q.kept in
           elim (slot-spot slot is-slot) [
             | inl j ↦
-                let i = j.0 in
-                let e = take-written_above slot (word (to + gap)) zs (to + size block) (omega (arith, i, w, b))
-                (omega (arith, n, u, d, rb, k)) in
-                let s = tiles-slot head (length-masters lay.resource) (take (to + size block) zs) (word (to + gap)) slot
-                (lay.below ++ (moved ++ block ∷ [])) w
+                let e = take-written_above _ (word (to + gap)) zs _ (omega (arith, w, packed-bounds))
+                (omega (arith, length-slid, run-bounds, k)) in
+                let s = tiles-slot head (length-masters lay.resource) _ _ _ _ w
                 (slot-append_left slot lay.below (moved ++ block ∷ []) j.1) slid-low in
                 subst (λ k. Tiles head k (lay.below ++ (moved ++ block ∷ []))) (sym e) s
             | inr j ↦
-                let i = j.0 in
-                let inside = slot-inside (slot - stop) lay.above j.1 in
-                let e = take-written_below slot (word (to + gap)) zs (to + size block) (omega (arith, i, u, d))
-                (omega (arith, n, i, inside, rb, k)) in
+                let e = take-written_below _ (word (to + gap)) zs (to + size block) (omega arith)
+                (omega (arith, length-slid, slot-inside, run-bounds, k)) in
                 subst (λ k. Tiles head k (lay.below ++ (moved ++ block ∷ []))) (sym e) slid-low
           ]
 
@@ -305,103 +252,59 @@ module _ (lay : Lay) (place stop : ℕ) (r : IsRunFrom lay place stop) where
           let head = head_of lay.resource in
           let zs = slid (size block) in
           let w = length-word (to + gap) in
-          let n = length-slid in
-          let b = packed-bounds (block ∷ rest) q in
-          let u = q.up in
-          let d = q.down in
-          let rb = run-bounds in
           let k = q.kept in
           elim (slot-spot slot is-slot) [
             | inl j ↦
-                let i = j.0 in
-                let e = drop-written_above slot (word (to + gap)) zs (from + size block) (omega (arith, i, w, b, d))
-                (omega (arith, i, n, b, d)) in
+                let e = drop-written_above _ (word (to + gap)) zs _ (omega (arith, w, packed-bounds))
+                (omega (arith, length-slid, packed-bounds)) in
                 subst (λ k. Tiles head k (rest ++ lay.above)) (sym e) slid-high
             | inr j ↦
-                let i = j.0 in
-                let inside = slot-inside (slot - stop) lay.above j.1 in
-                let m : slot - stop ≡ slot - (from + size block) - sizes rest = omega (arith, u) in
-                let e = drop-written_below slot (word (to + gap)) zs (from + size block) (omega (arith, i, u))
-                (omega (arith, n, i, inside, rb, k)) in
-                let at = slot-append_right (slot - (from + size block)) rest lay.above (omega (arith, i, u))
-                (subst (λ k. IsSlot k lay.above) m j.1) in
-                let s = tiles-slot head (length-masters lay.resource) (drop (from + size block) zs) (word (to + gap))
-                (slot - (from + size block)) (rest ++ lay.above) w at slid-high in
+                let m : slot - stop ≡ slot - (from + size block) - sizes rest = omega arith in
+                let e = drop-written_below _ (word (to + gap)) zs _ (omega arith)
+                (omega (arith, length-slid, slot-inside, run-bounds, k)) in
+                let at = slot-append_right _ _ _ (omega arith) (subst (λ k. IsSlot k lay.above) m j.1) in
+                let s = tiles-slot head (length-masters lay.resource) _ _ _ _ w at slid-high in
                 subst (λ k. Tiles head k (rest ++ lay.above)) (sym e) s
           ]
 
       -- a slot that the write of this block's slot leaves
       word-clear : (s : ℕ) → Apart slot s → Clear slot (length (word (to + gap))) s
-      word-clear s a = let w = length-word (to + gap) in elim a [ inl i ↦ inr (omega (arith, w, i)) | inr i ↦ inl i ]
+      word-clear s a = elim a [ inl i ↦ inr (omega (arith, length-word, i)) | inr i ↦ inl i ]
 
       -- where the slots lead, after both writes
       still-leads : (o : ℕ) (blocks : List Block) → Each (Apart slot) (names blocks)
           → Each (Clear to (length (piece from (size block) xs))) (names blocks) → Leads o blocks xs
           → Leads o blocks done
       still-leads o blocks a c h =
-          let b = packed-bounds (block ∷ rest) q in
-          let d = q.down in
-          let n = length-slid in
-          let u = q.up in
-          let rb = run-bounds in
-          let k = q.kept in
-          let i = slot-inside slot all is-slot in
-          let g = span-append lay.below (lay.run ++ lay.above) in
-          let v = span-append lay.run lay.above in
-          let p = r.bottom in
-          let t = r.top in
-          leads-written slot (word (to + gap)) (slid (size block)) o blocks (omega (arith, n, i, g, v, p, t, rb, k))
-          (each-map (Apart slot) (Clear slot (length (word (to + gap)))) word-clear (names blocks) a)
-          (leads-written to (piece from (size block) xs) xs o blocks (omega (arith, b, d)) c h)
+          leads-written _ _ _ o _ (omega (arith, length-slid, slot-inside _ _ is-slot, span-append, run-bounds))
+          (each-map (Apart slot) (Clear slot (length (word (to + gap)))) word-clear _ a)
+          (leads-written _ _ _ o _ (omega (arith, packed-bounds)) c h)
 
       pub slot-length : slot + 4 ≤ length (slid (size block))
-      slot-length =
-          let n = length-slid in
-          let rb = run-bounds in
-          let k = q.kept in
-          let i = slot-inside slot all is-slot in
-          let g = span-append lay.below (lay.run ++ lay.above) in
-          let v = span-append lay.run lay.above in
-          let p = r.bottom in
-          let t = r.top in
-          omega (arith, n, i, g, v, p, t, rb, k)
+      slot-length = omega (arith, length-slid, slot-inside slot all is-slot, span-append, run-bounds)
 
       others-done : SameOthers all lay.bytes done
       others-done s i a =
-          let b = packed-bounds (block ∷ rest) q in
-          let d = q.down in
-          let u = q.up in
-          let l = length-moved in
-          let n = slot-length in
-          let mine : Apart s slot = (each-right (Apart s) (names (lay.below ++ moved))
+          let mine : Apart s slot = (each-right (Apart s) _
           (slot ∷ names (rest ++ lay.above)) (subst (λ k. Each (Apart s) k) (sym named) a)).0 in
           let turned : Apart slot s = elim mine [ inl e ↦ inr e | inr e ↦ inl e ] in
           let outside : Clear to (length (piece from (size block) xs)) s = elim (slot-spot s i) [
-            | inl j ↦ inl (let e = j.0 in omega (arith, e, b))
-            | inr j ↦ inr (let e = j.0 in omega (arith, e, l, d, u))
+            | inl j ↦ inl (omega (arith, packed-bounds))
+            | inr j ↦ inr (omega (arith, length-moved))
           ] in
-          piece-clear slot (word (to + gap)) (slid (size block)) s (omega (arith, n)) (word-clear s turned)
-          ∙ piece-clear to (piece from (size block) xs) xs s (omega (arith, b, d)) outside ∙ q.others s i a
+          piece-clear slot (word (to + gap)) (slid (size block)) s (omega (arith, slot-length)) (word-clear s turned)
+          ∙ piece-clear to (piece from (size block) xs) xs s (omega (arith, packed-bounds)) outside ∙ q.others s i a
 
       pub step-move : PackingAt lay gap stop (from + size block) (to + size block)
           (moves + cond (nat_lt 0 (from - to)) 1 0) done (moved ++ block ∷ []) rest
       step-move =
-          let f = q.free in
-          let d = q.down in
-          let u = q.up in
-          let v = q.whole in
-          let w = q.high.0.whole in
-          let n = length-slid in
-          let b = packed-bounds (block ∷ rest) q in
           let k = q.kept in
-          let wl = length-word (to + gap) in
           let sl = slot-length in
-          let word-in = length-written slot (word (to + gap)) (slid (size block)) (omega (arith, sl, wl)) in
-          let a = span-append lay.below moved in
-          let e : to + gap ≡ sizes lay.below + gap + sizes moved = omega (arith, b, a) in
-          let fall : from + size block - (to + size block) ≡ from - to + 0 = omega (arith, d) in
-          let here : piece slot 4 done ≡ word (to + gap) = piece-written slot (word (to + gap)) (slid (size block)) 4
-          (omega (arith, wl)) (omega (arith, sl)) in
+          let word-in = length-written slot (word (to + gap)) (slid (size block)) (omega (arith, sl, length-word)) in
+          let e : to + gap ≡ sizes lay.below + gap + sizes moved = omega (arith, packed-bounds, span-append) in
+          let fall : from + size block - (to + size block) ≡ from - to + 0 = omega arith in
+          let here : piece slot 4 done ≡ word (to + gap) = piece-written _ _ (slid (size block)) 4
+          (omega (arith, length-word)) (omega (arith, sl)) in
           let lead-here : Leads (sizes lay.below + gap + sizes moved) (block ∷ []) done = (here ∙ ap word e, tt) in
           let P : ℕ → Type 0 = Clear to (length (piece from (size block) xs)) in
           let names-low = names-append lay.below moved in
@@ -412,16 +315,15 @@ module _ (lay : Lay) (place stop : ℕ) (r : IsRunFrom lay place stop) where
             high = done-high;
             order = append_assoc moved (block ∷ []) (movers rest)
                 ∙ ap (λ k. moved ++ k) (sym (movers-more block rest is-mover)) ∙ q.order;
-            free = omega (arith, f);
-            down = omega (arith, d);
-            up = omega (arith, u);
-            whole = (omega (arith, w, v), omega (arith, w, v));
-            kept = word-in ∙ n ∙ k;
+            free = omega arith;
+            down = omega arith;
+            up = omega arith;
+            whole = (omega arith, omega arith);
+            kept = word-in ∙ length-slid ∙ k;
             in_run = q.in_run.1;
-            lead_low = still-leads 0 lay.below (each-left (Apart slot) (names lay.below) (names moved) apart-low)
+            lead_low = still-leads 0 _ (each-left (Apart slot) (names lay.below) (names moved) apart-low)
                 (each-left P (names lay.below) (names moved) clear-low) q.lead_low;
-            lead_moved = leads-append done (sizes lay.below + gap) moved (block ∷ [])
-                (still-leads (sizes lay.below + gap) moved
+            lead_moved = leads-append _ _ _ _ (still-leads _ _
                 (each-right (Apart slot) (names lay.below) (names moved) apart-low)
                 (each-right P (names lay.below) (names moved) clear-low) q.lead_moved) lead-here;
             lead_high = still-leads (from + size block) (rest ++ lay.above) apart.1 clear.1 q.lead_high.1;

@@ -80,16 +80,15 @@ module _ {xs : List ℕ} {first unused place top stop : ℕ} {old : List Block}
   masters-packed =
       let masters : Block → ℕ = λ b. cond (is_masters b) 1 0 in
       ap (count is_masters) k.zone
-      ∙ total-changed masters (λ n m. refl) settle place old r k.is (settle-total masters (λ n m. refl) r.run loose)
+      ∙ total-changed masters (λ n m. refl) settle _ _ r k.is (settle-total masters (λ n m. refl) _ loose)
 
   free-packed : free_sum (zone_in xs) ≡ free_sum old
   free-packed = ap free_sum k.zone
-      ∙ total-changed free_of (λ n m. refl) settle place old r k.is (settle-total free_of (λ n m. refl) r.run loose)
+      ∙ total-changed free_of (λ n m. refl) settle _ _ r k.is (settle-total free_of (λ n m. refl) _ loose)
 
   purgeable-packed : purgeable_sum (zone_in xs) ≡ purgeable_sum old
-  purgeable-packed = ap purgeable_sum k.zone
-      ∙ total-changed purgeable_of (λ n m. refl) settle place old r k.is
-      (settle-total purgeable_of (λ n m. refl) r.run loose)
+  purgeable-packed = ap purgeable_sum k.zone ∙ total-changed purgeable_of (λ n m. refl) settle _ _ r k.is
+      (settle-total purgeable_of (λ n m. refl) _ loose)
 
   -- after another change of the run
   pub kept-changed : (change : List Block → List Block) (new : List ℕ) (table : ℕ → Slot) (n : ℕ)
@@ -104,8 +103,6 @@ module _ {xs : List ℕ} {first unused place top stop : ℕ} {old : List Block}
       → ChangedRun change old r new first unused table → Replaced place stop (zone_in xs) (zone_in new)
   replaced-changed change new table d =
       let s = settle-total size (λ n m. refl) r.run loose in
-      let t = d.span in
-      let u = k.stop_is in
       record {
         below = r.below;
         here = settle r.run;
@@ -114,8 +111,8 @@ module _ {xs : List ℕ} {first unused place top stop : ℕ} {old : List Block}
         was = packed-zone;
         is = d.is;
         low = bottom;
-        high = omega (arith, s, u);
-        span = omega (arith, s, t);
+        high = omega (arith, s);
+        span = omega (arith, s);
       }
 
 pub rest-changed : {first unused place top stop : ℕ} {old : List Block} (part after : Bytes)
@@ -123,5 +120,4 @@ pub rest-changed : {first unused place top stop : ℕ} {old : List Block} (part 
     (moves : ℕ) → ChangedRun change old k.spot after.bytes first unused (slot_in part.bytes)
     → IsRest before (rest_in part unused moves) → KeepsPlace part after → IsRest before (rest_in after unused moves)
 rest-changed {unused = unused} part after k change before moves d p same =
-    rest-again before (rest_in part unused moves) (rest_in after unused moves) p
-    (rest-made part after (slot_in part.bytes) unused moves d.made.slots (d.masters ∙ sym (masters-packed k)) same)
+    rest-again _ _ _ p (rest-made _ _ (slot_in part.bytes) _ _ d.made.slots (d.masters ∙ sym (masters-packed k)) same)

@@ -1,5 +1,5 @@
 -- A run whose slots are made to lead to it.
-use Rattle.std.proofs.Common.{◌≡◌, ℕ, ◌+◌, ◌%◌, ◌<◌, ◌≤◌, inl, inr, List, [], ◌∷◌, ◌++◌, length, take, drop, sym, refl}
+use Rattle.std.proofs.Common.{◌≡◌, ℕ, ◌+◌, ◌%◌, ◌<◌, ◌≤◌, inl, inr, List, [], ◌∷◌, ◌++◌, length, drop, sym, refl}
 use Rattle.std.proofs.Common.{ap, ◌∙◌, subst, arith, append_assoc}
 use Rattle.std.proofs.lemmas.List.{append-nil, length-drop}
 use Rattle.std.proofs.lemmas.Bool.{false≢true}
@@ -30,8 +30,6 @@ module _ (lay : Lay) (place stop : ℕ) (r : IsMoved lay place stop) where
   pub start-pointing : Pointing lay stop place lay.bytes
   start-pointing =
       let t = tiles-split head lay.bytes lay.below (lay.run ++ lay.above) r.tiles in
-      let w = span-whole head (take (sizes lay.below) lay.bytes) lay.below t.0 in
-      let b = r.bottom in
       record {
         done = [];
         rest = lay.run;
@@ -40,9 +38,9 @@ module _ (lay : Lay) (place stop : ℕ) (r : IsMoved lay place stop) where
           tiles = rw append-nil r.tiles;
           low = rw append-nil r.low;
           high = r.high;
-          here = ap sizes (append-nil lay.below) ∙ b;
+          here = ap sizes (append-nil lay.below) ∙ r.bottom;
           up = r.top;
-          whole = omega (arith, w, b);
+          whole = omega (arith, span-whole, r.bottom);
           kept = refl;
           in_run = r.in_run;
           others = λ s i a. refl;
@@ -52,20 +50,12 @@ module _ (lay : Lay) (place stop : ℕ) (r : IsMoved lay place stop) where
   module _ (from : ℕ) (xs : List ℕ) (done : List Block) where
     bounds-of : (rest : List Block) → PointingAt lay stop from xs done rest
         → (stop ≤ length xs) × (length xs ≤ 134217728)
-    bounds-of rest q =
-        let l = length-tiles head xs ((lay.below ++ done) ++ (rest ++ lay.above)) q.tiles in
-        let a = span-append (lay.below ++ done) (rest ++ lay.above) in
-        let b = span-append rest lay.above in
-        let h = q.here in
-        let u = q.up in
-        let k = q.kept in
-        let s = r.small in
-        (omega (arith, l, a, b, h, u), omega (arith, k, s))
+    bounds-of rest q = (omega (arith, length-tiles, span-append, span-append), omega arith)
 
     tile-here : (b : Block) (rest : List Block) → PointingAt lay stop from xs done (b ∷ rest)
         → Tile (head b) (size b) (drop from xs)
     tile-here b rest q = subst (λ k. Tile (head b) (size b) (drop k xs)) q.here
-        (tiles-split head xs (lay.below ++ done) (b ∷ rest ++ lay.above) q.tiles).1.0
+        (tiles-split head _ (lay.below ++ done) (b ∷ rest ++ lay.above) q.tiles).1.0
 
     regroup : (b : Block) (rest : List Block) → (lay.below ++ done) ++ (b ∷ rest ++ lay.above) ≡
         (lay.below ++ (done ++ b ∷ [])) ++ (rest ++ lay.above)
@@ -78,27 +68,20 @@ module _ (lay : Lay) (place stop : ℕ) (r : IsMoved lay place stop) where
         ∙ ap (λ k. lay.below ++ k) (sym (append_assoc done rest lay.above) ∙ ap (λ k. k ++ lay.above) q.parts)
 
     here-more : (b : Block) → sizes (lay.below ++ done) ≡ from → sizes (lay.below ++ (done ++ b ∷ [])) ≡ from + size b
-    here-more b h =
-        let a = ap sizes (append_assoc lay.below done (b ∷ [])) in
-        let s = span-append (lay.below ++ done) (b ∷ []) in
-        omega (arith, a, s, h)
+    here-more b h = omega (arith, ap sizes (append_assoc lay.below done (b ∷ [])), span-append, h)
 
     pub point-free : (n : ℕ) (rest : List Block) → PointingAt lay stop from xs done (Free n ∷ rest)
         → PointingAt lay stop (from + n) xs (done ++ Free n ∷ []) rest
     point-free n rest q =
-        let h = q.here in
-        let u = q.up in
-        let v = q.whole in
-        let w = (tile-here (Free n) rest q).whole in
         record {
           parts = append_assoc done (Free n ∷ []) rest ∙ q.parts;
           tiles = subst (λ k. Tiles head xs k) (regroup (Free n) rest) q.tiles;
           low = subst (λ k. Leads 0 k xs) (append_assoc lay.below done (Free n ∷ []))
-              (leads-append xs 0 (lay.below ++ done) (Free n ∷ []) q.low (tt, tt));
+              (leads-append _ 0 _ _ q.low (tt, tt));
           high = q.high;
-          here = here-more (Free n) h;
-          up = omega (arith, u);
-          whole = omega (arith, v, w);
+          here = here-more (Free n) q.here;
+          up = omega arith;
+          whole = omega (arith, (tile-here (Free n) rest q).whole);
           kept = q.kept;
           in_run = q.in_run.1;
           others = q.others;
@@ -115,23 +98,14 @@ module _ (lay : Lay) (place stop : ℕ) (r : IsMoved lay place stop) where
       pub is-slot-here : IsSlot slot all
       is-slot-here =
           let P : ℕ → Type 0 = λ s. IsSlot s all in
-          (each-right P (names (lay.below ++ done)) (slot ∷ names (rest ++ lay.above))
-          (subst (λ k. Each P k) (sym named) r.slots.slots)).0
+          (each-right P _ (slot ∷ names (rest ++ lay.above)) (subst (λ k. Each P k) (sym named) r.slots.slots)).0
 
       slot-fits : slot + 4 ≤ length xs
-      slot-fits =
-          let i = slot-inside slot all is-slot-here in
-          let l = length-tiles head lay.bytes all r.tiles in
-          let k = q.kept in
-          omega (arith, i, l, k)
+      slot-fits = omega (arith, slot-inside slot all is-slot-here, length-tiles)
 
       pub point-slot : PointingAt lay stop (from + size block) (written slot (word from) xs) (done ++ block ∷ []) rest
       point-slot =
           let new = written slot (word from) xs in
-          let h = q.here in
-          let u = q.up in
-          let v = q.whole in
-          let w = (tile-here block rest q).whole in
           let f = slot-fits in
           let wl = length-word from in
           let pairs = subst (λ k. Pairs Apart k) (sym named) r.slots.apart in
@@ -139,31 +113,29 @@ module _ (lay : Lay) (place stop : ℕ) (r : IsMoved lay place stop) where
           let after = subst (λ k. Each (Apart slot) k) (names-append rest lay.above)
           (pairs-after slot (names (lay.below ++ done)) (names (rest ++ lay.above)) pairs) in
           let far = each-map (Apart slot) (Clear slot (length (word from))) (λ t p. apart-clear slot from t p) in
-          let o : 0 + sizes (lay.below ++ done) ≡ from = omega (arith, h) in
+          let o : 0 + sizes (lay.below ++ done) ≡ from = omega (arith, q.here) in
           let mine : piece slot 4 new ≡ word (0 + sizes (lay.below ++ done)) =
           piece-written slot (word from) xs 4 (sym wl) (omega (arith, f)) ∙ sym (ap word o) in
           let slot-all : IsSlot slot ((lay.below ++ (done ++ block ∷ [])) ++ (rest ++ lay.above)) =
           subst (λ k. IsSlot slot k) (sym (names-of (block ∷ rest) q) ∙ regroup block rest) is-slot-here in
           record {
             parts = append_assoc done (block ∷ []) rest ∙ q.parts;
-            tiles = tiles-slot head (length-masters lay.resource) xs (word from) slot
-                ((lay.below ++ (done ++ block ∷ [])) ++ (rest ++ lay.above)) wl slot-all
+            tiles = tiles-slot head (length-masters lay.resource) _ _ _ _ wl slot-all
                 (subst (λ k. Tiles head xs k) (regroup block rest) q.tiles);
-            low = subst (λ k. Leads 0 k new) (append_assoc lay.below done (block ∷ []))
-                (leads-append new 0 (lay.below ++ done) (block ∷ [])
-                (leads-written slot (word from) xs 0 (lay.below ++ done) (omega (arith, f))
+            low = subst (λ k. Leads 0 k new) (append_assoc lay.below done (block ∷ [])) (leads-append _ 0 _ _
+                (leads-written _ _ _ 0 _ (omega (arith, f))
                 (far (names (lay.below ++ done)) before) q.low) (mine, tt));
-            high = leads-written slot (word from) xs stop lay.above (omega (arith, f))
+            high = leads-written _ _ _ _ _ (omega (arith, f))
                 (far (names lay.above) (each-right (Apart slot) (names rest) (names lay.above) after)) q.high;
-            here = here-more block h;
-            up = omega (arith, u);
-            whole = omega (arith, v, w);
+            here = here-more block q.here;
+            up = omega arith;
+            whole = omega (arith, (tile-here block rest q).whole);
             kept = length-written slot (word from) xs (omega (arith, f, wl)) ∙ q.kept;
             in_run = q.in_run.1;
             others = λ s i a.
                 let m : Apart s slot = (each-right (Apart s) (names (lay.below ++ done))
                 (slot ∷ names (rest ++ lay.above)) (subst (λ k. Each (Apart s) k) (sym named) a)).0 in
-                piece-clear slot (word from) xs s (omega (arith, f))
+                piece-clear _ _ _ s (omega (arith, f))
                 (elim m [ inl b ↦ inl b | inr b ↦ inr (omega (arith, b, wl)) ]) ∙ q.others s i a;
           }
 
@@ -175,34 +147,27 @@ pub record NextSlot (lay : Lay) (stop from : ℕ) (xs : List ℕ) (n slot : ℕ)
 
 module _ (lay : Lay) (place stop : ℕ) (r : IsMoved lay place stop) (from : ℕ) (xs : List ℕ) where
   pub pointing-bounds : Pointing lay stop from xs → (stop ≤ length xs) × (length xs ≤ 134217728)
-  pointing-bounds p = bounds-of lay place stop r from xs p.done p.rest p.state
+  pointing-bounds p = bounds-of _ _ _ r _ _ _ _ p.state
 
   point-next-at : (done rest : List Block) → PointingAt lay stop from xs done rest → from < stop → Next xs from
-  point-next-at done [] q l = let u = q.up in absurd (omega (arith, u, l))
+  point-next-at done [] q l = absurd (omega (arith, l))
   point-next-at done (b ∷ rest) q l =
       let i = bounds-of lay place stop r from xs done (b ∷ rest) q in
       let t = tile-here lay place stop r from xs done b rest q in
-      let f = t.fits in
-      let s = t.some in
-      let d = length-drop from xs in
       let w = first-reads lay.resource xs from i.1 b t in
-      let v = q.whole in
-      let h = t.whole in
-      let k = kind-small b in
       record {
-        even = omega (arith, v);
-        fits = omega (arith, f, s, d);
-        tag = omega (arith, w, h, k);
-        big =
-            omega (arith, w, s);
+        even = omega arith;
+        fits = omega (arith, length-drop from xs);
+        tag = omega (arith, w, kind-small);
+        big = omega (arith, w);
       }
 
   pub point-next : Pointing lay stop from xs → from < stop → Next xs from
-  point-next p l = point-next-at p.done p.rest p.state l
+  point-next p l = point-next-at _ _ p.state l
 
   point-free-at : (done rest : List Block) → PointingAt lay stop from xs done rest → from < stop → (n t : ℕ)
       → n + t ≡ word_at from xs → n % 16 ≡ 0 → t < 3 → Pointing lay stop (from + n) xs
-  point-free-at done [] q l n t e w k = let u = q.up in absurd (omega (arith, u, l))
+  point-free-at done [] q l n t e w k = absurd (omega (arith, l))
   point-free-at done (Free m ∷ rest) q l n t e w k =
       let i = bounds-of lay place stop r from xs done (Free m ∷ rest) q in
       let h = tile-here lay place stop r from xs done (Free m) rest q in
@@ -213,7 +178,7 @@ module _ (lay : Lay) (place stop : ℕ) (r : IsMoved lay place stop) (from : ℕ
         rest = rest;
         state =
             subst (λ j. PointingAt lay stop (from + j) xs (done ++ Free m ∷ []) rest) (sym same.0)
-            (point-free lay place stop r from xs done m rest q);
+            (point-free _ _ _ r _ _ _ m _ q);
       }
   point-free-at done (Nonrelocatable id content ∷ rest) q l n t e w k = absurd (false≢true q.in_run.0)
   point-free-at done (Masters ∷ rest) q l n t e w k = absurd (false≢true q.in_run.0)
@@ -222,22 +187,20 @@ module _ (lay : Lay) (place stop : ℕ) (r : IsMoved lay place stop) (from : ℕ
       let i = bounds-of lay place stop r from xs done (b ∷ rest) q in
       let h = tile-here lay place stop r from xs done b rest q in
       let f = first-reads lay.resource xs from i.1 b h in
-      let same = same_parts n t (size b) 3 (e ∙ f) w h.whole (omega (arith, k)) (omega arith) in
-      absurd (let j = same.1 in omega (arith, j, k))
+      absurd (omega (arith, k))
 
   pub point-free-next : Pointing lay stop from xs → from < stop → (n t : ℕ) → n + t ≡ word_at from xs → n % 16 ≡ 0
       → t < 3 → Pointing lay stop (from + n) xs
-  point-free-next p l n t e w k = point-free-at p.done p.rest p.state l n t e w k
+  point-free-next p l n t e w k = point-free-at _ _ p.state l n t e w k
 
   point-slot-at : (done rest : List Block) → PointingAt lay stop from xs done rest → from < stop → (n t s : ℕ)
       → n + t ≡ word_at from xs → n % 16 ≡ 0 → t ≡ 3 → s ≡ word_at (from + 8) xs → NextSlot lay stop from xs n s
-  point-slot-at done [] q l n t s e w k v = let u = q.up in absurd (omega (arith, u, l))
+  point-slot-at done [] q l n t s e w k v = absurd (omega (arith, l))
   point-slot-at done (Free m ∷ rest) q l n t s e w k v =
       let i = bounds-of lay place stop r from xs done (Free m ∷ rest) q in
       let h = tile-here lay place stop r from xs done (Free m) rest q in
       let f = first-reads lay.resource xs from i.1 (Free m) h in
-      let same = same_parts n t m 0 (e ∙ f) w h.whole (omega (arith, k)) (omega arith) in
-      absurd (let j = same.1 in omega (arith, j, k))
+      absurd (omega (arith, k))
   point-slot-at done (Nonrelocatable id content ∷ rest) q l n t s e w k v = absurd (false≢true q.in_run.0)
   point-slot-at done (Masters ∷ rest) q l n t s e w k v = absurd (false≢true q.in_run.0)
   point-slot-at done (Relocatable slot flags content ∷ rest) q l n t s e w k v =
@@ -249,16 +212,14 @@ module _ (lay : Lay) (place stop : ℕ) (r : IsMoved lay place stop) (from : ℕ
       let a = is-slot-here lay place stop r from xs done slot flags content rest q in
       let sl = slot-fits lay place stop r from xs done slot flags content rest q in
       let mine = v ∙ slot-reads lay.resource xs from i.1 slot flags content (omega (arith, sl, i)) h in
-      let u = q.up in
       let base : NextSlot lay stop from xs (size b) slot = record {
-        inside = omega (arith, u);
+        inside = omega arith;
         even = slot-even (head_of lay.resource) lay.bytes slot (lay.below ++ (lay.run ++ lay.above)) r.tiles a;
         slot_inside = sl;
         pointing = record {
           done = done ++ b ∷ [];
           rest = rest;
-          state =
-              point-slot lay place stop r from xs done slot flags content rest q;
+          state = point-slot lay place stop r from xs done slot flags content rest q;
         };
       } in
       subst (λ j. NextSlot lay stop from xs j s) (sym same.0)
@@ -266,20 +227,18 @@ module _ (lay : Lay) (place stop : ℕ) (r : IsMoved lay place stop) (from : ℕ
 
   pub point-slot-next : Pointing lay stop from xs → from < stop → (n t s : ℕ) → n + t ≡ word_at from xs → n % 16 ≡ 0
       → t ≡ 3 → s ≡ word_at (from + 8) xs → NextSlot lay stop from xs n s
-  point-slot-next p l n t s e w k v = point-slot-at p.done p.rest p.state l n t s e w k v
+  point-slot-next p l n t s e w k v = point-slot-at _ _ p.state l n t s e w k v
 
   pointed-at : (done rest : List Block) → PointingAt lay stop from xs done rest → stop ≤ from → Pointed lay xs
-  pointed-at done (b ∷ rest) q l = let u = q.up in let s =
-      (tile-here lay place stop r from xs done b rest q).some in absurd (omega (arith, u, s, l))
+  pointed-at done (b ∷ rest) q l = let s =
+      (tile-here _ _ _ r _ _ _ b _ q).some in absurd (omega (arith, s, l))
   pointed-at done [] q l =
       let e = names-of lay place stop r from xs done [] q in
-      let u = q.up in
-      let h = q.here in
-      let o : stop ≡ 0 + sizes (lay.below ++ done) = omega (arith, u, h) in
+      let o : stop ≡ 0 + sizes (lay.below ++ done) = omega arith in
       record {
         lies = record {
           tiles = subst (λ k. Tiles (head_of lay.resource) xs k) e q.tiles;
-          leads = subst (λ k. Leads 0 k xs) e (leads-append xs 0 (lay.below ++ done) lay.above q.low
+          leads = subst (λ k. Leads 0 k xs) e (leads-append _ 0 _ _ q.low
               (subst (λ k. Leads k lay.above xs) o q.high));
         };
         others = q.others;
@@ -287,4 +246,4 @@ module _ (lay : Lay) (place stop : ℕ) (r : IsMoved lay place stop) (from : ℕ
       }
 
   pub pointed : Pointing lay stop from xs → stop ≤ from → Pointed lay xs
-  pointed p l = pointed-at p.done p.rest p.state l
+  pointed p l = pointed-at _ _ p.state l

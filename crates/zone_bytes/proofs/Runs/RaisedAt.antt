@@ -25,8 +25,7 @@ the-run None A h = absurd h
 the-run (Some r) A h = (r, refl)
 
 -- the run at a place, which has so many Free bytes
-pub room-run : (zone : List Block) (place gap : ℕ)
-    → IsSomeAnd (run_at place zone) (λ r. IsTrue (has_free gap r.run))
+pub room-run : (zone : List Block) (place gap : ℕ) → IsSomeAnd (run_at place zone) (λ r. IsTrue (has_free gap r.run))
     → (r : RunSpot) × (run_at place zone ≡ Some r) × (gap ≤ free_sum r.run)
 room-run zone place gap h =
     let a = the-run (run_at place zone) (λ r. IsTrue (has_free gap r.run)) h in
@@ -38,8 +37,7 @@ module _ (xs : List ℕ) (first unused : ℕ) (i : IsSound xs first unused) (pla
   may-lift even =
       let l = lay-is xs first unused i place r e in
       record {
-        run = may-settle xs first unused i place r e (place + sizes (lay_at xs place).run)
-            (sym (ap (λ z. place + sizes z.run) l));
+        run = may-settle _ _ _ i _ r e _ (sym (ap (λ z. place + sizes z.run) l));
         some = some;
         even = even;
         enough = subst (λ z. gap ≤ free_sum z.run) (sym l) enough;
@@ -51,21 +49,20 @@ module _ (xs : List ℕ) (first unused : ℕ) (i : IsSound xs first unused) (pla
       let s = subst (λ z. Lifted z gap new) (lay-is xs first unused i place r e) d in
       let runs = in-run xs first unused i place r e in
       let laid = subst (λ z. Lays xs z (slot_in xs) i.unused) (whole xs first unused i place r e) i.lays in
-      let lays = lays-run xs new r.below r.run (lifted gap r.run) r.above (slot_in xs) i.unused laid runs
-      (lifted-each gap r.run some enough runs) (lifted-span gap r.run some enough runs)
+      let lays = lays-run _ _ _ _ _ _ (slot_in xs) _ laid runs
+      (lifted-each _ _ some enough runs) (lifted-span _ r.run some enough runs)
       (run-names r.below r.run (lifted gap r.run) r.above (lifted-names gap r.run some enough runs))
       s.lies s.others s.kept in
       let tidy-is = tidy-change place (zone_in xs) r e i.tidied (lifted gap r.run) (apart-tidy (low (Free gap) r.run)) in
-      changed-run (lifted gap) place (zone_in xs) r e
-      (λ of adds l. total-tidy of adds (low (Free gap) r.run) ∙ low-total of adds gap r.run l enough) new first unused
-      (slot_in xs) tidy-is (subst (λ z. Made new first unused z (slot_in xs)) (sym tidy-is)
-      (made new (with_run (lifted gap) r) (slot_in xs) i.unused
+      changed-run (lifted gap) _ _ r e
+      (λ of adds l. total-tidy of adds (low (Free gap) r.run) ∙ low-total of adds gap r.run l enough) _ _ _
+      (slot_in xs) tidy-is (subst (λ z. Made new first unused z (slot_in xs)) (sym tidy-is) (made _ _ (slot_in xs) _
       (subst (λ z. Lays new z (slot_in xs) i.unused) (sym (append_assoc r.below (lifted gap r.run) r.above)) lays)
-      first unused tidy-is i.begins i.counted))
+      _ _ tidy-is i.begins i.counted))
 
   pub lifted-zone : tidy (with_run (lifted gap) r) ≡ tidy (with_run (low (Free gap)) r)
   lifted-zone = elim (any-movers r.run) [
-    | inl n ↦ ap (λ l. tidy (r.below ++ l ++ r.above)) (lifted-none gap r.run some enough n)
-        ∙ sym (low-none gap r some enough n)
+    | inl n ↦ ap (λ l. tidy (r.below ++ l ++ r.above)) (lifted-none _ _ some enough n)
+        ∙ sym (low-none _ r some enough n)
     | inr s ↦ ap (λ l. tidy (r.below ++ l ++ r.above)) (lifted-some gap r.run some s)
   ]

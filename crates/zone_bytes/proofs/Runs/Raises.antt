@@ -10,7 +10,7 @@ use Rattle.block_store.specs.Block.{Block, Free, free, sizes}
 use Rattle.zone_bytes.specs.Layout.{head_of, Tiles, names, Leads, Each}
 use Rattle.zone_bytes.specs.Settling.{InRun}
 use Rattle.zone_bytes.specs.Splicing.{SameOutside}
-use Rattle.zone_bytes.specs.Raising.{Raise, packed, raised_run, MayRaise, Raised}
+use Rattle.zone_bytes.specs.Raising.{Raise, raised_run, MayRaise, Raised}
 use Rattle.zone_bytes.proofs.Tiles.Tiling.{span-append, length-tiles, tiles-append, tiles-one, tiles-split}
 use Rattle.zone_bytes.proofs.Tiles.Leading.{each-append, each-left, names-append, Clear, leads-append}
 use Rattle.zone_bytes.proofs.Runs.Packed.{span-whole}
@@ -32,12 +32,7 @@ module _ (z : Raise) (place top stop gap : ℕ) (h : MayRaise z place top stop g
   in-now = (refl, each-append InRun z.movers (free z.rest) h.in_run (each-free z.rest))
 
   pub same-span : sizes (raised_run z) ≡ sizes was
-  same-span =
-      let a = span-append z.movers (free (z.gap + z.rest)) in
-      let b = span-append z.movers (free z.rest) in
-      let c = span-free (z.gap + z.rest) in
-      let d = span-free z.rest in
-      omega (arith, a, b, c, d)
+  same-span = omega (arith, span-append, span-append, span-free, span-free)
 
   pub same-names : names (raised_run z) ≡ names was
   same-names = names-append z.movers (free z.rest) ∙ ap (λ k. names z.movers ++ k) (names-free z.rest
@@ -45,16 +40,7 @@ module _ (z : Raise) (place top stop gap : ℕ) (h : MayRaise z place top stop g
 
   pub wide : (top + (gap + z.rest) ≡ stop) × (stop ≤ length z.bytes) × (place + sizes was ≡ stop) × (place ≤ top)
   wide =
-      let l = length-tiles (head_of z.resource) z.bytes (packed z) h.tiles in
-      let a = span-append z.below (was ++ z.above) in
-      let b = span-append was z.above in
-      let c = span-append z.movers (free (z.gap + z.rest)) in
-      let d = span-free (z.gap + z.rest) in
-      let p = h.bottom in
-      let q = h.middle in
-      let e = h.end in
-      let s = h.same in
-      (omega (arith, e, s), omega (arith, l, a, b, c, d, p, q, e), omega (arith, c, d, q, e), omega (arith, q))
+      (omega arith, omega (arith, length-tiles, span-append, span-append, span-append, span-free), omega (arith, span-append, span-free), omega arith)
 
   pub evens : (place % 16 ≡ 0) × (top % 16 ≡ 0) × (z.rest % 16 ≡ 0)
   evens =
@@ -62,16 +48,7 @@ module _ (z : Raise) (place top stop gap : ℕ) (h : MayRaise z place top stop g
       let t = tiles-split head z.bytes z.below (was ++ z.above) h.tiles in
       let u = tiles-split head (drop (sizes z.below) z.bytes) was z.above t.1 in
       let v = tiles-split head (take (sizes was) (drop (sizes z.below) z.bytes)) z.movers (free (z.gap + z.rest)) u.0 in
-      let a = span-whole head (take (sizes z.below) z.bytes) z.below t.0 in
-      let b = span-whole head (take (sizes z.movers) (take (sizes was) (drop (sizes z.below) z.bytes))) z.movers v.0 in
-      let c = span-whole head (take (sizes was) (drop (sizes z.below) z.bytes)) was u.0 in
-      let d = span-append z.movers (free (z.gap + z.rest)) in
-      let e = span-free (z.gap + z.rest) in
-      let p = h.bottom in
-      let q = h.middle in
-      let s = h.same in
-      let g = h.even in
-      (omega (arith, a, p), omega (arith, a, b, p, q), omega (arith, b, c, d, e, s, g))
+      (omega (arith, span-whole), omega (arith, span-whole), omega (arith, span-whole, span-append, span-free))
 
   -- where the movers lie
   mover-tiles : Tiles (head_of z.resource) (piece place (top - place) z.bytes) z.movers
@@ -80,10 +57,8 @@ module _ (z : Raise) (place top stop gap : ℕ) (h : MayRaise z place top stop g
       let t = tiles-split head z.bytes z.below (was ++ z.above) h.tiles in
       let g : was ++ z.above ≡ z.movers ++ (free (z.gap + z.rest) ++ z.above) =
       append_assoc z.movers (free (z.gap + z.rest)) z.above in
-      let u = tiles-split head (drop (sizes z.below) z.bytes) z.movers (free (z.gap + z.rest) ++ z.above)
-      (subst (λ k. Tiles head (drop (sizes z.below) z.bytes) k) g t.1) in
-      let q = h.middle in
-      let e : sizes z.movers ≡ top - place = omega (arith, q) in
+      let u = tiles-split head _ _ _ (subst (λ k. Tiles head (drop (sizes z.below) z.bytes) k) g t.1) in
+      let e : sizes z.movers ≡ top - place = omega arith in
       subst (λ k. Tiles head k z.movers) (λ i. take (e i) (drop (h.bottom i) z.bytes)) u.0
 
   -- the bytes before the slots are rewritten
@@ -93,51 +68,45 @@ module _ (z : Raise) (place top stop gap : ℕ) (h : MayRaise z place top stop g
     new-tiles : Tiles (head_of z.resource) (piece place (stop - place) mid) (raised_run z)
     new-tiles =
         let head = head_of z.resource in
-        let v = wide in
-        let e = evens in
-        let k = s.kept in
-        let some = h.some in
         let even = h.even in
         let ys = piece place (stop - place) mid in
         let d = length-drop place mid in
-        let l : length ys ≡ stop - place = length-take-le (stop - place) (drop place mid) (omega (arith, d, k, v)) in
+        let l : length ys ≡ stop - place = length-take-le (stop - place) (drop place mid) (omega (arith, d)) in
         let ld = length-drop gap ys in
         -- the movers and what is above them
         let a : drop gap ys ≡ piece (place + gap) (stop - place - gap) mid =
         ap (λ j. drop gap (take j (drop place mid)))
-        (let j : stop - place ≡ gap + (stop - place - gap) = omega (arith, v) in j)
+        (let j : stop - place ≡ gap + (stop - place - gap) = omega arith in j)
         ∙ drop-take gap (stop - place - gap) (drop place mid)
         ∙ ap (take (stop - place - gap)) (drop-drop gap place mid) in
         let b : take (top - place) (drop gap ys) ≡ piece place (top - place) z.bytes = ap (take (top - place)) a
-        ∙ take-take (top - place) (stop - place - gap) (drop (place + gap) mid) (omega (arith, v)) ∙ m in
+        ∙ take-take (top - place) (stop - place - gap) (drop (place + gap) mid) (omega arith) ∙ m in
         let up = drop (top - place) (drop gap ys) in
-        let lu : length up ≡ z.rest = (let q = length-drop (top - place) (drop gap ys) in omega (arith, q, ld, l, v)) in
+        let lu : length up ≡ z.rest = (let q = length-drop (top - place) (drop gap ys) in omega (arith, q, ld, l)) in
         let ea : drop (top - place) (drop gap ys) ≡ piece (top + gap) z.rest mid =
         ap (drop (top - place)) a ∙ ap (λ j. drop (top - place) (take j (drop (place + gap) mid)))
-        (let j : stop - place - gap ≡ top - place + z.rest = omega (arith, v, h.same) in j)
+        (let j : stop - place - gap ≡ top - place + z.rest = omega (arith, h.same) in j)
         ∙ drop-take (top - place) z.rest (drop (place + gap) mid)
         ∙ ap (take z.rest) (drop-drop (top - place) (place + gap) mid
-        ∙ ap (λ j. drop j mid) (let j : place + gap + (top - place) ≡ top + gap = omega (arith, v) in j)) in
+        ∙ ap (λ j. drop j mid) (let j : place + gap + (top - place) ≡ top + gap = omega arith in j)) in
         let high : Tiles head up (free z.rest) = elim w [
           | inl n ↦ subst (λ j. Tiles head j (free z.rest)) (sym ea)
               (subst (λ j. Tiles head (piece (top + gap) j mid) (free j)) (sym n) refl)
           | inr n ↦
-              let p = n.0 in
-              let big : 16 ≤ z.rest = omega (arith, p, e) in
-              let t = free-tile z.resource z.rest up lu (omega (arith, e)) big (ap (take 4) ea
+              let big : 16 ≤ z.rest = omega (arith, n.0, evens) in
+              let t = free-tile z.resource _ _ lu (omega (arith, evens)) big (ap (take 4) ea
               ∙ take-take 4 z.rest (drop (top + gap) mid) (omega (arith, big)) ∙ n.1) in
-              subst (λ j. Tiles head up j) (sym (free-some z.rest p)) (tiles-one head (Free z.rest) up lu t)
+              subst (λ j. Tiles head up j) (sym (free-some z.rest n.0)) (tiles-one head (Free z.rest) up lu t)
         ] in
-        let both = tiles-append head (take (top - place) (drop gap ys)) up z.movers (free z.rest)
-        (subst (λ j. Tiles head j z.movers) (sym b) mover-tiles) high in
+        let both = tiles-append head _ _ _ _ (subst (λ j. Tiles head j z.movers) (sym b) mover-tiles) high in
         let above = subst (λ j. Tiles head j (z.movers ++ free z.rest))
         (take-append-drop (top - place) (drop gap ys)) both in
-        let tile = free-tile z.resource gap (take gap ys) (length-take-le gap ys (omega (arith, l, v))) even
-        (omega (arith, some, even)) (take-take 4 gap ys (omega (arith, some, even))
-        ∙ take-take 4 (stop - place) (drop place mid) (omega (arith, v, some, even)) ∙ f) in
-        let one = tiles-one head (Free gap) (take gap ys) (length-take-le gap ys (omega (arith, l, v))) tile in
+        let tile = free-tile z.resource _ _ (length-take-le gap ys (omega (arith, l))) even
+        (omega (arith, even)) (take-take 4 gap ys (omega (arith, even))
+        ∙ take-take 4 (stop - place) (drop place mid) (omega (arith, even)) ∙ f) in
+        let one = tiles-one head (Free gap) (take gap ys) (length-take-le gap ys (omega (arith, l))) tile in
         let whole = subst (λ j. Tiles head j (Free gap ∷ (z.movers ++ free z.rest))) (take-append-drop gap ys)
-        (tiles-append head (take gap ys) (drop gap ys) (Free gap ∷ []) (z.movers ++ free z.rest) one above) in
+        (tiles-append head _ _ (Free gap ∷ []) (z.movers ++ free z.rest) one above) in
         subst (λ j. Tiles head ys (Free j ∷ (z.movers ++ free z.rest))) (sym h.same) whole
 
     pub is-raised : Raised z mid
@@ -148,26 +117,17 @@ module _ (z : Raise) (place top stop gap : ℕ) (h : MayRaise z place top stop g
         let c = moved.clears-run z.resource z.below was (raised_run z) z.above z.bytes mid place stop h.tiles h.low
         h.high h.slots h.bottom wide.2 in-was in-now same-span n h.small s new-tiles in
         let P : ℕ → Type 0 = Clear place (stop - place) in
-        let d = each-left P (names z.movers) (names (free (z.gap + z.rest)))
-        (subst (λ k. Each P k) (names-append z.movers (free (z.gap + z.rest))) c.0) in
-        let o : place + gap ≡ 0 + sizes z.below + z.gap = (let b = h.bottom in let g = h.same in omega (arith, b, g)) in
+        let d = each-left P _ _ (subst (λ k. Each P k) (names-append z.movers (free (z.gap + z.rest))) c.0) in
+        let o : place + gap ≡ 0 + sizes z.below + z.gap = (omega arith) in
         let led = leads-outside place stop z.bytes mid (place + gap) z.movers s d h.leads in
-        let a = span-append z.movers (free z.rest) in
-        let e = span-free z.rest in
-        let f = h.bottom in
-        let i = h.middle in
-        let j = h.end in
-        let q : stop ≡ 0 + sizes z.below + z.gap + sizes (z.movers ++ free z.rest) = omega (arith, a, e, f, i, j) in
-        let up = leads-append mid (0 + sizes z.below + z.gap) z.movers (free z.rest)
-        (subst (λ k. Leads k z.movers mid) o led)
-        (leads-free mid (0 + sizes z.below + z.gap + sizes z.movers) z.rest) in
+        let q : stop ≡ 0 + sizes z.below + z.gap + sizes (z.movers ++ free z.rest) = omega (arith, span-append, span-free) in
+        let up = leads-append _ _ _ _ (subst (λ k. Leads k z.movers mid) o led) (leads-free _ _ _) in
         record {
           lies = record {
             tiles = m.tiles;
-            leads = leads-append mid 0 z.below (raised_run z ++ z.above) m.low (
+            leads = leads-append _ 0 _ _ m.low (
               tt,
-              leads-append mid (0 + sizes z.below + z.gap) (z.movers ++ free z.rest) z.above up
-                  (subst (λ k. Leads k z.above mid) q m.high),
+              leads-append _ _ _ _ up (subst (λ k. Leads k z.above mid) q m.high),
             );
           };
           others = moved.others-moved z.resource z.below was (raised_run z) z.above z.bytes mid place stop h.tiles h.low
@@ -184,20 +144,16 @@ module _ (z : Raise) (place top stop gap : ℕ) (h : MayRaise z place top stop g
       × (piece place 4 (written place (word gap) slid) ≡ word gap)
   gap-written =
       let v = wide in
-      let some = h.some in
-      let even = h.even in
       let w = length-word gap in
-      let d = length-drop place z.bytes in
       let l : length (piece place (top - place) z.bytes) ≡ top - place =
-      length-take-le (top - place) (drop place z.bytes) (omega (arith, d, v)) in
-      let sl = length-written (place + gap) (piece place (top - place) z.bytes) z.bytes (omega (arith, l, v)) in (
-        outside-written place stop z.bytes slid place (word gap) (omega arith) (omega (arith, w, v, some, even))
-            (outside-written place stop z.bytes z.bytes (place + gap) (piece place (top - place) z.bytes) (omega arith)
+      length-take-le (top - place) (drop place z.bytes) (omega (arith, length-drop place z.bytes, v)) in (
+        outside-written _ _ _ _ _ (word gap) (omega arith) (omega (arith, w, v))
+            (outside-written place stop z.bytes z.bytes _ (piece place (top - place) z.bytes) (omega arith)
             (omega (arith, l, v)) (outside-same place stop z.bytes (omega (arith, v)) (omega (arith, v)))),
-        piece-written_above place (word gap) slid (place + gap) (top - place) (omega (arith, w, some, even))
-            (omega (arith, sl, v)) ∙ piece-written (place + gap) (piece place (top - place) z.bytes) z.bytes
+        piece-written_above place (word gap) slid _ _ (omega (arith, w))
+            (omega (arith, length-written, v)) ∙ piece-written _ (piece place (top - place) z.bytes) z.bytes
             (top - place) (sym l) (omega (arith, v)),
-        piece-written place (word gap) slid 4 (sym w) (omega (arith, sl, v)),
+        piece-written place (word gap) slid 4 (sym w) (omega (arith, length-written, v)),
       )
 
   pub rest-written : (mid : List ℕ) → 0 < z.rest → SameOutside place stop z.bytes mid
@@ -206,20 +162,11 @@ module _ (z : Raise) (place top stop gap : ℕ) (h : MayRaise z place top stop g
       × (piece (place + gap) (top - place) new ≡ piece place (top - place) z.bytes) × (piece place 4 new ≡ word gap)
       × (piece (top + gap) 4 new ≡ word z.rest)
   rest-written mid r s m f =
-      let v = wide in
-      let e = evens in
-      let k = s.kept in
-      let some = h.some in
-      let even = h.even in
-      let q = h.same in
       let w = length-word z.rest in (
-        outside-written place stop z.bytes mid (top + gap) (word z.rest) (omega (arith, v))
-            (omega (arith, w, v, r, e, q)) s,
-        piece-written_below (top + gap) (word z.rest) mid (place + gap) (top - place) (omega (arith, v))
-            (omega (arith, k, v, q)) ∙ m,
-        piece-written_below (top + gap) (word z.rest) mid place 4 (omega (arith, v, some, even))
-            (omega (arith, k, v, q)) ∙ f,
-        piece-written (top + gap) (word z.rest) mid 4 (sym w) (omega (arith, k, v, q)),
+        outside-written place stop z.bytes mid (top + gap) (word z.rest) (omega arith) (omega (arith, w, r, evens)) s,
+        piece-written_below (top + gap) (word z.rest) mid (place + gap) (top - place) (omega arith) (omega arith) ∙ m,
+        piece-written_below (top + gap) (word z.rest) mid place 4 (omega arith) (omega arith) ∙ f,
+        piece-written (top + gap) (word z.rest) mid 4 (sym w) (omega arith),
       )
 
 -- the bytes before the slots are rewritten
@@ -240,20 +187,15 @@ module _ (z : Raise) (place top stop gap : ℕ) (h : MayRaise z place top stop g
   pub mid-none : (new : List ℕ) → new ≡ after-gap → stop - top ≤ gap → Mid z place top stop gap new
   mid-none new n l =
       let g = gap-written z place top stop gap h in
-      let v = wide z place top stop gap h in
-      let q = h.same in
       subst (λ k. Mid z place top stop gap k) (sym (n ∙ same-gap))
-      (record { outside = g.0; moved = g.1; first = g.2; last = inl (omega (arith, v, q, l)) })
+      (record { outside = g.0; moved = g.1; first = g.2; last = inl (omega (arith, wide, l)) })
 
   pub mid-rest : (new : List ℕ) → new ≡ written (top + gap) (word (stop - top - gap)) after-gap → gap < stop - top
       → Mid z place top stop gap new
   mid-rest new n l =
       let g = gap-written z place top stop gap h in
-      let v = wide z place top stop gap h in
-      let q = h.same in
-      let r : stop - top - gap ≡ z.rest = omega (arith, v, q, l) in
+      let r : stop - top - gap ≡ z.rest = omega (arith, wide, l) in
       let some : 0 < z.rest = omega (arith, r, l) in
-      let k = rest-written z place top stop gap h (written place (word gap) (slid z place top stop gap h)) some g.0 g.1
-      g.2 in
+      let k = rest-written z _ _ _ _ h _ some g.0 g.1 g.2 in
       subst (λ j. Mid z place top stop gap j) (sym (n ∙ (λ i. written (top + gap) (word (r i)) (same-gap i))))
       (record { outside = k.0; moved = k.1; first = k.2; last = inr (some, k.3) })

@@ -28,8 +28,7 @@ cut-below : (b : Block) (v : Bool) → in_run b ≡ v → (zone : List Block) (s
     → IsCut (b ∷ zone) (cond v (record { first = b ∷ s.first; rest = s.rest })
     (record { first = []; rest = record { barrier = b; run = s.first } ∷ s.rest }))
 cut-below b true e zone s c = record {
-  whole = joined-more b s.first s.rest
-      ∙ ap (λ k. b ∷ k) c.whole;
+  whole = joined-more b s.first s.rest ∙ ap (λ k. b ∷ k) c.whole;
   first = (e, c.first);
   rest = c.rest;
 }
@@ -37,7 +36,7 @@ cut-below b false e zone s c = record { whole = ap (λ k. b ∷ k) c.whole; firs
 
 pub cut : (zone : List Block) → IsCut zone (segments zone)
 cut [] = record { whole = refl; first = tt; rest = tt }
-cut (b ∷ zone) = cut-below b (in_run b) refl zone (segments zone) (cut zone)
+cut (b ∷ zone) = cut-below b _ refl _ _ (cut _)
 
 -- what a run at a place is
 pub record Splits (place : ℕ) (zone : List Block) (r : RunSpot) : Type 0 where
@@ -53,7 +52,7 @@ none-some r e = cc
 
 mapped : (blocks : List Block) (o : Option RunSpot) (r : RunSpot) → option_map (run_raised blocks) o ≡ Some r
     → (q : RunSpot) × (o ≡ Some q) × (run_raised blocks q ≡ r)
-mapped blocks (Some q) r e = (q, refl, some-same (run_raised blocks q) r e)
+mapped blocks (Some q) r e = (q, refl, some-same _ r e)
 mapped blocks None r e = absurd (none-some r e)
 
 -- the run is above the first one
@@ -66,14 +65,10 @@ run-above place run b above o r true f ih e =
     let m = mapped (run ++ b ∷ []) o r e in
     let q = m.0 in
     let s = ih q m.1 in
-    let w = s.bottom in
-    let l = le-back (sizes (run ++ b ∷ [])) place (sym f) in
-    let z = sizes-span (run ++ b ∷ []) in
-    let a = span-append (run ++ b ∷ []) q.below in
     subst (λ k. Splits place (run ++ b ∷ above) k) m.2 (record {
       whole = ap (λ k. run ++ b ∷ k) s.whole ∙ sym (append_assoc run (b ∷ []) (q.below ++ (q.run ++ q.above)))
           ∙ sym (append_assoc (run ++ b ∷ []) q.below (q.run ++ q.above));
-      bottom = omega (arith, w, l, z, a);
+      bottom = omega (arith, le-back (sizes (run ++ b ∷ [])) place (sym f), sizes-span, span-append);
       in_run = s.in_run;
     })
 
@@ -94,9 +89,7 @@ run-splits (p ∷ parts) place run r h k e = elim (eqb_tells place 0) [
       let g = some-same s r (ap (λ v. cond v (Some s) (later place)) (sym t.0) ∙ e) in
       subst (λ q. Splits place (run ++ p.barrier ∷ joined p.run parts) q) g
       (record { whole = refl; bottom = sym t.1; in_run = h })
-  | inr t ↦ run-above place run p.barrier (joined p.run parts)
-      (run_from (place - sizes (run ++ p.barrier ∷ [])) p.run parts) r
-      (nat_le (sizes (run ++ p.barrier ∷ [])) place) refl
+  | inr t ↦ run-above _ _ _ _ _ r _ refl
       (λ q w. run-splits parts (place - sizes (run ++ p.barrier ∷ [])) p.run q k.0 k.1 w)
       (ap (λ v. cond v (Some (record { below = []; run = run; above = p.barrier ∷ joined p.run parts }))
       (later place)) (sym t.0) ∙ e)
@@ -110,5 +103,4 @@ run-splits (p ∷ parts) place run r h k e = elim (eqb_tells place 0) [
 pub run_at-splits : (place : ℕ) (zone : List Block) (r : RunSpot) → run_at place zone ≡ Some r → Splits place zone r
 run_at-splits place zone r e =
     let c = cut zone in
-    subst (λ k. Splits place k r) c.whole (run-splits (segments zone).rest place
-    (segments zone).first r c.first c.rest e)
+    subst (λ k. Splits place k r) c.whole (run-splits _ _ _ r c.first c.rest e)

@@ -1,6 +1,6 @@
 -- The run at a place of a RawZone, and how it is settled.
 use Rattle.std.proofs.Common.{◌≡◌, ℕ, Bool, true, false, not, cond, nat_lt, zero, suc, ◌+◌, ◌<◌, ◌≤◌, Option, Some}
-use Rattle.std.proofs.Common.{None, List, [], ◌∷◌, ◌++◌, take, drop, sym, refl, ap, ◌∙◌, subst, arith}
+use Rattle.std.proofs.Common.{None, List, [], ◌∷◌, ◌++◌, drop, sym, refl, ap, ◌∙◌, subst, arith}
 use Rattle.std.proofs.lemmas.Bool.{false≢true, lt-ltb}
 use Rattle.std.proofs.lemmas.Option.{same_Some}
 use Rattle.std.specs.Option.{IsSome, IfSome}
@@ -60,8 +60,8 @@ module _ (head : Block → List ℕ) where
   pub lowered-lowered_in_run : (xs : List ℕ) (run : List Block) → Tiles head xs run → Each InRun run
       → lowered_in_run_from 0 run ≡ lowered_in_run run
   lowered-lowered_in_run xs [] t e = refl
-  lowered-lowered_in_run xs (Free n ∷ run) t e = let s = t.0.some in let l =
-      lowered-all (0 + n) run (omega (arith, s)) in omega (arith, l)
+  lowered-lowered_in_run xs (Free n ∷ run) t e = let l =
+      lowered-all (0 + n) run (omega arith) in omega (arith, l)
   lowered-lowered_in_run xs (Nonrelocatable id content ∷ run) t e = absurd (false≢true e.0)
   lowered-lowered_in_run xs (Masters ∷ run) t e = absurd (false≢true e.0)
   lowered-lowered_in_run xs (Relocatable id flags content ∷ run) t e =
@@ -91,17 +91,12 @@ module _ (xs : List ℕ) (first count : ℕ) (i : IsSound xs first count) (place
   run-way = way-above xs first count i r.below (r.run ++ r.above) place whole bottom
 
   pub left-fits : place + sizes (left_in place xs) ≤ 134217728
-  left-fits =
-      let l = ap sizes (left-is place xs run-way) in
-      let u = run-way.walk.up in
-      let m = run-way.small in
-      omega (arith, l, u, m)
+  left-fits = omega (arith, ap sizes (left-is place xs run-way), run-way.walk.up)
 
   pub lay-is : lay_at xs place ≡ record {
     resource = λ s. is_resource (slot_in xs s);
     below = r.below;
-    run =
-        r.run;
+    run = r.run;
     above = r.above;
     bytes = xs;
   }
@@ -122,13 +117,10 @@ module _ (xs : List ℕ) (first count : ℕ) (i : IsSound xs first count) (place
         → Made new first count (r.below ++ (settle r.run ++ r.above)) (slot_in xs) × (moves ≡ lowered_in_run r.run)
     settle-made moves new d =
         let s = subst (λ l. Settled l moves new) lay-is d in
-        let tiles = tiles-split (head_of (λ s. is_resource (slot_in xs s))) xs r.below (r.run ++ r.above)
+        let tiles = tiles-split (head_of (λ s. is_resource (slot_in xs s))) _ _ _
         (subst (Tiles (head_of (λ s. is_resource (slot_in xs s))) xs) whole i.lays.lies.tiles) in
-        let run = tiles-split (head_of (λ s. is_resource (slot_in xs s)))
-        (drop (sizes r.below) xs) r.run r.above tiles.1 in (
-          made new (r.below ++ (settle r.run ++ r.above)) (slot_in xs) i.unused
-              (after xs r i.unused place stop i.lays whole bottom t in-run moves new s) first count
-              (settled-tidy place (zone_in xs) r i.tidied e) i.begins i.counted,
-          s.moved ∙ lowered-lowered_in_run (head_of (λ s. is_resource (slot_in xs s)))
-              (take (sizes r.run) (drop (sizes r.below) xs)) r.run run.0 in-run,
+        let run = tiles-split (head_of (λ s. is_resource (slot_in xs s))) _ _ _ tiles.1 in (
+          made _ _ (slot_in xs) _ (after xs r i.unused place stop i.lays whole bottom t in-run moves new s) _ _
+              (settled-tidy _ _ r i.tidied e) i.begins i.counted,
+          s.moved ∙ lowered-lowered_in_run (head_of (λ s. is_resource (slot_in xs s))) _ _ run.0 in-run,
         )

@@ -53,10 +53,7 @@ pub lowered-span : (head : Block → List ℕ) (xs : List ℕ) (gap : ℕ) (run 
     → Tiles head xs (run ++ above) → lowered_in_run_from gap run ≤ sizes run
 lowered-span head xs gap [] above t = omega arith
 lowered-span head xs gap (b ∷ run) above t =
-    let r = lowered-span head (drop (size b) xs) (gap + free_of b) run above t.1 in
-    let s = t.0.some in
-    let o = one-or-none (is_mover b) (nat_lt 0 gap) in
-    omega (arith, r, s, o)
+    omega (arith, lowered-span head (drop (size b) xs) (gap + free_of b) run above t.1, one-or-none)
 
 -- where there is a next block
 pub record Next (xs : List ℕ) (from : ℕ) : Type 0 where
@@ -78,27 +75,18 @@ pub record NextMover (lay : Lay) (gap stop from to moves : ℕ) (xs : List ℕ) 
 
 module _ (lay : Lay) (place stop : ℕ) (r : IsRunFrom lay place stop) (gap from to moves : ℕ) (xs : List ℕ) where
   pub stop-inside : length xs ≡ length lay.bytes → (stop ≤ length xs) × (length xs ≤ 134217728)
-  stop-inside k =
-      let b = run-bounds lay place stop r in
-      let s = r.small in
-      (omega (arith, b, k), omega (arith, s, k))
+  stop-inside k = (omega (arith, run-bounds, k), omega (arith, k))
 
   next-at : (blocks : List Block) → Tiles (head_of lay.resource) (drop from xs) blocks → from % 16 ≡ 0
       → length xs ≤ 134217728 → from < length xs → Next xs from
   next-at [] t w s l = let d = length-drop from xs in let n = ap length t in absurd (omega (arith, d, n, l))
   next-at (b ∷ blocks) t v i l =
-      let f = t.0.fits in
-      let s = t.0.some in
-      let d = length-drop from xs in
       let w = first-reads lay.resource xs from i b t.0 in
-      let h = t.0.whole in
-      let k = kind-small b in
       record {
         even = omega (arith, v);
-        fits = omega (arith, f, s, d);
-        tag = omega (arith, w, h, k);
-        big =
-            omega (arith, w, s);
+        fits = omega (arith, length-drop from xs);
+        tag = omega (arith, w, kind-small);
+        big = omega (arith, w);
       }
 
   -- the next block, of the run or above it
@@ -110,8 +98,7 @@ module _ (lay : Lay) (place stop : ℕ) (r : IsRunFrom lay place stop) (gap from
   outside : (above : List Block) → EndsRun above → Tiles (head_of lay.resource) (drop from xs) above → from < length xs
       → length xs ≤ 134217728 → (n t f : ℕ) → n + t ≡ word_at from xs → n % 16 ≡ 0 → t ≤ 3 → f ≡ word_at (from + 12) xs
       → runs_on t f ≡ true → ⊥
-  outside [] o h l s n t f e w k v b =
-      let d = length-drop from xs in let m = ap length h in absurd (omega (arith, d, m, l))
+  outside [] o h l s n t f e w k v b = absurd (omega (arith, length-drop from xs, ap length h, l))
   outside (c ∷ above) o h l s n t f e w k v b =
       false≢true (sym o ∙ sym (runs-told lay.resource xs from s c h.0 n t f e w k v) ∙ b)
 
@@ -119,33 +106,31 @@ module _ (lay : Lay) (place stop : ℕ) (r : IsRunFrom lay place stop) (gap from
       → from < length xs → (n t f : ℕ) → n + t ≡ word_at from xs → n % 16 ≡ 0 → t ≤ 3 → f ≡ word_at (from + 12) xs → runs_on t f ≡ true
       → from < stop
   within-at ends moved [] q l n t f e w k v b =
-      absurd (outside lay.above ends q.high l (stop-inside q.kept).1 n t f e w k v b)
-  within-at ends moved (c ∷ rest) q l n t f e w k v b =
-      let u = q.up in let s = q.high.0.some in omega (arith, u, s)
+      absurd (outside _ ends q.high l (stop-inside q.kept).1 n t f e w k v b)
+  within-at ends moved (c ∷ rest) q l n t f e w k v b = omega arith
 
   -- a block that belongs to a run is one of this run
   pub within : EndsRun lay.above → Packing lay gap stop from to moves xs → from < length xs → (n t f : ℕ)
       → n + t ≡ word_at from xs → n % 16 ≡ 0 → t ≤ 3 → f ≡ word_at (from + 12) xs → true ≡ runs_on t f → from < stop
-  within ends p l n t f e w k v b = within-at ends p.moved p.rest p.state l n t f e w k v (sym b)
+  within ends p l n t f e w k v b = within-at ends _ _ p.state l n t f e w k v (sym b)
 
   beyond-at : (moved rest : List Block) → PackingAt lay gap stop from to moves xs moved rest → (n t f : ℕ)
       → n + t ≡ word_at from xs → n % 16 ≡ 0 → t ≤ 3 → f ≡ word_at (from + 12) xs → false ≡ runs_on t f → stop ≤ from
-  beyond-at moved [] q n t f e w k v b = let u = q.up in omega (arith, u)
+  beyond-at moved [] q n t f e w k v b = omega arith
   beyond-at moved (c ∷ rest) q n t f e w k v b = absurd (false≢true (b
-      ∙ runs-told lay.resource xs from (stop-inside q.kept).1 c q.high.0 n t f e w k v ∙ q.in_run.0))
+      ∙ runs-told lay.resource _ _ (stop-inside q.kept).1 c q.high.0 n t f e w k v ∙ q.in_run.0))
 
   -- and one that belongs to none lies above it
   pub beyond : Packing lay gap stop from to moves xs → (n t f : ℕ) → n + t ≡ word_at from xs → n % 16 ≡ 0 → t ≤ 3
       → f ≡ word_at (from + 12) xs → false ≡ runs_on t f → stop ≤ from
-  beyond p n t f e w k v b = beyond-at p.moved p.rest p.state n t f e w k v b
+  beyond p n t f e w k v b = beyond-at _ _ p.state n t f e w k v b
 
   next-free-at : (gone moved rest : List Block) → gone ++ rest ≡ lay.run → moved ≡ movers gone
       → PackingAt lay gap stop from to moves xs moved rest → from < stop → (n t : ℕ) → n + t ≡ word_at from xs
       → n % 16 ≡ 0 → t < 3 → (p : Packing lay gap stop (from + n) to moves xs) × (p.moved ≡ moved)
-  next-free-at gone moved [] s o q l n t e w k = let u = q.up in absurd (omega (arith, u, l))
+  next-free-at gone moved [] s o q l n t e w k = absurd (omega (arith, l))
   next-free-at gone moved (Free m ∷ rest) s o q l n t e w k =
-      let i = stop-inside q.kept in
-      let f = first-reads lay.resource xs from i.1 (Free m) q.high.0 in
+      let f = first-reads lay.resource xs from (stop-inside q.kept).1 (Free m) q.high.0 in
       let same = same_parts n t m 0 (e ∙ f) w q.high.0.whole (omega (arith, k)) (omega arith) in (
         record {
           gone = gone ++ Free m ∷ [];
@@ -154,7 +139,7 @@ module _ (lay : Lay) (place stop : ℕ) (r : IsRunFrom lay place stop) (gap from
           split = append_assoc gone (Free m ∷ []) rest ∙ s;
           those = o ∙ sym (append-nil (movers gone)) ∙ sym (filter-append is_mover gone (Free m ∷ []));
           state = subst (λ j. PackingAt lay gap stop (from + j) to moves xs moved rest)
-              (sym same.0) (step-free lay place stop r gap from to moves xs moved m rest q);
+              (sym same.0) (step-free _ _ _ r _ _ _ _ _ _ m _ q);
         },
         refl,
       )
@@ -163,21 +148,18 @@ module _ (lay : Lay) (place stop : ℕ) (r : IsRunFrom lay place stop) (gap from
   next-free-at gone moved (Relocatable slot flags content ∷ rest) s o q l n t e w k =
       let i = stop-inside q.kept in
       let f = first-reads lay.resource xs from i.1 (Relocatable slot flags content) q.high.0 in
-      let same = same_parts n t (size (Relocatable slot flags content)) 3 (e ∙ f) w q.high.0.whole (omega (arith, k))
-      (omega arith) in
-      absurd (let j = same.1 in omega (arith, j, k))
+      absurd (omega (arith, k))
 
   pub next-free : (p : Packing lay gap stop from to moves xs) → from < stop → (n t : ℕ) → n + t ≡ word_at from xs
       → n % 16 ≡ 0 → t < 3 → (q : Packing lay gap stop (from + n) to moves xs) × (q.moved ≡ p.moved)
-  next-free p l n t e w k = next-free-at p.gone p.moved p.rest p.split p.those p.state l n t e w k
+  next-free p l n t e w k = next-free-at _ _ _ p.split p.those p.state l n t e w k
 
   next-mover-at : (gone moved rest : List Block) → gone ++ rest ≡ lay.run → moved ≡ movers gone
       → PackingAt lay gap stop from to moves xs moved rest → from < stop → (n t s : ℕ) → n + t ≡ word_at from xs → n % 16 ≡ 0 → t ≡ 3 → s ≡ word_at (from + 8) xs
       → NextMover lay gap stop from to moves xs moved n s
-  next-mover-at gone moved [] j o q l n t s e w k v = let u = q.up in absurd (omega (arith, u, l))
+  next-mover-at gone moved [] j o q l n t s e w k v = absurd (omega (arith, l))
   next-mover-at gone moved (Free m ∷ rest) j o q l n t s e w k v =
-      let i = stop-inside q.kept in
-      let f = first-reads lay.resource xs from i.1 (Free m) q.high.0 in
+      let f = first-reads lay.resource xs from (stop-inside q.kept).1 (Free m) q.high.0 in
       let same = same_parts n t m 0 (e ∙ f) w q.high.0.whole (omega (arith, k)) (omega arith) in
       absurd (let j = same.1 in omega (arith, j, k))
   next-mover-at gone moved (Nonrelocatable id content ∷ rest) j o q l n t s e w k v = absurd (false≢true q.in_run.0)
@@ -192,9 +174,8 @@ module _ (lay : Lay) (place stop : ℕ) (r : IsRunFrom lay place stop) (gap from
       let sl = slot-length lay place stop r gap from to moves xs moved slot flags content rest q in
       let ls = length-slid lay place stop r gap from to moves xs moved slot flags content rest q in
       let mine = v ∙ slot-reads lay.resource xs from i.1 slot flags content (omega (arith, sl, ls, i)) q.high.0 in
-      let u = q.up in
       let base : NextMover lay gap stop from to moves xs moved (size b) slot = record {
-        inside = (omega (arith, u), i.0);
+        inside = (omega arith, i.0);
         even = slot-even (head_of lay.resource) lay.bytes slot blocks r.lies.tiles a;
         slot_inside = omega (arith, sl, ls);
         leads = q.lead_high.0;
@@ -207,7 +188,7 @@ module _ (lay : Lay) (place stop : ℕ) (r : IsRunFrom lay place stop) (gap from
               ∙ sym (filter-append is_mover gone (b ∷ []));
           state = subst (λ j. PackingAt lay gap stop (from + size b) (to + size b) (moves + j)
               (written slot (word (to + gap)) (written to (piece from (size b) xs) xs)) (moved ++ b ∷ []) rest) (sym h)
-              (step-move lay place stop r gap from to moves xs moved slot flags content rest q);
+              (step-move _ _ _ r _ _ _ _ _ _ _ _ _ _ q);
         };
         block = b;
         more = λ m h. refl;
@@ -217,25 +198,20 @@ module _ (lay : Lay) (place stop : ℕ) (r : IsRunFrom lay place stop) (gap from
 
   pub next-mover : (p : Packing lay gap stop from to moves xs) → from < stop → (n t s : ℕ) → n + t ≡ word_at from xs
       → n % 16 ≡ 0 → t ≡ 3 → s ≡ word_at (from + 8) xs → NextMover lay gap stop from to moves xs p.moved n s
-  next-mover p l n t s e w k v = next-mover-at p.gone p.moved p.rest p.split p.those p.state l n t s e w k v
+  next-mover p l n t s e w k v = next-mover-at _ _ _ p.split p.those p.state l n t s e w k v
 
   -- the slots after the run's end
   leads-above : (moved : List Block) → PackingAt lay gap stop from to moves xs moved [] → from ≡ stop
       → Leads (sizes lay.below + sizes lay.run) lay.above xs
-  leads-above moved q e =
-      let p = r.bottom in
-      let t = r.top in
-      subst (λ k. Leads k lay.above xs) (omega (arith, e, p, t)) q.lead_high
+  leads-above moved q e = subst (λ k. Leads k lay.above xs) (omega (arith, e)) q.lead_high
 
   -- no Free bytes
   pub finish-none-at : (moved : List Block) → PackingAt lay gap stop from to moves xs moved [] → from ≡ stop → from ≤ to
       → Packed lay gap moves xs
   finish-none-at moved q e l =
       let head = head_of lay.resource in
-      let f = q.free in
-      let d = q.down in
-      let g : free_sum lay.run ≡ 0 = (let k = free_sum-span lay.run in omega (arith, k, f, d, l)) in
-      let same : from ≡ to = omega (arith, d, l) in
+      let g : free_sum lay.run ≡ 0 = (omega (arith, free_sum-span, l)) in
+      let same : from ≡ to = omega (arith, l) in
       let those : moved ≡ movers lay.run = sym (append-nil moved) ∙ q.order in
       let shape : settle lay.run ≡ moved = ap (λ k. movers lay.run ++ free k) g ∙ append-nil (movers lay.run)
       ∙ sym those in
@@ -250,7 +226,7 @@ module _ (lay : Lay) (place stop : ℕ) (r : IsRunFrom lay place stop) (gap from
         leads = subst (λ k. Leads (sizes lay.below + gap) k xs) those q.lead_moved;
         high = leads-above moved q e;
         others = q.others;
-        moved = (let c = q.count in omega (arith, c));
+        moved = (omega arith);
         kept = q.kept;
       }
 
@@ -259,28 +235,25 @@ module _ (lay : Lay) (place stop : ℕ) (r : IsRunFrom lay place stop) (gap from
       → Packed lay gap moves (written to (word (from - to)) xs)
   finish-free-at moved q e l =
       let head = head_of lay.resource in
-      let f = q.free in
-      let v = q.whole in
       let b = packed-bounds lay place stop r gap from to moves xs moved [] q in
       let w = length-word (from - to) in
-      let g : free_sum lay.run ≡ from - to = (let k = free_sum-span lay.run in omega (arith, k, f)) in
+      let g : free_sum lay.run ≡ from - to = (omega (arith, free_sum-span)) in
       let zs = written to (word (from - to)) xs in
-      let n = length-written to (word (from - to)) xs (omega (arith, w, b, v, l)) in
+      let n = length-written to (word (from - to)) xs (omega (arith, w, b, l)) in
       let gone : take (from - to) (drop to zs) ++ drop from zs ≡ drop to zs =
       ap (λ k. take (from - to) (drop to zs) ++ k) (sym (drop-drop (from - to) to zs
       ∙ ap (λ k. drop k zs) (let m : to + (from - to) ≡ from = omega (arith, l) in m)))
       ∙ take-append-drop (from - to) (drop to zs) in
       let len = length-take-le (from - to) (drop to zs) (let d = length-drop to zs in omega (arith, d, n, b)) in
       let tile : Tile (head (Free (from - to))) (from - to) (take (from - to) (drop to zs)) =
-      free-tile lay.resource (from - to) (take (from - to) (drop to zs)) len (omega (arith, v))
-      (omega (arith, v, l)) (take-take 4 (from - to) (drop to zs) (omega (arith, v, l))
-      ∙ piece-written to (word (from - to)) xs 4 (sym w) (omega (arith, b, l))) in
+      free-tile lay.resource _ _ len (omega arith)
+      (omega (arith, l)) (take-take 4 (from - to) (drop to zs) (omega (arith, l))
+      ∙ piece-written _ _ xs 4 (sym w) (omega (arith, b, l))) in
       let low : Tiles head (take to zs) (lay.below ++ moved) =
       subst (λ k. Tiles head k (lay.below ++ moved))
       (sym (take-written_below to (word (from - to)) xs to (omega arith) (omega (arith, b, l)))) q.low in
       let high : Tiles head (drop from zs) lay.above = subst (λ k. Tiles head k lay.above)
-      (sym (drop-written_above to (word (from - to)) xs from (omega (arith, w, v, l)) (omega (arith, b, l))))
-      q.high in
+      (sym (drop-written_above to (word (from - to)) xs from (omega (arith, w, l)) (omega (arith, b, l)))) q.high in
       let mid = tiles-one head (Free (from - to)) (take (from - to) (drop to zs)) len tile in
       let some : free (free_sum lay.run) ≡ Free (from - to) ∷ [] = ap free g
       ∙ free-some (from - to) (omega (arith, l)) in
@@ -291,13 +264,12 @@ module _ (lay : Lay) (place stop : ℕ) (r : IsRunFrom lay place stop) (gap from
       append_assoc lay.below moved (Free (from - to) ∷ lay.above)
       ∙ ap (λ k. lay.below ++ k) (sym (append_assoc moved (Free (from - to) ∷ []) lay.above))
       ∙ ap (λ k. lay.below ++ (k ++ lay.above)) (sym shape) in
-      let tiles = tiles-append head (take to zs) (take (from - to) (drop to zs) ++ drop from zs) (lay.below ++ moved)
-      (Free (from - to) ∷ lay.above) low (tiles-append head (take (from - to) (drop to zs)) (drop from zs)
-      (Free (from - to) ∷ []) lay.above mid high) in
+      let tiles = tiles-append head _ _ _ _ low (tiles-append head _ (drop from zs)
+      (Free (from - to) ∷ []) _ mid high) in
       let bytes : take to zs ++ (take (from - to) (drop to zs) ++ drop from zs) ≡ zs = ap (λ k. take to zs ++ k) gone
       ∙ take-append-drop to zs in
       let P : ℕ → Type 0 = Clear to (length (word (from - to))) in
-      let c = all-clear lay place stop r to (length (word (from - to))) b.0 (omega (arith, w, v, l, e)) in
+      let c = all-clear lay place stop r to (length (word (from - to))) b.0 (omega (arith, w, l, e)) in
       let cs = subst (λ k. Each P k) (sym q.named) c in
       let clear-low = subst (λ k. Each P k) (names-append lay.below moved)
       (each-left P (names (lay.below ++ moved)) (names lay.above) cs) in
@@ -306,30 +278,23 @@ module _ (lay : Lay) (place stop : ℕ) (r : IsRunFrom lay place stop) (gap from
       record {
         tiles = subst (λ k. Tiles head k (lay.below ++ (settle lay.run ++ lay.above))) bytes
             (subst (λ k. Tiles head (take to zs ++ (take (from - to) (drop to zs) ++ drop from zs)) k) blocks tiles);
-        low = leads-written to (word (from - to)) xs 0 lay.below at
-            (each-left P (names lay.below) (names moved) clear-low) q.lead_low;
-        leads = subst (λ k. Leads (sizes lay.below + gap) k zs) those
-            (leads-written to (word (from - to)) xs (sizes lay.below + gap) moved at
+        low = leads-written _ _ _ 0 _ at (each-left P (names lay.below) (names moved) clear-low) q.lead_low;
+        leads = subst (λ k. Leads (sizes lay.below + gap) k zs) those (leads-written _ _ _ _ _ at
             (each-right P (names lay.below) (names moved) clear-low) q.lead_moved);
-        high = leads-written to (word (from - to)) xs (sizes lay.below + sizes lay.run) lay.above at clear-high
-            (leads-above moved q e);
+        high = leads-written _ _ _ _ _ at clear-high (leads-above moved q e);
         others = λ s i a.
             let outside : Clear to (length (word (from - to))) s = elim (slot-spot lay place stop r s i) [
-              | inl j ↦ inl (let h = j.0 in omega (arith, h, b))
-              | inr j ↦ inr (let h = j.0 in omega (arith, h, w, v, l, e))
+              | inl j ↦ inl (omega (arith, b))
+              | inr j ↦ inr (omega (arith, w, l, e))
             ] in
             piece-clear to (word (from - to)) xs s (omega (arith, b, l)) outside ∙ q.others s i a;
-        moved = (let c = q.count in omega (arith, c));
+        moved = (omega arith);
         kept = n ∙ q.kept;
       }
 
   -- no more blocks come lower than there are bytes
   pub moves-bound : Packing lay gap stop from to moves xs → moves ≤ 134217728
   moves-bound p =
-      let c = p.state.count in
-      let b = run-bounds lay place stop r in
-      let s = r.small in
       let t = tiles-split (head_of lay.resource) lay.bytes lay.below (lay.run ++ lay.above) r.lies.tiles in
       let k = lowered-span (head_of lay.resource) (drop (sizes lay.below) lay.bytes) 0 lay.run lay.above t.1 in
-      let e = r.top in
-      omega (arith, c, k, b, s, e)
+      omega (arith, k, run-bounds)

@@ -16,12 +16,11 @@ use Rattle.block_store.proofs.Zone.Passing.{filter-none}
 -- Free blocks one after another are one Free block
 frees : (n : ℕ) (run above : List Block) → Loose run → count is_mover run ≡ 0
     → tidy (Free n ∷ (run ++ above)) ≡ tidy (free (n + free_sum run) ++ above)
-frees n [] above l e =
-    tidy-free n above ∙ (let z : n ≡ n + 0 = omega arith in ap (λ k. tidy (free k ++ above)) z)
+frees n [] above l e = tidy-free n _ ∙ (let z : n ≡ n + 0 = omega arith in ap (λ k. tidy (free k ++ above)) z)
 frees n (Free m ∷ run) above l e =
     let z : (n + m) + free_sum run ≡ n + (m + free_sum run) = omega arith in
     let c : count is_mover run ≡ 0 = (let d : 0 + count is_mover run ≡ 0 = e in omega arith) in
-    tidy-free n (Free m ∷ (run ++ above)) ∙ joined-free n m (run ++ above) ∙ sym (tidy-free (n + m) (run ++ above))
+    tidy-free n _ ∙ joined-free n m _ ∙ sym (tidy-free _ (run ++ above))
     ∙ frees (n + m) run above l.1 c ∙ ap (λ k. tidy (free k ++ above)) z
 frees n (Nonrelocatable id content ∷ run) above l e = let f : false ≡ true = l.0 in cc
 frees n (Masters ∷ run) above l e = let f : false ≡ true = l.0 in cc
@@ -46,6 +45,5 @@ still-run (Relocatable id flags content ∷ run) above l e =
 pub still : (place : ℕ) (zone : List Block) (r : RunSpot) → tidy zone ≡ zone → run_at place zone ≡ Some r
     → lowered_in_run r.run ≡ 0 → tidy (with_run settle r) ≡ zone
 still place zone r t e z =
-    ap tidy (append_assoc r.below (settle r.run) r.above)
-    ∙ tidy-below r.below (settle r.run ++ r.above) (r.run ++ r.above)
+    ap tidy (append_assoc r.below (settle r.run) r.above) ∙ tidy-below r.below _ _
     (still-run r.run r.above (run_at-parts place zone r e).loose z) ∙ ap tidy (run_at-is place zone r e) ∙ t

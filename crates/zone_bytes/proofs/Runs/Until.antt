@@ -25,13 +25,10 @@ falling-append : (gap : ℕ) (gone rest : List Block)
     rest
 falling-append gap [] rest =
     let e : gap ≡ gap + 0 = omega arith in
-    let f = ap (λ g. lowered_in_run_from g rest) e in
-    omega (arith, f)
+    omega (arith, ap (λ g. lowered_in_run_from g rest) e)
 falling-append gap (b ∷ gone) rest =
-    let r = falling-append (gap + free_of b) gone rest in
     let e : gap + free_of b + free_sum gone ≡ gap + (free_of b + free_sum gone) = omega arith in
-    let f = ap (λ g. lowered_in_run_from g rest) e in
-    omega (arith, r, f)
+    omega (arith, falling-append (gap + free_of b) gone rest, ap (λ g. lowered_in_run_from g rest) e)
 
 -- each block has bytes
 abbrev IsSome : Block → Type 0
@@ -40,9 +37,7 @@ IsSome b = 0 < size b
 each-some : (head : Block → List ℕ) (xs : List ℕ) (rest above : List Block) → Tiles head xs (rest ++ above)
     → Each IsSome rest
 each-some head xs [] above t = tt
-each-some head xs (b ∷ rest) above t =
-    let s = t.0.some in
-    (omega (arith, s), each-some head (drop (size b) xs) rest above t.1)
+each-some head xs (b ∷ rest) above t = (omega arith, each-some head (drop (size b) xs) rest above t.1)
 
 le-none : (n : ℕ) → 0 < n → nat_le n 0 ≡ false
 le-none n l = grind (arith, nat_tests, l)
@@ -52,20 +47,19 @@ le-more n m = grind (arith, nat_tests)
 
 first-gone : (gone rest : List Block) → Each IsSome rest → first_in (sizes gone) (gone ++ rest) ≡ gone
 first-gone [] [] s = refl
-first-gone [] (b ∷ rest) s = ap (λ v. cond v (b ∷ first_in (0 - size b) rest) []) (le-none (size b) s.0)
+first-gone [] (b ∷ rest) s = ap (λ v. cond v (b ∷ first_in (0 - size b) rest) []) (le-none _ s.0)
 first-gone (b ∷ gone) rest s =
     let e : size b + sizes gone - size b ≡ sizes gone = omega arith in
-    ap (λ v. cond v (b ∷ first_in (size b + sizes gone - size b) (gone ++ rest)) []) (le-more (size b) (sizes gone))
-    ∙ ap (λ n. b ∷ first_in n (gone ++ rest)) e ∙ ap (λ l. b ∷ l) (first-gone gone rest s)
+    ap (λ v. cond v (b ∷ first_in (size b + sizes gone - size b) (gone ++ rest)) []) (le-more _ _)
+    ∙ ap (λ n. b ∷ first_in n (gone ++ rest)) e ∙ ap (λ l. b ∷ l) (first-gone _ _ s)
 
 left-rest : (gone rest : List Block) → Each IsSome rest → left_behind (sizes gone) (gone ++ rest) ≡ rest
 left-rest [] [] s = refl
-left-rest [] (b ∷ rest) s = ap (λ v. cond v (left_behind (0 - size b) rest) (b ∷ rest)) (le-none (size b) s.0)
+left-rest [] (b ∷ rest) s = ap (λ v. cond v (left_behind (0 - size b) rest) (b ∷ rest)) (le-none _ s.0)
 left-rest (b ∷ gone) rest s =
     let e : size b + sizes gone - size b ≡ sizes gone = omega arith in
     ap (λ v. cond v (left_behind (size b + sizes gone - size b) (gone ++ rest)) (b ∷ (gone ++ rest)))
-    (le-more (size b) (sizes gone))
-    ∙ ap (λ n. left_behind n (gone ++ rest)) e ∙ left-rest gone rest s
+    (le-more _ (sizes gone)) ∙ ap (λ n. left_behind n (gone ++ rest)) e ∙ left-rest gone rest s
 
 module _ (lay : Lay) (gone rest : List Block) (split : gone ++ rest ≡ lay.run) where
   -- cutting a run leaves all blocks
@@ -99,28 +93,19 @@ module _ (lay : Lay) (gone rest : List Block) (split : gone ++ rest ≡ lay.run)
     module _ (gap from to moves : ℕ) (xs : List ℕ) (moved : List Block) (those : moved ≡ movers gone)
         (q : PackingAt lay gap stop from to moves xs moved rest) where
       pub cut-at : place + sizes gone ≡ from
-      cut-at =
-          let u = q.up in
-          let t = r.top in
-          let s = cut-span in
-          omega (arith, u, t, s)
+      cut-at = omega (arith, cut-span)
 
       cut-gap : from ≡ to + free_sum gone
-      cut-gap =
-          let f = q.free in
-          let s = cut-free in
-          omega (arith, f, s)
+      cut-gap = omega (arith, cut-free)
 
       cut-packing : PackingAt (cut lay gone rest) gap from from to moves xs moved []
       cut-packing =
-          let g = cut-gap in
-          let d = q.down in
           record {
             low = q.low;
             high = q.high;
             order = append-nil moved ∙ those;
-            free = omega (arith, g);
-            down = d;
+            free = omega (arith, cut-gap);
+            down = q.down;
             up = omega arith;
             whole = q.whole;
             kept = q.kept;
@@ -130,27 +115,20 @@ module _ (lay : Lay) (gone rest : List Block) (split : gone ++ rest ≡ lay.run)
             lead_high = q.lead_high;
             named = q.named ∙ ap names (sym cut-same);
             count =
-                (let c = q.count in
-                let f = cut-falling in
-                let e : from - to ≡ 0 + free_sum gone = omega (arith, g) in
-                let h = ap (λ k. lowered_in_run_from k rest) e in
-                omega (arith, c, f, h));
+                (let e : from - to ≡ 0 + free_sum gone = omega (arith, cut-gap) in
+                omega (arith, cut-falling, ap (λ k. lowered_in_run_from k rest) e));
             others = subst (λ l. SameOthers l lay.bytes xs) (sym cut-same) q.others;
           }
 
       cut-top : to ≡ place + sizes (movers gone)
       cut-top =
-          let b = packed-bounds lay place stop r gap from to moves xs moved rest q in
-          let a = span-append lay.below moved in
-          let o = ap sizes those in
-          let w = r.bottom in
-          omega (arith, b, a, o, w)
+          omega (arith, packed-bounds lay place stop r gap from to moves xs moved rest q, span-append, ap sizes those)
 
       module _ (enough : ℕ) (ended : (rest ≡ []) ⊎ ((place < to) × (enough ≤ from - to))) where
         end : (rest ≡ []) ⊎ ((place < to) × (enough ≤ free_sum gone))
         end = elim ended [
           | inl n ↦ inl n
-          | inr e ↦ let g = cut-gap in inr (e.0, omega (arith, e.1, g))
+          | inr e ↦ inr (e.0, omega (arith, e.1, cut-gap))
         ]
 
         until-at : (ys : List ℕ) → Packed (cut lay gone rest) gap moves ys
@@ -164,39 +142,34 @@ module _ (lay : Lay) (gone rest : List Block) (split : gone ++ rest ≡ lay.run)
         }
 
         bytes-gone : sizes gone ≡ from - sizes lay.below
-        bytes-gone = let b = r.bottom in let t = cut-at in omega (arith, b, t)
+        bytes-gone = omega (arith, cut-at)
 
         some-rest : Each IsSome rest
         some-rest = each-some (head_of lay.resource) (drop from xs) rest lay.above q.high
 
         pub gone-is : gone ≡ gone_to lay from
-        gone-is = sym (first-gone gone rest some-rest)
-            ∙ (let e = bytes-gone in ap (λ n. first_in n (gone ++ rest)) e)
+        gone-is = sym (first-gone _ _ some-rest) ∙ (ap (λ n. first_in n (gone ++ rest)) bytes-gone)
             ∙ ap (first_in (from - sizes lay.below)) split
 
         rest-is : rest ≡ rest_from lay from
-        rest-is = sym (left-rest gone rest some-rest)
-            ∙ (let e = bytes-gone in ap (λ n. left_behind n (gone ++ rest)) e)
+        rest-is = sym (left-rest gone rest some-rest) ∙ (ap (λ n. left_behind n (gone ++ rest)) bytes-gone)
             ∙ ap (left_behind (from - sizes lay.below)) split
 
         until : (ys : List ℕ) → Packed (cut lay gone rest) gap moves ys → PackedUntil lay place gap enough moves to from ys
         until ys p = subst (λ g. UntilAt lay place gap enough moves to from ys g (rest_from lay from)) gone-is
-            (subst (UntilAt lay place gap enough moves to from ys gone) rest-is (until-at ys p))
+            (subst (UntilAt lay place gap enough moves to from ys gone) rest-is (until-at _ p))
 
         pub until-none : from ≤ to → PackedUntil lay place gap enough moves to from xs
-        until-none l = until xs (finish-none-at (cut lay gone rest) place from (cut-run from cut-at) gap from to moves xs
-            moved cut-packing refl l)
+        until-none l = until _ (finish-none-at _ _ _ (cut-run _ cut-at) _ _ _ _ _ _ cut-packing refl l)
 
         pub until-free : to < from → PackedUntil lay place gap enough moves to from (written to (word (from - to)) xs)
-        until-free l = until (written to (word (from - to)) xs) (finish-free-at (cut lay gone rest) place from
-            (cut-run from cut-at) gap from to moves xs moved cut-packing refl l)
+        until-free l = until _ (finish-free-at _ _ _ (cut-run _ cut-at) _ _ _ _ _ _ cut-packing refl l)
 
 -- at the end of the run nothing is left
 pub none-left : (lay : Lay) (gap stop from to moves : ℕ) (xs : List ℕ) (moved rest : List Block)
     → PackingAt lay gap stop from to moves xs moved rest → stop ≤ from → rest ≡ []
 none-left lay gap stop from to moves xs moved [] q l = refl
-none-left lay gap stop from to moves xs moved (b ∷ rest) q l =
-    let u = q.up in let s = q.high.0.some in absurd (omega (arith, u, s, l))
+none-left lay gap stop from to moves xs moved (b ∷ rest) q l = absurd (omega (arith, l))
 
 -- a run without enough Free bytes is packed whole
 module _ (lay : Lay) (place gap enough moves top stop : ℕ) (xs : List ℕ) (gone rest : List Block)
@@ -205,11 +178,7 @@ module _ (lay : Lay) (place gap enough moves top stop : ℕ) (xs : List ℕ) (go
     pub all-gone : length lay.bytes < enough → rest ≡ []
     all-gone l = elim p.ended [
       | inl n ↦ n
-      | inr e ↦
-          let b = run-bounds lay place (place + sizes lay.run) r in
-          let f = cut-free lay gone rest p.split in
-          let m = span-movers lay.run r.in_run in
-          absurd (omega (arith, l, e, b, f, m))
+      | inr e ↦ absurd (omega (arith, l, e, run-bounds, cut-free, span-movers))
     ]
 
     module _ (n : rest ≡ []) where

@@ -25,11 +25,10 @@ module _ (xs : List ℕ) (first count : ℕ) (i : IsSound xs first count) (numbe
   a-handle = (table, handle)
 
   -- the place that was read is that of the handle's block
-  pub place-found : (r : Option ℕ)
-      → ((t : Table) → IsHandle xs t number
+  pub place-found : (r : Option ℕ) → ((t : Table) → IsHandle xs t number
       → r ≡ option_map (λ (s : Spot). sizes s.below) (spot (is_relocatable number) t.blocks))
       → FindsLowest (is_relocatable number) (zone_in xs) r
-  place-found r e = finds (is_relocatable number) (zone_in xs) r (apart-tidied (zone_in xs) i.tidied) (e table handle)
+  place-found r e = finds (is_relocatable number) _ r (apart-tidied _ i.tidied) (e table handle)
 
   pub flag-read : (r : Bool) → ((t : Table) → IsHandle xs t number → r ≡ is_resource (t.slots number))
       → r ≡ is_resource (slot_in xs number)
@@ -39,5 +38,4 @@ module _ (xs : List ℕ) (first count : ℕ) (i : IsSound xs first count) (numbe
       → ((t : Table) → IsHandle xs t number → Lays new t.blocks (set_slot t.slots number (Used r)) t.unused)
       → Made new first count (zone_in xs) (set_slot (slot_in xs) number (Used r))
   marked-made r new e =
-      made new (zone_in xs) (set_slot (slot_in xs) number (Used r)) i.unused
-      (e table handle) first count i.tidied i.begins i.counted
+      made _ _ (set_slot (slot_in xs) number (Used r)) _ (e table handle) _ _ i.tidied i.begins i.counted

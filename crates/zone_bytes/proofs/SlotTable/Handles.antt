@@ -62,7 +62,7 @@ behind xs o b blocks s e k = record {
 pub has-block : (xs : List ℕ) (o : ℕ) (blocks : List Block) (s : ℕ) → Leads o blocks xs → Has (names blocks) s
     → HasBlock xs o blocks s
 has-block xs o [] s l h = absurd h
-has-block xs o (Free n ∷ blocks) s l h = behind xs o (Free n) blocks s refl (has-block xs (o + n) blocks s l.1 h)
+has-block xs o (Free n ∷ blocks) s l h = behind _ o _ _ s refl (has-block _ (o + n) blocks s l.1 h)
 has-block xs o (Nonrelocatable id content ∷ blocks) s l h =
     behind xs o (Nonrelocatable id content) blocks s refl (has-block xs (o + size (Nonrelocatable id content)) blocks s l.1 h)
 has-block xs o (Masters ∷ blocks) s l h = behind xs o Masters blocks s refl (has-block xs (o + 272) blocks s l.1 h)
@@ -77,9 +77,7 @@ has-block xs o (Relocatable id flags content ∷ blocks) s l h = elim (eqb_tells
         (option_map (raised (Relocatable s flags content)) (spot (is_relocatable s) blocks))) (self s);
     leads = ap (λ k. piece k 4 xs) (sym t.1) ∙ l.0 ∙ ap word (let z : o ≡ o + 0 = omega arith in z);
   })
-  | inr t ↦ behind xs o (Relocatable id flags content) blocks s t.0
-      (has-block xs (o + size (Relocatable id flags content)) blocks s l.1
-      (elim h [ inl e ↦ absurd (t.1 e) | inr k ↦ k ]))
+  | inr t ↦ behind _ o _ _ s t.0 (has-block _ _ blocks s l.1 (elim h [ inl e ↦ absurd (t.1 e) | inr k ↦ k ]))
 ]
   where
     self : (s : ℕ) → (s == s) ≡ true
@@ -138,22 +136,16 @@ module _ (xs : List ℕ) (blocks : List Block) (slots : ℕ → Slot) (unused : 
       let here : Block = Relocatable s b.flags b.content in
       let z = size here in
       let place = sizes b.below in
-      let t = tiles-split (head_of resource) xs b.below (here ∷ b.above)
-      (subst (Tiles (head_of resource) xs) b.whole h.lies.tiles) in
-      let w = span-whole (head_of resource) (take place xs) b.below t.0 in
+      let t = tiles-split (head_of resource) _ _ _ (subst (Tiles (head_of resource) xs) b.whole h.lies.tiles) in
       let q = says z (z + 3) (length b.content) s (flag_word b.flags (resource s)) b.content (drop place xs) t.1.0 in
       let g = flag_word-small b.flags (resource s) in
-      let f = t.1.0.fits in
-      let m = t.1.0.some in
-      let d = length-drop place xs in
       record {
         block = b;
         low = refl;
-        even = w;
+        even = (span-whole (head_of resource) (take place xs) b.below t.0);
         tile = t.1.0;
-        fits = omega (arith, f, m, d);
-        flags_are = read_back (place + 12) (flag_word b.flags (resource s)) xs (omega (arith, g))
-            (word-at place 12 xs ∙ q.2);
+        fits = omega (arith, length-drop place xs);
+        flags_are = read_back _ _ _ (omega (arith, g)) (word-at place 12 xs ∙ q.2);
       }
 
   module _ (s : ℕ) (used : IsTrue (is_used (slots s))) where
@@ -173,20 +165,18 @@ module _ (xs : List ℕ) (blocks : List Block) (slots : ℕ → Slot) (unused : 
     ]
 
     emptied-reads : IsEmptyHandle xs blocks s flag.0 → word_at s xs ≡ empty_word flag.0
-    emptied-reads e = read_back s (empty_word flag.0) xs (emptied-small flag.0) e.leads
+    emptied-reads e = read_back s _ _ (emptied-small _) e.leads
 
     block-reads : (b : HasBlock xs 0 blocks s) → word_at s xs ≡ sizes b.below
     block-reads b =
         let z : 0 + sizes b.below ≡ sizes b.below = omega arith in
-        let f = (block-here s b).fits in
-        let m = h.small in
-        read_back s (sizes b.below) xs (omega (arith, f, m)) (b.leads ∙ ap word z)
+        read_back s (sizes b.below) xs (omega (arith, (block-here s b).fits)) (b.leads ∙ ap word z)
 
     emptied-word : IsEmptyHandle xs blocks s flag.0 → place_of_word (word_at s xs) ≡ None
     emptied-word e = ap place_of_word (emptied-reads e) ∙ word-emptied flag.0
 
     block-word : (b : HasBlock xs 0 blocks s) → place_of_word (word_at s xs) ≡ Some (sizes b.below)
-    block-word b = ap place_of_word (block-reads b) ∙ word-place (sizes b.below) (block-here s b).even
+    block-word b = ap place_of_word (block-reads b) ∙ word-place _ (block-here s b).even
 
     -- the slot's word is the place of its block
     pub leads-is : place_of_word (word_at s xs) ≡ option_map (λ (q : Spot). sizes q.below)
@@ -215,11 +205,10 @@ module _ (xs : List ℕ) (blocks : List Block) (slots : ℕ → Slot) (unused : 
     -- the resource flag, in the header and in the word of an empty handle
     pub resource-here : (place : ℕ) → place_of_word (word_at s xs) ≡ Some place
         → nat_le 32 (word_at (place + 12) xs % 64) ≡ is_resource (slots s)
-    resource-here place w = let b = here-of place w in ap (λ n. nat_le 32 (n % 64)) b.flags_are
-        ∙ resource-bit b.block.flags (resource s)
+    resource-here place w = ap (λ n. nat_le 32 (n % 64)) (here-of _ w).flags_are ∙ resource-bit _ _
 
     pub resource-gone : place_of_word (word_at s xs) ≡ None → (word_at s xs == 18) ≡ is_resource (slots s)
-    resource-gone w = ap (λ n. n == 18) (emptied-reads (gone-of w)) ∙ emptied-tells flag.0 ∙ sym flag-is
+    resource-gone w = ap (λ n. n == 18) (emptied-reads (gone-of w)) ∙ emptied-tells _ ∙ sym flag-is
 
 -- a slot's word, and where it leads, as they were read
 pub leads-read : (xs : List ℕ) (s w : ℕ) (place : Option ℕ) → w ≡ word_at s xs → place ≡ place_of_word w

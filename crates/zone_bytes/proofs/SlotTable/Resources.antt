@@ -55,27 +55,25 @@ module _ (xs : List ℕ) (blocks : List Block) (slots : ℕ → Slot) (unused : 
 
   -- an unused slot is another, and stays unused
   unused-still : (t : ℕ) → slots t ≡ Unused → now t ≡ Unused
-  unused-still t e = set-other slots s t (Used r) (λ k. used-no-unused was (sym u ∙ ap slots (sym k) ∙ e)) ∙ e
+  unused-still t e = set-other slots s t _ (λ k. used-no-unused _ (sym u ∙ ap slots (sym k) ∙ e)) ∙ e
 
   still-unused : Each (λ t. IsSlot t blocks × (now t ≡ Unused)) unused
   still-unused = each-map (λ t. IsSlot t blocks × (slots t ≡ Unused)) (λ t. IsSlot t blocks × (now t ≡ Unused))
-      (λ t q. (q.0, unused-still t q.1)) unused h.unused_slots
+      (λ t q. (q.0, unused-still t q.1)) _ h.unused_slots
 
   apart-unused : Each (Apart s) unused
   apart-unused = each-map (λ t. IsSlot t blocks × (slots t ≡ Unused)) (Apart s)
-      (λ t q. apart-of xs blocks slots unused h s t is-slot q.0 (λ e. used-no-unused was (sym u ∙ ap slots e ∙ q.1)))
-      unused h.unused_slots
+      (λ t q. apart-of _ _ slots _ h s t is-slot q.0 (λ e. used-no-unused _ (sym u ∙ ap slots e ∙ q.1)))
+      _ h.unused_slots
 
   -- the flag in the word of an empty handle
   pub lays-emptied : Each (Apart s) (names blocks) → Lays (written s (word (empty_word r)) xs) blocks now unused
   lays-emptied a =
       let n = empty_word r in
       let b = slot-in xs blocks slots unused h s is-slot in
-      let w = length-word n in
-      lays-written xs blocks slots unused h s n (Used r) unused is-slot a (λ t d e k. k)
-      (is-slot, inr (a, piece-written s (word n) xs 4 (sym w) (omega (arith, b))))
-      (chain-written xs blocks slots unused h s n unused (omega (arith, b)) apart-unused h.chain)
-      still-unused h.once
+      lays-written _ _ slots _ h s n _ _ is-slot a (λ t d e k. k)
+      (is-slot, inr (a, piece-written s _ _ 4 (sym (length-word n)) (omega (arith, b))))
+      (chain-written _ _ slots _ h s n _ (omega (arith, b)) apart-unused h.chain) still-unused h.once
 
   -- the flag in a header
   module _ (new : List ℕ) (lies : Lies (λ t. is_resource (now t)) blocks new) (mine : Has (names blocks) s)
@@ -96,17 +94,16 @@ module _ (xs : List ℕ) (blocks : List Block) (slots : ℕ → Slot) (unused : 
       lies = lies;
       has_slots = h.has_slots;
       placed = h.placed;
-      small = (let m = h.small in omega (arith, l, m));
+      small = (omega (arith, l));
       used = each-map (λ t. IsUsed (slots t)) (λ t. IsUsed (now t)) used-still (names blocks) h.used;
       says = λ t. elim (cases_eq t s) [
         | inl e ↦ subst (λ k. Says blocks new unused k (now k)) (sym e)
-            (subst (Says blocks new unused s) (sym (set-same slots s s (Used r) refl)) (is-slot, inl mine))
-        | inr d ↦ subst (Says blocks new unused t) (sym (set-other slots s t (Used r) d))
-            (says-still t (slots t) (h.says t))
+            (subst (Says blocks new unused s) (sym (set-same slots s s _ refl)) (is-slot, inl mine))
+        | inr d ↦ subst (Says blocks new unused t) (sym (set-other slots s t _ d)) (says-still t _ (h.says t))
       ];
-      chain = chain-kept xs new unused
+      chain = chain-kept _ _ _
           (each-map (λ t. IsSlot t blocks × (slots t ≡ Unused)) (λ t. piece t 4 new ≡ piece t 4 xs)
-          (λ t q. same t q.0) unused h.unused_slots) h.chain;
+          (λ t q. same t q.0) _ h.unused_slots) h.chain;
       unused_slots = still-unused;
       once = h.once;
     }
@@ -149,7 +146,7 @@ module _ (xs : List ℕ) (below : List Block) (s : ℕ) (flags : Flags) (content
     -- the resource flags of the other blocks stay
     agree : (ns : List ℕ) → Each (Apart s) ns → Each (λ t. is_resource (slots t) ≡ is_resource (marked t)) ns
     agree ns a = each-map (Apart s) (λ t. is_resource (slots t) ≡ is_resource (marked t))
-        (λ t p. sym (ap is_resource (set-other slots s t (Used r) (λ e. apart-other s t p (sym e))))) ns a
+        (λ t p. sym (ap is_resource (set-other slots s t _ (λ e. apart-other s t p (sym e))))) _ a
 
     apart-all : Pairs Apart (names below ++ s ∷ names above)
     apart-all = subst (Pairs Apart) (names-append below (here ∷ above)) h.has_slots.apart
@@ -158,67 +155,55 @@ module _ (xs : List ℕ) (below : List Block) (s : ℕ) (flags : Flags) (content
     parts = tiles-split old-head xs below (here ∷ above) h.lies.tiles
 
     fits : top ≤ length xs
-    fits = let f = parts.1.0.fits in let d = length-drop place xs in let m = parts.1.0.some in omega (arith, f, d, m)
+    fits = omega (arith, parts.1.0.fits, length-drop place xs)
 
     same : SameOutside place top xs new
     same =
-        let l = length-word (flag_word flags r) in
-        let m = parts.1.0.some in
-        let f = fits in
-        outside-written place top xs xs (place + 12) (word (flag_word flags r)) (omega arith) (omega (arith, l, m))
-        (outside-same place top xs (omega arith) f)
+        outside-written _ _ _ _ _ (word (flag_word flags r)) (omega arith) (omega (arith, length-word))
+        (outside-same place top xs (omega arith) fits)
 
     tile-now : Tile (head here) (size here) (drop place new)
     unfolding head_of
     tile-now =
         let z = size here in
-        let m = parts.1.0.some in
-        let f = fits in
         let up : drop place new ≡ written 12 (word (flag_word flags r)) (drop place xs) =
-        drop-written_below (place + 12) (word (flag_word flags r)) xs place (omega arith) (omega (arith, f, m))
+        drop-written_below _ _ xs place (omega arith) (omega (arith, fits))
         ∙ (let v : place + 12 - place ≡ 12 = omega arith in
         ap (λ j. written j (word (flag_word flags r)) (drop place xs)) v) in
-        let t = tile-flagged (z + 3) (length content) s (flag_word flags (is_resource (slots s)))
-        (flag_word flags r) z content (drop place xs) parts.1.0 in
+        let t = tile-flagged _ _ s _ _ z _ _ parts.1.0 in
         let e : is_resource (marked s) ≡ r = ap is_resource (set-same slots s s (Used r) refl) in
         subst (λ q. Tile (header (z + 3) (length content) s (flag_word flags q) ++ content) z (drop place new)) (sym e)
         (subst (λ ys. Tile (header (z + 3) (length content) s (flag_word flags r) ++ content) z ys) (sym up) t)
 
     one : Tiles head (piece place (top - place) new) (here ∷ [])
     one =
-        let t = tile-now in
-        let f = t.fits in
+        let f = tile-now.fits in
         let l : top - place ≡ size here = omega arith in
         let k = length-take-le (size here) (drop place new) f in
-        subst (λ j. Tiles head (take j (drop place new)) (here ∷ [])) (sym l)
-        (tiles-one head here (take (size here) (drop place new)) k
-        (tile-take head (head here) (size here) (size here) (drop place new) (omega arith) f t))
+        subst (λ j. Tiles head (take j (drop place new)) (here ∷ [])) (sym l) (tiles-one head _ _ k
+        (tile-take head _ _ _ _ (omega arith) f tile-now))
 
     tiles : Tiles head new all
     tiles =
-        let o = same in
         let low : Tiles head (take place new) below =
-        subst (λ k. Tiles head k below) (sym o.low)
-        (tiles-agree (λ t. is_resource (slots t)) (λ t. is_resource (marked t)) (take place xs) below
-        (agree (names below) (pairs-before s (names below) (names above) apart-all)) parts.0) in
+        subst (λ k. Tiles head k below) (sym same.low)
+        (tiles-agree (λ t. is_resource (slots t)) (λ t. is_resource (marked t)) _ _
+        (agree _ (pairs-before s _ _ apart-all)) parts.0) in
         let high : Tiles head (drop top new) above =
-        subst (λ k. Tiles head k above) (drop-drop (size here) place xs ∙ sym o.high)
-        (tiles-agree (λ t. is_resource (slots t)) (λ t. is_resource (marked t))
-        (drop (size here) (drop place xs)) above
-        (agree (names above) (pairs-after s (names below) (names above) apart-all)) parts.1.1) in
+        subst (λ k. Tiles head k above) (drop-drop (size here) place xs ∙ sym same.high)
+        (tiles-agree (λ t. is_resource (slots t)) (λ t. is_resource (marked t)) _ _
+        (agree _ (pairs-after s _ _ apart-all)) parts.1.1) in
         tiles-joined head new below (here ∷ []) above place top (omega arith) low one high
 
     module _ (leads-s : piece s 4 xs ≡ word place) where
       abbrev z : Splice
-      z = zone xs below (here ∷ []) above slots unused h place top refl (omega arith)
-          (let m = parts.1.0.some in omega (arith, m)) (no-slots here refl)
+      z = zone _ _ (here ∷ []) _ slots _ h _ top refl (omega arith) (omega arith) (no-slots here refl)
 
       st : IsSplice z place top xs
-      st = is-splice xs below (here ∷ []) above slots unused h place top refl (omega arith)
-          (let m = parts.1.0.some in omega (arith, m)) (no-slots here refl)
+      st = is-splice _ _ _ _ slots _ h _ _ refl (omega arith) (omega arith) (no-slots here refl)
 
       pieces : (t : ℕ) → IsSlot t all → piece t 4 new ≡ piece t 4 xs
-      pieces t i = piece-outside place top xs new t same (outside z place top xs st t i)
+      pieces t i = piece-outside _ _ _ _ t same (outside z _ _ _ st t i)
 
       mine : Has (names all) s
       mine = has-named s below here above (inl refl)
@@ -229,11 +214,11 @@ module _ (xs : List ℕ) (below : List Block) (s : ℕ) (flags : Flags) (content
       leads : Leads 0 all new
       leads =
           let c = clear z place top xs st in
-          leads-splice xs new below (here ∷ []) above (here ∷ []) place top refl
+          leads-splice _ _ _ (here ∷ []) _ (here ∷ []) _ _ refl
           (omega arith) refl h.lies.leads same c.0 c.1 (pieces s slot-all ∙ leads-s, tt)
 
       pub header-marked : Lays new all marked unused
-      header-marked = lays-flagged xs all slots unused h s was r u new
+      header-marked = lays-flagged _ _ slots _ h s _ r u _
           (record { tiles = tiles; leads = leads }) mine pieces same.kept
 
 -- the header of a handle's block with another resource flag
@@ -247,5 +232,5 @@ lays-marked xs blocks slots unused h s was r u place b =
     let n = word (flag_word k.flags r) in
     subst (λ p. Lays (written (p + 12) n xs) blocks (set_slot slots s (Used r)) unused) b.low
     (subst (λ l. Lays (written (sizes k.below + 12) n xs) l (set_slot slots s (Used r)) unused) (sym k.whole)
-    (header-marked xs k.below s k.flags k.content k.above slots unused was r u
+    (header-marked _ k.below s k.flags k.content k.above slots _ _ r u
     (subst (λ l. Lays xs l slots unused) k.whole h) (k.leads ∙ ap word q)))

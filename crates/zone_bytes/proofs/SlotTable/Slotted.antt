@@ -30,16 +30,13 @@ module _ (xs : List ℕ) (first count : ℕ) (i : IsSound xs first count) where
     pub may-take : (t : Table) × Lays xs t.blocks t.slots (first ∷ t.unused)
     may-take = (table, laid)
 
-    pub taken-made : (new : List ℕ) (next : ℕ)
-        → ((t : Table) → Lays xs t.blocks t.slots (first ∷ t.unused)
+    pub taken-made : (new : List ℕ) (next : ℕ) → ((t : Table) → Lays xs t.blocks t.slots (first ∷ t.unused)
         → Lays new t.blocks (set_slot t.slots first (Used false)) t.unused × (next ≡ first_of t.unused))
         → Made new next (count - 1) (zone_in xs) (set_slot (slot_in xs) first (Used false))
     taken-made new next e =
         let d = e table laid in
         let l : length i.unused ≡ length one.rest + 1 = ap length one.is ∙ omega arith in
-        let k = i.counted in
-        made new (zone_in xs) (set_slot (slot_in xs) first (Used false)) one.rest d.0 next (count - 1) i.tidied d.1
-        (omega (arith, l, k))
+        made _ _ (set_slot (slot_in xs) first (Used false)) _ d.0 _ _ i.tidied d.1 (omega (arith, l))
 
 -- unused slots are no more than there are bytes
 all-apart : (s : ℕ) (us : List ℕ) → Each (Apart s) us → AllByRecursion (λ u. eqb s u ≡ false) us
@@ -55,7 +52,7 @@ all-apart s (u ∷ us) a = (
 distinct-apart : (us : List ℕ) → Pairs Apart us → IsDistinct eqb us
 unfolding IsDistinct
 distinct-apart [] p = tt
-distinct-apart (u ∷ us) p = (all-apart u us p.0, distinct-apart us p.1)
+distinct-apart (u ∷ us) p = (all-apart u _ p.0, distinct-apart us p.1)
 
 any-has : (P : ℕ → Type 0) (us : List ℕ) (q : ℕ) → Each P us → list_any (eqb q) us ≡ true → P q
 any-has P [] q e h = absurd (false≢true h)
@@ -69,11 +66,8 @@ count-small xs first count i =
     let h = i.lays in
     let l = length-le_from_distinct_below i.unused (length xs) (distinct-apart i.unused h.once) (λ q k.
     let p = any-has (λ s. IsSlot s (zone_in xs) × (slot_in xs s ≡ Unused)) i.unused q h.unused_slots k in
-    let b = slot-in xs (zone_in xs) (slot_in xs) i.unused h q p.0 in
-    omega (arith, b)) in
-    let m = h.small in
-    let k = i.counted in
-    omega (arith, l, m, k)
+    omega (arith, slot-in xs (zone_in xs) (slot_in xs) i.unused h q p.0)) in
+    omega (arith, l)
 
 -- a slot that no block has is apart from those that blocks have
 module _ (xs : List ℕ) (first count : ℕ) (i : IsSound xs first count) (slot : ℕ)
@@ -101,8 +95,8 @@ module _ (xs : List ℕ) (first count : ℕ) (i : IsSound xs first count) (slot 
 
   pub name-apart : Each (Apart slot) (names (zone_in xs))
   name-apart = each-both (λ t. IsSlot t (zone_in xs)) (λ t. slot ≡ t → ⊥) (Apart slot)
-      (λ t j d. apart-of xs (zone_in xs) (slot_in xs) i.unused i.lays slot t slot-is j d)
-      (names (zone_in xs)) i.lays.has_slots.slots (no-name (zone_in xs) none)
+      (λ t j d. apart-of _ _ (slot_in xs) i.unused i.lays slot t slot-is j d)
+      _ i.lays.has_slots.slots (no-name (zone_in xs) none)
 
   abbrev give-table : Table
   give-table = record { blocks = zone_in xs; slots = slot_in xs; unused = i.unused }
@@ -117,6 +111,4 @@ module _ (xs : List ℕ) (first count : ℕ) (i : IsSound xs first count) (slot 
       → ((t : Table) → MayGive xs t slot first → Lays new t.blocks (set_slot t.slots slot Unused) (slot ∷ t.unused))
       → Made new slot (count + 1) (zone_in xs) (set_slot (slot_in xs) slot Unused)
   given-made new e =
-      let k = i.counted in
-      made new (zone_in xs) (set_slot (slot_in xs) slot Unused) (slot ∷ i.unused) (e give-table give) slot
-      (count + 1) i.tidied refl (omega (arith, k))
+      made _ _ (set_slot (slot_in xs) slot Unused) _ (e give-table give) _ _ i.tidied refl (omega arith)

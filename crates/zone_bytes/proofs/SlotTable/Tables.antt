@@ -34,7 +34,7 @@ apart-other s t (inr h) e = omega (arith, h, e)
 
 -- a slot's word is clear of another's
 pub apart-clear : (s n t : ℕ) → Apart s t → Clear s (length (word n)) t
-apart-clear s n t (inl h) = inr (let w = length-word n in omega (arith, w, h))
+apart-clear s n t (inl h) = inr (omega (arith, length-word, h))
 apart-clear s n t (inr h) = inl h
 
 -- resource flags that agree at the blocks' slots
@@ -56,7 +56,7 @@ tiles-agree f g xs (b ∷ blocks) e t = (
 
 pub lies-agree : (f g : ℕ → Bool) (xs : List ℕ) (blocks : List Block) → Each (λ s. f s ≡ g s) (names blocks)
     → Lies f blocks xs → Lies g blocks xs
-lies-agree f g xs blocks e l = record { tiles = tiles-agree f g xs blocks e l.tiles; leads = l.leads }
+lies-agree f g xs blocks e l = record { tiles = tiles-agree f g _ _ e l.tiles; leads = l.leads }
 
 -- the state of another slot
 pub set-other : (slots : ℕ → Slot) (s t : ℕ) (state : Slot) → (t ≡ s → ⊥) → set_slot slots s state t ≡ slots t
@@ -90,36 +90,29 @@ module _ (xs : List ℕ) (blocks : List Block) (slots : ℕ → Slot) (unused : 
       ]
 
   pub slot-in : (s : ℕ) → IsSlot s blocks → (s % 4 ≡ 0) × (s + 4 ≤ length xs)
-  slot-in s i =
-      let a = slot-even head xs s blocks h.lies.tiles i in
-      let b = slot-inside s blocks i in
-      let l = length-tiles head xs blocks h.lies.tiles in
-      (a, omega (arith, b, l))
+  slot-in s i = ((slot-even head _ s _ h.lies.tiles i), omega (arith, slot-inside, length-tiles))
 
   -- a slot that leads to no handle is not that of a block
   pub unused-apart : (s : ℕ) → IsSlot s blocks → slots s ≡ Unused → Each (Apart s) (names blocks)
   unused-apart s i u =
       each-both (λ t. IsSlot t blocks) (λ t. IsUsed (slots t)) (Apart s)
-      (λ t j k. apart-of s t i j (λ e. subst IsUsed (sym (ap slots e) ∙ u) k)) (names blocks) h.has_slots.slots h.used
+      (λ t j k. apart-of s t i j (λ e. subst IsUsed (sym (ap slots e) ∙ u) k)) _ h.has_slots.slots h.used
 
   -- the blocks, where the word of another slot is written
   pub lies-written : (s n : ℕ) → IsSlot s blocks → Each (Apart s) (names blocks)
       → Lies (λ t. is_resource (slots t)) blocks (written s (word n) xs)
   lies-written s n i a =
-      let b = slot-in s i in
       record {
-        tiles = tiles-slot head (length-masters (λ t. is_resource (slots t))) xs (word n) s blocks
-            (length-word n) i h.lies.tiles;
-        leads = leads-written s (word n) xs 0 blocks (omega (arith, b))
-            (each-map (Apart s) (Clear s (length (word n))) (λ t p. apart-clear s n t p) (names blocks) a) h.lies.leads;
+        tiles = tiles-slot head (length-masters (λ t. is_resource (slots t))) _ _ s _ (length-word n) i h.lies.tiles;
+        leads = leads-written s _ _ 0 _ (omega (arith, slot-in))
+            (each-map (Apart s) (Clear s (length (word n))) (λ t p. apart-clear s n t p) _ a) h.lies.leads;
       }
 
   pub chain-written : (s n : ℕ) (us : List ℕ) → s ≤ length xs → Each (Apart s) us → Chain xs us
       → Chain (written s (word n) xs) us
   chain-written s n [] l a c = tt
   chain-written s n (u ∷ us) l a c = (
-    piece-clear s (word n) xs u l (apart-clear s n u a.0)
-        ∙ c.0,
+    piece-clear s (word n) xs u l (apart-clear s n u a.0) ∙ c.0,
     chain-written s n us l a.1 c.1,
   )
 
@@ -139,8 +132,7 @@ module _ (xs : List ℕ) (blocks : List Block) (slots : ℕ → Slot) (unused : 
         | inl k ↦ inl k
         | inr k ↦ inr (
           k.0,
-          (let b = slot-in s i in
-              piece-clear s (word n) xs t (omega (arith, b)) (apart-clear s n t (apart-of s t i q.0 (λ m. d (sym m)))))
+          (piece-clear s _ _ t (omega (arith, slot-in)) (apart-clear s n t (apart-of s t i q.0 (λ m. d (sym m)))))
               ∙ k.1,
         )
       ],
@@ -148,26 +140,21 @@ module _ (xs : List ℕ) (blocks : List Block) (slots : ℕ → Slot) (unused : 
 
     pub lays-written : Lays (written s (word n) xs) blocks (set_slot slots s state) now
     lays-written =
-        let b = slot-in s i in
-        let w = length-word n in
         record {
-          lies = lies-agree (λ t. is_resource (slots t)) (λ t. is_resource (set_slot slots s state t))
-              (written s (word n) xs) blocks
+          lies = lies-agree (λ t. is_resource (slots t)) (λ t. is_resource (set_slot slots s state t)) _ _
               (each-map (Apart s) (λ t. is_resource (slots t) ≡ is_resource (set_slot slots s state t))
-              (λ t p. sym (ap is_resource (set-other slots s t state (λ e. apart-other s t p (sym e)))))
-              (names blocks) a) (lies-written s n i a);
+              (λ t p. sym (ap is_resource (set-other slots s t _ (λ e. apart-other s t p (sym e)))))
+              _ a) (lies-written s n i a);
           has_slots = h.has_slots;
           placed = h.placed;
-          small = (let l = length-written s (word n) xs (omega (arith, b, w)) in let k = h.small in
-              omega (arith, l, k));
+          small = (let l = length-written s (word n) xs (omega (arith, slot-in, length-word)) in omega (arith, l));
           used = each-both (Apart s) (λ t. IsUsed (slots t)) (λ t. IsUsed (set_slot slots s state t))
-              (λ t p u. subst IsUsed (sym (set-other slots s t state (λ e. apart-other s t p (sym e)))) u)
-              (names blocks) a h.used;
+              (λ t p u. subst IsUsed (sym (set-other slots s t _ (λ e. apart-other s t p (sym e)))) u) _ a h.used;
           says = λ t. elim (cases_eq t s) [
             | inl e ↦ subst (λ k. Says blocks (written s (word n) xs) now k (set_slot slots s state k)) (sym e)
-                (subst (λ st. Says blocks (written s (word n) xs) now s st) (sym (set-same slots s s state refl)) mine)
-            | inr d ↦ subst (λ st. Says blocks (written s (word n) xs) now t st) (sym (set-other slots s t state d))
-                (says-other t (slots t) d refl (h.says t))
+                (subst (λ st. Says blocks (written s (word n) xs) now s st) (sym (set-same slots s s _ refl)) mine)
+            | inr d ↦ subst (λ st. Says blocks (written s (word n) xs) now t st) (sym (set-other slots s t _ d))
+                (says-other t _ d refl (h.says t))
           ];
           chain = chain;
           unused_slots = ok;

@@ -24,32 +24,26 @@ module _ (xs : List ℕ) (blocks : List Block) (slots : ℕ → Slot) (first : �
   pub taken : Lays (written first (word 2) xs) blocks (set_slot slots first (Used false)) unused
   taken =
       let i = h.unused_slots.0.0 in
-      let u = h.unused_slots.0.1 in
-      let a = unused-apart xs blocks slots (first ∷ unused) h first i u in
+      let a = unused-apart xs blocks slots (first ∷ unused) h first i h.unused_slots.0.1 in
       let b = slot-in xs blocks slots (first ∷ unused) h first i in
-      let w = length-word 2 in
-      lays-written xs blocks slots (first ∷ unused) h first 2 (Used false) unused i a
-      (λ t d e k. elim k [ inl m ↦ absurd (d (sym m)) | inr m ↦ m ])
-      (i, inr (a, piece-written first (word 2) xs 4 (sym w) (omega (arith, b))))
+      lays-written _ _ slots _ h _ 2 _ _ i a (λ t d e k. elim k [ inl m ↦ absurd (d (sym m)) | inr m ↦ m ])
+      (i, inr (a, piece-written _ _ xs 4 (sym (length-word 2)) (omega (arith, b))))
       (chain-written xs blocks slots (first ∷ unused) h first 2 unused (omega (arith, b)) h.once.0 h.chain.1)
       (each-both (Apart first) (λ t. IsSlot t blocks × (slots t ≡ Unused))
       (λ t. IsSlot t blocks × (set_slot slots first (Used false) t ≡ Unused))
-      (λ t p q. (q.0, set-other slots first t (Used false) (λ e. apart-other first t p (sym e)) ∙ q.1)) unused
-      h.once.0 h.unused_slots.1)
-      h.once.1
+      (λ t p q. (q.0, set-other slots first t (Used false) (λ e. apart-other first t p (sym e)) ∙ q.1)) _
+      h.once.0 h.unused_slots.1) h.once.1
 
 pub first-small : (blocks : List Block) (slots : ℕ → Slot) (unused : List ℕ) (xs : List ℕ) (k : List ℕ)
     → Lays xs blocks slots k → Each (λ s. IsSlot s blocks × (slots s ≡ Unused)) unused → first_of unused < 134217728
 first-small blocks slots [] xs k h u = omega arith
-first-small blocks slots (s ∷ unused) xs k h u = let b = slot-in xs blocks slots k h s u.0.0 in let m = h.small in
-    omega (arith, b, m)
+first-small blocks slots (s ∷ unused) xs k h u = let b = slot-in _ _ slots k h s u.0.0 in omega (arith, b)
 
 pub next-of : (xs : List ℕ) (blocks : List Block) (slots : ℕ → Slot) (first : ℕ) (unused : List ℕ)
     → Lays xs blocks slots (first ∷ unused) → word_at first xs / 16 ≡ first_of unused
 next-of xs blocks slots first unused h =
     let m = first-small blocks slots unused xs (first ∷ unused) h h.unused_slots.1 in
-    let w = read_back first (16 * first_of unused + 1) xs (omega (arith, m)) h.chain.0 in
-    omega (arith, w)
+    omega (arith, read_back first (16 * first_of unused + 1) xs (omega (arith, m)) h.chain.0)
 
 module _ (xs : List ℕ) (blocks : List Block) (slots : ℕ → Slot) (unused : List ℕ) (h : Lays xs blocks slots unused)
     (s : ℕ) (r : Bool) (u : slots s ≡ Used r) (a : Each (Apart s) (names blocks)) where
@@ -61,26 +55,22 @@ module _ (xs : List ℕ) (blocks : List Block) (slots : ℕ → Slot) (unused : 
 
   apart-unused : Each (Apart s) unused
   apart-unused = each-map (λ t. IsSlot t blocks × (slots t ≡ Unused)) (Apart s)
-      (λ t q. apart-of xs blocks slots unused h s t used-slot q.0 (λ e. used-not_unused r (sym u ∙ ap slots e ∙ q.1)))
-      unused h.unused_slots
+      (λ t q. apart-of _ _ slots _ h s t used-slot q.0 (λ e. used-not_unused r (sym u ∙ ap slots e ∙ q.1)))
+      _ h.unused_slots
 
   pub given : Lays (written s (word (16 * first_of unused + 1)) xs) blocks (set_slot slots s Unused) (s ∷ unused)
   given =
       let i = used-slot in
       let n = 16 * first_of unused + 1 in
       let b = slot-in xs blocks slots unused h s i in
-      let w = length-word n in
-      lays-written xs blocks slots unused h s n Unused (s ∷ unused) i a
-      (λ t d e k. inr k)
-      (i, inl refl) (
-        piece-written s (word n) xs 4 (sym w) (omega (arith, b)),
-        chain-written xs blocks slots unused h s n unused
-            (omega (arith, b)) apart-unused h.chain,
+      lays-written _ _ slots _ h s n _ _ i a (λ t d e k. inr k) (i, inl refl) (
+        piece-written s (word n) xs 4 (sym (length-word n)) (omega (arith, b)),
+        chain-written xs blocks slots unused h s n unused (omega (arith, b)) apart-unused h.chain,
       ) (
         (i, set-same slots s s Unused refl),
         each-both (Apart s) (λ t. IsSlot t blocks × (slots t ≡ Unused))
             (λ t. IsSlot t blocks × (set_slot slots s Unused t ≡ Unused))
-            (λ t p q. (q.0, set-other slots s t Unused (λ e. apart-other s t p (sym e)) ∙ q.1)) unused apart-unused
+            (λ t p q. (q.0, set-other slots s t _ (λ e. apart-other s t p (sym e)) ∙ q.1)) _ apart-unused
             h.unused_slots,
       )
       (apart-unused, h.once)

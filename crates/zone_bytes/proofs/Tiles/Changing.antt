@@ -51,14 +51,14 @@ module _ (xs new : List ℕ) (blocks now : List Block) (slots : ℕ → Slot) (u
       lies = lies;
       has_slots = has;
       placed = placed;
-      small = (let m = h.small in omega (arith, l, m));
+      small = (omega (arith, l));
       used = subset (λ t. IsUsed (slots t)) h.used;
       says = λ t. removed-says t (slots t) refl (h.says t);
-      chain = chain-kept xs new unused
+      chain = chain-kept _ _ _
           (each-map (λ v. IsSlot v blocks × (slots v ≡ Unused)) (λ v. piece v 4 new ≡ piece v 4 xs)
-          (λ v q. o v q.0 (unused-apart xs blocks slots unused h v q.0 q.1)) unused h.unused_slots) h.chain;
+          (λ v q. o v q.0 (unused-apart _ _ slots _ h v q.0 q.1)) _ h.unused_slots) h.chain;
       unused_slots = each-map (λ v. IsSlot v blocks × (slots v ≡ Unused)) (λ v. IsSlot v now × (slots v ≡ Unused))
-          (λ v q. (i v q.0, q.1)) unused h.unused_slots;
+          (λ v q. (i v q.0, q.1)) _ h.unused_slots;
       once = h.once;
     }
 
@@ -89,14 +89,14 @@ module _ (xs new : List ℕ) (blocks now : List Block) (slots : ℕ → Slot) (u
       lies = lies;
       has_slots = has;
       placed = placed;
-      small = (let m = h.small in omega (arith, l, m));
+      small = (omega (arith, l));
       used = wider (λ t. IsUsed (slots t)) (subst IsUsed (sym u) tt) h.used;
       says = λ t. added-says t (slots t) refl (h.says t);
-      chain = chain-kept xs new unused
+      chain = chain-kept _ _ _
           (each-map (λ v. IsSlot v blocks × (slots v ≡ Unused)) (λ v. piece v 4 new ≡ piece v 4 xs)
-          (λ v q. o v q.0 (apart-of xs blocks slots unused h s v is q.0
-          (λ e. not-unused r0 (sym u ∙ ap slots e ∙ q.1)))) unused h.unused_slots) h.chain;
+          (λ v q. o v q.0 (apart-of _ _ slots _ h s v is q.0
+          (λ e. not-unused _ (sym u ∙ ap slots e ∙ q.1)))) _ h.unused_slots) h.chain;
       unused_slots = each-map (λ v. IsSlot v blocks × (slots v ≡ Unused)) (λ v. IsSlot v now × (slots v ≡ Unused))
-          (λ v q. (i v q.0, q.1)) unused h.unused_slots;
+          (λ v q. (i v q.0, q.1)) _ h.unused_slots;
       once = h.once;
     }

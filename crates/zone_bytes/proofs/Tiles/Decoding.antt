@@ -55,12 +55,11 @@ module _ (n a b c d : ℕ) (content ys : List ℕ) (t : Tile (header a b c d ++ 
       (piece 16 (length content) ys ≡ content)
   says =
       let h = header a b c d ++ content in
-      let l = length-head a b c d content in
       let p = header-pieces a b c d content in (
-        tile-piece h n ys t 4 4 (omega (arith, l)) ∙ p.1,
-        tile-piece h n ys t 8 4 (omega (arith, l)) ∙ p.2,
-        tile-piece h n ys t 12 4 (omega (arith, l)) ∙ p.3,
-        tile-piece h n ys t 16 (length content) (omega (arith, l)) ∙ ap (take (length content)) p.4
+        tile-piece h n ys t 4 4 (omega (arith, length-head)) ∙ p.1,
+        tile-piece h n ys t 8 4 (omega (arith, length-head)) ∙ p.2,
+        tile-piece h n ys t 12 4 (omega (arith, length-head)) ∙ p.3,
+        tile-piece h n _ t 16 (length content) (omega (arith, length-head)) ∙ ap (take (length content)) p.4
             ∙ take_all (length content) content (omega arith),
       )
 
@@ -72,18 +71,15 @@ blocks-none (suc k) o = refl
 module _ (resource : ℕ → Bool) where
   content-fits : (b : Block) (ys : List ℕ) → Tile (head_of resource b) (size b) ys
       → length (head_of resource b) ≤ length ys
-  content-fits b ys t = let f = t.fits in let r = t.room in omega (arith, f, r)
+  content-fits b ys t = omega arith
 
   pub block-back : (o : ℕ) (b : Block) (ys : List ℕ) → length ys ≤ 134217728 → IsPlaced o b
       → Each (λ s. s < 2 ^ 32) (names_of b) → Tile (head_of resource b) (size b) ys → block_in o ys ≡ b
   unfolding head_of
   block-back o b ys s p n t =
-      let w = read_back 0 (size b + kind b) ys (let f = t.fits in let k = kind-small b in omega (arith, f, k, s))
-      (first-word resource ys b t) in
-      let k = kind-small b in
-      let h = t.whole in
-      let tag : word_at 0 ys % 16 ≡ kind b = omega (arith, w, k, h) in
-      let bytes : word_at 0 ys - word_at 0 ys % 16 ≡ size b = omega (arith, w, k, h) in
+      let w = read_back 0 (size b + kind b) ys (omega (arith, kind-small, s)) (first-word resource ys b t) in
+      let tag : word_at 0 ys % 16 ≡ kind b = omega (arith, w, kind-small) in
+      let bytes : word_at 0 ys - word_at 0 ys % 16 ≡ size b = omega (arith, w, kind-small) in
       (λ i. block_of_kind (tag i) (bytes i) o ys) ∙ of-kind b p n t
     where
       of-kind : (b : Block) → IsPlaced o b → Each (λ s. s < 2 ^ 32) (names_of b)
@@ -91,21 +87,16 @@ module _ (resource : ℕ → Bool) where
       of-kind (Free m) p n t = refl
       of-kind (Nonrelocatable id content) p n t =
           let q = says (size (Nonrelocatable id content)) (size (Nonrelocatable id content) + 1) (length content) 0 0 content ys t in
-          let f = content-fits (Nonrelocatable id content) ys t in
-          let l = length-head (size (Nonrelocatable id content) + 1) (length content) 0 0 content in
-          let c = read_back 4 (length content) ys (omega (arith, f, l, s)) q.0 in
+          let c = read_back 4 (length content) ys (omega (arith, content-fits, length-head, s)) q.0 in
           (λ i. Nonrelocatable o (piece 16 (c i) ys)) ∙ (λ i. Nonrelocatable (sym p i) (q.3 i))
       of-kind Masters p n t = refl
       of-kind (Relocatable slot flags content) p n t =
           let z = size (Relocatable slot flags content) in
           let q = says z (z + 3) (length content) slot (flag_word flags (resource slot)) content ys t in
-          let f = content-fits (Relocatable slot flags content) ys t in
-          let l = length-head (z + 3) (length content) slot (flag_word flags (resource slot)) content in
-          let c = read_back 4 (length content) ys (omega (arith, f, l, s)) q.0 in
-          let v = read_back 8 slot ys n.0 q.1 in
+          let c = read_back 4 (length content) ys (omega (arith, content-fits, s)) q.0 in
           let g = flag_word-small flags (resource slot) in
           let e = read_back 12 (flag_word flags (resource slot)) ys (omega (arith, g)) q.2 in
-          (λ i. Relocatable (v i) (flags_of (e i)) (piece 16 (c i) ys))
+          (λ i. Relocatable ((read_back 8 _ ys n.0 q.1) i) (flags_of (e i)) (piece 16 (c i) ys))
           ∙ (λ i. Relocatable slot (flags_of-word flags (resource slot) i) (q.3 i))
 
   pub blocks-back : (k o : ℕ) (blocks : List Block) (xs : List ℕ) → length xs ≤ k → length xs ≤ 134217728
@@ -113,20 +104,18 @@ module _ (resource : ℕ → Bool) where
       → blocks_in k o xs ≡ blocks
   unfolding blocks_in
   blocks-back k o [] xs l s p n t = ap (blocks_in k o) t ∙ blocks-none k o
-  blocks-back zero o (b ∷ blocks) xs l s p n t = let f = t.0.fits in let m = t.0.some in absurd (omega (arith, l, f, m))
-  blocks-back (suc k) o (b ∷ blocks) [] l s p n t = let f = t.0.fits in let m = t.0.some in absurd (omega (arith, f, m))
+  blocks-back zero o (b ∷ blocks) xs l s p n t = absurd (omega (arith, l))
+  blocks-back (suc k) o (b ∷ blocks) [] l s p n t = absurd (omega arith)
   blocks-back (suc k) o (b ∷ blocks) (x ∷ xs) l s p n t =
       let ys : List ℕ = x ∷ xs in
       let P : ℕ → Type 0 = λ q. q < 2 ^ 32 in
       let e = block-back o b ys s p.0 (each-left P (names_of b) (names blocks) n) t.0 in
       let d = length-drop (size b) ys in
-      let m = t.0.some in
-      let r = blocks-back k (o + size b) blocks (drop (size b) ys) (omega (arith, d, m, l)) (omega (arith, d, s)) p.1
-      (each-right P (names_of b) (names blocks) n) t.1 in
+      let r = blocks-back k _ _ _ (omega (arith, d, l)) (omega (arith, d, s)) p.1 (each-right P _ _ n) t.1 in
       (λ i. e i ∷ blocks_in k (o + size (e i)) (drop (size (e i)) ys)) ∙ ap (λ q. b ∷ q) r
 
   -- the zone in the bytes
   pub zone-back : (blocks : List Block) (xs : List ℕ) → length xs ≤ 134217728 → ArePlaced 0 blocks
       → Each (λ s. s < 2 ^ 32) (names blocks) → Tiles (head_of resource) xs blocks → zone_in xs ≡ blocks
   unfolding zone_in
-  zone-back blocks xs s p n t = blocks-back (length xs) 0 blocks xs (omega arith) s p n t
+  zone-back blocks xs s p n t = blocks-back _ 0 _ _ (omega arith) s p n t

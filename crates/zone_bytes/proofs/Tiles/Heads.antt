@@ -40,19 +40,14 @@ module _ (resource : ℕ → Bool) (ys : List ℕ) where
   pub first-word : (b : Block) → Tile (head_of resource b) (size b) ys → piece 0 4 ys ≡ word (size b + kind b)
   unfolding head_of
   first-word (Free n) t =
-      let l = length-word n in
       let e : n + 0 ≡ n = omega arith in
-      tile-piece (word n) n ys t 0 4 (omega (arith, l)) ∙ take_all 4 (word n) (omega (arith, l)) ∙ sym (ap word e)
+      tile-piece _ n _ t 0 4 (omega (arith, length-word)) ∙ take_all 4 (word n) (omega (arith, length-word)) ∙ sym (ap word e)
   first-word (Nonrelocatable id content) t =
-      let h = length-head (size (Nonrelocatable id content) + 1) (length content) 0 0 content in
-      tile-piece (head_of resource (Nonrelocatable id content)) (size (Nonrelocatable id content)) ys t 0 4 (omega (arith, h))
-      ∙ (header-pieces (size (Nonrelocatable id content) + 1) (length content) 0 0 content).0
-  first-word Masters t =
-      tile-piece (head_of resource Masters) 272 ys t 0 4 (omega (arith, length-header 274 256 0 0)) ∙ masters-first
+      tile-piece _ _ _ t 0 4 (omega (arith, length-head)) ∙ (header-pieces _ _ 0 0 _).0
+  first-word Masters t = tile-piece _ _ ys t 0 4 (omega (arith, length-header 274 256 0 0)) ∙ masters-first
   first-word (Relocatable slot flags content) t =
       let n = size (Relocatable slot flags content) in
-      let h = length-head (n + 3) (length content) slot (flag_word flags (resource slot)) content in
-      tile-piece (head_of resource (Relocatable slot flags content)) n ys t 0 4 (omega (arith, h))
+      tile-piece (head_of resource (Relocatable slot flags content)) n ys t 0 4 (omega (arith, length-head))
       ∙ (header-pieces (n + 3) (length content) slot (flag_word flags (resource slot)) content).0
 
   pub slot-word : (slot : ℕ) (flags : Flags) (content : List ℕ)
@@ -61,21 +56,17 @@ module _ (resource : ℕ → Bool) (ys : List ℕ) where
   unfolding head_of
   slot-word slot flags content t =
       let n = size (Relocatable slot flags content) in
-      let h = length-head (n + 3) (length content) slot (flag_word flags (resource slot)) content in
-      tile-piece (head_of resource (Relocatable slot flags content)) n ys t 8 4 (omega (arith, h))
-      ∙ (header-pieces (n + 3) (length content) slot (flag_word flags (resource slot)) content).2
+      tile-piece _ n _ t 8 4 (omega (arith, length-head)) ∙ (header-pieces _ _ _ _ _).2
 
 module _ (resource : ℕ → Bool) (xs : List ℕ) (from : ℕ) (small : length xs ≤ 134217728) where
   pub first-reads : (b : Block) → Tile (head_of resource b) (size b) (drop from xs) → word_at from xs ≡ size b + kind b
   first-reads b t =
-      let f = t.fits in
       let d = length-drop from xs in
       let k : kind b ≤ 3 = kind-small b in
-      read_back from (size b + kind b) xs (omega (arith, f, d, k, small)) (first-word resource (drop from xs) b t)
+      read_back from (size b + kind b) xs (omega (arith, d, k, small)) (first-word resource (drop from xs) b t)
 
   pub slot-reads : (slot : ℕ) (flags : Flags) (content : List ℕ) → slot < 2 ^ 32
       → Tile (head_of resource (Relocatable slot flags content)) (size (Relocatable slot flags content))
       (drop from xs) → word_at (from + 8) xs ≡ slot
   slot-reads slot flags content l t =
-      read_back (from + 8) slot xs l (ap (take 4) (sym (drop-drop 8 from xs))
-      ∙ slot-word resource (drop from xs) slot flags content t)
+      read_back _ _ _ l (ap (take 4) (sym (drop-drop 8 from xs)) ∙ slot-word resource _ _ _ _ t)

@@ -20,7 +20,7 @@ use Rattle.zone_bytes.proofs.SlotTable.Tables.{unused-apart}
 pub chain-kept : (xs new : List ℕ) (us : List ℕ) → Each (λ u. piece u 4 new ≡ piece u 4 xs) us → Chain xs us
     → Chain new us
 chain-kept xs new [] e c = tt
-chain-kept xs new (u ∷ us) e c = (e.0 ∙ c.0, chain-kept xs new us e.1 c.1)
+chain-kept xs new (u ∷ us) e c = (e.0 ∙ c.0, chain-kept _ new us e.1 c.1)
 
 module _ (xs new : List ℕ) (blocks now : List Block) (slots : ℕ → Slot) (unused : List ℕ)
     (h : Lays xs blocks slots unused) where
@@ -33,19 +33,19 @@ module _ (xs new : List ℕ) (blocks now : List Block) (slots : ℕ → Slot) (u
       record {
         lies = lies;
         has_slots = record {
-          slots = each-moved (λ s. IsSlot s now) (names blocks) (names now) n.from
-              (each-map (λ s. IsSlot s blocks) (λ s. IsSlot s now) i (names blocks) h.has_slots.slots);
+          slots = each-moved (λ s. IsSlot s now) _ _ n.from
+              (each-map (λ s. IsSlot s blocks) (λ s. IsSlot s now) i _ h.has_slots.slots);
           apart = n.apart h.has_slots.apart;
         };
         placed = p;
-        small = (let m = h.small in omega (arith, l, m));
+        small = (omega (arith, l));
         used = each-moved (λ s. IsUsed (slots s)) (names blocks) (names now) n.from h.used;
         says = λ s. says-now s (slots s) (h.says s);
-        chain = chain-kept xs new unused (each-map (λ u. IsSlot u blocks × (slots u ≡ Unused))
-            (λ u. piece u 4 new ≡ piece u 4 xs) (λ u q. o u q.0 (unused-apart xs blocks slots unused h u q.0 q.1))
-            unused h.unused_slots) h.chain;
+        chain = chain-kept _ _ _ (each-map (λ u. IsSlot u blocks × (slots u ≡ Unused))
+            (λ u. piece u 4 new ≡ piece u 4 xs) (λ u q. o u q.0 (unused-apart _ _ slots _ h u q.0 q.1))
+            _ h.unused_slots) h.chain;
         unused_slots = each-map (λ u. IsSlot u blocks × (slots u ≡ Unused)) (λ u. IsSlot u now × (slots u ≡ Unused))
-            (λ u q. (i u q.0, q.1)) unused h.unused_slots;
+            (λ u q. (i u q.0, q.1)) _ h.unused_slots;
         once = h.once;
       }
     where
@@ -63,7 +63,7 @@ module _ (xs new : List ℕ) (blocks now : List Block) (slots : ℕ → Slot) (u
   pub lays-kept : Lies (λ s. is_resource (slots s)) now new → names now ≡ names blocks
       → ((s : ℕ) → IsSlot s blocks → IsSlot s now) → ((s : ℕ) → IsSlot s now → IsSlot s blocks)
       → ArePlaced 0 now → SameOthers blocks xs new → length new ≡ length xs → Lays new now slots unused
-  lays-kept lies n i j p o l = lays-permuted lies (same-names (names blocks) (names now) (sym n)) i j p o l
+  lays-kept lies n i j p o l = lays-permuted lies (same-names _ _ (sym n)) i j p o l
 
 -- a run as it is settled
 pub names-movers : (run : List Block) → Each InRun run → names (movers run) ≡ names run
@@ -88,8 +88,7 @@ span-movers (Free n ∷ run) h = omega (arith, span-movers run h.1)
 span-movers (Nonrelocatable id content ∷ run) h = absurd (false≢true h.0)
 span-movers (Masters ∷ run) h = absurd (false≢true h.0)
 span-movers (Relocatable slot flags content ∷ run) h =
-    let e = ap sizes (movers-more (Relocatable slot flags content) run h.0) in
-    omega (arith, e, span-movers run h.1)
+    omega (arith, ap sizes (movers-more (Relocatable slot flags content) run h.0), span-movers run h.1)
 
 pub names-settle : (run : List Block) → Each InRun run → names (settle run) ≡ names run
 names-settle run h = names-append (movers run) (free (free_sum run))
@@ -97,11 +96,7 @@ names-settle run h = names-append (movers run) (free (free_sum run))
     ∙ names-movers run h
 
 pub span-settle : (run : List Block) → Each InRun run → sizes (settle run) ≡ sizes run
-span-settle run h =
-    let a = span-append (movers run) (free (free_sum run)) in
-    let b = span-free (free_sum run) in
-    let c = free_sum-span run in
-    omega (arith, a, b, c, span-movers run h)
+span-settle run h = omega (arith, span-append, span-free, free_sum-span, span-movers _ h)
 
 pub each-movers : (run : List Block) → Each InRun run → Each InRun (movers run)
 each-movers [] h = tt
@@ -116,20 +111,18 @@ each-free zero = tt
 each-free (suc n) = (refl, tt)
 
 pub each-settle : (run : List Block) → Each InRun run → Each InRun (settle run)
-each-settle run h = each-append InRun (movers run) (free (free_sum run)) (each-movers run h) (each-free (free_sum run))
+each-settle run h = each-append InRun _ _ (each-movers _ h) (each-free _)
 
 -- one run in the place of another
 pub slot-run : (s : ℕ) (below run now above : List Block) → Each InRun run → sizes now ≡ sizes run
     → IsSlot s (below ++ (run ++ above)) → IsSlot s (below ++ (now ++ above))
-slot-run s below run now above r e i = elim (slot-split s below (run ++ above) i) [
+slot-run s below run now above r e i = elim (slot-split s _ _ i) [
   | inl j ↦ slot-append_left s below (now ++ above) j
   | inr j ↦ elim (slot-split (s - sizes below) run above j.1) [
     | inl k ↦ absurd (run-no_slot (s - sizes below) run r k)
     | inr k ↦
-        let l = k.0 in
         let f : s - sizes below - sizes run ≡ s - sizes below - sizes now = ap (λ m. s - sizes below - m) (sym e) in
-        slot-append_right s below (now ++ above) j.0 (slot-append_right (s - sizes below) now above
-        (omega (arith, e, l)) (subst (λ q. IsSlot q above) f k.1))
+        slot-append_right s _ _ j.0 (slot-append_right _ _ _ (omega (arith, e)) (subst (λ q. IsSlot q above) f k.1))
   ]
 ]
 
@@ -151,7 +144,7 @@ placed-right o (b ∷ ls) ms h =
 
 pub placed-run : (o : ℕ) (run : List Block) → Each InRun run → ArePlaced o run
 placed-run o [] h = tt
-placed-run o (Free n ∷ run) h = (tt, placed-run (o + n) run h.1)
+placed-run o (Free n ∷ run) h = (tt, placed-run _ run h.1)
 placed-run o (Nonrelocatable id content ∷ run) h = absurd (false≢true h.0)
 placed-run o (Masters ∷ run) h = absurd (false≢true h.0)
 placed-run o (Relocatable slot flags content ∷ run) h =
@@ -165,14 +158,11 @@ module _ (xs new : List ℕ) (below was now above : List Block) (slots : ℕ →
       → Lies (λ s. is_resource (slots s)) (below ++ (now ++ above)) new → SameOthers (below ++ (was ++ above)) xs new
       → length new ≡ length xs → Lays new (below ++ (now ++ above)) slots unused
   lays-run w r e n lies others kept =
-      let p = placed-right 0 below (was ++ above) h.placed in
-      let q = placed-right (0 + sizes below) was above p in
-      let placed = placed-append 0 below (now ++ above) (placed-left 0 below (was ++ above) h.placed)
-      (placed-append (0 + sizes below) now above (placed-run (0 + sizes below) now r)
+      let q = placed-right (0 + sizes below) was above (placed-right 0 below (was ++ above) h.placed) in
+      let placed = placed-append 0 _ _ (placed-left 0 _ _ h.placed) (placed-append _ _ _ (placed-run _ _ r)
       (subst (λ k. ArePlaced (0 + sizes below + k) above) (sym e) q)) in
-      lays-permuted xs new (below ++ (was ++ above)) (below ++ (now ++ above)) slots unused h lies n
-      (λ s i. slot-run s below was now above w e i) (λ s i. slot-run s below now was above r (sym e) i) placed others
-      kept
+      lays-permuted _ _ _ _ slots _ h lies n
+      (λ s i. slot-run s _ _ _ _ w e i) (λ s i. slot-run s _ _ _ _ r (sym e) i) placed others kept
 
 -- with the same names
 pub run-names : (below was now above : List Block) → names now ≡ names was
@@ -180,7 +170,7 @@ pub run-names : (below was now above : List Block) → names now ≡ names was
 run-names below was now above n =
     let up : names (now ++ above) ≡ names (was ++ above) = names-append now above ∙ ap (λ k. k ++ names above) n
     ∙ sym (names-append was above) in
-    same-names (names (below ++ (was ++ above))) (names (below ++ (now ++ above))) (names-append below (was ++ above)
+    same-names _ _ (names-append below (was ++ above)
     ∙ ap (λ k. names below ++ k) (sym up) ∙ sym (names-append below (now ++ above)))
 
 -- the zone after a settle, with its slots
@@ -189,7 +179,6 @@ pub lays-settled : (lay : Lay) (place stop moves : ℕ) (slots : ℕ → Slot) (
     → Lays lay.bytes (lay.below ++ (lay.run ++ lay.above)) slots unused → Settled lay moves new
     → Lays new (lay.below ++ (settle lay.run ++ lay.above)) slots unused
 lays-settled lay place stop moves slots unused new e r h d =
-    lays-run lay.bytes new lay.below lay.run (settle lay.run) lay.above slots unused h r.in_run
-    (each-settle lay.run r.in_run) (span-settle lay.run r.in_run)
+    lays-run _ _ _ _ _ _ slots _ h r.in_run (each-settle _ r.in_run) (span-settle lay.run r.in_run)
     (run-names lay.below lay.run (settle lay.run) lay.above (names-settle lay.run r.in_run))
     (subst (λ f. Lies f (lay.below ++ (settle lay.run ++ lay.above)) new) e d.lies) d.others d.kept

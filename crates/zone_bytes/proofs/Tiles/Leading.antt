@@ -27,9 +27,8 @@ module _ {A : Type 0} (P : A → Type 0) where
 pub pairs-before : (s : ℕ) (xs ys : List ℕ) → Pairs Apart (xs ++ s ∷ ys) → Each (Apart s) xs
 pairs-before s [] ys h = tt
 pairs-before s (x ∷ xs) ys h =
-    let here = each-right (Apart x) xs (s ∷ ys) h.0 in
     let turn : (a b : ℕ) → Apart a b → Apart b a = λ a b p. elim p [ inl q ↦ inr q | inr q ↦ inl q ] in
-    (turn x s here.0, pairs-before s xs ys h.1)
+    (turn x s (each-right (Apart x) xs (s ∷ ys) h.0).0, pairs-before s xs ys h.1)
 
 -- and against those after it
 pub pairs-after : (s : ℕ) (xs ys : List ℕ) → Pairs Apart (xs ++ s ∷ ys) → Each (Apart s) ys
@@ -47,8 +46,8 @@ Clear at n s = (s + 4 ≤ at) ⊎ (at + n ≤ s)
 
 pub piece-clear : (at : ℕ) (ys xs : List ℕ) (s : ℕ) → at ≤ length xs → Clear at (length ys) s
     → piece s 4 (written at ys xs) ≡ piece s 4 xs
-piece-clear at ys xs s l (inl h) = piece-written_below at ys xs s 4 h l
-piece-clear at ys xs s l (inr h) = piece-written_above at ys xs s 4 h l
+piece-clear at ys xs s l (inl h) = piece-written_below _ _ _ s 4 h l
+piece-clear at ys xs s l (inr h) = piece-written_above _ _ _ s 4 h l
 
 module _ (xs : List ℕ) where
   pub leads-append : (o : ℕ) (ls ms : List Block) → Leads o ls xs → Leads (o + sizes ls) ms xs → Leads o (ls ++ ms) xs
@@ -71,12 +70,11 @@ module _ (xs : List ℕ) where
 pub leads-written : (at : ℕ) (ys xs : List ℕ) (o : ℕ) (blocks : List Block) → at ≤ length xs
     → Each (Clear at (length ys)) (names blocks) → Leads o blocks xs → Leads o blocks (written at ys xs)
 leads-written at ys xs o [] l c h = tt
-leads-written at ys xs o (Free n ∷ blocks) l c h = (tt, leads-written at ys xs (o + n) blocks l c h.1)
+leads-written at ys xs o (Free n ∷ blocks) l c h = (tt, leads-written _ _ _ (o + n) blocks l c h.1)
 leads-written at ys xs o (Nonrelocatable id content ∷ blocks) l c h =
     (tt, leads-written at ys xs (o + size (Nonrelocatable id content)) blocks l c h.1)
 leads-written at ys xs o (Masters ∷ blocks) l c h = (tt, leads-written at ys xs (o + 272) blocks l c h.1)
 leads-written at ys xs o (Relocatable slot flags content ∷ blocks) l c h = (
-  piece-clear at ys xs slot l c.0
-      ∙ h.0,
+  piece-clear at ys xs slot l c.0 ∙ h.0,
   leads-written at ys xs (o + size (Relocatable slot flags content)) blocks l c.1 h.1,
 )

@@ -17,7 +17,7 @@ each-of P (x ∷ xs) f = (f x (inl (λ i. x)), each-of P xs (λ s h. f s (inr h)
 
 -- what holds of each name holds of each in another order
 pub each-moved : (P : ℕ → Type 0) (was now : List ℕ) → ((s : ℕ) → Has now s → Has was s) → Each P was → Each P now
-each-moved P was now f e = each-of P now (λ s h. each-has P was s e (f s h))
+each-moved P was now f e = each-of P _ (λ s h. each-has P _ s e (f s h))
 
 has-left : (xs ys : List ℕ) (s : ℕ) → Has xs s → Has (xs ++ ys) s
 has-left [] ys s h = absurd h
@@ -35,11 +35,10 @@ has-parts (x ∷ xs) ys s (inr h) = elim (has-parts xs ys s h) [ inl k ↦ inl (
 
 -- two stretches of names that change places
 has-turned : (ks ls ms ns : List ℕ) (s : ℕ) → Has (ks ++ ((ls ++ ms) ++ ns)) s → Has (ks ++ ((ms ++ ls) ++ ns)) s
-has-turned ks ls ms ns s h = elim (has-parts ks ((ls ++ ms) ++ ns) s h) [
+has-turned ks ls ms ns s h = elim (has-parts _ _ s h) [
   | inl j ↦ has-left ks ((ms ++ ls) ++ ns) s j
-  | inr j ↦ has-right ks ((ms ++ ls) ++ ns) s (elim (has-parts (ls ++ ms) ns s j) [
-    | inl k ↦ has-left (ms ++ ls) ns s (elim (has-parts ls ms s k)
-        [ inl m ↦ has-right ms ls s m | inr m ↦ has-left ms ls s m ])
+  | inr j ↦ has-right _ _ s (elim (has-parts (ls ++ ms) ns s j) [
+    | inl k ↦ has-left _ _ s (elim (has-parts ls ms s k) [ inl m ↦ has-right ms ls s m | inr m ↦ has-left ms ls s m ])
     | inr k ↦ has-right (ms ++ ls) ns s k
   ])
 ]
@@ -56,7 +55,7 @@ pairs-split (x ∷ xs) ys p =
 
 pairs-join : (xs ys : List ℕ) → Pairs Apart xs → Pairs Apart ys → Across xs ys → Pairs Apart (xs ++ ys)
 pairs-join [] ys p q a = q
-pairs-join (x ∷ xs) ys p q a = (each-append (Apart x) xs ys p.0 a.0, pairs-join xs ys p.1 q a.1)
+pairs-join (x ∷ xs) ys p q a = (each-append (Apart x) _ _ p.0 a.0, pairs-join xs ys p.1 q a.1)
 
 apart-turned : (s t : ℕ) → Apart s t → Apart t s
 apart-turned s t (inl h) = inr h
@@ -77,18 +76,16 @@ pairs-turned ks ls ms ns p =
     let turned = pairs-join ms ls two.1 two.0 (across-turned ls ms two.2) in
     let P : ℕ → Type 0 = λ x. Each (Apart x) ns in
     let past = each-append P ms ls (each-right P ls ms here.2) (each-left P ls ms here.2) in
-    pairs-join ks ((ms ++ ls) ++ ns) up.0 (pairs-join (ms ++ ls) ns turned here.1 past)
+    pairs-join _ _ up.0 (pairs-join _ _ turned here.1 past)
     (each-map (λ x. Each (Apart x) ((ls ++ ms) ++ ns)) (λ x. Each (Apart x) ((ms ++ ls) ++ ns))
-    (λ x e. each-moved (Apart x) ((ls ++ ms) ++ ns) ((ms ++ ls) ++ ns) (has-turned [] ms ls ns) e) ks up.2)
+    (λ x e. each-moved (Apart x) _ _ (has-turned [] ms ls ns) e) _ up.2)
 
 pub turned : (ks ls ms ns : List ℕ) → SameNames (ks ++ ((ls ++ ms) ++ ns)) (ks ++ ((ms ++ ls) ++ ns))
 turned ks ls ms ns = record {
   to = has-turned ks ls ms ns;
   from = has-turned ks ms ls ns;
-  apart =
-      pairs-turned ks ls ms ns;
+  apart = pairs-turned ks ls ms ns;
 }
 
 pub same-names : (was now : List ℕ) → was ≡ now → SameNames was now
-same-names was now e =
-    subst (λ k. SameNames was k) e (record { to = λ s h. h; from = λ s h. h; apart = λ p. p })
+same-names was now e = subst (λ k. SameNames was k) e (record { to = λ s h. h; from = λ s h. h; apart = λ p. p })

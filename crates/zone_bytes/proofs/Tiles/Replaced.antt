@@ -50,22 +50,19 @@ module _ (xs : List ℕ) (below here above : List Block) (slots : ℕ → Slot) 
     lies-now =
         let c = clear zone bottom top xs is-splice in
         record {
-          tiles = tiles-splice (head_of (λ s. is_resource (slots s))) xs new below here above now bottom top low high
-              h.lies.tiles same t;
+          tiles = tiles-splice (head_of (λ s. is_resource (slots s))) _ _ _ _ _ _ _ _ low high h.lies.tiles same t;
           leads = leads-splice xs new below here above now bottom top low high e h.lies.leads same c.0 c.1 leads;
         }
 
     back : (s : ℕ) → IsSlot s (below ++ (now ++ above)) → IsSlot s all
-    back s i = elim (slot-split s below (now ++ above) i) [
+    back s i = elim (slot-split s _ _ i) [
       | inl j ↦ slot-append_left s below (here ++ above) j
       | inr j ↦ elim (slot-split (s - sizes below) now above j.1) [
         | inl k ↦ absurd (none-now (s - sizes below) k)
         | inr k ↦
-            let l = k.0 in
             let f : s - sizes below - sizes now ≡ s - sizes below - sizes here = ap (λ m. s - sizes below - m) e in
-            slot-append_right s below (here ++ above) j.0
-            (slot-append_right (s - sizes below) here above (omega (arith, e, l))
-            (subst (λ q. IsSlot q above) f k.1))
+            slot-append_right s _ _ j.0
+            (slot-append_right _ _ _ (omega (arith, e)) (subst (λ q. IsSlot q above) f k.1))
       ]
     ]
 
@@ -79,9 +76,9 @@ module _ (xs : List ℕ) (below here above : List Block) (slots : ℕ → Slot) 
         ∙ ap (λ k. names below ++ k) (names-append now above ∙ ap (λ k. k ++ names above) n
         ∙ sym (names-append here above)) ∙ sym (names-append below (here ++ above)) in
         let ok : ArePlaced 0 (below ++ (now ++ above)) =
-        placed-append 0 below (now ++ above) (placed-left 0 below (here ++ above) h.placed)
-        (placed-append (0 + sizes below) now above (subst (λ j. ArePlaced j now) o placed)
+        placed-append 0 _ _ (placed-left 0 below (here ++ above) h.placed)
+        (placed-append _ _ _ (subst (λ j. ArePlaced j now) o placed)
         (subst (λ k. ArePlaced (0 + sizes below + k) above) (sym e) q)) in
-        lays-kept xs new all (below ++ (now ++ above)) slots unused h lies-now all-names
+        lays-kept _ _ _ _ slots _ h lies-now all-names
         (λ s i. slot-kept zone bottom top xs is-splice s now e i) back ok
         (λ s i a. piece-outside bottom top xs new s same (outside zone bottom top xs is-splice s i)) same.kept

@@ -9,7 +9,7 @@ use Rattle.windows.specs.Writes.{piece}
 use Rattle.heap_words.specs.Words.{word, word_at}
 use Rattle.heap_words.proofs.Words.{read_back}
 use Rattle.block_store.specs.declared.flags.Flags.{Flags}
-use Rattle.block_store.specs.Block.{Block, Free, Nonrelocatable, Masters, Relocatable, size, is_masters}
+use Rattle.block_store.specs.Block.{Block, Free, Nonrelocatable, Masters, Relocatable, size}
 use Rattle.block_store.specs.Slot.{Slot, NoSlot, Unused, Used, is_resource}
 use Rattle.zone_bytes.specs.Layout.{flag_word, head_of, Tiles, IsSlot, names, Leads, Each}
 use Rattle.zone_bytes.specs.Decode.{zone_in}
@@ -35,12 +35,9 @@ is_slot-true s [] i = absurd i
 is_slot-true s (Free n ∷ blocks) (inl i) = absurd i
 is_slot-true s (Nonrelocatable id content ∷ blocks) (inl i) = absurd i
 is_slot-true s (Relocatable slot flags content ∷ blocks) (inl i) = absurd i
-is_slot-true s (Masters ∷ blocks) (inl i) = or-true (nat_le 16 s && (nat_le (s + 4) 272 && (s % 4 == 0)))
-    (nat_le 272 s && is_slot (s - 272) blocks) (test-true s i.0 i.1 i.2)
+is_slot-true s (Masters ∷ blocks) (inl i) = or-true _ _ (test-true s i.0 i.1 i.2)
 is_slot-true s (b ∷ blocks) (inr i) =
-    or-right (is_masters b && (nat_le 16 s && (nat_le (s + 4) 272 && (s % 4 == 0))))
-    (nat_le (size b) s && is_slot (s - size b) blocks)
-    (and-true (nat_le (size b) s) (is_slot (s - size b) blocks) (le-true (size b) s i.0)
+    or-right _ _ (and-true (nat_le (size b) s) (is_slot (s - size b) blocks) (le-true (size b) s i.0)
     (is_slot-true (s - size b) blocks i.1))
   where
     and-true : (v w : Bool) → v ≡ true → w ≡ true → (v && w) ≡ true
@@ -67,14 +64,13 @@ le-back m n h = grind (arith, nat_tests)
 
 pub is_slot-back : (s : ℕ) (blocks : List Block) → is_slot s blocks ≡ true → IsSlot s blocks
 is_slot-back s [] e = absurd (false≢true e)
-is_slot-back s (Free n ∷ blocks) e = let p = and-split (nat_le n s) (is_slot (s - n) blocks) e in
-    inr (le-back n s p.0, is_slot-back (s - n) blocks p.1)
+is_slot-back s (Free n ∷ blocks) e = let p = and-split _ _ e in
+    inr (le-back n s p.0, is_slot-back _ blocks p.1)
 is_slot-back s (Nonrelocatable id content ∷ blocks) e =
     let p = and-split (nat_le (size (Nonrelocatable id content)) s) (is_slot (s - size (Nonrelocatable id content)) blocks) e in
     inr (le-back (size (Nonrelocatable id content)) s p.0, is_slot-back (s - size (Nonrelocatable id content)) blocks p.1)
 is_slot-back s (Relocatable slot flags content ∷ blocks) e =
-    let p = and-split (nat_le (size (Relocatable slot flags content)) s)
-    (is_slot (s - size (Relocatable slot flags content)) blocks) e in
+    let p = and-split _ _ e in
     inr (
       le-back (size (Relocatable slot flags content)) s p.0,
       is_slot-back (s - size (Relocatable slot flags content)) blocks p.1,
@@ -127,27 +123,22 @@ module _ (resource : ℕ → Bool) (xs : List ℕ) (small : length xs ≤ 134217
       → Leads o blocks xs → Has (names blocks) s → slot_of_word xs (word_at s xs) ≡ Used (resource s)
   unfolding head_of
   named-word o [] e t l h = absurd h
-  named-word o (Free n ∷ blocks) e t l h = let w = t.0.whole in
-      named-word (o + n) blocks (omega (arith, e, w))
+  named-word o (Free n ∷ blocks) e t l h = named-word _ blocks (omega (arith, e))
       (subst (λ k. Tiles (head_of resource) k blocks) (drop-drop n o xs) t.1) l.1 h
   named-word o (Nonrelocatable id content ∷ blocks) e t l h =
-      let w = t.0.whole in
-      named-word (o + size (Nonrelocatable id content)) blocks (omega (arith, e, w))
+      named-word _ blocks (omega (arith, e))
       (subst (λ k. Tiles (head_of resource) k blocks) (drop-drop (size (Nonrelocatable id content)) o xs) t.1) l.1 h
   named-word o (Masters ∷ blocks) e t l h = named-word (o + 272) blocks (omega (arith, e))
       (subst (λ k. Tiles (head_of resource) k blocks) (drop-drop 272 o xs) t.1) l.1 h
   named-word o (Relocatable slot flags content ∷ blocks) e t l (inr h) =
-      let w = t.0.whole in
-      named-word (o + size (Relocatable slot flags content)) blocks (omega (arith, e, w))
+      named-word (o + size (Relocatable slot flags content)) blocks (omega (arith, e))
       (subst (λ k. Tiles (head_of resource) k blocks) (drop-drop (size (Relocatable slot flags content)) o xs)
       t.1) l.1 h
   named-word o (Relocatable slot flags content ∷ blocks) e t l (inl h) =
       let z = size (Relocatable slot flags content) in
       let q = says z (z + 3) (length content) slot (flag_word flags (resource slot)) content (drop o xs) t.0 in
-      let f = t.0.fits in
-      let m = t.0.some in
       let d = length-drop o xs in
-      let w = read_back s o xs (omega (arith, f, m, d, small)) (ap (λ k. take 4 (drop k xs)) (sym h) ∙ l.0) in
+      let w = read_back s o xs (omega (arith, d, small)) (ap (λ k. take 4 (drop k xs)) (sym h) ∙ l.0) in
       let g = flag_word-small flags (resource slot) in
       let v = read_back (o + 12) (flag_word flags (resource slot)) xs (omega (arith, g))
       (ap (take 4) (sym (drop-drop 12 o xs)) ∙ q.2) in
@@ -160,11 +151,10 @@ module _ (xs : List ℕ) (blocks : List Block) (slots : ℕ → Slot) (unused : 
     (h : Lays xs blocks slots unused) where
   pub zone-of : zone_in xs ≡ blocks
   zone-of =
-      let l = length-tiles (head_of (λ s. is_resource (slots s))) xs blocks h.lies.tiles in
       let small = h.small in
-      zone-back (λ s. is_resource (slots s)) blocks xs small h.placed
-      (each-map (λ s. IsSlot s blocks) (λ s. s < 2 ^ 32) (λ s i. let k = slot-inside s blocks i in
-      omega (arith, k, l, small)) (names blocks) h.has_slots.slots) h.lies.tiles
+      zone-back (λ s. is_resource (slots s)) _ _ small h.placed
+      (each-map (λ s. IsSlot s blocks) (λ s. s < 2 ^ 32) (λ s i. omega (arith, slot-inside, length-tiles, small))
+      _ h.has_slots.slots) h.lies.tiles
 
   chain-word : (us : List ℕ) → Each (λ u. IsSlot u blocks × (slots u ≡ Unused)) us → Chain xs us → (s : ℕ) → Has us s
       → (k : ℕ) × (k < 134217728) × (piece s 4 xs ≡ word (16 * k + 1))
@@ -172,28 +162,22 @@ module _ (xs : List ℕ) (blocks : List Block) (slots : ℕ → Slot) (unused : 
   chain-word (u ∷ us) e c s (inr k) = chain-word us e.1 c.1 s k
   chain-word (u ∷ []) e c s (inl k) = (0, omega arith, subst (λ m. piece m 4 xs ≡ word 1) k c.0)
   chain-word (u ∷ v ∷ us) e c s (inl k) =
-      let i = slot-inside v blocks e.1.0.0 in
-      let l = length-tiles (head_of (λ s. is_resource (slots s))) xs blocks h.lies.tiles in
-      let small = h.small in
-      (v, omega (arith, i, l, small), subst (λ m. piece m 4 xs ≡ word (16 * v + 1)) k c.0)
+      (v, omega (arith, slot-inside, length-tiles), subst (λ m. piece m 4 xs ≡ word (16 * v + 1)) k c.0)
 
   state : (s : ℕ) (st : Slot) → slots s ≡ st → Says blocks xs unused s st
       → cond (is_slot s blocks) (slot_of_word xs (word_at s xs)) NoSlot ≡ st
-  state s NoSlot e q = none (is_slot s blocks) (λ t. q (is_slot-back s blocks t))
+  state s NoSlot e q = none (is_slot s blocks) (λ t. q (is_slot-back s _ t))
     where
       none : (v : Bool) → (v ≡ true → ⊥) → cond v (slot_of_word xs (word_at s xs)) NoSlot ≡ NoSlot
       none true n = absurd (n refl)
       none false n = refl
   state s Unused e q =
       let c = chain-word unused h.unused_slots h.chain s q.1 in
-      let k = c.1 in
-      let w = read_back s (16 * c.0 + 1) xs (omega (arith, k)) c.2 in
-      ap (λ v. cond v (slot_of_word xs (word_at s xs)) NoSlot) (is_slot-true s blocks q.0)
-      ∙ word-unused xs (word_at s xs) c.0 w
+      ap (λ v. cond v (slot_of_word xs (word_at s xs)) NoSlot) (is_slot-true s _ q.0)
+      ∙ word-unused _ _ _ (read_back s _ _ (omega arith) c.2)
   state s (Used r) e q =
-      ap (λ v. cond v (slot_of_word xs (word_at s xs)) NoSlot) (is_slot-true s blocks q.0)
-      ∙ elim q.1 [
-        | inl k ↦ named-word (λ t. is_resource (slots t)) xs h.small s 0 blocks refl h.lies.tiles h.lies.leads k
+      ap (λ v. cond v (slot_of_word xs (word_at s xs)) NoSlot) (is_slot-true s blocks q.0) ∙ elim q.1 [
+        | inl k ↦ named-word (λ t. is_resource (slots t)) _ h.small s 0 _ refl h.lies.tiles h.lies.leads k
             ∙ ap (λ t. Used (is_resource t)) e
         | inr k ↦ word-emptied xs (word_at s xs) r (read_back s (empty_word r) xs (small-emptied r) k.1)
       ]
@@ -201,4 +185,4 @@ module _ (xs : List ℕ) (blocks : List Block) (slots : ℕ → Slot) (unused : 
   pub slots-of : (s : ℕ) → slot_in xs s ≡ slots s
   unfolding slot_in
   slots-of s = ap (λ k. cond (is_slot s k) (slot_of_word xs (word_at s xs)) NoSlot) zone-of
-      ∙ state s (slots s) refl (h.says s)
+      ∙ state s _ refl (h.says s)

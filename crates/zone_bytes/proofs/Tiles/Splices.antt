@@ -34,8 +34,7 @@ piece-outside lo hi old new s o (inl h) =
     (ap (drop s) (take-take (s + 4) lo xs h) ∙ drop-take s 4 xs) in
     whole new ∙ ap (λ k. drop s (take (s + 4) k)) o.low ∙ sym (whole old)
 piece-outside lo hi old new s o (inr h) =
-    let r = o.ordered in
-    let e : hi + (s - hi) ≡ s = omega (arith, r, h) in
+    let e : hi + (s - hi) ≡ s = omega (arith, h) in
     let whole : (xs : List ℕ) → piece s 4 xs ≡ take 4 (drop (s - hi) (drop hi xs)) = λ xs. ap
     (λ k. take 4 (drop k xs)) (sym e) ∙ ap (take 4) (sym (drop-drop (s - hi) hi xs)) in
     whole new ∙ ap (λ k. take 4 (drop (s - hi) k)) o.high ∙ sym (whole old)
@@ -45,15 +44,14 @@ pub leads-outside : (lo hi : ℕ) (old new : List ℕ) (o : ℕ) (blocks : List 
 leads-outside lo hi old new o [] s c h = tt
 leads-outside lo hi old new o (b ∷ blocks) s c h = (
   leads-one b (each-left (Clear lo (hi - lo)) (names_of b) (names blocks) c) h.0,
-  leads-outside lo hi old new (o + size b) blocks s (each-right (Clear lo (hi - lo)) (names_of b) (names blocks) c)
-      h.1,
+  leads-outside _ _ _ _ (o + size b) blocks s (each-right (Clear lo (hi - lo)) (names_of b) (names blocks) c) h.1,
 )
   where
     leads-one : (b : Block) → Each (Clear lo (hi - lo)) (names_of b) → LeadsTo o b old → LeadsTo o b new
     leads-one (Free n) c h = tt
     leads-one (Nonrelocatable id content) c h = tt
     leads-one Masters c h = tt
-    leads-one (Relocatable slot flags content) c h = piece-outside lo hi old new slot s c.0 ∙ h
+    leads-one (Relocatable slot flags content) c h = piece-outside _ _ _ _ _ s c.0 ∙ h
 
 module _ (head : Block → List ℕ) where
   -- three stretches of blocks
@@ -65,9 +63,8 @@ module _ (head : Block → List ℕ) where
       (sym (drop-drop (hi - lo) lo new ∙ ap (λ k. drop k new) m)) ∙ take-append-drop (hi - lo) (drop lo new) in
       let all : take lo new ++ (piece lo (hi - lo) new ++ drop hi new) ≡ new = ap (λ k. take lo new ++ k) mid
       ∙ take-append-drop lo new in
-      subst (λ k. Tiles head k (ls ++ (here ++ ns))) all
-      (tiles-append head (take lo new) (piece lo (hi - lo) new ++ drop hi new) ls (here ++ ns) low
-      (tiles-append head (piece lo (hi - lo) new) (drop hi new) here ns h high))
+      subst (λ k. Tiles head k (ls ++ (here ++ ns))) all (tiles-append head _ _ _ _ low
+      (tiles-append head _ _ _ _ h high))
 
   -- a stretch of blocks in the place of another
   pub tiles-splice : (old new : List ℕ) (ls ms ns here : List Block) (lo hi : ℕ) → sizes ls ≡ lo → lo + sizes ms ≡ hi
@@ -87,11 +84,8 @@ pub leads-splice : (old new : List ℕ) (ls ms ns here : List Block) (lo hi : �
     → Each (Clear lo (hi - lo)) (names ls) → Each (Clear lo (hi - lo)) (names ns) → Leads lo here new
     → Leads 0 (ls ++ (here ++ ns)) new
 leads-splice old new ls ms ns here lo hi a b e t s c d h =
-    let low = leads-outside lo hi old new 0 ls s c (leads-left old 0 ls (ms ++ ns) t) in
-    let high = leads-outside lo hi old new (0 + sizes ls + sizes ms) ns s d
-    (leads-right old (0 + sizes ls) ms ns (leads-right old 0 ls (ms ++ ns) t)) in
+    let high = leads-outside _ _ _ _ _ _ s d (leads-right _ _ _ _ (leads-right _ 0 _ _ t)) in
     let f : lo ≡ 0 + sizes ls = omega (arith, a) in
     let g : 0 + sizes ls + sizes ms ≡ 0 + sizes ls + sizes here = omega (arith, e) in
-    leads-append new 0 ls (here ++ ns) low
-    (leads-append new (0 + sizes ls) here ns (subst (λ k. Leads k here new) f h)
-    (subst (λ k. Leads k ns new) g high))
+    leads-append _ 0 _ _ (leads-outside _ _ _ _ 0 _ s c (leads-left _ 0 _ _ t))
+    (leads-append _ _ _ _ (subst (λ k. Leads k here new) f h) (subst (λ k. Leads k ns new) g high))

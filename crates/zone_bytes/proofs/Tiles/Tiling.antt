@@ -47,18 +47,13 @@ module _ (head : Block → List ℕ) where
   -- the blocks take all the bytes
   pub length-tiles : (xs : List ℕ) (blocks : List Block) → Tiles head xs blocks → length xs ≡ sizes blocks
   length-tiles xs [] t = ap length t
-  length-tiles xs (b ∷ blocks) t =
-      let r = length-tiles (drop (size b) xs) blocks t.1 in
-      let d = length-drop (size b) xs in
-      let f = t.0.fits in
-      omega (arith, r, d, f)
+  length-tiles xs (b ∷ blocks) t = omega (arith, length-tiles (drop (size b) xs) blocks t.1, length-drop (size b) xs)
 
   -- a block's bytes followed by others
   pub tile-append : (h : List ℕ) (n : ℕ) (xs ys : List ℕ) → Tile h n xs → Tile h n (xs ++ ys)
   tile-append h n xs ys t =
-      let a = length-append xs ys in
       record {
-        fits = omega (arith, a, t.fits);
+        fits = omega (arith, length-append xs ys, t.fits);
         whole = t.whole;
         some = t.some;
         room = t.room;
@@ -68,9 +63,8 @@ module _ (head : Block → List ℕ) where
   -- a block's bytes without the others
   pub tile-take : (h : List ℕ) (n k : ℕ) (xs : List ℕ) → n ≤ k → k ≤ length xs → Tile h n xs → Tile h n (take k xs)
   tile-take h n k xs l m t =
-      let a = length-take-le k xs m in
       record {
-        fits = omega (arith, a, l);
+        fits = omega (arith, length-take-le k xs m, l);
         whole = t.whole;
         some = t.some;
         room = t.room;
@@ -82,8 +76,7 @@ module _ (head : Block → List ℕ) where
   tiles-append xs ys [] ms t u = rw t u
   tiles-append xs ys (b ∷ ls) ms t u = (
     tile-append (head b) (size b) xs ys t.0,
-    rw (drop-append-le (size b) xs ys t.0.fits)
-        (tiles-append (drop (size b) xs) ys ls ms t.1 u),
+    rw (drop-append-le (size b) xs ys t.0.fits) (tiles-append (drop (size b) xs) ys ls ms t.1 u),
   )
 
   -- one block
@@ -95,11 +88,8 @@ module _ (head : Block → List ℕ) where
   tiles-split xs [] ms t = (refl, t)
   tiles-split xs (b ∷ ls) ms t =
       let r = tiles-split (drop (size b) xs) ls ms t.1 in
-      let whole = length-tiles (drop (size b) xs) (ls ++ ms) t.1 in
-      let more = span-append ls ms in
-      let d = length-drop (size b) xs in
-      let f = t.0.fits in
-      let enough : size b + sizes ls ≤ length xs = omega (arith, whole, more, d, f) in (
+      let a = length-drop (size b) xs in
+      let enough : size b + sizes ls ≤ length xs = omega (arith, length-tiles, span-append ls ms, a) in (
         (
           tile-take (head b) (size b) (size b + sizes ls) xs (omega arith) enough t.0,
           rw (drop-take (size b) (sizes ls) xs) r.0,
@@ -114,34 +104,25 @@ module _ (head : Block → List ℕ) where
   tiles-slot m xs w s (Free n ∷ blocks) e (inl i) t = absurd i
   tiles-slot m xs w s (Nonrelocatable id content ∷ blocks) e (inl i) t = absurd i
   tiles-slot m xs w s (Relocatable slot flags content ∷ blocks) e (inl i) t = absurd i
-  tiles-slot m xs w s (Masters ∷ blocks) e (inl i) t =
-      let f = t.0.fits in
-      let l = length-written s w xs (omega (arith, i, e, f)) in (
-        record {
-          fits = omega (arith, l, f);
-          whole = t.0.whole;
-          some = t.0.some;
-          room = t.0.room;
-          begins = take-written_below s w xs (length (head Masters)) (omega (arith, i, m)) (omega (arith, i, f))
-              ∙ t.0.begins;
-        },
-        rw (drop-written_above s w xs 272 (omega (arith, i, e)) (omega (arith, i, f))) t.1,
-      )
+  tiles-slot m xs w s (Masters ∷ blocks) e (inl i) t = (
+    record {
+      fits = omega (arith, length-written);
+      whole = t.0.whole;
+      some = t.0.some;
+      room = t.0.room;
+      begins = take-written_below s w _ _ (omega (arith, i, m)) (omega (arith, i)) ∙ t.0.begins;
+    },
+    rw (drop-written_above s w xs 272 (omega (arith, i, e)) (omega (arith, i))) t.1,
+  )
   tiles-slot m xs w s (b ∷ blocks) e (inr i) t =
-      let f = t.0.fits in
-      let r = t.0.room in
-      let k = slot-inside (s - size b) blocks i.1 in
-      let n = length-tiles (drop (size b) xs) blocks t.1 in
-      let d = length-drop (size b) xs in
-      let inside : s + 4 ≤ length xs = omega (arith, i.0, k, n, d, f) in
-      let l = length-written s w xs (omega (arith, e, inside)) in (
+      let a = slot-inside (s - size b) blocks i.1 in
+      let inside : s + 4 ≤ length xs = omega (arith, i.0, a, length-tiles, length-drop (size b) xs) in (
         record {
-          fits = omega (arith, l, f);
+          fits = omega (arith, length-written s w xs (omega (arith, e, inside)));
           whole = t.0.whole;
           some = t.0.some;
           room = t.0.room;
-          begins = take-written_below s w xs (length (head b)) (omega (arith, i.0, r)) (omega (arith, inside))
-              ∙ t.0.begins;
+          begins = take-written_below s w _ _ (omega (arith, i.0)) (omega (arith, inside)) ∙ t.0.begins;
         },
         rw (drop-written_below s w xs (size b) i.0 (omega (arith, inside)))
             (tiles-slot m (drop (size b) xs) w (s - size b) blocks e i.1 t.1),

@@ -1,8 +1,6 @@
 use Rattle.std.proofs.Common.{◌≡◌, ◌+◌, ◌==◌, ◌∙◌, ap, cond, arith, ℕ}
-use Rattle.heap_words.specs.Headers.{tag_number}
 use Rattle.heap_words.specs.Words.{word, word_at, header}
 use Rattle.windows.specs.Writes.{written}
-use Rattle.block_store.specs.Block.{Nonrelocatable}
 use Rattle.zone_bytes.specs.Layout.{flag_word}
 use Rattle.zone_bytes.proofs.Tiles.Tags.{tag-small}
 use Rattle.zone_bytes.proofs.Places.Stepped.{next-header}
@@ -28,11 +26,10 @@ returns-clause-bytes c id content above e =
     let xs = a.part.now.bytes in
     let h = c.read_header-nonrelocatable.result in
     let t = c.read_header-nonrelocatable.ensures in
-    let size = size-at a.place xs c.requires.way c.requires.some h.size (tag_number h.tag) t.first t.size
-    (tag-small h.tag) (Nonrelocatable id content) above e in
+    let size = size-at _ _ c.requires.way c.requires.some _ _ t.first t.size (tag-small h.tag) _ _ e in
     let long = t.logical ∙ length-at a.place xs c.requires.way id content above e in
     let is : ℕ = cond (word_at a.slot xs == 18) 32 0 in
     let flags : c.flag_bits.result + c.kept_flags-resource.result ≡ flag_word a.flags (word_at a.slot xs == 18) =
-    (let b = c.flag_bits.ensures in let k = c.kept_flags-resource.ensures in omega (arith, b, k)) in
+    (omega arith) in
     c.write_word.ensures.bytes ∙ ap (written a.slot (word a.place)) (c.write_header.ensures.bytes
     ∙ (λ i. written a.place (header (size i + 3) (long i) a.slot (flags i)) xs))

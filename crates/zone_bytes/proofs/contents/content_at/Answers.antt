@@ -1,5 +1,4 @@
 use Rattle.std.proofs.Common.{◌+◌, sym, ap, ◌∙◌, arith}
-use Rattle.heap_words.specs.Headers.{tag_number}
 use Rattle.block_store.specs.Block.{content_of}
 use Rattle.windows.specs.Writes.{piece}
 use Rattle.zone_bytes.proofs.Tiles.Tags.{tag-small}
@@ -8,12 +7,11 @@ use Rattle.zone_bytes.proofs.Places.HeaderTells.{here-on, holds, holds-none, sam
 use Rattle.zone_bytes.proofs.contents.content_at.Goals as goal
 
 pub read_header-header-requires-clause-within : goal.read_header-header-requires-clause-within
-read_header-header-requires-clause-within c = let n = next-header c.args.place c.args.part.now.bytes c.requires.way
+read_header-header-requires-clause-within c = let n = next-header _ _ c.requires.way
     c.requires.some in (n.even, n.fits)
 
 pub read_header-header-requires-clause-fits : goal.read_header-header-requires-clause-fits
-read_header-header-requires-clause-fits c = let n = next-header c.args.place c.args.part.now.bytes c.requires.way
-    c.requires.some in let f = n.fits in let m = c.requires.way.small in omega (arith, f, m)
+read_header-header-requires-clause-fits c = omega arith
 
 pub read_header-header-requires-clause-tag : goal.read_header-header-requires-clause-tag
 read_header-header-requires-clause-tag c =
@@ -22,31 +20,22 @@ read_header-header-requires-clause-tag c =
 pub get_bytes-requires : goal.get_bytes-requires
 get_bytes-requires c =
     let h = c.read_header-header.result in
-    let e = c.read_header-header.ensures in
-    let o = here-on c.args.place c.args.part.now.bytes c.requires.way c.requires.some h.size
-    (tag_number h.tag) e.first e.size (tag-small h.tag) in
-    let f = (holds c.args.place c.args.part.now.bytes (tag_number h.tag) o
-    (sym c.has_content.ensures ∙ c.if-has_content.true)).fits in
-    let l = e.logical in
-    omega (arith, f, l)
+    let o = here-on _ _ c.requires.way c.requires.some _
+    _ c.read_header-header.ensures.first c.read_header-header.ensures.size (tag-small _) in
+    omega (arith, (holds _ _ _ o (sym c.has_content.ensures ∙ c.if-has_content.true)).fits)
 
 pub returns-then-has_content : goal.returns-then-has_content
 returns-then-has_content c = λ b above q.
     let h = c.read_header-header.result in
     let e = c.read_header-header.ensures in
-    let o = here-on c.args.place c.args.part.now.bytes c.requires.way c.requires.some h.size
-    (tag_number h.tag) e.first e.size (tag-small h.tag) in
-    let f = (holds c.args.place c.args.part.now.bytes (tag_number h.tag) o
-    (sym c.has_content.ensures ∙ c.if-has_content.true)).is in
+    let o = here-on _ _ c.requires.way c.requires.some _ _ e.first e.size (tag-small h.tag) in
+    let f = (holds _ _ _ o (sym c.has_content.ensures ∙ c.if-has_content.true)).is in
     c.get_bytes.ensures ∙ ap (λ n. piece (c.args.place + 16) n c.args.part.now.bytes) e.logical ∙ f
-    ∙ ap content_of (same-here c.args.place c.args.part.now.bytes (tag_number h.tag) o b above q)
+    ∙ ap content_of (same-here _ _ _ o b _ q)
 
 pub returns-else-has_content : goal.returns-else-has_content
 returns-else-has_content c = λ b above q.
-    let h = c.read_header-header.result in
-    let e = c.read_header-header.ensures in
-    let o = here-on c.args.place c.args.part.now.bytes c.requires.way c.requires.some h.size
-    (tag_number h.tag) e.first e.size (tag-small h.tag) in
-    sym (holds-none c.args.place c.args.part.now.bytes (tag_number h.tag) o
-    (sym c.has_content.ensures ∙ c.if-has_content.false))
-    ∙ ap content_of (same-here c.args.place c.args.part.now.bytes (tag_number h.tag) o b above q)
+    let o = here-on _ _ c.requires.way c.requires.some _
+    _ c.read_header-header.ensures.first c.read_header-header.ensures.size (tag-small _) in
+    sym (holds-none _ _ _ o (sym c.has_content.ensures ∙ c.if-has_content.false))
+    ∙ ap content_of (same-here _ _ _ o b _ q)

@@ -1,6 +1,5 @@
 use Rattle.std.proofs.Common.{length, refl, sym, ap, ◌∙◌, subst, arith}
 use Rattle.heap_words.specs.Words.{word_at}
-use Rattle.heap_words.specs.Headers.{tag_number}
 use Rattle.zone_bytes.proofs.Tiles.Tags.{tag-small}
 use Rattle.zone_bytes.proofs.Runs.Settled.{Next}
 use Rattle.zone_bytes.proofs.Runs.Hoists.{wide, next, size-read, turned-read, is-moved, is-hoisted}
@@ -8,15 +7,11 @@ use Rattle.zone_bytes.proofs.hoisting.hoist_block.Goals as goal
 
 pub read_header-size-requires-clause-within : goal.read_header-size-requires-clause-within
 read_header-size-requires-clause-within g c =
-    let n = subst (λ xs. Next xs c.args.place) (sym c.requires.0)
-    (next g.hoist c.args.place c.args.stop c.requires.1) in
+    let n = subst (λ xs. Next xs c.args.place) (sym c.requires.0) (next _ _ _ c.requires.1) in
     (n.even, n.fits)
 
 pub read_header-size-requires-clause-fits : goal.read_header-size-requires-clause-fits
-read_header-size-requires-clause-fits g c =
-    let f = (next g.hoist c.args.place c.args.stop c.requires.1).fits in
-    let s = c.requires.1.small in
-    omega (arith, f, s)
+read_header-size-requires-clause-fits g c = omega (arith, (next _ _ _ c.requires.1).fits)
 
 pub read_header-size-requires-clause-tag : goal.read_header-size-requires-clause-tag
 read_header-size-requires-clause-tag g c =
@@ -24,36 +19,26 @@ read_header-size-requires-clause-tag g c =
 
 pub rotate-requires-clause-turn : goal.rotate-requires-clause-turn
 rotate-requires-clause-turn g c =
-    let h = c.read_header-size.result in
     let e = c.read_header-size.ensures in
-    let s = size-read g.hoist c.args.place c.args.stop c.requires.1 h.size (tag_number h.tag) (e.first
-    ∙ ap (word_at c.args.place) c.requires.0) e.size (tag-small h.tag) in
-    let v = wide g.hoist c.args.place c.args.stop c.requires.1 in
-    omega (arith, s, v)
+    let s = size-read _ _ _ c.requires.1 _ _ (e.first
+    ∙ ap (word_at c.args.place) c.requires.0) e.size (tag-small _) in
+    omega (arith, s, wide)
 
 pub rotate-requires-clause-inside : goal.rotate-requires-clause-inside
-rotate-requires-clause-inside g c =
-    let v = wide g.hoist c.args.place c.args.stop c.requires.1 in
-    let l = ap length c.requires.0 in
-    omega (arith, v, l)
+rotate-requires-clause-inside g c = omega (arith, wide, ap length c.requires.0)
 
 pub lead_run-requires : goal.lead_run-requires
 lead_run-requires g c =
-    let h = c.read_header-size.result in
     let e = c.read_header-size.ensures in
-    let s = size-read g.hoist c.args.place c.args.stop c.requires.1 h.size (tag_number h.tag) (e.first
-    ∙ ap (word_at c.args.place) c.requires.0) e.size (tag-small h.tag) in
-    let m = turned-read g.hoist c.args.place c.args.stop c.requires.1 c.args.part.now.bytes h.size
-    c.rotate.new.self.bytes c.requires.0 s c.rotate.ensures.bytes in
+    let s = size-read _ _ _ c.requires.1 _ _ (e.first
+    ∙ ap (word_at c.args.place) c.requires.0) e.size (tag-small _) in
+    let m = turned-read _ _ _ c.requires.1 _ _ _ c.requires.0 s c.rotate.ensures.bytes in
     (refl, is-moved g.hoist c.args.place c.args.stop c.requires.1 c.rotate.new.self.bytes m)
 
 pub returns-clause-hoisted : goal.returns-clause-hoisted
 returns-clause-hoisted g c =
-    let h = c.read_header-size.result in
     let e = c.read_header-size.ensures in
-    let s = size-read g.hoist c.args.place c.args.stop c.requires.1 h.size (tag_number h.tag) (e.first
-    ∙ ap (word_at c.args.place) c.requires.0) e.size (tag-small h.tag) in
-    let m = turned-read g.hoist c.args.place c.args.stop c.requires.1 c.args.part.now.bytes h.size
-    c.rotate.new.self.bytes c.requires.0 s c.rotate.ensures.bytes in
-    is-hoisted g.hoist c.args.place c.args.stop c.requires.1 c.rotate.new.self.bytes m c.lead_run.new.part.bytes
-    c.lead_run.ensures.pointed
+    let s = size-read _ _ _ c.requires.1 _ _ (e.first
+    ∙ ap (word_at c.args.place) c.requires.0) e.size (tag-small _) in
+    let m = turned-read _ _ _ c.requires.1 _ _ _ c.requires.0 s c.rotate.ensures.bytes in
+    is-hoisted _ _ _ c.requires.1 _ m _ c.lead_run.ensures.pointed

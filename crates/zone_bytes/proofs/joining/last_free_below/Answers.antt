@@ -7,18 +7,16 @@ use Rattle.zone_bytes.proofs.Joined.Below.{below-from, below-done, below-inside,
 use Rattle.zone_bytes.proofs.joining.last_free_below.Goals as goal
 
 pub loop-at-init : goal.loop-at-init
-loop-at-init c = below-from c.args.part.now.bytes c.args.from c.args.place c.requires.up c.requires.inside
+loop-at-init c = below-from _ _ _ c.requires.up c.requires.inside
 
 pub read_header-header-requires-clause-within : goal.read_header-header-requires-clause-within
 read_header-header-requires-clause-within c =
-    let n = next-header c.loop-at.at c.args.part.now.bytes c.loop-at.invariant.way
-    (omega (arith, c.loop-at-test.true, c.requires.inside)) in
+    let n = next-header _ _ c.loop-at.invariant.way (omega (arith, c.loop-at-test.true, c.requires.inside)) in
     (n.even, n.fits)
 
 pub read_header-header-requires-clause-tag : goal.read_header-header-requires-clause-tag
 read_header-header-requires-clause-tag c =
-    (next-header c.loop-at.at c.args.part.now.bytes c.loop-at.invariant.way
-    (omega (arith, c.loop-at-test.true, c.requires.inside))).tag
+    (next-header _ _ c.loop-at.invariant.way (omega (arith, c.loop-at-test.true, c.requires.inside))).tag
 
 pub overflow_add-end : goal.overflow_add-end
 overflow_add-end c =
@@ -26,21 +24,14 @@ overflow_add-end c =
     let e = c.read_header-header.ensures in
     let l = c.loop-at-test.true in
     let i = below-inside c.args.part.now.bytes c.args.place c.loop-at.at c.loop-at.start c.loop-at.invariant l h.size
-    (tag_number h.tag) e.first e.size (tag-small h.tag) (omega (arith, l, c.requires.inside)) in
-    let m = c.requires.up.way.small in
-    omega (arith, i, m)
+    (tag_number h.tag) e.first e.size (tag-small _) (omega (arith, l, c.requires.inside)) in
+    omega (arith, i)
 
 pub loop-at-smaller-then-eq : goal.loop-at-smaller-then-eq
 loop-at-smaller-then-eq c =
-    let l = c.loop-at-test.true in
-    let h = c.read_header-header.result in
-    let n = next-header c.loop-at.at c.args.part.now.bytes c.loop-at.invariant.way
-    (omega (arith, l, c.requires.inside)) in
-    let b = n.big in
-    let t = tag-small h.tag in
-    let f = c.read_header-header.ensures.first in
-    let some : 0 < h.size = omega (arith, b, t, f) in
-    omega (arith, l, some)
+    let n = next-header _ _ c.loop-at.invariant.way (omega (arith, c.requires.inside)) in
+    let some : 0 < c.read_header-header.result.size = omega (arith, tag-small) in
+    omega (arith, some)
 
 pub loop-at-preserved-then-eq : goal.loop-at-preserved-then-eq
 loop-at-preserved-then-eq c =
@@ -48,20 +39,14 @@ loop-at-preserved-then-eq c =
     let e = c.read_header-header.ensures in
     let l = c.loop-at-test.true in
     below-free c.args.part.now.bytes c.args.place c.loop-at.at c.loop-at.start c.loop-at.invariant l h.size
-    (tag_number h.tag) e.first e.size (tag-small h.tag) (omega (arith, l, c.requires.inside))
-    (free-true h.tag c.if-eq.ensures)
+    (tag_number h.tag) e.first e.size (tag-small _) (omega (arith, l, c.requires.inside))
+    (free-true _ c.if-eq.ensures)
 
 pub loop-at-smaller : goal.loop-at-smaller
 loop-at-smaller c =
-    let l = c.loop-at-test.true in
-    let h = c.read_header-header.result in
-    let n = next-header c.loop-at.at c.args.part.now.bytes c.loop-at.invariant.way
-    (omega (arith, l, c.requires.inside)) in
-    let b = n.big in
-    let t = tag-small h.tag in
-    let f = c.read_header-header.ensures.first in
-    let some : 0 < h.size = omega (arith, b, t, f) in
-    omega (arith, l, some)
+    let n = next-header _ _ c.loop-at.invariant.way (omega (arith, c.requires.inside)) in
+    let some : 0 < c.read_header-header.result.size = omega (arith, tag-small) in
+    omega (arith, some)
 
 pub loop-at-preserved : goal.loop-at-preserved
 loop-at-preserved c =
@@ -69,9 +54,8 @@ loop-at-preserved c =
     let e = c.read_header-header.ensures in
     let l = c.loop-at-test.true in
     below-other c.args.part.now.bytes c.args.place c.loop-at.at c.loop-at.start c.loop-at.invariant l h.size
-    (tag_number h.tag) e.first e.size (tag-small h.tag) (omega (arith, l, c.requires.inside))
-    (free-false h.tag c.if-eq.ensures)
+    (tag_number h.tag) e.first e.size (tag-small _) (omega (arith, l, c.requires.inside))
+    (free-false _ c.if-eq.ensures)
 
 pub returns : goal.returns
-returns c = below-done c.args.part.now.bytes c.args.place c.loop-at.at c.loop-at.start c.loop-at.invariant
-    c.loop-at-test.false
+returns c = below-done _ _ _ _ c.loop-at.invariant c.loop-at-test.false

@@ -8,69 +8,52 @@ use Rattle.zone_bytes.proofs.SlotTable.Resources.{flags-set, lays-emptied, lays-
 use Rattle.zone_bytes.proofs.looking.mark_slot.Goals as goal
 
 pub read_word-requires : goal.read_word-requires
-read_word-requires c = let h = c.requires.1 in handle-in _ _ _ _ h.lays c.args.slot h.used
+read_word-requires c = handle-in _ _ _ _ c.requires.1.lays _ c.requires.1.used
 
 pub overflow_add-place : goal.overflow_add-place
 overflow_add-place c =
-    let h = c.requires.1 in
-    let b = here-of _ _ _ _ h.lays c.args.slot h.used c.in-Some.place
-    (leads-read _ c.args.slot _ _ c.read_word.ensures c.in-Some.ensures) in
-    let f = b.fits in
-    let m = h.lays.small in
-    omega (arith, f, m)
+    let b = here-of _ _ _ _ c.requires.1.lays _ c.requires.1.used _
+    (leads-read _ _ _ _ c.read_word.ensures c.in-Some.ensures) in
+    omega arith
 
 pub read_word-flags-requires : goal.read_word-flags-requires
 read_word-flags-requires c =
-    let h = c.requires.1 in
-    let b = here-of _ _ _ _ h.lays c.args.slot h.used c.in-Some.place
-    (leads-read _ c.args.slot _ _ c.read_word.ensures c.in-Some.ensures) in
-    let f = b.fits in
-    let e = b.even in
-    (omega (arith, e), omega (arith, f))
+    let b = here-of _ _ _ _ c.requires.1.lays _ c.requires.1.used _
+    (leads-read _ _ _ _ c.read_word.ensures c.in-Some.ensures) in
+    (omega arith, omega arith)
 
 pub overflow_add-place-in-Some : goal.overflow_add-place-in-Some
 overflow_add-place-in-Some c =
-    let h = c.requires.1 in
-    let b = here-of _ _ _ _ h.lays c.args.slot h.used c.in-Some.place
-    (leads-read _ c.args.slot _ _ c.read_word.ensures c.in-Some.ensures) in
-    let f = b.fits in
-    let m = h.lays.small in
-    omega (arith, f, m)
+    let b = here-of _ _ _ _ c.requires.1.lays _ c.requires.1.used _
+    (leads-read _ _ _ _ c.read_word.ensures c.in-Some.ensures) in
+    omega arith
 
 pub write_word-requires : goal.write_word-requires
 write_word-requires c =
-    let h = c.requires.1 in
-    let b = here-of _ _ _ _ h.lays c.args.slot h.used c.in-Some.place
-    (leads-read _ c.args.slot _ _ c.read_word.ensures c.in-Some.ensures) in
-    let f = b.fits in
-    let e = b.even in
-    (omega (arith, e), omega (arith, f))
+    let b = here-of _ _ _ _ c.requires.1.lays _ c.requires.1.used _
+    (leads-read _ _ _ _ c.read_word.ensures c.in-Some.ensures) in
+    (omega arith, omega arith)
 
 pub write_word-requires-in-None : goal.write_word-requires-in-None
-write_word-requires-in-None c = let h = c.requires.1 in handle-in _ _ _ _ h.lays c.args.slot h.used
+write_word-requires-in-None c = handle-in _ _ _ _ c.requires.1.lays _ c.requires.1.used
 
 pub returns-in-Some-clause-lays : goal.returns-in-Some-clause-lays
 returns-in-Some-clause-lays c = λ t h.
     let xs = c.args.part.now.bytes in
-    let place = c.in-Some.place in
     let r = c.args.resource in
-    let b = here-of xs t.blocks t.slots t.unused h.lays c.args.slot h.used place
-    (leads-read xs c.args.slot _ _ c.read_word.ensures c.in-Some.ensures) in
+    let b = here-of _ _ t.slots _ h.lays _ h.used _ (leads-read _ _ _ _ c.read_word.ensures c.in-Some.ensures) in
     let u = flag xs t.blocks t.slots t.unused h.lays c.args.slot h.used in
     let n = c.with_resource.ensures
-    ∙ ap (λ n. n / 64 * 64 + cond {A = ℕ} r 32 0) (c.read_word-flags.ensures ∙ b.flags_are)
-    ∙ flags-set b.block.flags _ r in
+    ∙ ap (λ n. n / 64 * 64 + cond {A = ℕ} r 32 0) (c.read_word-flags.ensures ∙ b.flags_are) ∙ flags-set _ _ r in
     subst (λ ys. Lays ys t.blocks (set_slot t.slots c.args.slot (Used r)) t.unused)
-    (sym (c.write_word.ensures.bytes ∙ ap (λ n. written (place + 12) (word n) xs) n))
-    (lays-marked xs t.blocks t.slots t.unused h.lays c.args.slot u.0 r u.1 place b)
+    (sym (c.write_word.ensures.bytes ∙ ap (λ n. written (c.in-Some.place + 12) (word n) xs) n))
+    (lays-marked _ _ t.slots _ h.lays _ _ r u.1 _ b)
 
 pub returns-in-None-clause-lays : goal.returns-in-None-clause-lays
 returns-in-None-clause-lays c = λ t h.
     let xs = c.args.part.now.bytes in
-    let r = c.args.resource in
-    let e = gone-of xs t.blocks t.slots t.unused h.lays c.args.slot h.used
-    (leads-read xs c.args.slot _ _ c.read_word.ensures c.in-None.ensures) in
+    let e = gone-of _ _ t.slots _ h.lays _ h.used (leads-read _ _ _ _ c.read_word.ensures c.in-None.ensures) in
     let u = flag xs t.blocks t.slots t.unused h.lays c.args.slot h.used in
-    subst (λ ys. Lays ys t.blocks (set_slot t.slots c.args.slot (Used r)) t.unused)
+    subst (λ ys. Lays ys t.blocks (set_slot t.slots c.args.slot (Used c.args.resource)) t.unused)
     (sym (c.write_word-in-None.ensures.bytes ∙ ap (λ n. written c.args.slot (word n) xs) c.word_of_empty.ensures))
-    (lays-emptied xs t.blocks t.slots t.unused h.lays c.args.slot u.0 r u.1 e.apart)
+    (lays-emptied _ _ t.slots _ h.lays _ _ _ u.1 e.apart)

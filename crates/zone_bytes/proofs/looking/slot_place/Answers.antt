@@ -4,8 +4,7 @@ use Rattle.zone_bytes.proofs.SlotTable.Handles.{handle-in, leads-is}
 use Rattle.zone_bytes.proofs.looking.slot_place.Goals as goal
 
 pub read_word-requires : goal.read_word-requires
-read_word-requires c = let h = c.requires.1 in handle-in _ _ _ _ h.lays c.args.slot h.used
+read_word-requires c = handle-in _ _ _ _ c.requires.1.lays _ c.requires.1.used
 
 pub returns : goal.returns
-returns c = λ t h. c.leads_to.ensures ∙ ap place_of_word c.read_word.ensures
-    ∙ leads-is _ _ _ _ h.lays c.args.slot h.used
+returns c = λ t h. c.leads_to.ensures ∙ ap place_of_word c.read_word.ensures ∙ leads-is _ _ _ _ h.lays _ h.used

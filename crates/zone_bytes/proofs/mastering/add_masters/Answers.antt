@@ -5,50 +5,34 @@ use Rattle.zone_bytes.proofs.Placed.MastersCarved.{first-fits, may-master, maste
 use Rattle.zone_bytes.proofs.mastering.add_masters.Goals as goal
 
 pub size_at-requires-clause-way : goal.size_at-requires-clause-way
-size_at-requires-clause-way c =
-    (roomy c.args.part.now.bytes c.args.first c.requires.sound.0 c.args.place 272 c.requires.sound.1
-    c.requires.room).at.way
+size_at-requires-clause-way c = (roomy _ _ _ _ _ c.requires.sound.1 c.requires.room).at.way
 
 pub size_at-requires-clause-some : goal.size_at-requires-clause-some
 size_at-requires-clause-some c =
-    let r = roomy c.args.part.now.bytes c.args.first c.requires.sound.0 c.args.place 272 c.requires.sound.1
-    c.requires.room in
-    let i = r.at.inside in
-    let g = r.at.some in
-    omega (arith, i, g)
+    let r = roomy _ _ _ _ _ c.requires.sound.1 c.requires.room in
+    omega arith
 
 pub overflow_add-top : goal.overflow_add-top
 overflow_add-top c =
-    let r = roomy c.args.part.now.bytes c.args.first c.requires.sound.0 c.args.place 272 c.requires.sound.1
-    c.requires.room in
-    let n = c.size_at.ensures r.s.here r.s.above r.at.left in
-    let i = r.at.inside in
-    let m = r.at.small in
-    omega (arith, n, i, m)
+    let r = roomy _ _ _ _ _ c.requires.sound.1 c.requires.room in
+    omega (arith, c.size_at.ensures r.s.here r.s.above r.at.left)
 
 pub lay_block-requires : goal.lay_block-requires
 lay_block-requires c =
-    let r = roomy c.args.part.now.bytes c.args.first c.requires.sound.0 c.args.place 272 c.requires.sound.1
-    c.requires.room in
+    let r = roomy _ _ _ _ _ c.requires.sound.1 c.requires.room in
     let n = c.size_at.ensures r.s.here r.s.above r.at.left in
     may-master c.args.part.now.bytes c.args.place (c.args.place + c.size_at.result) r (ap (λ k. c.args.place + k) n)
 
 pub thread_slots-requires-clause-even : goal.thread_slots-requires-clause-even
 thread_slots-requires-clause-even c =
-    let r = roomy c.args.part.now.bytes c.args.first c.requires.sound.0 c.args.place 272 c.requires.sound.1
-    c.requires.room in
-    let n = c.size_at.ensures r.s.here r.s.above r.at.left in
-    (masters-inside c.args.part.now.bytes c.args.place (c.args.place + c.size_at.result) r (ap
-    (λ k. c.args.place + k) n)).0
+    let r = roomy _ _ _ _ _ c.requires.sound.1 c.requires.room in
+    (masters-inside _ _ _ r (ap (λ k. c.args.place + k) (c.size_at.ensures r.s.here r.s.above r.at.left))).0
 
 pub thread_slots-requires-clause-inside : goal.thread_slots-requires-clause-inside
 thread_slots-requires-clause-inside c =
-    let r = roomy c.args.part.now.bytes c.args.first c.requires.sound.0 c.args.place 272 c.requires.sound.1
-    c.requires.room in
-    let n = c.size_at.ensures r.s.here r.s.above r.at.left in
-    rw c.lay_block.ensures.bytes
-    (masters-inside c.args.part.now.bytes c.args.place (c.args.place + c.size_at.result) r (ap
-    (λ k. c.args.place + k) n)).1
+    let r = roomy _ _ _ _ _ c.requires.sound.1 c.requires.room in
+    rw c.lay_block.ensures.bytes (masters-inside _ _ _ r (ap
+    (λ k. c.args.place + k) (c.size_at.ensures r.s.here r.s.above r.at.left))).1
 
 pub thread_slots-requires-clause-first : goal.thread_slots-requires-clause-first
 thread_slots-requires-clause-first c =
@@ -57,9 +41,7 @@ thread_slots-requires-clause-first c =
 pub returns-clause-lays : goal.returns-clause-lays
 returns-clause-lays c = λ unused i.
     let r = roomy c.args.part.now.bytes c.args.first unused c.args.place 272 i c.requires.room in
-    let n = c.size_at.ensures r.s.here r.s.above r.at.left in
-    masters-lays-if c.args.part.now.bytes c.args.place (c.args.place + c.size_at.result) r (ap
-    (λ k. c.args.place + k) n)
-    c.args.first unused i c.thread_slots.new.part.bytes c.thread_slots.ensures.thread
+    masters-lays-if _ _ _ r (ap (λ k. c.args.place + k) (c.size_at.ensures r.s.here r.s.above r.at.left))
+    _ _ i _ c.thread_slots.ensures.thread
     (subst (λ m. SameOutside (c.args.place + 16) (c.args.place + 272) m c.thread_slots.new.part.bytes)
     c.lay_block.ensures.bytes c.thread_slots.ensures.outside)

@@ -7,7 +7,7 @@ pub loop-slot-init : goal.loop-slot-init
 loop-slot-init c =
     let w = c.write_word.ensures in (
       subst (λ k. Threading c.args.place c.args.first (c.args.place + 272 - 4) c.args.part.now.bytes k) (sym w.bytes)
-          (threading-start c.args.place c.args.first c.args.part.now.bytes c.requires.even c.requires.inside),
+          (threading-start _ _ _ c.requires.even c.requires.inside),
       w.same.0,
       w.same.1,
     )
@@ -18,14 +18,10 @@ loop-slot-preserved c =
     let v = s.invariant in
     let w = c.write_word-in-loop-slot.ensures in (
       subst (λ k. Threading c.args.place c.args.first (s.slot - 4) c.args.part.now.bytes k) (sym w.bytes)
-          (threading-step c.args.place c.args.first s.slot c.args.part.now.bytes s.part.bytes c.requires.even
-          c.loop-slot-test.true v.0),
+          (threading-step _ _ _ _ _ c.requires.even c.loop-slot-test.true v.0),
       w.same.0 ∙ v.1,
       w.same.1 ∙ v.2,
     )
 
 pub returns-clause-thread : goal.returns-clause-thread
-returns-clause-thread c =
-    threaded c.args.place c.args.first c.loop-slot.slot c.args.part.now.bytes c.loop-slot.part.bytes
-    c.loop-slot-test.false
-    c.loop-slot.invariant.0
+returns-clause-thread c = threaded _ _ _ _ _ c.loop-slot-test.false c.loop-slot.invariant.0

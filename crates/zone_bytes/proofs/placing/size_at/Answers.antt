@@ -1,4 +1,3 @@
-use Rattle.heap_words.specs.Headers.{tag_number}
 use Rattle.zone_bytes.proofs.Tiles.Tags.{tag-small}
 use Rattle.zone_bytes.proofs.Places.Stepped.{next-header}
 use Rattle.zone_bytes.proofs.Places.HeaderTells.{size-at}
@@ -9,11 +8,10 @@ read_header-requires-clause-within c =
     let n = next-header c.args.place c.args.part.now.bytes c.requires.way c.requires.some in (n.even, n.fits)
 
 pub read_header-requires-clause-tag : goal.read_header-requires-clause-tag
-read_header-requires-clause-tag c = (next-header c.args.place c.args.part.now.bytes c.requires.way c.requires.some).tag
+read_header-requires-clause-tag c = (next-header _ _ c.requires.way c.requires.some).tag
 
 pub returns : goal.returns
 returns c = λ b above q.
     let h = c.read_header.result in
     let e = c.read_header.ensures in
-    size-at c.args.place c.args.part.now.bytes c.requires.way c.requires.some h.size (tag_number h.tag) e.first e.size
-    (tag-small h.tag) b above q
+    size-at _ _ c.requires.way c.requires.some _ _ e.first e.size (tag-small h.tag) b _ q

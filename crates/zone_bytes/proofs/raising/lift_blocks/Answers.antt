@@ -6,56 +6,28 @@ use Rattle.zone_bytes.proofs.raising.lift_blocks.Goals as goal
 
 pub slide-requires : goal.slide-requires
 slide-requires g c =
-    let a = c.args in
-    let q = c.requires.1 in
-    let v = wide g.raise a.place a.top a.stop a.gap q in
     let e = ap length c.requires.0 in
-    let s = q.same in
-    record { from_inside = omega (arith, v, e, s); to_inside = omega (arith, v, e, s) }
+    record { from_inside = omega (arith, wide, e); to_inside = omega (arith, wide, e) }
 
 pub write_word-requires : goal.write_word-requires
-write_word-requires g c =
-    let a = c.args in
-    let q = c.requires.1 in
-    let v = wide g.raise a.place a.top a.stop a.gap q in
-    let w = evens g.raise a.place a.top a.stop a.gap q in
-    let e = ap length c.requires.0 in
-    let s = q.same in
-    let k = c.slide.ensures.same_length in
-    let o = q.some in
-    let x = q.even in
-    (omega (arith, w), omega (arith, v, e, s, k, o, x))
+write_word-requires g c = (omega (arith, evens), omega (arith, wide, ap length c.requires.0))
 
 pub write_word-requires-then-gap-stop : goal.write_word-requires-then-gap-stop
-write_word-requires-then-gap-stop g c =
-    let a = c.args in
-    let q = c.requires.1 in
-    let v = wide g.raise a.place a.top a.stop a.gap q in
-    let w = evens g.raise a.place a.top a.stop a.gap q in
-    let e = ap length c.requires.0 in
-    let s = q.same in
-    let k = c.slide.ensures.same_length in
-    let j = c.write_word.ensures.same in
-    let l = c.if-gap-stop.true in
-    let x = q.even in
-    (omega (arith, w, x), omega (arith, v, w, e, s, k, j, l))
+write_word-requires-then-gap-stop g c = (omega (arith, evens), omega (arith, wide, evens, ap length c.requires.0))
 
 pub returns-then-gap-stop-clause-raised : goal.returns-then-gap-stop-clause-raised
 returns-then-gap-stop-clause-raised g c =
     let a = c.args in
     let q = c.requires.1 in
     let first = c.write_word.ensures.bytes ∙ ap (written a.place (word a.gap)) c.slide.ensures.bytes in
-    let mid = mid-rest g.raise a.place a.top a.stop a.gap q a.part.now.bytes c.requires.0
-    c.write_word-then-gap-stop.new.part.bytes (c.write_word-then-gap-stop.ensures.bytes
+    let mid = mid-rest _ _ _ _ _ q _ c.requires.0 _ (c.write_word-then-gap-stop.ensures.bytes
     ∙ ap (written (a.top + a.gap) (word (a.stop - a.top - a.gap))) first) c.if-gap-stop.true in
-    is-raised g.raise a.place a.top a.stop a.gap q c.write_word-then-gap-stop.new.part.bytes mid.outside mid.moved
-    mid.first mid.last
+    is-raised _ _ _ _ _ q _ mid.outside mid.moved mid.first mid.last
 
 pub returns-else-gap-stop-clause-raised : goal.returns-else-gap-stop-clause-raised
 returns-else-gap-stop-clause-raised g c =
     let a = c.args in
     let q = c.requires.1 in
     let first = c.write_word.ensures.bytes ∙ ap (written a.place (word a.gap)) c.slide.ensures.bytes in
-    let mid = mid-none g.raise a.place a.top a.stop a.gap q a.part.now.bytes c.requires.0 c.write_word.new.part.bytes
-    first c.if-gap-stop.false in
+    let mid = mid-none _ _ _ _ _ q _ c.requires.0 _ first c.if-gap-stop.false in
     is-raised g.raise a.place a.top a.stop a.gap q c.write_word.new.part.bytes mid.outside mid.moved mid.first mid.last

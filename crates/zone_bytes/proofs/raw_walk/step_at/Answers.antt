@@ -11,22 +11,18 @@ read_header-header-requires-clause-within c =
     let n = next-header c.args.at c.args.part.now.bytes c.requires.way c.requires.some in (n.even, n.fits)
 
 pub read_header-header-requires-clause-tag : goal.read_header-header-requires-clause-tag
-read_header-header-requires-clause-tag c = (next-header c.args.at c.args.part.now.bytes c.requires.way c.requires.some).tag
+read_header-header-requires-clause-tag c = (next-header _ _ c.requires.way c.requires.some).tag
 
 pub overflow_add-result : goal.overflow_add-result
 overflow_add-result c =
     let h = c.read_header-header.result in
     let e = c.read_header-header.ensures in
-    let s = stepped c.args.at c.args.part.now.bytes c.requires.way c.requires.some h.size (tag_number h.tag) e.first e.size
-    (tag-small h.tag) in
-    let u = s.way.walk.up in
-    let m = s.way.small in
-    omega (arith, u, m)
+    let s = stepped _ _ c.requires.way c.requires.some _ _ e.first e.size (tag-small h.tag) in
+    omega arith
 
 pub returns : goal.returns
 returns c =
     let h = c.read_header-header.result in
     let e = c.read_header-header.ensures in
-    steps c.args.at c.args.part.now.bytes c.requires.way c.requires.some h.size (tag_number h.tag) e.first e.size
-    (tag-small h.tag) c.seen_of.result
+    steps _ _ c.requires.way c.requires.some _ _ e.first e.size (tag-small _) _
     (c.seen_of.ensures ∙ (λ i. header_seen (tag_number h.tag) h.size (e.logical i) (e.slot i) (e.flags i)))

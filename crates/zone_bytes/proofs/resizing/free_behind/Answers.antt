@@ -4,27 +4,17 @@ use Rattle.zone_bytes.proofs.Placed.FreeTags.{free-true, free-false, none-behind
 use Rattle.zone_bytes.proofs.resizing.free_behind.Goals as goal
 
 pub returns-then-at-len : goal.returns-then-at-len
-returns-then-at-len c =
-    none-behind c.args.at c.args.part.now.bytes c.requires
-    (let l = c.if-at-len.true in let e = c.len.ensures.count in omega (arith, l, e))
+returns-then-at-len c = none-behind _ _ c.requires (omega arith)
 
 pub read_header-header-requires-clause-tag : goal.read_header-header-requires-clause-tag
-read_header-header-requires-clause-tag c =
-    (next-header c.args.at c.args.part.now.bytes c.requires
-    (let l = c.if-at-len.false in let e = c.len.ensures.count in omega (arith, l, e))).tag
+read_header-header-requires-clause-tag c = (next-header _ _ c.requires (omega arith)).tag
 
 pub returns-then-eq : goal.returns-then-eq
 returns-then-eq c =
-    let h = c.read_header-header.result in
-    let e = c.read_header-header.ensures in
-    first-free c.args.at c.args.part.now.bytes c.requires
-    (let l = c.if-at-len.false in let k = c.len.ensures.count in omega (arith, l, k)) h.size h.tag e.first e.size
-    (free-true h.tag (sym c.if-eq.true ∙ c.eq.ensures))
+    first-free _ _ c.requires (omega arith) _ _ c.read_header-header.ensures.first c.read_header-header.ensures.size
+    (free-true _ (sym c.if-eq.true ∙ c.eq.ensures))
 
 pub returns-else-eq : goal.returns-else-eq
 returns-else-eq c =
-    let h = c.read_header-header.result in
-    let e = c.read_header-header.ensures in
-    first-other c.args.at c.args.part.now.bytes c.requires
-    (let l = c.if-at-len.false in let k = c.len.ensures.count in omega (arith, l, k)) h.size h.tag e.first e.size
-    (free-false h.tag (sym c.if-eq.false ∙ c.eq.ensures))
+    first-other _ _ c.requires (omega arith) _ _ c.read_header-header.ensures.first c.read_header-header.ensures.size
+    (free-false _ (sym c.if-eq.false ∙ c.eq.ensures))

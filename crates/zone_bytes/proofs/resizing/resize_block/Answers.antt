@@ -11,194 +11,122 @@ use Rattle.zone_bytes.proofs.Places.Stepped.{next-header}
 use Rattle.zone_bytes.proofs.Placed.Sizes.{Read, room-at, size-is, kind-is, way-behind, fits, ends, may-size, cut-lays}
 use Rattle.zone_bytes.proofs.Placed.Sizes.{grown-lays, free-sized, kept-cut, kept-grown, cut-if, grown-if, same-of}
 use Rattle.zone_bytes.proofs.resizing.resize_block.Goals as goal
+use Rattle.zone_bytes.proofs.resizing.resize_block.Goals.{After-read_header-header}
+
+-- the header that was read
+read : (c : After-read_header-header) → Read c.read_header-header.result c.args.place c.args.part.now.bytes
+read c =
+    let e = c.read_header-header.ensures in
+    record { first = e.first; even = e.size; long = e.logical; named = e.slot; marked = e.flags }
 
 pub read_header-header-requires-clause-within : goal.read_header-header-requires-clause-within
 read_header-header-requires-clause-within c =
-    let a = room-at c.args.part.now.bytes c.requires.sound.0 c.requires.sound.1 c.args.place c.args.bytes
-    c.requires.sound.2 c.requires.room in
-    let i = a.3.inside in
-    let g = a.3.some in
-    let n = next-header c.args.place c.args.part.now.bytes a.3.way (omega (arith, i, g)) in
+    let a = room-at _ _ _ _ _ c.requires.sound.2 c.requires.room in
+    let n = next-header c.args.place c.args.part.now.bytes a.3.way (omega arith) in
     (n.even, n.fits)
 
 pub read_header-header-requires-clause-fits : goal.read_header-header-requires-clause-fits
 read_header-header-requires-clause-fits c =
-    let a = room-at c.args.part.now.bytes c.requires.sound.0 c.requires.sound.1 c.args.place c.args.bytes
-    c.requires.sound.2 c.requires.room in
-    let i = a.3.inside in
-    let g = a.3.some in
-    let m = a.3.small in
-    omega (arith, i, g, m)
+    let a = room-at _ _ _ _ _ c.requires.sound.2 c.requires.room in
+    omega arith
 
 pub read_header-header-requires-clause-tag : goal.read_header-header-requires-clause-tag
 read_header-header-requires-clause-tag c =
-    let a = room-at c.args.part.now.bytes c.requires.sound.0 c.requires.sound.1 c.args.place c.args.bytes
-    c.requires.sound.2 c.requires.room in
-    let i = a.3.inside in
-    let g = a.3.some in
-    let n = next-header c.args.place c.args.part.now.bytes a.3.way (omega (arith, i, g)) in
-    n.tag
+    let a = room-at _ _ _ _ _ c.requires.sound.2 c.requires.room in
+    (next-header c.args.place c.args.part.now.bytes a.3.way (omega arith)).tag
 
 pub returns-then-not-has_content-clause-cut : goal.returns-then-not-has_content-clause-cut
 returns-then-not-has_content-clause-cut c = λ first unused i.
     let a = room-at c.args.part.now.bytes first unused c.args.place c.args.bytes i c.requires.room in
-    let e = c.read_header-header.ensures in
-    let h = c.read_header-header.result in
-    let r : Read h c.args.place c.args.part.now.bytes =
-    record { first = e.first; even = e.size; long = e.logical; named = e.slot; marked = e.flags } in
-    let k : (tag_number h.tag % 2 == 1) ≡ false = sym c.has_content.ensures ∙ c.if-not-has_content.true in
-    let none = ap (λ t. t % 2 == 1) (sym (kind-is c.args.part.now.bytes c.args.place c.args.bytes a.0 a.3 h r)) ∙ k in
-    cut-if c.args.part.now.bytes c.args.part.now.bytes c.args.place c.args.bytes a.0 a.1 i.unused
-    (λ le. kept-cut c.args.part.now.bytes c.args.place c.args.bytes a.0 a.3 none first unused i)
+    let r = read (goal.at.returns-then-not-has_content-clause-cut c).After-read_header-header in
+    let k : (tag_number c.read_header-header.result.tag % 2 == 1) ≡ false =
+    sym c.has_content.ensures ∙ c.if-not-has_content.true in
+    let none = ap (λ t. t % 2 == 1) (sym (kind-is c.args.part.now.bytes c.args.place c.args.bytes a.0 a.3 _ r)) ∙ k in
+    cut-if _ _ _ _ _ a.1 _ (λ le. kept-cut _ _ _ _ a.3 none _ _ i)
 
 pub returns-then-not-has_content-clause-grown : goal.returns-then-not-has_content-clause-grown
 returns-then-not-has_content-clause-grown c = λ first unused i.
     let a = room-at c.args.part.now.bytes first unused c.args.place c.args.bytes i c.requires.room in
-    let e = c.read_header-header.ensures in
-    let h = c.read_header-header.result in
-    let r : Read h c.args.place c.args.part.now.bytes =
-    record { first = e.first; even = e.size; long = e.logical; named = e.slot; marked = e.flags } in
-    let k : (tag_number h.tag % 2 == 1) ≡ false = sym c.has_content.ensures ∙ c.if-not-has_content.true in
-    let none = ap (λ t. t % 2 == 1) (sym (kind-is c.args.part.now.bytes c.args.place c.args.bytes a.0 a.3 h r)) ∙ k in
-    grown-if c.args.part.now.bytes c.args.part.now.bytes c.args.place c.args.bytes a.0 a.1 i.unused
-    (kept-grown c.args.part.now.bytes c.args.place c.args.bytes a.0 a.3 none first unused i)
+    let r = read (goal.at.returns-then-not-has_content-clause-grown c).After-read_header-header in
+    let k : (tag_number c.read_header-header.result.tag % 2 == 1) ≡ false =
+    sym c.has_content.ensures ∙ c.if-not-has_content.true in
+    let none = ap (λ t. t % 2 == 1) (sym (kind-is c.args.part.now.bytes c.args.place c.args.bytes a.0 a.3 _ r)) ∙ k in
+    grown-if _ _ _ _ _ a.1 _ (kept-grown c.args.part.now.bytes c.args.place c.args.bytes a.0 a.3 none first unused i)
 
 pub overflow_add-end : goal.overflow_add-end
 overflow_add-end c =
-    let a = room-at c.args.part.now.bytes c.requires.sound.0 c.requires.sound.1 c.args.place c.args.bytes
-    c.requires.sound.2 c.requires.room in
-    let e = c.read_header-header.ensures in
-    let h = c.read_header-header.result in
-    let r : Read h c.args.place c.args.part.now.bytes =
-    record { first = e.first; even = e.size; long = e.logical; named = e.slot; marked = e.flags } in
-    let z = size-is c.args.part.now.bytes c.args.place c.args.bytes a.0 a.3 h r in
-    let i = a.3.inside in
-    let m = a.3.small in
-    omega (arith, z, i, m)
+    let a = room-at _ _ _ _ _ c.requires.sound.2 c.requires.room in
+    let r = read (goal.at.overflow_add-end c).After-read_header-header in
+    omega (arith, size-is c.args.part.now.bytes c.args.place c.args.bytes a.0 a.3 _ r)
 
 pub free_behind-requires : goal.free_behind-requires
 free_behind-requires c =
-    let a = room-at c.args.part.now.bytes c.requires.sound.0 c.requires.sound.1 c.args.place c.args.bytes
-    c.requires.sound.2 c.requires.room in
-    let e = c.read_header-header.ensures in
-    let h = c.read_header-header.result in
-    let r : Read h c.args.place c.args.part.now.bytes =
-    record { first = e.first; even = e.size; long = e.logical; named = e.slot; marked = e.flags } in
-    way-behind c.args.part.now.bytes c.args.place c.args.bytes a.0 a.3 h r
+    let a = room-at _ _ _ _ _ c.requires.sound.2 c.requires.room in
+    let r = read (goal.at.free_behind-requires c).After-read_header-header in
+    way-behind c.args.part.now.bytes c.args.place c.args.bytes a.0 a.3 _ r
 
 pub overflow_add-top : goal.overflow_add-top
 overflow_add-top c =
-    let a = room-at c.args.part.now.bytes c.requires.sound.0 c.requires.sound.1 c.args.place c.args.bytes
-    c.requires.sound.2 c.requires.room in
-    let e = c.read_header-header.ensures in
-    let h = c.read_header-header.result in
-    let r : Read h c.args.place c.args.part.now.bytes =
-    record { first = e.first; even = e.size; long = e.logical; named = e.slot; marked = e.flags } in
+    let a = room-at _ _ _ _ _ c.requires.sound.2 c.requires.room in
+    let r = read (goal.at.overflow_add-top c).After-read_header-header in
     let o = sym c.has_content.ensures ∙ c.if-not-has_content.false in
-    let z = ends c.args.part.now.bytes c.args.place c.args.bytes a.0 a.3 h r o a.2 c.free_behind.result
-    (padded c.args.bytes) c.free_behind.ensures refl in
-    let m = a.3.small in
-    omega (arith, z, m)
+    omega (arith, ends _ _ _ _ a.3 _ r o a.2 _ _ c.free_behind.ensures refl)
 
 pub padded_size-requires : goal.padded_size-requires
 padded_size-requires c =
-    let a = room-at c.args.part.now.bytes c.requires.sound.0 c.requires.sound.1 c.args.place c.args.bytes
-    c.requires.sound.2 c.requires.room in
-    let e = c.read_header-header.ensures in
-    let h = c.read_header-header.result in
-    let r : Read h c.args.place c.args.part.now.bytes =
-    record { first = e.first; even = e.size; long = e.logical; named = e.slot; marked = e.flags } in
+    let a = room-at _ _ _ _ _ c.requires.sound.2 c.requires.room in
+    let r = read (goal.at.padded_size-requires c).After-read_header-header in
     let o = sym c.has_content.ensures ∙ c.if-not-has_content.false in
-    let z = fits c.args.part.now.bytes c.args.place c.args.bytes a.0 a.3 h r o a.2 c.free_behind.result
-    (padded c.args.bytes) c.free_behind.ensures refl in
-    let k = ends c.args.part.now.bytes c.args.place c.args.bytes a.0 a.3 h r o a.2 c.free_behind.result
-    (padded c.args.bytes) c.free_behind.ensures refl in
-    let y = size-is c.args.part.now.bytes c.args.place c.args.bytes a.0 a.3 h r in
-    let m = a.3.small in
-    omega (arith, z, k, y, m)
+    let f = fits _ _ _ _ a.3 _ r o a.2 _ _ c.free_behind.ensures refl in
+    omega (arith, f, ends _ _ _ _ a.3 _ r o a.2 _ _ c.free_behind.ensures refl, size-is)
 
 pub lay_block-requires : goal.lay_block-requires
 lay_block-requires c =
-    let a = room-at c.args.part.now.bytes c.requires.sound.0 c.requires.sound.1 c.args.place c.args.bytes
-    c.requires.sound.2 c.requires.room in
-    let e = c.read_header-header.ensures in
-    let h = c.read_header-header.result in
-    let r : Read h c.args.place c.args.part.now.bytes =
-    record { first = e.first; even = e.size; long = e.logical; named = e.slot; marked = e.flags } in
+    let a = room-at _ _ _ _ _ c.requires.sound.2 c.requires.room in
+    let r = read (goal.at.lay_block-requires c).After-read_header-header in
     let o = sym c.has_content.ensures ∙ c.if-not-has_content.false in
-    may-size c.args.part.now.bytes c.args.place c.args.bytes a.0 a.3 h r o a.2 c.free_behind.result
-    c.padded_size.result c.free_behind.ensures c.padded_size.ensures
+    may-size _ _ _ _ a.3 _ r o a.2 _ _ c.free_behind.ensures c.padded_size.ensures
 
 pub overflow_add-result : goal.overflow_add-result
 overflow_add-result c =
-    let a = room-at c.args.part.now.bytes c.requires.sound.0 c.requires.sound.1 c.args.place c.args.bytes
-    c.requires.sound.2 c.requires.room in
-    let e = c.read_header-header.ensures in
-    let h = c.read_header-header.result in
-    let r : Read h c.args.place c.args.part.now.bytes =
-    record { first = e.first; even = e.size; long = e.logical; named = e.slot; marked = e.flags } in
+    let a = room-at _ _ _ _ _ c.requires.sound.2 c.requires.room in
+    let r = read (goal.at.overflow_add-result c).After-read_header-header in
     let o = sym c.has_content.ensures ∙ c.if-not-has_content.false in
-    let q = free-sized c.args.part.now.bytes c.args.place c.args.bytes a.0 a.3 h r o a.2 c.free_behind.result
-    c.padded_size.result c.free_behind.ensures c.padded_size.ensures
-    c.requires.sound.0 c.requires.sound.1 c.requires.sound.2 c.args.free c.requires.free in
-    let y = size-is c.args.part.now.bytes c.args.place c.args.bytes a.0 a.3 h r in
-    let n = a.3.inside in
-    let m = a.3.small in
-    let l = q.1 in
-    omega (arith, y, n, m, l)
+    let q = free-sized _ _ _ _ a.3 _ r o a.2 _ _ c.free_behind.ensures c.padded_size.ensures
+    _ _ c.requires.sound.2 _ c.requires.free in
+    omega (arith, size-is c.args.part.now.bytes c.args.place c.args.bytes a.0 a.3 _ r)
 
 pub overflow_sub-result : goal.overflow_sub-result
 overflow_sub-result c =
-    let a = room-at c.args.part.now.bytes c.requires.sound.0 c.requires.sound.1 c.args.place c.args.bytes
-    c.requires.sound.2 c.requires.room in
-    let e = c.read_header-header.ensures in
-    let h = c.read_header-header.result in
-    let r : Read h c.args.place c.args.part.now.bytes =
-    record { first = e.first; even = e.size; long = e.logical; named = e.slot; marked = e.flags } in
+    let a = room-at _ _ _ _ _ c.requires.sound.2 c.requires.room in
+    let r = read (goal.at.overflow_sub-result c).After-read_header-header in
     let o = sym c.has_content.ensures ∙ c.if-not-has_content.false in
-    let q = free-sized c.args.part.now.bytes c.args.place c.args.bytes a.0 a.3 h r o a.2 c.free_behind.result
-    c.padded_size.result c.free_behind.ensures c.padded_size.ensures
-    c.requires.sound.0 c.requires.sound.1 c.requires.sound.2 c.args.free c.requires.free in
-    q.0
+    (free-sized _ _ _ _ a.3 _ r o a.2 _ _ c.free_behind.ensures c.padded_size.ensures
+    _ _ c.requires.sound.2 _ c.requires.free).0
 
 pub returns-clause-cut : goal.returns-clause-cut
 returns-clause-cut c = λ first unused i.
     let a = room-at c.args.part.now.bytes first unused c.args.place c.args.bytes i c.requires.room in
-    let e = c.read_header-header.ensures in
-    let h = c.read_header-header.result in
-    let r : Read h c.args.place c.args.part.now.bytes =
-    record { first = e.first; even = e.size; long = e.logical; named = e.slot; marked = e.flags } in
+    let r = read (goal.at.returns-clause-cut c).After-read_header-header in
     let o = sym c.has_content.ensures ∙ c.if-not-has_content.false in
-    rw c.lay_block.ensures.bytes
-    (cut-if c.args.part.now.bytes _ c.args.place c.args.bytes a.0 a.1 i.unused
-    (cut-lays c.args.part.now.bytes c.args.place c.args.bytes a.0 a.3 h r o a.2 c.free_behind.result
-    c.padded_size.result c.free_behind.ensures c.padded_size.ensures first unused i))
+    rw c.lay_block.ensures.bytes (cut-if _ _ _ _ _ a.1 _ (cut-lays _ _ _ _ a.3 _ r o a.2 _
+    _ c.free_behind.ensures c.padded_size.ensures _ _ i))
 
 pub returns-clause-grown : goal.returns-clause-grown
 returns-clause-grown c = λ first unused i.
     let a = room-at c.args.part.now.bytes first unused c.args.place c.args.bytes i c.requires.room in
-    let e = c.read_header-header.ensures in
-    let h = c.read_header-header.result in
-    let r : Read h c.args.place c.args.part.now.bytes =
-    record { first = e.first; even = e.size; long = e.logical; named = e.slot; marked = e.flags } in
+    let r = read (goal.at.returns-clause-grown c).After-read_header-header in
     let o = sym c.has_content.ensures ∙ c.if-not-has_content.false in
-    rw c.lay_block.ensures.bytes
-    (grown-if c.args.part.now.bytes _ c.args.place c.args.bytes a.0 a.1 i.unused
-    (grown-lays c.args.part.now.bytes c.args.place c.args.bytes a.0 a.3 h r o a.2 c.free_behind.result
-    c.padded_size.result c.free_behind.ensures c.padded_size.ensures first unused i))
+    rw c.lay_block.ensures.bytes (grown-if _ _ _ _ _ a.1 _ (grown-lays _ _ _ _ a.3 _ r o a.2 _
+    _ c.free_behind.ensures c.padded_size.ensures _ _ i))
 
 pub returns-clause-free : goal.returns-clause-free
 returns-clause-free c =
-    let a = room-at c.args.part.now.bytes c.requires.sound.0 c.requires.sound.1 c.args.place c.args.bytes
-    c.requires.sound.2 c.requires.room in
-    let e = c.read_header-header.ensures in
-    let h = c.read_header-header.result in
-    let r : Read h c.args.place c.args.part.now.bytes =
-    record { first = e.first; even = e.size; long = e.logical; named = e.slot; marked = e.flags } in
+    let a = room-at _ _ _ _ _ c.requires.sound.2 c.requires.room in
+    let r = read (goal.at.returns-clause-free c).After-read_header-header in
     let o = sym c.has_content.ensures ∙ c.if-not-has_content.false in
-    let q = free-sized c.args.part.now.bytes c.args.place c.args.bytes a.0 a.3 h r o a.2 c.free_behind.result
-    c.padded_size.result c.free_behind.ensures c.padded_size.ensures
-    c.requires.sound.0 c.requires.sound.1 c.requires.sound.2 c.args.free c.requires.free in
+    let q = free-sized _ _ _ _ a.3 _ r o a.2 _ _ c.free_behind.ensures c.padded_size.ensures
+    _ _ c.requires.sound.2 _ c.requires.free in
     rw c.lay_block.ensures.bytes q.2
 
 pub returns-then-not-has_content-clause-replaced : goal.returns-then-not-has_content-clause-replaced
@@ -210,20 +138,16 @@ pub returns-clause-replaced : goal.returns-clause-replaced
 returns-clause-replaced c = λ first unused i.
     let xs = c.args.part.now.bytes in
     let a = room-at xs first unused c.args.place c.args.bytes i c.requires.room in
-    let e = c.read_header-header.ensures in
-    let h = c.read_header-header.result in
-    let r : Read h c.args.place xs =
-    record { first = e.first; even = e.size; long = e.logical; named = e.slot; marked = e.flags } in
+    let r = read (goal.at.returns-clause-replaced c).After-read_header-header in
     let o = sym c.has_content.ensures ∙ c.if-not-has_content.false in
-    let z = size-is xs c.args.place c.args.bytes a.0 a.3 h r in
+    let z = size-is xs c.args.place c.args.bytes a.0 a.3 _ r in
     let b = c.free_behind.result in
     let m : b ≡ free_first a.0.above = c.free_behind.ensures
     ∙ ap (λ n. free_first (left_in (c.args.place + n) xs)) z ∙ ap free_first a.3.left_above in
-    let holds = ap (λ t. t % 2 == 1) (sym (kind-is xs c.args.place c.args.bytes a.0 a.3 h r)) ∙ o in
+    let holds = ap (λ t. t % 2 == 1) (sym (kind-is xs c.args.place c.args.bytes a.0 a.3 _ r)) ∙ o in
     let same = same-of c.args.bytes c.args.place a.0.here holds in
-    let f = fits xs c.args.place c.args.bytes a.0 a.3 h r o a.2 b (padded c.args.bytes) c.free_behind.ensures refl in
-    let y = same.size in
+    let f = fits xs c.args.place c.args.bytes a.0 a.3 _ r o a.2 b (padded c.args.bytes) c.free_behind.ensures refl in
     subst (λ t. Replaced c.args.place t (zone_in xs) (zone_in c.lay_block.new.part.bytes))
-    (let t : c.args.place + size a.0.here + free_first a.0.above ≡ c.args.place + h.size + b = omega (arith, z, m) in t)
-    (resize-replaced xs c.lay_block.new.part.bytes first unused c.args.place c.args.bytes i a.0 a.1 a.3 a.2 (returns-clause-cut c)
-    (returns-clause-grown c) same.solid (omega (arith, y, f, z, m)))
+    (let t : c.args.place + size a.0.here + free_first a.0.above ≡ c.args.place + c.read_header-header.result.size + b =
+    omega (arith, z, m) in t) (resize-replaced _ _ _ _ _ _ i _ a.1 a.3 a.2 (returns-clause-cut c)
+    (returns-clause-grown c) same.solid (omega (arith, f, z, m)))

@@ -12,27 +12,20 @@ still : (c : Else-to-from)
 still c =
     let a = c.args in
     let xs = a.part.now.bytes in
-    let l = c.if-to-from.false in
-    let d = c.requires.down in
-    let e : a.to ≡ a.from = omega (arith, l, d) in
-    ap (λ k. written k (piece a.from a.size xs) xs) e
-    ∙ written-same a.from a.size (piece a.from a.size xs) xs c.requires.inside refl
+    let e : a.to ≡ a.from = omega arith in
+    ap (λ k. written k (piece a.from a.size xs) xs) e ∙ written-same _ _ _ _ c.requires.inside refl
 
 pub returns-then-gap-gt0-clause-bytes : goal.returns-then-gap-gt0-clause-bytes
 returns-then-gap-gt0-clause-bytes c =
-    c.write_word-then-gap-gt0.ensures.bytes
-    ∙ sym (ap (written c.args.slot (word (c.args.to + c.args.gap)))
+    c.write_word-then-gap-gt0.ensures.bytes ∙ sym (ap (written c.args.slot (word (c.args.to + c.args.gap)))
     (still (goal.at.returns-then-gap-gt0-clause-bytes c).Else-to-from))
 
 pub returns-else-gap-gt0-clause-bytes : goal.returns-else-gap-gt0-clause-bytes
 returns-else-gap-gt0-clause-bytes c =
     let a = c.args in
     let xs = a.part.now.bytes in
-    let l = c.if-to-from.false in
-    let n = c.if-gap-gt0.false in
-    let d = c.requires.down in
-    let e : a.to + a.gap ≡ a.from = omega (arith, l, d, n) in
+    let e : a.to + a.gap ≡ a.from = omega arith in
     let slot : written a.slot (word (a.to + a.gap)) xs ≡ xs = ap (λ k. written a.slot (word k) xs) e
-    ∙ written-same a.slot 4 (word a.from) xs c.requires.slot.1 c.requires.leads in
+    ∙ written-same _ 4 _ xs c.requires.slot.1 c.requires.leads in
     sym (ap (written a.slot (word (a.to + a.gap))) (still (goal.at.returns-else-gap-gt0-clause-bytes c).Else-to-from)
     ∙ slot)

@@ -4,7 +4,6 @@ use Rattle.std.proofs.lemmas.List.{append-nil}
 use denote.Enum.Bare.{sameb}
 use Rattle.heap_words.specs.contracts.header.Tag.{the_type}
 use Rattle.heap_words.specs.declared.header.Tag.TheVariants.{Relocatable}
-use Rattle.heap_words.specs.Headers.{tag_number}
 use Rattle.block_store.specs.Block.{Block, sizes}
 use Rattle.block_store.specs.Run.{movers}
 use Rattle.zone_bytes.specs.Edges.{AreEdges}
@@ -28,8 +27,7 @@ loop-from-init g c =
     → (p : Packing g.lay c.args.gap (c.args.place + sizes g.lay.run) c.args.place c.args.place 0 xs)
     × (p.moved ≡ []) = λ xs e. subst
     (λ ys. (p : Packing g.lay c.args.gap (c.args.place + sizes g.lay.run) c.args.place c.args.place 0 ys)
-    × (p.moved ≡ [])) (sym e)
-    (start g.lay c.args.place (c.args.place + sizes g.lay.run) c.requires.1.0 c.args.gap) in
+    × (p.moved ≡ [])) (sym e) (start _ _ _ c.requires.1.0 _) in
     let p = begun c.args.part.now.bytes c.requires.0 in (
       p.0,
       refl,
@@ -41,20 +39,13 @@ loop-from-init g c =
 
 -- a block is next
 there : (g : Over) (c : In-loop-from g) → Next c.loop-from.part.bytes c.loop-from.from
-there g c =
-    let s = c.loop-from in
-    let l = c.loop-from-test.true in
-    let n = c.len-end.ensures.count in
-    let k = s.invariant.3 in
-    next g.lay c.args.place (c.args.place + sizes g.lay.run) c.requires.1.0 c.args.gap s.from s.to s.moves s.part.bytes s.invariant.0
-    (omega (arith, l, n, k))
+there g c = next _ _ _ c.requires.1.0 _ _ _ _ _ c.loop-from.invariant.0 (omega arith)
 
 bounds : (g : Over) (c : In-loop-from g) → (c.args.place + sizes g.lay.run ≤ length c.loop-from.part.bytes)
     × (length c.loop-from.part.bytes ≤ 134217728)
 bounds g c =
     let s = c.loop-from in
-    stop-inside g.lay c.args.place (c.args.place + sizes g.lay.run) c.requires.1.0 c.args.gap s.from s.to s.moves s.part.bytes
-    s.invariant.0.state.kept
+    stop-inside _ _ _ c.requires.1.0 c.args.gap s.from s.to s.moves _ s.invariant.0.state.kept
 
 pub read_header-header-requires-clause-within : goal.read_header-header-requires-clause-within
 read_header-header-requires-clause-within g c =
@@ -64,9 +55,7 @@ read_header-header-requires-clause-within g c =
 pub read_header-header-requires-clause-fits : goal.read_header-header-requires-clause-fits
 read_header-header-requires-clause-fits g c =
     let d = (goal.at.read_header-header-requires-clause-fits g c).In-loop-from in
-    let f = (there g d).fits in
-    let i = bounds g d in
-    omega (arith, f, i)
+    omega (arith, (there g d).fits, bounds)
 
 pub read_header-header-requires-clause-tag : goal.read_header-header-requires-clause-tag
 read_header-header-requires-clause-tag g c =
@@ -76,14 +65,10 @@ read_header-header-requires-clause-tag g c =
 inside : (g : Over) (c : After-eq g) → c.loop-from.from < c.args.place + sizes g.lay.run
 inside g c =
     let s = c.loop-from in
-    let l = c.loop-from-test.true in
-    let n = c.len-end.ensures.count in
-    let k = s.invariant.3 in
     let h = c.read_header-header.result in
     let e = c.read_header-header.ensures in
-    within g.lay c.args.place (c.args.place + sizes g.lay.run) c.requires.1.0 c.args.gap s.from s.to s.moves s.part.bytes
-    c.requires.1.1.0 s.invariant.0 (omega (arith, l, n, k)) h.size (tag_number h.tag) h.flags e.first e.size (tag-small h.tag) e.flags
-    c.if-not-is_in_run.ensures
+    within _ _ _ c.requires.1.0 _ _ _ _ _
+    c.requires.1.1.0 s.invariant.0 (omega arith) _ _ _ e.first e.size (tag-small _) e.flags c.if-not-is_in_run.ensures
 
 -- and a relocatable one
 mover : (g : Over) (c : After-eq g) → true ≡ sameb the_type c.read_header-header.result.tag Relocatable
@@ -91,11 +76,9 @@ mover : (g : Over) (c : After-eq g) → true ≡ sameb the_type c.read_header-he
     c.loop-from.part.bytes c.loop-from.invariant.0.moved c.read_header-header.result.size
     c.read_header-header.result.slot
 mover g c t =
-    let s = c.loop-from in
-    let h = c.read_header-header.result in
     let e = c.read_header-header.ensures in
-    next-mover g.lay c.args.place (c.args.place + sizes g.lay.run) c.requires.1.0 c.args.gap s.from s.to s.moves s.part.bytes
-    s.invariant.0 (inside g c) h.size (tag_number h.tag) h.slot e.first e.size (tag-true h.tag t) e.slot
+    next-mover _ _ _ c.requires.1.0 _ _ _ _ _
+    c.loop-from.invariant.0 (inside g c) _ _ _ e.first e.size (tag-true _ t) e.slot
 
 -- or a Free one
 free : (g : Over) (c : After-eq g) → false ≡ sameb the_type c.read_header-header.result.tag Relocatable
@@ -104,18 +87,15 @@ free : (g : Over) (c : After-eq g) → false ≡ sameb the_type c.read_header-he
     × (q.moved ≡ c.loop-from.invariant.0.moved)
 free g c t =
     let s = c.loop-from in
-    let h = c.read_header-header.result in
-    let e = c.read_header-header.ensures in
-    next-free g.lay c.args.place (c.args.place + sizes g.lay.run) c.requires.1.0 c.args.gap s.from s.to s.moves s.part.bytes
-    s.invariant.0 (inside g c) h.size (tag_number h.tag) e.first e.size (tag-false h.tag t)
+    next-free _ _ _ c.requires.1.0 _ _ _ _ _
+    s.invariant.0 (inside g c) _ _ c.read_header-header.ensures.first c.read_header-header.ensures.size (tag-false _ t)
 
 pub move_block-moves-requires-clause-down : goal.move_block-moves-requires-clause-down
 move_block-moves-requires-clause-down g c = c.loop-from.invariant.0.state.down
 
 pub move_block-moves-requires-clause-inside : goal.move_block-moves-requires-clause-inside
 move_block-moves-requires-clause-inside g c =
-    let i = (mover g (goal.at.move_block-moves-requires-clause-inside g c).After-eq c.if-eq.ensures).inside in
-    omega (arith, i)
+    omega (arith, (mover g (goal.at.move_block-moves-requires-clause-inside g c).After-eq c.if-eq.ensures).inside)
 
 pub move_block-moves-requires-clause-slot : goal.move_block-moves-requires-clause-slot
 move_block-moves-requires-clause-slot g c =
@@ -129,44 +109,27 @@ move_block-moves-requires-clause-leads g c =
 pub overflow_add-moves : goal.overflow_add-moves
 overflow_add-moves g c =
     let m = mover g (goal.at.overflow_add-moves g c).After-eq c.if-eq.ensures in
-    let b = moves-bound g.lay c.args.place (c.args.place + sizes g.lay.run) c.requires.1.0 c.args.gap _ _ _ _
+    let b = moves-bound _ _ _ c.requires.1.0 _ _ _ _ _
     (m.packing c.move_block-moves.result c.move_block-moves.ensures.moves) in
     omega (arith, b)
 
 pub overflow_add-to : goal.overflow_add-to
-overflow_add-to g c =
-    let d = c.loop-from.invariant.0.state.down in
-    let l = inside g (goal.at.overflow_add-to g c).After-eq in
-    let k = bounds g (goal.at.overflow_add-to g c).In-loop-from in
-    let b = c.requires.1.1.1 in
-    let s = c.requires.1.0.small in
-    omega (arith, d, l, k, b, s)
+overflow_add-to g c = omega (arith, inside, bounds)
 
 pub overflow_add-from : goal.overflow_add-from
 overflow_add-from g c =
     let k = bounds g (goal.at.overflow_add-from g c).In-loop-from in
     elim c.if-eq.branch [
-      | then-eq w ↦
-          let i = (mover g (goal.at.overflow_add-from g c).After-eq w.if-eq.ensures).inside in
-          omega (arith, i, k)
-      | else-eq w ↦
-          let u = (free g (goal.at.overflow_add-from g c).After-eq w.if-eq.ensures).0.state.up in
-          omega (arith, u, k)
+      | then-eq w ↦ omega (arith, (mover g (goal.at.overflow_add-from g c).After-eq w.if-eq.ensures).inside, k)
+      | else-eq w ↦ omega (arith, (free g (goal.at.overflow_add-from g c).After-eq w.if-eq.ensures).0.state.up, k)
     ]
 
 -- where a block comes to lie, with the blocks that were there before
 lies : (g : Over) (c : In-loop-from g) (base : ℕ) (before : List Block) → base + sizes before ≡ c.args.place + c.args.gap
     → base + sizes (before ++ c.loop-from.invariant.0.moved) ≡ c.loop-from.to + c.args.gap
 lies g c base before e =
-    let s = c.loop-from in
-    let p = s.invariant.0 in
-    let b = packed-bounds g.lay c.args.place (c.args.place + sizes g.lay.run) c.requires.1.0 c.args.gap s.from s.to s.moves
-    s.part.bytes p.moved p.rest p.state in
-    let z = b.2 in
-    let m = span-append g.lay.below p.moved in
-    let n = span-append before p.moved in
-    let w = c.requires.1.0.bottom in
-    omega (arith, e, z, m, n, w)
+    let b = packed-bounds _ _ _ c.requires.1.0 _ _ _ _ _ _ _ c.loop-from.invariant.0.state in
+    omega (arith, e, span-append)
 
 pub loop-from-preserved : goal.loop-from-preserved
 loop-from-preserved g c =
@@ -200,20 +163,15 @@ loop-from-preserved g c =
             v.1,
             v.2,
             v.3,
-            λ base before e a. subst
-                (λ l. AreEdges s.edges base (before ++ l)) (sym p.1) (v.4 base before e a),
+            λ base before e a. subst (λ l. AreEdges s.edges base (before ++ l)) (sym p.1) (v.4 base before e a),
           )
     ]
 
 pub loop-from-smaller : goal.loop-from-smaller
 loop-from-smaller g c =
-    let d = (goal.at.loop-from-smaller g c).After-eq in
-    let l = inside g d in
     let b = (there g (goal.at.loop-from-smaller g c).In-loop-from).big in
-    let t = tag-small c.read_header-header.result.tag in
-    let f = c.read_header-header.ensures.first in
-    let some : 0 < c.read_header-header.result.size = omega (arith, b, t, f) in
-    omega (arith, l, some)
+    let some : 0 < c.read_header-header.result.size = omega (arith, b, tag-small) in
+    omega (arith, inside g ((goal.at.loop-from-smaller g c).After-eq), some)
 
 -- the run was gone over, or has enough
 ended : (g : Over) (c : Left-loop-from g) → (c.loop-from.invariant.0.rest ≡ [])
@@ -225,18 +183,13 @@ ended g c =
     let nothing = none-left g.lay c.args.gap stop s.from s.to s.moves s.part.bytes p.moved p.rest p.state in
     elim c.loop-from-test.branch [
       | else-loop-from-test w ↦
-          let l = w.loop-from-test.false in
-          let n = c.len-end.ensures.count in
-          let k = s.invariant.3 in
-          let b = stop-inside g.lay c.args.place stop c.requires.1.0 c.args.gap s.from s.to s.moves s.part.bytes
-          p.state.kept in
-          inl (nothing (omega (arith, l, n, k, b)))
+          let b = stop-inside _ _ _ c.requires.1.0 c.args.gap s.from s.to s.moves _ p.state.kept in
+          inl (nothing (omega (arith, b)))
       | then-loop-from-test+then-is_enough w ↦ inr (w.if-is_enough.ensures refl)
       | then-loop-from-test+else-is_enough+then-not-is_in_run w ↦
-          let h = w.read_header-header.result in
           let e = w.read_header-header.ensures in
-          inl (nothing (beyond g.lay c.args.place stop c.requires.1.0 c.args.gap s.from s.to s.moves s.part.bytes p h.size
-          (tag_number h.tag) h.flags e.first e.size (tag-small h.tag) e.flags w.if-not-is_in_run.ensures))
+          inl (nothing (beyond _ _ _ c.requires.1.0 _ _ _ _ _ p _
+          _ _ e.first e.size (tag-small _) e.flags w.if-not-is_in_run.ensures))
     ]
 
 -- the edges are those of the blocks that were packed
@@ -246,47 +199,31 @@ noted : (g : Over) (c : Left-loop-from g) (base : ℕ) (before : List Block)
 noted g c base before e a =
     let s = c.loop-from in
     let p = s.invariant.0 in
-    subst (λ l. AreEdges s.edges base (before ++ l)) (p.those ∙ ap movers (gone-is g.lay p.gone p.rest p.split c.args.place
-    (c.args.place + sizes g.lay.run) c.requires.1.0 c.args.gap s.from s.to s.moves s.part.bytes p.moved p.those p.state
-    c.args.enough (ended g c))) (s.invariant.4 base before e a)
+    subst (λ l. AreEdges s.edges base (before ++ l)) (p.those ∙ ap movers (gone-is _ _ _ p.split _
+    _ c.requires.1.0 _ _ _ _ _ _ p.those p.state _ (ended g c))) (s.invariant.4 base before e a)
 
 pub write_word-requires : goal.write_word-requires
 write_word-requires g c =
     let s = c.loop-from in
-    let p = s.invariant.0.state in
-    let w = p.whole in
-    let l = c.if-to-from.true in
-    let u = p.up in
-    let k = stop-inside g.lay c.args.place (c.args.place + sizes g.lay.run) c.requires.1.0 c.args.gap s.from s.to s.moves
-    s.part.bytes p.kept in
-    (omega (arith, w), omega (arith, w, l, u, k))
+    let k = stop-inside _ _ _ c.requires.1.0 c.args.gap s.from s.to s.moves _ s.invariant.0.state.kept in
+    (omega arith, omega (arith, k))
 
 pub returns-then-to-from-clause-packed : goal.returns-then-to-from-clause-packed
 returns-then-to-from-clause-packed g c =
     let s = c.loop-from in
     let p = s.invariant.0 in
     subst (PackedUntil g.lay c.args.place c.args.gap c.args.enough s.moves s.to s.from) (sym c.write_word.ensures.bytes)
-    (until-free g.lay p.gone p.rest p.split c.args.place (c.args.place + sizes g.lay.run) c.requires.1.0 c.args.gap s.from
-    s.to s.moves s.part.bytes p.moved p.those p.state c.args.enough
+    (until-free _ _ _ p.split _ _ c.requires.1.0 _ _ _ _ _ _ p.those p.state _
     (ended g (goal.at.returns-then-to-from-clause-packed g c).Left-loop-from) c.if-to-from.true)
 
 pub returns-else-to-from-clause-packed : goal.returns-else-to-from-clause-packed
 returns-else-to-from-clause-packed g c =
-    let s = c.loop-from in
-    let p = s.invariant.0 in
-    let l = c.if-to-from.false in
-    until-none g.lay p.gone p.rest p.split c.args.place (c.args.place + sizes g.lay.run) c.requires.1.0 c.args.gap s.from
-    s.to s.moves s.part.bytes p.moved p.those p.state c.args.enough
-    (ended g (goal.at.returns-else-to-from-clause-packed g c).Left-loop-from) (omega (arith, l))
+    let p = c.loop-from.invariant.0 in
+    until-none _ _ _ p.split _ _ c.requires.1.0 _ _ _ _ _ _ p.those p.state _
+    (ended g (goal.at.returns-else-to-from-clause-packed g c).Left-loop-from) (omega arith)
 
 pub move_block-moves-requires-clause-fits : goal.move_block-moves-requires-clause-fits
-move_block-moves-requires-clause-fits g c =
-    let d = c.loop-from.invariant.0.state.down in
-    let l = inside g (goal.at.move_block-moves-requires-clause-fits g c).After-eq in
-    let k = bounds g (goal.at.move_block-moves-requires-clause-fits g c).In-loop-from in
-    let b = c.requires.1.1.1 in
-    let s = c.requires.1.0.small in
-    omega (arith, d, l, k, b, s)
+move_block-moves-requires-clause-fits g c = omega (arith, inside, bounds)
 
 pub returns-then-to-from-clause-edges : goal.returns-then-to-from-clause-edges
 returns-then-to-from-clause-edges g c = noted g (goal.at.returns-then-to-from-clause-edges g c).Left-loop-from
@@ -296,7 +233,4 @@ returns-else-to-from-clause-edges g c = noted g (goal.at.returns-else-to-from-cl
 
 pub overflow_add-to-then-eq : goal.overflow_add-to-then-eq
 overflow_add-to-then-eq g c =
-    let i = (mover g (goal.at.overflow_add-to-then-eq g c).After-eq c.if-eq.ensures).inside in
-    let d = c.loop-from.invariant.0.state.down in
-    let k = bounds g (goal.at.overflow_add-to-then-eq g c).In-loop-from in
-    omega (arith, i, d, k)
+    omega (arith, (mover g (goal.at.overflow_add-to-then-eq g c).After-eq c.if-eq.ensures).inside, bounds)

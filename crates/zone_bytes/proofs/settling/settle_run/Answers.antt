@@ -1,5 +1,4 @@
-use Rattle.std.proofs.Common.{◌≡◌, ◌+◌, ◌++◌, [], subst, arith}
-use Rattle.block_store.specs.Block.{sizes}
+use Rattle.std.proofs.Common.{◌≡◌, ◌++◌, [], subst, arith}
 use Rattle.block_store.specs.Run.{movers}
 use Rattle.zone_bytes.specs.Edges.{AreEdges}
 use Rattle.zone_bytes.specs.Settling.{rest_from}
@@ -11,14 +10,12 @@ use Rattle.zone_bytes.proofs.settling.settle_run.Goals as goal
 
 nothing-left : (g : Over) (c : After-pack_until g) → rest_from g.lay c.pack_until.result.stop ≡ []
 nothing-left g c =
-    let s = c.requires.1.0.small in
-    all-gone g.lay c.args.place 0 4294967295 _ _ _ _ _ _ c.requires.1.0 c.pack_until.ensures.packed (omega (arith, s))
+    all-gone g.lay c.args.place 0 4294967295 _ _ _ _ _ _ c.requires.1.0 c.pack_until.ensures.packed (omega arith)
 
 pub returns-clause-settled : goal.returns-clause-settled
 returns-clause-settled g c =
     let n = nothing-left g (goal.at.returns-clause-settled g c).After-pack_until in
-    settled-led g.lay c.args.place (c.args.place + sizes g.lay.run) c.pack_until.result.lowered
-    c.pack_until.new.part.bytes c.requires.1.0
+    settled-led _ _ _ _ _ c.requires.1.0
     (whole-packed g.lay c.args.place 0 4294967295 _ _ _ _ _ _ c.requires.1.0 c.pack_until.ensures.packed n)
 
 pub returns-clause-top : goal.returns-clause-top

@@ -8,25 +8,21 @@ overflow_mul-first c =
     let t = c.requires.0 in
     let q = c.requires.1 in
     let f = first-fits c.args.part.now.bytes t.blocks t.slots t.unused q.lays c.args.slot q.resource q.used q.apart in
-    let e = q.begins in
-    omega (arith, f, e)
+    omega (arith, f)
 
 pub overflow_add-first : goal.overflow_add-first
 overflow_add-first c =
     let t = c.requires.0 in
     let q = c.requires.1 in
     let f = first-fits c.args.part.now.bytes t.blocks t.slots t.unused q.lays c.args.slot q.resource q.used q.apart in
-    let e = q.begins in
-    omega (arith, f, e)
+    omega (arith, f)
 
 pub write_word-requires : goal.write_word-requires
 write_word-requires c =
     let t = c.requires.0 in
     let q = c.requires.1 in
-    slot-in c.args.part.now.bytes t.blocks t.slots t.unused q.lays c.args.slot
-    (used-slot c.args.part.now.bytes t.blocks t.slots t.unused q.lays c.args.slot q.resource q.used q.apart)
+    slot-in _ _ t.slots _ q.lays _ (used-slot _ _ t.slots _ q.lays _ _ q.used q.apart)
 
 pub returns-clause-lays : goal.returns-clause-lays
-returns-clause-lays c = λ t q.
-    rw (c.write_word.ensures.bytes, q.begins)
-    (given c.args.part.now.bytes t.blocks t.slots t.unused q.lays c.args.slot q.resource q.used q.apart)
+returns-clause-lays c = λ t q. rw (c.write_word.ensures.bytes, q.begins)
+    (given _ _ t.slots _ q.lays _ _ q.used q.apart)

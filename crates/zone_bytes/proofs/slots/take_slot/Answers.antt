@@ -1,4 +1,3 @@
-use Rattle.std.proofs.Common.{◌∷◌}
 use Rattle.zone_bytes.proofs.SlotTable.Tables.{slot-in}
 use Rattle.zone_bytes.proofs.SlotTable.Taking.{first-slot, taken, next-of}
 use Rattle.zone_bytes.proofs.slots.take_slot.Goals as goal
@@ -6,14 +5,12 @@ use Rattle.zone_bytes.proofs.slots.take_slot.Goals as goal
 pub read_word-next-requires : goal.read_word-next-requires
 read_word-next-requires c =
     let t = c.requires.0 in
-    slot-in c.args.part.now.bytes t.blocks t.slots (c.args.first ∷ t.unused) c.requires.1 c.args.first
-    (first-slot c.args.part.now.bytes t.blocks t.slots c.args.first t.unused c.requires.1)
+    slot-in _ _ t.slots _ c.requires.1 _ (first-slot _ _ t.slots _ _ c.requires.1)
 
 pub write_word-requires : goal.write_word-requires
 write_word-requires c =
     let t = c.requires.0 in
-    slot-in c.args.part.now.bytes t.blocks t.slots (c.args.first ∷ t.unused) c.requires.1 c.args.first
-    (first-slot c.args.part.now.bytes t.blocks t.slots c.args.first t.unused c.requires.1)
+    slot-in _ _ t.slots _ c.requires.1 _ (first-slot _ _ t.slots _ _ c.requires.1)
 
 pub returns-clause-lays : goal.returns-clause-lays
 returns-clause-lays c = λ t h.
