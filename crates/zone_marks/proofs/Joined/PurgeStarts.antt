@@ -60,7 +60,7 @@ module _ (f : Freeing) (place : ℕ) (xs : List ℕ) (m : MayPurge f place xs) w
           done = front;
           rest = f.above;
           lays = subst (λ q. Lays xs q f.slots f.unused) (regrouped f.above) m.lays;
-          low = (let s = span-append f.below (f.here ∷ []) in let l = m.low in omega (arith, s, l, t));
+          low = (omega (arith, span-append, t));
           up = omega arith;
           tidied = tidy-apart front
               (apart-front front f.above (subst Apart (sym (append_assoc f.below (f.here ∷ []) f.above)) a));
@@ -74,7 +74,7 @@ module _ (f : Freeing) (place : ℕ) (xs : List ℕ) (m : MayPurge f place xs) w
           now = [];
           zone_is = sym (append_assoc f.below (f.here ∷ []) f.above);
           done_is = sym (append-nil front);
-          base = (let s = span-append f.below (f.here ∷ []) in let l = m.low in omega (arith, s, l, t));
+          base = (omega (arith, span-append, t));
           span = omega arith;
         }
 
@@ -225,7 +225,7 @@ module _ (xs : List ℕ) (first number : ℕ) (i : IsSound xs first number) (pur
         zone_is = zone-is;
         done_is = sym (append-nil under.lower);
         base = start-low;
-        span = (let f = span-free (place - start) in let u = start-up in omega (arith, f, u));
+        span = (let u = start-up in omega (arith, span-free, u));
       }
 
   pub purge-gained : (from stop : ℕ) (new : List ℕ) (more : ℕ)

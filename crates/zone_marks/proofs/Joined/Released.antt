@@ -24,8 +24,7 @@ module _ (f : Freeing) (place : ℕ) (xs : List ℕ) (m : MayRelease f place xs)
   pub leads-up : (from : ℕ) → Begins from 0 all → (from < place) ⊎ (from ≡ 0) → LeadsUp from place xs
   leads-up from b u =
       let r = parts from 0 all b in
-      let l = r.low in
-      let k : sizes r.below ≡ from = omega (arith, l) in
+      let k : sizes r.below ≡ from = omega arith in
       let h = subst (λ z. Lays xs z f.slots f.unused) r.is m.lays in
       record {
         below = r.below;
@@ -62,12 +61,8 @@ module _ (f : Freeing) (place : ℕ) (xs : List ℕ) (m : MayRelease f place xs)
 
     pub lower-low : sizes end.lower ≡ start
     lower-low =
-        let a = span-append end.lower (free (place - start)) in
-        let b = span-free (place - start) in
-        let e = ap sizes below-is in
-        let l = m.low in
         let s = starts in
-        omega (arith, a, b, e, l, s)
+        omega (arith, span-append, span-free, ap sizes below-is, s)
 
     pub may-free : MayFree lower start place xs
     may-free = record {
@@ -95,11 +90,9 @@ module _ (f : Freeing) (place : ℕ) (xs : List ℕ) (m : MayRelease f place xs)
 
       low-stop : sizes (end.lower ++ free (stop - start)) ≡ stop
       low-stop =
-          let a = span-append end.lower (free (stop - start)) in
-          let b = span-free (stop - start) in
           let l = lower-low in
           let s = starts in
-          omega (arith, a, b, l, s, t)
+          omega (arith, span-append, span-free, l, s, t)
 
       lays-stop : Lays mid ((end.lower ++ free (stop - start)) ++ f.above) f.slots f.unused
       lays-stop = subst (λ k. Lays mid k f.slots f.unused)
@@ -118,10 +111,9 @@ module _ (f : Freeing) (place : ℕ) (xs : List ℕ) (m : MayRelease f place xs)
       pub stop-more : (more : ℕ) → more ≡ free_first (left_in stop mid) → stop + more ≤ 134217728
       stop-more more e =
           let h = e ∙ ap free_first stop-left in
-          let f = first-small f.above in
           let l = stop-fits in
           let m = lays-stop.small in
-          omega (arith, h, f, l, m)
+          omega (arith, h, first-small, l, m)
 
       pub freed-replaced : (more : ℕ) → more ≡ free_first (left_in stop mid)
           → Replaced start (stop + more) all (tidy (f.below ++ Free (size f.here) ∷ f.above))

@@ -45,7 +45,7 @@ group-raised groups marks group index g m a l low high was is none = record {
   each = λ other j u v h. elim (eqb_tells other group) [
     | inl t ↦ subst (λ z. (get_or (set marks index m) j no_mark).most ≤ z)
         (sym (ap (λ k. k.most) (same-group other t.1)))
-        (here j (let k = t.1 in omega (arith, u, k)) (let k = t.1 in omega (arith, v, k))
+        (here j (omega (arith, u)) (let k = t.1 in omega (arith, v, k))
         (let s = length-set marks index m in omega (arith, s, h)))
     | inr t ↦ subst (λ z. (get_or (set marks index m) j no_mark).most ≤ z)
         (sym (ap (λ k. k.most) (get_or-set_other groups group other g no_group t.1)))
@@ -73,9 +73,9 @@ group-raised groups marks group index g m a l low high was is none = record {
     here j u v h = elim (eqb_tells j index) [
       | inl t ↦ subst (λ z. z.most ≤ g.most)
           (sym (ap (λ k. get_or (set marks index m) k no_mark) t.1
-          ∙ get_or-set_same marks index m no_mark (let k = t.1 in omega (arith, k, h)))) is
+          ∙ get_or-set_same marks index m no_mark (omega (arith, h)))) is
       | inr t ↦ subst (λ z. z.most ≤ g.most) (sym (get_or-set_other marks index j m no_mark t.1))
-          (let k = a.each group j u v h in omega (arith, k, was))
+          (omega (arith, a.each group j u v h, was))
     ]
 
     apart : (other : ℕ) → (other ≡ group → ⊥) → (group < other) ⊎ (other < group)
@@ -97,7 +97,7 @@ group-renewed groups marks group low n g a l e k f s = record {
   whole = (let w = a.whole in let s = length-set groups group g in omega (arith, w, s));
   each = λ other index u v m. elim (eqb_tells other group) [
     | inl t ↦ subst (λ z. (get_or marks index no_mark).most ≤ z) (sym (ap (λ k. k.most) (same-group other t.1)))
-        (here index (let g = t.1 in omega (arith, e, u, g)) (let g = t.1 in omega (arith, e, k, v, g)) m)
+        (here index (omega (arith, e, u)) (let g = t.1 in omega (arith, e, k, v, g)) m)
     | inr t ↦ subst (λ z. (get_or marks index no_mark).most ≤ z)
         (sym (ap (λ k. k.most) (get_or-set_other groups group other g no_group t.1))) (a.each other index u v m)
   ];
@@ -121,9 +121,8 @@ group-renewed groups marks group low n g a l e k f s = record {
     here index u v m =
         let d : Landmark = no_mark in
         let j = index - low in
-        let w = a.whole in
         let t : length (take n (drop low marks)) ≡ n = length-take-le n (drop low marks)
-        (let s = length-drop low marks in omega (arith, s, w, l, e, k)) in
+        (let s = length-drop low marks in omega (arith, s, l, e, k)) in
         let s : get_or (take n (drop low marks)) j d ≡ get_or marks index d =
         get_or-take n (drop low marks) j d (omega (arith, u, v)) ∙ get_or-drop low marks j d
         ∙ ap (λ i. get_or marks i d) (let q : low + (index - low) ≡ index = omega (arith, u) in q) in

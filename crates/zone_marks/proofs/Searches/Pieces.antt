@@ -52,11 +52,8 @@ module _ (xs : List ℕ) (first unused : ℕ) (i : IsSound xs first unused) wher
   pub left-long : (edge : ℕ) → Begins edge 0 (zone_in xs) → edge + sizes (left_in edge xs) ≡ length xs
   left-long edge b =
       let s = seen-from xs first unused i edge b in
-      let z = ap sizes s.is in
-      let a = span-append s.below (left_in edge xs) in
-      let l = s.low in
       let k = zone-long in
-      omega (arith, z, a, l, k)
+      omega (arith, ap sizes s.is, span-append, k)
 
   pub edge-within : (p : ℕ) → Begins p 0 (zone_in xs) → p ≤ length xs
   edge-within p b = let w = (begins-within p 0 (zone_in xs) b).1 in let z = zone-long in omega (arith, w, z)
@@ -87,7 +84,7 @@ module _ (xs : List ℕ) (first unused : ℕ) (i : IsSound xs first unused) wher
       whole : left_in from xs ≡ r.below ++ left_in to xs
       whole = r.is ∙ ap (λ k. r.below ++ k) (sym (left-above xs first unused i (s.below ++ r.below) r.above to
           (s.is ∙ ap (λ k. s.below ++ k) r.is ∙ sym (append_assoc s.below r.below r.above))
-          (let a = span-append s.below r.below in let k = s.low in let u = r.low in omega (arith, a, k, u))))
+          (let k = s.low in let u = r.low in omega (arith, span-append, k, u))))
 
   -- what is known of the blocks from an edge on up to a landmark, up to an edge below it
   pub stretch-at : (w : Counting) (t : Tally) (at to next : ℕ) → Begins at 0 (zone_in xs)
@@ -136,8 +133,8 @@ module _ (xs : List ℕ) (first unused : ℕ) (i : IsSound xs first unused) wher
   bounded-edge marks a index next end e (inl q) h = elim (cases_lt index (length marks)) [
     | inl l ↦ subst (λ p. Begins p 0 (zone_in xs)) (sym (q ∙ mark-first 4294967295 marks index no_mark l))
         (mark-begins 4294967295 (zone_in xs) marks index no_mark l a)
-    | inr l ↦ let m = i.lays.small in
-        let k : next ≡ 4294967295 = q ∙ ap (next_of 4294967295) (drop_all index marks l) in absurd (omega (arith, k, h, e, m))
+    | inr l ↦ let k : next ≡ 4294967295 = q ∙ ap (next_of 4294967295) (drop_all index marks l) in absurd
+    (omega (arith, k, h, e))
   ]
 
   -- that is the next landmark, where there is one
@@ -155,8 +152,8 @@ module _ (xs : List ℕ) (first unused : ℕ) (i : IsSound xs first unused) wher
       → (next ≡ next_of 4294967295 (drop index marks)) ⊎ (next ≡ end) → next ≤ end → length marks ≤ index → length xs ≤ next
   bounded-end marks index next end e (inr q) h l = omega (arith, q, e)
   bounded-end marks index next end e (inl q) h l =
-      let m = i.lays.small in
-      let k : next ≡ 4294967295 = q ∙ ap (next_of 4294967295) (drop_all index marks l) in absurd (omega (arith, k, h, e, m))
+      let k : next ≡ 4294967295 = q ∙ ap (next_of 4294967295) (drop_all index marks l) in absurd
+      (omega (arith, k, h, e))
 
   -- so the stretch of a landmark is known up to there
   pub next-stretch : (w : Counting) (marks : List Landmark) (a : AreMarks 4294967295 (zone_in xs) marks) (index next end : ℕ)
