@@ -230,10 +230,9 @@ module _ (p : Purge) (n : Sparing) (start at k freed : ℕ) (xs : List ℕ) (u :
                 ∙ ap (λ q. tidy (u.done ++ (gap ++ q)))
                 (sym (lowest_purged-free (spared n) k m (opened_block n v.here) (opened n v.above) e)) ∙ will-next;
             count =
-                (let b = total-append free_of (free (stop - start)) v.above in
-                let w = ap (λ q. free_sum (u.done ++ (gap ++ q))) v.is in
+                (let w = ap (λ q. free_sum (u.done ++ (gap ++ q))) v.is in
                 let z = more-free v.here more f in
-                omega (arith, total-append, b, sum-free, w, z, g));
+                omega (arith, total-append, sum-free, w, z, g));
             apart = apart-above;
             below = u.below;
             was = u.was ++ v.here ∷ [];
@@ -270,8 +269,7 @@ module _ (p : Purge) (n : Sparing) (start at k freed : ℕ) (xs : List ℕ) (u :
         rest = v.above;
         lays = subst (λ q. Lays xs q p.slots p.unused) (ap (λ q. u.done ++ (gap ++ q)) v.is ∙ regrouped v.above) u.lays;
         low =
-            (let b = span-append gap (v.here ∷ []) in
-            omega (arith, span-append, b, span-free, t));
+            (omega (arith, span-append, span-free, t));
         up = omega arith;
         tidied = closed-now.0;
         closed = closed-now.1;

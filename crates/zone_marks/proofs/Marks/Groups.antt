@@ -45,8 +45,8 @@ group-raised groups marks group index g m a l low high was is none = record {
   each = λ other j u v h. elim (eqb_tells other group) [
     | inl t ↦ subst (λ z. (get_or (set marks index m) j no_mark).most ≤ z)
         (sym (ap (λ k. k.most) (same-group other t.1)))
-        (here j (omega (arith, u)) (let k = t.1 in omega (arith, v, k))
-        (let s = length-set marks index m in omega (arith, s, h)))
+        (here j (omega (arith, u)) (omega (arith, v))
+        (omega (arith, h)))
     | inr t ↦ subst (λ z. (get_or (set marks index m) j no_mark).most ≤ z)
         (sym (ap (λ k. k.most) (get_or-set_other groups group other g no_group t.1)))
         (subst (λ z. z.most ≤ (get_or groups other no_group).most)

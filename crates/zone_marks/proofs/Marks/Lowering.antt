@@ -79,10 +79,7 @@ module _ (lo hi : ℕ) (old new : List Block) (z : Replaced lo hi old new) (o : 
     low-in : (p : ℕ) (b : Block) → p + size b ≤ lo → AtMost most at next p b → AtMost most' at' above p b
     low-in p b u r l h = elim a [
       | inl w ↦ omega (arith, free-size, u, l)
-      | inr w ↦ let f = r (omega (arith, l)) (elim n [
-        | inl v ↦ omega (arith, h)
-        | inr v ↦ omega (arith, h)
-      ]) in omega (arith, f, m)
+      | inr w ↦ omega (arith, m)
     ]
 
     middle : (p : ℕ) (b : Block) → lo ≤ p → p + size b ≤ hi → AtMost most' at' above p b
@@ -96,13 +93,7 @@ module _ (lo hi : ℕ) (old new : List Block) (z : Replaced lo hi old new) (o : 
 
     high-in : (p : ℕ) (b : Block) → hi ≤ p → AtMost most at next p b → AtMost most' at' above p b
     high-in p b v r l h =
-        let f = r (elim a [
-          | inl w ↦ omega (arith, v)
-          | inr w ↦ omega (arith, l)
-        ]) (elim n [
-          | inl w ↦ absurd (omega (arith, h, v, o))
-          | inr w ↦ omega (arith, h)
-        ]) in omega (arith, f, m)
+        omega (arith, m)
 
     pub bound-lowered : AtEach (AtMost most at next) 0 old → AtEach (AtMost most' at' above) 0 new
     bound-lowered e =

@@ -21,7 +21,6 @@ walk_from-requires c = let i = c.requires.sound in on-way c.args.part.now.bytes 
 
 pub run_of_in-requires : goal.run_of_in-requires
 run_of_in-requires c =
-    let i = c.requires.sound in
     omega (arith, ap sizes c.walk_from.ensures, sizes-fit)
 
 pub returns-in_default : goal.returns-in_default

@@ -41,10 +41,9 @@ walked c =
 pub past_open-requires : goal.past_open-requires
 past_open-requires c = λ n.
     let xs = c.args.part.now.bytes in
-    let q = c.requires.passed in
     let k = walked ((goal.at.past_open-requires c).After-scan_up_to-walked) in
     let e = not-found c.args.bytes (finds_from c.args.bytes c.args.scan xs) xs c.args.passed.end c.scan_up_to-walked.result k n in
-    omega (arith, e, free_span-le, (whole-open q.high c.args.passed.free q.goes_on).1)
+    omega (arith, e, free_span-le, (whole-open c.requires.passed.high c.args.passed.free c.requires.passed.goes_on).1)
 
 pub returns-in-Ended : goal.returns-in-Ended
 returns-in-Ended c =

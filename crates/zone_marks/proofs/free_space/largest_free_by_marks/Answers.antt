@@ -31,7 +31,6 @@ loop-group-preserved c =
     let zone = zone_in xs in
     let marks = c.args.marks.now in
     let group = c.loop-group.group in
-    let v = c.loop-group.invariant in
     elim c.if-largest-groups.branch [
       | then-largest-groups w ↦ record {
         none = subst (λ m. NoneBelow (m + 1) zone marks (GROUP * (group + 1))) (sym w.largest-is)
@@ -42,7 +41,7 @@ loop-group-preserved c =
       | else-largest-groups w ↦ record {
         none = subst (λ m. NoneBelow (m + 1) zone marks (GROUP * (group + 1))) (sym w.largest-is)
             (none-group xs i.0 i.1 i.2 (c.loop-group.largest + 1) marks c.requires.marks c.args.groups.now c.requires.groups
-            group c.loop-group-test.true (omega arith) v.none);
+            group c.loop-group-test.true (omega arith) c.loop-group.invariant.none);
         reached = (omega arith);
       }
     ]

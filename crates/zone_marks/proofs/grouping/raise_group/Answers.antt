@@ -4,7 +4,6 @@ use Rattle.zone_marks.proofs.grouping.raise_group.Goals as goal
 
 pub returns : goal.returns
 returns c = λ marks mark l a.
-    let g = c.greater.ensures in
     group-raised c.args.groups.now marks (c.args.index / 16) c.args.index
     (record { most = c.greater.result; tally = unknown }) mark a (omega arith) (omega arith) (omega arith)
     (omega arith) (omega (arith, l)) refl

@@ -5,7 +5,6 @@ use Rattle.zone_marks.proofs.grouping.renew_groups.Goals as goal
 
 pub group_of-requires : goal.group_of-requires
 group_of-requires c = λ w.
-    let g = c.loop-group.group in
     omega (arith, loads-part, c.requires.fits w)
 
 pub loop-group-preserved : goal.loop-group-preserved

@@ -94,12 +94,11 @@ stretch_of_mark-requires-clause-stretch c = stretch (goal.at.stretch_of_mark-req
 pub join-stretch-requires : goal.join-stretch-requires
 join-stretch-requires c =
     let xs = c.args.part.now.bytes in
-    let m = c.requires.sound.2.lays.small in
     omega (
       arith,
       ends-load c.loop-index.stretch c.stretch_of_mark.result,
       known-fits c.args.counting xs c.loop-index.at c.within-next.result c.stretch_of_mark.result c.stretch_of_mark.ensures,
-      m,
+      c.requires.sound.2.lays.small,
       c.loop-index.invariant.few,
       c.within-next.ensures.low,
       c.len-end.ensures.count,

@@ -67,7 +67,6 @@ returns-in_default-clause-tally c = λ old z e.
 
 pub returns-in-Nothing-clause-bound : goal.returns-in-Nothing-clause-bound
 returns-in-Nothing-clause-bound c = λ old z e.
-    let m = c.greater.ensures in
     bound-lowered c.args.lo c.args.hi old _ z c.requires.ordered c.args.mark.most c.greater.result c.args.mark.at
     c.args.next c.lowered_mark-at.result c.args.above c.lowered_mark-at.ensures c.requires.lowered (omega arith)
     (λ _ _. omega arith) e

@@ -30,11 +30,10 @@ loop-low-preserved-then-marks-middle c =
 
 pub loop-low-preserved : goal.loop-low-preserved
 loop-low-preserved c =
-    let i = c.loop-low.invariant in
     (
       omega arith,
       omega arith,
       subst (λ k. c.args.place ≤ k) (sym (mark-first 4294967295 c.args.marks.now _ no_mark
           (omega arith))) (omega arith),
-      i.3,
+      c.loop-low.invariant.3,
     )

@@ -16,10 +16,9 @@ loop-index-init c =
 pub returns-then-marks-index-clause-marks : goal.returns-then-marks-index-clause-marks
 returns-then-marks-index-clause-marks c =
     let zone = zone_in c.args.part.now.bytes in
-    let i = c.loop-index.invariant in
     marks-whole 4294967295 zone c.loop-index.marks c.loop-index.index c.loop-index.at
     (sym c.if-marks-index.true ∙ sym (mark-first 4294967295 c.loop-index.marks c.loop-index.index no_mark
-    (omega arith))) i.2 i.3
+    (omega arith))) c.loop-index.invariant.2 c.loop-index.invariant.3
 
 pub stretch_from-stretch-requires : goal.stretch_from-stretch-requires
 stretch_from-stretch-requires c =

@@ -17,7 +17,6 @@ page_bytes-requires c = let i = c.requires.sound in on-way c.args.part.now.bytes
 pub returns : goal.returns
 returns c =
     let xs = c.args.part.now.bytes in
-    let i = c.requires.sound.2 in
     let count = c.groups_of-count.result in
     let blank : Landmark = record { at = 0; most = 4294967295; tally = unknown } in
     let marks = c.in_ok-marks.marks.items in
