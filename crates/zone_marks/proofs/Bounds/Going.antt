@@ -200,9 +200,8 @@ count-above : (n : Sparing) (bound x : ℕ) (below above : List Block) → AtEac
     → x + sizes below ≤ bound → count_of (spared n) (below ++ above) ≡ count_of (spared n) above
 count-above n bound x [] above s l = refl
 count-above n bound x (b ∷ below) above s l =
-    let t = ap (λ t. cond {A = ℕ} t 1 0) (none-passes n b (stays-here bound x b s.0 (omega (arith, l)))) in
     let r = count-above n bound (x + size b) below above s.1 (omega (arith, l)) in
-    omega (arith, t, r)
+    omega (arith, ap (λ t. cond {A = ℕ} t 1 0) (none-passes n b (stays-here bound x b s.0 (omega (arith, l)))), r)
 
 -- what a walk from an edge of a zone finds
 pub stays-from : (xs : List ℕ) (first unused : ℕ) (i : IsSound xs first unused) (from : ℕ) → Begins from 0 (zone_in xs)
@@ -240,10 +239,9 @@ module _ (xs : List ℕ) (first unused : ℕ) (i : IsSound xs first unused) (fro
 
   pub count-from : most_purges n (left_in from xs) ≡ most_purges n (zone_in xs)
   count-from =
-      let l = edge.low in
       ap (count_of (spared n)) (plain (left_in from xs))
       ∙ sym (ap (count_of (spared n)) (plain (zone_in xs) ∙ edge.is)
-      ∙ count-above n from 0 edge.below (left_in from xs) below-stays (omega (arith, l)))
+      ∙ count-above n from 0 edge.below (left_in from xs) below-stays (omega (arith, edge.low)))
 
   -- the place of the block to be purged next
   module _ (k : ℕ) where
@@ -253,11 +251,10 @@ module _ (xs : List ℕ) (first unused : ℕ) (i : IsSound xs first unused) (fro
     next-is-there : option_map (λ (s : Spot). sizes s.below) (spot goes (purged k n (zone_in xs)))
         ≡ place_from from goes (purged k n (left_in from xs))
     next-is-there =
-        let l = edge.low in
-        let e : 0 + sizes edge.below ≡ from = omega (arith, l) in
+        let e : 0 + sizes edge.below ≡ from = omega (arith, edge.low) in
         sym (next-is n k (zone_in xs))
         ∙ ap (next_from 0 (spared n) k) (plain (zone_in xs) ∙ edge.is)
-        ∙ next-above n k from 0 edge.below (left_in from xs) below-stays (omega (arith, l))
+        ∙ next-above n k from 0 edge.below (left_in from xs) below-stays (omega (arith, edge.low))
         ∙ ap (λ y. next_from y (spared n) k (left_in from xs)) e
         ∙ ap (λ z. next_from from (spared n) k z) (sym (plain (left_in from xs)))
         ∙ sym (place-tidy from goes (λ m. refl) (lowest_purged k (spared n) (opened n (left_in from xs))))

@@ -53,18 +53,17 @@ largest-within : (m hi x : ℕ) (blocks : List Block) → x + sizes blocks < hi 
     → largest_free blocks ≤ m
 largest-within m hi x [] l e = omega arith
 largest-within m hi x (b ∷ blocks) l e =
-    let f = room-less m b (e.0 (omega arith) (omega (arith, l))) in
     let r = largest-within m hi (x + size b) blocks (omega (arith, l)) e.1 in
-    omega (arith, f, r)
+    omega (arith, room-less m b (e.0 (omega arith) (omega (arith, l))), r)
 
 -- the largest of some blocks above others is no larger than that of all
 largest-above : (below above : List Block) → largest_free above ≤ largest_free (below ++ above)
 largest-above [] above = omega arith
-largest-above (b ∷ below) above = let r = largest-above below above in omega (arith, r)
+largest-above (b ∷ below) above = omega (arith, largest-above below above)
 
 largest-below : (below above : List Block) → largest_free below ≤ largest_free (below ++ above)
 largest-below [] above = omega arith
-largest-below (b ∷ below) above = let r = largest-below below above in omega (arith, r)
+largest-below (b ∷ below) above = omega (arith, largest-below below above)
 
 -- a walk that keeps the size of the largest Free block that it passed
 pub record Growing (xs : List ℕ) (from at most largest : ℕ) : Type 0 where
@@ -101,13 +100,11 @@ module _ (xs : List ℕ) (first unused : ℕ) (i : IsSound xs first unused) wher
   pub zone-largest : (m : ℕ) → AtEach (NoRoom (m + 1) 0 4294967295) 0 (zone_in xs) → m ≤ largest_free (zone_in xs)
       → m ≡ largest_free (zone_in xs)
   zone-largest m e l =
-      let w = largest-within m 4294967295 0 (zone_in xs) (omega (arith, sizes-length)) e in
-      omega (arith, w, l)
+      omega (arith, largest-within m 4294967295 0 (zone_in xs) (omega (arith, sizes-length)) e, l)
 
   pub left-largest : (p : ℕ) → Begins p 0 (zone_in xs) → largest_free (left_in p xs) ≤ largest_free (zone_in xs)
   left-largest p b =
-      let s = seen-from xs first unused i p b in
-      omega (arith, ap largest_free s.is, largest-above)
+      omega (arith, ap largest_free (seen-from xs first unused i p b).is, largest-above)
 
 -- a block that stays
 purged-stays : (k : ℕ) (sp : Block → Bool) (b : Block) (above : List Block) → may_be_purged sp b ≡ false
@@ -161,17 +158,13 @@ purged-rises : (f k : ℕ) (sp : Block → Bool) (bs : List Block)
 purged-rises f zero sp [] = omega arith
 purged-rises f (suc k) sp [] = omega arith
 purged-rises f k sp (Free n ∷ bs) =
-    let r = purged-rises (f + n) k sp bs in
-    let e = ap (largest_stretch f) (purged-stays k sp (Free n) bs refl) in
-    omega (arith, r, e)
+    omega (arith, purged-rises (f + n) k sp bs, ap (largest_stretch f) (purged-stays k sp (Free n) bs refl))
 purged-rises f k sp (Nonrelocatable id content ∷ bs) =
-    let r = purged-rises 0 k sp bs in
     let e = ap (largest_stretch f) (purged-stays k sp (Nonrelocatable id content) bs refl) in
-    omega (arith, r, e)
+    omega (arith, purged-rises 0 k sp bs, e)
 purged-rises f k sp (Masters ∷ bs) =
-    let r = purged-rises 0 k sp bs in
     let e = ap (largest_stretch f) (purged-stays k sp Masters bs refl) in
-    omega (arith, r, e)
+    omega (arith, purged-rises 0 k sp bs, e)
 purged-rises f zero sp (Relocatable id flags content ∷ bs) = let r = purged-rises 0 0 sp bs in omega (arith, r)
 purged-rises f (suc k) sp (Relocatable id flags content ∷ bs) =
     cases (may_be_purged sp b) (purged-rises (f + size b) k sp bs) (purged-rises 0 (suc k) sp bs)
@@ -199,7 +192,7 @@ stretch-ends f [] [] a e s = omega arith
 stretch-ends f [] (c ∷ new) a e s = absurd s
 stretch-ends f (b ∷ old) [] a e s = absurd s
 stretch-ends f (b ∷ old) (c ∷ new) a (inl e) s =
-    let z = ap (λ g. largest_stretch g (c ∷ new)) e in omega (arith, z)
+    omega (arith, ap (λ g. largest_stretch g (c ∷ new)) e)
 stretch-ends f (b ∷ old) (Free n ∷ new) a (inr e) s =
     let z : 0 < size b = apart-size b old a.0 in
     absurd (omega (arith, z, ap size s, ap (λ q. top_free (q ∷ old)) s, e))

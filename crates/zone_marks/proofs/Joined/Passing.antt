@@ -102,8 +102,7 @@ module _ (p : Purge) (n : Sparing) (start at k freed : ℕ) (xs : List ℕ) (u :
     low = u.base;
     high = u.span;
     span =
-        (let b = span-free (at - start) in
-        omega (arith, span-append, b, ap sizes u.done_is));
+        (omega (arith, span-append, span-free (at - start), ap sizes u.done_is));
   }
 
   -- no purges are left, and no block counts as Free
@@ -230,9 +229,8 @@ module _ (p : Purge) (n : Sparing) (start at k freed : ℕ) (xs : List ℕ) (u :
                 ∙ ap (λ q. tidy (u.done ++ (gap ++ q)))
                 (sym (lowest_purged-free (spared n) k m (opened_block n v.here) (opened n v.above) e)) ∙ will-next;
             count =
-                (let w = ap (λ q. free_sum (u.done ++ (gap ++ q))) v.is in
-                let z = more-free v.here more f in
-                omega (arith, total-append, sum-free, w, z, g));
+                (let z = more-free v.here more f in
+                omega (arith, total-append, sum-free, ap (λ q. free_sum (u.done ++ (gap ++ q))) v.is, z, g));
             apart = apart-above;
             below = u.below;
             was = u.was ++ v.here ∷ [];

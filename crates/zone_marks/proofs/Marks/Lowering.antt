@@ -61,8 +61,8 @@ module _ (lo hi : ℕ) (old new : List Block) (z : Replaced lo hi old new) (o : 
       | inr d ↦ subst (Begins at 0) (sym z.is) (begins-right at 0 z.below (z.there ++ z.above)
           (elim (begins-either at (0 + sizes z.below) z.here z.above d) [
             | inl e ↦ begins-right at (0 + sizes z.below) z.there z.above (subst (λ y. Begins at y z.above)
-                (let v = (begins-within at (0 + sizes z.below) z.here e).1 in let q : at ≡ 0 + sizes z.below + sizes
-                z.there = omega (arith, h, v) in q)
+                (let q : at ≡ 0 + sizes z.below + sizes
+                z.there = omega (arith, h, (begins-within at (0 + sizes z.below) z.here e).1) in q)
                 (begins-here at z.above))
             | inr e ↦ begins-right at (0 + sizes z.below) z.there z.above
                 (subst (λ n. Begins at (0 + sizes z.below + n) z.above) (sym z.span) e)
@@ -149,8 +149,7 @@ module _ (lo hi : ℕ) (old new : List Block) (z : Replaced lo hi old new) (o : 
   pub marks-under : (end : ℕ) (marks : List Landmark) → end ≤ lo → AreMarks end old marks → AreMarks end new marks
   marks-under end [] e a = tt
   marks-under end (m ∷ marks) e a =
-      let n = marks-below end old marks a.4 in
-      let u : next_of end marks ≤ lo = omega (arith, n, e) in
+      let u : next_of end marks ≤ lo = omega (arith, marks-below end old marks a.4, e) in
       let l : m.at ≤ lo = omega (arith, a.3, u) in (
         begins-lowered m.at m.at (inr (refl, inl l)) a.0,
         bound-lowered m.most m.most m.at (next_of end marks) m.at (next_of end marks) (inr (refl, inl l))

@@ -54,8 +54,7 @@ module _ (xs : List ℕ) (first unused : ℕ) (i : IsSound xs first unused) (p :
 
   pub left-fits : sizes (left_in p xs) < 2 ^ 32
   left-fits =
-      let s = seen-from xs first unused i p b in
-      omega (arith, ap sizes s.is, span-append, sizes-length)
+      omega (arith, ap sizes (seen-from xs first unused i p b).is, span-append, sizes-length)
 
   -- what follows the block is what follows it in the zone
   pub sought : (test : Block → Bool) (P : List Block → Type 0)

@@ -50,8 +50,7 @@ module _ (xs : List ℕ) (from stop : ℕ) where
   pub spaced-fits : (at end bytes : ℕ) (barrier : Bool) (spaces given : Stretch) → Spaced xs from at stop spaces
       → (s : Spans at end bytes barrier xs) → given ≡ space s.here → suffix spaces + prefix given ≤ end
   spaced-fits at end bytes barrier spaces given c s g =
-      let b = load-counted Spaces c.passed.done in
-      omega (arith, suffix-load, ap load c.comes, b, prefix-counted, ap prefix g)
+      omega (arith, suffix-load, ap load c.comes, load-counted Spaces c.passed.done, prefix-counted, ap prefix g)
 
   -- what it tells of the blocks that begin below a bound which it came to
   pub spaced-tells : (at place : ℕ) (spaces : Stretch) → Spaced xs from at stop spaces → stop ≤ place

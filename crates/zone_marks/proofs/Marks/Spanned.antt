@@ -44,8 +44,7 @@ space-told : (resource : ℕ → Bool) (xs : List ℕ) (from : ℕ) → length x
     → Tile (head_of resource b) (size b) (drop from xs) → (n t f : ℕ) → n + t ≡ word_at from xs → n % 16 ≡ 0 → t ≤ 3
     → f ≡ word_at (from + 12) xs → gives_space t f ≡ is_space b
 space-told resource xs from small b tile n t f e w l v =
-    let r = first-reads resource xs from small b tile in
-    let same : t ≡ kind b = omega (arith, e, r, w, l, kind-small) in
+    let same : t ≡ kind b = omega (arith, e, first-reads resource xs from small b tile, w, l, kind-small) in
     ap (λ j. gives_space j f) same ∙ of-kind b tile
   where
     of-kind : (b : Block) → Tile (head_of resource b) (size b) (drop from xs) → gives_space (kind b) f ≡ is_space b

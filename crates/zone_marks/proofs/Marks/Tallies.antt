@@ -128,7 +128,7 @@ tally-join w (tally.Known a) tally.Unknown xs ys e f = tt
 tally-join w tally.Unknown t xs ys e f = tt
 
 tally-load : (w : Counting) (t : Tally) (xs : List Block) → IsTally w t xs → known_load t ≤ sizes xs
-tally-load w (tally.Known stretch) xs e = let k = ap load e in omega (arith, load-counted, k)
+tally-load w (tally.Known stretch) xs e = omega (arith, load-counted, ap load e)
 tally-load w tally.Unknown xs e = omega arith
 
 between-none : (end x : ℕ) (bs : List Block) → between end end x bs ≡ []
@@ -152,10 +152,9 @@ loads-within : (w : Counting) (end : ℕ) (zone : List Block) (marks : List Land
 loads-within w end zone [] a = omega arith
 loads-within w end zone (m ∷ marks) a =
     let n = next_of end marks in
-    let l = tally-load w (told w m.tally) (between m.at n 0 zone) (a.2 w) in
     let r = loads-within w end zone marks a.4 in
     let j = ap sizes (between-join m.at n end 0 zone a.3 (marks-below end zone marks a.4)) in
-    omega (arith, l, r, j, span-append)
+    omega (arith, tally-load w (told w m.tally) (between m.at n 0 zone) (a.2 w), r, j, span-append)
 
 loads-fit : (w : Counting) (end : ℕ) (zone : List Block) (marks : List Landmark) → AreMarks end zone marks
     → known_loads w marks ≤ sizes zone
@@ -165,5 +164,4 @@ loads-fit w end zone marks a =
 pub loads-small : (xs : List ℕ) (first unused : ℕ) → IsSound xs first unused → (end : ℕ) (marks : List Landmark)
     → AreMarks end (zone_in xs) marks → (w : Counting) → known_loads w marks < 2 ^ 32
 loads-small xs first unused i end marks a w =
-    let f = loads-fit w end (zone_in xs) marks a in
-    omega (arith, f, sizes-length)
+    omega (arith, loads-fit w end (zone_in xs) marks a, sizes-length)

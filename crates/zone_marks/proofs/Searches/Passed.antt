@@ -136,11 +136,9 @@ module _ (xs : List ℕ) (first unused : ℕ) (i : IsSound xs first unused) (s :
       let w = edge-within xs first unused i next t.1.edge in
       let l = load-blocks t.0 in
       let f = ap load t.2 in (
-        (let h = ends-load p.runs runs in
-            let j = load-join (Whole s.free) (stretch_of q.here) in
-            omega (arith, w, l, f, h, j, load-blocks, ap load q.sums)),
-        (let e = ap load q.goes_on in
-            omega (arith, w, l, f, load-blocks, e)),
+        (let j = load-join (Whole s.free) (stretch_of q.here) in
+            omega (arith, w, l, f, ends-load p.runs runs, j, load-blocks, ap load q.sums)),
+        (omega (arith, w, l, f, load-blocks, ap load q.goes_on)),
       )
 
 -- where the blocks that were passed brought no run to enough
@@ -183,9 +181,8 @@ module _ (bytes : ℕ) (xs : List ℕ) (s : RunScan) (r : IsReady xs s) (at : �
           let a = ap best (ap (join (Whole s.free)) (ap stretch_of (b.is ∙ sym (append_assoc b.low b.mid q.high))
           ∙ stretch_of-append (b.low ++ b.mid) q.high)
           ∙ sym (join-assoc (Whole s.free) (stretch_of (b.low ++ b.mid)) (stretch_of q.high))) in
-          let l = best-low (join (Whole s.free) (stretch_of (b.low ++ b.mid))) (stretch_of q.high) in
           let h = short-here in
-          omega (arith, a, l, h)
+          omega (arith, a, best-low (join (Whole s.free) (stretch_of (b.low ++ b.mid))) (stretch_of q.high), h)
 
   -- at the zone's end none is found
   pub passed-all : left_in at xs ≡ [] → finds_from bytes s xs ≡ None
@@ -200,11 +197,10 @@ pub walked-out : (bytes : ℕ) (n : Sparing) (xs : List ℕ) (first unused : ℕ
     → (last.met && nat_le bytes last.free) ≡ false → finds_purging bytes n last xs ≡ None
 walked-out bytes n xs first unused i from last b e came f =
     let edge = begins-further xs first unused i from.place last.place b e in
-    let w = edge-within xs first unused i last.place edge in
     let none = left-none last.place xs (begins-way xs first unused i last.place edge) (elim came [
       | inl k ↦ let y : true ≡ false = sym k ∙ f in absurd (cc)
       | inr (inl l) ↦ l
-      | inr (inr l) ↦ absurd (omega (arith, l, w))
+      | inr (inr l) ↦ absurd (omega (arith, l, edge-within xs first unused i last.place edge))
     ]) in
     ap (scan_runs None bytes (spared n) last.left last.start last.free last.met last.place) (ap (opened n) none ∙ opened-none n)
     ∙ scan-end None bytes (spared n) last.left last.start last.free last.met last.place

@@ -75,8 +75,7 @@ module _ (xs : List ℕ) (from : ℕ) (m : MayStart from (zone_in xs)) (bytes pu
 
   few : count_of (spared n) above ≤ purges
   few =
-      let c = ap (count_of (spared n)) (plain (zone_in xs) ∙ parts) in
-      omega (arith, all, c, total-append)
+      omega (arith, all, ap (count_of (spared n)) (plain (zone_in xs) ∙ parts), total-append)
 
   -- in the run that goes on there
   on : (start : ℕ) (high : List Block) → start ≡ r.start → find start 0 start (o.here ++ high) ≡ find r.start r.free r.at high
@@ -112,11 +111,10 @@ module _ (xs : List ℕ) (from : ℕ) (m : MayStart from (zone_in xs)) (bytes pu
           → best (join (Whole 0) (stretch_of (below ++ here ∷ []))) < bytes
       ended below here low =
           let some = join (Whole 0) (stretch_of (below ++ here ∷ [])) in
-          let a = best-low some (stretch_of o.here) in
           let t = ap best (ap (join (Whole 0)) (ap stretch_of (low ∙ sym (append_assoc below (here ∷ []) o.here))
           ∙ stretch_of-append (below ++ here ∷ []) o.here)
           ∙ sym (join-assoc (Whole 0) (stretch_of (below ++ here ∷ [])) (stretch_of o.here))) in
-          omega (arith, a, t)
+          omega (arith, best-low some (stretch_of o.here), t)
 
   pub reached-finds : lowest_place bytes (purged purges n (zone_in xs))
       ≡ finds_purging bytes n (record { left = purges; start = r.start; free = r.free; met = true; place = r.at }) xs

@@ -41,8 +41,7 @@ overflow_add-result c =
     let i = c.requires.sound in
     let r = left-long c.args.part.now.bytes i.0 i.1 i.2 c.args.run
     (run_begins (goal.at.overflow_add-result c).Start) in
-    let f = ap sizes c.walk_from.ensures in
-    omega (arith, r, f, c.count_below-below.ensures.few, c.count_for.ensures.few)
+    omega (arith, r, ap sizes c.walk_from.ensures, c.count_below-below.ensures.few, c.count_for.ensures.few)
 
 pub returns : goal.returns
 returns c =

@@ -63,11 +63,10 @@ pub count_in_run-requires : goal.count_in_run-requires
 count_in_run-requires c =
     let i = c.requires.sound in
     let xs = c.args.part.now.bytes in
-    let run = c.in-Some.run' in
     let r = block-run xs c.args.number c.args.bytes c.in-Some.run' c.args.sparing
     c.walk_from.result (c.walk_from.ensures ∙ left-zone xs) c.requires.once c.requires.spared c.requires.whole
     c.in-Some.ensures in
-    let l = left-long xs i.0 i.1 i.2 run (run-begins xs run r.low r.rest r.is r.at) in
+    let l = left-long xs i.0 i.1 i.2 c.in-Some.run' (run-begins xs c.in-Some.run' r.low r.rest r.is r.at) in
     omega (arith, l, ap sizes c.walk_from-2.ensures)
 
 pub returns-in_default-count_in_run : goal.returns-in_default-count_in_run
@@ -98,11 +97,10 @@ pub overflow_add-result : goal.overflow_add-result
 overflow_add-result c =
     let i = c.requires.sound in
     let xs = c.args.part.now.bytes in
-    let run = c.in-Some.run' in
     let r = block-run xs c.args.number c.args.bytes c.in-Some.run' c.args.sparing
     c.walk_from.result (c.walk_from.ensures ∙ left-zone xs) c.requires.once c.requires.spared c.requires.whole
     c.in-Some.ensures in
-    let l = left-long xs i.0 i.1 i.2 run (run-begins xs run r.low r.rest r.is r.at) in
+    let l = left-long xs i.0 i.1 i.2 c.in-Some.run' (run-begins xs c.in-Some.run' r.low r.rest r.is r.at) in
     let e = ap sizes c.walk_from-2.ensures in
     omega (arith, l, e, c.count_below.ensures.few, c.in-Some-count_in_run.ensures.few)
 

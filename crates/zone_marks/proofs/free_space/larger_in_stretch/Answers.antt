@@ -28,5 +28,4 @@ returns-else-mark-most-clause-none c =
 pub returns-else-mark-most-clause-reached : goal.returns-else-mark-most-clause-reached
 returns-else-mark-most-clause-reached c =
     let i = c.requires.sound in
-    let l = left-largest c.args.part.now.bytes i.0 i.1 i.2 c.args.mark.at c.requires.begins in
-    omega (arith, l)
+    omega (arith, left-largest c.args.part.now.bytes i.0 i.1 i.2 c.args.mark.at c.requires.begins)

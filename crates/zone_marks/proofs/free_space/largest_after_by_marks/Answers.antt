@@ -27,8 +27,7 @@ returns c =
     let f = largest-from c.args.part.now.bytes i.0 i.1 i.2 c.args.purges c.args.from c.requires.from in
     let a = c.largest_after_in-above.ensures
     ∙ ap (λ l. largest_free (purged c.args.purges sparing.Nothing l)) c.walk_from.ensures in
-    let g = c.greater.ensures in
-    elim g.one [
+    elim c.greater.ensures.one [
       | inl e ↦ omega (arith, f, a, e)
       | inr e ↦ omega (arith, f, a, e)
     ]
@@ -38,6 +37,5 @@ pub returns-then-purges-ge-GREATEST_ZONE : goal.returns-then-purges-ge-GREATEST_
 returns-then-purges-ge-GREATEST_ZONE c =
     let i = c.requires.sound in
     let xs = c.args.part.now.bytes in
-    let m = most-fits xs i.0 i.1 i.2 sparing.Nothing in
     c.largest_space_by_marks.ensures ∙ sym (ap largest_free (purged-most c.args.purges sparing.Nothing (zone_in xs)
-    (omega (arith, m))))
+    (omega (arith, most-fits xs i.0 i.1 i.2 sparing.Nothing))))

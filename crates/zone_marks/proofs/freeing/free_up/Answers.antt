@@ -23,16 +23,16 @@ pub overflow_add-end : goal.overflow_add-end
 overflow_add-end c =
     let r = here-read c.requires.0 c.args.start c.args.at c.args.part.now.bytes c.requires.1 in
     let h = c.read_header-header.result in
-    let s = r.says h.size (tag_number h.tag) c.read_header-header.ensures.first c.read_header-header.ensures.size
-    (tag-small h.tag) in
+    let e = c.read_header-header.ensures in
+    let s = r.says h.size (tag_number h.tag) e.first e.size (tag-small h.tag) in
     omega arith
 
 pub make_free-requires : goal.make_free-requires
 make_free-requires c =
     let r = here-read c.requires.0 c.args.start c.args.at c.args.part.now.bytes c.requires.1 in
     let h = c.read_header-header.result in
-    let s = r.says h.size (tag_number h.tag) c.read_header-header.ensures.first c.read_header-header.ensures.size
-    (tag-small h.tag) in
+    let e = c.read_header-header.ensures in
+    let s = r.says h.size (tag_number h.tag) e.first e.size (tag-small h.tag) in
     may-make c.requires.0 c.args.start c.args.at c.args.part.now.bytes c.requires.1 (c.args.at + h.size)
     (ap (λ n. c.args.at + n) (sym s.0))
 
@@ -82,8 +82,8 @@ returns-else-eq-clause-lays c = λ f m.
     let xs = c.args.part.now.bytes in
     let r = here-read f c.args.start c.args.at xs m in
     let h = c.read_header-header.result in
-    let s = r.says h.size (tag_number h.tag) c.read_header-header.ensures.first c.read_header-header.ensures.size
-    (tag-small h.tag) in
+    let e = c.read_header-header.ensures in
+    let s = r.says h.size (tag_number h.tag) e.first e.size (tag-small h.tag) in
     other-lays f c.args.start c.args.at xs m (c.args.at + h.size) (ap (λ n. c.args.at + n) (sym s.0))
     c.make_free.new.part.bytes c.make_free.ensures.lies c.make_free.ensures.outside
     (none-led f c.args.start c.args.at xs m (omega (arith, tag-false)))

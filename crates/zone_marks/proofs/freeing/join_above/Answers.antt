@@ -26,8 +26,8 @@ free_up-requires c =
     (omega (arith, c.len.ensures.count)) in
     let n = next c.requires.0 c.args.start c.args.at c.args.part.now.bytes c.requires.1 i in
     let h = c.read_header.result in
-    let k = sym (n.tells.says h.size (tag_number h.tag) c.read_header.ensures.first c.read_header.ensures.size
-    (tag-small h.tag)).1
+    let e = c.read_header.ensures in
+    let k = sym (n.tells.says h.size (tag_number h.tag) e.first e.size (tag-small h.tag)).1
     ∙ free-true h.tag c.if-eq.ensures in (
       one c.requires.0 c.args.start c.args.at c.args.part.now.bytes c.requires.1 i k,
       may-free c.requires.0 c.args.start c.args.at c.args.part.now.bytes c.requires.1 i k,
@@ -39,8 +39,8 @@ returns-then-eq-clause-lays c = λ j m.
     (omega (arith, c.len.ensures.count)) in
     let n = next j c.args.start c.args.at c.args.part.now.bytes m i in
     let h = c.read_header.result in
-    let k = sym (n.tells.says h.size (tag_number h.tag) c.read_header.ensures.first c.read_header.ensures.size
-    (tag-small h.tag)).1
+    let e = c.read_header.ensures in
+    let k = sym (n.tells.says h.size (tag_number h.tag) e.first e.size (tag-small h.tag)).1
     ∙ free-true h.tag c.if-eq.ensures in
     joined-two j c.args.start c.args.at c.args.part.now.bytes m i k c.free_up.new.part.bytes c.free_up.ensures.lays
 

@@ -12,9 +12,8 @@ returns-in_default c = sym (tally_of-unknown c.args.counting c.args.marks.now c.
 
 pub join-all-requires : goal.join-all-requires
 join-all-requires c =
-    let e = ends-load c.loop-mark.all c.in-Known.stretch in
     omega (arith, loads-more, ap known_load c.loop-mark.invariant, ap known_load (sym c.in-Known.is ∙ c.told.ensures),
-    e)
+    ends-load c.loop-mark.all c.in-Known.stretch)
 
 pub loop-mark-preserved : goal.loop-mark-preserved
 loop-mark-preserved c =

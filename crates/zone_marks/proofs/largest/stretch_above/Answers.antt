@@ -54,10 +54,9 @@ walked_between-stretch-requires-clause-ends c = edge_at (goal.at.walked_between-
 pub walked_between-stretch-requires-clause-order : goal.walked_between-stretch-requires-clause-order
 walked_between-stretch-requires-clause-order c =
     let i = c.requires.sound in
-    let l = edge-within c.args.part.now.bytes i.0 i.1 i.2 c.args.from c.requires.begins in
     elim (first (goal.at.walked_between-stretch-requires-clause-order c).After-within-at) [
       | inl q ↦ omega (arith, q)
-      | inr q ↦ omega (arith, q, l)
+      | inr q ↦ omega (arith, q, edge-within c.args.part.now.bytes i.0 i.1 i.2 c.args.from c.requires.begins)
     ]
 
 pub loop-index-init : goal.loop-index-init

@@ -34,5 +34,4 @@ returns c = λ old b e p.
     let i = c.requires.sound in
     let xs = c.args.part.now.bytes in
     let g = given-became c.args.place old (zone_in xs) b in
-    let w = c.purgeable_at.ensures b.there b.above (became-left xs i.0 i.1 i.2 c.args.place old b) in
-    omega (arith, e, p, w)
+    omega (arith, e, p, c.purgeable_at.ensures b.there b.above (became-left xs i.0 i.1 i.2 c.args.place old b))

@@ -15,8 +15,7 @@ read_header-header-requires-clause-within c =
 
 pub read_header-header-requires-clause-fits : goal.read_header-header-requires-clause-fits
 read_header-header-requires-clause-fits c =
-    let f = (place-read c.requires.0 c.args.place c.args.part.now.bytes c.requires.1).next.fits in
-    omega (arith, f)
+    omega (arith, (place-read c.requires.0 c.args.place c.args.part.now.bytes c.requires.1).next.fits)
 
 pub read_header-header-requires-clause-tag : goal.read_header-header-requires-clause-tag
 read_header-header-requires-clause-tag c =
@@ -26,9 +25,8 @@ pub overflow_add-end : goal.overflow_add-end
 overflow_add-end c =
     let r = place-read c.requires.0 c.args.place c.args.part.now.bytes c.requires.1 in
     let h = c.read_header-header.result in
-    let z = (r.says h.size (tag_number h.tag) c.read_header-header.ensures.first c.read_header-header.ensures.size
-    (tag-small h.tag)).0 in
-    omega (arith, z)
+    let e = c.read_header-header.ensures in
+    omega (arith, (r.says h.size (tag_number h.tag) e.first e.size (tag-small h.tag)).0)
 
 pub purge_from-requires : goal.purge_from-requires
 purge_from-requires c = (
@@ -42,8 +40,8 @@ purge_from-requires c = (
     begins f m =
         let r = place-read f c.args.place c.args.part.now.bytes m in
         let h = c.read_header-header.result in
-        let z = r.says h.size (tag_number h.tag) c.read_header-header.ensures.first c.read_header-header.ensures.size
-        (tag-small h.tag) in
+        let e = c.read_header-header.ensures in
+        let z = r.says h.size (tag_number h.tag) e.first e.size (tag-small h.tag) in
         elim c.if-eq.branch [
           | then-eq w ↦ rw w.start-is (above-free f c.args.place c.args.part.now.bytes m c.args.purges c.args.sparing
               c.without_freed.result c.without_freed.ensures.same c.without_freed.ensures.none
@@ -58,8 +56,8 @@ pub returns-clause-purged : goal.returns-clause-purged
 returns-clause-purged c = λ f m.
     let r = place-read f c.args.place c.args.part.now.bytes m in
     let h = c.read_header-header.result in
-    let z = r.says h.size (tag_number h.tag) c.read_header-header.ensures.first c.read_header-header.ensures.size
-    (tag-small h.tag) in
+    let e = c.read_header-header.ensures in
+    let z = r.says h.size (tag_number h.tag) e.first e.size (tag-small h.tag) in
     subst (λ k. Purged (purge_above k f c.args.purges c.args.sparing) c.purge_from.result.to c.purge_from.result.bytes
     c.purge_from.new.part.bytes) (sym c.purge_from.ensures.from)
     (c.purge_from.ensures.purged (purge_above c.if-eq.start f c.args.purges c.args.sparing) (elim c.if-eq.branch [
