@@ -76,15 +76,14 @@ pub count-below : (xs : List ℕ) (first unused : ℕ) (i : IsSound xs first unu
 count-below xs first unused i from edge run n low rest b under none less is at =
     let sp = spared n in
     let e = seen-from xs first unused i edge b in
-    let l = e.low in
     let past = count-past sp (opened n e.below) (opened n (left_in edge xs)) run
-    (omega (arith, sizes-opened n e.below, l, less)) in
+    (omega (arith, sizes-opened n e.below, less)) in
     let all = count-past sp (opened n low) (opened n rest) run (omega (arith, sizes-opened n low, at)) in
     let zones : opened n e.below ++ opened n (left_in edge xs) ≡ opened n low ++ opened n rest =
     sym (opened-append n e.below (left_in edge xs)) ∙ ap (opened n) (sym e.is ∙ is) ∙ opened-append n low rest in
     let none_below = count-none n from 0 e.below
-    (at-left (Stays from) 0 e.below (left_in edge xs) (subst (NoneGoes from) e.is none)) (omega (arith, l, under)) in
-    let p : run - edge ≡ run - sizes (opened n e.below) = omega (arith, sizes-opened n e.below, l) in
+    (at-left (Stays from) 0 e.below (left_in edge xs) (subst (NoneGoes from) e.is none)) (omega (arith, under)) in
+    let p : run - edge ≡ run - sizes (opened n e.below) = omega (arith, sizes-opened n e.below) in
     let z : run - sizes (opened n low) ≡ 0 = omega (arith, sizes-opened n low, at) in
     omega (
       arith,

@@ -71,10 +71,8 @@ module _ (lo hi : ℕ) (old new : List Block) (r : Replaced lo hi old new) (boun
 
   pub stays-replaced : (lower : ℕ) → lower ≤ bound → AtEach (Stays lower) lo r.there → NoneGoes lower new
   stays-replaced lower l there =
-      let w = r.low in
-      let s = r.span in
-      let e : 0 + sizes r.below ≡ lo = omega (arith, w) in
-      let f : lo + sizes r.here ≡ lo + sizes r.there = omega (arith, s) in
+      let e : 0 + sizes r.below ≡ lo = omega arith in
+      let f : lo + sizes r.here ≡ lo + sizes r.there = omega arith in
       let over = at-right (Stays bound) 0 r.below (r.here ++ r.above) old-parts in
       subst (NoneGoes lower) (sym r.is)
       (at-append (Stays lower) 0 r.below (r.there ++ r.above)
@@ -141,15 +139,11 @@ stays-settled bound lower run all zone r e f n same moved = elim (cases_lt run b
 
     few : free_sum r.run ≤ all
     few =
-        let z = ap free_sum (sym (run_at-is run zone r e)) in
-        let a = total-append free_of r.below (r.run ++ r.above) in
-        let b = total-append free_of r.run r.above in
-        omega (arith, z, a, b, f)
+        omega (arith, ap free_sum (sym (run_at-is run zone r e)), total-append, f)
 
     there : AtEach (Stays bound) run r.run
     there =
-        let w = (run_at-splits run zone r e).bottom in
-        let q : 0 + sizes r.below ≡ run = omega (arith, w) in
+        let q : 0 + sizes r.below ≡ run = omega (arith, (run_at-splits run zone r e).bottom) in
         at-left (Stays bound) run r.run r.above (subst (λ x. AtEach (Stays bound) x (r.run ++ r.above)) q
         (at-right (Stays bound) 0 r.below (r.run ++ r.above) (subst (NoneGoes bound) (sym (run_at-is run zone r e)) n)))
 
@@ -172,24 +166,20 @@ module _ (xs : List ℕ) (from at : ℕ) (p : Passed xs from at (λ _ b. is_purg
   pub passed-stays : (block : Seen) (end : ℕ) (s : Steps at block end xs)
       → may_be_purged (spared sparing.Nothing) s.here ≡ false → Passed xs from end (λ _ b. is_purgeable b ≡ false)
   passed-stays block end s e =
-      let u = p.up in
-      let v = s.up in
-      let a = span-append p.done (s.here ∷ []) in
       record {
         done = p.done ++ s.here ∷ [];
         is = p.is ∙ ap (λ k. p.done ++ k) s.is ∙ sym (append_assoc p.done (s.here ∷ []) (left_in end xs));
-        up = omega (arith, u, v, a);
+        up = omega (arith, span-append);
         each = at-append (λ _ b. is_purgeable b ≡ false) from p.done (s.here ∷ []) p.each (goes-not s.here e, tt);
         way = s.way;
       }
 
   pub all-stay : AtEach (Stays at) from (left_in from xs)
   all-stay =
-      let u = p.up in
       subst (AtEach (Stays at) from) (sym p.is)
       (at-append (Stays at) from p.done (left_in at xs)
       (at-map (λ _ b. is_purgeable b ≡ false) (Stays at) from p.done (λ _ b _ _ r _. r) p.each)
-      (stays-above at (from + sizes p.done) (left_in at xs) (omega (arith, u))))
+      (stays-above at (from + sizes p.done) (left_in at xs) (omega arith)))
 
 -- blocks of which none may be purged, below others
 pub none-passes : (n : Sparing) (b : Block) → is_purgeable b ≡ false → may_be_purged (spared n) b ≡ false
@@ -210,9 +200,8 @@ count-above : (n : Sparing) (bound x : ℕ) (below above : List Block) → AtEac
     → x + sizes below ≤ bound → count_of (spared n) (below ++ above) ≡ count_of (spared n) above
 count-above n bound x [] above s l = refl
 count-above n bound x (b ∷ below) above s l =
-    let t = ap (λ t. cond {A = ℕ} t 1 0) (none-passes n b (stays-here bound x b s.0 (omega (arith, l)))) in
     let r = count-above n bound (x + size b) below above s.1 (omega (arith, l)) in
-    omega (arith, t, r)
+    omega (arith, ap (λ t. cond {A = ℕ} t 1 0) (none-passes n b (stays-here bound x b s.0 (omega (arith, l)))), r)
 
 -- what a walk from an edge of a zone finds
 pub stays-from : (xs : List ℕ) (first unused : ℕ) (i : IsSound xs first unused) (from : ℕ) → Begins from 0 (zone_in xs)
@@ -220,11 +209,10 @@ pub stays-from : (xs : List ℕ) (first unused : ℕ) (i : IsSound xs first unus
     → NoneGoes bound (zone_in xs)
 stays-from xs first unused i from b g bound s =
     let e = seen-from xs first unused i from b in
-    let l = e.low in
-    let k : from ≡ 0 + sizes e.below = omega (arith, l) in
+    let k : from ≡ 0 + sizes e.below = omega arith in
     subst (NoneGoes bound) (sym e.is)
     (at-append (Stays bound) 0 e.below (left_in from xs)
-    (stays-whole from bound 0 e.below (omega (arith, l))
+    (stays-whole from bound 0 e.below (omega arith)
     (at-left (Stays from) 0 e.below (left_in from xs) (subst (NoneGoes from) e.is g)))
     (subst (λ x. AtEach (Stays bound) x (left_in from xs)) k s))
 
@@ -238,10 +226,7 @@ found-from edge test blocks place f = ap (option_map (λ (s : Spot). edge + size
 found-within : (test : Block → Bool) (blocks : List Block) (place : ℕ) → FindsLowest test blocks (Some place)
     → place ≤ sizes blocks
 found-within test blocks place f =
-    let z = ap sizes (spot-is test blocks f.0 f.1) in
-    let a = span-append f.0.below (f.0.here ∷ f.0.above) in
-    let p = f.3 in
-    omega (arith, z, a, p)
+    omega (arith, ap sizes (spot-is test blocks f.0 f.1), span-append)
 
 -- from an edge of a zone on
 module _ (xs : List ℕ) (first unused : ℕ) (i : IsSound xs first unused) (from : ℕ) (b : Begins from 0 (zone_in xs))
@@ -254,10 +239,9 @@ module _ (xs : List ℕ) (first unused : ℕ) (i : IsSound xs first unused) (fro
 
   pub count-from : most_purges n (left_in from xs) ≡ most_purges n (zone_in xs)
   count-from =
-      let l = edge.low in
       ap (count_of (spared n)) (plain (left_in from xs))
       ∙ sym (ap (count_of (spared n)) (plain (zone_in xs) ∙ edge.is)
-      ∙ count-above n from 0 edge.below (left_in from xs) below-stays (omega (arith, l)))
+      ∙ count-above n from 0 edge.below (left_in from xs) below-stays (omega (arith, edge.low)))
 
   -- the place of the block to be purged next
   module _ (k : ℕ) where
@@ -267,11 +251,10 @@ module _ (xs : List ℕ) (first unused : ℕ) (i : IsSound xs first unused) (fro
     next-is-there : option_map (λ (s : Spot). sizes s.below) (spot goes (purged k n (zone_in xs)))
         ≡ place_from from goes (purged k n (left_in from xs))
     next-is-there =
-        let l = edge.low in
-        let e : 0 + sizes edge.below ≡ from = omega (arith, l) in
+        let e : 0 + sizes edge.below ≡ from = omega (arith, edge.low) in
         sym (next-is n k (zone_in xs))
         ∙ ap (next_from 0 (spared n) k) (plain (zone_in xs) ∙ edge.is)
-        ∙ next-above n k from 0 edge.below (left_in from xs) below-stays (omega (arith, l))
+        ∙ next-above n k from 0 edge.below (left_in from xs) below-stays (omega (arith, edge.low))
         ∙ ap (λ y. next_from y (spared n) k (left_in from xs)) e
         ∙ ap (λ z. next_from from (spared n) k z) (sym (plain (left_in from xs)))
         ∙ sym (place-tidy from goes (λ m. refl) (lowest_purged k (spared n) (opened n (left_in from xs))))
@@ -292,7 +275,5 @@ module _ (xs : List ℕ) (first unused : ℕ) (i : IsSound xs first unused) (fro
     next-fits place f =
         let w = found-within goes (purged k n (left_in from xs)) place f in
         let t = total-tidy size (λ n m. refl) (lowest_purged k (spared n) (opened n (left_in from xs))) in
-        let s = sizes-lowest_purged k (spared n) (opened n (left_in from xs)) in
-        let o = ap sizes (plain (left_in from xs)) in
         let l = left-long xs first unused i from b in
-        omega (arith, w, t, s, o, l)
+        omega (arith, w, t, sizes-lowest_purged, ap sizes (plain (left_in from xs)), l)

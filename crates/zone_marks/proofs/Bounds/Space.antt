@@ -53,18 +53,17 @@ largest-within : (m hi x : ℕ) (blocks : List Block) → x + sizes blocks < hi 
     → largest_free blocks ≤ m
 largest-within m hi x [] l e = omega arith
 largest-within m hi x (b ∷ blocks) l e =
-    let f = room-less m b (e.0 (omega arith) (omega (arith, l))) in
     let r = largest-within m hi (x + size b) blocks (omega (arith, l)) e.1 in
-    omega (arith, f, r)
+    omega (arith, room-less m b (e.0 (omega arith) (omega (arith, l))), r)
 
 -- the largest of some blocks above others is no larger than that of all
 largest-above : (below above : List Block) → largest_free above ≤ largest_free (below ++ above)
 largest-above [] above = omega arith
-largest-above (b ∷ below) above = let r = largest-above below above in omega (arith, r)
+largest-above (b ∷ below) above = omega (arith, largest-above below above)
 
 largest-below : (below above : List Block) → largest_free below ≤ largest_free (below ++ above)
 largest-below [] above = omega arith
-largest-below (b ∷ below) above = let r = largest-below below above in omega (arith, r)
+largest-below (b ∷ below) above = omega (arith, largest-below below above)
 
 -- a walk that keeps the size of the largest Free block that it passed
 pub record Growing (xs : List ℕ) (from at most largest : ℕ) : Type 0 where
@@ -84,19 +83,16 @@ module _ (xs : List ℕ) (from most : ℕ) where
       → Spans at end free barrier xs → largest ≤ next → free ≤ next → (next ≡ largest) ⊎ (next ≡ free)
       → Growing xs from end most next
   growing-step at end free largest next barrier g s l m o =
-      let n = g.no_less in
-      let r = g.reached in
       let z = ap largest_free s.is in
-      let b = s.bytes in
       record {
         passed = passed-step xs from (λ _ c. is_room (next + 1) c ≡ false) at end free barrier
             (passed-more xs from at (λ _ c. is_room (largest + 1) c ≡ false) (λ _ c. is_room (next + 1) c ≡ false)
             (λ _ c. room-more (largest + 1) (next + 1) c (omega (arith, l))) g.passed) s
             (λ c e k. no-room (next + 1) c k (λ _ q. omega (arith, e, m, q)));
-        no_less = omega (arith, n, l);
+        no_less = omega (arith, l);
         reached = elim o [
-          | inl e ↦ omega (arith, r, z, b, m, e)
-          | inr e ↦ omega (arith, r, z, b, l, e)
+          | inl e ↦ omega (arith, z, m, e)
+          | inr e ↦ omega (arith, z, l, e)
         ];
       }
 
@@ -104,17 +100,11 @@ module _ (xs : List ℕ) (first unused : ℕ) (i : IsSound xs first unused) wher
   pub zone-largest : (m : ℕ) → AtEach (NoRoom (m + 1) 0 4294967295) 0 (zone_in xs) → m ≤ largest_free (zone_in xs)
       → m ≡ largest_free (zone_in xs)
   zone-largest m e l =
-      let z = sizes-length xs (zone_in xs) (slot_in xs) i.unused i.lays in
-      let s = i.lays.small in
-      let w = largest-within m 4294967295 0 (zone_in xs) (omega (arith, z, s)) e in
-      omega (arith, w, l)
+      omega (arith, largest-within m 4294967295 0 (zone_in xs) (omega (arith, sizes-length)) e, l)
 
   pub left-largest : (p : ℕ) → Begins p 0 (zone_in xs) → largest_free (left_in p xs) ≤ largest_free (zone_in xs)
   left-largest p b =
-      let s = seen-from xs first unused i p b in
-      let z = ap largest_free s.is in
-      let l = largest-above s.below (left_in p xs) in
-      omega (arith, z, l)
+      omega (arith, ap largest_free (seen-from xs first unused i p b).is, largest-above)
 
 -- a block that stays
 purged-stays : (k : ℕ) (sp : Block → Bool) (b : Block) (above : List Block) → may_be_purged sp b ≡ false
@@ -168,17 +158,13 @@ purged-rises : (f k : ℕ) (sp : Block → Bool) (bs : List Block)
 purged-rises f zero sp [] = omega arith
 purged-rises f (suc k) sp [] = omega arith
 purged-rises f k sp (Free n ∷ bs) =
-    let r = purged-rises (f + n) k sp bs in
-    let e = ap (largest_stretch f) (purged-stays k sp (Free n) bs refl) in
-    omega (arith, r, e)
+    omega (arith, purged-rises (f + n) k sp bs, ap (largest_stretch f) (purged-stays k sp (Free n) bs refl))
 purged-rises f k sp (Nonrelocatable id content ∷ bs) =
-    let r = purged-rises 0 k sp bs in
     let e = ap (largest_stretch f) (purged-stays k sp (Nonrelocatable id content) bs refl) in
-    omega (arith, r, e)
+    omega (arith, purged-rises 0 k sp bs, e)
 purged-rises f k sp (Masters ∷ bs) =
-    let r = purged-rises 0 k sp bs in
     let e = ap (largest_stretch f) (purged-stays k sp Masters bs refl) in
-    omega (arith, r, e)
+    omega (arith, purged-rises 0 k sp bs, e)
 purged-rises f zero sp (Relocatable id flags content ∷ bs) = let r = purged-rises 0 0 sp bs in omega (arith, r)
 purged-rises f (suc k) sp (Relocatable id flags content ∷ bs) =
     cases (may_be_purged sp b) (purged-rises (f + size b) k sp bs) (purged-rises 0 (suc k) sp bs)
@@ -206,12 +192,10 @@ stretch-ends f [] [] a e s = omega arith
 stretch-ends f [] (c ∷ new) a e s = absurd s
 stretch-ends f (b ∷ old) [] a e s = absurd s
 stretch-ends f (b ∷ old) (c ∷ new) a (inl e) s =
-    let z = ap (λ g. largest_stretch g (c ∷ new)) e in omega (arith, z)
+    omega (arith, ap (λ g. largest_stretch g (c ∷ new)) e)
 stretch-ends f (b ∷ old) (Free n ∷ new) a (inr e) s =
     let z : 0 < size b = apart-size b old a.0 in
-    let k = ap size s in
-    let t = ap (λ q. top_free (q ∷ old)) s in
-    absurd (omega (arith, z, k, t, e))
+    absurd (omega (arith, z, ap size s, ap (λ q. top_free (q ∷ old)) s, e))
 stretch-ends f (b ∷ old) (Nonrelocatable id content ∷ new) a (inr e) s = omega arith
 stretch-ends f (b ∷ old) (Masters ∷ new) a (inr e) s = omega arith
 stretch-ends f (b ∷ old) (Relocatable id flags content ∷ new) a (inr e) s = omega arith
@@ -254,29 +238,22 @@ module _ (xs : List ℕ) (first unused : ℕ) (i : IsSound xs first unused) (k f
 
   rises : largest_free (zone_in xs) ≤ largest_free (purged k sparing.Nothing (zone_in xs))
   rises =
-      let r = purged-rises 0 k spares (zone_in xs) in
-      let a = after-is (zone_in xs) in
-      omega (arith, r, a)
+      omega (arith, purged-rises, after-is)
 
   parted : from < m.bound → largest_free (purged k sparing.Nothing (zone_in xs))
       ≡ max (largest_free (zone_in xs)) (largest_free (purged k sparing.Nothing (left_in from xs)))
   parted l =
       let s = seen-from xs first unused i from m.begins in
       let rest = left_in from xs in
-      let w = s.low in
       let stays = subst (NoneGoes m.bound) s.is m.none in
       let e = after-is (zone_in xs) ∙ ap (λ z. largest_stretch 0 (lowest_purged k spares z)) s.is
       ∙ ap (largest_stretch 0) (purged-above k m.bound 0 s.below rest
-      (at-left (Stays m.bound) 0 s.below rest stays) (omega (arith, w, l))) in
+      (at-left (Stays m.bound) 0 s.below rest stays) (omega (arith, l))) in
       let up = stretch-parts 0 s.below rest (lowest_purged k spares rest)
       (subst Apart s.is (apart-tidied (zone_in xs) i.tidied)) (inl refl)
-      (same-first k m.bound (0 + sizes s.below) rest (omega (arith, w, l))
+      (same-first k m.bound (0 + sizes s.below) rest (omega (arith, l))
       (at-right (Stays m.bound) 0 s.below rest stays)) in
-      let down = stretch-above 0 s.below (lowest_purged k spares rest) in
-      let r = after-is rest in
-      let b = largest-below s.below rest in
-      let z = ap largest_free s.is in
-      omega (arith, e, up, down, r, b, z, rises)
+      omega (arith, e, up, stretch-above, after-is, largest-below, ap largest_free s.is, rises)
 
   pub largest-from : largest_free (purged k sparing.Nothing (zone_in xs))
       ≡ max (largest_free (zone_in xs)) (largest_free (purged k sparing.Nothing (left_in from xs)))

@@ -83,17 +83,11 @@ module _ (p : Purge) (n : Sparing) (start at k freed : ℕ) (xs : List ℕ) (u :
 
   here-low : sizes (u.done ++ gap) ≡ at
   here-low =
-      let a = span-append u.done gap in
-      let b = span-free (at - start) in
-      let l = u.low in
-      let o = u.up in
-      omega (arith, a, b, l, o)
+      omega (arith, span-append, span-free)
 
   pub freed-fits : freed ≤ 134217728
   freed-fits =
-      let f = free-fits xs (u.done ++ (gap ++ u.rest)) p.slots p.unused u.lays in
-      let c = u.count in
-      omega (arith, f, c)
+      omega (arith, free-fits)
 
   -- the blocks up to there became others
   replaced-as : (zone : List Block) → zone ≡ u.done ++ (gap ++ u.rest) → Replaced p.from at p.zone zone
@@ -108,15 +102,7 @@ module _ (p : Purge) (n : Sparing) (start at k freed : ℕ) (xs : List ℕ) (u :
     low = u.base;
     high = u.span;
     span =
-        (let a = span-append u.now gap in
-        let b = span-free (at - start) in
-        let d = ap sizes u.done_is in
-        let e = span-append u.below u.now in
-        let l = u.low in
-        let o = u.up in
-        let f = u.base in
-        let g = u.span in
-        omega (arith, a, b, d, e, l, o, f, g));
+        (omega (arith, span-append, span-free (at - start), ap sizes u.done_is));
   }
 
   -- no purges are left, and no block counts as Free
@@ -187,9 +173,7 @@ module _ (p : Purge) (n : Sparing) (start at k freed : ℕ) (xs : List ℕ) (u :
       of (b ∷ above) e =
           let laid = subst (λ q. Lays xs ((u.done ++ gap) ++ q) p.slots p.unused) e here-laid in
           let r = read xs (u.done ++ gap) b above p.slots p.unused laid at here-low in
-          let i = r.inside in
-          let s = r.some in
-          absurd (omega (arith, i, s, l))
+          absurd (omega (arith, l))
 
   module _ (v : Next) where
     apart-above : tidy v.above ≡ v.above
@@ -201,7 +185,7 @@ module _ (p : Purge) (n : Sparing) (start at k freed : ℕ) (xs : List ℕ) (u :
         (ap (λ q. u.was ++ q) v.is ∙ sym (append_assoc u.was (v.here ∷ []) v.above))
 
     span-next : (stop : ℕ) → stop ≡ at + size v.here → p.from + sizes (u.was ++ v.here ∷ []) ≡ stop
-    span-next stop t = let a = span-append u.was (v.here ∷ []) in let s = u.span in omega (arith, a, s, t)
+    span-next stop t = omega (arith, span-append, t)
 
     will-next : tidy (u.done ++ (gap ++ lowest_purged k (spared n) (opened_block n v.here ∷ opened n v.above)))
         ≡ tidy p.goal
@@ -228,8 +212,7 @@ module _ (p : Purge) (n : Sparing) (start at k freed : ℕ) (xs : List ℕ) (u :
           → (stop : ℕ) → stop ≡ at + size v.here → (more : ℕ) → more ≡ cond (kind v.here == 0) 0 (size v.here)
           → Purging p n start stop m (freed + more) new
       freed-next new made stop t more f =
-          let o = u.up in
-          let g : at - start + size v.here ≡ stop - start = omega (arith, o, t) in
+          let g : at - start + size v.here ≡ stop - start = omega (arith, t) in
           let after = lowest_purged m (spared n) (opened n v.above) in
           record {
             done = u.done;
@@ -237,7 +220,7 @@ module _ (p : Purge) (n : Sparing) (start at k freed : ℕ) (xs : List ℕ) (u :
             lays = subst (λ q. Lays new (u.done ++ (free (q - start) ++ v.above)) p.slots p.unused) (sym t)
                 (made freeing may-free);
             low = u.low;
-            up = omega (arith, o, t);
+            up = omega (arith, t);
             tidied = u.tidied;
             closed = u.closed;
             will = ap (λ q. tidy (u.done ++ (free q ++ after))) (sym g)
@@ -246,16 +229,8 @@ module _ (p : Purge) (n : Sparing) (start at k freed : ℕ) (xs : List ℕ) (u :
                 ∙ ap (λ q. tidy (u.done ++ (gap ++ q)))
                 (sym (lowest_purged-free (spared n) k m (opened_block n v.here) (opened n v.above) e)) ∙ will-next;
             count =
-                (let a = total-append free_of u.done (free (stop - start) ++ v.above) in
-                let b = total-append free_of (free (stop - start)) v.above in
-                let c = total-append free_of u.done (gap ++ v.here ∷ v.above) in
-                let d = total-append free_of gap (v.here ∷ v.above) in
-                let s1 = sum-free (stop - start) in
-                let s2 = sum-free (at - start) in
-                let w = ap (λ q. free_sum (u.done ++ (gap ++ q))) v.is in
-                let y = u.count in
-                let z = more-free v.here more f in
-                omega (arith, a, b, c, d, s1, s2, w, y, z, g));
+                (let z = more-free v.here more f in
+                omega (arith, total-append, sum-free, ap (λ q. free_sum (u.done ++ (gap ++ q))) v.is, z, g));
             apart = apart-above;
             below = u.below;
             was = u.was ++ v.here ∷ [];
@@ -292,12 +267,7 @@ module _ (p : Purge) (n : Sparing) (start at k freed : ℕ) (xs : List ℕ) (u :
         rest = v.above;
         lays = subst (λ q. Lays xs q p.slots p.unused) (ap (λ q. u.done ++ (gap ++ q)) v.is ∙ regrouped v.above) u.lays;
         low =
-            (let a = span-append u.done (gap ++ v.here ∷ []) in
-            let b = span-append gap (v.here ∷ []) in
-            let c = span-free (at - start) in
-            let l = u.low in
-            let o = u.up in
-            omega (arith, a, b, c, l, o, t));
+            (omega (arith, span-append, span-free, t));
         up = omega arith;
         tidied = closed-now.0;
         closed = closed-now.1;

@@ -60,7 +60,7 @@ module _ (f : Freeing) (place : ℕ) (xs : List ℕ) (m : MayPurge f place xs) w
           done = front;
           rest = f.above;
           lays = subst (λ q. Lays xs q f.slots f.unused) (regrouped f.above) m.lays;
-          low = (let s = span-append f.below (f.here ∷ []) in let l = m.low in omega (arith, s, l, t));
+          low = (omega (arith, span-append, t));
           up = omega arith;
           tidied = tidy-apart front
               (apart-front front f.above (subst Apart (sym (append_assoc f.below (f.here ∷ []) f.above)) a));
@@ -74,7 +74,7 @@ module _ (f : Freeing) (place : ℕ) (xs : List ℕ) (m : MayPurge f place xs) w
           now = [];
           zone_is = sym (append_assoc f.below (f.here ∷ []) f.above);
           done_is = sym (append-nil front);
-          base = (let s = span-append f.below (f.here ∷ []) in let l = m.low in omega (arith, s, l, t));
+          base = (omega (arith, span-append, t));
           span = omega arith;
         }
 
@@ -82,11 +82,10 @@ module _ (f : Freeing) (place : ℕ) (xs : List ℕ) (m : MayPurge f place xs) w
     pub above-free : kind f.here ≡ 0 → Purging (purge_above place f purges n) now place stop purges 0 xs
     above-free k =
         let a = apart-tidied all m.tidied in
-        let s = place-read.some in
         let b = free-is f.here k in
         let one : free (stop - place) ≡ f.here ∷ [] =
         (let z : stop - place ≡ size f.here = omega (arith, t) in ap free z)
-        ∙ free-some (size f.here) (omega (arith, s)) ∙ ap (λ q. q ∷ []) (sym b) in
+        ∙ free-some (size f.here) (omega (arith, place-read.some)) ∙ ap (λ q. q ∷ []) (sym b) in
         let regrouped : (above : List Block)
         → f.below ++ f.here ∷ above ≡ f.below ++ (free (stop - place) ++ above) =
         λ above. ap (λ q. f.below ++ (q ++ above)) (sym one) in
@@ -225,7 +224,7 @@ module _ (xs : List ℕ) (first number : ℕ) (i : IsSound xs first number) (pur
         zone_is = zone-is;
         done_is = sym (append-nil under.lower);
         base = start-low;
-        span = (let f = span-free (place - start) in let u = start-up in omega (arith, f, u));
+        span = (omega (arith, span-free, start-up));
       }
 
   pub purge-gained : (from stop : ℕ) (new : List ℕ) (more : ℕ)

@@ -24,8 +24,7 @@ module _ (f : Freeing) (place : ℕ) (xs : List ℕ) (m : MayRelease f place xs)
   pub leads-up : (from : ℕ) → Begins from 0 all → (from < place) ⊎ (from ≡ 0) → LeadsUp from place xs
   leads-up from b u =
       let r = parts from 0 all b in
-      let l = r.low in
-      let k : sizes r.below ≡ from = omega (arith, l) in
+      let k : sizes r.below ≡ from = omega arith in
       let h = subst (λ z. Lays xs z f.slots f.unused) r.is m.lays in
       record {
         below = r.below;
@@ -52,7 +51,7 @@ module _ (f : Freeing) (place : ℕ) (xs : List ℕ) (m : MayRelease f place xs)
     starts = found f.below (f.here ∷ f.above) (left xs [] all f.slots f.unused m.lays 0 refl) m.low
 
     gap : last_free 0 f.below ≡ place - start
-    gap = let s = starts in omega (arith, s)
+    gap = omega (arith, starts)
 
     pub below-is : f.below ≡ end.lower ++ free (place - start)
     below-is = end.is ∙ ap (λ n. end.lower ++ free n) gap
@@ -62,19 +61,14 @@ module _ (f : Freeing) (place : ℕ) (xs : List ℕ) (m : MayRelease f place xs)
 
     pub lower-low : sizes end.lower ≡ start
     lower-low =
-        let a = span-append end.lower (free (place - start)) in
-        let b = span-free (place - start) in
-        let e = ap sizes below-is in
-        let l = m.low in
-        let s = starts in
-        omega (arith, a, b, e, l, s)
+        omega (arith, span-append, span-free, ap sizes below-is, starts)
 
     pub may-free : MayFree lower start place xs
     may-free = record {
       lays = subst (λ k. Lays xs k f.slots f.unused) (ap (λ k. k ++ f.here ∷ f.above) below-is
           ∙ append_assoc end.lower (free (place - start)) (f.here ∷ f.above)) m.lays;
       low = lower-low;
-      up = (let s = starts in omega (arith, s));
+      up = (omega (arith, starts));
       plain = m.plain;
     }
 
@@ -90,16 +84,12 @@ module _ (f : Freeing) (place : ℕ) (xs : List ℕ) (m : MayRelease f place xs)
         lays = subst (λ n. Lays mid (end.lower ++ (free (n - start) ++ f.above)) f.slots f.unused) (sym t)
             (made lower may-free);
         low = lower-low;
-        some = (let s = starts in let k = here-read.some in omega (arith, s, k, t));
+        some = (omega (arith, starts, here-read.some, t));
       }
 
       low-stop : sizes (end.lower ++ free (stop - start)) ≡ stop
       low-stop =
-          let a = span-append end.lower (free (stop - start)) in
-          let b = span-free (stop - start) in
-          let l = lower-low in
-          let s = starts in
-          omega (arith, a, b, l, s, t)
+          omega (arith, span-append, span-free, lower-low, starts, t)
 
       lays-stop : Lays mid ((end.lower ++ free (stop - start)) ++ f.above) f.slots f.unused
       lays-stop = subst (λ k. Lays mid k f.slots f.unused)
@@ -117,24 +107,18 @@ module _ (f : Freeing) (place : ℕ) (xs : List ℕ) (m : MayRelease f place xs)
 
       pub stop-more : (more : ℕ) → more ≡ free_first (left_in stop mid) → stop + more ≤ 134217728
       stop-more more e =
-          let h = e ∙ ap free_first stop-left in
-          let f = first-small f.above in
-          let l = stop-fits in
-          let m = lays-stop.small in
-          omega (arith, h, f, l, m)
+          omega (arith, e ∙ ap free_first stop-left, first-small, stop-fits, lays-stop.small)
 
       pub freed-replaced : (more : ℕ) → more ≡ free_first (left_in stop mid)
           → Replaced start (stop + more) all (tidy (f.below ++ Free (size f.here) ∷ f.above))
       freed-replaced more e =
           let k = here-read.some in
-          let s = starts in
-          let h = e ∙ ap free_first stop-left in
           let z = released-tidy f.below end.lower (place - start) (size f.here) f.above (omega (arith, k)) below-is
           end.apart end.closed above-tidy in
           joined-replaced end.lower (place - start) f.here f.above start (stop + more) (place - start + size f.here)
           all (tidy (f.below ++ Free (size f.here) ∷ f.above))
           (ap (λ k. k ++ f.here ∷ f.above) below-is ∙ append_assoc end.lower (free (place - start)) (f.here ∷ f.above))
-          z refl (omega (arith, k)) lower-low (omega (arith, h, s, t))
+          z refl (omega (arith, k)) lower-low (omega (arith, e ∙ ap free_first stop-left, starts, t))
 
       -- and with the one above it
       pub released : (new : List ℕ)
@@ -143,8 +127,7 @@ module _ (f : Freeing) (place : ℕ) (xs : List ℕ) (m : MayRelease f place xs)
           → Lays new (tidy (f.below ++ Free (size f.here) ∷ f.above)) f.slots f.unused
       released new joined =
           let k = here-read.some in
-          let s = starts in
-          let e : stop - start ≡ place - start + size f.here = omega (arith, s, t) in
+          let e : stop - start ≡ place - start + size f.here = omega (arith, starts, t) in
           let z = released-tidy f.below end.lower (place - start) (size f.here) f.above (omega (arith, k)) below-is
           end.apart end.closed above-tidy in
           subst (λ q. Lays new q f.slots f.unused) (ap (λ n. end.lower ++ add (Free n) f.above) e

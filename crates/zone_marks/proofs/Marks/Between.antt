@@ -153,9 +153,8 @@ module _ (lo hi : ℕ) where
           → CountAlike (cond (nat_le lo x && nat_lt x hi) (b ∷ between lo hi (x + size b) blocks)
           (between lo hi (x + size b) blocks)) (b ∷ blocks)
       cases true e rest = rw (le-leb lo x l) (rw e (alike-first b (between lo hi (x + size b) blocks) blocks rest))
-      cases false e rest = rw (le-leb lo x l) (rw e (let k = ltb-false x hi e in
-          alike-back (b ∷ blocks) (between lo hi (x + size b) blocks) (alike-empty b blocks
-          (between lo hi (x + size b) blocks) (omega (arith, h, k))
+      cases false e rest = rw (le-leb lo x l) (rw e (alike-back (b ∷ blocks) (between lo hi (x + size b) blocks)
+          (alike-empty b blocks (between lo hi (x + size b) blocks) (omega (arith, h, ltb-false))
           (alike-back (between lo hi (x + size b) blocks) blocks rest))))
 
   -- and so do those of which each begins below the bound

@@ -45,37 +45,24 @@ module _ (xs : List ℕ) (from stop : ℕ) where
       → Counted xs from at stop most runs → Spans at end bytes barrier xs → at < stop → most ≤ most' → bytes ≤ most'
       → block ≡ counted (not barrier) bytes → next ≡ join runs block → Counted xs from end stop most' next
   counted-step at end most most' bytes runs block next barrier c s l m n t j =
-      let u = c.up in
-      let v = s.up in
-      let a = span-append c.done (s.here ∷ []) in
-      let e = s.bytes in
       record {
         done = c.done ++ s.here ∷ [];
         is = c.is ∙ ap (λ k. c.done ++ k) s.is ∙ sym (append_assoc c.done (s.here ∷ []) (left_in end xs));
-        up = omega (arith, u, v, a);
+        up = omega (arith, span-append);
         each = at-append (λ p b. (free_of b ≤ most') × (p < stop)) from c.done (s.here ∷ [])
             (at-map (λ p b. (free_of b ≤ most) × (p < stop)) (λ p b. (free_of b ≤ most') × (p < stop)) from c.done
-            (λ _ _ _ _ r. ((let f = r.0 in omega (arith, f, m)), r.1)) c.each)
-            ((omega (arith, n, e), omega (arith, u, l)), tt);
+            (λ _ _ _ _ r. ((omega (arith, m)), r.1)) c.each)
+            ((omega (arith, n, s.bytes), omega (arith, l)), tt);
         way = s.way;
         comes = sym (joined-is Runs c.done (s.here ∷ []) runs block next j (sym c.comes)
-            (t ∙ one-spanned s.here bytes barrier e s.ends ∙ sym (join-unit_right (one s.here))));
+            (t ∙ one-spanned s.here bytes barrier s.bytes s.ends ∙ sym (join-unit_right (one s.here))));
       }
 
   -- what the blocks come to and one block more fit
   pub counted-fits : (at end most bytes : ℕ) (runs block : Stretch) (barrier : Bool) → Counted xs from at stop most runs
       → Spans at end bytes barrier xs → block ≡ counted (not barrier) bytes → suffix runs + prefix block ≤ end
   counted-fits at end most bytes runs block barrier c s t =
-      let u = c.up in
-      let v = s.up in
-      let f = suffix-load runs in
-      let k = ap load c.comes in
-      let b = load-blocks c.done in
-      let p = prefix-counted (not barrier) bytes in
-      let q = ap prefix t in
-      let g = free-size s.here in
-      let e = s.bytes in
-      omega (arith, u, v, f, k, b, p, q, g, e)
+      omega (arith, suffix-load, ap load c.comes, load-blocks, prefix-counted, ap prefix t, free-size)
 
   -- what it tells of the blocks that begin below a bound which it came to
   module _ (at most : ℕ) (runs : Stretch) (c : Counted xs from at stop most runs) where
@@ -108,11 +95,11 @@ module _ (xs : List ℕ) (from stop : ℕ) where
     pub counted-edge : (edge : ℕ) → Measures from at from (left_in from xs)
         (record { edge = edge; most = most; runs = runs })
     counted-edge edge = counted-tells at edge
-        (all-within from at from c.done (omega arith) (let u = c.up in omega (arith, u))) (inl (omega arith))
+        (all-within from at from c.done (omega arith) (omega arith)) (inl (omega arith))
 
     pub counted-below : (place edge : ℕ) → stop ≤ place → (place ≤ at) ⊎ (length xs ≤ at)
         → Measures from place from (left_in from xs) (record { edge = edge; most = most; runs = runs })
     counted-below place edge l e = counted-tells place edge
         (alike-same _ _ (all-begin from place from c.done (omega arith)
         (at-map (λ p b. (free_of b ≤ most) × (p < stop)) (λ p _. p < place) from c.done
-        (λ _ _ _ _ r. let s = r.1 in omega (arith, s, l)) c.each))) e
+        (λ _ _ _ _ r. omega (arith, l)) c.each))) e

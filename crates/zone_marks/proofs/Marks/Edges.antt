@@ -42,7 +42,7 @@ mover-one (Relocatable id flags content) m = ap (λ t. counted t 0) m
 movers-bare : (lo hi x : ℕ) (movers : List Block) → Each IsMover movers → AtEach (AtMost 0 lo hi) x movers
 movers-bare lo hi x [] m = tt
 movers-bare lo hi x (b ∷ movers) m =
-    (λ l h. (let f = mover-free b m.0 in omega (arith, f)), movers-bare lo hi (x + size b) movers m.1)
+    (λ l h. (omega (arith, mover-free)), movers-bare lo hi (x + size b) movers m.1)
 
 movers-runs : (lo hi x : ℕ) (movers : List Block) → Each IsMover movers → stretch_of (between lo hi x movers) ≡ Whole 0
 movers-runs lo hi x [] m = refl
@@ -69,7 +69,7 @@ between-none lo hi x (b ∷ blocks) l = cases (nat_le lo x) refl (between-none l
     rest = between lo hi (x + size b) blocks
 
     cases : (t : Bool) → nat_le lo x ≡ t → rest ≡ [] → cond (t && nat_lt x hi) (b ∷ rest) rest ≡ []
-    cases true e r = rw (le-ltb x hi (let k = leb-true lo x e in omega (arith, k, l))) r
+    cases true e r = rw (le-ltb x hi (omega (arith, leb-true, l))) r
     cases false e r = r
 
 module _ (base : ℕ) (below movers above : List Block) (low : sizes below ≡ base) (solid : Each IsMover movers) where
@@ -87,7 +87,7 @@ module _ (base : ℕ) (below movers above : List Block) (low : sizes below ≡ b
       let R = AtMost 0 p q in
       let x = 0 + sizes below in (
         at-append R 0 below (movers ++ above)
-            (at-each R 0 below (λ y b u v. λ m n. let f = free-size b in omega (arith, f, v, m, l, low)))
+            (at-each R 0 below (λ y b u v. λ m n. omega (arith, free-size, v, m, l, low)))
             (at-append R x movers above (movers-bare p q x movers solid)
             (at-all R (x + sizes movers) above (λ y b u. λ m n. absurd (omega (arith, u, n, h, low))))),
         ap stretch_of (between-append p q 0 below (movers ++ above)
@@ -105,8 +105,8 @@ module _ (edges : Edges) (base : ℕ) (zone : List Block) (a : ByEdges edges bas
   edge-begins = elim a [
     | inl n ↦ absurd (s base [] n)
     | inr p ↦ subst (Begins place 0) (sym p.is) (begins-right place 0 p.below (p.movers ++ p.above)
-        (subst (λ x. Begins place x (p.movers ++ p.above)) (let l = p.low in let e : base ≡ 0 + sizes p.below =
-        omega (arith, l) in e) (begins-left place base p.movers p.above (starts-begins place base p.movers
+        (subst (λ x. Begins place x (p.movers ++ p.above)) (let e : base ≡ 0 + sizes p.below =
+        omega arith in e) (begins-left place base p.movers p.above (starts-begins place base p.movers
         (s base p.movers p.edges_are)))))
   ]
 

@@ -38,21 +38,19 @@ pub group-raised : (groups : List Group) (marks : List Landmark) (group index : 
 group-raised groups marks group index g m a l low high was is none = record {
   whole = (
       let w = a.whole in
-      let s = length-set groups group g in
-      let t = length-set marks index m in
-      omega (arith, w, s, t)
+      omega (arith, w, length-set groups group g, length-set marks index m)
       );
   each = λ other j u v h. elim (eqb_tells other group) [
     | inl t ↦ subst (λ z. (get_or (set marks index m) j no_mark).most ≤ z)
         (sym (ap (λ k. k.most) (same-group other t.1)))
-        (here j (let k = t.1 in omega (arith, u, k)) (let k = t.1 in omega (arith, v, k))
-        (let s = length-set marks index m in omega (arith, s, h)))
+        (here j (omega (arith, u)) (omega (arith, v))
+        (omega (arith, h)))
     | inr t ↦ subst (λ z. (get_or (set marks index m) j no_mark).most ≤ z)
         (sym (ap (λ k. k.most) (get_or-set_other groups group other g no_group t.1)))
         (subst (λ z. z.most ≤ (get_or groups other no_group).most)
         (sym (get_or-set_other marks index j m no_mark
         (λ e. t.1 (let z : other ≡ group = omega (arith, e, u, v, low, high) in z))))
-        (a.each other j u v (let s = length-set marks index m in omega (arith, s, h))))
+        (a.each other j u v (omega (arith, length-set marks index m, h))))
   ];
   known = λ w other runs h e. elim (eqb_tells other group) [
     | inl t ↦ absurd (unknown-known w runs (sym (ap (told w) none) ∙ sym (ap (λ k. told w k.tally) (same-group other t.1)) ∙ e))
@@ -60,7 +58,7 @@ group-raised groups marks group index g m a l low high was is none = record {
       | inl z ↦ inl (omega (arith, z, low))
       | inr z ↦ inr (omega (arith, z, high))
     ]))
-        ∙ a.known w other runs (let s = length-set groups group g in omega (arith, s, h))
+        ∙ a.known w other runs (omega (arith, length-set groups group g, h))
         (sym (ap (λ k. told w k.tally) (get_or-set_other groups group other g no_group t.1)) ∙ e)
   ];
 }
@@ -73,9 +71,9 @@ group-raised groups marks group index g m a l low high was is none = record {
     here j u v h = elim (eqb_tells j index) [
       | inl t ↦ subst (λ z. z.most ≤ g.most)
           (sym (ap (λ k. get_or (set marks index m) k no_mark) t.1
-          ∙ get_or-set_same marks index m no_mark (let k = t.1 in omega (arith, k, h)))) is
+          ∙ get_or-set_same marks index m no_mark (omega (arith, h)))) is
       | inr t ↦ subst (λ z. z.most ≤ g.most) (sym (get_or-set_other marks index j m no_mark t.1))
-          (let k = a.each group j u v h in omega (arith, k, was))
+          (omega (arith, a.each group j u v h, was))
     ]
 
     apart : (other : ℕ) → (other ≡ group → ⊥) → (group < other) ⊎ (other < group)
@@ -97,7 +95,7 @@ group-renewed groups marks group low n g a l e k f s = record {
   whole = (let w = a.whole in let s = length-set groups group g in omega (arith, w, s));
   each = λ other index u v m. elim (eqb_tells other group) [
     | inl t ↦ subst (λ z. (get_or marks index no_mark).most ≤ z) (sym (ap (λ k. k.most) (same-group other t.1)))
-        (here index (let g = t.1 in omega (arith, e, u, g)) (let g = t.1 in omega (arith, e, k, v, g)) m)
+        (here index (omega (arith, e, u)) (let g = t.1 in omega (arith, e, k, v, g)) m)
     | inr t ↦ subst (λ z. (get_or marks index no_mark).most ≤ z)
         (sym (ap (λ k. k.most) (get_or-set_other groups group other g no_group t.1))) (a.each other index u v m)
   ];
@@ -121,9 +119,8 @@ group-renewed groups marks group low n g a l e k f s = record {
     here index u v m =
         let d : Landmark = no_mark in
         let j = index - low in
-        let w = a.whole in
         let t : length (take n (drop low marks)) ≡ n = length-take-le n (drop low marks)
-        (let s = length-drop low marks in omega (arith, s, w, l, e, k)) in
+        (omega (arith, length-drop low marks, l, e, k)) in
         let s : get_or (take n (drop low marks)) j d ≡ get_or marks index d =
         get_or-take n (drop low marks) j d (omega (arith, u, v)) ∙ get_or-drop low marks j d
         ∙ ap (λ i. get_or marks i d) (let q : low + (index - low) ≡ index = omega (arith, u) in q) in
@@ -136,12 +133,11 @@ same-groups count groups m e = record {
   whole = (let s = length-replicate count m in let t = length-replicate groups g in omega (arith, e, s, t));
   each = λ group index b h l.
       let s = length-replicate count m in
-      let r = ap (λ k. k.most) (get_or-replicate count index m no_mark (omega (arith, l, s))) in
       let t = ap (λ k. k.most) (get_or-replicate groups group g no_group (omega (arith, l, s, e, b))) in
-      omega (arith, r, t);
+      omega (arith, ap (λ k. k.most) (get_or-replicate count index m no_mark (omega (arith, l, s))), t);
   known = λ w group runs h d. absurd (unknown-known w runs
       (sym (ap (λ k. told w k.tally) (get_or-replicate groups group g no_group
-      (let t = length-replicate groups g in omega (arith, h, t)))) ∙ d));
+      (omega (arith, h, length-replicate groups g)))) ∙ d));
 }
   where
     g : Group

@@ -72,8 +72,8 @@ became-replaced place bytes old new b e = record {
   was = b.was;
   is = b.is;
   low = b.low;
-  high = (let s = b.span in omega (arith, e, s));
-  span = (let s = b.span in omega (arith, s));
+  high = (omega (arith, e));
+  span = (omega arith);
 }
 
 -- a block was put at the lower end of a Free block
@@ -89,7 +89,7 @@ carved-replaced below n b above old new place was is room low = record {
   is = is;
   low = low;
   high = (let e : place + (n + 0) ≡ place + n = omega arith in e);
-  span = (let f = span-free (n - size b) in omega (arith, f, room));
+  span = (omega (arith, span-free, room));
 }
 
 -- nothing was changed
@@ -107,8 +107,6 @@ joined-replaced lower g here above start top (suc n) old new was is e some low u
     alone : (rest : List Block) → old ≡ lower ++ (free g ++ here ∷ rest) → new ≡ lower ++ (Free (suc n) ∷ rest)
         → top ≡ start + suc n → Replaced start top old new
     alone rest was is up =
-        let a = span-append (free g) (here ∷ []) in
-        let f = span-free g in
         record {
           below = lower;
           here = free g ++ here ∷ [];
@@ -117,16 +115,14 @@ joined-replaced lower g here above start top (suc n) old new was is e some low u
           was = was ∙ ap (λ k. lower ++ k) (sym (append_assoc (free g) (here ∷ []) rest));
           is = is;
           low = low;
-          high = omega (arith, a, f, e, up);
-          span = omega (arith, a, f, e);
+          high = omega (arith, span-append, span-free, e, up);
+          span = omega (arith, span-append, span-free, e);
         }
 
     joined : (above : List Block) → old ≡ lower ++ (free g ++ here ∷ above) → new ≡ lower ++ add (Free (suc n)) above
         → top ≡ start + suc n + free_first above → Replaced start top old new
     joined [] was is up = alone [] was is (omega (arith, up))
     joined (Free m ∷ rest) was is up =
-        let a = span-append (free g) (here ∷ Free m ∷ []) in
-        let f = span-free g in
         record {
           below = lower;
           here = free g ++ here ∷ Free m ∷ [];
@@ -135,8 +131,8 @@ joined-replaced lower g here above start top (suc n) old new was is e some low u
           was = was ∙ ap (λ k. lower ++ k) (sym (append_assoc (free g) (here ∷ Free m ∷ []) rest));
           is = is;
           low = low;
-          high = omega (arith, a, f, e, up);
-          span = omega (arith, a, f, e);
+          high = omega (arith, span-append, span-free, e, up);
+          span = omega (arith, span-append, span-free, e);
         }
     joined (Nonrelocatable id content ∷ rest) was is up = alone (Nonrelocatable id content ∷ rest) was is (omega (arith, up))
     joined (Masters ∷ rest) was is up = alone (Masters ∷ rest) was is (omega (arith, up))

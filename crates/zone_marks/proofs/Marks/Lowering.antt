@@ -30,23 +30,23 @@ at-each S x blocks f = at-map (λ _ _. Unit {0}) S x blocks (λ p b l u _. f p b
 -- the first of some landmarks is no higher than where they end
 pub marks-below : (end : ℕ) (zone : List Block) (marks : List Landmark) → AreMarks end zone marks → next_of end marks ≤ end
 marks-below end zone [] a = omega arith
-marks-below end zone (m ∷ marks) a = let n = marks-below end zone marks a.4 in let r = a.3 in omega (arith, n, r)
+marks-below end zone (m ∷ marks) a = let n = marks-below end zone marks a.4 in omega (arith, n)
 
 -- places that rise still rise once they are lowered
 lowered-order : (lo hi a b p q : ℕ) → a ≤ b → Lowered lo hi a p → Lowered lo hi b q → p ≤ q
-lowered-order lo hi a b p q l (inl x) (inl y) = let s = x.2 in let t = y.2 in omega (arith, s, t)
+lowered-order lo hi a b p q l (inl x) (inl y) = omega arith
 lowered-order lo hi a b p q l (inl x) (inr y) =
-    let s = x.2 in let u = x.0 in let t = y.0 in omega (arith, s, u, t, l)
-lowered-order lo hi a b p q l (inr x) (inl y) = let s = x.0 in let t = y.2 in let h = y.1 in elim x.1 [
-  | inl u ↦ omega (arith, s, t, u)
-  | inr u ↦ absurd (omega (arith, u, l, h))
+    omega (arith, l)
+lowered-order lo hi a b p q l (inr x) (inl y) = elim x.1 [
+  | inl u ↦ omega (arith, u)
+  | inr u ↦ absurd (omega (arith, u, l))
 ]
-lowered-order lo hi a b p q l (inr x) (inr y) = let s = x.0 in let t = y.0 in omega (arith, s, t, l)
+lowered-order lo hi a b p q l (inr x) (inr y) = omega (arith, l)
 
 module _ (lo hi : ℕ) (old new : List Block) (z : Replaced lo hi old new) (o : lo ≤ hi) where
   pub at-low : Begins lo 0 new
   at-low = subst (Begins lo 0) (sym z.is) (begins-right lo 0 z.below (z.there ++ z.above)
-      (subst (λ y. Begins lo y (z.there ++ z.above)) (let l = z.low in let e : lo ≡ 0 + sizes z.below = omega (arith, l) in e)
+      (subst (λ y. Begins lo y (z.there ++ z.above)) (let e : lo ≡ 0 + sizes z.below = omega arith in e)
       (begins-here lo (z.there ++ z.above))))
 
   pub begins-lowered : (at now : ℕ) → Lowered lo hi at now → Begins at 0 old → Begins now 0 new
@@ -54,16 +54,15 @@ module _ (lo hi : ℕ) (old new : List Block) (z : Replaced lo hi old new) (o : 
   begins-lowered at now (inr w) b = subst (λ p. Begins p 0 new) (sym w.0) (elim w.1 [
     | inl l ↦ elim (begins-either at 0 z.below (z.here ++ z.above) (subst (Begins at 0) z.was b)) [
       | inl d ↦ subst (Begins at 0) (sym z.is) (begins-left at 0 z.below (z.there ++ z.above) d)
-      | inr d ↦ same (let v = (begins-within at (0 + sizes z.below) (z.here ++ z.above) d).0 in let k = z.low in
-          omega (arith, l, v, k))
+      | inr d ↦ same (omega (arith, l, (begins-within at (0 + sizes z.below) (z.here ++ z.above) d).0))
     ]
     | inr h ↦ elim (begins-either at 0 z.below (z.here ++ z.above) (subst (Begins at 0) z.was b)) [
-      | inl d ↦ same (let v = (begins-within at 0 z.below d).1 in let k = z.low in omega (arith, h, v, k, o))
+      | inl d ↦ same (let v = (begins-within at 0 z.below d).1 in omega (arith, h, v, o))
       | inr d ↦ subst (Begins at 0) (sym z.is) (begins-right at 0 z.below (z.there ++ z.above)
           (elim (begins-either at (0 + sizes z.below) z.here z.above d) [
             | inl e ↦ begins-right at (0 + sizes z.below) z.there z.above (subst (λ y. Begins at y z.above)
-                (let v = (begins-within at (0 + sizes z.below) z.here e).1 in let k = z.low in let g = z.high in
-                let s = z.span in let q : at ≡ 0 + sizes z.below + sizes z.there = omega (arith, h, v, k, g, s) in q)
+                (let q : at ≡ 0 + sizes z.below + sizes
+                z.there = omega (arith, h, (begins-within at (0 + sizes z.below) z.here e).1) in q)
                 (begins-here at z.above))
             | inr e ↦ begins-right at (0 + sizes z.below) z.there z.above
                 (subst (λ n. Begins at (0 + sizes z.below + n) z.above) (sym z.span) e)
@@ -79,47 +78,36 @@ module _ (lo hi : ℕ) (old new : List Block) (z : Replaced lo hi old new) (o : 
       (m : most ≤ most') (k : at' ≤ lo → lo < above → hi - lo ≤ most') where
     low-in : (p : ℕ) (b : Block) → p + size b ≤ lo → AtMost most at next p b → AtMost most' at' above p b
     low-in p b u r l h = elim a [
-      | inl w ↦ let s = w.2 in let f = free-size b in omega (arith, s, f, u, l)
-      | inr w ↦ let s = w.0 in let f = r (omega (arith, s, l)) (elim n [
-        | inl v ↦ let g = v.2 in let j = v.0 in omega (arith, g, h, j)
-        | inr v ↦ let g = v.0 in omega (arith, g, h)
-      ]) in omega (arith, f, m)
+      | inl w ↦ omega (arith, free-size, u, l)
+      | inr w ↦ omega (arith, m)
     ]
 
     middle : (p : ℕ) (b : Block) → lo ≤ p → p + size b ≤ hi → AtMost most' at' above p b
-    middle p b v u l h = let f = free-size b in elim a [
-      | inl w ↦ let s = w.2 in let q = k (omega (arith, s)) (omega (arith, v, h)) in omega (arith, f, q, u, v)
-      | inr w ↦ let s = w.0 in elim w.1 [
-        | inl d ↦ let q = k (omega (arith, s, d)) (omega (arith, v, h)) in omega (arith, f, q, u, v)
-        | inr d ↦ omega (arith, f, u, l, s, d)
+    middle p b v u l h = elim a [
+      | inl w ↦ let q = k (omega arith) (omega (arith, v, h)) in omega (arith, free-size, q, u, v)
+      | inr w ↦ elim w.1 [
+        | inl d ↦ let q = k (omega (arith, d)) (omega (arith, v, h)) in omega (arith, free-size, q, u, v)
+        | inr d ↦ omega (arith, free-size, u, l, d)
       ]
     ]
 
     high-in : (p : ℕ) (b : Block) → hi ≤ p → AtMost most at next p b → AtMost most' at' above p b
     high-in p b v r l h =
-        let f = r (elim a [
-          | inl w ↦ let j = w.1 in omega (arith, j, v)
-          | inr w ↦ let s = w.0 in omega (arith, s, l)
-        ]) (elim n [
-          | inl w ↦ let s = w.2 in absurd (omega (arith, s, h, v, o))
-          | inr w ↦ let s = w.0 in omega (arith, s, h)
-        ]) in omega (arith, f, m)
+        omega (arith, m)
 
     pub bound-lowered : AtEach (AtMost most at next) 0 old → AtEach (AtMost most' at' above) 0 new
     bound-lowered e =
         let R = AtMost most at next in
         let S = AtMost most' at' above in
         let w = subst (AtEach R 0) z.was e in
-        let i = z.low in
-        let j = z.high in
         let s = z.span in
         let r = at-right R (0 + sizes z.below) z.here z.above (at-right R 0 z.below (z.here ++ z.above) w) in
         subst (AtEach S 0) (sym z.is) (at-append S 0 z.below (z.there ++ z.above)
-        (at-map R S 0 z.below (λ p b l u. low-in p b (omega (arith, u, i))) (at-left R 0 z.below (z.here ++ z.above) w))
+        (at-map R S 0 z.below (λ p b l u. low-in p b (omega (arith, u))) (at-left R 0 z.below (z.here ++ z.above) w))
         (at-append S (0 + sizes z.below) z.there z.above
-        (at-each S (0 + sizes z.below) z.there (λ p b l u. middle p b (omega (arith, l, i)) (omega (arith, u, i, j, s))))
+        (at-each S (0 + sizes z.below) z.there (λ p b l u. middle p b (omega (arith, l)) (omega (arith, u, s))))
         (at-map R S (0 + sizes z.below + sizes z.there) z.above
-        (λ p b l u. high-in p b (omega (arith, l, i, j, s)))
+        (λ p b l u. high-in p b (omega (arith, l, s)))
         (subst (λ q. AtEach R (0 + sizes z.below + q) z.above) (sym s) r))))
 
   -- the blocks of a stretch apart from those that became others
@@ -133,14 +121,14 @@ module _ (lo hi : ℕ) (old new : List Block) (z : Replaced lo hi old new) (o : 
       ∙ ap (λ k. between a c 0 z.below ++ k) (between-append a c x z.here z.above)))
       (alike-append (between a c 0 z.below) _ (between a c 0 z.below) _ (alike-same _ _ refl)
       (alike-append (between a c x z.here) _ (between a c x z.there) _
-      (alike-more _ [] _ (none z.here (omega arith)) (alike-back _ [] (none z.there (let s = z.span in omega (arith, s)))))
+      (alike-more _ [] _ (none z.here (omega arith)) (alike-back _ [] (none z.there (omega arith))))
       (alike-same _ _ (ap (λ n. between a c (x + n) z.above) (sym z.span)))))))
     where
       none : (blocks : List Block) → sizes blocks ≤ sizes z.here → CountAlike (between a c (0 + sizes z.below) blocks)
           []
-      none blocks s = let l = z.low in let h = z.high in elim e [
-        | inl k ↦ none-below a c (0 + sizes z.below) blocks (omega (arith, k, l, h, s))
-        | inr k ↦ alike-same _ _ (none-above a c (0 + sizes z.below) blocks (omega (arith, k, l)))
+      none blocks s = elim e [
+        | inl k ↦ none-below a c (0 + sizes z.below) blocks (omega (arith, k, s))
+        | inr k ↦ alike-same _ _ (none-above a c (0 + sizes z.below) blocks (omega (arith, k)))
       ]
 
   -- landmarks above the stretch stay
@@ -148,13 +136,12 @@ module _ (lo hi : ℕ) (old new : List Block) (z : Replaced lo hi old new) (o : 
       → AreMarks end new marks
   marks-over end [] e u a = tt
   marks-over end (m ∷ marks) e u a =
-      let r = a.3 in
-      let v : hi ≤ next_of end marks = omega (arith, u, r) in (
+      let v : hi ≤ next_of end marks = omega (arith, u, a.3) in (
         begins-lowered m.at m.at (inr (refl, inr u)) a.0,
         bound-lowered m.most m.most m.at (next_of end marks) m.at (next_of end marks) (inr (refl, inr u))
             (inr (refl, inr v)) (omega arith) (λ l _. omega (arith, l, u)) a.1,
         alike-as m.tally _ _ (apart-alike m.at (next_of end marks) (inl u)) a.2,
-        r,
+        a.3,
         marks-over end marks e v a.4,
       )
 
@@ -162,15 +149,13 @@ module _ (lo hi : ℕ) (old new : List Block) (z : Replaced lo hi old new) (o : 
   pub marks-under : (end : ℕ) (marks : List Landmark) → end ≤ lo → AreMarks end old marks → AreMarks end new marks
   marks-under end [] e a = tt
   marks-under end (m ∷ marks) e a =
-      let r = a.3 in
-      let n = marks-below end old marks a.4 in
-      let u : next_of end marks ≤ lo = omega (arith, n, e) in
-      let l : m.at ≤ lo = omega (arith, r, u) in (
+      let u : next_of end marks ≤ lo = omega (arith, marks-below end old marks a.4, e) in
+      let l : m.at ≤ lo = omega (arith, a.3, u) in (
         begins-lowered m.at m.at (inr (refl, inl l)) a.0,
         bound-lowered m.most m.most m.at (next_of end marks) m.at (next_of end marks) (inr (refl, inl l))
             (inr (refl, inl u)) (omega arith) (λ _ b. absurd (omega (arith, b, u))) a.1,
         alike-as m.tally _ _ (apart-alike m.at (next_of end marks) (inr u)) a.2,
-        r,
+        a.3,
         marks-under end marks e a.4,
       )
 
@@ -178,7 +163,7 @@ module _ (lo hi : ℕ) (old new : List Block) (z : Replaced lo hi old new) (o : 
 module _ (xs : List ℕ) (first unused : ℕ) (i : IsSound xs first unused) where
   pub begins-way : (p : ℕ) → Begins p 0 (zone_in xs) → IsOnWay p xs
   begins-way p b = let r = parts p 0 (zone_in xs) b in
-      let l = r.low in way-above xs first unused i r.below r.above p r.is (omega (arith, l))
+      way-above xs first unused i r.below r.above p r.is (omega arith)
 
   -- the zone is what is below a place and what is left from there on
   pub record Seen (p : ℕ) : Type 0 where
@@ -189,8 +174,7 @@ module _ (xs : List ℕ) (first unused : ℕ) (i : IsSound xs first unused) wher
   pub seen-from : (p : ℕ) → Begins p 0 (zone_in xs) → Seen p
   seen-from p b =
       let r = parts p 0 (zone_in xs) b in
-      let l = r.low in
-      let k : sizes r.below ≡ p = omega (arith, l) in
+      let k : sizes r.below ≡ p = omega arith in
       record {
         below = r.below;
         is = r.is ∙ ap (λ q. r.below ++ q) (sym (left-above xs first unused i r.below r.above p r.is k));
@@ -200,30 +184,27 @@ module _ (xs : List ℕ) (first unused : ℕ) (i : IsSound xs first unused) wher
   pub begins-further : (p q : ℕ) → Begins p 0 (zone_in xs) → Begins q p (left_in p xs) → Begins q 0 (zone_in xs)
   begins-further p q b e =
       let s = seen-from p b in
-      let l = s.low in
       subst (Begins q 0) (sym s.is) (begins-right q 0 s.below (left_in p xs)
-      (subst (λ y. Begins q y (left_in p xs)) (let k : p ≡ 0 + sizes s.below = omega (arith, l) in k) e))
+      (subst (λ y. Begins q y (left_in p xs)) (let k : p ≡ 0 + sizes s.below = omega arith in k) e))
 
   pub bound-here : (most p to : ℕ) → Begins p 0 (zone_in xs) → AtEach (AtMost most p to) p (left_in p xs)
       → AtEach (AtMost most p to) 0 (zone_in xs)
   bound-here most p to b e =
       let s = seen-from p b in
-      let l = s.low in
       let S = AtMost most p to in
       subst (AtEach S 0) (sym s.is) (at-append S 0 s.below (left_in p xs)
-      (at-each S 0 s.below (λ q c v u. λ m n. let f = free-size c in omega (arith, f, u, m, l)))
-      (subst (λ y. AtEach S y (left_in p xs)) (let k : p ≡ 0 + sizes s.below = omega (arith, l) in k) e))
+      (at-each S 0 s.below (λ q c v u. λ m n. omega (arith, free-size, u, m)))
+      (subst (λ y. AtEach S y (left_in p xs)) (let k : p ≡ 0 + sizes s.below = omega arith in k) e))
 
   -- what is known of blocks from a place on
   pub one-here : (w : Counting) (t : Tally) (p to : ℕ) → Begins p 0 (zone_in xs)
       → IsTally w t (between p to p (left_in p xs)) → IsTally w t (between p to 0 (zone_in xs))
   one-here w t p to b e =
       let s = seen-from p b in
-      let l = s.low in
       tally-as w t _ _ (alike-more _ _ _ (alike-same _ _ (ap (between p to 0) s.is
       ∙ between-append p to 0 s.below (left_in p xs)))
-      (alike-append _ _ [] _ (none-below p to 0 s.below (omega (arith, l)))
-      (alike-same _ _ (ap (λ y. between p to y (left_in p xs)) (let k : 0 + sizes s.below ≡ p = omega (arith, l) in k)))))
+      (alike-append _ _ [] _ (none-below p to 0 s.below (omega arith))
+      (alike-same _ _ (ap (λ y. between p to y (left_in p xs)) (let k : 0 + sizes s.below ≡ p = omega arith in k)))))
       e
 
   pub tally-here : (t : Tallies) (p to : ℕ) → Begins p 0 (zone_in xs) → AreTold t (between p to p (left_in p xs))
@@ -279,7 +260,7 @@ equal-yes a b e = elim (eqb_tells a b) [
 
 pub equal-no : (a b : ℕ) → a < b → (a == b) ≡ false
 equal-no a b l = elim (eqb_tells a b) [
-  | inl t ↦ let e = t.1 in absurd (omega (arith, e, l))
+  | inl t ↦ absurd (omega (arith, l))
   | inr t ↦ t.0
 ]
 
@@ -297,7 +278,7 @@ unlaid-marks zone l (suc n) = (
   begins-here 0 zone,
   at-each (AtMost 4294967295 0 (next_of 4294967295
       (replicate n (record { at = 0; most = 4294967295; tally = unknown })))) 0 zone
-      (λ p b _ u _ _. let f = free-size b in omega (arith, f, u, l)),
+      (λ p b _ u _ _. omega (arith, free-size, u, l)),
   none,
   omega arith,
   unlaid-marks zone l n,
@@ -309,7 +290,7 @@ unlaid-marks zone l (suc n) = (
     none counting.Spaces = tt
 
 pub replaced-order : (lo hi : ℕ) (old new : List Block) → Replaced lo hi old new → lo ≤ hi
-replaced-order lo hi old new z = let h = z.high in omega (arith, h)
+replaced-order lo hi old new z = omega arith
 
 module _ (lo hi : ℕ) (old new : List Block) where
   pub changing-start : Replaced lo hi old new → lo ≤ hi → (above left : ℕ) (marks : List Landmark) → hi ≤ 4294967295
@@ -377,7 +358,7 @@ module _ (lo hi : ℕ) (old new : List Block) where
     where
       same : above ≡ next
       same = elim g.is [
-        | inl w ↦ let k = w.2 in absurd (omega (arith, k, b))
+        | inl w ↦ absurd (omega (arith, b))
         | inr w ↦ w.0
       ]
 

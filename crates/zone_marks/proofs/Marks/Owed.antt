@@ -100,14 +100,10 @@ module _ (xs : List ℕ) (first unused free purgeable : ℕ) (l : Landmarks) whe
   with-written below above b from x zone k e was w a m =
       let now = written from x (content_of b) in
       let long = length-written from x (content_of b) w in
-      let p = purgeable-content now b long in
-      let o = ap purgeable_sum was in
-      let t = total-append purgeable_of below (b ∷ above) in
-      let u = total-append purgeable_of below (with_content now b ∷ above) in
       with-block below above b (with_content now b) zone k e was (size-content now b long) (free-content now b)
       (one-same b (with_content now b) (free-content now b) (ends-content now b)) (space-content now b long)
       (goes-content now b) a
-      (omega (arith, p, o, t, u, m))
+      (omega (arith, purgeable-content, ap purgeable_sum was, total-append, m))
 
 -- a block that isn't Free was put at the lower end of a Free one
 pub filled-replaced : (xs : List ℕ) (place need : ℕ) (r : Roomy xs place need) (new : Block) → is_free new ≡ false
@@ -115,13 +111,12 @@ pub filled-replaced : (xs : List ℕ) (place need : ℕ) (r : Roomy xs place nee
     → Replaced place (place + bytes) (zone_in xs) zone
 filled-replaced xs place need r new solid fits bytes e zone is =
     let l : size r.s.here ≡ r.bytes = ap size r.here in
-    let f = r.room in
     let k : size r.s.here + 0 - size new ≡ r.bytes - size new = omega (arith, l) in
     subst (λ n. Replaced place (place + n) (zone_in xs) zone) (sym (e ∙ l))
     (carved-replaced r.s.below r.bytes new r.s.above (zone_in xs) zone place
     (r.at.whole ∙ ap (λ b. r.s.below ++ b ∷ r.s.above) r.here)
-    (is ∙ cut-sized new solid r.s r.at.apart 0 r.s.above r.head (omega (arith, l, f, fits))
-    ∙ ap (λ m. r.s.below ++ new ∷ (free m ++ r.s.above)) k) (omega (arith, f, fits)) r.at.low)
+    (is ∙ cut-sized new solid r.s r.at.apart 0 r.s.above r.head (omega (arith, l, fits))
+    ∙ ap (λ m. r.s.below ++ new ∷ (free m ++ r.s.above)) k) (omega (arith, fits)) r.at.low)
 
 -- the same change, of zones known by other names
 pub replaced-as : (lo hi : ℕ) (old new was is : List Block) → was ≡ old → is ≡ new → Replaced lo hi old new

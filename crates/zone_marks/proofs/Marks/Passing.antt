@@ -78,7 +78,7 @@ pub begins-within : (p x : ℕ) (blocks : List Block) → Begins p x blocks → 
 begins-within p x [] e = (omega (arith, e), omega (arith, e))
 begins-within p x (b ∷ blocks) (inl e) = (omega (arith, e), omega (arith, e))
 begins-within p x (b ∷ blocks) (inr e) = let w = begins-within p (x + size b) blocks e in
-    let l = w.0 in let u = w.1 in (omega (arith, l), omega (arith, u))
+    (omega arith, omega arith)
 
 -- a place at which blocks begin parts them
 pub record PartsAt (p x : ℕ) (blocks : List Block) : Type 0 where
@@ -92,8 +92,7 @@ parts p x [] e = record { below = []; above = []; is = refl; low = omega (arith,
 parts p x (b ∷ blocks) (inl e) = record { below = []; above = b ∷ blocks; is = refl; low = omega (arith, e) }
 parts p x (b ∷ blocks) (inr e) =
     let r = parts p (x + size b) blocks e in
-    let l = r.low in
-    record { below = b ∷ r.below; above = r.above; is = ap (λ k. b ∷ k) r.is; low = omega (arith, l) }
+    record { below = b ∷ r.below; above = r.above; is = ap (λ k. b ∷ k) r.is; low = omega arith }
 
 -- the blocks from a place on up to another, of each of which something holds
 pub record Passed (xs : List ℕ) (from at : ℕ) (R : ℕ → Block → Type 0) : Type 0 where
@@ -126,16 +125,12 @@ module _ (xs : List ℕ) (from : ℕ) (R : ℕ → Block → Type 0) where
   pub passed-step : (at end free : ℕ) (barrier : Bool) → Passed xs from at R → Spans at end free barrier xs
       → ((b : Block) → free ≡ free_of b → 0 < size b → R at b) → Passed xs from end R
   passed-step at end free barrier p s r =
-      let u = p.up in
-      let v = s.up in
-      let t = s.some in
-      let a = span-append p.done (s.here ∷ []) in
       record {
         done = p.done ++ s.here ∷ [];
         is = p.is ∙ ap (λ k. p.done ++ k) s.is ∙ sym (append_assoc p.done (s.here ∷ []) (left_in end xs));
-        up = omega (arith, u, v, a);
+        up = omega (arith, p.up, span-append);
         each = at-append R from p.done (s.here ∷ []) p.each
-            (subst (λ q. R q s.here) (sym u) (r s.here s.bytes (omega (arith, v, t))), tt);
+            (subst (λ q. R q s.here) (sym p.up) (r s.here s.bytes (omega arith)), tt);
         way = s.way;
       }
 

@@ -77,12 +77,11 @@ module _ (xs : List ℕ) (first unused : ℕ) (i : IsSound xs first unused) (byt
       → AtEach (NoRoom bytes p to) p (left_in p xs) → AtEach (NoRoom bytes 0 to) 0 (zone_in xs)
   none-further p to b n e =
       let s = seen-from xs first unused i p b in
-      let l = s.low in
       let S = NoRoom bytes 0 to in
       subst (AtEach S 0) (sym s.is) (at-append S 0 s.below (left_in p xs)
       (at-map (λ _ c. is_room bytes c ≡ false) S 0 s.below (λ q c _ _ r _ _. r)
-      (none-below s.below (left_in p xs) p s.is l n))
-      (subst (λ y. AtEach S y (left_in p xs)) (let k : p ≡ 0 + sizes s.below = omega (arith, l) in k)
+      (none-below s.below (left_in p xs) p s.is s.low n))
+      (subst (λ y. AtEach S y (left_in p xs)) (let k : p ≡ 0 + sizes s.below = omega (arith, s.low) in k)
       (at-map (NoRoom bytes p to) S p (left_in p xs) (λ q c v _ r _ h. r v h) e)))
 
   pub none-whole : (p to : ℕ) → AtEach (NoRoom bytes 0 p) 0 (zone_in xs) → AtEach (NoRoom bytes p to) 0 (zone_in xs)
@@ -116,10 +115,8 @@ module _ (xs : List ℕ) (first unused : ℕ) (i : IsSound xs first unused) (byt
   -- and where there is none
   pub none-found : AtEach (NoRoom bytes 0 4294967295) 0 (zone_in xs) → spot (is_room bytes) (zone_in xs) ≡ None
   none-found n =
-      let l = sizes-length xs (zone_in xs) (slot_in xs) i.unused i.lays in
-      let m = i.lays.small in
       spot-none bytes 0 (zone_in xs) (at-map (NoRoom bytes 0 4294967295) (λ _ c. is_room bytes c ≡ false) 0 (zone_in xs)
-      (λ q c _ u r. r (omega arith) (omega (arith, u, l, m))) n)
+      (λ q c _ u r. r (omega arith) (omega (arith, u, sizes-length))) n)
 
   pub nothing-below : AtEach (NoRoom bytes 0 0) 0 (zone_in xs)
   nothing-below = at-all (NoRoom bytes 0 0) 0 (zone_in xs) (λ q c _ _ h. absurd (omega (arith, h)))
@@ -178,7 +175,6 @@ module _ (xs : List ℕ) (first unused : ℕ) (i : IsSound xs first unused) (byt
       → (get_or groups group no_group).most < bytes
       → NoneBelow bytes (zone_in xs) marks (GROUP * group) → NoneBelow bytes (zone_in xs) marks (GROUP * (group + 1))
   none-group groups t group u l n =
-      let w = t.whole in
       subst (NoneBelow bytes (zone_in xs) marks) (let e : GROUP * group + GROUP ≡ GROUP * (group + 1) = omega arith in e)
-      (none-along GROUP (GROUP * group) (omega (arith, w, u))
-      (λ j b h. let k = t.each group j b h (omega (arith, w, u, h)) in omega (arith, k, l)) n)
+      (none-along GROUP (GROUP * group) (omega (arith, u))
+      (λ j b h. let k = t.each group j b h (omega (arith, u, h)) in omega (arith, k, l)) n)

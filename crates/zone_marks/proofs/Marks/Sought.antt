@@ -33,9 +33,7 @@ seen-past test (b ∷ below) rest s a e l = cases (test b) (spot test (below ++ 
         → cond t (Some (record { below = []; here = b; above = below ++ rest })) (option_map (raised b) o) ≡ Some s
         → SeenFrom test (b ∷ below) rest s
     cases true o more q =
-        let k = apart-size b (below ++ rest) a.0 in
-        let z = ap (λ (r : Spot). sizes r.below) (same_Some _ _ q) in
-        absurd (omega (arith, k, z, l))
+        absurd (omega (arith, apart-size, ap (λ (r : Spot). sizes r.below) (same_Some _ _ q), l))
     cases false None more q = absurd (none-some _ q)
     cases false (Some r) more q =
         let z = ap (λ (r : Spot). sizes r.below) (same_Some _ _ q) in
@@ -44,7 +42,7 @@ seen-past test (b ∷ below) rest s a e l = cases (test b) (spot test (below ++ 
           there = f.there;
           found = f.found;
           same = f.same ∙ ap (λ (r : Spot). r.above) (same_Some _ _ q);
-          low = (let k = f.low in omega (arith, k, z));
+          low = (omega (arith, z));
         }
 
 module _ (xs : List ℕ) (first unused : ℕ) (i : IsSound xs first unused) (p : ℕ) (b : Begins p 0 (zone_in xs)) where
@@ -56,12 +54,7 @@ module _ (xs : List ℕ) (first unused : ℕ) (i : IsSound xs first unused) (p :
 
   pub left-fits : sizes (left_in p xs) < 2 ^ 32
   left-fits =
-      let s = seen-from xs first unused i p b in
-      let z = ap sizes s.is in
-      let a = span-append s.below (left_in p xs) in
-      let l = sizes-length xs (zone_in xs) (slot_in xs) i.unused i.lays in
-      let m = i.lays.small in
-      omega (arith, z, a, l, m)
+      omega (arith, ap sizes (seen-from xs first unused i p b).is, span-append, sizes-length)
 
   -- what follows the block is what follows it in the zone
   pub sought : (test : Block → Bool) (P : List Block → Type 0)
@@ -71,7 +64,6 @@ module _ (xs : List ℕ) (first unused : ℕ) (i : IsSound xs first unused) (p :
   sought test P low found = if-spot (spot test (zone_in xs)) (λ s. P s.above) (λ s e.
       let f = seen-from xs first unused i p b in
       let l = the-if (spot test (zone_in xs)) (λ s. p ≤ sizes s.below) s e low in
-      let k = f.low in
       let r = seen-past test f.below (left_in p xs) s (subst Apart f.is (apart-tidied (zone_in xs) i.tidied))
-      (sym (ap (spot test) f.is) ∙ e) (omega (arith, l, k)) in
+      (sym (ap (spot test) f.is) ∙ e) (omega (arith, l)) in
       subst P r.same (the-if (spot test (left_in p xs)) (λ s. P s.above) r.there r.found found))

@@ -34,15 +34,12 @@ module _ (xs : List ℕ) (from stop : ℕ) where
       → Spaced xs from end stop more
   spaced-step at end bytes barrier spaces given more c s l g j =
       let p = c.passed in
-      let u = p.up in
-      let v = s.up in
-      let a = span-append p.done (s.here ∷ []) in
       record {
         passed = record {
           done = p.done ++ s.here ∷ [];
           is = p.is ∙ ap (λ k. p.done ++ k) s.is ∙ sym (append_assoc p.done (s.here ∷ []) (left_in end xs));
-          up = omega (arith, u, v, a);
-          each = at-append (λ q _. q < stop) from p.done (s.here ∷ []) p.each (omega (arith, u, l), tt);
+          up = omega (arith, span-append);
+          each = at-append (λ q _. q < stop) from p.done (s.here ∷ []) p.each (omega (arith, l), tt);
           way = s.way;
         };
         comes = sym (joined-is Spaces p.done (s.here ∷ []) spaces given more j (sym c.comes)
@@ -53,14 +50,7 @@ module _ (xs : List ℕ) (from stop : ℕ) where
   pub spaced-fits : (at end bytes : ℕ) (barrier : Bool) (spaces given : Stretch) → Spaced xs from at stop spaces
       → (s : Spans at end bytes barrier xs) → given ≡ space s.here → suffix spaces + prefix given ≤ end
   spaced-fits at end bytes barrier spaces given c s g =
-      let u = c.passed.up in
-      let v = s.up in
-      let f = suffix-load spaces in
-      let k = ap load c.comes in
-      let b = load-counted Spaces c.passed.done in
-      let p = prefix-counted (is_space s.here) (size s.here) in
-      let q = ap prefix g in
-      omega (arith, u, v, f, k, b, p, q)
+      omega (arith, suffix-load, ap load c.comes, load-counted Spaces c.passed.done, prefix-counted, ap prefix g)
 
   -- what it tells of the blocks that begin below a bound which it came to
   pub spaced-tells : (at place : ℕ) (spaces : Stretch) → Spaced xs from at stop spaces → stop ≤ place

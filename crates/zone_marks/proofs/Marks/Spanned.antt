@@ -44,10 +44,7 @@ space-told : (resource : ℕ → Bool) (xs : List ℕ) (from : ℕ) → length x
     → Tile (head_of resource b) (size b) (drop from xs) → (n t f : ℕ) → n + t ≡ word_at from xs → n % 16 ≡ 0 → t ≤ 3
     → f ≡ word_at (from + 12) xs → gives_space t f ≡ is_space b
 space-told resource xs from small b tile n t f e w l v =
-    let r = first-reads resource xs from small b tile in
-    let k = kind-small b in
-    let h = tile.whole in
-    let same : t ≡ kind b = omega (arith, e, r, w, l, k, h) in
+    let same : t ≡ kind b = omega (arith, e, first-reads resource xs from small b tile, w, l, kind-small) in
     ap (λ j. gives_space j f) same ∙ of-kind b tile
   where
     of-kind : (b : Block) → Tile (head_of resource b) (size b) (drop from xs) → gives_space (kind b) f ≡ is_space b
@@ -74,7 +71,7 @@ span-made at xs w l n t e h k free f barrier b =
       bytes = f ∙ free-told s.here n t (o.tag ∙ ap kind same) z;
       ends = b ∙ ap not (runs-told o.resource xs at o.small s.here tile n t (word_at (at + 12) xs) e h k refl);
       way = s.way;
-      some = (let m = tile.some in omega (arith, m, z));
+      some = (omega (arith, z));
     }
 
 -- and what it comes to in spaces
@@ -82,12 +79,11 @@ pub space-made : (at : ℕ) (xs : List ℕ) (w : IsOnWay at xs) → at < length 
     → n % 16 ≡ 0 → t ≤ 3 → (b : Block) (above : List Block) → left_in at xs ≡ b ∷ above
     → counted (gives_space t (word_at (at + 12) xs)) n ≡ space b
 space-made at xs w l n t e h k b above is =
-    let z = size-at at xs w l n t e h k b above is in
     let o = here-on at xs w l n t e h k in
     let same = same-here at xs t o b above is in
     let tile = subst (λ c. Tile (head_of o.resource c) (size c) (drop at xs)) same o.tile in
     ap (λ g. counted g n) (space-told o.resource xs at o.small b tile n t (word_at (at + 12) xs) e h k refl)
-    ∙ ap (counted (is_space b)) z
+    ∙ ap (counted (is_space b)) (size-at at xs w l n t e h k b above is)
 
 -- a block that isn't room by its Free bytes
 pub room-free : (p : ℕ) (b : Block) → 0 < free_of b → p ≤ free_of b → is_room p b ≡ true
@@ -99,12 +95,11 @@ room-free p (Relocatable slot flags content) s l = absurd (omega (arith, s))
 pub room-here : (p at end free : ℕ) (barrier : Bool) (xs : List ℕ) → Spans at end free barrier xs → 0 < free → p ≤ free
     → RoomAt p at xs
 room-here p at end free barrier xs s some fits =
-    let k = s.bytes in
     record {
       here = s.here;
       above = left_in end xs;
       is = s.is;
-      room = room-free p s.here (omega (arith, some, k)) (omega (arith, fits, k));
+      room = room-free p s.here (omega (arith, some)) (omega (arith, fits));
     }
 
 pub no-room : (p : ℕ) (b : Block) → 0 < size b → (0 < free_of b → p ≤ free_of b → ⊥) → is_room p b ≡ false

@@ -81,11 +81,9 @@ loads-parted w marks n = sym (loads-append w (take n marks) (drop n marks)) ∙ 
 pub loads-more : (w : Counting) (marks : List Landmark) (i : ℕ) → i < length marks
     → known_load (tally_of w (take i marks)) + known_load (told w (get_or marks i no_mark).tally) ≤ known_loads w marks
 loads-more w marks i l =
-    let a = loads-all w (take i marks) in
-    let p = loads-parted w marks (i + 1) in
     let q = ap (known_loads w) (take_more marks i no_mark l)
     ∙ loads-append w (take i marks) (get_or marks i no_mark ∷ []) in
-    omega (arith, a, p, q)
+    omega (arith, loads-all, loads-parted, q)
 
 pub loads-part : (w : Counting) (marks : List Landmark) (low n : ℕ)
     → known_loads w (take n (drop low marks)) ≤ known_loads w marks
@@ -130,7 +128,7 @@ tally-join w (tally.Known a) tally.Unknown xs ys e f = tt
 tally-join w tally.Unknown t xs ys e f = tt
 
 tally-load : (w : Counting) (t : Tally) (xs : List Block) → IsTally w t xs → known_load t ≤ sizes xs
-tally-load w (tally.Known stretch) xs e = let l = load-counted w xs in let k = ap load e in omega (arith, l, k)
+tally-load w (tally.Known stretch) xs e = omega (arith, load-counted, ap load e)
 tally-load w tally.Unknown xs e = omega arith
 
 between-none : (end x : ℕ) (bs : List Block) → between end end x bs ≡ []
@@ -154,11 +152,9 @@ loads-within : (w : Counting) (end : ℕ) (zone : List Block) (marks : List Land
 loads-within w end zone [] a = omega arith
 loads-within w end zone (m ∷ marks) a =
     let n = next_of end marks in
-    let l = tally-load w (told w m.tally) (between m.at n 0 zone) (a.2 w) in
     let r = loads-within w end zone marks a.4 in
     let j = ap sizes (between-join m.at n end 0 zone a.3 (marks-below end zone marks a.4)) in
-    let s = span-append (between m.at n 0 zone) (between n end 0 zone) in
-    omega (arith, l, r, j, s)
+    omega (arith, tally-load w (told w m.tally) (between m.at n 0 zone) (a.2 w), r, j, span-append)
 
 loads-fit : (w : Counting) (end : ℕ) (zone : List Block) (marks : List Landmark) → AreMarks end zone marks
     → known_loads w marks ≤ sizes zone
@@ -168,7 +164,4 @@ loads-fit w end zone marks a =
 pub loads-small : (xs : List ℕ) (first unused : ℕ) → IsSound xs first unused → (end : ℕ) (marks : List Landmark)
     → AreMarks end (zone_in xs) marks → (w : Counting) → known_loads w marks < 2 ^ 32
 loads-small xs first unused i end marks a w =
-    let f = loads-fit w end (zone_in xs) marks a in
-    let l = sizes-length xs (zone_in xs) (slot_in xs) i.unused i.lays in
-    let m = i.lays.small in
-    omega (arith, f, l, m)
+    omega (arith, loads-fit w end (zone_in xs) marks a, sizes-length)

@@ -30,7 +30,7 @@ pub piece-more : (xs : List ℕ) (from at to : ℕ) (low high : List Block) → 
     → IsPiece from to xs (low ++ high)
 piece-more xs from at to low high p q = record {
   is = p.is ∙ ap (λ k. low ++ k) q.is ∙ sym (append_assoc low high (left_in to xs));
-  up = (let u = p.up in let v = q.up in let a = span-append low high in omega (arith, u, v, a));
+  up = (omega (arith, span-append));
   edge = q.edge;
 }
 
@@ -69,10 +69,7 @@ open-farther xs r o at next free here e p s = record {
 -- its free bytes lie below its place
 pub open-few : (xs : List ℕ) (r : OpenRun) → IsOpen xs r → r.free ≤ r.at
 open-few xs r o =
-    let l = load-blocks o.here in
-    let e = ap load o.goes_on in
-    let u = o.piece.up in
-    omega (arith, l, e, u)
+    omega (arith, load-blocks, ap load o.goes_on)
 
 -- past one block
 module _ (xs : List ℕ) (first unused : ℕ) (i : IsSound xs first unused) (r : OpenRun) (o : IsOpen xs r) (end free : ℕ)
@@ -91,7 +88,7 @@ module _ (xs : List ℕ) (first unused : ℕ) (i : IsSound xs first unused) (r :
   pub open-past-one : barrier ≡ false → IsOpen xs (record { start = r.start; free = r.free + free; at = end })
   open-past-one e = open-farther xs r o r.at end free (s.here ∷ []) refl (record {
     is = s.is;
-    up = (let u = s.up in omega (arith, u));
+    up = (omega arith);
     edge = edge-above xs first unused i r.at end free barrier o.piece.edge s;
   }) (ap (λ t. join (counted t (free_of s.here)) (Whole 0)) (mover e)
-      ∙ ap Whole (let b = s.bytes in let q : free_of s.here + 0 ≡ free = omega (arith, b) in q))
+      ∙ ap Whole (let q : free_of s.here + 0 ≡ free = omega arith in q))

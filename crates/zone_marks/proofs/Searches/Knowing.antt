@@ -60,7 +60,7 @@ module _ (bytes : ℕ) (answer : Option ℕ) (xs : List ℕ) where
     begins = p.edge;
     left = k.left;
     met = k.met;
-    free = (let a = k.free in let z = free_span-le here in let u = p.up in omega (arith, a, e, z, u, f));
+    free = (omega (arith, e, free_span-le, f));
     finds = finds-at at s k e ∙ ap (scan_runs None bytes spares 0 s.start s.free s.met at) p.is
         ∙ goes-through bytes spares s.start s.free s.met at here (left_in next xs) n
         ∙ ap (λ q. scan_runs None bytes spares 0 s.start (s.free + q) s.met (at + sizes here) (left_in next xs)) f
@@ -79,7 +79,7 @@ module _ (bytes : ℕ) (answer : Option ℕ) (xs : List ℕ) where
       → IsKnown bytes answer next xs r
   scanned first unused i at next s r here k p same b f m l stays came up = record {
     begins = begins-further xs first unused i s.place r.place k.begins b;
-    left = (let z = k.left in omega (arith, l, z));
+    left = (omega (arith, l));
     met = m;
     free = f;
     finds = k.finds ∙ same;

@@ -133,29 +133,19 @@ module _ (xs : List ℕ) (first unused : ℕ) (i : IsSound xs first unused) (s :
     (p : Passed) (q : IsPassed s at xs p) (runs : Stretch) (t : IsStretch Runs (tally.Known runs) at next xs) where
   pub passed-fits : (suffix p.runs + prefix runs < 2 ^ 32) × (p.free + load runs < 2 ^ 32)
   passed-fits =
-      let m = i.lays.small in
       let w = edge-within xs first unused i next t.1.edge in
-      let v = t.1.up in
       let l = load-blocks t.0 in
       let f = ap load t.2 in (
-        (let h = ends-load p.runs runs in
-            let j = load-join (Whole s.free) (stretch_of q.here) in
-            let k = load-blocks q.here in
-            let e = ap load q.sums in
-            let u = q.piece.up in
-            let g = r.free in
-            omega (arith, m, w, v, l, f, h, j, k, e, u, g)),
-        (let k = load-blocks q.high in
-            let e = ap load q.goes_on in
-            let u = q.high_piece.up in
-            omega (arith, m, w, v, l, f, k, e, u)),
+        (let j = load-join (Whole s.free) (stretch_of q.here) in
+            omega (arith, w, l, f, ends-load p.runs runs, j, load-blocks, ap load q.sums)),
+        (omega (arith, w, l, f, load-blocks, ap load q.goes_on)),
       )
 
 -- where the blocks that were passed brought no run to enough
 module _ (bytes : ℕ) (xs : List ℕ) (s : RunScan) (r : IsReady xs s) (at : ℕ) (p : Passed) (q : IsPassed s at xs p)
     (short : best p.runs < bytes) where
   short-here : best (join (Whole s.free) (stretch_of q.here)) < bytes
-  short-here = let e = ap best q.sums in omega (arith, e, short)
+  short-here = omega (arith, ap best q.sums, short)
 
   -- a search in which no run ended goes on with their free bytes
   pub known-open : (free : ℕ) → p.runs ≡ Whole free → IsKnown bytes (finds_from bytes s xs) at xs
@@ -191,9 +181,8 @@ module _ (bytes : ℕ) (xs : List ℕ) (s : RunScan) (r : IsReady xs s) (at : �
           let a = ap best (ap (join (Whole s.free)) (ap stretch_of (b.is ∙ sym (append_assoc b.low b.mid q.high))
           ∙ stretch_of-append (b.low ++ b.mid) q.high)
           ∙ sym (join-assoc (Whole s.free) (stretch_of (b.low ++ b.mid)) (stretch_of q.high))) in
-          let l = best-low (join (Whole s.free) (stretch_of (b.low ++ b.mid))) (stretch_of q.high) in
           let h = short-here in
-          omega (arith, a, l, h)
+          omega (arith, a, best-low (join (Whole s.free) (stretch_of (b.low ++ b.mid))) (stretch_of q.high), h)
 
   -- at the zone's end none is found
   pub passed-all : left_in at xs ≡ [] → finds_from bytes s xs ≡ None
@@ -208,12 +197,10 @@ pub walked-out : (bytes : ℕ) (n : Sparing) (xs : List ℕ) (first unused : ℕ
     → (last.met && nat_le bytes last.free) ≡ false → finds_purging bytes n last xs ≡ None
 walked-out bytes n xs first unused i from last b e came f =
     let edge = begins-further xs first unused i from.place last.place b e in
-    let w = edge-within xs first unused i last.place edge in
-    let m = i.lays.small in
     let none = left-none last.place xs (begins-way xs first unused i last.place edge) (elim came [
       | inl k ↦ let y : true ≡ false = sym k ∙ f in absurd (cc)
       | inr (inl l) ↦ l
-      | inr (inr l) ↦ absurd (omega (arith, l, w, m))
+      | inr (inr l) ↦ absurd (omega (arith, l, edge-within xs first unused i last.place edge))
     ]) in
     ap (scan_runs None bytes (spared n) last.left last.start last.free last.met last.place) (ap (opened n) none ∙ opened-none n)
     ∙ scan-end None bytes (spared n) last.left last.start last.free last.met last.place

@@ -52,14 +52,10 @@ module _ (xs : List ℕ) (first unused : ℕ) (i : IsSound xs first unused) wher
   pub left-long : (edge : ℕ) → Begins edge 0 (zone_in xs) → edge + sizes (left_in edge xs) ≡ length xs
   left-long edge b =
       let s = seen-from xs first unused i edge b in
-      let z = ap sizes s.is in
-      let a = span-append s.below (left_in edge xs) in
-      let l = s.low in
-      let k = zone-long in
-      omega (arith, z, a, l, k)
+      omega (arith, ap sizes s.is, span-append, zone-long)
 
   pub edge-within : (p : ℕ) → Begins p 0 (zone_in xs) → p ≤ length xs
-  edge-within p b = let w = (begins-within p 0 (zone_in xs) b).1 in let z = zone-long in omega (arith, w, z)
+  edge-within p b = let w = (begins-within p 0 (zone_in xs) b).1 in omega (arith, w, zone-long)
 
   pub end-begins : (end : ℕ) → end ≡ length xs → Begins end 0 (zone_in xs)
   end-begins end e = subst (λ p. Begins p 0 (zone_in xs)) (let z = zone-long in
@@ -78,7 +74,7 @@ module _ (xs : List ℕ) (first unused : ℕ) (i : IsSound xs first unused) wher
             subst (λ q. Begins q from (left_in from xs)) (let q : from ≡ to = omega (arith, w, k, l) in q)
             (begins-here from (left_in from xs))
         | inr d ↦ subst (λ y. Begins to y (left_in from xs))
-            (let k = s.low in let q : 0 + sizes s.below ≡ from = omega (arith, k) in q) d
+            (let q : 0 + sizes s.below ≡ from = omega (arith, s.low) in q) d
       ]
 
       r : PartsAt to from (left_in from xs)
@@ -87,7 +83,7 @@ module _ (xs : List ℕ) (first unused : ℕ) (i : IsSound xs first unused) wher
       whole : left_in from xs ≡ r.below ++ left_in to xs
       whole = r.is ∙ ap (λ k. r.below ++ k) (sym (left-above xs first unused i (s.below ++ r.below) r.above to
           (s.is ∙ ap (λ k. s.below ++ k) r.is ∙ sym (append_assoc s.below r.below r.above))
-          (let a = span-append s.below r.below in let k = s.low in let u = r.low in omega (arith, a, k, u))))
+          (omega (arith, span-append, s.low, r.low))))
 
   -- what is known of the blocks from an edge on up to a landmark, up to an edge below it
   pub stretch-at : (w : Counting) (t : Tally) (at to next : ℕ) → Begins at 0 (zone_in xs)
@@ -105,7 +101,7 @@ module _ (xs : List ℕ) (first unused : ℕ) (i : IsSound xs first unused) wher
       same = alike-more (between at to 0 (zone_in xs)) _ p.0
           (alike-same _ _ (ap (between at to 0) (s.is ∙ ap (λ k. s.below ++ k) p.1.is)))
           (between-parts at to s.below p.0 (left_in next xs) s.low (let u = p.1.up in omega (arith, u, h)) (elim o [
-            | inl q ↦ inl (let u = p.1.up in omega (arith, u, q))
+            | inl q ↦ inl (omega (arith, p.1.up, q))
             | inr q ↦ inr (left-none next xs (begins-way xs first unused i next e) (omega (arith, q)))
           ]))
 
@@ -136,8 +132,8 @@ module _ (xs : List ℕ) (first unused : ℕ) (i : IsSound xs first unused) wher
   bounded-edge marks a index next end e (inl q) h = elim (cases_lt index (length marks)) [
     | inl l ↦ subst (λ p. Begins p 0 (zone_in xs)) (sym (q ∙ mark-first 4294967295 marks index no_mark l))
         (mark-begins 4294967295 (zone_in xs) marks index no_mark l a)
-    | inr l ↦ let m = i.lays.small in
-        let k : next ≡ 4294967295 = q ∙ ap (next_of 4294967295) (drop_all index marks l) in absurd (omega (arith, k, h, e, m))
+    | inr l ↦ let k : next ≡ 4294967295 = q ∙ ap (next_of 4294967295) (drop_all index marks l) in
+    absurd (omega (arith, k, h, e))
   ]
 
   -- that is the next landmark, where there is one
@@ -146,17 +142,16 @@ module _ (xs : List ℕ) (first unused : ℕ) (i : IsSound xs first unused) wher
       → index < length marks → next ≡ (get_or marks index no_mark).at
   bounded-mark marks a index next end e (inl q) h l = q ∙ mark-first 4294967295 marks index no_mark l
   bounded-mark marks a index next end e (inr q) h l =
-      let f = mark-first 4294967295 marks index no_mark l in
       let w = edge-within (get_or marks index no_mark).at (mark-begins 4294967295 (zone_in xs) marks index no_mark l a) in
-      omega (arith, q, e, f, w, h)
+      omega (arith, q, e, mark-first 4294967295 marks index no_mark l, w, h)
 
   -- and else the end
   pub bounded-end : (marks : List Landmark) → (index next end : ℕ) → end ≡ length xs
       → (next ≡ next_of 4294967295 (drop index marks)) ⊎ (next ≡ end) → next ≤ end → length marks ≤ index → length xs ≤ next
   bounded-end marks index next end e (inr q) h l = omega (arith, q, e)
   bounded-end marks index next end e (inl q) h l =
-      let m = i.lays.small in
-      let k : next ≡ 4294967295 = q ∙ ap (next_of 4294967295) (drop_all index marks l) in absurd (omega (arith, k, h, e, m))
+      let k : next ≡ 4294967295 = q ∙ ap (next_of 4294967295) (drop_all index marks l) in
+      absurd (omega (arith, k, h, e))
 
   -- so the stretch of a landmark is known up to there
   pub next-stretch : (w : Counting) (marks : List Landmark) (a : AreMarks 4294967295 (zone_in xs) marks) (index next end : ℕ)
@@ -167,7 +162,7 @@ module _ (xs : List ℕ) (first unused : ℕ) (i : IsSound xs first unused) wher
   next-stretch w marks a index next end l e o h least = stretch-of marks a index l w next
       (bounded-edge marks a (index + 1) next end e o h)
       (elim o [
-        | inl q ↦ let r = mark-rises marks a index l in omega (arith, q, r)
+        | inl q ↦ omega (arith, q, mark-rises marks a index l)
         | inr q ↦ let w = edge-within (get_or marks index no_mark).at (mark-edge marks a index l) in omega (arith, q, e, w)
       ]) least (elim o [
         | inl q ↦ inl q

@@ -68,23 +68,21 @@ module _ (xs : List ℕ) (from : ℕ) (m : MayStart from (zone_in xs)) (bytes pu
   none-below : count_of (spared n) q.low ≡ 0
   none-below = ap (count_of (spared n)) (sym (plain q.low)) ∙ count-none n m.bound 0 q.low
       (at-left (Stays m.bound) 0 q.low above (subst (NoneGoes m.bound) parts m.none))
-      (let u = q.low_piece.up in let e = q.is in elim m.low [
-        | inl k ↦ omega (arith, u, e, k)
-        | inr k ↦ omega (arith, u, e, k)
+      (elim m.low [
+        | inl k ↦ omega (arith, k)
+        | inr k ↦ omega (arith, k)
       ])
 
   few : count_of (spared n) above ≤ purges
   few =
-      let c = ap (count_of (spared n)) (plain (zone_in xs) ∙ parts) in
-      let t = total-append (λ (b : Block). cond {A = ℕ} (may_be_purged (spared n) b) 1 0) q.low above in
-      omega (arith, all, c, t)
+      omega (arith, all, ap (count_of (spared n)) (plain (zone_in xs) ∙ parts), total-append)
 
   -- in the run that goes on there
   on : (start : ℕ) (high : List Block) → start ≡ r.start → find start 0 start (o.here ++ high) ≡ find r.start r.free r.at high
   on start high e = let w = whole-open o.here r.free o.goes_on in
       ap (λ y. find y 0 y (o.here ++ high)) e
       ∙ goes-through bytes (spared n) r.start 0 true r.start o.here high w.0
-      ∙ ap (λ y. find r.start y (r.start + sizes o.here) high) (let v = w.1 in let y : 0 + free_sum o.here ≡ r.free = omega (arith, v) in y)
+      ∙ ap (λ y. find r.start y (r.start + sizes o.here) high) (let y : 0 + free_sum o.here ≡ r.free = omega arith in y)
       ∙ ap (λ y. find r.start r.free y high) o.piece.up
 
   -- past the blocks below
@@ -97,13 +95,11 @@ module _ (xs : List ℕ) (from : ℕ) (m : MayStart from (zone_in xs)) (bytes pu
         = append_cancel_right q.low (b.below ++ b.here ∷ o.here) above
         (sym q.low_piece.is ∙ is ∙ sym (append_assoc b.below (b.here ∷ o.here) above)) in
         let i = barred b.here b.ends in
-        let l = ended b.below b.here low in
-        let h = q.short in
         ap (λ k. find 0 0 0 (k ++ high)) low ∙ ap (find 0 0 0) (append_assoc b.below (b.here ∷ o.here) high)
         ∙ scan-begun bytes (spared n) 0 0 0 b.below (b.here ∷ []) (o.here ++ high)
-        (ap (λ t. is_ended (join (counted t (free_of b.here)) (Whole 0))) i) l
-        ∙ found-ended bytes (spared n) (0 + sizes b.below) 0 (0 + sizes b.below) b.here (o.here ++ high) i (omega (arith, h))
-        ∙ on (0 + sizes b.below + size b.here) high (let u = b.up in omega (arith, u))
+        (ap (λ t. is_ended (join (counted t (free_of b.here)) (Whole 0))) i) (ended b.below b.here low)
+        ∙ found-ended bytes (spared n) (0 + sizes b.below) 0 (0 + sizes b.below) b.here (o.here ++ high) i (omega arith)
+        ∙ on (0 + sizes b.below + size b.here) high (omega arith)
     | inr z ↦
         let is : left_in 0 xs ≡ o.here ++ above
         = ap (λ y. left_in y xs) (sym z) ∙ o.piece.is in
@@ -115,12 +111,10 @@ module _ (xs : List ℕ) (from : ℕ) (m : MayStart from (zone_in xs)) (bytes pu
           → best (join (Whole 0) (stretch_of (below ++ here ∷ []))) < bytes
       ended below here low =
           let some = join (Whole 0) (stretch_of (below ++ here ∷ [])) in
-          let a = best-low some (stretch_of o.here) in
           let t = ap best (ap (join (Whole 0)) (ap stretch_of (low ∙ sym (append_assoc below (here ∷ []) o.here))
           ∙ stretch_of-append (below ++ here ∷ []) o.here)
           ∙ sym (join-assoc (Whole 0) (stretch_of (below ++ here ∷ [])) (stretch_of o.here))) in
-          let h = q.short in
-          omega (arith, a, t, h)
+          omega (arith, best-low some (stretch_of o.here), t)
 
   pub reached-finds : lowest_place bytes (purged purges n (zone_in xs))
       ≡ finds_purging bytes n (record { left = purges; start = r.start; free = r.free; met = true; place = r.at }) xs
@@ -136,11 +130,11 @@ module _ (xs : List ℕ) (from : ℕ) (m : MayStart from (zone_in xs)) (bytes pu
 -- a block begins where a run does
 pub run-begins : (xs : List ℕ) (at : ℕ) → RunBegins at xs → Begins at 0 (zone_in xs)
 run-begins xs at r =
-    let a = span-append r.below (r.here ∷ []) in let u = r.up in
     subst (Begins at 0) (sym (r.is ∙ sym (append_assoc r.below (r.here ∷ []) (left_in at xs))))
     (begins-right at 0 (r.below ++ r.here ∷ []) (left_in at xs)
     (subst (λ y. Begins at y (left_in at xs))
-    (let q : at ≡ 0 + sizes (r.below ++ r.here ∷ []) = omega (arith, a, u) in q) (begins-here at (left_in at xs))))
+    (let q : at ≡ 0 + sizes (r.below ++ r.here ∷ []) = omega (arith, span-append) in q)
+    (begins-here at (left_in at xs))))
 
 -- a run begins above a block that ends one
 module _ (xs : List ℕ) (first unused : ℕ) (i : IsSound xs first unused) (at end free : ℕ) (barrier : Bool)
@@ -152,12 +146,10 @@ module _ (xs : List ℕ) (first unused : ℕ) (i : IsSound xs first unused) (at 
   pub run-here : barrier ≡ true → RunBegins end xs
   run-here e =
       let f = seen-from xs first unused i at b in
-      let l = f.low in
-      let u = s.up in
       record {
         below = f.below;
         here = s.here;
         is = f.is ∙ ap (λ k. f.below ++ k) s.is;
         ends = sym s.ends ∙ e;
-        up = omega (arith, l, u);
+        up = omega arith;
       }

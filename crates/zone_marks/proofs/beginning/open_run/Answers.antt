@@ -18,5 +18,4 @@ overflow_add-result c =
     let l = open-few c.args.part.now.bytes (record { start = r.start; free = r.free + c.args.below.free; at = c.args.at })
     (open-farther c.args.part.now.bytes r c.run_up_to-run.ensures c.args.below.end c.args.at c.args.below.free b.high
     c.if-run-below.false b.high_piece b.goes_on) in
-    let f = c.ranges.at.fits in
-    omega (arith, l, f)
+    omega (arith, l)

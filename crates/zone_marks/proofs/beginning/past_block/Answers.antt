@@ -28,7 +28,4 @@ overflow_add-result c =
     let s = c.span_at-span in
     let o = open-past-one c.args.part.now.bytes i.0 i.1 i.2 c.args.run c.requires.run s.result.end s.result.free
     s.result.barrier s.ensures c.if-span.false in
-    let l = open-few c.args.part.now.bytes _ o in
-    let f = s.result.end in
-    let g = c.span_at-span.ensures.way.small in
-    omega (arith, l)
+    omega (arith, open-few)

@@ -12,8 +12,4 @@ returns-clause-low c =
     let i = c.requires.sound in
     if-spot (spot (is_relocatable c.args.slot) (zone_in xs)) (λ s. c.below.result ≤ sizes s.below) (λ s e.
     let l = led-slot xs i.0 i.1 i.2 c.args.slot s e in
-    let p = led-place xs i.0 i.1 i.2 c.args.slot s e in
-    let w = c.word_of_slot.ensures l.0 l.1 in
-    let b = c.below.ensures.below in
-    let k = c.saturating_add.ensures in
-    omega (arith, p, w, b, k))
+    omega (arith, led-place xs i.0 i.1 i.2 c.args.slot s e, c.word_of_slot.ensures l.0 l.1))

@@ -29,9 +29,7 @@ count_in-requires c =
     let i = c.requires.sound in
     let l = left-long c.args.part.now.bytes i.0 i.1 i.2 c.within-first.result
     (edge_begins (goal.at.count_in-requires c).After-within-first) in
-    let e = ap sizes c.walk_from.ensures in
-    let m = i.2.lays.small in
-    omega (arith, l, e, m)
+    omega (arith, l, ap sizes c.walk_from.ensures)
 
 pub returns-clause-is : goal.returns-clause-is
 returns-clause-is c = λ low rest is at.
@@ -49,10 +47,9 @@ returns-clause-few c =
     let n = c.args.sparing in
     let w = c.within-first.ensures in
     let s = seen-from c.args.part.now.bytes i.0 i.1 i.2 c.args.run c.requires.run in
-    let low = s.low in
     let is = c.count_in.ensures.is
     ∙ ap (λ l. count_within (spared n) (c.args.run - c.within-first.result) (opened n l)) c.walk_from.ensures
     ∙ count-below c.args.part.now.bytes i.0 i.1 i.2 c.args.from c.within-first.result c.args.run n s.below
     (left_in c.args.run c.args.part.now.bytes)
-    (edge_begins (goal.at.returns-clause-few c).After-within-first) w.least c.requires.none w.low s.is low in
-    omega (arith, is, count-few (spared n) (opened n s.below), sizes-opened n s.below, low)
+    (edge_begins (goal.at.returns-clause-few c).After-within-first) w.least c.requires.none w.low s.is s.low in
+    omega (arith, is, count-few (spared n) (opened n s.below), sizes-opened n s.below, s.low)

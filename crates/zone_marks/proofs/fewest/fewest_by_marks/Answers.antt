@@ -34,30 +34,24 @@ count_for-requires c =
     let i = c.requires.sound in
     let l = left-long c.args.part.now.bytes i.0 i.1 i.2 c.args.run
     (run_begins (goal.at.count_for-requires c).Start) in
-    let e = ap sizes c.walk_from.ensures in
-    let m = i.2.lays.small in
-    omega (arith, l, e, m)
+    omega (arith, l, ap sizes c.walk_from.ensures)
 
 pub overflow_add-result : goal.overflow_add-result
 overflow_add-result c =
     let i = c.requires.sound in
     let r = left-long c.args.part.now.bytes i.0 i.1 i.2 c.args.run
     (run_begins (goal.at.overflow_add-result c).Start) in
-    let f = ap sizes c.walk_from.ensures in
-    let m = i.2.lays.small in
-    omega (arith, r, f, m, c.count_below-below.ensures.few, c.count_for.ensures.few)
+    omega (arith, r, ap sizes c.walk_from.ensures, c.count_below-below.ensures.few, c.count_for.ensures.few)
 
 pub returns : goal.returns
 returns c =
     let i = c.requires.sound in
-    let xs = c.args.part.now.bytes in
     let n = c.args.sparing in
     let f = first (goal.at.returns c).Start in
-    let left = left-above xs i.0 i.1 i.2 f.low f.rest c.args.run f.is f.at in
-    let below = c.count_below-below.ensures.is f.low f.rest f.is f.at in
+    let left = left-above c.args.part.now.bytes i.0 i.1 i.2 f.low f.rest c.args.run f.is f.at in
     let lacks = c.saturating_sub-lacks.ensures
     ∙ ap (λ k. c.args.bytes - k) (c.free_at-free.ensures ∙ ap (λ l. prefix (stretch_of (opened n l))) left) in
     let own = c.count_for.ensures.is
     ∙ ap (λ l. purges_for (spared n) c.saturating_sub-lacks.result (opened n l)) (c.walk_from.ensures ∙ left)
     ∙ ap (λ k. purges_for (spared n) k (opened n f.rest)) lacks in
-    rw (below, own) f.least
+    rw ((c.count_below-below.ensures.is f.low f.rest f.is f.at), own) f.least

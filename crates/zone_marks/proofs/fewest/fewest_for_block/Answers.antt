@@ -21,10 +21,7 @@ walk_from-requires c = let i = c.requires.sound in on-way c.args.part.now.bytes 
 
 pub run_of_in-requires : goal.run_of_in-requires
 run_of_in-requires c =
-    let i = c.requires.sound in
-    let e = ap sizes c.walk_from.ensures in
-    let l = sizes-fit c.args.part.now.bytes i.0 i.1 i.2 in
-    omega (arith, e, l)
+    omega (arith, ap sizes c.walk_from.ensures, sizes-fit)
 
 pub returns-in_default : goal.returns-in_default
 returns-in_default c =
@@ -36,11 +33,10 @@ returns-in_default c =
 pub free_at-free-requires-clause-begins : goal.free_at-free-requires-clause-begins
 free_at-free-requires-clause-begins c =
     let xs = c.args.part.now.bytes in
-    let run = c.in-Some.run' in
     let r = block-run xs c.args.number c.args.bytes c.in-Some.run' c.args.sparing
     c.walk_from.result (c.walk_from.ensures ∙ left-zone xs) c.requires.once c.requires.spared c.requires.whole
     c.in-Some.ensures in
-    run-begins xs run r.low r.rest r.is r.at
+    run-begins xs c.in-Some.run' r.low r.rest r.is r.at
 
 pub returns-then-bytes-free : goal.returns-then-bytes-free
 returns-then-bytes-free c =
@@ -58,24 +54,20 @@ pub walk_from-requires-2 : goal.walk_from-requires-2
 walk_from-requires-2 c =
     let i = c.requires.sound in
     let xs = c.args.part.now.bytes in
-    let run = c.in-Some.run' in
     let r = block-run xs c.args.number c.args.bytes c.in-Some.run' c.args.sparing
     c.walk_from.result (c.walk_from.ensures ∙ left-zone xs) c.requires.once c.requires.spared c.requires.whole
     c.in-Some.ensures in
-    begins-way xs i.0 i.1 i.2 run (run-begins xs run r.low r.rest r.is r.at)
+    begins-way xs i.0 i.1 i.2 c.in-Some.run' (run-begins xs c.in-Some.run' r.low r.rest r.is r.at)
 
 pub count_in_run-requires : goal.count_in_run-requires
 count_in_run-requires c =
     let i = c.requires.sound in
     let xs = c.args.part.now.bytes in
-    let run = c.in-Some.run' in
     let r = block-run xs c.args.number c.args.bytes c.in-Some.run' c.args.sparing
     c.walk_from.result (c.walk_from.ensures ∙ left-zone xs) c.requires.once c.requires.spared c.requires.whole
     c.in-Some.ensures in
-    let l = left-long xs i.0 i.1 i.2 run (run-begins xs run r.low r.rest r.is r.at) in
-    let e = ap sizes c.walk_from-2.ensures in
-    let m = i.2.lays.small in
-    omega (arith, l, e, m)
+    let l = left-long xs i.0 i.1 i.2 c.in-Some.run' (run-begins xs c.in-Some.run' r.low r.rest r.is r.at) in
+    omega (arith, l, ap sizes c.walk_from-2.ensures)
 
 pub returns-in_default-count_in_run : goal.returns-in_default-count_in_run
 returns-in_default-count_in_run c =
@@ -96,24 +88,21 @@ returns-in_default-count_in_run c =
 pub count_below-requires-clause-run : goal.count_below-requires-clause-run
 count_below-requires-clause-run c =
     let xs = c.args.part.now.bytes in
-    let run = c.in-Some.run' in
     let r = block-run xs c.args.number c.args.bytes c.in-Some.run' c.args.sparing
     c.walk_from.result (c.walk_from.ensures ∙ left-zone xs) c.requires.once c.requires.spared c.requires.whole
     c.in-Some.ensures in
-    run-begins xs run r.low r.rest r.is r.at
+    run-begins xs c.in-Some.run' r.low r.rest r.is r.at
 
 pub overflow_add-result : goal.overflow_add-result
 overflow_add-result c =
     let i = c.requires.sound in
     let xs = c.args.part.now.bytes in
-    let run = c.in-Some.run' in
     let r = block-run xs c.args.number c.args.bytes c.in-Some.run' c.args.sparing
     c.walk_from.result (c.walk_from.ensures ∙ left-zone xs) c.requires.once c.requires.spared c.requires.whole
     c.in-Some.ensures in
-    let l = left-long xs i.0 i.1 i.2 run (run-begins xs run r.low r.rest r.is r.at) in
+    let l = left-long xs i.0 i.1 i.2 c.in-Some.run' (run-begins xs c.in-Some.run' r.low r.rest r.is r.at) in
     let e = ap sizes c.walk_from-2.ensures in
-    let m = i.2.lays.small in
-    omega (arith, l, e, m, c.count_below.ensures.few, c.in-Some-count_in_run.ensures.few)
+    omega (arith, l, e, c.count_below.ensures.few, c.in-Some-count_in_run.ensures.few)
 
 pub returns : goal.returns
 returns c =

@@ -15,9 +15,7 @@ pub free_of_run-requires : goal.free_of_run-requires
 free_of_run-requires c =
     let i = c.requires.sound in
     let l = left-long c.args.part.now.bytes i.0 i.1 i.2 c.args.run c.requires.begins in
-    let e = ap sizes c.walk_from.ensures in
-    let m = i.2.lays.small in
-    omega (arith, l, e, m)
+    omega (arith, l, ap sizes c.walk_from.ensures)
 
 pub returns-then-frees_one : goal.returns-then-frees_one
 returns-then-frees_one c =

@@ -29,29 +29,21 @@ walked c =
     let i = c.requires.sound in
     let xs = c.args.part.now.bytes in
     let p = c.args.passed in
-    let q = c.requires.passed in
-    let b = q.barred (ap is_ended c.in-Ended.is) in
+    let b = c.requires.passed.barred (ap is_ended c.in-Ended.is) in
     let answer = finds_from c.args.bytes c.args.scan xs in
     let r = c.scan_up_to-walked in
     scanned c.args.bytes answer xs i.0 i.1 i.2 p.barred p.end c.begun_at-begun.result r.result b.mid
     (subst (IsKnown c.args.bytes answer p.barred xs) (sym c.begun_at-begun.ensures)
-    (known-barred c.args.bytes xs c.args.scan c.requires.ready c.args.at p q c.requires.short b))
+    (known-barred c.args.bytes xs c.args.scan c.requires.ready c.args.at p c.requires.passed c.requires.short b))
     b.piece r.ensures.same r.ensures.begins r.ensures.free r.ensures.met r.ensures.left r.ensures.stays r.ensures.came
     r.ensures.up_to
 
 pub past_open-requires : goal.past_open-requires
 past_open-requires c = λ n.
-    let d = (goal.at.past_open-requires c).After-scan_up_to-walked in
     let xs = c.args.part.now.bytes in
-    let q = c.requires.passed in
-    let k = walked d in
+    let k = walked ((goal.at.past_open-requires c).After-scan_up_to-walked) in
     let e = not-found c.args.bytes (finds_from c.args.bytes c.args.scan xs) xs c.args.passed.end c.scan_up_to-walked.result k n in
-    let f = k.free in
-    let z = free_span-le q.high in
-    let s = (whole-open q.high c.args.passed.free q.goes_on).1 in
-    let u = q.high_piece.up in
-    let h = c.ranges.at.fits in
-    omega (arith, e, f, z, s, u, h)
+    omega (arith, e, free_span-le, (whole-open c.requires.passed.high c.args.passed.free c.requires.passed.goes_on).1)
 
 pub returns-in-Ended : goal.returns-in-Ended
 returns-in-Ended c =

@@ -13,8 +13,7 @@ run_from-requires-clause-ready c = rw c.begun_at.ensures (ready-begun c.args.par
 
 pub returns : goal.returns
 returns c =
-    let i = c.requires.sound in
     let xs = c.args.part.now.bytes in
     finds_run (has_free c.args.bytes) (zone_in xs) c.run_from.result
     (c.run_from.ensures ∙ ap (λ s. finds_from c.args.bytes s xs) c.begun_at.ensures
-    ∙ sym (run-start c.args.bytes 0 sparing.Nothing xs) ∙ ap (lowest_place c.args.bytes) i.2.tidied)
+    ∙ sym (run-start c.args.bytes 0 sparing.Nothing xs) ∙ ap (lowest_place c.args.bytes) c.requires.sound.2.tidied)

@@ -29,8 +29,7 @@ pub returns-in-Some-clause-come : goal.returns-in-Some-clause-come
 returns-in-Some-clause-come c = λ scan h.
     let i = c.requires.sound in
     let xs = c.args.part.now.bytes in
-    let d = (goal.at.returns-in-Some-clause-come c).After-within-next in
-    let b = up-to d in
+    let b = up-to ((goal.at.returns-in-Some-clause-come c).After-within-next) in
     let marks = c.args.marks.now in
     let next = c.within-next.result in
     record {

@@ -14,7 +14,7 @@ loop-reached-init c = record {
     here = c.requires.here;
     end = c.requires.end;
   };
-  short = (let s = c.requires.short in omega (arith, s));
+  short = (omega arith);
 }
 
 pub returns : goal.returns

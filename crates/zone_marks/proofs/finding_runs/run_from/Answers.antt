@@ -32,9 +32,9 @@ higher : (c : After-within-at) → c.args.begun.place ≤ c.within-at.result
 higher c =
     let i = c.requires.sound in
     elim (bounds c) [
-      | inl q ↦ let a = c.index_above-first.ensures.above in omega (arith, q, a)
+      | inl q ↦ omega (arith, q)
       | inr q ↦ let w = edge-within c.args.part.now.bytes i.0 i.1 i.2 c.args.begun.place c.requires.ready.begins in
-          let e = c.len.ensures.count in omega (arith, q, w, e)
+          omega (arith, q, w)
     ]
 
 -- and what it finds there
@@ -70,12 +70,10 @@ pub reach_run-requires-clause-here : goal.reach_run-requires-clause-here
 reach_run-requires-clause-here c = λ l.
     let i = c.requires.sound in
     let d = (goal.at.reach_run-requires-clause-here c).After-scan_up_to-scan in
-    let p = c.place_of_mark.ensures in
-    let t = c.within-at.ensures.least in
     not-found c.args.bytes (finds_from c.args.bytes c.args.begun c.args.part.now.bytes) c.args.part.now.bytes
     c.within-at.result c.scan_up_to-scan.result (there d) (sym c.is_found.ensures ∙ c.if-is_found.false)
     ∙ bounded-mark c.args.part.now.bytes i.0 i.1 i.2 c.args.marks.now c.requires.marks c.index_above-first.result
-    c.within-at.result c.len.result c.len.ensures.count (bounds d.before) (omega (arith, p, t)) l
+    c.within-at.result c.len.result c.len.ensures.count (bounds d.before) (omega arith) l
 
 pub reach_run-requires-clause-end : goal.reach_run-requires-clause-end
 reach_run-requires-clause-end c = λ l.

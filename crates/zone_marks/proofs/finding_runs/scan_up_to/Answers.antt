@@ -17,9 +17,7 @@ loop-scan-preserved c =
     let r = c.scan_run-scan.ensures in
     let find = scan_from None c.args.bytes (spared c.args.sparing) in
     let z = seen-sized xs scan.place step.result.block step.result.end s in
-    let u = s.up in
-    let p = r.place in
-    let end : c.scan_run-scan.result.place ≡ step.result.end = omega (arith, z, u, p) in
+    let end : c.scan_run-scan.result.place ≡ step.result.end = omega (arith, z) in
     let short : (scan.met && nat_le c.args.bytes scan.free) ≡ false = sym c.is_found.ensures ∙ c.if-not-is_found.true in
     record {
       same = i.same ∙ ap (λ k. find scan (opened c.args.sparing k)) s.is
@@ -29,12 +27,12 @@ loop-scan-preserved c =
           (passed-block xs scan.place step.result.block step.result.end s c.args.scan.place i.passed);
       free = r.free;
       met = r.met refl i.met;
-      left = (let l = r.left in let k = i.left in omega (arith, l, k));
+      left = (omega arith);
       stays = λ f. let e : true ≡ false = sym (i.stays f) ∙ short in cc;
       up_to = λ b.
           subst (λ q. Begins c.args.to q (left_in q xs)) (sym end)
           (edge-further xs scan.place step.result.block step.result.end s c.args.to
-          (let l = c.loop-scan-test.true in let w = c.within-stop.ensures.least in omega (arith, l, w)) (i.up_to b));
+          (omega arith) (i.up_to b));
     }
 
 pub returns-else-not-is_found-clause-begins : goal.returns-else-not-is_found-clause-begins

@@ -14,10 +14,9 @@ scan_up_to-last-requires-clause-way c =
 pub returns-then-is_found : goal.returns-then-is_found
 returns-then-is_found c =
     let last = c.scan_up_to-last.result in
-    let n = c.args.sparing in
     sym (c.scan_up_to-last.ensures.same
-    ∙ scan_kept None c.args.bytes (spared n) last.left last.start last.free last.met last.place
-    (opened n (left_in last.place c.args.part.now.bytes)) (sym c.is_found.ensures ∙ c.if-is_found.true))
+    ∙ scan_kept None c.args.bytes (spared c.args.sparing) last.left last.start last.free last.met last.place
+    (opened c.args.sparing (left_in last.place c.args.part.now.bytes)) (sym c.is_found.ensures ∙ c.if-is_found.true))
 
 pub returns : goal.returns
 returns c =

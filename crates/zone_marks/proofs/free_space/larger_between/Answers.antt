@@ -17,16 +17,15 @@ loop-at-preserved c =
 pub returns-clause-none : goal.returns-clause-none
 returns-clause-none c =
     let k = c.len.ensures.count in
-    let l = c.loop-at-test.false in
     passed-all c.args.part.now.bytes c.args.from (λ _ b. is_room (c.loop-at.largest + 1) b ≡ false)
     (λ _ b. is_room (c.loop-at.largest + 1) b ≡ false) c.args.from c.args.to c.loop-at.at c.loop-at.invariant.passed
     (λ _ b r. r)
     (past c.args.to (length c.args.part.now.bytes) c.loop-at.at c.within-stop.result
     (subst (λ n. (c.within-stop.result ≡ c.args.to) ⊎ (c.within-stop.result ≡ n)) k c.within-stop.ensures.one)
-    (omega (arith, l)))
+    (omega arith))
 
 pub returns-clause-no_less : goal.returns-clause-no_less
 returns-clause-no_less c = c.loop-at.invariant.no_less
 
 pub returns-clause-reached : goal.returns-clause-reached
-returns-clause-reached c = let r = c.loop-at.invariant.reached in omega (arith, r)
+returns-clause-reached c = omega arith

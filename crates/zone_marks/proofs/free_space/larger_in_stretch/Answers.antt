@@ -13,24 +13,19 @@ larger_between-requires c =
 pub returns-then-mark-most-clause-none : goal.returns-then-mark-most-clause-none
 returns-then-mark-most-clause-none c =
     let i = c.requires.sound in
-    let l = c.if-mark-most.true in
     none-whole c.args.part.now.bytes i.0 i.1 i.2 (c.args.most + 1) c.args.mark.at c.args.to c.requires.below
-    (c.requires.bound (omega (arith, l)))
+    (c.requires.bound (omega arith))
 
 pub returns-else-mark-most-clause-none : goal.returns-else-mark-most-clause-none
 returns-else-mark-most-clause-none c =
     let i = c.requires.sound in
     let xs = c.args.part.now.bytes in
     let r = c.larger_between.result in
-    let l = c.larger_between.ensures.no_less in
     none-further xs i.0 i.1 i.2 (r + 1) c.args.mark.at c.args.to c.requires.begins
-    (no-more-room (c.args.most + 1) (r + 1) 0 c.args.mark.at 0 (zone_in xs) (omega (arith, l)) c.requires.below)
+    (no-more-room (c.args.most + 1) (r + 1) 0 c.args.mark.at 0 (zone_in xs) (omega arith) c.requires.below)
     c.larger_between.ensures.none
 
 pub returns-else-mark-most-clause-reached : goal.returns-else-mark-most-clause-reached
 returns-else-mark-most-clause-reached c =
     let i = c.requires.sound in
-    let l = left-largest c.args.part.now.bytes i.0 i.1 i.2 c.args.mark.at c.requires.begins in
-    let r = c.larger_between.ensures.reached in
-    let m = c.requires.reached in
-    omega (arith, l, r, m)
+    omega (arith, left-largest c.args.part.now.bytes i.0 i.1 i.2 c.args.mark.at c.requires.begins)

@@ -25,15 +25,11 @@ pub returns : goal.returns
 returns c =
     let i = c.requires.sound in
     let f = largest-from c.args.part.now.bytes i.0 i.1 i.2 c.args.purges c.args.from c.requires.from in
-    let s = c.largest_free_by_marks-stands.ensures in
     let a = c.largest_after_in-above.ensures
     ∙ ap (λ l. largest_free (purged c.args.purges sparing.Nothing l)) c.walk_from.ensures in
-    let g = c.greater.ensures in
-    let u = g.first in
-    let v = g.second in
-    elim g.one [
-      | inl e ↦ omega (arith, f, s, a, u, v, e)
-      | inr e ↦ omega (arith, f, s, a, u, v, e)
+    elim c.greater.ensures.one [
+      | inl e ↦ omega (arith, f, a, e)
+      | inr e ↦ omega (arith, f, a, e)
     ]
 
 -- as many purges as a zone can have blocks
@@ -41,7 +37,5 @@ pub returns-then-purges-ge-GREATEST_ZONE : goal.returns-then-purges-ge-GREATEST_
 returns-then-purges-ge-GREATEST_ZONE c =
     let i = c.requires.sound in
     let xs = c.args.part.now.bytes in
-    let m = most-fits xs i.0 i.1 i.2 sparing.Nothing in
-    let t = c.if-purges-ge-GREATEST_ZONE.true in
     c.largest_space_by_marks.ensures ∙ sym (ap largest_free (purged-most c.args.purges sparing.Nothing (zone_in xs)
-    (omega (arith, m, t))))
+    (omega (arith, most-fits xs i.0 i.1 i.2 sparing.Nothing))))

@@ -18,12 +18,10 @@ loop-group-init c =
     let xs = c.args.part.now.bytes in
     let r = c.larger_between-largest.result in
     let e = c.larger_between-largest.ensures in
-    let z = ap largest_free (left-zone xs) in
-    let u = e.reached in
     record {
       none = subst (λ p. AtEach (NoRoom (r + 1) 0 p) 0 (zone_in xs)) c.place_of_mark.ensures
           (subst (AtEach (NoRoom (r + 1) 0 c.place_of_mark.result) 0) (left-zone xs) e.none);
-      reached = omega (arith, z, u);
+      reached = omega (arith, ap largest_free (left-zone xs));
     }
 
 pub loop-group-preserved : goal.loop-group-preserved
@@ -33,19 +31,18 @@ loop-group-preserved c =
     let zone = zone_in xs in
     let marks = c.args.marks.now in
     let group = c.loop-group.group in
-    let v = c.loop-group.invariant in
     elim c.if-largest-groups.branch [
       | then-largest-groups w ↦ record {
         none = subst (λ m. NoneBelow (m + 1) zone marks (GROUP * (group + 1))) (sym w.largest-is)
             (subst (NoneBelow (w.larger_in_group-largest.result + 1) zone marks)
             (let e : GROUP * group + GROUP ≡ GROUP * (group + 1) = omega arith in e) w.larger_in_group-largest.ensures.none);
-        reached = (let e = w.largest-is in let r = w.larger_in_group-largest.ensures.reached in omega (arith, e, r));
+        reached = (omega arith);
       }
       | else-largest-groups w ↦ record {
         none = subst (λ m. NoneBelow (m + 1) zone marks (GROUP * (group + 1))) (sym w.largest-is)
             (none-group xs i.0 i.1 i.2 (c.loop-group.largest + 1) marks c.requires.marks c.args.groups.now c.requires.groups
-            group c.loop-group-test.true (let f = w.if-largest-groups.false in omega (arith, f)) v.none);
-        reached = (let e = w.largest-is in let r = v.reached in omega (arith, e, r));
+            group c.loop-group-test.true (omega arith) c.loop-group.invariant.none);
+        reached = (omega arith);
       }
     ]
 
@@ -53,9 +50,6 @@ pub returns : goal.returns
 returns c =
     let i = c.requires.sound in
     let xs = c.args.part.now.bytes in
-    let t = c.loop-group-test.false in
-    let w = c.requires.groups.whole in
-    let v = c.loop-group.invariant in
     zone-largest xs i.0 i.1 i.2 c.loop-group.largest
     (none-past (c.loop-group.largest + 1) (zone_in xs) c.args.marks.now (GROUP * c.loop-group.group)
-    (omega (arith, t, w)) v.none) v.reached
+    (omega arith) c.loop-group.invariant.none) c.loop-group.invariant.reached

@@ -13,8 +13,7 @@ read_word-word-requires c = handle-fits c.requires.0 c.args.slot c.args.part.now
 pub free_block-requires : goal.free_block-requires
 free_block-requires c =
     let e = c.read_word-word.ensures in
-    let z = c.if-word-eq0.true in
-    let f = leads c.requires.0 c.args.slot c.args.part.now.bytes c.requires.1 (omega (arith, e, z)) in (
+    let f = leads c.requires.0 c.args.slot c.args.part.now.bytes c.requires.1 (omega (arith, e)) in (
       leading c.requires.0 c.args.slot c.args.part.now.bytes c.requires.1 f,
       may-release c.requires.0 c.args.slot
           c.args.part.now.bytes c.requires.1 f c.read_word-word.result e,
@@ -23,48 +22,36 @@ free_block-requires c =
 
 pub returns-then-word-eq0-clause-lays : goal.returns-then-word-eq0-clause-lays
 returns-then-word-eq0-clause-lays c = λ t h.
-    let e = c.read_word-word.ensures in
-    let z = c.if-word-eq0.true in
-    let f = leads t c.args.slot c.args.part.now.bytes h (omega (arith, e, z)) in
+    let f = leads t c.args.slot c.args.part.now.bytes h (omega (arith, c.read_word-word.ensures)) in
     subst (λ k. Lays c.free_block.new.part.bytes k t.slots t.unused)
     (sym (leading-is t c.args.slot c.args.part.now.bytes h f))
     (c.free_block.ensures.lays (leading t c.args.slot c.args.part.now.bytes h f)
-    (may-release t c.args.slot c.args.part.now.bytes h f c.read_word-word.result e))
+    (may-release t c.args.slot c.args.part.now.bytes h f c.read_word-word.result c.read_word-word.ensures))
 
 pub returns-then-word-eq0-clause-bytes : goal.returns-then-word-eq0-clause-bytes
 returns-then-word-eq0-clause-bytes c = λ t h.
-    let e = c.read_word-word.ensures in
-    let z = c.if-word-eq0.true in
-    let f = leads t c.args.slot c.args.part.now.bytes h (omega (arith, e, z)) in
+    let f = leads t c.args.slot c.args.part.now.bytes h (omega (arith, c.read_word-word.ensures)) in
     leading-free t c.args.slot c.args.part.now.bytes h f c.free_block.result.bytes
     (c.free_block.ensures.bytes (leading t c.args.slot c.args.part.now.bytes h f)
-    (may-release t c.args.slot c.args.part.now.bytes h f c.read_word-word.result e))
+    (may-release t c.args.slot c.args.part.now.bytes h f c.read_word-word.result c.read_word-word.ensures))
 
 pub returns-else-word-eq0-clause-lays : goal.returns-else-word-eq0-clause-lays
 returns-else-word-eq0-clause-lays c = λ t h.
-    let e = c.read_word-word.ensures in
-    let z = c.if-word-eq0.false in
     subst (λ k. Lays c.args.part.now.bytes k t.slots t.unused)
-    (sym (emptied-is t c.args.slot c.args.part.now.bytes h (λ q. omega (arith, e, z, q)))) h.lays
+    (sym (emptied-is t c.args.slot c.args.part.now.bytes h (λ q. omega (arith, q)))) h.lays
 
 pub returns-else-word-eq0-clause-bytes : goal.returns-else-word-eq0-clause-bytes
 returns-else-word-eq0-clause-bytes c = λ t h.
-    let e = c.read_word-word.ensures in
-    let z = c.if-word-eq0.false in
-    ap free_sum (emptied-is t c.args.slot c.args.part.now.bytes h (λ q. omega (arith, e, z, q)))
+    ap free_sum (emptied-is t c.args.slot c.args.part.now.bytes h (λ q. omega (arith, q)))
     ∙ (let k : free_sum t.blocks ≡ free_sum t.blocks + 0 = omega arith in k)
 
 pub returns-then-word-eq0-clause-replaced : goal.returns-then-word-eq0-clause-replaced
 returns-then-word-eq0-clause-replaced c = λ t h.
-    let e = c.read_word-word.ensures in
-    let z = c.if-word-eq0.true in
-    let f = leads t c.args.slot c.args.part.now.bytes h (omega (arith, e, z)) in
+    let f = leads t c.args.slot c.args.part.now.bytes h (omega (arith, c.read_word-word.ensures)) in
     leading-replaced t c.args.slot c.args.part.now.bytes h f c.free_block.result.from c.free_block.result.to
     (c.free_block.ensures.replaced (leading t c.args.slot c.args.part.now.bytes h f)
-    (may-release t c.args.slot c.args.part.now.bytes h f c.read_word-word.result e))
+    (may-release t c.args.slot c.args.part.now.bytes h f c.read_word-word.result c.read_word-word.ensures))
 
 pub returns-else-word-eq0-clause-replaced : goal.returns-else-word-eq0-clause-replaced
 returns-else-word-eq0-clause-replaced c = λ t h.
-    let e = c.read_word-word.ensures in
-    let z = c.if-word-eq0.false in
-    same-replaced t.blocks _ (emptied-is t c.args.slot c.args.part.now.bytes h (λ q. omega (arith, e, z, q)))
+    same-replaced t.blocks _ (emptied-is t c.args.slot c.args.part.now.bytes h (λ q. omega (arith, q)))

@@ -13,9 +13,7 @@ read_header-header-requires-clause-within c =
 pub read_header-header-requires-clause-fits : goal.read_header-header-requires-clause-fits
 read_header-header-requires-clause-fits c =
     let n = (here-read c.requires.0 c.args.start c.args.at c.args.part.now.bytes c.requires.1).next in
-    let f = n.fits in
-    let m = c.requires.1.lays.small in
-    omega (arith, f, m)
+    omega arith
 
 pub read_header-header-requires-clause-tag : goal.read_header-header-requires-clause-tag
 read_header-header-requires-clause-tag c =
@@ -27,10 +25,7 @@ overflow_add-end c =
     let h = c.read_header-header.result in
     let e = c.read_header-header.ensures in
     let s = r.says h.size (tag_number h.tag) e.first e.size (tag-small h.tag) in
-    let i = r.inside in
-    let m = c.requires.1.lays.small in
-    let n = s.0 in
-    omega (arith, n, i, m)
+    omega arith
 
 pub make_free-requires : goal.make_free-requires
 make_free-requires c =
@@ -89,8 +84,6 @@ returns-else-eq-clause-lays c = λ f m.
     let h = c.read_header-header.result in
     let e = c.read_header-header.ensures in
     let s = r.says h.size (tag_number h.tag) e.first e.size (tag-small h.tag) in
-    let k = s.1 in
-    let t = tag-false h.tag c.if-eq.ensures in
     other-lays f c.args.start c.args.at xs m (c.args.at + h.size) (ap (λ n. c.args.at + n) (sym s.0))
     c.make_free.new.part.bytes c.make_free.ensures.lies c.make_free.ensures.outside
-    (none-led f c.args.start c.args.at xs m (omega (arith, k, t)))
+    (none-led f c.args.start c.args.at xs m (omega (arith, tag-false)))

@@ -17,13 +17,13 @@ read_header-requires-clause-within c =
 
 pub read_header-requires-clause-tag : goal.read_header-requires-clause-tag
 read_header-requires-clause-tag c =
-    (next c.requires.0 c.args.start c.args.at c.args.part.now.bytes c.requires.1 (let l = c.if-at-len.false in
-    omega (arith, l, c.len.ensures.count))).tells.next.tag
+    (next c.requires.0 c.args.start c.args.at c.args.part.now.bytes c.requires.1
+    (omega (arith, c.len.ensures.count))).tells.next.tag
 
 pub free_up-requires : goal.free_up-requires
 free_up-requires c =
     let i : c.args.at < length c.args.part.now.bytes =
-    (let l = c.if-at-len.false in omega (arith, l, c.len.ensures.count)) in
+    (omega (arith, c.len.ensures.count)) in
     let n = next c.requires.0 c.args.start c.args.at c.args.part.now.bytes c.requires.1 i in
     let h = c.read_header.result in
     let e = c.read_header.ensures in
@@ -36,7 +36,7 @@ free_up-requires c =
 pub returns-then-eq-clause-lays : goal.returns-then-eq-clause-lays
 returns-then-eq-clause-lays c = λ j m.
     let i : c.args.at < length c.args.part.now.bytes =
-    (let l = c.if-at-len.false in omega (arith, l, c.len.ensures.count)) in
+    (omega (arith, c.len.ensures.count)) in
     let n = next j c.args.start c.args.at c.args.part.now.bytes m i in
     let h = c.read_header.result in
     let e = c.read_header.ensures in
@@ -47,7 +47,7 @@ returns-then-eq-clause-lays c = λ j m.
 pub returns-else-eq-clause-lays : goal.returns-else-eq-clause-lays
 returns-else-eq-clause-lays c = λ j m.
     let i : c.args.at < length c.args.part.now.bytes =
-    (let l = c.if-at-len.false in omega (arith, l, c.len.ensures.count)) in
+    (omega (arith, c.len.ensures.count)) in
     let n = next j c.args.start c.args.at c.args.part.now.bytes m i in
     let h = c.read_header.result in
     let e = c.read_header.ensures in

@@ -14,9 +14,7 @@ pub purgeable_in-requires : goal.purgeable_in-requires
 purgeable_in-requires c =
     let i = c.requires.sound in
     let l = left-long c.args.part.now.bytes i.0 i.1 i.2 c.args.from c.requires.begins in
-    let e = ap sizes c.walk_from.ensures in
-    let m = i.2.lays.small in
-    omega (arith, l, e, m)
+    omega (arith, l, ap sizes c.walk_from.ensures)
 
 pub returns : goal.returns
 returns c =

@@ -21,11 +21,8 @@ pub returns-then-hi-found : goal.returns-then-hi-found
 returns-then-hi-found c = λ old r n.
     let i = c.requires.sound in
     let xs = c.args.part.now.bytes in
-    let f = c.if-hi-found.true in
-    let h = r.high in
-    let s = r.span in
     stays-replaced c.args.lo c.args.hi old (zone_in xs) r c.args.lowest n c.args.lowest (omega arith)
-    (stays-whole c.first_going-found.result c.args.lowest c.args.lo r.there (omega (arith, f, h, s))
+    (stays-whole c.first_going-found.result c.args.lowest c.args.lo r.there (omega arith)
     (at-left (Stays c.first_going-found.result) c.args.lo r.there r.above
     (subst (AtEach (Stays c.first_going-found.result) c.args.lo)
     (left-above xs i.0 i.1 i.2 r.below (r.there ++ r.above) c.args.lo r.is r.low) c.first_going-found.ensures)))
@@ -34,9 +31,8 @@ pub returns : goal.returns
 returns c = λ old r n.
     let i = c.requires.sound in
     let xs = c.args.part.now.bytes in
-    let w = c.within.ensures in
-    stays-replaced c.args.lo c.args.hi old (zone_in xs) r c.args.lowest n c.within.result w.least
-    (stays-lower c.first_going-found.result c.within.result c.args.lo r.there w.low
+    stays-replaced c.args.lo c.args.hi old (zone_in xs) r c.args.lowest n c.within.result c.within.ensures.least
+    (stays-lower c.first_going-found.result c.within.result c.args.lo r.there c.within.ensures.low
     (at-left (Stays c.first_going-found.result) c.args.lo r.there r.above
     (subst (AtEach (Stays c.first_going-found.result) c.args.lo)
     (left-above xs i.0 i.1 i.2 r.below (r.there ++ r.above) c.args.lo r.is r.low) c.first_going-found.ensures)))

@@ -17,9 +17,7 @@ pub next_purgeable_in-requires : goal.next_purgeable_in-requires
 next_purgeable_in-requires c =
     let i = c.requires.sound in
     let l = left-long c.args.part.now.bytes i.0 i.1 i.2 c.args.from c.requires.begins in
-    let e = ap sizes c.walk_from.ensures in
-    let m = i.2.lays.small in
-    omega (arith, l, e, m)
+    omega (arith, l, ap sizes c.walk_from.ensures)
 
 pub returns-in_default : goal.returns-in_default
 returns-in_default c =
@@ -36,8 +34,7 @@ overflow_add-result c =
     c.requires.plain c.args.purges c.in-Some.above
     (subst (λ l. FindsLowest (may_be_purged (spared c.args.sparing)) (purged c.args.purges c.args.sparing l)
     (Some c.in-Some.above)) c.walk_from.ensures c.in-Some.ensures) in
-    let m = i.2.lays.small in
-    omega (arith, f, m)
+    omega (arith, f)
 
 pub returns : goal.returns
 returns c =

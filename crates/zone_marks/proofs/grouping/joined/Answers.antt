@@ -12,18 +12,12 @@ returns-in_default c = sym (tally_of-unknown c.args.counting c.args.marks.now c.
 
 pub join-all-requires : goal.join-all-requires
 join-all-requires c =
-    let l = loads-more c.args.counting c.args.marks.now c.loop-mark.mark-index c.loop-mark-test.true in
-    let t = ap known_load c.loop-mark.invariant in
-    let h = ap known_load (sym c.in-Known.is ∙ c.told.ensures) in
-    let e = ends-load c.loop-mark.all c.in-Known.stretch in
-    let r = c.requires in
-    omega (arith, l, t, h, e, r)
+    omega (arith, loads-more, ap known_load c.loop-mark.invariant, ap known_load (sym c.in-Known.is ∙ c.told.ensures),
+    ends-load c.loop-mark.all c.in-Known.stretch)
 
 pub loop-mark-preserved : goal.loop-mark-preserved
 loop-mark-preserved c =
-    let how = c.args.counting in
-    let marks = c.args.marks.now in
     ap tally.Known c.join-all.ensures.is
     ∙ ap (λ t. join_tallies t (tally.Known c.in-Known.stretch)) c.loop-mark.invariant
     ∙ ap (join_tallies _) (sym c.in-Known.is ∙ c.told.ensures)
-    ∙ sym (tally_of-more how marks c.loop-mark.mark-index c.loop-mark-test.true)
+    ∙ sym (tally_of-more c.args.counting c.args.marks.now c.loop-mark.mark-index c.loop-mark-test.true)

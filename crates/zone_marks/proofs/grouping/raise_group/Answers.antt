@@ -4,10 +4,6 @@ use Rattle.zone_marks.proofs.grouping.raise_group.Goals as goal
 
 pub returns : goal.returns
 returns c = λ marks mark l a.
-    let r = c.requires in
-    let g = c.greater.ensures in
-    let f = g.first in
-    let s = g.second in
     group-raised c.args.groups.now marks (c.args.index / 16) c.args.index
-    (record { most = c.greater.result; tally = unknown }) mark a (omega (arith, r)) (omega arith) (omega arith)
-    (omega (arith, f)) (omega (arith, s, l)) refl
+    (record { most = c.greater.result; tally = unknown }) mark a (omega arith) (omega arith) (omega arith)
+    (omega arith) (omega (arith, l)) refl

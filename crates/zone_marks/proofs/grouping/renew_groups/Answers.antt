@@ -5,17 +5,14 @@ use Rattle.zone_marks.proofs.grouping.renew_groups.Goals as goal
 
 pub group_of-requires : goal.group_of-requires
 group_of-requires c = λ w.
-    let g = c.loop-group.group in
-    let l = loads-part w c.args.marks.now (g * 16) (g * 16 + 16 - g * 16) in
-    let f = c.requires.fits w in
-    omega (arith, l, f)
+    omega (arith, loads-part, c.requires.fits w)
 
 pub loop-group-preserved : goal.loop-group-preserved
 loop-group-preserved c =
     let i = c.loop-group.invariant in
     let g = c.loop-group.group in (
       group-renewed c.loop-group.groups c.args.marks.now g (g * 16) (g * 16 + 16 - g * 16) c.group_of.result i.0
-          (let t = c.loop-group-test.true in let n = i.1 in omega (arith, t, n)) refl (omega arith) c.group_of.ensures.most
+          (omega arith) refl (omega arith) c.group_of.ensures.most
           c.group_of.ensures.tally,
       length-set c.loop-group.groups g c.group_of.result ∙ i.1,
     )

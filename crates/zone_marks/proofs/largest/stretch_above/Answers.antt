@@ -54,12 +54,9 @@ walked_between-stretch-requires-clause-ends c = edge_at (goal.at.walked_between-
 pub walked_between-stretch-requires-clause-order : goal.walked_between-stretch-requires-clause-order
 walked_between-stretch-requires-clause-order c =
     let i = c.requires.sound in
-    let l = edge-within c.args.part.now.bytes i.0 i.1 i.2 c.args.from c.requires.begins in
-    let a = c.index_above-index.ensures.above in
-    let e = c.len-end.ensures.count in
     elim (first (goal.at.walked_between-stretch-requires-clause-order c).After-within-at) [
-      | inl q ↦ omega (arith, q, a)
-      | inr q ↦ omega (arith, q, l, e)
+      | inl q ↦ omega (arith, q)
+      | inr q ↦ omega (arith, q, edge-within c.args.part.now.bytes i.0 i.1 i.2 c.args.from c.requires.begins)
     ]
 
 pub loop-index-init : goal.loop-index-init
@@ -67,15 +64,13 @@ loop-index-init c =
     let i = c.requires.sound in
     let xs = c.args.part.now.bytes in
     let d = (goal.at.loop-index-init c).After-within-at in
-    let p = c.place_of_mark.ensures in
-    let t = c.within-at.ensures.least in
     record {
       same = known-past c.args.counting xs c.args.from c.within-at.result c.walked_between-stretch.result c.walked_between-stretch.ensures;
       inside = c.index_above-index.ensures.index;
       few = omega (arith, known-fits c.args.counting xs c.args.from c.within-at.result c.walked_between-stretch.result c.walked_between-stretch.ensures);
       edge = edge_at d;
       here = bounded-mark xs i.0 i.1 i.2 c.args.marks.now c.requires.marks c.index_above-index.result
-          c.within-at.result c.len-end.result c.len-end.ensures.count (first d) (omega (arith, p, t));
+          c.within-at.result c.len-end.result c.len-end.ensures.count (first d) (omega arith);
       end = bounded-end xs i.0 i.1 i.2 c.args.marks.now c.index_above-index.result c.within-at.result
           c.len-end.result c.len-end.ensures.count (first d) c.within-at.ensures.low;
     }
@@ -90,21 +85,19 @@ stretch_of_mark-requires-clause-ends c = edge_next (goal.at.stretch_of_mark-requ
 
 pub stretch_of_mark-requires-clause-order : goal.stretch_of_mark-requires-clause-order
 stretch_of_mark-requires-clause-order c = let s = stretch (goal.at.stretch_of_mark-requires-clause-order c).After-within-next in
-    let u = s.1.up in omega (arith, u)
+    omega arith
 
 pub stretch_of_mark-requires-clause-stretch : goal.stretch_of_mark-requires-clause-stretch
 stretch_of_mark-requires-clause-stretch c = stretch (goal.at.stretch_of_mark-requires-clause-stretch c).After-within-next
 
 pub join-stretch-requires : goal.join-stretch-requires
 join-stretch-requires c =
-    let i = c.requires.sound in
     let xs = c.args.part.now.bytes in
-    let m = i.2.lays.small in
     omega (
       arith,
       ends-load c.loop-index.stretch c.stretch_of_mark.result,
       known-fits c.args.counting xs c.loop-index.at c.within-next.result c.stretch_of_mark.result c.stretch_of_mark.ensures,
-      m,
+      c.requires.sound.2.lays.small,
       c.loop-index.invariant.few,
       c.within-next.ensures.low,
       c.len-end.ensures.count,
@@ -115,12 +108,9 @@ loop-index-preserved c =
     let i = c.requires.sound in
     let xs = c.args.part.now.bytes in
     let d = (goal.at.loop-index-preserved c).After-within-next in
-    let p = c.place_of_mark-in-loop-index.ensures in
-    let t = c.within-next.ensures.least in
-    let v = c.loop-index.invariant in
     let rest = stretch_by c.args.counting (left_in c.within-next.result xs) in
     record {
-      same = v.same ∙ ap (join c.loop-index.stretch)
+      same = c.loop-index.invariant.same ∙ ap (join c.loop-index.stretch)
           (known-past c.args.counting xs c.loop-index.at c.within-next.result c.stretch_of_mark.result c.stretch_of_mark.ensures)
           ∙ sym (join-assoc c.loop-index.stretch c.stretch_of_mark.result rest) ∙ ap (λ r. join r rest) (sym c.join-stretch.ensures.is);
       inside = c.told_from-told.ensures.inside;
@@ -128,12 +118,12 @@ loop-index-preserved c =
         arith,
         load-join c.loop-index.stretch c.stretch_of_mark.result,
         ap load c.join-stretch.ensures.is,
-        v.few,
+        c.loop-index.invariant.few,
         known-fits c.args.counting xs c.loop-index.at c.within-next.result c.stretch_of_mark.result c.stretch_of_mark.ensures,
       );
       edge = edge_next d;
       here = bounded-mark xs i.0 i.1 i.2 c.args.marks.now c.requires.marks c.told_from-told.result.behind
-          c.within-next.result c.len-end.result c.len-end.ensures.count (next d) (omega (arith, p, t));
+          c.within-next.result c.len-end.result c.len-end.ensures.count (next d) (omega arith);
       end = bounded-end xs i.0 i.1 i.2 c.args.marks.now c.told_from-told.result.behind c.within-next.result
           c.len-end.result c.len-end.ensures.count (next d) c.within-next.ensures.low;
     }

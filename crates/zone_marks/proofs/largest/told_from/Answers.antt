@@ -9,16 +9,13 @@ use Rattle.zone_marks.proofs.largest.told_from.Goals as goal
 pub returns-in-Known-clause-stretch : goal.returns-in-Known-clause-stretch
 returns-in-Known-clause-stretch c = λ next b.
     let i = c.requires.sound in
-    let xs = c.args.part.now.bytes in
     let low = c.args.index in
     let l = c.requires.inside in
-    let w = c.requires.groups.whole in
-    let z = c.if-index-eq0.true in
-    let e : GROUP * (low / 16) ≡ low = omega (arith, z) in
+    let e : GROUP * (low / 16) ≡ low = omega arith in
     let how = c.args.counting in
-    group-stretch xs i.0 i.1 i.2 how c.args.marks.now c.requires.marks low c.told-tally.result l
+    group-stretch c.args.part.now.bytes i.0 i.1 i.2 how c.args.marks.now c.requires.marks low c.told-tally.result l
     (λ s f. subst (λ n. tally_of how (take GROUP (drop n c.args.marks.now)) ≡ tally.Known s) e
-    (c.requires.groups.known how (low / 16) s (omega (arith, l, w)) (sym c.told-tally.ensures ∙ f))) next b
+    (c.requires.groups.known how (low / 16) s (omega (arith, l)) (sym c.told-tally.ensures ∙ f))) next b
 
 pub returns-clause-stretch : goal.returns-clause-stretch
 returns-clause-stretch c = λ next b.

@@ -11,10 +11,9 @@ pub loop-first-init : goal.loop-first-init
 loop-first-init c = (
   c.index_above-last.ensures.index,
   c.requires.groups,
-  λ old z a. let h = c.ranges.hi.fits in
-      changing-start c.args.lo c.args.hi old (zone_in c.args.part.now.bytes) z
+  λ old z a. changing-start c.args.lo c.args.hi old (zone_in c.args.part.now.bytes) z
       (replaced-order c.args.lo c.args.hi old (zone_in c.args.part.now.bytes) z) c.place_of_mark-above.result
-      c.index_above-last.result c.args.marks.now (omega (arith, h)) c.place_of_mark-above.ensures
+      c.index_above-last.result c.args.marks.now (omega arith) c.place_of_mark-above.ensures
       c.index_above-last.ensures.above a,
 )
 
@@ -25,9 +24,8 @@ changed_mark-mark-requires-clause-ordered c = replaced-order c.args.lo c.args.hi
 pub changed_mark-mark-requires-clause-rising : goal.changed_mark-mark-requires-clause-rising
 changed_mark-mark-requires-clause-rising c =
     let old = c.requires.marks.0 in
-    let s = c.loop-first-test.true in
     (last-mark c.args.lo c.args.hi old (zone_in c.args.part.now.bytes) c.loop-first.next c.loop-first.above
-    c.loop-first.first c.loop-first.marks _ no_mark (omega (arith, s)) c.loop-first.invariant.0
+    c.loop-first.first c.loop-first.marks _ no_mark (omega arith) c.loop-first.invariant.0
     (c.loop-first.invariant.2 old c.requires.marks.1 c.requires.marks.2)).1.3
 
 pub changed_mark-mark-requires-clause-lowered : goal.changed_mark-mark-requires-clause-lowered
@@ -39,22 +37,20 @@ changed_mark-mark-requires-clause-begins c = λ at w.
     let old = c.requires.marks.0 in
     let new = zone_in c.args.part.now.bytes in
     let z = c.requires.marks.1 in
-    let s = c.loop-first-test.true in
     let r = last-mark c.args.lo c.args.hi old new c.loop-first.next c.loop-first.above c.loop-first.first c.loop-first.marks _
-    no_mark (omega (arith, s)) c.loop-first.invariant.0
+    no_mark (omega arith) c.loop-first.invariant.0
     (c.loop-first.invariant.2 old z c.requires.marks.2) in
     begins-lowered c.args.lo c.args.hi old new z (replaced-order c.args.lo c.args.hi old new z) _ at w r.1.0
 
 pub loop-first-preserved : goal.loop-first-preserved
 loop-first-preserved c =
-    let s = c.loop-first-test.true in
     let l = c.loop-first.invariant.0 in
     let new = zone_in c.args.part.now.bytes in (
       (let n = length-set c.loop-first.marks (c.loop-first.first - 1) c.changed_mark-mark.result in omega (arith, l, n)),
       c.raise_group.ensures c.loop-first.marks c.changed_mark-mark.result (omega arith) c.loop-first.invariant.1,
       λ old z a.
           changing-step c.args.lo c.args.hi old new z (replaced-order c.args.lo c.args.hi old new z) c.loop-first.next
-          c.loop-first.above c.loop-first.first c.loop-first.marks no_mark c.changed_mark-mark.result (omega (arith, s)) l
+          c.loop-first.above c.loop-first.first c.loop-first.marks no_mark c.changed_mark-mark.result (omega arith) l
           (c.loop-first.invariant.2 old z a) c.changed_mark-mark.ensures.at
           (λ e. c.changed_mark-mark.ensures.bound old z e) (λ e. c.changed_mark-mark.ensures.tally old z e),
     )
@@ -69,8 +65,8 @@ returns-clause-marks c =
       | then-loop-first-test+else-lo-above w ↦ changing-below c.args.lo c.args.hi old new z
           (replaced-order c.args.lo c.args.hi old new z) c.loop-first.next c.loop-first.above c.loop-first.first
           c.loop-first.marks w.if-lo-above.false g
-      | else-loop-first-test w ↦ let s = w.loop-first-test.false in
-          changing-done c.args.lo c.args.hi old new c.loop-first.next c.loop-first.above c.loop-first.first c.loop-first.marks (omega (arith, s)) g
+      | else-loop-first-test w ↦ changing-done c.args.lo c.args.hi old new c.loop-first.next c.loop-first.above
+      c.loop-first.first c.loop-first.marks (omega arith) g
     ]
 
 pub renew_groups-requires-clause-fits : goal.renew_groups-requires-clause-fits
@@ -84,6 +80,6 @@ renew_groups-requires-clause-fits c =
       | then-loop-first-test+else-lo-above w ↦ changing-below c.args.lo c.args.hi old new z
           (replaced-order c.args.lo c.args.hi old new z) c.loop-first.next c.loop-first.above c.loop-first.first
           c.loop-first.marks w.if-lo-above.false g
-      | else-loop-first-test w ↦ let s = w.loop-first-test.false in
-          changing-done c.args.lo c.args.hi old new c.loop-first.next c.loop-first.above c.loop-first.first c.loop-first.marks (omega (arith, s)) g
+      | else-loop-first-test w ↦ changing-done c.args.lo c.args.hi old new c.loop-first.next c.loop-first.above
+      c.loop-first.first c.loop-first.marks (omega arith) g
     ])

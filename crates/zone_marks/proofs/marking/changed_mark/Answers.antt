@@ -9,8 +9,8 @@ use Rattle.zone_marks.proofs.marking.changed_mark.Goals as goal
 -- a stretch that is apart from what became others ends where it did
 same-end : (lo hi at next above : ℕ) → at ≤ next → (hi ≤ at) ⊎ (next ≤ lo) → Lowered lo hi next above → above ≡ next
 same-end lo hi at next above r e (inl w) = elim e [
-  | inl h ↦ let t = w.1 in absurd (omega (arith, r, h, t))
-  | inr l ↦ let t = w.0 in absurd (omega (arith, l, t))
+  | inl h ↦ absurd (omega (arith, r, h))
+  | inr l ↦ absurd (omega (arith, l))
 ]
 same-end lo hi at next above r e (inr w) = w.0
 
@@ -30,7 +30,7 @@ returns-then-hi-mark c =
       refl,
       elim apart [
         | inl h ↦ inr h
-        | inr l ↦ inl (let r = c.requires.rising in omega (arith, l, r))
+        | inr l ↦ inl (omega (arith, l))
       ],
     ) in
     record {
@@ -67,9 +67,6 @@ returns-in_default-clause-tally c = λ old z e.
 
 pub returns-in-Nothing-clause-bound : goal.returns-in-Nothing-clause-bound
 returns-in-Nothing-clause-bound c = λ old z e.
-    let m = c.greater.ensures in
-    let f = m.first in
-    let s = m.second in
     bound-lowered c.args.lo c.args.hi old _ z c.requires.ordered c.args.mark.most c.greater.result c.args.mark.at
-    c.args.next c.lowered_mark-at.result c.args.above c.lowered_mark-at.ensures c.requires.lowered (omega (arith, f))
-    (λ _ _. omega (arith, s)) e
+    c.args.next c.lowered_mark-at.result c.args.above c.lowered_mark-at.ensures c.requires.lowered (omega arith)
+    (λ _ _. omega arith) e

@@ -28,8 +28,6 @@ loop-group-preserved c =
 pub returns : goal.returns
 returns c =
     let i = c.requires.sound in
-    let t = c.loop-group-test.false in
-    let w = c.requires.groups.whole in
     none-found c.args.part.now.bytes i.0 i.1 i.2 c.args.bytes
     (none-past c.args.bytes (zone_in c.args.part.now.bytes) c.args.marks.now (GROUP * c.loop-group.group)
-    (omega (arith, t, w)) c.loop-group.invariant)
+    (omega arith) c.loop-group.invariant)

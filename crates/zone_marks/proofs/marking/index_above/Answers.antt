@@ -8,8 +8,8 @@ pub loop-low-init : goal.loop-low-init
 loop-low-init c = (
   omega arith,
   omega arith,
-  (let f = c.ranges.place.fits in subst (λ k. c.args.place ≤ next_of 4294967295 k) (sym (drop-all c.args.marks.now))
-      (omega (arith, f))),
+  (subst (λ k. c.args.place ≤ next_of 4294967295 k) (sym (drop-all c.args.marks.now))
+      (omega arith)),
   λ l. absurd (omega (arith, l)),
 )
 
@@ -21,24 +21,19 @@ last-below marks middle place l = subst (λ k. (get_or marks k no_mark).at < pla
 
 pub loop-low-preserved-then-marks-middle : goal.loop-low-preserved-then-marks-middle
 loop-low-preserved-then-marks-middle c =
-    let l = c.loop-low-test.true in
-    let i = c.loop-low.invariant in
-    let t = c.if-marks-middle.true in (
-      omega (arith, l),
-      i.1,
-      i.2,
-      λ _. last-below c.args.marks.now _ c.args.place t,
+    (
+      omega arith,
+      c.loop-low.invariant.1,
+      c.loop-low.invariant.2,
+      λ _. last-below c.args.marks.now _ c.args.place c.if-marks-middle.true,
     )
 
 pub loop-low-preserved : goal.loop-low-preserved
 loop-low-preserved c =
-    let l = c.loop-low-test.true in
-    let i = c.loop-low.invariant in
-    let h = i.1 in
-    let t = c.if-marks-middle.false in (
-      omega (arith, l),
-      omega (arith, l, h),
+    (
+      omega arith,
+      omega arith,
       subst (λ k. c.args.place ≤ k) (sym (mark-first 4294967295 c.args.marks.now _ no_mark
-          (omega (arith, l, h)))) (omega (arith, t)),
-      i.3,
+          (omega arith))) (omega arith),
+      c.loop-low.invariant.3,
     )

@@ -14,10 +14,7 @@ pub loop-next-preserved : goal.loop-next-preserved
 loop-next-preserved c =
     let zone = zone_in c.args.part.now.bytes in
     let v = c.loop-next.invariant in
-    let n = v.3 in
-    let l = c.loop-next-test.true in
-    let s = c.saturating_sub-last.ensures in
-    let inside : c.loop-next.next.index + 1 < length c.loop-next.marks = omega (arith, l, s, n) in
+    let inside : c.loop-next.next.index + 1 < length c.loop-next.marks = omega arith in
     let m = c.packed_mark-mark.result in
     let edge = c.greater-edge.result in
     let long = length-set c.loop-next.marks c.loop-next.next.index m in
@@ -28,7 +25,7 @@ loop-next-preserved c =
             (subst (λ k. Begins k 0 zone) (sym at) (v.0.begins (omega (arith, inside))))
             (subst (λ k. AtEach (AtMost m.most k edge) 0 zone) (sym at) c.packed_mark-mark.ensures.bound)
             (subst (λ k. AreTold m.tally (between k edge 0 zone)) (sym at) c.packed_mark-mark.ensures.tally)
-            (let f = c.greater-edge.ensures.first in omega (arith, f, at));
+            (omega (arith, at));
         above = marks-left 4294967295 zone c.loop-next.marks c.loop-next.next.index m (omega (arith, inside)) v.0.above;
         inside = omega (arith, long, inside);
         begins = λ _. elim c.greater-edge.ensures.one [
@@ -39,6 +36,6 @@ loop-next-preserved c =
         last = λ e. absurd (omega (arith, e, long, inside));
       },
       c.raise_group.ensures c.loop-next.marks m (omega arith) v.1,
-      (let u = v.2 in omega (arith, u)),
-      (omega (arith, long, n)),
+      (omega arith),
+      (omega (arith, long)),
     )

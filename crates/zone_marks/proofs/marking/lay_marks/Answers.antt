@@ -16,34 +16,27 @@ loop-index-init c =
 pub returns-then-marks-index-clause-marks : goal.returns-then-marks-index-clause-marks
 returns-then-marks-index-clause-marks c =
     let zone = zone_in c.args.part.now.bytes in
-    let i = c.loop-index.invariant in
-    let l = c.loop-index-test.true in
-    let n = i.0 in
-    let t = c.if-marks-index.true in
     marks-whole 4294967295 zone c.loop-index.marks c.loop-index.index c.loop-index.at
-    (sym t ∙ sym (mark-first 4294967295 c.loop-index.marks c.loop-index.index no_mark
-    (omega (arith, l, n)))) i.2 i.3
+    (sym c.if-marks-index.true ∙ sym (mark-first 4294967295 c.loop-index.marks c.loop-index.index no_mark
+    (omega arith))) c.loop-index.invariant.2 c.loop-index.invariant.3
 
 pub stretch_from-stretch-requires : goal.stretch_from-stretch-requires
 stretch_from-stretch-requires c =
     let i = c.requires.sound in
-    let l = c.loop-index-test.true in
-    begins-way c.args.part.now.bytes i.0 i.1 i.2 c.loop-index.at (c.loop-index.invariant.4 (omega (arith, l)))
+    begins-way c.args.part.now.bytes i.0 i.1 i.2 c.loop-index.at (c.loop-index.invariant.4 (omega arith))
 
 pub spaces_told-requires : goal.spaces_told-requires
 spaces_told-requires c =
     let i = c.requires.sound in
-    let l = c.loop-index-test.true in
-    begins-way c.args.part.now.bytes i.0 i.1 i.2 c.loop-index.at (c.loop-index.invariant.4 (omega (arith, l)))
+    begins-way c.args.part.now.bytes i.0 i.1 i.2 c.loop-index.at (c.loop-index.invariant.4 (omega arith))
 
 pub loop-index-preserved : goal.loop-index-preserved
 loop-index-preserved c =
     let i = c.requires.sound in
     let xs = c.args.part.now.bytes in
     let v = c.loop-index.invariant in
-    let l = c.loop-index-test.true in
     let n = v.0 in
-    let b = v.4 (omega (arith, l)) in
+    let b = v.4 (omega arith) in
     let s = c.stretch_from-stretch in
     let told : Tallies = record { runs = tally.Known s.result.runs; spaces = c.spaces_told.result } in (
       length-set c.loop-index.marks c.loop-index.index _ ∙ n,
@@ -51,12 +44,12 @@ loop-index-preserved c =
           (omega arith) v.1,
       marks-next (zone_in xs) c.loop-index.marks c.loop-index.index s.result.edge
           (record { at = c.loop-index.at; most = s.result.most; tally = told })
-          (omega (arith, l, n)) v.2 b
+          (omega (arith, n)) v.2 b
           (bound-here xs i.0 i.1 i.2 s.result.most c.loop-index.at s.result.edge b s.ensures.measured.most)
           (tally-here xs i.0 i.1 i.2 told c.loop-index.at s.result.edge b
           (told-both _ _ _ s.ensures.measured.runs c.spaces_told.ensures))
           s.ensures.order,
-      marks-left 4294967295 (zone_in xs) c.loop-index.marks c.loop-index.index _ (omega (arith, l, n)) v.3,
+      marks-left 4294967295 (zone_in xs) c.loop-index.marks c.loop-index.index _ (omega (arith, n)) v.3,
       λ k. begins-further xs i.0 i.1 i.2 c.loop-index.at s.result.edge b (s.ensures.edge
           (equal-no (c.loop-index.index + 1) (length c.loop-index.marks) (omega (arith, k, n)))),
       λ k. s.ensures.last (equal-yes (c.loop-index.index + 1) (length c.loop-index.marks) (omega (arith, k, n))),

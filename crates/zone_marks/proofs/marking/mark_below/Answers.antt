@@ -8,10 +8,8 @@ pub returns-then-above-eq0-clause-begins : goal.returns-then-above-eq0-clause-be
 returns-then-above-eq0-clause-begins c = λ end zone a. begins-here 0 zone
 
 pub returns-clause-below : goal.returns-clause-below
-returns-clause-below c = inl (c.index_above-above.ensures.below (let n = c.if-above-eq0.false in omega (arith, n)))
+returns-clause-below c = inl (c.index_above-above.ensures.below (omega arith))
 
 pub returns-clause-begins : goal.returns-clause-begins
 returns-clause-begins c = λ end zone a.
-    let n = c.if-above-eq0.false in
-    let h = c.index_above-above.ensures.index in
-    mark-begins end zone c.args.marks.now _ no_mark (omega (arith, n, h)) a
+    mark-begins end zone c.args.marks.now _ no_mark (omega arith) a

@@ -14,9 +14,7 @@ join-runs-requires c =
     let f = counted-fits c.args.part.now.bytes c.args.from c.within-stop.result c.loop-at.at c.span_at-span.result.end
     c.loop-at.most c.span_at-span.result.free c.loop-at.runs c.runs.result c.span_at-span.result.barrier
     c.loop-at.invariant c.span_at-span.ensures c.runs.ensures in
-    let u = c.span_at-span.ensures.way.walk.up in
-    let m = c.span_at-span.ensures.way.small in
-    omega (arith, f, u, m)
+    omega (arith, f)
 
 pub loop-at-preserved : goal.loop-at-preserved
 loop-at-preserved c =
@@ -35,7 +33,7 @@ returns-clause-edge c =
     (begins-here c.loop-at.at (left_in c.loop-at.at c.args.part.now.bytes))))
 
 pub returns-clause-order : goal.returns-clause-order
-returns-clause-order c = let u = c.loop-at.invariant.up in omega (arith, u)
+returns-clause-order c = omega arith
 
 pub returns-clause-passed : goal.returns-clause-passed
 returns-clause-passed c = counted-edge c.args.part.now.bytes c.args.from c.within-stop.result c.loop-at.at c.loop-at.most
@@ -44,9 +42,8 @@ returns-clause-passed c = counted-edge c.args.part.now.bytes c.args.from c.withi
 pub returns-clause-below : goal.returns-clause-below
 returns-clause-below c =
     let k = c.len.ensures.count in
-    let l = c.loop-at-test.false in
     counted-below c.args.part.now.bytes c.args.from c.within-stop.result c.loop-at.at c.loop-at.most c.loop-at.runs
     c.loop-at.invariant c.args.place c.loop-at.at c.within-stop.ensures.least
     (past c.args.place (length c.args.part.now.bytes) c.loop-at.at c.within-stop.result
     (subst (λ n. (c.within-stop.result ≡ c.args.place) ⊎ (c.within-stop.result ≡ n)) k c.within-stop.ensures.one)
-    (omega (arith, l)))
+    (omega arith))

@@ -23,16 +23,15 @@ loop-at-preserved c =
     let s = c.span_at-span in
     passed-step c.args.part.now.bytes c.args.from (λ _ b. is_room c.args.bytes b ≡ false) c.loop-at.at s.result.end
     s.result.free s.result.barrier c.loop-at.invariant s.ensures (λ b e z. no-room c.args.bytes b z (λ p q. elim c.else-span-gt0.branch [
-      | else-span-gt0-via-then-span-gt0+else-bytes-span w ↦ let l = w.if-bytes-span.false in omega (arith, l, e, q)
-      | else-span-gt0-via-else-span-gt0 w ↦ let l = w.if-span-gt0.false in omega (arith, l, e, p)
+      | else-span-gt0-via-then-span-gt0+else-bytes-span w ↦ omega (arith, e, q)
+      | else-span-gt0-via-else-span-gt0 w ↦ omega (arith, e, p)
     ]))
 
 pub returns-clause-none : goal.returns-clause-none
 returns-clause-none c =
     let k = c.len.ensures.count in
-    let l = c.loop-at-test.false in
     passed-all c.args.part.now.bytes c.args.from (λ _ b. is_room c.args.bytes b ≡ false)
     (λ _ b. is_room c.args.bytes b ≡ false) c.args.from c.args.to c.loop-at.at c.loop-at.invariant (λ _ b r. r)
     (past c.args.to (length c.args.part.now.bytes) c.loop-at.at c.within-stop.result
     (subst (λ n. (c.within-stop.result ≡ c.args.to) ⊎ (c.within-stop.result ≡ n)) k c.within-stop.ensures.one)
-    (omega (arith, l)))
+    (omega arith))

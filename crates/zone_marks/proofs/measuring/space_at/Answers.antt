@@ -17,8 +17,7 @@ small first w e l = omega (arith, e, l)
 pub read_word-first-requires : goal.read_word-first-requires
 read_word-first-requires c =
     let h = next-header c.args.at c.args.part.now.bytes c.requires.way c.requires.some in
-    let f = h.fits in
-    (h.even, omega (arith, f))
+    (h.even, omega arith)
 
 pub gives_space-requires-clause-inside : goal.gives_space-requires-clause-inside
 gives_space-requires-clause-inside c =

@@ -12,9 +12,7 @@ join-spaces-requires c =
     let f = spaced-fits c.args.part.now.bytes c.args.from c.within-stop.result c.loop-at.at s.result.end s.result.free
     s.result.barrier c.loop-at.spaces c.space_at.result c.loop-at.invariant s.ensures
     (c.space_at.ensures _ _ s.ensures.is) in
-    let u = s.ensures.way.walk.up in
-    let m = s.ensures.way.small in
-    omega (arith, f, u, m)
+    omega (arith, f)
 
 pub loop-at-preserved : goal.loop-at-preserved
 loop-at-preserved c =
@@ -26,9 +24,8 @@ loop-at-preserved c =
 pub returns : goal.returns
 returns c =
     let k = c.len.ensures.count in
-    let l = c.loop-at-test.false in
     spaced-tells c.args.part.now.bytes c.args.from c.within-stop.result c.loop-at.at c.args.place c.loop-at.spaces
     c.loop-at.invariant c.within-stop.ensures.least
     (past c.args.place (length c.args.part.now.bytes) c.loop-at.at c.within-stop.result
     (subst (λ n. (c.within-stop.result ≡ c.args.place) ⊎ (c.within-stop.result ≡ n)) k c.within-stop.ensures.one)
-    (omega (arith, l)))
+    (omega arith))

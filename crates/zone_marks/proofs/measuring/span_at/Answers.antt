@@ -16,20 +16,16 @@ small first w e l = omega (arith, e, l)
 pub read_word-first-requires : goal.read_word-first-requires
 read_word-first-requires c =
     let h = next-header c.args.at c.args.part.now.bytes c.requires.way c.requires.some in
-    let f = h.fits in
-    (h.even, omega (arith, f))
+    (h.even, omega arith)
 
 pub overflow_add-result : goal.overflow_add-result
 overflow_add-result c =
     let a = c.args in
-    let xs = a.part.now.bytes in
     let r = c.read_word-first in
-    let h = next-header a.at xs c.requires.way c.requires.some in
-    let s = stepped a.at xs c.requires.way c.requires.some (r.result - r.result % 16) (r.result % 16)
+    let h = next-header a.at a.part.now.bytes c.requires.way c.requires.some in
+    let s = stepped a.at a.part.now.bytes c.requires.way c.requires.some (r.result - r.result % 16) (r.result % 16)
     (whole r.result _ r.ensures) (even r.result) (small r.result _ r.ensures h.tag) in
-    let u = s.way.walk.up in
-    let m = s.way.small in
-    omega (arith, u, m)
+    omega arith
 
 pub ends_run_at-requires-clause-inside : goal.ends_run_at-requires-clause-inside
 ends_run_at-requires-clause-inside c =

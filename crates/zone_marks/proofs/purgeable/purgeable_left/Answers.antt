@@ -21,7 +21,4 @@ returns-then-frees_one c = λ k zone e f m.
 pub returns-else-frees_one : goal.returns-else-frees_one
 returns-else-frees_one c = λ k zone e f m.
     let g = free-given c.args.sparing (c.frees_one.ensures c.if-frees_one.false) k zone in
-    let p = ap purgeable_sum e in
-    let q = ap free_sum e in
-    let s = c.saturating_sub.ensures in
-    omega (arith, g, p, q, f, m, s)
+    omega (arith, g, ap purgeable_sum e, ap free_sum e, f, m)

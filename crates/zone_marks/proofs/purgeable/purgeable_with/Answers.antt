@@ -7,10 +7,7 @@ use Rattle.zone_marks.proofs.purgeable.purgeable_with.Goals as goal
 pub overflow_sub-result : goal.overflow_sub-result
 overflow_sub-result c =
     let r = c.requires.became in
-    let g = (given-became c.args.place r.0 (zone_in c.args.part.now.bytes) r.1).1 in
-    let e = r.2 in
-    let p = r.3 in
-    omega (arith, g, e, p)
+    omega (arith, (given-became c.args.place r.0 (zone_in c.args.part.now.bytes) r.1).1)
 
 pub purgeable_at-requires-clause-way : goal.purgeable_at-requires-clause-way
 purgeable_at-requires-clause-way c =
@@ -29,20 +26,12 @@ overflow_add-result c =
     let r = c.requires.became in
     let b = r.1 in
     let g = given-became c.args.place r.0 (zone_in xs) b in
-    let s = g.0 in
-    let l = g.1 in
-    let e = r.2 in
-    let p = r.3 in
     let w = c.purgeable_at.ensures b.there b.above (became-left xs i.0 i.1 i.2 c.args.place r.0 b) in
-    let m = given-small xs i.0 i.1 i.2 in
-    omega (arith, s, l, e, p, w, m)
+    omega (arith, w, given-small)
 
 pub returns : goal.returns
 returns c = λ old b e p.
     let i = c.requires.sound in
     let xs = c.args.part.now.bytes in
     let g = given-became c.args.place old (zone_in xs) b in
-    let s = g.0 in
-    let l = g.1 in
-    let w = c.purgeable_at.ensures b.there b.above (became-left xs i.0 i.1 i.2 c.args.place old b) in
-    omega (arith, s, l, e, p, w)
+    omega (arith, e, p, c.purgeable_at.ensures b.there b.above (became-left xs i.0 i.1 i.2 c.args.place old b))

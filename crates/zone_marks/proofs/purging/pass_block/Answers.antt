@@ -39,13 +39,11 @@ pub overflow_add-end : goal.overflow_add-end
 overflow_add-end c =
     let a = c.args.pass in
     let h = c.read_header-header.result in
-    let e = c.read_header-header.ensures in
     let n = next c.requires.pass.0 c.args.sparing a.start a.at a.left a.freed c.args.part.now.bytes c.requires.pass.1
     c.requires.some in
-    let z = (n.tells.says h.size (tag_number h.tag) e.first e.size (tag-small h.tag)).0 in
-    let i = n.tells.inside in
-    let m = c.requires.pass.1.lays.small in
-    omega (arith, z, i, m)
+    let z = (n.tells.says h.size (tag_number h.tag) c.read_header-header.ensures.first
+    c.read_header-header.ensures.size (tag-small h.tag)).0 in
+    omega (arith, z)
 
 pub overflow_add-result : goal.overflow_add-result
 overflow_add-result c =
@@ -102,8 +100,7 @@ returns-in-Some-clause-further c =
     let m = sym (c.left_after.ensures n.here s) ∙ c.in-Some.is in
     let t = c.free_up.ensures.end (freeing p c.args.sparing a.start a.at a.left a.freed xs u n c.in-Some.left m)
     (may-free p c.args.sparing a.start a.at a.left a.freed xs u n c.in-Some.left m) in
-    let k = n.tells.some in
-    omega (arith, t, k)
+    omega (arith, t)
 
 pub returns-in-None-clause-pass : goal.returns-in-None-clause-pass
 returns-in-None-clause-pass c = λ p u.
@@ -123,9 +120,8 @@ pub returns-in-None-clause-further : goal.returns-in-None-clause-further
 returns-in-None-clause-further c =
     let a = c.args.pass in
     let h = c.read_header-header.result in
-    let e = c.read_header-header.ensures in
     let n = next c.requires.pass.0 c.args.sparing a.start a.at a.left a.freed c.args.part.now.bytes c.requires.pass.1
     c.requires.some in
-    let z = (n.tells.says h.size (tag_number h.tag) e.first e.size (tag-small h.tag)).0 in
-    let k = n.tells.some in
-    omega (arith, z, k)
+    let z = (n.tells.says h.size (tag_number h.tag) c.read_header-header.ensures.first
+    c.read_header-header.ensures.size (tag-small h.tag)).0 in
+    omega (arith, z)

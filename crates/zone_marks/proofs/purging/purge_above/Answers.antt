@@ -15,9 +15,7 @@ read_header-header-requires-clause-within c =
 
 pub read_header-header-requires-clause-fits : goal.read_header-header-requires-clause-fits
 read_header-header-requires-clause-fits c =
-    let f = (place-read c.requires.0 c.args.place c.args.part.now.bytes c.requires.1).next.fits in
-    let m = c.requires.1.lays.small in
-    omega (arith, f, m)
+    omega (arith, (place-read c.requires.0 c.args.place c.args.part.now.bytes c.requires.1).next.fits)
 
 pub read_header-header-requires-clause-tag : goal.read_header-header-requires-clause-tag
 read_header-header-requires-clause-tag c =
@@ -28,10 +26,7 @@ overflow_add-end c =
     let r = place-read c.requires.0 c.args.place c.args.part.now.bytes c.requires.1 in
     let h = c.read_header-header.result in
     let e = c.read_header-header.ensures in
-    let z = (r.says h.size (tag_number h.tag) e.first e.size (tag-small h.tag)).0 in
-    let i = r.inside in
-    let m = c.requires.1.lays.small in
-    omega (arith, z, i, m)
+    omega (arith, (r.says h.size (tag_number h.tag) e.first e.size (tag-small h.tag)).0)
 
 pub purge_from-requires : goal.purge_from-requires
 purge_from-requires c = (

@@ -12,7 +12,5 @@ returns-else-goes_on-clause-purged c = λ p u.
 pub returns-after-loop-pass-clause-purged : goal.returns-after-loop-pass-clause-purged
 returns-after-loop-pass-clause-purged c = λ p u.
     let s = c.loop-pass in
-    let l = c.loop-pass-test.false in
-    let m = c.loop-pass.invariant.same in
     purged p c.args.sparing s.pass.start s.pass.at s.pass.left s.pass.freed s.part.bytes (s.invariant.passing p u)
-    (omega (arith, l, m, c.len-end.ensures.count))
+    (omega (arith, c.len-end.ensures.count))

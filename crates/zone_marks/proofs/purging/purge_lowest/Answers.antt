@@ -8,10 +8,10 @@ use Rattle.zone_marks.proofs.purging.purge_lowest.Goals as goal
 
 pub purge_from-requires : goal.purge_from-requires
 purge_from-requires c =
-    let i = c.requires.sound.2 in
-    let xs = c.args.part.now.bytes in (
-      purge_zone 0 xs i.unused c.args.purges c.args.sparing,
-      all-start xs c.requires.sound.0 c.requires.sound.1 i c.args.purges c.args.sparing,
+    (
+      purge_zone 0 c.args.part.now.bytes c.requires.sound.2.unused c.args.purges c.args.sparing,
+      all-start c.args.part.now.bytes c.requires.sound.0 c.requires.sound.1 c.requires.sound.2 c.args.purges
+      c.args.sparing,
     )
 
 pub returns-in_default-clause-purged : goal.returns-in_default-clause-purged
@@ -42,8 +42,7 @@ last_free_below-start-requires-clause-inside c =
     let p = c.in-Some.ensures.plain refl in
     let r = here-read (going xs i.0 i.1 i.2 c.args.purges c.args.sparing f.0 f.1 c.in-Some.place f.3 p) c.in-Some.place xs
     (may-go xs i.0 i.1 i.2 c.args.purges c.args.sparing f.0 f.1 c.in-Some.place f.3 p) in
-    let k = r.inside in
-    omega (arith, k)
+    omega arith
 
 pub purge_from-requires-2 : goal.purge_from-requires-2
 purge_from-requires-2 c =

@@ -6,8 +6,8 @@ use Rattle.zone_marks.proofs.keeping.Landmarks.seek.Goals as goal
 pub first_going-self-requires : goal.first_going-self-requires
 first_going-self-requires c =
     let i = c.requires.sound in
-    let xs = c.args.part.now.bytes in
-    begins-way xs i.0 i.1 i.2 c.start.result (c.start.ensures.begins (zone_in xs) c.requires.marks)
+    begins-way c.args.part.now.bytes i.0 i.1 i.2 c.start.result
+    (c.start.ensures.begins (zone_in c.args.part.now.bytes) c.requires.marks)
 
 pub returns : goal.returns
 returns c =

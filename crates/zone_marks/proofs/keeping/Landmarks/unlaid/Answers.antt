@@ -17,9 +17,6 @@ page_bytes-requires c = let i = c.requires.sound in on-way c.args.part.now.bytes
 pub returns : goal.returns
 returns c =
     let xs = c.args.part.now.bytes in
-    let i = c.requires.sound.2 in
-    let s = sizes-length xs (zone_in xs) (slot_in xs) i.unused i.lays in
-    let m = i.lays.small in
     let count = c.groups_of-count.result in
     let blank : Landmark = record { at = 0; most = 4294967295; tally = unknown } in
     let marks = c.in_ok-marks.marks.items in
@@ -28,7 +25,8 @@ returns c =
     let f : marks ≡ replicate (count * 16) blank = c.in_ok-marks.ensures.items_if_clones_equal (λ y e. e) in
     let g : groups ≡ replicate count none = c.in_ok-groups.ensures.items_if_clones_equal (λ y e. e) in (
       (
-        subst (AreMarks 4294967295 (zone_in xs)) (sym f) (unlaid-marks (zone_in xs) (omega (arith, s, m)) (count * 16)),
+        subst (AreMarks 4294967295 (zone_in xs)) (sym f) (unlaid-marks (zone_in xs) (omega (arith, sizes-length))
+        (count * 16)),
         subst (AreGroups groups) (sym f) (subst (λ t. AreGroups t (replicate (count * 16) blank)) (sym g)
             (same-groups (count * 16) count blank (omega arith))),
       ),
