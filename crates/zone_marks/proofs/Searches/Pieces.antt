@@ -133,7 +133,7 @@ module _ (xs : List ℕ) (first unused : ℕ) (i : IsSound xs first unused) wher
     | inl l ↦ subst (λ p. Begins p 0 (zone_in xs)) (sym (q ∙ mark-first 4294967295 marks index no_mark l))
         (mark-begins 4294967295 (zone_in xs) marks index no_mark l a)
     | inr l ↦ let k : next ≡ 4294967295 = q ∙ ap (next_of 4294967295) (drop_all index marks l) in
-    absurd (omega (arith, k, h, e))
+        absurd (omega (arith, k, h, e))
   ]
 
   -- that is the next landmark, where there is one

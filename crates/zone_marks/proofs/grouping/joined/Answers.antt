@@ -12,8 +12,13 @@ returns-in_default c = sym (tally_of-unknown c.args.counting c.args.marks.now c.
 
 pub join-all-requires : goal.join-all-requires
 join-all-requires c =
-    omega (arith, loads-more, ap known_load c.loop-mark.invariant, ap known_load (sym c.in-Known.is ∙ c.told.ensures),
-    ends-load c.loop-mark.all c.in-Known.stretch)
+    omega (
+      arith,
+      loads-more,
+      ap known_load c.loop-mark.invariant,
+      ap known_load (sym c.in-Known.is ∙ c.told.ensures),
+      ends-load c.loop-mark.all c.in-Known.stretch,
+    )
 
 pub loop-mark-preserved : goal.loop-mark-preserved
 loop-mark-preserved c =

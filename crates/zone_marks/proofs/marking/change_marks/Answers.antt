@@ -66,7 +66,7 @@ returns-clause-marks c =
           (replaced-order c.args.lo c.args.hi old new z) c.loop-first.next c.loop-first.above c.loop-first.first
           c.loop-first.marks w.if-lo-above.false g
       | else-loop-first-test w ↦ changing-done c.args.lo c.args.hi old new c.loop-first.next c.loop-first.above
-      c.loop-first.first c.loop-first.marks (omega arith) g
+          c.loop-first.first c.loop-first.marks (omega arith) g
     ]
 
 pub renew_groups-requires-clause-fits : goal.renew_groups-requires-clause-fits
@@ -81,5 +81,5 @@ renew_groups-requires-clause-fits c =
           (replaced-order c.args.lo c.args.hi old new z) c.loop-first.next c.loop-first.above c.loop-first.first
           c.loop-first.marks w.if-lo-above.false g
       | else-loop-first-test w ↦ changing-done c.args.lo c.args.hi old new c.loop-first.next c.loop-first.above
-      c.loop-first.first c.loop-first.marks (omega arith) g
+          c.loop-first.first c.loop-first.marks (omega arith) g
     ])

@@ -20,20 +20,18 @@ last-below marks middle place l = subst (λ k. (get_or marks k no_mark).at < pla
     (let e : middle ≡ middle + 1 - 1 = omega arith in e) l
 
 pub loop-low-preserved-then-marks-middle : goal.loop-low-preserved-then-marks-middle
-loop-low-preserved-then-marks-middle c =
-    (
-      omega arith,
-      c.loop-low.invariant.1,
-      c.loop-low.invariant.2,
-      λ _. last-below c.args.marks.now _ c.args.place c.if-marks-middle.true,
-    )
+loop-low-preserved-then-marks-middle c = (
+  omega arith,
+  c.loop-low.invariant.1,
+  c.loop-low.invariant.2,
+  λ _. last-below c.args.marks.now _ c.args.place c.if-marks-middle.true,
+)
 
 pub loop-low-preserved : goal.loop-low-preserved
-loop-low-preserved c =
-    (
-      omega arith,
-      omega arith,
-      subst (λ k. c.args.place ≤ k) (sym (mark-first 4294967295 c.args.marks.now _ no_mark
-          (omega arith))) (omega arith),
-      c.loop-low.invariant.3,
-    )
+loop-low-preserved c = (
+  omega arith,
+  omega arith,
+  subst (λ k. c.args.place ≤ k) (sym (mark-first 4294967295 c.args.marks.now _ no_mark
+      (omega arith))) (omega arith),
+  c.loop-low.invariant.3,
+)

@@ -7,12 +7,11 @@ use Rattle.zone_bytes.specs.Changes.{Begins}
 use Rattle.zone_marks.proofs.purging.purge_lowest.Goals as goal
 
 pub purge_from-requires : goal.purge_from-requires
-purge_from-requires c =
-    (
-      purge_zone 0 c.args.part.now.bytes c.requires.sound.2.unused c.args.purges c.args.sparing,
-      all-start c.args.part.now.bytes c.requires.sound.0 c.requires.sound.1 c.requires.sound.2 c.args.purges
+purge_from-requires c = (
+  purge_zone 0 c.args.part.now.bytes c.requires.sound.2.unused c.args.purges c.args.sparing,
+  all-start c.args.part.now.bytes c.requires.sound.0 c.requires.sound.1 c.requires.sound.2 c.args.purges
       c.args.sparing,
-    )
+)
 
 pub returns-in_default-clause-purged : goal.returns-in_default-clause-purged
 returns-in_default-clause-purged c = λ first unused i.

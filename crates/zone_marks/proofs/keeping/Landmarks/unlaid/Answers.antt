@@ -26,7 +26,7 @@ returns c =
     let g : groups ≡ replicate count none = c.in_ok-groups.ensures.items_if_clones_equal (λ y e. e) in (
       (
         subst (AreMarks 4294967295 (zone_in xs)) (sym f) (unlaid-marks (zone_in xs) (omega (arith, sizes-length))
-        (count * 16)),
+            (count * 16)),
         subst (AreGroups groups) (sym f) (subst (λ t. AreGroups t (replicate (count * 16) blank)) (sym g)
             (same-groups (count * 16) count blank (omega arith))),
       ),
