@@ -46,7 +46,7 @@ module _ (n : Sparing) (b : Block) (above : List Block) where
       ≡ cond {A = ℕ} (may_be_purged (spared n) (opened_block n b)) 1 0
       + count_within (spared n) (left - size b) (opened n above)
   within-more zero l = absurd (omega (arith, l))
-  within-more (suc k) l = ap (count_within (spared n) (suc k)) (opened-more n b above)
+  within-more (suc k) l = ap (count_within (spared n) (suc k)) (opened-more n b _)
       ∙ ap (λ s. cond {A = ℕ} (may_be_purged (spared n) (opened_block n b)) 1 0
       + count_within (spared n) (suc k - s) (opened n above)) (size-opened n b)
 
@@ -81,7 +81,7 @@ count-below xs first unused i from edge run n low rest b under none less is at =
     let all = count-past sp (opened n low) (opened n rest) run (omega (arith, sizes-opened n low, at)) in
     let zones : opened n e.below ++ opened n (left_in edge xs) ≡ opened n low ++ opened n rest =
     sym (opened-append n e.below (left_in edge xs)) ∙ ap (opened n) (sym e.is ∙ is) ∙ opened-append n low rest in
-    let none_below = count-none n from 0 e.below
+    let none_below = count-none n _ 0 _
     (at-left (Stays from) 0 e.below (left_in edge xs) (subst (NoneGoes from) e.is none)) (omega (arith, under)) in
     let p : run - edge ≡ run - sizes (opened n e.below) = omega (arith, sizes-opened n e.below) in
     let z : run - sizes (opened n low) ≡ 0 = omega (arith, sizes-opened n low, at) in
@@ -110,8 +110,8 @@ most-fits xs first unused i n = omega (
 pub run-begins : (xs : List ℕ) (run : ℕ) (low rest : List Block) → zone_in xs ≡ low ++ rest → sizes low ≡ run
     → Begins run 0 (zone_in xs)
 run-begins xs run low rest is at =
-    subst (Begins run 0) (sym is) (begins-left run 0 low rest
-    (subst (λ k. Begins k 0 low) (let e : 0 + sizes low ≡ run = omega (arith, at) in e) (begins-end 0 low)))
+    subst (Begins run 0) (sym is) (begins-left _ 0 _ _
+    (subst (λ k. Begins k 0 low) (let e : 0 + sizes low ≡ run = omega (arith, at) in e) (begins-end 0 _)))
 
 -- the run of a block, as a walk from the bottom finds it
 pub block-run : (xs : List ℕ) (number p run : ℕ) (n : Sparing) (blocks : List Block) → blocks ≡ zone_in xs
@@ -119,21 +119,20 @@ pub block-run : (xs : List ℕ) (number p run : ℕ) (n : Sparing) (blocks : Lis
     → ((blocks : List Block) → opened n blocks ≡ blocks)
     → FindsLowestRun (λ run. has (is_relocatable number) run && has_free 0 run) (tidy blocks) (Some run)
     → IsRunOf number p n (zone_in xs) run
-block-run xs number p run n blocks e once keeps whole f = run-of number p n (zone_in xs) (whole (zone_in xs)) keeps run once
-    (subst (λ z. FindsLowestRun (λ run. has (is_relocatable number) run && has_free 0 run)
-    (tidy z) (Some run)) e f)
+block-run xs number p run n blocks e once keeps whole f = run-of _ p n _ (whole (zone_in xs)) keeps _ once
+    (subst (λ z. FindsLowestRun (λ run. has (is_relocatable number) run && has_free 0 run) (tidy z) (Some run)) e f)
 
 -- what blocks that are known come to, below others
 module _ (xs : List ℕ) (first unused : ℕ) (i : IsSound xs first unused) where
   pub stretch-from : (w : Counting) (t : Tally) (from to : ℕ) → Begins from 0 (zone_in xs) → Begins to 0 (zone_in xs)
       → from ≤ to → IsTally w t (between from to from (left_in from xs)) → IsStretch w t from to xs
-  stretch-from w t from to b e l k = stretch-at xs first unused i w t from to to b
-      (one-here xs first unused i w t from to b k) e l (omega arith) (inl refl)
+  stretch-from w t from to b e l k = stretch-at _ _ _ i w t _ _ _ b
+      (one-here _ _ _ i w t _ _ b k) e l (omega arith) (inl refl)
 
 -- what blocks come to, by what those up to a place do
 module _ (w : Counting) (xs : List ℕ) (from to : ℕ) (runs : Stretch) (s : IsStretch w (tally.Known runs) from to xs) where
   pub known-past : stretch_by w (left_in from xs) ≡ join runs (stretch_by w (left_in to xs))
-  known-past = ap (stretch_by w) s.1.is ∙ stretch_by-append w s.0 (left_in to xs)
+  known-past = ap (stretch_by w) s.1.is ∙ stretch_by-append w _ _
       ∙ ap (λ r. join r (stretch_by w (left_in to xs))) s.2
 
   pub known-fits : from + load runs ≤ to

@@ -36,11 +36,11 @@ use Rattle.zone_bytes.proofs.Tiles.Tiling.{span-append}
 -- a lower place
 pub stays-lower : (bound lower x : ℕ) (blocks : List Block) → lower ≤ bound → AtEach (Stays bound) x blocks
     → AtEach (Stays lower) x blocks
-stays-lower bound lower x blocks l = at-map (Stays bound) (Stays lower) x blocks (λ p b _ _ s q. s (omega (arith, l, q)))
+stays-lower bound lower x blocks l = at-map (Stays bound) (Stays lower) x _ (λ p b _ _ s q. s (omega (arith, l, q)))
 
 -- blocks at or above it
 pub stays-above : (bound x : ℕ) (blocks : List Block) → bound ≤ x → AtEach (Stays bound) x blocks
-stays-above bound x blocks l = at-all (Stays bound) x blocks (λ p b m q. absurd (omega (arith, l, m, q)))
+stays-above bound x blocks l = at-all (Stays bound) x _ (λ p b m q. absurd (omega (arith, l, m, q)))
 
 -- a block that ends below the place
 pub stays-here : (bound x : ℕ) (b : Block) → Stays bound x b → x + size b ≤ bound → is_purgeable b ≡ false
@@ -52,8 +52,8 @@ stays-here bound x (Relocatable id flags content) s l = s (omega (arith, l))
 -- blocks that end below it
 pub stays-whole : (bound other x : ℕ) (blocks : List Block) → x + sizes blocks ≤ bound → AtEach (Stays bound) x blocks
     → AtEach (Stays other) x blocks
-stays-whole bound other x blocks l = at-map (Stays bound) (Stays other) x blocks
-    (λ p b _ u s _. stays-here bound p b s (omega (arith, u, l)))
+stays-whole bound other x blocks l = at-map (Stays bound) (Stays other) x _
+    (λ p b _ u s _. stays-here _ p b s (omega (arith, u, l)))
 
 -- a block became one of as many bytes, which may be purged if it might
 pub stays-same : (bound x : ℕ) (below above : List Block) (b c : Block) → size c ≡ size b → is_purgeable c ≡ is_purgeable b
@@ -62,7 +62,7 @@ stays-same bound x [] above b c s g e = (
   λ l. g ∙ e.0 l,
   subst (λ n. AtEach (Stays bound) (x + n) above) (sym s) e.1,
 )
-stays-same bound x (d ∷ below) above b c s g e = (e.0, stays-same bound (x + size d) below above b c s g e.1)
+stays-same bound x (d ∷ below) above b c s g e = (e.0, stays-same _ (x + size d) below above b c s g e.1)
 
 -- some blocks became others
 module _ (lo hi : ℕ) (old new : List Block) (r : Replaced lo hi old new) (bound : ℕ) (n : NoneGoes bound old) where
@@ -74,18 +74,15 @@ module _ (lo hi : ℕ) (old new : List Block) (r : Replaced lo hi old new) (boun
       let e : 0 + sizes r.below ≡ lo = omega arith in
       let f : lo + sizes r.here ≡ lo + sizes r.there = omega arith in
       let over = at-right (Stays bound) 0 r.below (r.here ++ r.above) old-parts in
-      subst (NoneGoes lower) (sym r.is)
-      (at-append (Stays lower) 0 r.below (r.there ++ r.above)
-      (stays-lower bound lower 0 r.below l (at-left (Stays bound) 0 r.below (r.here ++ r.above) old-parts))
-      (subst (λ x. AtEach (Stays lower) x (r.there ++ r.above)) (sym e)
-      (at-append (Stays lower) lo r.there r.above there
-      (stays-lower bound lower (lo + sizes r.there) r.above l
-      (subst (λ x. AtEach (Stays bound) x r.above) f
-      (at-right (Stays bound) lo r.here r.above (subst (λ x. AtEach (Stays bound) x (r.here ++ r.above)) e over)))))))
+      subst (NoneGoes lower) (sym r.is) (at-append (Stays lower) 0 _ _
+      (stays-lower _ _ 0 _ l (at-left (Stays bound) 0 _ _ old-parts))
+      (subst (λ x. AtEach (Stays lower) x (r.there ++ r.above)) (sym e) (at-append (Stays lower) _ _ _ there
+      (stays-lower _ _ _ _ l (subst (λ x. AtEach (Stays bound) x r.above) f
+      (at-right (Stays bound) _ _ _ (subst (λ x. AtEach (Stays bound) x (r.here ++ r.above)) e over)))))))
 
   -- above it
   pub stays-under : (lower : ℕ) → lower ≤ bound → lower ≤ lo → NoneGoes lower new
-  stays-under lower l m = stays-replaced lower l (stays-above lower lo r.there m)
+  stays-under lower l m = stays-replaced _ l (stays-above _ _ _ m)
 
 -- movable blocks that move down past free bytes
 pub stays-packed : (bound free x y used : ℕ) (run : List Block) → Loose run → x ≤ y + used
@@ -96,8 +93,7 @@ stays-packed bound free x y used (Free n ∷ run) l e f s =
 stays-packed bound free x y used (Nonrelocatable id content ∷ run) l e f s = absurd (let z : false ≡ true = l.0 in cc)
 stays-packed bound free x y used (Masters ∷ run) l e f s = absurd (let z : false ≡ true = l.0 in cc)
 stays-packed bound free x y used (Relocatable id flags content ∷ run) l e f s = cases (is_mover b) l.0
-    (λ q. s.0 (omega (arith, e, f, q)))
-    (stays-packed bound free (x + size b) (y + size b) used run l.1 (omega (arith, e)) (omega (arith, f)) s.1)
+    (λ q. s.0 (omega (arith, e, f, q))) (stays-packed _ _ _ _ used run l.1 (omega (arith, e)) (omega (arith, f)) s.1)
   where
     b : Block
     b = Relocatable id flags content
@@ -118,7 +114,7 @@ pub stays-settled : (bound lower run all : ℕ) (zone : List Block) (r : RunSpot
 stays-settled bound lower run all zone r e f n same moved = elim (cases_lt run bound) [
   | inl l ↦ subst (λ k. NoneGoes k (r.below ++ (settle r.run ++ r.above))) (sym (moved l)) (shifted l)
   | inr l ↦ subst (λ k. NoneGoes k (r.below ++ (settle r.run ++ r.above))) (sym (same l))
-      (stays-under run (run + sizes r.run) zone (r.below ++ (settle r.run ++ r.above)) changed bound n bound (omega arith) l)
+      (stays-under _ _ _ _ changed _ n _ (omega arith) l)
 ]
   where
     loose : Loose r.run
@@ -138,20 +134,18 @@ stays-settled bound lower run all zone r e f n same moved = elim (cases_lt run b
     }
 
     few : free_sum r.run ≤ all
-    few =
-        omega (arith, ap free_sum (sym (run_at-is run zone r e)), total-append, f)
+    few = omega (arith, ap free_sum (sym (run_at-is run zone r e)), total-append, f)
 
     there : AtEach (Stays bound) run r.run
     there =
         let q : 0 + sizes r.below ≡ run = omega (arith, (run_at-splits run zone r e).bottom) in
-        at-left (Stays bound) run r.run r.above (subst (λ x. AtEach (Stays bound) x (r.run ++ r.above)) q
-        (at-right (Stays bound) 0 r.below (r.run ++ r.above) (subst (NoneGoes bound) (sym (run_at-is run zone r e)) n)))
+        at-left (Stays bound) _ _ _ (subst (λ x. AtEach (Stays bound) x (r.run ++ r.above)) q
+        (at-right (Stays bound) 0 _ _ (subst (NoneGoes bound) (sym (run_at-is _ _ r e)) n)))
 
     shifted : run < bound → NoneGoes (bound - all) (r.below ++ (settle r.run ++ r.above))
     shifted l = stays-replaced run (run + sizes r.run) zone (r.below ++ (settle r.run ++ r.above)) changed bound n
-        (bound - all) (omega arith)
-        (at-append (Stays (bound - all)) run (movers r.run) (free (free_sum r.run))
-        (stays-packed bound all run run 0 r.run loose (omega arith) (omega (arith, few)) there)
+        (bound - all) (omega arith) (at-append (Stays (bound - all)) _ _ _
+        (stays-packed _ _ run run 0 r.run loose (omega arith) (omega (arith, few)) there)
         (stays-free (bound - all) (run + sizes (movers r.run)) (free_sum r.run)))
 
 -- the walk over blocks of which none may be purged
@@ -176,10 +170,9 @@ module _ (xs : List ℕ) (from at : ℕ) (p : Passed xs from at (λ _ b. is_purg
 
   pub all-stay : AtEach (Stays at) from (left_in from xs)
   all-stay =
-      subst (AtEach (Stays at) from) (sym p.is)
-      (at-append (Stays at) from p.done (left_in at xs)
-      (at-map (λ _ b. is_purgeable b ≡ false) (Stays at) from p.done (λ _ b _ _ r _. r) p.each)
-      (stays-above at (from + sizes p.done) (left_in at xs) (omega arith)))
+      subst (AtEach (Stays at) from) (sym p.is) (at-append (Stays at) _ _ _
+      (at-map (λ _ b. is_purgeable b ≡ false) (Stays at) _ _ (λ _ b _ _ r _. r) p.each)
+      (stays-above _ _ _ (omega arith)))
 
 -- blocks of which none may be purged, below others
 pub none-passes : (n : Sparing) (b : Block) → is_purgeable b ≡ false → may_be_purged (spared n) b ≡ false
@@ -190,9 +183,9 @@ next-above : (n : Sparing) (k bound x : ℕ) (below above : List Block) → AtEa
     → next_from x (spared n) k (below ++ above) ≡ next_from (x + sizes below) (spared n) k above
 next-above n k bound x [] above s l = let e : x ≡ x + 0 = omega arith in ap (λ y. next_from y (spared n) k above) e
 next-above n k bound x (b ∷ below) above s l =
-    next-stays x (spared n) k b (below ++ above)
-    (none-passes n b (stays-here bound x b s.0 (omega (arith, l))))
-    ∙ next-above n k bound (x + size b) below above s.1 (omega (arith, l))
+    next-stays x (spared n) k b _
+    (none-passes n b (stays-here _ x b s.0 (omega (arith, l))))
+    ∙ next-above n k _ (x + size b) below above s.1 (omega (arith, l))
     ∙ (let e : x + size b + sizes below ≡ x + (size b + sizes below) = omega arith in
     ap (λ y. next_from y (spared n) k above) e)
 
@@ -210,10 +203,8 @@ pub stays-from : (xs : List ℕ) (first unused : ℕ) (i : IsSound xs first unus
 stays-from xs first unused i from b g bound s =
     let e = seen-from xs first unused i from b in
     let k : from ≡ 0 + sizes e.below = omega arith in
-    subst (NoneGoes bound) (sym e.is)
-    (at-append (Stays bound) 0 e.below (left_in from xs)
-    (stays-whole from bound 0 e.below (omega arith)
-    (at-left (Stays from) 0 e.below (left_in from xs) (subst (NoneGoes from) e.is g)))
+    subst (NoneGoes bound) (sym e.is) (at-append (Stays bound) 0 _ _ (stays-whole _ _ 0 _ (omega arith)
+    (at-left (Stays from) 0 _ _ (subst (NoneGoes from) e.is g)))
     (subst (λ x. AtEach (Stays bound) x (left_in from xs)) k s))
 
 -- what a search that looks from the bottom of blocks found
@@ -225,8 +216,7 @@ found-from edge test blocks place f = ap (option_map (λ (s : Spot). edge + size
 -- it lies among them
 found-within : (test : Block → Bool) (blocks : List Block) (place : ℕ) → FindsLowest test blocks (Some place)
     → place ≤ sizes blocks
-found-within test blocks place f =
-    omega (arith, ap sizes (spot-is test blocks f.0 f.1), span-append)
+found-within test blocks place f = omega (arith, ap sizes (spot-is test blocks f.0 f.1), span-append)
 
 -- from an edge of a zone on
 module _ (xs : List ℕ) (first unused : ℕ) (i : IsSound xs first unused) (from : ℕ) (b : Begins from 0 (zone_in xs))
@@ -241,7 +231,7 @@ module _ (xs : List ℕ) (first unused : ℕ) (i : IsSound xs first unused) (fro
   count-from =
       ap (count_of (spared n)) (plain (left_in from xs))
       ∙ sym (ap (count_of (spared n)) (plain (zone_in xs) ∙ edge.is)
-      ∙ count-above n from 0 edge.below (left_in from xs) below-stays (omega (arith, edge.low)))
+      ∙ count-above n _ 0 _ _ below-stays (omega (arith, edge.low)))
 
   -- the place of the block to be purged next
   module _ (k : ℕ) where
@@ -252,23 +242,21 @@ module _ (xs : List ℕ) (first unused : ℕ) (i : IsSound xs first unused) (fro
         ≡ place_from from goes (purged k n (left_in from xs))
     next-is-there =
         let e : 0 + sizes edge.below ≡ from = omega (arith, edge.low) in
-        sym (next-is n k (zone_in xs))
-        ∙ ap (next_from 0 (spared n) k) (plain (zone_in xs) ∙ edge.is)
-        ∙ next-above n k from 0 edge.below (left_in from xs) below-stays (omega (arith, edge.low))
+        sym (next-is n k _) ∙ ap (next_from 0 (spared n) k) (plain (zone_in xs) ∙ edge.is)
+        ∙ next-above n k _ 0 _ _ below-stays (omega (arith, edge.low))
         ∙ ap (λ y. next_from y (spared n) k (left_in from xs)) e
         ∙ ap (λ z. next_from from (spared n) k z) (sym (plain (left_in from xs)))
-        ∙ sym (place-tidy from goes (λ m. refl) (lowest_purged k (spared n) (opened n (left_in from xs))))
+        ∙ sym (place-tidy _ goes (λ m. refl) (lowest_purged k (spared n) (opened n (left_in from xs))))
 
     pub next-none : FindsLowest goes (purged k n (left_in from xs)) None → FindsLowest goes (purged k n (zone_in xs)) None
-    next-none f = finds goes (purged k n (zone_in xs)) None
-        (apart-tidy (lowest_purged k (spared n) (opened n (zone_in xs))))
+    next-none f = finds goes _ _ (apart-tidy (lowest_purged k (spared n) (opened n (zone_in xs))))
         (sym (next-is-there ∙ ap (option_map (λ (s : Spot). from + sizes s.below)) f))
 
     pub next-some : (place : ℕ) → FindsLowest goes (purged k n (left_in from xs)) (Some place)
         → FindsLowest goes (purged k n (zone_in xs)) (Some (from + place))
-    next-some place f = finds goes (purged k n (zone_in xs)) (Some (from + place))
+    next-some place f = finds goes _ (Some (from + place))
         (apart-tidy (lowest_purged k (spared n) (opened n (zone_in xs))))
-        (sym (next-is-there ∙ found-from from goes (purged k n (left_in from xs)) place f))
+        (sym (next-is-there ∙ found-from _ goes _ _ f))
 
     pub next-fits : (place : ℕ) → FindsLowest goes (purged k n (left_in from xs)) (Some place)
         → from + place ≤ length xs

@@ -45,7 +45,7 @@ room-less m (Relocatable id flags content) e = omega arith
 
 pub no-more-room : (p q lo hi x : ℕ) (blocks : List Block) → p ≤ q → AtEach (NoRoom p lo hi) x blocks
     → AtEach (NoRoom q lo hi) x blocks
-no-more-room p q lo hi x blocks l = at-map (NoRoom p lo hi) (NoRoom q lo hi) x blocks
+no-more-room p q lo hi x blocks l = at-map (NoRoom p lo hi) (NoRoom q lo hi) x _
     (λ _ b _ _ r m n. room-more p q b l (r m n))
 
 -- where no room is for more, none is larger
@@ -85,10 +85,10 @@ module _ (xs : List ℕ) (from most : ℕ) where
   growing-step at end free largest next barrier g s l m o =
       let z = ap largest_free s.is in
       record {
-        passed = passed-step xs from (λ _ c. is_room (next + 1) c ≡ false) at end free barrier
-            (passed-more xs from at (λ _ c. is_room (largest + 1) c ≡ false) (λ _ c. is_room (next + 1) c ≡ false)
-            (λ _ c. room-more (largest + 1) (next + 1) c (omega (arith, l))) g.passed) s
-            (λ c e k. no-room (next + 1) c k (λ _ q. omega (arith, e, m, q)));
+        passed = passed-step _ _ (λ _ c. is_room (next + 1) c ≡ false) _ _ _ _
+            (passed-more _ _ _ (λ _ c. is_room (largest + 1) c ≡ false) (λ _ c. is_room (next + 1) c ≡ false)
+            (λ _ c. room-more _ _ c (omega (arith, l))) g.passed) s
+            (λ c e k. no-room _ c k (λ _ q. omega (arith, e, m, q)));
         no_less = omega (arith, l);
         reached = elim o [
           | inl e ↦ omega (arith, z, m, e)
@@ -99,12 +99,10 @@ module _ (xs : List ℕ) (from most : ℕ) where
 module _ (xs : List ℕ) (first unused : ℕ) (i : IsSound xs first unused) where
   pub zone-largest : (m : ℕ) → AtEach (NoRoom (m + 1) 0 4294967295) 0 (zone_in xs) → m ≤ largest_free (zone_in xs)
       → m ≡ largest_free (zone_in xs)
-  zone-largest m e l =
-      omega (arith, largest-within m 4294967295 0 (zone_in xs) (omega (arith, sizes-length)) e, l)
+  zone-largest m e l = omega (arith, largest-within m 4294967295 0 (zone_in xs) (omega (arith, sizes-length)) e, l)
 
   pub left-largest : (p : ℕ) → Begins p 0 (zone_in xs) → largest_free (left_in p xs) ≤ largest_free (zone_in xs)
-  left-largest p b =
-      omega (arith, ap largest_free (seen-from xs first unused i p b).is, largest-above)
+  left-largest p b = omega (arith, ap largest_free (seen-from xs first unused i p b).is, largest-above)
 
 -- a block that stays
 purged-stays : (k : ℕ) (sp : Block → Bool) (b : Block) (above : List Block) → may_be_purged sp b ≡ false
@@ -117,8 +115,8 @@ purged-above : (k bound x : ℕ) (below above : List Block) → AtEach (Stays bo
     → lowest_purged k spares (below ++ above) ≡ below ++ lowest_purged k spares above
 purged-above k bound x [] above s l = refl
 purged-above k bound x (b ∷ below) above s l =
-    purged-stays k spares b (below ++ above) (none-passes sparing.Nothing b (stays-here bound x b s.0 (omega (arith, l))))
-    ∙ ap (λ q. b ∷ q) (purged-above k bound (x + size b) below above s.1 (omega (arith, l)))
+    purged-stays k spares b _ (none-passes sparing.Nothing b (stays-here bound x b s.0 (omega (arith, l))))
+    ∙ ap (λ q. b ∷ q) (purged-above k _ (x + size b) below above s.1 (omega (arith, l)))
 
 -- where nothing would be given, nothing is purged
 none-given : (sp : Block → Bool) (b : Block) → purgeable_of b ≤ 0 → may_be_purged sp b ≡ false
@@ -136,19 +134,19 @@ none-purged k sp (b ∷ bs) l =
 
 pub stands-still : (k : ℕ) (zone : List Block) → tidy zone ≡ zone → purgeable_sum zone ≤ 0
     → purged k sparing.Nothing zone ≡ zone
-stands-still k zone t l = ap tidy (none-purged k spares zone l) ∙ t
+stands-still k zone t l = ap tidy (none-purged k spares _ l) ∙ t
 
 -- the largest stretch of Free blocks, by purges
 stretch-rises : (f g : ℕ) (bs : List Block) → f ≤ g → largest_stretch f bs ≤ largest_stretch g bs
 stretch-rises f g [] l = l
-stretch-rises f g (Free n ∷ bs) l = stretch-rises (f + n) (g + n) bs (omega (arith, l))
+stretch-rises f g (Free n ∷ bs) l = stretch-rises (f + n) _ bs (omega (arith, l))
 stretch-rises f g (Nonrelocatable id content ∷ bs) l = omega (arith, l)
 stretch-rises f g (Masters ∷ bs) l = omega (arith, l)
 stretch-rises f g (Relocatable id flags content ∷ bs) l = omega (arith, l)
 
 stretch-above : (f : ℕ) (below above : List Block) → largest_stretch 0 above ≤ largest_stretch f (below ++ above)
 stretch-above f [] above = stretch-rises 0 f above (omega arith)
-stretch-above f (Free n ∷ below) above = stretch-above (f + n) below above
+stretch-above f (Free n ∷ below) above = stretch-above _ below above
 stretch-above f (Nonrelocatable id content ∷ below) above = let r = stretch-above 0 below above in omega (arith, r)
 stretch-above f (Masters ∷ below) above = let r = stretch-above 0 below above in omega (arith, r)
 stretch-above f (Relocatable id flags content ∷ below) above = let r = stretch-above 0 below above in omega (arith, r)
@@ -191,8 +189,7 @@ stretch-ends : (f : ℕ) (old new : List Block) → Apart old → (f ≡ 0) ⊎ 
 stretch-ends f [] [] a e s = omega arith
 stretch-ends f [] (c ∷ new) a e s = absurd s
 stretch-ends f (b ∷ old) [] a e s = absurd s
-stretch-ends f (b ∷ old) (c ∷ new) a (inl e) s =
-    omega (arith, ap (λ g. largest_stretch g (c ∷ new)) e)
+stretch-ends f (b ∷ old) (c ∷ new) a (inl e) s = omega (arith, ap (λ g. largest_stretch g (c ∷ new)) e)
 stretch-ends f (b ∷ old) (Free n ∷ new) a (inr e) s =
     let z : 0 < size b = apart-size b old a.0 in
     absurd (omega (arith, z, ap size s, ap (λ q. top_free (q ∷ old)) s, e))
@@ -202,15 +199,15 @@ stretch-ends f (b ∷ old) (Relocatable id flags content ∷ new) a (inr e) s = 
 
 top-apart : (n : ℕ) (bs : List Block) → add (Free n) bs ≡ Free n ∷ bs → top_free bs ≡ 0
 top-apart n [] e = refl
-top-apart zero (Free m ∷ bs) e = absurd (let z : 0 < 0 = apart-size (Free zero) (Free m ∷ bs) e in omega (arith, z))
-top-apart (suc n) (Free m ∷ bs) e = absurd (two (Free (suc n + m)) (Free (suc n)) (Free m) bs e)
+top-apart zero (Free m ∷ bs) e = absurd (let z : 0 < 0 = apart-size _ _ e in omega (arith, z))
+top-apart (suc n) (Free m ∷ bs) e = absurd (two _ _ _ _ e)
 top-apart n (Nonrelocatable id content ∷ bs) e = refl
 top-apart n (Masters ∷ bs) e = refl
 top-apart n (Relocatable id flags content ∷ bs) e = refl
 
 stretch-parts : (f : ℕ) (below old new : List Block) → Apart (below ++ old) → (f ≡ 0) ⊎ (top_free (below ++ old) ≡ 0)
     → SameFirst old new → largest_stretch f (below ++ new) ≤ max (max f (largest_free below)) (largest_stretch 0 new)
-stretch-parts f [] old new a e s = let r = stretch-ends f old new a e s in omega (arith, r)
+stretch-parts f [] old new a e s = let r = stretch-ends f _ _ a e s in omega (arith, r)
 stretch-parts f (Free n ∷ below) old new a (inl e) s =
     let r = stretch-parts (f + n) below old new a.1 (inr (top-apart n (below ++ old) a.0)) s in omega (arith, r, e)
 stretch-parts f (Free n ∷ below) old new a (inr e) s =
@@ -234,11 +231,10 @@ same-first k bound x (b ∷ bs) l s =
 module _ (xs : List ℕ) (first unused : ℕ) (i : IsSound xs first unused) (k from : ℕ) (m : MayStart from (zone_in xs)) where
   after-is : (zone : List Block) → largest_free (purged k sparing.Nothing zone)
       ≡ largest_stretch 0 (lowest_purged k spares zone)
-  after-is zone = largest-purged sparing.Nothing k zone
+  after-is zone = largest-purged sparing.Nothing k _
 
   rises : largest_free (zone_in xs) ≤ largest_free (purged k sparing.Nothing (zone_in xs))
-  rises =
-      omega (arith, purged-rises, after-is)
+  rises = omega (arith, purged-rises, after-is)
 
   parted : from < m.bound → largest_free (purged k sparing.Nothing (zone_in xs))
       ≡ max (largest_free (zone_in xs)) (largest_free (purged k sparing.Nothing (left_in from xs)))
@@ -246,9 +242,8 @@ module _ (xs : List ℕ) (first unused : ℕ) (i : IsSound xs first unused) (k f
       let s = seen-from xs first unused i from m.begins in
       let rest = left_in from xs in
       let stays = subst (NoneGoes m.bound) s.is m.none in
-      let e = after-is (zone_in xs) ∙ ap (λ z. largest_stretch 0 (lowest_purged k spares z)) s.is
-      ∙ ap (largest_stretch 0) (purged-above k m.bound 0 s.below rest
-      (at-left (Stays m.bound) 0 s.below rest stays) (omega (arith, l))) in
+      let e = after-is _ ∙ ap (λ z. largest_stretch 0 (lowest_purged k spares z)) s.is
+      ∙ ap (largest_stretch 0) (purged-above k _ 0 _ _ (at-left (Stays m.bound) 0 _ rest stays) (omega (arith, l))) in
       let up = stretch-parts 0 s.below rest (lowest_purged k spares rest)
       (subst Apart s.is (apart-tidied (zone_in xs) i.tidied)) (inl refl)
       (same-first k m.bound (0 + sizes s.below) rest (omega (arith, l))

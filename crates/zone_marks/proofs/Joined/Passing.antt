@@ -82,12 +82,10 @@ module _ (p : Purge) (n : Sparing) (start at k freed : ℕ) (xs : List ℕ) (u :
   here-laid = subst (λ q. Lays xs q p.slots p.unused) (sym (append_assoc u.done gap u.rest)) u.lays
 
   here-low : sizes (u.done ++ gap) ≡ at
-  here-low =
-      omega (arith, span-append, span-free)
+  here-low = omega (arith, span-append, span-free)
 
   pub freed-fits : freed ≤ 134217728
-  freed-fits =
-      omega (arith, free-fits)
+  freed-fits = omega (arith, free-fits)
 
   -- the blocks up to there became others
   replaced-as : (zone : List Block) → zone ≡ u.done ++ (gap ++ u.rest) → Replaced p.from at p.zone zone
@@ -101,8 +99,7 @@ module _ (p : Purge) (n : Sparing) (start at k freed : ℕ) (xs : List ℕ) (u :
         ∙ ap (λ q. u.below ++ q) (sym (append_assoc u.now gap u.rest));
     low = u.base;
     high = u.span;
-    span =
-        (omega (arith, span-append, span-free (at - start), ap sizes u.done_is));
+    span = (omega (arith, span-append, span-free (at - start), ap sizes u.done_is));
   }
 
   -- no purges are left, and no block counts as Free
@@ -114,8 +111,7 @@ module _ (p : Purge) (n : Sparing) (start at k freed : ℕ) (xs : List ℕ) (u :
       let left : lowest_purged k (spared n) (opened n u.rest) ≡ u.rest =
       ap (λ j. lowest_purged j (spared n) (opened n u.rest)) z ∙ none u.rest in
       let is : tidy p.goal ≡ u.done ++ (gap ++ u.rest) =
-      sym u.will ∙ ap (λ q. tidy (u.done ++ (gap ++ q))) left ∙ ap tidy whole ∙ tidy-apart (u.done ++ u.rest) a
-      ∙ sym whole in
+      sym u.will ∙ ap (λ q. tidy (u.done ++ (gap ++ q))) left ∙ ap tidy whole ∙ tidy-apart _ a ∙ sym whole in
       record {
         lays = subst (λ q. Lays xs q p.slots p.unused) (sym is) u.lays;
         count = ap free_sum is ∙ u.count;
@@ -135,7 +131,7 @@ module _ (p : Purge) (n : Sparing) (start at k freed : ℕ) (xs : List ℕ) (u :
   next l = of u.rest refl
     where
       of : (rest : List Block) → u.rest ≡ rest → Next
-      of [] e = let i = inside xs (u.done ++ gap) u.rest p.slots p.unused here-laid at here-low in let z =
+      of [] e = let i = inside _ _ _ p.slots _ here-laid _ here-low in let z =
           ap sizes e in absurd (omega (arith, i, z, l))
       of (b ∷ above) e =
           let laid = subst (λ q. Lays xs ((u.done ++ gap) ++ q) p.slots p.unused) e here-laid in
@@ -145,8 +141,7 @@ module _ (p : Purge) (n : Sparing) (start at k freed : ℕ) (xs : List ℕ) (u :
             is = e;
             tells = read xs (u.done ++ gap) b above p.slots p.unused laid at here-low;
             told = λ m t f g h.
-                let s = stepped at xs (way xs (u.done ++ gap) (b ∷ above) p.slots p.unused laid at here-low) l m t f
-                g h in
+                let s = stepped _ _ (way _ _ _ p.slots _ laid _ here-low) l m t f g h in
                 let q = sym s.is ∙ left xs (u.done ++ gap) (b ∷ above) p.slots p.unused laid at here-low in
                 let same : s.here ≡ b = cc in
                 s.told ∙ ap seen same;
@@ -163,8 +158,7 @@ module _ (p : Purge) (n : Sparing) (start at k freed : ℕ) (xs : List ℕ) (u :
           ∙ ap (lowest_purged k (spared n)) (opened-none n) ∙ lowest_purged-none k (spared n))) ∙ u.will in
           let z : u.done ++ (gap ++ u.rest) ≡ tidy p.goal =
           ap (λ q. u.done ++ (gap ++ q)) e ∙ ap (λ q. u.done ++ q) (append-nil gap)
-          ∙ sym (closed-free u.done (at - start) u.tidied u.closed)
-          ∙ ap (λ q. tidy (u.done ++ q)) (sym (append-nil gap)) ∙ w in
+          ∙ sym (closed-free _ _ u.tidied u.closed) ∙ ap (λ q. tidy (u.done ++ q)) (sym (append-nil gap)) ∙ w in
           record {
             lays = subst (λ q. Lays xs q p.slots p.unused) z u.lays;
             count = sym (ap free_sum z) ∙ u.count;
@@ -180,8 +174,7 @@ module _ (p : Purge) (n : Sparing) (start at k freed : ℕ) (xs : List ℕ) (u :
     apart-above = tidy-apart v.above (subst Apart v.is (apart-tidied u.rest u.apart)).1
 
     zone-next : p.zone ≡ u.below ++ ((u.was ++ v.here ∷ []) ++ v.above)
-    zone-next = u.zone_is
-        ∙ ap (λ q. u.below ++ q)
+    zone-next = u.zone_is ∙ ap (λ q. u.below ++ q)
         (ap (λ q. u.was ++ q) v.is ∙ sym (append_assoc u.was (v.here ∷ []) v.above))
 
     span-next : (stop : ℕ) → stop ≡ at + size v.here → p.from + sizes (u.was ++ v.here ∷ []) ≡ stop
@@ -191,7 +184,7 @@ module _ (p : Purge) (n : Sparing) (start at k freed : ℕ) (xs : List ℕ) (u :
         ≡ tidy p.goal
     will-next =
         ap (λ q. tidy (u.done ++ (gap ++ lowest_purged k (spared n) q)))
-        (sym (ap (opened n) v.is ∙ opened-more n v.here v.above)) ∙ u.will
+        (sym (ap (opened n) v.is ∙ opened-more n _ _)) ∙ u.will
 
     -- the block becomes Free
     module _ (m : ℕ) (e : left_past (spared n) k (opened_block n v.here) ≡ Some m) where
@@ -206,8 +199,7 @@ module _ (p : Purge) (n : Sparing) (start at k freed : ℕ) (xs : List ℕ) (u :
         plain = past-plain n k m v.here e;
       }
 
-      pub freed-next : (new : List ℕ)
-          → ((f : Freeing) → MayFree f start at xs
+      pub freed-next : (new : List ℕ) → ((f : Freeing) → MayFree f start at xs
           → Lays new (f.below ++ (free (at + size f.here - start) ++ f.above)) f.slots f.unused)
           → (stop : ℕ) → stop ≡ at + size v.here → (more : ℕ) → more ≡ cond (kind v.here == 0) 0 (size v.here)
           → Purging p n start stop m (freed + more) new
@@ -226,8 +218,7 @@ module _ (p : Purge) (n : Sparing) (start at k freed : ℕ) (xs : List ℕ) (u :
             will = ap (λ q. tidy (u.done ++ (free q ++ after))) (sym g)
                 ∙ sym (joined-below u.done (at - start) (size v.here) after)
                 ∙ ap (λ q. tidy (u.done ++ (gap ++ Free q ∷ after))) (sym (size-opened n v.here))
-                ∙ ap (λ q. tidy (u.done ++ (gap ++ q)))
-                (sym (lowest_purged-free (spared n) k m (opened_block n v.here) (opened n v.above) e)) ∙ will-next;
+                ∙ ap (λ q. tidy (u.done ++ (gap ++ q))) (sym (lowest_purged-free (spared n) k m _ _ e)) ∙ will-next;
             count =
                 (let z = more-free v.here more f in
                 omega (arith, total-append, sum-free, ap (λ q. free_sum (u.done ++ (gap ++ q))) v.is, z, g));
@@ -266,23 +257,20 @@ module _ (p : Purge) (n : Sparing) (start at k freed : ℕ) (xs : List ℕ) (u :
         done = more;
         rest = v.above;
         lays = subst (λ q. Lays xs q p.slots p.unused) (ap (λ q. u.done ++ (gap ++ q)) v.is ∙ regrouped v.above) u.lays;
-        low =
-            (omega (arith, span-append, span-free, t));
+        low = (omega (arith, span-append, span-free, t));
         up = omega arith;
         tidied = closed-now.0;
         closed = closed-now.1;
-        will = ap tidy (sym (regrouped (lowest_purged k (spared n) (opened n v.above))))
+        will = ap tidy (sym (regrouped _))
             ∙ ap (λ b. tidy (u.done ++ (gap ++ b ∷ lowest_purged k (spared n) (opened n v.above)))) (sym same)
-            ∙ ap (λ q. tidy (u.done ++ (gap ++ q)))
-            (sym (lowest_purged-kept (spared n) k (opened_block n v.here) (opened n v.above) e)) ∙ will-next;
+            ∙ ap (λ q. tidy (u.done ++ (gap ++ q))) (sym (lowest_purged-kept (spared n) k _ _ e)) ∙ will-next;
         count = ap free_sum (sym (ap (λ q. u.done ++ (gap ++ q)) v.is ∙ regrouped v.above)) ∙ u.count;
         apart = apart-above;
         below = u.below;
         was = u.was ++ v.here ∷ [];
         now = u.now ++ (gap ++ v.here ∷ []);
         zone_is = zone-next;
-        done_is = ap (λ d. d ++ (gap ++ v.here ∷ [])) u.done_is
-            ∙ append_assoc u.below u.now (gap ++ v.here ∷ []);
+        done_is = ap (λ d. d ++ (gap ++ v.here ∷ [])) u.done_is ∙ append_assoc u.below u.now (gap ++ v.here ∷ []);
         base = u.base;
         span = span-next stop t;
       }

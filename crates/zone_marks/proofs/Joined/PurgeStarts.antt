@@ -62,8 +62,7 @@ module _ (f : Freeing) (place : ℕ) (xs : List ℕ) (m : MayPurge f place xs) w
           lays = subst (λ q. Lays xs q f.slots f.unused) (regrouped f.above) m.lays;
           low = (omega (arith, span-append, t));
           up = omega arith;
-          tidied = tidy-apart front
-              (apart-front front f.above (subst Apart (sym (append_assoc f.below (f.here ∷ []) f.above)) a));
+          tidied = tidy-apart _ (apart-front _ _ (subst Apart (sym (append_assoc f.below (f.here ∷ []) f.above)) a));
           closed = closed-more f.below f.here (not_free-is f.here k);
           will = ap (λ q. tidy (front ++ (free (stop - stop) ++ q))) after
               ∙ ap tidy (sym (regrouped (lowest_purged purges (spared n) f.above)));
@@ -85,9 +84,8 @@ module _ (f : Freeing) (place : ℕ) (xs : List ℕ) (m : MayPurge f place xs) w
         let b = free-is f.here k in
         let one : free (stop - place) ≡ f.here ∷ [] =
         (let z : stop - place ≡ size f.here = omega (arith, t) in ap free z)
-        ∙ free-some (size f.here) (omega (arith, place-read.some)) ∙ ap (λ q. q ∷ []) (sym b) in
-        let regrouped : (above : List Block)
-        → f.below ++ f.here ∷ above ≡ f.below ++ (free (stop - place) ++ above) =
+        ∙ free-some _ (omega (arith, place-read.some)) ∙ ap (λ q. q ∷ []) (sym b) in
+        let regrouped : (above : List Block) → f.below ++ f.here ∷ above ≡ f.below ++ (free (stop - place) ++ above) =
         λ above. ap (λ q. f.below ++ (q ++ above)) (sym one) in
         record {
           done = f.below;
@@ -120,7 +118,7 @@ goes-plain sp (Relocatable id flags content) e = refl
 -- the blocks below the lowest that goes stay
 lowest_purged-spot : (k : ℕ) (sp : Block → Bool) (zone : List Block) (s : Spot) → spot (may_be_purged sp) zone ≡ Some s
     → lowest_purged k sp zone ≡ s.below ++ lowest_purged k sp (s.here ∷ s.above)
-lowest_purged-spot zero sp zone s e = spot-is (may_be_purged sp) zone s e
+lowest_purged-spot zero sp zone s e = spot-is (may_be_purged sp) _ s e
 lowest_purged-spot (suc k) sp [] s e = absurd (none-some _ e)
 lowest_purged-spot (suc k) sp (b ∷ zone) s e = cases (may_be_purged sp b) refl (spot (may_be_purged sp) zone)
     (lowest_purged-spot (suc k) sp zone) e
@@ -132,12 +130,11 @@ lowest_purged-spot (suc k) sp (b ∷ zone) s e = cases (may_be_purged sp b) refl
     cases true is o more e = ap (λ (s : Spot). s.below ++ lowest_purged (suc k) sp (s.here ∷ s.above)) (same_Some _ _ e)
     cases false is None more e = absurd (none-some _ e)
     cases false is (Some s') more e = cond-false (may_be_purged sp b) (Free (size b) ∷ lowest_purged k sp zone)
-        (b ∷ lowest_purged (suc k) sp zone) is
-        ∙ ap (λ q. b ∷ q) (more s' refl)
+        (b ∷ lowest_purged (suc k) sp zone) is ∙ ap (λ q. b ∷ q) (more s' refl)
         ∙ ap (λ (s : Spot). s.below ++ lowest_purged (suc k) sp (s.here ∷ s.above)) (same_Some _ _ e)
 
 masters-tidy : (blocks : List Block) → count is_masters (tidy blocks) ≡ count is_masters blocks
-masters-tidy blocks = total-tidy (λ (b : Block). if is_masters b then 1 else 0) (λ n m. refl) blocks
+masters-tidy blocks = total-tidy (λ (b : Block). if is_masters b then 1 else 0) (λ n m. refl) _
 
 module _ (xs : List ℕ) (first number : ℕ) (i : IsSound xs first number) (purges : ℕ) (n : Sparing) where
   -- over the whole zone
@@ -191,8 +188,7 @@ module _ (xs : List ℕ) (first number : ℕ) (i : IsSound xs first number) (pur
       gap = free (place - start)
 
       regrouped : (blocks : List Block) → s.below ++ blocks ≡ under.lower ++ (gap ++ blocks)
-      regrouped blocks = ap (λ q. q ++ blocks) (below-is going place xs may-go start found)
-          ∙ append_assoc under.lower gap blocks
+      regrouped blocks = ap (λ q. q ++ blocks) (below-is _ _ _ may-go _ found) ∙ append_assoc under.lower gap blocks
 
       zone-is : zone_in xs ≡ under.lower ++ (gap ++ here)
       zone-is = going-is ∙ regrouped here
@@ -213,8 +209,7 @@ module _ (xs : List ℕ) (first number : ℕ) (i : IsSound xs first number) (pur
         tidied = tidy-apart under.lower under.apart;
         closed = under.closed;
         will = ap (λ q. tidy (under.lower ++ (gap ++ lowest_purged purges (spared n) q))) (none here)
-            ∙ ap tidy (sym (regrouped (lowest_purged purges (spared n) here)))
-            ∙ ap tidy (sym (lowest_purged-spot purges (spared n) (zone_in xs) s e))
+            ∙ ap tidy (sym (regrouped _)) ∙ ap tidy (sym (lowest_purged-spot _ (spared n) _ s e))
             ∙ ap (λ q. tidy (lowest_purged purges (spared n) q)) (sym (none (zone_in xs)));
         count = ap free_sum (sym zone-is) ∙ (let z : free_sum (zone_in xs) ≡ free_sum (zone_in xs) + 0 = omega arith in z);
         apart = tidy-apart here (apart-above s.below here (subst Apart going-is (apart-tidied (zone_in xs) i.tidied)));
@@ -232,7 +227,7 @@ module _ (xs : List ℕ) (first number : ℕ) (i : IsSound xs first number) (pur
       → Gained xs new first number more (purged purges n (zone_in xs))
   purge-gained from stop new more d =
       let left = lowest_purged purges (spared n) (opened n (zone_in xs)) in
-      gained xs new first number more i left d.lays d.count (masters-tidy left
+      gained _ _ _ _ _ i left d.lays d.count (masters-tidy left
       ∙ masters-lowest_purged purges (spared n) (opened n (zone_in xs)) ∙ masters-opened n (zone_in xs))
 
   -- above a place
@@ -258,11 +253,8 @@ module _ (xs : List ℕ) (first number : ℕ) (i : IsSound xs first number) (pur
         → Gained xs new first number more (tidy (s.below ++ s.here ∷ lowest_purged purges (spared n) s.above))
     above-gained from stop new more after =
         let d = after spot-at may-purge in
-        gained xs new first number more i left d.lays (d.count ∙ ap (λ z. free_sum z + more) (sym is))
-        (masters-tidy left
-        ∙ total-append (λ (b : Block). if is_masters b then 1 else 0) s.below
-        (s.here ∷ lowest_purged purges (spared n) s.above)
+        gained _ _ _ number more i left d.lays (d.count ∙ ap (λ z. free_sum z + more) (sym is)) (masters-tidy _
+        ∙ total-append (λ (b : Block). if is_masters b then 1 else 0) _ _
         ∙ ap (λ m. count is_masters s.below + ((if is_masters s.here then 1 else 0) + m))
-        (masters-lowest_purged purges (spared n) s.above)
-        ∙ sym (total-append (λ (b : Block). if is_masters b then 1 else 0) s.below (s.here ∷ s.above))
+        (masters-lowest_purged _ (spared n) _) ∙ sym (total-append (λ (b : Block). if is_masters b then 1 else 0) _ _)
         ∙ ap (count is_masters) (sym is))

@@ -28,8 +28,8 @@ module _ (f : Freeing) (place : ℕ) (xs : List ℕ) (m : MayRelease f place xs)
       let h = subst (λ z. Lays xs z f.slots f.unused) r.is m.lays in
       record {
         below = r.below;
-        is = left xs [] all f.slots f.unused m.lays 0 refl ∙ r.is
-            ∙ ap (λ z. r.below ++ z) (sym (left xs r.below r.above f.slots f.unused h from k));
+        is = left _ [] all f.slots f.unused m.lays 0 refl ∙ r.is
+            ∙ ap (λ z. r.below ++ z) (sym (left _ _ _ f.slots _ h _ k));
         low = k;
         under = u;
         way = way xs r.below r.above f.slots f.unused h from k;
@@ -60,8 +60,7 @@ module _ (f : Freeing) (place : ℕ) (xs : List ℕ) (m : MayRelease f place xs)
     lower = record { below = end.lower; here = f.here; above = f.above; slots = f.slots; unused = f.unused }
 
     pub lower-low : sizes end.lower ≡ start
-    lower-low =
-        omega (arith, span-append, span-free, ap sizes below-is, starts)
+    lower-low = omega (arith, span-append, span-free, ap sizes below-is, starts)
 
     pub may-free : MayFree lower start place xs
     may-free = record {
@@ -88,8 +87,7 @@ module _ (f : Freeing) (place : ℕ) (xs : List ℕ) (m : MayRelease f place xs)
       }
 
       low-stop : sizes (end.lower ++ free (stop - start)) ≡ stop
-      low-stop =
-          omega (arith, span-append, span-free, lower-low, starts, t)
+      low-stop = omega (arith, span-append, span-free, lower-low, starts, t)
 
       lays-stop : Lays mid ((end.lower ++ free (stop - start)) ++ f.above) f.slots f.unused
       lays-stop = subst (λ k. Lays mid k f.slots f.unused)
@@ -106,29 +104,24 @@ module _ (f : Freeing) (place : ℕ) (xs : List ℕ) (m : MayRelease f place xs)
       stop-fits = inside mid (end.lower ++ free (stop - start)) f.above f.slots f.unused lays-stop stop low-stop
 
       pub stop-more : (more : ℕ) → more ≡ free_first (left_in stop mid) → stop + more ≤ 134217728
-      stop-more more e =
-          omega (arith, e ∙ ap free_first stop-left, first-small, stop-fits, lays-stop.small)
+      stop-more more e = omega (arith, e ∙ ap free_first stop-left, first-small, stop-fits, lays-stop.small)
 
       pub freed-replaced : (more : ℕ) → more ≡ free_first (left_in stop mid)
           → Replaced start (stop + more) all (tidy (f.below ++ Free (size f.here) ∷ f.above))
       freed-replaced more e =
           let k = here-read.some in
-          let z = released-tidy f.below end.lower (place - start) (size f.here) f.above (omega (arith, k)) below-is
-          end.apart end.closed above-tidy in
-          joined-replaced end.lower (place - start) f.here f.above start (stop + more) (place - start + size f.here)
-          all (tidy (f.below ++ Free (size f.here) ∷ f.above))
+          let z = released-tidy _ _ _ _ _ (omega (arith, k)) below-is end.apart end.closed above-tidy in
+          joined-replaced _ _ _ _ _ _ _ _ _
           (ap (λ k. k ++ f.here ∷ f.above) below-is ∙ append_assoc end.lower (free (place - start)) (f.here ∷ f.above))
           z refl (omega (arith, k)) lower-low (omega (arith, e ∙ ap free_first stop-left, starts, t))
 
       -- and with the one above it
-      pub released : (new : List ℕ)
-          → ((j : Joining) → MayJoin j start stop mid
+      pub released : (new : List ℕ) → ((j : Joining) → MayJoin j start stop mid
           → Lays new (j.below ++ add (Free (stop - start)) j.above) j.slots j.unused)
           → Lays new (tidy (f.below ++ Free (size f.here) ∷ f.above)) f.slots f.unused
       released new joined =
           let k = here-read.some in
           let e : stop - start ≡ place - start + size f.here = omega (arith, starts, t) in
-          let z = released-tidy f.below end.lower (place - start) (size f.here) f.above (omega (arith, k)) below-is
-          end.apart end.closed above-tidy in
+          let z = released-tidy _ _ _ _ _ (omega (arith, k)) below-is end.apart end.closed above-tidy in
           subst (λ q. Lays new q f.slots f.unused) (ap (λ n. end.lower ++ add (Free n) f.above) e
           ∙ sym z) (joined freed may-join)

@@ -27,7 +27,7 @@ tally-as w (tally.Known s) some others a i = a.same w ∙ i
 tally-as w tally.Unknown some others a i = tt
 
 pub alike-as : (t : Tallies) (some others : List Block) → CountAlike some others → AreTold t others → AreTold t some
-alike-as t some others a i w = tally-as w (told w t) some others a (i w)
+alike-as t some others a i w = tally-as w _ _ _ a (i w)
 
 pub alike-same : (some others : List Block) → some ≡ others → CountAlike some others
 alike-same some others e = record { same = λ w. ap (stretch_by w) e }
@@ -45,7 +45,7 @@ alike-append a b c d x y = record {
 }
 
 pub alike-first : (b : Block) (some others : List Block) → CountAlike some others → CountAlike (b ∷ some) (b ∷ others)
-alike-first b some others a = alike-append (b ∷ []) some (b ∷ []) others (alike-same (b ∷ []) (b ∷ []) refl) a
+alike-first b some others a = alike-append _ _ _ _ (alike-same (b ∷ []) (b ∷ []) refl) a
 
 -- what is known in each way
 pub told-both : (runs : Stretch) (spaces : Tally) (blocks : List Block) → stretch_of blocks ≡ runs
@@ -61,7 +61,7 @@ not-same false true e = cc
 not-same false false e = refl
 
 pub one-same : (b c : Block) → free_of c ≡ free_of b → ends_run c ≡ ends_run b → one c ≡ one b
-one-same b c f r = ap (counted (in_run c)) f ∙ ap (λ t. counted t (free_of b)) (not-same (in_run c) (in_run b) r)
+one-same b c f r = ap (counted (in_run c)) f ∙ ap (λ t. counted t (free_of b)) (not-same _ _ r)
 
 pub alike-other : (b c : Block) (some : List Block) → one c ≡ one b → space c ≡ space b
     → CountAlike (c ∷ some) (b ∷ some)
@@ -78,7 +78,7 @@ not-not false = refl
 pub one-spanned : (b : Block) (free : ℕ) (barrier : Bool) → free ≡ free_of b → barrier ≡ ends_run b
     → counted (not barrier) free ≡ one b
 one-spanned b free barrier f r = ap (counted (not barrier)) f ∙ ap (λ t. counted (not t) (free_of b)) r
-    ∙ ap (λ t. counted t (free_of b)) (not-not (in_run b))
+    ∙ ap (λ t. counted t (free_of b)) (not-not _)
 
 -- a block of no bytes more counts the same
 pub one-empty : (b : Block) → size b ≤ 0 → one b ≡ Whole 0
@@ -98,8 +98,8 @@ alike-empty : (b : Block) (some others : List Block) → size b ≤ 0 → CountA
 alike-empty b some others l a = record { same = λ w. either w ∙ a.same w }
   where
     either : (w : Counting) → stretch_by w (b ∷ some) ≡ stretch_by w some
-    either counting.Runs = ap (λ s. join s (stretch_of some)) (one-empty b l) ∙ join-unit_left (stretch_of some)
-    either counting.Spaces = ap (λ s. join s (spaces_of some)) (space-empty b l) ∙ join-unit_left (spaces_of some)
+    either counting.Runs = ap (λ s. join s (stretch_of some)) (one-empty b l) ∙ join-unit_left _
+    either counting.Spaces = ap (λ s. join s (spaces_of some)) (space-empty b l) ∙ join-unit_left _
 
 module _ (lo hi : ℕ) where
   pub between-append : (x : ℕ) (below above : List Block)
@@ -129,7 +129,7 @@ module _ (lo hi : ℕ) where
           → CountAlike (cond t (b ∷ between lo hi (x + size b) blocks) (between lo hi (x + size b) blocks)) []
       cases true e rest =
           let k = leb-true lo x (and_parts (nat_le lo x) (nat_lt x hi) e).0 in
-          alike-empty b (between lo hi (x + size b) blocks) [] (omega (arith, l, k)) rest
+          alike-empty b _ [] (omega (arith, l, k)) rest
       cases false e rest = rest
 
   -- none of the blocks above does
@@ -152,10 +152,9 @@ module _ (lo hi : ℕ) where
       cases : (t : Bool) → nat_lt x hi ≡ t → CountAlike (between lo hi (x + size b) blocks) blocks
           → CountAlike (cond (nat_le lo x && nat_lt x hi) (b ∷ between lo hi (x + size b) blocks)
           (between lo hi (x + size b) blocks)) (b ∷ blocks)
-      cases true e rest = rw (le-leb lo x l) (rw e (alike-first b (between lo hi (x + size b) blocks) blocks rest))
-      cases false e rest = rw (le-leb lo x l) (rw e (alike-back (b ∷ blocks) (between lo hi (x + size b) blocks)
-          (alike-empty b blocks (between lo hi (x + size b) blocks) (omega (arith, h, ltb-false))
-          (alike-back (between lo hi (x + size b) blocks) blocks rest))))
+      cases true e rest = rw (le-leb lo x l) (rw e (alike-first b _ _ rest))
+      cases false e rest = rw (le-leb lo x l) (rw e (alike-back _ _ (alike-empty b _ _ (omega (arith, h, ltb-false))
+          (alike-back _ _ rest))))
 
   -- and so do those of which each begins below the bound
   pub all-begin : (x : ℕ) (blocks : List Block) → lo ≤ x → AtEach (λ p _. p < hi) x blocks
@@ -168,11 +167,11 @@ module _ (lo hi : ℕ) where
   pub between-parts : (below here above : List Block) → sizes below ≡ lo → lo + sizes here ≤ hi
       → (hi ≡ lo + sizes here) ⊎ (above ≡ []) → CountAlike (between lo hi 0 (below ++ (here ++ above))) here
   between-parts below here above l h e =
-      alike-more _ _ _ (alike-same _ _ (between-append 0 below (here ++ above)))
+      alike-more _ _ _ (alike-same _ _ (between-append 0 _ (here ++ above)))
       (alike-append _ _ [] here (none-below 0 below (omega (arith, l)))
       (alike-more _ _ _ (alike-same _ _ (between-append (0 + sizes below) here above
       ∙ ap (λ k. between lo hi (0 + sizes below) here ++ k) top ∙ append-nil (between lo hi (0 + sizes below) here)))
-      (all-within (0 + sizes below) here (omega (arith, l)) (omega (arith, l, h)))))
+      (all-within _ _ (omega (arith, l)) (omega (arith, l, h)))))
     where
       top : between lo hi (0 + sizes below + sizes here) above ≡ []
       top = elim e [

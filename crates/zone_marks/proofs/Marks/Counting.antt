@@ -49,10 +49,9 @@ module _ (xs : List ℕ) (from stop : ℕ) where
         done = c.done ++ s.here ∷ [];
         is = c.is ∙ ap (λ k. c.done ++ k) s.is ∙ sym (append_assoc c.done (s.here ∷ []) (left_in end xs));
         up = omega (arith, span-append);
-        each = at-append (λ p b. (free_of b ≤ most') × (p < stop)) from c.done (s.here ∷ [])
-            (at-map (λ p b. (free_of b ≤ most) × (p < stop)) (λ p b. (free_of b ≤ most') × (p < stop)) from c.done
-            (λ _ _ _ _ r. ((omega (arith, m)), r.1)) c.each)
-            ((omega (arith, n, s.bytes), omega (arith, l)), tt);
+        each = at-append (λ p b. (free_of b ≤ most') × (p < stop)) _ _ _
+            (at-map (λ p b. (free_of b ≤ most) × (p < stop)) (λ p b. (free_of b ≤ most') × (p < stop)) _ _
+            (λ _ _ _ _ r. ((omega (arith, m)), r.1)) c.each) ((omega (arith, n, s.bytes), omega (arith, l)), tt);
         way = s.way;
         comes = sym (joined-is Runs c.done (s.here ∷ []) runs block next j (sym c.comes)
             (t ∙ one-spanned s.here bytes barrier s.bytes s.ends ∙ sym (join-unit_right (one s.here))));
@@ -69,11 +68,11 @@ module _ (xs : List ℕ) (from stop : ℕ) where
     pub counted-tells : (hi edge : ℕ) → CountAlike (between from hi from c.done) c.done → (hi ≤ at) ⊎ (length xs ≤ at)
         → Measures from hi from (left_in from xs) (record { edge = edge; most = most; runs = runs })
     counted-tells hi edge a e = record {
-      most = passed-all xs from (λ _ b. free_of b ≤ most) (λ _ b. free_of b ≤ most) from hi at (record {
+      most = passed-all _ _ (λ _ b. free_of b ≤ most) (λ _ b. free_of b ≤ most) _ _ _ (record {
         done = c.done;
         is = c.is;
         up = c.up;
-        each = at-map (λ p b. (free_of b ≤ most) × (p < stop)) (λ _ b. free_of b ≤ most) from c.done
+        each = at-map (λ p b. (free_of b ≤ most) × (p < stop)) (λ _ b. free_of b ≤ most) _ _
             (λ _ _ _ _ r. r.0) c.each;
         way = c.way;
       }) (λ _ _ r. r) e;
@@ -88,18 +87,16 @@ module _ (xs : List ℕ) (from stop : ℕ) where
 
         alike : CountAlike (between from hi from (left_in from xs)) c.done
         alike = alike-more _ _ _ (alike-same _ _ (ap (between from hi from) c.is
-            ∙ between-append from hi from c.done (left_in at xs)
+            ∙ between-append _ _ from c.done (left_in at xs)
             ∙ ap (λ y. between from hi from c.done ++ between from hi y (left_in at xs)) c.up
             ∙ ap (λ k. between from hi from c.done ++ k) nothing ∙ append-nil (between from hi from c.done))) a
 
     pub counted-edge : (edge : ℕ) → Measures from at from (left_in from xs)
         (record { edge = edge; most = most; runs = runs })
-    counted-edge edge = counted-tells at edge
-        (all-within from at from c.done (omega arith) (omega arith)) (inl (omega arith))
+    counted-edge edge = counted-tells _ _ (all-within _ _ _ _ (omega arith) (omega arith)) (inl (omega arith))
 
     pub counted-below : (place edge : ℕ) → stop ≤ place → (place ≤ at) ⊎ (length xs ≤ at)
         → Measures from place from (left_in from xs) (record { edge = edge; most = most; runs = runs })
-    counted-below place edge l e = counted-tells place edge
-        (alike-same _ _ (all-begin from place from c.done (omega arith)
-        (at-map (λ p b. (free_of b ≤ most) × (p < stop)) (λ p _. p < place) from c.done
+    counted-below place edge l e = counted-tells _ _ (alike-same _ _ (all-begin _ _ _ _ (omega arith)
+        (at-map (λ p b. (free_of b ≤ most) × (p < stop)) (λ p _. p < place) _ _
         (λ _ _ _ _ r. omega (arith, l)) c.each))) e

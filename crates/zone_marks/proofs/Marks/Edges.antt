@@ -41,19 +41,17 @@ mover-one (Relocatable id flags content) m = ap (λ t. counted t 0) m
 
 movers-bare : (lo hi x : ℕ) (movers : List Block) → Each IsMover movers → AtEach (AtMost 0 lo hi) x movers
 movers-bare lo hi x [] m = tt
-movers-bare lo hi x (b ∷ movers) m =
-    (λ l h. (omega (arith, mover-free)), movers-bare lo hi (x + size b) movers m.1)
+movers-bare lo hi x (b ∷ movers) m = (λ l h. (omega (arith, mover-free)), movers-bare lo hi (x + size b) movers m.1)
 
 movers-runs : (lo hi x : ℕ) (movers : List Block) → Each IsMover movers → stretch_of (between lo hi x movers) ≡ Whole 0
 movers-runs lo hi x [] m = refl
-movers-runs lo hi x (b ∷ movers) m =
-    cases (nat_le lo x && nat_lt x hi) (movers-runs lo hi (x + size b) movers m.1)
+movers-runs lo hi x (b ∷ movers) m = cases (nat_le lo x && nat_lt x hi) (movers-runs lo hi (x + size b) movers m.1)
   where
     rest : List Block
     rest = between lo hi (x + size b) movers
 
     cases : (t : Bool) → stretch_of rest ≡ Whole 0 → stretch_of (cond t (b ∷ rest) rest) ≡ Whole 0
-    cases true a = ap (λ s. join s (stretch_of rest)) (mover-one b m.0) ∙ join-unit_left (stretch_of rest) ∙ a
+    cases true a = ap (λ s. join s (stretch_of rest)) (mover-one b m.0) ∙ join-unit_left _ ∙ a
     cases false a = a
 
 -- blocks that come to nothing in runs, beside others that do
@@ -63,7 +61,7 @@ bare-both a b e f = stretch_of-append a b ∙ ap (λ s. join s (stretch_of b)) e
 -- nothing lies between two places of which the first is no lower
 between-none : (lo hi x : ℕ) (blocks : List Block) → hi ≤ lo → between lo hi x blocks ≡ []
 between-none lo hi x [] l = refl
-between-none lo hi x (b ∷ blocks) l = cases (nat_le lo x) refl (between-none lo hi (x + size b) blocks l)
+between-none lo hi x (b ∷ blocks) l = cases (nat_le lo x) refl (between-none _ _ (x + size b) blocks l)
   where
     rest : List Block
     rest = between lo hi (x + size b) blocks
@@ -86,12 +84,10 @@ module _ (base : ℕ) (below movers above : List Block) (low : sizes below ≡ b
   bare-within p q l h =
       let R = AtMost 0 p q in
       let x = 0 + sizes below in (
-        at-append R 0 below (movers ++ above)
-            (at-each R 0 below (λ y b u v. λ m n. omega (arith, free-size, v, m, l, low)))
-            (at-append R x movers above (movers-bare p q x movers solid)
-            (at-all R (x + sizes movers) above (λ y b u. λ m n. absurd (omega (arith, u, n, h, low))))),
-        ap stretch_of (between-append p q 0 below (movers ++ above)
-            ∙ ap (λ k. between p q 0 below ++ k) (between-append p q x movers above))
+        at-append R 0 _ _ (at-each R 0 _ (λ y b u v. λ m n. omega (arith, free-size, v, m, l, low)))
+            (at-append R x _ _ (movers-bare p q x _ solid)
+            (at-all R _ _ (λ y b u. λ m n. absurd (omega (arith, u, n, h, low))))),
+        ap stretch_of (between-append p q 0 _ _ ∙ ap (λ k. between p q 0 below ++ k) (between-append p q x _ _))
             ∙ bare-both (between p q 0 below) (between p q x movers ++ between p q (x + sizes movers) above)
             ((none-below p q 0 below (omega (arith, l, low))).same Runs)
             (bare-both (between p q x movers) (between p q (x + sizes movers) above) (movers-runs p q x movers solid)
@@ -104,10 +100,9 @@ module _ (edges : Edges) (base : ℕ) (zone : List Block) (a : ByEdges edges bas
   pub edge-begins : Begins place 0 zone
   edge-begins = elim a [
     | inl n ↦ absurd (s base [] n)
-    | inr p ↦ subst (Begins place 0) (sym p.is) (begins-right place 0 p.below (p.movers ++ p.above)
+    | inr p ↦ subst (Begins place 0) (sym p.is) (begins-right _ 0 _ _
         (subst (λ x. Begins place x (p.movers ++ p.above)) (let e : base ≡ 0 + sizes p.below =
-        omega arith in e) (begins-left place base p.movers p.above (starts-begins place base p.movers
-        (s base p.movers p.edges_are)))))
+        omega arith in e) (begins-left _ _ _ _ (starts-begins _ _ _ (s base p.movers p.edges_are)))))
   ]
 
   -- from the bottom of these blocks on nothing else lies up to it
@@ -116,8 +111,8 @@ module _ (edges : Edges) (base : ℕ) (zone : List Block) (a : ByEdges edges bas
     | inl n ↦ absurd (s base [] n)
     | inr p ↦ subst (IsBare at edge) (sym p.is) (elim o [
       | inl e ↦ bare-same base p.below p.movers p.above p.low p.solid at edge (sym e)
-      | inr e ↦ bare-within base p.below p.movers p.above p.low p.solid at edge l
-          (let w = (begins-within place base p.movers (starts-begins place base p.movers
+      | inr e ↦ bare-within _ _ _ p.above p.low p.solid _ _ l
+          (let w = (begins-within _ _ _ (starts-begins _ _ _
           (s base p.movers p.edges_are))).1 in omega (arith, e, w))
     ])
   ]
@@ -131,7 +126,7 @@ laid-there zone marks index at l e a =
       below = subst (λ n. AreMarks n zone (take index marks)) (sym e) p.0;
       above = p.1;
       inside = l;
-      begins = λ m. subst (λ n. Begins n 0 zone) (sym (e ∙ mark-first 4294967295 marks index no_mark m))
+      begins = λ m. subst (λ n. Begins n 0 zone) (sym (e ∙ mark-first _ _ _ _ m))
           (subst (AreMarks 4294967295 zone) (drop_more marks index no_mark m) p.1).0;
       last = λ k. e ∙ ap (λ n. next_of 4294967295 (drop n marks)) k ∙ ap (next_of 4294967295) (drop-all marks);
     }

@@ -42,8 +42,7 @@ group-raised groups marks group index g m a l low high was is none = record {
       );
   each = λ other j u v h. elim (eqb_tells other group) [
     | inl t ↦ subst (λ z. (get_or (set marks index m) j no_mark).most ≤ z)
-        (sym (ap (λ k. k.most) (same-group other t.1)))
-        (here j (omega (arith, u)) (omega (arith, v))
+        (sym (ap (λ k. k.most) (same-group other t.1))) (here j (omega (arith, u)) (omega (arith, v))
         (omega (arith, h)))
     | inr t ↦ subst (λ z. (get_or (set marks index m) j no_mark).most ≤ z)
         (sym (ap (λ k. k.most) (get_or-set_other groups group other g no_group t.1)))
@@ -54,11 +53,10 @@ group-raised groups marks group index g m a l low high was is none = record {
   ];
   known = λ w other runs h e. elim (eqb_tells other group) [
     | inl t ↦ absurd (unknown-known w runs (sym (ap (told w) none) ∙ sym (ap (λ k. told w k.tally) (same-group other t.1)) ∙ e))
-    | inr t ↦ ap (tally_of w) (marks-apart marks m index (GROUP * other) GROUP (elim (apart other t.1) [
+    | inr t ↦ ap (tally_of w) (marks-apart _ m _ (GROUP * other) GROUP (elim (apart other t.1) [
       | inl z ↦ inl (omega (arith, z, low))
       | inr z ↦ inr (omega (arith, z, high))
-    ]))
-        ∙ a.known w other runs (omega (arith, length-set groups group g, h))
+    ])) ∙ a.known w other runs (omega (arith, length-set groups group g, h))
         (sym (ap (λ k. told w k.tally) (get_or-set_other groups group other g no_group t.1)) ∙ e)
   ];
 }
@@ -69,8 +67,7 @@ group-raised groups marks group index g m a l low high was is none = record {
     here : (j : ℕ) → GROUP * group ≤ j → j < GROUP * group + GROUP → j < length marks
         → (get_or (set marks index m) j no_mark).most ≤ g.most
     here j u v h = elim (eqb_tells j index) [
-      | inl t ↦ subst (λ z. z.most ≤ g.most)
-          (sym (ap (λ k. get_or (set marks index m) k no_mark) t.1
+      | inl t ↦ subst (λ z. z.most ≤ g.most) (sym (ap (λ k. get_or (set marks index m) k no_mark) t.1
           ∙ get_or-set_same marks index m no_mark (omega (arith, h)))) is
       | inr t ↦ subst (λ z. z.most ≤ g.most) (sym (get_or-set_other marks index j m no_mark t.1))
           (omega (arith, a.each group j u v h, was))
@@ -87,8 +84,7 @@ group-raised groups marks group index g m a l low high was is none = record {
 
 -- what is known of a group is computed anew
 pub group-renewed : (groups : List Group) (marks : List Landmark) (group low n : ℕ) (g : Group) → AreGroups groups marks
-    → group < length groups → low ≡ group * 16 → n ≡ 16
-    → ((index : ℕ) → index < length (take n (drop low marks))
+    → group < length groups → low ≡ group * 16 → n ≡ 16 → ((index : ℕ) → index < length (take n (drop low marks))
     → (get_or (take n (drop low marks)) index no_mark).most ≤ g.most)
     → ((w : Counting) → told w g.tally ≡ tally_of w (take n (drop low marks))) → AreGroups (set groups group g) marks
 group-renewed groups marks group low n g a l e k f s = record {
@@ -135,7 +131,7 @@ same-groups count groups m e = record {
       let s = length-replicate count m in
       let t = ap (λ k. k.most) (get_or-replicate groups group g no_group (omega (arith, l, s, e, b))) in
       omega (arith, ap (λ k. k.most) (get_or-replicate count index m no_mark (omega (arith, l, s))), t);
-  known = λ w group runs h d. absurd (unknown-known w runs
+  known = λ w group runs h d. absurd (unknown-known w _
       (sym (ap (λ k. told w k.tally) (get_or-replicate groups group g no_group
       (omega (arith, h, length-replicate groups g)))) ∙ d));
 }

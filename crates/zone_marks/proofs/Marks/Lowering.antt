@@ -24,19 +24,18 @@ use Rattle.zone_marks.proofs.Marks.Between.{between-append, none-below, none-abo
 -- what holds of each block by its place alone
 pub at-each : (S : ℕ → Block → Type 0) (x : ℕ) (blocks : List Block)
     → ((p : ℕ) (b : Block) → x ≤ p → p + size b ≤ x + sizes blocks → S p b) → AtEach S x blocks
-at-each S x blocks f = at-map (λ _ _. Unit {0}) S x blocks (λ p b l u _. f p b l u)
-    (at-all (λ _ _. Unit {0}) x blocks (λ p b l. tt))
+at-each S x blocks f = at-map (λ _ _. Unit {0}) S x _ (λ p b l u _. f p b l u)
+    (at-all (λ _ _. Unit {0}) x _ (λ p b l. tt))
 
 -- the first of some landmarks is no higher than where they end
 pub marks-below : (end : ℕ) (zone : List Block) (marks : List Landmark) → AreMarks end zone marks → next_of end marks ≤ end
 marks-below end zone [] a = omega arith
-marks-below end zone (m ∷ marks) a = let n = marks-below end zone marks a.4 in omega (arith, n)
+marks-below end zone (m ∷ marks) a = let n = marks-below _ _ marks a.4 in omega (arith, n)
 
 -- places that rise still rise once they are lowered
 lowered-order : (lo hi a b p q : ℕ) → a ≤ b → Lowered lo hi a p → Lowered lo hi b q → p ≤ q
 lowered-order lo hi a b p q l (inl x) (inl y) = omega arith
-lowered-order lo hi a b p q l (inl x) (inr y) =
-    omega (arith, l)
+lowered-order lo hi a b p q l (inl x) (inr y) = omega (arith, l)
 lowered-order lo hi a b p q l (inr x) (inl y) = elim x.1 [
   | inl u ↦ omega (arith, u)
   | inr u ↦ absurd (omega (arith, u, l))
@@ -45,9 +44,9 @@ lowered-order lo hi a b p q l (inr x) (inr y) = omega (arith, l)
 
 module _ (lo hi : ℕ) (old new : List Block) (z : Replaced lo hi old new) (o : lo ≤ hi) where
   pub at-low : Begins lo 0 new
-  at-low = subst (Begins lo 0) (sym z.is) (begins-right lo 0 z.below (z.there ++ z.above)
+  at-low = subst (Begins lo 0) (sym z.is) (begins-right _ 0 _ _
       (subst (λ y. Begins lo y (z.there ++ z.above)) (let e : lo ≡ 0 + sizes z.below = omega arith in e)
-      (begins-here lo (z.there ++ z.above))))
+      (begins-here _ _)))
 
   pub begins-lowered : (at now : ℕ) → Lowered lo hi at now → Begins at 0 old → Begins now 0 new
   begins-lowered at now (inl w) b = subst (λ p. Begins p 0 new) (sym w.2) at-low
@@ -58,15 +57,14 @@ module _ (lo hi : ℕ) (old new : List Block) (z : Replaced lo hi old new) (o : 
     ]
     | inr h ↦ elim (begins-either at 0 z.below (z.here ++ z.above) (subst (Begins at 0) z.was b)) [
       | inl d ↦ same (let v = (begins-within at 0 z.below d).1 in omega (arith, h, v, o))
-      | inr d ↦ subst (Begins at 0) (sym z.is) (begins-right at 0 z.below (z.there ++ z.above)
-          (elim (begins-either at (0 + sizes z.below) z.here z.above d) [
-            | inl e ↦ begins-right at (0 + sizes z.below) z.there z.above (subst (λ y. Begins at y z.above)
-                (let q : at ≡ 0 + sizes z.below + sizes
-                z.there = omega (arith, h, (begins-within at (0 + sizes z.below) z.here e).1) in q)
-                (begins-here at z.above))
-            | inr e ↦ begins-right at (0 + sizes z.below) z.there z.above
-                (subst (λ n. Begins at (0 + sizes z.below + n) z.above) (sym z.span) e)
-          ]))
+      | inr d ↦ subst (Begins at 0) (sym z.is) (begins-right _ 0 _ _ (elim (begins-either _ _ _ _ d) [
+        | inl e ↦ begins-right _ _ _ _ (subst (λ y. Begins at y z.above)
+            (let q : at ≡ 0 + sizes z.below + sizes
+            z.there = omega (arith, h, (begins-within _ _ z.here e).1) in q)
+            (begins-here at z.above))
+        | inr e ↦ begins-right at (0 + sizes z.below) z.there z.above
+            (subst (λ n. Begins at (0 + sizes z.below + n) z.above) (sym z.span) e)
+      ]))
     ]
   ])
     where
@@ -92,8 +90,7 @@ module _ (lo hi : ℕ) (old new : List Block) (z : Replaced lo hi old new) (o : 
     ]
 
     high-in : (p : ℕ) (b : Block) → hi ≤ p → AtMost most at next p b → AtMost most' at' above p b
-    high-in p b v r l h =
-        omega (arith, m)
+    high-in p b v r l h = omega (arith, m)
 
     pub bound-lowered : AtEach (AtMost most at next) 0 old → AtEach (AtMost most' at' above) 0 new
     bound-lowered e =
@@ -102,11 +99,9 @@ module _ (lo hi : ℕ) (old new : List Block) (z : Replaced lo hi old new) (o : 
         let w = subst (AtEach R 0) z.was e in
         let s = z.span in
         let r = at-right R (0 + sizes z.below) z.here z.above (at-right R 0 z.below (z.here ++ z.above) w) in
-        subst (AtEach S 0) (sym z.is) (at-append S 0 z.below (z.there ++ z.above)
-        (at-map R S 0 z.below (λ p b l u. low-in p b (omega (arith, u))) (at-left R 0 z.below (z.here ++ z.above) w))
-        (at-append S (0 + sizes z.below) z.there z.above
-        (at-each S (0 + sizes z.below) z.there (λ p b l u. middle p b (omega (arith, l)) (omega (arith, u, s))))
-        (at-map R S (0 + sizes z.below + sizes z.there) z.above
+        subst (AtEach S 0) (sym z.is) (at-append S 0 _ _
+        (at-map R S 0 _ (λ p b l u. low-in p b (omega (arith, u))) (at-left R 0 _ _ w)) (at-append S _ _ _
+        (at-each S _ _ (λ p b l u. middle p b (omega (arith, l)) (omega (arith, u, s)))) (at-map R S _ _
         (λ p b l u. high-in p b (omega (arith, l, s)))
         (subst (λ q. AtEach R (0 + sizes z.below + q) z.above) (sym s) r))))
 
@@ -114,13 +109,11 @@ module _ (lo hi : ℕ) (old new : List Block) (z : Replaced lo hi old new) (o : 
   pub apart-alike : (a c : ℕ) → (hi ≤ a) ⊎ (c ≤ lo) → CountAlike (between a c 0 new) (between a c 0 old)
   apart-alike a c e =
       let x = 0 + sizes z.below in
-      alike-more _ _ _ (alike-same _ _ (ap (between a c 0) z.is ∙ between-append a c 0 z.below (z.there ++ z.above)
-      ∙ ap (λ k. between a c 0 z.below ++ k) (between-append a c x z.there z.above)))
-      (alike-back _ _ (alike-more _ _ _ (alike-same _ _ (ap (between a c 0) z.was
-      ∙ between-append a c 0 z.below (z.here ++ z.above)
-      ∙ ap (λ k. between a c 0 z.below ++ k) (between-append a c x z.here z.above)))
-      (alike-append (between a c 0 z.below) _ (between a c 0 z.below) _ (alike-same _ _ refl)
-      (alike-append (between a c x z.here) _ (between a c x z.there) _
+      alike-more _ _ _ (alike-same _ _ (ap (between a c 0) z.is ∙ between-append a c 0 _ _
+      ∙ ap (λ k. between a c 0 z.below ++ k) (between-append a c x _ _)))
+      (alike-back _ _ (alike-more _ _ _ (alike-same _ _ (ap (between a c 0) z.was ∙ between-append a c 0 _ _
+      ∙ ap (λ k. between a c 0 z.below ++ k) (between-append a c x _ _))) (alike-append _ _ _ _ (alike-same _ _ refl)
+      (alike-append _ _ _ _
       (alike-more _ [] _ (none z.here (omega arith)) (alike-back _ [] (none z.there (omega arith))))
       (alike-same _ _ (ap (λ n. between a c (x + n) z.above) (sym z.span)))))))
     where
@@ -162,7 +155,7 @@ module _ (lo hi : ℕ) (old new : List Block) (z : Replaced lo hi old new) (o : 
 -- landmarks of the zone that bytes spell
 module _ (xs : List ℕ) (first unused : ℕ) (i : IsSound xs first unused) where
   pub begins-way : (p : ℕ) → Begins p 0 (zone_in xs) → IsOnWay p xs
-  begins-way p b = let r = parts p 0 (zone_in xs) b in
+  begins-way p b = let r = parts p 0 _ b in
       way-above xs first unused i r.below r.above p r.is (omega arith)
 
   -- the zone is what is below a place and what is left from there on
@@ -184,7 +177,7 @@ module _ (xs : List ℕ) (first unused : ℕ) (i : IsSound xs first unused) wher
   pub begins-further : (p q : ℕ) → Begins p 0 (zone_in xs) → Begins q p (left_in p xs) → Begins q 0 (zone_in xs)
   begins-further p q b e =
       let s = seen-from p b in
-      subst (Begins q 0) (sym s.is) (begins-right q 0 s.below (left_in p xs)
+      subst (Begins q 0) (sym s.is) (begins-right q 0 _ _
       (subst (λ y. Begins q y (left_in p xs)) (let k : p ≡ 0 + sizes s.below = omega arith in k) e))
 
   pub bound-here : (most p to : ℕ) → Begins p 0 (zone_in xs) → AtEach (AtMost most p to) p (left_in p xs)
@@ -192,8 +185,8 @@ module _ (xs : List ℕ) (first unused : ℕ) (i : IsSound xs first unused) wher
   bound-here most p to b e =
       let s = seen-from p b in
       let S = AtMost most p to in
-      subst (AtEach S 0) (sym s.is) (at-append S 0 s.below (left_in p xs)
-      (at-each S 0 s.below (λ q c v u. λ m n. omega (arith, free-size, u, m)))
+      subst (AtEach S 0) (sym s.is) (at-append S 0 _ _
+      (at-each S 0 _ (λ q c v u. λ m n. omega (arith, free-size, u, m)))
       (subst (λ y. AtEach S y (left_in p xs)) (let k : p ≡ 0 + sizes s.below = omega arith in k) e))
 
   -- what is known of blocks from a place on
@@ -202,14 +195,14 @@ module _ (xs : List ℕ) (first unused : ℕ) (i : IsSound xs first unused) wher
   one-here w t p to b e =
       let s = seen-from p b in
       tally-as w t _ _ (alike-more _ _ _ (alike-same _ _ (ap (between p to 0) s.is
-      ∙ between-append p to 0 s.below (left_in p xs)))
+      ∙ between-append p _ 0 _ _))
       (alike-append _ _ [] _ (none-below p to 0 s.below (omega arith))
       (alike-same _ _ (ap (λ y. between p to y (left_in p xs)) (let k : 0 + sizes s.below ≡ p = omega arith in k)))))
       e
 
   pub tally-here : (t : Tallies) (p to : ℕ) → Begins p 0 (zone_in xs) → AreTold t (between p to p (left_in p xs))
       → AreTold t (between p to 0 (zone_in xs))
-  tally-here t p to b e w = one-here w (told w t) p to b (e w)
+  tally-here t p to b e w = one-here w _ p _ b (e w)
 
 -- landmarks one after another
 pub marks-split : (end : ℕ) (zone : List Block) (front back : List Landmark) → AreMarks end zone (front ++ back)
@@ -223,18 +216,17 @@ pub marks-join : (end : ℕ) (zone : List Block) (front back : List Landmark) �
     → AreMarks end zone back → AreMarks end zone (front ++ back)
 marks-join end zone [] back a b = b
 marks-join end zone (n ∷ []) back a b = (a.0, a.1, a.2, a.3, b)
-marks-join end zone (n ∷ k ∷ front) back a b = (a.0, a.1, a.2, a.3, marks-join end zone (k ∷ front) back a.4 b)
+marks-join end zone (n ∷ k ∷ front) back a b = (a.0, a.1, a.2, a.3, marks-join _ _ (k ∷ front) back a.4 b)
 
 -- landmarks in two parts
 pub marks-parted : (end : ℕ) (zone : List Block) (marks : List Landmark) (n : ℕ) → AreMarks end zone marks
     → AreMarks (next_of end (drop n marks)) zone (take n marks) × AreMarks end zone (drop n marks)
-marks-parted end zone marks n a = marks-split end zone (take n marks) (drop n marks)
-    (subst (AreMarks end zone) (sym (take-append-drop n marks)) a)
+marks-parted end zone marks n a = marks-split _ _ _ _ (subst (AreMarks end zone) (sym (take-append-drop n marks)) a)
 
 pub marks-whole : (end : ℕ) (zone : List Block) (marks : List Landmark) (n at : ℕ) → at ≡ next_of end (drop n marks)
     → AreMarks at zone (take n marks) → AreMarks end zone (drop n marks) → AreMarks end zone marks
 marks-whole end zone marks n at e a b = subst (AreMarks end zone) (take-append-drop n marks)
-    (marks-join end zone (take n marks) (drop n marks) (subst (λ k. AreMarks k zone (take n marks)) e a) b)
+    (marks-join _ _ _ _ (subst (λ k. AreMarks k zone (take n marks)) e a) b)
 
 -- the landmark at an index, as the first of those from there on
 pub mark-first : (end : ℕ) (marks : List Landmark) (i : ℕ) (d : Landmark) → i < length marks
@@ -277,7 +269,7 @@ unlaid-marks zone l zero = tt
 unlaid-marks zone l (suc n) = (
   begins-here 0 zone,
   at-each (AtMost 4294967295 0 (next_of 4294967295
-      (replicate n (record { at = 0; most = 4294967295; tally = unknown })))) 0 zone
+      (replicate n (record { at = 0; most = 4294967295; tally = unknown })))) 0 _
       (λ p b _ u _ _. omega (arith, free-size, u, l)),
   none,
   omega arith,
@@ -312,13 +304,11 @@ module _ (lo hi : ℕ) (old new : List Block) where
       × AreMarks next old (get_or marks (left - 1) d ∷ [])
   last-mark next above left marks back d s l g =
       let e : left - 1 + 1 ≡ left = omega (arith, s) in
-      marks-split next old (take (left - 1) marks) (get_or marks (left - 1) d ∷ [])
-      (subst (AreMarks next old) (ap (λ k. take k marks) (sym e)
+      marks-split _ _ _ _ (subst (AreMarks next old) (ap (λ k. take k marks) (sym e)
       ∙ take_more marks (left - 1) d (omega (arith, s, l))) g.low)
 
   pub changing-step : Replaced lo hi old new → lo ≤ hi → (next above left : ℕ) (marks : List Landmark) (d m : Landmark)
-      → 0 < left → left ≤ length marks
-      → Changing lo hi old new next above (take left marks) (drop left marks)
+      → 0 < left → left ≤ length marks → Changing lo hi old new next above (take left marks) (drop left marks)
       → Lowered lo hi (get_or marks (left - 1) d).at m.at
       → (AtEach (AtMost (get_or marks (left - 1) d).most (get_or marks (left - 1) d).at next) 0 old
       → AtEach (AtMost m.most m.at above) 0 new)
@@ -353,8 +343,8 @@ module _ (lo hi : ℕ) (old new : List Block) where
   -- those below the stretch aren't gone over
   pub changing-below : Replaced lo hi old new → lo ≤ hi → (next above left : ℕ) (marks : List Landmark) → above < lo
       → Changing lo hi old new next above (take left marks) (drop left marks) → AreMarks 4294967295 new marks
-  changing-below z o next above left marks b g = marks-whole 4294967295 new marks left next (sym same ∙ g.first)
-      (marks-under lo hi old new z o next (take left marks) (omega (arith, same, b)) g.low) g.high
+  changing-below z o next above left marks b g = marks-whole _ _ _ _ _ (sym same ∙ g.first)
+      (marks-under _ _ _ _ z o _ _ (omega (arith, same, b)) g.low) g.high
     where
       same : above ≡ next
       same = elim g.is [
@@ -365,11 +355,9 @@ module _ (lo hi : ℕ) (old new : List Block) where
 -- new landmarks, one after another
 pub marks-next : (zone : List Block) (marks : List Landmark) (index to : ℕ) (m : Landmark) → index < length marks
     → AreMarks m.at zone (take index marks) → Begins m.at 0 zone → AtEach (AtMost m.most m.at to) 0 zone
-    → AreTold m.tally (between m.at to 0 zone) → m.at ≤ to
-    → AreMarks to zone (take (index + 1) (set marks index m))
+    → AreTold m.tally (between m.at to 0 zone) → m.at ≤ to → AreMarks to zone (take (index + 1) (set marks index m))
 marks-next zone marks index to m l a b e t r =
-    subst (AreMarks to zone) (sym (take_more_set marks index m l))
-    (marks-join to zone (take index marks) (m ∷ []) a (b, e, t, r, tt))
+    subst (AreMarks to zone) (sym (take_more_set marks index m l)) (marks-join _ _ _ _ a (b, e, t, r, tt))
 
 -- and those that are still to come
 pub marks-left : (end : ℕ) (zone : List Block) (marks : List Landmark) (index : ℕ) (m : Landmark) → index < length marks
@@ -382,4 +370,4 @@ pub mark-begins : (end : ℕ) (zone : List Block) (marks : List Landmark) (i : �
     → AreMarks end zone marks → Begins (get_or marks i d).at 0 zone
 mark-begins end zone [] i d l a = absurd (omega (arith, l))
 mark-begins end zone (m ∷ marks) zero d l a = a.0
-mark-begins end zone (m ∷ marks) (suc i) d l a = mark-begins end zone marks i d (omega (arith, l)) a.4
+mark-begins end zone (m ∷ marks) (suc i) d l a = mark-begins _ _ marks i d (omega (arith, l)) a.4

@@ -82,27 +82,23 @@ module _ (xs : List ℕ) (first unused free purgeable : ℕ) (l : Landmarks) whe
   pub with-block : (below above : List Block) (b c : Block) (zone : List Block) → IsKept xs first unused free
       → zone_in xs ≡ below ++ c ∷ above → zone ≡ below ++ b ∷ above → size c ≡ size b → free_of c ≡ free_of b
       → one c ≡ one b → space c ≡ space b → is_purgeable c ≡ is_purgeable b → AreOf l zone
-      → purgeable ≡ purgeable_sum (below ++ c ∷ above)
-      → IsMarked xs first unused free purgeable l
+      → purgeable ≡ purgeable_sum (below ++ c ∷ above) → IsMarked xs first unused free purgeable l
   with-block below above b c zone k e was s f r h g a m = with-marks k
       (subst (AreOf l) (sym e) (let o = subst (AreOf l) was a in (
         (marks-same 4294967295 l.marks.items below above b c s f r h o.0.0, o.0.1),
         stays-same l.lowest 0 below above b c s g o.1,
-      )))
-      (subst (λ z. purgeable ≡ purgeable_sum z) (sym e) m)
+      ))) (subst (λ z. purgeable ≡ purgeable_sum z) (sym e) m)
 
   -- bytes were written over some of a block's content
   pub with-written : (below above : List Block) (b : Block) (from : ℕ) (x : List ℕ) (zone : List Block)
-      → IsKept xs first unused free
-      → zone_in xs ≡ below ++ with_content (written from x (content_of b)) b ∷ above
+      → IsKept xs first unused free → zone_in xs ≡ below ++ with_content (written from x (content_of b)) b ∷ above
       → zone ≡ below ++ b ∷ above → from + length x ≤ length (content_of b) → AreOf l zone
       → purgeable ≡ purgeable_sum zone → IsMarked xs first unused free purgeable l
   with-written below above b from x zone k e was w a m =
       let now = written from x (content_of b) in
       let long = length-written from x (content_of b) w in
-      with-block below above b (with_content now b) zone k e was (size-content now b long) (free-content now b)
-      (one-same b (with_content now b) (free-content now b) (ends-content now b)) (space-content now b long)
-      (goes-content now b) a
+      with-block _ _ b _ _ k e was (size-content _ b long) (free-content _ b)
+      (one-same b _ (free-content _ b) (ends-content _ b)) (space-content _ b long) (goes-content _ b) a
       (omega (arith, purgeable-content, ap purgeable_sum was, total-append, m))
 
 -- a block that isn't Free was put at the lower end of a Free one
@@ -112,10 +108,9 @@ pub filled-replaced : (xs : List ℕ) (place need : ℕ) (r : Roomy xs place nee
 filled-replaced xs place need r new solid fits bytes e zone is =
     let l : size r.s.here ≡ r.bytes = ap size r.here in
     let k : size r.s.here + 0 - size new ≡ r.bytes - size new = omega (arith, l) in
-    subst (λ n. Replaced place (place + n) (zone_in xs) zone) (sym (e ∙ l))
-    (carved-replaced r.s.below r.bytes new r.s.above (zone_in xs) zone place
+    subst (λ n. Replaced place (place + n) (zone_in xs) zone) (sym (e ∙ l)) (carved-replaced _ _ _ _ _ _ _
     (r.at.whole ∙ ap (λ b. r.s.below ++ b ∷ r.s.above) r.here)
-    (is ∙ cut-sized new solid r.s r.at.apart 0 r.s.above r.head (omega (arith, l, fits))
+    (is ∙ cut-sized _ solid _ r.at.apart 0 _ r.head (omega (arith, l, fits))
     ∙ ap (λ m. r.s.below ++ new ∷ (free m ++ r.s.above)) k) (omega (arith, fits)) r.at.low)
 
 -- the same change, of zones known by other names

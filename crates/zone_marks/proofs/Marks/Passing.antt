@@ -60,7 +60,7 @@ begins-right p x (b ∷ below) above e = inr (begins-right p (x + size b) below 
     (subst (λ y. Begins p y above) (let e : x + (size b + sizes below) ≡ x + size b + sizes below = omega arith in e) e))
 
 pub begins-left : (p x : ℕ) (below above : List Block) → Begins p x below → Begins p x (below ++ above)
-begins-left p x [] above e = subst (λ q. Begins q x above) (sym e) (begins-here x above)
+begins-left p x [] above e = subst (λ q. Begins q x above) (sym e) (begins-here x _)
 begins-left p x (b ∷ below) above (inl e) = inl e
 begins-left p x (b ∷ below) above (inr e) = inr (begins-left p (x + size b) below above e)
 
@@ -108,8 +108,7 @@ past to end at stop (inl e) l = inl (omega (arith, e, l))
 past to end at stop (inr e) l = inr (omega (arith, e, l))
 
 pub passed-more : (xs : List ℕ) (from at : ℕ) (R S : ℕ → Block → Type 0) → ((p : ℕ) (b : Block) → R p b → S p b)
-    → Passed xs from at R
-    → Passed xs from at S
+    → Passed xs from at R → Passed xs from at S
 passed-more xs from at R S f p = record {
   done = p.done;
   is = p.is;
@@ -129,23 +128,20 @@ module _ (xs : List ℕ) (from : ℕ) (R : ℕ → Block → Type 0) where
         done = p.done ++ s.here ∷ [];
         is = p.is ∙ ap (λ k. p.done ++ k) s.is ∙ sym (append_assoc p.done (s.here ∷ []) (left_in end xs));
         up = omega (arith, p.up, span-append);
-        each = at-append R from p.done (s.here ∷ []) p.each
-            (subst (λ q. R q s.here) (sym p.up) (r s.here s.bytes (omega arith)), tt);
+        each = at-append R _ _ _ p.each (subst (λ q. R q s.here) (sym p.up) (r s.here s.bytes (omega arith)), tt);
         way = s.way;
       }
 
   pub passed-begins : (at : ℕ) → Passed xs from at R → Begins at from (left_in from xs)
-  passed-begins at p = subst (Begins at from) (sym p.is) (begins-right at from p.done (left_in at xs)
-      (subst (λ y. Begins at y (left_in at xs)) (sym p.up) (begins-here at (left_in at xs))))
+  passed-begins at p = subst (Begins at from) (sym p.is) (begins-right _ _ _ _
+      (subst (λ y. Begins at y (left_in at xs)) (sym p.up) (begins-here _ _)))
 
   -- so it is of each block that begins below a bound which the walk came to
   pub passed-all : (S : ℕ → Block → Type 0) (lo hi at : ℕ) → Passed xs from at R
       → ((p : ℕ) (b : Block) → R p b → S p b) → (hi ≤ at) ⊎ (length xs ≤ at)
       → AtEach (λ p b. lo ≤ p → p < hi → S p b) from (left_in from xs)
   passed-all S lo hi at p f e =
-      subst (AtEach T from) (sym p.is)
-      (at-append T from p.done (left_in at xs)
-      (at-map R T from p.done (λ q b l u r. λ m n. f q b r) p.each)
+      subst (AtEach T from) (sym p.is) (at-append T _ _ _ (at-map R T _ _ (λ q b l u r. λ m n. f q b r) p.each)
       (subst (λ y. AtEach T y (left_in at xs)) (sym p.up) (elim e [
         | inl h ↦ at-all T at (left_in at xs) (λ q b l. λ m n. absurd (omega (arith, l, n, h)))
         | inr h ↦ subst (AtEach T at) (sym (left-none at xs p.way h)) tt

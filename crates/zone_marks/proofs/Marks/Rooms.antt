@@ -24,12 +24,12 @@ use Rattle.zone_marks.proofs.Marks.Lowering.{seen-from, begins-further, marks-pa
 
 filled : (x : ℕ) (blocks : List Block) → Apart blocks → AtEach (λ _ b. 0 < size b) x blocks
 filled x [] a = tt
-filled x (b ∷ blocks) a = (apart-size b blocks a.0, filled (x + size b) blocks a.1)
+filled x (b ∷ blocks) a = (apart-size b _ a.0, filled (x + size b) blocks a.1)
 
 -- a bound says where no room is
 pub bound-room : (most bytes lo hi : ℕ) (x : ℕ) (blocks : List Block) → most < bytes
     → AtEach (AtMost most lo hi) x blocks → AtEach (NoRoom bytes lo hi) x blocks
-bound-room most bytes lo hi x blocks l e = at-map (AtMost most lo hi) (NoRoom bytes lo hi) x blocks
+bound-room most bytes lo hi x blocks l e = at-map (AtMost most lo hi) (NoRoom bytes lo hi) x _
     (λ p b _ _ r m n. low b (r m n)) e
   where
     low : (b : Block) → free_of b ≤ most → is_room bytes b ≡ false
@@ -47,15 +47,14 @@ spot-past bytes x [] b above n r =
 spot-past bytes x (c ∷ below) b above n r =
     ap (λ v. cond v (Some (record { below = []; here = c; above = below ++ b ∷ above })) (option_map (raised c)
     (spot (is_room bytes) (below ++ b ∷ above)))) n.0
-    ∙ ap (option_map (raised c)) (spot-past bytes (x + size c) below b above n.1 r)
+    ∙ ap (option_map (raised c)) (spot-past _ (x + size c) _ b _ n.1 r)
 
 spot-none : (bytes x : ℕ) (blocks : List Block) → AtEach (λ _ c. is_room bytes c ≡ false) x blocks
     → spot (is_room bytes) blocks ≡ None
 spot-none bytes x [] n = refl
 spot-none bytes x (c ∷ blocks) n =
     ap (λ v. cond v (Some (record { below = []; here = c; above = blocks })) (option_map (raised c)
-    (spot (is_room bytes) blocks))) n.0
-    ∙ ap (option_map (raised c)) (spot-none bytes (x + size c) blocks n.1)
+    (spot (is_room bytes) blocks))) n.0 ∙ ap (option_map (raised c)) (spot-none _ (x + size c) blocks n.1)
 
 module _ (xs : List ℕ) (first unused : ℕ) (i : IsSound xs first unused) (bytes : ℕ) where
   apart : Apart (zone_in xs)
@@ -65,12 +64,12 @@ module _ (xs : List ℕ) (first unused : ℕ) (i : IsSound xs first unused) (byt
   none-below : (below above : List Block) (p : ℕ) → zone_in xs ≡ below ++ above → sizes below ≡ p
       → AtEach (NoRoom bytes 0 p) 0 (zone_in xs) → AtEach (λ _ c. is_room bytes c ≡ false) 0 below
   none-below below above p z l n =
-      at-map (λ q c. (0 < size c) × NoRoom bytes 0 p q c) (λ _ c. is_room bytes c ≡ false) 0 below
+      at-map (λ q c. (0 < size c) × NoRoom bytes 0 p q c) (λ _ c. is_room bytes c ≡ false) 0 _
       (λ q c v u r. let s = r.0 in r.1 (omega arith) (omega (arith, u, s, l)))
-      (at-left (λ q c. (0 < size c) × NoRoom bytes 0 p q c) 0 below above
+      (at-left (λ q c. (0 < size c) × NoRoom bytes 0 p q c) 0 _ _
       (subst (AtEach (λ q c. (0 < size c) × NoRoom bytes 0 p q c) 0) z
-      (at-both (λ _ c. 0 < size c) (NoRoom bytes 0 p) (λ q c. (0 < size c) × NoRoom bytes 0 p q c) 0 (zone_in xs)
-      (λ q c s r. (s, r)) (filled 0 (zone_in xs) apart) n)))
+      (at-both (λ _ c. 0 < size c) (NoRoom bytes 0 p) (λ q c. (0 < size c) × NoRoom bytes 0 p q c) 0 _
+      (λ q c s r. (s, r)) (filled 0 _ apart) n)))
 
   -- one stretch more
   pub none-further : (p to : ℕ) → Begins p 0 (zone_in xs) → AtEach (NoRoom bytes 0 p) 0 (zone_in xs)
@@ -78,15 +77,15 @@ module _ (xs : List ℕ) (first unused : ℕ) (i : IsSound xs first unused) (byt
   none-further p to b n e =
       let s = seen-from xs first unused i p b in
       let S = NoRoom bytes 0 to in
-      subst (AtEach S 0) (sym s.is) (at-append S 0 s.below (left_in p xs)
-      (at-map (λ _ c. is_room bytes c ≡ false) S 0 s.below (λ q c _ _ r _ _. r)
-      (none-below s.below (left_in p xs) p s.is s.low n))
+      subst (AtEach S 0) (sym s.is) (at-append S 0 _ _
+      (at-map (λ _ c. is_room bytes c ≡ false) S 0 _ (λ q c _ _ r _ _. r)
+      (none-below _ _ p s.is s.low n))
       (subst (λ y. AtEach S y (left_in p xs)) (let k : p ≡ 0 + sizes s.below = omega (arith, s.low) in k)
-      (at-map (NoRoom bytes p to) S p (left_in p xs) (λ q c v _ r _ h. r v h) e)))
+      (at-map (NoRoom bytes p to) S p _ (λ q c v _ r _ h. r v h) e)))
 
   pub none-whole : (p to : ℕ) → AtEach (NoRoom bytes 0 p) 0 (zone_in xs) → AtEach (NoRoom bytes p to) 0 (zone_in xs)
       → AtEach (NoRoom bytes 0 to) 0 (zone_in xs)
-  none-whole p to n e = at-both (NoRoom bytes 0 p) (NoRoom bytes p to) (NoRoom bytes 0 to) 0 (zone_in xs)
+  none-whole p to n e = at-both (NoRoom bytes 0 p) (NoRoom bytes p to) (NoRoom bytes 0 to) 0 _
       (λ q c r s _ h. either q c r s h) n e
     where
       either : (q : ℕ) (c : Block) → NoRoom bytes 0 p q c → NoRoom bytes p to q c → q < to → is_room bytes c ≡ false
@@ -107,15 +106,14 @@ module _ (xs : List ℕ) (first unused : ℕ) (i : IsSound xs first unused) (byt
       let found = ap (spot (is_room bytes)) z ∙ spot-past bytes 0 s.below r.here r.above g r.room in (
         t,
         found,
-        subst (λ q. spot_at q (zone_in xs) ≡ Some t) s.low
-            (spot_at-spot (is_room bytes) (zone_in xs) t apart found),
+        subst (λ q. spot_at q (zone_in xs) ≡ Some t) s.low (spot_at-spot (is_room bytes) _ t apart found),
         s.low,
       )
 
   -- and where there is none
   pub none-found : AtEach (NoRoom bytes 0 4294967295) 0 (zone_in xs) → spot (is_room bytes) (zone_in xs) ≡ None
   none-found n =
-      spot-none bytes 0 (zone_in xs) (at-map (NoRoom bytes 0 4294967295) (λ _ c. is_room bytes c ≡ false) 0 (zone_in xs)
+      spot-none _ 0 _ (at-map (NoRoom bytes 0 4294967295) (λ _ c. is_room bytes c ≡ false) 0 _
       (λ q c _ u r. r (omega arith) (omega (arith, u, sizes-length))) n)
 
   pub nothing-below : AtEach (NoRoom bytes 0 0) 0 (zone_in xs)
@@ -134,13 +132,12 @@ if-three (Some n) P Q R S f p q r = f n p q r
 -- the stretch of a landmark that notes less
 pub stretch-room : (bytes : ℕ) (zone : List Block) (marks : List Landmark) (index : ℕ) → index < length marks
     → AreMarks 4294967295 zone marks → (get_or marks index no_mark).most < bytes
-    → AtEach (NoRoom bytes (get_or marks index no_mark).at
-    (next_of 4294967295 (drop (index + 1) marks))) 0 zone
+    → AtEach (NoRoom bytes (get_or marks index no_mark).at (next_of 4294967295 (drop (index + 1) marks))) 0 zone
 stretch-room bytes zone marks index u a l =
     let d : Landmark = no_mark in
     let m = get_or marks index d in
-    bound-room m.most bytes m.at (next_of 4294967295 (drop (index + 1) marks)) 0 zone l
-    (subst (AreMarks 4294967295 zone) (drop_more marks index d u) (marks-parted 4294967295 zone marks index a).1).1
+    bound-room _ _ _ _ 0 _ l
+    (subst (AreMarks 4294967295 zone) (drop_more marks index d u) (marks-parted _ _ _ _ a).1).1
 
 -- no room lies in the zone, once none lies below any landmark
 pub none-past : (bytes : ℕ) (zone : List Block) (marks : List Landmark) (index : ℕ) → length marks ≤ index
@@ -155,9 +152,8 @@ module _ (xs : List ℕ) (first unused : ℕ) (i : IsSound xs first unused) (byt
       → NoneBelow bytes (zone_in xs) marks index → NoneBelow bytes (zone_in xs) marks (index + 1)
   none-next index u l n =
       let d : Landmark = no_mark in
-      none-whole xs first unused i bytes (get_or marks index d).at (next_of 4294967295 (drop (index + 1) marks))
-      (subst (λ p. AtEach (NoRoom bytes 0 p) 0 (zone_in xs)) (mark-first 4294967295 marks index d u) n)
-      (stretch-room bytes (zone_in xs) marks index u a l)
+      none-whole _ _ _ i _ _ _ (subst (λ p. AtEach (NoRoom bytes 0 p) 0 (zone_in xs)) (mark-first _ _ _ d u) n)
+      (stretch-room _ _ _ _ u a l)
 
   -- over so many of them
   none-along : (count index : ℕ) → index + count ≤ length marks
@@ -167,7 +163,7 @@ module _ (xs : List ℕ) (first unused : ℕ) (i : IsSound xs first unused) (byt
       subst (NoneBelow bytes (zone_in xs) marks) (let e : index ≡ index + 0 = omega arith in e) n
   none-along (suc count) index u f n =
       subst (NoneBelow bytes (zone_in xs) marks) (let e : index + 1 + count ≡ index + suc count = omega arith in e)
-      (none-along count (index + 1) (omega (arith, u)) (λ j l h. f j (omega (arith, l)) (omega (arith, h)))
+      (none-along _ (index + 1) (omega (arith, u)) (λ j l h. f j (omega (arith, l)) (omega (arith, h)))
       (none-next index (omega (arith, u)) (f index (omega arith) (omega arith)) n))
 
   -- over a group whose top is less
@@ -176,5 +172,5 @@ module _ (xs : List ℕ) (first unused : ℕ) (i : IsSound xs first unused) (byt
       → NoneBelow bytes (zone_in xs) marks (GROUP * group) → NoneBelow bytes (zone_in xs) marks (GROUP * (group + 1))
   none-group groups t group u l n =
       subst (NoneBelow bytes (zone_in xs) marks) (let e : GROUP * group + GROUP ≡ GROUP * (group + 1) = omega arith in e)
-      (none-along GROUP (GROUP * group) (omega (arith, u))
+      (none-along _ _ (omega (arith, u))
       (λ j b h. let k = t.each group j b h (omega (arith, u, h)) in omega (arith, k, l)) n)

@@ -26,14 +26,13 @@ pub record SeenFrom (test : Block → Bool) (below rest : List Block) (s : Spot)
 pub seen-past : (test : Block → Bool) (below rest : List Block) (s : Spot) → Apart (below ++ rest)
     → spot test (below ++ rest) ≡ Some s → sizes below ≤ sizes s.below → SeenFrom test below rest s
 seen-past test [] rest s a e l = record { there = s; found = e; same = refl; low = omega arith }
-seen-past test (b ∷ below) rest s a e l = cases (test b) (spot test (below ++ rest)) (seen-past test below rest) e
+seen-past test (b ∷ below) rest s a e l = cases (test b) (spot test (below ++ rest)) (seen-past test _ _) e
   where
     cases : (t : Bool) (o : Option Spot)
         → ((r : Spot) → Apart (below ++ rest) → o ≡ Some r → sizes below ≤ sizes r.below → SeenFrom test below rest r)
         → cond t (Some (record { below = []; here = b; above = below ++ rest })) (option_map (raised b) o) ≡ Some s
         → SeenFrom test (b ∷ below) rest s
-    cases true o more q =
-        absurd (omega (arith, apart-size, ap (λ (r : Spot). sizes r.below) (same_Some _ _ q), l))
+    cases true o more q = absurd (omega (arith, apart-size, ap (λ (r : Spot). sizes r.below) (same_Some _ _ q), l))
     cases false None more q = absurd (none-some _ q)
     cases false (Some r) more q =
         let z = ap (λ (r : Spot). sizes r.below) (same_Some _ _ q) in
@@ -49,21 +48,19 @@ module _ (xs : List ℕ) (first unused : ℕ) (i : IsSound xs first unused) (p :
   pub left-tidy : tidy (left_in p xs) ≡ left_in p xs
   left-tidy =
       let s = seen-from xs first unused i p b in
-      tidy-apart (left_in p xs) (apart-above s.below (left_in p xs)
-      (subst Apart s.is (apart-tidied (zone_in xs) i.tidied)))
+      tidy-apart _ (apart-above _ _ (subst Apart s.is (apart-tidied _ i.tidied)))
 
   pub left-fits : sizes (left_in p xs) < 2 ^ 32
-  left-fits =
-      omega (arith, ap sizes (seen-from xs first unused i p b).is, span-append, sizes-length)
+  left-fits = omega (arith, ap sizes (seen-from xs first unused i p b).is, span-append, sizes-length)
 
   -- what follows the block is what follows it in the zone
   pub sought : (test : Block → Bool) (P : List Block → Type 0)
       → IfSome (spot test (zone_in xs)) (λ (s : Spot). p ≤ sizes s.below)
       → IfSome (spot test (left_in p xs)) (λ (s : Spot). P s.above)
       → IfSome (spot test (zone_in xs)) (λ (s : Spot). P s.above)
-  sought test P low found = if-spot (spot test (zone_in xs)) (λ s. P s.above) (λ s e.
+  sought test P low found = if-spot _ (λ s. P s.above) (λ s e.
       let f = seen-from xs first unused i p b in
       let l = the-if (spot test (zone_in xs)) (λ s. p ≤ sizes s.below) s e low in
-      let r = seen-past test f.below (left_in p xs) s (subst Apart f.is (apart-tidied (zone_in xs) i.tidied))
+      let r = seen-past test _ (left_in p xs) s (subst Apart f.is (apart-tidied (zone_in xs) i.tidied))
       (sym (ap (spot test) f.is) ∙ e) (omega (arith, l)) in
       subst P r.same (the-if (spot test (left_in p xs)) (λ s. P s.above) r.there r.found found))

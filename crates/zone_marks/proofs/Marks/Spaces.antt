@@ -42,8 +42,7 @@ module _ (xs : List ℕ) (from stop : ℕ) where
           each = at-append (λ q _. q < stop) from p.done (s.here ∷ []) p.each (omega (arith, l), tt);
           way = s.way;
         };
-        comes = sym (joined-is Spaces p.done (s.here ∷ []) spaces given more j (sym c.comes)
-            (g ∙ sym (join-unit_right (space s.here))));
+        comes = sym (joined-is Spaces p.done (s.here ∷ []) _ _ _ j (sym c.comes) (g ∙ sym (join-unit_right _)));
       }
 
   -- what the blocks come to and one block more fit
@@ -67,8 +66,8 @@ module _ (xs : List ℕ) (from stop : ℕ) where
       ]
 
       whole : between from place from (left_in from xs) ≡ p.done
-      whole = ap (between from place from) p.is ∙ between-append from place from p.done (left_in at xs)
+      whole = ap (between from place from) p.is ∙ between-append _ _ from p.done (left_in at xs)
           ∙ ap (λ y. between from place from p.done ++ between from place y (left_in at xs)) p.up
           ∙ ap (λ k. between from place from p.done ++ k) nothing ∙ append-nil (between from place from p.done)
-          ∙ all-begin from place from p.done (omega arith)
-          (at-map (λ q _. q < stop) (λ q _. q < place) from p.done (λ _ _ _ _ r. omega (arith, r, l)) p.each)
+          ∙ all-begin _ _ _ _ (omega arith)
+          (at-map (λ q _. q < stop) (λ q _. q < place) _ _ (λ _ _ _ _ r. omega (arith, r, l)) p.each)

@@ -52,7 +52,7 @@ space-told resource xs from small b tile n t f e w l v =
     of-kind (Nonrelocatable id content) t = refl
     of-kind Masters t = refl
     of-kind (Relocatable slot flags content) t = ap (λ j. nat_le 64 j && nat_lt j 128)
-        (v ∙ flags-read resource xs from small slot flags content t) ∙ flagged flags (resource slot)
+        (v ∙ flags-read resource _ _ small _ _ _ t) ∙ flagged flags (resource slot)
 
 -- two words of a header tell where its block ends, its Free bytes, and whether it ends a run
 pub span-made : (at : ℕ) (xs : List ℕ) (w : IsOnWay at xs) → at < length xs → (n t : ℕ) → n + t ≡ word_at at xs
@@ -82,8 +82,8 @@ space-made at xs w l n t e h k b above is =
     let o = here-on at xs w l n t e h k in
     let same = same-here at xs t o b above is in
     let tile = subst (λ c. Tile (head_of o.resource c) (size c) (drop at xs)) same o.tile in
-    ap (λ g. counted g n) (space-told o.resource xs at o.small b tile n t (word_at (at + 12) xs) e h k refl)
-    ∙ ap (counted (is_space b)) (size-at at xs w l n t e h k b above is)
+    ap (λ g. counted g n) (space-told o.resource _ _ o.small b tile n t _ e h k refl)
+    ∙ ap (counted (is_space b)) (size-at _ _ w l n t e h k b _ is)
 
 -- a block that isn't room by its Free bytes
 pub room-free : (p : ℕ) (b : Block) → 0 < free_of b → p ≤ free_of b → is_room p b ≡ true

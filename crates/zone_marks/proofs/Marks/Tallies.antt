@@ -25,11 +25,11 @@ use Rattle.zone_summary.proofs.Sums.{load-counted, load-join}
 
 -- tallies are joined as what they tell
 tallies-left : (t : Tally) → join_tallies (tally.Known (Whole 0)) t ≡ t
-tallies-left (tally.Known runs) = ap tally.Known (join-unit_left runs)
+tallies-left (tally.Known runs) = ap tally.Known (join-unit_left _)
 tallies-left tally.Unknown = refl
 
 tallies-right : (t : Tally) → join_tallies t (tally.Known (Whole 0)) ≡ t
-tallies-right (tally.Known runs) = ap tally.Known (join-unit_right runs)
+tallies-right (tally.Known runs) = ap tally.Known (join-unit_right _)
 tallies-right tally.Unknown = refl
 
 tallies-assoc : (r s t : Tally) → join_tallies (join_tallies r s) t ≡ join_tallies r (join_tallies s t)
@@ -40,24 +40,24 @@ tallies-assoc tally.Unknown s t = refl
 
 tally_of-append : (w : Counting) (xs ys : List Landmark)
     → tally_of w (xs ++ ys) ≡ join_tallies (tally_of w xs) (tally_of w ys)
-tally_of-append w [] ys = sym (tallies-left (tally_of w ys))
+tally_of-append w [] ys = sym (tallies-left _)
 tally_of-append w (m ∷ xs) ys = ap (join_tallies (told w m.tally)) (tally_of-append w xs ys)
-    ∙ sym (tallies-assoc (told w m.tally) (tally_of w xs) (tally_of w ys))
+    ∙ sym (tallies-assoc _ _ _)
 
 pub tally_of-more : (w : Counting) (marks : List Landmark) (i : ℕ) → i < length marks
     → tally_of w (take (i + 1) marks) ≡ join_tallies (tally_of w (take i marks)) (told w (get_or marks i no_mark).tally)
 tally_of-more w marks i l =
-    ap (tally_of w) (take_more marks i no_mark l) ∙ tally_of-append w (take i marks) (get_or marks i no_mark ∷ [])
-    ∙ ap (join_tallies (tally_of w (take i marks))) (tallies-right (told w (get_or marks i no_mark).tally))
+    ap (tally_of w) (take_more marks i no_mark l) ∙ tally_of-append w _ _
+    ∙ ap (join_tallies (tally_of w (take i marks))) (tallies-right _)
 
 -- where one landmark tells nothing, all of them tell nothing
 pub tally_of-unknown : (w : Counting) (marks : List Landmark) (i : ℕ) (s : Stretch) → i < length marks
     → tally_of w (take i marks) ≡ tally.Known s → told w (get_or marks i no_mark).tally ≡ tally.Unknown
     → tally_of w marks ≡ tally.Unknown
 tally_of-unknown w marks i s l k u =
-    ap (tally_of w) (sym (take-append-drop (i + 1) marks)) ∙ tally_of-append w (take (i + 1) marks) (drop (i + 1) marks)
+    ap (tally_of w) (sym (take-append-drop (i + 1) marks)) ∙ tally_of-append w _ _
     ∙ ap (λ t. join_tallies t (tally_of w (drop (i + 1) marks)))
-    (tally_of-more w marks i l ∙ ap (λ t. join_tallies t (told w (get_or marks i no_mark).tally)) k
+    (tally_of-more w _ i l ∙ ap (λ t. join_tallies t (told w (get_or marks i no_mark).tally)) k
     ∙ ap (join_tallies (tally.Known s)) u)
 
 -- what they hold in sum
@@ -76,13 +76,12 @@ loads-append w (m ∷ xs) ys = omega (arith, loads-append w xs ys)
 
 loads-parted : (w : Counting) (marks : List Landmark) (n : ℕ)
     → known_loads w (take n marks) + known_loads w (drop n marks) ≡ known_loads w marks
-loads-parted w marks n = sym (loads-append w (take n marks) (drop n marks)) ∙ ap (known_loads w) (take-append-drop n marks)
+loads-parted w marks n = sym (loads-append w _ _) ∙ ap (known_loads w) (take-append-drop n marks)
 
 pub loads-more : (w : Counting) (marks : List Landmark) (i : ℕ) → i < length marks
     → known_load (tally_of w (take i marks)) + known_load (told w (get_or marks i no_mark).tally) ≤ known_loads w marks
 loads-more w marks i l =
-    let q = ap (known_loads w) (take_more marks i no_mark l)
-    ∙ loads-append w (take i marks) (get_or marks i no_mark ∷ []) in
+    let q = ap (known_loads w) (take_more marks i no_mark l) ∙ loads-append w _ (get_or marks i no_mark ∷ []) in
     omega (arith, loads-all, loads-parted, q)
 
 pub loads-part : (w : Counting) (marks : List Landmark) (low n : ℕ)
@@ -113,7 +112,7 @@ between-join a b c x (k ∷ bs) l m = elim (cases_lt x b) [
 
 between-few : (lo hi x : ℕ) (bs : List Block) → sizes (between lo hi x bs) ≤ sizes bs
 between-few lo hi x [] = omega arith
-between-few lo hi x (b ∷ bs) = either (nat_le lo x && nat_lt x hi) (between-few lo hi (x + size b) bs)
+between-few lo hi x (b ∷ bs) = either (nat_le lo x && nat_lt x hi) (between-few _ _ (x + size b) bs)
   where
     either : (t : Bool) → sizes (between lo hi (x + size b) bs) ≤ sizes bs
         → sizes (cond t (b ∷ between lo hi (x + size b) bs) (between lo hi (x + size b) bs)) ≤ size b + sizes bs
@@ -122,7 +121,7 @@ between-few lo hi x (b ∷ bs) = either (nat_le lo x && nat_lt x hi) (between-fe
 
 tally-join : (w : Counting) (s t : Tally) (xs ys : List Block) → IsTally w s xs → IsTally w t ys
     → IsTally w (join_tallies s t) (xs ++ ys)
-tally-join w (tally.Known a) (tally.Known b) xs ys e f = stretch_by-append w xs ys
+tally-join w (tally.Known a) (tally.Known b) xs ys e f = stretch_by-append w _ _
     ∙ ap (λ k. join k (stretch_by w ys)) e ∙ ap (join a) f
 tally-join w (tally.Known a) tally.Unknown xs ys e f = tt
 tally-join w tally.Unknown t xs ys e f = tt
@@ -141,10 +140,10 @@ between-none end x (b ∷ bs) = elim (cases_lt x end) [
 -- what landmarks know together is of the blocks from the first of them to where they end
 pub group-tally : (w : Counting) (end : ℕ) (zone : List Block) (marks : List Landmark) → AreMarks end zone marks
     → IsTally w (tally_of w marks) (between (next_of end marks) end 0 zone)
-group-tally w end zone [] a = ap (stretch_by w) (between-none end 0 zone) ∙ counted-none w
+group-tally w end zone [] a = ap (stretch_by w) (between-none _ 0 zone) ∙ counted-none w
 group-tally w end zone (m ∷ marks) a =
     subst (IsTally w (join_tallies (told w m.tally) (tally_of w marks)))
-    (sym (between-join m.at (next_of end marks) end 0 zone a.3 (marks-below end zone marks a.4)))
+    (sym (between-join _ _ _ 0 _ a.3 (marks-below _ _ marks a.4)))
     (tally-join w (told w m.tally) (tally_of w marks) _ _ (a.2 w) (group-tally w end zone marks a.4))
 
 loads-within : (w : Counting) (end : ℕ) (zone : List Block) (marks : List Landmark) → AreMarks end zone marks
@@ -163,5 +162,4 @@ loads-fit w end zone marks a =
 
 pub loads-small : (xs : List ℕ) (first unused : ℕ) → IsSound xs first unused → (end : ℕ) (marks : List Landmark)
     → AreMarks end (zone_in xs) marks → (w : Counting) → known_loads w marks < 2 ^ 32
-loads-small xs first unused i end marks a w =
-    omega (arith, loads-fit w end (zone_in xs) marks a, sizes-length)
+loads-small xs first unused i end marks a w = omega (arith, loads-fit w end (zone_in xs) marks a, sizes-length)

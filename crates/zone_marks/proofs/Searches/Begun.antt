@@ -37,7 +37,7 @@ piece-more xs from at to low high p q = record {
 -- two pieces among which no run ends
 pub open-more : (low high : List Block) (a b : ℕ) → stretch_of low ≡ Whole a → stretch_of high ≡ Whole b
     → stretch_of (low ++ high) ≡ Whole (a + b)
-open-more low high a b e f = stretch_of-append low high ∙ ap (λ s. join s (stretch_of high)) e ∙ ap (join (Whole a)) f
+open-more low high a b e f = stretch_of-append low _ ∙ ap (λ s. join s (stretch_of high)) e ∙ ap (join (Whole a)) f
 
 -- a run is open where it begins
 pub open-begun : (xs : List ℕ) (start : ℕ) → (start ≡ 0) ⊎ RunBegins start xs
@@ -68,15 +68,13 @@ open-farther xs r o at next free here e p s = record {
 
 -- its free bytes lie below its place
 pub open-few : (xs : List ℕ) (r : OpenRun) → IsOpen xs r → r.free ≤ r.at
-open-few xs r o =
-    omega (arith, load-blocks, ap load o.goes_on)
+open-few xs r o = omega (arith, load-blocks, ap load o.goes_on)
 
 -- past one block
 module _ (xs : List ℕ) (first unused : ℕ) (i : IsSound xs first unused) (r : OpenRun) (o : IsOpen xs r) (end free : ℕ)
     (barrier : Bool) (s : Spans r.at end free barrier xs) where
   pub open-past-bar : barrier ≡ true → IsOpen xs (record { start = end; free = 0; at = end })
-  open-past-bar e = open-begun xs end
-      (inr (run-here xs first unused i r.at end free barrier o.piece.edge s e))
+  open-past-bar e = open-begun _ _ (inr (run-here _ _ _ i _ _ _ _ o.piece.edge s e))
 
   mover : barrier ≡ false → in_run s.here ≡ true
   mover e = only (in_run s.here) (sym s.ends ∙ e)
@@ -86,7 +84,7 @@ module _ (xs : List ℕ) (first unused : ℕ) (i : IsSound xs first unused) (r :
       only false e = absurd (false≢true (sym e))
 
   pub open-past-one : barrier ≡ false → IsOpen xs (record { start = r.start; free = r.free + free; at = end })
-  open-past-one e = open-farther xs r o r.at end free (s.here ∷ []) refl (record {
+  open-past-one e = open-farther _ r o _ _ free (s.here ∷ []) refl (record {
     is = s.is;
     up = (omega arith);
     edge = edge-above xs first unused i r.at end free barrier o.piece.edge s;

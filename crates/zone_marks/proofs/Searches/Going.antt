@@ -14,7 +14,7 @@ module _ (xs : List ℕ) (at : ℕ) (block : Seen) (end : ℕ) (s : Steps at blo
   seen-sized = told-size (record { block = s.here; is = s.told; before_is = s.is })
 
   pub passed-block : (from : ℕ) → Passed xs from at (λ _ _. Unit {0}) → Passed xs from end (λ _ _. Unit {0})
-  passed-block from p = passed-step xs from (λ _ _. Unit {0}) at end (free_of s.here) (ends_run s.here) p (record {
+  passed-block from p = passed-step _ _ (λ _ _. Unit {0}) _ _ _ _ p (record {
     here = s.here;
     is = s.is;
     up = s.up;

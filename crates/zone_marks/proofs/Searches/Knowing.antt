@@ -25,7 +25,7 @@ module _ (bytes : ℕ) (answer : Option ℕ) (xs : List ℕ) where
 
   -- what a search that has found a run finds
   pub known-start : (at : ℕ) (s : RunScan) → IsKnown bytes answer at xs s → IsFound bytes s → answer ≡ Some s.start
-  known-start at s k f = k.finds ∙ scan_kept None bytes spares s.left s.start s.free s.met s.place (left_in s.place xs) f
+  known-start at s k f = k.finds ∙ scan_kept None bytes spares s.left s.start _ _ _ _ f
 
   pub known-found : (at next : ℕ) (s : RunScan) → IsKnown bytes answer at xs s → IsFound bytes s → IsKnown bytes answer next xs s
   known-found at next s k f = record {
@@ -53,16 +53,15 @@ module _ (bytes : ℕ) (answer : Option ℕ) (xs : List ℕ) where
 
   -- past blocks among which no run ends
   pub known-through : (at next free : ℕ) (s : RunScan) (here : List Block) → IsKnown bytes answer at xs s → s.place ≡ at
-      → IsPiece at next xs here → has ends_run here ≡ false → free_sum here ≡ free
-      → IsKnown bytes answer next xs
+      → IsPiece at next xs here → has ends_run here ≡ false → free_sum here ≡ free → IsKnown bytes answer next xs
       (record { left = s.left; start = s.start; free = s.free + free; met = s.met; place = next })
   known-through at next free s here k e p n f = record {
     begins = p.edge;
     left = k.left;
     met = k.met;
     free = (omega (arith, e, free_span-le, f));
-    finds = finds-at at s k e ∙ ap (scan_runs None bytes spares 0 s.start s.free s.met at) p.is
-        ∙ goes-through bytes spares s.start s.free s.met at here (left_in next xs) n
+    finds = finds-at _ s k e ∙ ap (scan_runs None bytes spares 0 s.start s.free s.met at) p.is
+        ∙ goes-through _ spares _ _ _ _ here (left_in next xs) n
         ∙ ap (λ q. scan_runs None bytes spares 0 s.start (s.free + q) s.met (at + sizes here) (left_in next xs)) f
         ∙ ap (λ q. scan_runs None bytes spares 0 s.start (s.free + free) s.met q (left_in next xs)) p.up
         ∙ ap (λ l. scan_runs None bytes spares l s.start (s.free + free) s.met next (left_in next xs)) (sym k.left);
@@ -73,10 +72,8 @@ module _ (bytes : ℕ) (answer : Option ℕ) (xs : List ℕ) where
   pub scanned : (first unused : ℕ) → IsSound xs first unused → (at next : ℕ) (s r : RunScan) (here : List Block)
       → IsKnown bytes answer at xs s → IsPiece at next xs here → finds_from bytes s xs ≡ finds_from bytes r xs
       → Begins r.place s.place (left_in s.place xs) → r.free ≤ r.place → r.met ≡ true → r.left ≤ s.left
-      → (IsFound bytes s → IsFound bytes r)
-      → (IsFound bytes r ⊎ ((length xs ≤ r.place) ⊎ (next ≤ r.place)))
-      → (Begins next s.place (left_in s.place xs) → r.place ≤ next)
-      → IsKnown bytes answer next xs r
+      → (IsFound bytes s → IsFound bytes r) → (IsFound bytes r ⊎ ((length xs ≤ r.place) ⊎ (next ≤ r.place)))
+      → (Begins next s.place (left_in s.place xs) → r.place ≤ next) → IsKnown bytes answer next xs r
   scanned first unused i at next s r here k p same b f m l stays came up = record {
     begins = begins-further xs first unused i s.place r.place k.begins b;
     left = (omega (arith, l));
@@ -92,7 +89,7 @@ module _ (bytes : ℕ) (answer : Option ℕ) (xs : List ℕ) where
       come : r.place ≤ next → (IsFound bytes r ⊎ ((length xs ≤ r.place) ⊎ (next ≤ r.place)))
           → IsFound bytes r ⊎ (r.place ≡ next)
       come u (inl found) = inl found
-      come u (inr (inl h)) = inr (let w = edge-within xs first unused i next p.edge in omega (arith, u, h, w))
+      come u (inr (inl h)) = inr (let w = edge-within _ _ _ i _ p.edge in omega (arith, u, h, w))
       come u (inr (inr h)) = inr (omega (arith, u, h))
 
 -- a search that has not found a run has too few free bytes so far

@@ -55,7 +55,7 @@ ready-known bytes xs s r = record {
 }
 
 pub ready-begun : (xs : List ℕ) → IsReady xs (begun 0 0)
-ready-begun xs = record { begins = begins-here 0 (zone_in xs); left = refl; met = refl; free = omega arith }
+ready-begun xs = record { begins = begins-here 0 _; left = refl; met = refl; free = omega arith }
 
 pub known-ready : (bytes : ℕ) (answer : Option ℕ) (at : ℕ) (xs : List ℕ) (s : RunScan) → IsKnown bytes answer at xs s
     → IsReady xs s
@@ -155,7 +155,7 @@ module _ (bytes : ℕ) (xs : List ℕ) (s : RunScan) (r : IsReady xs s) (at : �
       let o = whole-open q.here w.0 w.1 in
       subst (λ n. IsKnown bytes (finds_from bytes s xs) at xs
       (record { left = s.left; start = s.start; free = n; met = s.met; place = at })) w.2
-      (known-through bytes (finds_from bytes s xs) xs s.place at w.0 s q.here (ready-known bytes xs s r) refl q.piece o.0 o.1)
+      (known-through _ _ _ _ _ _ s _ (ready-known _ _ s r) refl q.piece o.0 o.1)
 
   -- and one that has blocks with an end of a run behind it may begin at them
   pub known-barred : (b : IsBarred s.place xs q.here q.high p) → IsKnown bytes (finds_from bytes s xs) p.barred xs (begun p.barred 0)
@@ -164,11 +164,10 @@ module _ (bytes : ℕ) (xs : List ℕ) (s : RunScan) (r : IsReady xs s) (at : �
     left = refl;
     met = refl;
     free = omega arith;
-    finds = ready-finds bytes xs s r ∙ ap (found_from bytes spares s.start s.free s.place) whole
-        ∙ scan-begun bytes spares s.start s.free s.place b.low b.mid (q.high ++ left_in at xs) b.ended less
+    finds = ready-finds _ _ s r ∙ ap (found_from bytes spares s.start s.free s.place) whole
+        ∙ scan-begun _ spares _ _ _ _ b.mid (q.high ++ left_in at xs) b.ended less
         ∙ ap (λ y. found_from bytes spares y 0 y (b.mid ++ (q.high ++ left_in at xs))) b.up
-        ∙ ap (found_from bytes spares p.barred 0 p.barred)
-        (sym (b.piece.is ∙ ap (λ k. b.mid ++ k) q.high_piece.is));
+        ∙ ap (found_from bytes spares p.barred 0 p.barred) (sym (b.piece.is ∙ ap (λ k. b.mid ++ k) q.high_piece.is));
     here = inr refl;
   }
     where
@@ -186,9 +185,9 @@ module _ (bytes : ℕ) (xs : List ℕ) (s : RunScan) (r : IsReady xs s) (at : �
 
   -- at the zone's end none is found
   pub passed-all : left_in at xs ≡ [] → finds_from bytes s xs ≡ None
-  passed-all e = ready-finds bytes xs s r
+  passed-all e = ready-finds _ _ s r
       ∙ ap (found_from bytes spares s.start s.free s.place) (q.piece.is ∙ ap (λ k. q.here ++ k) e ∙ append-nil q.here)
-      ∙ scan-never bytes spares s.start s.free s.place q.here short-here
+      ∙ scan-never _ spares _ _ s.place q.here short-here
 
 -- a walk that has come to the zone's end without a run
 pub walked-out : (bytes : ℕ) (n : Sparing) (xs : List ℕ) (first unused : ℕ) → IsSound xs first unused
@@ -197,7 +196,7 @@ pub walked-out : (bytes : ℕ) (n : Sparing) (xs : List ℕ) (first unused : ℕ
     → (last.met && nat_le bytes last.free) ≡ false → finds_purging bytes n last xs ≡ None
 walked-out bytes n xs first unused i from last b e came f =
     let edge = begins-further xs first unused i from.place last.place b e in
-    let none = left-none last.place xs (begins-way xs first unused i last.place edge) (elim came [
+    let none = left-none _ _ (begins-way xs first unused i last.place edge) (elim came [
       | inl k ↦ let y : true ≡ false = sym k ∙ f in absurd (cc)
       | inr (inl l) ↦ l
       | inr (inr l) ↦ absurd (omega (arith, l, edge-within xs first unused i last.place edge))

@@ -30,8 +30,8 @@ use Rattle.zone_summary.specs.declared.stretch.Stretch.{Stretch}
 
 -- an edge is one of those behind a piece that ends there
 pub piece-begins : (xs : List ℕ) (from to : ℕ) (here : List Block) → IsPiece from to xs here → Begins to from (left_in from xs)
-piece-begins xs from to here p = subst (Begins to from) (sym p.is) (begins-right to from here (left_in to xs)
-    (subst (λ y. Begins to y (left_in to xs)) (sym p.up) (begins-here to (left_in to xs))))
+piece-begins xs from to here p = subst (Begins to from) (sym p.is) (begins-right _ _ _ _
+    (subst (λ y. Begins to y (left_in to xs)) (sym p.up) (begins-here _ _)))
 
 -- where a search goes up to a landmark
 pub before : (marks : List Landmark) (index next to end : ℕ) (xs : List ℕ) → to ≡ next_of 4294967295 (drop index marks)
@@ -55,7 +55,7 @@ module _ (xs : List ℕ) (first unused : ℕ) (i : IsSound xs first unused) wher
       omega (arith, ap sizes s.is, span-append, zone-long)
 
   pub edge-within : (p : ℕ) → Begins p 0 (zone_in xs) → p ≤ length xs
-  edge-within p b = let w = (begins-within p 0 (zone_in xs) b).1 in omega (arith, w, zone-long)
+  edge-within p b = let w = (begins-within p 0 _ b).1 in omega (arith, w, zone-long)
 
   pub end-begins : (end : ℕ) → end ≡ length xs → Begins end 0 (zone_in xs)
   end-begins end e = subst (λ p. Begins p 0 (zone_in xs)) (let z = zone-long in
@@ -72,7 +72,7 @@ module _ (xs : List ℕ) (first unused : ℕ) (i : IsSound xs first unused) wher
       behind = elim (begins-either to 0 s.below (left_in from xs) (subst (Begins to 0) s.is e)) [
         | inl d ↦ let w = (begins-within to 0 s.below d).1 in let k = s.low in
             subst (λ q. Begins q from (left_in from xs)) (let q : from ≡ to = omega (arith, w, k, l) in q)
-            (begins-here from (left_in from xs))
+            (begins-here _ _)
         | inr d ↦ subst (λ y. Begins to y (left_in from xs))
             (let q : 0 + sizes s.below ≡ from = omega (arith, s.low) in q) d
       ]
@@ -81,7 +81,7 @@ module _ (xs : List ℕ) (first unused : ℕ) (i : IsSound xs first unused) wher
       r = parts to from (left_in from xs) behind
 
       whole : left_in from xs ≡ r.below ++ left_in to xs
-      whole = r.is ∙ ap (λ k. r.below ++ k) (sym (left-above xs first unused i (s.below ++ r.below) r.above to
+      whole = r.is ∙ ap (λ k. r.below ++ k) (sym (left-above _ _ _ i _ r.above to
           (s.is ∙ ap (λ k. s.below ++ k) r.is ∙ sym (append_assoc s.below r.below r.above))
           (omega (arith, span-append, s.low, r.low))))
 
@@ -89,7 +89,7 @@ module _ (xs : List ℕ) (first unused : ℕ) (i : IsSound xs first unused) wher
   pub stretch-at : (w : Counting) (t : Tally) (at to next : ℕ) → Begins at 0 (zone_in xs)
       → IsTally w t (between at to 0 (zone_in xs)) → Begins next 0 (zone_in xs) → at ≤ next → next ≤ to
       → (next ≡ to) ⊎ (next ≡ length xs) → IsStretch w t at next xs
-  stretch-at w t at to next b k e r h o = (p.0, p.1, tally-as w t p.0 _ (alike-back _ p.0 same) k)
+  stretch-at w t at to next b k e r h o = (p.0, p.1, tally-as w t _ _ (alike-back _ _ same) k)
     where
       p : (here : List Block) × IsPiece at next xs here
       p = piece-of at next b e r
@@ -98,9 +98,9 @@ module _ (xs : List ℕ) (first unused : ℕ) (i : IsSound xs first unused) wher
       s = seen-from xs first unused i at b
 
       same : CountAlike (between at to 0 (zone_in xs)) p.0
-      same = alike-more (between at to 0 (zone_in xs)) _ p.0
+      same = alike-more _ _ _
           (alike-same _ _ (ap (between at to 0) (s.is ∙ ap (λ k. s.below ++ k) p.1.is)))
-          (between-parts at to s.below p.0 (left_in next xs) s.low (let u = p.1.up in omega (arith, u, h)) (elim o [
+          (between-parts _ _ _ _ _ s.low (let u = p.1.up in omega (arith, u, h)) (elim o [
             | inl q ↦ inl (omega (arith, p.1.up, q))
             | inr q ↦ inr (left-none next xs (begins-way xs first unused i next e) (omega (arith, q)))
           ]))
@@ -108,8 +108,7 @@ module _ (xs : List ℕ) (first unused : ℕ) (i : IsSound xs first unused) wher
   -- the stretch of a landmark
   module _ (marks : List Landmark) (a : AreMarks 4294967295 (zone_in xs) marks) (index : ℕ) (l : index < length marks) where
     knows : AreMarks 4294967295 (zone_in xs) (get_or marks index no_mark ∷ drop (index + 1) marks)
-    knows = subst (AreMarks 4294967295 (zone_in xs)) (drop_more marks index no_mark l)
-        (marks-parted 4294967295 (zone_in xs) marks index a).1
+    knows = subst (AreMarks 4294967295 (zone_in xs)) (drop_more marks index no_mark l) (marks-parted _ _ _ _ a).1
 
     pub mark-rises : (get_or marks index no_mark).at ≤ next_of 4294967295 (drop (index + 1) marks)
     mark-rises = knows.3
@@ -121,16 +120,14 @@ module _ (xs : List ℕ) (first unused : ℕ) (i : IsSound xs first unused) wher
         → next ≤ next_of 4294967295 (drop (index + 1) marks)
         → (next ≡ next_of 4294967295 (drop (index + 1) marks)) ⊎ (next ≡ length xs)
         → IsStretch w (told w (get_or marks index no_mark).tally) (get_or marks index no_mark).at next xs
-    stretch-of w next e r h o = stretch-at w (told w (get_or marks index no_mark).tally) (get_or marks index no_mark).at
-        (next_of 4294967295 (drop (index + 1) marks)) next mark-edge (knows.2 w) e r h o
+    stretch-of w next e r h o = stretch-at w _ _ _ _ mark-edge (knows.2 w) e r h o
 
   -- where the search past a landmark's stretch comes to: the next landmark, or the zone's end
   pub bounded-edge : (marks : List Landmark) → AreMarks 4294967295 (zone_in xs) marks → (index next end : ℕ) → end ≡ length xs
-      → (next ≡ next_of 4294967295 (drop index marks)) ⊎ (next ≡ end) → next ≤ end
-      → Begins next 0 (zone_in xs)
-  bounded-edge marks a index next end e (inr q) h = end-begins next (q ∙ e)
+      → (next ≡ next_of 4294967295 (drop index marks)) ⊎ (next ≡ end) → next ≤ end → Begins next 0 (zone_in xs)
+  bounded-edge marks a index next end e (inr q) h = end-begins _ (q ∙ e)
   bounded-edge marks a index next end e (inl q) h = elim (cases_lt index (length marks)) [
-    | inl l ↦ subst (λ p. Begins p 0 (zone_in xs)) (sym (q ∙ mark-first 4294967295 marks index no_mark l))
+    | inl l ↦ subst (λ p. Begins p 0 (zone_in xs)) (sym (q ∙ mark-first _ _ _ _ l))
         (mark-begins 4294967295 (zone_in xs) marks index no_mark l a)
     | inr l ↦ let k : next ≡ 4294967295 = q ∙ ap (next_of 4294967295) (drop_all index marks l) in
         absurd (omega (arith, k, h, e))
@@ -140,7 +137,7 @@ module _ (xs : List ℕ) (first unused : ℕ) (i : IsSound xs first unused) wher
   pub bounded-mark : (marks : List Landmark) → AreMarks 4294967295 (zone_in xs) marks → (index next end : ℕ) → end ≡ length xs
       → (next ≡ next_of 4294967295 (drop index marks)) ⊎ (next ≡ end) → next ≤ next_of 4294967295 (drop index marks)
       → index < length marks → next ≡ (get_or marks index no_mark).at
-  bounded-mark marks a index next end e (inl q) h l = q ∙ mark-first 4294967295 marks index no_mark l
+  bounded-mark marks a index next end e (inl q) h l = q ∙ mark-first _ _ _ _ l
   bounded-mark marks a index next end e (inr q) h l =
       let w = edge-within (get_or marks index no_mark).at (mark-begins 4294967295 (zone_in xs) marks index no_mark l a) in
       omega (arith, q, e, mark-first 4294967295 marks index no_mark l, w, h)
@@ -160,8 +157,7 @@ module _ (xs : List ℕ) (first unused : ℕ) (i : IsSound xs first unused) wher
       → next ≤ next_of 4294967295 (drop (index + 1) marks)
       → IsStretch w (told w (get_or marks index no_mark).tally) (get_or marks index no_mark).at next xs
   next-stretch w marks a index next end l e o h least = stretch-of marks a index l w next
-      (bounded-edge marks a (index + 1) next end e o h)
-      (elim o [
+      (bounded-edge _ a _ _ _ e o h) (elim o [
         | inl q ↦ omega (arith, q, mark-rises marks a index l)
         | inr q ↦ let w = edge-within (get_or marks index no_mark).at (mark-edge marks a index l) in omega (arith, q, e, w)
       ]) least (elim o [
@@ -175,8 +171,8 @@ module _ (xs : List ℕ) (first unused : ℕ) (i : IsSound xs first unused) wher
       → ((runs : Stretch) → t ≡ tally.Known runs → tally_of w (take GROUP (drop low marks)) ≡ tally.Known runs)
       → (next : ℕ) → IsBefore (low + GROUP) marks xs next → IsStretch w t (get_or marks low no_mark).at next xs
   group-stretch w marks a low t l known next b =
-      stretch-at w t m.at to next (mark-edge marks a low l) (tells t known)
-      (bounded-edge marks a (low + GROUP) next (length xs) refl b.either b.low) rises b.least b.either
+      stretch-at w t _ _ _ (mark-edge marks a low l) (tells t known)
+      (bounded-edge _ a _ _ _ refl b.either b.low) rises b.least b.either
     where
       m : Landmark
       m = get_or marks low no_mark
@@ -189,8 +185,7 @@ module _ (xs : List ℕ) (first unused : ℕ) (i : IsSound xs first unused) wher
 
       are : AreMarks to (zone_in xs) part
       are = subst (λ k. AreMarks (next_of 4294967295 k) (zone_in xs) part) (drop-drop GROUP low marks)
-          (marks-parted 4294967295 (zone_in xs) (drop low marks) GROUP
-          (marks-parted 4294967295 (zone_in xs) marks low a).1).0
+          (marks-parted _ _ (drop low marks) GROUP (marks-parted 4294967295 (zone_in xs) marks low a).1).0
 
       at-first : next_of to part ≡ m.at
       at-first = ap (λ k. next_of to (take GROUP k)) (drop_more marks low no_mark l)
@@ -199,7 +194,7 @@ module _ (xs : List ℕ) (first unused : ℕ) (i : IsSound xs first unused) wher
           → IsTally w t (between m.at to 0 (zone_in xs))
       tells (tally.Known runs) f =
           subst (λ k. IsTally w k (between m.at to 0 (zone_in xs))) (f runs refl)
-          (subst (λ p. IsTally w (tally_of w part) (between p to 0 (zone_in xs))) at-first (group-tally w to (zone_in xs) part are))
+          (subst (λ p. IsTally w (tally_of w part) (between p to 0 (zone_in xs))) at-first (group-tally w _ _ _ are))
       tells tally.Unknown f = tt
 
       rises : m.at ≤ next

@@ -43,8 +43,8 @@ barred b e = only (in_run b) e
 -- a search from the bottom
 pub run-start : (bytes purges : ℕ) (n : Sparing) (xs : List ℕ)
     → lowest_place bytes (purged purges n (zone_in xs)) ≡ finds_purging bytes n (begun 0 purges) xs
-run-start bytes purges n xs = sym (scan-is None bytes n purges (zone_in xs))
-    ∙ ap (λ z. scan_runs None bytes (spared n) purges 0 0 true 0 (opened n z)) (sym (left-zone xs))
+run-start bytes purges n xs = sym (scan-is None bytes n _ _)
+    ∙ ap (λ z. scan_runs None bytes (spared n) purges 0 0 true 0 (opened n z)) (sym (left-zone _))
 
 module _ (xs : List ℕ) (from : ℕ) (m : MayStart from (zone_in xs)) (bytes purges : ℕ) (n : Sparing)
     (all : most_purges n (zone_in xs) ≤ purges) (plain : (zone : List Block) → opened n zone ≡ zone) (r : OpenRun)
@@ -66,22 +66,20 @@ module _ (xs : List ℕ) (from : ℕ) (m : MayStart from (zone_in xs)) (bytes pu
 
   -- none of the blocks below may be purged
   none-below : count_of (spared n) q.low ≡ 0
-  none-below = ap (count_of (spared n)) (sym (plain q.low)) ∙ count-none n m.bound 0 q.low
-      (at-left (Stays m.bound) 0 q.low above (subst (NoneGoes m.bound) parts m.none))
-      (elim m.low [
+  none-below = ap (count_of (spared n)) (sym (plain q.low)) ∙ count-none n _ 0 _
+      (at-left (Stays m.bound) 0 _ _ (subst (NoneGoes m.bound) parts m.none)) (elim m.low [
         | inl k ↦ omega (arith, k)
         | inr k ↦ omega (arith, k)
       ])
 
   few : count_of (spared n) above ≤ purges
-  few =
-      omega (arith, all, ap (count_of (spared n)) (plain (zone_in xs) ∙ parts), total-append)
+  few = omega (arith, all, ap (count_of (spared n)) (plain (zone_in xs) ∙ parts), total-append)
 
   -- in the run that goes on there
   on : (start : ℕ) (high : List Block) → start ≡ r.start → find start 0 start (o.here ++ high) ≡ find r.start r.free r.at high
   on start high e = let w = whole-open o.here r.free o.goes_on in
       ap (λ y. find y 0 y (o.here ++ high)) e
-      ∙ goes-through bytes (spared n) r.start 0 true r.start o.here high w.0
+      ∙ goes-through _ (spared n) _ 0 _ r.start o.here high w.0
       ∙ ap (λ y. find r.start y (r.start + sizes o.here) high) (let y : 0 + free_sum o.here ≡ r.free = omega arith in y)
       ∙ ap (λ y. find r.start r.free y high) o.piece.up
 
@@ -90,9 +88,8 @@ module _ (xs : List ℕ) (from : ℕ) (m : MayStart from (zone_in xs)) (bytes pu
   past high = elim o.begins [
     | inl b ↦
         let is : left_in 0 xs ≡ b.below ++ b.here ∷ (o.here ++ above)
-        = left-zone xs ∙ b.is ∙ ap (λ k. b.below ++ b.here ∷ k) o.piece.is in
-        let low : q.low ≡ b.below ++ b.here ∷ o.here
-        = append_cancel_right q.low (b.below ++ b.here ∷ o.here) above
+        = left-zone _ ∙ b.is ∙ ap (λ k. b.below ++ b.here ∷ k) o.piece.is in
+        let low : q.low ≡ b.below ++ b.here ∷ o.here = append_cancel_right q.low (b.below ++ b.here ∷ o.here) above
         (sym q.low_piece.is ∙ is ∙ sym (append_assoc b.below (b.here ∷ o.here) above)) in
         let i = barred b.here b.ends in
         ap (λ k. find 0 0 0 (k ++ high)) low ∙ ap (find 0 0 0) (append_assoc b.below (b.here ∷ o.here) high)
@@ -101,8 +98,7 @@ module _ (xs : List ℕ) (from : ℕ) (m : MayStart from (zone_in xs)) (bytes pu
         ∙ found-ended bytes (spared n) (0 + sizes b.below) 0 (0 + sizes b.below) b.here (o.here ++ high) i (omega arith)
         ∙ on (0 + sizes b.below + size b.here) high (omega arith)
     | inr z ↦
-        let is : left_in 0 xs ≡ o.here ++ above
-        = ap (λ y. left_in y xs) (sym z) ∙ o.piece.is in
+        let is : left_in 0 xs ≡ o.here ++ above = ap (λ y. left_in y xs) (sym z) ∙ o.piece.is in
         let low : q.low ≡ o.here = append_cancel_right q.low o.here above (sym q.low_piece.is ∙ is) in
         ap (λ k. find 0 0 0 (k ++ high)) low ∙ on 0 high (sym z)
   ]
@@ -123,25 +119,25 @@ module _ (xs : List ℕ) (from : ℕ) (m : MayStart from (zone_in xs)) (bytes pu
       ∙ ap (λ z. find 0 0 0 (map each z)) (plain (zone_in xs) ∙ parts)
       ∙ ap (find 0 0 0) (map-append each q.low above
       ∙ ap (λ k. k ++ map each above) (emptied-none (spared n) q.low (let z = none-below in omega (arith, z))))
-      ∙ past (map each above)
+      ∙ past _
       ∙ sym (ap (λ z. scan_runs None bytes (spared n) purges r.start r.free true r.at z) (plain above)
-      ∙ scan-emptied bytes (spared n) purges r.start r.free r.at above few)
+      ∙ scan-emptied _ (spared n) _ _ _ _ _ few)
 
 -- a block begins where a run does
 pub run-begins : (xs : List ℕ) (at : ℕ) → RunBegins at xs → Begins at 0 (zone_in xs)
 run-begins xs at r =
     subst (Begins at 0) (sym (r.is ∙ sym (append_assoc r.below (r.here ∷ []) (left_in at xs))))
-    (begins-right at 0 (r.below ++ r.here ∷ []) (left_in at xs)
+    (begins-right _ 0 _ _
     (subst (λ y. Begins at y (left_in at xs))
     (let q : at ≡ 0 + sizes (r.below ++ r.here ∷ []) = omega (arith, span-append) in q)
-    (begins-here at (left_in at xs))))
+    (begins-here _ _)))
 
 -- a run begins above a block that ends one
 module _ (xs : List ℕ) (first unused : ℕ) (i : IsSound xs first unused) (at end free : ℕ) (barrier : Bool)
     (b : Begins at 0 (zone_in xs)) (s : Spans at end free barrier xs) where
   pub edge-above : Begins end 0 (zone_in xs)
-  edge-above = begins-further xs first unused i at end b (subst (Begins end at) (sym s.is)
-      (inr (subst (λ y. Begins end y (left_in end xs)) (sym s.up) (begins-here end (left_in end xs)))))
+  edge-above = begins-further _ _ _ i _ _ b (subst (Begins end at) (sym s.is)
+      (inr (subst (λ y. Begins end y (left_in end xs)) (sym s.up) (begins-here _ _))))
 
   pub run-here : barrier ≡ true → RunBegins end xs
   run-here e =

@@ -14,34 +14,33 @@ use Rattle.zone_marks.proofs.beginning.begin_search.Goals.{Start}
 
 -- a zone has no more blocks than there are purges
 few : (c : Start) → most_purges c.args.sparing (zone_in c.args.part.now.bytes) ≤ GREATEST_ZONE
-few c = let i = c.requires.sound in most-fits c.args.part.now.bytes i.0 i.1 i.2 c.args.sparing
+few c = let i = c.requires.sound in most-fits _ _ _ i.2 _
 
 all : (c : Start) → purged GREATEST_ZONE c.args.sparing (zone_in c.args.part.now.bytes)
     ≡ all_purged c.args.sparing (zone_in c.args.part.now.bytes)
-all c = purged-most GREATEST_ZONE c.args.sparing (zone_in c.args.part.now.bytes) (few c)
+all c = purged-most _ _ (zone_in c.args.part.now.bytes) (few c)
 
 -- from the bottom
 bottom : (c : Start) → lowest_place c.args.bytes (all_purged c.args.sparing (zone_in c.args.part.now.bytes))
     ≡ finds_purging c.args.bytes c.args.sparing (begun 0 GREATEST_ZONE) c.args.part.now.bytes
-bottom c = sym (ap (lowest_place c.args.bytes) (all c))
-    ∙ run-start c.args.bytes GREATEST_ZONE c.args.sparing c.args.part.now.bytes
+bottom c = sym (ap (lowest_place c.args.bytes) (all c)) ∙ run-start _ _ _ _
 
 pub returns-then-frees_one-clause-begins : goal.returns-then-frees_one-clause-begins
-returns-then-frees_one-clause-begins c = rw c.begun_at.ensures (begins-here 0 (zone_in c.args.part.now.bytes))
+returns-then-frees_one-clause-begins c = rw c.begun_at.ensures (begins-here 0 _)
 
 pub returns-then-frees_one-clause-finds : goal.returns-then-frees_one-clause-finds
 returns-then-frees_one-clause-finds c = rw c.begun_at.ensures (bottom (goal.at.returns-then-frees_one-clause-finds c).Start)
 
 pub returns-in-Some-clause-free : goal.returns-in-Some-clause-free
-returns-in-Some-clause-free c = open-few c.args.part.now.bytes c.in-Some.run' c.in-Some.ensures.run
+returns-in-Some-clause-free c = open-few _ _ c.in-Some.ensures.run
 
 pub returns-in-Some-clause-finds : goal.returns-in-Some-clause-finds
 returns-in-Some-clause-finds c = sym (ap (lowest_place c.args.bytes) (all (goal.at.returns-in-Some-clause-finds c).Start))
-    ∙ reached-finds c.args.part.now.bytes c.args.from c.requires.from c.args.bytes GREATEST_ZONE c.args.sparing
+    ∙ reached-finds c.args.part.now.bytes c.args.from c.requires.from c.args.bytes _ _
     (few (goal.at.returns-in-Some-clause-finds c).Start) (c.frees_one.ensures c.if-frees_one.false) c.in-Some.run' c.in-Some.ensures
 
 pub returns-in-None-clause-begins : goal.returns-in-None-clause-begins
-returns-in-None-clause-begins c = rw c.begun_at-in-None.ensures (begins-here 0 (zone_in c.args.part.now.bytes))
+returns-in-None-clause-begins c = rw c.begun_at-in-None.ensures (begins-here 0 _)
 
 pub returns-in-None-clause-finds : goal.returns-in-None-clause-finds
 returns-in-None-clause-finds c = rw c.begun_at-in-None.ensures (bottom (goal.at.returns-in-None-clause-finds c).Start)

@@ -19,7 +19,7 @@ use Rattle.zone_summary.specs.declared.stretch.Stretch.{Stretch}
 pub loop-index-init : goal.loop-index-init
 loop-index-init c = let xs = c.args.part.now.bytes in
     subst (λ at. IsPassed (begun 0 0) at xs (record { runs = Whole 0; barred = 0; end = 0; free = 0 })) (sym c.requires.bottom)
-    (passed-none xs (begun 0 0) (ready-begun xs))
+    (passed-none _ _ (ready-begun _))
 
 -- the stretch of a landmark that is not the last
 piece : (xs : List _) (first unused : _) (i : IsSound xs first unused) (marks : List Landmark)
@@ -30,9 +30,8 @@ piece xs first unused i marks a index last runs l h t =
     let f = mark-first above_all marks (index + 1) no_mark (omega (arith, l, h)) in
     let r = mark-rises xs first unused i marks a index (omega (arith, l, h)) in
     subst (λ t. IsStretch Runs t (get_or marks index no_mark).at (get_or marks (index + 1) no_mark).at xs) t
-    (stretch-of xs first unused i marks a index (omega (arith, l, h)) Runs (get_or marks (index + 1) no_mark).at
-    (mark-edge xs first unused i marks a (index + 1) (omega (arith, l, h))) (omega (arith, f, r)) (omega (arith, f))
-    (inl (sym f)))
+    (stretch-of _ _ _ i marks a index (omega (arith, l, h)) Runs _
+    (mark-edge _ _ _ i _ a _ (omega (arith, l, h))) (omega (arith, f, r)) (omega (arith, f)) (inl (sym f)))
 
 -- no sum is too high
 fits : (xs : List _) (first unused : _) (i : IsSound xs first unused) (marks : List Landmark)
@@ -41,18 +40,17 @@ fits : (xs : List _) (first unused : _) (i : IsSound xs first unused) (marks : L
     → IsPassed (begun 0 0) (get_or marks index no_mark).at xs below
     → (suffix below.runs + prefix runs < 2 ^ 32) × (below.free + load runs < 2 ^ 32)
 fits xs first unused i marks a index last runs below l h t q =
-    passed-fits xs first unused i (begun 0 0) (ready-begun xs) (get_or marks index no_mark).at
-    (get_or marks (index + 1) no_mark).at below q runs (piece xs first unused i marks a index last runs l h t)
+    passed-fits _ _ _ i _ (ready-begun _) _ _ _ q _ (piece _ _ _ i _ a _ _ _ l h t)
 
 pub pass_known-below-requires-clause-joins : goal.pass_known-below-requires-clause-joins
 pass_known-below-requires-clause-joins c = let i = c.requires.sound in
-    (fits c.args.part.now.bytes i.0 i.1 i.2 c.args.marks.now c.requires.marks c.loop-index.index c.args.last c.in-Known.runs
-    c.loop-index.below c.requires.inside c.loop-index-test.true c.in-Known.is c.loop-index.invariant).0
+    (fits _ _ _ i.2 _ c.requires.marks _ _ _
+    _ c.requires.inside c.loop-index-test.true c.in-Known.is c.loop-index.invariant).0
 
 pub pass_known-below-requires-clause-sums : goal.pass_known-below-requires-clause-sums
 pass_known-below-requires-clause-sums c = let i = c.requires.sound in
-    (fits c.args.part.now.bytes i.0 i.1 i.2 c.args.marks.now c.requires.marks c.loop-index.index c.args.last c.in-Known.runs
-    c.loop-index.below c.requires.inside c.loop-index-test.true c.in-Known.is c.loop-index.invariant).1
+    (fits _ _ _ i.2 _ c.requires.marks _ _ _
+    _ c.requires.inside c.loop-index-test.true c.in-Known.is c.loop-index.invariant).1
 
 pub loop-index-preserved : goal.loop-index-preserved
 loop-index-preserved c =
@@ -60,7 +58,6 @@ loop-index-preserved c =
     let xs = c.args.part.now.bytes in
     let l = c.requires.inside in
     let h = c.loop-index-test.true in
-    let p = piece xs i.0 i.1 i.2 c.args.marks.now c.requires.marks c.loop-index.index c.args.last c.in-Known.runs
-    l h c.in-Known.is in
+    let p = piece _ _ _ i.2 _ c.requires.marks _ _ _ l h c.in-Known.is in
     c.pass_known-below.ensures xs (begun 0 0) p.0 c.loop-index.invariant
-    (mark-edge xs i.0 i.1 i.2 c.args.marks.now c.requires.marks c.loop-index.index (omega (arith, l, h))) p.1 p.2
+    (mark-edge _ _ _ i.2 _ c.requires.marks _ (omega (arith, l, h))) p.1 p.2

@@ -3,19 +3,17 @@ use Rattle.zone_marks.proofs.Searches.Begun.{open-begun, open-farther, open-few}
 use Rattle.zone_marks.proofs.beginning.open_run.Goals as goal
 
 pub run_up_to-run-requires-clause-run : goal.run_up_to-run-requires-clause-run
-run_up_to-run-requires-clause-run c = open-begun c.args.part.now.bytes c.run_above-begins.result c.run_above-begins.ensures
+run_up_to-run-requires-clause-run c = open-begun _ _ c.run_above-begins.ensures
 
 pub returns-clause-open : goal.returns-clause-open
 returns-clause-open c =
     let b = c.requires.below in
-    open-farther c.args.part.now.bytes c.run_up_to-run.result c.run_up_to-run.ensures c.args.below.end c.args.at
-    c.args.below.free b.high c.if-run-below.false b.high_piece b.goes_on
+    open-farther _ _ c.run_up_to-run.ensures _ _ _ _ c.if-run-below.false b.high_piece b.goes_on
 
 pub overflow_add-result : goal.overflow_add-result
 overflow_add-result c =
     let b = c.requires.below in
     let r = c.run_up_to-run.result in
-    let l = open-few c.args.part.now.bytes (record { start = r.start; free = r.free + c.args.below.free; at = c.args.at })
-    (open-farther c.args.part.now.bytes r c.run_up_to-run.ensures c.args.below.end c.args.at c.args.below.free b.high
+    let l = open-few _ _ (open-farther _ r c.run_up_to-run.ensures _ _ _ _
     c.if-run-below.false b.high_piece b.goes_on) in
     omega (arith, l)

@@ -12,12 +12,10 @@ pub returns-then-span : goal.returns-then-span
 returns-then-span c =
     let i = c.requires.sound in
     let s = c.span_at-span in
-    inr (run-here c.args.part.now.bytes i.0 i.1 i.2 c.loop-place.place s.result.end s.result.free s.result.barrier
-    c.loop-place.invariant s.ensures c.if-span.true)
+    inr (run-here _ _ _ i.2 _ _ _ _ c.loop-place.invariant s.ensures c.if-span.true)
 
 pub loop-place-preserved : goal.loop-place-preserved
 loop-place-preserved c =
     let i = c.requires.sound in
     let s = c.span_at-span in
-    edge-above c.args.part.now.bytes i.0 i.1 i.2 c.loop-place.place s.result.end s.result.free s.result.barrier
-    c.loop-place.invariant s.ensures
+    edge-above _ _ _ i.2 _ _ _ _ c.loop-place.invariant s.ensures

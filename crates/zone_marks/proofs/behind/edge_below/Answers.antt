@@ -10,6 +10,6 @@ pub returns-clause-low : goal.returns-clause-low
 returns-clause-low c =
     let xs = c.args.part.now.bytes in
     let i = c.requires.sound in
-    if-spot (spot (is_relocatable c.args.slot) (zone_in xs)) (λ s. c.below.result ≤ sizes s.below) (λ s e.
+    if-spot _ (λ s. c.below.result ≤ sizes s.below) (λ s e.
     let l = led-slot xs i.0 i.1 i.2 c.args.slot s e in
     omega (arith, led-place xs i.0 i.1 i.2 c.args.slot s e, c.word_of_slot.ensures l.0 l.1))

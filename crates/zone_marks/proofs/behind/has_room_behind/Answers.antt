@@ -16,7 +16,7 @@ pub returns : goal.returns
 returns c =
     let i = c.requires.sound in
     let e = c.edge_below-from in
-    sought c.args.part.now.bytes i.0 i.1 i.2 e.result e.ensures.begins (is_relocatable c.args.slot)
+    sought _ _ _ i.2 _ e.ensures.begins (is_relocatable c.args.slot)
     (λ above. c.room_above_in.result ≡ is_some (taken c.args.bytes above)) e.ensures.low
     (subst (λ l. IfSome (spot (is_relocatable c.args.slot) l)
     (λ (s : Spot). c.room_above_in.result ≡ is_some (taken c.args.bytes s.above))) c.walk_from.ensures

@@ -21,13 +21,12 @@ edge_begins c = elim c.within-first.ensures.one [
 
 pub walk_from-requires : goal.walk_from-requires
 walk_from-requires c = let i = c.requires.sound in
-    begins-way c.args.part.now.bytes i.0 i.1 i.2 c.within-first.result
-    (edge_begins (goal.at.walk_from-requires c).After-within-first)
+    begins-way _ _ _ i.2 c.within-first.result (edge_begins (goal.at.walk_from-requires c).After-within-first)
 
 pub count_in-requires : goal.count_in-requires
 count_in-requires c =
     let i = c.requires.sound in
-    let l = left-long c.args.part.now.bytes i.0 i.1 i.2 c.within-first.result
+    let l = left-long _ _ _ i.2 c.within-first.result
     (edge_begins (goal.at.count_in-requires c).After-within-first) in
     omega (arith, l, ap sizes c.walk_from.ensures)
 
@@ -38,7 +37,7 @@ returns-clause-is c = λ low rest is at.
     let w = c.within-first.ensures in
     c.count_in.ensures.is
     ∙ ap (λ l. count_within (spared n) (c.args.run - c.within-first.result) (opened n l)) c.walk_from.ensures
-    ∙ count-below c.args.part.now.bytes i.0 i.1 i.2 c.args.from c.within-first.result c.args.run n low rest
+    ∙ count-below _ _ _ i.2 _ _ _ n low rest
     (edge_begins (goal.at.returns-clause-is c).After-within-first) w.least c.requires.none w.low is at
 
 pub returns-clause-few : goal.returns-clause-few
@@ -49,7 +48,6 @@ returns-clause-few c =
     let s = seen-from c.args.part.now.bytes i.0 i.1 i.2 c.args.run c.requires.run in
     let is = c.count_in.ensures.is
     ∙ ap (λ l. count_within (spared n) (c.args.run - c.within-first.result) (opened n l)) c.walk_from.ensures
-    ∙ count-below c.args.part.now.bytes i.0 i.1 i.2 c.args.from c.within-first.result c.args.run n s.below
-    (left_in c.args.run c.args.part.now.bytes)
+    ∙ count-below _ _ _ i.2 _ _ _ n _ _
     (edge_begins (goal.at.returns-clause-few c).After-within-first) w.least c.requires.none w.low s.is s.low in
     omega (arith, is, count-few (spared n) (opened n s.below), sizes-opened n s.below, s.low)

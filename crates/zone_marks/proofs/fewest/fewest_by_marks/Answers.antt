@@ -14,10 +14,10 @@ use Rattle.zone_marks.proofs.fewest.fewest_by_marks.Goals.{Start}
 use Rattle.zone_marks.proofs.fewest.fewest_by_marks.Goals as goal
 
 first : (c : Start) → IsFirst c.args.bytes c.args.sparing (zone_in c.args.part.now.bytes) c.args.run
-first c = first-is c.args.bytes c.args.run c.args.sparing (zone_in c.args.part.now.bytes) c.requires.run c.requires.unserved
+first c = first-is _ _ _ _ c.requires.run c.requires.unserved
 
 run_begins : (c : Start) → Begins c.args.run 0 (zone_in c.args.part.now.bytes)
-run_begins c = let f = first c in run-begins c.args.part.now.bytes c.args.run f.low f.rest f.is f.at
+run_begins c = let f = first c in run-begins _ _ _ _ f.is f.at
 
 pub count_below-below-requires-clause-run : goal.count_below-below-requires-clause-run
 count_below-below-requires-clause-run c = run_begins (goal.at.count_below-below-requires-clause-run c).Start
@@ -32,15 +32,13 @@ walk_from-requires c = let i = c.requires.sound in
 pub count_for-requires : goal.count_for-requires
 count_for-requires c =
     let i = c.requires.sound in
-    let l = left-long c.args.part.now.bytes i.0 i.1 i.2 c.args.run
-    (run_begins (goal.at.count_for-requires c).Start) in
+    let l = left-long _ _ _ i.2 c.args.run (run_begins (goal.at.count_for-requires c).Start) in
     omega (arith, l, ap sizes c.walk_from.ensures)
 
 pub overflow_add-result : goal.overflow_add-result
 overflow_add-result c =
     let i = c.requires.sound in
-    let r = left-long c.args.part.now.bytes i.0 i.1 i.2 c.args.run
-    (run_begins (goal.at.overflow_add-result c).Start) in
+    let r = left-long _ _ _ i.2 c.args.run (run_begins (goal.at.overflow_add-result c).Start) in
     omega (arith, r, ap sizes c.walk_from.ensures, c.count_below-below.ensures.few, c.count_for.ensures.few)
 
 pub returns : goal.returns

@@ -17,25 +17,23 @@ use Rattle.zone_marks.proofs.Searches.Pieces.{left-long}
 use Rattle.zone_marks.proofs.fewest.fewest_for_block.Goals as goal
 
 pub walk_from-requires : goal.walk_from-requires
-walk_from-requires c = let i = c.requires.sound in on-way c.args.part.now.bytes i.0 i.1 i.2
+walk_from-requires c = let i = c.requires.sound in on-way _ _ _ i.2
 
 pub run_of_in-requires : goal.run_of_in-requires
-run_of_in-requires c =
-    omega (arith, ap sizes c.walk_from.ensures, sizes-fit)
+run_of_in-requires c = omega (arith, ap sizes c.walk_from.ensures, sizes-fit)
 
 pub returns-in_default : goal.returns-in_default
 returns-in_default c =
     let xs = c.args.part.now.bytes in
-    no-run-of c.args.number c.args.bytes c.args.sparing (zone_in xs) (c.requires.whole (zone_in xs)) c.requires.spared
+    no-run-of _ _ _ _ (c.requires.whole (zone_in xs)) c.requires.spared
     (subst (λ z. FindsLowestRun (λ run. has (is_relocatable c.args.number) run && has_free 0 run)
-    (tidy z) None) (c.walk_from.ensures ∙ left-zone xs) c.in_default.ensures)
+    (tidy z) None) (c.walk_from.ensures ∙ left-zone _) c.in_default.ensures)
 
 pub free_at-free-requires-clause-begins : goal.free_at-free-requires-clause-begins
 free_at-free-requires-clause-begins c =
     let xs = c.args.part.now.bytes in
-    let r = block-run xs c.args.number c.args.bytes c.in-Some.run' c.args.sparing
-    c.walk_from.result (c.walk_from.ensures ∙ left-zone xs) c.requires.once c.requires.spared c.requires.whole
-    c.in-Some.ensures in
+    let r = block-run _ c.args.number c.args.bytes _ _
+    _ (c.walk_from.ensures ∙ left-zone _) c.requires.once c.requires.spared c.requires.whole c.in-Some.ensures in
     run-begins xs c.in-Some.run' r.low r.rest r.is r.at
 
 pub returns-then-bytes-free : goal.returns-then-bytes-free
@@ -43,9 +41,8 @@ returns-then-bytes-free c =
     let i = c.requires.sound in
     let xs = c.args.part.now.bytes in
     let run = c.in-Some.run' in
-    let r = block-run xs c.args.number c.args.bytes c.in-Some.run' c.args.sparing
-    c.walk_from.result (c.walk_from.ensures ∙ left-zone xs) c.requires.once c.requires.spared c.requires.whole
-    c.in-Some.ensures in
+    let r = block-run _ _ _ _ _
+    _ (c.walk_from.ensures ∙ left-zone _) c.requires.once c.requires.spared c.requires.whole c.in-Some.ensures in
     let left = left-above xs i.0 i.1 i.2 r.low r.rest run r.is r.at in
     let now = c.free_at-free.ensures ∙ ap (λ l. prefix (stretch_of l)) (c.requires.whole (left_in run xs) ∙ left) in
     enough-now c.args.number c.args.bytes c.args.sparing (zone_in xs) run r (omega (arith, now, c.if-bytes-free.true))
@@ -54,18 +51,16 @@ pub walk_from-requires-2 : goal.walk_from-requires-2
 walk_from-requires-2 c =
     let i = c.requires.sound in
     let xs = c.args.part.now.bytes in
-    let r = block-run xs c.args.number c.args.bytes c.in-Some.run' c.args.sparing
-    c.walk_from.result (c.walk_from.ensures ∙ left-zone xs) c.requires.once c.requires.spared c.requires.whole
-    c.in-Some.ensures in
+    let r = block-run _ c.args.number c.args.bytes _ _
+    _ (c.walk_from.ensures ∙ left-zone _) c.requires.once c.requires.spared c.requires.whole c.in-Some.ensures in
     begins-way xs i.0 i.1 i.2 c.in-Some.run' (run-begins xs c.in-Some.run' r.low r.rest r.is r.at)
 
 pub count_in_run-requires : goal.count_in_run-requires
 count_in_run-requires c =
     let i = c.requires.sound in
     let xs = c.args.part.now.bytes in
-    let r = block-run xs c.args.number c.args.bytes c.in-Some.run' c.args.sparing
-    c.walk_from.result (c.walk_from.ensures ∙ left-zone xs) c.requires.once c.requires.spared c.requires.whole
-    c.in-Some.ensures in
+    let r = block-run _ c.args.number c.args.bytes _ _
+    _ (c.walk_from.ensures ∙ left-zone _) c.requires.once c.requires.spared c.requires.whole c.in-Some.ensures in
     let l = left-long xs i.0 i.1 i.2 c.in-Some.run' (run-begins xs c.in-Some.run' r.low r.rest r.is r.at) in
     omega (arith, l, ap sizes c.walk_from-2.ensures)
 
@@ -74,32 +69,29 @@ returns-in_default-count_in_run c =
     let i = c.requires.sound in
     let xs = c.args.part.now.bytes in
     let run = c.in-Some.run' in
-    let r = block-run xs c.args.number c.args.bytes c.in-Some.run' c.args.sparing
-    c.walk_from.result (c.walk_from.ensures ∙ left-zone xs) c.requires.once c.requires.spared c.requires.whole
-    c.in-Some.ensures in
+    let r = block-run _ _ _ _ _
+    _ (c.walk_from.ensures ∙ left-zone _) c.requires.once c.requires.spared c.requires.whole c.in-Some.ensures in
     let left = left-above xs i.0 i.1 i.2 r.low r.rest run r.is r.at in
     let now = c.free_at-free.ensures ∙ ap (λ l. prefix (stretch_of l)) (c.requires.whole (left_in run xs) ∙ left) in
     let sp = spared c.args.sparing in
     let own = ap (λ k. run_purges_for sp 0 (c.args.bytes - k) c.walk_from-2.result) now
     ∙ ap (λ l. run_purges_for sp 0 (c.args.bytes - prefix (stretch_of r.rest)) l) (c.walk_from-2.ensures ∙ left) in
-    never-enough c.args.number c.args.bytes c.args.sparing (zone_in xs) run r (omega (arith, now, c.if-bytes-free.false))
+    never-enough _ _ _ _ _ r (omega (arith, now, c.if-bytes-free.false))
     (sym (c.in_default-count_in_run.ensures.is ∙ own))
 
 pub count_below-requires-clause-run : goal.count_below-requires-clause-run
 count_below-requires-clause-run c =
     let xs = c.args.part.now.bytes in
-    let r = block-run xs c.args.number c.args.bytes c.in-Some.run' c.args.sparing
-    c.walk_from.result (c.walk_from.ensures ∙ left-zone xs) c.requires.once c.requires.spared c.requires.whole
-    c.in-Some.ensures in
+    let r = block-run _ c.args.number c.args.bytes _ _
+    _ (c.walk_from.ensures ∙ left-zone _) c.requires.once c.requires.spared c.requires.whole c.in-Some.ensures in
     run-begins xs c.in-Some.run' r.low r.rest r.is r.at
 
 pub overflow_add-result : goal.overflow_add-result
 overflow_add-result c =
     let i = c.requires.sound in
     let xs = c.args.part.now.bytes in
-    let r = block-run xs c.args.number c.args.bytes c.in-Some.run' c.args.sparing
-    c.walk_from.result (c.walk_from.ensures ∙ left-zone xs) c.requires.once c.requires.spared c.requires.whole
-    c.in-Some.ensures in
+    let r = block-run _ c.args.number c.args.bytes _ _
+    _ (c.walk_from.ensures ∙ left-zone _) c.requires.once c.requires.spared c.requires.whole c.in-Some.ensures in
     let l = left-long xs i.0 i.1 i.2 c.in-Some.run' (run-begins xs c.in-Some.run' r.low r.rest r.is r.at) in
     let e = ap sizes c.walk_from-2.ensures in
     omega (arith, l, e, c.count_below.ensures.few, c.in-Some-count_in_run.ensures.few)
@@ -109,9 +101,8 @@ returns c =
     let i = c.requires.sound in
     let xs = c.args.part.now.bytes in
     let run = c.in-Some.run' in
-    let r = block-run xs c.args.number c.args.bytes c.in-Some.run' c.args.sparing
-    c.walk_from.result (c.walk_from.ensures ∙ left-zone xs) c.requires.once c.requires.spared c.requires.whole
-    c.in-Some.ensures in
+    let r = block-run _ _ _ _ _
+    _ (c.walk_from.ensures ∙ left-zone _) c.requires.once c.requires.spared c.requires.whole c.in-Some.ensures in
     let left = left-above xs i.0 i.1 i.2 r.low r.rest run r.is r.at in
     let now = c.free_at-free.ensures ∙ ap (λ l. prefix (stretch_of l)) (c.requires.whole (left_in run xs) ∙ left) in
     let sp = spared c.args.sparing in
@@ -119,6 +110,5 @@ returns c =
     ∙ ap (λ l. run_purges_for sp 0 (c.args.bytes - prefix (stretch_of r.rest)) l) (c.walk_from-2.ensures ∙ left) in
     let below = c.count_below.ensures.is r.low r.rest r.is r.at ∙ ap (count_of sp) (c.requires.whole r.low) in
     subst (λ k. IsFewest (serves_block c.args.number c.args.bytes c.args.sparing (zone_in xs))
-    (k + c.in-Some-count_in_run.own)) (sym below)
-    (fewest-of c.args.number c.args.bytes c.args.sparing (zone_in xs) run r c.in-Some-count_in_run.own
+    (k + c.in-Some-count_in_run.own)) (sym below) (fewest-of _ _ _ _ _ r _
     (omega (arith, now, c.if-bytes-free.false)) (sym (c.in-Some-count_in_run.ensures.is ∙ own)))

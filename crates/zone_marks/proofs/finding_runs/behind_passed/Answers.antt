@@ -11,8 +11,7 @@ use Rattle.zone_summary.specs.Stretches.{is_ended}
 use Rattle.zone_summary.proofs.Searching.{whole-open}
 
 pub returns-in-Whole : goal.returns-in-Whole
-returns-in-Whole c = known-open c.args.bytes c.args.part.now.bytes c.args.scan c.requires.ready c.args.at c.args.passed
-    c.requires.passed c.requires.short c.in-Whole.free c.in-Whole.is
+returns-in-Whole c = known-open _ _ _ c.requires.ready _ _ c.requires.passed c.requires.short _ c.in-Whole.is
 
 pub scan_up_to-walked-requires-clause-way : goal.scan_up_to-walked-requires-clause-way
 scan_up_to-walked-requires-clause-way c =
@@ -32,9 +31,8 @@ walked c =
     let b = c.requires.passed.barred (ap is_ended c.in-Ended.is) in
     let answer = finds_from c.args.bytes c.args.scan xs in
     let r = c.scan_up_to-walked in
-    scanned c.args.bytes answer xs i.0 i.1 i.2 p.barred p.end c.begun_at-begun.result r.result b.mid
-    (subst (IsKnown c.args.bytes answer p.barred xs) (sym c.begun_at-begun.ensures)
-    (known-barred c.args.bytes xs c.args.scan c.requires.ready c.args.at p c.requires.passed c.requires.short b))
+    scanned _ _ _ _ _ i.2 _ _ _ _ _ (subst (IsKnown c.args.bytes answer p.barred xs) (sym c.begun_at-begun.ensures)
+    (known-barred _ _ _ c.requires.ready _ p c.requires.passed c.requires.short b))
     b.piece r.ensures.same r.ensures.begins r.ensures.free r.ensures.met r.ensures.left r.ensures.stays r.ensures.came
     r.ensures.up_to
 

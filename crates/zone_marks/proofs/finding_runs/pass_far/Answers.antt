@@ -16,6 +16,5 @@ pass_up_to-requires-clause-stretch c = λ next b.
     let xs = c.args.part.now.bytes in
     let l = c.requires.inside in
     subst (λ p. IsStretch Runs (get_or c.args.marks.now c.args.reached.index no_mark).tally.runs p next xs)
-    (sym (c.requires.come.1.here l))
-    (next-stretch xs i.0 i.1 i.2 Runs c.args.marks.now c.requires.marks c.args.reached.index next (length xs) l refl b.either
+    (sym (c.requires.come.1.here l)) (next-stretch _ _ i.1 i.2 Runs _ c.requires.marks _ _ _ l refl b.either
     b.low b.least)

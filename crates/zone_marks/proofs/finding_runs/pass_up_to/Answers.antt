@@ -10,8 +10,7 @@ use Rattle.zone_marks.proofs.finding_runs.pass_up_to.Goals.{After-within-next}
 up-to : (c : After-within-next) → IsBefore c.args.behind c.args.marks.now c.args.part.now.bytes c.within-next.result
 up-to c =
     let w = c.within-next.ensures in
-    before c.args.marks.now c.args.behind c.within-next.result c.place_of_mark.result c.len.result c.args.part.now.bytes
-    c.place_of_mark.ensures c.len.ensures.count w.one w.low w.least
+    before _ _ _ _ _ _ c.place_of_mark.ensures c.len.ensures.count w.one w.low w.least
 
 pub pass_stretch-requires : goal.pass_stretch-requires
 pass_stretch-requires c = record {
@@ -20,8 +19,8 @@ pass_stretch-requires c = record {
       let xs = c.args.part.now.bytes in
       let d = (goal.at.pass_stretch-requires c).After-within-next in
       let h = c.requires.come.1 in
-      passed-fits xs i.0 i.1 i.2 c.requires.come.0 h.ready c.args.reached.at c.within-next.result c.args.reached.passed h.passed
-      runs (subst (λ t. IsStretch Runs t c.args.reached.at c.within-next.result xs) e
+      passed-fits _ _ _ i.2 _ h.ready _ _ _ h.passed
+      _ (subst (λ t. IsStretch Runs t c.args.reached.at c.within-next.result xs) e
       (c.requires.stretch c.within-next.result (up-to d)));
 }
 

@@ -4,9 +4,8 @@ use Rattle.zone_marks.proofs.finding_runs.past_open.Goals as goal
 
 pub returns-then-is_found : goal.returns-then-is_found
 returns-then-is_found c = λ answer at xs here k p n f.
-    known-found c.args.bytes answer xs at c.args.next c.args.scan k (sym c.is_found.ensures ∙ c.if-is_found.true)
+    known-found _ _ _ _ _ _ k (sym c.is_found.ensures ∙ c.if-is_found.true)
 
 pub returns : goal.returns
-returns c = λ answer at xs here k p n f.
-    known-through c.args.bytes answer xs at c.args.next c.args.free c.args.scan here k
-    (not-found c.args.bytes answer xs at c.args.scan k (sym c.is_found.ensures ∙ c.if-is_found.false)) p n f
+returns c = λ answer at xs here k p n f. known-through _ _ _ _ _ _ _ _ k
+    (not-found _ _ _ _ _ k (sym c.is_found.ensures ∙ c.if-is_found.false)) p n f

@@ -23,5 +23,5 @@ returns c =
     let xs = c.args.part.now.bytes in
     let v = c.loop-reached.invariant in
     let r = c.loop-reached.reached in
-    sym (passed-all c.args.bytes xs c.args.scan c.requires.ready r.at r.passed v.come.passed v.short
-    (left-none r.at xs (begins-way xs i.0 i.1 i.2 r.at v.come.edge) (v.come.end c.loop-reached-test.false)))
+    sym (passed-all _ _ _ c.requires.ready _ _ v.come.passed v.short
+    (left-none _ _ (begins-way _ _ _ i.2 _ v.come.edge) (v.come.end c.loop-reached-test.false)))

@@ -25,8 +25,7 @@ bounds c = subst (λ q. (c.within-at.result ≡ q) ⊎ (c.within-at.result ≡ c
 edge : (c : After-within-at) → Begins c.within-at.result 0 (zone_in c.args.part.now.bytes)
 edge c =
     let i = c.requires.sound in
-    bounded-edge c.args.part.now.bytes i.0 i.1 i.2 c.args.marks.now c.requires.marks c.index_above-first.result
-    c.within-at.result c.len.result c.len.ensures.count (bounds c) c.within-at.ensures.low
+    bounded-edge _ _ _ i.2 _ c.requires.marks _ _ _ c.len.ensures.count (bounds c) c.within-at.ensures.low
 
 higher : (c : After-within-at) → c.args.begun.place ≤ c.within-at.result
 higher c =
@@ -46,42 +45,37 @@ there c =
     let s = c.args.begun in
     let r = c.scan_up_to-scan.ensures in
     let p = piece-of xs i.0 i.1 i.2 s.place c.within-at.result c.requires.ready.begins (edge c.before) (higher c.before) in
-    scanned c.args.bytes (finds_from c.args.bytes s xs) xs i.0 i.1 i.2 s.place c.within-at.result s
-    c.scan_up_to-scan.result p.0 (ready-known c.args.bytes xs s c.requires.ready) p.1 r.same r.begins r.free r.met r.left
+    scanned _ _ _ _ _ i.2 _ _ s _ _ (ready-known _ _ s c.requires.ready) p.1 r.same r.begins r.free r.met r.left
     r.stays r.came r.up_to
 
 pub returns-then-is_found : goal.returns-then-is_found
 returns-then-is_found c =
     let xs = c.args.part.now.bytes in
-    sym (known-start c.args.bytes (finds_from c.args.bytes c.args.begun xs) xs c.within-at.result c.scan_up_to-scan.result
+    sym (known-start _ _ _ _ c.scan_up_to-scan.result
     (there (goal.at.returns-then-is_found c).After-scan_up_to-scan) (sym c.is_found.ensures ∙ c.if-is_found.true))
 
 pub reach_run-requires-clause-ready : goal.reach_run-requires-clause-ready
-reach_run-requires-clause-ready c = known-ready c.args.bytes (finds_from c.args.bytes c.args.begun c.args.part.now.bytes)
-    c.within-at.result c.args.part.now.bytes c.scan_up_to-scan.result
+reach_run-requires-clause-ready c = known-ready _ _ _ _ c.scan_up_to-scan.result
     (there (goal.at.reach_run-requires-clause-ready c).After-scan_up_to-scan)
 
 pub reach_run-requires-clause-short : goal.reach_run-requires-clause-short
 reach_run-requires-clause-short c =
-    short-of c.scan_up_to-scan.result.met c.args.bytes c.scan_up_to-scan.result.free c.scan_up_to-scan.ensures.met
-    (sym c.is_found.ensures ∙ c.if-is_found.false)
+    short-of _ _ _ c.scan_up_to-scan.ensures.met (sym c.is_found.ensures ∙ c.if-is_found.false)
 
 pub reach_run-requires-clause-here : goal.reach_run-requires-clause-here
 reach_run-requires-clause-here c = λ l.
     let i = c.requires.sound in
     let d = (goal.at.reach_run-requires-clause-here c).After-scan_up_to-scan in
-    not-found c.args.bytes (finds_from c.args.bytes c.args.begun c.args.part.now.bytes) c.args.part.now.bytes
-    c.within-at.result c.scan_up_to-scan.result (there d) (sym c.is_found.ensures ∙ c.if-is_found.false)
-    ∙ bounded-mark c.args.part.now.bytes i.0 i.1 i.2 c.args.marks.now c.requires.marks c.index_above-first.result
+    not-found _ _ _ _ _ (there d) (sym c.is_found.ensures ∙ c.if-is_found.false)
+    ∙ bounded-mark _ _ _ i.2 _ c.requires.marks c.index_above-first.result
     c.within-at.result c.len.result c.len.ensures.count (bounds d.before) (omega arith) l
 
 pub reach_run-requires-clause-end : goal.reach_run-requires-clause-end
 reach_run-requires-clause-end c = λ l.
     let i = c.requires.sound in
     let d = (goal.at.reach_run-requires-clause-end c).After-scan_up_to-scan in
-    let s = not-found c.args.bytes (finds_from c.args.bytes c.args.begun c.args.part.now.bytes) c.args.part.now.bytes
-    c.within-at.result c.scan_up_to-scan.result (there d) (sym c.is_found.ensures ∙ c.if-is_found.false) in
-    let e = bounded-end c.args.part.now.bytes i.0 i.1 i.2 c.args.marks.now c.index_above-first.result c.within-at.result
+    let s = not-found _ _ _ _ _ (there d) (sym c.is_found.ensures ∙ c.if-is_found.false) in
+    let e = bounded-end _ _ _ i.2 _ c.index_above-first.result c.within-at.result
     c.len.result c.len.ensures.count (bounds d.before) c.within-at.ensures.low l in
     omega (arith, s, e)
 

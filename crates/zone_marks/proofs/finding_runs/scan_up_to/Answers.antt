@@ -24,29 +24,23 @@ loop-scan-preserved c =
           ∙ r.scan s.here (left_in step.result.end xs) c.args.bytes s.told short
           ∙ ap (λ q. find c.scan_run-scan.result (opened c.args.sparing (left_in q xs))) (sym end);
       passed = subst (λ q. Passed xs c.args.scan.place q (λ _ _. Unit {0})) (sym end)
-          (passed-block xs scan.place step.result.block step.result.end s c.args.scan.place i.passed);
+          (passed-block _ _ _ _ s _ i.passed);
       free = r.free;
       met = r.met refl i.met;
       left = (omega arith);
       stays = λ f. let e : true ≡ false = sym (i.stays f) ∙ short in cc;
-      up_to = λ b.
-          subst (λ q. Begins c.args.to q (left_in q xs)) (sym end)
-          (edge-further xs scan.place step.result.block step.result.end s c.args.to
+      up_to = λ b. subst (λ q. Begins c.args.to q (left_in q xs)) (sym end) (edge-further _ _ _ _ s _
           (omega arith) (i.up_to b));
     }
 
 pub returns-else-not-is_found-clause-begins : goal.returns-else-not-is_found-clause-begins
-returns-else-not-is_found-clause-begins c = passed-begins c.args.part.now.bytes c.args.scan.place (λ _ _. Unit {0})
-    c.loop-scan.scan.place c.loop-scan.invariant.passed
+returns-else-not-is_found-clause-begins c = passed-begins _ _ (λ _ _. Unit {0}) _ c.loop-scan.invariant.passed
 
 pub returns-else-not-is_found-clause-up_to : goal.returns-else-not-is_found-clause-up_to
-returns-else-not-is_found-clause-up_to c = λ b. (begins-within c.args.to c.loop-scan.scan.place
-    (left_in c.loop-scan.scan.place c.args.part.now.bytes) (c.loop-scan.invariant.up_to b)).0
+returns-else-not-is_found-clause-up_to c = λ b. (begins-within _ _ _ (c.loop-scan.invariant.up_to b)).0
 
 pub returns-after-loop-scan-clause-begins : goal.returns-after-loop-scan-clause-begins
-returns-after-loop-scan-clause-begins c = passed-begins c.args.part.now.bytes c.args.scan.place (λ _ _. Unit {0})
-    c.loop-scan.scan.place c.loop-scan.invariant.passed
+returns-after-loop-scan-clause-begins c = passed-begins _ _ (λ _ _. Unit {0}) _ c.loop-scan.invariant.passed
 
 pub returns-after-loop-scan-clause-up_to : goal.returns-after-loop-scan-clause-up_to
-returns-after-loop-scan-clause-up_to c = λ b. (begins-within c.args.to c.loop-scan.scan.place
-    (left_in c.loop-scan.scan.place c.args.part.now.bytes) (c.loop-scan.invariant.up_to b)).0
+returns-after-loop-scan-clause-up_to c = λ b. (begins-within _ _ _ (c.loop-scan.invariant.up_to b)).0

@@ -15,12 +15,12 @@ pub returns-then-is_found : goal.returns-then-is_found
 returns-then-is_found c =
     let last = c.scan_up_to-last.result in
     sym (c.scan_up_to-last.ensures.same
-    ∙ scan_kept None c.args.bytes (spared c.args.sparing) last.left last.start last.free last.met last.place
-    (opened c.args.sparing (left_in last.place c.args.part.now.bytes)) (sym c.is_found.ensures ∙ c.if-is_found.true))
+    ∙ scan_kept None c.args.bytes (spared c.args.sparing) last.left last.start _ _ _
+    _ (sym c.is_found.ensures ∙ c.if-is_found.true))
 
 pub returns : goal.returns
 returns c =
     let i = c.requires.sound in
     let r = c.scan_up_to-last in
-    sym (r.ensures.same ∙ walked-out c.args.bytes c.args.sparing c.args.part.now.bytes i.0 i.1 i.2 c.args.scan r.result
+    sym (r.ensures.same ∙ walked-out _ _ _ _ _ i.2 c.args.scan r.result
     c.requires.begins r.ensures.begins r.ensures.came (sym c.is_found.ensures ∙ c.if-is_found.false))

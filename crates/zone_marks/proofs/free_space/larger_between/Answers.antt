@@ -5,22 +5,19 @@ use Rattle.zone_marks.proofs.Marks.Passing.{passed-all, past}
 use Rattle.zone_marks.proofs.free_space.larger_between.Goals as goal
 
 pub loop-at-init : goal.loop-at-init
-loop-at-init c = growing-start c.args.part.now.bytes c.args.from c.args.most c.requires
+loop-at-init c = growing-start _ _ _ c.requires
 
 pub loop-at-preserved : goal.loop-at-preserved
 loop-at-preserved c =
     let s = c.span_at-span in
     let g = c.greater-largest.ensures in
-    growing-step c.args.part.now.bytes c.args.from c.args.most c.loop-at.at s.result.end s.result.free c.loop-at.largest
-    c.greater-largest.result s.result.barrier c.loop-at.invariant s.ensures g.first g.second g.one
+    growing-step _ _ _ _ _ _ _ _ _ c.loop-at.invariant s.ensures g.first g.second g.one
 
 pub returns-clause-none : goal.returns-clause-none
 returns-clause-none c =
     let k = c.len.ensures.count in
-    passed-all c.args.part.now.bytes c.args.from (λ _ b. is_room (c.loop-at.largest + 1) b ≡ false)
-    (λ _ b. is_room (c.loop-at.largest + 1) b ≡ false) c.args.from c.args.to c.loop-at.at c.loop-at.invariant.passed
-    (λ _ b r. r)
-    (past c.args.to (length c.args.part.now.bytes) c.loop-at.at c.within-stop.result
+    passed-all _ _ (λ _ b. is_room (c.loop-at.largest + 1) b ≡ false)
+    (λ _ b. is_room (c.loop-at.largest + 1) b ≡ false) _ _ _ c.loop-at.invariant.passed (λ _ b r. r) (past _ _ _ _
     (subst (λ n. (c.within-stop.result ≡ c.args.to) ⊎ (c.within-stop.result ≡ n)) k c.within-stop.ensures.one)
     (omega arith))
 

@@ -7,14 +7,11 @@ use Rattle.zone_marks.proofs.Marks.Rooms.{stretch-room}
 use Rattle.zone_marks.proofs.free_space.larger_in_group.Goals as goal
 
 pub larger_in_stretch-largest-requires-clause-begins : goal.larger_in_stretch-largest-requires-clause-begins
-larger_in_stretch-largest-requires-clause-begins c =
-    mark-begins 4294967295 (zone_in c.args.part.now.bytes) c.args.marks.now c.loop-index.index no_mark
-    (omega arith) c.requires.marks
+larger_in_stretch-largest-requires-clause-begins c = mark-begins _ _ _ _ _ (omega arith) c.requires.marks
 
 pub larger_in_stretch-largest-requires-clause-bound : goal.larger_in_stretch-largest-requires-clause-bound
 larger_in_stretch-largest-requires-clause-bound c = λ l.
     let zone = zone_in c.args.part.now.bytes in
     let m = get_or c.args.marks.now c.loop-index.index no_mark in
     subst (λ n. AtEach (NoRoom (c.loop-index.largest + 1) m.at n) 0 zone) (sym c.place_of_mark-to.ensures)
-    (stretch-room (c.loop-index.largest + 1) zone c.args.marks.now c.loop-index.index (omega arith)
-    c.requires.marks l)
+    (stretch-room _ _ _ _ (omega arith) c.requires.marks l)

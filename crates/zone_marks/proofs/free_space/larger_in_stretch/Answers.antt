@@ -13,16 +13,14 @@ larger_between-requires c =
 pub returns-then-mark-most-clause-none : goal.returns-then-mark-most-clause-none
 returns-then-mark-most-clause-none c =
     let i = c.requires.sound in
-    none-whole c.args.part.now.bytes i.0 i.1 i.2 (c.args.most + 1) c.args.mark.at c.args.to c.requires.below
-    (c.requires.bound (omega arith))
+    none-whole _ _ _ i.2 _ _ _ c.requires.below (c.requires.bound (omega arith))
 
 pub returns-else-mark-most-clause-none : goal.returns-else-mark-most-clause-none
 returns-else-mark-most-clause-none c =
     let i = c.requires.sound in
     let xs = c.args.part.now.bytes in
     let r = c.larger_between.result in
-    none-further xs i.0 i.1 i.2 (r + 1) c.args.mark.at c.args.to c.requires.begins
-    (no-more-room (c.args.most + 1) (r + 1) 0 c.args.mark.at 0 (zone_in xs) (omega arith) c.requires.below)
+    none-further _ _ _ i.2 _ _ _ c.requires.begins (no-more-room _ _ 0 _ 0 _ (omega arith) c.requires.below)
     c.larger_between.ensures.none
 
 pub returns-else-mark-most-clause-reached : goal.returns-else-mark-most-clause-reached

@@ -18,8 +18,7 @@ walk_from-requires c =
 pub largest_after_in-above-requires : goal.largest_after_in-above-requires
 largest_after_in-above-requires c =
     let i = c.requires.sound in
-    subst (λ l. sizes l < 2 ^ 32) (sym c.walk_from.ensures)
-    (left-fits c.args.part.now.bytes i.0 i.1 i.2 c.args.from c.requires.from.begins)
+    subst (λ l. sizes l < 2 ^ 32) (sym c.walk_from.ensures) (left-fits _ _ _ i.2 _ c.requires.from.begins)
 
 pub returns : goal.returns
 returns c =
@@ -37,5 +36,5 @@ pub returns-then-purges-ge-GREATEST_ZONE : goal.returns-then-purges-ge-GREATEST_
 returns-then-purges-ge-GREATEST_ZONE c =
     let i = c.requires.sound in
     let xs = c.args.part.now.bytes in
-    c.largest_space_by_marks.ensures ∙ sym (ap largest_free (purged-most c.args.purges sparing.Nothing (zone_in xs)
-    (omega (arith, most-fits xs i.0 i.1 i.2 sparing.Nothing))))
+    c.largest_space_by_marks.ensures ∙ sym (ap largest_free (purged-most _ sparing.Nothing (zone_in xs)
+    (omega (arith, most-fits _ _ i.1 i.2 sparing.Nothing))))

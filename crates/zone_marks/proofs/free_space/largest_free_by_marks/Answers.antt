@@ -11,7 +11,7 @@ use Rattle.zone_marks.proofs.free_space.largest_free_by_marks.Goals as goal
 use Rattle.zone_marks.proofs.free_space.largest_free_by_marks.Goals.{then-largest-groups, else-largest-groups}
 
 pub larger_between-largest-requires : goal.larger_between-largest-requires
-larger_between-largest-requires c = let i = c.requires.sound in on-way c.args.part.now.bytes i.0 i.1 i.2
+larger_between-largest-requires c = let i = c.requires.sound in on-way _ _ _ i.2
 
 pub loop-group-init : goal.loop-group-init
 loop-group-init c =
@@ -20,7 +20,7 @@ loop-group-init c =
     let e = c.larger_between-largest.ensures in
     record {
       none = subst (λ p. AtEach (NoRoom (r + 1) 0 p) 0 (zone_in xs)) c.place_of_mark.ensures
-          (subst (AtEach (NoRoom (r + 1) 0 c.place_of_mark.result) 0) (left-zone xs) e.none);
+          (subst (AtEach (NoRoom (r + 1) 0 c.place_of_mark.result) 0) (left-zone _) e.none);
       reached = omega (arith, ap largest_free (left-zone xs));
     }
 
@@ -40,8 +40,8 @@ loop-group-preserved c =
       }
       | else-largest-groups w ↦ record {
         none = subst (λ m. NoneBelow (m + 1) zone marks (GROUP * (group + 1))) (sym w.largest-is)
-            (none-group xs i.0 i.1 i.2 (c.loop-group.largest + 1) marks c.requires.marks c.args.groups.now c.requires.groups
-            group c.loop-group-test.true (omega arith) c.loop-group.invariant.none);
+            (none-group _ _ _ i.2 _ _ c.requires.marks _ c.requires.groups
+            _ c.loop-group-test.true (omega arith) c.loop-group.invariant.none);
         reached = (omega arith);
       }
     ]
@@ -50,6 +50,5 @@ pub returns : goal.returns
 returns c =
     let i = c.requires.sound in
     let xs = c.args.part.now.bytes in
-    zone-largest xs i.0 i.1 i.2 c.loop-group.largest
-    (none-past (c.loop-group.largest + 1) (zone_in xs) c.args.marks.now (GROUP * c.loop-group.group)
+    zone-largest _ _ _ i.2 _ (none-past _ _ c.args.marks.now (GROUP * c.loop-group.group)
     (omega arith) c.loop-group.invariant.none) c.loop-group.invariant.reached

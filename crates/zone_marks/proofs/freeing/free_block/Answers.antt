@@ -3,8 +3,8 @@ use Rattle.zone_marks.proofs.Joined.Released.{leads-up, stop-way, stop-more, fre
 use Rattle.zone_marks.proofs.freeing.free_block.Goals as goal
 
 pub last_free_below-start-requires-clause-up : goal.last_free_below-start-requires-clause-up
-last_free_below-start-requires-clause-up c = leads-up c.requires.0 c.args.place c.args.part.now.bytes c.requires.1
-    c.below-from.result (c.below-from.ensures.begins _ c.requires.2) c.below-from.ensures.below
+last_free_below-start-requires-clause-up c = leads-up _ _ _ c.requires.1
+    _ (c.below-from.ensures.begins _ c.requires.2) c.below-from.ensures.below
 
 pub last_free_below-start-requires-clause-inside : goal.last_free_below-start-requires-clause-inside
 last_free_below-start-requires-clause-inside c = let i =
@@ -23,25 +23,22 @@ join_above-requires c =
     let xs = c.args.part.now.bytes in
     let r = c.last_free_below-start in
     let u = c.free_up-end in
-    let t = u.ensures.end (lower f c.args.place xs c.requires.1 r.result r.ensures)
-    (may-free f c.args.place xs c.requires.1 r.result r.ensures) in (
+    let t = u.ensures.end (lower f _ _ c.requires.1 _ r.ensures) (may-free f _ _ c.requires.1 _ r.ensures) in (
       freed f c.args.place xs c.requires.1 r.result r.ensures,
-      may-join f c.args.place xs c.requires.1 r.result
-          r.ensures u.result t u.new.part.bytes u.ensures.lays,
+      may-join f _ _ c.requires.1 _ r.ensures _ t _ u.ensures.lays,
     )
 
 pub overflow_sub-result : goal.overflow_sub-result
 overflow_sub-result c =
     let r = c.last_free_below-start in
-    let t = c.free_up-end.ensures.end (lower c.requires.0 c.args.place c.args.part.now.bytes c.requires.1 r.result
-    r.ensures) (may-free c.requires.0 c.args.place c.args.part.now.bytes c.requires.1 r.result r.ensures) in
+    let t = c.free_up-end.ensures.end (lower _ _ _ c.requires.1 _
+    r.ensures) (may-free _ _ _ c.requires.1 _ r.ensures) in
     omega (arith, t)
 
 pub returns-clause-bytes : goal.returns-clause-bytes
 returns-clause-bytes c = λ f m.
     let r = c.last_free_below-start in
-    let t = c.free_up-end.ensures.end (lower f c.args.place c.args.part.now.bytes m r.result r.ensures)
-    (may-free f c.args.place c.args.part.now.bytes m r.result r.ensures) in
+    let t = c.free_up-end.ensures.end (lower f _ _ m _ r.ensures) (may-free f _ _ m _ r.ensures) in
     omega (arith, t)
 
 pub returns-clause-lays : goal.returns-clause-lays
@@ -49,20 +46,16 @@ returns-clause-lays c = λ f m.
     let xs = c.args.part.now.bytes in
     let r = c.last_free_below-start in
     let u = c.free_up-end in
-    let t = u.ensures.end (lower f c.args.place xs m r.result r.ensures)
-    (may-free f c.args.place xs m r.result r.ensures) in
-    released f c.args.place xs m r.result r.ensures u.result t u.new.part.bytes u.ensures.lays
-    c.join_above.new.part.bytes c.join_above.ensures.lays
+    let t = u.ensures.end (lower f _ _ m _ r.ensures) (may-free f _ _ m _ r.ensures) in
+    released f _ _ m _ r.ensures _ t _ u.ensures.lays _ c.join_above.ensures.lays
 
 pub returns-clause-replaced : goal.returns-clause-replaced
 returns-clause-replaced c = λ f m.
     let xs = c.args.part.now.bytes in
     let r = c.last_free_below-start in
     let u = c.free_up-end in
-    let t = u.ensures.end (lower f c.args.place xs m r.result r.ensures)
-    (may-free f c.args.place xs m r.result r.ensures) in
-    freed-replaced f c.args.place xs m r.result r.ensures u.result t u.new.part.bytes u.ensures.lays
-    c.free_behind-more.result c.free_behind-more.ensures
+    let t = u.ensures.end (lower f _ _ m _ r.ensures) (may-free f _ _ m _ r.ensures) in
+    freed-replaced f _ _ m _ r.ensures _ t _ u.ensures.lays _ c.free_behind-more.ensures
 
 pub free_behind-more-requires : goal.free_behind-more-requires
 free_behind-more-requires c =
@@ -70,8 +63,7 @@ free_behind-more-requires c =
     let xs = c.args.part.now.bytes in
     let r = c.last_free_below-start in
     let u = c.free_up-end in
-    let t = u.ensures.end (lower f c.args.place xs c.requires.1 r.result r.ensures)
-    (may-free f c.args.place xs c.requires.1 r.result r.ensures) in
+    let t = u.ensures.end (lower f _ _ c.requires.1 _ r.ensures) (may-free f _ _ c.requires.1 _ r.ensures) in
     stop-way f c.args.place xs c.requires.1 r.result r.ensures u.result t u.new.part.bytes u.ensures.lays
 
 pub overflow_add-result : goal.overflow_add-result
@@ -80,8 +72,6 @@ overflow_add-result c =
     let xs = c.args.part.now.bytes in
     let r = c.last_free_below-start in
     let u = c.free_up-end in
-    let t = u.ensures.end (lower f c.args.place xs c.requires.1 r.result r.ensures)
-    (may-free f c.args.place xs c.requires.1 r.result r.ensures) in
-    let k = stop-more f c.args.place xs c.requires.1 r.result r.ensures u.result t u.new.part.bytes u.ensures.lays
-    c.free_behind-more.result c.free_behind-more.ensures in
+    let t = u.ensures.end (lower f _ _ c.requires.1 _ r.ensures) (may-free f _ _ c.requires.1 _ r.ensures) in
+    let k = stop-more f _ _ c.requires.1 _ r.ensures _ t _ u.ensures.lays _ c.free_behind-more.ensures in
     omega (arith, k)

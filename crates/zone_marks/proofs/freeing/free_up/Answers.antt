@@ -33,8 +33,7 @@ make_free-requires c =
     let h = c.read_header-header.result in
     let e = c.read_header-header.ensures in
     let s = r.says h.size (tag_number h.tag) e.first e.size (tag-small h.tag) in
-    may-make c.requires.0 c.args.start c.args.at c.args.part.now.bytes c.requires.1 (c.args.at + h.size)
-    (ap (λ n. c.args.at + n) (sym s.0))
+    may-make _ _ _ _ c.requires.1 _ (ap (λ n. c.args.at + n) (sym s.0))
 
 pub write_word-requires : goal.write_word-requires
 write_word-requires c =
@@ -86,4 +85,4 @@ returns-else-eq-clause-lays c = λ f m.
     let s = r.says h.size (tag_number h.tag) e.first e.size (tag-small h.tag) in
     other-lays f c.args.start c.args.at xs m (c.args.at + h.size) (ap (λ n. c.args.at + n) (sym s.0))
     c.make_free.new.part.bytes c.make_free.ensures.lies c.make_free.ensures.outside
-    (none-led f c.args.start c.args.at xs m (omega (arith, tag-false)))
+    (none-led f _ _ _ m (omega (arith, tag-false)))

@@ -6,19 +6,17 @@ use Rattle.zone_bytes.proofs.Joined.Above.{next, joined-none, joined-other, one,
 use Rattle.zone_marks.proofs.freeing.join_above.Goals as goal
 
 pub returns-then-at-len-clause-lays : goal.returns-then-at-len-clause-lays
-returns-then-at-len-clause-lays c = λ j m. joined-none j c.args.start c.args.at c.args.part.now.bytes m (let l =
+returns-then-at-len-clause-lays c = λ j m. joined-none j _ _ _ m (let l =
     c.if-at-len.true in omega (arith, l, c.len.ensures.count))
 
 pub read_header-requires-clause-within : goal.read_header-requires-clause-within
 read_header-requires-clause-within c =
-    let n = (next c.requires.0 c.args.start c.args.at c.args.part.now.bytes c.requires.1 (let l =
+    let n = (next _ _ _ _ c.requires.1 (let l =
     c.if-at-len.false in omega (arith, l, c.len.ensures.count))).tells.next in
     (n.even, n.fits)
 
 pub read_header-requires-clause-tag : goal.read_header-requires-clause-tag
-read_header-requires-clause-tag c =
-    (next c.requires.0 c.args.start c.args.at c.args.part.now.bytes c.requires.1
-    (omega (arith, c.len.ensures.count))).tells.next.tag
+read_header-requires-clause-tag c = (next _ _ _ _ c.requires.1 (omega (arith, c.len.ensures.count))).tells.next.tag
 
 pub free_up-requires : goal.free_up-requires
 free_up-requires c =
@@ -27,8 +25,8 @@ free_up-requires c =
     let n = next c.requires.0 c.args.start c.args.at c.args.part.now.bytes c.requires.1 i in
     let h = c.read_header.result in
     let e = c.read_header.ensures in
-    let k = sym (n.tells.says h.size (tag_number h.tag) e.first e.size (tag-small h.tag)).1
-    ∙ free-true h.tag c.if-eq.ensures in (
+    let k = sym (n.tells.says h.size (tag_number h.tag) e.first e.size (tag-small _)).1
+    ∙ free-true _ c.if-eq.ensures in (
       one c.requires.0 c.args.start c.args.at c.args.part.now.bytes c.requires.1 i k,
       may-free c.requires.0 c.args.start c.args.at c.args.part.now.bytes c.requires.1 i k,
     )
@@ -40,8 +38,8 @@ returns-then-eq-clause-lays c = λ j m.
     let n = next j c.args.start c.args.at c.args.part.now.bytes m i in
     let h = c.read_header.result in
     let e = c.read_header.ensures in
-    let k = sym (n.tells.says h.size (tag_number h.tag) e.first e.size (tag-small h.tag)).1
-    ∙ free-true h.tag c.if-eq.ensures in
+    let k = sym (n.tells.says h.size (tag_number h.tag) e.first e.size (tag-small _)).1
+    ∙ free-true _ c.if-eq.ensures in
     joined-two j c.args.start c.args.at c.args.part.now.bytes m i k c.free_up.new.part.bytes c.free_up.ensures.lays
 
 pub returns-else-eq-clause-lays : goal.returns-else-eq-clause-lays
@@ -51,6 +49,6 @@ returns-else-eq-clause-lays c = λ j m.
     let n = next j c.args.start c.args.at c.args.part.now.bytes m i in
     let h = c.read_header.result in
     let e = c.read_header.ensures in
-    joined-other j c.args.start c.args.at c.args.part.now.bytes m i
-    (subst (λ t. 0 < t) (n.tells.says h.size (tag_number h.tag) e.first e.size (tag-small h.tag)).1
-    (free-false h.tag c.if-eq.ensures))
+    joined-other j _ _ _ m i
+    (subst (λ t. 0 < t) (n.tells.says h.size (tag_number h.tag) e.first e.size (tag-small _)).1
+    (free-false _ c.if-eq.ensures))

@@ -20,5 +20,4 @@ pub returns : goal.returns
 returns c =
     let i = c.requires.sound in
     c.purgeable_in.ensures ∙ ap (most_purges c.args.sparing) c.walk_from.ensures
-    ∙ count-from c.args.part.now.bytes i.0 i.1 i.2 c.args.from c.requires.begins c.requires.none c.args.sparing
-    c.requires.plain
+    ∙ count-from _ _ _ i.2 _ c.requires.begins c.requires.none _ c.requires.plain

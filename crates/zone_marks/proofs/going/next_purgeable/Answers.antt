@@ -22,16 +22,14 @@ next_purgeable_in-requires c =
 pub returns-in_default : goal.returns-in_default
 returns-in_default c =
     let i = c.requires.sound in
-    next-none c.args.part.now.bytes i.0 i.1 i.2 c.args.from c.requires.begins c.requires.none c.args.sparing
-    c.requires.plain c.args.purges
+    next-none _ _ _ i.2 _ c.requires.begins c.requires.none _ c.requires.plain _
     (subst (λ l. FindsLowest (may_be_purged (spared c.args.sparing)) (purged c.args.purges c.args.sparing l) None)
     c.walk_from.ensures c.in_default.ensures)
 
 pub overflow_add-result : goal.overflow_add-result
 overflow_add-result c =
     let i = c.requires.sound in
-    let f = next-fits c.args.part.now.bytes i.0 i.1 i.2 c.args.from c.requires.begins c.requires.none c.args.sparing
-    c.requires.plain c.args.purges c.in-Some.above
+    let f = next-fits _ _ _ i.2 _ c.requires.begins c.requires.none _ c.requires.plain _ _
     (subst (λ l. FindsLowest (may_be_purged (spared c.args.sparing)) (purged c.args.purges c.args.sparing l)
     (Some c.in-Some.above)) c.walk_from.ensures c.in-Some.ensures) in
     omega (arith, f)
@@ -39,7 +37,6 @@ overflow_add-result c =
 pub returns : goal.returns
 returns c =
     let i = c.requires.sound in
-    next-some c.args.part.now.bytes i.0 i.1 i.2 c.args.from c.requires.begins c.requires.none c.args.sparing
-    c.requires.plain c.args.purges c.in-Some.above
+    next-some _ _ _ i.2 _ c.requires.begins c.requires.none _ c.requires.plain _ _
     (subst (λ l. FindsLowest (may_be_purged (spared c.args.sparing)) (purged c.args.purges c.args.sparing l)
     (Some c.in-Some.above)) c.walk_from.ensures c.in-Some.ensures)

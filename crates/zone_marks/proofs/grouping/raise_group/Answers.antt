@@ -3,7 +3,5 @@ use Rattle.zone_marks.proofs.Marks.Groups.{group-raised, unknown}
 use Rattle.zone_marks.proofs.grouping.raise_group.Goals as goal
 
 pub returns : goal.returns
-returns c = λ marks mark l a.
-    group-raised c.args.groups.now marks (c.args.index / 16) c.args.index
-    (record { most = c.greater.result; tally = unknown }) mark a (omega arith) (omega arith) (omega arith)
+returns c = λ marks mark l a. group-raised _ _ _ _ _ _ a (omega arith) (omega arith) (omega arith)
     (omega arith) (omega (arith, l)) refl

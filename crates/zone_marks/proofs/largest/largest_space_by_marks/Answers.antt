@@ -6,8 +6,8 @@ use Rattle.zone_bytes.proofs.Places.AtPlace.{left-zone}
 use Rattle.zone_marks.proofs.largest.largest_space_by_marks.Goals as goal
 
 pub stretch_above-requires-clause-begins : goal.stretch_above-requires-clause-begins
-stretch_above-requires-clause-begins c = begins-here 0 (zone_in c.args.part.now.bytes)
+stretch_above-requires-clause-begins c = begins-here 0 _
 
 pub returns : goal.returns
 returns c = c.best.ensures.space (zone_in c.args.part.now.bytes)
-    (c.stretch_above.ensures.all refl ∙ ap spaces_of (left-zone c.args.part.now.bytes))
+    (c.stretch_above.ensures.all refl ∙ ap spaces_of (left-zone _))

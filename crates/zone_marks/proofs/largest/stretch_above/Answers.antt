@@ -22,8 +22,7 @@ first c = subst (λ q. (c.within-at.result ≡ q) ⊎ (c.within-at.result ≡ c.
 
 edge_at : (c : After-within-at) → Begins c.within-at.result 0 (zone_in c.args.part.now.bytes)
 edge_at c = let i = c.requires.sound in
-    bounded-edge c.args.part.now.bytes i.0 i.1 i.2 c.args.marks.now c.requires.marks c.index_above-index.result
-    c.within-at.result c.len-end.result c.len-end.ensures.count (first c) c.within-at.ensures.low
+    bounded-edge _ _ _ i.2 _ c.requires.marks _ _ _ c.len-end.ensures.count (first c) c.within-at.ensures.low
 
 -- and the next one
 next : (c : After-within-next)
@@ -34,8 +33,7 @@ next c = subst (λ q. (c.within-next.result ≡ q) ⊎ (c.within-next.result ≡
 
 edge_next : (c : After-within-next) → Begins c.within-next.result 0 (zone_in c.args.part.now.bytes)
 edge_next c = let i = c.requires.sound in
-    bounded-edge c.args.part.now.bytes i.0 i.1 i.2 c.args.marks.now c.requires.marks c.told_from-told.result.behind
-    c.within-next.result c.len-end.result c.len-end.ensures.count (next c) c.within-next.ensures.low
+    bounded-edge _ _ _ i.2 _ c.requires.marks _ _ _ c.len-end.ensures.count (next c) c.within-next.ensures.low
 
 stretch : (c : After-within-next)
     → IsStretch c.args.counting c.told_from-told.result.tally c.loop-index.at c.within-next.result c.args.part.now.bytes
@@ -44,8 +42,7 @@ stretch c =
     let w = c.within-next.ensures in
     subst (λ q. IsStretch c.args.counting c.told_from-told.result.tally q c.within-next.result xs)
     (sym (c.loop-index.invariant.here c.loop-index-test.true))
-    (c.told_from-told.ensures.stretch c.within-next.result (before c.args.marks.now c.told_from-told.result.behind
-    c.within-next.result c.place_of_mark-in-loop-index.result c.len-end.result xs c.place_of_mark-in-loop-index.ensures
+    (c.told_from-told.ensures.stretch c.within-next.result (before _ _ _ _ _ _ c.place_of_mark-in-loop-index.ensures
     c.len-end.ensures.count w.one w.low w.least))
 
 pub walked_between-stretch-requires-clause-ends : goal.walked_between-stretch-requires-clause-ends
@@ -69,16 +66,13 @@ loop-index-init c =
       inside = c.index_above-index.ensures.index;
       few = omega (arith, known-fits c.args.counting xs c.args.from c.within-at.result c.walked_between-stretch.result c.walked_between-stretch.ensures);
       edge = edge_at d;
-      here = bounded-mark xs i.0 i.1 i.2 c.args.marks.now c.requires.marks c.index_above-index.result
-          c.within-at.result c.len-end.result c.len-end.ensures.count (first d) (omega arith);
-      end = bounded-end xs i.0 i.1 i.2 c.args.marks.now c.index_above-index.result c.within-at.result
-          c.len-end.result c.len-end.ensures.count (first d) c.within-at.ensures.low;
+      here = bounded-mark _ _ _ i.2 _ c.requires.marks _ _ _ c.len-end.ensures.count (first d) (omega arith);
+      end = bounded-end _ _ _ i.2 _ _ _ _ c.len-end.ensures.count (first d) c.within-at.ensures.low;
     }
 
 pub returns-then-suffices-clause-low : goal.returns-then-suffices-clause-low
 returns-then-suffices-clause-low c =
-    ended-lowest c.loop-index.stretch (stretch_by c.args.counting (left_in c.loop-index.at c.args.part.now.bytes))
-    (c.suffices.ensures c.if-suffices.true).1 ∙ sym (ap prefix c.loop-index.invariant.same)
+    ended-lowest _ _ (c.suffices.ensures c.if-suffices.true).1 ∙ sym (ap prefix c.loop-index.invariant.same)
 
 pub stretch_of_mark-requires-clause-ends : goal.stretch_of_mark-requires-clause-ends
 stretch_of_mark-requires-clause-ends c = edge_next (goal.at.stretch_of_mark-requires-clause-ends c).After-within-next
@@ -111,8 +105,8 @@ loop-index-preserved c =
     let rest = stretch_by c.args.counting (left_in c.within-next.result xs) in
     record {
       same = c.loop-index.invariant.same ∙ ap (join c.loop-index.stretch)
-          (known-past c.args.counting xs c.loop-index.at c.within-next.result c.stretch_of_mark.result c.stretch_of_mark.ensures)
-          ∙ sym (join-assoc c.loop-index.stretch c.stretch_of_mark.result rest) ∙ ap (λ r. join r rest) (sym c.join-stretch.ensures.is);
+          (known-past _ _ _ _ _ c.stretch_of_mark.ensures)
+          ∙ sym (join-assoc _ _ _) ∙ ap (λ r. join r rest) (sym c.join-stretch.ensures.is);
       inside = c.told_from-told.ensures.inside;
       few = omega (
         arith,
@@ -122,10 +116,8 @@ loop-index-preserved c =
         known-fits c.args.counting xs c.loop-index.at c.within-next.result c.stretch_of_mark.result c.stretch_of_mark.ensures,
       );
       edge = edge_next d;
-      here = bounded-mark xs i.0 i.1 i.2 c.args.marks.now c.requires.marks c.told_from-told.result.behind
-          c.within-next.result c.len-end.result c.len-end.ensures.count (next d) (omega arith);
-      end = bounded-end xs i.0 i.1 i.2 c.args.marks.now c.told_from-told.result.behind c.within-next.result
-          c.len-end.result c.len-end.ensures.count (next d) c.within-next.ensures.low;
+      here = bounded-mark _ _ _ i.2 _ c.requires.marks _ _ _ c.len-end.ensures.count (next d) (omega arith);
+      end = bounded-end _ _ _ i.2 _ _ _ _ c.len-end.ensures.count (next d) c.within-next.ensures.low;
     }
 
 -- no block is left behind the last landmark
@@ -134,9 +126,9 @@ whole c =
     let i = c.requires.sound in
     let xs = c.args.part.now.bytes in
     let v = c.loop-index.invariant in
-    v.same ∙ ap (λ l. join c.loop-index.stretch (stretch_by c.args.counting l)) (left-none c.loop-index.at xs
-    (begins-way xs i.0 i.1 i.2 c.loop-index.at v.edge) (v.end c.loop-index-test.false))
-    ∙ ap (join c.loop-index.stretch) (counted-none c.args.counting) ∙ join-unit_right c.loop-index.stretch
+    v.same ∙ ap (λ l. join c.loop-index.stretch (stretch_by c.args.counting l)) (left-none _ _
+    (begins-way _ _ _ i.2 _ v.edge) (v.end c.loop-index-test.false))
+    ∙ ap (join c.loop-index.stretch) (counted-none _) ∙ join-unit_right _
 
 pub returns-clause-low : goal.returns-clause-low
 returns-clause-low c = sym (ap prefix (whole c))

@@ -13,14 +13,13 @@ returns-in-Known-clause-stretch c = λ next b.
     let l = c.requires.inside in
     let e : GROUP * (low / 16) ≡ low = omega arith in
     let how = c.args.counting in
-    group-stretch c.args.part.now.bytes i.0 i.1 i.2 how c.args.marks.now c.requires.marks low c.told-tally.result l
+    group-stretch _ _ _ i.2 _ _ c.requires.marks _ _ l
     (λ s f. subst (λ n. tally_of how (take GROUP (drop n c.args.marks.now)) ≡ tally.Known s) e
-    (c.requires.groups.known how (low / 16) s (omega (arith, l)) (sym c.told-tally.ensures ∙ f))) next b
+    (c.requires.groups.known how (low / 16) s (omega (arith, l)) (sym c.told-tally.ensures ∙ f))) _ b
 
 pub returns-clause-stretch : goal.returns-clause-stretch
 returns-clause-stretch c = λ next b.
     let i = c.requires.sound in
     let xs = c.args.part.now.bytes in
     subst (λ t. IsStretch c.args.counting t (get_or c.args.marks.now c.args.index no_mark).at next xs) (sym c.told.ensures)
-    (next-stretch xs i.0 i.1 i.2 c.args.counting c.args.marks.now c.requires.marks c.args.index next (length xs)
-    c.requires.inside refl b.either b.low b.least)
+    (next-stretch _ _ _ i.2 _ _ c.requires.marks _ _ _ c.requires.inside refl b.either b.low b.least)

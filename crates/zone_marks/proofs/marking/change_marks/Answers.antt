@@ -11,21 +11,17 @@ pub loop-first-init : goal.loop-first-init
 loop-first-init c = (
   c.index_above-last.ensures.index,
   c.requires.groups,
-  λ old z a. changing-start c.args.lo c.args.hi old (zone_in c.args.part.now.bytes) z
-      (replaced-order c.args.lo c.args.hi old (zone_in c.args.part.now.bytes) z) c.place_of_mark-above.result
-      c.index_above-last.result c.args.marks.now (omega arith) c.place_of_mark-above.ensures
+  λ old z a. changing-start _ _ _ _ z (replaced-order _ _ _ _ z) _ _ _ (omega arith) c.place_of_mark-above.ensures
       c.index_above-last.ensures.above a,
 )
 
 pub changed_mark-mark-requires-clause-ordered : goal.changed_mark-mark-requires-clause-ordered
-changed_mark-mark-requires-clause-ordered c = replaced-order c.args.lo c.args.hi c.requires.marks.0
-    (zone_in c.args.part.now.bytes) c.requires.marks.1
+changed_mark-mark-requires-clause-ordered c = replaced-order _ _ _ _ c.requires.marks.1
 
 pub changed_mark-mark-requires-clause-rising : goal.changed_mark-mark-requires-clause-rising
 changed_mark-mark-requires-clause-rising c =
     let old = c.requires.marks.0 in
-    (last-mark c.args.lo c.args.hi old (zone_in c.args.part.now.bytes) c.loop-first.next c.loop-first.above
-    c.loop-first.first c.loop-first.marks _ no_mark (omega arith) c.loop-first.invariant.0
+    (last-mark _ _ _ _ _ _ _ _ _ _ (omega arith) c.loop-first.invariant.0
     (c.loop-first.invariant.2 old c.requires.marks.1 c.requires.marks.2)).1.3
 
 pub changed_mark-mark-requires-clause-lowered : goal.changed_mark-mark-requires-clause-lowered
@@ -37,8 +33,7 @@ changed_mark-mark-requires-clause-begins c = λ at w.
     let old = c.requires.marks.0 in
     let new = zone_in c.args.part.now.bytes in
     let z = c.requires.marks.1 in
-    let r = last-mark c.args.lo c.args.hi old new c.loop-first.next c.loop-first.above c.loop-first.first c.loop-first.marks _
-    no_mark (omega arith) c.loop-first.invariant.0
+    let r = last-mark _ _ _ _ _ _ _ _ _ _ (omega arith) c.loop-first.invariant.0
     (c.loop-first.invariant.2 old z c.requires.marks.2) in
     begins-lowered c.args.lo c.args.hi old new z (replaced-order c.args.lo c.args.hi old new z) _ at w r.1.0
 
@@ -48,9 +43,7 @@ loop-first-preserved c =
     let new = zone_in c.args.part.now.bytes in (
       (let n = length-set c.loop-first.marks (c.loop-first.first - 1) c.changed_mark-mark.result in omega (arith, l, n)),
       c.raise_group.ensures c.loop-first.marks c.changed_mark-mark.result (omega arith) c.loop-first.invariant.1,
-      λ old z a.
-          changing-step c.args.lo c.args.hi old new z (replaced-order c.args.lo c.args.hi old new z) c.loop-first.next
-          c.loop-first.above c.loop-first.first c.loop-first.marks no_mark c.changed_mark-mark.result (omega arith) l
+      λ old z a. changing-step _ _ _ _ z (replaced-order _ _ _ _ z) _ _ _ _ _ _ (omega arith) l
           (c.loop-first.invariant.2 old z a) c.changed_mark-mark.ensures.at
           (λ e. c.changed_mark-mark.ensures.bound old z e) (λ e. c.changed_mark-mark.ensures.tally old z e),
     )
@@ -62,11 +55,10 @@ returns-clause-marks c =
     let z = c.requires.marks.1 in
     let g = c.loop-first.invariant.2 old z c.requires.marks.2 in
     elim c.loop-first-test.branch [
-      | then-loop-first-test+else-lo-above w ↦ changing-below c.args.lo c.args.hi old new z
-          (replaced-order c.args.lo c.args.hi old new z) c.loop-first.next c.loop-first.above c.loop-first.first
-          c.loop-first.marks w.if-lo-above.false g
-      | else-loop-first-test w ↦ changing-done c.args.lo c.args.hi old new c.loop-first.next c.loop-first.above
-          c.loop-first.first c.loop-first.marks (omega arith) g
+      | then-loop-first-test+else-lo-above w ↦ changing-below _ _ _ _ z (replaced-order _ _ _ _ z) _ _ _
+          _ w.if-lo-above.false g
+      | else-loop-first-test w ↦ changing-done _ _ _ _ _ _
+          _ _ (omega arith) g
     ]
 
 pub renew_groups-requires-clause-fits : goal.renew_groups-requires-clause-fits
@@ -76,10 +68,9 @@ renew_groups-requires-clause-fits c =
     let new = zone_in c.args.part.now.bytes in
     let z = c.requires.marks.1 in
     let g = c.loop-first.invariant.2 old z c.requires.marks.2 in
-    loads-small c.args.part.now.bytes i.0 i.1 i.2 4294967295 c.loop-first.marks (elim c.loop-first-test.branch [
-      | then-loop-first-test+else-lo-above w ↦ changing-below c.args.lo c.args.hi old new z
-          (replaced-order c.args.lo c.args.hi old new z) c.loop-first.next c.loop-first.above c.loop-first.first
-          c.loop-first.marks w.if-lo-above.false g
-      | else-loop-first-test w ↦ changing-done c.args.lo c.args.hi old new c.loop-first.next c.loop-first.above
-          c.loop-first.first c.loop-first.marks (omega arith) g
+    loads-small _ _ _ i.2 _ _ (elim c.loop-first-test.branch [
+      | then-loop-first-test+else-lo-above w ↦ changing-below _ _ _ _ z (replaced-order _ _ _ _ z) _ _ _
+          _ w.if-lo-above.false g
+      | else-loop-first-test w ↦ changing-done _ _ _ _ _ _
+          _ _ (omega arith) g
     ])

@@ -35,38 +35,31 @@ returns-then-hi-mark c =
     ) in
     record {
       at = stays;
-      bound = λ old z e. bound-lowered lo hi old new z c.requires.ordered c.args.mark.most c.args.mark.most at next at
-          c.args.above stays c.requires.lowered (omega arith) (λ a b. elim apart [
+      bound = λ old z e. bound-lowered _ _ _ _ z c.requires.ordered _ _ _ _ _
+          _ stays c.requires.lowered (omega arith) (λ a b. elim apart [
             | inl h ↦ omega (arith, a, h)
             | inr l ↦ absurd (omega (arith, b, l, same))
           ]) e;
       tally = λ old z t. subst (λ k. AreTold c.args.mark.tally (between at k 0 new)) (sym same)
-          (alike-as c.args.mark.tally _ _ (apart-alike lo hi old new z c.requires.ordered at next apart) t);
+          (alike-as _ _ _ (apart-alike _ _ _ _ z c.requires.ordered _ _ apart) t);
     }
 
 pub measured_mark-requires : goal.measured_mark-requires
 measured_mark-requires c =
-    begins-way c.args.part.now.bytes c.requires.sound.0 c.requires.sound.1 c.requires.sound.2 c.lowered_mark-at.result
-    (c.requires.begins c.lowered_mark-at.result c.lowered_mark-at.ensures)
+    begins-way _ _ _ c.requires.sound.2 _ (c.requires.begins c.lowered_mark-at.result c.lowered_mark-at.ensures)
 
 pub returns-in_default-clause-bound : goal.returns-in_default-clause-bound
 returns-in_default-clause-bound c = λ old z e.
     subst (λ p. AtEach (AtMost c.measured_mark.result.most p c.args.above) 0 (zone_in c.args.part.now.bytes))
-    (sym c.measured_mark.ensures.at)
-    (bound-here c.args.part.now.bytes c.requires.sound.0 c.requires.sound.1 c.requires.sound.2
-    c.measured_mark.result.most c.lowered_mark-at.result c.args.above
+    (sym c.measured_mark.ensures.at) (bound-here _ _ _ c.requires.sound.2 _ _ _
     (c.requires.begins c.lowered_mark-at.result c.lowered_mark-at.ensures) c.measured_mark.ensures.bound)
 
 pub returns-in_default-clause-tally : goal.returns-in_default-clause-tally
 returns-in_default-clause-tally c = λ old z e.
     subst (λ p. AreTold c.measured_mark.result.tally (between p c.args.above 0 (zone_in c.args.part.now.bytes)))
-    (sym c.measured_mark.ensures.at)
-    (tally-here c.args.part.now.bytes c.requires.sound.0 c.requires.sound.1 c.requires.sound.2
-    c.measured_mark.result.tally c.lowered_mark-at.result c.args.above
+    (sym c.measured_mark.ensures.at) (tally-here _ _ _ c.requires.sound.2 _ _ _
     (c.requires.begins c.lowered_mark-at.result c.lowered_mark-at.ensures) c.measured_mark.ensures.tally)
 
 pub returns-in-Nothing-clause-bound : goal.returns-in-Nothing-clause-bound
-returns-in-Nothing-clause-bound c = λ old z e.
-    bound-lowered c.args.lo c.args.hi old _ z c.requires.ordered c.args.mark.most c.greater.result c.args.mark.at
-    c.args.next c.lowered_mark-at.result c.args.above c.lowered_mark-at.ensures c.requires.lowered (omega arith)
-    (λ _ _. omega arith) e
+returns-in-Nothing-clause-bound c = λ old z e. bound-lowered _ _ _ _ z c.requires.ordered _ _ _
+    _ _ _ c.lowered_mark-at.ensures c.requires.lowered (omega arith) (λ _ _. omega arith) e

@@ -8,7 +8,7 @@ use Rattle.zone_marks.proofs.marking.find_by_marks.Goals as goal
 use Rattle.zone_marks.proofs.marking.find_by_marks.Goals.{then-bytes-groups+in_default-room_in_group, else-bytes-groups}
 
 pub room_in_stretch-requires-clause-begins : goal.room_in_stretch-requires-clause-begins
-room_in_stretch-requires-clause-begins c = begins-here 0 (zone_in c.args.part.now.bytes)
+room_in_stretch-requires-clause-begins c = begins-here 0 _
 
 pub room_in_stretch-requires-clause-below : goal.room_in_stretch-requires-clause-below
 room_in_stretch-requires-clause-below c =
@@ -21,13 +21,12 @@ loop-group-preserved c =
     elim c.if-bytes-groups.branch [
       | then-bytes-groups+in_default-room_in_group w ↦ subst (NoneBelow c.args.bytes (zone_in c.args.part.now.bytes) c.args.marks.now)
           (let e : GROUP * group + GROUP ≡ GROUP * (group + 1) = omega arith in e) w.in_default-room_in_group.ensures.none
-      | else-bytes-groups w ↦ none-group c.args.part.now.bytes i.0 i.1 i.2 c.args.bytes c.args.marks.now
-          c.requires.marks c.args.groups.now c.requires.groups group c.loop-group-test.true w.if-bytes-groups.false c.loop-group.invariant
+      | else-bytes-groups w ↦ none-group _ _ _ i.2 _ _
+          c.requires.marks _ c.requires.groups _ c.loop-group-test.true w.if-bytes-groups.false c.loop-group.invariant
     ]
 
 pub returns : goal.returns
 returns c =
     let i = c.requires.sound in
-    none-found c.args.part.now.bytes i.0 i.1 i.2 c.args.bytes
-    (none-past c.args.bytes (zone_in c.args.part.now.bytes) c.args.marks.now (GROUP * c.loop-group.group)
+    none-found _ _ _ i.2 _ (none-past _ _ c.args.marks.now (GROUP * c.loop-group.group)
     (omega arith) c.loop-group.invariant)

@@ -8,8 +8,7 @@ pub loop-low-init : goal.loop-low-init
 loop-low-init c = (
   omega arith,
   omega arith,
-  (subst (λ k. c.args.place ≤ next_of 4294967295 k) (sym (drop-all c.args.marks.now))
-      (omega arith)),
+  (subst (λ k. c.args.place ≤ next_of 4294967295 k) (sym (drop-all c.args.marks.now)) (omega arith)),
   λ l. absurd (omega (arith, l)),
 )
 
@@ -31,7 +30,6 @@ pub loop-low-preserved : goal.loop-low-preserved
 loop-low-preserved c = (
   omega arith,
   omega arith,
-  subst (λ k. c.args.place ≤ k) (sym (mark-first 4294967295 c.args.marks.now _ no_mark
-      (omega arith))) (omega arith),
+  subst (λ k. c.args.place ≤ k) (sym (mark-first _ c.args.marks.now _ no_mark (omega arith))) (omega arith),
   c.loop-low.invariant.3,
 )

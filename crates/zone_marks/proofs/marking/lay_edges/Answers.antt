@@ -7,8 +7,8 @@ use Rattle.zone_marks.proofs.Marks.Lowering.{marks-next, marks-left}
 use Rattle.zone_marks.proofs.marking.lay_edges.Goals as goal
 
 pub packed_mark-mark-requires-clause-bare : goal.packed_mark-mark-requires-clause-bare
-packed_mark-mark-requires-clause-bare c = edge-bare c.args.edges.now c.args.base (zone_in c.args.part.now.bytes)
-    c.requires.edges c.in-Some.place c.in-Some.ensures c.loop-next.next.at c.greater-edge.result c.greater-edge.ensures.one
+packed_mark-mark-requires-clause-bare c = edge-bare _ _ _
+    c.requires.edges _ c.in-Some.ensures _ _ c.greater-edge.ensures.one
 
 pub loop-next-preserved : goal.loop-next-preserved
 loop-next-preserved c =
@@ -20,7 +20,7 @@ loop-next-preserved c =
     let long = length-set c.loop-next.marks c.loop-next.next.index m in
     let at = c.packed_mark-mark.ensures.at in (
       record {
-        below = marks-next zone c.loop-next.marks c.loop-next.next.index edge m (omega (arith, inside))
+        below = marks-next _ _ _ _ m (omega (arith, inside))
             (subst (λ k. AreMarks k zone (take c.loop-next.next.index c.loop-next.marks)) (sym at) v.0.below)
             (subst (λ k. Begins k 0 zone) (sym at) (v.0.begins (omega (arith, inside))))
             (subst (λ k. AtEach (AtMost m.most k edge) 0 zone) (sym at) c.packed_mark-mark.ensures.bound)
@@ -30,8 +30,7 @@ loop-next-preserved c =
         inside = omega (arith, long, inside);
         begins = λ _. elim c.greater-edge.ensures.one [
           | inl e ↦ subst (λ k. Begins k 0 zone) (sym e) (v.0.begins (omega (arith, inside)))
-          | inr e ↦ subst (λ k. Begins k 0 zone) (sym e) (edge-begins c.args.edges.now c.args.base zone c.requires.edges
-              c.in-Some.place c.in-Some.ensures)
+          | inr e ↦ subst (λ k. Begins k 0 zone) (sym e) (edge-begins _ _ _ c.requires.edges _ c.in-Some.ensures)
         ];
         last = λ e. absurd (omega (arith, e, long, inside));
       },

@@ -16,8 +16,7 @@ loop-index-init c =
 pub returns-then-marks-index-clause-marks : goal.returns-then-marks-index-clause-marks
 returns-then-marks-index-clause-marks c =
     let zone = zone_in c.args.part.now.bytes in
-    marks-whole 4294967295 zone c.loop-index.marks c.loop-index.index c.loop-index.at
-    (sym c.if-marks-index.true ∙ sym (mark-first 4294967295 c.loop-index.marks c.loop-index.index no_mark
+    marks-whole _ _ _ _ _ (sym c.if-marks-index.true ∙ sym (mark-first _ _ c.loop-index.index no_mark
     (omega arith))) c.loop-index.invariant.2 c.loop-index.invariant.3
 
 pub stretch_from-stretch-requires : goal.stretch_from-stretch-requires
@@ -42,15 +41,10 @@ loop-index-preserved c =
       length-set c.loop-index.marks c.loop-index.index _ ∙ n,
       c.raise_group.ensures c.loop-index.marks (record { at = c.loop-index.at; most = s.result.most; tally = told })
           (omega arith) v.1,
-      marks-next (zone_in xs) c.loop-index.marks c.loop-index.index s.result.edge
-          (record { at = c.loop-index.at; most = s.result.most; tally = told })
-          (omega (arith, n)) v.2 b
-          (bound-here xs i.0 i.1 i.2 s.result.most c.loop-index.at s.result.edge b s.ensures.measured.most)
-          (tally-here xs i.0 i.1 i.2 told c.loop-index.at s.result.edge b
-          (told-both _ _ _ s.ensures.measured.runs c.spaces_told.ensures))
+      marks-next _ _ _ _ _ (omega (arith, n)) v.2 b (bound-here _ _ _ i.2 _ _ _ b s.ensures.measured.most)
+          (tally-here _ _ _ i.2 _ _ _ b (told-both _ _ _ s.ensures.measured.runs c.spaces_told.ensures))
           s.ensures.order,
       marks-left 4294967295 (zone_in xs) c.loop-index.marks c.loop-index.index _ (omega (arith, n)) v.3,
-      λ k. begins-further xs i.0 i.1 i.2 c.loop-index.at s.result.edge b (s.ensures.edge
-          (equal-no (c.loop-index.index + 1) (length c.loop-index.marks) (omega (arith, k, n)))),
+      λ k. begins-further _ _ _ i.2 _ _ b (s.ensures.edge (equal-no _ _ (omega (arith, k, n)))),
       λ k. s.ensures.last (equal-yes (c.loop-index.index + 1) (length c.loop-index.marks) (omega (arith, k, n))),
     )

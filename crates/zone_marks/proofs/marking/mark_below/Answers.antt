@@ -5,11 +5,10 @@ use Rattle.zone_marks.proofs.marking.mark_below.Goals as goal
 use Rattle.zone_marks.specs.Marks.{no_mark}
 
 pub returns-then-above-eq0-clause-begins : goal.returns-then-above-eq0-clause-begins
-returns-then-above-eq0-clause-begins c = λ end zone a. begins-here 0 zone
+returns-then-above-eq0-clause-begins c = λ end zone a. begins-here 0 _
 
 pub returns-clause-below : goal.returns-clause-below
 returns-clause-below c = inl (c.index_above-above.ensures.below (omega arith))
 
 pub returns-clause-begins : goal.returns-clause-begins
-returns-clause-begins c = λ end zone a.
-    mark-begins end zone c.args.marks.now _ no_mark (omega arith) a
+returns-clause-begins c = λ end zone a. mark-begins _ _ _ _ _ (omega arith) a

@@ -9,11 +9,9 @@ measured_mark-requires c =
 pub returns-clause-bound : goal.returns-clause-bound
 returns-clause-bound c =
     let i = c.requires.sound in
-    bound-here c.args.part.now.bytes i.0 i.1 i.2 c.measured_mark.result.most c.args.at c.args.edge c.requires.begins
-    c.measured_mark.ensures.bound
+    bound-here _ _ _ i.2 _ _ _ c.requires.begins c.measured_mark.ensures.bound
 
 pub returns-clause-tally : goal.returns-clause-tally
 returns-clause-tally c =
     let i = c.requires.sound in
-    tally-here c.args.part.now.bytes i.0 i.1 i.2 c.measured_mark.result.tally c.args.at c.args.edge c.requires.begins
-    c.measured_mark.ensures.tally
+    tally-here _ _ _ i.2 _ _ _ c.requires.begins c.measured_mark.ensures.tally

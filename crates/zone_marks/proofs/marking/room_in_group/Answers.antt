@@ -7,13 +7,11 @@ use Rattle.zone_marks.proofs.Marks.Rooms.{stretch-room}
 use Rattle.zone_marks.proofs.marking.room_in_group.Goals as goal
 
 pub room_in_stretch-requires-clause-begins : goal.room_in_stretch-requires-clause-begins
-room_in_stretch-requires-clause-begins c =
-    mark-begins 4294967295 (zone_in c.args.part.now.bytes) c.args.marks.now c.loop-index.index no_mark
-    (omega arith) c.requires.marks
+room_in_stretch-requires-clause-begins c = mark-begins _ _ _ _ _ (omega arith) c.requires.marks
 
 pub room_in_stretch-requires-clause-bound : goal.room_in_stretch-requires-clause-bound
 room_in_stretch-requires-clause-bound c = λ l.
     let zone = zone_in c.args.part.now.bytes in
     let m = get_or c.args.marks.now c.loop-index.index no_mark in
     subst (λ n. AtEach (NoRoom c.args.bytes m.at n) 0 zone) (sym c.place_of_mark-to.ensures)
-    (stretch-room c.args.bytes zone c.args.marks.now c.loop-index.index (omega arith) c.requires.marks l)
+    (stretch-room _ _ _ _ (omega arith) c.requires.marks l)

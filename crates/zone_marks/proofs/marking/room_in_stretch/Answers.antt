@@ -8,16 +8,13 @@ room_between-requires c =
 
 pub returns-then-mark-bytes-clause-none : goal.returns-then-mark-bytes-clause-none
 returns-then-mark-bytes-clause-none c =
-    none-whole c.args.part.now.bytes c.requires.sound.0 c.requires.sound.1 c.requires.sound.2 c.args.bytes c.args.mark.at
-    c.args.to c.requires.below (c.requires.bound c.if-mark-bytes.true)
+    none-whole _ _ _ c.requires.sound.2 _ _ _ c.requires.below (c.requires.bound c.if-mark-bytes.true)
 
 pub returns-else-mark-bytes-clause-none : goal.returns-else-mark-bytes-clause-none
-returns-else-mark-bytes-clause-none c = if-none c.room_between.result _ _
-    (none-further c.args.part.now.bytes c.requires.sound.0 c.requires.sound.1 c.requires.sound.2 c.args.bytes c.args.mark.at
-    c.args.to c.requires.begins c.requires.below) c.room_between.ensures.none
+returns-else-mark-bytes-clause-none c = if-none _ _ _ (none-further _ _ _ c.requires.sound.2 _ _
+    _ c.requires.begins c.requires.below) c.room_between.ensures.none
 
 pub returns-else-mark-bytes-clause-found : goal.returns-else-mark-bytes-clause-found
-returns-else-mark-bytes-clause-found c = if-three c.room_between.result _ _ _ _
-    (λ place. lowest-found c.args.part.now.bytes c.requires.sound.0 c.requires.sound.1 c.requires.sound.2 c.args.bytes
-    c.args.mark.at place c.requires.begins c.requires.below) c.room_between.ensures.begins c.room_between.ensures.lowest
+returns-else-mark-bytes-clause-found c = if-three _ _ _ _ _ (λ place. lowest-found _ _ _ c.requires.sound.2 _
+    _ _ c.requires.begins c.requires.below) c.room_between.ensures.begins c.room_between.ensures.lowest
     c.room_between.ensures.room

@@ -28,13 +28,13 @@ returns-then-gives_space c = λ here above is.
     let r = c.read_word-first in
     let h = next-header c.args.at c.args.part.now.bytes c.requires.way c.requires.some in
     ap (λ t. counted t (r.result - r.result % 16)) (sym c.if-gives_space.true ∙ c.gives_space.ensures)
-    ∙ space-made c.args.at c.args.part.now.bytes c.requires.way c.requires.some (r.result - r.result % 16) (r.result % 16)
-    (whole r.result _ r.ensures) (even r.result) (small r.result _ r.ensures h.tag) here above is
+    ∙ space-made _ _ c.requires.way c.requires.some _ _
+    (whole _ _ r.ensures) (even _) (small _ _ r.ensures h.tag) _ _ is
 
 pub returns-else-gives_space : goal.returns-else-gives_space
 returns-else-gives_space c = λ here above is.
     let r = c.read_word-first in
     let h = next-header c.args.at c.args.part.now.bytes c.requires.way c.requires.some in
     ap (λ t. counted t (r.result - r.result % 16)) (sym c.if-gives_space.false ∙ c.gives_space.ensures)
-    ∙ space-made c.args.at c.args.part.now.bytes c.requires.way c.requires.some (r.result - r.result % 16) (r.result % 16)
-    (whole r.result _ r.ensures) (even r.result) (small r.result _ r.ensures h.tag) here above is
+    ∙ space-made _ _ c.requires.way c.requires.some _ _
+    (whole _ _ r.ensures) (even _) (small _ _ r.ensures h.tag) _ _ is

@@ -4,28 +4,24 @@ use Rattle.zone_marks.proofs.Marks.Spaces.{spaced-fits, spaced-start, spaced-ste
 use Rattle.zone_marks.proofs.measuring.spaces_up_to.Goals as goal
 
 pub loop-at-init : goal.loop-at-init
-loop-at-init c = spaced-start c.args.part.now.bytes c.args.from c.within-stop.result c.requires
+loop-at-init c = spaced-start _ _ _ c.requires
 
 pub join-spaces-requires : goal.join-spaces-requires
 join-spaces-requires c =
     let s = c.span_at-span in
-    let f = spaced-fits c.args.part.now.bytes c.args.from c.within-stop.result c.loop-at.at s.result.end s.result.free
-    s.result.barrier c.loop-at.spaces c.space_at.result c.loop-at.invariant s.ensures
+    let f = spaced-fits _ _ _ _ _ _ _ c.loop-at.spaces c.space_at.result c.loop-at.invariant s.ensures
     (c.space_at.ensures _ _ s.ensures.is) in
     omega (arith, f)
 
 pub loop-at-preserved : goal.loop-at-preserved
 loop-at-preserved c =
     let s = c.span_at-span in
-    spaced-step c.args.part.now.bytes c.args.from c.within-stop.result c.loop-at.at s.result.end s.result.free
-    s.result.barrier c.loop-at.spaces c.space_at.result c.join-spaces.result c.loop-at.invariant s.ensures
+    spaced-step _ _ _ _ _ _ _ _ c.space_at.result c.join-spaces.result c.loop-at.invariant s.ensures
     c.loop-at-test.true (c.space_at.ensures _ _ s.ensures.is) c.join-spaces.ensures.is
 
 pub returns : goal.returns
 returns c =
     let k = c.len.ensures.count in
-    spaced-tells c.args.part.now.bytes c.args.from c.within-stop.result c.loop-at.at c.args.place c.loop-at.spaces
-    c.loop-at.invariant c.within-stop.ensures.least
-    (past c.args.place (length c.args.part.now.bytes) c.loop-at.at c.within-stop.result
+    spaced-tells _ _ _ _ _ _ c.loop-at.invariant c.within-stop.ensures.least (past _ _ _ _
     (subst (λ n. (c.within-stop.result ≡ c.args.place) ⊎ (c.within-stop.result ≡ n)) k c.within-stop.ensures.one)
     (omega arith))

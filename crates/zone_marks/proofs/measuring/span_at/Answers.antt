@@ -23,8 +23,8 @@ overflow_add-result c =
     let a = c.args in
     let r = c.read_word-first in
     let h = next-header a.at a.part.now.bytes c.requires.way c.requires.some in
-    let s = stepped a.at a.part.now.bytes c.requires.way c.requires.some (r.result - r.result % 16) (r.result % 16)
-    (whole r.result _ r.ensures) (even r.result) (small r.result _ r.ensures h.tag) in
+    let s = stepped _ _ c.requires.way c.requires.some _ _
+    (whole _ _ r.ensures) (even _) (small _ _ r.ensures h.tag) in
     omega arith
 
 pub ends_run_at-requires-clause-inside : goal.ends_run_at-requires-clause-inside
@@ -37,6 +37,5 @@ returns c =
     let xs = a.part.now.bytes in
     let r = c.read_word-first in
     let h = next-header a.at xs c.requires.way c.requires.some in
-    span-made a.at xs c.requires.way c.requires.some (r.result - r.result % 16) (r.result % 16) (whole r.result _ r.ensures)
-    (even r.result) (small r.result _ r.ensures h.tag) c.free_by_tag.result c.free_by_tag.ensures c.ends_run_at.result
-    c.ends_run_at.ensures
+    span-made _ _ c.requires.way c.requires.some _ _ (whole _ _ r.ensures)
+    (even _) (small _ _ r.ensures h.tag) _ c.free_by_tag.ensures _ c.ends_run_at.ensures

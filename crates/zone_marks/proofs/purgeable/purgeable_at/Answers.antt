@@ -13,7 +13,7 @@ read_header-header-requires-clause-within c =
     let n = next-header c.args.place c.args.part.now.bytes c.requires.way c.requires.some in (n.even, n.fits)
 
 pub read_header-header-requires-clause-tag : goal.read_header-header-requires-clause-tag
-read_header-header-requires-clause-tag c = (next-header c.args.place c.args.part.now.bytes c.requires.way c.requires.some).tag
+read_header-header-requires-clause-tag c = (next-header _ _ c.requires.way c.requires.some).tag
 
 pub returns : goal.returns
 returns c = λ b above q.
@@ -23,7 +23,6 @@ returns c = λ b above q.
     let xs = c.args.part.now.bytes in
     let s = stepped at xs c.requires.way c.requires.some h.size (tag_number h.tag) e.first e.size (tag-small h.tag) in
     let a = c.seen_of.ensures ∙ (λ i. header_seen (tag_number h.tag) h.size (e.logical i) (e.slot i) (e.flags i)) in
-    let t = subst (λ l. Tells l (Some c.seen_of.result) (left_in (at + h.size) xs)) q
-    (tells-step at xs h.size (tag_number h.tag) s c.seen_of.result a) in
+    let t = subst (λ l. Tells l (Some c.seen_of.result) (left_in (at + h.size) xs)) q (tells-step _ _ _ _ s _ a) in
     c.purgeable_of_seen.ensures b (sym (same_Some _ _ t.0))
-    (sym (size-at at xs c.requires.way c.requires.some h.size (tag_number h.tag) e.first e.size (tag-small h.tag) b above q))
+    (sym (size-at _ _ c.requires.way c.requires.some _ _ e.first e.size (tag-small _) b _ q))

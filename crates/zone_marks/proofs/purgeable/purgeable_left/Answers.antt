@@ -6,16 +6,14 @@ use Rattle.zone_bytes.proofs.Places.AtPlace.{left-zone, on-way, sizes-fit}
 use Rattle.zone_marks.proofs.purgeable.purgeable_left.Goals as goal
 
 pub walk_from-requires : goal.walk_from-requires
-walk_from-requires c = on-way c.args.part.now.bytes c.requires.0 c.requires.1 c.requires.2
+walk_from-requires c = on-way _ _ _ c.requires.2
 
 pub purgeable_bytes_in-requires : goal.purgeable_bytes_in-requires
-purgeable_bytes_in-requires c = subst (λ l. sizes l < 2 ^ 32) (sym c.walk_from.ensures)
-    (sizes-fit c.args.part.now.bytes c.requires.0 c.requires.1 c.requires.2)
+purgeable_bytes_in-requires c = subst (λ l. sizes l < 2 ^ 32) (sym c.walk_from.ensures) (sizes-fit _ _ _ c.requires.2)
 
 pub returns-then-frees_one : goal.returns-then-frees_one
 returns-then-frees_one c = λ k zone e f m.
-    let s = c.purgeable_bytes_in.ensures
-    ∙ ap purgeable_sum (c.walk_from.ensures ∙ left-zone c.args.part.now.bytes) in
+    let s = c.purgeable_bytes_in.ensures ∙ ap purgeable_sum (c.walk_from.ensures ∙ left-zone _) in
     omega (arith, s)
 
 pub returns-else-frees_one : goal.returns-else-frees_one

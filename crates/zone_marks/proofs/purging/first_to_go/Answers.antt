@@ -17,5 +17,4 @@ returns-clause-lowest c =
     let test = may_be_purged (spared c.args.sparing) in
     let is : purged 0 c.args.sparing (zone_in xs) ≡ zone_in xs =
     ap tidy (c.frees_one.ensures (search rules) (zone_in xs)) ∙ c.requires.sound.2.tidied in
-    found test (zone_in xs) c.next_purgeable.result
-    (subst (λ z. FindsLowest test z c.next_purgeable.result) is c.next_purgeable.ensures)
+    found test (zone_in xs) _ (subst (λ z. FindsLowest test z c.next_purgeable.result) is c.next_purgeable.ensures)

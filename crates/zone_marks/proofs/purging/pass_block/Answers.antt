@@ -8,15 +8,13 @@ use Rattle.zone_marks.proofs.purging.pass_block.Goals as goal
 pub read_header-header-requires-clause-within : goal.read_header-header-requires-clause-within
 read_header-header-requires-clause-within c =
     let a = c.args.pass in
-    let n = (next c.requires.pass.0 c.args.sparing a.start a.at a.left a.freed c.args.part.now.bytes
-    c.requires.pass.1 c.requires.some).tells.next in
+    let n = (next _ _ _ _ _ _ _ c.requires.pass.1 c.requires.some).tells.next in
     (n.even, n.fits)
 
 pub read_header-header-requires-clause-tag : goal.read_header-header-requires-clause-tag
 read_header-header-requires-clause-tag c =
     let a = c.args.pass in
-    (next c.requires.pass.0 c.args.sparing a.start a.at a.left a.freed c.args.part.now.bytes c.requires.pass.1
-    c.requires.some).tells.next.tag
+    (next _ _ _ _ _ _ _ c.requires.pass.1 c.requires.some).tells.next.tag
 
 pub free_up-requires : goal.free_up-requires
 free_up-requires c =
@@ -27,9 +25,8 @@ free_up-requires c =
     let h = c.read_header-header.result in
     let e = c.read_header-header.ensures in
     let n = next p c.args.sparing a.start a.at a.left a.freed xs u c.requires.some in
-    let s = sym (c.seen_of.ensures
-    ∙ (λ i. header_seen (tag_number h.tag) h.size (e.logical i) (e.slot i) (e.flags i))
-    ∙ n.told h.size (tag_number h.tag) e.first e.size (tag-small h.tag)) in
+    let s = sym (c.seen_of.ensures ∙ (λ i. header_seen (tag_number h.tag) h.size (e.logical i) (e.slot i) (e.flags i))
+    ∙ n.told h.size (tag_number h.tag) e.first e.size (tag-small _)) in
     let m = sym (c.left_after.ensures n.here s) ∙ c.in-Some.is in (
       freeing p c.args.sparing a.start a.at a.left a.freed xs u n c.in-Some.left m,
       may-free p c.args.sparing a.start a.at a.left a.freed xs u n c.in-Some.left m,
@@ -39,10 +36,9 @@ pub overflow_add-end : goal.overflow_add-end
 overflow_add-end c =
     let a = c.args.pass in
     let h = c.read_header-header.result in
-    let n = next c.requires.pass.0 c.args.sparing a.start a.at a.left a.freed c.args.part.now.bytes c.requires.pass.1
-    c.requires.some in
+    let n = next _ _ _ _ _ _ _ c.requires.pass.1 c.requires.some in
     let z = (n.tells.says h.size (tag_number h.tag) c.read_header-header.ensures.first
-    c.read_header-header.ensures.size (tag-small h.tag)).0 in
+    c.read_header-header.ensures.size (tag-small _)).0 in
     omega (arith, z)
 
 pub overflow_add-result : goal.overflow_add-result
@@ -55,16 +51,12 @@ overflow_add-result c =
     let e = c.read_header-header.ensures in
     let n = next p c.args.sparing a.start a.at a.left a.freed xs u c.requires.some in
     let z = n.tells.says h.size (tag_number h.tag) e.first e.size (tag-small h.tag) in
-    let s = sym (c.seen_of.ensures
-    ∙ (λ i. header_seen (tag_number h.tag) h.size (e.logical i) (e.slot i) (e.flags i))
-    ∙ n.told h.size (tag_number h.tag) e.first e.size (tag-small h.tag)) in
+    let s = sym (c.seen_of.ensures ∙ (λ i. header_seen (tag_number h.tag) h.size (e.logical i) (e.slot i) (e.flags i))
+    ∙ n.told h.size (tag_number h.tag) e.first e.size (tag-small _)) in
     let m = sym (c.left_after.ensures n.here s) ∙ c.in-Some.is in
-    let t = c.free_up.ensures.end (freeing p c.args.sparing a.start a.at a.left a.freed xs u n c.in-Some.left m)
-    (may-free p c.args.sparing a.start a.at a.left a.freed xs u n c.in-Some.left m) in
+    let t = c.free_up.ensures.end (freeing p _ _ _ _ _ _ u n _ m) (may-free p _ _ _ _ _ _ u n _ m) in
     let more = c.new_free.ensures ∙ (λ i. cond (z.1 i == 0) 0 (z.0 i)) in
-    let f = freed-fits p c.args.sparing _ _ _ _ _
-    (freed-next p c.args.sparing a.start a.at a.left a.freed xs u n c.in-Some.left m c.free_up.new.part.bytes
-    c.free_up.ensures.lays c.free_up.result t c.new_free.result more) in
+    let f = freed-fits p _ _ _ _ _ _ (freed-next p _ _ _ _ _ _ u n _ m _ c.free_up.ensures.lays _ t _ more) in
     omega (arith, f)
 
 pub returns-in-Some-clause-pass : goal.returns-in-Some-clause-pass
@@ -75,15 +67,12 @@ returns-in-Some-clause-pass c = λ p u.
     let e = c.read_header-header.ensures in
     let n = next p c.args.sparing a.start a.at a.left a.freed xs u c.requires.some in
     let z = n.tells.says h.size (tag_number h.tag) e.first e.size (tag-small h.tag) in
-    let s = sym (c.seen_of.ensures
-    ∙ (λ i. header_seen (tag_number h.tag) h.size (e.logical i) (e.slot i) (e.flags i))
-    ∙ n.told h.size (tag_number h.tag) e.first e.size (tag-small h.tag)) in
+    let s = sym (c.seen_of.ensures ∙ (λ i. header_seen (tag_number h.tag) h.size (e.logical i) (e.slot i) (e.flags i))
+    ∙ n.told h.size (tag_number h.tag) e.first e.size (tag-small _)) in
     let m = sym (c.left_after.ensures n.here s) ∙ c.in-Some.is in
-    let t = c.free_up.ensures.end (freeing p c.args.sparing a.start a.at a.left a.freed xs u n c.in-Some.left m)
-    (may-free p c.args.sparing a.start a.at a.left a.freed xs u n c.in-Some.left m) in
+    let t = c.free_up.ensures.end (freeing p _ _ _ _ _ _ u n _ m) (may-free p _ _ _ _ _ _ u n _ m) in
     let more = c.new_free.ensures ∙ (λ i. cond (z.1 i == 0) 0 (z.0 i)) in
-    freed-next p c.args.sparing a.start a.at a.left a.freed xs u n c.in-Some.left m c.free_up.new.part.bytes
-    c.free_up.ensures.lays c.free_up.result t c.new_free.result more
+    freed-next p _ _ _ _ _ _ u n _ m _ c.free_up.ensures.lays _ t _ more
 
 pub returns-in-Some-clause-further : goal.returns-in-Some-clause-further
 returns-in-Some-clause-further c =
@@ -94,12 +83,10 @@ returns-in-Some-clause-further c =
     let h = c.read_header-header.result in
     let e = c.read_header-header.ensures in
     let n = next p c.args.sparing a.start a.at a.left a.freed xs u c.requires.some in
-    let s = sym (c.seen_of.ensures
-    ∙ (λ i. header_seen (tag_number h.tag) h.size (e.logical i) (e.slot i) (e.flags i))
-    ∙ n.told h.size (tag_number h.tag) e.first e.size (tag-small h.tag)) in
+    let s = sym (c.seen_of.ensures ∙ (λ i. header_seen (tag_number h.tag) h.size (e.logical i) (e.slot i) (e.flags i))
+    ∙ n.told h.size (tag_number h.tag) e.first e.size (tag-small _)) in
     let m = sym (c.left_after.ensures n.here s) ∙ c.in-Some.is in
-    let t = c.free_up.ensures.end (freeing p c.args.sparing a.start a.at a.left a.freed xs u n c.in-Some.left m)
-    (may-free p c.args.sparing a.start a.at a.left a.freed xs u n c.in-Some.left m) in
+    let t = c.free_up.ensures.end (freeing p _ _ _ _ _ _ u n _ m) (may-free p _ _ _ _ _ _ u n _ m) in
     omega (arith, t)
 
 pub returns-in-None-clause-pass : goal.returns-in-None-clause-pass
@@ -110,9 +97,8 @@ returns-in-None-clause-pass c = λ p u.
     let e = c.read_header-header.ensures in
     let n = next p c.args.sparing a.start a.at a.left a.freed xs u c.requires.some in
     let z = (n.tells.says h.size (tag_number h.tag) e.first e.size (tag-small h.tag)).0 in
-    let s = sym (c.seen_of.ensures
-    ∙ (λ i. header_seen (tag_number h.tag) h.size (e.logical i) (e.slot i) (e.flags i))
-    ∙ n.told h.size (tag_number h.tag) e.first e.size (tag-small h.tag)) in
+    let s = sym (c.seen_of.ensures ∙ (λ i. header_seen (tag_number h.tag) h.size (e.logical i) (e.slot i) (e.flags i))
+    ∙ n.told h.size (tag_number h.tag) e.first e.size (tag-small _)) in
     let m = sym (c.left_after.ensures n.here s) ∙ c.in-None.is in
     kept-next p c.args.sparing a.start a.at a.left a.freed xs u n m (a.at + h.size) (ap (λ k. a.at + k) z)
 
@@ -120,8 +106,7 @@ pub returns-in-None-clause-further : goal.returns-in-None-clause-further
 returns-in-None-clause-further c =
     let a = c.args.pass in
     let h = c.read_header-header.result in
-    let n = next c.requires.pass.0 c.args.sparing a.start a.at a.left a.freed c.args.part.now.bytes c.requires.pass.1
-    c.requires.some in
+    let n = next _ _ _ _ _ _ _ c.requires.pass.1 c.requires.some in
     let z = (n.tells.says h.size (tag_number h.tag) c.read_header-header.ensures.first
-    c.read_header-header.ensures.size (tag-small h.tag)).0 in
+    c.read_header-header.ensures.size (tag-small _)).0 in
     omega (arith, z)

@@ -43,13 +43,12 @@ purge_from-requires c = (
         let e = c.read_header-header.ensures in
         let z = r.says h.size (tag_number h.tag) e.first e.size (tag-small h.tag) in
         elim c.if-eq.branch [
-          | then-eq w ↦ rw w.start-is (above-free f c.args.place c.args.part.now.bytes m c.args.purges c.args.sparing
-              c.without_freed.result c.without_freed.ensures.same c.without_freed.ensures.none
-              (c.args.place + h.size) (ap (λ n. c.args.place + n) z.0) (sym z.1 ∙ free-true h.tag w.if-eq.ensures))
-          | else-eq w ↦ rw w.start-is
-              (above-other f c.args.place c.args.part.now.bytes m c.args.purges c.args.sparing c.without_freed.result
-              c.without_freed.ensures.same c.without_freed.ensures.none (c.args.place + h.size)
-              (ap (λ n. c.args.place + n) z.0) (subst (λ t. 0 < t) z.1 (free-false h.tag w.if-eq.ensures)))
+          | then-eq w ↦ rw w.start-is (above-free f _ _ m _ _
+              _ c.without_freed.ensures.same c.without_freed.ensures.none
+              _ (ap (λ n. c.args.place + n) z.0) (sym z.1 ∙ free-true _ w.if-eq.ensures))
+          | else-eq w ↦ rw w.start-is (above-other f _ _ m _ _ _
+              c.without_freed.ensures.same c.without_freed.ensures.none _
+              (ap (λ n. c.args.place + n) z.0) (subst (λ t. 0 < t) z.1 (free-false _ w.if-eq.ensures)))
         ]
 
 pub returns-clause-purged : goal.returns-clause-purged
@@ -61,10 +60,10 @@ returns-clause-purged c = λ f m.
     subst (λ k. Purged (purge_above k f c.args.purges c.args.sparing) c.purge_from.result.to c.purge_from.result.bytes
     c.purge_from.new.part.bytes) (sym c.purge_from.ensures.from)
     (c.purge_from.ensures.purged (purge_above c.if-eq.start f c.args.purges c.args.sparing) (elim c.if-eq.branch [
-      | then-eq w ↦ rw w.start-is (above-free f c.args.place c.args.part.now.bytes m c.args.purges c.args.sparing
-          c.without_freed.result c.without_freed.ensures.same c.without_freed.ensures.none (c.args.place + h.size)
-          (ap (λ n. c.args.place + n) z.0) (sym z.1 ∙ free-true h.tag w.if-eq.ensures))
-      | else-eq w ↦ rw w.start-is (above-other f c.args.place c.args.part.now.bytes m c.args.purges c.args.sparing
-          c.without_freed.result c.without_freed.ensures.same c.without_freed.ensures.none (c.args.place + h.size)
-          (ap (λ n. c.args.place + n) z.0) (subst (λ t. 0 < t) z.1 (free-false h.tag w.if-eq.ensures)))
+      | then-eq w ↦ rw w.start-is (above-free f _ _ m _ _
+          _ c.without_freed.ensures.same c.without_freed.ensures.none _
+          (ap (λ n. c.args.place + n) z.0) (sym z.1 ∙ free-true _ w.if-eq.ensures))
+      | else-eq w ↦ rw w.start-is (above-other f _ _ m _ _
+          _ c.without_freed.ensures.same c.without_freed.ensures.none _
+          (ap (λ n. c.args.place + n) z.0) (subst (λ t. 0 < t) z.1 (free-false _ w.if-eq.ensures)))
     ]))

@@ -6,11 +6,9 @@ pub returns-else-goes_on-clause-purged : goal.returns-else-goes_on-clause-purged
 returns-else-goes_on-clause-purged c = λ p u.
     let s = c.loop-pass in
     let l = c.goes_on.ensures (search rules) in
-    stopped p c.args.sparing s.pass.start s.pass.at s.pass.left s.pass.freed s.part.bytes (s.invariant.passing p u)
-    l.0 l.1 l.2
+    stopped p _ _ _ _ _ _ (s.invariant.passing p u) l.0 l.1 l.2
 
 pub returns-after-loop-pass-clause-purged : goal.returns-after-loop-pass-clause-purged
 returns-after-loop-pass-clause-purged c = λ p u.
     let s = c.loop-pass in
-    purged p c.args.sparing s.pass.start s.pass.at s.pass.left s.pass.freed s.part.bytes (s.invariant.passing p u)
-    (omega (arith, c.len-end.ensures.count))
+    purged p _ _ _ _ _ _ (s.invariant.passing p u) (omega (arith, c.len-end.ensures.count))

@@ -9,8 +9,8 @@ use Rattle.zone_marks.proofs.purging.purge_lowest.Goals as goal
 pub purge_from-requires : goal.purge_from-requires
 purge_from-requires c = (
   purge_zone 0 c.args.part.now.bytes c.requires.sound.2.unused c.args.purges c.args.sparing,
-  all-start c.args.part.now.bytes c.requires.sound.0 c.requires.sound.1 c.requires.sound.2 c.args.purges
-      c.args.sparing,
+  all-start _ _ _ c.requires.sound.2 _
+      _,
 )
 
 pub returns-in_default-clause-purged : goal.returns-in_default-clause-purged
@@ -18,8 +18,7 @@ returns-in_default-clause-purged c = λ first unused i.
     let xs = c.args.part.now.bytes in
     subst (λ k. Purged (purge_zone k xs i.unused c.args.purges c.args.sparing) c.purge_from.result.to
     c.purge_from.result.bytes c.purge_from.new.part.bytes) (sym c.purge_from.ensures.from)
-    (c.purge_from.ensures.purged (purge_zone 0 xs i.unused c.args.purges c.args.sparing)
-    (all-start xs first unused i c.args.purges c.args.sparing))
+    (c.purge_from.ensures.purged (purge_zone 0 xs i.unused c.args.purges c.args.sparing) (all-start _ _ _ i _ _))
 
 pub last_free_below-start-requires-clause-up : goal.last_free_below-start-requires-clause-up
 last_free_below-start-requires-clause-up c =
@@ -28,9 +27,7 @@ last_free_below-start-requires-clause-up c =
     let f = c.in-Some.ensures.lowest in
     let p = c.in-Some.ensures.plain refl in
     let m = may-go xs i.0 i.1 i.2 c.args.purges c.args.sparing f.0 f.1 c.in-Some.place f.3 p in
-    leads-up (going xs i.0 i.1 i.2 c.args.purges c.args.sparing f.0 f.1 c.in-Some.place f.3 p) c.in-Some.place xs m
-    c.below-from.result
-    (subst (Begins c.below-from.result 0) (going-is xs i.0 i.1 i.2 c.args.purges c.args.sparing f.0 f.1 c.in-Some.place f.3 p)
+    leads-up _ _ _ m _ (subst (Begins c.below-from.result 0) (going-is _ _ _ i.2 c.args.purges _ _ f.1 _ f.3 p)
     (c.below-from.ensures.begins (zone_in xs) c.requires.marks)) c.below-from.ensures.below
 
 pub last_free_below-start-requires-clause-inside : goal.last_free_below-start-requires-clause-inside
@@ -39,8 +36,7 @@ last_free_below-start-requires-clause-inside c =
     let xs = c.args.part.now.bytes in
     let f = c.in-Some.ensures.lowest in
     let p = c.in-Some.ensures.plain refl in
-    let r = here-read (going xs i.0 i.1 i.2 c.args.purges c.args.sparing f.0 f.1 c.in-Some.place f.3 p) c.in-Some.place xs
-    (may-go xs i.0 i.1 i.2 c.args.purges c.args.sparing f.0 f.1 c.in-Some.place f.3 p) in
+    let r = here-read _ _ _ (may-go _ _ _ i.2 c.args.purges _ _ f.1 _ f.3 p) in
     omega arith
 
 pub purge_from-requires-2 : goal.purge_from-requires-2
@@ -62,6 +58,5 @@ returns-clause-purged c = λ first unused i.
     let s = c.last_free_below-start in
     let u = c.purge_from-2 in
     subst (λ k. Purged (purge_zone k xs i.unused c.args.purges c.args.sparing) u.result.to u.result.bytes u.new.part.bytes)
-    (sym u.ensures.from)
-    (u.ensures.purged (purge_zone s.result xs i.unused c.args.purges c.args.sparing)
-    (lowest-start xs first unused i c.args.purges c.args.sparing f.0 f.1 c.in-Some.place f.3 p s.result s.ensures))
+    (sym u.ensures.from) (u.ensures.purged (purge_zone s.result xs i.unused c.args.purges c.args.sparing)
+    (lowest-start _ _ _ i _ _ _ f.1 _ f.3 p _ s.ensures))

@@ -6,8 +6,7 @@ use Rattle.zone_marks.proofs.keeping.Landmarks.seek.Goals as goal
 pub first_going-self-requires : goal.first_going-self-requires
 first_going-self-requires c =
     let i = c.requires.sound in
-    begins-way c.args.part.now.bytes i.0 i.1 i.2 c.start.result
-    (c.start.ensures.begins (zone_in c.args.part.now.bytes) c.requires.marks)
+    begins-way _ _ _ i.2 _ (c.start.ensures.begins (zone_in c.args.part.now.bytes) c.requires.marks)
 
 pub returns : goal.returns
 returns c =
@@ -15,6 +14,6 @@ returns c =
     let xs = c.args.part.now.bytes in
     let m = c.requires.marks in (
       m.0,
-      stays-from xs i.0 i.1 i.2 c.start.result (c.start.ensures.begins (zone_in xs) m) (c.start.ensures.none (zone_in xs) m)
-          c.first_going-self.result c.first_going-self.ensures,
+      stays-from _ _ _ i.2 _ (c.start.ensures.begins (zone_in xs) m) (c.start.ensures.none (zone_in xs) m)
+          _ c.first_going-self.ensures,
     )

@@ -12,7 +12,7 @@ use Rattle.zone_marks.proofs.Marks.Groups.{same-groups, unknown}
 use Rattle.zone_marks.proofs.keeping.Landmarks.unlaid.Goals as goal
 
 pub page_bytes-requires : goal.page_bytes-requires
-page_bytes-requires c = let i = c.requires.sound in on-way c.args.part.now.bytes i.0 i.1 i.2
+page_bytes-requires c = let i = c.requires.sound in on-way _ _ _ i.2
 
 pub returns : goal.returns
 returns c =
@@ -25,10 +25,10 @@ returns c =
     let f : marks ≡ replicate (count * 16) blank = c.in_ok-marks.ensures.items_if_clones_equal (λ y e. e) in
     let g : groups ≡ replicate count none = c.in_ok-groups.ensures.items_if_clones_equal (λ y e. e) in (
       (
-        subst (AreMarks 4294967295 (zone_in xs)) (sym f) (unlaid-marks (zone_in xs) (omega (arith, sizes-length))
-            (count * 16)),
+        subst (AreMarks 4294967295 (zone_in xs)) (sym f) (unlaid-marks _ (omega (arith, sizes-length))
+            _),
         subst (AreGroups groups) (sym f) (subst (λ t. AreGroups t (replicate (count * 16) blank)) (sym g)
-            (same-groups (count * 16) count blank (omega arith))),
+            (same-groups _ _ _ (omega arith))),
       ),
       stays-above 0 0 (zone_in xs) (omega arith),
     )
