@@ -4,7 +4,7 @@ use Rattle.std.proofs.Common.{refl, sym, ap, ◌∙◌, subst, cond, arith, inl,
 use Rattle.std.proofs.Common.{None, length}
 use Rattle.std.proofs.lemmas.Bool.{cases_lt, false≢true}
 use Rattle.std.specs.Option.{option_map}
-use Rattle.block_store.specs.Block.{Block, Free, Nonrelocatable, Masters, Relocatable, size, sizes, free, free_of, free_sum}
+use Rattle.block_store.specs.Block.{Block, Free, Nonrelocatable, Masters, Relocatable, size, sizes, free, free_sum}
 use Rattle.block_store.specs.Block.{is_mover, is_purgeable}
 use Rattle.block_store.specs.Find.{FindsLowest}
 use Rattle.block_store.specs.Room.{Spot, spot, count_of, lowest_purged, may_be_purged}

@@ -18,7 +18,6 @@ use Rattle.zone_marks.specs.Marks.{NoRoom, Spans}
 use Rattle.zone_marks.specs.Purgeable.{MayStart, NoneGoes, Stays}
 use Rattle.zone_bytes.specs.PurgeableBytes.{purgeable_of, purgeable_sum}
 use Rattle.zone_bytes.specs.Stepping.{left_in, IsOnWay}
-use Rattle.zone_bytes.specs.Table.{slot_in}
 use Rattle.zone_marks.proofs.Bounds.Going.{none-passes, stays-here}
 use Rattle.zone_bytes.proofs.Bounds.Short.{one-gives}
 use Rattle.zone_bytes.proofs.Laws.Lawful.{sizes-length}

@@ -6,7 +6,7 @@ use Rattle.std.proofs.lemmas.List.{append-nil}
 use Rattle.block_store.specs.Block.{Block, Free, Nonrelocatable, Masters, Relocatable, size, sizes, free_of}
 use Rattle.block_store.specs.Run.{in_run}
 use Rattle.zone_bytes.specs.Changes.{AtEach}
-use Rattle.zone_marks.specs.Marks.{AreTold, IsTally, between, ends_run, told}
+use Rattle.zone_marks.specs.Marks.{AreTold, IsTally, between, ends_run}
 use Rattle.zone_marks.specs.declared.landmark.Tallies.{Tallies}
 use Rattle.zone_marks.specs.declared.landmark.Tally.{Tally}
 use Rattle.zone_marks.specs.declared.landmark.Tally.TheVariants as tally

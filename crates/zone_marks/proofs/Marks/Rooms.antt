@@ -11,7 +11,6 @@ use Rattle.block_store.proofs.Zone.Apart.{Apart, apart-tidied, apart-size}
 use Rattle.block_store.proofs.Zone.Spots.{spot_at-spot}
 use Rattle.zone_bytes.specs.Decode.{zone_in}
 use Rattle.zone_bytes.specs.Lawful.{IsSound}
-use Rattle.zone_bytes.specs.Table.{slot_in}
 use Rattle.zone_bytes.specs.Stepping.{left_in}
 use Rattle.zone_bytes.specs.Changes.{AtEach, Begins}
 use Rattle.zone_marks.specs.Marks.{AtMost, NoRoom, NoneBelow, AreMarks, AreGroups, RoomAt, next_of, no_group, no_mark}

@@ -3,14 +3,13 @@ use Rattle.std.proofs.Common.{◌≡◌, ℕ, ◌+◌, Bool, true, false, cond, 
 use Rattle.std.proofs.Common.{refl, sym, ap, ◌∙◌, subst, arith}
 use Rattle.std.proofs.lemmas.Option.{none-some, same_Some}
 use Rattle.std.specs.Option.{option_map, IfSome}
-use Rattle.block_store.specs.Block.{Block, sizes, tidy}
+use Rattle.block_store.specs.Block.{Block, sizes}
 use Rattle.block_store.specs.Room.{Spot, spot, raised}
-use Rattle.block_store.proofs.Zone.Apart.{Apart, apart-tidied, apart-above, apart-size, tidy-apart}
+use Rattle.block_store.proofs.Zone.Apart.{Apart, apart-tidied, apart-size}
 use Rattle.zone_bytes.specs.Decode.{zone_in}
 use Rattle.zone_bytes.specs.Lawful.{IsSound}
 use Rattle.zone_bytes.specs.Changes.{Begins}
 use Rattle.zone_bytes.specs.Stepping.{left_in}
-use Rattle.zone_bytes.specs.Table.{slot_in}
 use Rattle.zone_bytes.proofs.Tiles.Tiling.{span-append}
 use Rattle.zone_bytes.proofs.Laws.Lawful.{sizes-length}
 use Rattle.zone_marks.proofs.Marks.Lowering.{seen-from}
@@ -45,11 +44,6 @@ seen-past test (b ∷ below) rest s a e l = cases (test b) (spot test (below ++ 
         }
 
 module _ (xs : List ℕ) (first unused : ℕ) (i : IsSound xs first unused) (p : ℕ) (b : Begins p 0 (zone_in xs)) where
-  pub left-tidy : tidy (left_in p xs) ≡ left_in p xs
-  left-tidy =
-      let s = seen-from xs first unused i p b in
-      tidy-apart _ (apart-above _ _ (subst Apart s.is (apart-tidied _ i.tidied)))
-
   pub left-fits : sizes (left_in p xs) < 2 ^ 32
   left-fits = omega (arith, ap sizes (seen-from xs first unused i p b).is, span-append, sizes-length)
 

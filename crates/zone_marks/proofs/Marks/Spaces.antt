@@ -2,14 +2,13 @@
 use Rattle.std.proofs.Common.{◌≡◌, ℕ, ◌+◌, ◌≤◌, ◌<◌, ◌⊎◌, Bool, List, [], ◌∷◌, ◌++◌, length, append_assoc, refl}
 use Rattle.std.proofs.Common.{sym, ap, ◌∙◌, arith, inl, inr}
 use Rattle.std.proofs.lemmas.List.{append-nil}
-use Rattle.block_store.specs.Block.{size}
 use Rattle.zone_bytes.specs.Stepping.{left_in, IsOnWay}
 use Rattle.zone_marks.specs.Marks.{Spans, between}
 use Rattle.zone_marks.proofs.Marks.Between.{all-begin, between-append, none-above}
 use Rattle.zone_marks.proofs.Marks.Passing.{Passed, at-append, at-map}
 use Rattle.zone_bytes.proofs.Places.Stepped.{left-none}
 use Rattle.zone_bytes.proofs.Tiles.Tiling.{span-append}
-use Rattle.zone_summary.specs.Stretches.{is_space, join, load, prefix, space, spaces_of, suffix}
+use Rattle.zone_summary.specs.Stretches.{join, load, prefix, space, spaces_of, suffix}
 use Rattle.zone_summary.specs.declared.stretch.Counting.TheVariants.{Spaces}
 use Rattle.zone_summary.specs.declared.stretch.Stretch.{Stretch}
 use Rattle.zone_summary.specs.declared.stretch.Stretch.TheVariants.{Whole}

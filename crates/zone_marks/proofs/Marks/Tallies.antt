@@ -11,7 +11,6 @@ use Rattle.zone_marks.specs.Marks.{tally_of, told}
 use Rattle.zone_marks.specs.declared.landmark.Landmark.{Landmark}
 use Rattle.zone_marks.specs.declared.landmark.Tally.{Tally}
 use Rattle.zone_marks.specs.declared.landmark.Tally.TheVariants as tally
-use Rattle.zone_bytes.specs.Table.{slot_in}
 use Rattle.zone_bytes.proofs.Laws.Lawful.{sizes-length}
 use Rattle.zone_marks.proofs.Marks.Between.{none-above}
 use Rattle.zone_marks.proofs.Marks.Lowering.{marks-below}

@@ -1,11 +1,10 @@
 -- A search that goes from block to block.
 use Rattle.std.proofs.Common.{◌≡◌, ℕ, ◌<◌, inl, inr, List, ◌∷◌, refl, subst, arith}
-use Rattle.block_store.specs.Block.{size, free_of}
+use Rattle.block_store.specs.Block.{size}
 use Rattle.block_store.specs.Walk.{seen_size}
 use Rattle.block_store.specs.declared.sparing.Seen.{Seen}
 use Rattle.block_store.proofs.Walks.Telling.{told-size}
 use Rattle.zone_bytes.specs.Changes.{Begins}
-use Rattle.zone_marks.specs.Marks.{ends_run}
 use Rattle.zone_bytes.specs.Stepping.{left_in, Steps}
 use Rattle.zone_marks.proofs.Marks.Passing.{Passed, passed-step}
 

@@ -134,11 +134,9 @@ module _ (xs : List ℕ) (first unused : ℕ) (i : IsSound xs first unused) (s :
   pub passed-fits : (suffix p.runs + prefix runs < 2 ^ 32) × (p.free + load runs < 2 ^ 32)
   passed-fits =
       let w = edge-within xs first unused i next t.1.edge in
-      let l = load-blocks t.0 in
       let f = ap load t.2 in (
-        (let j = load-join (Whole s.free) (stretch_of q.here) in
-            omega (arith, w, l, f, ends-load p.runs runs, j, load-blocks, ap load q.sums)),
-        (omega (arith, w, l, f, load-blocks, ap load q.goes_on)),
+        (omega (arith, w, load-blocks, f, ends-load p.runs runs, load-join, ap load q.sums)),
+        (omega (arith, w, load-blocks, f, ap load q.goes_on)),
       )
 
 -- where the blocks that were passed brought no run to enough

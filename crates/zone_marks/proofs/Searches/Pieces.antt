@@ -55,7 +55,7 @@ module _ (xs : List ℕ) (first unused : ℕ) (i : IsSound xs first unused) wher
       omega (arith, ap sizes s.is, span-append, zone-long)
 
   pub edge-within : (p : ℕ) → Begins p 0 (zone_in xs) → p ≤ length xs
-  edge-within p b = let w = (begins-within p 0 _ b).1 in omega (arith, w, zone-long)
+  edge-within p b = omega (arith, (begins-within p 0 _ b).1, zone-long)
 
   pub end-begins : (end : ℕ) → end ≡ length xs → Begins end 0 (zone_in xs)
   end-begins end e = subst (λ p. Begins p 0 (zone_in xs)) (let z = zone-long in

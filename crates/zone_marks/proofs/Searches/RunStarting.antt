@@ -1,11 +1,11 @@
 -- A search for a run that begins in one, above blocks that stay.
-use Rattle.std.proofs.Common.{◌≡◌, ℕ, ◌+◌, ◌≤◌, ◌<◌, inl, inr, Bool, true, false, not, cond, map}
+use Rattle.std.proofs.Common.{◌≡◌, ℕ, ◌+◌, ◌≤◌, ◌<◌, inl, inr, Bool, true, false, not, map}
 use Rattle.std.proofs.Common.{Option, None, List, [], ◌∷◌, ◌++◌, refl, sym, ap, ◌∙◌, subst, arith, append_assoc}
 use Rattle.std.proofs.lemmas.Bool.{false≢true}
 use Rattle.std.proofs.lemmas.List.{append_cancel_right, map-append}
 use Rattle.block_store.specs.Block.{Block, size, sizes, free_of, free_sum}
 use Rattle.block_store.specs.Inner.RunScan.{scan_runs}
-use Rattle.block_store.specs.Room.{count_of, may_be_purged}
+use Rattle.block_store.specs.Room.{count_of}
 use Rattle.block_store.specs.Run.{in_run}
 use Rattle.block_store.specs.Sparing.{most_purges, opened, purged, spared}
 use Rattle.block_store.specs.declared.sparing.Sparing.{Sparing}

@@ -14,7 +14,7 @@ use Rattle.zone_marks.proofs.beginning.begin_search.Goals.{Start}
 
 -- a zone has no more blocks than there are purges
 few : (c : Start) → most_purges c.args.sparing (zone_in c.args.part.now.bytes) ≤ GREATEST_ZONE
-few c = let i = c.requires.sound in most-fits _ _ _ i.2 _
+few c = most-fits _ _ _ c.requires.sound.2 _
 
 all : (c : Start) → purged GREATEST_ZONE c.args.sparing (zone_in c.args.part.now.bytes)
     ≡ all_purged c.args.sparing (zone_in c.args.part.now.bytes)

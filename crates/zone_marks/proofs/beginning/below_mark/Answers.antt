@@ -43,21 +43,16 @@ fits xs first unused i marks a index last runs below l h t q =
     passed-fits _ _ _ i _ (ready-begun _) _ _ _ q _ (piece _ _ _ i _ a _ _ _ l h t)
 
 pub pass_known-below-requires-clause-joins : goal.pass_known-below-requires-clause-joins
-pass_known-below-requires-clause-joins c = let i = c.requires.sound in
-    (fits _ _ _ i.2 _ c.requires.marks _ _ _
+pass_known-below-requires-clause-joins c = (fits _ _ _ c.requires.sound.2 _ c.requires.marks _ _ _
     _ c.requires.inside c.loop-index-test.true c.in-Known.is c.loop-index.invariant).0
 
 pub pass_known-below-requires-clause-sums : goal.pass_known-below-requires-clause-sums
-pass_known-below-requires-clause-sums c = let i = c.requires.sound in
-    (fits _ _ _ i.2 _ c.requires.marks _ _ _
+pass_known-below-requires-clause-sums c = (fits _ _ _ c.requires.sound.2 _ c.requires.marks _ _ _
     _ c.requires.inside c.loop-index-test.true c.in-Known.is c.loop-index.invariant).1
 
 pub loop-index-preserved : goal.loop-index-preserved
 loop-index-preserved c =
-    let i = c.requires.sound in
-    let xs = c.args.part.now.bytes in
-    let l = c.requires.inside in
     let h = c.loop-index-test.true in
-    let p = piece _ _ _ i.2 _ c.requires.marks _ _ _ l h c.in-Known.is in
-    c.pass_known-below.ensures xs (begun 0 0) p.0 c.loop-index.invariant
-    (mark-edge _ _ _ i.2 _ c.requires.marks _ (omega (arith, l, h))) p.1 p.2
+    let p = piece _ _ _ c.requires.sound.2 _ c.requires.marks _ _ _ c.requires.inside h c.in-Known.is in
+    c.pass_known-below.ensures c.args.part.now.bytes (begun 0 0) p.0 c.loop-index.invariant
+    (mark-edge _ _ _ c.requires.sound.2 _ c.requires.marks _ (omega (arith, c.requires.inside, h))) p.1 p.2

@@ -1,4 +1,4 @@
-use Rattle.std.proofs.Common.{◌+◌, arith}
+use Rattle.std.proofs.Common.{arith}
 use Rattle.zone_marks.proofs.Searches.Begun.{open-begun, open-farther, open-few}
 use Rattle.zone_marks.proofs.beginning.open_run.Goals as goal
 

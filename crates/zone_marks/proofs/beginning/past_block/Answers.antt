@@ -10,19 +10,13 @@ span_at-span-requires-clause-way c =
 
 pub returns-then-span-clause-run : goal.returns-then-span-clause-run
 returns-then-span-clause-run c =
-    let i = c.requires.sound in
-    let s = c.span_at-span in
-    open-past-bar _ _ _ i.2 _ c.requires.run _ _ _ s.ensures c.if-span.true
+    open-past-bar _ _ _ c.requires.sound.2 _ c.requires.run _ _ _ c.span_at-span.ensures c.if-span.true
 
 pub returns-clause-run : goal.returns-clause-run
 returns-clause-run c =
-    let i = c.requires.sound in
-    let s = c.span_at-span in
-    open-past-one _ _ _ i.2 _ c.requires.run _ _ _ s.ensures c.if-span.false
+    open-past-one _ _ _ c.requires.sound.2 _ c.requires.run _ _ _ c.span_at-span.ensures c.if-span.false
 
 pub overflow_add-result : goal.overflow_add-result
 overflow_add-result c =
-    let i = c.requires.sound in
-    let s = c.span_at-span in
-    let o = open-past-one _ _ _ i.2 _ c.requires.run _ _ _ s.ensures c.if-span.false in
+    let o = open-past-one _ _ _ c.requires.sound.2 _ c.requires.run _ _ _ c.span_at-span.ensures c.if-span.false in
     omega (arith, open-few)

@@ -10,12 +10,7 @@ span_at-span-requires-clause-way c =
 
 pub returns-then-span : goal.returns-then-span
 returns-then-span c =
-    let i = c.requires.sound in
-    let s = c.span_at-span in
-    inr (run-here _ _ _ i.2 _ _ _ _ c.loop-place.invariant s.ensures c.if-span.true)
+    inr (run-here _ _ _ c.requires.sound.2 _ _ _ _ c.loop-place.invariant c.span_at-span.ensures c.if-span.true)
 
 pub loop-place-preserved : goal.loop-place-preserved
-loop-place-preserved c =
-    let i = c.requires.sound in
-    let s = c.span_at-span in
-    edge-above _ _ _ i.2 _ _ _ _ c.loop-place.invariant s.ensures
+loop-place-preserved c = edge-above _ _ _ c.requires.sound.2 _ _ _ _ c.loop-place.invariant c.span_at-span.ensures

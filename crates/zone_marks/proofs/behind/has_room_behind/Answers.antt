@@ -14,10 +14,8 @@ walk_from-requires c =
 
 pub returns : goal.returns
 returns c =
-    let i = c.requires.sound in
-    let e = c.edge_below-from in
-    sought _ _ _ i.2 _ e.ensures.begins (is_relocatable c.args.slot)
-    (λ above. c.room_above_in.result ≡ is_some (taken c.args.bytes above)) e.ensures.low
+    sought _ _ _ c.requires.sound.2 _ c.edge_below-from.ensures.begins (is_relocatable c.args.slot)
+    (λ above. c.room_above_in.result ≡ is_some (taken c.args.bytes above)) c.edge_below-from.ensures.low
     (subst (λ l. IfSome (spot (is_relocatable c.args.slot) l)
     (λ (s : Spot). c.room_above_in.result ≡ is_some (taken c.args.bytes s.above))) c.walk_from.ensures
     c.room_above_in.ensures)

@@ -6,7 +6,6 @@ use Rattle.zone_summary.specs.Fewest.{count_within}
 use Rattle.zone_summary.proofs.Fewest.{count-few}
 use Rattle.zone_bytes.specs.Decode.{zone_in}
 use Rattle.zone_bytes.specs.Changes.{Begins}
-use Rattle.zone_bytes.specs.Stepping.{left_in}
 use Rattle.zone_marks.proofs.Bounds.Fewest.{count-below}
 use Rattle.zone_marks.proofs.Marks.Lowering.{begins-way, seen-from}
 use Rattle.zone_marks.proofs.Searches.Pieces.{left-long}
@@ -32,12 +31,11 @@ count_in-requires c =
 
 pub returns-clause-is : goal.returns-clause-is
 returns-clause-is c = λ low rest is at.
-    let i = c.requires.sound in
     let n = c.args.sparing in
     let w = c.within-first.ensures in
     c.count_in.ensures.is
     ∙ ap (λ l. count_within (spared n) (c.args.run - c.within-first.result) (opened n l)) c.walk_from.ensures
-    ∙ count-below _ _ _ i.2 _ _ _ n low rest
+    ∙ count-below _ _ _ c.requires.sound.2 _ _ _ n low rest
     (edge_begins (goal.at.returns-clause-is c).After-within-first) w.least c.requires.none w.low is at
 
 pub returns-clause-few : goal.returns-clause-few

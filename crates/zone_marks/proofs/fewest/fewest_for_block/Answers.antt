@@ -17,24 +17,22 @@ use Rattle.zone_marks.proofs.Searches.Pieces.{left-long}
 use Rattle.zone_marks.proofs.fewest.fewest_for_block.Goals as goal
 
 pub walk_from-requires : goal.walk_from-requires
-walk_from-requires c = let i = c.requires.sound in on-way _ _ _ i.2
+walk_from-requires c = on-way _ _ _ c.requires.sound.2
 
 pub run_of_in-requires : goal.run_of_in-requires
 run_of_in-requires c = omega (arith, ap sizes c.walk_from.ensures, sizes-fit)
 
 pub returns-in_default : goal.returns-in_default
 returns-in_default c =
-    let xs = c.args.part.now.bytes in
-    no-run-of _ _ _ _ (c.requires.whole (zone_in xs)) c.requires.spared
+    no-run-of _ _ _ _ (c.requires.whole (zone_in c.args.part.now.bytes)) c.requires.spared
     (subst (λ z. FindsLowestRun (λ run. has (is_relocatable c.args.number) run && has_free 0 run)
     (tidy z) None) (c.walk_from.ensures ∙ left-zone _) c.in_default.ensures)
 
 pub free_at-free-requires-clause-begins : goal.free_at-free-requires-clause-begins
 free_at-free-requires-clause-begins c =
-    let xs = c.args.part.now.bytes in
     let r = block-run _ c.args.number c.args.bytes _ _
     _ (c.walk_from.ensures ∙ left-zone _) c.requires.once c.requires.spared c.requires.whole c.in-Some.ensures in
-    run-begins xs c.in-Some.run' r.low r.rest r.is r.at
+    run-begins c.args.part.now.bytes c.in-Some.run' r.low r.rest r.is r.at
 
 pub returns-then-bytes-free : goal.returns-then-bytes-free
 returns-then-bytes-free c =
@@ -81,10 +79,9 @@ returns-in_default-count_in_run c =
 
 pub count_below-requires-clause-run : goal.count_below-requires-clause-run
 count_below-requires-clause-run c =
-    let xs = c.args.part.now.bytes in
     let r = block-run _ c.args.number c.args.bytes _ _
     _ (c.walk_from.ensures ∙ left-zone _) c.requires.once c.requires.spared c.requires.whole c.in-Some.ensures in
-    run-begins xs c.in-Some.run' r.low r.rest r.is r.at
+    run-begins c.args.part.now.bytes c.in-Some.run' r.low r.rest r.is r.at
 
 pub overflow_add-result : goal.overflow_add-result
 overflow_add-result c =

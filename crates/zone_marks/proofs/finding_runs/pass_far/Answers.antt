@@ -1,4 +1,4 @@
-use Rattle.std.proofs.Common.{get_or, length, refl, sym, subst}
+use Rattle.std.proofs.Common.{get_or, refl, sym, subst}
 use Rattle.zone_marks.specs.Marks.{no_mark}
 use Rattle.zone_marks.specs.Searching.{IsStretch}
 use Rattle.zone_summary.specs.declared.stretch.Counting.TheVariants.{Runs}

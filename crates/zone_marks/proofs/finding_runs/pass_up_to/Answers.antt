@@ -15,12 +15,9 @@ up-to c =
 pub pass_stretch-requires : goal.pass_stretch-requires
 pass_stretch-requires c = record {
   fits = λ runs e.
-      let i = c.requires.sound in
-      let xs = c.args.part.now.bytes in
       let d = (goal.at.pass_stretch-requires c).After-within-next in
-      let h = c.requires.come.1 in
-      passed-fits _ _ _ i.2 _ h.ready _ _ _ h.passed
-      _ (subst (λ t. IsStretch Runs t c.args.reached.at c.within-next.result xs) e
+      passed-fits _ _ _ c.requires.sound.2 _ c.requires.come.1.ready _ _ _ c.requires.come.1.passed
+      _ (subst (λ t. IsStretch Runs t c.args.reached.at c.within-next.result c.args.part.now.bytes) e
       (c.requires.stretch c.within-next.result (up-to d)));
 }
 

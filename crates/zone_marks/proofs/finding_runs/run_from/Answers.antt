@@ -64,10 +64,9 @@ reach_run-requires-clause-short c =
 
 pub reach_run-requires-clause-here : goal.reach_run-requires-clause-here
 reach_run-requires-clause-here c = λ l.
-    let i = c.requires.sound in
     let d = (goal.at.reach_run-requires-clause-here c).After-scan_up_to-scan in
     not-found _ _ _ _ _ (there d) (sym c.is_found.ensures ∙ c.if-is_found.false)
-    ∙ bounded-mark _ _ _ i.2 _ c.requires.marks c.index_above-first.result
+    ∙ bounded-mark _ _ _ c.requires.sound.2 _ c.requires.marks c.index_above-first.result
     c.within-at.result c.len.result c.len.ensures.count (bounds d.before) (omega arith) l
 
 pub reach_run-requires-clause-end : goal.reach_run-requires-clause-end

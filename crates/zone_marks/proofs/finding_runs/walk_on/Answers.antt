@@ -1,7 +1,6 @@
 use Rattle.std.proofs.Common.{None, sym, ◌∙◌}
-use Rattle.block_store.specs.Sparing.{opened, spared}
+use Rattle.block_store.specs.Sparing.{spared}
 use Rattle.block_store.proofs.Regroup.RunScans.{scan_kept}
-use Rattle.zone_bytes.specs.Stepping.{left_in}
 use Rattle.zone_marks.proofs.Marks.Lowering.{begins-way}
 use Rattle.zone_marks.proofs.Searches.Passed.{walked-out}
 use Rattle.zone_marks.proofs.finding_runs.walk_on.Goals as goal
@@ -20,7 +19,6 @@ returns-then-is_found c =
 
 pub returns : goal.returns
 returns c =
-    let i = c.requires.sound in
     let r = c.scan_up_to-last in
-    sym (r.ensures.same ∙ walked-out _ _ _ _ _ i.2 c.args.scan r.result
+    sym (r.ensures.same ∙ walked-out _ _ _ _ _ c.requires.sound.2 c.args.scan r.result
     c.requires.begins r.ensures.begins r.ensures.came (sym c.is_found.ensures ∙ c.if-is_found.false))

@@ -1,4 +1,4 @@
-use Rattle.std.proofs.Common.{◌≡◌, ◌⊎◌, ◌+◌, false, length, arith, subst}
+use Rattle.std.proofs.Common.{◌≡◌, ◌⊎◌, ◌+◌, false, arith, subst}
 use Rattle.block_store.specs.Block.{is_room}
 use Rattle.zone_marks.proofs.Bounds.Space.{growing-start, growing-step}
 use Rattle.zone_marks.proofs.Marks.Passing.{passed-all, past}
@@ -9,9 +9,8 @@ loop-at-init c = growing-start _ _ _ c.requires
 
 pub loop-at-preserved : goal.loop-at-preserved
 loop-at-preserved c =
-    let s = c.span_at-span in
     let g = c.greater-largest.ensures in
-    growing-step _ _ _ _ _ _ _ _ _ c.loop-at.invariant s.ensures g.first g.second g.one
+    growing-step _ _ _ _ _ _ _ _ _ c.loop-at.invariant c.span_at-span.ensures g.first g.second g.one
 
 pub returns-clause-none : goal.returns-clause-none
 returns-clause-none c =

@@ -1,5 +1,4 @@
-use Rattle.std.proofs.Common.{◌+◌, arith}
-use Rattle.zone_bytes.specs.Decode.{zone_in}
+use Rattle.std.proofs.Common.{arith}
 use Rattle.zone_marks.proofs.Bounds.Space.{left-largest, no-more-room}
 use Rattle.zone_marks.proofs.Marks.Lowering.{begins-way}
 use Rattle.zone_marks.proofs.Marks.Rooms.{none-further, none-whole}
@@ -12,8 +11,7 @@ larger_between-requires c =
 
 pub returns-then-mark-most-clause-none : goal.returns-then-mark-most-clause-none
 returns-then-mark-most-clause-none c =
-    let i = c.requires.sound in
-    none-whole _ _ _ i.2 _ _ _ c.requires.below (c.requires.bound (omega arith))
+    none-whole _ _ _ c.requires.sound.2 _ _ _ c.requires.below (c.requires.bound (omega arith))
 
 pub returns-else-mark-most-clause-none : goal.returns-else-mark-most-clause-none
 returns-else-mark-most-clause-none c =

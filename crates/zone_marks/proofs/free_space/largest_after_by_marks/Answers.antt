@@ -34,7 +34,6 @@ returns c =
 -- as many purges as a zone can have blocks
 pub returns-then-purges-ge-GREATEST_ZONE : goal.returns-then-purges-ge-GREATEST_ZONE
 returns-then-purges-ge-GREATEST_ZONE c =
-    let i = c.requires.sound in
     let xs = c.args.part.now.bytes in
     c.largest_space_by_marks.ensures ∙ sym (ap largest_free (purged-most _ sparing.Nothing (zone_in xs)
-    (omega (arith, most-fits _ _ i.1 i.2 sparing.Nothing))))
+    (omega (arith, most-fits _ _ c.requires.sound.1 c.requires.sound.2 sparing.Nothing))))

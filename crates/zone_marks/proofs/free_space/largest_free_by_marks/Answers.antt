@@ -11,24 +11,21 @@ use Rattle.zone_marks.proofs.free_space.largest_free_by_marks.Goals as goal
 use Rattle.zone_marks.proofs.free_space.largest_free_by_marks.Goals.{then-largest-groups, else-largest-groups}
 
 pub larger_between-largest-requires : goal.larger_between-largest-requires
-larger_between-largest-requires c = let i = c.requires.sound in on-way _ _ _ i.2
+larger_between-largest-requires c = on-way _ _ _ c.requires.sound.2
 
 pub loop-group-init : goal.loop-group-init
 loop-group-init c =
-    let xs = c.args.part.now.bytes in
     let r = c.larger_between-largest.result in
     let e = c.larger_between-largest.ensures in
     record {
-      none = subst (λ p. AtEach (NoRoom (r + 1) 0 p) 0 (zone_in xs)) c.place_of_mark.ensures
+      none = subst (λ p. AtEach (NoRoom (r + 1) 0 p) 0 (zone_in c.args.part.now.bytes)) c.place_of_mark.ensures
           (subst (AtEach (NoRoom (r + 1) 0 c.place_of_mark.result) 0) (left-zone _) e.none);
-      reached = omega (arith, ap largest_free (left-zone xs));
+      reached = omega (arith, ap largest_free (left-zone c.args.part.now.bytes));
     }
 
 pub loop-group-preserved : goal.loop-group-preserved
 loop-group-preserved c =
-    let i = c.requires.sound in
-    let xs = c.args.part.now.bytes in
-    let zone = zone_in xs in
+    let zone = zone_in c.args.part.now.bytes in
     let marks = c.args.marks.now in
     let group = c.loop-group.group in
     elim c.if-largest-groups.branch [
@@ -40,7 +37,7 @@ loop-group-preserved c =
       }
       | else-largest-groups w ↦ record {
         none = subst (λ m. NoneBelow (m + 1) zone marks (GROUP * (group + 1))) (sym w.largest-is)
-            (none-group _ _ _ i.2 _ _ c.requires.marks _ c.requires.groups
+            (none-group _ _ _ c.requires.sound.2 _ _ c.requires.marks _ c.requires.groups
             _ c.loop-group-test.true (omega arith) c.loop-group.invariant.none);
         reached = (omega arith);
       }
@@ -48,7 +45,6 @@ loop-group-preserved c =
 
 pub returns : goal.returns
 returns c =
-    let i = c.requires.sound in
     let xs = c.args.part.now.bytes in
-    zone-largest _ _ _ i.2 _ (none-past _ _ c.args.marks.now (GROUP * c.loop-group.group)
+    zone-largest _ _ _ c.requires.sound.2 _ (none-past _ _ c.args.marks.now (GROUP * c.loop-group.group)
     (omega arith) c.loop-group.invariant.none) c.loop-group.invariant.reached

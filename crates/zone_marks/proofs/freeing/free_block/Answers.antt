@@ -20,42 +20,37 @@ free_up-end-requires c =
 pub join_above-requires : goal.join_above-requires
 join_above-requires c =
     let f = c.requires.0 in
-    let xs = c.args.part.now.bytes in
     let r = c.last_free_below-start in
     let u = c.free_up-end in
     let t = u.ensures.end (lower f _ _ c.requires.1 _ r.ensures) (may-free f _ _ c.requires.1 _ r.ensures) in (
-      freed f c.args.place xs c.requires.1 r.result r.ensures,
+      freed f c.args.place c.args.part.now.bytes c.requires.1 r.result r.ensures,
       may-join f _ _ c.requires.1 _ r.ensures _ t _ u.ensures.lays,
     )
 
 pub overflow_sub-result : goal.overflow_sub-result
 overflow_sub-result c =
-    let r = c.last_free_below-start in
     let t = c.free_up-end.ensures.end (lower _ _ _ c.requires.1 _
-    r.ensures) (may-free _ _ _ c.requires.1 _ r.ensures) in
+    c.last_free_below-start.ensures) (may-free _ _ _ c.requires.1 _ c.last_free_below-start.ensures) in
     omega (arith, t)
 
 pub returns-clause-bytes : goal.returns-clause-bytes
 returns-clause-bytes c = λ f m.
     let r = c.last_free_below-start in
-    let t = c.free_up-end.ensures.end (lower f _ _ m _ r.ensures) (may-free f _ _ m _ r.ensures) in
-    omega (arith, t)
+    omega (arith, c.free_up-end.ensures.end (lower f _ _ m _ r.ensures) (may-free f _ _ m _ r.ensures))
 
 pub returns-clause-lays : goal.returns-clause-lays
 returns-clause-lays c = λ f m.
     let xs = c.args.part.now.bytes in
     let r = c.last_free_below-start in
-    let u = c.free_up-end in
-    let t = u.ensures.end (lower f _ _ m _ r.ensures) (may-free f _ _ m _ r.ensures) in
-    released f _ _ m _ r.ensures _ t _ u.ensures.lays _ c.join_above.ensures.lays
+    let t = c.free_up-end.ensures.end (lower f _ _ m _ r.ensures) (may-free f _ _ m _ r.ensures) in
+    released f _ _ m _ r.ensures _ t _ c.free_up-end.ensures.lays _ c.join_above.ensures.lays
 
 pub returns-clause-replaced : goal.returns-clause-replaced
 returns-clause-replaced c = λ f m.
     let xs = c.args.part.now.bytes in
     let r = c.last_free_below-start in
-    let u = c.free_up-end in
-    let t = u.ensures.end (lower f _ _ m _ r.ensures) (may-free f _ _ m _ r.ensures) in
-    freed-replaced f _ _ m _ r.ensures _ t _ u.ensures.lays _ c.free_behind-more.ensures
+    let t = c.free_up-end.ensures.end (lower f _ _ m _ r.ensures) (may-free f _ _ m _ r.ensures) in
+    freed-replaced f _ _ m _ r.ensures _ t _ c.free_up-end.ensures.lays _ c.free_behind-more.ensures
 
 pub free_behind-more-requires : goal.free_behind-more-requires
 free_behind-more-requires c =

@@ -18,6 +18,5 @@ purgeable_in-requires c =
 
 pub returns : goal.returns
 returns c =
-    let i = c.requires.sound in
     c.purgeable_in.ensures ∙ ap (most_purges c.args.sparing) c.walk_from.ensures
-    ∙ count-from _ _ _ i.2 _ c.requires.begins c.requires.none _ c.requires.plain
+    ∙ count-from _ _ _ c.requires.sound.2 _ c.requires.begins c.requires.none _ c.requires.plain

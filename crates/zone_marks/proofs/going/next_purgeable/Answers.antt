@@ -21,8 +21,7 @@ next_purgeable_in-requires c =
 
 pub returns-in_default : goal.returns-in_default
 returns-in_default c =
-    let i = c.requires.sound in
-    next-none _ _ _ i.2 _ c.requires.begins c.requires.none _ c.requires.plain _
+    next-none _ _ _ c.requires.sound.2 _ c.requires.begins c.requires.none _ c.requires.plain _
     (subst (λ l. FindsLowest (may_be_purged (spared c.args.sparing)) (purged c.args.purges c.args.sparing l) None)
     c.walk_from.ensures c.in_default.ensures)
 
@@ -36,7 +35,6 @@ overflow_add-result c =
 
 pub returns : goal.returns
 returns c =
-    let i = c.requires.sound in
-    next-some _ _ _ i.2 _ c.requires.begins c.requires.none _ c.requires.plain _ _
+    next-some _ _ _ c.requires.sound.2 _ c.requires.begins c.requires.none _ c.requires.plain _ _
     (subst (λ l. FindsLowest (may_be_purged (spared c.args.sparing)) (purged c.args.purges c.args.sparing l)
     (Some c.in-Some.above)) c.walk_from.ensures c.in-Some.ensures)

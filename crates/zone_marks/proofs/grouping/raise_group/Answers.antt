@@ -1,5 +1,5 @@
-use Rattle.std.proofs.Common.{◌/◌, refl, arith}
-use Rattle.zone_marks.proofs.Marks.Groups.{group-raised, unknown}
+use Rattle.std.proofs.Common.{refl, arith}
+use Rattle.zone_marks.proofs.Marks.Groups.{group-raised}
 use Rattle.zone_marks.proofs.grouping.raise_group.Goals as goal
 
 pub returns : goal.returns

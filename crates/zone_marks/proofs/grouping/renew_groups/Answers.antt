@@ -1,4 +1,4 @@
-use Rattle.std.proofs.Common.{◌+◌, ◌-◌, ◌*◌, refl, arith, length-set, ◌∙◌}
+use Rattle.std.proofs.Common.{refl, arith, length-set, ◌∙◌}
 use Rattle.zone_marks.proofs.Marks.Groups.{group-renewed}
 use Rattle.zone_marks.proofs.Marks.Tallies.{loads-part}
 use Rattle.zone_marks.proofs.grouping.renew_groups.Goals as goal

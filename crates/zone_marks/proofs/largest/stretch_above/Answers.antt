@@ -38,9 +38,8 @@ edge_next c = let i = c.requires.sound in
 stretch : (c : After-within-next)
     → IsStretch c.args.counting c.told_from-told.result.tally c.loop-index.at c.within-next.result c.args.part.now.bytes
 stretch c =
-    let xs = c.args.part.now.bytes in
     let w = c.within-next.ensures in
-    subst (λ q. IsStretch c.args.counting c.told_from-told.result.tally q c.within-next.result xs)
+    subst (λ q. IsStretch c.args.counting c.told_from-told.result.tally q c.within-next.result c.args.part.now.bytes)
     (sym (c.loop-index.invariant.here c.loop-index-test.true))
     (c.told_from-told.ensures.stretch c.within-next.result (before _ _ _ _ _ _ c.place_of_mark-in-loop-index.ensures
     c.len-end.ensures.count w.one w.low w.least))
@@ -123,11 +122,10 @@ loop-index-preserved c =
 -- no block is left behind the last landmark
 whole : (c : After-loop-index) → stretch_by c.args.counting (left_in c.args.from c.args.part.now.bytes) ≡ c.loop-index.stretch
 whole c =
-    let i = c.requires.sound in
     let xs = c.args.part.now.bytes in
     let v = c.loop-index.invariant in
     v.same ∙ ap (λ l. join c.loop-index.stretch (stretch_by c.args.counting l)) (left-none _ _
-    (begins-way _ _ _ i.2 _ v.edge) (v.end c.loop-index-test.false))
+    (begins-way _ _ _ c.requires.sound.2 _ v.edge) (v.end c.loop-index-test.false))
     ∙ ap (join c.loop-index.stretch) (counted-none _) ∙ join-unit_right _
 
 pub returns-clause-low : goal.returns-clause-low

@@ -15,15 +15,13 @@ spaces_up_to-requires c = let i = c.requires.sound in
     begins-way c.args.part.now.bytes i.0 i.1 i.2 c.args.from c.requires.begins
 
 pub returns-in-Runs : goal.returns-in-Runs
-returns-in-Runs c = let i = c.requires.sound in
-    let t = tally.Known c.measure_up_to.result.runs in
+returns-in-Runs c = let t = tally.Known c.measure_up_to.result.runs in
     subst (λ w. IsStretch w t c.args.from c.args.to c.args.part.now.bytes) (sym c.in-Runs.is)
-    (stretch-from _ _ _ i.2 Runs t c.args.from c.args.to c.requires.begins c.requires.ends
+    (stretch-from _ _ _ c.requires.sound.2 Runs t c.args.from c.args.to c.requires.begins c.requires.ends
     c.requires.order c.measure_up_to.ensures.below.runs)
 
 pub returns-in-Spaces : goal.returns-in-Spaces
-returns-in-Spaces c = let i = c.requires.sound in
-    let t = tally.Known c.spaces_up_to.result in
+returns-in-Spaces c = let t = tally.Known c.spaces_up_to.result in
     subst (λ w. IsStretch w t c.args.from c.args.to c.args.part.now.bytes) (sym c.in-Spaces.is)
-    (stretch-from _ _ _ i.2 Spaces t c.args.from c.args.to c.requires.begins c.requires.ends
+    (stretch-from _ _ _ c.requires.sound.2 Spaces t c.args.from c.args.to c.requires.begins c.requires.ends
     c.requires.order c.spaces_up_to.ensures)

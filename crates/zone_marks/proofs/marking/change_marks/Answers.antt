@@ -5,7 +5,6 @@ use Rattle.zone_marks.proofs.Marks.Lowering.{last-mark, replaced-order}
 use Rattle.zone_marks.proofs.Marks.Tallies.{loads-small}
 use Rattle.zone_marks.proofs.marking.change_marks.Goals as goal
 use Rattle.zone_marks.proofs.marking.change_marks.Goals.{then-loop-first-test+else-lo-above, else-loop-first-test}
-use Rattle.zone_marks.specs.Marks.{no_mark}
 
 pub loop-first-init : goal.loop-first-init
 loop-first-init c = (
@@ -20,9 +19,8 @@ changed_mark-mark-requires-clause-ordered c = replaced-order _ _ _ _ c.requires.
 
 pub changed_mark-mark-requires-clause-rising : goal.changed_mark-mark-requires-clause-rising
 changed_mark-mark-requires-clause-rising c =
-    let old = c.requires.marks.0 in
     (last-mark _ _ _ _ _ _ _ _ _ _ (omega arith) c.loop-first.invariant.0
-    (c.loop-first.invariant.2 old c.requires.marks.1 c.requires.marks.2)).1.3
+    (c.loop-first.invariant.2 c.requires.marks.0 c.requires.marks.1 c.requires.marks.2)).1.3
 
 pub changed_mark-mark-requires-clause-lowered : goal.changed_mark-mark-requires-clause-lowered
 changed_mark-mark-requires-clause-lowered c =
@@ -50,10 +48,9 @@ loop-first-preserved c =
 
 pub returns-clause-marks : goal.returns-clause-marks
 returns-clause-marks c =
-    let old = c.requires.marks.0 in
     let new = zone_in c.args.part.now.bytes in
     let z = c.requires.marks.1 in
-    let g = c.loop-first.invariant.2 old z c.requires.marks.2 in
+    let g = c.loop-first.invariant.2 c.requires.marks.0 z c.requires.marks.2 in
     elim c.loop-first-test.branch [
       | then-loop-first-test+else-lo-above w ↦ changing-below _ _ _ _ z (replaced-order _ _ _ _ z) _ _ _
           _ w.if-lo-above.false g
@@ -63,12 +60,10 @@ returns-clause-marks c =
 
 pub renew_groups-requires-clause-fits : goal.renew_groups-requires-clause-fits
 renew_groups-requires-clause-fits c =
-    let i = c.requires.sound in
-    let old = c.requires.marks.0 in
     let new = zone_in c.args.part.now.bytes in
     let z = c.requires.marks.1 in
-    let g = c.loop-first.invariant.2 old z c.requires.marks.2 in
-    loads-small _ _ _ i.2 _ _ (elim c.loop-first-test.branch [
+    let g = c.loop-first.invariant.2 c.requires.marks.0 z c.requires.marks.2 in
+    loads-small _ _ _ c.requires.sound.2 _ _ (elim c.loop-first-test.branch [
       | then-loop-first-test+else-lo-above w ↦ changing-below _ _ _ _ z (replaced-order _ _ _ _ z) _ _ _
           _ w.if-lo-above.false g
       | else-loop-first-test w ↦ changing-done _ _ _ _ _ _

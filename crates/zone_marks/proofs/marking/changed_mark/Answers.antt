@@ -19,13 +19,12 @@ returns-then-hi-mark c =
     let lo = c.args.lo in
     let hi = c.args.hi in
     let at = c.args.mark.at in
-    let next = c.args.next in
     let new = zone_in c.args.part.now.bytes in
-    let apart : (hi ≤ at) ⊎ (next ≤ lo) = elim c.then-hi-mark.either [
+    let apart : (hi ≤ at) ⊎ (c.args.next ≤ lo) = elim c.then-hi-mark.either [
       | inl h ↦ inl h
       | inr w ↦ inr w.1
     ] in
-    let same = same-end lo hi at next c.args.above c.requires.rising apart c.requires.lowered in
+    let same = same-end lo hi at c.args.next c.args.above c.requires.rising apart c.requires.lowered in
     let stays : Lowered lo hi at at = inr (
       refl,
       elim apart [

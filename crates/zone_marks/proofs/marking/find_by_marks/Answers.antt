@@ -16,17 +16,15 @@ room_in_stretch-requires-clause-below c =
 
 pub loop-group-preserved : goal.loop-group-preserved
 loop-group-preserved c =
-    let i = c.requires.sound in
     let group = c.loop-group.group in
     elim c.if-bytes-groups.branch [
       | then-bytes-groups+in_default-room_in_group w ↦ subst (NoneBelow c.args.bytes (zone_in c.args.part.now.bytes) c.args.marks.now)
           (let e : GROUP * group + GROUP ≡ GROUP * (group + 1) = omega arith in e) w.in_default-room_in_group.ensures.none
-      | else-bytes-groups w ↦ none-group _ _ _ i.2 _ _
+      | else-bytes-groups w ↦ none-group _ _ _ c.requires.sound.2 _ _
           c.requires.marks _ c.requires.groups _ c.loop-group-test.true w.if-bytes-groups.false c.loop-group.invariant
     ]
 
 pub returns : goal.returns
 returns c =
-    let i = c.requires.sound in
-    none-found _ _ _ i.2 _ (none-past _ _ c.args.marks.now (GROUP * c.loop-group.group)
+    none-found _ _ _ c.requires.sound.2 _ (none-past _ _ c.args.marks.now (GROUP * c.loop-group.group)
     (omega arith) c.loop-group.invariant)

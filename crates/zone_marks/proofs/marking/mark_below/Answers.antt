@@ -2,7 +2,6 @@ use Rattle.std.proofs.Common.{inl, arith}
 use Rattle.zone_marks.proofs.Marks.Passing.{begins-here}
 use Rattle.zone_marks.proofs.Marks.Lowering.{mark-begins}
 use Rattle.zone_marks.proofs.marking.mark_below.Goals as goal
-use Rattle.zone_marks.specs.Marks.{no_mark}
 
 pub returns-then-above-eq0-clause-begins : goal.returns-then-above-eq0-clause-begins
 returns-then-above-eq0-clause-begins c = λ end zone a. begins-here 0 _

@@ -7,11 +7,7 @@ measured_mark-requires c =
     begins-way c.args.part.now.bytes i.0 i.1 i.2 c.args.at c.requires.begins
 
 pub returns-clause-bound : goal.returns-clause-bound
-returns-clause-bound c =
-    let i = c.requires.sound in
-    bound-here _ _ _ i.2 _ _ _ c.requires.begins c.measured_mark.ensures.bound
+returns-clause-bound c = bound-here _ _ _ c.requires.sound.2 _ _ _ c.requires.begins c.measured_mark.ensures.bound
 
 pub returns-clause-tally : goal.returns-clause-tally
-returns-clause-tally c =
-    let i = c.requires.sound in
-    tally-here _ _ _ i.2 _ _ _ c.requires.begins c.measured_mark.ensures.tally
+returns-clause-tally c = tally-here _ _ _ c.requires.sound.2 _ _ _ c.requires.begins c.measured_mark.ensures.tally

@@ -1,4 +1,4 @@
-use Rattle.std.proofs.Common.{◌≡◌, ◌⊎◌, length, sym, subst, arith}
+use Rattle.std.proofs.Common.{◌≡◌, ◌⊎◌, sym, subst, arith}
 use Rattle.zone_bytes.specs.Changes.{Begins}
 use Rattle.zone_bytes.specs.Stepping.{left_in}
 use Rattle.zone_marks.proofs.Marks.Counting.{counted-start, counted-step, counted-fits, counted-edge}

@@ -1,4 +1,4 @@
-use Rattle.std.proofs.Common.{◌≡◌, false, inl, length, arith, subst, ◌⊎◌}
+use Rattle.std.proofs.Common.{◌≡◌, false, inl, arith, subst, ◌⊎◌}
 use Rattle.block_store.specs.Block.{is_room}
 use Rattle.zone_marks.proofs.Marks.Passing.{passed-begins, passed-step, passed-all, past}
 use Rattle.zone_marks.proofs.Marks.Spanned.{no-room, room-here}
@@ -20,9 +20,8 @@ returns-then-bytes-span-clause-room c = room-here _ _ _
 
 pub loop-at-preserved : goal.loop-at-preserved
 loop-at-preserved c =
-    let s = c.span_at-span in
     passed-step _ _ (λ _ b. is_room c.args.bytes b ≡ false) _ _
-    _ _ c.loop-at.invariant s.ensures (λ b e z. no-room _ b z (λ p q. elim c.else-span-gt0.branch [
+    _ _ c.loop-at.invariant c.span_at-span.ensures (λ b e z. no-room _ b z (λ p q. elim c.else-span-gt0.branch [
       | else-span-gt0-via-then-span-gt0+else-bytes-span w ↦ omega (arith, e, q)
       | else-span-gt0-via-else-span-gt0 w ↦ omega (arith, e, p)
     ]))

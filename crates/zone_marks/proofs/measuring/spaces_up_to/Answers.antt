@@ -1,4 +1,4 @@
-use Rattle.std.proofs.Common.{◌≡◌, ◌⊎◌, length, subst, arith}
+use Rattle.std.proofs.Common.{◌≡◌, ◌⊎◌, subst, arith}
 use Rattle.zone_marks.proofs.Marks.Passing.{past}
 use Rattle.zone_marks.proofs.Marks.Spaces.{spaced-fits, spaced-start, spaced-step, spaced-tells}
 use Rattle.zone_marks.proofs.measuring.spaces_up_to.Goals as goal
@@ -15,9 +15,8 @@ join-spaces-requires c =
 
 pub loop-at-preserved : goal.loop-at-preserved
 loop-at-preserved c =
-    let s = c.span_at-span in
-    spaced-step _ _ _ _ _ _ _ _ c.space_at.result c.join-spaces.result c.loop-at.invariant s.ensures
-    c.loop-at-test.true (c.space_at.ensures _ _ s.ensures.is) c.join-spaces.ensures.is
+    spaced-step _ _ _ _ _ _ _ _ c.space_at.result c.join-spaces.result c.loop-at.invariant c.span_at-span.ensures
+    c.loop-at-test.true (c.space_at.ensures _ _ c.span_at-span.ensures.is) c.join-spaces.ensures.is
 
 pub returns : goal.returns
 returns c =

@@ -20,11 +20,9 @@ read_word-first-requires c =
 
 pub overflow_add-result : goal.overflow_add-result
 overflow_add-result c =
-    let a = c.args in
-    let r = c.read_word-first in
-    let h = next-header a.at a.part.now.bytes c.requires.way c.requires.some in
+    let h = next-header c.args.at c.args.part.now.bytes c.requires.way c.requires.some in
     let s = stepped _ _ c.requires.way c.requires.some _ _
-    (whole _ _ r.ensures) (even _) (small _ _ r.ensures h.tag) in
+    (whole _ _ c.read_word-first.ensures) (even _) (small _ _ c.read_word-first.ensures h.tag) in
     omega arith
 
 pub ends_run_at-requires-clause-inside : goal.ends_run_at-requires-clause-inside
@@ -33,9 +31,7 @@ ends_run_at-requires-clause-inside c =
 
 pub returns : goal.returns
 returns c =
-    let a = c.args in
-    let xs = a.part.now.bytes in
-    let r = c.read_word-first in
-    let h = next-header a.at xs c.requires.way c.requires.some in
-    span-made _ _ c.requires.way c.requires.some _ _ (whole _ _ r.ensures)
-    (even _) (small _ _ r.ensures h.tag) _ c.free_by_tag.ensures _ c.ends_run_at.ensures
+    let xs = c.args.part.now.bytes in
+    let h = next-header c.args.at xs c.requires.way c.requires.some in
+    span-made _ _ c.requires.way c.requires.some _ _ (whole _ _ c.read_word-first.ensures)
+    (even _) (small _ _ c.read_word-first.ensures h.tag) _ c.free_by_tag.ensures _ c.ends_run_at.ensures

@@ -13,8 +13,7 @@ purgeable_bytes_in-requires c = subst (λ l. sizes l < 2 ^ 32) (sym c.walk_from.
 
 pub returns-then-frees_one : goal.returns-then-frees_one
 returns-then-frees_one c = λ k zone e f m.
-    let s = c.purgeable_bytes_in.ensures ∙ ap purgeable_sum (c.walk_from.ensures ∙ left-zone _) in
-    omega (arith, s)
+    omega (arith, c.purgeable_bytes_in.ensures ∙ ap purgeable_sum (c.walk_from.ensures ∙ left-zone _))
 
 pub returns-else-frees_one : goal.returns-else-frees_one
 returns-else-frees_one c = λ k zone e f m.

@@ -44,12 +44,11 @@ overflow_add-end c =
 pub overflow_add-result : goal.overflow_add-result
 overflow_add-result c =
     let a = c.args.pass in
-    let xs = c.args.part.now.bytes in
     let p = c.requires.pass.0 in
     let u = c.requires.pass.1 in
     let h = c.read_header-header.result in
     let e = c.read_header-header.ensures in
-    let n = next p c.args.sparing a.start a.at a.left a.freed xs u c.requires.some in
+    let n = next p c.args.sparing a.start a.at a.left a.freed c.args.part.now.bytes u c.requires.some in
     let z = n.tells.says h.size (tag_number h.tag) e.first e.size (tag-small h.tag) in
     let s = sym (c.seen_of.ensures ∙ (λ i. header_seen (tag_number h.tag) h.size (e.logical i) (e.slot i) (e.flags i))
     ∙ n.told h.size (tag_number h.tag) e.first e.size (tag-small _)) in
@@ -62,10 +61,9 @@ overflow_add-result c =
 pub returns-in-Some-clause-pass : goal.returns-in-Some-clause-pass
 returns-in-Some-clause-pass c = λ p u.
     let a = c.args.pass in
-    let xs = c.args.part.now.bytes in
     let h = c.read_header-header.result in
     let e = c.read_header-header.ensures in
-    let n = next p c.args.sparing a.start a.at a.left a.freed xs u c.requires.some in
+    let n = next p c.args.sparing a.start a.at a.left a.freed c.args.part.now.bytes u c.requires.some in
     let z = n.tells.says h.size (tag_number h.tag) e.first e.size (tag-small h.tag) in
     let s = sym (c.seen_of.ensures ∙ (λ i. header_seen (tag_number h.tag) h.size (e.logical i) (e.slot i) (e.flags i))
     ∙ n.told h.size (tag_number h.tag) e.first e.size (tag-small _)) in
@@ -77,17 +75,15 @@ returns-in-Some-clause-pass c = λ p u.
 pub returns-in-Some-clause-further : goal.returns-in-Some-clause-further
 returns-in-Some-clause-further c =
     let a = c.args.pass in
-    let xs = c.args.part.now.bytes in
     let p = c.requires.pass.0 in
     let u = c.requires.pass.1 in
     let h = c.read_header-header.result in
     let e = c.read_header-header.ensures in
-    let n = next p c.args.sparing a.start a.at a.left a.freed xs u c.requires.some in
+    let n = next p c.args.sparing a.start a.at a.left a.freed c.args.part.now.bytes u c.requires.some in
     let s = sym (c.seen_of.ensures ∙ (λ i. header_seen (tag_number h.tag) h.size (e.logical i) (e.slot i) (e.flags i))
     ∙ n.told h.size (tag_number h.tag) e.first e.size (tag-small _)) in
     let m = sym (c.left_after.ensures n.here s) ∙ c.in-Some.is in
-    let t = c.free_up.ensures.end (freeing p _ _ _ _ _ _ u n _ m) (may-free p _ _ _ _ _ _ u n _ m) in
-    omega (arith, t)
+    omega (arith, c.free_up.ensures.end (freeing p _ _ _ _ _ _ u n _ m) (may-free p _ _ _ _ _ _ u n _ m))
 
 pub returns-in-None-clause-pass : goal.returns-in-None-clause-pass
 returns-in-None-clause-pass c = λ p u.

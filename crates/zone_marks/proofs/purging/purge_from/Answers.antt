@@ -4,11 +4,9 @@ use Rattle.zone_marks.proofs.purging.purge_from.Goals as goal
 
 pub returns-else-goes_on-clause-purged : goal.returns-else-goes_on-clause-purged
 returns-else-goes_on-clause-purged c = λ p u.
-    let s = c.loop-pass in
     let l = c.goes_on.ensures (search rules) in
-    stopped p _ _ _ _ _ _ (s.invariant.passing p u) l.0 l.1 l.2
+    stopped p _ _ _ _ _ _ (c.loop-pass.invariant.passing p u) l.0 l.1 l.2
 
 pub returns-after-loop-pass-clause-purged : goal.returns-after-loop-pass-clause-purged
 returns-after-loop-pass-clause-purged c = λ p u.
-    let s = c.loop-pass in
-    purged p _ _ _ _ _ _ (s.invariant.passing p u) (omega (arith, c.len-end.ensures.count))
+    purged p _ _ _ _ _ _ (c.loop-pass.invariant.passing p u) (omega (arith, c.len-end.ensures.count))

@@ -1,7 +1,7 @@
 use Rattle.std.proofs.Common.{arith, refl, sym, subst}
 use Rattle.zone_bytes.specs.Decode.{zone_in}
 use Rattle.zone_marks.specs.Purging.{Purged, purge_zone}
-use Rattle.zone_marks.proofs.Joined.PurgeStarts.{all-start, going, going-is, may-go, lowest-start}
+use Rattle.zone_marks.proofs.Joined.PurgeStarts.{all-start, going-is, may-go, lowest-start}
 use Rattle.zone_marks.proofs.Joined.Released.{leads-up, here-read}
 use Rattle.zone_bytes.specs.Changes.{Begins}
 use Rattle.zone_marks.proofs.purging.purge_lowest.Goals as goal
@@ -23,20 +23,18 @@ returns-in_default-clause-purged c = λ first unused i.
 pub last_free_below-start-requires-clause-up : goal.last_free_below-start-requires-clause-up
 last_free_below-start-requires-clause-up c =
     let i = c.requires.sound in
-    let xs = c.args.part.now.bytes in
     let f = c.in-Some.ensures.lowest in
     let p = c.in-Some.ensures.plain refl in
-    let m = may-go xs i.0 i.1 i.2 c.args.purges c.args.sparing f.0 f.1 c.in-Some.place f.3 p in
+    let m = may-go c.args.part.now.bytes i.0 i.1 i.2 c.args.purges c.args.sparing f.0 f.1 c.in-Some.place f.3 p in
     leads-up _ _ _ m _ (subst (Begins c.below-from.result 0) (going-is _ _ _ i.2 c.args.purges _ _ f.1 _ f.3 p)
-    (c.below-from.ensures.begins (zone_in xs) c.requires.marks)) c.below-from.ensures.below
+    (c.below-from.ensures.begins (zone_in c.args.part.now.bytes) c.requires.marks)) c.below-from.ensures.below
 
 pub last_free_below-start-requires-clause-inside : goal.last_free_below-start-requires-clause-inside
 last_free_below-start-requires-clause-inside c =
-    let i = c.requires.sound in
     let xs = c.args.part.now.bytes in
     let f = c.in-Some.ensures.lowest in
     let p = c.in-Some.ensures.plain refl in
-    let r = here-read _ _ _ (may-go _ _ _ i.2 c.args.purges _ _ f.1 _ f.3 p) in
+    let r = here-read _ _ _ (may-go _ _ _ c.requires.sound.2 c.args.purges _ _ f.1 _ f.3 p) in
     omega arith
 
 pub purge_from-requires-2 : goal.purge_from-requires-2
@@ -53,10 +51,9 @@ purge_from-requires-2 c =
 pub returns-clause-purged : goal.returns-clause-purged
 returns-clause-purged c = λ first unused i.
     let xs = c.args.part.now.bytes in
-    let f = c.in-Some.ensures.lowest in
     let p = c.in-Some.ensures.plain refl in
     let s = c.last_free_below-start in
     let u = c.purge_from-2 in
     subst (λ k. Purged (purge_zone k xs i.unused c.args.purges c.args.sparing) u.result.to u.result.bytes u.new.part.bytes)
     (sym u.ensures.from) (u.ensures.purged (purge_zone s.result xs i.unused c.args.purges c.args.sparing)
-    (lowest-start _ _ _ i _ _ _ f.1 _ f.3 p _ s.ensures))
+    (lowest-start _ _ _ i _ _ _ c.in-Some.ensures.lowest.1 _ c.in-Some.ensures.lowest.3 p _ s.ensures))

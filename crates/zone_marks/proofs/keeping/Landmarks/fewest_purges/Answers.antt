@@ -1,5 +1,4 @@
 use Rattle.zone_summary.proofs.Fewest.{never-serves}
-use Rattle.zone_bytes.specs.Decode.{zone_in}
 use Rattle.zone_marks.proofs.keeping.Landmarks.fewest_purges.Goals as goal
 
 pub returns-in_default : goal.returns-in_default

@@ -6,7 +6,7 @@ use Rattle.zone_bytes.proofs.Places.AtPlace.{on-way}
 use Rattle.zone_marks.proofs.keeping.Landmarks.none.Goals as goal
 
 pub page_bytes-requires : goal.page_bytes-requires
-page_bytes-requires c = let i = c.requires.sound in on-way _ _ _ i.2
+page_bytes-requires c = on-way _ _ _ c.requires.sound.2
 
 pub returns : goal.returns
 returns c =

@@ -21,9 +21,8 @@ overflow_add-place c =
 
 pub note-requires-clause-marks : goal.note-requires-clause-marks
 note-requires-clause-marks c =
-    let i = c.requires.sound in
     let b = c.requires.marks.1 in
-    let s = c.size_at-size.ensures b.there b.above (became-left _ _ _ i.2 _ _ b) in (
+    let s = c.size_at-size.ensures b.there b.above (became-left _ _ _ c.requires.sound.2 _ _ b) in (
       c.requires.marks.0,
       became-replaced c.args.place c.size_at-size.result c.requires.marks.0 (zone_in c.args.part.now.bytes) b s,
       c.requires.marks.2,

@@ -5,8 +5,7 @@ use Rattle.zone_marks.proofs.keeping.Landmarks.seek.Goals as goal
 
 pub first_going-self-requires : goal.first_going-self-requires
 first_going-self-requires c =
-    let i = c.requires.sound in
-    begins-way _ _ _ i.2 _ (c.start.ensures.begins (zone_in c.args.part.now.bytes) c.requires.marks)
+    begins-way _ _ _ c.requires.sound.2 _ (c.start.ensures.begins (zone_in c.args.part.now.bytes) c.requires.marks)
 
 pub returns : goal.returns
 returns c =

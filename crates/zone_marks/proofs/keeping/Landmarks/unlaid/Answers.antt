@@ -1,6 +1,5 @@
 use Rattle.std.proofs.Common.{◌≡◌, ◌*◌, arith, sym, subst, replicate}
 use Rattle.zone_bytes.specs.Decode.{zone_in}
-use Rattle.zone_bytes.specs.Table.{slot_in}
 use Rattle.zone_marks.specs.Marks.{AreMarks, AreGroups}
 use Rattle.zone_marks.specs.declared.landmark.Group.{Group}
 use Rattle.zone_marks.specs.declared.landmark.Landmark.{Landmark}
@@ -12,7 +11,7 @@ use Rattle.zone_marks.proofs.Marks.Groups.{same-groups, unknown}
 use Rattle.zone_marks.proofs.keeping.Landmarks.unlaid.Goals as goal
 
 pub page_bytes-requires : goal.page_bytes-requires
-page_bytes-requires c = let i = c.requires.sound in on-way _ _ _ i.2
+page_bytes-requires c = on-way _ _ _ c.requires.sound.2
 
 pub returns : goal.returns
 returns c =
