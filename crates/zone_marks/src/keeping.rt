@@ -36,7 +36,8 @@ use zone_bytes::{Edges, PackedRun, size_at};
 /// Landmarks of a zone: places at which blocks begin, one for each page of the zone's bytes. Each has a bound on the
 /// size of each free block up to the next landmark, and tallies of the blocks there: what they come to in runs, and, from
 /// the first time on that a block may be purged, in spaces. Each group of landmarks has both of all its blocks. With them
-/// is kept a place below which no block may be purged. Landmarks lie in the host's memory, and can be thrown away and made anew at any time.
+/// is kept a place below which no block may be purged. Landmarks lie in the host's memory, and can be thrown away and
+/// made anew at any time.
 #[derive(Drop)]
 pub struct Landmarks {
     marks: Vec<Landmark>,
