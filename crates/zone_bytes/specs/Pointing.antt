@@ -1,8 +1,8 @@
 -- A run that was moved as a whole, and whose slots are made to lead to its blocks again.
-use Rattle.std.specs.Prelude.{◌≡◌, ℕ, ◌+◌, ◌%◌, ◌≤◌, List, ◌++◌, length}
+use Rattle.std.specs.Prelude.{◌≡◌, ℕ, ◌+◌, ◌≤◌, List, ◌++◌, length}
 use Rattle.block_store.specs.Block.{Block, sizes}
 use Rattle.zone_bytes.specs.Layout.{head_of, Tiles, Leads, Each}
-use Rattle.zone_bytes.specs.Settling.{Lay, InRun, Lies, HasSlots, SameOthers}
+use Rattle.zone_bytes.specs.Settling.{Lay, InRun, Lies, HasSlots, SameOthers, Passing}
 use Rattle.block_store.specs.declared.measures.TheConstants.{GREATEST_ZONE}
 
 -- The blocks lie in the bytes; the slots of the blocks of the run from `place` to `stop` may lead anywhere.
@@ -17,22 +17,11 @@ pub record IsMoved (lay : Lay) (place stop : ℕ) : Type 0 where
   pub high : Leads stop lay.above lay.bytes
 
 -- The slots of the blocks below `from` lead to these blocks; those of the rest of the run may lead anywhere.
-pub record PointingAt (lay : Lay) (stop from : ℕ) (xs : List ℕ) (done rest : List Block) : Type 0 where
-  pub parts : done ++ rest ≡ lay.run
-  pub tiles : Tiles (head_of lay.resource) xs ((lay.below ++ done) ++ (rest ++ lay.above))
-  pub low : Leads 0 (lay.below ++ done) xs
-  pub high : Leads stop lay.above xs
-  pub here : sizes (lay.below ++ done) ≡ from
-  pub up : from + sizes rest ≡ stop
-  pub whole : from % 16 ≡ 0
-  pub kept : length xs ≡ length lay.bytes
-  pub in_run : Each InRun rest
-  pub others : SameOthers (lay.below ++ (lay.run ++ lay.above)) lay.bytes xs
-
 pub record Pointing (lay : Lay) (stop from : ℕ) (xs : List ℕ) : Type 0 where
   pub done : List Block
   pub rest : List Block
-  pub state : PointingAt lay stop from xs done rest
+  pub state : Passing lay 0 from from xs done done rest
+  pub high : Leads stop lay.above xs
 
 pub record Pointed (lay : Lay) (xs : List ℕ) : Type 0 where
   pub lies : Lies lay.resource (lay.below ++ (lay.run ++ lay.above)) xs

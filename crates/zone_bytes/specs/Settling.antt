@@ -1,5 +1,5 @@
 -- A run whose relocatable blocks are being moved down.
-use Rattle.std.specs.Prelude.{◌≡◌, ℕ, ◌+◌, ◌-◌, ◌%◌, ◌≤◌, ◌<◌, ◌⊎◌, zero, suc, Bool, true, false, nat_le, nat_lt, if◌then◌else◌, List, []}
+use Rattle.std.specs.Prelude.{◌≡◌, ℕ, ◌+◌, ◌-◌, ◌≤◌, ◌<◌, ◌⊎◌, zero, suc, Bool, true, false, nat_le, nat_lt, if◌then◌else◌, List, []}
 use Rattle.std.specs.Prelude.{◌∷◌, ◌++◌, length, take, drop}
 use Rattle.windows.specs.Writes.{piece}
 use Rattle.block_store.specs.Block.{Block, free_of, free_sum, is_mover, size, sizes}
@@ -59,33 +59,26 @@ pub record IsRunFrom (lay : Lay) (place stop : ℕ) : Type 0 where
 abbrev pub SameOthers : List Block → List ℕ → List ℕ → Type 0
 SameOthers blocks old new = (s : ℕ) → IsSlot s blocks → Each (Apart s) (names blocks) → piece s 4 new ≡ piece s 4 old
 
--- The run's blocks below `from` now lie packed below `to` as `moved`, and `moves` of them moved down; the blocks
--- `rest` lie as they did. The slots of the blocks that were moved lead to the places `gap` above them.
-pub record PackingAt (lay : Lay) (gap stop from to moves : ℕ) (xs : List ℕ) (moved rest : List Block) : Type 0 where
+-- The blocks `gone` of the run, which end at `from`, were passed, and now lie below `to` as `moved`; the blocks `rest` of
+-- the run lie as they did. The slots of the blocks that were passed lead to the places `gap` above them.
+pub record Passing (lay : Lay) (gap from to : ℕ) (xs : List ℕ) (gone moved rest : List Block) : Type 0 where
+  pub split : gone ++ rest ≡ lay.run
+  pub named : names moved ≡ names gone
   pub low : Tiles (head_of lay.resource) (take to xs) (lay.below ++ moved)
   pub high : Tiles (head_of lay.resource) (drop from xs) (rest ++ lay.above)
-  pub order : moved ++ movers rest ≡ movers lay.run
-  pub free : from + free_sum rest ≡ to + free_sum lay.run
+  pub up : sizes lay.below + sizes gone ≡ from
   pub down : to ≤ from
-  pub up : from + sizes rest ≡ stop
-  pub whole : (from % 16 ≡ 0) × (to % 16 ≡ 0)
   pub kept : length xs ≡ length lay.bytes
-  pub in_run : Each InRun rest
   pub lead_low : Leads 0 lay.below xs
   pub lead_moved : Leads (sizes lay.below + gap) moved xs
-  pub lead_high : Leads from (rest ++ lay.above) xs
-  pub named : names (lay.below ++ moved) ++ names (rest ++ lay.above) ≡ names (lay.below ++ (lay.run ++ lay.above))
-  pub count : moves + lowered_in_run_from (from - to) rest ≡ lowered_in_run_from 0 lay.run
   pub others : SameOthers (lay.below ++ (lay.run ++ lay.above)) lay.bytes xs
 
--- Of the run's blocks the blocks `gone` were passed, and the relocatable blocks among them were moved.
-pub record Packing (lay : Lay) (gap stop from to moves : ℕ) (xs : List ℕ) : Type 0 where
-  pub gone : List Block
-  pub moved : List Block
+-- The blocks `gone` of the run were packed below `to`, and `moves` of them moved down.
+pub record Packing (lay : Lay) (gap from to moves : ℕ) (xs : List ℕ) (gone : List Block) : Type 0 where
   pub rest : List Block
-  pub split : gone ++ rest ≡ lay.run
-  pub those : moved ≡ movers gone
-  pub state : PackingAt lay gap stop from to moves xs moved rest
+  pub state : Passing lay gap from to xs gone (movers gone) rest
+  pub leads : Leads from (rest ++ lay.above) xs
+  pub count : moves ≡ lowered_in_run_from 0 gone
 
 -- The run's relocatable blocks lie one after another from its bottom on, with one free block above them, and their
 -- slots lead to the places `gap` above them.

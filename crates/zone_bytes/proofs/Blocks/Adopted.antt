@@ -41,7 +41,7 @@ use Rattle.zone_bytes.proofs.Tiles.Splices.{outside-same, outside-written, piece
 use Rattle.zone_bytes.proofs.Tiles.Replaced.{is-splice}
 use Rattle.zone_bytes.proofs.Tiles.Changing.{lays-added}
 use Rattle.zone_bytes.proofs.Tiles.Keeping.{placed-append, placed-left, placed-right}
-use Rattle.zone_bytes.proofs.Runs.Packed.{length-masters}
+use Rattle.zone_bytes.proofs.Tiles.Heads.{length-masters}
 use Rattle.zone_bytes.proofs.SlotTable.Slotted.{is-used, slot-is, name-apart}
 use Rattle.zone_bytes.proofs.SlotTable.Tables.{each-has, apart-other, apart-clear, slot-in}
 use Rattle.zone_bytes.proofs.Places.Stepped.{told-is, left-is}

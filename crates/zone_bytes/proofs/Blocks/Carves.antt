@@ -12,13 +12,14 @@ use Rattle.block_store.specs.Block.{Block, Free, Relocatable, size, free, no_fla
 use Rattle.zone_bytes.specs.Layout.{head_of, flag_word, Tile, Tiles, names, IsSlot, Leads, Apart, Each}
 use Rattle.zone_bytes.specs.Settling.{Lies}
 use Rattle.zone_bytes.specs.Splicing.{SameOutside, Splice, IsSplice}
-use Rattle.zone_bytes.proofs.Tiles.Tiling.{span-append, length-tiles, slot-inside, slot-split, slot-append_left}
-use Rattle.zone_bytes.proofs.Tiles.Tiling.{slot-append_right, tiles-one, tiles-slot, tiles-split}
+use Rattle.zone_bytes.proofs.Tiles.Tiling.{span-append, length-tiles, slot-inside, slot-swap}
+use Rattle.zone_bytes.proofs.Tiles.Tiling.{tiles-one, tiles-slot, tiles-split}
 use Rattle.zone_bytes.proofs.Tiles.Leading.{Clear, piece-clear, each-map, leads-append, leads-left, leads-right}
 use Rattle.zone_bytes.proofs.Tiles.Leading.{leads-written}
-use Rattle.zone_bytes.proofs.Runs.Packed.{length-masters, span-whole}
+use Rattle.zone_bytes.proofs.Tiles.Heads.{length-masters}
+use Rattle.zone_bytes.proofs.Tiles.Tiling.{span-whole, slot-beside}
 use Rattle.block_store.proofs.Zone.Spots.{free-some}
-use Rattle.zone_bytes.proofs.Runs.Settled.{free-tile}
+use Rattle.zone_bytes.proofs.Tiles.Heads.{free-tile}
 use Rattle.zone_bytes.proofs.Tiles.Splices.{outside-same, outside-written, piece-outside, leads-outside, tiles-splice}
 use Rattle.zone_bytes.proofs.Tiles.Splices.{leads-splice}
 
@@ -39,15 +40,7 @@ module _ (zone : Splice) (bottom top : ℕ) (xs : List ℕ) (h : IsSplice zone b
   -- a slot is below the stretch or above it
   pub spot : (s : ℕ) → IsSlot s all
       → ((s + 4 ≤ bottom) × IsSlot s zone.below) ⊎ ((top ≤ s) × IsSlot (s - top) zone.above)
-  spot s i = elim (slot-split s _ _ i) [
-    | inl j ↦ inl (omega (arith, slot-inside), j)
-    | inr j ↦ elim (slot-split (s - sizes zone.below) zone.here zone.above j.1) [
-      | inl k ↦ absurd (h.no_masters (s - sizes zone.below) k)
-      | inr k ↦
-          let e : s - sizes zone.below - sizes zone.here ≡ s - top = omega arith in
-          inr (omega (arith, j.0, k.0), subst (λ q. IsSlot q zone.above) e k.1)
-    ]
-  ]
+  spot s i = slot-beside s _ _ _ _ _ h.no_masters h.low h.high i
 
   pub outside : (s : ℕ) → IsSlot s all → Clear bottom (top - bottom) s
   outside s i = elim (spot s i) [ inl j ↦ inl j.0 | inr j ↦ inr (omega arith) ]
@@ -62,13 +55,7 @@ module _ (zone : Splice) (bottom top : ℕ) (xs : List ℕ) (h : IsSplice zone b
   -- a slot of other blocks in the stretch's place
   pub slot-kept : (s : ℕ) (here : List Block) → sizes here ≡ sizes zone.here → IsSlot s all
       → IsSlot s (zone.below ++ (here ++ zone.above))
-  slot-kept s here e i = elim (spot s i) [
-    | inl j ↦ slot-append_left s zone.below (here ++ zone.above) j.1
-    | inr j ↦
-        let f : s - top ≡ s - sizes zone.below - sizes here = omega (arith, e) in
-        slot-append_right s _ _ (omega arith) (slot-append_right _ _ _ (omega (arith, e))
-        (subst (λ q. IsSlot q zone.above) f j.1))
-  ]
+  slot-kept s here e i = slot-swap s _ _ _ _ (h.no_masters _) e i
 
   -- one Free block
   pub freed : let new = written bottom (word (top - bottom)) xs in

@@ -15,7 +15,7 @@ use Rattle.zone_bytes.specs.Table.{Has, Chain, Says, Lays}
 use Rattle.zone_bytes.specs.Fresh.{slots_from, all_slots, fresh_slots, Chaining}
 use Rattle.zone_bytes.proofs.Tiles.Tiling.{tiles-one}
 use Rattle.block_store.proofs.Zone.Spots.{free-some}
-use Rattle.zone_bytes.proofs.Runs.Settled.{free-tile}
+use Rattle.zone_bytes.proofs.Tiles.Heads.{free-tile}
 use Rattle.zone_bytes.proofs.Tiles.Spelling.{test-true, test-back}
 
 -- a write below chained slots

@@ -20,7 +20,7 @@ use Rattle.zone_bytes.specs.Table.{Has, Table, Says, Lays, empty_word}
 use Rattle.zone_bytes.proofs.Tiles.Tiling.{span-append, length-tiles, tiles-split}
 use Rattle.zone_bytes.proofs.Tiles.Leading.{names-append, pairs-before, pairs-after}
 use Rattle.zone_bytes.proofs.SlotTable.Tables.{apart-other, slot-in}
-use Rattle.zone_bytes.proofs.Runs.Packed.{span-whole}
+use Rattle.zone_bytes.proofs.Tiles.Tiling.{span-whole}
 
 -- the block of a name, in blocks that begin at o
 pub record Named (o slot : ℕ) (blocks : List Block) (xs : List ℕ) : Type 0 where

@@ -27,7 +27,9 @@ use Rattle.zone_bytes.proofs.Tiles.Heads.{slot-reads}
 use Rattle.zone_bytes.proofs.Tiles.Decoding.{says, flag_word-small}
 use Rattle.zone_bytes.proofs.Places.Stepped.{word-at}
 use Rattle.zone_bytes.proofs.SlotTable.Tables.{apart-clear}
-use Rattle.zone_bytes.proofs.Runs.Packed.{length-masters, run-no_slot, slot-even}
+use Rattle.zone_bytes.proofs.Tiles.Heads.{length-masters}
+use Rattle.zone_bytes.proofs.Tiles.Keeping.{run-no_slot}
+use Rattle.zone_bytes.proofs.Tiles.Tiling.{slot-even}
 use Rattle.block_store.proofs.Zone.Spots.{free-some}
 use Rattle.zone_bytes.proofs.Blocks.Carves.{outside, slot-kept}
 use Rattle.zone_bytes.proofs.Blocks.InPlace.{no-slots}

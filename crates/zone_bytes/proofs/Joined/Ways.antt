@@ -11,8 +11,8 @@ use Rattle.zone_bytes.proofs.Tiles.Tiling.{span-append, length-tiles, slot-insid
 use Rattle.zone_bytes.proofs.Tiles.Leading.{each-map, each-right, names-append}
 use Rattle.zone_bytes.proofs.Tiles.Keeping.{placed-right}
 use Rattle.zone_bytes.proofs.Tiles.Heads.{first-reads, kind-small}
-use Rattle.zone_bytes.proofs.Runs.Packed.{span-whole}
-use Rattle.zone_bytes.proofs.Runs.Settled.{Next, same_parts}
+use Rattle.zone_bytes.proofs.Tiles.Tiling.{span-whole}
+use Rattle.zone_bytes.proofs.Tiles.Heads.{Next, same_parts}
 use Rattle.zone_bytes.proofs.Places.Stepped.{left-is, next-header}
 
 module _ (xs : List ℕ) (below above : List Block) (slots : ℕ

@@ -20,7 +20,7 @@ use Rattle.zone_bytes.proofs.Tiles.Splices.{piece-outside}
 use Rattle.zone_bytes.proofs.Tiles.Replaced.{zone, is-splice, replaced}
 use Rattle.zone_bytes.proofs.SlotTable.Tables.{each-both}
 use Rattle.block_store.proofs.Zone.Spots.{free-some}
-use Rattle.zone_bytes.proofs.Runs.Settled.{free-tile}
+use Rattle.zone_bytes.proofs.Tiles.Heads.{free-tile}
 use Rattle.zone_bytes.proofs.Blocks.InPlace.{no-slots, each-leads}
 use Rattle.zone_bytes.proofs.Blocks.Carves.{outside}
 use Rattle.zone_bytes.proofs.Blocks.Carved.{free-slots, placed-free}

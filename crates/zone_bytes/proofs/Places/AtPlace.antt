@@ -12,7 +12,7 @@ use Rattle.zone_bytes.specs.Lawful.{IsSound}
 use Rattle.zone_bytes.specs.Stepping.{left_in, IsOnWay}
 use Rattle.zone_bytes.proofs.Tiles.Tiling.{span-append, slot-inside, tiles-split}
 use Rattle.zone_bytes.proofs.Tiles.Leading.{each-map, each-right, names-append}
-use Rattle.zone_bytes.proofs.Runs.Packed.{span-whole}
+use Rattle.zone_bytes.proofs.Tiles.Tiling.{span-whole}
 use Rattle.zone_bytes.proofs.Tiles.Keeping.{placed-right}
 use Rattle.zone_bytes.proofs.Laws.Lawful.{sizes-length}
 use Rattle.zone_bytes.proofs.Places.Stepped.{left-is}

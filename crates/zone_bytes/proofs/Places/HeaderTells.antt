@@ -10,7 +10,7 @@ use Rattle.block_store.specs.Block.{Block, Free, Nonrelocatable, Masters, Reloca
 use Rattle.zone_bytes.specs.Layout.{kind, flag_word, head_of, Tile}
 use Rattle.zone_bytes.specs.Walking.{Walk}
 use Rattle.zone_bytes.specs.Stepping.{left_in, IsOnWay}
-use Rattle.zone_bytes.proofs.Runs.Settled.{same_parts}
+use Rattle.zone_bytes.proofs.Tiles.Heads.{same_parts}
 use Rattle.zone_bytes.proofs.Tiles.Heads.{length-head, first-reads, kind-small}
 use Rattle.zone_bytes.proofs.Tiles.Decoding.{says}
 use Rattle.zone_bytes.proofs.Places.Stepped.{left-is, word-at}

@@ -15,7 +15,7 @@ use Rattle.zone_bytes.specs.Decode.{flags_of}
 use Rattle.zone_bytes.specs.Walking.{Walk}
 use Rattle.zone_bytes.specs.Stepping.{header_seen, left_in, IsOnWay}
 use Rattle.zone_bytes.proofs.Tiles.Leading.{each-left, each-right}
-use Rattle.zone_bytes.proofs.Runs.Settled.{Next, same_parts}
+use Rattle.zone_bytes.proofs.Tiles.Heads.{Next, same_parts}
 use Rattle.zone_bytes.proofs.Tiles.Heads.{length-head, first-reads, kind-small}
 use Rattle.zone_bytes.proofs.Tiles.Decoding.{says, flag_word-small, flags_of-word, blocks-back}
 use Rattle.zone_bytes.proofs.Places.Walks.{walk-next}

@@ -4,7 +4,7 @@ use Rattle.std.proofs.lemmas.List.{length-drop}
 use Rattle.block_store.specs.Block.{Block, Free, Nonrelocatable, Masters, Relocatable, sizes, free_sum}
 use Rattle.zone_bytes.specs.Walking.{Walk}
 use Rattle.zone_bytes.proofs.Tiles.Heads.{first-reads, kind-small}
-use Rattle.zone_bytes.proofs.Runs.Settled.{Next}
+use Rattle.zone_bytes.proofs.Tiles.Heads.{Next}
 
 module _ (resource : ℕ → Bool) (xs : List ℕ) (small : length xs ≤ 134217728) where
   pub walk-next : (at : ℕ) (rest : List Block) → Walk resource at xs rest → at < length xs → Next xs at

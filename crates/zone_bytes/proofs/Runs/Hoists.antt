@@ -16,8 +16,8 @@ use Rattle.zone_bytes.proofs.Tiles.Heads.{first-reads, kind-small}
 use Rattle.zone_bytes.proofs.Tiles.Leading.{each-append, names-append, leads-left, leads-right}
 use Rattle.zone_bytes.proofs.Tiles.Splices.{outside-same, outside-written}
 use Rattle.zone_bytes.proofs.Tiles.Permuted.{SameNames, turned}
-use Rattle.zone_bytes.proofs.Runs.Packed.{span-whole}
-use Rattle.zone_bytes.proofs.Runs.Settled.{Next, same_parts}
+use Rattle.zone_bytes.proofs.Tiles.Tiling.{span-whole}
+use Rattle.zone_bytes.proofs.Tiles.Heads.{Next, same_parts}
 use Rattle.zone_bytes.proofs.Runs.Moved as moved
 
 module _ (z : Hoist) (place stop : ℕ) (h : MayHoist z place stop) where

@@ -1,13 +1,11 @@
 -- A packed run whose slots lead to its blocks.
-use Rattle.std.proofs.Common.{◌≡◌, ℕ, ◌+◌, zero, suc, List, subst, arith}
+use Rattle.std.proofs.Common.{◌≡◌, ℕ, ◌+◌, zero, suc, List, refl, subst, arith}
 use Rattle.block_store.specs.Block.{free, sizes}
 use Rattle.block_store.specs.Run.{movers, settle}
 use Rattle.zone_bytes.specs.Layout.{Leads}
 use Rattle.zone_bytes.specs.Settling.{Lay, IsRunFrom, Packed, Settled}
-use Rattle.zone_bytes.proofs.Tiles.Tiling.{span-append}
-use Rattle.zone_bytes.proofs.Tiles.Leading.{leads-append}
-use Rattle.zone_bytes.proofs.Tiles.Keeping.{span-free, span-movers}
-use Rattle.zone_bytes.proofs.Runs.Settled.{free_sum-span}
+use Rattle.zone_bytes.proofs.Tiles.Leading.{leads-append, leads-joined}
+use Rattle.zone_bytes.proofs.Tiles.Keeping.{span-settle}
 
 pub leads-free : (xs : List ℕ) (o n : ℕ) → Leads o (free n) xs
 leads-free xs o zero = tt
@@ -15,14 +13,13 @@ leads-free xs o (suc n) = (tt, tt)
 
 -- a packed run whose slots lead to its blocks
 pub settled-of : (lay : Lay) (place stop gap moves : ℕ) (xs : List ℕ) → IsRunFrom lay place stop → Packed lay gap moves
-    xs → Leads (0 + sizes lay.below) (movers lay.run) xs → Settled lay moves xs
+    xs → Leads (sizes lay.below) (movers lay.run) xs → Settled lay moves xs
 settled-of lay place stop gap moves xs r p l =
-    let o : sizes lay.below + sizes lay.run ≡ 0 + sizes lay.below + sizes (settle lay.run) = omega (arith, span-append, span-free, span-movers, free_sum-span) in
     record {
       lies = record {
         tiles = p.tiles;
-        leads = leads-append _ 0 _ _ p.low (leads-append _ _ _ _ (leads-append _ _ _ _ l (leads-free _ _ _))
-            (subst (λ k. Leads k lay.above xs) o p.high));
+        leads = leads-joined xs lay.below (settle lay.run) lay.above (sizes lay.below) _ refl
+            (omega (arith, span-settle lay.run r.in_run)) p.low (leads-append _ _ _ _ l (leads-free _ _ _)) p.high;
       };
       others = p.others;
       moved = p.moved;
@@ -32,5 +29,5 @@ settled-of lay place stop gap moves xs r p l =
 pub settled-led : (lay : Lay) (place stop moves : ℕ) (xs : List ℕ) → IsRunFrom lay place stop → Packed lay 0 moves xs
     → Settled lay moves xs
 settled-led lay place stop moves xs r p =
-    let z : sizes lay.below + 0 ≡ 0 + sizes lay.below = omega arith in
+    let z : sizes lay.below + 0 ≡ sizes lay.below = omega arith in
     settled-of lay place stop 0 moves xs r p (subst (λ k. Leads k (movers lay.run) xs) z p.leads)

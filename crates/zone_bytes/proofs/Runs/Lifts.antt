@@ -20,11 +20,10 @@ use Rattle.zone_bytes.proofs.Tiles.Leading.{each-append, each-right, each-map, n
 use Rattle.zone_bytes.proofs.Tiles.Permuted.{each-moved}
 use Rattle.zone_bytes.proofs.Tiles.Keeping.{each-free, each-movers, each-settle, names-free, names-movers, names-settle}
 use Rattle.zone_bytes.proofs.Tiles.Keeping.{run-names, slot-run, span-free, span-movers, span-settle}
-use Rattle.zone_bytes.proofs.Runs.Packed.{run-bounds}
+use Rattle.zone_bytes.proofs.Runs.Packed.{run-bounds, run-moved}
 use Rattle.block_store.proofs.Zone.Spots.{free-some}
 use Rattle.zone_bytes.proofs.Runs.Led.{settled-of}
-use Rattle.zone_bytes.proofs.Runs.Until.{all-of, cut-same, cut-movers, cut-free, cut-span, cut-run, whole-packed, whole-top}
-use Rattle.zone_bytes.proofs.Runs.Until.{whole-stop}
+use Rattle.zone_bytes.proofs.Runs.Until.{all-of, cut-same, cut-movers, cut-free, cut-span, cut-run, whole}
 
 -- a Free block has no relocatable one, and its bytes
 movers-free : (n : ℕ) → movers (free n) ≡ []
@@ -108,7 +107,12 @@ others-now below run now above r e n old mid new p o s i a =
     o s (slot-run s _ _ _ _ r e i) (each-moved (Apart s) _ _ (run-names below run now above n).from a) ∙ p s i a
 
 pub gap-fits : (lay : Lay) (place gap : ℕ) → MayLift lay place gap → gap ≤ length lay.bytes
-gap-fits lay place gap h = omega (arith, span-movers, run-bounds)
+gap-fits lay place gap h = omega (
+  arith,
+  h.enough,
+  span-movers lay.run h.run.in_run,
+  run-bounds lay place _ (run-moved lay place _ h.run),
+)
 
 -- the packed blocks, which are to be raised
 abbrev pub raise_of : Lay → ℕ → List ℕ → Raise
@@ -186,7 +190,7 @@ module _ (lay : Lay) (place gap : ℕ) (h : MayLift lay place gap) (moves : ℕ)
       let e = lifted-none gap lay.run h.some h.enough none in
       record {
         lies = subst (λ j. Lies lay.resource (lay.below ++ (j ++ lay.above)) xs) (sym e)
-            (settled-of _ _ _ _ _ _ h.run p (subst (λ l. Leads (0 + sizes lay.below) l xs) (sym none) tt)).lies;
+            (settled-of _ _ _ _ _ _ h.run p (subst (λ l. Leads (sizes lay.below) l xs) (sym none) tt)).lies;
         others = p.others;
         kept = p.kept;
       }
@@ -208,25 +212,22 @@ module _ (lay : Lay) (place gap : ℕ) (h : MayLift lay place gap) (o : EndsRun 
   part = cut lay gone rest
 
   cut-at : IsRunFrom part place (place + sizes gone)
-  cut-at = cut-run lay gone rest p.split place (place + sizes lay.run) h.run (place + sizes gone) refl
+  cut-at = cut-run lay gone rest p.split place (place + sizes lay.run) h.run
 
   -- no relocatable block is among those that were packed: they are all
+  none-left : top ≤ place → rest ≡ []
+  none-left l = elim p.ended [ inl e ↦ e | inr e ↦ absurd (omega (arith, l)) ]
+
   pub none-lifted : top ≤ place → Lifted lay gap xs
-  none-lifted l = is-lifted-none _ _ _ h _ _ (whole-packed lay place gap gap moves top stop xs gone rest h.run p n) _
-      (whole-top lay place gap gap moves top stop xs gone rest h.run p n) l
-    where
-      n : rest ≡ []
-      n = elim p.ended [ inl e ↦ e | inr e ↦ absurd (omega (arith, l)) ]
+  none-lifted l = let w = whole lay place h.run p (none-left l) in is-lifted-none _ _ _ h _ _ w.packed _ w.top_at l
 
   pub none-stop : top ≤ place → stop ≡ place + sizes lay.run
-  none-stop l = whole-stop lay place gap gap moves top stop xs gone rest h.run p
-      (elim p.ended [ inl e ↦ e | inr e ↦ absurd (omega (arith, l)) ])
+  none-stop l = (whole lay place h.run p (none-left l)).stop_at
 
   pub none-edges : top ≤ place → (edges : Edges) → AreEdges edges (place + gap) (movers gone)
       → AreEdges edges (place + gap) (movers lay.run)
   none-edges l edges = subst (λ k. AreEdges edges (place + gap) (movers k))
-      (all-of lay place gap gap moves top stop xs gone rest h.run p
-      (elim p.ended [ inl e ↦ e | inr e ↦ absurd (omega (arith, l)) ]))
+      (all-of lay place h.run p (none-left l))
 
   -- the relocatable blocks of both parts
   pub both-edges : (edges : Edges)

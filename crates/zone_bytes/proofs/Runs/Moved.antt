@@ -11,7 +11,7 @@ use Rattle.zone_bytes.proofs.Tiles.Leading.{Clear, each-map, each-left, each-rig
 use Rattle.zone_bytes.proofs.Tiles.Splices.{piece-outside, leads-outside, tiles-splice}
 use Rattle.zone_bytes.proofs.Tiles.Keeping.{slot-run}
 use Rattle.zone_bytes.proofs.Tiles.Permuted.{SameNames, each-moved}
-use Rattle.zone_bytes.proofs.Runs.Packed.{run-no_slot}
+use Rattle.zone_bytes.proofs.Tiles.Keeping.{run-no_slot}
 
 module _ (resource : ℕ → Bool) (below was now above : List Block) (old mid : List ℕ) (place stop : ℕ)
     (tiles : Tiles (head_of resource) old (below ++ (was ++ above))) (low : Leads 0 below old)

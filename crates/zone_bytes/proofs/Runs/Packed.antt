@@ -1,344 +1,270 @@
--- A run whose relocatable blocks are being moved down.
-use Rattle.std.proofs.Common.{◌≡◌, ℕ, ◌+◌, ◌-◌, ◌%◌, ◌≤◌, ◌⊎◌, inl, inr, Bool, true, cond, nat_lt, List, [], ◌∷◌, ◌++◌}
+-- The blocks of a run are passed one after another, and moved down or left in their places.
+use Rattle.std.proofs.Common.{◌≡◌, ℕ, ◌+◌, ◌-◌, ◌%◌, ◌≤◌, ◌⊎◌, inl, inr, List, [], ◌∷◌, ◌++◌}
 use Rattle.std.proofs.Common.{length, take, drop, sym, refl, ap, ◌∙◌, subst, arith, append_assoc}
-use Rattle.std.proofs.lemmas.List.{append-nil, length-take-le, length-drop, drop-drop}
-use Rattle.std.proofs.lemmas.Bool.{false≢true}
+use Rattle.std.proofs.lemmas.List.{append-nil, length-take-le, drop-drop}
 use Rattle.windows.specs.Writes.{written, piece}
 use Rattle.heap_words.specs.Words.{word}
 use Rattle.heap_words.proofs.Words.{length-word}
-use Rattle.heap_words.proofs.Headers.{length-header}
-use Rattle.windows.proofs.Pieces.{length-written, take-written_at, take-written_below, take-written_above}
-use Rattle.windows.proofs.Pieces.{drop-written_above, drop-written_below, piece-written}
+use Rattle.windows.proofs.Pieces.{length-written, take-written_at, drop-written_above, piece-written, written-same}
 use Rattle.block_store.specs.declared.flags.Flags.{Flags}
-use Rattle.block_store.specs.Block.{Block, Free, Nonrelocatable, Masters, Relocatable, size, is_mover, sizes}
+use Rattle.block_store.specs.Block.{Block, Free, Relocatable, size, sizes, free_sum}
 use Rattle.block_store.specs.Run.{movers}
-use Rattle.zone_bytes.specs.Layout.{head_of, Tiles, IsSlot, names, Leads, Apart, Each, Pairs}
-use Rattle.zone_bytes.specs.Settling.{lowered_in_run_from, Lay, InRun, IsRunFrom, SameOthers, PackingAt, Packing}
-use Rattle.zone_bytes.proofs.Tiles.Tiling.{span-append, slot-inside, slot-append_left, slot-append_right, slot-split}
-use Rattle.zone_bytes.proofs.Tiles.Tiling.{length-tiles, tile-take, tiles-append, tiles-one, tiles-split, tiles-slot}
-use Rattle.zone_bytes.proofs.Tiles.Leading.{each-left, each-right, each-map, pairs-before, pairs-after, names-append}
-use Rattle.zone_bytes.proofs.Tiles.Leading.{Clear, piece-clear, leads-append, leads-left, leads-right, leads-written}
+use Rattle.zone_bytes.specs.Layout.{head_of, Tiles, IsSlot, names, Apart, Each, Pairs}
+use Rattle.zone_bytes.specs.Settling.{Lay, InRun, IsRunFrom, Passing}
+use Rattle.zone_bytes.specs.Splicing.{SameOutside}
+use Rattle.zone_bytes.specs.Pointing.{IsMoved}
+use Rattle.zone_bytes.proofs.Tiles.Heads.{length-masters}
+use Rattle.zone_bytes.proofs.Tiles.Tiling.{span-append, slot-inside, slot-append_left, slot-append_right, slot-beside, span-whole}
+use Rattle.zone_bytes.proofs.Tiles.Tiling.{length-tiles, tile-take, tiles-append, tiles-one, tiles-slot-beside}
+use Rattle.zone_bytes.proofs.Tiles.Leading.{Clear, each-left, each-right, each-names, pairs-before, pairs-after, apart-turned}
+use Rattle.zone_bytes.proofs.Tiles.Leading.{names-append, piece-clear, leads-append, leads-parts, leads-same}
+use Rattle.zone_bytes.proofs.Tiles.Splices.{tiles-parts, outside-same, outside-written, piece-outside}
+use Rattle.zone_bytes.proofs.Tiles.Keeping.{run-no_slot, span-movers}
+use Rattle.zone_bytes.proofs.SlotTable.Tables.{apart-clear, each-both}
 
-pub length-masters : (resource : ℕ → Bool) → length (head_of resource Masters) ≡ 16
-unfolding head_of
-length-masters resource = length-header _ _ 0 0
+pub run-moved : (lay : Lay) (place stop : ℕ) → IsRunFrom lay place stop → IsMoved lay place stop
+run-moved lay place stop r =
+    let l = leads-parts lay.bytes lay.below lay.run lay.above place stop r.bottom r.top r.lies.leads in
+    record {
+      tiles = r.lies.tiles;
+      slots = r.slots;
+      bottom = r.bottom;
+      top = r.top;
+      in_run = r.in_run;
+      small = r.small;
+      low = l.0;
+      high = l.2;
+    }
 
--- a run has no Masters block
-pub run-no_slot : (s : ℕ) (run : List Block) → Each InRun run → IsSlot s run → ⊥
-run-no_slot s [] h i = i
-run-no_slot s (Free n ∷ run) h (inl i) = i
-run-no_slot s (Nonrelocatable id content ∷ run) h (inl i) = i
-run-no_slot s (Masters ∷ run) h (inl i) = false≢true h.0
-run-no_slot s (Relocatable slot flags content ∷ run) h (inl i) = i
-run-no_slot s (b ∷ run) h (inr i) = run-no_slot (s - size b) run h.1 i.1
+-- where the blocks lie that were passed, and those that were not
+pub record Bounds (lay : Lay) (place stop from to : ℕ) (xs : List ℕ) (gone moved rest : List Block) : Type 0 where
+  pub moved_end : sizes (lay.below ++ moved) ≡ to
+  pub low : place ≤ to
+  pub rest_end : from + sizes rest ≡ stop
+  pub inside : stop ≤ length xs
+  pub small : length xs ≤ 134217728
+  pub evens : (to % 16 ≡ 0) × (from % 16 ≡ 0)
+  pub gone_in : Each InRun gone
+  pub rest_in : Each InRun rest
 
-pub span-whole : (head : Block → List ℕ) (xs : List ℕ) (blocks : List Block) → Tiles head xs blocks
-    → sizes blocks % 16 ≡ 0
-span-whole head xs [] t = refl
-span-whole head xs (b ∷ blocks) t = omega (arith, span-whole head (drop (size b) xs) blocks t.1)
+module _ (lay : Lay) (place stop : ℕ) (r : IsMoved lay place stop) where
+  abbrev all : List Block
+  all = lay.below ++ (lay.run ++ lay.above)
 
--- slots are at multiples of 4
-pub slot-even : (head : Block → List ℕ) (xs : List ℕ) (s : ℕ) (blocks : List Block) → Tiles head xs blocks
-    → IsSlot s blocks → s % 4 ≡ 0
-slot-even head xs s [] t i = absurd i
-slot-even head xs s (Free n ∷ blocks) t (inl i) = absurd i
-slot-even head xs s (Nonrelocatable id content ∷ blocks) t (inl i) = absurd i
-slot-even head xs s (Relocatable slot flags content ∷ blocks) t (inl i) = absurd i
-slot-even head xs s (Masters ∷ blocks) t (inl i) = i.2
-slot-even head xs s (b ∷ blocks) t (inr i) =
-    omega (arith, slot-even head (drop (size b) xs) (s - size b) blocks t.1 i.1)
+  abbrev head : Block → List ℕ
+  head = head_of lay.resource
 
-pub movers-more : (b : Block) (rest : List Block) → is_mover b ≡ true → movers (b ∷ rest) ≡ b ∷ movers rest
-movers-more b rest h = ap (λ v. cond v (b ∷ movers rest) (movers rest)) h
-
-module _ (lay : Lay) (place stop : ℕ) (r : IsRunFrom lay place stop) where
   pub run-bounds : (place ≤ stop) × (stop + sizes lay.above ≡ length lay.bytes)
   run-bounds =
-      let l = length-tiles (head_of lay.resource) lay.bytes (lay.below ++ (lay.run ++ lay.above)) r.lies.tiles in
+      let l = length-tiles head lay.bytes all r.tiles in
       let a = span-append lay.below (lay.run ++ lay.above) in
       let b = span-append lay.run lay.above in
       (omega arith, omega arith)
 
   -- a slot is below the run or above it
-  pub slot-spot : (s : ℕ) → IsSlot s (lay.below ++ (lay.run ++ lay.above))
+  pub slot-spot : (s : ℕ) → IsSlot s all
       → ((s + 4 ≤ place) × IsSlot s lay.below) ⊎ ((stop ≤ s) × IsSlot (s - stop) lay.above)
-  slot-spot s i = elim (slot-split s _ _ i) [
-    | inl j ↦ inl (omega (arith, slot-inside), j)
-    | inr j ↦ elim (slot-split (s - sizes lay.below) lay.run lay.above j.1) [
-      | inl k ↦ absurd (run-no_slot (s - sizes lay.below) lay.run r.in_run k)
-      | inr k ↦
-          let e : s - sizes lay.below - sizes lay.run ≡ s - stop = omega arith in
-          inr (omega (arith, j.0, k.0), subst (λ q. IsSlot q lay.above) e k.1)
-    ]
-  ]
+  slot-spot s = slot-beside s _ _ _ _ _ (λ k. run-no_slot k lay.run r.in_run) r.bottom r.top
 
-  pub start : (gap : ℕ) → (p : Packing lay gap stop place place 0 lay.bytes) × (p.moved ≡ [])
+  -- so it is clear of a write inside the run
+  pub slot-clear : (at n : ℕ) → place ≤ at → at + n ≤ stop → (s : ℕ) → IsSlot s all → Clear at n s
+  slot-clear at n l h s i = elim (slot-spot s i) [ inl j ↦ inl (omega (arith, l)) | inr j ↦ inr (omega (arith, h)) ]
+
+  pub start : (gap : ℕ) → Passing lay gap place place lay.bytes [] [] lay.run
   start gap =
-      let head = head_of lay.resource in
-      let t = tiles-split head lay.bytes lay.below (lay.run ++ lay.above) r.lies.tiles in
-      let p = r.bottom in
-      let even : place % 16 ≡ 0 = omega (arith, span-whole, p) in
-      let z : 0 ≡ place - place = omega arith in
-      let e : 0 + sizes lay.below ≡ place = omega (arith, p) in (
+      let t = tiles-parts head lay.bytes lay.below lay.run lay.above place stop r.bottom r.top r.tiles in
+      record {
+        split = refl;
+        named = refl;
+        low = rw append-nil t.0;
+        high = t.1;
+        up = omega arith;
+        down = omega arith;
+        kept = refl;
+        lead_low = r.low;
+        lead_moved = tt;
+        others = λ s i a. refl;
+      }
+
+  module _ {gap from to : ℕ} {xs : List ℕ} {gone moved : List Block} where
+    pub bounds : {rest : List Block} → Passing lay gap from to xs gone moved rest
+        → Bounds lay place stop from to xs gone moved rest
+    bounds {rest} q =
+        let s = ap sizes q.split in
+        let n = span-append gone rest in
+        let b = run-bounds in
+        let e : from + sizes rest ≡ stop = omega arith in
+        let inside : stop ≤ length xs = omega arith in
+        let t = length-take-le to xs (omega arith) in
+        let m : sizes (lay.below ++ moved) ≡ to = omega (arith, length-tiles head _ _ q.low) in
+        let w = span-whole head lay.bytes all r.tiles in
+        let v = span-whole head _ _ q.high in
+        let in-run = subst (Each InRun) (sym q.split) r.in_run in
         record {
-          gone = [];
-          moved = [];
-          rest = lay.run;
-          split = refl;
-          those = refl;
-          state = record {
-            low = subst (λ k. Tiles head (take k lay.bytes) (lay.below ++ [])) p (rw append-nil t.0);
-            high = subst (λ k. Tiles head (drop k lay.bytes) (lay.run ++ lay.above)) p t.1;
-            order = refl;
-            free = refl;
-            down = omega arith;
-            up = r.top;
-            whole = (even, even);
-            kept = refl;
-            in_run = r.in_run;
-            lead_low = leads-left lay.bytes 0 lay.below (lay.run ++ lay.above) r.lies.leads;
-            lead_moved = tt;
-            lead_high = subst (λ k. Leads k (lay.run ++ lay.above) lay.bytes) e
-                (leads-right _ 0 _ (lay.run ++ lay.above) r.lies.leads);
-            named = ap (λ q. names q ++ names (lay.run ++ lay.above)) (append-nil lay.below)
-                ∙ sym (names-append lay.below (lay.run ++ lay.above));
-            count = ap (λ k. 0 + lowered_in_run_from k lay.run) (sym z)
-                ∙ (let f : 0 + lowered_in_run_from 0 lay.run ≡ lowered_in_run_from 0 lay.run = omega arith in f);
-            others = λ s i a. refl;
-          };
-        },
-        refl,
-      )
-
-  -- all slots are clear of a write inside the run
-  pub all-clear : (at n : ℕ) → place ≤ at → at + n ≤ stop
-      → Each (Clear at n) (names (lay.below ++ (lay.run ++ lay.above)))
-  all-clear at n l h =
-      let clear : (s : ℕ) → IsSlot s (lay.below ++ (lay.run ++ lay.above))
-      → Clear at n s = λ s i. elim (slot-spot s i) [
-        | inl j ↦ inl (omega (arith, l))
-        | inr j ↦ inr (omega (arith, h))
-      ] in
-      each-map (λ s. IsSlot s (lay.below ++ (lay.run ++ lay.above))) (Clear at n) clear _ r.slots.slots
-
-  module _ (gap from to moves : ℕ) (xs : List ℕ) (moved : List Block) where
-    -- where the packed blocks end, and that the rest lies in the bytes
-    pub packed-bounds : (rest : List Block) → PackingAt lay gap stop from to moves xs moved rest
-        → (place ≤ to) × (from ≤ length xs) × (sizes (lay.below ++ moved) ≡ to)
-    packed-bounds rest q =
-        let t = length-take-le to xs (omega (arith, run-bounds)) in
-        (omega (arith, length-tiles, span-append, t), omega (arith, run-bounds), omega (arith, length-tiles, t))
-
-    -- the next block is Free
-    pub step-free : (n : ℕ) (rest : List Block) → PackingAt lay gap stop from to moves xs moved (Free n ∷ rest)
-        → PackingAt lay gap stop (from + n) to moves xs moved rest
-    step-free n rest q =
-        let e : from - to + n ≡ from + n - to = omega arith in
-        record {
-          low = q.low;
-          high = subst (λ k. Tiles (head_of lay.resource) k (rest ++ lay.above)) (drop-drop n from xs) q.high.1;
-          order = q.order;
-          free = omega arith;
-          down = omega arith;
-          up = omega arith;
-          whole = (omega (arith, q.whole), q.whole.1);
-          kept = q.kept;
-          in_run = q.in_run.1;
-          lead_low = q.lead_low;
-          lead_moved = q.lead_moved;
-          lead_high = q.lead_high.1;
-          named = q.named;
-          count = (let c : moves + lowered_in_run_from (from - to + n) rest ≡ lowered_in_run_from 0 lay.run =
-              (let g : lowered_in_run_from (from - to + n) rest ≡ 0 + lowered_in_run_from (from - to + n) rest =
-              omega arith in ap (λ k. moves + k) g ∙ q.count) in subst
-              (λ k. moves + lowered_in_run_from k rest ≡ lowered_in_run_from 0 lay.run) e c);
-          others = q.others;
+          moved_end = m;
+          low = omega (arith, span-append lay.below moved);
+          rest_end = e;
+          inside = inside;
+          small = omega arith;
+          evens = (
+            omega (arith, span-whole head _ _ q.low),
+            omega (arith, span-append rest lay.above, span-append lay.below (lay.run ++ lay.above), span-append lay.run lay.above),
+          );
+          gone_in = each-left InRun gone rest in-run;
+          rest_in = each-right InRun gone rest in-run;
         }
 
-    -- the next block is relocatable: it comes down, and its slot follows
-    module _ (slot : ℕ) (flags : Flags) (content : List ℕ) (rest : List Block)
-        (q : PackingAt lay gap stop from to moves xs moved (Relocatable slot flags content ∷ rest)) where
-      abbrev pub block : Block
-      block = Relocatable slot flags content
+    -- a Free block is left out
+    pub step-free : {rest : List Block} (n : ℕ) → Passing lay gap from to xs gone moved (Free n ∷ rest)
+        → Passing lay gap (from + n) to xs (gone ++ Free n ∷ []) moved rest
+    step-free {rest} n q = record {
+      split = append_assoc gone (Free n ∷ []) rest ∙ q.split;
+      named = q.named ∙ sym (append-nil (names gone)) ∙ sym (names-append gone (Free n ∷ []));
+      low = q.low;
+      high = subst (λ k. Tiles head k (rest ++ lay.above)) (drop-drop n from xs) q.high.1;
+      up = omega (arith, span-append gone (Free n ∷ []));
+      down = omega arith;
+      kept = q.kept;
+      lead_low = q.lead_low;
+      lead_moved = q.lead_moved;
+      others = q.others;
+    }
 
-      abbrev pub all : List Block
-      all = lay.below ++ (lay.run ++ lay.above)
+    module _ (b : Block) {rest : List Block} (q : Passing lay gap from to xs gone moved (b ∷ rest)) where
+      -- a block comes down
+      abbrev pub slid : List ℕ
+      slid = written to (piece from (size b) xs) xs
 
-      abbrev pub slid : ℕ → List ℕ
-      slid n = written to (piece from n xs) xs
+      length-piece : length (piece from (size b) xs) ≡ size b
+      length-piece = length-take-le (size b) (drop from xs) q.high.0.fits
 
-      is-mover : is_mover block ≡ true
-      is-mover = q.in_run.0
+      pub length-slid : length slid ≡ length xs
+      length-slid = let p = bounds q in
+          length-written to (piece from (size b) xs) xs (omega (arith, length-piece))
 
-      -- the names with this block's slot in their middle
-      named : names (lay.below ++ moved) ++ slot ∷ names (rest ++ lay.above) ≡ names all
-      named = q.named
+      slid-outside : SameOutside place stop xs slid
+      slid-outside = let p = bounds q in
+          outside-written place stop xs xs to (piece from (size b) xs) p.low (omega (arith, length-piece))
+          (outside-same place stop xs (omega arith) p.inside)
 
-      pub is-slot : IsSlot slot all
-      is-slot =
-          let P : ℕ → Type 0 = λ s. IsSlot s all in
-          (each-right P _ (slot ∷ names (rest ++ lay.above)) (subst (λ k. Each P k) (sym named) r.slots.slots)).0
-
-      apart : Each (Apart slot) (names (lay.below ++ moved)) × Each (Apart slot) (names (rest ++ lay.above))
-      apart =
-          let p = subst (λ k. Pairs Apart k) (sym named) r.slots.apart in (
-            pairs-before slot (names (lay.below ++ moved)) (names (rest ++ lay.above)) p,
-            pairs-after slot (names (lay.below ++ moved)) (names (rest ++ lay.above)) p,
-          )
-
-      length-moved : length (piece from (size block) xs) ≡ size block
-      length-moved = length-take-le (size block) (drop from xs) q.high.0.fits
-
-      clear : Each (Clear to (length (piece from (size block) xs))) (names (lay.below ++ moved))
-          × Each (Clear to (length (piece from (size block) xs))) (names (rest ++ lay.above))
-      clear =
-          let b = packed-bounds (block ∷ rest) q in
-          let P : ℕ → Type 0 = Clear to (length (piece from (size block) xs)) in
-          let c = subst (λ k. Each P k) (sym named) (all-clear _ _ b.0 (omega (arith, length-moved))) in (
-            each-left P (names (lay.below ++ moved)) (slot ∷ names (rest ++ lay.above)) c,
-            (each-right P (names (lay.below ++ moved)) (slot ∷ names (rest ++ lay.above)) c).1,
-          )
-
-      -- the bytes below, after the slide
-      slid-low : Tiles (head_of lay.resource) (take (to + size block) (slid (size block)))
-          (lay.below ++ (moved ++ block ∷ []))
+      slid-low : Tiles head (take (to + size b) slid) (lay.below ++ (moved ++ b ∷ []))
       slid-low =
-          let head = head_of lay.resource in
-          let e : take (to + size block) (slid (size block)) ≡ take to xs ++ piece from (size block) xs =
-          take-written_at _ (piece from (size block) xs) xs _ (omega (arith, length-moved))
-          (omega (arith, packed-bounds)) in
-          let one = tiles-one head _ _ length-moved (tile-take head _ _ _ _ (omega arith) q.high.0.fits q.high.0) in
-          subst (λ k. Tiles head k (lay.below ++ (moved ++ block ∷ []))) (sym e)
-          (subst (λ k. Tiles head (take to xs ++ piece from (size block) xs) k)
-          (append_assoc lay.below moved (block ∷ [])) (tiles-append head _ _ _ _ q.low one))
+          let p = bounds q in
+          let l = length-piece in
+          let one = tiles-one head b _ l (tile-take head _ _ _ _ (omega arith) q.high.0.fits q.high.0) in
+          rw (take-written_at to (piece from (size b) xs) xs (to + size b) (omega arith) (omega arith))
+          (rw (← append_assoc lay.below moved (b ∷ [])) (tiles-append head _ _ _ _ q.low one))
 
-      -- the bytes above stay
-      slid-high : Tiles (head_of lay.resource) (drop (from + size block) (slid (size block))) (rest ++ lay.above)
+      slid-high : Tiles head (drop (from + size b) slid) (rest ++ lay.above)
       slid-high =
-          let l = length-moved in
-          let e = drop-written_above _ (piece from (size block) xs) _ (from + size block) (omega (arith, l))
-          (omega (arith, packed-bounds)) in
-          subst (λ k. Tiles (head_of lay.resource) k (rest ++ lay.above)) (drop-drop (size block) from xs
-          ∙ sym e) q.high.1
+          let p = bounds q in
+          let l = length-piece in
+          rw (drop-written_above to (piece from (size b) xs) xs (from + size b) (omega arith) (omega arith))
+          (subst (λ k. Tiles head k (rest ++ lay.above)) (drop-drop (size b) from xs) q.high.1)
 
-      pub length-slid : length (slid (size block)) ≡ length xs
-      length-slid =
-          length-written to (piece from (size block) xs) xs (omega (arith, length-moved, length-drop from xs, packed-bounds))
+  -- a Free block stays where it is
+  pub step-stay : {from : ℕ} {xs : List ℕ} {gone rest : List Block} (n : ℕ)
+      → Passing lay 0 from from xs gone gone (Free n ∷ rest)
+      → Passing lay 0 (from + n) (from + n) xs (gone ++ Free n ∷ []) (gone ++ Free n ∷ []) rest
+  step-stay {from} {xs} {gone} {rest} n q =
+      let f = step-free n q in
+      let p = bounds q in
+      record {
+        split = f.split;
+        named = refl;
+        low = subst (λ k. Tiles head (take (from + n) k) (lay.below ++ (gone ++ Free n ∷ [])))
+            (written-same from n _ xs (omega arith) refl) (slid-low (Free n) q);
+        high = f.high;
+        up = f.up;
+        down = omega arith;
+        kept = f.kept;
+        lead_low = f.lead_low;
+        lead_moved = leads-append xs _ gone (Free n ∷ []) q.lead_moved (tt, tt);
+        others = f.others;
+      }
 
-      abbrev pub done : List ℕ
-      done = written slot (word (to + gap)) (slid (size block))
+  -- a relocatable block comes down, and its slot follows
+  module _ {gap from to : ℕ} {xs : List ℕ} {gone moved rest : List Block} (slot : ℕ) (flags : Flags) (content : List ℕ)
+      (q : Passing lay gap from to xs gone moved (Relocatable slot flags content ∷ rest)) where
+    abbrev block : Block
+    block = Relocatable slot flags content
 
-      done-low : Tiles (head_of lay.resource) (take (to + size block) done) (lay.below ++ (moved ++ block ∷ []))
-      done-low =
-          let head = head_of lay.resource in
-          let zs = slid (size block) in
-          let w = length-word (to + gap) in
-          let k = q.kept in
-          elim (slot-spot slot is-slot) [
-            | inl j ↦
-                let e = take-written_above _ (word (to + gap)) zs _ (omega (arith, w, packed-bounds))
-                (omega (arith, length-slid, run-bounds, k)) in
-                let s = tiles-slot head (length-masters lay.resource) _ _ _ _ w
-                (slot-append_left slot lay.below (moved ++ block ∷ []) j.1) slid-low in
-                subst (λ k. Tiles head k (lay.below ++ (moved ++ block ∷ []))) (sym e) s
-            | inr j ↦
-                let e = take-written_below _ (word (to + gap)) zs (to + size block) (omega arith)
-                (omega (arith, length-slid, slot-inside, run-bounds, k)) in
-                subst (λ k. Tiles head k (lay.below ++ (moved ++ block ∷ []))) (sym e) slid-low
-          ]
+    abbrev pub done : List ℕ
+    done = written slot (word (to + gap)) (slid block q)
 
-      done-high : Tiles (head_of lay.resource) (drop (from + size block) done) (rest ++ lay.above)
-      done-high =
-          let head = head_of lay.resource in
-          let zs = slid (size block) in
-          let w = length-word (to + gap) in
-          let k = q.kept in
-          elim (slot-spot slot is-slot) [
-            | inl j ↦
-                let e = drop-written_above _ (word (to + gap)) zs _ (omega (arith, w, packed-bounds))
-                (omega (arith, length-slid, packed-bounds)) in
-                subst (λ k. Tiles head k (rest ++ lay.above)) (sym e) slid-high
-            | inr j ↦
-                let m : slot - stop ≡ slot - (from + size block) - sizes rest = omega arith in
-                let e = drop-written_below _ (word (to + gap)) zs _ (omega arith)
-                (omega (arith, length-slid, slot-inside, run-bounds, k)) in
-                let at = slot-append_right _ _ _ (omega arith) (subst (λ k. IsSlot k lay.above) m j.1) in
-                let s = tiles-slot head (length-masters lay.resource) _ _ _ _ w at slid-high in
-                subst (λ k. Tiles head k (rest ++ lay.above)) (sym e) s
-          ]
+    -- the names with this block's slot in their middle
+    named : names (lay.below ++ moved) ++ slot ∷ names (rest ++ lay.above) ≡ names all
+    named = rw (← q.split) (simp (names-append, append_assoc, q.named))
 
-      -- a slot that the write of this block's slot leaves
-      word-clear : (s : ℕ) → Apart slot s → Clear slot (length (word (to + gap))) s
-      word-clear s a = elim a [ inl i ↦ inr (omega (arith, length-word, i)) | inr i ↦ inl i ]
+    abbrev P : ℕ → Type 0
+    P s = IsSlot s all
 
-      -- where the slots lead, after both writes
-      still-leads : (o : ℕ) (blocks : List Block) → Each (Apart slot) (names blocks)
-          → Each (Clear to (length (piece from (size block) xs))) (names blocks) → Leads o blocks xs
-          → Leads o blocks done
-      still-leads o blocks a c h =
-          leads-written _ _ _ o _ (omega (arith, length-slid, slot-inside _ _ is-slot, span-append, run-bounds))
-          (each-map (Apart slot) (Clear slot (length (word (to + gap)))) word-clear _ a)
-          (leads-written _ _ _ o _ (omega (arith, packed-bounds)) c h)
+    abbrev Kept : ℕ → Type 0
+    Kept s = piece s 4 done ≡ piece s 4 xs
 
-      pub slot-length : slot + 4 ≤ length (slid (size block))
-      slot-length = omega (arith, length-slid, slot-inside slot all is-slot, span-append, run-bounds)
+    are-slots : Each P (names (lay.below ++ moved) ++ slot ∷ names (rest ++ lay.above))
+    are-slots = subst (Each P) (sym named) r.slots.slots
 
-      others-done : SameOthers all lay.bytes done
-      others-done s i a =
-          let mine : Apart s slot = (each-right (Apart s) _
-          (slot ∷ names (rest ++ lay.above)) (subst (λ k. Each (Apart s) k) (sym named) a)).0 in
-          let turned : Apart slot s = elim mine [ inl e ↦ inr e | inr e ↦ inl e ] in
-          let outside : Clear to (length (piece from (size block) xs)) s = elim (slot-spot s i) [
-            | inl j ↦ inl (omega (arith, packed-bounds))
-            | inr j ↦ inr (omega (arith, length-moved))
-          ] in
-          piece-clear slot (word (to + gap)) (slid (size block)) s (omega (arith, slot-length)) (word-clear s turned)
-          ∙ piece-clear to (piece from (size block) xs) xs s (omega (arith, packed-bounds)) outside ∙ q.others s i a
+    pub is-slot : IsSlot slot all
+    is-slot = (each-right P _ (slot ∷ names (rest ++ lay.above)) are-slots).0
 
-      pub step-move : PackingAt lay gap stop (from + size block) (to + size block)
-          (moves + cond (nat_lt 0 (from - to)) 1 0) done (moved ++ block ∷ []) rest
-      step-move =
-          let k = q.kept in
-          let sl = slot-length in
-          let word-in = length-written slot (word (to + gap)) (slid (size block)) (omega (arith, sl, length-word)) in
-          let e : to + gap ≡ sizes lay.below + gap + sizes moved = omega (arith, packed-bounds, span-append) in
-          let fall : from + size block - (to + size block) ≡ from - to + 0 = omega arith in
-          let here : piece slot 4 done ≡ word (to + gap) = piece-written _ _ (slid (size block)) 4
-          (omega (arith, length-word)) (omega (arith, sl)) in
-          let lead-here : Leads (sizes lay.below + gap + sizes moved) (block ∷ []) done = (here ∙ ap word e, tt) in
-          let P : ℕ → Type 0 = Clear to (length (piece from (size block) xs)) in
-          let names-low = names-append lay.below moved in
-          let apart-low = subst (λ k. Each (Apart slot) k) names-low apart.0 in
-          let clear-low = subst (λ k. Each P k) names-low clear.0 in
-          record {
-            low = done-low;
-            high = done-high;
-            order = append_assoc moved (block ∷ []) (movers rest)
-                ∙ ap (λ k. moved ++ k) (sym (movers-more block rest is-mover)) ∙ q.order;
-            free = omega arith;
-            down = omega arith;
-            up = omega arith;
-            whole = (omega arith, omega arith);
-            kept = word-in ∙ length-slid ∙ k;
-            in_run = q.in_run.1;
-            lead_low = still-leads 0 _ (each-left (Apart slot) (names lay.below) (names moved) apart-low)
-                (each-left P (names lay.below) (names moved) clear-low) q.lead_low;
-            lead_moved = leads-append _ _ _ _ (still-leads _ _
-                (each-right (Apart slot) (names lay.below) (names moved) apart-low)
-                (each-right P (names lay.below) (names moved) clear-low) q.lead_moved) lead-here;
-            lead_high = still-leads (from + size block) (rest ++ lay.above) apart.1 clear.1 q.lead_high.1;
-            named = (let g : names (lay.below ++ (moved ++ block ∷ [])) ≡ names (lay.below ++ moved) ++ slot ∷ [] =
-                ap names (sym (append_assoc lay.below moved (block ∷ [])))
-                ∙ names-append (lay.below ++ moved) (block ∷ []) in ap (λ k. k ++ names (rest ++ lay.above)) g
-                ∙ append_assoc (names (lay.below ++ moved)) (slot ∷ []) (names (rest ++ lay.above)) ∙ q.named);
-            count = (let one : cond (is_mover block) (cond (nat_lt 0 (from - to)) 1 0) 0 ≡ cond
-                (nat_lt 0 (from - to)) 1 0 = ap (λ m. cond m (cond (nat_lt 0 (from - to)) 1 0) 0) is-mover in
-                let all-of : moves + (cond (nat_lt 0 (from - to)) 1 0 + lowered_in_run_from
-                (from - to + 0) rest) ≡ lowered_in_run_from 0 lay.run =
-                ap (λ m. moves + (m + lowered_in_run_from (from - to + 0) rest)) (sym one) ∙ q.count in
-                ap (λ k. moves + cond (nat_lt 0 (from - to)) 1 0 + lowered_in_run_from k rest) fall
-                ∙ (let z : moves + cond (nat_lt 0 (from - to)) 1 0 + lowered_in_run_from (from - to + 0) rest ≡ moves +
-                (cond (nat_lt 0 (from - to)) 1 0 + lowered_in_run_from (from - to + 0) rest) = omega arith in
-                z) ∙ all-of);
-            others = others-done;
-          }
+    pub slot-fits : slot + 4 ≤ length xs
+    slot-fits = omega (arith, slot-inside slot all is-slot, length-tiles head lay.bytes all r.tiles, q.kept)
+
+    -- the other slots hold what they held
+    others-kept : (s : ℕ) → IsSlot s all → Apart slot s → Kept s
+    others-kept s i a =
+        piece-clear slot _ (slid block q) s (omega (arith, slot-fits, length-slid block q)) (apart-clear slot (to + gap) s a)
+        ∙ piece-outside place stop xs (slid block q) s (slid-outside block q)
+        (slot-clear place (stop - place) (omega arith) (omega (arith, run-bounds)) s i)
+
+    kept-low : Each Kept (names (lay.below ++ moved))
+    kept-low = each-both P (Apart slot) Kept others-kept _ (each-left P _ _ are-slots)
+        (pairs-before slot _ (names (rest ++ lay.above)) (subst (Pairs Apart) (sym named) r.slots.apart))
+
+    pub kept-high : Each Kept (names (rest ++ lay.above))
+    kept-high = each-both P (Apart slot) Kept others-kept _ (each-right P _ (slot ∷ names (rest ++ lay.above)) are-slots).1
+        (pairs-after slot (names (lay.below ++ moved)) _ (subst (Pairs Apart) (sym named) r.slots.apart))
+
+    done-tiles : Tiles head (take (to + size block) done) (lay.below ++ (moved ++ block ∷ []))
+        × Tiles head (drop (from + size block) done) (rest ++ lay.above)
+    done-tiles =
+        let p = bounds q in
+        tiles-slot-beside head (length-masters lay.resource) (slid block q) (word (to + gap)) slot (to + size block)
+        (from + size block) _ _ (length-word (to + gap)) (omega arith) (omega (arith, length-slid block q))
+        (elim (slot-spot slot is-slot) [
+          | inl j ↦ inl (slot-append_left slot lay.below _ j.1)
+          | inr j ↦
+              let e : slot - stop ≡ slot - (from + size block) - sizes rest = omega arith in
+              inr (omega arith, slot-append_right _ rest _ (omega arith) (subst (λ k. IsSlot k lay.above) e j.1))
+        ]) (slid-low block q) (slid-high block q)
+
+    pub step-move : Passing lay gap (from + size block) (to + size block) done (gone ++ block ∷ []) (moved ++ block ∷ []) rest
+    step-move =
+        let p = bounds q in
+        let f = slot-fits in
+        let l = length-slid block q in
+        let w = length-word (to + gap) in
+        let low = each-names Kept lay.below moved kept-low in
+        let e : to + gap ≡ sizes lay.below + gap + sizes moved = omega (arith, span-append lay.below moved) in
+        record {
+          split = append_assoc gone (block ∷ []) rest ∙ q.split;
+          named = names-append moved (block ∷ []) ∙ ap (λ k. k ++ slot ∷ []) q.named ∙ sym (names-append gone (block ∷ []));
+          low = done-tiles.0;
+          high = done-tiles.1;
+          up = omega (arith, span-append gone (block ∷ []));
+          down = omega arith;
+          kept = length-written slot (word (to + gap)) (slid block q) (omega arith) ∙ l ∙ q.kept;
+          lead_low = leads-same xs done 0 lay.below low.0 q.lead_low;
+          lead_moved = leads-append done _ moved (block ∷ []) (leads-same xs done _ moved low.1 q.lead_moved)
+              (piece-written slot _ (slid block q) 4 (sym w) (omega arith) ∙ ap word e, tt);
+          others = λ s i a. others-kept s i (apart-turned s slot (each-right (Apart s) _ (slot ∷ names (rest ++ lay.above))
+              (subst (Each (Apart s)) (sym named) a)).0) ∙ q.others s i a;
+        }
+
+-- blocks that were packed leave their Free bytes behind
+pub gap-left : (lay : Lay) (place stop : ℕ) (r : IsMoved lay place stop) {gap from to : ℕ} {xs : List ℕ}
+    {gone rest : List Block} → Passing lay gap from to xs gone (movers gone) rest → from ≡ to + free_sum gone
+gap-left lay place stop r {gone = gone} q =
+    let b = bounds lay place stop r q in
+    omega (arith, span-movers gone b.gone_in, span-append lay.below (movers gone))

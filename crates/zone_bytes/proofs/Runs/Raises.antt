@@ -13,9 +13,9 @@ use Rattle.zone_bytes.specs.Splicing.{SameOutside}
 use Rattle.zone_bytes.specs.Raising.{Raise, raised_run, MayRaise, Raised}
 use Rattle.zone_bytes.proofs.Tiles.Tiling.{span-append, length-tiles, tiles-append, tiles-one, tiles-split}
 use Rattle.zone_bytes.proofs.Tiles.Leading.{each-append, each-left, names-append, Clear, leads-append}
-use Rattle.zone_bytes.proofs.Runs.Packed.{span-whole}
+use Rattle.zone_bytes.proofs.Tiles.Tiling.{span-whole}
 use Rattle.block_store.proofs.Zone.Spots.{free-some}
-use Rattle.zone_bytes.proofs.Runs.Settled.{free-tile}
+use Rattle.zone_bytes.proofs.Tiles.Heads.{free-tile}
 use Rattle.zone_bytes.proofs.Tiles.Splices.{outside-same, outside-written, leads-outside}
 use Rattle.zone_bytes.proofs.Tiles.Keeping.{names-free, run-names, span-free, each-free}
 use Rattle.zone_bytes.proofs.Runs.Led.{leads-free}

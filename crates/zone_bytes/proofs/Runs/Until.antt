@@ -1,65 +1,42 @@
 -- The first blocks of a run are packed.
 use Rattle.std.proofs.Common.{◌≡◌, ℕ, ◌+◌, ◌-◌, ◌<◌, ◌≤◌, ◌⊎◌, inl, inr, true, false, cond, nat_le, List}
-use Rattle.std.proofs.Common.{[], ◌∷◌, ◌++◌, length, drop, sym}
-use Rattle.std.proofs.Common.{refl, ap, ◌∙◌, subst, arith, append_assoc}
+use Rattle.std.proofs.Common.{[], ◌∷◌, ◌++◌, length, drop, sym, refl, ap, ◌∙◌, subst, arith, append_assoc}
 use Rattle.std.proofs.lemmas.Bool.Decides.{nat_tests}
-use Rattle.std.proofs.lemmas.List.{append-nil}
+use Rattle.std.proofs.lemmas.List.{append-nil, length-take-le, length-drop, take-take}
 use Rattle.std.proofs.lemmas.List.Elements.{filter-append}
 use Rattle.heap_words.specs.Words.{word}
-use Rattle.windows.specs.Writes.{written}
-use Rattle.block_store.specs.Block.{Block, free_of, free_sum, is_mover, size, sizes}
-use Rattle.block_store.specs.Run.{movers}
+use Rattle.heap_words.proofs.Words.{length-word}
+use Rattle.windows.specs.Writes.{written, piece}
+use Rattle.windows.proofs.Pieces.{piece-written}
+use Rattle.block_store.specs.Block.{Block, free, free_of, free_sum, is_mover, size, sizes}
+use Rattle.block_store.specs.Run.{movers, settle}
 use Rattle.block_store.proofs.Zone.Totals.{total-append}
-use Rattle.zone_bytes.specs.Layout.{head_of, Tiles, names, Each}
-use Rattle.zone_bytes.specs.Settling.{lowered_in_run_from, Lay, InRun, Lies, HasSlots, IsRunFrom, SameOthers, PackingAt}
-use Rattle.zone_bytes.specs.Settling.{Packed, cut, first_in, left_behind, gone_to, rest_from, UntilAt, PackedUntil}
+use Rattle.zone_bytes.specs.Layout.{head_of, Tiles, IsSlot, names, Each}
+use Rattle.zone_bytes.specs.Settling.{Lay, InRun, Lies, HasSlots, IsRunFrom, SameOthers, Packing}
+use Rattle.zone_bytes.specs.Settling.{Packed, cut, first_in, left_behind, gone_to, UntilAt, PackedUntil}
+use Rattle.zone_bytes.specs.Splicing.{SameOutside}
+use Rattle.zone_bytes.specs.Pointing.{IsMoved}
+use Rattle.zone_bytes.proofs.Tiles.Heads.{free-tiles}
 use Rattle.zone_bytes.proofs.Tiles.Tiling.{span-append}
-use Rattle.zone_bytes.proofs.Tiles.Leading.{each-left}
+use Rattle.zone_bytes.proofs.Tiles.Leading.{Clear, each-left, each-map, each-names}
+use Rattle.zone_bytes.proofs.Tiles.Splices.{outside-same, outside-written, piece-outside, leads-outside, tiles-joined}
 use Rattle.zone_bytes.proofs.Tiles.Keeping.{span-movers}
-use Rattle.zone_bytes.proofs.Runs.Packed.{run-bounds, packed-bounds}
-use Rattle.zone_bytes.proofs.Runs.Settled.{finish-none-at, finish-free-at}
+use Rattle.zone_bytes.proofs.Runs.Packed.{run-moved, run-bounds, bounds, slot-clear, gap-left}
 
--- those that come lower among the first blocks, and those among the others
-falling-append : (gap : ℕ) (gone rest : List Block)
-    → lowered_in_run_from gap (gone ++ rest) ≡ lowered_in_run_from gap gone + lowered_in_run_from (gap + free_sum gone)
-    rest
-falling-append gap [] rest =
-    let e : gap ≡ gap + 0 = omega arith in
-    omega (arith, ap (λ g. lowered_in_run_from g rest) e)
-falling-append gap (b ∷ gone) rest =
-    let e : gap + free_of b + free_sum gone ≡ gap + (free_of b + free_sum gone) = omega arith in
-    omega (arith, falling-append (gap + free_of b) gone rest, ap (λ g. lowered_in_run_from g rest) e)
-
--- each block has bytes
-abbrev IsSome : Block → Type 0
-IsSome b = 0 < size b
-
-each-some : (head : Block → List ℕ) (xs : List ℕ) (rest above : List Block) → Tiles head xs (rest ++ above)
-    → Each IsSome rest
-each-some head xs [] above t = tt
-each-some head xs (b ∷ rest) above t = (omega arith, each-some head (drop (size b) xs) rest above t.1)
-
-le-none : (n : ℕ) → 0 < n → nat_le n 0 ≡ false
-le-none n l = grind (arith, nat_tests, l)
-
-le-more : (n m : ℕ) → nat_le n (n + m) ≡ true
-le-more n m = grind (arith, nat_tests)
-
-first-gone : (gone rest : List Block) → Each IsSome rest → first_in (sizes gone) (gone ++ rest) ≡ gone
-first-gone [] [] s = refl
-first-gone [] (b ∷ rest) s = ap (λ v. cond v (b ∷ first_in (0 - size b) rest) []) (le-none _ s.0)
-first-gone (b ∷ gone) rest s =
-    let e : size b + sizes gone - size b ≡ sizes gone = omega arith in
-    ap (λ v. cond v (b ∷ first_in (size b + sizes gone - size b) (gone ++ rest)) []) (le-more _ _)
-    ∙ ap (λ n. b ∷ first_in n (gone ++ rest)) e ∙ ap (λ l. b ∷ l) (first-gone _ _ s)
-
-left-rest : (gone rest : List Block) → Each IsSome rest → left_behind (sizes gone) (gone ++ rest) ≡ rest
-left-rest [] [] s = refl
-left-rest [] (b ∷ rest) s = ap (λ v. cond v (left_behind (0 - size b) rest) (b ∷ rest)) (le-none _ s.0)
-left-rest (b ∷ gone) rest s =
-    let e : size b + sizes gone - size b ≡ sizes gone = omega arith in
-    ap (λ v. cond v (left_behind (size b + sizes gone - size b) (gone ++ rest)) (b ∷ (gone ++ rest)))
-    (le-more _ (sizes gone)) ∙ ap (λ n. left_behind n (gone ++ rest)) e ∙ left-rest gone rest s
+-- the first blocks, as their bytes tell them
+cut-back : (head : Block → List ℕ) (xs : List ℕ) (gone rest above : List Block) → Tiles head xs (rest ++ above)
+    → (first_in (sizes gone) (gone ++ rest) ≡ gone) × (left_behind (sizes gone) (gone ++ rest) ≡ rest)
+cut-back head xs [] [] above t = (refl, refl)
+cut-back head xs [] (b ∷ rest) above t =
+    let e : nat_le (size b) 0 ≡ false = grind (arith, nat_tests, t.0.some) in
+    (ap (λ v. cond v (b ∷ first_in (0 - size b) rest) []) e, ap (λ v. cond v (left_behind (0 - size b) rest) (b ∷ rest)) e)
+cut-back head xs (b ∷ gone) rest above t =
+    let e : nat_le (size b) (size b + sizes gone) ≡ true = grind (arith, nat_tests) in
+    let m : size b + sizes gone - size b ≡ sizes gone = omega arith in
+    let k = cut-back head xs gone rest above t in (
+      (λ i. cond (e i) (b ∷ first_in (m i) (gone ++ rest)) []) ∙ ap (λ l. b ∷ l) k.0,
+      (λ i. cond (e i) (left_behind (m i) (gone ++ rest)) (b ∷ (gone ++ rest))) ∙ k.1,
+    )
 
 module _ (lay : Lay) (gone rest : List Block) (split : gone ++ rest ≡ lay.run) where
   -- cutting a run leaves all blocks
@@ -75,122 +52,109 @@ module _ (lay : Lay) (gone rest : List Block) (split : gone ++ rest ≡ lay.run)
   pub cut-span : sizes lay.run ≡ sizes gone + sizes rest
   cut-span = ap sizes (sym split) ∙ span-append gone rest
 
-  cut-falling : lowered_in_run_from 0 lay.run ≡ lowered_in_run_from 0 gone + lowered_in_run_from (0 + free_sum gone)
-      rest
-  cut-falling = ap (lowered_in_run_from 0) (sym split) ∙ falling-append 0 gone rest
+  pub cut-run : (place stop : ℕ) → IsRunFrom lay place stop → IsRunFrom (cut lay gone rest) place (place + sizes gone)
+  cut-run place stop r = record {
+    lies = subst (λ l. Lies lay.resource l lay.bytes) (sym cut-same) r.lies;
+    slots = subst HasSlots (sym cut-same) r.slots;
+    bottom = r.bottom;
+    top = refl;
+    in_run = each-left InRun gone rest (subst (Each InRun) (sym split) r.in_run);
+    small = r.small;
+  }
 
-  module _ (place stop : ℕ) (r : IsRunFrom lay place stop) where
-    pub cut-run : (from : ℕ) → place + sizes gone ≡ from → IsRunFrom (cut lay gone rest) place from
-    cut-run from t = record {
-      lies = subst (λ l. Lies lay.resource l lay.bytes) (sym cut-same) r.lies;
-      slots = subst HasSlots (sym cut-same) r.slots;
-      bottom = r.bottom;
-      top = t;
-      in_run = each-left InRun gone rest (subst (Each InRun) (sym split) r.in_run);
-      small = r.small;
-    }
+module _ (lay : Lay) (place stop : ℕ) (r : IsMoved lay place stop) {gap from to moves : ℕ} {xs : List ℕ}
+    {gone : List Block} (p : Packing lay gap from to moves xs gone) where
+  is-cut : (first_in (from - sizes lay.below) lay.run ≡ gone) × (left_behind (from - sizes lay.below) lay.run ≡ p.rest)
+  is-cut =
+      let e : from - sizes lay.below ≡ sizes gone = omega (arith, p.state.up) in
+      rw (e, ← p.state.split) (cut-back (head_of lay.resource) _ gone p.rest lay.above p.state.high)
 
-    module _ (gap from to moves : ℕ) (xs : List ℕ) (moved : List Block) (those : moved ≡ movers gone)
-        (q : PackingAt lay gap stop from to moves xs moved rest) where
-      pub cut-at : place + sizes gone ≡ from
-      cut-at = omega (arith, cut-span)
+  pub gone-is : gone ≡ gone_to lay from
+  gone-is = sym is-cut.0
 
-      cut-gap : from ≡ to + free_sum gone
-      cut-gap = omega (arith, cut-free)
+  -- the bytes between the packed blocks and the rest become one Free block
+  packed : (zs : List ℕ) → SameOutside to from xs zs
+      → (from - to ≡ 0) ⊎ ((0 < from - to) × (piece to 4 zs ≡ word (from - to))) → Packed (cut lay gone p.rest) gap moves zs
+  packed zs s w =
+      let q = p.state in
+      let b = bounds lay place stop r q in
+      let g = gap-left lay place stop r q in
+      let head = head_of lay.resource in
+      let n : from - to ≡ free_sum gone = omega arith in
+      let len = length-take-le (from - to) (drop to zs) (omega (arith, length-drop to zs, s.kept)) in
+      let mid = free-tiles lay.resource (from - to) (piece to (from - to) zs) len (omega (arith, b.evens)) (elim w [
+        | inl e ↦ inl e
+        | inr e ↦ inr (e.0, take-take 4 (from - to) (drop to zs) (omega (arith, b.evens, e.0)) ∙ e.1)
+      ]) in
+      let tiles = tiles-joined head zs (lay.below ++ movers gone) (free (from - to)) (p.rest ++ lay.above) to from q.down
+      (rw s.low q.low) mid (rw s.high q.high) in
+      let shape : (lay.below ++ movers gone) ++ (free (from - to) ++ (p.rest ++ lay.above))
+      ≡ lay.below ++ (settle gone ++ (p.rest ++ lay.above)) = rw n (simp append_assoc) in
+      let P : ℕ → Type 0 = Clear to (from - to) in
+      let clear = slot-clear lay place stop r to (from - to) b.low (omega arith) in
+      let c = each-map (λ t. IsSlot t (lay.below ++ (lay.run ++ lay.above))) P clear _ r.slots.slots in
+      let k = each-names P lay.below _ (subst (λ l. Each P (names l)) (sym (cut-same lay gone p.rest q.split)) c) in
+      let m = each-names P gone _ k.1 in
+      record {
+        tiles = subst (Tiles head zs) shape tiles;
+        low = leads-outside to from xs zs 0 lay.below s k.0 q.lead_low;
+        leads = leads-outside to from xs zs _ (movers gone) s (subst (Each P) (sym q.named) m.0) q.lead_moved;
+        high = rw q.up (leads-outside to from xs zs from (p.rest ++ lay.above) s m.1 p.leads);
+        others = subst (λ l. SameOthers l lay.bytes zs) (sym (cut-same lay gone p.rest q.split))
+            (λ t i a. piece-outside to from xs zs t s (clear t i) ∙ q.others t i a);
+        moved = p.count;
+        kept = s.kept ∙ q.kept;
+      }
 
-      cut-packing : PackingAt (cut lay gone rest) gap from from to moves xs moved []
-      cut-packing =
-          record {
-            low = q.low;
-            high = q.high;
-            order = append-nil moved ∙ those;
-            free = omega (arith, cut-gap);
-            down = q.down;
-            up = omega arith;
-            whole = q.whole;
-            kept = q.kept;
-            in_run = tt;
-            lead_low = q.lead_low;
-            lead_moved = q.lead_moved;
-            lead_high = q.lead_high;
-            named = q.named ∙ ap names (sym cut-same);
-            count =
-                (let e : from - to ≡ 0 + free_sum gone = omega (arith, cut-gap) in
-                omega (arith, cut-falling, ap (λ k. lowered_in_run_from k rest) e));
-            others = subst (λ l. SameOthers l lay.bytes xs) (sym cut-same) q.others;
-          }
+  module _ (enough : ℕ) (ended : (p.rest ≡ []) ⊎ ((place < to) × (enough ≤ from - to))) where
+    until : (zs : List ℕ) → SameOutside to from xs zs
+        → (from - to ≡ 0) ⊎ ((0 < from - to) × (piece to 4 zs ≡ word (from - to)))
+        → PackedUntil lay place gap enough moves to from zs
+    until zs s w =
+        let b = bounds lay place stop r p.state in
+        let g = gap-left lay place stop r p.state in
+        let at : UntilAt lay place gap enough moves to from zs gone p.rest = record {
+          split = p.state.split;
+          packed = packed zs s w;
+          top_at = omega (arith, span-append lay.below (movers gone), r.bottom);
+          stop_at = omega (arith, p.state.up, r.bottom);
+          ended = elim ended [ inl e ↦ inl e | inr e ↦ inr (e.0, omega (arith, e.1)) ];
+        } in
+        rw (is-cut.0, is-cut.1) at
 
-      cut-top : to ≡ place + sizes (movers gone)
-      cut-top =
-          omega (arith, packed-bounds lay place stop r gap from to moves xs moved rest q, span-append, ap sizes those)
+    pub until-none : from ≤ to → PackedUntil lay place gap enough moves to from xs
+    until-none l =
+        let b = bounds lay place stop r p.state in
+        until xs (outside-same to from xs p.state.down (omega arith)) (inl (omega arith))
 
-      module _ (enough : ℕ) (ended : (rest ≡ []) ⊎ ((place < to) × (enough ≤ from - to))) where
-        end : (rest ≡ []) ⊎ ((place < to) × (enough ≤ free_sum gone))
-        end = elim ended [
-          | inl n ↦ inl n
-          | inr e ↦ inr (e.0, omega (arith, e.1, cut-gap))
-        ]
-
-        until-at : (ys : List ℕ) → Packed (cut lay gone rest) gap moves ys
-            → UntilAt lay place gap enough moves to from ys gone rest
-        until-at ys p = record {
-          split = split;
-          packed = p;
-          top_at = cut-top;
-          stop_at = sym cut-at;
-          ended = end;
-        }
-
-        bytes-gone : sizes gone ≡ from - sizes lay.below
-        bytes-gone = omega (arith, cut-at)
-
-        some-rest : Each IsSome rest
-        some-rest = each-some (head_of lay.resource) (drop from xs) rest lay.above q.high
-
-        pub gone-is : gone ≡ gone_to lay from
-        gone-is = sym (first-gone _ _ some-rest) ∙ (ap (λ n. first_in n (gone ++ rest)) bytes-gone)
-            ∙ ap (first_in (from - sizes lay.below)) split
-
-        rest-is : rest ≡ rest_from lay from
-        rest-is = sym (left-rest gone rest some-rest) ∙ (ap (λ n. left_behind n (gone ++ rest)) bytes-gone)
-            ∙ ap (left_behind (from - sizes lay.below)) split
-
-        until : (ys : List ℕ) → Packed (cut lay gone rest) gap moves ys → PackedUntil lay place gap enough moves to from ys
-        until ys p = subst (λ g. UntilAt lay place gap enough moves to from ys g (rest_from lay from)) gone-is
-            (subst (UntilAt lay place gap enough moves to from ys gone) rest-is (until-at _ p))
-
-        pub until-none : from ≤ to → PackedUntil lay place gap enough moves to from xs
-        until-none l = until _ (finish-none-at _ _ _ (cut-run _ cut-at) _ _ _ _ _ _ cut-packing refl l)
-
-        pub until-free : to < from → PackedUntil lay place gap enough moves to from (written to (word (from - to)) xs)
-        until-free l = until _ (finish-free-at _ _ _ (cut-run _ cut-at) _ _ _ _ _ _ cut-packing refl l)
-
--- at the end of the run nothing is left
-pub none-left : (lay : Lay) (gap stop from to moves : ℕ) (xs : List ℕ) (moved rest : List Block)
-    → PackingAt lay gap stop from to moves xs moved rest → stop ≤ from → rest ≡ []
-none-left lay gap stop from to moves xs moved [] q l = refl
-none-left lay gap stop from to moves xs moved (b ∷ rest) q l = absurd (omega (arith, l))
+    pub until-free : to < from → PackedUntil lay place gap enough moves to from (written to (word (from - to)) xs)
+    until-free l =
+        let b = bounds lay place stop r p.state in
+        let w = length-word (from - to) in
+        until _ (outside-written to from xs xs to (word (from - to)) (omega arith) (omega (arith, b.evens))
+        (outside-same to from xs p.state.down (omega arith)))
+        (inr (omega arith, piece-written to (word (from - to)) xs 4 (sym w) (omega arith)))
 
 -- a run without enough Free bytes is packed whole
-module _ (lay : Lay) (place gap enough moves top stop : ℕ) (xs : List ℕ) (gone rest : List Block)
-    (r : IsRunFrom lay place (place + sizes lay.run)) (p : UntilAt lay place gap enough moves top stop xs gone rest)
-  where
-    pub all-gone : length lay.bytes < enough → rest ≡ []
-    all-gone l = elim p.ended [
-      | inl n ↦ n
-      | inr e ↦ absurd (omega (arith, l, e, run-bounds, cut-free, span-movers))
-    ]
+module _ (lay : Lay) (place : ℕ) (r : IsRunFrom lay place (place + sizes lay.run)) {gap enough moves top stop : ℕ}
+    {xs : List ℕ} {gone rest : List Block} (p : UntilAt lay place gap enough moves top stop xs gone rest) where
+  pub all-gone : length lay.bytes < enough → rest ≡ []
+  all-gone l = elim p.ended [
+    | inl n ↦ n
+    | inr e ↦ absurd (omega (
+      arith,
+      l,
+      e,
+      run-bounds lay place _ (run-moved lay place _ r),
+      cut-free lay gone rest p.split,
+      span-movers lay.run r.in_run,
+    ))
+  ]
 
-    module _ (n : rest ≡ []) where
-      pub all-of : gone ≡ lay.run
-      all-of = sym (append-nil gone) ∙ ap (λ l. gone ++ l) (sym n) ∙ p.split
+  module _ (n : rest ≡ []) where
+    pub all-of : gone ≡ lay.run
+    all-of = sym (append-nil gone) ∙ ap (λ l. gone ++ l) (sym n) ∙ p.split
 
-      pub whole-packed : Packed lay gap moves xs
-      whole-packed = subst (λ l. Packed (cut lay l []) gap moves xs) all-of
-          (subst (λ l. Packed (cut lay gone l) gap moves xs) n p.packed)
-
-      pub whole-top : top ≡ place + sizes (movers lay.run)
-      whole-top = p.top_at ∙ ap (λ l. place + sizes (movers l)) all-of
-
-      pub whole-stop : stop ≡ place + sizes lay.run
-      whole-stop = p.stop_at ∙ ap (λ l. place + sizes l) all-of
+    pub whole : UntilAt lay place gap enough moves top stop xs lay.run []
+    whole = subst (λ l. UntilAt lay place gap enough moves top stop xs l []) all-of
+        (subst (UntilAt lay place gap enough moves top stop xs gone) n p)

@@ -18,7 +18,7 @@ use Rattle.zone_bytes.specs.Layout.{flag_word, head_of, Tile, Tiles, names, Lead
 use Rattle.zone_bytes.specs.Looking.{place_of_word}
 use Rattle.zone_bytes.specs.Table.{Has, empty_word, Says, Lays}
 use Rattle.zone_bytes.proofs.Places.Stepped.{word-at}
-use Rattle.zone_bytes.proofs.Runs.Packed.{span-whole}
+use Rattle.zone_bytes.proofs.Tiles.Tiling.{span-whole}
 use Rattle.zone_bytes.proofs.SlotTable.Tables.{slot-in, apart-other}
 use Rattle.zone_bytes.proofs.Tiles.Decoding.{says, flag_word-small}
 use Rattle.zone_bytes.proofs.Tiles.Spelling.{resource-bit}

@@ -14,7 +14,8 @@ use Rattle.zone_bytes.specs.Settling.{Lies}
 use Rattle.zone_bytes.specs.Table.{Has, Chain, Says, IsUsed, Lays}
 use Rattle.zone_bytes.proofs.Tiles.Tiling.{length-tiles, slot-inside, tiles-slot}
 use Rattle.zone_bytes.proofs.Tiles.Leading.{Clear, piece-clear, each-map, each-left, each-right, leads-written}
-use Rattle.zone_bytes.proofs.Runs.Packed.{length-masters, slot-even}
+use Rattle.zone_bytes.proofs.Tiles.Heads.{length-masters}
+use Rattle.zone_bytes.proofs.Tiles.Tiling.{slot-even}
 
 pub each-both : {A : Type 0} (P Q R : A → Type 0) → ((x : A) → P x → Q x → R x) → (xs : List A) → Each P xs
     → Each Q xs → Each R xs

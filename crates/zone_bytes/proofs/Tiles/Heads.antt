@@ -1,14 +1,16 @@
 -- What the words of a block's header say.
-use Rattle.std.proofs.Common.{◌≡◌, ℕ, Bool, ◌+◌, ◌<◌, ◌≤◌, ◌^◌, List, ◌++◌, length, take, drop, sym, refl, ap, ◌∙◌}
-use Rattle.std.proofs.Common.{arith, length-append}
+use Rattle.std.proofs.Common.{◌≡◌, ℕ, Bool, ◌+◌, ◌<◌, ◌≤◌, ◌^◌, inl, inr, List, [], ◌∷◌, ◌++◌, length, take, drop, sym, refl, ap, ◌∙◌}
+use Rattle.std.proofs.Common.{arith, length-append, ◌%◌, ◌⊎◌, ◌∷◌, inl, subst, inr}
 use Rattle.std.proofs.lemmas.List.{length-drop, drop-drop, drop-take, take-take, take_all}
 use Rattle.windows.specs.Writes.{piece}
+use Rattle.block_store.proofs.Zone.Spots.{free-some}
+use Rattle.zone_bytes.proofs.Tiles.Tiling.{tiles-one}
 use Rattle.heap_words.specs.Words.{word, word_at, header}
 use Rattle.heap_words.proofs.Words.{length-word, read_back}
 use Rattle.heap_words.proofs.Headers.{length-header}
 use Rattle.block_store.specs.declared.flags.Flags.{Flags}
-use Rattle.block_store.specs.Block.{Block, Free, Nonrelocatable, Masters, Relocatable, size}
-use Rattle.zone_bytes.specs.Layout.{kind, flag_word, head_of, Tile}
+use Rattle.block_store.specs.Block.{Block, Free, Nonrelocatable, Masters, Relocatable, size, free}
+use Rattle.zone_bytes.specs.Layout.{kind, flag_word, head_of, Tile, Tiles}
 
 -- the pieces of what a block begins with
 pub tile-piece : (h : List ℕ) (n : ℕ) (ys : List ℕ) → Tile h n ys → (i k : ℕ) → i + k ≤ length h
@@ -58,6 +60,44 @@ module _ (resource : ℕ → Bool) (ys : List ℕ) where
       let n = size (Relocatable slot flags content) in
       tile-piece _ n _ t 8 4 (omega (arith, length-head)) ∙ (header-pieces _ _ _ _ _).2
 
+pub length-masters : (resource : ℕ → Bool) → length (head_of resource Masters) ≡ 16
+unfolding head_of
+length-masters resource = length-header _ _ 0 0
+
+-- a word that is a multiple of 16 and a small number in two ways
+pub same_parts : (a b s k : ℕ) → a + b ≡ s + k → a % 16 ≡ 0 → s % 16 ≡ 0 → b ≤ 3 → k ≤ 3 → (a ≡ s) × (b ≡ k)
+same_parts a b s k e p q l m = (omega arith, omega arith)
+
+-- a Free block of n bytes stands where the word n comes first
+pub free-tile : (resource : ℕ → Bool) (n : ℕ) (ys : List ℕ) → length ys ≡ n → n % 16 ≡ 0 → 16 ≤ n → take 4 ys ≡ word n
+    → Tile (head_of resource (Free n)) n ys
+unfolding head_of
+free-tile resource n ys l w s b =
+    let f = length-word n in
+    record {
+      fits = omega (arith, l);
+      whole = w;
+      some = s;
+      room = omega (arith, f, s);
+      begins = ap (λ k. take k ys) f ∙ b;
+    }
+
+-- Free bytes stand where their number comes first
+pub free-tiles : (resource : ℕ → Bool) (n : ℕ) (ys : List ℕ) → length ys ≡ n → n % 16 ≡ 0
+    → (n ≡ 0) ⊎ ((0 < n) × (take 4 ys ≡ word n)) → Tiles (head_of resource) ys (free n)
+free-tiles resource n [] l w (inl e) = subst (λ k. Tiles (head_of resource) [] (free k)) (sym e) refl
+free-tiles resource n (y ∷ ys) l w (inl e) = absurd (omega (arith, l, e))
+free-tiles resource n ys l w (inr e) =
+    subst (Tiles (head_of resource) ys) (sym (free-some n e.0))
+    (tiles-one (head_of resource) (Free n) ys l (free-tile resource n ys l w (omega (arith, w, e.0)) e.1))
+
+-- where there is a next block
+pub record Next (xs : List ℕ) (from : ℕ) : Type 0 where
+  pub even : from % 4 ≡ 0
+  pub fits : from + 16 ≤ length xs
+  pub tag : word_at from xs % 16 < 4
+  pub big : 16 ≤ word_at from xs
+
 module _ (resource : ℕ → Bool) (xs : List ℕ) (from : ℕ) (small : length xs ≤ 134217728) where
   pub first-reads : (b : Block) → Tile (head_of resource b) (size b) (drop from xs) → word_at from xs ≡ size b + kind b
   first-reads b t =
@@ -70,3 +110,24 @@ module _ (resource : ℕ → Bool) (xs : List ℕ) (from : ℕ) (small : length 
       (drop from xs) → word_at (from + 8) xs ≡ slot
   slot-reads slot flags content l t =
       read_back _ _ _ l (ap (take 4) (sym (drop-drop 8 from xs)) ∙ slot-word resource _ _ _ _ t)
+
+  -- a block's header may be read
+  pub header-there : (b : Block) → Tile (head_of resource b) (size b) (drop from xs) → from % 16 ≡ 0 → Next xs from
+  header-there b t w =
+      let r = first-reads b t in
+      record {
+        even = omega (arith, w);
+        fits = omega (arith, length-drop from xs);
+        tag = omega (arith, r, kind-small);
+        big = omega (arith, r);
+      }
+
+  -- and tells its bytes and its kind
+  pub header-tells : (b : Block) → Tile (head_of resource b) (size b) (drop from xs) → (n t : ℕ) → n + t ≡ word_at from xs
+      → n % 16 ≡ 0 → t ≤ 3 → (n ≡ size b) × (t ≡ kind b)
+  header-tells b t n k e w l = same_parts n k _ _ (e ∙ first-reads b t) w t.whole l (kind-small b)
+
+  pub next-there : (blocks : List Block) → Tiles (head_of resource) (drop from xs) blocks → from % 16 ≡ 0
+      → from < length xs → Next xs from
+  next-there [] t w l = absurd (omega (arith, length-drop from xs, ap length t))
+  next-there (b ∷ blocks) t w l = header-there b t.0 w

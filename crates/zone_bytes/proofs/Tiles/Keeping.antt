@@ -1,19 +1,17 @@
 -- A change that keeps the names and the slots keeps the table.
 use Rattle.std.proofs.Common.{◌≡◌, ℕ, ◌+◌, ◌-◌, inl, inr, zero, suc, List, [], ◌∷◌, ◌++◌, length, sym, refl, ap, ◌∙◌}
-use Rattle.std.proofs.Common.{subst, arith}
+use Rattle.std.proofs.Common.{subst, arith, true, cond}
 use Rattle.std.proofs.lemmas.List.{append-nil}
 use Rattle.std.proofs.lemmas.Bool.{false≢true}
 use Rattle.windows.specs.Writes.{piece}
-use Rattle.block_store.specs.Block.{Block, Free, Nonrelocatable, Masters, Relocatable, size, free, free_sum, sizes}
+use Rattle.block_store.specs.Block.{Block, Free, Nonrelocatable, Masters, Relocatable, size, free, free_sum, sizes, is_mover}
 use Rattle.block_store.specs.Run.{movers, settle}
 use Rattle.block_store.specs.Slot.{Slot, NoSlot, Unused, Used, is_resource}
 use Rattle.zone_bytes.specs.Layout.{IsSlot, names, Apart, Each, ArePlaced}
 use Rattle.zone_bytes.specs.Settling.{Lay, InRun, Lies, IsRunFrom, SameOthers, Settled}
 use Rattle.zone_bytes.specs.Table.{IsUsed, Chain, Says, Lays}
-use Rattle.zone_bytes.proofs.Tiles.Tiling.{span-append, slot-split, slot-append_left, slot-append_right}
+use Rattle.zone_bytes.proofs.Tiles.Tiling.{span-append, slot-swap}
 use Rattle.zone_bytes.proofs.Tiles.Leading.{names-append, each-map, each-append}
-use Rattle.zone_bytes.proofs.Runs.Packed.{run-no_slot, movers-more}
-use Rattle.zone_bytes.proofs.Runs.Settled.{free_sum-span}
 use Rattle.zone_bytes.proofs.Tiles.Permuted.{SameNames, each-moved, same-names}
 use Rattle.zone_bytes.proofs.SlotTable.Tables.{unused-apart}
 
@@ -65,7 +63,19 @@ module _ (xs new : List ℕ) (blocks now : List Block) (slots : ℕ → Slot) (u
       → ArePlaced 0 now → SameOthers blocks xs new → length new ≡ length xs → Lays new now slots unused
   lays-kept lies n i j p o l = lays-permuted lies (same-names _ _ (sym n)) i j p o l
 
+-- a run has no Masters block
+pub run-no_slot : (s : ℕ) (run : List Block) → Each InRun run → IsSlot s run → ⊥
+run-no_slot s [] h i = i
+run-no_slot s (Free n ∷ run) h (inl i) = i
+run-no_slot s (Nonrelocatable id content ∷ run) h (inl i) = i
+run-no_slot s (Masters ∷ run) h (inl i) = false≢true h.0
+run-no_slot s (Relocatable slot flags content ∷ run) h (inl i) = i
+run-no_slot s (b ∷ run) h (inr i) = run-no_slot (s - size b) run h.1 i.1
+
 -- a run as it is settled
+pub movers-more : (b : Block) (rest : List Block) → is_mover b ≡ true → movers (b ∷ rest) ≡ b ∷ movers rest
+movers-more b rest h = ap (λ v. cond v (b ∷ movers rest) (movers rest)) h
+
 pub names-movers : (run : List Block) → Each InRun run → names (movers run) ≡ names run
 names-movers [] h = refl
 names-movers (Free n ∷ run) h = names-movers run h.1
@@ -96,7 +106,7 @@ names-settle run h = names-append (movers run) (free (free_sum run))
     ∙ names-movers run h
 
 pub span-settle : (run : List Block) → Each InRun run → sizes (settle run) ≡ sizes run
-span-settle run h = omega (arith, span-append, span-free, free_sum-span, span-movers _ h)
+span-settle run h = omega (arith, span-append, span-free, span-movers _ h)
 
 pub each-movers : (run : List Block) → Each InRun run → Each InRun (movers run)
 each-movers [] h = tt
@@ -116,15 +126,7 @@ each-settle run h = each-append InRun _ _ (each-movers _ h) (each-free _)
 -- one run in the place of another
 pub slot-run : (s : ℕ) (below run now above : List Block) → Each InRun run → sizes now ≡ sizes run
     → IsSlot s (below ++ (run ++ above)) → IsSlot s (below ++ (now ++ above))
-slot-run s below run now above r e i = elim (slot-split s _ _ i) [
-  | inl j ↦ slot-append_left s below (now ++ above) j
-  | inr j ↦ elim (slot-split (s - sizes below) run above j.1) [
-    | inl k ↦ absurd (run-no_slot (s - sizes below) run r k)
-    | inr k ↦
-        let f : s - sizes below - sizes run ≡ s - sizes below - sizes now = ap (λ m. s - sizes below - m) (sym e) in
-        slot-append_right s _ _ j.0 (slot-append_right _ _ _ (omega (arith, e)) (subst (λ q. IsSlot q above) f k.1))
-  ]
-]
+slot-run s below run now above r e i = slot-swap s _ _ _ _ (run-no_slot _ run r) e i
 
 pub placed-append : (o : ℕ) (ls ms : List Block) → ArePlaced o ls → ArePlaced (o + sizes ls) ms → ArePlaced o (ls ++ ms)
 placed-append o [] ms h k = let e : o + 0 ≡ o = omega arith in subst (λ j. ArePlaced j ms) e k

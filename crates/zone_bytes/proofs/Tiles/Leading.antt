@@ -23,12 +23,15 @@ module _ {A : Type 0} (P : A → Type 0) where
   each-map Q f [] h = tt
   each-map Q f (x ∷ xs) h = (f x h.0, each-map Q f xs h.1)
 
+pub apart-turned : (s t : ℕ) → Apart s t → Apart t s
+apart-turned s t (inl h) = inr h
+apart-turned s t (inr h) = inl h
+
 -- an element against those before it
 pub pairs-before : (s : ℕ) (xs ys : List ℕ) → Pairs Apart (xs ++ s ∷ ys) → Each (Apart s) xs
 pairs-before s [] ys h = tt
 pairs-before s (x ∷ xs) ys h =
-    let turn : (a b : ℕ) → Apart a b → Apart b a = λ a b p. elim p [ inl q ↦ inr q | inr q ↦ inl q ] in
-    (turn x s (each-right (Apart x) xs (s ∷ ys) h.0).0, pairs-before s xs ys h.1)
+    (apart-turned x s (each-right (Apart x) xs (s ∷ ys) h.0).0, pairs-before s xs ys h.1)
 
 -- and against those after it
 pub pairs-after : (s : ℕ) (xs ys : List ℕ) → Pairs Apart (xs ++ s ∷ ys) → Each (Apart s) ys
@@ -39,6 +42,9 @@ pub names-append : (ls ms : List Block) → names (ls ++ ms) ≡ names ls ++ nam
 names-append [] ms = refl
 names-append (b ∷ ls) ms = ap (λ q. names_of b ++ q) (names-append ls ms)
     ∙ sym (append_assoc (names_of b) (names ls) (names ms))
+
+pub each-names : (P : ℕ → Type 0) (ls ms : List Block) → Each P (names (ls ++ ms)) → Each P (names ls) × Each P (names ms)
+each-names P ls ms e = let k = subst (Each P) (names-append ls ms) e in (each-left P _ _ k, each-right P _ _ k)
 
 -- the word at s and n bytes from `at` on have no byte in common
 abbrev pub Clear : ℕ → ℕ → ℕ → Type 0
@@ -66,15 +72,44 @@ module _ (xs : List ℕ) where
       let e : o + size b + sizes ls ≡ o + (size b + sizes ls) = omega arith in
       subst (λ j. Leads j ms xs) e (leads-right (o + size b) ls ms h.1)
 
+pub leads-from : (xs : List ℕ) (ls ms : List Block) (lo : ℕ) → sizes ls ≡ lo → Leads 0 (ls ++ ms) xs → Leads lo ms xs
+leads-from xs ls ms lo a h =
+    let e : 0 + sizes ls ≡ lo = omega arith in
+    subst (λ k. Leads k ms xs) e (leads-right xs 0 ls ms h)
+
+-- three stretches of blocks
+pub leads-parts : (xs : List ℕ) (ls ms ns : List Block) (lo hi : ℕ) → sizes ls ≡ lo → lo + sizes ms ≡ hi
+    → Leads 0 (ls ++ (ms ++ ns)) xs → Leads 0 ls xs × Leads lo ms xs × Leads hi ns xs
+leads-parts xs ls ms ns lo hi a b h =
+    let up = leads-right xs 0 ls (ms ++ ns) h in
+    let c : 0 + sizes ls ≡ lo = omega arith in
+    let d : 0 + sizes ls + sizes ms ≡ hi = omega arith in (
+      leads-left xs 0 ls (ms ++ ns) h,
+      subst (λ k. Leads k ms xs) c (leads-left xs _ ms ns up),
+      subst (λ k. Leads k ns xs) d (leads-right xs _ ms ns up),
+    )
+
+pub leads-joined : (xs : List ℕ) (ls ms ns : List Block) (lo hi : ℕ) → sizes ls ≡ lo → lo + sizes ms ≡ hi → Leads 0 ls xs
+    → Leads lo ms xs → Leads hi ns xs → Leads 0 (ls ++ (ms ++ ns)) xs
+leads-joined xs ls ms ns lo hi a b h k m =
+    let c : lo ≡ 0 + sizes ls = omega arith in
+    let d : hi ≡ 0 + sizes ls + sizes ms = omega arith in
+    leads-append xs 0 ls (ms ++ ns) h (leads-append xs _ ms ns (subst (λ j. Leads j ms xs) c k)
+    (subst (λ j. Leads j ns xs) d m))
+
+-- the words of the slots are the same
+pub leads-same : (old new : List ℕ) (o : ℕ) (blocks : List Block) → Each (λ s. piece s 4 new ≡ piece s 4 old) (names blocks)
+    → Leads o blocks old → Leads o blocks new
+leads-same old new o [] e h = tt
+leads-same old new o (Free n ∷ blocks) e h = (tt, leads-same old new (o + n) blocks e h.1)
+leads-same old new o (Nonrelocatable id content ∷ blocks) e h =
+    (tt, leads-same old new (o + size (Nonrelocatable id content)) blocks e h.1)
+leads-same old new o (Masters ∷ blocks) e h = (tt, leads-same old new (o + 272) blocks e h.1)
+leads-same old new o (Relocatable slot flags content ∷ blocks) e h =
+    (e.0 ∙ h.0, leads-same old new (o + size (Relocatable slot flags content)) blocks e.1 h.1)
+
 -- a write that is clear of the blocks' slots
 pub leads-written : (at : ℕ) (ys xs : List ℕ) (o : ℕ) (blocks : List Block) → at ≤ length xs
     → Each (Clear at (length ys)) (names blocks) → Leads o blocks xs → Leads o blocks (written at ys xs)
-leads-written at ys xs o [] l c h = tt
-leads-written at ys xs o (Free n ∷ blocks) l c h = (tt, leads-written _ _ _ (o + n) blocks l c h.1)
-leads-written at ys xs o (Nonrelocatable id content ∷ blocks) l c h =
-    (tt, leads-written at ys xs (o + size (Nonrelocatable id content)) blocks l c h.1)
-leads-written at ys xs o (Masters ∷ blocks) l c h = (tt, leads-written at ys xs (o + 272) blocks l c h.1)
-leads-written at ys xs o (Relocatable slot flags content ∷ blocks) l c h = (
-  piece-clear at ys xs slot l c.0 ∙ h.0,
-  leads-written at ys xs (o + size (Relocatable slot flags content)) blocks l c.1 h.1,
-)
+leads-written at ys xs o blocks l c h = leads-same xs (written at ys xs) o blocks (each-map (Clear at (length ys))
+    (λ s. piece s 4 (written at ys xs) ≡ piece s 4 xs) (λ s. piece-clear at ys xs s l) (names blocks) c) h

@@ -2,7 +2,7 @@
 use Rattle.std.proofs.Common.{◌≡◌, ℕ, ◌⊎◌, inl, inr, List, [], ◌∷◌, ◌++◌, subst}
 use Rattle.zone_bytes.specs.Layout.{Apart, Each, Pairs}
 use Rattle.zone_bytes.specs.Table.{Has}
-use Rattle.zone_bytes.proofs.Tiles.Leading.{each-append, each-left, each-right, each-map}
+use Rattle.zone_bytes.proofs.Tiles.Leading.{each-append, each-left, each-right, each-map, apart-turned}
 use Rattle.zone_bytes.proofs.SlotTable.Tables.{each-has}
 
 -- the same names in another order
@@ -56,10 +56,6 @@ pairs-split (x ∷ xs) ys p =
 pairs-join : (xs ys : List ℕ) → Pairs Apart xs → Pairs Apart ys → Across xs ys → Pairs Apart (xs ++ ys)
 pairs-join [] ys p q a = q
 pairs-join (x ∷ xs) ys p q a = (each-append (Apart x) _ _ p.0 a.0, pairs-join xs ys p.1 q a.1)
-
-apart-turned : (s t : ℕ) → Apart s t → Apart t s
-apart-turned s t (inl h) = inr h
-apart-turned s t (inr h) = inl h
 
 across-turned : (xs ys : List ℕ) → Across xs ys → Across ys xs
 across-turned xs [] a = tt

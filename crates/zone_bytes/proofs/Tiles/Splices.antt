@@ -1,14 +1,14 @@
 -- A stretch of a zone that is written anew.
-use Rattle.std.proofs.Common.{◌≡◌, ℕ, ◌+◌, ◌-◌, ◌≤◌, inl, inr, List, [], ◌∷◌, ◌++◌, length, take, drop, sym, refl, ap}
+use Rattle.std.proofs.Common.{◌≡◌, ℕ, ◌+◌, ◌-◌, ◌≤◌, inl, inr, List, ◌++◌, length, take, drop, sym, refl, ap}
 use Rattle.std.proofs.Common.{◌∙◌, subst, arith}
 use Rattle.std.proofs.lemmas.List.{take-take, drop-drop, drop-take, take-append-drop}
 use Rattle.windows.specs.Writes.{written, piece}
 use Rattle.windows.proofs.Pieces.{length-written, take-written_below, drop-written_above}
-use Rattle.block_store.specs.Block.{Block, Free, Nonrelocatable, Masters, Relocatable, size, sizes}
-use Rattle.zone_bytes.specs.Layout.{Tiles, names, names_of, LeadsTo, Leads, Each}
+use Rattle.block_store.specs.Block.{Block, sizes}
+use Rattle.zone_bytes.specs.Layout.{Tiles, names, Leads, Each}
 use Rattle.zone_bytes.specs.Splicing.{SameOutside}
 use Rattle.zone_bytes.proofs.Tiles.Tiling.{tiles-append, tiles-split}
-use Rattle.zone_bytes.proofs.Tiles.Leading.{Clear, each-left, each-right, leads-append, leads-left, leads-right}
+use Rattle.zone_bytes.proofs.Tiles.Leading.{Clear, leads-same, leads-parts, each-map, leads-joined}
 
 pub outside-same : (lo hi : ℕ) (xs : List ℕ) → lo ≤ hi → hi ≤ length xs → SameOutside lo hi xs xs
 outside-same lo hi xs l h = record { kept = refl; ordered = (l, h); low = refl; high = refl }
@@ -41,17 +41,8 @@ piece-outside lo hi old new s o (inr h) =
 
 pub leads-outside : (lo hi : ℕ) (old new : List ℕ) (o : ℕ) (blocks : List Block) → SameOutside lo hi old new
     → Each (Clear lo (hi - lo)) (names blocks) → Leads o blocks old → Leads o blocks new
-leads-outside lo hi old new o [] s c h = tt
-leads-outside lo hi old new o (b ∷ blocks) s c h = (
-  leads-one b (each-left (Clear lo (hi - lo)) (names_of b) (names blocks) c) h.0,
-  leads-outside _ _ _ _ (o + size b) blocks s (each-right (Clear lo (hi - lo)) (names_of b) (names blocks) c) h.1,
-)
-  where
-    leads-one : (b : Block) → Each (Clear lo (hi - lo)) (names_of b) → LeadsTo o b old → LeadsTo o b new
-    leads-one (Free n) c h = tt
-    leads-one (Nonrelocatable id content) c h = tt
-    leads-one Masters c h = tt
-    leads-one (Relocatable slot flags content) c h = piece-outside _ _ _ _ _ s c.0 ∙ h
+leads-outside lo hi old new o blocks s c h = leads-same old new o blocks (each-map (Clear lo (hi - lo))
+    (λ t. piece t 4 new ≡ piece t 4 old) (λ t. piece-outside lo hi old new t s) (names blocks) c) h
 
 module _ (head : Block → List ℕ) where
   -- three stretches of blocks
@@ -66,17 +57,27 @@ module _ (head : Block → List ℕ) where
       subst (λ k. Tiles head k (ls ++ (here ++ ns))) all (tiles-append head _ _ _ _ low
       (tiles-append head _ _ _ _ h high))
 
+  pub tiles-parts : (xs : List ℕ) (ls ms ns : List Block) (lo hi : ℕ) → sizes ls ≡ lo → lo + sizes ms ≡ hi
+      → Tiles head xs (ls ++ (ms ++ ns)) → Tiles head (take lo xs) ls × Tiles head (drop lo xs) (ms ++ ns)
+      × Tiles head (piece lo (hi - lo) xs) ms × Tiles head (drop hi xs) ns
+  tiles-parts xs ls ms ns lo hi a b t =
+      let p = tiles-split head xs ls (ms ++ ns) t in
+      let up = subst (λ k. Tiles head (drop k xs) (ms ++ ns)) a p.1 in
+      let q = tiles-split head (drop lo xs) ms ns up in
+      let e : sizes ms ≡ hi - lo = omega arith in (
+        subst (λ k. Tiles head (take k xs) ls) a p.0,
+        up,
+        subst (λ k. Tiles head (take k (drop lo xs)) ms) e q.0,
+        subst (λ k. Tiles head k ns) (drop-drop (sizes ms) lo xs ∙ ap (λ k. drop k xs) b) q.1,
+      )
+
   -- a stretch of blocks in the place of another
   pub tiles-splice : (old new : List ℕ) (ls ms ns here : List Block) (lo hi : ℕ) → sizes ls ≡ lo → lo + sizes ms ≡ hi
       → Tiles head old (ls ++ (ms ++ ns)) → SameOutside lo hi old new
       → Tiles head (piece lo (hi - lo) new) here → Tiles head new (ls ++ (here ++ ns))
   tiles-splice old new ls ms ns here lo hi a b t s h =
-      let p = tiles-split head old ls (ms ++ ns) t in
-      let q = tiles-split head (drop (sizes ls) old) ms ns p.1 in
-      let low : Tiles head (take lo new) ls = subst (λ k. Tiles head k ls) (ap (λ k. take k old) a ∙ sym s.low) p.0 in
-      let up : drop (sizes ms) (drop (sizes ls) old) ≡ drop hi new = drop-drop (sizes ms) (sizes ls) old
-      ∙ (λ i. drop (a i + sizes ms) old) ∙ ap (λ k. drop k old) b ∙ sym s.high in
-      tiles-joined new ls here ns lo hi s.ordered.0 low h (subst (λ k. Tiles head k ns) up q.1)
+      let p = tiles-parts old ls ms ns lo hi a b t in
+      tiles-joined new ls here ns lo hi s.ordered.0 (rw s.low p.0) h (rw s.high p.3)
 
 -- where the slots of the other blocks lead
 pub leads-splice : (old new : List ℕ) (ls ms ns here : List Block) (lo hi : ℕ) → sizes ls ≡ lo → lo + sizes ms ≡ hi
@@ -84,8 +85,6 @@ pub leads-splice : (old new : List ℕ) (ls ms ns here : List Block) (lo hi : �
     → Each (Clear lo (hi - lo)) (names ls) → Each (Clear lo (hi - lo)) (names ns) → Leads lo here new
     → Leads 0 (ls ++ (here ++ ns)) new
 leads-splice old new ls ms ns here lo hi a b e t s c d h =
-    let high = leads-outside _ _ _ _ _ _ s d (leads-right _ _ _ _ (leads-right _ 0 _ _ t)) in
-    let f : lo ≡ 0 + sizes ls = omega (arith, a) in
-    let g : 0 + sizes ls + sizes ms ≡ 0 + sizes ls + sizes here = omega (arith, e) in
-    leads-append _ 0 _ _ (leads-outside _ _ _ _ 0 _ s c (leads-left _ 0 _ _ t))
-    (leads-append _ _ _ _ (subst (λ k. Leads k here new) f h) (subst (λ k. Leads k ns new) g high))
+    let p = leads-parts old ls ms ns lo hi a b t in
+    leads-joined new ls here ns lo hi a (omega arith) (leads-outside lo hi old new 0 ls s c p.0) h
+    (leads-outside lo hi old new hi ns s d p.2)

@@ -1,10 +1,10 @@
 -- Blocks that lie one after another.
-use Rattle.std.proofs.Common.{◌≡◌, ℕ, ◌+◌, ◌-◌, ◌≤◌, ◌⊎◌, inl, inr, List, [], ◌∷◌, ◌++◌, length, take, drop, refl, ap}
+use Rattle.std.proofs.Common.{◌≡◌, ℕ, ◌+◌, ◌-◌, ◌%◌, ◌≤◌, ◌⊎◌, inl, inr, List, [], ◌∷◌, ◌++◌, length, take, drop, sym, refl, ap}
 use Rattle.std.proofs.Common.{◌∙◌, subst, arith, length-append}
 use Rattle.std.proofs.lemmas.List.{length-take-le, length-drop, take-append-le, drop-append-le, drop-drop, take-take}
 use Rattle.std.proofs.lemmas.List.{drop-take, drop_all}
 use Rattle.windows.specs.Writes.{written}
-use Rattle.windows.proofs.Pieces.{length-written, take-written_below, drop-written_above, drop-written_below}
+use Rattle.windows.proofs.Pieces.{length-written, take-written_below, take-written_above, drop-written_above, drop-written_below}
 use Rattle.block_store.specs.Block.{Block, Free, Nonrelocatable, Masters, Relocatable, size, sizes}
 use Rattle.zone_bytes.specs.Layout.{Tile, Tiles, IsSlot}
 
@@ -41,6 +41,19 @@ slot-split s (b ∷ ls) ms (inr i) = elim (slot-split (s - size b) ls ms i.1) [
   | inr j ↦
       let e : s - size b - sizes ls ≡ s - (size b + sizes ls) = omega arith in
       inr (omega (arith, i.0, j.0), subst (λ k. IsSlot k ms) e j.1)
+]
+
+-- other blocks in the place of some that have no slot
+pub slot-swap : (s : ℕ) (below was now above : List Block) → (IsSlot (s - sizes below) was → ⊥) → sizes now ≡ sizes was
+    → IsSlot s (below ++ (was ++ above)) → IsSlot s (below ++ (now ++ above))
+slot-swap s below was now above none e i = elim (slot-split s _ _ i) [
+  | inl j ↦ slot-append_left s below (now ++ above) j
+  | inr j ↦ elim (slot-split (s - sizes below) was above j.1) [
+    | inl k ↦ absurd (none k)
+    | inr k ↦
+        let f : s - sizes below - sizes was ≡ s - sizes below - sizes now = ap (λ m. s - sizes below - m) (sym e) in
+        slot-append_right s _ _ j.0 (slot-append_right _ _ _ (omega (arith, e)) (subst (λ q. IsSlot q above) f k.1))
+  ]
 ]
 
 module _ (head : Block → List ℕ) where
@@ -127,3 +140,54 @@ module _ (head : Block → List ℕ) where
         rw (drop-written_below s w xs (size b) i.0 (omega (arith, inside)))
             (tiles-slot m (drop (size b) xs) w (s - size b) blocks e i.1 t.1),
       )
+
+  -- as it leaves those below a stretch and those above it
+  pub tiles-slot-beside : length (head Masters) ≡ 16 → (xs w : List ℕ) (s lo hi : ℕ) (ls ns : List Block) → length w ≡ 4
+      → lo ≤ hi → hi ≤ length xs → IsSlot s ls ⊎ ((hi ≤ s) × IsSlot (s - hi) ns) → Tiles head (take lo xs) ls
+      → Tiles head (drop hi xs) ns
+      → Tiles head (take lo (written s w xs)) ls × Tiles head (drop hi (written s w xs)) ns
+  tiles-slot-beside m xs w s lo hi ls ns e l h (inl i) t u =
+      let inside : s + 4 ≤ lo = omega (arith, slot-inside, length-tiles, length-take-le lo xs) in (
+        rw (take-written_above s w xs lo (omega (arith, e)) (omega arith)) (tiles-slot m _ w s ls e i t),
+        rw (drop-written_above s w xs hi (omega (arith, e)) (omega arith)) u,
+      )
+  tiles-slot-beside m xs w s lo hi ls ns e l h (inr i) t u =
+      let inside : s + 4 ≤ length xs = omega (arith, i.0, slot-inside _ ns i.1, length-tiles _ ns u, length-drop hi xs) in (
+        rw (take-written_below s w xs lo (omega (arith, i.0)) (omega arith)) t,
+        rw (drop-written_below s w xs hi i.0 (omega arith)) (tiles-slot m _ w (s - hi) ns e i.1 u),
+      )
+
+-- a slot is below a stretch that has none, or above it
+pub slot-beside : (s : ℕ) (ls ms ns : List Block) (lo hi : ℕ) → ((k : ℕ) → IsSlot k ms → ⊥) → sizes ls ≡ lo
+    → lo + sizes ms ≡ hi → IsSlot s (ls ++ (ms ++ ns)) → ((s + 4 ≤ lo) × IsSlot s ls) ⊎ ((hi ≤ s) × IsSlot (s - hi) ns)
+slot-beside s ls ms ns lo hi none a b i = elim (slot-split s ls (ms ++ ns) i) [
+  | inl j ↦ inl (omega (arith, slot-inside), j)
+  | inr j ↦ elim (slot-split (s - sizes ls) ms ns j.1) [
+    | inl k ↦ absurd (none (s - sizes ls) k)
+    | inr k ↦
+        let e : s - sizes ls - sizes ms ≡ s - hi = omega arith in
+        inr (omega (arith, j.0, k.0), subst (λ q. IsSlot q ns) e k.1)
+  ]
+]
+
+-- blocks of no bytes are none
+pub tiles-none : (head : Block → List ℕ) (xs : List ℕ) (blocks above : List Block) → Tiles head xs (blocks ++ above)
+    → sizes blocks ≡ 0 → blocks ≡ []
+tiles-none head xs [] above t e = refl
+tiles-none head xs (b ∷ blocks) above t e = absurd (omega (arith, t.0.some, e))
+
+pub span-whole : (head : Block → List ℕ) (xs : List ℕ) (blocks : List Block) → Tiles head xs blocks
+    → sizes blocks % 16 ≡ 0
+span-whole head xs [] t = refl
+span-whole head xs (b ∷ blocks) t = omega (arith, span-whole head (drop (size b) xs) blocks t.1)
+
+-- slots are at multiples of 4
+pub slot-even : (head : Block → List ℕ) (xs : List ℕ) (s : ℕ) (blocks : List Block) → Tiles head xs blocks
+    → IsSlot s blocks → s % 4 ≡ 0
+slot-even head xs s [] t i = absurd i
+slot-even head xs s (Free n ∷ blocks) t (inl i) = absurd i
+slot-even head xs s (Nonrelocatable id content ∷ blocks) t (inl i) = absurd i
+slot-even head xs s (Relocatable slot flags content ∷ blocks) t (inl i) = absurd i
+slot-even head xs s (Masters ∷ blocks) t (inl i) = i.2
+slot-even head xs s (b ∷ blocks) t (inr i) =
+    omega (arith, slot-even head (drop (size b) xs) (s - size b) blocks t.1 i.1)

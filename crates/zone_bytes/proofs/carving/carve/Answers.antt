@@ -3,7 +3,7 @@ use Rattle.windows.specs.Writes.{written}
 use Rattle.heap_words.specs.Words.{word, header}
 use Rattle.zone_bytes.specs.Layout.{head_of}
 use Rattle.zone_bytes.proofs.Tiles.Tiling.{length-tiles, slot-inside}
-use Rattle.zone_bytes.proofs.Runs.Packed.{slot-even}
+use Rattle.zone_bytes.proofs.Tiles.Tiling.{slot-even}
 use Rattle.zone_bytes.proofs.Blocks.Carves.{bounds, even, carved, others-carved, first-outside, first-head, with-rest}
 use Rattle.zone_bytes.proofs.carving.carve.Goals as goal
 use Rattle.zone_bytes.proofs.carving.carve.Goals.{then-bytes-top, else-bytes-top}

@@ -1,7 +1,7 @@
 use Rattle.std.proofs.Common.{length, refl, sym, ap, ◌∙◌, subst, arith}
 use Rattle.heap_words.specs.Words.{word_at}
 use Rattle.zone_bytes.proofs.Tiles.Tags.{tag-small}
-use Rattle.zone_bytes.proofs.Runs.Settled.{Next}
+use Rattle.zone_bytes.proofs.Tiles.Heads.{Next}
 use Rattle.zone_bytes.proofs.Runs.Hoists.{wide, next, size-read, turned-read, is-moved, is-hoisted}
 use Rattle.zone_bytes.proofs.hoisting.hoist_block.Goals as goal
 

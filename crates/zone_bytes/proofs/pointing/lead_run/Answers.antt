@@ -1,82 +1,83 @@
-use Rattle.std.proofs.Common.{◌+◌, ◌<◌, refl, sym, ◌∙◌, subst, arith}
+use Rattle.std.proofs.Common.{◌+◌, ◌<◌, refl, ◌∙◌, arith, true, false, ◌≡◌}
+use denote.Enum.Bare.{sameb}
+use Rattle.heap_words.specs.contracts.header.Tag.{the_type}
+use Rattle.heap_words.specs.declared.header.Tag.TheVariants.{Relocatable}
 use Rattle.zone_bytes.specs.Pointing.{Pointing}
-use Rattle.zone_bytes.proofs.Runs.Pointers.{start-pointing, pointing-bounds, point-next, point-free-next}
-use Rattle.zone_bytes.proofs.Runs.Pointers.{point-slot-next, pointed}
+use Rattle.zone_bytes.proofs.Runs.Pointers.{start-pointing, pointing-bounds, point-next, point-free}
+use Rattle.zone_bytes.proofs.Runs.Pointers.{NextSlot, point-slot, pointed}
 use Rattle.zone_bytes.proofs.Tiles.Tags.{tag-true, tag-false, tag-small}
+use Rattle.zone_bytes.proofs.Tiles.Heads.{Next}
+use Rattle.zone_bytes.proofs.pointing.lead_run.Given.{Over}
+use Rattle.zone_bytes.proofs.pointing.lead_run.Goals.{In-loop-from, After-eq}
 use Rattle.zone_bytes.proofs.pointing.lead_run.Goals as goal
 use Rattle.zone_bytes.proofs.pointing.lead_run.Goals.{then-eq, else-eq}
 
 pub loop-from-init : goal.loop-from-init
-loop-from-init g c = (
-  subst (λ xs. Pointing g.lay c.args.stop c.args.place xs) (sym c.requires.0) (start-pointing _ _ _ c.requires.1),
-  refl,
-  refl,
-  refl,
-)
+loop-from-init g c = (rw c.requires.0 (start-pointing _ _ _ c.requires.1), refl, refl, refl)
+
+-- a block is next
+there : (g : Over) (c : In-loop-from g) → Next c.loop-from.part.bytes c.loop-from.from
+there g c = point-next _ _ _ c.requires.1 c.loop-from.invariant.0 c.loop-from-test.true
 
 pub read_header-header-requires-clause-within : goal.read_header-header-requires-clause-within
 read_header-header-requires-clause-within g c =
-    let n = point-next _ _ _ c.requires.1 _ _ c.loop-from.invariant.0 c.loop-from-test.true in
+    let n = there g (goal.at.read_header-header-requires-clause-within g c).In-loop-from in
     (n.even, n.fits)
 
 pub read_header-header-requires-clause-fits : goal.read_header-header-requires-clause-fits
 read_header-header-requires-clause-fits g c =
-    let n = point-next _ _ _ c.requires.1 _ _ c.loop-from.invariant.0 c.loop-from-test.true in
-    omega (arith, pointing-bounds)
+    let n = there g (goal.at.read_header-header-requires-clause-fits g c).In-loop-from in
+    omega (arith, n, pointing-bounds _ _ _ c.requires.1 c.loop-from.invariant.0)
 
 pub read_header-header-requires-clause-tag : goal.read_header-header-requires-clause-tag
 read_header-header-requires-clause-tag g c =
-    (point-next _ _ _ c.requires.1 _ _ c.loop-from.invariant.0 c.loop-from-test.true).tag
+    (there g (goal.at.read_header-header-requires-clause-tag g c).In-loop-from).tag
+
+-- it is relocatable
+slot : (g : Over) (c : After-eq g) → true ≡ sameb the_type c.read_header-header.result.tag Relocatable
+    → NextSlot g.lay c.args.stop c.loop-from.from c.loop-from.part.bytes c.read_header-header.result.size
+    c.read_header-header.result.slot
+slot g c t =
+    let e = c.read_header-header.ensures in
+    point-slot _ _ _ c.requires.1 c.loop-from.invariant.0 c.loop-from-test.true _ _ e.first e.size (tag-true _ t) _ e.slot
+
+-- or Free
+free : (g : Over) (c : After-eq g) → false ≡ sameb the_type c.read_header-header.result.tag Relocatable
+    → Pointing g.lay c.args.stop (c.loop-from.from + c.read_header-header.result.size) c.loop-from.part.bytes
+free g c t =
+    let e = c.read_header-header.ensures in
+    point-free _ _ _ c.requires.1 c.loop-from.invariant.0 c.loop-from-test.true _ _ e.first e.size (tag-false _ t)
 
 pub write_word-requires : goal.write_word-requires
 write_word-requires g c =
-    let e = c.read_header-header.ensures in
-    let m = point-slot-next _ _ _ c.requires.1 _ _ c.loop-from.invariant.0
-    c.loop-from-test.true _ _ _ e.first e.size (tag-true _ c.if-eq.ensures) e.slot in
+    let m = slot g (goal.at.write_word-requires g c).After-eq c.if-eq.ensures in
     (m.even, m.slot_inside)
 
 pub overflow_add-from : goal.overflow_add-from
 overflow_add-from g c =
-    let s = c.loop-from in
-    let h = c.read_header-header.result in
-    let e = c.read_header-header.ensures in
+    let d = (goal.at.overflow_add-from g c).After-eq in
+    let b = pointing-bounds _ _ _ c.requires.1 c.loop-from.invariant.0 in
     elim c.if-eq.branch [
-      | then-eq w ↦
-          let m = point-slot-next _ _ _ c.requires.1 _ _ s.invariant.0 c.loop-from-test.true _ _ _ e.first e.size
-          (tag-true _ w.if-eq.ensures) e.slot in
-          omega (arith, pointing-bounds)
-      | else-eq w ↦
-          let p = point-free-next _ _ _ c.requires.1 _ _ s.invariant.0
-          c.loop-from-test.true _ _ e.first e.size (tag-false _ w.if-eq.ensures) in
-          omega (arith, pointing-bounds)
+      | then-eq w ↦ omega (arith, b, (slot g d w.if-eq.ensures).inside)
+      | else-eq w ↦ omega (arith, b, pointing-bounds _ _ _ c.requires.1 (free g d w.if-eq.ensures))
     ]
 
 pub loop-from-smaller : goal.loop-from-smaller
 loop-from-smaller g c =
-    let s = c.loop-from in
-    let l = c.loop-from-test.true in
-    let n = point-next g.lay c.args.place c.args.stop c.requires.1 s.from s.part.bytes s.invariant.0 l in
-    let some : 0 < c.read_header-header.result.size = omega (arith, tag-small) in
-    omega (arith, l, some)
+    let n = there g (goal.at.loop-from-smaller g c).In-loop-from in
+    let some : 0 < c.read_header-header.result.size = omega (arith, n, tag-small) in
+    omega (arith, c.loop-from-test.true, some)
 
 pub loop-from-preserved : goal.loop-from-preserved
 loop-from-preserved g c =
-    let s = c.loop-from in
-    let v = s.invariant in
-    let h = c.read_header-header.result in
-    let e = c.read_header-header.ensures in
+    let d = (goal.at.loop-from-preserved g c).After-eq in
+    let v = c.loop-from.invariant in
     elim c.if-eq.branch [
       | then-eq w ↦
-          let m = point-slot-next _ _ _ c.requires.1 _ _ s.invariant.0 c.loop-from-test.true _ _ _ e.first e.size
-          (tag-true _ w.if-eq.ensures) e.slot in
           let b = w.write_word.ensures in
-          let p = subst (λ k. Pointing g.lay c.args.stop (s.from + h.size) k) (sym b.bytes) m.pointing in
-          rw w.part-is (p, b.same.0 ∙ v.1, b.same.1 ∙ v.2, b.same.2 ∙ v.3)
-      | else-eq w ↦
-          let p = point-free-next _ _ _ c.requires.1 _ _ s.invariant.0
-          c.loop-from-test.true _ _ e.first e.size (tag-false _ w.if-eq.ensures) in
-          rw w.part-is (p, v.1, v.2, v.3)
+          rw w.part-is (rw b.bytes (slot g d w.if-eq.ensures).pointing, b.same.0 ∙ v.1, b.same.1 ∙ v.2, b.same.2 ∙ v.3)
+      | else-eq w ↦ rw w.part-is (free g d w.if-eq.ensures, v.1, v.2, v.3)
     ]
 
 pub returns-clause-pointed : goal.returns-clause-pointed
-returns-clause-pointed g c = pointed _ _ _ c.requires.1 _ _ c.loop-from.invariant.0 c.loop-from-test.false
+returns-clause-pointed g c = pointed _ _ _ c.requires.1 c.loop-from.invariant.0 c.loop-from-test.false

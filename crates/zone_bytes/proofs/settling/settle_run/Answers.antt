@@ -1,34 +1,32 @@
 use Rattle.std.proofs.Common.{◌≡◌, ◌++◌, [], subst, arith}
 use Rattle.block_store.specs.Run.{movers}
 use Rattle.zone_bytes.specs.Edges.{AreEdges}
-use Rattle.zone_bytes.specs.Settling.{rest_from}
+use Rattle.zone_bytes.specs.Settling.{UntilAt, rest_from}
 use Rattle.zone_bytes.proofs.Runs.Led.{settled-led}
-use Rattle.zone_bytes.proofs.Runs.Until.{all-gone, all-of, whole-packed, whole-top, whole-stop}
+use Rattle.zone_bytes.proofs.Runs.Until.{all-gone, all-of, whole}
 use Rattle.zone_bytes.proofs.settling.settle_run.Goals.{After-pack_until}
 use Rattle.zone_bytes.proofs.settling.settle_run.Given.{Over}
 use Rattle.zone_bytes.proofs.settling.settle_run.Goals as goal
 
 nothing-left : (g : Over) (c : After-pack_until g) → rest_from g.lay c.pack_until.result.stop ≡ []
-nothing-left g c =
-    all-gone g.lay c.args.place 0 4294967295 _ _ _ _ _ _ c.requires.1.0 c.pack_until.ensures.packed (omega arith)
+nothing-left g c = all-gone g.lay c.args.place c.requires.1.0 c.pack_until.ensures.packed (omega arith)
+
+done : (g : Over) (c : After-pack_until g) → let p = c.pack_until.result in
+    UntilAt g.lay c.args.place 0 4294967295 p.lowered p.top p.stop c.pack_until.new.part.bytes g.lay.run []
+done g c = whole g.lay c.args.place c.requires.1.0 c.pack_until.ensures.packed (nothing-left g c)
 
 pub returns-clause-settled : goal.returns-clause-settled
 returns-clause-settled g c =
-    let n = nothing-left g (goal.at.returns-clause-settled g c).After-pack_until in
-    settled-led _ _ _ _ _ c.requires.1.0
-    (whole-packed g.lay c.args.place 0 4294967295 _ _ _ _ _ _ c.requires.1.0 c.pack_until.ensures.packed n)
+    settled-led _ _ _ _ _ c.requires.1.0 (done g (goal.at.returns-clause-settled g c).After-pack_until).packed
 
 pub returns-clause-top : goal.returns-clause-top
-returns-clause-top g c = whole-top g.lay c.args.place 0 4294967295 _ _ _ _ _ _ c.requires.1.0 c.pack_until.ensures.packed
-    (nothing-left g (goal.at.returns-clause-top g c).After-pack_until)
+returns-clause-top g c = (done g (goal.at.returns-clause-top g c).After-pack_until).top_at
 
 pub returns-clause-stop : goal.returns-clause-stop
-returns-clause-stop g c = whole-stop g.lay c.args.place 0 4294967295 _ _ _ _ _ _ c.requires.1.0 c.pack_until.ensures.packed
-    (nothing-left g (goal.at.returns-clause-stop g c).After-pack_until)
+returns-clause-stop g c = (done g (goal.at.returns-clause-stop g c).After-pack_until).stop_at
 
 pub returns-clause-edges : goal.returns-clause-edges
 returns-clause-edges g c = λ base before e a.
-    let u = all-of g.lay c.args.place 0 4294967295 _ _ _ _ _ _ c.requires.1.0 c.pack_until.ensures.packed
-    (nothing-left g (goal.at.returns-clause-edges g c).After-pack_until) in
-    subst (λ l. AreEdges c.pack_until.new.edges base (before ++ movers l)) u
+    subst (λ l. AreEdges c.pack_until.new.edges base (before ++ movers l)) (all-of g.lay c.args.place c.requires.1.0
+    c.pack_until.ensures.packed (nothing-left g (goal.at.returns-clause-edges g c).After-pack_until))
     (c.pack_until.ensures.edges base before (omega (arith, e)) a)
