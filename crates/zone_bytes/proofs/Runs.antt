@@ -4,7 +4,6 @@ pub mod Settled
 pub mod Until
 pub mod Edged
 pub mod Led
-pub mod Runs
 pub mod RunsAt
 pub mod Pointers
 pub mod Raises

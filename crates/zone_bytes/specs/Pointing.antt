@@ -1,14 +1,14 @@
 -- A run that was moved as a whole, and whose slots are made to lead to its blocks again.
-use Rattle.std.specs.Prelude.{◌≡◌, ℕ, ◌+◌, ◌≤◌, List, ◌++◌, length}
+use Rattle.std.specs.Prelude.{◌≡◌, ℕ, ◌+◌, ◌≤◌, List, length}
 use Rattle.block_store.specs.Block.{Block, sizes}
 use Rattle.zone_bytes.specs.Layout.{head_of, Tiles, Leads, Each}
-use Rattle.zone_bytes.specs.Settling.{Lay, InRun, Lies, HasSlots, SameOthers, Passing}
+use Rattle.zone_bytes.specs.Settling.{Lay, all, InRun, HasSlots, Relaid, Passing}
 use Rattle.block_store.specs.declared.measures.TheConstants.{GREATEST_ZONE}
 
 -- The blocks lie in the bytes; the slots of the blocks of the run from `place` to `stop` may lead anywhere.
 pub record IsMoved (lay : Lay) (place stop : ℕ) : Type 0 where
-  pub tiles : Tiles (head_of lay.resource) lay.bytes (lay.below ++ (lay.run ++ lay.above))
-  pub slots : HasSlots (lay.below ++ (lay.run ++ lay.above))
+  pub tiles : Tiles (head_of lay.resource) lay.bytes (all lay)
+  pub slots : HasSlots (all lay)
   pub bottom : sizes lay.below ≡ place
   pub top : place + sizes lay.run ≡ stop
   pub in_run : Each InRun lay.run
@@ -23,7 +23,5 @@ pub record Pointing (lay : Lay) (stop from : ℕ) (xs : List ℕ) : Type 0 where
   pub state : Passing lay 0 from from xs done done rest
   pub high : Leads stop lay.above xs
 
-pub record Pointed (lay : Lay) (xs : List ℕ) : Type 0 where
-  pub lies : Lies lay.resource (lay.below ++ (lay.run ++ lay.above)) xs
-  pub others : SameOthers (lay.below ++ (lay.run ++ lay.above)) lay.bytes xs
-  pub kept : length xs ≡ length lay.bytes
+abbrev pub Pointed : Lay → List ℕ → Type 0
+Pointed lay = Relaid lay.resource (all lay) (all lay) lay.bytes

@@ -21,6 +21,9 @@ pub record Lay : Type 0 where
   pub above : List Block
   pub bytes : List ℕ
 
+abbrev pub all : Lay → List Block
+all lay = lay.below ++ (lay.run ++ lay.above)
+
 abbrev pub InRun : Block → Type 0
 InRun b = in_run b ≡ true
 
@@ -48,8 +51,8 @@ runs_on (suc (suc (suc k))) f = nat_lt f 128
 
 -- The run of `lay` is from `place` to `stop`.
 pub record IsRunFrom (lay : Lay) (place stop : ℕ) : Type 0 where
-  pub lies : Lies lay.resource (lay.below ++ (lay.run ++ lay.above)) lay.bytes
-  pub slots : HasSlots (lay.below ++ (lay.run ++ lay.above))
+  pub lies : Lies lay.resource (all lay) lay.bytes
+  pub slots : HasSlots (all lay)
   pub bottom : sizes lay.below ≡ place
   pub top : place + sizes lay.run ≡ stop
   pub in_run : Each InRun lay.run
@@ -58,6 +61,12 @@ pub record IsRunFrom (lay : Lay) (place stop : ℕ) : Type 0 where
 -- The slots that lead to none of the blocks hold the words that they held before.
 abbrev pub SameOthers : List Block → List ℕ → List ℕ → Type 0
 SameOthers blocks old new = (s : ℕ) → IsSlot s blocks → Each (Apart s) (names blocks) → piece s 4 new ≡ piece s 4 old
+
+-- The zone `was` in the bytes `old` became `now` in `new`, and no slot changed that leads to no block.
+pub record Relaid (resource : ℕ → Bool) (was now : List Block) (old new : List ℕ) : Type 0 where
+  pub lies : Lies resource now new
+  pub others : SameOthers was old new
+  pub kept : length new ≡ length old
 
 -- The blocks `gone` of the run, which end at `from`, were passed, and now lie below `to` as `moved`; the blocks `rest` of
 -- the run lie as they did. The slots of the blocks that were passed lead to the places `gap` above them.
@@ -71,7 +80,7 @@ pub record Passing (lay : Lay) (gap from to : ℕ) (xs : List ℕ) (gone moved r
   pub kept : length xs ≡ length lay.bytes
   pub lead_low : Leads 0 lay.below xs
   pub lead_moved : Leads (sizes lay.below + gap) moved xs
-  pub others : SameOthers (lay.below ++ (lay.run ++ lay.above)) lay.bytes xs
+  pub others : SameOthers (all lay) lay.bytes xs
 
 -- The blocks `gone` of the run were packed below `to`, and `moves` of them moved down.
 pub record Packing (lay : Lay) (gap from to moves : ℕ) (xs : List ℕ) (gone : List Block) : Type 0 where
@@ -87,7 +96,7 @@ pub record Packed (lay : Lay) (gap moves : ℕ) (xs : List ℕ) : Type 0 where
   pub low : Leads 0 lay.below xs
   pub leads : Leads (sizes lay.below + gap) (movers lay.run) xs
   pub high : Leads (sizes lay.below + sizes lay.run) lay.above xs
-  pub others : SameOthers (lay.below ++ (lay.run ++ lay.above)) lay.bytes xs
+  pub others : SameOthers (all lay) lay.bytes xs
   pub moved : moves ≡ lowered_in_run_from 0 lay.run
   pub kept : length xs ≡ length lay.bytes
 
@@ -132,7 +141,5 @@ PackedUntil lay place gap enough moves top stop xs =
 
 -- The run is packed, and the slot of each relocatable block leads to the block.
 pub record Settled (lay : Lay) (moves : ℕ) (xs : List ℕ) : Type 0 where
-  pub lies : Lies lay.resource (lay.below ++ (settle lay.run ++ lay.above)) xs
-  pub others : SameOthers (lay.below ++ (lay.run ++ lay.above)) lay.bytes xs
+  pub zone : Relaid lay.resource (all lay) (lay.below ++ (settle lay.run ++ lay.above)) lay.bytes xs
   pub moved : moves ≡ lowered_in_run_from 0 lay.run
-  pub kept : length xs ≡ length lay.bytes

@@ -5,23 +5,26 @@ use Rattle.std.specs.Option.{IfSome}
 use Rattle.block_store.specs.Block.{Block, size, total, count, is_masters, free_of, free_sum, sizes, tidy}
 use Rattle.block_store.specs.Run.{RunSpot, run_at, with_run, settle}
 use Rattle.block_store.specs.Rest.{lowered_in_run}
-use Rattle.block_store.specs.Slot.{Slot}
+use Rattle.block_store.specs.Slot.{Slot, is_resource}
 use Rattle.block_store.specs.Inner.Packing.{Loose}
 use Rattle.block_store.proofs.Zone.Tidy.{Adds}
 use Rattle.block_store.proofs.Regroup.RunLists.{run_at-is, run_at-parts}
 use Rattle.block_store.proofs.Regroup.Packed.{settle-total}
 use Rattle.block_store.proofs.Regroup.Ends.{settled-tidy}
 use Rattle.block_store.proofs.Regroup.Lifted.{total-changed}
-use Rattle.zone_bytes.specs.Settling.{Settled}
+use Rattle.zone_bytes.specs.Settling.{Relaid, Settled}
 use Rattle.zone_bytes.specs.Decode.{zone_in}
-use Rattle.zone_bytes.specs.Table.{slot_in}
+use Rattle.zone_bytes.specs.Table.{Lays, slot_in}
 use Rattle.zone_bytes.specs.Lawful.{IsSound}
 use Rattle.zone_bytes.specs.Placing.{lay_at}
 use Rattle.zone_bytes.specs.Changes.{Replaced}
 use Rattle.zone_bytes.specs.PurgeableBytes.{purgeable_of, purgeable_sum}
-use Rattle.zone_bytes.proofs.Runs.Runs.{run_at-splits}
-use Rattle.zone_bytes.proofs.Laws.Lawful.{Made}
-use Rattle.zone_bytes.proofs.Runs.RunsAt.{if-run, one-run, settle-made}
+use Rattle.block_store.proofs.Regroup.RunsAbove.{run_at-bottom}
+use Rattle.zone_bytes.specs.Layout.{head_of, Tiles}
+use Rattle.zone_bytes.proofs.Tiles.Splices.{tiles-parts}
+use Rattle.zone_bytes.proofs.Tiles.Keeping.{Instead, instead-settle, lays-run}
+use Rattle.zone_bytes.proofs.Laws.Lawful.{Made, made}
+use Rattle.zone_bytes.proofs.Runs.RunsAt.{if-run, one-run, whole, bottom, in-run, lay-is, lowered-lowered_in_run}
 
 pub if-one : (o : Option RunSpot) (P : RunSpot → Type 0) (r : RunSpot) → o ≡ Some r → P r → IfSome o P
 if-one o P r e p = if-run o P (λ q f. subst P (one-run o r q e f) p)
@@ -37,14 +40,22 @@ pub record ChangedRun (change : List Block → List Block) (zone : List Block) (
   pub free : free_sum (tidy (with_run change r)) ≡ free_sum zone
   pub purgeable : purgeable_sum (zone_in new) ≡ purgeable_sum zone
 
-pub changed-run : (change : List Block → List Block) (place : ℕ) (zone : List Block) (r : RunSpot)
+-- some blocks of the run were laid otherwise, as the change would have it
+pub relaid-run : (change : List Block → List Block) (place : ℕ) (zone : List Block) (r : RunSpot)
     → run_at place zone ≡ Some r
     → ((of : Block → ℕ) → Adds of → Loose r.run → total of (change r.run) ≡ total of r.run)
-    → (new : List ℕ) (first unused : ℕ) (table : ℕ → Slot) → tidy (with_run change r) ≡ with_run change r
-    → Made new first unused (tidy (with_run change r)) table → ChangedRun change zone r new first unused table
-changed-run change place zone r e keeps new first unused table t m =
+    → tidy (with_run change r) ≡ with_run change r → (xs : List ℕ) (first unused : ℕ) (i : IsSound xs first unused)
+    {below was now above : List Block} → Instead below was now above → zone_in xs ≡ below ++ (was ++ above)
+    → below ++ (now ++ above) ≡ with_run change r → (new : List ℕ)
+    → Relaid (λ s. is_resource (slot_in xs s)) (below ++ (was ++ above)) (below ++ (now ++ above)) xs new
+    → ChangedRun change zone r new first unused (slot_in xs)
+relaid-run change place zone r e keeps t xs first unused i k is shape new d =
     let l = (run_at-parts place zone r e).loose in
     let masters : Block → ℕ = λ b. cond (is_masters b) 1 0 in
+    let laid = subst (λ z. Lays xs z (slot_in xs) i.unused) is i.lays in
+    let lays = subst (λ z. Lays new z (slot_in xs) i.unused) shape (lays-run k xs new (slot_in xs) i.unused laid d) in
+    let m = subst (λ z. Made new first unused z (slot_in xs)) (sym t)
+    (made new _ (slot_in xs) _ lays first unused t i.begins i.counted) in
     record {
       made = m;
       is = m.zone ∙ t ∙ append_assoc r.below (change r.run) r.above;
@@ -67,7 +78,7 @@ replaced-run {change} {zone} {r} {new} place stop t e u d = record {
   above = r.above;
   was = sym (run_at-is place zone r e);
   is = d.is;
-  low = (run_at-splits place zone r e).bottom;
+  low = run_at-bottom place zone r e;
   high = sym u;
   span = d.span;
 }
@@ -78,11 +89,15 @@ pub settled-run : (xs : List ℕ) (first unused : ℕ) (i : IsSound xs first unu
     (stop : ℕ) → place + sizes r.run ≡ stop → (moves : ℕ) (new : List ℕ) → Settled (lay_at xs place) moves new
     → ChangedRun settle (zone_in xs) r new first unused (slot_in xs) × (moves ≡ lowered_in_run r.run)
 settled-run xs first unused i place r e stop t moves new d =
-    let m = settle-made xs first unused i place r e stop t moves new d in
-    let z : r.below ++ (settle r.run ++ r.above) ≡ tidy (with_run settle r) =
-    sym (settled-tidy _ _ r i.tidied e) ∙ ap tidy (sym (append_assoc r.below (settle r.run) r.above)) in (
-      changed-run settle _ _ r e (λ of adds l. settle-total of adds _ l) _ _ _
-          (slot_in xs) (sym z ∙ sym (append_assoc r.below (settle r.run) r.above))
-          (subst (λ k. Made new first unused k (slot_in xs)) z m.0),
-      m.1,
+    let s = subst (λ l. Settled l moves new) (lay-is xs first unused i place r e) d in
+    let w = whole xs first unused i place r e in
+    let runs = in-run xs first unused i place r e in
+    let shape = sym (append_assoc r.below (settle r.run) r.above) in
+    let head = head_of (λ s. is_resource (slot_in xs s)) in
+    let tiles = tiles-parts head xs r.below r.run r.above place _ (bottom xs first unused i place r e) refl
+    (subst (Tiles head xs) w i.lays.lies.tiles) in (
+      relaid-run settle place (zone_in xs) r e (λ of adds l. settle-total of adds _ l)
+          (ap tidy (sym shape) ∙ settled-tidy place (zone_in xs) r i.tidied e ∙ shape) xs first unused i
+          (instead-settle r.below r.run r.above runs) w shape new s.zone,
+      s.moved ∙ lowered-lowered_in_run head _ _ tiles.2 runs,
     )

@@ -11,7 +11,7 @@ use Rattle.zone_bytes.specs.Raising.{lifted}
 use Rattle.zone_bytes.specs.declared.edges.Edges.{Edges}
 use Rattle.zone_bytes.proofs.Runs.Changed.{ChangedRun}
 use Rattle.zone_bytes.proofs.Runs.Lifts.{any-movers, lifted-some}
-use Rattle.zone_bytes.proofs.Runs.Runs.{run_at-splits}
+use Rattle.block_store.proofs.Regroup.RunsAbove.{run_at-bottom}
 use Rattle.zone_bytes.proofs.Tiles.Tiling.{span-append}
 
 -- the blocks of a run that may move
@@ -32,7 +32,7 @@ module _ {zone : List Block} {r : RunSpot} {new : List ℕ} {first unused : ℕ}
     movers = movers r.run;
     above = free (free_sum r.run) ++ r.above;
     is = d.is ∙ ap (λ l. r.below ++ l) (append_assoc (movers r.run) (free (free_sum r.run)) r.above);
-    low = (run_at-splits place zone r e).bottom;
+    low = run_at-bottom place zone r e;
     solid = movers-solid r.run;
     edges_are = a;
   })
@@ -50,7 +50,7 @@ module _ {zone : List Block} {r : RunSpot} {new : List ℕ} {first unused : ℕ}
           is = d.is ∙ ap (λ l. r.below ++ (l ++ r.above)) (lifted-some gap r.run some s)
               ∙ ap (λ l. r.below ++ Free gap ∷ l) (append_assoc (movers r.run) left r.above)
               ∙ sym (append_assoc r.below (Free gap ∷ []) (movers r.run ++ (left ++ r.above)));
-          low = (let b = (run_at-splits place zone r e).bottom in omega (arith, b, span-append));
+          low = omega (arith, run_at-bottom place zone r e, span-append);
           solid = movers-solid r.run;
           edges_are = a;
         })

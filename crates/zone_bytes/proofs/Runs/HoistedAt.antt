@@ -16,26 +16,22 @@ use Rattle.block_store.proofs.Regroup.Packed.{high-total}
 use Rattle.block_store.proofs.Regroup.Regrouping.{apart-high, tidy-change}
 use Rattle.block_store.proofs.Regroup.RunLists.{run_at-is}
 use Rattle.zone_bytes.specs.Layout.{IsSlot, names, Each}
-use Rattle.zone_bytes.specs.Settling.{InRun}
 use Rattle.zone_bytes.specs.Hoisting.{Hoist, MayHoist, Hoisted}
 use Rattle.zone_bytes.specs.Decode.{zone_in}
 use Rattle.zone_bytes.specs.Table.{Lays, slot_in}
 use Rattle.zone_bytes.specs.Placing.{hoist_from, hoist_at}
 use Rattle.zone_bytes.proofs.Tiles.Tiling.{span-append}
-use Rattle.zone_bytes.proofs.Tiles.Leading.{each-right, names-append, leads-right}
-use Rattle.zone_bytes.proofs.Tiles.Keeping.{lays-run, span-settle}
+use Rattle.zone_bytes.proofs.Tiles.Leading.{each-right, names-append, leads-from}
+use Rattle.zone_bytes.proofs.Tiles.Keeping.{span-settle}
 use Rattle.zone_bytes.proofs.SlotTable.Tables.{slot-in}
-use Rattle.zone_bytes.proofs.Runs.Hoists.{in-now, same-span, same-names}
-use Rattle.zone_bytes.proofs.Laws.Lawful.{Made, made, sizes-length}
+use Rattle.zone_bytes.proofs.Runs.Hoists.{hoisted-instead}
+use Rattle.zone_bytes.proofs.Laws.Lawful.{sizes-length}
 use Rattle.block_store.proofs.Regroup.Lifted.{RunOf, run-of, spot_at-parts, settle-parts, high-parts, loose-block}
 use Rattle.block_store.proofs.Regroup.Lifted.{loose-over}
 use Rattle.block_store.proofs.Regroup.Lifted as lifted
-use Rattle.zone_bytes.proofs.Runs.Changed.{ChangedRun, changed-run}
+use Rattle.zone_bytes.proofs.Runs.Changed.{ChangedRun, relaid-run}
+use Rattle.zone_bytes.proofs.Runs.RunsAt.{each-loose}
 use Rattle.zone_bytes.proofs.Runs.PackedAt.{IsPacked, packed-zone, bottom, in-run, loose}
-
-each-loose : (run : List Block) → Loose run → Each InRun run
-each-loose [] l = tt
-each-loose (b ∷ run) l = (l.0, each-loose run l.1)
 
 module _ {xs : List ℕ} {first unused place top stop : ℕ} {old : List Block}
     (k : IsPacked xs first unused place top stop old) (number : ℕ)
@@ -87,10 +83,8 @@ module _ {xs : List ℕ} {first unused place top stop : ℕ} {old : List Block}
 
   -- and tells where the block is
   slot-tells : word_at number xs ≡ here
-  slot-tells =
-      let l = leads-right xs 0 beneath (block ∷ (over ++ r.above)) laid-was.lies.leads in
-      let z : 0 + here ≡ here = omega arith in
-      read_back number (0 + here) xs (omega (arith, small-here)) l.0 ∙ z
+  slot-tells = read_back number here xs (omega (arith, small-here))
+      (leads-from xs beneath (block ∷ (over ++ r.above)) here refl laid-was.lies.leads).0
 
   abbrev raw : Hoist
   raw = record {
@@ -122,16 +116,18 @@ module _ {xs : List ℕ} {first unused place top stop : ℕ} {old : List Block}
     may-move : MayHoist raw here stop
     may-move =
         record {
-          lies = laid-was.lies;
-          slots = laid-was.has_slots;
-          bottom = refl;
-          top = (let c = ap sizes (settle-parts number r.run cut loose-run) in
-              omega (arith, span-append, c, span-settle r.run (in-run k), bottom k));
-          in_run = each-loose (block ∷ over) (
-            loose-block number r.run cut loose-run,
-            loose-over number r.run cut loose-run,
-          );
-          small = laid-was.small;
+          run = record {
+            lies = laid-was.lies;
+            slots = laid-was.has_slots;
+            bottom = refl;
+            top = (let c = ap sizes (settle-parts number r.run cut loose-run) in
+                omega (arith, span-append, c, span-settle r.run (in-run k), bottom k));
+            in_run = each-loose (block ∷ over) (
+              loose-block number r.run cut loose-run,
+              loose-over number r.run cut loose-run,
+            );
+            small = laid-was.small;
+          };
         }
 
     pub may-hoist : MayHoist (hoist_at xs at) at stop
@@ -142,10 +138,6 @@ module _ {xs : List ℕ} {first unused place top stop : ℕ} {old : List Block}
         → Hoisted (hoist_at xs at) new → ChangedRun (high (is_relocatable number)) old r new first unused (slot_in xs)
     hoist-changed once new d =
         let test = is_relocatable number in
-        let m = may-move in
-        let q = subst (λ z. Hoisted z new) hoist-at d in
-        let lays = lays-run _ _ _ (block ∷ over) _ _ (slot_in xs) _ laid-was m.in_run
-        (in-now raw here stop m) (same-span raw here stop m) (same-names raw here stop m) q.lies q.others q.kept in
         let ones : Block → ℕ = λ b. cond {A = ℕ} (test b) 1 0 in
         let all : count test (r.below ++ (r.run ++ r.above)) ≡ count test old =
         ap (count test) (run_at-is place old r k.is) in
@@ -158,7 +150,6 @@ module _ {xs : List ℕ} {first unused place top stop : ℕ} {old : List Block}
         ∙ ap (λ l. r.below ++ l) (sym (append_assoc (movers cut.low) (over ++ block ∷ []) r.above)
         ∙ ap (λ l. l ++ r.above) (sym (high-parts number r.run cut (omega (arith, all, a, b, once)))))
         ∙ sym (append_assoc r.below (high test r.run) r.above) in
-        let tidy-is = tidy-change place old r k.is k.tidied (high test r.run) (apart-high test (λ n. refl) r.run) in
-        changed-run (high test) _ _ r k.is (λ of adds l. high-total of adds number r.run l) _ _ _
-        (slot_in xs) tidy-is (subst (λ z. Made new first unused z (slot_in xs)) (sym tidy-is) (made _ _ (slot_in xs) _
-        (subst (λ z. Lays new z (slot_in xs) k.sound.unused) shape lays) _ _ tidy-is k.sound.begins k.sound.counted))
+        relaid-run (high test) place old r k.is (λ of adds l. high-total of adds number r.run l)
+        (tidy-change place old r k.is k.tidied (high test r.run) (apart-high test (λ n. refl) r.run)) xs first unused k.sound
+        (hoisted-instead raw here stop may-move) packed-parts shape new (subst (λ z. Hoisted z new) hoist-at d)

@@ -1,23 +1,23 @@
 -- A block that is moved to the top of its run.
-use Rattle.std.proofs.Common.{◌≡◌, ℕ, ◌+◌, ◌-◌, ◌%◌, ◌≤◌, List, [], ◌∷◌, ◌++◌, length, take, drop, sym, ap, ◌∙◌, subst}
+use Rattle.std.proofs.Common.{◌≡◌, ℕ, ◌+◌, ◌-◌, ◌%◌, ◌≤◌, List, [], ◌∷◌, ◌++◌, length, take, drop, sym, ◌∙◌}
 use Rattle.std.proofs.Common.{arith, length-append}
 use Rattle.std.proofs.lemmas.List.{append-nil, length-take-le, length-drop}
 use Rattle.windows.specs.Writes.{written, piece}
 use Rattle.windows.proofs.Pieces.{piece-written}
 use Rattle.heap_words.specs.Words.{word_at}
-use Rattle.block_store.specs.Block.{Block, size, sizes}
-use Rattle.zone_bytes.specs.Layout.{head_of, kind, Tile, Tiles, names, names_of, Leads, Each}
+use Rattle.block_store.specs.Block.{Block, size}
+use Rattle.zone_bytes.specs.Layout.{head_of, Tiles, names, names_of}
 use Rattle.zone_bytes.specs.Settling.{InRun}
 use Rattle.zone_bytes.specs.Splicing.{SameOutside}
 use Rattle.zone_bytes.specs.Pointing.{IsMoved, Pointed}
-use Rattle.zone_bytes.specs.Hoisting.{Hoist, unhoisted, hoisted_run, hoisted, MayHoist, Hoisted}
-use Rattle.zone_bytes.proofs.Tiles.Tiling.{span-append, length-tiles, tile-take, tiles-append, tiles-one, tiles-split}
-use Rattle.zone_bytes.proofs.Tiles.Heads.{first-reads, kind-small}
-use Rattle.zone_bytes.proofs.Tiles.Leading.{each-append, names-append, leads-left, leads-right}
-use Rattle.zone_bytes.proofs.Tiles.Splices.{outside-same, outside-written}
-use Rattle.zone_bytes.proofs.Tiles.Permuted.{SameNames, turned}
-use Rattle.zone_bytes.proofs.Tiles.Tiling.{span-whole}
-use Rattle.zone_bytes.proofs.Tiles.Heads.{Next, same_parts}
+use Rattle.zone_bytes.specs.Hoisting.{Hoist, unhoisted, hoisted_run, MayHoist, Hoisted}
+use Rattle.zone_bytes.proofs.Tiles.Heads.{Next, header-there, header-tells}
+use Rattle.zone_bytes.proofs.Tiles.Tiling.{span-append, span-whole, tile-take, tiles-append, tiles-one}
+use Rattle.zone_bytes.proofs.Tiles.Leading.{each-append, names-append}
+use Rattle.zone_bytes.proofs.Tiles.Splices.{tiles-parts, outside-same, outside-written}
+use Rattle.zone_bytes.proofs.Tiles.Keeping.{Instead, others-now}
+use Rattle.zone_bytes.proofs.Tiles.Permuted.{turned}
+use Rattle.zone_bytes.proofs.Runs.Packed.{run-bounds, run-moved}
 use Rattle.zone_bytes.proofs.Runs.Moved as moved
 
 module _ (z : Hoist) (place stop : ℕ) (h : MayHoist z place stop) where
@@ -27,6 +27,9 @@ module _ (z : Hoist) (place stop : ℕ) (h : MayHoist z place stop) where
   abbrev head : Block → List ℕ
   head = head_of z.resource
 
+  run : IsMoved (unhoisted z) place stop
+  run = run-moved (unhoisted z) place stop h.run
+
   -- the run's bytes from the block on, and the same with the block behind the others
   abbrev run-bytes : List ℕ
   run-bytes = piece place (stop - place) z.bytes
@@ -34,68 +37,34 @@ module _ (z : Hoist) (place stop : ℕ) (h : MayHoist z place stop) where
   abbrev pub turned-bytes : List ℕ
   turned-bytes = drop (size z.block) run-bytes ++ take (size z.block) run-bytes
 
-  pub in-now : Each InRun (hoisted_run z)
-  in-now = each-append InRun z.over (z.block ∷ []) h.in_run.1 (h.in_run.0, tt)
-
-  pub same-span : sizes (hoisted_run z) ≡ sizes was
-  same-span = omega (arith, span-append)
-
-  pub same-names : SameNames (names (unhoisted z)) (names (hoisted z))
-  same-names =
+  pub hoisted-instead : Instead z.below was (hoisted_run z) z.above
+  hoisted-instead =
       let low = names z.below in
       let one = names_of z.block in
-      let w : names (unhoisted z) ≡ low ++ ((one ++ names z.over) ++ names z.above) =
-      names-append z.below (was ++ z.above) ∙ ap (λ k. low ++ k) (names-append was z.above) in
-      let n : names (hoisted z) ≡ low ++ ((names z.over ++ one) ++ names z.above) =
-      names-append z.below (hoisted_run z ++ z.above) ∙ ap (λ k. low ++ k) (names-append (hoisted_run z) z.above
-      ∙ ap (λ k. k ++ names z.above) (names-append z.over (z.block ∷ [])
-      ∙ ap (λ k. names z.over ++ k) (append-nil one))) in
-      subst (λ k. SameNames k (names (hoisted z))) (sym w)
-      (subst (λ k. SameNames (low ++ ((one ++ names z.over) ++ names z.above)) k) (sym n)
-      (turned low one (names z.over) (names z.above)))
+      record {
+        in_was = h.run.in_run;
+        in_now = each-append InRun z.over (z.block ∷ []) h.run.in_run.1 (h.run.in_run.0, tt);
+        span = omega (arith, span-append z.over (z.block ∷ []));
+        names_are = simp (names-append, append-nil) (turned low one (names z.over) (names z.above));
+      }
 
-  parts-is : Tiles head (take (sizes z.below) z.bytes) z.below
-      × Tiles head (drop (sizes z.below) z.bytes) (was ++ z.above)
-  parts-is = tiles-split head z.bytes z.below (was ++ z.above) h.lies.tiles
+  parts : Tiles head (take place z.bytes) z.below × Tiles head (drop place z.bytes) (was ++ z.above)
+      × Tiles head run-bytes was × Tiles head (drop stop z.bytes) z.above
+  parts = tiles-parts head z.bytes z.below was z.above place stop run.bottom run.top run.tiles
 
   pub wide : (place + size z.block ≤ stop) × (stop ≤ length z.bytes) × (place % 16 ≡ 0)
   wide =
-      let w = span-whole head (take (sizes z.below) z.bytes) z.below parts-is.0 in
-      (omega arith, omega (arith, length-tiles, span-append, span-append was z.above), omega (arith, w))
-
-  tile-here : Tile (head z.block) (size z.block) (drop place z.bytes)
-  tile-here = subst (λ k. Tile (head z.block) (size z.block) (drop k z.bytes)) h.bottom parts-is.1.0
-
-  run-tiles : Tiles head run-bytes was
-  run-tiles =
-      let e : sizes was ≡ stop - place = omega arith in
-      subst (λ k. Tiles head k was) (λ i. take (e i) (drop (h.bottom i) z.bytes))
-      (tiles-split head _ was z.above parts-is.1).0
-
-  first-is : word_at place z.bytes ≡ size z.block + kind z.block
-  first-is = first-reads z.resource z.bytes place h.small z.block tile-here
+      let w = span-whole head (take place z.bytes) z.below parts.0 in
+      let r = run in
+      (omega arith, omega (arith, run-bounds (unhoisted z) place stop r), omega arith)
 
   -- the block's header may be read
   pub next : Next z.bytes place
-  next =
-      record {
-        even = omega (arith, wide);
-        fits = omega (arith, wide, tile-here.some);
-        tag = omega (arith, first-is, tile-here.whole, kind-small);
-        big = omega (arith, first-is, tile-here.some);
-      }
+  next = header-there z.resource z.bytes place h.run.small z.block parts.1.0 wide.2
 
   -- and tells its size
   pub size-read : (n t : ℕ) → n + t ≡ word_at place z.bytes → n % 16 ≡ 0 → t ≤ 3 → n ≡ size z.block
-  size-read n t e w l = (same_parts n t _ _ (e ∙ first-is) w tile-here.whole l (kind-small _)).0
-
-  -- what is turned, as it is read
-  pub turned-read : (xs : List ℕ) (n : ℕ) (mid : List ℕ) → xs ≡ z.bytes → n ≡ size z.block
-      → mid ≡ written place (drop n (piece place (stop - place) xs) ++ take n (piece place (stop - place) xs)) xs
-      → mid ≡ written place turned-bytes z.bytes
-  turned-read xs n mid e s m =
-      m ∙ (λ i. written place (drop (s i) (piece place (stop - place) (e i)) ++ take (s i)
-      (piece place (stop - place) (e i))) (e i))
+  size-read n t e w l = (header-tells z.resource z.bytes place h.run.small z.block parts.1.0 n t e w l).0
 
   length-run : length run-bytes ≡ stop - place
   length-run = length-take-le (stop - place) (drop place z.bytes) (omega (arith, wide, length-drop place z.bytes))
@@ -104,55 +73,36 @@ module _ (z : Hoist) (place stop : ℕ) (h : MayHoist z place stop) where
   length-turned =
       let l = length-run in
       let a = length-append (drop (size z.block) run-bytes) (take (size z.block) run-bytes) in
-      let b = length-take-le (size z.block) run-bytes (omega (arith, l)) in
-      omega (arith, a, length-drop (size z.block) run-bytes, b, l)
+      let b = length-take-le (size z.block) run-bytes (omega (arith, wide, l)) in
+      omega (arith, a, length-drop (size z.block) run-bytes, b, l, wide)
 
   turned-tiles : Tiles head turned-bytes (hoisted_run z)
   turned-tiles =
-      let t = run-tiles in
-      tiles-append head _ _ _ _ t.1 (tiles-one head _ _ (length-take-le (size z.block) run-bytes (omega arith))
-      (tile-take head _ _ _ _ (omega arith) (omega arith) t.0))
+      let t = parts.2 in
+      tiles-append head _ _ _ _ t.1 (tiles-one head _ _ (length-take-le (size z.block) run-bytes t.0.fits)
+      (tile-take head _ _ _ _ (omega arith) t.0.fits t.0))
 
   -- the bytes before the slots are rewritten
-  module _ (mid : List ℕ) (m : mid ≡ written place turned-bytes z.bytes) where
-    outside : SameOutside place stop z.bytes mid
-    outside =
-        let v = wide in
-        subst (λ k. SameOutside place stop z.bytes k) (sym m)
-        (outside-written _ _ _ _ _ turned-bytes (omega arith) (omega (arith, length-turned, v))
-        (outside-same place stop z.bytes (omega (arith, v)) (omega (arith, v))))
+  abbrev mid : List ℕ
+  mid = written place turned-bytes z.bytes
 
-    new-tiles : Tiles head (piece place (stop - place) mid) (hoisted_run z)
-    new-tiles =
-        subst (λ k. Tiles head k (hoisted_run z))
-        (sym (ap (piece place (stop - place)) m ∙ piece-written _ _ z.bytes _
-        (sym length-turned) (omega (arith, wide)))) turned-tiles
+  outside : SameOutside place stop z.bytes mid
+  outside =
+      let v = wide in
+      let l = length-turned in
+      outside-written place stop _ _ place turned-bytes (omega arith) (omega arith)
+      (outside-same place stop z.bytes (omega arith) (omega arith))
 
-    low : Leads 0 z.below z.bytes
-    low = leads-left z.bytes 0 z.below (was ++ z.above) h.lies.leads
+  new-tiles : Tiles head (piece place (stop - place) mid) (hoisted_run z)
+  new-tiles = rw (piece-written place turned-bytes z.bytes _ (sym length-turned) (omega (arith, wide))) turned-tiles
 
-    high : Leads stop z.above z.bytes
-    high =
-        let o : 0 + sizes z.below + sizes was ≡ stop = omega arith in
-        subst (λ k. Leads k z.above z.bytes) o (leads-right _ _ was _
-        (leads-right z.bytes 0 z.below (was ++ z.above) h.lies.leads))
+  pub is-moved : IsMoved (record (unhoisted z) { run = hoisted_run z; bytes = mid }) place stop
+  is-moved = moved.is-moved (unhoisted z) place stop run (hoisted_run z) hoisted-instead mid outside new-tiles
 
-    pub is-moved : IsMoved (record {
-      resource = z.resource;
-      below = z.below;
-      run = hoisted_run z;
-      above = z.above;
-      bytes = mid;
-    }) place stop
-    is-moved = moved.is-moved z.resource z.below was (hoisted_run z) z.above z.bytes mid place stop h.lies.tiles low high h.slots
-        h.bottom h.top h.in_run in-now same-span same-names h.small outside new-tiles
-
-    pub is-hoisted : (new : List ℕ)
-        → Pointed (record { resource = z.resource; below = z.below; run = hoisted_run z; above = z.above; bytes = mid })
-        new → Hoisted z new
-    is-hoisted new p = record {
-      lies = p.lies;
-      others = moved.others-pointed z.resource z.below was (hoisted_run z) z.above z.bytes mid place stop h.lies.tiles low high h.slots
-          h.bottom h.top h.in_run in-now same-span same-names h.small outside new-tiles new p;
-      kept = p.kept ∙ outside.kept;
-    }
+  pub is-hoisted : (new : List ℕ) → Pointed (record (unhoisted z) { run = hoisted_run z; bytes = mid }) new → Hoisted z new
+  is-hoisted new p = record {
+    lies = p.lies;
+    others = others-now hoisted-instead z.bytes mid new
+        (moved.others-moved (unhoisted z) place stop run (hoisted_run z) hoisted-instead mid outside new-tiles) p.others;
+    kept = p.kept ∙ outside.kept;
+  }

@@ -16,14 +16,16 @@ pub settled-of : (lay : Lay) (place stop gap moves : ℕ) (xs : List ℕ) → Is
     xs → Leads (sizes lay.below) (movers lay.run) xs → Settled lay moves xs
 settled-of lay place stop gap moves xs r p l =
     record {
-      lies = record {
-        tiles = p.tiles;
-        leads = leads-joined xs lay.below (settle lay.run) lay.above (sizes lay.below) _ refl
-            (omega (arith, span-settle lay.run r.in_run)) p.low (leads-append _ _ _ _ l (leads-free _ _ _)) p.high;
+      zone = record {
+        lies = record {
+          tiles = p.tiles;
+          leads = leads-joined xs lay.below (settle lay.run) lay.above (sizes lay.below) _ refl
+              (omega (arith, span-settle lay.run r.in_run)) p.low (leads-append _ _ _ _ l (leads-free _ _ _)) p.high;
+        };
+        others = p.others;
+        kept = p.kept;
       };
-      others = p.others;
       moved = p.moved;
-      kept = p.kept;
     }
 
 pub settled-led : (lay : Lay) (place stop moves : ℕ) (xs : List ℕ) → IsRunFrom lay place stop → Packed lay 0 moves xs

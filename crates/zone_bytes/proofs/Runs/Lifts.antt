@@ -2,24 +2,23 @@
 use Rattle.std.proofs.Common.{◌≡◌, ℕ, ◌+◌, ◌-◌, ◌<◌, ◌≤◌, ◌⊎◌, inl, inr, zero, suc, List, [], ◌∷◌, ◌++◌, length, refl}
 use Rattle.std.proofs.Common.{sym, ap, ◌∙◌, subst, arith}
 use Rattle.std.proofs.Common.{append_assoc}
-use Rattle.std.proofs.lemmas.List.{append-nil}
 use Rattle.std.proofs.lemmas.List.Elements.{filter-append}
 use Rattle.block_store.specs.Block.{Block, Free, free, free_sum, is_mover, sizes, tidy}
 use Rattle.block_store.specs.Run.{movers, settle, low}
 use Rattle.block_store.proofs.Zone.Apart.{tidy-apart}
 use Rattle.block_store.proofs.Zone.Totals.{total-append}
 use Rattle.block_store.proofs.Regroup.Lifted.{apart-low, no-movers}
-use Rattle.zone_bytes.specs.Layout.{head_of, Tiles, IsSlot, names, Leads, Apart, Each}
+use Rattle.zone_bytes.specs.Layout.{Leads, Each}
 use Rattle.zone_bytes.specs.Settling.{Lay, InRun, EndsRun, Lies, HasSlots, IsRunFrom, SameOthers, Packed, cut, UntilAt}
 use Rattle.zone_bytes.specs.Settling.{Settled}
 use Rattle.zone_bytes.specs.Edges.{AreEdges}
 use Rattle.zone_bytes.specs.declared.edges.Edges.{Edges}
-use Rattle.zone_bytes.specs.Raising.{Raise, packed, MayRaise, Raised, lifted, MayLift, Lifted}
+use Rattle.zone_bytes.specs.Pointing.{IsMoved}
+use Rattle.zone_bytes.specs.Raising.{Raise, MayRaise, Raised, lifted, MayLift, Lifted}
 use Rattle.zone_bytes.proofs.Tiles.Tiling.{span-append}
-use Rattle.zone_bytes.proofs.Tiles.Leading.{each-append, each-right, each-map, names-append}
-use Rattle.zone_bytes.proofs.Tiles.Permuted.{each-moved}
-use Rattle.zone_bytes.proofs.Tiles.Keeping.{each-free, each-movers, each-settle, names-free, names-movers, names-settle}
-use Rattle.zone_bytes.proofs.Tiles.Keeping.{run-names, slot-run, span-free, span-movers, span-settle}
+use Rattle.zone_bytes.proofs.Tiles.Leading.{each-append, each-right}
+use Rattle.zone_bytes.proofs.Tiles.Keeping.{each-free, each-movers, names-movers}
+use Rattle.zone_bytes.proofs.Tiles.Keeping.{span-free, span-movers, Instead, others-now, slots-now, instead-settle, instead, names-left}
 use Rattle.zone_bytes.proofs.Runs.Packed.{run-bounds, run-moved}
 use Rattle.block_store.proofs.Zone.Spots.{free-some}
 use Rattle.zone_bytes.proofs.Runs.Led.{settled-of}
@@ -59,52 +58,17 @@ any-movers run = cases (movers run)
     cases [] = inl refl
     cases (b ∷ l) = inr (λ e. omega (arith, ap length e))
 
-module _ (gap : ℕ) (run : List Block) (some : 0 < gap) (enough : gap ≤ free_sum run) (r : Each InRun run) where
-  pub lifted-each : Each InRun (lifted gap run)
-  lifted-each = elim (any-movers run) [
-    | inl n ↦ subst (Each InRun) (sym (lifted-none gap run some enough n)) (each-settle run r)
-    | inr s ↦ subst (Each InRun) (sym (lifted-some gap run some s)) (
-      refl,
-      each-append InRun (movers run) (free (free_sum run - gap)) (each-movers run r) (each-free (free_sum run - gap)),
-    )
-  ]
-
-  pub lifted-span : sizes (lifted gap run) ≡ sizes run
-  lifted-span = elim (any-movers run) [
-    | inl n ↦ ap sizes (lifted-none gap run some enough n) ∙ span-settle run r
-    | inr s ↦
-        let a = span-append (movers run) (free (free_sum run - gap)) in
-        ap sizes (lifted-some _ run some s)
-        ∙ (let e : sizes (low (Free gap) run) ≡ sizes run = omega (arith, a, span-free, span-movers, enough) in e)
-  ]
-
-  pub lifted-names : names (lifted gap run) ≡ names run
-  lifted-names = elim (any-movers run) [
-    | inl n ↦ ap names (lifted-none gap run some enough n) ∙ names-settle run r
-    | inr s ↦ ap names (lifted-some _ run some s) ∙ names-append (movers run) (free (free_sum run - gap))
-        ∙ ap (λ k. names (movers run) ++ k) (names-free (free_sum run - gap)) ∙ append-nil (names (movers run))
-        ∙ names-movers run r
-  ]
-
--- blocks in place of a run, as large as they were and with the same slots
-slots-now : (below run now above : List Block) → Each InRun run → sizes now ≡ sizes run → names now ≡ names run
-    → HasSlots (below ++ (run ++ above)) → HasSlots (below ++ (now ++ above))
-slots-now below run now above r s n h =
-    let was = below ++ (run ++ above) in
-    let new = below ++ (now ++ above) in
-    let k = run-names below run now above n in
-    record {
-      slots = each-moved (λ s. IsSlot s new) _ _ k.from
-          (each-map (λ s. IsSlot s was) (λ s. IsSlot s new) (λ i. slot-run i _ _ _ _ r s) _ h.slots);
-      apart = k.apart h.apart;
-    }
-
--- the slots of no block stay
-others-now : (below run now above : List Block) → Each InRun run → sizes now ≡ sizes run → names now ≡ names run
-    → (old mid new : List ℕ) → SameOthers (below ++ (run ++ above)) old mid
-    → SameOthers (below ++ (now ++ above)) mid new → SameOthers (below ++ (run ++ above)) old new
-others-now below run now above r e n old mid new p o s i a =
-    o s (slot-run s _ _ _ _ r e i) (each-moved (Apart s) _ _ (run-names below run now above n).from a) ∙ p s i a
+pub lifted-instead : (gap : ℕ) (below run above : List Block) → 0 < gap → gap ≤ free_sum run → Each InRun run
+    → Instead below run (lifted gap run) above
+lifted-instead gap below run above some enough r = elim (any-movers run) [
+  | inl n ↦ rw (lifted-none gap run some enough n) (instead-settle below run above r)
+  | inr s ↦
+      let left = free_sum run - gap in
+      rw (lifted-some gap run some s) (instead below run (low (Free gap) run) above r
+      (refl, each-append InRun (movers run) (free left) (each-movers run r) (each-free left))
+      (omega (arith, span-append (movers run) (free left), span-free left, span-movers run r, enough))
+      (names-left (movers run) left ∙ names-movers run r))
+]
 
 pub gap-fits : (lay : Lay) (place gap : ℕ) → MayLift lay place gap → gap ≤ length lay.bytes
 gap-fits lay place gap h = omega (
@@ -128,58 +92,46 @@ raise_of lay gap xs = record {
 
 module _ (lay : Lay) (place gap : ℕ) (h : MayLift lay place gap) (moves : ℕ) (xs : List ℕ)
     (p : Packed lay gap moves xs) where
-  abbrev was : List Block
-  was = lay.below ++ (lay.run ++ lay.above)
+  settled : Instead lay.below lay.run (settle lay.run) lay.above
+  settled = instead-settle lay.below lay.run lay.above h.run.in_run
 
-  abbrev settled : List Block
-  settled = lay.below ++ (settle lay.run ++ lay.above)
-
-  all-free : gap + (free_sum lay.run - gap) ≡ free_sum lay.run
-  all-free = omega arith
-
-  packed-is : settled ≡ packed (raise_of lay gap xs)
-  packed-is = ap (λ n. lay.below ++ ((movers lay.run ++ free n) ++ lay.above)) (sym all-free)
-
-  settled-slots : HasSlots settled
-  settled-slots = slots-now _ _ _ _ h.run.in_run
-      (span-settle _ h.run.in_run) (names-settle _ h.run.in_run) h.run.slots
+  all-free : free_sum lay.run ≡ gap + (free_sum lay.run - gap)
+  all-free = omega (arith, h.enough)
 
   pub may-raise : (top stop : ℕ) → top ≡ place + sizes (movers lay.run) → stop ≡ place + sizes lay.run
       → MayRaise (raise_of lay gap xs) place top stop gap
   may-raise top stop t s =
-      let b = h.run.bottom in
-      let small = h.run.small in
-      let o : sizes lay.below + gap ≡ place + gap = omega (arith, b) in
-      let e : sizes lay.below + sizes lay.run ≡ stop = omega (arith, b, s) in
-      record {
-        tiles = subst (Tiles (head_of lay.resource) xs) packed-is p.tiles;
+      let r = h.run in
+      let o : sizes lay.below + gap ≡ place + gap = omega arith in
+      let e : sizes lay.below + sizes lay.run ≡ stop = omega arith in
+      let run : IsMoved (record lay { run = settle lay.run; bytes = xs }) place stop = record {
+        tiles = p.tiles;
+        slots = slots-now settled r.slots;
+        bottom = r.bottom;
+        top = omega (arith, settled.span);
+        in_run = settled.in_now;
+        small = omega (arith, p.kept);
         low = p.low;
-        leads = subst (λ j. Leads j (movers lay.run) xs) o p.leads;
         high = subst (λ j. Leads j lay.above xs) e p.high;
-        slots = subst HasSlots packed-is settled-slots;
-        bottom = b;
+      } in
+      record {
+        run = subst (λ n. IsMoved (record lay { run = movers lay.run ++ free n; bytes = xs }) place stop) all-free run;
+        leads = subst (λ j. Leads j (movers lay.run) xs) o p.leads;
         middle = sym t;
-        end = omega (arith, t, s, span-movers);
+        end = omega (arith, span-movers lay.run r.in_run, h.enough);
         same = refl;
         some = h.some;
         even = h.even;
-        in_run = each-movers lay.run h.run.in_run;
-        small = omega (arith, small);
       }
-
-  -- the slots of no block stay
-  others-twice : (new : List ℕ) → SameOthers settled xs new → SameOthers was lay.bytes new
-  others-twice new = others-now _ _ _ _ h.run.in_run
-      (span-settle _ h.run.in_run) (names-settle _ h.run.in_run) _ _ _ p.others
 
   pub is-lifted : (top : ℕ) → top ≡ place + sizes (movers lay.run) → place < top → (new : List ℕ)
       → Raised (raise_of lay gap xs) new → Lifted lay gap new
   is-lifted top t l new d =
       let some-movers : movers lay.run ≡ [] → ⊥ = λ n. (omega (arith, ap sizes n, t, l)) in
-      let e = lifted-some gap lay.run h.some some-movers in
       record {
-        lies = subst (λ j. Lies lay.resource (lay.below ++ (j ++ lay.above)) new) (sym e) d.lies;
-        others = others-twice new (subst (λ j. SameOthers j xs new) (sym packed-is) d.others);
+        lies = rw (lifted-some gap lay.run h.some some-movers) d.lies;
+        others = others-now settled lay.bytes xs new p.others (subst
+            (λ n. SameOthers (lay.below ++ ((movers lay.run ++ free n) ++ lay.above)) xs new) (sym all-free) d.others);
         kept = d.kept ∙ p.kept;
       }
 
@@ -187,13 +139,8 @@ module _ (lay : Lay) (place gap : ℕ) (h : MayLift lay place gap) (moves : ℕ)
   pub is-lifted-none : (top : ℕ) → top ≡ place + sizes (movers lay.run) → top ≤ place → Lifted lay gap xs
   is-lifted-none top t l =
       let none = no-movers lay.run (omega (arith, t, l)) in
-      let e = lifted-none gap lay.run h.some h.enough none in
-      record {
-        lies = subst (λ j. Lies lay.resource (lay.below ++ (j ++ lay.above)) xs) (sym e)
-            (settled-of _ _ _ _ _ _ h.run p (subst (λ l. Leads (sizes lay.below) l xs) (sym none) tt)).lies;
-        others = p.others;
-        kept = p.kept;
-      }
+      rw (lifted-none gap lay.run h.some h.enough none) (settled-of _ _ _ _ _ _ h.run p
+      (subst (λ l. Leads (sizes lay.below) l xs) (sym none) tt)).zone
 
 -- the raised blocks, and what is to be packed above them
 abbrev pub upper : Lay → ℕ → List Block → List Block → List ℕ → Lay
@@ -273,14 +220,13 @@ module _ (lay : Lay) (place gap : ℕ) (h : MayLift lay place gap) (o : EndsRun 
       upper-top : top + gap + sizes (free left ++ rest) ≡ place + sizes lay.run
       upper-top = omega (arith, span-append, span-free, span-movers gone cut-at.in_run, cut-span, enough)
 
-      part-each : Each InRun gone
-      part-each = cut-at.in_run
+      part-instead : Instead lay.below gone (lifted gap gone) (rest ++ lay.above)
+      part-instead = lifted-instead gap lay.below gone (rest ++ lay.above) h.some enough cut-at.in_run
 
       pub upper-run : IsRunFrom (upper lay gap gone rest ys) (top + gap) (top + gap + sizes (free left ++ rest))
       upper-run = record {
         lies = subst (λ l. Lies lay.resource l ys) upper-is part-lifted.lies;
-        slots = subst HasSlots upper-is (slots-now _ _ _ _ part-each
-            (lifted-span _ _ h.some enough part-each) (lifted-names _ gone h.some enough part-each) cut-at.slots);
+        slots = subst HasSlots upper-is (slots-now part-instead cut-at.slots);
         bottom = upper-bottom;
         top = refl;
         in_run = each-append InRun _ _ (each-free left)
@@ -316,12 +262,11 @@ module _ (lay : Lay) (place gap : ℕ) (h : MayLift lay place gap) (o : EndsRun 
 
         pub both-lifted : Lifted lay gap zs
         both-lifted = record {
-          lies = subst (λ l. Lies lay.resource l zs) all-is t.lies;
+          lies = subst (λ l. Lies lay.resource l zs) all-is t.zone.lies;
           others = subst (λ l. SameOthers l lay.bytes zs) (cut-same lay gone rest p.split)
-              (others-now _ _ _ _ part-each
-              (lifted-span gap gone h.some enough part-each) (lifted-names gap gone h.some enough part-each)
-              _ _ _ part-lifted.others (subst (λ l. SameOthers l ys zs) (sym upper-is) t.others));
-          kept = t.kept ∙ part-lifted.kept;
+              (others-now part-instead lay.bytes ys zs part-lifted.others
+              (subst (λ l. SameOthers l ys zs) (sym upper-is) t.zone.others));
+          kept = t.zone.kept ∙ part-lifted.kept;
         }
 
         pub both-stop : (at : ℕ) → at ≡ top + gap + sizes (free left ++ rest) → at ≡ place + sizes lay.run

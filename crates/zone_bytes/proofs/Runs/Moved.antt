@@ -1,76 +1,45 @@
 -- A run whose blocks lie otherwise than before, and whose slots are still to be rewritten.
-use Rattle.std.proofs.Common.{◌≡◌, ℕ, Bool, ◌+◌, ◌-◌, ◌≤◌, inl, inr, List, ◌++◌, length, ◌∙◌, subst, arith}
+use Rattle.std.proofs.Common.{ℕ, ◌-◌, List, arith}
 use Rattle.windows.specs.Writes.{piece}
-use Rattle.block_store.specs.Block.{Block, sizes}
-use Rattle.zone_bytes.specs.Layout.{head_of, Tiles, IsSlot, names, Leads, Each, Apart}
-use Rattle.zone_bytes.specs.Settling.{Lay, InRun, HasSlots, SameOthers}
+use Rattle.block_store.specs.Block.{Block}
+use Rattle.zone_bytes.specs.Layout.{head_of, Tiles, IsSlot, names, Each}
+use Rattle.zone_bytes.specs.Settling.{Lay, all, SameOthers}
 use Rattle.zone_bytes.specs.Splicing.{SameOutside}
-use Rattle.zone_bytes.specs.Pointing.{IsMoved, Pointed}
-use Rattle.zone_bytes.proofs.Tiles.Tiling.{slot-inside, slot-split}
-use Rattle.zone_bytes.proofs.Tiles.Leading.{Clear, each-map, each-left, each-right, names-append}
+use Rattle.zone_bytes.specs.Pointing.{IsMoved}
+use Rattle.zone_bytes.proofs.Tiles.Leading.{Clear, each-map, each-names}
 use Rattle.zone_bytes.proofs.Tiles.Splices.{piece-outside, leads-outside, tiles-splice}
-use Rattle.zone_bytes.proofs.Tiles.Keeping.{slot-run}
-use Rattle.zone_bytes.proofs.Tiles.Permuted.{SameNames, each-moved}
-use Rattle.zone_bytes.proofs.Tiles.Keeping.{run-no_slot}
+use Rattle.zone_bytes.proofs.Tiles.Keeping.{Instead, slots-now}
+use Rattle.zone_bytes.proofs.Runs.Packed.{slot-clear}
 
-module _ (resource : ℕ → Bool) (below was now above : List Block) (old mid : List ℕ) (place stop : ℕ)
-    (tiles : Tiles (head_of resource) old (below ++ (was ++ above))) (low : Leads 0 below old)
-    (high : Leads stop above old) (slots : HasSlots (below ++ (was ++ above)))
-    (bottom : sizes below ≡ place) (top : place + sizes was ≡ stop) (in-was : Each InRun was) (in-now : Each InRun now)
-    (same : sizes now ≡ sizes was) (n : SameNames (names (below ++ (was ++ above))) (names (below ++ (now ++ above))))
-    (small : length old ≤ 134217728) (s : SameOutside place stop old mid)
-    (t : Tiles (head_of resource) (piece place (stop - place) mid) now) where
-  -- a slot is below the run or above it
-  clear-of : (k : ℕ) → IsSlot k (below ++ (was ++ above)) → Clear place (stop - place) k
-  clear-of k i = elim (slot-split k _ (was ++ above) i) [
-    | inl j ↦ inl (omega (arith, slot-inside, bottom))
-    | inr j ↦ elim (slot-split (k - sizes below) was above j.1) [
-      | inl l ↦ absurd (run-no_slot (k - sizes below) was in-was l)
-      | inr l ↦ inr (omega (arith, bottom, top))
-    ]
-  ]
-
-  abbrev pub moved-lay : Lay
-  moved-lay = record { resource = resource; below = below; run = now; above = above; bytes = mid }
-
+module _ (lay : Lay) (place stop : ℕ) (r : IsMoved lay place stop) (now : List Block)
+    (k : Instead lay.below lay.run now lay.above) (mid : List ℕ) (s : SameOutside place stop lay.bytes mid)
+    (t : Tiles (head_of lay.resource) (piece place (stop - place) mid) now) where
   abbrev P : ℕ → Type 0
   P = Clear place (stop - place)
 
-  clears : Each P (names below) × Each P (names (was ++ above))
+  clear-of : (j : ℕ) → IsSlot j (all lay) → P j
+  clear-of = slot-clear lay place stop r place (stop - place) (omega arith) (omega (arith, s.ordered))
+
+  -- the slots of the blocks lie outside the run
+  pub clears : Each P (names lay.below) × Each P (names lay.run) × Each P (names lay.above)
   clears =
-      let all = each-map (λ j. IsSlot j (below ++ (was ++ above))) P clear-of _ slots.slots in
-      let split = subst (λ j. Each P j) (names-append below (was ++ above)) all in
-      (each-left P (names below) (names (was ++ above)) split, each-right P (names below) (names (was ++ above)) split)
+      let c = each-names P lay.below _ (each-map (λ j. IsSlot j (all lay)) P clear-of _ r.slots.slots) in
+      let d = each-names P lay.run lay.above c.1 in
+      (c.0, d.0, d.1)
 
-  -- the slots of the run's blocks lie outside it
-  pub clears-run : Each P (names was) × Each P (names above)
-  clears-run =
-      let split = subst (λ j. Each P j) (names-append was above) clears.1 in
-      (each-left P (names was) (names above) split, each-right P (names was) (names above) split)
-
-  pub is-moved : IsMoved moved-lay place stop
-  is-moved =
-      record {
-        tiles = tiles-splice (head_of resource) old mid below was above now place stop bottom top tiles s t;
-        slots = record {
-          slots = each-moved (λ j. IsSlot j (below ++ (now ++ above))) _ _ n.from
-              (each-map (λ j. IsSlot j (below ++ (was ++ above))) (λ j. IsSlot j (below ++ (now ++ above)))
-              (λ j i. slot-run j _ _ _ _ in-was same i) _ slots.slots);
-          apart = n.apart slots.apart;
-        };
-        bottom = bottom;
-        top = omega (arith, top, same);
-        in_run = in-now;
-        small = omega (arith, small);
-        low = leads-outside place stop old mid 0 below s clears.0 low;
-        high = leads-outside place stop old mid stop above s clears-run.1 high;
-      }
+  pub is-moved : IsMoved (record lay { run = now; bytes = mid }) place stop
+  is-moved = record {
+    tiles = tiles-splice (head_of lay.resource) lay.bytes mid lay.below lay.run lay.above now place stop r.bottom r.top
+        r.tiles s t;
+    slots = slots-now k r.slots;
+    bottom = r.bottom;
+    top = omega (arith, r.top, k.span);
+    in_run = k.in_now;
+    small = omega (arith, r.small, s.kept);
+    low = leads-outside place stop lay.bytes mid 0 lay.below s clears.0 r.low;
+    high = leads-outside place stop lay.bytes mid stop lay.above s clears.2 r.high;
+  }
 
   -- the other slots stay
-  pub others-moved : SameOthers (below ++ (was ++ above)) old mid
-  others-moved k i a = piece-outside _ _ _ _ k s (clear-of k i)
-
-  -- after the slots are rewritten
-  pub others-pointed : (new : List ℕ) → Pointed moved-lay new → SameOthers (below ++ (was ++ above)) old new
-  others-pointed new p k i a =
-      p.others k (slot-run k _ _ _ _ in-was same i) (each-moved (Apart k) _ _ n.from a) ∙ others-moved k i a
+  pub others-moved : SameOthers (all lay) lay.bytes mid
+  others-moved j i a = piece-outside place stop lay.bytes mid j s (clear-of j i)

@@ -11,7 +11,7 @@ use Rattle.zone_bytes.specs.Decode.{zone_in}
 use Rattle.zone_bytes.specs.Lawful.{IsSound}
 use Rattle.zone_bytes.specs.Stepping.{left_in}
 use Rattle.zone_bytes.proofs.Places.AtPlace.{left-above}
-use Rattle.zone_bytes.proofs.Runs.Runs.{run_at-splits}
+use Rattle.block_store.proofs.Regroup.RunsAbove.{run_at-bottom}
 use Rattle.zone_bytes.proofs.Runs.RunsAt.{whole, in-run, left-fits, loose-each}
 use Rattle.zone_bytes.proofs.Tiles.Tiling.{span-append}
 
@@ -22,7 +22,7 @@ BehindFirst blocks = place_behind (sizes (segments blocks).first) (beyond (segme
 module _ (xs : List ℕ) (first count : ℕ) (i : IsSound xs first count) (place : ℕ) (r : RunSpot)
     (e : run_at place (zone_in xs) ≡ Some r) (walk : List Block) (w : walk ≡ left_in place xs) where
   walk-is : walk ≡ r.run ++ r.above
-  walk-is = w ∙ left-above _ _ _ i _ _ _ (whole _ _ _ i place r e) (run_at-splits place (zone_in xs) r e).bottom
+  walk-is = w ∙ left-above _ _ _ i _ _ _ (whole _ _ _ i place r e) (run_at-bottom place (zone_in xs) r e)
 
   behind : BehindFirst walk ≡ place_behind (sizes r.run) r.above
   behind =
@@ -32,7 +32,7 @@ module _ (xs : List ℕ) (first count : ℕ) (i : IsSound xs first count) (place
 
   next-is : next_run r ≡ option_map (λ (d : ℕ). place + d) (BehindFirst walk)
   next-is =
-      ap (λ n. place_behind (n + sizes r.run) r.above) (run_at-splits _ (zone_in xs) r e).bottom
+      ap (λ n. place_behind (n + sizes r.run) r.above) (run_at-bottom _ (zone_in xs) r e)
       ∙ behind-more place (sizes r.run) r.above ∙ ap (option_map (λ (d : ℕ). place + d)) (sym behind)
 
   pub next-none : None ≡ BehindFirst walk → None ≡ next_run r

@@ -21,7 +21,8 @@ use Rattle.zone_bytes.specs.Table.{slot_in}
 use Rattle.zone_bytes.specs.Lawful.{IsSound, IsKept}
 use Rattle.zone_bytes.specs.Beside.{KeepsPlace, rest_in}
 use Rattle.zone_bytes.proofs.Laws.Lawful.{rest-made, kept-made}
-use Rattle.zone_bytes.proofs.Runs.Runs.{run_at-splits}
+use Rattle.block_store.proofs.Regroup.RunsAbove.{run_at-bottom}
+use Rattle.zone_bytes.proofs.Runs.RunsAt.{each-loose}
 use Rattle.zone_bytes.proofs.Runs.Changed.{ChangedRun}
 
 -- the zone that the bytes spell is `old` with its run from place to stop packed, whose Free block begins at top
@@ -68,13 +69,13 @@ module _ {xs : List ℕ} {first unused place top stop : ℕ} {old : List Block}
   packed-zone = k.zone ∙ ap tidy (append_assoc r.below (settle r.run) r.above) ∙ settled-tidy place old r k.tidied k.is
 
   pub bottom : sizes r.below ≡ place
-  bottom = (run_at-splits place old r k.is).bottom
-
-  pub in-run : Each InRun r.run
-  in-run = (run_at-splits place old r k.is).in_run
+  bottom = run_at-bottom place old r k.is
 
   pub loose : Loose r.run
   loose = (run_at-parts place old r k.is).loose
+
+  pub in-run : Each InRun r.run
+  in-run = each-loose r.run loose
 
   masters-packed : count is_masters (zone_in xs) ≡ count is_masters old
   masters-packed =

@@ -11,14 +11,12 @@ use Rattle.block_store.proofs.Regroup.Packed.{free-enough, low-total}
 use Rattle.block_store.proofs.Regroup.Regrouping.{tidy-change}
 use Rattle.zone_bytes.specs.Raising.{lifted, MayLift, Lifted}
 use Rattle.zone_bytes.specs.Decode.{zone_in}
-use Rattle.zone_bytes.specs.Table.{Lays, slot_in}
+use Rattle.zone_bytes.specs.Table.{slot_in}
 use Rattle.zone_bytes.specs.Lawful.{IsSound}
 use Rattle.zone_bytes.specs.Placing.{lay_at}
-use Rattle.zone_bytes.proofs.Tiles.Keeping.{lays-run, run-names}
-use Rattle.zone_bytes.proofs.Laws.Lawful.{Made, made}
-use Rattle.zone_bytes.proofs.Runs.Changed.{ChangedRun, changed-run}
+use Rattle.zone_bytes.proofs.Runs.Changed.{ChangedRun, relaid-run}
 use Rattle.zone_bytes.proofs.Runs.RunsAt.{whole, in-run, lay-is, may-settle}
-use Rattle.zone_bytes.proofs.Runs.Lifts.{lifted-none, lifted-some, any-movers, lifted-each, lifted-span, lifted-names}
+use Rattle.zone_bytes.proofs.Runs.Lifts.{lifted-none, lifted-some, any-movers, lifted-instead}
 
 the-run : (o : Option RunSpot) (A : RunSpot → Type 0) → IsSomeAnd o A → (r : RunSpot) × (o ≡ Some r)
 the-run None A h = absurd h
@@ -47,18 +45,11 @@ module _ (xs : List ℕ) (first unused : ℕ) (i : IsSound xs first unused) (pla
       → ChangedRun (lifted gap) (zone_in xs) r new first unused (slot_in xs)
   lifted-run new d =
       let s = subst (λ z. Lifted z gap new) (lay-is xs first unused i place r e) d in
-      let runs = in-run xs first unused i place r e in
-      let laid = subst (λ z. Lays xs z (slot_in xs) i.unused) (whole xs first unused i place r e) i.lays in
-      let lays = lays-run _ _ _ _ _ _ (slot_in xs) _ laid runs
-      (lifted-each _ _ some enough runs) (lifted-span _ r.run some enough runs)
-      (run-names r.below r.run (lifted gap r.run) r.above (lifted-names gap r.run some enough runs))
-      s.lies s.others s.kept in
-      let tidy-is = tidy-change place (zone_in xs) r e i.tidied (lifted gap r.run) (apart-tidy (low (Free gap) r.run)) in
-      changed-run (lifted gap) _ _ r e
-      (λ of adds l. total-tidy of adds (low (Free gap) r.run) ∙ low-total of adds gap r.run l enough) _ _ _
-      (slot_in xs) tidy-is (subst (λ z. Made new first unused z (slot_in xs)) (sym tidy-is) (made _ _ (slot_in xs) _
-      (subst (λ z. Lays new z (slot_in xs) i.unused) (sym (append_assoc r.below (lifted gap r.run) r.above)) lays)
-      _ _ tidy-is i.begins i.counted))
+      relaid-run (lifted gap) place (zone_in xs) r e
+      (λ of adds l. total-tidy of adds (low (Free gap) r.run) ∙ low-total of adds gap r.run l enough)
+      (tidy-change place (zone_in xs) r e i.tidied (lifted gap r.run) (apart-tidy (low (Free gap) r.run)))
+      xs first unused i (lifted-instead gap r.below r.run r.above some enough (in-run xs first unused i place r e))
+      (whole xs first unused i place r e) (sym (append_assoc r.below (lifted gap r.run) r.above)) new s
 
   pub lifted-zone : tidy (with_run (lifted gap) r) ≡ tidy (with_run (low (Free gap)) r)
   lifted-zone = elim (any-movers r.run) [

@@ -5,24 +5,21 @@ use Rattle.std.proofs.lemmas.Bool.{false≢true, lt-ltb}
 use Rattle.std.proofs.lemmas.Option.{same_Some}
 use Rattle.std.specs.Option.{IsSome, IfSome}
 use Rattle.block_store.specs.Block.{Block, Free, Nonrelocatable, Masters, Relocatable, size, sizes, count, is_mover, free_of}
-use Rattle.block_store.specs.Run.{RunSpot, run_at, settle}
+use Rattle.block_store.specs.Run.{RunSpot, run_at}
 use Rattle.block_store.specs.Inner.Packing.{Loose}
 use Rattle.block_store.specs.Rest.{lowered_in_run}
-use Rattle.block_store.proofs.Regroup.Ends.{Stops, run_at-ended, settled-tidy}
-use Rattle.block_store.proofs.Regroup.RunLists.{run_at-is}
-use Rattle.zone_bytes.specs.Layout.{head_of, Tiles, Each}
-use Rattle.zone_bytes.specs.Settling.{InRun, EndsRun, IsRunFrom, Settled, lowered_in_run_from}
+use Rattle.block_store.proofs.Regroup.Ends.{Stops, run_at-ended}
+use Rattle.block_store.proofs.Regroup.RunLists.{run_at-is, run_at-parts}
+use Rattle.zone_bytes.specs.Layout.{Tiles, Each}
+use Rattle.zone_bytes.specs.Settling.{InRun, EndsRun, IsRunFrom, lowered_in_run_from}
 use Rattle.zone_bytes.specs.Decode.{zone_in}
-use Rattle.zone_bytes.specs.Table.{slot_in}
+use Rattle.zone_bytes.specs.Table.{Lays, slot_in}
 use Rattle.zone_bytes.specs.Lawful.{IsSound}
 use Rattle.zone_bytes.specs.Placing.{lay_from, lay_at}
 use Rattle.zone_bytes.specs.Stepping.{left_in, IsOnWay}
-use Rattle.zone_bytes.proofs.Tiles.Tiling.{tiles-split}
-use Rattle.zone_bytes.proofs.Runs.Runs.{run_at-splits}
-use Rattle.zone_bytes.proofs.Tiles.Zones.{is-run, after}
+use Rattle.block_store.proofs.Regroup.RunsAbove.{run_at-bottom}
 use Rattle.zone_bytes.proofs.Places.AtPlace.{way-above}
 use Rattle.zone_bytes.proofs.Places.Stepped.{left-is}
-use Rattle.zone_bytes.proofs.Laws.Lawful.{Made, made}
 use Rattle.block_store.specs.Slot.{is_resource}
 
 pub a-run : (o : Option RunSpot) → IsSome o → (r : RunSpot) × (o ≡ Some r)
@@ -39,6 +36,10 @@ one-run o r q e f = same_Some r q (sym e ∙ f)
 pub loose-each : (run : List Block) → Each InRun run → Loose run
 loose-each [] e = tt
 loose-each (b ∷ run) e = (e.0, loose-each run e.1)
+
+pub each-loose : (run : List Block) → Loose run → Each InRun run
+each-loose [] l = tt
+each-loose (b ∷ run) l = (l.0, each-loose run l.1)
 
 ends-run : (above : List Block) → Stops above → EndsRun above
 ends-run [] s = tt
@@ -78,11 +79,11 @@ module _ (xs : List ℕ) (first count : ℕ) (i : IsSound xs first count) (place
   pub whole : zone_in xs ≡ r.below ++ (r.run ++ r.above)
   whole = sym (run_at-is place (zone_in xs) r e)
 
-  bottom : sizes r.below ≡ place
-  bottom = (run_at-splits place (zone_in xs) r e).bottom
+  pub bottom : sizes r.below ≡ place
+  bottom = run_at-bottom place (zone_in xs) r e
 
   pub in-run : Each InRun r.run
-  in-run = (run_at-splits place (zone_in xs) r e).in_run
+  in-run = each-loose r.run (run_at-parts place (zone_in xs) r e).loose
 
   ends : EndsRun r.above
   ends = ends-run r.above (run_at-ended place (zone_in xs) r e).stops
@@ -108,19 +109,15 @@ module _ (xs : List ℕ) (first count : ℕ) (i : IsSound xs first count) (place
   pub may-end : EndsRun (lay_at xs place).above
   may-end = subst (λ l. EndsRun l.above) (sym lay-is) ends
 
-  module _ (stop : ℕ) (t : place + sizes r.run ≡ stop) where
-    pub may-settle : IsRunFrom (lay_at xs place) place stop
-    may-settle = subst (λ l. IsRunFrom l place stop) (sym lay-is)
-        (is-run xs r i.unused place stop i.lays whole bottom t in-run)
-
-    pub settle-made : (moves : ℕ) (new : List ℕ) → Settled (lay_at xs place) moves new
-        → Made new first count (r.below ++ (settle r.run ++ r.above)) (slot_in xs) × (moves ≡ lowered_in_run r.run)
-    settle-made moves new d =
-        let s = subst (λ l. Settled l moves new) lay-is d in
-        let tiles = tiles-split (head_of (λ s. is_resource (slot_in xs s))) _ _ _
-        (subst (Tiles (head_of (λ s. is_resource (slot_in xs s))) xs) whole i.lays.lies.tiles) in
-        let run = tiles-split (head_of (λ s. is_resource (slot_in xs s))) _ _ _ tiles.1 in (
-          made _ _ (slot_in xs) _ (after xs r i.unused place stop i.lays whole bottom t in-run moves new s) _ _
-              (settled-tidy _ _ r i.tidied e) i.begins i.counted,
-          s.moved ∙ lowered-lowered_in_run (head_of (λ s. is_resource (slot_in xs s))) _ _ run.0 in-run,
-        )
+  pub may-settle : (stop : ℕ) → place + sizes r.run ≡ stop → IsRunFrom (lay_at xs place) place stop
+  may-settle stop t = rw lay-is (record {
+    lies = laid.lies;
+    slots = laid.has_slots;
+    bottom = bottom;
+    top = t;
+    in_run = in-run;
+    small = laid.small;
+  })
+    where
+      laid : Lays xs (r.below ++ (r.run ++ r.above)) (slot_in xs) i.unused
+      laid = subst (λ z. Lays xs z (slot_in xs) i.unused) whole i.lays

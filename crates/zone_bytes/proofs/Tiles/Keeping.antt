@@ -8,7 +8,7 @@ use Rattle.block_store.specs.Block.{Block, Free, Nonrelocatable, Masters, Reloca
 use Rattle.block_store.specs.Run.{movers, settle}
 use Rattle.block_store.specs.Slot.{Slot, NoSlot, Unused, Used, is_resource}
 use Rattle.zone_bytes.specs.Layout.{IsSlot, names, Apart, Each, ArePlaced}
-use Rattle.zone_bytes.specs.Settling.{Lay, InRun, Lies, IsRunFrom, SameOthers, Settled}
+use Rattle.zone_bytes.specs.Settling.{InRun, Lies, HasSlots, SameOthers, Relaid}
 use Rattle.zone_bytes.specs.Table.{IsUsed, Chain, Says, Lays}
 use Rattle.zone_bytes.proofs.Tiles.Tiling.{span-append, slot-swap}
 use Rattle.zone_bytes.proofs.Tiles.Leading.{names-append, each-map, each-append}
@@ -20,6 +20,13 @@ pub chain-kept : (xs new : List ℕ) (us : List ℕ) → Each (λ u. piece u 4 n
 chain-kept xs new [] e c = tt
 chain-kept xs new (u ∷ us) e c = (e.0 ∙ c.0, chain-kept _ new us e.1 c.1)
 
+pub slots-moved : (blocks now : List Block) → ((s : ℕ) → IsSlot s blocks → IsSlot s now)
+    → SameNames (names blocks) (names now) → HasSlots blocks → HasSlots now
+slots-moved blocks now i n h = record {
+  slots = each-moved (λ s. IsSlot s now) _ _ n.from (each-map (λ s. IsSlot s blocks) (λ s. IsSlot s now) i _ h.slots);
+  apart = n.apart h.apart;
+}
+
 module _ (xs new : List ℕ) (blocks now : List Block) (slots : ℕ → Slot) (unused : List ℕ)
     (h : Lays xs blocks slots unused) where
   -- where the names may stand in another order
@@ -30,11 +37,7 @@ module _ (xs new : List ℕ) (blocks now : List Block) (slots : ℕ → Slot) (u
       let says-now : (s : ℕ) (st : Slot) → Says blocks xs unused s st → Says now new unused s st = says in
       record {
         lies = lies;
-        has_slots = record {
-          slots = each-moved (λ s. IsSlot s now) _ _ n.from
-              (each-map (λ s. IsSlot s blocks) (λ s. IsSlot s now) i _ h.has_slots.slots);
-          apart = n.apart h.has_slots.apart;
-        };
+        has_slots = slots-moved blocks now i n h.has_slots;
         placed = p;
         small = (omega (arith, l));
         used = each-moved (λ s. IsUsed (slots s)) (names blocks) (names now) n.from h.used;
@@ -88,6 +91,9 @@ pub names-free : (n : ℕ) → names (free n) ≡ []
 names-free zero = refl
 names-free (suc n) = refl
 
+pub names-left : (blocks : List Block) (n : ℕ) → names (blocks ++ free n) ≡ names blocks
+names-left blocks n = names-append blocks (free n) ∙ ap (λ k. names blocks ++ k) (names-free n) ∙ append-nil (names blocks)
+
 pub span-free : (n : ℕ) → sizes (free n) ≡ n
 span-free zero = refl
 span-free (suc n) = omega arith
@@ -101,9 +107,7 @@ span-movers (Relocatable slot flags content ∷ run) h =
     omega (arith, ap sizes (movers-more (Relocatable slot flags content) run h.0), span-movers run h.1)
 
 pub names-settle : (run : List Block) → Each InRun run → names (settle run) ≡ names run
-names-settle run h = names-append (movers run) (free (free_sum run))
-    ∙ ap (λ k. names (movers run) ++ k) (names-free (free_sum run)) ∙ append-nil (names (movers run))
-    ∙ names-movers run h
+names-settle run h = names-left (movers run) (free_sum run) ∙ names-movers run h
 
 pub span-settle : (run : List Block) → Each InRun run → sizes (settle run) ≡ sizes run
 span-settle run h = omega (arith, span-append, span-free, span-movers _ h)
@@ -152,20 +156,6 @@ placed-run o (Masters ∷ run) h = absurd (false≢true h.0)
 placed-run o (Relocatable slot flags content ∷ run) h =
     (tt, placed-run (o + size (Relocatable slot flags content)) run h.1)
 
--- another run in the place of one, of as many bytes
-module _ (xs new : List ℕ) (below was now above : List Block) (slots : ℕ → Slot) (unused : List ℕ)
-    (h : Lays xs (below ++ (was ++ above)) slots unused) where
-  pub lays-run : Each InRun was → Each InRun now → sizes now ≡ sizes was
-      → SameNames (names (below ++ (was ++ above))) (names (below ++ (now ++ above)))
-      → Lies (λ s. is_resource (slots s)) (below ++ (now ++ above)) new → SameOthers (below ++ (was ++ above)) xs new
-      → length new ≡ length xs → Lays new (below ++ (now ++ above)) slots unused
-  lays-run w r e n lies others kept =
-      let q = placed-right (0 + sizes below) was above (placed-right 0 below (was ++ above) h.placed) in
-      let placed = placed-append 0 _ _ (placed-left 0 _ _ h.placed) (placed-append _ _ _ (placed-run _ _ r)
-      (subst (λ k. ArePlaced (0 + sizes below + k) above) (sym e) q)) in
-      lays-permuted _ _ _ _ slots _ h lies n
-      (λ s i. slot-run s _ _ _ _ w e i) (λ s i. slot-run s _ _ _ _ r (sym e) i) placed others kept
-
 -- with the same names
 pub run-names : (below was now above : List Block) → names now ≡ names was
     → SameNames (names (below ++ (was ++ above))) (names (below ++ (now ++ above)))
@@ -175,12 +165,46 @@ run-names below was now above n =
     same-names _ _ (names-append below (was ++ above)
     ∙ ap (λ k. names below ++ k) (sym up) ∙ sym (names-append below (now ++ above)))
 
--- the zone after a settle, with its slots
-pub lays-settled : (lay : Lay) (place stop moves : ℕ) (slots : ℕ → Slot) (unused new : List ℕ)
-    → lay.resource ≡ (λ s. is_resource (slots s)) → IsRunFrom lay place stop
-    → Lays lay.bytes (lay.below ++ (lay.run ++ lay.above)) slots unused → Settled lay moves new
-    → Lays new (lay.below ++ (settle lay.run ++ lay.above)) slots unused
-lays-settled lay place stop moves slots unused new e r h d =
-    lays-run _ _ _ _ _ _ slots _ h r.in_run (each-settle _ r.in_run) (span-settle lay.run r.in_run)
-    (run-names lay.below lay.run (settle lay.run) lay.above (names-settle lay.run r.in_run))
-    (subst (λ f. Lies f (lay.below ++ (settle lay.run ++ lay.above)) new) e d.lies) d.others d.kept
+-- another run may stand in the place of one: it has as many bytes, and the same names
+pub record Instead (below was now above : List Block) : Type 0 where
+  pub in_was : Each InRun was
+  pub in_now : Each InRun now
+  pub span : sizes now ≡ sizes was
+  pub names_are : SameNames (names (below ++ (was ++ above))) (names (below ++ (now ++ above)))
+
+pub instead : (below was now above : List Block) → Each InRun was → Each InRun now → sizes now ≡ sizes was
+    → names now ≡ names was → Instead below was now above
+instead below was now above w r e n =
+    record { in_was = w; in_now = r; span = e; names_are = run-names below was now above n }
+
+pub instead-settle : (below run above : List Block) → Each InRun run → Instead below run (settle run) above
+instead-settle below run above r =
+    instead below run (settle run) above r (each-settle run r) (span-settle run r) (names-settle run r)
+
+module _ {below was now above : List Block} (k : Instead below was now above) where
+  abbrev old : List Block
+  old = below ++ (was ++ above)
+
+  abbrev new : List Block
+  new = below ++ (now ++ above)
+
+  pub slot-now : (s : ℕ) → IsSlot s old → IsSlot s new
+  slot-now s i = slot-run s below was now above k.in_was k.span i
+
+  -- the slots of the blocks
+  pub slots-now : HasSlots old → HasSlots new
+  slots-now h = slots-moved old new slot-now k.names_are h
+
+  -- the slots of no block stay
+  pub others-now : (xs ys zs : List ℕ) → SameOthers old xs ys → SameOthers new ys zs → SameOthers old xs zs
+  others-now xs ys zs p o s i a =
+      o s (slot-now s i) (each-moved (Apart s) (names old) (names new) k.names_are.from a) ∙ p s i a
+
+  pub lays-run : (xs ys : List ℕ) (slots : ℕ → Slot) (unused : List ℕ) → Lays xs old slots unused
+      → Relaid (λ s. is_resource (slots s)) old new xs ys → Lays ys new slots unused
+  lays-run xs ys slots unused h d =
+      let q = placed-right (0 + sizes below) was above (placed-right 0 below (was ++ above) h.placed) in
+      let placed = placed-append 0 _ _ (placed-left 0 _ _ h.placed) (placed-append _ _ _ (placed-run _ _ k.in_now)
+      (subst (λ j. ArePlaced (0 + sizes below + j) above) (sym k.span) q)) in
+      lays-permuted xs ys old new slots unused h d.lies k.names_are
+      slot-now (λ s i. slot-run s below now was above k.in_now (sym k.span) i) placed d.others d.kept

@@ -30,7 +30,7 @@ use Rattle.zone_bytes.specs.Stepping.{left_in, Steps}
 use Rattle.zone_marks.proofs.Marks.Lowering.{Seen as Edge, seen-from}
 use Rattle.zone_marks.proofs.Searches.Pieces.{left-long}
 use Rattle.zone_marks.proofs.Marks.Passing.{Passed, at-all, at-append, at-left, at-map, at-right}
-use Rattle.zone_bytes.proofs.Runs.Runs.{run_at-splits}
+use Rattle.block_store.proofs.Regroup.RunsAbove.{run_at-bottom}
 use Rattle.zone_bytes.proofs.Tiles.Tiling.{span-append}
 
 -- a lower place
@@ -128,7 +128,7 @@ stays-settled bound lower run all zone r e f n same moved = elim (cases_lt run b
       above = r.above;
       was = sym (run_at-is run zone r e);
       is = refl;
-      low = (run_at-splits run zone r e).bottom;
+      low = run_at-bottom run zone r e;
       high = refl;
       span = settle-total size (λ n m. refl) r.run loose;
     }
@@ -138,7 +138,7 @@ stays-settled bound lower run all zone r e f n same moved = elim (cases_lt run b
 
     there : AtEach (Stays bound) run r.run
     there =
-        let q : 0 + sizes r.below ≡ run = omega (arith, (run_at-splits run zone r e).bottom) in
+        let q : 0 + sizes r.below ≡ run = omega (arith, run_at-bottom run zone r e) in
         at-left (Stays bound) _ _ _ (subst (λ x. AtEach (Stays bound) x (r.run ++ r.above)) q
         (at-right (Stays bound) 0 _ _ (subst (NoneGoes bound) (sym (run_at-is _ _ r e)) n)))
 

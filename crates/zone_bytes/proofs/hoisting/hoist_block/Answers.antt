@@ -1,44 +1,41 @@
-use Rattle.std.proofs.Common.{length, refl, sym, ap, ◌∙◌, subst, arith}
-use Rattle.heap_words.specs.Words.{word_at}
+use Rattle.std.proofs.Common.{◌≡◌, length, refl, ap, arith}
+use Rattle.windows.specs.Writes.{written}
 use Rattle.zone_bytes.proofs.Tiles.Tags.{tag-small}
-use Rattle.zone_bytes.proofs.Tiles.Heads.{Next}
-use Rattle.zone_bytes.proofs.Runs.Hoists.{wide, next, size-read, turned-read, is-moved, is-hoisted}
+use Rattle.zone_bytes.proofs.Runs.Hoists.{wide, next, size-read, turned-bytes, is-moved, is-hoisted}
+use Rattle.zone_bytes.proofs.hoisting.hoist_block.Given.{Over}
+use Rattle.zone_bytes.proofs.hoisting.hoist_block.Goals.{After-rotate}
 use Rattle.zone_bytes.proofs.hoisting.hoist_block.Goals as goal
 
 pub read_header-size-requires-clause-within : goal.read_header-size-requires-clause-within
 read_header-size-requires-clause-within g c =
-    let n = subst (λ xs. Next xs c.args.place) (sym c.requires.0) (next _ _ _ c.requires.1) in
-    (n.even, n.fits)
+    let n = next g.hoist _ _ c.requires.1 in
+    rw c.requires.0 (n.even, n.fits)
 
 pub read_header-size-requires-clause-fits : goal.read_header-size-requires-clause-fits
 read_header-size-requires-clause-fits g c = omega (arith, (next _ _ _ c.requires.1).fits)
 
 pub read_header-size-requires-clause-tag : goal.read_header-size-requires-clause-tag
-read_header-size-requires-clause-tag g c =
-    (subst (λ xs. Next xs c.args.place) (sym c.requires.0) (next g.hoist c.args.place c.args.stop c.requires.1)).tag
+read_header-size-requires-clause-tag g c = rw c.requires.0 (next g.hoist _ _ c.requires.1).tag
 
 pub rotate-requires-clause-turn : goal.rotate-requires-clause-turn
 rotate-requires-clause-turn g c =
     let e = c.read_header-size.ensures in
-    let s = size-read _ _ _ c.requires.1 _ _ (e.first
-    ∙ ap (word_at c.args.place) c.requires.0) e.size (tag-small _) in
-    omega (arith, s, wide)
+    omega (arith, wide, size-read g.hoist _ _ c.requires.1 _ _ (rw c.requires.0 at e.first) e.size (tag-small _))
 
 pub rotate-requires-clause-inside : goal.rotate-requires-clause-inside
 rotate-requires-clause-inside g c = omega (arith, wide, ap length c.requires.0)
 
+made : (g : Over) (c : After-rotate g) → c.rotate.new.self.bytes
+    ≡ written c.args.place (turned-bytes g.hoist c.args.place c.args.stop c.requires.1) g.hoist.bytes
+made g c =
+    let e = c.read_header-size.ensures in
+    let s = size-read g.hoist _ _ c.requires.1 _ _ (rw c.requires.0 at e.first) e.size (tag-small _) in
+    rw (c.rotate.ensures.bytes, s, c.requires.0)
+
 pub lead_run-requires : goal.lead_run-requires
 lead_run-requires g c =
-    let e = c.read_header-size.ensures in
-    let s = size-read _ _ _ c.requires.1 _ _ (e.first
-    ∙ ap (word_at c.args.place) c.requires.0) e.size (tag-small _) in
-    let m = turned-read _ _ _ c.requires.1 _ _ _ c.requires.0 s c.rotate.ensures.bytes in
-    (refl, is-moved g.hoist c.args.place c.args.stop c.requires.1 c.rotate.new.self.bytes m)
+    (refl, rw (made g (goal.at.lead_run-requires g c).After-rotate) (is-moved _ _ _ c.requires.1))
 
 pub returns-clause-hoisted : goal.returns-clause-hoisted
 returns-clause-hoisted g c =
-    let e = c.read_header-size.ensures in
-    let s = size-read _ _ _ c.requires.1 _ _ (e.first
-    ∙ ap (word_at c.args.place) c.requires.0) e.size (tag-small _) in
-    let m = turned-read _ _ _ c.requires.1 _ _ _ c.requires.0 s c.rotate.ensures.bytes in
-    is-hoisted _ _ _ c.requires.1 _ m _ c.lead_run.ensures.pointed
+    is-hoisted _ _ _ c.requires.1 _ (rw (made g (goal.at.returns-clause-hoisted g c).After-rotate) at c.lead_run.ensures.pointed)

@@ -1,7 +1,5 @@
-use Rattle.std.proofs.Common.{◌+◌, ◌-◌, length, ap, ◌∙◌, arith}
-use Rattle.windows.specs.Writes.{written}
-use Rattle.heap_words.specs.Words.{word}
-use Rattle.zone_bytes.proofs.Runs.Raises.{wide, evens, is-raised, mid-none, mid-rest}
+use Rattle.std.proofs.Common.{length, ap, arith}
+use Rattle.zone_bytes.proofs.Runs.Raises.{wide, evens, raised-none, raised-rest}
 use Rattle.zone_bytes.proofs.raising.lift_blocks.Goals as goal
 
 pub slide-requires : goal.slide-requires
@@ -17,17 +15,10 @@ write_word-requires-then-gap-stop g c = (omega (arith, evens), omega (arith, wid
 
 pub returns-then-gap-stop-clause-raised : goal.returns-then-gap-stop-clause-raised
 returns-then-gap-stop-clause-raised g c =
-    let a = c.args in
-    let q = c.requires.1 in
-    let first = c.write_word.ensures.bytes ∙ ap (written a.place (word a.gap)) c.slide.ensures.bytes in
-    let mid = mid-rest _ _ _ _ _ q _ c.requires.0 _ (c.write_word-then-gap-stop.ensures.bytes
-    ∙ ap (written (a.top + a.gap) (word (a.stop - a.top - a.gap))) first) c.if-gap-stop.true in
-    is-raised _ _ _ _ _ q _ mid.outside mid.moved mid.first mid.last
+    rw (c.write_word-then-gap-stop.ensures.bytes, c.write_word.ensures.bytes, c.slide.ensures.bytes, c.requires.0)
+    (raised-rest _ _ _ _ _ c.requires.1 c.if-gap-stop.true)
 
 pub returns-else-gap-stop-clause-raised : goal.returns-else-gap-stop-clause-raised
 returns-else-gap-stop-clause-raised g c =
-    let a = c.args in
-    let q = c.requires.1 in
-    let first = c.write_word.ensures.bytes ∙ ap (written a.place (word a.gap)) c.slide.ensures.bytes in
-    let mid = mid-none _ _ _ _ _ q _ c.requires.0 _ first c.if-gap-stop.false in
-    is-raised g.raise a.place a.top a.stop a.gap q c.write_word.new.part.bytes mid.outside mid.moved mid.first mid.last
+    rw (c.write_word.ensures.bytes, c.slide.ensures.bytes, c.requires.0)
+    (raised-none _ _ _ _ _ c.requires.1 c.if-gap-stop.false)
