@@ -8,9 +8,9 @@ use Rattle.block_store.specs.Slot.{Slot, NoSlot, Unused, Used, is_resource}
 use Rattle.zone_bytes.specs.Layout.{IsSlot, names, Apart, Each, ArePlaced}
 use Rattle.zone_bytes.specs.Settling.{Lies, HasSlots, SameOthers}
 use Rattle.zone_bytes.specs.Table.{Has, IsUsed, empty_word, Says, Lays}
-use Rattle.zone_bytes.proofs.Tiles.Leading.{each-map}
+use Rattle.zone_bytes.proofs.Tiles.Leading.{each-map, apart-turned}
 use Rattle.zone_bytes.proofs.SlotTable.Tables.{apart-of, unused-apart}
-use Rattle.zone_bytes.proofs.Tiles.Keeping.{chain-kept}
+use Rattle.zone_bytes.proofs.Tiles.Keeping.{lays-changed}
 
 not-unused : (r : Bool) → Used r ≡ Unused → ⊥
 not-unused r e = cc
@@ -28,75 +28,37 @@ module _ (xs new : List ℕ) (blocks now : List Block) (slots : ℕ → Slot) (u
       → (t ≡ s) ⊎ Has (names now) t)
       (subset : (P : ℕ → Type 0) → Each P (names blocks) → Each P (names now)) (a : Each (Apart s) (names now))
       (w : piece s 4 new ≡ word (empty_word r)) (o : SameOthers blocks xs new) where
-    removed-says : (t : ℕ) (st : Slot) → slots t ≡ st → Says blocks xs unused t st → Says now new unused t st
-    removed-says t NoSlot e q = λ k. q (j t k)
-    removed-says t Unused e q = (i t q.0, q.1)
-    removed-says t (Used p) e q = (
-      i t q.0,
-      elim q.1 [
-        | inl k ↦ elim (fewer t k) [
-          | inl m ↦ inr (
-            subst (λ v. Each (Apart v) (names now)) (sym m) a,
-            subst (λ v. piece v 4 new ≡ word (empty_word p)) (sym m)
-                (w ∙ ap (λ v. word (empty_word v)) (same-flag r p (sym u ∙ ap slots (sym m) ∙ e))),
-          )
-          | inr m ↦ inl m
-        ]
-        | inr k ↦ inr (subset (Apart t) k.0, o t q.0 k.0 ∙ k.1)
-      ],
-    )
-
     pub lays-removed : Lays new now slots unused
-    lays-removed = record {
-      lies = lies;
-      has_slots = has;
-      placed = placed;
-      small = (omega (arith, l));
-      used = subset (λ t. IsUsed (slots t)) h.used;
-      says = λ t. removed-says t (slots t) refl (h.says t);
-      chain = chain-kept _ _ _
-          (each-map (λ v. IsSlot v blocks × (slots v ≡ Unused)) (λ v. piece v 4 new ≡ piece v 4 xs)
-          (λ v q. o v q.0 (unused-apart _ _ slots _ h v q.0 q.1)) _ h.unused_slots) h.chain;
-      unused_slots = each-map (λ v. IsSlot v blocks × (slots v ≡ Unused)) (λ v. IsSlot v now × (slots v ≡ Unused))
-          (λ v q. (i v q.0, q.1)) _ h.unused_slots;
-      once = h.once;
-    }
+    lays-removed = lays-changed xs new blocks now slots unused h lies has i j placed l
+        (subset (λ t. IsUsed (slots t)) h.used)
+        (λ t p e k q. elim q [
+          | inl v ↦ elim (fewer t v) [
+            | inl m ↦ inr (
+              subst (λ v. Each (Apart v) (names now)) (sym m) a,
+              subst (λ v. piece v 4 new ≡ word (empty_word p)) (sym m)
+                  (w ∙ ap (λ v. word (empty_word v)) (same-flag r p (sym u ∙ ap slots (sym m) ∙ e))),
+            )
+            | inr m ↦ inl m
+          ]
+          | inr v ↦ inr (subset (Apart t) v.0, o t k v.0 ∙ v.1)
+        ])
+        (λ t k e. o t k (unused-apart xs blocks slots unused h t k e))
 
   -- s, whose handle was emptied, has a block
   module _ (s : ℕ) (r0 : Bool) (u : slots s ≡ Used r0) (is : IsSlot s blocks) (more : (t : ℕ) → Has (names blocks) t
       → Has (names now) t) (mine : Has (names now) s)
       (wider : (P : ℕ → Type 0) → P s → Each P (names blocks) → Each P (names now))
       (o : (t : ℕ) → IsSlot t blocks → Apart s t → piece t 4 new ≡ piece t 4 xs) where
-    added-says : (t : ℕ) (st : Slot) → slots t ≡ st → Says blocks xs unused t st → Says now new unused t st
-    added-says t NoSlot e q = λ k. q (j t k)
-    added-says t Unused e q = (i t q.0, q.1)
-    added-says t (Used p) e q = (
-      i t q.0,
-      elim q.1 [
-        | inl k ↦ inl (more t k)
-        | inr k ↦ elim (cases_eq s t) [
-          | inl m ↦ inl (subst (Has (names now)) m mine)
-          | inr d ↦
-              let far = apart-of xs blocks slots unused h s t is q.0 d in
-              let back : Apart t s = elim far [ inl b ↦ inr b | inr b ↦ inl b ] in
-              inr (wider (Apart t) back k.0, o t q.0 far ∙ k.1)
-        ]
-      ],
-    )
-
     pub lays-added : Lays new now slots unused
-    lays-added = record {
-      lies = lies;
-      has_slots = has;
-      placed = placed;
-      small = (omega (arith, l));
-      used = wider (λ t. IsUsed (slots t)) (subst IsUsed (sym u) tt) h.used;
-      says = λ t. added-says t (slots t) refl (h.says t);
-      chain = chain-kept _ _ _
-          (each-map (λ v. IsSlot v blocks × (slots v ≡ Unused)) (λ v. piece v 4 new ≡ piece v 4 xs)
-          (λ v q. o v q.0 (apart-of _ _ slots _ h s v is q.0
-          (λ e. not-unused _ (sym u ∙ ap slots e ∙ q.1)))) _ h.unused_slots) h.chain;
-      unused_slots = each-map (λ v. IsSlot v blocks × (slots v ≡ Unused)) (λ v. IsSlot v now × (slots v ≡ Unused))
-          (λ v q. (i v q.0, q.1)) _ h.unused_slots;
-      once = h.once;
-    }
+    lays-added = lays-changed xs new blocks now slots unused h lies has i j placed l
+        (wider (λ t. IsUsed (slots t)) (subst IsUsed (sym u) tt) h.used)
+        (λ t p e k q. elim q [
+          | inl v ↦ inl (more t v)
+          | inr v ↦ elim (cases_eq s t) [
+            | inl m ↦ inl (subst (Has (names now)) m mine)
+            | inr d ↦
+                let far = apart-of xs blocks slots unused h s t is k d in
+                inr (wider (Apart t) (apart-turned s t far) v.0, o t k far ∙ v.1)
+          ]
+        ])
+        (λ t k e. o t k (apart-of xs blocks slots unused h s t is k (λ m. not-unused _ (sym u ∙ ap slots m ∙ e))))

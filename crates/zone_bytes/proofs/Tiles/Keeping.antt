@@ -1,15 +1,16 @@
 -- A change that keeps the names and the slots keeps the table.
 use Rattle.std.proofs.Common.{◌≡◌, ℕ, ◌+◌, ◌-◌, inl, inr, zero, suc, List, [], ◌∷◌, ◌++◌, length, sym, refl, ap, ◌∙◌}
-use Rattle.std.proofs.Common.{subst, arith, true, cond}
+use Rattle.std.proofs.Common.{subst, arith, true, cond, Bool, ◌⊎◌}
 use Rattle.std.proofs.lemmas.List.{append-nil}
 use Rattle.std.proofs.lemmas.Bool.{false≢true}
 use Rattle.windows.specs.Writes.{piece}
+use Rattle.heap_words.specs.Words.{word}
 use Rattle.block_store.specs.Block.{Block, Free, Nonrelocatable, Masters, Relocatable, size, free, free_sum, sizes, is_mover}
 use Rattle.block_store.specs.Run.{movers, settle}
 use Rattle.block_store.specs.Slot.{Slot, NoSlot, Unused, Used, is_resource}
 use Rattle.zone_bytes.specs.Layout.{IsSlot, names, Apart, Each, ArePlaced}
 use Rattle.zone_bytes.specs.Settling.{InRun, Lies, HasSlots, SameOthers, Relaid}
-use Rattle.zone_bytes.specs.Table.{IsUsed, Chain, Says, Lays}
+use Rattle.zone_bytes.specs.Table.{IsUsed, Chain, Says, Lays, Has, empty_word}
 use Rattle.zone_bytes.proofs.Tiles.Tiling.{span-append, slot-swap}
 use Rattle.zone_bytes.proofs.Tiles.Leading.{names-append, each-map, each-append}
 use Rattle.zone_bytes.proofs.Tiles.Permuted.{SameNames, each-moved, same-names}
@@ -27,39 +28,50 @@ slots-moved blocks now i n h = record {
   apart = n.apart h.apart;
 }
 
+-- a used slot leads to one of the blocks, or is empty
+abbrev pub Stands : List Block → List ℕ → ℕ → Bool → Type 0
+Stands blocks xs s r = Has (names blocks) s ⊎ (Each (Apart s) (names blocks) × (piece s 4 xs ≡ word (empty_word r)))
+
 module _ (xs new : List ℕ) (blocks now : List Block) (slots : ℕ → Slot) (unused : List ℕ)
     (h : Lays xs blocks slots unused) where
-  -- where the names may stand in another order
-  pub lays-permuted : Lies (λ s. is_resource (slots s)) now new → SameNames (names blocks) (names now)
-      → ((s : ℕ) → IsSlot s blocks → IsSlot s now) → ((s : ℕ) → IsSlot s now → IsSlot s blocks)
-      → ArePlaced 0 now → SameOthers blocks xs new → length new ≡ length xs → Lays new now slots unused
-  lays-permuted lies n i j p o l =
-      let says-now : (s : ℕ) (st : Slot) → Says blocks xs unused s st → Says now new unused s st = says in
+  -- other blocks with the same slots
+  pub lays-changed : Lies (λ s. is_resource (slots s)) now new → HasSlots now
+      → ((s : ℕ) → IsSlot s blocks → IsSlot s now) → ((s : ℕ) → IsSlot s now → IsSlot s blocks) → ArePlaced 0 now
+      → length new ≡ length xs → Each (λ s. IsUsed (slots s)) (names now)
+      → ((s : ℕ) (r : Bool) → slots s ≡ Used r → IsSlot s blocks → Stands blocks xs s r → Stands now new s r)
+      → ((s : ℕ) → IsSlot s blocks → slots s ≡ Unused → piece s 4 new ≡ piece s 4 xs) → Lays new now slots unused
+  lays-changed lies has i j placed l used stands kept =
+      let says-now : (s : ℕ) (st : Slot) → slots s ≡ st → Says blocks xs unused s st → Says now new unused s st = says in
       record {
         lies = lies;
-        has_slots = slots-moved blocks now i n h.has_slots;
-        placed = p;
+        has_slots = has;
+        placed = placed;
         small = (omega (arith, l));
-        used = each-moved (λ s. IsUsed (slots s)) (names blocks) (names now) n.from h.used;
-        says = λ s. says-now s (slots s) (h.says s);
+        used = used;
+        says = λ s. says-now s (slots s) refl (h.says s);
         chain = chain-kept _ _ _ (each-map (λ u. IsSlot u blocks × (slots u ≡ Unused))
-            (λ u. piece u 4 new ≡ piece u 4 xs) (λ u q. o u q.0 (unused-apart _ _ slots _ h u q.0 q.1))
-            _ h.unused_slots) h.chain;
+            (λ u. piece u 4 new ≡ piece u 4 xs) (λ u q. kept u q.0 q.1) _ h.unused_slots) h.chain;
         unused_slots = each-map (λ u. IsSlot u blocks × (slots u ≡ Unused)) (λ u. IsSlot u now × (slots u ≡ Unused))
             (λ u q. (i u q.0, q.1)) _ h.unused_slots;
         once = h.once;
       }
     where
-      says : (s : ℕ) (st : Slot) → Says blocks xs unused s st → Says now new unused s st
-      says s NoSlot q = λ k. q (j s k)
-      says s Unused q = (i s q.0, q.1)
-      says s (Used r) q = (
-        i s q.0,
-        elim q.1 [
-          | inl k ↦ inl (n.to s k)
-          | inr k ↦ inr (each-moved (Apart s) (names blocks) (names now) n.from k.0, o s q.0 k.0 ∙ k.1)
-        ],
-      )
+      says : (s : ℕ) (st : Slot) → slots s ≡ st → Says blocks xs unused s st → Says now new unused s st
+      says s NoSlot e q = λ k. q (j s k)
+      says s Unused e q = (i s q.0, q.1)
+      says s (Used r) e q = (i s q.0, stands s r e q.0 q.1)
+
+  -- where the names may stand in another order
+  pub lays-permuted : Lies (λ s. is_resource (slots s)) now new → SameNames (names blocks) (names now)
+      → ((s : ℕ) → IsSlot s blocks → IsSlot s now) → ((s : ℕ) → IsSlot s now → IsSlot s blocks)
+      → ArePlaced 0 now → SameOthers blocks xs new → length new ≡ length xs → Lays new now slots unused
+  lays-permuted lies n i j p o l = lays-changed lies (slots-moved blocks now i n h.has_slots) i j p l
+      (each-moved (λ s. IsUsed (slots s)) (names blocks) (names now) n.from h.used)
+      (λ s r e k q. elim q [
+        | inl m ↦ inl (n.to s m)
+        | inr m ↦ inr (each-moved (Apart s) (names blocks) (names now) n.from m.0, o s k m.0 ∙ m.1)
+      ])
+      (λ s k u. o s k (unused-apart xs blocks slots unused h s k u))
 
   pub lays-kept : Lies (λ s. is_resource (slots s)) now new → names now ≡ names blocks
       → ((s : ℕ) → IsSlot s blocks → IsSlot s now) → ((s : ℕ) → IsSlot s now → IsSlot s blocks)
