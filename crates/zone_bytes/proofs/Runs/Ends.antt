@@ -11,7 +11,7 @@ use Rattle.block_store.specs.Run.{in_run}
 use Rattle.zone_bytes.specs.Layout.{kind, flag_word, head_of, Tile, Tiles, Each}
 use Rattle.zone_bytes.specs.Settling.{runs_on, EndsRun, InRun}
 use Rattle.zone_bytes.proofs.Tiles.Decoding.{flag_word-small, says}
-use Rattle.zone_bytes.proofs.Tiles.Heads.{first-reads, kind-small, header-tells}
+use Rattle.zone_bytes.proofs.Tiles.Heads.{header-tells}
 
 unlocked : (flags : Flags) (r : Bool) → nat_lt (flag_word flags r) 128 ≡ not flags.locked
 unlocked flags r = cases flags.locked flags.purgeable r
@@ -50,8 +50,7 @@ module _ (resource : ℕ → Bool) (xs : List ℕ) (from : ℕ) (small : length 
   pub runs-told : (b : Block) → Tile (head_of resource b) (size b) (drop from xs) → (n t f : ℕ)
       → n + t ≡ word_at from xs → n % 16 ≡ 0 → t ≤ 3 → f ≡ word_at (from + 12) xs → runs_on t f ≡ in_run b
   runs-told b tile n t f e w l v =
-      let same : t ≡ kind b = omega (arith, e, first-reads resource xs from small b tile, w, l, kind-small) in
-      ap (λ j. runs_on j f) same ∙ of-kind b tile
+      ap (λ j. runs_on j f) (header-tells resource xs from small b tile n t e w l).1 ∙ of-kind b tile
     where
       of-kind : (b : Block) → Tile (head_of resource b) (size b) (drop from xs) → runs_on (kind b) f ≡ in_run b
       of-kind (Free m) t = refl

@@ -2,8 +2,7 @@
 use Rattle.std.proofs.Common.{◌≡◌, ℕ, ◌+◌, ◌-◌, ◌<◌, ◌≤◌, ◌⊎◌, inl, inr, zero, suc, List, [], ◌∷◌, ◌++◌, length, refl}
 use Rattle.std.proofs.Common.{sym, ap, ◌∙◌, subst, arith}
 use Rattle.std.proofs.Common.{append_assoc}
-use Rattle.std.proofs.lemmas.List.Elements.{filter-append}
-use Rattle.block_store.specs.Block.{Block, Free, free, free_sum, is_mover, sizes, tidy}
+use Rattle.block_store.specs.Block.{Block, Free, free, free_sum, sizes, tidy}
 use Rattle.block_store.specs.Run.{movers, settle, low}
 use Rattle.block_store.proofs.Zone.Apart.{tidy-apart}
 use Rattle.block_store.proofs.Zone.Totals.{total-append}
@@ -25,9 +24,9 @@ use Rattle.zone_bytes.proofs.Runs.Led.{settled-of}
 use Rattle.zone_bytes.proofs.Runs.Until.{all-of, cut-same, cut-movers, cut-free, cut-span, cut-run, whole}
 
 -- a Free block has no relocatable one, and its bytes
-movers-free : (n : ℕ) → movers (free n) ≡ []
-movers-free zero = refl
-movers-free (suc n) = refl
+movers-above : (n : ℕ) (blocks : List Block) → movers (free n ++ blocks) ≡ movers blocks
+movers-above zero blocks = refl
+movers-above (suc n) blocks = refl
 
 sum-free : (n : ℕ) → free_sum (free n) ≡ n
 sum-free zero = refl
@@ -181,8 +180,7 @@ module _ (lay : Lay) (place gap : ℕ) (h : MayLift lay place gap) (o : EndsRun 
       → AreEdges edges (place + gap) (movers gone ++ movers (free (free_sum gone - gap) ++ rest))
       → AreEdges edges (place + gap) (movers lay.run)
   both-edges edges = subst (AreEdges edges (place + gap)) (ap (λ l. movers gone ++ l)
-      (filter-append is_mover (free (free_sum gone - gap)) rest
-      ∙ ap (λ l. l ++ movers rest) (movers-free _)) ∙ sym (cut-movers lay gone rest p.split))
+      (movers-above (free_sum gone - gap) rest) ∙ sym (cut-movers lay gone rest p.split))
 
   module _ (some : place < top) where
     enough : gap ≤ free_sum gone
@@ -209,13 +207,7 @@ module _ (lay : Lay) (place gap : ℕ) (h : MayLift lay place gap) (o : EndsRun 
 
       upper-is : lay.below ++ (lifted gap gone ++ (rest ++ lay.above))
           ≡ (lay.below ++ (Free gap ∷ movers gone)) ++ ((free left ++ rest) ++ lay.above)
-      upper-is = ap (λ l. lay.below ++ (l ++ (rest ++ lay.above))) (lifted-some _ gone h.some some-movers)
-          ∙ ap (λ l. lay.below ++ (Free gap ∷ l)) (append_assoc (movers gone) (free left) (rest ++ lay.above))
-          ∙ ap (λ l. lay.below ++ ((Free gap ∷ movers gone) ++ l)) (sym (append_assoc (free left) rest lay.above))
-          ∙ sym (append_assoc lay.below (Free gap ∷ movers gone) ((free left ++ rest) ++ lay.above))
-
-      upper-bottom : sizes (lay.below ++ (Free gap ∷ movers gone)) ≡ top + gap
-      upper-bottom = omega (arith, span-append)
+      upper-is = rw (lifted-some gap gone h.some some-movers) (simp append_assoc)
 
       upper-top : top + gap + sizes (free left ++ rest) ≡ place + sizes lay.run
       upper-top = omega (arith, span-append, span-free, span-movers gone cut-at.in_run, cut-span, enough)
@@ -227,7 +219,7 @@ module _ (lay : Lay) (place gap : ℕ) (h : MayLift lay place gap) (o : EndsRun 
       upper-run = record {
         lies = subst (λ l. Lies lay.resource l ys) upper-is part-lifted.lies;
         slots = subst HasSlots upper-is (slots-now part-instead cut-at.slots);
-        bottom = upper-bottom;
+        bottom = omega (arith, span-append);
         top = refl;
         in_run = each-append InRun _ _ (each-free left)
             (each-right InRun gone rest (subst (Each InRun) (sym p.split) h.run.in_run));
@@ -235,30 +227,14 @@ module _ (lay : Lay) (place gap : ℕ) (h : MayLift lay place gap) (o : EndsRun 
       }
 
       module _ (lowered : ℕ) (zs : List ℕ) (t : Settled (upper lay gap gone rest ys) lowered zs) where
-        whole-movers : movers lay.run ≡ movers gone ++ movers rest
-        whole-movers = cut-movers lay gone rest p.split
-
-        upper-settled : settle (free left ++ rest) ≡ movers rest ++ free (free_sum lay.run - gap)
-        upper-settled =
-            let e = enough in
-            let n : free_sum (free left ++ rest) ≡ free_sum lay.run - gap = omega (arith, total-append, sum-free, cut-free, e) in
-            ap (λ l. l ++ free (free_sum (free left ++ rest))) (filter-append is_mover (free left) rest
-            ∙ ap (λ l. l ++ movers rest) (movers-free _)) ∙ ap (λ k. movers rest ++ free k) n
-
         all-is : (lay.below ++ (Free gap ∷ movers gone)) ++ (settle (free left ++ rest) ++ lay.above)
             ≡ lay.below ++ (lifted gap lay.run ++ lay.above)
-        all-is = ap (λ l. (lay.below ++ (Free gap ∷ movers gone)) ++ (l ++ lay.above)) upper-settled
-            ∙ append_assoc lay.below (Free gap ∷ movers gone)
-            ((movers rest ++ free (free_sum lay.run - gap)) ++ lay.above)
-            ∙ ap (λ l. lay.below ++ (Free gap ∷ l)) (sym (append_assoc (movers gone)
-            (movers rest ++ free (free_sum lay.run - gap)) lay.above))
-            ∙ ap (λ l. lay.below ++ (Free gap ∷ (l ++ lay.above))) (sym (append_assoc (movers gone) (movers rest)
-            (free (free_sum lay.run - gap))))
-            ∙ ap (λ l. lay.below ++ (Free gap ∷ ((l ++ free (free_sum lay.run - gap)) ++ lay.above))) (sym whole-movers)
-            ∙ ap (λ l. lay.below ++ (l ++ lay.above)) (sym (lifted-some _ lay.run h.some any-mover))
-          where
-            any-mover : movers lay.run ≡ [] → ⊥
-            any-mover n = omega (arith, ap sizes (sym whole-movers ∙ n), span-append, some)
+        all-is =
+            let m = cut-movers lay gone rest p.split in
+            let n : free_sum (free left ++ rest) ≡ free_sum lay.run - gap =
+            omega (arith, total-append, sum-free, cut-free, enough) in
+            let any : movers lay.run ≡ [] → ⊥ = λ n. omega (arith, ap sizes (sym m ∙ n), span-append, some) in
+            rw (lifted-some gap lay.run h.some any, n, movers-above left rest, m) (simp append_assoc)
 
         pub both-lifted : Lifted lay gap zs
         both-lifted = record {

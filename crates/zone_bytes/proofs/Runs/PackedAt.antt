@@ -3,13 +3,14 @@ use Rattle.std.proofs.Common.{◌≡◌, ℕ, ◌+◌, Option, Some, None, List,
 use Rattle.std.proofs.Common.{append_assoc}
 use Rattle.std.specs.Option.{IfSome, IsSomeAnd}
 use Rattle.raw_region.specs.Memory.{Bytes}
-use Rattle.block_store.specs.Block.{Block, count, is_masters, free_of, free_sum, size, sizes, tidy}
+use Rattle.block_store.specs.Block.{Block, is_masters, free_of, free_sum, size, sizes, tidy, total}
 use Rattle.block_store.specs.Run.{RunSpot, run_at, movers, settle, with_run}
 use Rattle.block_store.specs.Rest.{Rest, IsRest}
 use Rattle.block_store.specs.Slot.{Slot}
 use Rattle.block_store.specs.Inner.Packing.{Loose}
 use Rattle.block_store.proofs.Regroup.Ends.{settled-tidy}
 use Rattle.block_store.proofs.Regroup.Packed.{settle-total}
+use Rattle.block_store.proofs.Zone.Tidy.{Adds}
 use Rattle.block_store.proofs.Regroup.Lifted.{total-changed}
 use Rattle.block_store.proofs.Regroup.RunLists.{run_at-parts}
 use Rattle.zone_bytes.specs.Layout.{Each}
@@ -77,28 +78,17 @@ module _ {xs : List ℕ} {first unused place top stop : ℕ} {old : List Block}
   pub in-run : Each InRun r.run
   in-run = each-loose r.run loose
 
-  masters-packed : count is_masters (zone_in xs) ≡ count is_masters old
-  masters-packed =
-      let masters : Block → ℕ = λ b. cond (is_masters b) 1 0 in
-      ap (count is_masters) k.zone
-      ∙ total-changed masters (λ n m. refl) settle _ _ r k.is (settle-total masters (λ n m. refl) _ loose)
-
-  free-packed : free_sum (zone_in xs) ≡ free_sum old
-  free-packed = ap free_sum k.zone
-      ∙ total-changed free_of (λ n m. refl) settle _ _ r k.is (settle-total free_of (λ n m. refl) _ loose)
-
-  purgeable-packed : purgeable_sum (zone_in xs) ≡ purgeable_sum old
-  purgeable-packed = ap purgeable_sum k.zone ∙ total-changed purgeable_of (λ n m. refl) settle _ _ r k.is
-      (settle-total purgeable_of (λ n m. refl) _ loose)
+  pub total-packed : (of : Block → ℕ) → Adds of → total of (zone_in xs) ≡ total of old
+  total-packed of adds = ap (total of) k.zone ∙ total-changed of adds settle place old r k.is (settle-total of adds r.run loose)
 
   -- after another change of the run
   pub kept-changed : (change : List Block → List Block) (new : List ℕ) (table : ℕ → Slot) (n : ℕ)
       → ChangedRun change old r new first unused table → n ≡ free_sum (zone_in xs) → IsKept new first unused n
-  kept-changed change new table n d e = kept-made _ _ _ _ _ _ d.made (e ∙ free-packed ∙ sym d.free)
+  kept-changed change new table n d e = kept-made _ _ _ _ _ _ d.made (e ∙ total-packed free_of (λ n m. refl) ∙ sym d.free)
 
   pub purgeable-changed : (change : List Block → List Block) (new : List ℕ) (table : ℕ → Slot)
       → ChangedRun change old r new first unused table → purgeable_sum (zone_in xs) ≡ purgeable_sum (zone_in new)
-  purgeable-changed change new table d = purgeable-packed ∙ sym d.purgeable
+  purgeable-changed change new table d = total-packed purgeable_of (λ n m. refl) ∙ sym d.purgeable
 
   pub replaced-changed : (change : List Block → List Block) (new : List ℕ) (table : ℕ → Slot)
       → ChangedRun change old r new first unused table → Replaced place stop (zone_in xs) (zone_in new)
@@ -121,4 +111,5 @@ pub rest-changed : {first unused place top stop : ℕ} {old : List Block} (part 
     (moves : ℕ) → ChangedRun change old k.spot after.bytes first unused (slot_in part.bytes)
     → IsRest before (rest_in part unused moves) → KeepsPlace part after → IsRest before (rest_in after unused moves)
 rest-changed {unused = unused} part after k change before moves d p same =
-    rest-again _ _ _ p (rest-made _ _ (slot_in part.bytes) _ _ d.made.slots (d.masters ∙ sym (masters-packed k)) same)
+    rest-again _ _ _ p (rest-made _ _ (slot_in part.bytes) _ _ d.made.slots (d.masters
+    ∙ sym (total-packed k (λ b. cond (is_masters b) 1 0) (λ n m. refl))) same)

@@ -1,14 +1,14 @@
 -- A zone with one relocatable block more, or one fewer.
-use Rattle.std.proofs.Common.{◌≡◌, ℕ, Bool, ◌⊎◌, inl, inr, List, length, sym, refl, ap, ◌∙◌, subst, arith}
+use Rattle.std.proofs.Common.{◌≡◌, ℕ, Bool, ◌⊎◌, inl, inr, List, length, sym, ap, ◌∙◌, subst}
 use Rattle.std.proofs.lemmas.Bool.{cases_eq}
 use Rattle.windows.specs.Writes.{piece}
 use Rattle.heap_words.specs.Words.{word}
 use Rattle.block_store.specs.Block.{Block}
-use Rattle.block_store.specs.Slot.{Slot, NoSlot, Unused, Used, is_resource}
+use Rattle.block_store.specs.Slot.{Slot, Unused, Used, is_resource}
 use Rattle.zone_bytes.specs.Layout.{IsSlot, names, Apart, Each, ArePlaced}
 use Rattle.zone_bytes.specs.Settling.{Lies, HasSlots, SameOthers}
-use Rattle.zone_bytes.specs.Table.{Has, IsUsed, empty_word, Says, Lays}
-use Rattle.zone_bytes.proofs.Tiles.Leading.{each-map, apart-turned}
+use Rattle.zone_bytes.specs.Table.{Has, IsUsed, empty_word, Lays}
+use Rattle.zone_bytes.proofs.Tiles.Leading.{apart-turned}
 use Rattle.zone_bytes.proofs.SlotTable.Tables.{apart-of, unused-apart}
 use Rattle.zone_bytes.proofs.Tiles.Keeping.{lays-changed}
 

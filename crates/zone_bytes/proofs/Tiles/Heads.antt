@@ -98,6 +98,17 @@ pub record Next (xs : List ℕ) (from : ℕ) : Type 0 where
   pub tag : word_at from xs % 16 < 4
   pub big : 16 ≤ word_at from xs
 
+-- what reading it requires
+abbrev pub MayRead : ℕ → List ℕ → Type 0
+MayRead from xs = record {
+  within : (from % 4 ≡ 0) × (from + 16 ≤ length xs);
+  fits : from + 16 < 2 ^ 32;
+  tag : word_at from xs % 16 < 4;
+}
+
+pub may-read : (xs : List ℕ) (from : ℕ) → length xs ≤ 134217728 → Next xs from → MayRead from xs
+may-read xs from small n = record { within = (n.even, n.fits); fits = omega (arith, small); tag = n.tag }
+
 module _ (resource : ℕ → Bool) (xs : List ℕ) (from : ℕ) (small : length xs ≤ 134217728) where
   pub first-reads : (b : Block) → Tile (head_of resource b) (size b) (drop from xs) → word_at from xs ≡ size b + kind b
   first-reads b t =

@@ -6,7 +6,7 @@ use Rattle.zone_bytes.specs.Pointing.{Pointing}
 use Rattle.zone_bytes.proofs.Runs.Pointers.{start-pointing, pointing-bounds, point-next, point-free}
 use Rattle.zone_bytes.proofs.Runs.Pointers.{NextSlot, point-slot, pointed}
 use Rattle.zone_bytes.proofs.Tiles.Tags.{tag-true, tag-false, tag-small}
-use Rattle.zone_bytes.proofs.Tiles.Heads.{Next}
+use Rattle.zone_bytes.proofs.Tiles.Heads.{Next, may-read}
 use Rattle.zone_bytes.proofs.pointing.lead_run.Given.{Over}
 use Rattle.zone_bytes.proofs.pointing.lead_run.Goals.{In-loop-from, After-eq}
 use Rattle.zone_bytes.proofs.pointing.lead_run.Goals as goal
@@ -19,19 +19,9 @@ loop-from-init g c = (rw c.requires.0 (start-pointing _ _ _ c.requires.1), refl,
 there : (g : Over) (c : In-loop-from g) → Next c.loop-from.part.bytes c.loop-from.from
 there g c = point-next _ _ _ c.requires.1 c.loop-from.invariant.0 c.loop-from-test.true
 
-pub read_header-header-requires-clause-within : goal.read_header-header-requires-clause-within
-read_header-header-requires-clause-within g c =
-    let n = there g (goal.at.read_header-header-requires-clause-within g c).In-loop-from in
-    (n.even, n.fits)
-
-pub read_header-header-requires-clause-fits : goal.read_header-header-requires-clause-fits
-read_header-header-requires-clause-fits g c =
-    let n = there g (goal.at.read_header-header-requires-clause-fits g c).In-loop-from in
-    omega (arith, n, pointing-bounds _ _ _ c.requires.1 c.loop-from.invariant.0)
-
-pub read_header-header-requires-clause-tag : goal.read_header-header-requires-clause-tag
-read_header-header-requires-clause-tag g c =
-    (there g (goal.at.read_header-header-requires-clause-tag g c).In-loop-from).tag
+pub read_header-header-requires : goal.read_header-header-requires
+read_header-header-requires g c = may-read _ _ (pointing-bounds _ _ _ c.requires.1 c.loop-from.invariant.0).2
+    (there g (goal.at.read_header-header-requires g c).In-loop-from)
 
 -- it is relocatable
 slot : (g : Over) (c : After-eq g) → true ≡ sameb the_type c.read_header-header.result.tag Relocatable

@@ -13,7 +13,7 @@ use Rattle.zone_bytes.proofs.Runs.Ends.{within, beyond}
 use Rattle.zone_bytes.proofs.Runs.Packed.{Bounds, run-moved, bounds}
 use Rattle.zone_bytes.proofs.Runs.Settled.{NextMover, packing-next, next-free, next-mover, moves-bound, begun, free-left}
 use Rattle.zone_bytes.proofs.Runs.Until.{until-none, until-free, gone-is}
-use Rattle.zone_bytes.proofs.Tiles.Heads.{Next}
+use Rattle.zone_bytes.proofs.Tiles.Heads.{Next, may-read}
 use Rattle.zone_bytes.proofs.Tiles.Tiling.{span-append, tiles-none}
 use Rattle.zone_bytes.proofs.Tiles.Tags.{tag-true, tag-false, tag-small}
 use Rattle.zone_bytes.proofs.settling.pack_until.Given.{Over}
@@ -45,19 +45,10 @@ ends : (g : Over) (c : In-loop-from g) → let p = c.loop-from.invariant.1 in
     c.loop-from.invariant.0 (movers c.loop-from.invariant.0) p.rest
 ends g c = bounds _ _ _ (run g c) c.loop-from.invariant.1.state
 
-pub read_header-header-requires-clause-within : goal.read_header-header-requires-clause-within
-read_header-header-requires-clause-within g c =
-    let n = there g (goal.at.read_header-header-requires-clause-within g c).In-loop-from in
-    (n.even, n.fits)
-
-pub read_header-header-requires-clause-fits : goal.read_header-header-requires-clause-fits
-read_header-header-requires-clause-fits g c =
-    let d = (goal.at.read_header-header-requires-clause-fits g c).In-loop-from in
-    omega (arith, (there g d).fits, ends g d)
-
-pub read_header-header-requires-clause-tag : goal.read_header-header-requires-clause-tag
-read_header-header-requires-clause-tag g c =
-    (there g (goal.at.read_header-header-requires-clause-tag g c).In-loop-from).tag
+pub read_header-header-requires : goal.read_header-header-requires
+read_header-header-requires g c =
+    let d = (goal.at.read_header-header-requires g c).In-loop-from in
+    may-read _ _ (ends g d).small (there g d)
 
 -- it is one of the run
 some : (g : Over) (c : After-eq g) → c.loop-from.invariant.1.rest ≡ [] → ⊥
