@@ -32,7 +32,7 @@ use Rattle.zone_bytes.specs.Walking.{Walk}
 use Rattle.zone_bytes.specs.Table.{Has, Lays, Says, empty_word, slot_in}
 use Rattle.zone_bytes.specs.Lawful.{IsSound}
 use Rattle.zone_bytes.specs.Adopting.{named_header, adopted}
-use Rattle.zone_bytes.proofs.Tiles.Tiling.{slot-split, slot-inside, slot-append_left, slot-append_right, length-tiles}
+use Rattle.zone_bytes.proofs.Tiles.Tiling.{slot-inside, length-tiles, slot-swap}
 use Rattle.zone_bytes.proofs.Tiles.Tiling.{tile-take, tiles-one, tiles-slot}
 use Rattle.zone_bytes.proofs.Tiles.Leading.{Clear, piece-clear, each-map, each-left, each-right, names-append}
 use Rattle.zone_bytes.proofs.Tiles.Leading.{leads-append, leads-left, leads-right, leads-written}
@@ -189,13 +189,7 @@ module _ (xs : List ℕ) (first count : ℕ) (i : IsSound xs first count) (below
   forth s j = slot-kept _ _ (place + n) xs st s (new ∷ []) refl j
 
   back : (s : ℕ) → IsSlot s now → IsSlot s all
-  back s j = elim (slot-split s _ _ j) [
-    | inl k ↦ slot-append_left s below (old ∷ above) k
-    | inr k ↦ elim (slot-split (s - sizes below) (new ∷ []) above k.1) [
-      | inl m ↦ absurd (no-slots new refl (s - sizes below) m)
-      | inr m ↦ slot-append_right s _ _ k.0 (slot-append_right (s - sizes below) (old ∷ []) above m.0 m.1)
-    ]
-  ]
+  back s j = slot-swap s below (new ∷ []) (old ∷ []) above (no-slots new refl _) refl j
 
   tiles : Tiles (head_of resource) mid now
   tiles = tiles-splice (head_of resource) _ _ _ (old ∷ []) _ (new ∷ []) _ _ low high laid.lies.tiles same one

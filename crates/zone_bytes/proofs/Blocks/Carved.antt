@@ -27,7 +27,7 @@ use Rattle.block_store.proofs.Zone.Aligned.{spot_at-is}
 use Rattle.block_store.proofs.Nonrelocatable.Placing.{spot_at-below}
 use Rattle.zone_bytes.proofs.Places.Options.{the-spot}
 use Rattle.zone_bytes.proofs.Tiles.Spelling.{le-back}
-use Rattle.zone_bytes.proofs.Tiles.Tiling.{slot-split, slot-append_left, slot-append_right}
+use Rattle.zone_bytes.proofs.Tiles.Tiling.{slot-swap}
 use Rattle.zone_bytes.proofs.Tiles.Leading.{each-map, each-left, each-right, names-append}
 use Rattle.zone_bytes.proofs.Tiles.Replaced.{is-splice}
 use Rattle.zone_bytes.proofs.Blocks.InPlace.{no-slots}
@@ -216,17 +216,7 @@ module _ (xs : List ℕ) (first count : ℕ) (i : IsSound xs first count) (below
     forth s j = slot-kept z _ _ xs st s put same-span j
 
     back : (s : ℕ) → IsSlot s (below ++ (put ++ above)) → IsSlot s all
-    back s j = elim (slot-split s _ (put ++ above) j) [
-      | inl k ↦ slot-append_left s below (Free n ∷ above) k
-      | inr k ↦ elim (slot-split (s - sizes below) put above k.1) [
-        | inl m ↦ absurd (plain-put (s - sizes below) m)
-        | inr m ↦
-            let f : s - sizes below - sizes put ≡ s - sizes below - sizes (Free n ∷ []) = ap
-            (λ q. s - sizes below - q) same-span in
-            slot-append_right s _ _ k.0 (slot-append_right _ (Free n ∷ []) _ (omega (arith, same-span))
-            (subst (λ q. IsSlot q above) f m.1))
-      ]
-    ]
+    back s j = slot-swap s below put (Free n ∷ []) above (plain-put _) (sym same-span) j
 
     pub carve-made : (now : List ℕ) → length now ≡ length xs → ((z : Splice) → MayCarve z place stop number size fl xs
         → Lies z.resource (z.below ++ (Relocatable number no_flags (replicate size 0) ∷ free

@@ -12,8 +12,8 @@ use Rattle.block_store.specs.Block.{Block, Free, Relocatable, size, free, no_fla
 use Rattle.zone_bytes.specs.Layout.{head_of, flag_word, Tile, Tiles, names, IsSlot, Leads, Apart, Each}
 use Rattle.zone_bytes.specs.Settling.{Lies}
 use Rattle.zone_bytes.specs.Splicing.{SameOutside, Splice, IsSplice}
-use Rattle.zone_bytes.proofs.Tiles.Tiling.{span-append, length-tiles, slot-inside, slot-split, slot-append_left}
-use Rattle.zone_bytes.proofs.Tiles.Tiling.{slot-append_right, tiles-one, tiles-slot, tiles-split}
+use Rattle.zone_bytes.proofs.Tiles.Tiling.{span-append, length-tiles, slot-inside, slot-split, slot-swap}
+use Rattle.zone_bytes.proofs.Tiles.Tiling.{tiles-one, tiles-slot, tiles-split}
 use Rattle.zone_bytes.proofs.Tiles.Leading.{Clear, piece-clear, each-map, leads-append, leads-left, leads-right}
 use Rattle.zone_bytes.proofs.Tiles.Leading.{leads-written}
 use Rattle.zone_bytes.proofs.Runs.Packed.{length-masters, span-whole}
@@ -62,13 +62,7 @@ module _ (zone : Splice) (bottom top : ℕ) (xs : List ℕ) (h : IsSplice zone b
   -- a slot of other blocks in the stretch's place
   pub slot-kept : (s : ℕ) (here : List Block) → sizes here ≡ sizes zone.here → IsSlot s all
       → IsSlot s (zone.below ++ (here ++ zone.above))
-  slot-kept s here e i = elim (spot s i) [
-    | inl j ↦ slot-append_left s zone.below (here ++ zone.above) j.1
-    | inr j ↦
-        let f : s - top ≡ s - sizes zone.below - sizes here = omega (arith, e) in
-        slot-append_right s _ _ (omega arith) (slot-append_right _ _ _ (omega (arith, e))
-        (subst (λ q. IsSlot q zone.above) f j.1))
-  ]
+  slot-kept s here e i = slot-swap s _ _ _ _ (h.no_masters _) e i
 
   -- one Free block
   pub freed : let new = written bottom (word (top - bottom)) xs in

@@ -1,5 +1,5 @@
 -- A change that keeps the names and the slots keeps the table.
-use Rattle.std.proofs.Common.{◌≡◌, ℕ, ◌+◌, ◌-◌, inl, inr, zero, suc, List, [], ◌∷◌, ◌++◌, length, sym, refl, ap, ◌∙◌}
+use Rattle.std.proofs.Common.{◌≡◌, ℕ, ◌+◌, inl, inr, zero, suc, List, [], ◌∷◌, ◌++◌, length, sym, refl, ap, ◌∙◌}
 use Rattle.std.proofs.Common.{subst, arith}
 use Rattle.std.proofs.lemmas.List.{append-nil}
 use Rattle.std.proofs.lemmas.Bool.{false≢true}
@@ -10,7 +10,7 @@ use Rattle.block_store.specs.Slot.{Slot, NoSlot, Unused, Used, is_resource}
 use Rattle.zone_bytes.specs.Layout.{IsSlot, names, Apart, Each, ArePlaced}
 use Rattle.zone_bytes.specs.Settling.{Lay, InRun, Lies, IsRunFrom, SameOthers, Settled}
 use Rattle.zone_bytes.specs.Table.{IsUsed, Chain, Says, Lays}
-use Rattle.zone_bytes.proofs.Tiles.Tiling.{span-append, slot-split, slot-append_left, slot-append_right}
+use Rattle.zone_bytes.proofs.Tiles.Tiling.{span-append, slot-swap}
 use Rattle.zone_bytes.proofs.Tiles.Leading.{names-append, each-map, each-append}
 use Rattle.zone_bytes.proofs.Runs.Packed.{run-no_slot, movers-more}
 use Rattle.zone_bytes.proofs.Runs.Settled.{free_sum-span}
@@ -116,15 +116,7 @@ each-settle run h = each-append InRun _ _ (each-movers _ h) (each-free _)
 -- one run in the place of another
 pub slot-run : (s : ℕ) (below run now above : List Block) → Each InRun run → sizes now ≡ sizes run
     → IsSlot s (below ++ (run ++ above)) → IsSlot s (below ++ (now ++ above))
-slot-run s below run now above r e i = elim (slot-split s _ _ i) [
-  | inl j ↦ slot-append_left s below (now ++ above) j
-  | inr j ↦ elim (slot-split (s - sizes below) run above j.1) [
-    | inl k ↦ absurd (run-no_slot (s - sizes below) run r k)
-    | inr k ↦
-        let f : s - sizes below - sizes run ≡ s - sizes below - sizes now = ap (λ m. s - sizes below - m) (sym e) in
-        slot-append_right s _ _ j.0 (slot-append_right _ _ _ (omega (arith, e)) (subst (λ q. IsSlot q above) f k.1))
-  ]
-]
+slot-run s below run now above r e i = slot-swap s _ _ _ _ (run-no_slot _ run r) e i
 
 pub placed-append : (o : ℕ) (ls ms : List Block) → ArePlaced o ls → ArePlaced (o + sizes ls) ms → ArePlaced o (ls ++ ms)
 placed-append o [] ms h k = let e : o + 0 ≡ o = omega arith in subst (λ j. ArePlaced j ms) e k

@@ -1,5 +1,5 @@
 -- A stretch of a zone with other blocks of the same names in its place.
-use Rattle.std.proofs.Common.{◌≡◌, ℕ, ◌+◌, ◌-◌, ◌<◌, inl, inr, List, ◌++◌, sym, ap, ◌∙◌, subst, arith}
+use Rattle.std.proofs.Common.{◌≡◌, ℕ, ◌+◌, ◌-◌, ◌<◌, List, ◌++◌, sym, ap, ◌∙◌, subst, arith}
 use Rattle.windows.specs.Writes.{piece}
 use Rattle.block_store.specs.Block.{Block, sizes}
 use Rattle.block_store.specs.Slot.{Slot, is_resource}
@@ -7,7 +7,7 @@ use Rattle.zone_bytes.specs.Layout.{head_of, Tiles, IsSlot, names, Leads, Each, 
 use Rattle.zone_bytes.specs.Settling.{Lies}
 use Rattle.zone_bytes.specs.Splicing.{Splice, SameOutside, IsSplice}
 use Rattle.zone_bytes.specs.Table.{Lays}
-use Rattle.zone_bytes.proofs.Tiles.Tiling.{slot-split, slot-append_left, slot-append_right}
+use Rattle.zone_bytes.proofs.Tiles.Tiling.{slot-swap}
 use Rattle.zone_bytes.proofs.Tiles.Leading.{names-append, each-left, each-right}
 use Rattle.zone_bytes.proofs.Tiles.Splices.{piece-outside, tiles-splice, leads-splice}
 use Rattle.zone_bytes.proofs.Blocks.Carves.{clear, outside, slot-kept}
@@ -54,18 +54,6 @@ module _ (xs : List ℕ) (below here above : List Block) (slots : ℕ → Slot) 
           leads = leads-splice xs new below here above now bottom top low high e h.lies.leads same c.0 c.1 leads;
         }
 
-    back : (s : ℕ) → IsSlot s (below ++ (now ++ above)) → IsSlot s all
-    back s i = elim (slot-split s _ _ i) [
-      | inl j ↦ slot-append_left s below (here ++ above) j
-      | inr j ↦ elim (slot-split (s - sizes below) now above j.1) [
-        | inl k ↦ absurd (none-now (s - sizes below) k)
-        | inr k ↦
-            let f : s - sizes below - sizes now ≡ s - sizes below - sizes here = ap (λ m. s - sizes below - m) e in
-            slot-append_right s _ _ j.0
-            (slot-append_right _ _ _ (omega (arith, e)) (subst (λ q. IsSlot q above) f k.1))
-      ]
-    ]
-
     pub replaced : Lays new (below ++ (now ++ above)) slots unused
     replaced =
         let p = placed-right 0 below (here ++ above) h.placed in
@@ -80,5 +68,6 @@ module _ (xs : List ℕ) (below here above : List Block) (slots : ℕ → Slot) 
         (placed-append _ _ _ (subst (λ j. ArePlaced j now) o placed)
         (subst (λ k. ArePlaced (0 + sizes below + k) above) (sym e) q)) in
         lays-kept _ _ _ _ slots _ h lies-now all-names
-        (λ s i. slot-kept zone bottom top xs is-splice s now e i) back ok
+        (λ s i. slot-kept zone bottom top xs is-splice s now e i)
+        (λ s i. slot-swap s _ _ _ _ (none-now _) (sym e) i) ok
         (λ s i a. piece-outside bottom top xs new s same (outside zone bottom top xs is-splice s i)) same.kept

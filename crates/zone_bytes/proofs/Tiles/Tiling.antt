@@ -1,5 +1,5 @@
 -- Blocks that lie one after another.
-use Rattle.std.proofs.Common.{◌≡◌, ℕ, ◌+◌, ◌-◌, ◌≤◌, ◌⊎◌, inl, inr, List, [], ◌∷◌, ◌++◌, length, take, drop, refl, ap}
+use Rattle.std.proofs.Common.{◌≡◌, ℕ, ◌+◌, ◌-◌, ◌≤◌, ◌⊎◌, inl, inr, List, [], ◌∷◌, ◌++◌, length, take, drop, sym, refl, ap}
 use Rattle.std.proofs.Common.{◌∙◌, subst, arith, length-append}
 use Rattle.std.proofs.lemmas.List.{length-take-le, length-drop, take-append-le, drop-append-le, drop-drop, take-take}
 use Rattle.std.proofs.lemmas.List.{drop-take, drop_all}
@@ -41,6 +41,19 @@ slot-split s (b ∷ ls) ms (inr i) = elim (slot-split (s - size b) ls ms i.1) [
   | inr j ↦
       let e : s - size b - sizes ls ≡ s - (size b + sizes ls) = omega arith in
       inr (omega (arith, i.0, j.0), subst (λ k. IsSlot k ms) e j.1)
+]
+
+-- other blocks in the place of some that have no slot
+pub slot-swap : (s : ℕ) (below was now above : List Block) → (IsSlot (s - sizes below) was → ⊥) → sizes now ≡ sizes was
+    → IsSlot s (below ++ (was ++ above)) → IsSlot s (below ++ (now ++ above))
+slot-swap s below was now above none e i = elim (slot-split s _ _ i) [
+  | inl j ↦ slot-append_left s below (now ++ above) j
+  | inr j ↦ elim (slot-split (s - sizes below) was above j.1) [
+    | inl k ↦ absurd (none k)
+    | inr k ↦
+        let f : s - sizes below - sizes was ≡ s - sizes below - sizes now = ap (λ m. s - sizes below - m) (sym e) in
+        slot-append_right s _ _ j.0 (slot-append_right _ _ _ (omega (arith, e)) (subst (λ q. IsSlot q above) f k.1))
+  ]
 ]
 
 module _ (head : Block → List ℕ) where
