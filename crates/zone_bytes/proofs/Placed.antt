@@ -9,3 +9,5 @@ pub mod Resized
 pub mod Threads
 pub mod MoreSlots
 pub mod MastersCarved
+pub mod Named
+pub mod RelocatableCarved

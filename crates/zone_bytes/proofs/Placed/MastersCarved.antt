@@ -1,13 +1,11 @@
 -- A new Masters block at the lower end of a Free one.
-use Rattle.std.proofs.Common.{◌≡◌, ℕ, IsTrue, ◌+◌, ◌-◌, ◌*◌, ◌<◌, List, [], ◌∷◌, ◌++◌, length}
-use Rattle.std.proofs.Common.{zero, suc, refl, sym, ap, ◌∙◌, subst, arith}
+use Rattle.std.proofs.Common.{◌≡◌, ℕ, IsTrue, ◌+◌, ◌-◌, ◌<◌, List, [], ◌∷◌, ◌++◌, length}
+use Rattle.std.proofs.Common.{zero, suc, refl, ap, ◌∙◌, subst, arith}
 use Rattle.std.proofs.lemmas.Bool.{false≢true}
-use Rattle.std.specs.Option.{IfSome}
-use Rattle.block_store.specs.Block.{Block, Free, Masters, size, free, free_sum, count, is_masters}
-use Rattle.block_store.specs.Room.{spot_at, filled}
+use Rattle.block_store.specs.Block.{Block, Free, Masters, size}
+use Rattle.block_store.specs.Room.{filled}
 use Rattle.block_store.specs.Slot.{Slot, NoSlot, Unused, Used, is_used}
 use Rattle.block_store.proofs.Zone.Apart.{tidy-tidy}
-use Rattle.block_store.proofs.Content.Sized.{cut-sized, filled-free, filled-count}
 use Rattle.zone_bytes.specs.Layout.{IsSlot}
 use Rattle.zone_bytes.specs.Fresh.{slots_from}
 use Rattle.zone_bytes.specs.Decode.{zone_in}
@@ -16,8 +14,7 @@ use Rattle.zone_bytes.specs.Lawful.{IsSound}
 use Rattle.zone_bytes.specs.Mastering.{slots_at, with_slots, HasMasters}
 use Rattle.zone_bytes.proofs.SlotTable.Taking.{first-small}
 use Rattle.zone_bytes.proofs.Laws.Lawful.{Made, made}
-use Rattle.zone_bytes.proofs.Places.Options.{if-spot, one-spot}
-use Rattle.zone_bytes.proofs.Placed.NonrelocatableCarved.{Roomy}
+use Rattle.zone_bytes.proofs.Placed.NonrelocatableCarved.{Roomy, filled-is}
 use Rattle.zone_bytes.proofs.Placed.MoreSlots.{lays-masters, kept-slot}
 
 pub first-fits : (xs : List ℕ) (first unused : ℕ) (i : IsSound xs first unused) → first < 134217728
@@ -31,20 +28,11 @@ module _ (xs : List ℕ) (place : ℕ) (r : Roomy xs place 272) (first unused : 
 
   pub masters-lays : Lays new (filled Masters r.s) (with_slots place (slot_in xs)) (slots_at place ++ i.unused)
   masters-lays =
-      let l = ap size r.here in
-      let k : r.bytes - 272 ≡ size r.s.here + 0 - 272 = omega (arith, l) in
       subst (λ bs. Lays new bs (with_slots place (slot_in xs)) (slots_at place ++ i.unused))
-      (ap (λ m. r.s.below ++ Masters ∷ (free m ++ r.s.above)) k
-      ∙ sym (cut-sized _ refl _ r.at.apart 0 _ r.head (omega (arith, l)))) (lays-masters _ _ _ _
-      (slot_in xs) _ was _ r.at.low r.room _
+      (filled-is xs place 272 r Masters refl (r.bytes - 272) (omega (arith, ap size r.here)))
+      (lays-masters _ _ _ _ (slot_in xs) _ was _ r.at.low r.room _
       (subst (λ b. HasMasters place (size b) (first_of i.unused) xs new) r.here
       (subst (λ k. HasMasters place (size r.s.here) k xs new) i.begins m)))
-
-  pub masters-lays-if : IfSome (spot_at place (zone_in xs)) (λ s.
-      Lays new (filled Masters s) (with_slots place (slot_in xs)) (slots_at place ++ i.unused))
-  masters-lays-if = if-spot _ _
-      (λ s e. subst (λ q. Lays new (filled Masters q) (with_slots place (slot_in xs)) (slots_at place ++ i.unused))
-      (one-spot _ _ s r.is e) masters-lays)
 
 length-slots : (at n : ℕ) → length (slots_from at n) ≡ n
 length-slots at zero = refl
@@ -71,20 +59,6 @@ module _ (xs now : List ℕ) (first unused place : ℕ) (i : IsSound xs first un
   masters-made =
       made _ _ (with_slots place (slot_in xs)) _ h _ _
       (tidy-tidy (r.s.below ++ Masters ∷ Free (size r.s.here - 272) ∷ r.s.above)) refl (omega (arith, length-slots))
-
-  pub masters-free : free_sum (zone_in now) + 272 ≡ free_sum (zone_in xs)
-  masters-free =
-      let a = filled-free Masters refl r.s r.bytes r.here r.room in
-      omega (arith, ap free_sum masters-made.zone, a, ap free_sum r.at.whole)
-
-  pub masters-all : 64 * count is_masters (zone_in now) ≡ 64 * count is_masters (zone_in xs) + 64
-  masters-all =
-      let a = filled-count Masters refl r.s r.bytes r.here r.room is_masters (λ n. refl) in
-      omega (arith, ap (count is_masters) masters-made.zone, a, ap (count is_masters) r.at.whole)
-
-  pub masters-zone : IfSome (spot_at place (zone_in xs)) (λ s. zone_in now ≡ filled Masters s)
-  masters-zone = if-spot _ (λ s. zone_in now ≡ filled Masters s)
-      (λ s e. subst (λ q. zone_in now ≡ filled Masters q) (one-spot _ _ s r.is e) masters-made.zone)
 
   pub masters-slots : (k : ℕ) → IsTrue (is_used (slot_in xs k)) → slot_in now k ≡ slot_in xs k
   masters-slots k u = masters-made.slots k ∙ used-stays _ _ _ _ i r k u

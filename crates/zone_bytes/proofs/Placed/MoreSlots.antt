@@ -21,15 +21,15 @@ use Rattle.heap_words.specs.declared.header.Tag.TheVariants as tag
 use Rattle.zone_bytes.proofs.Placed.Laid.{laid-outside, laid-left, laid-first}
 use Rattle.zone_bytes.proofs.Tiles.Tiling.{slot-swap, slot-append_right}
 use Rattle.zone_bytes.proofs.Tiles.Leading.{Clear, each-append, each-map, names-append}
-use Rattle.zone_bytes.proofs.Tiles.Keeping.{chain-kept, names-free, span-free, placed-append, placed-left, placed-right}
+use Rattle.zone_bytes.proofs.Tiles.Keeping.{chain-kept, names-free, span-free, placed-append, placed-left, placed-right, each-free, placed-run}
 use Rattle.zone_bytes.proofs.Tiles.Splices.{piece-outside, tiles-splice, leads-splice}
 use Rattle.zone_bytes.proofs.Tiles.Replaced.{zone, is-splice}
 use Rattle.zone_bytes.proofs.SlotTable.Tables.{each-both, lies-agree}
 use Rattle.zone_bytes.proofs.Blocks.InPlace.{no-slots}
 use Rattle.zone_bytes.proofs.Blocks.Carves.{outside, clear, slot-kept, even}
-use Rattle.zone_bytes.proofs.Blocks.Carved.{free-slots, placed-free}
 use Rattle.zone_bytes.proofs.Placed.Stretched.{tiles-two, leads-free}
 use Rattle.zone_bytes.proofs.Placed.Threads.{has-slot, once-from, thread-chain}
+use Rattle.zone_bytes.proofs.Runs.Packed.{run-no_slot}
 
 -- a part of a stretch that was written anew
 pub outside-within : (lo hi a b : ℕ) (xs mid new : List ℕ) → lo ≤ a → b ≤ hi → SameOutside lo hi xs mid
@@ -196,7 +196,7 @@ module _ (xs : List ℕ) (below above : List Block) (n : ℕ) (slots : ℕ → S
         none : IsSlot (s - sizes below) put → ⊥
         none (inl m) = false≢true (sym f ∙ at-slot place s (omega (arith, m, low)) (omega (arith, m, low))
             (omega (arith, m, low, evens)))
-        none (inr m) = free-slots left (s - sizes below - 272) m.1
+        none (inr m) = run-no_slot _ (free left) (each-free left) m.1
 
     names-now : names with_masters ≡ names all
     names-now =
@@ -253,7 +253,7 @@ module _ (xs : List ℕ) (below above : List Block) (n : ℕ) (slots : ℕ → S
             apart = subst (Pairs Apart) (sym names-now) h.has_slots.apart;
           };
           placed = placed-append 0 _ _ (placed-left 0 below (Free n ∷ above) h.placed)
-              (placed-append _ put above (tt, placed-free (0 + sizes below + 272) left)
+              (placed-append _ put above (tt, placed-run _ (free left) (each-free left))
               (subst (λ k. ArePlaced (0 + sizes below + k) above) (sym span) q));
           small = (let o = m.outside.kept in omega arith);
           used = each-named (λ s. IsUsed (now s)) (each-both (λ s. IsSlot s all) (λ s. IsUsed (slots s))

@@ -1,16 +1,16 @@
 -- A new nonrelocatable block at the lower end of a Free one.
-use Rattle.std.proofs.Common.{◌≡◌, ℕ, ◌+◌, ◌-◌, ◌≤◌, IsTrue, Some, List, [], ◌∷◌, ◌++◌, length, replicate}
+use Rattle.std.proofs.Common.{◌≡◌, ℕ, ◌+◌, ◌-◌, ◌≤◌, IsTrue, Some, List, [], ◌∷◌, ◌++◌, length, replicate, cond, false}
 use Rattle.std.proofs.Common.{refl, sym, ap, ◌∙◌, subst, arith}
 use Rattle.std.proofs.lemmas.Bool.{false≢true}
 use Rattle.std.proofs.lemmas.List.{length-replicate}
 use Rattle.std.proofs.Math.Seq.{take-nil}
-use Rattle.std.specs.Option.{IfSome, IsSomeAnd}
+use Rattle.std.specs.Option.{IsSomeAnd}
 use Rattle.mac_words.specs.Size.{padded}
 use Rattle.heap_words.specs.Words.{header}
 use Rattle.heap_words.specs.Headers.{header_bytes}
 use Rattle.heap_words.specs.declared.header.Header.{Header}
 use Rattle.heap_words.specs.declared.header.Tag.TheVariants as tag
-use Rattle.block_store.specs.Block.{Block, Free, Nonrelocatable, Masters, Relocatable, size, sizes, free, free_sum}
+use Rattle.block_store.specs.Block.{Block, Free, Nonrelocatable, Masters, Relocatable, size, free, free_sum}
 use Rattle.block_store.specs.Block.{count, is_masters}
 use Rattle.block_store.specs.Block.{is_room, resized_content, tidy}
 use Rattle.block_store.specs.Room.{Spot, spot_at, filled}
@@ -26,9 +26,10 @@ use Rattle.zone_bytes.specs.Lawful.{IsSound}
 use Rattle.zone_bytes.specs.Laying.{laid, MayLay}
 use Rattle.zone_bytes.proofs.Tiles.Spelling.{le-back}
 use Rattle.zone_bytes.proofs.Blocks.InPlace.{no-slots}
-use Rattle.zone_bytes.proofs.Places.Options.{the-spot, if-spot, one-spot}
+use Rattle.zone_bytes.proofs.Places.Options.{the-spot}
 use Rattle.zone_bytes.proofs.Placed.Standing.{Standing, standing, resource_in}
 use Rattle.zone_bytes.proofs.Placed.Stretched.{laid-lays}
+use Rattle.block_store.specs.Inner.Stretch.{is_free}
 
 -- a Free block with room, at a place
 pub record Roomy (xs : List ℕ) (place need : ℕ) : Type 0 where
@@ -71,6 +72,48 @@ pub free-roomy : (xs : List ℕ) (place need : ℕ) → Roomy xs place need → 
 free-roomy xs place need r =
     omega (arith, ap free_sum r.at.whole ∙ ap (λ b. free_sum (r.s.below ++ b ∷ r.s.above)) r.here, total-append)
 
+module _ (xs : List ℕ) (place need : ℕ) (r : Roomy xs place need) where
+  -- a block that isn't Free, and the rest of the bytes
+  pub filled-is : (new : Block) → is_free new ≡ false → (k : ℕ) → k + size new ≡ size r.s.here
+      → r.s.below ++ new ∷ (free k ++ r.s.above) ≡ filled new r.s
+  filled-is new solid k e =
+      let l : k ≡ size r.s.here + 0 - size new = omega (arith, e) in
+      ap (λ m. r.s.below ++ new ∷ (free m ++ r.s.above)) l
+      ∙ sym (cut-sized new solid r.s r.at.apart 0 r.s.above r.head (omega (arith, e)))
+
+  module _ (now : List ℕ) (new : Block) (solid : is_free new ≡ false) (fits : size new ≤ need)
+      (is : zone_in now ≡ filled new r.s) where
+    pub carved-free : free_sum (zone_in now) + size new ≡ free_sum (zone_in xs)
+    carved-free =
+        let a = filled-free new solid r.s r.bytes r.here (omega (arith, fits)) in
+        omega (arith, ap free_sum is, a, ap free_sum r.at.whole)
+
+    pub carved-masters : count is_masters (zone_in now) ≡ count is_masters (zone_in xs) + cond (is_masters new) 1 0
+    carved-masters = ap (count is_masters) is ∙ filled-count new solid r.s r.bytes r.here (omega (arith, fits)) is_masters (λ n. refl)
+        ∙ ap (λ l. count is_masters l + cond (is_masters new) 1 0) (sym r.at.whole)
+
+-- a new block of n bytes, all 0, may be laid in a Free one
+pub may-carve : (xs : List ℕ) (place n top : ℕ) (r : Roomy xs place (padded n)) → top ≡ place + size r.s.here
+    → (h : Header) → h.size ≡ padded n → h.logical ≡ n → MayLay h place top 0 xs
+may-carve xs place n top r t h z l = record {
+  even = (r.at.way.walk.whole, omega (arith, t), omega (arith, z));
+  inside = omega (arith, t);
+  small = r.at.small;
+  room = omega (arith, t, ap size r.here, z);
+  whole = omega (arith, z, l);
+  fits = omega (arith, t);
+}
+
+-- its header, and its bytes
+pub zeros-head : (n z k slot flags : ℕ) → z ≡ padded n → header (z + k) n slot flags ++ resized_content n []
+    ≡ header (padded (length (replicate {A = ℕ} n 0)) + k) (length (replicate {A = ℕ} n 0)) slot flags ++ replicate n 0
+zeros-head n z k slot flags e =
+    let l = length-replicate {A = ℕ} n 0 in
+    let b : z ≡ padded (length (replicate {A = ℕ} n 0)) = e ∙ ap padded (sym l) in
+    ap (λ q. header (z + k) n slot flags ++ (q ++ replicate (n - 0) 0)) (take-nil n)
+    ∙ (let y : n - 0 ≡ n = omega arith in
+    (λ j. header (b j + k) (sym l j) slot flags ++ replicate (y j) 0))
+
 module _ (xs : List ℕ) (place n top z : ℕ) (r : Roomy xs place (padded n)) (t : top ≡ place + size r.s.here)
     (pz : z ≡ padded n) where
   abbrev head : Header
@@ -79,82 +122,25 @@ module _ (xs : List ℕ) (place n top z : ℕ) (r : Roomy xs place (padded n)) (
   abbrev new : Block
   new = Nonrelocatable place (replicate n 0)
 
-  size-new : size new ≡ padded n
-  size-new = ap padded (length-replicate {A = ℕ} n 0)
-
   pub may-lay : MayLay head place top 0 xs
-  may-lay =
-      record {
-        even = (r.at.way.walk.whole, omega (arith, t), omega (arith, pz));
-        inside = omega (arith, t);
-        small = r.at.small;
-        room = omega (arith, t, ap size r.here, pz);
-        whole = omega (arith, pz);
-        fits = omega (arith, t);
-      }
+  may-lay = may-carve xs place n top r t head pz refl
 
   head-is : header_bytes head ++ resized_content n [] ≡ head_of (resource_in xs) new
   unfolding head_of
-  head-is =
-      let l = length-replicate {A = ℕ} n 0 in
-      let c : resized_content n [] ≡ replicate n 0 =
-      ap (λ q. q ++ replicate (n - 0) 0) (take-nil n)
-      ∙ (let y : n - 0 ≡ n = omega arith in ap (λ k. replicate k 0) y) in
-      let b : z ≡ padded (length (replicate {A = ℕ} n 0)) = pz ∙ sym size-new in
-      ap (λ q. header (z + 1) n 0 0 ++ q) c ∙ (λ j. header (b j + 1) (sym l j) 0 0 ++ replicate n 0)
+  head-is = zeros-head n z 1 0 0 pz
 
-  module _ (first count : ℕ) (i : IsSound xs first count) where
-    pub nonrelocatable-lays : Lays (laid head place top 0 xs) (filled new r.s) (slot_in xs) i.unused
-    nonrelocatable-lays =
-        let a = r.at in
-        let l = ap size r.here in
-        let high : place + sizes (r.s.here ∷ []) ≡ top = omega (arith, t) in
-        let k : top - place - z ≡ size r.s.here + 0 - size new = omega (arith, t, pz, size-new) in
-        subst (λ bs. Lays (laid head place top 0 xs) bs (slot_in xs) i.unused)
-        (ap (λ m. r.s.below ++ new ∷ (free m ++ r.s.above)) k
-        ∙ sym (cut-sized new refl r.s a.apart 0 r.s.above r.head (omega (arith, size-new, l))))
-        (laid-lays _ _ _ i _ (r.s.here ∷ []) _ a.whole _ _ a.low high (omega (
-          arith,
-          t,
-          a.some,
-        )) (no-slots r.s.here (ap is_masters r.here))
-        _ 0 may-lay _ refl (size-new ∙ sym pz) (sym (ap (λ b. names_of b ++ []) r.here)) refl head-is tt)
-
-    pub nonrelocatable-lays-if : IfSome (spot_at place (zone_in xs)) (λ s. Lays (laid head place top 0 xs) (filled new s)
-        (slot_in xs) i.unused)
-    nonrelocatable-lays-if = if-spot _ (λ s. Lays (laid head place top 0 xs) (filled new s) (slot_in xs) i.unused)
-        (λ s e. subst (λ q. Lays (laid head place top 0 xs) (filled new q) (slot_in xs) i.unused)
-        (one-spot _ _ s r.is e) nonrelocatable-lays)
+  pub nonrelocatable-lays : (first count : ℕ) (i : IsSound xs first count)
+      → Lays (laid head place top 0 xs) (filled new r.s) (slot_in xs) i.unused
+  nonrelocatable-lays first count i =
+      let l : size new ≡ padded n = ap padded (length-replicate {A = ℕ} n 0) in
+      subst (λ bs. Lays (laid head place top 0 xs) bs (slot_in xs) i.unused)
+      (filled-is xs place (padded n) r new refl (top - place - z) (omega (arith, t, pz, l, ap size r.here)))
+      (laid-lays _ _ _ i _ (r.s.here ∷ []) _ r.at.whole _ _ r.at.low (omega (arith, t)) (omega (arith, t, r.at.some))
+      (no-slots r.s.here (ap is_masters r.here)) _ 0 may-lay new refl (l ∙ sym pz)
+      (sym (ap (λ b. names_of b ++ []) r.here)) refl head-is tt)
 
 -- a tidy list of blocks that was laid
 pub tidy-made : (xs now : List ℕ) (first unused : ℕ) (i : IsSound xs first unused) (blocks : List Block)
     → Lays now (tidy blocks) (slot_in xs) i.unused → Made now first unused (tidy blocks) (slot_in xs)
 tidy-made xs now first unused i blocks h =
     made now (tidy blocks) (slot_in xs) i.unused h first unused (tidy-tidy blocks) i.begins i.counted
-
--- the zone with the new block
-module _ (xs now : List ℕ) (first unused place n : ℕ) (i : IsSound xs first unused) (r : Roomy xs place (padded n))
-    (h : Lays now (filled (Nonrelocatable place (replicate n 0)) r.s) (slot_in xs) i.unused) where
-  abbrev block : Block
-  block = Nonrelocatable place (replicate n 0)
-
-  fits : size block ≤ r.bytes
-  fits = let l = ap padded (length-replicate {A = ℕ} n 0) in omega (arith, l)
-
-  pub nonrelocatable-made : Made now first unused (filled block r.s) (slot_in xs)
-  nonrelocatable-made = tidy-made xs now first unused i (r.s.below ++ block ∷ Free (size r.s.here - size block) ∷ r.s.above) h
-
-  pub nonrelocatable-free : free_sum (zone_in now) + padded n ≡ free_sum (zone_in xs)
-  nonrelocatable-free =
-      let a = filled-free block refl r.s r.bytes r.here fits in
-      let b = ap padded (length-replicate {A = ℕ} n 0) in
-      omega (arith, ap free_sum nonrelocatable-made.zone, a, ap free_sum r.at.whole, b)
-
-  pub nonrelocatable-masters : count is_masters (zone_in now) ≡ count is_masters (zone_in xs)
-  nonrelocatable-masters =
-      let a = filled-count block refl r.s r.bytes r.here fits is_masters (λ n. refl) in
-      omega (arith, ap (count is_masters) nonrelocatable-made.zone, a, ap (count is_masters) r.at.whole)
-
-  pub nonrelocatable-zone : IfSome (spot_at place (zone_in xs)) (λ s. zone_in now ≡ filled block s)
-  nonrelocatable-zone = if-spot _ (λ s. zone_in now ≡ filled block s)
-      (λ s e. subst (λ q. zone_in now ≡ filled block q) (one-spot _ _ s r.is e) nonrelocatable-made.zone)

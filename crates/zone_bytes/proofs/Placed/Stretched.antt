@@ -15,7 +15,7 @@ use Rattle.zone_bytes.specs.Lawful.{IsSound}
 use Rattle.zone_bytes.specs.Laying.{laid, MayLay}
 use Rattle.zone_bytes.proofs.Tiles.Tiling.{tile-take, tiles-one}
 use Rattle.zone_bytes.proofs.Tiles.Leading.{each-left, each-right, names-append}
-use Rattle.zone_bytes.proofs.Tiles.Keeping.{names-free, span-free}
+use Rattle.zone_bytes.proofs.Tiles.Keeping.{names-free, span-free, each-free, placed-run}
 use Rattle.zone_bytes.proofs.Tiles.Splices.{piece-outside}
 use Rattle.zone_bytes.proofs.Tiles.Replaced.{zone, is-splice, replaced}
 use Rattle.zone_bytes.proofs.SlotTable.Tables.{each-both}
@@ -23,9 +23,9 @@ use Rattle.block_store.proofs.Zone.Spots.{free-some}
 use Rattle.zone_bytes.proofs.Runs.Settled.{free-tile}
 use Rattle.zone_bytes.proofs.Blocks.InPlace.{no-slots, each-leads}
 use Rattle.zone_bytes.proofs.Blocks.Carves.{outside}
-use Rattle.zone_bytes.proofs.Blocks.Carved.{free-slots, placed-free}
 use Rattle.zone_bytes.proofs.Placed.Standing.{resource_in}
 use Rattle.zone_bytes.proofs.Placed.Laid.{laid-outside, laid-left, laid-tile}
+use Rattle.zone_bytes.proofs.Runs.Packed.{run-no_slot}
 
 -- a block and Free bytes above it
 pub tiles-two : (resource : ℕ → Bool) (b : Block) (k at len : ℕ) (new : List ℕ) → len ≡ size b + k
@@ -55,6 +55,20 @@ tiles-two resource b k at len new e fits even t w =
       subst (λ j. Tiles head j (free k)) (sym cut) above,
     )
 
+-- a block that was laid, and what is left above it
+pub laid-tiles : (h : Header) (place top held : ℕ) (xs : List ℕ) (may : MayLay h place top held xs) (resource : ℕ → Bool)
+    (b : Block) → size b ≡ h.size
+    → header_bytes h ++ resized_content h.logical (piece (place + 16) held xs) ≡ head_of resource b
+    → Tiles (head_of resource) (piece place (top - place) (laid h place top held xs)) (b ∷ free (top - place - h.size))
+laid-tiles h place top held xs may resource b same head =
+    let left = top - place - h.size in
+    let new = laid h place top held xs in
+    let o = laid-outside h place top held xs may in
+    tiles-two resource b _ _ _ _ (omega (arith, same)) (omega arith) (omega arith)
+    (subst (λ m. Tile (head_of resource b) m (drop place new)) (sym same) (laid-tile h place top held xs may _ head))
+    (subst (λ m. (left ≡ 0) ⊎ ((0 < left) × (piece (place + m) 4 new ≡ word left))) (sym same)
+    (laid-left h _ _ _ _ may))
+
 pub leads-free : (o k : ℕ) (ys : List ℕ) → Leads o (free k) ys
 leads-free o zero ys = tt
 leads-free o (suc k) ys = (tt, tt)
@@ -63,7 +77,7 @@ leads-free o (suc k) ys = (tt, tt)
 pub no-slots-two : (b : Block) (k : ℕ) → is_masters b ≡ false → (s : ℕ) → IsSlot s (b ∷ free k) → ⊥
 no-slots-two b k e s i = elim i [
   | inl j ↦ no-slots b e s (inl j)
-  | inr j ↦ free-slots k (s - size b) j.1
+  | inr j ↦ run-no_slot _ (free k) (each-free k) j.1
 ]
 
 module _ (xs : List ℕ) (first count : ℕ) (i : IsSound xs first count) (below old above : List Block)
@@ -101,21 +115,12 @@ module _ (xs : List ℕ) (first count : ℕ) (i : IsSound xs first count) (below
       (λ s. piece s 4 new ≡ word place)
       (λ s j q. piece-outside _ _ _ _ s o (outside z _ _ _ st s j) ∙ q) _ of-old lead)
 
-  tiles : Tiles (head_of (resource_in xs)) (piece place (top - place) new) (b ∷ free left)
-  tiles =
-      let o = laid-outside h place top held xs may in
-      let one = laid-tile h place top held xs may (head_of (resource_in xs) b) head in
-      tiles-two (resource_in xs) b _ _ _ _ (omega (arith, same)) (omega arith) (omega arith)
-      (subst (λ m. Tile (head_of (resource_in xs) b) m (drop place new)) (sym same) one)
-      (subst (λ m. (left ≡ 0) ⊎ ((0 < left) × (piece (place + m) 4 new ≡ word left))) (sym same)
-      (laid-left h _ _ _ _ may))
-
   pub laid-lays : Lays new (below ++ ((b ∷ free left) ++ above)) (slot_in xs) i.unused
   laid-lays =
       replaced _ _ _ _ (slot_in xs) _ was _ _ low high some plain (b ∷ free left) new
-      (laid-outside h place top held xs may) tiles (omega (arith, same, span-free, high))
+      (laid-outside h place top held xs may) (laid-tiles h place top held xs may (resource_in xs) b same head) (omega (arith, same, span-free, high))
       (ap (λ k. names_of b ++ k) (names-free left) ∙ append-nil (names_of b) ∙ n)
-      (no-slots-two b left solid) (p, placed-free (place + size b) left) (
+      (no-slots-two b left solid) (p, placed-run _ (free left) (each-free left)) (
         leads-new,
         leads-free (place + size b) left new,
       )

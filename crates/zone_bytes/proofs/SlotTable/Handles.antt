@@ -1,5 +1,5 @@
 -- What the slot of a handle says: the place of its block, or that the handle is emptied.
-use Rattle.std.proofs.Common.{◌≡◌, ℕ, Bool, true, false, IsTrue, cond, ◌+◌, ◌%◌, ◌==◌, ◌||◌, ◌≤◌, ◌<◌, ◌^◌, nat_le}
+use Rattle.std.proofs.Common.{◌≡◌, ℕ, Bool, true, false, IsTrue, cond, ◌+◌, ◌%◌, ◌==◌, ◌||◌, ◌≤◌, nat_le}
 use Rattle.std.proofs.Common.{◌⊎◌, inl, inr, Option, Some, None, List, [], ◌∷◌, ◌++◌, length, take, drop, sym, refl}
 use Rattle.std.proofs.Common.{ap, ◌∙◌, subst, arith}
 use Rattle.std.proofs.lemmas.Bool.{false≢true, ne_eqb}
@@ -21,7 +21,7 @@ use Rattle.zone_bytes.proofs.Places.Stepped.{word-at}
 use Rattle.zone_bytes.proofs.Runs.Packed.{span-whole}
 use Rattle.zone_bytes.proofs.SlotTable.Tables.{slot-in, apart-other}
 use Rattle.zone_bytes.proofs.Tiles.Decoding.{says, flag_word-small}
-use Rattle.zone_bytes.proofs.Tiles.Spelling.{resource-bit}
+use Rattle.zone_bytes.proofs.Tiles.Spelling.{resource-bit, small-emptied}
 use Rattle.zone_bytes.proofs.Tiles.Tiling.{tiles-split}
 
 pub used-is : (st : Slot) → IsTrue (is_used st) → (r : Bool) × (st ≡ Used r)
@@ -101,11 +101,7 @@ word-emptied : (r : Bool) → place_of_word (empty_word r) ≡ None
 word-emptied true = refl
 word-emptied false = refl
 
-pub emptied-small : (r : Bool) → empty_word r < 2 ^ 32
-emptied-small true = omega arith
-emptied-small false = omega arith
-
-emptied-tells : (r : Bool) → (empty_word r == 18) ≡ r
+pub emptied-tells : (r : Bool) → (empty_word r == 18) ≡ r
 emptied-tells true = refl
 emptied-tells false = refl
 
@@ -165,7 +161,7 @@ module _ (xs : List ℕ) (blocks : List Block) (slots : ℕ → Slot) (unused : 
     ]
 
     emptied-reads : IsEmptyHandle xs blocks s flag.0 → word_at s xs ≡ empty_word flag.0
-    emptied-reads e = read_back s _ _ (emptied-small _) e.leads
+    emptied-reads e = read_back s _ _ (small-emptied _) e.leads
 
     block-reads : (b : HasBlock xs 0 blocks s) → word_at s xs ≡ sizes b.below
     block-reads b =

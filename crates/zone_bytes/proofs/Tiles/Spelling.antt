@@ -114,7 +114,7 @@ word-leads xs w r e f =
     let a : eqb (w % 16) 0 ≡ true = elim (eqb_tells (w % 16) 0) [ inl p ↦ p.0 | inr p ↦ absurd (p.1 e) ] in
     (λ i. cond (a i) (Used (f i)) (cond (eqb w 2) (Used false) (cond (eqb w 18) (Used true) Unused)))
 
-small-emptied : (r : Bool) → empty_word r < 2 ^ 32
+pub small-emptied : (r : Bool) → empty_word r < 2 ^ 32
 small-emptied true = omega arith
 small-emptied false = omega arith
 

@@ -2,7 +2,7 @@ use Rattle.std.proofs.Common.{arith, subst, ap}
 use Rattle.block_store.specs.Block.{size}
 use Rattle.zone_bytes.specs.Mastering.{HasMasters}
 use Rattle.zone_bytes.proofs.Placed.NonrelocatableCarved.{Roomy, roomy}
-use Rattle.zone_bytes.proofs.Placed.MastersCarved.{first-fits, masters-lays-if}
+use Rattle.zone_bytes.proofs.Placed.MastersCarved.{first-fits, masters-lays}
 use Rattle.zone_bytes.proofs.mastering.add_masters.Goals as goal
 use Rattle.zone_bytes.proofs.mastering.add_masters.Goals.{Start}
 
@@ -28,5 +28,5 @@ lay_masters-requires c =
 pub returns-clause-lays : goal.returns-clause-lays
 returns-clause-lays c = λ unused i.
     let r = here (goal.at.returns-clause-lays c).Start in
-    masters-lays-if _ _ r _ _ i _ (subst (λ n. HasMasters c.args.place n c.args.first c.args.part.now.bytes
-    c.lay_masters.new.part.bytes) (c.size_at-size.ensures r.s.here r.s.above r.at.left) c.lay_masters.ensures.masters)
+    rw r.is (masters-lays _ _ r _ _ i _ (subst (λ n. HasMasters c.args.place n c.args.first c.args.part.now.bytes
+    c.lay_masters.new.part.bytes) (c.size_at-size.ensures r.s.here r.s.above r.at.left) c.lay_masters.ensures.masters))
