@@ -70,6 +70,20 @@ module _ (at : ℕ) (xs : List ℕ) (w : IsOnWay at xs) where
   pub next-header : at < length xs → Next xs at
   next-header l = walk-next w.resource _ w.small _ _ w.walk l
 
+-- a header may be read where a block begins
+abbrev pub MayRead : ℕ → List ℕ → Type 0
+MayRead at xs = record {
+  within : (at % 4 ≡ 0) × (at + 16 ≤ length xs);
+  fits : at + 16 < 2 ^ 32;
+  tag : word_at at xs % 16 < 4;
+}
+
+pub may-read : (at : ℕ) (xs : List ℕ) → IsOnWay at xs → at < length xs → MayRead at xs
+may-read at xs w l =
+    let n = next-header at xs w l in
+    let k = w.small in
+    record { within = (n.even, n.fits); fits = omega (arith, k); tag = n.tag }
+
 pub stepped-on : (resource : ℕ → Bool) (at : ℕ) (xs : List ℕ) (small : length xs ≤ 134217728) (rest : List Block)
     → Walk resource at xs rest → ArePlaced at rest → Each (λ s. s < 2 ^ 32) (names rest)
     → at < length xs → (n t : ℕ) → n + t ≡ word_at at xs → n % 16 ≡ 0 → t ≤ 3 → Stepped at xs n t

@@ -7,7 +7,7 @@ use Rattle.zone_bytes.specs.Stepping.{left_in}
 use Rattle.zone_bytes.proofs.Placed.Resized.{resize-replaced, kept-replaced}
 use Rattle.mac_words.specs.Size.{padded}
 use Rattle.heap_words.specs.Headers.{tag_number}
-use Rattle.zone_bytes.proofs.Places.Stepped.{next-header}
+use Rattle.zone_bytes.proofs.Places.Stepped.{may-read}
 use Rattle.zone_bytes.proofs.Placed.Sizes.{Read, room-at, size-is, kind-is, way-behind, fits, ends, may-size, cut-lays}
 use Rattle.zone_bytes.proofs.Placed.Sizes.{grown-lays, free-sized, kept-cut, kept-grown, cut-if, grown-if, same-of}
 use Rattle.zone_bytes.proofs.resizing.resize_block.Goals as goal
@@ -19,21 +19,9 @@ read c =
     let e = c.read_header-header.ensures in
     record { first = e.first; even = e.size; long = e.logical; named = e.slot; marked = e.flags }
 
-pub read_header-header-requires-clause-within : goal.read_header-header-requires-clause-within
-read_header-header-requires-clause-within c =
-    let a = room-at _ _ _ _ _ c.requires.sound.2 c.requires.room in
-    let n = next-header c.args.place c.args.part.now.bytes a.3.way (omega arith) in
-    (n.even, n.fits)
-
-pub read_header-header-requires-clause-fits : goal.read_header-header-requires-clause-fits
-read_header-header-requires-clause-fits c =
-    let a = room-at _ _ _ _ _ c.requires.sound.2 c.requires.room in
-    omega arith
-
-pub read_header-header-requires-clause-tag : goal.read_header-header-requires-clause-tag
-read_header-header-requires-clause-tag c =
-    let a = room-at _ _ _ _ _ c.requires.sound.2 c.requires.room in
-    (next-header c.args.place c.args.part.now.bytes a.3.way (omega arith)).tag
+pub read_header-header-requires : goal.read_header-header-requires
+read_header-header-requires c =
+    let a = room-at _ _ _ _ _ c.requires.sound.2 c.requires.room in may-read _ _ a.3.way (omega arith)
 
 pub returns-then-not-has_content-clause-cut : goal.returns-then-not-has_content-clause-cut
 returns-then-not-has_content-clause-cut c = λ first unused i.

@@ -1,7 +1,6 @@
 use Rattle.std.proofs.Common.{◌<◌, length, sym, ◌∙◌, subst, arith}
 use Rattle.heap_words.specs.Headers.{tag_number}
-use Rattle.zone_bytes.proofs.Tiles.Tags.{tag-small}
-use Rattle.zone_bytes.proofs.Joined.FreeTags.{free-true, free-false}
+use Rattle.zone_bytes.proofs.Tiles.Tags.{tag-small, free-true, free-false}
 use Rattle.zone_bytes.proofs.Joined.Above.{next, joined-none, joined-other, one, may-free, joined-two}
 use Rattle.zone_marks.proofs.freeing.join_above.Goals as goal
 

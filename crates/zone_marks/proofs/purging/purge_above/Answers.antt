@@ -2,8 +2,7 @@ use Rattle.std.proofs.Common.{◌<◌, ◌+◌, sym, ap, ◌∙◌, subst, arith
 use Rattle.heap_words.specs.Headers.{tag_number}
 use Rattle.zone_bytes.specs.Joining.{Freeing}
 use Rattle.zone_marks.specs.Purging.{Purging, Purged, MayPurge, purge_above}
-use Rattle.zone_bytes.proofs.Tiles.Tags.{tag-small}
-use Rattle.zone_bytes.proofs.Joined.FreeTags.{free-true, free-false}
+use Rattle.zone_bytes.proofs.Tiles.Tags.{tag-small, free-true, free-false}
 use Rattle.zone_marks.proofs.Joined.PurgeStarts.{place-read, above-other, above-free}
 use Rattle.zone_marks.proofs.purging.purge_above.Goals as goal
 use Rattle.zone_marks.proofs.purging.purge_above.Goals.{then-eq, else-eq}
