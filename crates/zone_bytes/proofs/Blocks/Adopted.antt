@@ -1,11 +1,9 @@
 -- A nonrelocatable block that becomes the block of a slot.
 use Rattle.std.proofs.Common.{◌≡◌, ℕ, true, false, IsTrue, ◌==◌, ◌+◌, ◌-◌, ◌%◌, ◌≤◌}
-use Rattle.std.proofs.Common.{Some, List, [], ◌∷◌, ◌++◌, length, take, drop, sym, refl}
+use Rattle.std.proofs.Common.{Some, List, [], ◌∷◌, ◌++◌, length, drop, sym, refl}
 use Rattle.std.proofs.Common.{ap, ◌∙◌, subst, arith}
 use Rattle.std.proofs.lemmas.Bool.{false≢true}
-use Rattle.std.proofs.lemmas.List.{length-take-le}
 use Rattle.windows.specs.Writes.{written, piece}
-use Rattle.windows.proofs.Pieces.{length-written, take-written_above, drop-written_below}
 use Rattle.heap_words.specs.Words.{word, word_at, header}
 use Rattle.heap_words.proofs.Headers.{length-header}
 use Rattle.block_store.specs.declared.flags.Flags.{Flags}
@@ -29,13 +27,11 @@ use Rattle.zone_bytes.specs.Walking.{Walk}
 use Rattle.zone_bytes.specs.Table.{slot_in}
 use Rattle.zone_bytes.specs.Lawful.{IsSound}
 use Rattle.zone_bytes.specs.Adopting.{named_header, adopted}
-use Rattle.zone_bytes.proofs.Tiles.Tiling.{tile-take, tiles-one}
 use Rattle.zone_bytes.proofs.Tiles.Heads.{length-head}
 use Rattle.zone_bytes.proofs.Tiles.Splices.{outside-same, outside-written}
 use Rattle.zone_bytes.proofs.SlotTable.Slotted.{slot-reads-in, flag-kept}
 use Rattle.zone_bytes.proofs.Places.Stepped.{told-is, left-is}
-use Rattle.zone_bytes.proofs.Blocks.InPlace.{no-slots, masters-same, total-same}
-use Rattle.zone_bytes.proofs.Blocks.Writes.{tile, fits}
+use Rattle.zone_bytes.proofs.Blocks.InPlace.{no-slots, masters-same, total-same, tile, fits, tile-inside, tiles-piece}
 use Rattle.zone_bytes.proofs.Laws.Lawful.{Made, made}
 use Rattle.zone_bytes.proofs.Placed.Standing.{resource_in}
 use Rattle.zone_bytes.proofs.Placed.Named.{named-lays}
@@ -55,20 +51,6 @@ header-over : (a b c d a' b' c' d' : ℕ) (content : List ℕ)
     → written 0 (header a' b' c' d') (header a b c d ++ content) ≡ header a' b' c' d' ++ content
 unfolding word
 header-over a b c d a' b' c' d' content = refl
-
-tile-named : (a b c d a' b' c' d' n : ℕ) (content ys : List ℕ) → Tile (header a b c d ++ content) n ys
-    → Tile (header a' b' c' d' ++ content) n (written 0 (header a' b' c' d') ys)
-tile-named a b c d a' b' c' d' n content ys t =
-    let e : length (header a' b' c' d' ++ content) ≡ length (header a b c d ++ content) = omega (arith, length-head) in
-    record {
-      fits = (let q = length-written 0 (header a' b' c' d') ys (omega (arith, length-head, length-header)) in omega (arith, q));
-      whole = t.whole;
-      some = t.some;
-      room = omega (arith, e);
-      begins = ap (λ q. take q (written 0 (header a' b' c' d') ys)) e
-          ∙ take-written_above 0 (header a' b' c' d') _ _ (omega (arith, length-head, length-header))
-          (omega arith) ∙ ap (written 0 (header a' b' c' d')) t.begins ∙ header-over a b c d a' b' c' d' content;
-    }
 
 module _ (xs : List ℕ) (first count : ℕ) (i : IsSound xs first count) (number : ℕ)
     (used : IsTrue (is_used (slot_in xs number))) (none : has (is_relocatable number) (zone_in xs) ≡ false)
@@ -94,7 +76,7 @@ module _ (xs : List ℕ) (first count : ℕ) (i : IsSound xs first count) (numbe
   long = length-header (n + 3) (length content) number (flag_word flags (word_at number xs == 18))
 
   fits-in : place + n ≤ length xs
-  fits-in = fits xs first count i place 0 [] below old above whole low
+  fits-in = fits xs first count i below old above whole place low
 
   same : SameOutside place (place + n) xs mid
   same = outside-written _ _ _ _ _ head (omega arith) (omega (arith, long))
@@ -103,21 +85,12 @@ module _ (xs : List ℕ) (first count : ℕ) (i : IsSound xs first count) (numbe
   new-tile : Tile (head_of (resource_in xs) new) n (drop place mid)
   unfolding head_of
   new-tile =
-      let t = tile xs first count i place 0 [] below old above whole low in
-      let up : drop place mid ≡ written 0 head (drop place xs) =
-      drop-written_below _ _ xs place (omega arith) (omega (arith, fits-in))
-      ∙ (let v : place - place ≡ 0 = omega arith in ap (λ j. written j head (drop place xs)) v) in
       subst (λ r. Tile (header (n + 3) (length content) number (flag_word flags r) ++ content) n (drop place mid))
-      (flag-kept xs first count i number used none)
-      (subst (λ ys. Tile (head ++ content) n ys) (sym up) (tile-named _ _ 0 0 _ _ _ _ n _ _ t))
+      (flag-kept xs first count i number used none) (tile-inside _ _ head 0 n place place xs (omega arith)
+      (omega (arith, length-head, long)) (header-over _ _ 0 0 _ _ _ _ content) (tile xs first count i below old above whole place low))
 
   one : Tiles (head_of (resource_in xs)) (piece place (place + n - place) mid) (new ∷ [])
-  one =
-      let f = new-tile.fits in
-      let l : place + n - place ≡ n = omega arith in
-      subst (λ j. Tiles (head_of (resource_in xs)) (take j (drop place mid)) (new ∷ [])) (sym l)
-      (tiles-one (head_of (resource_in xs)) _ _ (length-take-le n (drop place mid) f)
-      (tile-take (head_of (resource_in xs)) _ n n _ (omega arith) f new-tile))
+  one = tiles-piece (head_of (resource_in xs)) new place (place + n - place) mid (omega arith) new-tile
 
   pub adopted-made : Made (adopted number flags place content xs) first count (below ++ new ∷ above) (slot_in xs)
   adopted-made = made _ _ (slot_in xs) _ (named-lays xs first count i number used none below (old ∷ []) above whole

@@ -25,9 +25,9 @@ use Rattle.zone_bytes.proofs.Tiles.Keeping.{chain-kept, names-free, span-free, p
 use Rattle.zone_bytes.proofs.Tiles.Splices.{piece-outside, tiles-splice, leads-splice}
 use Rattle.zone_bytes.proofs.Tiles.Replaced.{zone, is-splice}
 use Rattle.zone_bytes.proofs.SlotTable.Tables.{each-both, lies-agree}
-use Rattle.zone_bytes.proofs.Blocks.InPlace.{no-slots}
+use Rattle.zone_bytes.proofs.Blocks.InPlace.{no-slots, leads-free}
 use Rattle.zone_bytes.proofs.Blocks.Carves.{outside, clear, slot-kept, even}
-use Rattle.zone_bytes.proofs.Placed.Stretched.{tiles-two, leads-free}
+use Rattle.zone_bytes.proofs.Placed.Stretched.{tiles-two}
 use Rattle.zone_bytes.proofs.Placed.Threads.{has-slot, once-from, thread-chain}
 use Rattle.zone_bytes.proofs.Runs.Packed.{run-no_slot}
 

@@ -40,10 +40,10 @@ use Rattle.zone_bytes.proofs.Tiles.Spelling.{zone-of}
 use Rattle.zone_bytes.proofs.Places.Stepped.{word-at, left-is}
 use Rattle.zone_bytes.proofs.Places.HeaderTells.{here-on, size-at, same-here}
 use Rattle.zone_bytes.proofs.Places.Options.{the-spot, if-spot, one-spot}
-use Rattle.zone_bytes.proofs.Blocks.InPlace.{leads-each}
+use Rattle.zone_bytes.proofs.Blocks.InPlace.{leads-each, no-slots-two}
 use Rattle.zone_bytes.proofs.Blocks.Writes.{content-room}
 use Rattle.zone_bytes.proofs.Placed.Standing.{Standing, standing, held-piece, resource_in}
-use Rattle.zone_bytes.proofs.Placed.Stretched.{laid-lays, no-slots-two}
+use Rattle.zone_bytes.proofs.Placed.Stretched.{laid-lays}
 
 -- blocks that stand apart, parted into the Free one that comes first and the others
 pub headed-above : (above : List Block) → Apart above → Heading above (free_first above) (past_free above)

@@ -2,9 +2,9 @@
 use Rattle.std.proofs.Common.{◌≡◌, ℕ, Bool, true, false, cond, ◌+◌, ◌-◌, ◌*◌, ◌/◌, ◌≤◌, inl, inr, List, [], ◌∷◌}
 use Rattle.std.proofs.Common.{◌++◌, length, take, drop, sym, refl, ap, ◌∙◌, subst, arith}
 use Rattle.std.proofs.lemmas.Bool.{cases_eq}
-use Rattle.std.proofs.lemmas.List.{length-drop, length-take-le, drop-drop}
+use Rattle.std.proofs.lemmas.List.{length-drop, drop-drop}
 use Rattle.windows.specs.Writes.{written, piece}
-use Rattle.windows.proofs.Pieces.{piece-written, drop-written_below}
+use Rattle.windows.proofs.Pieces.{piece-written}
 use Rattle.heap_words.specs.Words.{word, header}
 use Rattle.heap_words.proofs.Words.{length-word}
 use Rattle.block_store.specs.declared.flags.Flags.{Flags}
@@ -15,8 +15,8 @@ use Rattle.zone_bytes.specs.Settling.{Lies}
 use Rattle.zone_bytes.specs.Splicing.{Splice, SameOutside, IsSplice}
 use Rattle.zone_bytes.specs.Table.{Has, Says, IsUsed, Lays, empty_word}
 use Rattle.zone_bytes.proofs.Blocks.Carves.{clear, outside}
-use Rattle.zone_bytes.proofs.Blocks.InPlace.{no-slots}
-use Rattle.zone_bytes.proofs.Blocks.Marked.{tile-flagged}
+use Rattle.zone_bytes.proofs.Blocks.InPlace.{no-slots, tile-inside, tiles-piece}
+use Rattle.zone_bytes.proofs.Blocks.Marked.{flagged-header}
 use Rattle.zone_bytes.proofs.SlotTable.Handles.{BlockHere}
 use Rattle.zone_bytes.proofs.SlotTable.Tables.{tiles-agree, set-other, set-same, apart-of, slot-in, apart-other}
 use Rattle.zone_bytes.proofs.SlotTable.Tables.{chain-written, lays-written}
@@ -24,7 +24,8 @@ use Rattle.zone_bytes.proofs.Tiles.Keeping.{chain-kept}
 use Rattle.zone_bytes.proofs.Tiles.Leading.{each-map, names-append, pairs-before, pairs-after}
 use Rattle.zone_bytes.proofs.Tiles.Replaced.{zone, is-splice}
 use Rattle.zone_bytes.proofs.Tiles.Splices.{outside-same, outside-written, piece-outside, leads-splice, tiles-joined}
-use Rattle.zone_bytes.proofs.Tiles.Tiling.{tiles-one, tile-take, tiles-split}
+use Rattle.zone_bytes.proofs.Tiles.Tiling.{tiles-split}
+use Rattle.zone_bytes.proofs.Tiles.Heads.{length-head}
 
 -- the flags of a header with another resource flag
 pub flags-set : (flags : Flags) (was r : Bool) → flag_word flags was / 64 * 64 + cond {A = ℕ} r 32 0 ≡ flag_word flags r
@@ -166,22 +167,13 @@ module _ (xs : List ℕ) (below : List Block) (s : ℕ) (flags : Flags) (content
     unfolding head_of
     tile-now =
         let z = size here in
-        let up : drop place new ≡ written 12 (word (flag_word flags r)) (drop place xs) =
-        drop-written_below _ _ xs place (omega arith) (omega (arith, fits))
-        ∙ (let v : place + 12 - place ≡ 12 = omega arith in
-        ap (λ j. written j (word (flag_word flags r)) (drop place xs)) v) in
-        let t = tile-flagged _ _ s _ _ z _ _ parts.1.0 in
         let e : is_resource (marked s) ≡ r = ap is_resource (set-same slots s s (Used r) refl) in
         subst (λ q. Tile (header (z + 3) (length content) s (flag_word flags q) ++ content) z (drop place new)) (sym e)
-        (subst (λ ys. Tile (header (z + 3) (length content) s (flag_word flags r) ++ content) z ys) (sym up) t)
+        (tile-inside _ _ (word (flag_word flags r)) 12 z place (place + 12) xs refl
+        (omega (arith, length-head, length-word)) (flagged-header _ _ _ _ _ content) parts.1.0)
 
     one : Tiles head (piece place (top - place) new) (here ∷ [])
-    one =
-        let f = tile-now.fits in
-        let l : top - place ≡ size here = omega arith in
-        let k = length-take-le (size here) (drop place new) f in
-        subst (λ j. Tiles head (take j (drop place new)) (here ∷ [])) (sym l) (tiles-one head _ _ k
-        (tile-take head _ _ _ _ (omega arith) f tile-now))
+    one = tiles-piece head here place (top - place) new (omega arith) tile-now
 
     tiles : Tiles head new all
     tiles =
