@@ -1,5 +1,5 @@
 -- A block whose flags are set.
-use Rattle.std.proofs.Common.{◌≡◌, ℕ, Bool, true, false, cond, ◌==◌, ◌+◌, ◌%◌, List, ◌∷◌, ◌++◌, length}
+use Rattle.std.proofs.Common.{◌≡◌, ℕ, Bool, false, cond, ◌==◌, ◌+◌, ◌%◌, List, ◌∷◌, ◌++◌, length}
 use Rattle.std.proofs.Common.{drop, sym, refl, ap, ◌∙◌, subst, arith}
 use Rattle.windows.specs.Writes.{written}
 use Rattle.heap_words.specs.Words.{word, word_at, header}
@@ -15,7 +15,7 @@ use Rattle.zone_bytes.specs.Table.{Lays, slot_in}
 use Rattle.zone_bytes.specs.Lawful.{IsSound}
 use Rattle.zone_bytes.specs.Flagged.{flagged}
 use Rattle.zone_bytes.proofs.Tiles.Heads.{length-head, first-reads, kind-small}
-use Rattle.zone_bytes.proofs.Tiles.Decoding.{says, flag_word-small}
+use Rattle.zone_bytes.proofs.Tiles.Decoding.{says, flag_word-small, high-flags, low-flag}
 use Rattle.zone_bytes.proofs.Places.Stepped.{word-at}
 use Rattle.zone_bytes.proofs.Blocks.InPlace.{masters-same, total-same, tile, inside-made}
 use Rattle.zone_bytes.proofs.Laws.Lawful.{Made, made}
@@ -26,32 +26,6 @@ pub flagged-header : (a b c d w : ℕ) (content : List ℕ)
     → written 12 (word w) (header a b c d ++ content) ≡ header a b c w ++ content
 unfolding word
 flagged-header a b c d w content = refl
-
-flags-joined : (old flags : Flags) (r : Bool) → flag_word flags false + flag_word old r % 64 ≡ flag_word flags r
-flags-joined old flags r = ap (λ n. flag_word flags false + n) (kept old.locked old.purgeable r)
-    ∙ both flags.locked flags.purgeable r
-  where
-    kept : (l p r : Bool) → (cond {A = ℕ} l 128 0 + cond {A = ℕ} p 64 0 + cond {A = ℕ} r 32 0) % 64 ≡ cond {A = ℕ} r
-        32 0
-    kept true true true = refl
-    kept true true false = refl
-    kept true false true = refl
-    kept true false false = refl
-    kept false true true = refl
-    kept false true false = refl
-    kept false false true = refl
-    kept false false false = refl
-
-    both : (l p r : Bool) → (cond {A = ℕ} l 128 0 + cond {A = ℕ} p 64 0 + 0) + cond {A = ℕ} r 32 0 ≡ cond {A = ℕ} l
-        128 0 + cond {A = ℕ} p 64 0 + cond {A = ℕ} r 32 0
-    both true true true = refl
-    both true true false = refl
-    both true false true = refl
-    both true false false = refl
-    both false true true = refl
-    both false true false = refl
-    both false false true = refl
-    both false false false = refl
 
 module _ (xs : List ℕ) (first count : ℕ) (i : IsSound xs first count) (place : ℕ) (flags : Flags) where
   abbrev resource : ℕ → Bool
@@ -91,8 +65,8 @@ module _ (xs : List ℕ) (first count : ℕ) (i : IsSound xs first count) (place
       let q = says z (z + 3) (length content) slot (flag_word old (resource slot)) content (drop place xs) t in
       let g = flag_word-small old (resource slot) in
       let e = read_back _ _ _ (omega (arith, g)) (word-at place 12 xs ∙ q.2) in
-      let w : flag_word flags false + word_at (place + 12) xs % 64 ≡ flag_word flags (resource slot) = ap
-      (λ n. flag_word flags false + n % 64) e ∙ flags-joined _ _ _ in
+      let w : flag_word flags false + word_at (place + 12) xs % 64 ≡ flag_word flags (resource slot) =
+      let h = high-flags old in ap (λ n. flag_word flags false + n % 64) e ∙ omega (arith, h, low-flag) in
       let new = written (place + 12) (word (flag_word flags (resource slot))) xs in
       let is : flagged flags place xs ≡ new =
       ap (λ v. cond v (written (place + 12) (word (flag_word flags false + word_at (place + 12) xs % 64)) xs) xs)

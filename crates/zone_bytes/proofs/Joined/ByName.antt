@@ -110,17 +110,8 @@ module _ (t : Table) (slot : ℕ) (xs : List ℕ) (h : HasHandle t slot xs) wher
     pub leading-replaced : (lo hi : ℕ) → Replaced lo hi (leading.below ++ leading.here ∷ leading.above)
         (tidy (leading.below ++ Free (size leading.here) ∷ leading.above))
         → Replaced lo hi t.blocks (tidy (freed (is_relocatable slot) t.blocks))
-    leading-replaced lo hi r = record {
-      below = r.below;
-      here = r.here;
-      there = r.there;
-      above = r.above;
-      was = f.block.whole ∙ r.was;
-      is = leading-is ∙ r.is;
-      low = r.low;
-      high = r.high;
-      span = r.span;
-    }
+    leading-replaced lo hi r = subst (λ z. Replaced lo hi z (tidy (freed (is_relocatable slot) t.blocks))) (sym f.block.whole)
+        (subst (Replaced lo hi (leading.below ++ leading.here ∷ leading.above)) (sym leading-is) r)
 
     pub leading-free : (n : ℕ) → n ≡ size (Relocatable slot f.block.flags f.block.content)
         → free_sum (tidy (freed (is_relocatable slot) t.blocks)) ≡ free_sum t.blocks + n

@@ -1,5 +1,5 @@
 -- A handle's resource flag is set or cleared.
-use Rattle.std.proofs.Common.{◌≡◌, ℕ, Bool, true, false, cond, ◌+◌, ◌-◌, ◌*◌, ◌/◌, ◌≤◌, inl, inr, List, [], ◌∷◌}
+use Rattle.std.proofs.Common.{◌≡◌, ℕ, Bool, cond, ◌+◌, ◌-◌, ◌*◌, ◌/◌, ◌≤◌, inl, inr, List, [], ◌∷◌}
 use Rattle.std.proofs.Common.{◌++◌, length, take, drop, sym, refl, ap, ◌∙◌, subst, arith}
 use Rattle.std.proofs.lemmas.Bool.{cases_eq}
 use Rattle.std.proofs.lemmas.List.{length-drop, drop-drop}
@@ -26,22 +26,11 @@ use Rattle.zone_bytes.proofs.Tiles.Replaced.{zone, is-splice}
 use Rattle.zone_bytes.proofs.Tiles.Splices.{outside-same, outside-written, piece-outside, leads-splice, tiles-joined}
 use Rattle.zone_bytes.proofs.Tiles.Tiling.{tiles-split}
 use Rattle.zone_bytes.proofs.Tiles.Heads.{length-head}
+use Rattle.zone_bytes.proofs.Tiles.Decoding.{high-flags, low-flag}
 
 -- the flags of a header with another resource flag
 pub flags-set : (flags : Flags) (was r : Bool) → flag_word flags was / 64 * 64 + cond {A = ℕ} r 32 0 ≡ flag_word flags r
-flags-set flags was r = ap (λ n. n + cond {A = ℕ} r 32 0) (others flags.locked flags.purgeable was)
-  where
-    others : (l p r : Bool)
-        → (cond {A = ℕ} l 128 0 + cond {A = ℕ} p 64 0 + cond {A = ℕ} r 32 0) / 64 * 64 ≡ cond {A = ℕ} l 128 0 + cond
-        {A = ℕ} p 64 0
-    others true true true = refl
-    others true true false = refl
-    others true false true = refl
-    others true false false = refl
-    others false true true = refl
-    others false true false = refl
-    others false false true = refl
-    others false false false = refl
+flags-set flags was r = let h = high-flags flags in omega (arith, h, low-flag)
 
 used-no-unused : (r : Bool) → Used r ≡ Unused → ⊥
 used-no-unused r e = cc

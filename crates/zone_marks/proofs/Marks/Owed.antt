@@ -116,14 +116,4 @@ filled-replaced xs place need r new solid fits bytes e zone is =
 -- the same change, of zones known by other names
 pub replaced-as : (lo hi : ℕ) (old new was is : List Block) → was ≡ old → is ≡ new → Replaced lo hi old new
     → Replaced lo hi was is
-replaced-as lo hi old new was is e f r = record {
-  below = r.below;
-  here = r.here;
-  there = r.there;
-  above = r.above;
-  was = e ∙ r.was;
-  is = f ∙ r.is;
-  low = r.low;
-  high = r.high;
-  span = r.span;
-}
+replaced-as lo hi old new was is e f r = subst (λ z. Replaced lo hi z is) (sym e) (subst (Replaced lo hi old) (sym f) r)

@@ -1,4 +1,4 @@
-use Rattle.zone_bytes.proofs.FreshZones.FreshSlots.{fresh-lays}
+use Rattle.zone_bytes.proofs.FreshZones.FreshZone.{fresh-lays}
 use Rattle.zone_bytes.proofs.fresh.make_fresh.Goals as goal
 
 pub returns-clause-lays : goal.returns-clause-lays
