@@ -17,6 +17,7 @@ use Rattle.zone_bytes.specs.Lawful.{IsSound}
 use Rattle.zone_bytes.proofs.Tiles.Heads.{length-head}
 use Rattle.zone_bytes.proofs.Laws.Lawful.{Made, made}
 use Rattle.zone_bytes.proofs.Blocks.InPlace.{masters-same, total-same, tile, fits, inside-made}
+use Rattle.block_store.proofs.Zone.Leading.{is_masters-content}
 
 -- a list written past its first part
 pub written-past : (a b x : List ℕ) (i : ℕ) → written (length a + i) x (a ++ b) ≡ a ++ written i x b
@@ -95,15 +96,15 @@ module _ (xs : List ℕ) (first count : ℕ) (i : IsSound xs first count) (place
 
 pub masters-kept : (x : List ℕ) (below : List Block) (b : Block) (above : List Block)
     → count is_masters (below ++ with_content x b ∷ above) ≡ count is_masters (below ++ b ∷ above)
-masters-kept x below (Free n) above = refl
-masters-kept x below (Nonrelocatable id content) above = masters-same _ _ _ _ refl
-masters-kept x below Masters above = refl
-masters-kept x below (Relocatable slot flags content) above = masters-same _ _ _ _ refl
+masters-kept x below b above = masters-same below above b (with_content x b) (is_masters-content x b)
+
+pub free-content : (x : List ℕ) (b : Block) → free_of (with_content x b) ≡ free_of b
+free-content x (Free n) = refl
+free-content x (Nonrelocatable id content) = refl
+free-content x Masters = refl
+free-content x (Relocatable slot flags content) = refl
 
 -- the Free bytes stay
 pub free-kept : (x : List ℕ) (below : List Block) (b : Block) (above : List Block)
     → free_sum (below ++ with_content x b ∷ above) ≡ free_sum (below ++ b ∷ above)
-free-kept x below (Free n) above = refl
-free-kept x below (Nonrelocatable id content) above = total-same free_of _ _ _ _ refl
-free-kept x below Masters above = refl
-free-kept x below (Relocatable slot flags content) above = total-same free_of _ _ _ _ refl
+free-kept x below b above = total-same free_of below above b (with_content x b) (free-content x b)

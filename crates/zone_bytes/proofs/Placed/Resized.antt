@@ -16,7 +16,7 @@ use Rattle.zone_bytes.specs.Decode.{zone_in}
 use Rattle.zone_bytes.specs.Table.{Lays, slot_in}
 use Rattle.zone_bytes.specs.Lawful.{IsSound}
 use Rattle.zone_bytes.proofs.Laws.Lawful.{Made, made}
-use Rattle.zone_bytes.proofs.Places.Options.{the-if, if-spot, one-spot}
+use Rattle.zone_bytes.proofs.Places.Options.{the-if}
 use Rattle.zone_bytes.proofs.Placed.Standing.{Standing}
 use Rattle.zone_bytes.specs.Laying.{free_first, past_free}
 use Rattle.zone_bytes.specs.Changes.{Replaced}
@@ -88,16 +88,12 @@ module _ (xs now : List ℕ) (first unused place n : ℕ) (i : IsSound xs first 
 
   pub cut-zone : IfSome (spot_at place (zone_in xs)) (λ s. size (resized n s.here) ≤ size s.here
       → zone_in now ≡ filled (resized n s.here) s)
-  cut-zone = if-spot _ _ (λ t q. subst (λ r. size (resized n r.here) ≤ size r.here
-      → zone_in now ≡ filled (resized n r.here) r) (one-spot _ s t e q)
-      (λ le. resize-made.made.zone ∙ resize-made.cut le))
+  cut-zone = rw e (λ le. resize-made.made.zone ∙ resize-made.cut le)
 
   pub grown-zone : IfSome (spot_at place (zone_in xs)) (λ s. size s.here < size (resized n s.here)
       → IfSome (grow_up (resized n s.here) s) (λ after. zone_in now ≡ after))
-  grown-zone = if-spot _ _ (λ t q. subst (λ r. size r.here < size (resized n r.here)
-      → IfSome (grow_up (resized n r.here) r) (λ after. zone_in now ≡ after)) (one-spot _ s t e q)
-      (λ more. subst (λ bs. IfSome (grow_up new s) (λ after. bs ≡ after)) (sym resize-made.made.zone)
-      (resize-made.grown more)))
+  grown-zone = rw e (λ more. subst (λ bs. IfSome (grow_up new s) (λ after. bs ≡ after)) (sym resize-made.made.zone)
+      (resize-made.grown more))
 
   -- so the blocks from the place up to the top of the Free block above became others
   pub resize-replaced : is_free new ≡ false → size new ≤ size s.here + free_first s.above

@@ -39,7 +39,7 @@ use Rattle.zone_bytes.proofs.Tiles.Keeping.{names-free, span-free}
 use Rattle.zone_bytes.proofs.Tiles.Spelling.{zone-of}
 use Rattle.zone_bytes.proofs.Places.Stepped.{word-at, left-is}
 use Rattle.zone_bytes.proofs.Places.HeaderTells.{here-on, size-at, same-here}
-use Rattle.zone_bytes.proofs.Places.Options.{the-spot, if-spot, one-spot}
+use Rattle.zone_bytes.proofs.Places.Options.{the-spot}
 use Rattle.zone_bytes.proofs.Blocks.InPlace.{leads-each, no-slots-two}
 use Rattle.zone_bytes.proofs.Blocks.Writes.{content-room}
 use Rattle.zone_bytes.proofs.Placed.Standing.{Standing, standing, held-piece, resource_in}
@@ -327,21 +327,6 @@ module _ (xs : List ℕ) (place n : ℕ) (s : Spot) (at : Standing xs place s) (
   pub kept-grown : size s.here < size (resized n s.here)
       → IfSome (grow_up (resized n s.here) s) (λ after. Lays xs after (slot_in xs) i.unused)
   kept-grown more = absurd (let z = ap size (unsized n _ none) in omega (arith, z, more))
-
--- at the spot of a place
-module _ (xs now : List ℕ) (place n : ℕ) (s : Spot) (e : spot_at place (zone_in xs) ≡ Some s) (unused : List ℕ) where
-  pub cut-if : (size (resized n s.here) ≤ size s.here → Lays now (filled (resized n s.here) s) (slot_in xs) unused)
-      → IfSome (spot_at place (zone_in xs)) (λ s. size (resized n s.here) ≤ size s.here
-      → Lays now (filled (resized n s.here) s) (slot_in xs) unused)
-  cut-if f = if-spot _ _ (λ t q. subst (λ r. size (resized n r.here) ≤ size r.here
-      → Lays now (filled (resized n r.here) r) (slot_in xs) unused) (one-spot _ s t e q) f)
-
-  pub grown-if : (size s.here < size (resized n s.here)
-      → IfSome (grow_up (resized n s.here) s) (λ after. Lays now after (slot_in xs) unused))
-      → IfSome (spot_at place (zone_in xs)) (λ s. size s.here < size (resized n s.here)
-      → IfSome (grow_up (resized n s.here) s) (λ after. Lays now after (slot_in xs) unused))
-  grown-if f = if-spot _ _ (λ t q. subst (λ r. size r.here < size (resized n r.here)
-      → IfSome (grow_up (resized n r.here) r) (λ after. Lays now after (slot_in xs) unused)) (one-spot _ s t e q) f)
 
 -- the spot, and what is known of it
 pub room-at : (xs : List ℕ) (first unused place n : ℕ) → IsSound xs first unused

@@ -18,7 +18,7 @@ use Rattle.zone_bytes.proofs.Blocks.Carves.{clear, outside}
 use Rattle.zone_bytes.proofs.Blocks.InPlace.{no-slots, tile-inside, tiles-piece}
 use Rattle.zone_bytes.proofs.Blocks.Marked.{flagged-header}
 use Rattle.zone_bytes.proofs.SlotTable.Handles.{BlockHere}
-use Rattle.zone_bytes.proofs.SlotTable.Tables.{tiles-agree, set-other, set-same, apart-of, slot-in, apart-other}
+use Rattle.zone_bytes.proofs.SlotTable.Tables.{tiles-agree, set-other, set-same, slot-in, apart-other, used-apart}
 use Rattle.zone_bytes.proofs.SlotTable.Tables.{chain-written, lays-written}
 use Rattle.zone_bytes.proofs.Tiles.Keeping.{chain-kept}
 use Rattle.zone_bytes.proofs.Tiles.Leading.{each-map, names-append, pairs-before, pairs-after}
@@ -32,9 +32,6 @@ use Rattle.zone_bytes.proofs.Tiles.Decoding.{high-flags, low-flag}
 pub flags-set : (flags : Flags) (was r : Bool) → flag_word flags was / 64 * 64 + cond {A = ℕ} r 32 0 ≡ flag_word flags r
 flags-set flags was r = let h = high-flags flags in omega (arith, h, low-flag)
 
-used-no-unused : (r : Bool) → Used r ≡ Unused → ⊥
-used-no-unused r e = cc
-
 module _ (xs : List ℕ) (blocks : List Block) (slots : ℕ → Slot) (unused : List ℕ) (h : Lays xs blocks slots unused)
     (s : ℕ) (was r : Bool) (u : slots s ≡ Used was) where
   abbrev now : ℕ → Slot
@@ -45,16 +42,11 @@ module _ (xs : List ℕ) (blocks : List Block) (slots : ℕ → Slot) (unused : 
 
   -- an unused slot is another, and stays unused
   unused-still : (t : ℕ) → slots t ≡ Unused → now t ≡ Unused
-  unused-still t e = set-other slots s t _ (λ k. used-no-unused _ (sym u ∙ ap slots (sym k) ∙ e)) ∙ e
+  unused-still t e = set-other slots s t _ (λ k. let z : Used was ≡ Unused = sym u ∙ ap slots (sym k) ∙ e in cc) ∙ e
 
   still-unused : Each (λ t. IsSlot t blocks × (now t ≡ Unused)) unused
   still-unused = each-map (λ t. IsSlot t blocks × (slots t ≡ Unused)) (λ t. IsSlot t blocks × (now t ≡ Unused))
       (λ t q. (q.0, unused-still t q.1)) _ h.unused_slots
-
-  apart-unused : Each (Apart s) unused
-  apart-unused = each-map (λ t. IsSlot t blocks × (slots t ≡ Unused)) (Apart s)
-      (λ t q. apart-of _ _ slots _ h s t is-slot q.0 (λ e. used-no-unused _ (sym u ∙ ap slots e ∙ q.1)))
-      _ h.unused_slots
 
   -- the flag in the word of an empty handle
   pub lays-emptied : Each (Apart s) (names blocks) → Lays (written s (word (empty_word r)) xs) blocks now unused
@@ -63,7 +55,7 @@ module _ (xs : List ℕ) (blocks : List Block) (slots : ℕ → Slot) (unused : 
       let b = slot-in xs blocks slots unused h s is-slot in
       lays-written _ _ slots _ h s n _ _ is-slot a (λ t d e k. k)
       (is-slot, inr (a, piece-written s _ _ 4 (sym (length-word n)) (omega (arith, b))))
-      (chain-written _ _ slots _ h s n _ (omega (arith, b)) apart-unused h.chain) still-unused h.once
+      (chain-written _ _ slots _ h s n _ (omega (arith, b)) (used-apart xs blocks slots unused h s was is-slot u) h.chain) still-unused h.once
 
   -- the flag in a header
   module _ (new : List ℕ) (lies : Lies (λ t. is_resource (now t)) blocks new) (mine : Has (names blocks) s)

@@ -96,6 +96,11 @@ module _ (xs : List ℕ) (blocks : List Block) (slots : ℕ → Slot) (unused : 
         ]
       ]
 
+  -- the slot of a handle is apart from the unused ones
+  pub used-apart : (s : ℕ) (r : Bool) → IsSlot s blocks → slots s ≡ Used r → Each (Apart s) unused
+  used-apart s r i u = each-map (λ t. IsSlot t blocks × (slots t ≡ Unused)) (Apart s)
+      (λ t q. apart-of s t i q.0 (λ e. let z : Used r ≡ Unused = sym u ∙ ap slots e ∙ q.1 in cc)) unused h.unused_slots
+
   pub slot-in : (s : ℕ) → IsSlot s blocks → (s % 4 ≡ 0) × (s + 4 ≤ length xs)
   slot-in s i = ((slot-even head _ s _ h.lies.tiles i), omega (arith, slot-inside, length-tiles))
 

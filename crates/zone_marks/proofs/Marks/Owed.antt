@@ -25,14 +25,9 @@ use Rattle.zone_marks.proofs.Marks.Between.{one-same}
 use Rattle.zone_marks.proofs.Marks.Keeping.{marks-same, carved-replaced}
 use Rattle.zone_summary.specs.Stretches.{counted, one, space}
 use Rattle.zone_bytes.proofs.Placed.NonrelocatableCarved.{Roomy}
+use Rattle.zone_bytes.proofs.Blocks.Writes.{free-content}
 
 -- a block whose content is another of as many bytes
-free-content : (x : List ℕ) (b : Block) → free_of (with_content x b) ≡ free_of b
-free-content x (Free n) = refl
-free-content x (Nonrelocatable id content) = refl
-free-content x Masters = refl
-free-content x (Relocatable id flags content) = refl
-
 ends-content : (x : List ℕ) (b : Block) → ends_run (with_content x b) ≡ ends_run b
 ends-content x (Free n) = refl
 ends-content x (Nonrelocatable id content) = refl
