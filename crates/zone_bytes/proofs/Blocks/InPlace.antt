@@ -13,7 +13,7 @@ use Rattle.zone_bytes.specs.Splicing.{SameOutside}
 use Rattle.zone_bytes.specs.Decode.{zone_in}
 use Rattle.zone_bytes.specs.Table.{Lays, slot_in}
 use Rattle.zone_bytes.specs.Lawful.{IsSound}
-use Rattle.zone_bytes.proofs.Tiles.Tiling.{tiles-one, tile-take, tiles-split}
+use Rattle.zone_bytes.proofs.Tiles.Tiling.{tiles-one, tile-take}
 use Rattle.zone_bytes.proofs.Tiles.Leading.{each-left, each-right, names-append, leads-right}
 use Rattle.zone_bytes.proofs.SlotTable.Tables.{each-both}
 use Rattle.zone_bytes.proofs.Tiles.Splices.{piece-outside, outside-same, outside-written}
@@ -24,6 +24,7 @@ use Rattle.block_store.specs.Slot.{is_resource}
 use Rattle.windows.proofs.Pieces.{length-written, take-written_above, drop-written_below}
 use Rattle.zone_bytes.proofs.Tiles.Keeping.{each-free, names-free, placed-right, placed-run}
 use Rattle.zone_bytes.proofs.Runs.Packed.{run-no_slot}
+use Rattle.zone_bytes.proofs.Joined.Ways.{tile-at}
 
 -- where a slot leads hangs on the block's names alone
 pub leads-each : (o : ℕ) (b : Block) (xs : List ℕ) → LeadsTo o b xs → Each (λ s. piece s 4 xs ≡ word o) (names_of b)
@@ -132,9 +133,7 @@ module _ (xs : List ℕ) (first count : ℕ) (i : IsSound xs first count) (below
   head = head_of (λ s. is_resource (slot_in xs s))
 
   pub tile : Tile (head here) (size here) (drop place xs)
-  tile =
-      let t = tiles-split head _ _ (here ∷ above) (subst (Tiles head xs) whole i.lays.lies.tiles) in
-      subst (λ j. Tile (head here) (size here) (drop j xs)) low t.1.0
+  tile = tile-at xs below here above (slot_in xs) i.unused (subst (λ z. Lays xs z (slot_in xs) i.unused) whole i.lays) place low
 
   pub fits : place + size here ≤ length xs
   fits = omega (arith, tile.fits, length-drop place xs, tile.some)
