@@ -1,16 +1,16 @@
 -- A stretch of a zone without slots, and a Free block in its place.
-use Rattle.std.proofs.Common.{◌≡◌, ℕ, ◌+◌, ◌-◌, ◌%◌, ◌≤◌, ◌⊎◌, inl, inr, List, [], ◌∷◌, ◌++◌}
-use Rattle.std.proofs.Common.{length, drop, sym, ◌∙◌, subst, arith}
+use Rattle.std.proofs.Common.{◌≡◌, ℕ, ◌+◌, ◌-◌, ◌%◌, ◌≤◌, inl, inr, List, [], ◌∷◌, ◌++◌}
+use Rattle.std.proofs.Common.{length, drop, sym, ◌∙◌, arith}
 use Rattle.std.proofs.lemmas.List.{length-take-le, length-drop, take-take}
 use Rattle.windows.specs.Writes.{written, piece}
 use Rattle.heap_words.specs.Words.{word}
 use Rattle.heap_words.proofs.Words.{length-word}
 use Rattle.windows.proofs.Pieces.{piece-written}
 use Rattle.block_store.specs.Block.{Block, Free, sizes}
-use Rattle.zone_bytes.specs.Layout.{head_of, names, IsSlot, Each}
+use Rattle.zone_bytes.specs.Layout.{head_of, names, IsSlot, Each, Tiles, Leads}
 use Rattle.zone_bytes.specs.Settling.{Lies}
 use Rattle.zone_bytes.specs.Splicing.{SameOutside, Splice, IsSplice}
-use Rattle.zone_bytes.proofs.Tiles.Tiling.{span-append, length-tiles, slot-inside, slot-split, slot-swap}
+use Rattle.zone_bytes.proofs.Tiles.Tiling.{span-append, length-tiles, slot-inside, slot-split}
 use Rattle.zone_bytes.proofs.Tiles.Tiling.{tiles-one, tiles-split}
 use Rattle.zone_bytes.proofs.Tiles.Leading.{Clear, each-map}
 use Rattle.zone_bytes.proofs.Runs.Packed.{span-whole}
@@ -33,20 +33,14 @@ module _ (zone : Splice) (bottom top : ℕ) (xs : List ℕ) (h : IsSplice zone b
       (omega (arith, span-whole), omega (arith, span-whole))
 
   -- a slot is below the stretch or above it
-  pub spot : (s : ℕ) → IsSlot s all
-      → ((s + 4 ≤ bottom) × IsSlot s zone.below) ⊎ ((top ≤ s) × IsSlot (s - top) zone.above)
-  spot s i = elim (slot-split s _ _ i) [
-    | inl j ↦ inl (omega (arith, slot-inside), j)
+  pub outside : (s : ℕ) → IsSlot s all → Clear bottom (top - bottom) s
+  outside s i = elim (slot-split s _ _ i) [
+    | inl j ↦ inl (omega (arith, slot-inside s zone.below j))
     | inr j ↦ elim (slot-split (s - sizes zone.below) zone.here zone.above j.1) [
       | inl k ↦ absurd (h.no_masters (s - sizes zone.below) k)
-      | inr k ↦
-          let e : s - sizes zone.below - sizes zone.here ≡ s - top = omega arith in
-          inr (omega (arith, j.0, k.0), subst (λ q. IsSlot q zone.above) e k.1)
+      | inr k ↦ inr (omega (arith, j.0, k.0))
     ]
   ]
-
-  pub outside : (s : ℕ) → IsSlot s all → Clear bottom (top - bottom) s
-  outside s i = elim (spot s i) [ inl j ↦ inl j.0 | inr j ↦ inr (omega arith) ]
 
   pub clear : Each (Clear bottom (top - bottom)) (names zone.below) × Each (Clear bottom (top - bottom))
       (names zone.above)
@@ -55,10 +49,16 @@ module _ (zone : Splice) (bottom top : ℕ) (xs : List ℕ) (h : IsSplice zone b
     each-map (λ s. IsSlot s all) (Clear bottom (top - bottom)) outside (names zone.above) h.slots.1,
   )
 
-  -- a slot of other blocks in the stretch's place
-  pub slot-kept : (s : ℕ) (here : List Block) → sizes here ≡ sizes zone.here → IsSlot s all
-      → IsSlot s (zone.below ++ (here ++ zone.above))
-  slot-kept s here e i = slot-swap s _ _ _ _ (h.no_masters _) e i
+  -- other blocks in the stretch's place
+  pub lies-put : (now : List Block) (new : List ℕ) → SameOutside bottom top xs new
+      → Tiles (head_of zone.resource) (piece bottom (top - bottom) new) now → sizes now ≡ sizes zone.here
+      → Leads bottom now new → Lies zone.resource (zone.below ++ (now ++ zone.above)) new
+  lies-put now new same t e l = record {
+    tiles = tiles-splice (head_of zone.resource) xs new zone.below zone.here zone.above now bottom top h.low h.high
+        h.lies.tiles same t;
+    leads = leads-splice xs new zone.below zone.here zone.above now bottom top h.low h.high e h.lies.leads same clear.0
+        clear.1 l;
+  }
 
   -- one Free block
   pub freed : let new = written bottom (word (top - bottom)) xs in
@@ -77,11 +77,6 @@ module _ (zone : Splice) (bottom top : ℕ) (xs : List ℕ) (h : IsSplice zone b
       (take-take 4 n (drop bottom new) (omega (arith, e))
       ∙ piece-written bottom (word n) xs 4 (sym w) (omega (arith, b))) in
       let f : n + 0 ≡ sizes zone.here = omega arith in (
-        record {
-          tiles = tiles-splice head xs new zone.below zone.here _ (Free n ∷ []) bottom top h.low h.high
-              h.lies.tiles same (tiles-one head (Free n) (piece bottom n new) l tile);
-          leads = leads-splice xs new zone.below zone.here zone.above (Free n ∷ []) bottom top h.low h.high f
-              h.lies.leads same clear.0 clear.1 (tt, tt);
-        },
+        lies-put (Free n ∷ []) new same (tiles-one head (Free n) (piece bottom n new) l tile) f (tt, tt),
         same,
       )

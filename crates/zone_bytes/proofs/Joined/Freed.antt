@@ -14,11 +14,10 @@ use Rattle.zone_bytes.specs.Settling.{Lies, HasSlots}
 use Rattle.zone_bytes.specs.Splicing.{Splice, SameOutside, IsSplice}
 use Rattle.zone_bytes.specs.Joining.{Freeing, MayFree}
 use Rattle.zone_bytes.specs.Table.{Has, IsUsed, Lays, empty_word}
-use Rattle.zone_bytes.proofs.Tiles.Tiling.{span-append, length-tiles, slot-inside, slot-split, tiles-slot}
+use Rattle.zone_bytes.proofs.Tiles.Tiling.{span-append, length-tiles, slot-inside, slot-split, tiles-slot, slot-swap}
 use Rattle.zone_bytes.proofs.Tiles.Leading.{each-right, each-map, each-append, names-append, pairs-before}
 use Rattle.zone_bytes.proofs.Tiles.Leading.{pairs-after, piece-clear, leads-written}
-use Rattle.zone_bytes.proofs.Tiles.Keeping.{lays-kept, names-free, span-free, each-free, slot-run, placed-append}
-use Rattle.zone_bytes.proofs.Tiles.Keeping.{placed-left, placed-right}
+use Rattle.zone_bytes.proofs.Tiles.Keeping.{lays-kept, names-free, span-free, each-free, slot-run, placed-swap}
 use Rattle.zone_bytes.proofs.Tiles.Changing.{lays-removed}
 use Rattle.zone_bytes.proofs.Tiles.Replaced.{zone, is-splice}
 use Rattle.zone_bytes.proofs.Tiles.Splices.{piece-outside}
@@ -29,7 +28,7 @@ use Rattle.zone_bytes.proofs.Places.Stepped.{word-at}
 use Rattle.zone_bytes.proofs.SlotTable.Tables.{apart-clear}
 use Rattle.zone_bytes.proofs.Runs.Packed.{length-masters, run-no_slot, slot-even}
 use Rattle.block_store.proofs.Zone.Spots.{free-some}
-use Rattle.zone_bytes.proofs.Blocks.Carves.{outside, slot-kept}
+use Rattle.zone_bytes.proofs.Blocks.Carves.{outside}
 use Rattle.zone_bytes.proofs.Blocks.InPlace.{no-slots}
 use Rattle.zone_bytes.proofs.Joined.Ways.{Read, read, tile-at}
 
@@ -159,18 +158,13 @@ module _ (f : Freeing) (start at : ℕ) (xs : List ℕ) (m : MayFree f start at 
         span-one = let e = span-joined in omega (arith, e, t)
 
         into : (s : ℕ) → IsSlot s all → IsSlot s now
-        into s i = slot-kept z _ _ xs is s one span-one i
+        into s i = slot-swap s f.below joined one f.above (none _) span-one i
 
         back : (s : ℕ) → IsSlot s now → IsSlot s all
         back s i = slot-run s f.below one joined f.above (refl, tt) (sym span-one) i
 
         placed : ArePlaced 0 now
-        placed =
-            let p = placed-right 0 f.below (joined ++ f.above) laid.placed in
-            let q = placed-right (0 + sizes f.below) joined f.above p in
-            placed-append 0 _ _ (placed-left 0 f.below (joined ++ f.above) laid.placed)
-            (placed-append _ one f.above (tt, tt)
-            (subst (λ k. ArePlaced (0 + sizes f.below + k) f.above) (sym span-one) q))
+        placed = placed-swap 0 f.below joined one f.above span-one (tt, tt) laid.placed
 
         names-now : names now ≡ names f.below ++ names f.above
         names-now = names-append f.below (one ++ f.above)

@@ -9,7 +9,7 @@ use Rattle.heap_words.specs.Words.{word}
 use Rattle.heap_words.proofs.Headers.{length-header}
 use Rattle.block_store.specs.Block.{Block, Free, Masters, sizes, free}
 use Rattle.block_store.specs.Slot.{Slot, NoSlot, Unused, Used, is_resource}
-use Rattle.zone_bytes.specs.Layout.{head_of, Tile, Tiles, IsSlot, names, Each, Pairs, Apart, ArePlaced}
+use Rattle.zone_bytes.specs.Layout.{head_of, Tile, Tiles, IsSlot, names, Each, Pairs, Apart}
 use Rattle.zone_bytes.specs.Settling.{Lies}
 use Rattle.zone_bytes.specs.Splicing.{SameOutside, Splice, IsSplice}
 use Rattle.zone_bytes.specs.Fresh.{slots_from}
@@ -20,13 +20,13 @@ use Rattle.heap_words.specs.declared.header.Header.{Header}
 use Rattle.heap_words.specs.declared.header.Tag.TheVariants as tag
 use Rattle.zone_bytes.proofs.Placed.Laid.{laid-outside, laid-left, laid-first}
 use Rattle.zone_bytes.proofs.Tiles.Tiling.{slot-swap, slot-append_right}
-use Rattle.zone_bytes.proofs.Tiles.Leading.{Clear, each-append, each-map, names-append}
-use Rattle.zone_bytes.proofs.Tiles.Keeping.{chain-kept, names-free, span-free, placed-append, placed-left, placed-right, each-free, placed-run}
-use Rattle.zone_bytes.proofs.Tiles.Splices.{piece-outside, tiles-splice, leads-splice}
+use Rattle.zone_bytes.proofs.Tiles.Leading.{Clear, each-append, each-map}
+use Rattle.zone_bytes.proofs.Tiles.Keeping.{chain-kept, names-free, span-free, each-free, placed-run, placed-swap, names-swap}
+use Rattle.zone_bytes.proofs.Tiles.Splices.{piece-outside}
 use Rattle.zone_bytes.proofs.Tiles.Replaced.{zone, is-splice}
 use Rattle.zone_bytes.proofs.SlotTable.Tables.{each-both, lies-agree}
 use Rattle.zone_bytes.proofs.Blocks.InPlace.{no-slots, leads-free}
-use Rattle.zone_bytes.proofs.Blocks.Carves.{outside, clear, slot-kept, even}
+use Rattle.zone_bytes.proofs.Blocks.Carves.{outside, even, lies-put}
 use Rattle.zone_bytes.proofs.Placed.Stretched.{tiles-two}
 use Rattle.zone_bytes.proofs.Placed.Threads.{has-slot, once-from, thread-chain}
 use Rattle.zone_bytes.proofs.Runs.Packed.{run-no_slot}
@@ -173,17 +173,10 @@ module _ (xs : List ℕ) (below above : List Block) (n : ℕ) (slots : ℕ → S
         (omega (arith, evens)) masters-tile m.rest
 
     lies : Lies resource with_masters new
-    lies =
-        let c = clear z place top xs st in
-        record {
-          tiles = tiles-splice (head_of resource) _ _ _ (Free n ∷ []) _ put place top low high h.lies.tiles
-              m.outside tiles;
-          leads = leads-splice _ _ below (Free n ∷ []) above put place top low high span h.lies.leads m.outside c.0 c.1
-              (tt, leads-free (place + 272) left new);
-        }
+    lies = lies-put z place top xs st put new m.outside tiles span (tt, leads-free (place + 272) left new)
 
     forth : (s : ℕ) → IsSlot s all → IsSlot s with_masters
-    forth s i = slot-kept z _ _ xs st s put span i
+    forth s i = slot-swap s below (Free n ∷ []) put above (plain _) span i
 
     new-slot : (s : ℕ) → place + 16 ≤ s → s + 4 ≤ place + 272 → s % 4 ≡ 0 → IsSlot s with_masters
     new-slot s a b c =
@@ -199,10 +192,7 @@ module _ (xs : List ℕ) (below above : List Block) (n : ℕ) (slots : ℕ → S
         none (inr m) = run-no_slot _ (free left) (each-free left) m.1
 
     names-now : names with_masters ≡ names all
-    names-now =
-        names-append below (put ++ above)
-        ∙ ap (λ q. names below ++ q) (names-append (free left) above ∙ ap (λ q. q ++ names above) (names-free left))
-        ∙ sym (names-append below (Free n ∷ above))
+    names-now = names-swap below (Free n ∷ []) put above (names-free left)
 
     kept-piece : (s : ℕ) → IsSlot s all → piece s 4 new ≡ piece s 4 xs
     kept-piece s i = piece-outside _ _ _ _ s m.outside (outside z _ _ _ st s i)
@@ -240,8 +230,6 @@ module _ (xs : List ℕ) (below above : List Block) (n : ℕ) (slots : ℕ → S
 
     pub lays-masters : Lays new with_masters now (slots_at place ++ unused)
     lays-masters =
-        let p = placed-right 0 below (Free n ∷ above) h.placed in
-        let q = placed-right (0 + sizes below) (Free n ∷ []) above p in
         record {
           lies = lies-agree resource (λ s. is_resource (now s)) _ _
               (each-named (λ s. resource s ≡ is_resource (now s)) (each-map (λ s. IsSlot s all)
@@ -252,9 +240,7 @@ module _ (xs : List ℕ) (below above : List Block) (n : ℕ) (slots : ℕ → S
                 (each-map (λ s. IsSlot s all) (λ s. IsSlot s with_masters) forth (names all) h.has_slots.slots);
             apart = subst (Pairs Apart) (sym names-now) h.has_slots.apart;
           };
-          placed = placed-append 0 _ _ (placed-left 0 below (Free n ∷ above) h.placed)
-              (placed-append _ put above (tt, placed-run _ (free left) (each-free left))
-              (subst (λ k. ArePlaced (0 + sizes below + k) above) (sym span) q));
+          placed = placed-swap 0 below (Free n ∷ []) put above span (tt, placed-run _ (free left) (each-free left)) h.placed;
           small = (let o = m.outside.kept in omega arith);
           used = each-named (λ s. IsUsed (now s)) (each-both (λ s. IsSlot s all) (λ s. IsUsed (slots s))
               (λ s. IsUsed (now s))

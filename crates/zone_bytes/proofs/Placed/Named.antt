@@ -9,7 +9,7 @@ use Rattle.block_store.specs.declared.flags.Flags.{Flags}
 use Rattle.block_store.specs.Block.{Block, Relocatable, sizes, free, is_relocatable}
 use Rattle.block_store.specs.Run.{has}
 use Rattle.block_store.specs.Slot.{is_used}
-use Rattle.zone_bytes.specs.Layout.{head_of, Tiles, IsSlot, names, Leads, Apart, Each, Pairs, ArePlaced}
+use Rattle.zone_bytes.specs.Layout.{head_of, Tiles, IsSlot, names, Leads, Apart, Each, Pairs}
 use Rattle.zone_bytes.specs.Settling.{Lies, HasSlots}
 use Rattle.zone_bytes.specs.Splicing.{Splice, SameOutside, IsSplice}
 use Rattle.zone_bytes.specs.Decode.{zone_in}
@@ -18,14 +18,14 @@ use Rattle.zone_bytes.specs.Lawful.{IsSound}
 use Rattle.zone_bytes.proofs.Tiles.Tiling.{slot-swap, slot-inside, length-tiles, tiles-slot}
 use Rattle.zone_bytes.proofs.Tiles.Leading.{Clear, piece-clear, each-map, each-left, each-right, names-append}
 use Rattle.zone_bytes.proofs.Tiles.Leading.{leads-append, leads-left, leads-right, leads-written}
-use Rattle.zone_bytes.proofs.Tiles.Keeping.{each-free, names-free, placed-append, placed-left, placed-right, placed-run}
+use Rattle.zone_bytes.proofs.Tiles.Keeping.{each-free, names-free, placed-run, placed-swap}
 use Rattle.zone_bytes.proofs.Tiles.Splices.{piece-outside, tiles-splice, leads-outside}
 use Rattle.zone_bytes.proofs.Tiles.Replaced.{zone, is-splice}
 use Rattle.zone_bytes.proofs.Tiles.Changing.{lays-added}
 use Rattle.zone_bytes.proofs.Runs.Packed.{length-masters, run-no_slot}
 use Rattle.zone_bytes.proofs.SlotTable.Slotted.{flag, slot-is, name-apart, slot-reads-in}
 use Rattle.zone_bytes.proofs.SlotTable.Tables.{apart-clear}
-use Rattle.zone_bytes.proofs.Blocks.Carves.{clear, outside, slot-kept}
+use Rattle.zone_bytes.proofs.Blocks.Carves.{clear, outside}
 use Rattle.zone_bytes.proofs.Placed.Standing.{resource_in}
 use Rattle.zone_bytes.proofs.Blocks.InPlace.{leads-free}
 
@@ -97,7 +97,7 @@ module _ (xs : List ℕ) (first count : ℕ) (i : IsSound xs first count) (numbe
     done = written number (word place) mid
 
     forth : (s : ℕ) → IsSlot s all → IsSlot s now
-    forth s j = slot-kept z place top xs st s put span j
+    forth s j = slot-swap s below old put above (plain _) span j
 
     back : (s : ℕ) → IsSlot s now → IsSlot s all
     back s j = slot-swap s below put old above plain-put (sym span) j
@@ -156,10 +156,7 @@ module _ (xs : List ℕ) (first count : ℕ) (i : IsSound xs first count) (numbe
           apart = subst (Pairs Apart) (sym names-now)
               (pairs-put number (names below) (names above) far (subst (Pairs Apart) names-was laid.has_slots.apart));
         } in
-        let q = placed-right (0 + sizes below) old above (placed-right 0 below (old ++ above) laid.placed) in
-        let ok : ArePlaced 0 now = placed-append 0 below (put ++ above) (placed-left 0 below (old ++ above) laid.placed)
-        (placed-append (0 + sizes below) put above (tt, placed-run _ (free k) (each-free k))
-        (subst (λ j. ArePlaced (0 + sizes below + j) above) (sym span) q)) in
+        let ok = placed-swap 0 below old put above span (tt, placed-run _ (free k) (each-free k)) laid.placed in
         lays-added xs done all now (slot_in xs) i.unused laid lies has forth back ok length-done number f.0 f.1 is-slot
         (λ s h. subst (λ l. Has l s) (sym names-now)
         (has-put number s (names below) (names above) (subst (λ l. Has l s) names-was h)))
