@@ -1,7 +1,7 @@
 pub mod Laid
 pub mod Standing
 pub mod Stretched
-pub mod NonrelocatableCarved
+pub mod Carved
 pub mod Copied
 pub mod Sizes
 pub mod FreeTags
@@ -10,4 +10,3 @@ pub mod Threads
 pub mod MoreSlots
 pub mod MastersCarved
 pub mod Named
-pub mod RelocatableCarved

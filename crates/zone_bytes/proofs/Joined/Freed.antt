@@ -92,10 +92,14 @@ module _ (f : Freeing) (start at : ℕ) (xs : List ℕ) (m : MayFree f start at 
     pub named : names_of f.here ≡ word_at (at + 8) xs ∷ []
     pub flag : nat_le 32 (word_at (at + 12) xs % 64) ≡ is_resource (f.slots (word_at (at + 8) xs))
 
+  names-all : names all ≡ names f.below ++ (names_of f.here ++ names f.above)
+  names-all = names-append f.below (joined ++ f.above) ∙ ap (λ k. names f.below ++ k) (names-append joined f.above
+      ∙ ap (λ k. k ++ names f.above) (names-append gap (f.here ∷ [])
+      ∙ ap (λ k. k ++ (names_of f.here ++ [])) (names-free (at - start)))
+      ∙ append_assoc (names_of f.here) [] (names f.above))
+
   named-here : (slot : ℕ) → names_of f.here ≡ slot ∷ [] → names all ≡ names f.below ++ slot ∷ names f.above
-  named-here slot n = names-append f.below (joined ++ f.above) ∙ ap (λ k. names f.below ++ k)
-      (names-append joined f.above ∙ ap (λ k. k ++ names f.above) (names-append gap (f.here ∷ [])
-      ∙ ap (λ k. k ++ (names_of f.here ++ [])) (names-free (at - start)) ∙ ap (λ k. k ++ []) n))
+  named-here slot n = names-all ∙ ap (λ k. names f.below ++ (k ++ names f.above)) n
 
   led-by : (slot : ℕ) (flags : Flags) (content : List ℕ) → f.here ≡ Relocatable slot flags content → Led
   unfolding head_of
@@ -168,14 +172,6 @@ module _ (f : Freeing) (start at : ℕ) (xs : List ℕ) (m : MayFree f start at 
 
         names-now : names now ≡ names f.below ++ names f.above
         names-now = names-append f.below (one ++ f.above)
-
-        names-joined : names joined ≡ names_of f.here ++ []
-        names-joined = names-append gap (f.here ∷ []) ∙ ap (λ k. k ++ (names_of f.here ++ [])) (names-free (at - start))
-
-        names-all : names all ≡ names f.below ++ (names_of f.here ++ names f.above)
-        names-all = names-append f.below (joined ++ f.above) ∙ ap (λ k. names f.below ++ k)
-            (names-append joined f.above ∙ ap (λ k. k ++ names f.above) names-joined
-            ∙ append_assoc (names_of f.here) [] (names f.above))
 
         outside-same : (s : ℕ) → IsSlot s all → piece s 4 mid ≡ piece s 4 xs
         outside-same s i = piece-outside start top xs mid s out (outside z start top xs is s i)

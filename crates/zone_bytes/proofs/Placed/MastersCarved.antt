@@ -1,12 +1,10 @@
 -- A new Masters block at the lower end of a Free one.
 use Rattle.std.proofs.Common.{◌≡◌, ℕ, IsTrue, ◌+◌, ◌-◌, ◌<◌, List, [], ◌∷◌, ◌++◌, length}
 use Rattle.std.proofs.Common.{zero, suc, refl, ap, ◌∙◌, subst, arith}
-use Rattle.std.proofs.lemmas.Bool.{false≢true}
-use Rattle.block_store.specs.Block.{Block, Free, Masters, size}
+use Rattle.block_store.specs.Block.{Free, Masters, size}
 use Rattle.block_store.specs.Room.{filled}
-use Rattle.block_store.specs.Slot.{Slot, NoSlot, Unused, Used, is_used}
+use Rattle.block_store.specs.Slot.{is_used}
 use Rattle.block_store.proofs.Zone.Apart.{tidy-tidy}
-use Rattle.zone_bytes.specs.Layout.{IsSlot}
 use Rattle.zone_bytes.specs.Fresh.{slots_from}
 use Rattle.zone_bytes.specs.Decode.{zone_in}
 use Rattle.zone_bytes.specs.Table.{Lays, Says, slot_in, first_of}
@@ -14,8 +12,9 @@ use Rattle.zone_bytes.specs.Lawful.{IsSound}
 use Rattle.zone_bytes.specs.Mastering.{slots_at, with_slots, HasMasters}
 use Rattle.zone_bytes.proofs.SlotTable.Taking.{first-small}
 use Rattle.zone_bytes.proofs.Laws.Lawful.{Made, made}
-use Rattle.zone_bytes.proofs.Placed.NonrelocatableCarved.{Roomy, filled-is}
+use Rattle.zone_bytes.proofs.Placed.Carved.{Roomy, filled-is}
 use Rattle.zone_bytes.proofs.Placed.MoreSlots.{lays-masters, kept-slot}
+use Rattle.zone_bytes.proofs.SlotTable.Handles.{used-is}
 
 pub first-fits : (xs : List ℕ) (first unused : ℕ) (i : IsSound xs first unused) → first < 134217728
 first-fits xs first unused i =
@@ -45,12 +44,7 @@ used-stays xs first unused place i r k u =
     let e = r.at.whole ∙ ap (λ b. r.s.below ++ b ∷ r.s.above) r.here in
     let h = subst (λ z. Lays xs z (slot_in xs) i.unused) e i.lays in
     kept-slot _ _ _ _ (slot_in xs) _ h _ r.at.low r.room k
-    (is-slot (r.s.below ++ Free r.bytes ∷ r.s.above) (slot_in xs k) u (h.says k))
-  where
-    is-slot : (bs : List Block) (state : Slot) → IsTrue (is_used state) → Says bs xs i.unused k state → IsSlot k bs
-    is-slot bs NoSlot v q = absurd (false≢true v)
-    is-slot bs Unused v q = absurd (false≢true v)
-    is-slot bs (Used r) v q = q.0
+    (subst (Says (r.s.below ++ Free r.bytes ∷ r.s.above) xs i.unused k) (used-is (slot_in xs k) u).1 (h.says k)).0
 
 -- the zone with the new block
 module _ (xs now : List ℕ) (first unused place : ℕ) (i : IsSound xs first unused) (r : Roomy xs place 272)

@@ -1,7 +1,7 @@
 use Rattle.std.proofs.Common.{arith, subst, ap}
 use Rattle.block_store.specs.Block.{size}
 use Rattle.zone_bytes.specs.Mastering.{HasMasters}
-use Rattle.zone_bytes.proofs.Placed.NonrelocatableCarved.{Roomy, roomy}
+use Rattle.zone_bytes.proofs.Placed.Carved.{Roomy, roomy}
 use Rattle.zone_bytes.proofs.Placed.MastersCarved.{first-fits, masters-lays}
 use Rattle.zone_bytes.proofs.mastering.add_masters.Goals as goal
 use Rattle.zone_bytes.proofs.mastering.add_masters.Goals.{Start}

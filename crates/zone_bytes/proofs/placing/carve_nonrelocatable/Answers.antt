@@ -1,7 +1,7 @@
 use Rattle.std.proofs.Common.{◌+◌, ap, arith}
 use Rattle.mac_words.specs.Size.{padded}
 use Rattle.block_store.specs.Block.{size}
-use Rattle.zone_bytes.proofs.Placed.NonrelocatableCarved.{Roomy, roomy, may-lay, nonrelocatable-lays}
+use Rattle.zone_bytes.proofs.Placed.Carved.{Roomy, roomy, may-lay, nonrelocatable-lays}
 use Rattle.zone_bytes.proofs.placing.carve_nonrelocatable.Goals as goal
 use Rattle.zone_bytes.proofs.placing.carve_nonrelocatable.Goals.{Start}
 

@@ -9,7 +9,7 @@ use Rattle.zone_bytes.specs.Mastering.{slots_at, with_slots}
 use Rattle.zone_bytes.proofs.Laws.Lawful.{Made, kept-made}
 use Rattle.zone_bytes.proofs.Places.Options.{the-if}
 use Rattle.zone_bytes.proofs.SlotTable.Slotted.{count-small}
-use Rattle.zone_bytes.proofs.Placed.NonrelocatableCarved.{Roomy, roomy, free-roomy, carved-free, carved-masters}
+use Rattle.zone_bytes.proofs.Placed.Carved.{Roomy, roomy, free-roomy, carved-free, carved-masters}
 use Rattle.zone_bytes.proofs.Placed.MastersCarved.{masters-made, masters-slots}
 use Rattle.zone_marks.proofs.Marks.Owed.{with-marks, filled-replaced}
 use Rattle.raw_zone.specs.Parted.{zone_of, rest_of}

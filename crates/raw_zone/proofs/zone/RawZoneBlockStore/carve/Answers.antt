@@ -11,8 +11,7 @@ use Rattle.zone_bytes.specs.Laying.{new_header}
 use Rattle.zone_bytes.specs.PurgeableBytes.{purgeable_sum}
 use Rattle.zone_bytes.proofs.Laws.Lawful.{Made, rest-made, kept-made}
 use Rattle.zone_bytes.proofs.SlotTable.Slotted.{slot-reads-in}
-use Rattle.zone_bytes.proofs.Placed.NonrelocatableCarved.{Roomy, roomy, free-roomy, may-carve, carved-free, carved-masters}
-use Rattle.zone_bytes.proofs.Placed.RelocatableCarved.{relocatable-made}
+use Rattle.zone_bytes.proofs.Placed.Carved.{Roomy, roomy, free-roomy, may-carve, carved-free, carved-masters, relocatable-made}
 use Rattle.zone_bytes.proofs.Bounds.Given.{given-put}
 use Rattle.zone_marks.proofs.Marks.Owed.{with-marks, filled-replaced}
 use Rattle.raw_zone.proofs.zone.RawZoneBlockStore.carve.Goals as goal

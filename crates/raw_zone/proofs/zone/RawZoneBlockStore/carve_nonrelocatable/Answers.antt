@@ -8,8 +8,7 @@ use Rattle.zone_bytes.specs.Decode.{zone_in}
 use Rattle.zone_bytes.specs.Table.{slot_in}
 use Rattle.zone_bytes.proofs.Laws.Lawful.{Made, rest-made, kept-made}
 use Rattle.zone_bytes.proofs.Places.Options.{the-if}
-use Rattle.zone_bytes.proofs.Placed.NonrelocatableCarved.{Roomy, roomy, tidy-made, carved-free, carved-masters}
-use Rattle.zone_bytes.proofs.Placed.NonrelocatableCarved.{free-roomy}
+use Rattle.zone_bytes.proofs.Placed.Carved.{Roomy, roomy, tidy-made, carved-free, carved-masters, free-roomy}
 use Rattle.zone_marks.proofs.Marks.Owed.{with-marks, filled-replaced}
 use Rattle.raw_zone.specs.Parted.{zone_of}
 use Rattle.zone_bytes.specs.PurgeableBytes.{purgeable_sum}

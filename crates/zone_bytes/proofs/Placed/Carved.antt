@@ -1,16 +1,16 @@
--- A new nonrelocatable block at the lower end of a Free one.
-use Rattle.std.proofs.Common.{◌≡◌, ℕ, ◌+◌, ◌-◌, ◌≤◌, IsTrue, Some, List, [], ◌∷◌, ◌++◌, length, replicate, cond, false}
+-- A new block at the lower end of a Free one.
+use Rattle.std.proofs.Common.{◌≡◌, ℕ, ◌+◌, ◌-◌, ◌≤◌, IsTrue, Some, List, [], ◌∷◌, ◌++◌, length, replicate, cond, false, Bool, true, ◌==◌}
 use Rattle.std.proofs.Common.{refl, sym, ap, ◌∙◌, subst, arith}
 use Rattle.std.proofs.lemmas.Bool.{false≢true}
 use Rattle.std.proofs.lemmas.List.{length-replicate}
 use Rattle.std.proofs.Math.Seq.{take-nil}
 use Rattle.std.specs.Option.{IsSomeAnd}
 use Rattle.mac_words.specs.Size.{padded}
-use Rattle.heap_words.specs.Words.{header}
+use Rattle.heap_words.specs.Words.{header, word, word_at}
 use Rattle.heap_words.specs.Headers.{header_bytes}
 use Rattle.heap_words.specs.declared.header.Header.{Header}
 use Rattle.heap_words.specs.declared.header.Tag.TheVariants as tag
-use Rattle.block_store.specs.Block.{Block, Free, Nonrelocatable, Masters, Relocatable, size, free, free_sum}
+use Rattle.block_store.specs.Block.{Block, Free, Nonrelocatable, Masters, Relocatable, size, free, free_sum, is_relocatable, no_flags}
 use Rattle.block_store.specs.Block.{count, is_masters}
 use Rattle.block_store.specs.Block.{is_room, resized_content, tidy}
 use Rattle.block_store.specs.Room.{Spot, spot_at, filled}
@@ -19,17 +19,24 @@ use Rattle.block_store.proofs.Zone.Apart.{Apart, apart-above}
 use Rattle.block_store.proofs.Zone.Apart.{tidy-tidy}
 use Rattle.block_store.proofs.Content.Sized.{Heading, unjoined-above, cut-sized, filled-free, filled-count}
 use Rattle.zone_bytes.proofs.Laws.Lawful.{Made, made}
-use Rattle.zone_bytes.specs.Layout.{head_of, names_of}
+use Rattle.zone_bytes.specs.Layout.{head_of, names_of, flag_word}
 use Rattle.zone_bytes.specs.Decode.{zone_in}
 use Rattle.zone_bytes.specs.Table.{Lays, slot_in}
 use Rattle.zone_bytes.specs.Lawful.{IsSound}
-use Rattle.zone_bytes.specs.Laying.{laid, MayLay}
+use Rattle.zone_bytes.specs.Laying.{laid, MayLay, new_header}
 use Rattle.zone_bytes.proofs.Tiles.Spelling.{le-back}
 use Rattle.zone_bytes.proofs.Blocks.InPlace.{no-slots}
 use Rattle.zone_bytes.proofs.Places.Options.{the-spot}
 use Rattle.zone_bytes.proofs.Placed.Standing.{Standing, standing, resource_in}
-use Rattle.zone_bytes.proofs.Placed.Stretched.{laid-lays}
+use Rattle.zone_bytes.proofs.Placed.Stretched.{laid-lays, laid-tiles}
 use Rattle.block_store.specs.Inner.Stretch.{is_free}
+use Rattle.windows.specs.Writes.{written}
+use Rattle.block_store.specs.Run.{has}
+use Rattle.block_store.specs.Slot.{is_used, is_resource}
+use Rattle.zone_bytes.proofs.SlotTable.Slotted.{flag-kept}
+use Rattle.zone_bytes.proofs.Placed.Laid.{laid-outside}
+use Rattle.zone_bytes.proofs.Placed.Named.{named-lays}
+use Rattle.zone_bytes.proofs.Tiles.Keeping.{span-free}
 
 -- a Free block with room, at a place
 pub record Roomy (xs : List ℕ) (place need : ℕ) : Type 0 where
@@ -144,3 +151,38 @@ pub tidy-made : (xs now : List ℕ) (first unused : ℕ) (i : IsSound xs first u
     → Lays now (tidy blocks) (slot_in xs) i.unused → Made now first unused (tidy blocks) (slot_in xs)
 tidy-made xs now first unused i blocks h =
     made now (tidy blocks) (slot_in xs) i.unused h first unused (tidy-tidy blocks) i.begins i.counted
+
+-- a block for a handle that was empty
+module _ (xs : List ℕ) (first unused : ℕ) (i : IsSound xs first unused) (number : ℕ)
+    (used : IsTrue (is_used (slot_in xs number))) (none : has (is_relocatable number) (zone_in xs) ≡ false)
+    (place n top flags : ℕ) (r : Roomy xs place (padded n)) (t : top ≡ place + size r.s.here)
+    (f : flags ≡ cond (word_at number xs == 18) 32 0) where
+  abbrev pub block : Block
+  block = Relocatable number no_flags (replicate n 0)
+
+  flags-are : flags ≡ flag_word no_flags (is_resource (slot_in xs number))
+  flags-are = f ∙ ap (λ v. cond v 32 0) (flag-kept xs first unused i number used none) ∙ plain (is_resource (slot_in xs number))
+    where
+      plain : (r : Bool) → cond {A = ℕ} r 32 0 ≡ flag_word no_flags r
+      plain true = refl
+      plain false = refl
+
+  relocatable-head : header_bytes (new_header number n flags) ++ resized_content n [] ≡ head_of (resource_in xs) block
+  unfolding head_of
+  relocatable-head = zeros-head n (padded n) 3 number flags refl
+      ∙ ap (λ w. header (size block + 3) (length (replicate {A = ℕ} n 0)) number w ++ replicate n 0) flags-are
+
+  pub relocatable-made : Made (written number (word place) (laid (new_header number n flags) place top 0 xs)) first unused
+      (filled block r.s) (slot_in xs)
+  relocatable-made =
+      let h = new_header number n flags in
+      let now = written number (word place) (laid h place top 0 xs) in
+      let may = may-carve xs place n top r t h refl refl in
+      let l : size block ≡ padded n = ap padded (length-replicate {A = ℕ} n 0) in
+      let e : top - place - padded n + size block ≡ size r.s.here = omega (arith, t, l, ap size r.here) in
+      tidy-made xs now first unused i (r.s.below ++ block ∷ Free (size r.s.here - size block) ∷ r.s.above)
+      (subst (λ bs. Lays now bs (slot_in xs) i.unused) (filled-is xs place (padded n) r block refl (top - place - padded n) e)
+      (named-lays xs first unused i number used none r.s.below (r.s.here ∷ []) r.s.above r.at.whole place top r.at.low
+      (omega (arith, t)) (omega (arith, t, r.at.some)) (no-slots r.s.here (ap is_masters r.here))
+      (ap (λ b. names_of b ++ []) r.here) no_flags (replicate n 0) (top - place - padded n) (omega (arith, e, span-free))
+      (laid h place top 0 xs) (laid-outside h place top 0 xs may) (laid-tiles h place top 0 xs may (resource_in xs) block l relocatable-head)))
