@@ -16,8 +16,8 @@ use std::marker::Model;
 use zone_bytes::{
     Edges, PackedRun, SlotBlock, add_masters, block_of_slot, carve, carve_nonrelocatable,
     content_at, flag_at, hoist_block, kept_flags, make_fresh, mark_slot, move_bytes, padded_size,
-    put_bytes, raise_run, read_header, read_word, resize_block, settle_run, size_at, slot_place,
-    slot_resource, walk_above, walk_from,
+    put_bytes, raise_run, read_word, resize_block, settle_run, size_at, slot_place, slot_resource,
+    walk_above, walk_from,
 };
 use zone_marks::{
     Landmarks, count_purgeable, falls_short, free_block, free_slot, frees_one, given_at,
@@ -385,7 +385,7 @@ impl BlockStore for RawZone {
     }
 
     fn carve(&mut self, place: u32, number: u32, size: u32) -> Result<(), AllocError> {
-        let free = read_header(&self.part, place).size;
+        let free = size_at(&self.part, place);
         let flags = kept_flags(&self.part, number);
         carve(&mut self.part, place, place + free, number, size, flags);
         self.free -= padded_size(size);

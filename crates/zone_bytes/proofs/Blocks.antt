@@ -1,5 +1,4 @@
 pub mod Carves
-pub mod Carved
 pub mod InPlace
 pub mod Writes
 pub mod Marked

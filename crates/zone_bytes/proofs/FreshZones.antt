@@ -1,2 +1,1 @@
-pub mod FreshSlots
 pub mod FreshZone

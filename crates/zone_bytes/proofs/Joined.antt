@@ -1,5 +1,4 @@
 pub mod Ways
-pub mod FreeTags
 pub mod Below
 pub mod Freed
 pub mod Above

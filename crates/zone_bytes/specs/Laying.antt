@@ -6,6 +6,8 @@ use Rattle.heap_words.specs.Headers.{header_bytes}
 use Rattle.heap_words.specs.declared.header.Header.{Header}
 use Rattle.block_store.specs.Block.{Block, Free, Nonrelocatable, Masters, Relocatable, free_of}
 use Rattle.block_store.specs.declared.measures.TheConstants.{GREATEST_ZONE}
+use Rattle.mac_words.specs.Size.{padded}
+use Rattle.heap_words.specs.declared.header.Tag.TheVariants as tag
 
 -- The bytes in which those from `at` up to `top` are one free block, if there are any.
 abbrev pub left_over : ℕ → ℕ → List ℕ → List ℕ
@@ -20,6 +22,10 @@ headed header bottom held xs =
 -- The bytes with a block at `bottom`, and a free block of what is left up to `top`.
 abbrev pub laid : Header → ℕ → ℕ → ℕ → List ℕ → List ℕ
 laid header bottom top held xs = left_over (bottom + header.size) top (headed header bottom held xs)
+
+-- The header of a new relocatable block of `size` bytes.
+abbrev pub new_header : ℕ → ℕ → ℕ → Header
+new_header slot size flags = record { size = padded size; tag = tag.Relocatable; logical = size; slot = slot; flags = flags }
 
 -- A block with this header may be laid from `bottom` up to `top`.
 pub record MayLay (header : Header) (bottom top held : ℕ) (xs : List ℕ) : Type 0 where

@@ -1,7 +1,8 @@
 -- Another master pointer block, whose slots precede the unused slots.
-use Rattle.std.specs.Prelude.{◌≡◌, ℕ, ◌+◌, ◌*◌, ◌%◌, ◌≤◌, ◌&&◌, ◌==◌, nat_le, if◌then◌else◌, suc, Bool, List, [], ◌∷◌}
+use Rattle.std.specs.Prelude.{◌≡◌, ℕ, ◌+◌, ◌-◌, ◌*◌, ◌%◌, ◌≤◌, ◌<◌, ◌⊎◌, ◌&&◌, ◌==◌, nat_le, if◌then◌else◌, suc, Bool}
+use Rattle.std.specs.Prelude.{List, [], ◌∷◌}
 use Rattle.windows.specs.Writes.{piece}
-use Rattle.heap_words.specs.Words.{word}
+use Rattle.heap_words.specs.Words.{word, header}
 use Rattle.block_store.specs.Slot.{Slot, Unused}
 use Rattle.zone_bytes.specs.Splicing.{SameOutside}
 use Rattle.zone_bytes.specs.Fresh.{slots_from}
@@ -36,3 +37,11 @@ pub record Threading (bottom end slot : ℕ) (old xs : List ℕ) : Type 0 where
   pub outside : SameOutside (bottom + 16) (bottom + 272) old xs
   pub low : bottom + 16 ≤ slot
   pub even : slot % 4 ≡ 0
+
+-- The bytes from `place` on are the header of a master pointer block, its slots, which are chained and end with `first`,
+-- and a free block of what is left of `size` bytes.
+pub record HasMasters (place size first : ℕ) (old new : List ℕ) : Type 0 where
+  pub outside : SameOutside place (place + size) old new
+  pub begins : piece place 16 new ≡ header 274 256 0 0
+  pub rest : (size - 272 ≡ 0) ⊎ ((0 < size - 272) × (piece (place + 272) 4 new ≡ word (size - 272)))
+  pub thread : Thread first new (slots_at place)

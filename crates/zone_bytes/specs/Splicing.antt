@@ -1,8 +1,7 @@
 -- A stretch of a zone that is written anew.
-use Rattle.std.specs.Prelude.{◌≡◌, ℕ, Bool, [], ◌∷◌, ◌-◌, ◌+◌, ◌≤◌, ◌<◌, List, ◌++◌, take, drop, length}
-use Rattle.block_store.specs.Block.{Block, Free, no_flags, sizes}
-use Rattle.mac_words.specs.Size.{padded}
-use Rattle.zone_bytes.specs.Layout.{flag_word, names, Each, Apart, IsSlot}
+use Rattle.std.specs.Prelude.{◌≡◌, ℕ, Bool, ◌+◌, ◌≤◌, ◌<◌, List, ◌++◌, take, drop, length}
+use Rattle.block_store.specs.Block.{Block, sizes}
+use Rattle.zone_bytes.specs.Layout.{names, Each, IsSlot}
 use Rattle.zone_bytes.specs.Settling.{Lies}
 use Rattle.block_store.specs.declared.measures.TheConstants.{GREATEST_ZONE}
 
@@ -30,12 +29,3 @@ pub record IsSplice (zone : Splice) (bottom top : ℕ) (xs : List ℕ) : Type 0 
   pub slots : Each (λ s. IsSlot s (zone.below ++ (zone.here ++ zone.above))) (names zone.below) × Each
       (λ s. IsSlot s (zone.below ++ (zone.here ++ zone.above))) (names zone.above)
   pub no_masters : (s : ℕ) → IsSlot s zone.here → ⊥
-
--- A block of `size` bytes for a slot of no block may be put at the lower end of the free block from `bottom` to `top`.
-pub record MayCarve (zone : Splice) (bottom top slot size flags : ℕ) (xs : List ℕ) : Type 0 where
-  pub splice : IsSplice zone bottom top xs
-  pub here : zone.here ≡ Free (top - bottom) ∷ []
-  pub room : padded size ≤ top - bottom
-  pub is_slot : IsSlot slot (zone.below ++ (zone.here ++ zone.above))
-  pub apart : Each (Apart slot) (names zone.below) × Each (Apart slot) (names zone.above)
-  pub resource : flag_word no_flags (zone.resource slot) ≡ flags

@@ -1,17 +1,18 @@
 //! A free block is made, and a relocatable block is put at the lower end of a free block.
 
 ghost use Rattle.std.specs.Prelude.{◌≡◌, ◌+◌, ◌-◌, ◌≤◌, ◌<◌, ◌∷◌, ◌++◌};
-ghost use Rattle.std.specs.Prelude.{◌^◌, ◌%◌, ◌==◌, if◌then◌else◌, ℕ, [], length, replicate};
+ghost use Rattle.std.specs.Prelude.{◌^◌, ◌%◌, ◌==◌, if◌then◌else◌, [], length};
 ghost use Rattle.mac_words.specs.Size.{padded};
-ghost use Rattle.windows.specs.Writes.{piece};
-ghost use Rattle.heap_words.specs.Words.{word_at};
-ghost use Rattle.block_store.specs.Block.{Free, Relocatable, no_flags, free};
-ghost use Rattle.zone_bytes.specs.Layout.{Apart, IsSlot};
+ghost use Rattle.windows.specs.Writes.{written};
+ghost use Rattle.heap_words.specs.Words.{word, word_at};
+ghost use Rattle.block_store.specs.Block.{Free};
 ghost use Rattle.zone_bytes.specs.Settling.{Lies};
-ghost use Rattle.zone_bytes.specs.Splicing.{Splice, SameOutside, IsSplice, MayCarve};
+ghost use Rattle.zone_bytes.specs.Splicing.{Splice, SameOutside, IsSplice};
+ghost use Rattle.zone_bytes.specs.Laying.{MayLay, laid, new_header};
 ghost use Rattle.zone_bytes.specs.Beside.{KeepsPlace};
 
-use crate::words::{read_word, write_header, write_word};
+use crate::placing::lay_block;
+use crate::words::{read_word, write_word};
 use heap_words::{Header, Tag};
 use raw_region::Part;
 
@@ -37,26 +38,19 @@ pub fn padded_size(bytes: u32) -> u32
 /// Puts a new relocatable block of `size` bytes, all 0, at the lower end of the free block from `bottom` to `top`, and
 /// makes its slot lead to it.
 pub fn carve(part: &mut Part, bottom: u32, top: u32, slot: u32, size: u32, flags: u32)
-    requires { (z : Splice) × MayCarve z bottom top slot size flags part.old.bytes }
+    requires may { MayLay (new_header slot size flags) bottom top 0 part.old.bytes }
+    requires slot { (slot % 4 ≡ 0) × (slot + 4 ≤ length part.old.bytes) }
     ensures same { KeepsPlace part.old part.new }
-    ensures lies { (z : Splice) → MayCarve z bottom top slot size flags part.old.bytes →
-        Lies z.resource (z.below ++ (Relocatable slot no_flags (replicate size 0) ∷ free (top - bottom - padded size) ++ z.above)) part.new.bytes }
-    ensures others { (z : Splice) → MayCarve z bottom top slot size flags part.old.bytes →
-        (s : ℕ) → IsSlot s (z.below ++ (z.here ++ z.above)) → Apart slot s → piece s 4 part.new.bytes ≡ piece s 4 part.old.bytes }
+    ensures bytes { part.new.bytes ≡ written slot (word bottom) (laid (new_header slot size flags) bottom top 0 part.old.bytes) }
 {
-    let bytes = padded_size(size);
     let header = Header {
-        size: bytes,
+        size: padded_size(size),
         tag: Tag::Relocatable,
         logical: size,
         slot,
         flags,
     };
-    write_header(part, bottom, header);
-    part.fill(bottom as usize + 16, size as usize, 0);
-    if bytes < top - bottom {
-        write_word(part, bottom + bytes, top - bottom - bytes);
-    }
+    lay_block(part, bottom, top, header, 0);
     write_word(part, slot, bottom);
 }
 

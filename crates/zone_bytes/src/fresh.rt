@@ -7,8 +7,7 @@ ghost use Rattle.zone_bytes.specs.Fresh.{fresh_slots, all_slots};
 ghost use Rattle.zone_bytes.specs.Table.{Lays};
 ghost use Rattle.zone_bytes.specs.Beside.{KeepsPlace};
 
-use crate::words::{write_header, write_word};
-use heap_words::{Header, Tag};
+use crate::mastering::lay_masters;
 use raw_region::Part;
 
 /// Makes the bytes a fresh zone: a master pointer block with 64 unused slots, and one free block.
@@ -17,19 +16,5 @@ pub fn make_fresh(part: &mut Part, end: u32)
     ensures same { KeepsPlace part.old part.new }
     ensures lays { Lays part.new.bytes (fresh end) fresh_slots all_slots }
 {
-    let header = Header {
-        size: 272,
-        tag: Tag::Masters,
-        logical: 256,
-        slot: 0,
-        flags: 0,
-    };
-    write_header(part, 0, header);
-    write_word(part, 272, end - 272);
-    write_word(part, 268, 1);
-    let mut slot: u32 = 268;
-    while 16 < slot {
-        write_word(part, slot - 4, 16 * slot + 1);
-        slot -= 4;
-    }
+    lay_masters(part, 0, end, 0);
 }

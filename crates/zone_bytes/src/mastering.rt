@@ -8,7 +8,7 @@ ghost use Rattle.zone_bytes.specs.Decode.{zone_in};
 ghost use Rattle.zone_bytes.specs.Table.{Lays, slot_in};
 ghost use Rattle.zone_bytes.specs.Lawful.{IsSound};
 ghost use Rattle.zone_bytes.specs.Splicing.{SameOutside};
-ghost use Rattle.zone_bytes.specs.Mastering.{slots_at, with_slots, Thread};
+ghost use Rattle.zone_bytes.specs.Mastering.{slots_at, with_slots, Thread, HasMasters};
 ghost use Rattle.zone_bytes.specs.Beside.{KeepsPlace};
 
 use crate::placing::{lay_block, size_at};
@@ -36,6 +36,28 @@ fn thread_slots(part: &mut Part, place: u32, first: u32)
     }
 }
 
+/// Lays a master pointer block at `place`, whose slots are chained and end with `first`. The rest of the `size` bytes
+/// there becomes a free block.
+pub(crate) fn lay_masters(part: &mut Part, place: u32, size: u32, first: u32)
+    requires whole { (place % 16 ≡ 0) × (size % 16 ≡ 0) }
+    requires room { (MASTERS_SIZE ≤ size) × (place + size ≤ length part.old.bytes) }
+    requires small { length part.old.bytes ≤ GREATEST_ZONE }
+    requires first { first < GREATEST_ZONE }
+    ensures same { KeepsPlace part.old part.new }
+    ensures masters { HasMasters place size first part.old.bytes part.new.bytes }
+{
+    let slots = MASTERS_SIZE - HEADER_SIZE;
+    let header = Header {
+        size: MASTERS_SIZE,
+        tag: Tag::Masters,
+        logical: slots,
+        slot: 0,
+        flags: 0,
+    };
+    lay_block(part, place, place + size, header, slots);
+    thread_slots(part, place, first);
+}
+
 /// Puts a master pointer block of 64 slots at the lower end of the free block at `place`. The new slots precede the
 /// unused ones, of which `first` is the first.
 ///
@@ -48,15 +70,6 @@ pub fn add_masters(part: &mut Part, place: u32, first: u32)
         IfSome (spot_at place (zone_in part.old.bytes)) (λ s. Lays part.new.bytes (filled Masters s)
         (with_slots place (slot_in part.old.bytes)) (slots_at place ++ i.unused)) }
 {
-    let top = place + size_at(part, place);
-    let slots = MASTERS_SIZE - HEADER_SIZE;
-    let header = Header {
-        size: MASTERS_SIZE,
-        tag: Tag::Masters,
-        logical: slots,
-        slot: 0,
-        flags: 0,
-    };
-    lay_block(part, place, top, header, slots);
-    thread_slots(part, place, first);
+    let size = size_at(part, place);
+    lay_masters(part, place, size, first);
 }

@@ -1,8 +1,7 @@
 -- A block whose flags are set.
-use Rattle.std.proofs.Common.{◌≡◌, ℕ, Bool, true, false, cond, ◌==◌, ◌+◌, ◌-◌, ◌%◌, List, [], ◌∷◌, ◌++◌, length, take}
+use Rattle.std.proofs.Common.{◌≡◌, ℕ, Bool, false, cond, ◌==◌, ◌+◌, ◌%◌, List, ◌∷◌, ◌++◌, length}
 use Rattle.std.proofs.Common.{drop, sym, refl, ap, ◌∙◌, subst, arith}
 use Rattle.windows.specs.Writes.{written}
-use Rattle.windows.proofs.Pieces.{length-written, take-written_above, drop-written_below}
 use Rattle.heap_words.specs.Words.{word, word_at, header}
 use Rattle.heap_words.proofs.Words.{length-word, read_back}
 use Rattle.block_store.specs.declared.flags.Flags.{Flags}
@@ -10,65 +9,23 @@ use Rattle.block_store.specs.Block.{Block, Free, Nonrelocatable, Masters, Reloca
 use Rattle.block_store.specs.Block.{free_of, free_sum}
 use Rattle.block_store.specs.Seen.{with_flags}
 use Rattle.block_store.proofs.Purged.Purges.{tidy-flags}
-use Rattle.zone_bytes.specs.Layout.{kind, flag_word, head_of, Tile}
+use Rattle.zone_bytes.specs.Layout.{kind, flag_word, head_of}
 use Rattle.zone_bytes.specs.Decode.{zone_in}
 use Rattle.zone_bytes.specs.Table.{Lays, slot_in}
 use Rattle.zone_bytes.specs.Lawful.{IsSound}
 use Rattle.zone_bytes.specs.Flagged.{flagged}
 use Rattle.zone_bytes.proofs.Tiles.Heads.{length-head, first-reads, kind-small}
-use Rattle.zone_bytes.proofs.Tiles.Decoding.{says, flag_word-small}
+use Rattle.zone_bytes.proofs.Tiles.Decoding.{says, flag_word-small, high-flags, low-flag}
 use Rattle.zone_bytes.proofs.Places.Stepped.{word-at}
-use Rattle.zone_bytes.proofs.Tiles.Splices.{outside-same, outside-written}
-use Rattle.zone_bytes.proofs.Blocks.Writes.{tile, fits}
-use Rattle.zone_bytes.proofs.Blocks.InPlace.{masters-same, here-made, total-same}
+use Rattle.zone_bytes.proofs.Blocks.InPlace.{masters-same, total-same, tile, inside-made}
 use Rattle.zone_bytes.proofs.Laws.Lawful.{Made, made}
 use Rattle.block_store.specs.Slot.{is_resource}
 
 -- the last word of a header is written
-flagged-header : (a b c d w : ℕ) (content : List ℕ)
+pub flagged-header : (a b c d w : ℕ) (content : List ℕ)
     → written 12 (word w) (header a b c d ++ content) ≡ header a b c w ++ content
 unfolding word
 flagged-header a b c d w content = refl
-
-pub tile-flagged : (a b c d w n : ℕ) (content ys : List ℕ) → Tile (header a b c d ++ content) n ys
-    → Tile (header a b c w ++ content) n (written 12 (word w) ys)
-tile-flagged a b c d w n content ys t =
-    let e : length (header a b c w ++ content) ≡ length (header a b c d ++ content) = omega (arith, length-head) in
-    record {
-      fits = (let q = length-written 12 (word w) ys (omega (arith, length-head, length-word)) in omega (arith, q));
-      whole = t.whole;
-      some = t.some;
-      room = omega (arith, e);
-      begins = ap (λ q. take q (written 12 (word w) ys)) e
-          ∙ take-written_above 12 (word w) _ _ (omega (arith, length-head, length-word))
-          (omega arith) ∙ ap (written 12 (word w)) t.begins ∙ flagged-header a b c d w content;
-    }
-
-flags-joined : (old flags : Flags) (r : Bool) → flag_word flags false + flag_word old r % 64 ≡ flag_word flags r
-flags-joined old flags r = ap (λ n. flag_word flags false + n) (kept old.locked old.purgeable r)
-    ∙ both flags.locked flags.purgeable r
-  where
-    kept : (l p r : Bool) → (cond {A = ℕ} l 128 0 + cond {A = ℕ} p 64 0 + cond {A = ℕ} r 32 0) % 64 ≡ cond {A = ℕ} r
-        32 0
-    kept true true true = refl
-    kept true true false = refl
-    kept true false true = refl
-    kept true false false = refl
-    kept false true true = refl
-    kept false true false = refl
-    kept false false true = refl
-    kept false false false = refl
-
-    both : (l p r : Bool) → (cond {A = ℕ} l 128 0 + cond {A = ℕ} p 64 0 + 0) + cond {A = ℕ} r 32 0 ≡ cond {A = ℕ} l
-        128 0 + cond {A = ℕ} p 64 0 + cond {A = ℕ} r 32 0
-    both true true true = refl
-    both true true false = refl
-    both true false true = refl
-    both true false false = refl
-    both false true true = refl
-    both false true false = refl
-    both false false true = refl
-    both false false false = refl
 
 module _ (xs : List ℕ) (first count : ℕ) (i : IsSound xs first count) (place : ℕ) (flags : Flags) where
   abbrev resource : ℕ → Bool
@@ -77,7 +34,7 @@ module _ (xs : List ℕ) (first count : ℕ) (i : IsSound xs first count) (place
   tag : (below : List Block) (here : Block) (above : List Block) (whole : zone_in xs ≡ below ++ here ∷ above)
       (low : sizes below ≡ place) → word_at place xs % 16 ≡ kind here
   tag below here above whole low =
-      let t = tile xs first count i place 0 [] below here above whole low in
+      let t = tile xs first count i below here above whole place low in
       omega (arith, first-reads resource xs place i.lays.small here t, kind-small)
 
   same-here : (below : List Block) (here : Block) (above : List Block) (whole : zone_in xs ≡ below ++ here ∷ above)
@@ -103,29 +60,21 @@ module _ (xs : List ℕ) (first count : ℕ) (i : IsSound xs first count) (place
   flagged-made below Masters above whole low = other _ _ _ whole low refl
   flagged-made below (Relocatable slot old content) above whole low =
       let here : Block = Relocatable slot old content in
-      let t = tile xs first count i place 0 [] below here above whole low in
+      let t = tile xs first count i below here above whole place low in
       let z = size here in
       let q = says z (z + 3) (length content) slot (flag_word old (resource slot)) content (drop place xs) t in
       let g = flag_word-small old (resource slot) in
       let e = read_back _ _ _ (omega (arith, g)) (word-at place 12 xs ∙ q.2) in
-      let w : flag_word flags false + word_at (place + 12) xs % 64 ≡ flag_word flags (resource slot) = ap
-      (λ n. flag_word flags false + n % 64) e ∙ flags-joined _ _ _ in
+      let w : flag_word flags false + word_at (place + 12) xs % 64 ≡ flag_word flags (resource slot) =
+      let h = high-flags old in ap (λ n. flag_word flags false + n % 64) e ∙ omega (arith, h, low-flag) in
       let new = written (place + 12) (word (flag_word flags (resource slot))) xs in
       let is : flagged flags place xs ≡ new =
       ap (λ v. cond v (written (place + 12) (word (flag_word flags false + word_at (place + 12) xs % 64)) xs) xs)
       (ap (λ t. t == 3) (tag below here above whole low)) ∙ ap (λ n. written (place + 12) (word n) xs) w in
-      let f = fits xs first count i place 0 [] below here above whole low in
-      let same = outside-written _ _ _ _ _ (word (flag_word flags (resource slot)))
-      (omega arith) (omega (arith, length-word)) (outside-same place (place + z) xs (omega arith) f) in
-      let up : drop place new ≡ written 12 (word (flag_word flags (resource slot))) (drop place xs) =
-      drop-written_below (place + 12) _ _ _ (omega arith)
-      (omega (arith, f)) ∙ (let v : place + 12 - place ≡ 12 = omega arith in
-      ap (λ j. written j (word (flag_word flags (resource slot))) (drop place xs)) v) in
-      let t1 = tile-flagged _ _ _ _ _ z _ _ t in
       subst (λ ys. Made ys first count (below ++ Relocatable slot flags content ∷ above) (slot_in xs)) (sym is)
-      (here-made _ _ _ i _ _ _ whole _ low refl (omega arith) _ _ same
-      (subst (λ ys. Tile (header (z + 3) (length content) slot (flag_word flags (resource slot)) ++ content) z ys)
-      (sym up) t1) refl refl refl tt (tidy-flags flags below here above (sym (ap tidy whole) ∙ i.tidied ∙ whole)))
+      (inside-made xs first count i below here above whole place low refl 12 (place + 12) _ (Relocatable slot flags content)
+      refl (omega (arith, length-head, length-word)) (flagged-header _ _ _ _ _ content) refl refl refl (λ p. p)
+      (tidy-flags flags below here above (sym (ap tidy whole) ∙ i.tidied ∙ whole)))
 
 pub masters-flagged : (flags : Flags) (below : List Block) (b : Block) (above : List Block)
     → count is_masters (below ++ with_flags flags b ∷ above) ≡ count is_masters (below ++ b ∷ above)

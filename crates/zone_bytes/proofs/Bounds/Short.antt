@@ -1,12 +1,12 @@
 -- A zone that has too few bytes, and one that has nothing to give.
-use Rattle.std.proofs.Common.{◌≡◌, ℕ, ◌+◌, ◌≤◌, ◌<◌, Bool, true, false, not, ◌&&◌, cond, Option, Some, None, List}
-use Rattle.std.proofs.Common.{length, refl, ap, arith}
+use Rattle.std.proofs.Common.{◌≡◌, ℕ, ◌+◌, ◌≤◌, ◌<◌, Bool, true, false, not, ◌&&◌, cond, None, List}
+use Rattle.std.proofs.Common.{length, ap, arith}
 use Rattle.std.proofs.lemmas.Bool.Decides.{nat_tests}
 use Rattle.mac_words.specs.Size.{padded}
 use Rattle.block_store.specs.Block.{Block, Free, Nonrelocatable, Masters, Relocatable, count, free_of, free_sum, is_room}
 use Rattle.block_store.specs.Block.{is_relocatable}
-use Rattle.block_store.specs.Run.{RunSpot, run_spot}
-use Rattle.block_store.specs.Room.{Spot, spot, may_be_purged, lowest_purged}
+use Rattle.block_store.specs.Run.{run_spot}
+use Rattle.block_store.specs.Room.{spot, may_be_purged, lowest_purged}
 use Rattle.block_store.specs.Sparing.{spared, opened, purged, most_purges}
 use Rattle.block_store.specs.declared.sparing.Sparing.{Sparing}
 use Rattle.block_store.specs.declared.sparing.Sparing.TheVariants as sparing
@@ -17,33 +17,25 @@ use Rattle.block_store.proofs.Zone.Totals.{total-append, total-le}
 use Rattle.block_store.proofs.Zone.Views.{run_spot-is}
 use Rattle.zone_bytes.specs.PurgeableBytes.{purgeable_of, purgeable_sum}
 use Rattle.zone_bytes.proofs.Bounds.Given.{none-free, given-lowest_purged}
+use Rattle.zone_bytes.proofs.Places.Options.{no-spot}
 
 -- where a zone has less than p Free bytes, no run has so many
 pub no-run : (passes : List Block → Bool) (p : ℕ) → ((run : List Block) → passes run ≡ true → p ≤ free_sum run)
     → (zone : List Block) → free_sum zone < p → run_spot passes zone ≡ None
-no-run passes p means zone short = cases (run_spot passes zone) refl
-  where
-    cases : (o : Option RunSpot) → run_spot passes zone ≡ o → o ≡ None
-    cases None e = refl
-    cases (Some r) e =
-        let v = run_spot-is passes zone r e in
-        absurd (omega (arith, ap free_sum v.0, means, total-append, short))
+no-run passes p means zone short = no-spot (run_spot passes zone) (λ r e.
+    let v = run_spot-is passes zone r e in omega (arith, ap free_sum v.0, means, total-append, short))
 
 -- and no Free block has
 pub no-room : (p : ℕ) (zone : List Block) → free_sum zone < p → spot (is_room p) zone ≡ None
-no-room p zone short = cases (spot (is_room p) zone) refl
+no-room p zone short = no-spot (spot (is_room p) zone) (λ s e.
+    let a = means s.here (spot-passes (is_room p) zone s e) in
+    omega (arith, ap free_sum (spot-is (is_room p) zone s e), a, total-append, short))
   where
     means : (b : Block) → is_room p b ≡ true → p ≤ free_of b
     means (Free n) r = grind (arith, nat_tests)
     means (Nonrelocatable id content) r = let f : false ≡ true = r in cc
     means Masters r = let f : false ≡ true = r in cc
     means (Relocatable id flags content) r = let f : false ≡ true = r in cc
-
-    cases : (o : Option Spot) → spot (is_room p) zone ≡ o → o ≡ None
-    cases None e = refl
-    cases (Some s) e =
-        let a = means s.here (spot-passes (is_room p) zone s e) in
-        absurd (omega (arith, ap free_sum (spot-is (is_room p) zone s e), a, total-append, short))
 
 -- nothing counts as Free that isn't
 abbrev pub FreesNone : Sparing → Type 0
@@ -86,13 +78,9 @@ none-goes s zone none = omega (arith, count-given, given-opened, none)
 
 pub none-next : (s : Sparing) (k : ℕ) (zone : List Block) → purgeable_sum zone ≤ 0
     → spot (may_be_purged (spared s)) (purged k s zone) ≡ None
-none-next s k zone none = cases (spot (may_be_purged (spared s)) (purged k s zone)) refl
-  where
-    cases : (o : Option Spot) → spot (may_be_purged (spared s)) (purged k s zone) ≡ o → o ≡ None
-    cases None e = refl
-    cases (Some b) e =
-        let z = ap purgeable_sum (spot-is (may_be_purged (spared s)) (purged k s zone) b e) in
-        let q : cond {A = ℕ} (may_be_purged (spared s) b.here) 1 0 ≡ 1 =
-        ap (λ v. cond {A = ℕ} v 1 0) (spot-passes (may_be_purged (spared s)) (purged k s zone) b e) in
-        let l = purged-le purgeable_of none-free k (spared s) (opened s zone) in
-        absurd (omega (arith, z, total-append, one-gives, q, l, given-opened, none))
+none-next s k zone none = no-spot (spot (may_be_purged (spared s)) (purged k s zone)) (λ b e.
+    let z = ap purgeable_sum (spot-is (may_be_purged (spared s)) (purged k s zone) b e) in
+    let q : cond {A = ℕ} (may_be_purged (spared s) b.here) 1 0 ≡ 1 =
+    ap (λ v. cond {A = ℕ} v 1 0) (spot-passes (may_be_purged (spared s)) (purged k s zone) b e) in
+    let l = purged-le purgeable_of none-free k (spared s) (opened s zone) in
+    omega (arith, z, total-append, one-gives, q, l, given-opened, none))

@@ -1,12 +1,68 @@
 -- A fresh RawZone.
-use Rattle.std.proofs.Common.{arith, ◌≡◌, ℕ, Bool, true, false, cond, ◌+◌, ◌-◌, ◌*◌, ◌%◌, zero, suc, nat_le, ◌&&◌}
-use Rattle.std.proofs.Common.{◌==◌, List, ◌∷◌, refl, ap, ◌∙◌}
-use Rattle.block_store.specs.Block.{Masters, tidy, free, fresh, count, is_masters, free_sum}
-use Rattle.block_store.specs.Slot.{is_used, NoSlot, Unused}
-use Rattle.zone_bytes.specs.Fresh.{fresh_slots, all_slots}
+use Rattle.std.proofs.Common.{◌≡◌, ℕ, ◌+◌, ◌-◌, ◌%◌, ◌≤◌, List, [], ◌∷◌, ◌++◌, length, drop, sym, refl, ◌∙◌, subst, arith, Bool, true, false, cond, ◌*◌, zero, suc, nat_le, ◌&&◌, ◌==◌, ap}
+use Rattle.std.proofs.lemmas.List.{append-nil, drop_all}
+use Rattle.windows.specs.Writes.{written}
+use Rattle.windows.proofs.Pieces.{length-written, piece-written}
+use Rattle.heap_words.specs.Words.{word}
+use Rattle.heap_words.proofs.Words.{length-word}
+use Rattle.block_store.specs.Block.{Free, Masters, free, fresh, tidy, count, is_masters, free_sum}
+use Rattle.block_store.specs.Slot.{NoSlot, is_resource, is_used, Unused}
+use Rattle.zone_bytes.specs.Layout.{head_of}
 use Rattle.zone_bytes.specs.Table.{Lays, slot_in}
+use Rattle.zone_bytes.specs.Fresh.{all_slots, fresh_slots}
+use Rattle.zone_bytes.specs.Mastering.{slots_at, HasMasters}
+use Rattle.zone_bytes.proofs.Tiles.Tiling.{tiles-one}
+use Rattle.zone_bytes.proofs.Tiles.Heads.{free-tile}
+use Rattle.zone_bytes.proofs.Blocks.InPlace.{no-slots}
+use Rattle.zone_bytes.proofs.Placed.MoreSlots.{lays-masters}
+use Rattle.zone_bytes.specs.Splicing.{SameOutside}
 use Rattle.zone_bytes.specs.Decode.{zone_in}
 use Rattle.zone_bytes.proofs.Laws.Lawful.{Made, made}
+
+module _ (end : ℕ) (old : List ℕ) (l : length old ≡ end) (e : end % 16 ≡ 0) (h : 512 ≤ end) (m : end ≤ 134217728) where
+  -- bytes that are one Free block, and have no slots
+  abbrev one : List ℕ
+  one = written 0 (word end) old
+
+  one-length : length one ≡ end
+  one-length = length-written 0 (word end) old (omega (arith, length-word, l, h)) ∙ l
+
+  one-lays : Lays one (Free end ∷ []) (λ s. NoSlot) []
+  one-lays = record {
+    lies = record {
+      tiles = tiles-one (head_of (λ s. is_resource NoSlot)) (Free end) one one-length
+          (free-tile (λ s. is_resource NoSlot) end one one-length e (omega (arith, h))
+          (piece-written 0 (word end) old 4 (sym (length-word end)) (omega arith)));
+      leads = (tt, tt);
+    };
+    has_slots = record { slots = tt; apart = tt };
+    placed = (tt, tt);
+    small = omega (arith, one-length, m);
+    used = tt;
+    says = no-slots (Free end) refl;
+    chain = tt;
+    unused_slots = tt;
+    once = tt;
+  }
+
+  -- in which a Masters block was laid
+  pub fresh-lays : (new : List ℕ) → HasMasters 0 end 0 old new → Lays new (fresh end) fresh_slots all_slots
+  unfolding all_slots
+  fresh-lays new q =
+      let o = q.outside in
+      let k = q.outside.kept in
+      let up : drop (0 + end) new ≡ drop (0 + end) one =
+      drop_all (0 + end) new (omega (arith, k, l)) ∙ sym (drop_all (0 + end) one (omega (arith, one-length))) in
+      let same : SameOutside 0 (0 + end) one new = record {
+        kept = k ∙ l ∙ sym one-length;
+        ordered = (omega arith, omega (arith, one-length));
+        low = refl;
+        high = up;
+      } in
+      let all = lays-masters one [] [] end (λ s. NoSlot) [] one-lays 0 refl (omega (arith, h)) new
+      (record { outside = same; begins = q.begins; rest = q.rest; thread = q.thread }) in
+      subst (λ bs. Lays new (Masters ∷ bs) fresh_slots (slots_at 0)) (append-nil (free (end - 272)))
+      (subst (Lays new (Masters ∷ (free (end - 272) ++ [])) fresh_slots) (append-nil (slots_at 0)) all)
 
 tidy-fresh : (n : ℕ) → tidy (fresh n) ≡ fresh n
 tidy-fresh n = go (n - 272)

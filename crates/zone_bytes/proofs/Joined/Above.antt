@@ -1,7 +1,8 @@
 -- Free bytes that are made one with a Free block above them.
 use Rattle.std.proofs.Common.{◌≡◌, ℕ, false, ◌+◌, ◌-◌, ◌<◌, ◌≤◌, List, [], ◌∷◌, ◌++◌, length, sym, refl, ap, ◌∙◌}
 use Rattle.std.proofs.Common.{subst, arith, append_assoc}
-use Rattle.block_store.specs.Block.{Block, Free, Nonrelocatable, Masters, Relocatable, size, sizes, free, add, is_masters}
+use Rattle.block_store.specs.Block.{Block, Free, Nonrelocatable, Masters, Relocatable, size, sizes, free, free_of, add}
+use Rattle.block_store.specs.Block.{is_masters}
 use Rattle.block_store.specs.Inner.Stretch.{is_free}
 use Rattle.block_store.proofs.Zone.Joining.{add-alone, add-free, add-other}
 use Rattle.zone_bytes.specs.Layout.{kind}
@@ -23,6 +24,12 @@ not_free-is (Free n) k = absurd (let z : 0 < 0 = k in omega (arith, z))
 not_free-is (Nonrelocatable id content) k = refl
 not_free-is Masters k = refl
 not_free-is (Relocatable slot flags content) k = refl
+
+pub free-other : (b : Block) → 0 < kind b → free_of b ≡ 0
+free-other (Free n) k = absurd (let z : 0 < 0 = k in omega (arith, z))
+free-other (Nonrelocatable id content) k = refl
+free-other Masters k = refl
+free-other (Relocatable slot flags content) k = refl
 
 module _ (j : Joining) (start at : ℕ) (xs : List ℕ) (m : MayJoin j start at xs) where
   here-laid : Lays xs ((j.below ++ free (at - start)) ++ j.above) j.slots j.unused

@@ -2,7 +2,7 @@
 use Rattle.std.proofs.Common.{◌≡◌, ℕ, inl, inr, ◌+◌, ◌-◌, ◌%◌, ◌<◌, ◌≤◌, List, [], ◌∷◌, ◌++◌, length, sym, refl, ap, ◌∙◌, subst}
 use Rattle.std.proofs.Common.{arith}
 use Rattle.heap_words.specs.Words.{word_at}
-use Rattle.block_store.specs.Block.{Block, Free, Nonrelocatable, Masters, Relocatable, size, sizes, free_of}
+use Rattle.block_store.specs.Block.{Block, size, sizes, free_of}
 use Rattle.block_store.specs.Inner.Joining.{last_free}
 use Rattle.zone_bytes.specs.Layout.{kind}
 use Rattle.zone_bytes.specs.Walking.{Walk}
@@ -11,6 +11,7 @@ use Rattle.zone_bytes.specs.Stepping.{left_in, IsOnWay}
 use Rattle.zone_bytes.proofs.Tiles.Tiling.{span-append}
 use Rattle.zone_bytes.proofs.Places.Stepped.{Stepped, stepped, left-is}
 use Rattle.zone_bytes.proofs.Places.HeaderTells.{here-on, size-at}
+use Rattle.zone_bytes.proofs.Joined.Above.{free-is, free-other}
 
 -- what is left of blocks that end at a place, of which the last so far is Free from `start` to `at`
 pub record LeftBelow (xs : List ℕ) (place at start : ℕ) (below above : List Block) : Type 0 where
@@ -85,18 +86,6 @@ some-block at xs w b blocks e = next w.rest w.walk (sym (left-is _ _ w) ∙ e)
     next [] v q = absurd (let f : [] ≡ b ∷ blocks = q in cc)
     next (c ∷ rest) v q = let f : c ≡ b = cc in subst (λ d. 16 ≤ size d) f v.high.0.some
 
-free-kind : (b : Block) → kind b ≡ 0 → free_of b ≡ size b
-free-kind (Free n) k = refl
-free-kind (Nonrelocatable id content) k = absurd (let z : 1 ≡ 0 = k in omega (arith, z))
-free-kind Masters k = absurd (let z : 2 ≡ 0 = k in omega (arith, z))
-free-kind (Relocatable slot flags content) k = absurd (let z : 3 ≡ 0 = k in omega (arith, z))
-
-free-other : (b : Block) → 0 < kind b → free_of b ≡ 0
-free-other (Free n) k = absurd (let z : 0 < 0 = k in omega (arith, z))
-free-other (Nonrelocatable id content) k = refl
-free-other Masters k = refl
-free-other (Relocatable slot flags content) k = refl
-
 module _ (xs : List ℕ) (place at start : ℕ) (b : Below xs place at start) where
   pub below-done : place ≤ at → (below above : List Block) → left_in 0 xs ≡ below ++ above → sizes below ≡ place
       → start + last_free 0 below ≡ place
@@ -147,7 +136,7 @@ module _ (xs : List ℕ) (place at start : ℕ) (b : Below xs place at start) wh
               }
 
       pub below-free : t ≡ 0 → Below xs place (at + n) at
-      below-free z = below-next at (omega arith) (λ c p q. omega (arith, p, free-kind))
+      below-free z = below-next at (omega arith) (λ c p q. omega (arith, p, ap free_of (free-is c (sym q ∙ z))))
 
       pub below-other : 0 < t → Below xs place (at + n) (at + n)
       below-other z = below-next (at + n) (omega arith) (λ c p q. omega (arith, free-other))

@@ -14,11 +14,10 @@ use Rattle.zone_bytes.specs.Settling.{Lies, HasSlots}
 use Rattle.zone_bytes.specs.Splicing.{Splice, SameOutside, IsSplice}
 use Rattle.zone_bytes.specs.Joining.{Freeing, MayFree}
 use Rattle.zone_bytes.specs.Table.{Has, IsUsed, Lays, empty_word}
-use Rattle.zone_bytes.proofs.Tiles.Tiling.{span-append, length-tiles, slot-inside, slot-split, tiles-slot}
+use Rattle.zone_bytes.proofs.Tiles.Tiling.{span-append, length-tiles, slot-inside, slot-split, tiles-slot, slot-swap}
 use Rattle.zone_bytes.proofs.Tiles.Leading.{each-right, each-map, each-append, names-append, pairs-before}
 use Rattle.zone_bytes.proofs.Tiles.Leading.{pairs-after, piece-clear, leads-written}
-use Rattle.zone_bytes.proofs.Tiles.Keeping.{lays-kept, names-free, span-free, each-free, slot-run, placed-append}
-use Rattle.zone_bytes.proofs.Tiles.Keeping.{placed-left, placed-right}
+use Rattle.zone_bytes.proofs.Tiles.Keeping.{lays-kept, names-free, span-free, each-free, slot-run, placed-swap}
 use Rattle.zone_bytes.proofs.Tiles.Changing.{lays-removed}
 use Rattle.zone_bytes.proofs.Tiles.Replaced.{zone, is-splice}
 use Rattle.zone_bytes.proofs.Tiles.Splices.{piece-outside}
@@ -31,7 +30,7 @@ use Rattle.zone_bytes.proofs.Tiles.Heads.{length-masters}
 use Rattle.zone_bytes.proofs.Tiles.Keeping.{run-no_slot}
 use Rattle.zone_bytes.proofs.Tiles.Tiling.{slot-even}
 use Rattle.block_store.proofs.Zone.Spots.{free-some}
-use Rattle.zone_bytes.proofs.Blocks.Carves.{outside, slot-kept}
+use Rattle.zone_bytes.proofs.Blocks.Carves.{outside}
 use Rattle.zone_bytes.proofs.Blocks.InPlace.{no-slots}
 use Rattle.zone_bytes.proofs.Joined.Ways.{Read, read, tile-at}
 
@@ -95,10 +94,14 @@ module _ (f : Freeing) (start at : ℕ) (xs : List ℕ) (m : MayFree f start at 
     pub named : names_of f.here ≡ word_at (at + 8) xs ∷ []
     pub flag : nat_le 32 (word_at (at + 12) xs % 64) ≡ is_resource (f.slots (word_at (at + 8) xs))
 
+  names-all : names all ≡ names f.below ++ (names_of f.here ++ names f.above)
+  names-all = names-append f.below (joined ++ f.above) ∙ ap (λ k. names f.below ++ k) (names-append joined f.above
+      ∙ ap (λ k. k ++ names f.above) (names-append gap (f.here ∷ [])
+      ∙ ap (λ k. k ++ (names_of f.here ++ [])) (names-free (at - start)))
+      ∙ append_assoc (names_of f.here) [] (names f.above))
+
   named-here : (slot : ℕ) → names_of f.here ≡ slot ∷ [] → names all ≡ names f.below ++ slot ∷ names f.above
-  named-here slot n = names-append f.below (joined ++ f.above) ∙ ap (λ k. names f.below ++ k)
-      (names-append joined f.above ∙ ap (λ k. k ++ names f.above) (names-append gap (f.here ∷ [])
-      ∙ ap (λ k. k ++ (names_of f.here ++ [])) (names-free (at - start)) ∙ ap (λ k. k ++ []) n))
+  named-here slot n = names-all ∙ ap (λ k. names f.below ++ (k ++ names f.above)) n
 
   led-by : (slot : ℕ) (flags : Flags) (content : List ℕ) → f.here ≡ Relocatable slot flags content → Led
   unfolding head_of
@@ -161,29 +164,16 @@ module _ (f : Freeing) (start at : ℕ) (xs : List ℕ) (m : MayFree f start at 
         span-one = let e = span-joined in omega (arith, e, t)
 
         into : (s : ℕ) → IsSlot s all → IsSlot s now
-        into s i = slot-kept z _ _ xs is s one span-one i
+        into s i = slot-swap s f.below joined one f.above (none _) span-one i
 
         back : (s : ℕ) → IsSlot s now → IsSlot s all
         back s i = slot-run s f.below one joined f.above (refl, tt) (sym span-one) i
 
         placed : ArePlaced 0 now
-        placed =
-            let p = placed-right 0 f.below (joined ++ f.above) laid.placed in
-            let q = placed-right (0 + sizes f.below) joined f.above p in
-            placed-append 0 _ _ (placed-left 0 f.below (joined ++ f.above) laid.placed)
-            (placed-append _ one f.above (tt, tt)
-            (subst (λ k. ArePlaced (0 + sizes f.below + k) f.above) (sym span-one) q))
+        placed = placed-swap 0 f.below joined one f.above span-one (tt, tt) laid.placed
 
         names-now : names now ≡ names f.below ++ names f.above
         names-now = names-append f.below (one ++ f.above)
-
-        names-joined : names joined ≡ names_of f.here ++ []
-        names-joined = names-append gap (f.here ∷ []) ∙ ap (λ k. k ++ (names_of f.here ++ [])) (names-free (at - start))
-
-        names-all : names all ≡ names f.below ++ (names_of f.here ++ names f.above)
-        names-all = names-append f.below (joined ++ f.above) ∙ ap (λ k. names f.below ++ k)
-            (names-append joined f.above ∙ ap (λ k. k ++ names f.above) names-joined
-            ∙ append_assoc (names_of f.here) [] (names f.above))
 
         outside-same : (s : ℕ) → IsSlot s all → piece s 4 mid ≡ piece s 4 xs
         outside-same s i = piece-outside start top xs mid s out (outside z start top xs is s i)

@@ -1,9 +1,7 @@
 -- The nonrelocatable block at a place is made Free.
-use Rattle.std.proofs.Common.{◌≡◌, ℕ, true, false, cond, if◌then◌else◌, ◌+◌, ◌<◌, ◌≤◌, inl, inr, Some, List, []}
+use Rattle.std.proofs.Common.{◌≡◌, ℕ, true, false, if◌then◌else◌, ◌+◌, ◌<◌, ◌≤◌, inl, inr, Some, List, [], ◌⊎◌}
 use Rattle.std.proofs.Common.{◌∷◌, ◌++◌, sym, refl, ap, ◌∙◌, subst, arith}
-use Rattle.std.proofs.lemmas.Bool.{false≢true}
-use Rattle.std.proofs.lemmas.Bool.Decides.{eqb_tells}
-use Rattle.std.proofs.lemmas.List.{map-append}
+use Rattle.std.proofs.lemmas.Bool.{false≢true, ne_eqb}
 use Rattle.block_store.specs.Block.{Block, Free, Nonrelocatable, Masters, Relocatable, size, sizes, tidy, count, free_of}
 use Rattle.block_store.specs.Block.{free_sum, is_nonrelocatable, is_masters}
 use Rattle.block_store.specs.Room.{Spot, spot_at}
@@ -17,45 +15,25 @@ use Rattle.zone_bytes.specs.Table.{Lays, slot_in}
 use Rattle.zone_bytes.proofs.Tiles.Keeping.{placed-left, placed-right}
 use Rattle.zone_bytes.proofs.Blocks.InPlace.{masters-same}
 use Rattle.zone_bytes.proofs.Places.AtPlace.{whole, low}
-use Rattle.zone_bytes.proofs.Joined.ByName.{free-more}
+use Rattle.zone_bytes.proofs.Joined.ByName.{free-more, freed-one}
 use Rattle.zone_bytes.proofs.Joined.Handles.{Gained, gained}
+use Rattle.block_store.specs.Run.{has}
 
--- a nonrelocatable block of another place stays
-nonrelocatable-stays : (place : ℕ) (id : ℕ) (content : List ℕ) → (id ≡ place → ⊥)
-    → cond (is_nonrelocatable place (Nonrelocatable id content)) (Free (size (Nonrelocatable id content))) (Nonrelocatable id content) ≡ Nonrelocatable id content
-nonrelocatable-stays place id content n = elim (eqb_tells id place) [
-  | inl t ↦ absurd (n t.1)
-  | inr t ↦ ap (λ v. cond v (Free (size (Nonrelocatable id content))) (Nonrelocatable id content)) t.0
-]
-
--- the blocks below the place, and those above it
-nonrelocatable-below : (place o : ℕ) (blocks : List Block) → ArePlaced o blocks → o + sizes blocks ≤ place
-    → freed (is_nonrelocatable place) blocks ≡ blocks
-nonrelocatable-below place o [] p l = refl
-nonrelocatable-below place o (Free n ∷ blocks) p l =
-    ap (λ k. Free n ∷ k) (nonrelocatable-below _ (o + n) blocks p.1 (omega (arith, l)))
-nonrelocatable-below place o (Nonrelocatable id content ∷ blocks) p l =
-    ap (λ b. b ∷ freed (is_nonrelocatable place) blocks) (nonrelocatable-stays place id content (λ q. omega (arith, q, l)))
-    ∙ ap (λ k. Nonrelocatable id content ∷ k) (nonrelocatable-below place (o + size (Nonrelocatable id content)) blocks p.1 (omega (arith, l)))
-nonrelocatable-below place o (Masters ∷ blocks) p l =
-    ap (λ k. Masters ∷ k) (nonrelocatable-below place (o + 272) blocks p.1 (omega (arith, l)))
-nonrelocatable-below place o (Relocatable slot flags content ∷ blocks) p l =
-    ap (λ k. Relocatable slot flags content ∷ k)
-    (nonrelocatable-below place (o + size (Relocatable slot flags content)) blocks p.1 (omega (arith, l)))
-
-nonrelocatable-above : (place o : ℕ) (blocks : List Block) → ArePlaced o blocks → place < o
-    → freed (is_nonrelocatable place) blocks ≡ blocks
-nonrelocatable-above place o [] p l = refl
-nonrelocatable-above place o (Free n ∷ blocks) p l =
-    ap (λ k. Free n ∷ k) (nonrelocatable-above _ (o + n) blocks p.1 (omega (arith, l)))
-nonrelocatable-above place o (Nonrelocatable id content ∷ blocks) p l =
-    ap (λ b. b ∷ freed (is_nonrelocatable place) blocks) (nonrelocatable-stays place id content (λ q. omega (arith, q, l)))
-    ∙ ap (λ k. Nonrelocatable id content ∷ k) (nonrelocatable-above place (o + size (Nonrelocatable id content)) blocks p.1 (omega (arith, l)))
-nonrelocatable-above place o (Masters ∷ blocks) p l =
-    ap (λ k. Masters ∷ k) (nonrelocatable-above place (o + 272) blocks p.1 (omega (arith, l)))
-nonrelocatable-above place o (Relocatable slot flags content ∷ blocks) p l =
-    ap (λ k. Relocatable slot flags content ∷ k)
-    (nonrelocatable-above place (o + size (Relocatable slot flags content)) blocks p.1 (omega (arith, l)))
+-- the blocks below the place, and those above it, are others
+none-placed : (place o : ℕ) (blocks : List Block) → ArePlaced o blocks → (o + sizes blocks ≤ place) ⊎ (place < o)
+    → has (is_nonrelocatable place) blocks ≡ false
+none-placed place o [] p l = refl
+none-placed place o (Nonrelocatable id content ∷ blocks) p l =
+    let z = size (Nonrelocatable id content) in
+    rw (ne_eqb id place (λ e. elim l [ inl a ↦ omega (arith, a, e, p.0) | inr b ↦ omega (arith, b, e, p.0) ]))
+    (none-placed place (o + z) blocks p.1 (elim l [ inl a ↦ inl (omega (arith, a)) | inr b ↦ inr (omega (arith, b)) ]))
+none-placed place o (Free n ∷ blocks) p l =
+    none-placed place (o + n) blocks p.1 (elim l [ inl a ↦ inl (omega (arith, a)) | inr b ↦ inr (omega (arith, b)) ])
+none-placed place o (Masters ∷ blocks) p l =
+    none-placed place (o + 272) blocks p.1 (elim l [ inl a ↦ inl (omega (arith, a)) | inr b ↦ inr (omega (arith, b)) ])
+none-placed place o (Relocatable slot flags content ∷ blocks) p l =
+    none-placed place (o + size (Relocatable slot flags content)) blocks p.1
+    (elim l [ inl a ↦ inl (omega (arith, a)) | inr b ↦ inr (omega (arith, b)) ])
 
 nonrelocatable-plain : (place : ℕ) (b : Block) → is_nonrelocatable place b ≡ true
     → (is_masters b ≡ false) × (free_of b ≡ 0) × (0 < size b)
@@ -94,12 +72,9 @@ module _ (xs : List ℕ) (first number : ℕ) (i : IsSound xs first number) (pla
       let p = subst (ArePlaced 0) is i.lays.placed in
       let l = low xs first number i place s e in
       let q = placed-right 0 s.below (s.here ∷ s.above) p in
-      ap (freed (is_nonrelocatable place)) is
-      ∙ map-append (λ c. cond (is_nonrelocatable place c) (Free (size c)) c) s.below (s.here ∷ s.above)
-      ∙ ap (λ k. k ++ freed (is_nonrelocatable place) (s.here ∷ s.above))
-      (nonrelocatable-below _ 0 _ (placed-left 0 _ _ p) (omega (arith, l)))
-      ∙ ap (λ k. s.below ++ k) (ap (λ v. cond v (Free (size s.here)) s.here ∷ freed (is_nonrelocatable place) s.above) f
-      ∙ ap (λ k. Free (size s.here) ∷ k) (nonrelocatable-above _ _ _ q.1 (omega (arith, l, plain.2))))
+      ap (freed (is_nonrelocatable place)) is ∙ freed-one (is_nonrelocatable place) s.below s.here s.above
+      (none-placed place 0 s.below (placed-left 0 s.below (s.here ∷ s.above) p) (inl (omega (arith, l)))) f
+      (none-placed place _ s.above q.1 (inr (omega (arith, l, plain.2))))
 
   pub nonrelocatable-gained : (new : List ℕ) (more : ℕ) → ((f : Freeing) → MayRelease f place xs
       → Lays new (tidy (f.below ++ Free (size f.here) ∷ f.above)) f.slots f.unused)

@@ -12,8 +12,9 @@ use Rattle.zone_bytes.proofs.Tiles.Leading.{each-map, each-right, names-append}
 use Rattle.zone_bytes.proofs.Tiles.Keeping.{placed-right}
 use Rattle.zone_bytes.proofs.Tiles.Heads.{first-reads, kind-small}
 use Rattle.zone_bytes.proofs.Tiles.Tiling.{span-whole}
-use Rattle.zone_bytes.proofs.Tiles.Heads.{Next, same_parts}
-use Rattle.zone_bytes.proofs.Places.Stepped.{left-is, next-header}
+use Rattle.zone_bytes.proofs.Tiles.Heads.{same_parts}
+use Rattle.zone_bytes.proofs.Places.Stepped.{left-is, may-read}
+use Rattle.zone_bytes.proofs.Tiles.Heads.{MayRead}
 
 module _ (xs : List ℕ) (below above : List Block) (slots : ℕ
     → Slot) (unused : List ℕ) (h : Lays xs (below ++ above) slots unused)
@@ -62,7 +63,7 @@ module _ (xs : List ℕ) (below above : List Block) (slots : ℕ
 
 -- the block at a place, by its header
 pub record Read (xs : List ℕ) (b : Block) (place : ℕ) : Type 0 where
-  pub next : Next xs place
+  pub may : MayRead place xs
   pub inside : place + size b ≤ length xs
   pub some : 16 ≤ size b
   pub whole : (place % 16 ≡ 0) × (size b % 16 ≡ 0)
@@ -82,7 +83,7 @@ module _ (xs : List ℕ) (below : List Block) (b : Block) (above : List Block) (
       let n = inside xs below (b ∷ above) slots unused h place low in
       let w = way xs below (b ∷ above) slots unused h place low in
       record {
-        next = next-header place xs w (omega (arith, n, t.some));
+        may = may-read place xs w (omega (arith, n, t.some));
         inside = omega (arith, n);
         some = t.some;
         whole = (w.walk.whole, t.whole);

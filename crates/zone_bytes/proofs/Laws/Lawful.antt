@@ -1,12 +1,11 @@
 -- A zone that bytes lay keeps the laws of a store.
-use Rattle.std.proofs.Common.{◌≡◌, ℕ, false, cond, eqb, ◌||◌, ◌+◌, ◌*◌, ◌≤◌, inl, inr, List, [], ◌∷◌, length, drop}
+use Rattle.std.proofs.Common.{◌≡◌, ℕ, false, cond, eqb, ◌+◌, ◌*◌, ◌≤◌, inl, inr, List, [], ◌∷◌, length, drop}
 use Rattle.std.proofs.Common.{sym, refl, ap, ◌∙◌, subst, arith}
 use Rattle.std.proofs.lemmas.Bool.{false≢true}
 use Rattle.std.proofs.lemmas.Bool.Decides.{eqb_tells}
 use Rattle.mac_words.specs.Size.{padded}
 use Rattle.block_store.specs.Block.{Block, Free, Nonrelocatable, Masters, Relocatable, size, sizes, free_sum, count}
 use Rattle.block_store.specs.Block.{is_masters, is_relocatable, tidy}
-use Rattle.block_store.specs.Run.{has}
 use Rattle.block_store.specs.Slot.{Slot, NoSlot, Unused, Used, is_used}
 use Rattle.block_store.specs.Compact.{Aligned, Placed}
 use Rattle.zone_bytes.specs.Layout.{head_of, Tiles, names, Apart, Each, Pairs, ArePlaced}
@@ -19,6 +18,9 @@ use Rattle.zone_bytes.specs.Beside.{rest_in}
 use Rattle.zone_bytes.proofs.Tiles.Tiling.{length-tiles}
 use Rattle.zone_bytes.proofs.Tiles.Spelling.{zone-of, slots-of}
 use Rattle.zone_bytes.proofs.Tiles.Zones.{respelled}
+use Rattle.zone_bytes.proofs.SlotTable.Tables.{none-other, none-apart}
+use Rattle.zone_bytes.proofs.Tiles.Leading.{each-map}
+use Rattle.block_store.proofs.Zone.Leading.{count-none}
 
 -- a name that is not used is that of no block
 not-used : (st : Slot) → IsUsed st → is_used st ≡ false → ⊥
@@ -26,34 +28,7 @@ not-used NoSlot u e = u
 not-used Unused u e = u
 not-used (Used r) u e = false≢true (sym e)
 
-pub none-named : (slots : ℕ → Slot) (blocks : List Block) → Each (λ s. IsUsed (slots s)) (names blocks) → (number : ℕ)
-    → is_used (slots number) ≡ false → has (is_relocatable number) blocks ≡ false
-none-named slots [] u number e = refl
-none-named slots (Free n ∷ blocks) u number e = none-named slots blocks u number e
-none-named slots (Nonrelocatable id content ∷ blocks) u number e = none-named slots blocks u number e
-none-named slots (Masters ∷ blocks) u number e = none-named slots blocks u number e
-none-named slots (Relocatable slot flags content ∷ blocks) u number e = elim (eqb_tells slot number) [
-  | inl t ↦ absurd (not-used (slots slot) u.0 (ap (λ k. is_used (slots k)) t.1 ∙ e))
-  | inr t ↦ ap (λ v. v || has (is_relocatable number) blocks) t.0 ∙ none-named slots blocks u.1 number e
-]
-
 -- no two blocks have one name
-pub count-apart : (number : ℕ) (blocks : List Block) → Each (Apart number) (names blocks)
-    → count (is_relocatable number) blocks ≡ 0
-count-apart number [] a = refl
-count-apart number (Free n ∷ blocks) a = let z = count-apart _ blocks a in omega (arith, z)
-count-apart number (Nonrelocatable id content ∷ blocks) a = let z = count-apart number blocks a in omega (arith, z)
-count-apart number (Masters ∷ blocks) a = let z = count-apart number blocks a in omega (arith, z)
-count-apart number (Relocatable slot flags content ∷ blocks) a = elim (eqb_tells slot number) [
-  | inl t ↦ absurd (far a.0 t.1)
-  | inr t ↦ ap (λ v. cond {A = ℕ} v 1 0 + count (is_relocatable number) blocks) t.0
-      ∙ (omega (arith, count-apart number blocks a.1))
-]
-  where
-    far : Apart number slot → slot ≡ number → ⊥
-    far (inl h) e = omega (arith, h, e)
-    far (inr h) e = omega (arith, h, e)
-
 pub counted-once : (number : ℕ) (blocks : List Block) → Pairs Apart (names blocks)
     → count (is_relocatable number) blocks ≤ 1
 counted-once number [] p = omega arith
@@ -63,7 +38,7 @@ counted-once number (Masters ∷ blocks) p = let z = counted-once number blocks 
 counted-once number (Relocatable slot flags content ∷ blocks) p = elim (eqb_tells slot number) [
   | inl t ↦
       let e : cond {A = ℕ} (eqb slot number) 1 0 ≡ 1 = ap (λ v. cond {A = ℕ} v 1 0) t.0 in
-      omega (arith, e, count-apart number blocks (subst (λ k. Each (Apart k) (names blocks)) t.1 p.0))
+      omega (arith, e, count-none (is_relocatable number) blocks (none-apart number blocks (subst (λ k. Each (Apart k) (names blocks)) t.1 p.0)))
   | inr t ↦
       let e : cond {A = ℕ} (eqb slot number) 1 0 ≡ 0 = ap (λ v. cond {A = ℕ} v 1 0) t.0 in
       omega (arith, e, counted-once number blocks p.1)
@@ -103,7 +78,8 @@ module _ (xs : List ℕ) (blocks : List Block) (slots : ℕ → Slot) (unused : 
       let g = respelled xs blocks slots unused h in
       record {
         small = (omega (arith, length-tiles));
-        no_block = λ number. none-named (slot_in xs) (zone_in xs) g.used number;
+        no_block = λ number e. none-other number (zone_in xs) (each-map (λ s. IsUsed (slot_in xs s)) (λ s. s ≡ number → ⊥)
+            (λ s u q. not-used (slot_in xs s) u (ap (λ k. is_used (slot_in xs k)) q ∙ e)) (names (zone_in xs)) g.used);
         once = λ number. counted-once number (zone_in xs) g.has_slots.apart;
         tidied = ap tidy z ∙ t ∙ sym z;
         aligned = aligned-tiles (head_of _) xs (zone_in xs) g.lies.tiles;

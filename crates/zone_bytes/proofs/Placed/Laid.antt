@@ -67,43 +67,42 @@ module _ (h : Header) (bottom top held : ℕ) (xs : List ℕ) (m : MayLay h bott
   length-two : length two ≡ length xs
   length-two = two-outside.kept
 
-  pub laid-outside : SameOutside bottom top xs now
-  laid-outside = go (nat_lt (bottom + h.size) top) refl
+  -- what is left is Free, if there is any
+  either : ((bottom + h.size < top) × (now ≡ written (bottom + h.size) (word left) two)) ⊎ ((left ≡ 0) × (now ≡ two))
+  either = go (nat_lt (bottom + h.size) top) refl
     where
-      go : (t : Bool) → nat_lt (bottom + h.size) top ≡ t
-          → SameOutside bottom top xs (cond t (written (bottom + h.size) (word (top - (bottom + h.size))) two) two)
+      go : (t : Bool) → nat_lt (bottom + h.size) top ≡ t → ((bottom + h.size < top)
+          × (cond t (written (bottom + h.size) (word (top - (bottom + h.size))) two) two
+          ≡ written (bottom + h.size) (word left) two))
+          ⊎ ((left ≡ 0) × (cond t (written (bottom + h.size) (word (top - (bottom + h.size))) two) two ≡ two))
       go true e =
-          outside-written _ _ _ _ _ (word (top - (bottom + h.size))) (omega arith)
-          (omega (arith, below-top, length-word)) two-outside
-      go false e = two-outside
-
-  -- what is left is Free
-  pub laid-left : (left ≡ 0) ⊎ ((0 < left) × (piece (bottom + h.size) 4 now ≡ word left))
-  laid-left = go (nat_lt (bottom + h.size) top) refl
-    where
-      go : (t : Bool) → nat_lt (bottom + h.size) top ≡ t → (left ≡ 0) ⊎ ((0 < left) × (piece (bottom + h.size) 4
-          (cond t (written (bottom + h.size) (word (top - (bottom + h.size))) two) two) ≡ word left))
-      go true e =
-          let k = length-word (top - (bottom + h.size)) in
-          let n = length-two in
           let same : top - (bottom + h.size) ≡ left = omega arith in
-          inr (
-            omega (arith, below-top),
-            piece-written _ (word (top - (bottom + h.size))) two 4 (sym k) (omega (arith, below-top, n))
-                ∙ ap word same,
-          )
-      go false e = inl (omega (arith, not-below))
+          inl (below-top _ _ e, ap (λ n. written (bottom + h.size) (word n) two) same)
+      go false e = inr (omega (arith, not-below), refl)
+
+  pub laid-outside : SameOutside bottom top xs now
+  laid-outside = elim either [
+    | inl w ↦ rw w.1 (outside-written _ _ _ _ _ (word left) (omega arith) (omega (arith, w.0, length-word)) two-outside)
+    | inr w ↦ rw w.1 two-outside
+  ]
+
+  pub laid-left : (left ≡ 0) ⊎ ((0 < left) × (piece (bottom + h.size) 4 now ≡ word left))
+  laid-left = elim either [
+    | inl w ↦
+        let n = length-two in
+        inr (
+          omega (arith, w.0),
+          rw w.1 (piece-written _ (word left) two 4 (sym (length-word left)) (omega (arith, w.0, n))),
+        )
+    | inr w ↦ inl w.0
+  ]
 
   -- the bytes of the block itself
   within : (k : ℕ) → k ≤ h.size → piece bottom k now ≡ piece bottom k two
-  within k l = go (nat_lt (bottom + h.size) top)
-    where
-      go : (t : Bool) → piece bottom k (cond t (written (bottom + h.size) (word (top - (bottom + h.size))) two) two)
-          ≡ piece bottom k two
-      go true =
-          piece-written_below _ (word (top - (bottom + h.size))) _ bottom k (omega (arith, l))
-          (omega (arith, length-two))
-      go false = refl
+  within k l = elim either [
+    | inl w ↦ rw w.1 (piece-written_below _ (word left) _ bottom k (omega (arith, l)) (omega (arith, length-two)))
+    | inr w ↦ ap (piece bottom k) w.1
+  ]
 
   length-stood : length stood ≡ held
   length-stood = length-take-le held (drop (bottom + 16) xs) (omega (arith, length-drop (bottom + 16) xs))

@@ -1,99 +1,37 @@
 -- A new Masters block at the lower end of a Free one.
-use Rattle.std.proofs.Common.{◌≡◌, ℕ, IsTrue, ◌+◌, ◌-◌, ◌*◌, ◌<◌, ◌≤◌, ◌%◌, ◌⊎◌, inl, inr, List, [], ◌∷◌, ◌++◌, length}
-use Rattle.std.proofs.Common.{take}
-use Rattle.std.proofs.Common.{zero, suc, refl, sym, ap, ◌∙◌, subst, arith}
-use Rattle.std.proofs.lemmas.Bool.{false≢true}
-use Rattle.std.specs.Option.{IfSome}
-use Rattle.windows.specs.Writes.{piece}
-use Rattle.heap_words.specs.Words.{word, header}
-use Rattle.heap_words.specs.declared.header.Header.{Header}
-use Rattle.heap_words.specs.declared.header.Tag.TheVariants as tag
-use Rattle.block_store.specs.Block.{Block, Free, Masters, size, free, free_sum, count, is_masters}
-use Rattle.block_store.specs.Room.{spot_at, filled}
-use Rattle.block_store.specs.Slot.{Slot, NoSlot, Unused, Used, is_used}
+use Rattle.std.proofs.Common.{◌≡◌, ℕ, IsTrue, ◌+◌, ◌-◌, ◌<◌, List, [], ◌∷◌, ◌++◌, length}
+use Rattle.std.proofs.Common.{zero, suc, refl, ap, ◌∙◌, subst, arith}
+use Rattle.block_store.specs.Block.{Free, Masters, size}
+use Rattle.block_store.specs.Room.{filled}
+use Rattle.block_store.specs.Slot.{is_used}
 use Rattle.block_store.proofs.Zone.Apart.{tidy-tidy}
-use Rattle.block_store.proofs.Content.Sized.{cut-sized, filled-free, filled-count}
-use Rattle.zone_bytes.specs.Layout.{IsSlot}
-use Rattle.zone_bytes.specs.Splicing.{SameOutside}
 use Rattle.zone_bytes.specs.Fresh.{slots_from}
 use Rattle.zone_bytes.specs.Decode.{zone_in}
-use Rattle.zone_bytes.specs.Table.{Lays, Says, slot_in}
+use Rattle.zone_bytes.specs.Table.{Lays, Says, slot_in, first_of}
 use Rattle.zone_bytes.specs.Lawful.{IsSound}
-use Rattle.zone_bytes.specs.Laying.{laid, MayLay}
-use Rattle.zone_bytes.specs.Mastering.{slots_at, with_slots, Thread}
+use Rattle.zone_bytes.specs.Mastering.{slots_at, with_slots, HasMasters}
 use Rattle.zone_bytes.proofs.SlotTable.Taking.{first-small}
 use Rattle.zone_bytes.proofs.Laws.Lawful.{Made, made}
-use Rattle.zone_bytes.proofs.Places.Options.{if-spot, one-spot}
-use Rattle.zone_bytes.proofs.Placed.NonrelocatableCarved.{Roomy}
-use Rattle.zone_bytes.proofs.Placed.Laid.{laid-outside, laid-left, laid-first}
-use Rattle.zone_bytes.proofs.Placed.MoreSlots.{outside-within, piece-low, lays-masters, kept-slot}
+use Rattle.zone_bytes.proofs.Placed.Carved.{Roomy, filled-is}
+use Rattle.zone_bytes.proofs.Placed.MoreSlots.{lays-masters, kept-slot}
+use Rattle.zone_bytes.proofs.SlotTable.Handles.{used-is}
 
 pub first-fits : (xs : List ℕ) (first unused : ℕ) (i : IsSound xs first unused) → first < 134217728
 first-fits xs first unused i =
     omega (arith, first-small (zone_in xs) (slot_in xs) i.unused xs i.unused i.lays i.lays.unused_slots)
 
-module _ (xs : List ℕ) (place top : ℕ) (r : Roomy xs place 272) (t : top ≡ place + size r.s.here) where
-  abbrev head : Header
-  head = record { size = 272; tag = tag.Masters; logical = 256; slot = 0; flags = 0 }
+module _ (xs : List ℕ) (place : ℕ) (r : Roomy xs place 272) (first unused : ℕ) (i : IsSound xs first unused) (new : List ℕ)
+    (m : HasMasters place (size r.s.here) first xs new) where
+  was : Lays xs (r.s.below ++ (Free r.bytes ∷ [] ++ r.s.above)) (slot_in xs) i.unused
+  was = subst (λ z. Lays xs z (slot_in xs) i.unused) (r.at.whole ∙ ap (λ b. r.s.below ++ b ∷ r.s.above) r.here) i.lays
 
-  pub may-master : MayLay head place top 256 xs
-  may-master =
-      let l = ap size r.here in
-      record {
-        even = (r.at.way.walk.whole, omega (arith, t), refl);
-        inside = omega (arith, t);
-        small = r.at.small;
-        room = omega (arith, t, l);
-        whole = omega arith;
-        fits = omega (arith, t, l);
-      }
-
-  abbrev mid : List ℕ
-  mid = laid head place top 256 xs
-
-  pub masters-inside : (place % 4 ≡ 0) × (place + 272 ≤ length mid)
-  masters-inside = (omega arith, omega (arith, ap size r.here, (laid-outside head place top 256 xs may-master).kept))
-
-  module _ (first unused : ℕ) (i : IsSound xs first unused) (new : List ℕ) (thread : Thread first new (slots_at place))
-      (o : SameOutside (place + 16) (place + 272) mid new) where
-    same : SameOutside place top xs new
-    same =
-        outside-within _ _ _ _ _ _ _ (omega arith) (omega (arith, t, ap size r.here))
-        (laid-outside _ _ _ _ _ may-master) o
-
-    top-is : top ≡ place + r.bytes
-    top-is = t ∙ ap (λ b. place + size b) r.here
-
-    begins : piece place 16 new ≡ header 274 256 0 0
-    begins = piece-low _ _ place 16 mid new (omega arith) o ∙ laid-first head place top 256 xs may-master
-
-    left : (r.bytes - 272 ≡ 0) ⊎ ((0 < r.bytes - 272) × (piece (place + 272) 4 new ≡ word (r.bytes - 272)))
-    left =
-        let e : top - place - 272 ≡ r.bytes - 272 = omega (arith, top-is) in
-        subst (λ k. (k ≡ 0) ⊎ ((0 < k) × (piece (place + 272) 4 new ≡ word k))) e
-        (elim (laid-left _ _ _ _ _ may-master) [
-          | inl z ↦ inl z
-          | inr z ↦ inr (z.0, ap (take 4) o.high ∙ z.1)
-        ])
-
-    was : Lays xs (r.s.below ++ (Free r.bytes ∷ [] ++ r.s.above)) (slot_in xs) i.unused
-    was = subst (λ z. Lays xs z (slot_in xs) i.unused) (r.at.whole ∙ ap (λ b. r.s.below ++ b ∷ r.s.above) r.here) i.lays
-
-    pub masters-lays : Lays new (filled Masters r.s) (with_slots place (slot_in xs)) (slots_at place ++ i.unused)
-    masters-lays =
-        let l = ap size r.here in
-        let k : r.bytes - 272 ≡ size r.s.here + 0 - 272 = omega (arith, l) in
-        subst (λ bs. Lays new bs (with_slots place (slot_in xs)) (slots_at place ++ i.unused))
-        (ap (λ m. r.s.below ++ Masters ∷ (free m ++ r.s.above)) k
-        ∙ sym (cut-sized _ refl _ r.at.apart 0 _ r.head (omega (arith, l)))) (lays-masters _ _ _ _
-        (slot_in xs) _ was _ _ r.at.low top-is r.room _ same begins left
-        (subst (λ k. Thread k new (slots_at place)) i.begins thread))
-
-    pub masters-lays-if : IfSome (spot_at place (zone_in xs)) (λ s.
-        Lays new (filled Masters s) (with_slots place (slot_in xs)) (slots_at place ++ i.unused))
-    masters-lays-if = if-spot _ _
-        (λ s e. subst (λ q. Lays new (filled Masters q) (with_slots place (slot_in xs)) (slots_at place ++ i.unused))
-        (one-spot _ _ s r.is e) masters-lays)
+  pub masters-lays : Lays new (filled Masters r.s) (with_slots place (slot_in xs)) (slots_at place ++ i.unused)
+  masters-lays =
+      subst (λ bs. Lays new bs (with_slots place (slot_in xs)) (slots_at place ++ i.unused))
+      (filled-is xs place 272 r Masters refl (r.bytes - 272) (omega (arith, ap size r.here)))
+      (lays-masters _ _ _ _ (slot_in xs) _ was _ r.at.low r.room _
+      (subst (λ b. HasMasters place (size b) (first_of i.unused) xs new) r.here
+      (subst (λ k. HasMasters place (size r.s.here) k xs new) i.begins m)))
 
 length-slots : (at n : ℕ) → length (slots_from at n) ≡ n
 length-slots at zero = refl
@@ -105,13 +43,8 @@ used-stays : (xs : List ℕ) (first unused place : ℕ) (i : IsSound xs first un
 used-stays xs first unused place i r k u =
     let e = r.at.whole ∙ ap (λ b. r.s.below ++ b ∷ r.s.above) r.here in
     let h = subst (λ z. Lays xs z (slot_in xs) i.unused) e i.lays in
-    kept-slot _ _ _ _ (slot_in xs) _ h _ _ r.at.low refl r.room k
-    (is-slot (r.s.below ++ Free r.bytes ∷ r.s.above) (slot_in xs k) u (h.says k))
-  where
-    is-slot : (bs : List Block) (state : Slot) → IsTrue (is_used state) → Says bs xs i.unused k state → IsSlot k bs
-    is-slot bs NoSlot v q = absurd (false≢true v)
-    is-slot bs Unused v q = absurd (false≢true v)
-    is-slot bs (Used r) v q = q.0
+    kept-slot _ _ _ _ (slot_in xs) _ h _ r.at.low r.room k
+    (subst (Says (r.s.below ++ Free r.bytes ∷ r.s.above) xs i.unused k) (used-is (slot_in xs k) u).1 (h.says k)).0
 
 -- the zone with the new block
 module _ (xs now : List ℕ) (first unused place : ℕ) (i : IsSound xs first unused) (r : Roomy xs place 272)
@@ -120,20 +53,6 @@ module _ (xs now : List ℕ) (first unused place : ℕ) (i : IsSound xs first un
   masters-made =
       made _ _ (with_slots place (slot_in xs)) _ h _ _
       (tidy-tidy (r.s.below ++ Masters ∷ Free (size r.s.here - 272) ∷ r.s.above)) refl (omega (arith, length-slots))
-
-  pub masters-free : free_sum (zone_in now) + 272 ≡ free_sum (zone_in xs)
-  masters-free =
-      let a = filled-free Masters refl r.s r.bytes r.here r.room in
-      omega (arith, ap free_sum masters-made.zone, a, ap free_sum r.at.whole)
-
-  pub masters-all : 64 * count is_masters (zone_in now) ≡ 64 * count is_masters (zone_in xs) + 64
-  masters-all =
-      let a = filled-count Masters refl r.s r.bytes r.here r.room is_masters (λ n. refl) in
-      omega (arith, ap (count is_masters) masters-made.zone, a, ap (count is_masters) r.at.whole)
-
-  pub masters-zone : IfSome (spot_at place (zone_in xs)) (λ s. zone_in now ≡ filled Masters s)
-  masters-zone = if-spot _ (λ s. zone_in now ≡ filled Masters s)
-      (λ s e. subst (λ q. zone_in now ≡ filled Masters q) (one-spot _ _ s r.is e) masters-made.zone)
 
   pub masters-slots : (k : ℕ) → IsTrue (is_used (slot_in xs k)) → slot_in now k ≡ slot_in xs k
   masters-slots k u = masters-made.slots k ∙ used-stays _ _ _ _ i r k u

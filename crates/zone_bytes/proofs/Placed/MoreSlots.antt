@@ -5,28 +5,31 @@ use Rattle.std.proofs.lemmas.Bool.{false≢true}
 use Rattle.std.proofs.lemmas.Bool.Decides.{nat_tests}
 use Rattle.std.proofs.lemmas.List.{take-take, drop-drop, drop-take, length-drop}
 use Rattle.windows.specs.Writes.{piece}
-use Rattle.heap_words.specs.Words.{word, header}
+use Rattle.heap_words.specs.Words.{word}
 use Rattle.heap_words.proofs.Headers.{length-header}
 use Rattle.block_store.specs.Block.{Block, Free, Masters, sizes, free}
 use Rattle.block_store.specs.Slot.{Slot, NoSlot, Unused, Used, is_resource}
-use Rattle.zone_bytes.specs.Layout.{head_of, Tile, Tiles, IsSlot, names, Each, Pairs, Apart, ArePlaced}
+use Rattle.zone_bytes.specs.Layout.{head_of, Tile, Tiles, IsSlot, names, Each, Pairs, Apart}
 use Rattle.zone_bytes.specs.Settling.{Lies}
 use Rattle.zone_bytes.specs.Splicing.{SameOutside, Splice, IsSplice}
 use Rattle.zone_bytes.specs.Fresh.{slots_from}
 use Rattle.zone_bytes.specs.Table.{Has, Lays, Says, IsUsed, first_of}
-use Rattle.zone_bytes.specs.Mastering.{slots_at, is_slot_at, with_slots, Thread}
-use Rattle.zone_bytes.proofs.Tiles.Tiling.{slot-split, slot-append_left, slot-append_right}
-use Rattle.zone_bytes.proofs.Tiles.Leading.{Clear, each-append, each-map, names-append}
-use Rattle.zone_bytes.proofs.Tiles.Keeping.{chain-kept, names-free, span-free, placed-append, placed-left, placed-right}
-use Rattle.zone_bytes.proofs.Tiles.Splices.{piece-outside, tiles-splice, leads-splice}
+use Rattle.zone_bytes.specs.Mastering.{slots_at, is_slot_at, with_slots, Thread, HasMasters}
+use Rattle.zone_bytes.specs.Laying.{laid, MayLay}
+use Rattle.heap_words.specs.declared.header.Header.{Header}
+use Rattle.heap_words.specs.declared.header.Tag.TheVariants as tag
+use Rattle.zone_bytes.proofs.Placed.Laid.{laid-outside, laid-left, laid-first}
+use Rattle.zone_bytes.proofs.Tiles.Tiling.{slot-swap, slot-append_right}
+use Rattle.zone_bytes.proofs.Tiles.Leading.{Clear, each-append, each-map}
+use Rattle.zone_bytes.proofs.Tiles.Keeping.{chain-kept, names-free, span-free, each-free, placed-run, placed-swap, names-swap}
+use Rattle.zone_bytes.proofs.Tiles.Splices.{piece-outside}
 use Rattle.zone_bytes.proofs.Tiles.Replaced.{zone, is-splice}
 use Rattle.zone_bytes.proofs.SlotTable.Tables.{each-both, lies-agree}
-use Rattle.zone_bytes.proofs.FreshZones.FreshSlots.{has-slot, once-from}
-use Rattle.zone_bytes.proofs.Blocks.InPlace.{no-slots}
-use Rattle.zone_bytes.proofs.Blocks.Carves.{outside, clear, slot-kept, even}
-use Rattle.zone_bytes.proofs.Blocks.Carved.{free-slots, placed-free}
-use Rattle.zone_bytes.proofs.Placed.Stretched.{tiles-two, leads-free}
-use Rattle.zone_bytes.proofs.Placed.Threads.{thread-chain}
+use Rattle.zone_bytes.proofs.Blocks.InPlace.{no-slots, leads-free}
+use Rattle.zone_bytes.proofs.Blocks.Carves.{outside, even, lies-put}
+use Rattle.zone_bytes.proofs.Placed.Stretched.{tiles-two}
+use Rattle.zone_bytes.proofs.Placed.Threads.{has-slot, once-from, thread-chain}
+use Rattle.zone_bytes.proofs.Tiles.Keeping.{run-no_slot}
 
 -- a part of a stretch that was written anew
 pub outside-within : (lo hi a b : ℕ) (xs mid new : List ℕ) → lo ≤ a → b ≤ hi → SameOutside lo hi xs mid
@@ -42,12 +45,23 @@ outside-within lo hi a b xs mid new l h s t =
       high = up new ∙ ap (drop (hi - b)) t.high ∙ sym (up mid) ∙ s.high;
     }
 
--- pieces below a stretch and above it
-pub piece-low : (a b i n : ℕ) (mid new : List ℕ) → i + n ≤ a → SameOutside a b mid new → piece i n new ≡ piece i n mid
-piece-low a b i n mid new l t =
-    let whole : (ys : List ℕ) → piece i n ys ≡ drop i (take (i + n) (take a ys)) =
-    λ ys. sym (ap (drop i) (take-take (i + n) a ys l) ∙ drop-take i n ys) in
-    whole new ∙ ap (λ k. drop i (take (i + n) k)) t.low ∙ sym (whole mid)
+abbrev pub masters_header : Header
+masters_header = record { size = 272; tag = tag.Masters; logical = 256; slot = 0; flags = 0 }
+
+-- the block is laid, and its slots are chained
+pub has-masters : (place size first : ℕ) (xs new : List ℕ) → MayLay masters_header place (place + size) 256 xs
+    → SameOutside (place + 16) (place + 272) (laid masters_header place (place + size) 256 xs) new
+    → Thread first new (slots_at place) → HasMasters place size first xs new
+has-masters place size first xs new m o thread = record {
+  outside = outside-within _ _ _ _ _ _ _ (omega arith) (omega arith) (laid-outside _ _ _ _ _ m) o;
+  begins = sym (drop-take place 16 new) ∙ ap (drop place) o.low
+      ∙ drop-take place 16 (laid masters_header place (place + size) 256 xs) ∙ laid-first _ _ _ _ _ m;
+  rest =
+      let e : place + size - place - 272 ≡ size - 272 = omega arith in
+      subst (λ k. (k ≡ 0) ⊎ ((0 < k) × (piece (place + 272) 4 new ≡ word k))) e
+      (elim (laid-left _ _ _ _ _ m) [ inl z ↦ inl z | inr z ↦ inr (z.0, ap (take 4) o.high ∙ z.1) ]);
+  thread = thread;
+}
 
 -- the slots of a Masters block at a place
 slot-at : (place s : ℕ) → is_slot_at place s ≡ true → (place + 16 ≤ s) × (s + 4 ≤ place + 272) × (s % 4 ≡ 0)
@@ -89,8 +103,11 @@ pairs-append [] ys p q e = q
 pairs-append (x ∷ xs) ys p q e = (each-append (Apart x) _ _ p.0 e.0, pairs-append xs ys p.1 q e.1)
 
 module _ (xs : List ℕ) (below above : List Block) (n : ℕ) (slots : ℕ → Slot) (unused : List ℕ)
-    (h : Lays xs (below ++ (Free n ∷ [] ++ above)) slots unused) (place top : ℕ) (low : sizes below ≡ place)
-    (t : top ≡ place + n) (room : 272 ≤ n) where
+    (h : Lays xs (below ++ (Free n ∷ [] ++ above)) slots unused) (place : ℕ) (low : sizes below ≡ place)
+    (room : 272 ≤ n) where
+  abbrev top : ℕ
+  top = place + n
+
   abbrev all : List Block
   all = below ++ (Free n ∷ [] ++ above)
 
@@ -110,10 +127,10 @@ module _ (xs : List ℕ) (below above : List Block) (n : ℕ) (slots : ℕ → S
   now = with_slots place slots
 
   high : place + sizes (Free n ∷ []) ≡ top
-  high = omega (arith, t)
+  high = omega arith
 
   rises : place < top
-  rises = omega (arith, t, room)
+  rises = omega (arith, room)
 
   plain : (s : ℕ) → IsSlot s (Free n ∷ []) → ⊥
   plain s j = no-slots (Free n) refl s j
@@ -132,43 +149,34 @@ module _ (xs : List ℕ) (below above : List Block) (n : ℕ) (slots : ℕ → S
 
   -- the slots that were there stay
   far : (s : ℕ) → IsSlot s all → is_slot_at place s ≡ false
-  far s i = not-at _ _ s (omega (arith, t, room)) (outside z _ _ _ st s i)
+  far s i = not-at _ _ s (omega (arith, room)) (outside z _ _ _ st s i)
 
   pub kept-slot : (s : ℕ) → IsSlot s all → now s ≡ slots s
   kept-slot s i = ap (λ v. cond v Unused (slots s)) (far s i)
 
-  module _ (new : List ℕ) (same : SameOutside place top xs new) (first : piece place 16 new ≡ header 274 256 0 0)
-      (rest : (n - 272 ≡ 0) ⊎ ((0 < n - 272) × (piece (place + 272) 4 new ≡ word (n - 272))))
-      (thread : Thread (first_of unused) new (slots_at place)) where
+  module _ (new : List ℕ) (m : HasMasters place n (first_of unused) xs new) where
     masters-tile : Tile (head_of resource Masters) 272 (drop place new)
     unfolding head_of
     masters-tile =
         let l = length-header 274 256 0 0 in
         record {
-          fits = omega (arith, length-drop place new, t, room);
+          fits = (let o = m.outside.kept in omega (arith, length-drop place new, o, room));
           whole = refl;
           some = omega arith;
           room = omega (arith, l);
-          begins = ap (λ j. take j (drop place new)) l ∙ first;
+          begins = ap (λ j. take j (drop place new)) l ∙ m.begins;
         }
 
     tiles : Tiles (head_of resource) (piece place (top - place) new) put
     tiles =
-        tiles-two resource _ _ _ _ new (omega (arith, t, room)) (omega arith)
-        (omega (arith, evens, t)) masters-tile rest
+        tiles-two resource _ _ _ _ new (omega (arith, room)) (let o = m.outside in omega arith)
+        (omega (arith, evens)) masters-tile m.rest
 
     lies : Lies resource with_masters new
-    lies =
-        let c = clear z place top xs st in
-        record {
-          tiles = tiles-splice (head_of resource) _ _ _ (Free n ∷ []) _ put place top low high h.lies.tiles
-              same tiles;
-          leads = leads-splice _ _ below (Free n ∷ []) above put place top low high span h.lies.leads same c.0 c.1
-              (tt, leads-free (place + 272) left new);
-        }
+    lies = lies-put z place top xs st put new m.outside tiles span (tt, leads-free (place + 272) left new)
 
     forth : (s : ℕ) → IsSlot s all → IsSlot s with_masters
-    forth s i = slot-kept z _ _ xs st s put span i
+    forth s i = slot-swap s below (Free n ∷ []) put above (plain _) span i
 
     new-slot : (s : ℕ) → place + 16 ≤ s → s + 4 ≤ place + 272 → s % 4 ≡ 0 → IsSlot s with_masters
     new-slot s a b c =
@@ -176,32 +184,18 @@ module _ (xs : List ℕ) (below above : List Block) (n : ℕ) (slots : ℕ → S
         (inl (omega (arith, low, a), omega (arith, low, b, a), omega (arith, low, a, c, evens)))
 
     back : (s : ℕ) → IsSlot s with_masters → is_slot_at place s ≡ false → IsSlot s all
-    back s i f = elim (slot-split s _ _ i) [
-      | inl j ↦ slot-append_left s below (Free n ∷ above) j
-      | inr j ↦ elim (slot-split (s - sizes below) put above j.1) [
-        | inl k ↦ elim k [
-          | inl m ↦
-              let at = at-slot place s (omega (arith, m, low)) (omega (arith, m, low)) (omega (arith, m, low, evens))
-              in
-              absurd (false≢true (sym f ∙ at))
-          | inr m ↦ absurd (free-slots left (s - sizes below - 272) m.1)
-        ]
-        | inr k ↦
-            let f : s - sizes below - sizes put ≡ s - sizes below - sizes (Free n ∷ []) = ap
-            (λ q. s - sizes below - q) span in
-            slot-append_right s _ _ j.0 (slot-append_right _ (Free n ∷ []) _
-            (omega (arith, span)) (subst (λ q. IsSlot q above) f k.1))
-      ]
-    ]
+    back s i f = slot-swap s below put (Free n ∷ []) above none (sym span) i
+      where
+        none : IsSlot (s - sizes below) put → ⊥
+        none (inl m) = false≢true (sym f ∙ at-slot place s (omega (arith, m, low)) (omega (arith, m, low))
+            (omega (arith, m, low, evens)))
+        none (inr m) = run-no_slot _ (free left) (each-free left) m.1
 
     names-now : names with_masters ≡ names all
-    names-now =
-        names-append below (put ++ above)
-        ∙ ap (λ q. names below ++ q) (names-append (free left) above ∙ ap (λ q. q ++ names above) (names-free left))
-        ∙ sym (names-append below (Free n ∷ above))
+    names-now = names-swap below (Free n ∷ []) put above (names-free left)
 
     kept-piece : (s : ℕ) → IsSlot s all → piece s 4 new ≡ piece s 4 xs
-    kept-piece s i = piece-outside _ _ _ _ s same (outside z _ _ _ st s i)
+    kept-piece s i = piece-outside _ _ _ _ s m.outside (outside z _ _ _ st s i)
 
     each-named : (P : ℕ → Type 0) → Each P (names all) → Each P (names with_masters)
     each-named P e = subst (Each P) (sym names-now) e
@@ -236,8 +230,6 @@ module _ (xs : List ℕ) (below above : List Block) (n : ℕ) (slots : ℕ → S
 
     pub lays-masters : Lays new with_masters now (slots_at place ++ unused)
     lays-masters =
-        let p = placed-right 0 below (Free n ∷ above) h.placed in
-        let q = placed-right (0 + sizes below) (Free n ∷ []) above p in
         record {
           lies = lies-agree resource (λ s. is_resource (now s)) _ _
               (each-named (λ s. resource s ≡ is_resource (now s)) (each-map (λ s. IsSlot s all)
@@ -248,15 +240,13 @@ module _ (xs : List ℕ) (below above : List Block) (n : ℕ) (slots : ℕ → S
                 (each-map (λ s. IsSlot s all) (λ s. IsSlot s with_masters) forth (names all) h.has_slots.slots);
             apart = subst (Pairs Apart) (sym names-now) h.has_slots.apart;
           };
-          placed = placed-append 0 _ _ (placed-left 0 below (Free n ∷ above) h.placed)
-              (placed-append _ put above (tt, placed-free (0 + sizes below + 272) left)
-              (subst (λ k. ArePlaced (0 + sizes below + k) above) (sym span) q));
-          small = (omega arith);
+          placed = placed-swap 0 below (Free n ∷ []) put above span (tt, placed-run _ (free left) (each-free left)) h.placed;
+          small = (let o = m.outside.kept in omega arith);
           used = each-named (λ s. IsUsed (now s)) (each-both (λ s. IsSlot s all) (λ s. IsUsed (slots s))
               (λ s. IsUsed (now s))
               (λ s i u. subst IsUsed (sym (kept-slot s i)) u) (names all) h.has_slots.slots h.used);
           says = says;
-          chain = thread-chain (first_of unused) new (slots_at place) _ refl thread
+          chain = thread-chain (first_of unused) new (slots_at place) _ refl m.thread
               (chain-kept _ _ unused (each-map (λ s. IsSlot s all × (slots s ≡ Unused))
               (λ s. piece s 4 new ≡ piece s 4 xs) (λ s u. kept-piece s u.0) unused h.unused_slots) h.chain);
           unused_slots = each-append (λ s. IsSlot s with_masters × (now s ≡ Unused)) (slots_at place) _
@@ -272,4 +262,4 @@ module _ (xs : List ℕ) (below above : List Block) (n : ℕ) (slots : ℕ → S
       where
         apart-from : (s u : ℕ) → place + 16 ≤ s → s + 4 ≤ place + 272 → Clear place (top - place) u → Apart s u
         apart-from s u a b (inl c) = inr (omega (arith, c, a))
-        apart-from s u a b (inr c) = inl (omega (arith, c, b, t, room))
+        apart-from s u a b (inr c) = inl (omega (arith, c, b, room))

@@ -16,14 +16,14 @@ use Rattle.zone_bytes.specs.Decode.{zone_in}
 use Rattle.zone_bytes.specs.Table.{Lays, slot_in}
 use Rattle.zone_bytes.specs.Lawful.{IsSound}
 use Rattle.zone_bytes.proofs.Laws.Lawful.{Made, made}
-use Rattle.zone_bytes.proofs.Places.Options.{the-if, if-spot, one-spot}
+use Rattle.zone_bytes.proofs.Places.Options.{the-if, a-spot}
 use Rattle.zone_bytes.proofs.Placed.Standing.{Standing}
 use Rattle.zone_bytes.specs.Laying.{free_first, past_free}
 use Rattle.zone_bytes.specs.Changes.{Replaced}
 use Rattle.zone_bytes.specs.PurgeableBytes.{purgeable_of, purgeable_sum}
 use Rattle.zone_bytes.proofs.Bounds.Given.{given-filled, given-grown, given-parts}
 use Rattle.zone_bytes.proofs.Tiles.Keeping.{span-free}
-use Rattle.zone_bytes.proofs.Placed.Sizes.{HasRoom, some-blocks, headed-above}
+use Rattle.zone_bytes.proofs.Placed.Sizes.{HasRoom, headed-above}
 
 -- the blocks afterwards, as the block was cut or has grown
 pub record Resized (xs now : List ℕ) (first unused n : ℕ) (s : Spot) : Type 0 where
@@ -73,7 +73,7 @@ module _ (xs now : List ℕ) (first unused place n : ℕ) (i : IsSound xs first 
           }
       go (inr more) =
           let h = the-if (spot_at place (zone_in xs)) _ s e (grown first unused i) more in
-          let g = some-blocks (grow_up new s) (elim room [ inl le ↦ absurd (omega (arith, le, more)) | inr is ↦ is ]) in
+          let g = a-spot (grow_up new s) (elim room [ inl le ↦ absurd (omega (arith, le, more)) | inr is ↦ is ]) in
           let l : Lays now g.0 (slot_in xs) i.unused =
           subst (λ o. IfSome o (λ after. Lays now after (slot_in xs) i.unused)) g.1 h in
           record {
@@ -88,16 +88,12 @@ module _ (xs now : List ℕ) (first unused place n : ℕ) (i : IsSound xs first 
 
   pub cut-zone : IfSome (spot_at place (zone_in xs)) (λ s. size (resized n s.here) ≤ size s.here
       → zone_in now ≡ filled (resized n s.here) s)
-  cut-zone = if-spot _ _ (λ t q. subst (λ r. size (resized n r.here) ≤ size r.here
-      → zone_in now ≡ filled (resized n r.here) r) (one-spot _ s t e q)
-      (λ le. resize-made.made.zone ∙ resize-made.cut le))
+  cut-zone = rw e (λ le. resize-made.made.zone ∙ resize-made.cut le)
 
   pub grown-zone : IfSome (spot_at place (zone_in xs)) (λ s. size s.here < size (resized n s.here)
       → IfSome (grow_up (resized n s.here) s) (λ after. zone_in now ≡ after))
-  grown-zone = if-spot _ _ (λ t q. subst (λ r. size r.here < size (resized n r.here)
-      → IfSome (grow_up (resized n r.here) r) (λ after. zone_in now ≡ after)) (one-spot _ s t e q)
-      (λ more. subst (λ bs. IfSome (grow_up new s) (λ after. bs ≡ after)) (sym resize-made.made.zone)
-      (resize-made.grown more)))
+  grown-zone = rw e (λ more. subst (λ bs. IfSome (grow_up new s) (λ after. bs ≡ after)) (sym resize-made.made.zone)
+      (resize-made.grown more))
 
   -- so the blocks from the place up to the top of the Free block above became others
   pub resize-replaced : is_free new ≡ false → size new ≤ size s.here + free_first s.above
@@ -115,7 +111,7 @@ module _ (xs now : List ℕ) (first unused place n : ℕ) (i : IsSound xs first 
         is = resize-made.made.zone ∙ elim (less_or_more (size new) (size s.here)) [
           | inl le ↦ resize-made.cut le ∙ cut-sized new solid s at.apart m (past_free s.above) heading le
           | inr more ↦
-              let g = some-blocks (grow_up new s) (elim room [ inl le ↦ absurd (omega (arith, le, more)) | inr is ↦ is ]) in
+              let g = a-spot (grow_up new s) (elim room [ inl le ↦ absurd (omega (arith, le, more)) | inr is ↦ is ]) in
               let e : resize-made.blocks ≡ g.0 =
               subst (λ o. IfSome o (λ after. resize-made.blocks ≡ after)) g.1 (resize-made.grown more) in
               e ∙ grown-sized new solid s at.apart m (past_free s.above) heading g.0 more g.1

@@ -1,9 +1,8 @@
 -- A block at another size, where it stands.
-use Rattle.std.proofs.Common.{◌≡◌, ℕ, Bool, true, false, ◌==◌, ◌+◌, ◌-◌, ◌%◌, ◌<◌, ◌≤◌, ◌^◌, ◌⊎◌, inl, inr, zero, suc}
-use Rattle.std.proofs.Common.{Option, Some, None}
+use Rattle.std.proofs.Common.{◌≡◌, ℕ, Bool, true, false, ◌==◌, ◌+◌, ◌-◌, ◌%◌, ◌<◌, ◌≤◌, ◌^◌, ◌⊎◌, inl, inr, zero, suc, rules}
+use Rattle.std.proofs.Common.{Some}
 use Rattle.std.proofs.Common.{List, [], ◌∷◌, ◌++◌, length, drop, refl, sym, ap, ◌∙◌, subst, arith}
 use Rattle.std.proofs.lemmas.Bool.{false≢true}
-use Rattle.std.proofs.lemmas.Bool.Decides.{nat_tests}
 use Rattle.std.proofs.lemmas.List.{length-drop, append-nil}
 use Rattle.std.specs.Option.{IfSome, IsSome, IsSomeAnd}
 use Rattle.mac_words.specs.Size.{padded}
@@ -13,7 +12,7 @@ use Rattle.heap_words.specs.Headers.{header_bytes, tag_number}
 use Rattle.heap_words.specs.declared.header.Header.{Header}
 use Rattle.heap_words.proofs.Words.{read_back}
 use Rattle.block_store.specs.Block.{Block, Free, Nonrelocatable, Masters, Relocatable, size, sizes, free, free_of, free_sum}
-use Rattle.block_store.specs.Block.{is_masters, is_room}
+use Rattle.block_store.specs.Block.{is_masters}
 use Rattle.block_store.specs.Block.{content_of, resized, resized_content, tidy}
 use Rattle.block_store.specs.Room.{Spot, spot_at, filled}
 use Rattle.block_store.specs.Grow.{grow_up}
@@ -39,11 +38,13 @@ use Rattle.zone_bytes.proofs.Tiles.Keeping.{names-free, span-free}
 use Rattle.zone_bytes.proofs.Tiles.Spelling.{zone-of}
 use Rattle.zone_bytes.proofs.Places.Stepped.{word-at, left-is}
 use Rattle.zone_bytes.proofs.Places.HeaderTells.{here-on, size-at, same-here}
-use Rattle.zone_bytes.proofs.Places.Options.{the-spot, if-spot, one-spot}
-use Rattle.zone_bytes.proofs.Blocks.InPlace.{leads-each}
+use Rattle.zone_bytes.proofs.Places.Options.{the-spot, a-spot, if-spot}
+use Rattle.zone_bytes.proofs.Blocks.InPlace.{leads-each, no-slots-two}
 use Rattle.zone_bytes.proofs.Blocks.Writes.{content-room}
 use Rattle.zone_bytes.proofs.Placed.Standing.{Standing, standing, held-piece, resource_in}
-use Rattle.zone_bytes.proofs.Placed.Stretched.{laid-lays, no-slots-two}
+use Rattle.zone_bytes.proofs.Placed.Stretched.{laid-lays}
+use Rattle.block_store.proofs.Zone.Listing.{free_of-le}
+use Rattle.block_store.proofs.Zone.Spots.{room-size}
 
 -- blocks that stand apart, parted into the Free one that comes first and the others
 pub headed-above : (above : List Block) → Apart above → Heading above (free_first above) (past_free above)
@@ -68,12 +69,6 @@ free-whole at xs w =
     go (Masters ∷ rest) v = (refl, omega arith)
     go (Relocatable id flags content ∷ rest) v = (refl, omega arith)
 
-free-part : (b : Block) → free_of b ≤ size b
-free-part (Free n) = omega arith
-free-part (Nonrelocatable id content) = omega arith
-free-part Masters = omega arith
-free-part (Relocatable id flags content) = omega arith
-
 abbrev Holds : Block → Type 0
 Holds b = (kind b % 2 == 1) ≡ true
 
@@ -89,27 +84,9 @@ pub record Same (n place : ℕ) (b : Block) : Type 0 where
 
 pub same-of : (n place : ℕ) (b : Block) → Holds b → Same n place b
 same-of n place (Free m) k = absurd (false≢true k)
-same-of n place (Nonrelocatable id content) k =
-    record {
-      no_masters = refl;
-      held = refl;
-      solid = refl;
-      still_none = refl;
-      names = refl;
-      placed = λ p. p;
-      size = ap padded (length-resized n content);
-    }
+same-of n place (Nonrelocatable id content) k = let z = ap padded (length-resized n content) in search rules
 same-of n place Masters k = absurd (false≢true k)
-same-of n place (Relocatable id flags content) k =
-    record {
-      no_masters = refl;
-      held = refl;
-      solid = refl;
-      still_none = refl;
-      names = refl;
-      placed = λ p. p;
-      size = ap padded (length-resized n content);
-    }
+same-of n place (Relocatable id flags content) k = let z = ap padded (length-resized n content) in search rules
 
 -- a block that holds none has one size
 pub unsized : (n : ℕ) (b : Block) → (kind b % 2 == 1) ≡ false → resized n b ≡ b
@@ -155,14 +132,6 @@ pub record Read (header : Header) (place : ℕ) (xs : List ℕ) : Type 0 where
   pub named : header.slot ≡ word_at (place + 8) xs
   pub marked : header.flags ≡ word_at (place + 12) xs
 
-pub if-blocks : (o : Option (List Block)) (P : List Block → Type 0) → ((l : List Block) → o ≡ Some l → P l) → IfSome o P
-if-blocks None P f = tt
-if-blocks (Some l) P f = f l refl
-
-pub some-blocks : (o : Option (List Block)) → IsSome o → (l : List Block) × (o ≡ Some l)
-some-blocks None h = absurd (false≢true h)
-some-blocks (Some l) h = (l, refl)
-
 abbrev pub HasRoom : ℕ → Spot → Type 0
 HasRoom n s = (size (resized n s.here) ≤ size s.here) ⊎ IsSome (grow_up (resized n s.here) s)
 
@@ -172,16 +141,10 @@ pub room-fits : (xs : List ℕ) (place n : ℕ) (s : Spot) → Standing xs place
 room-fits xs place n s at (inl le) small = omega (arith, le)
 room-fits xs place n s at (inr more) small =
     let new = resized n s.here in
-    let g = some-blocks (grow_up new s) more in
+    let g = a-spot (grow_up new s) more in
     map-some (λ above. s.below ++ new ∷ above) _ _ (size new ≤ 134217728) g.1
     (λ above took is. taken-some _ s.above _ (size new ≤ 134217728) took (λ next rest was room now.
-    omega (arith, total-append, ap sizes was, roomy-size, small)))
-  where
-    roomy-size : (d : ℕ) (b : Block) → is_room d b ≡ true → d ≤ size b
-    roomy-size d (Free n) r = grind (arith, nat_tests)
-    roomy-size d (Nonrelocatable id content) r = absurd (false≢true r)
-    roomy-size d Masters r = absurd (false≢true r)
-    roomy-size d (Relocatable id flags content) r = absurd (false≢true r)
+    omega (arith, total-append, ap sizes was, room-size, small)))
 
 module _ (xs : List ℕ) (place n : ℕ) (s : Spot) (at : Standing xs place s) (hd : Header) (r : Read hd place xs) where
   below-end : place < length xs
@@ -231,7 +194,7 @@ module _ (xs : List ℕ) (place n : ℕ) (s : Spot) (at : Standing xs place s) (
     fits = elim room [
       | inl le ↦ omega (arith, same.size, le)
       | inr some ↦
-          let g = some-blocks (grow_up new s) some in
+          let g = a-spot (grow_up new s) some in
           let is = grown-is new s g.0 g.1 in
           omega (arith, ap free_first is.2, m-is, same.size)
     ]
@@ -296,7 +259,7 @@ module _ (xs : List ℕ) (place n : ℕ) (s : Spot) (at : Standing xs place s) (
           (sym (cut-sized _ same.solid s at.apart m _ heads le)) sized-lays
 
       pub grown-lays : size s.here < size new → IfSome (grow_up new s) (λ after. Lays now after (slot_in xs) i.unused)
-      grown-lays more = if-blocks _ (λ after. Lays now after (slot_in xs) i.unused)
+      grown-lays more = if-spot _ (λ after. Lays now after (slot_in xs) i.unused)
           (λ after e. subst (λ bs. Lays now bs (slot_in xs) i.unused)
           (sym (grown-sized _ same.solid s at.apart m _ heads _ more e)) sized-lays)
 
@@ -307,7 +270,7 @@ module _ (xs : List ℕ) (place n : ℕ) (s : Spot) (at : Standing xs place s) (
           let b = free_sum-sized s.below new (size s.here + m - size new) rest same.solid in
           let d = ap free_sum at.whole ∙ ap (λ l. free_sum (s.below ++ s.here ∷ l)) heads.is
           ∙ free_sum-sized _ _ m _ same.held in
-          let e = total-le free_of size free-part (zone_in xs) in
+          let e = total-le free_of size free_of-le (zone_in xs) in
           let f = fits in
           let y = size-is in
           let v = same.size in
@@ -327,21 +290,6 @@ module _ (xs : List ℕ) (place n : ℕ) (s : Spot) (at : Standing xs place s) (
   pub kept-grown : size s.here < size (resized n s.here)
       → IfSome (grow_up (resized n s.here) s) (λ after. Lays xs after (slot_in xs) i.unused)
   kept-grown more = absurd (let z = ap size (unsized n _ none) in omega (arith, z, more))
-
--- at the spot of a place
-module _ (xs now : List ℕ) (place n : ℕ) (s : Spot) (e : spot_at place (zone_in xs) ≡ Some s) (unused : List ℕ) where
-  pub cut-if : (size (resized n s.here) ≤ size s.here → Lays now (filled (resized n s.here) s) (slot_in xs) unused)
-      → IfSome (spot_at place (zone_in xs)) (λ s. size (resized n s.here) ≤ size s.here
-      → Lays now (filled (resized n s.here) s) (slot_in xs) unused)
-  cut-if f = if-spot _ _ (λ t q. subst (λ r. size (resized n r.here) ≤ size r.here
-      → Lays now (filled (resized n r.here) r) (slot_in xs) unused) (one-spot _ s t e q) f)
-
-  pub grown-if : (size s.here < size (resized n s.here)
-      → IfSome (grow_up (resized n s.here) s) (λ after. Lays now after (slot_in xs) unused))
-      → IfSome (spot_at place (zone_in xs)) (λ s. size s.here < size (resized n s.here)
-      → IfSome (grow_up (resized n s.here) s) (λ after. Lays now after (slot_in xs) unused))
-  grown-if f = if-spot _ _ (λ t q. subst (λ r. size r.here < size (resized n r.here)
-      → IfSome (grow_up (resized n r.here) r) (λ after. Lays now after (slot_in xs) unused)) (one-spot _ s t e q) f)
 
 -- the spot, and what is known of it
 pub room-at : (xs : List ℕ) (first unused place n : ℕ) → IsSound xs first unused

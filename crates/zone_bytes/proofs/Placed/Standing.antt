@@ -1,5 +1,5 @@
 -- What is known of the block at a place.
-use Rattle.std.proofs.Common.{◌≡◌, ℕ, ◌+◌, ◌<◌, ◌≤◌, ◌^◌, Bool, Some, List, [], ◌∷◌, ◌++◌, length, take, drop, refl}
+use Rattle.std.proofs.Common.{◌≡◌, ℕ, ◌+◌, ◌<◌, ◌≤◌, ◌^◌, Bool, Some, List, [], ◌∷◌, ◌++◌, length, take, drop, refl, append_assoc}
 use Rattle.std.proofs.Common.{sym, ap, ◌∙◌}
 use Rattle.std.proofs.Common.{subst, arith}
 use Rattle.std.proofs.lemmas.List.{drop-drop}
@@ -8,18 +8,19 @@ use Rattle.block_store.specs.Block.{Block, Free, Nonrelocatable, Masters, Reloca
 use Rattle.block_store.specs.Room.{Spot, spot_at}
 use Rattle.block_store.specs.Slot.{is_resource}
 use Rattle.block_store.proofs.Zone.Apart.{Apart, apart-tidied}
-use Rattle.zone_bytes.specs.Layout.{head_of, Tile, Tiles, IsPlaced, ArePlaced, LeadsTo, Leads, IsSlot, names}
+use Rattle.zone_bytes.specs.Layout.{head_of, Tile, IsPlaced, ArePlaced, LeadsTo, Leads, IsSlot, names}
 use Rattle.zone_bytes.specs.Layout.{names_of, Each}
 use Rattle.zone_bytes.proofs.SlotTable.Tables.{slot-in}
 use Rattle.zone_bytes.specs.Decode.{zone_in}
 use Rattle.zone_bytes.specs.Table.{slot_in}
 use Rattle.zone_bytes.specs.Lawful.{IsSound}
 use Rattle.zone_bytes.specs.Stepping.{left_in, IsOnWay}
-use Rattle.zone_bytes.proofs.Tiles.Tiling.{tiles-split}
+use Rattle.zone_bytes.proofs.Tiles.Tiling.{span-append}
 use Rattle.zone_bytes.proofs.Tiles.Leading.{leads-right, each-map, each-left, each-right, names-append}
 use Rattle.zone_bytes.proofs.Tiles.Keeping.{placed-right}
 use Rattle.zone_bytes.proofs.Tiles.Decoding.{says}
 use Rattle.zone_bytes.proofs.Places.AtPlace.{whole, low, way-at, left-at, inside, some-here, way-above, left-above}
+use Rattle.zone_bytes.proofs.Blocks.InPlace.{tile}
 
 -- the resource flags that bytes tell
 abbrev pub resource_in : List ℕ → ℕ → Bool
@@ -48,12 +49,10 @@ standing xs first count place i s e =
     let all = whole xs first count i place s e in
     let at = low xs first count i place s e in
     let o : 0 + sizes s.below ≡ place = omega (arith, at) in
-    let t = tiles-split (head_of (resource_in xs)) _ _ (s.here ∷ s.above)
-    (subst (Tiles (head_of (resource_in xs)) xs) all i.lays.lies.tiles) in
     let y : tidy (s.below ++ s.here ∷ s.above) ≡ s.below ++ s.here ∷ s.above = sym (ap tidy all) ∙ i.tidied ∙ all in
-    let p = append_one s.below s.here s.above in
+    let p = sym (append_assoc s.below (s.here ∷ []) s.above) in
     let q : sizes (s.below ++ s.here ∷ []) ≡ place + size s.here =
-    span-one s.below s.here ∙ ap (λ n. n + size s.here) at in
+    omega (arith, span-append, at) in
     record {
       whole = all;
       low = at;
@@ -64,7 +63,7 @@ standing xs first count place i s e =
       inside = inside xs first count i place s e;
       some = some-here xs first count i place s e;
       small = i.lays.small;
-      tile = subst (λ j. Tile (head_of (resource_in xs) s.here) (size s.here) (drop j xs)) at t.1.0;
+      tile = tile xs first count i s.below s.here s.above all place at;
       placed = subst (λ j. IsPlaced j s.here) o
           (placed-right 0 s.below (s.here ∷ s.above) (subst (λ z. ArePlaced 0 z) all i.lays.placed)).0;
       leads = subst (λ j. LeadsTo j s.here xs) o
@@ -77,14 +76,6 @@ standing xs first count place i s e =
       tidied = y;
       apart = apart-tidied (s.below ++ s.here ∷ s.above) y;
     }
-  where
-    append_one : (below : List Block) (b : Block) (above : List Block) → below ++ b ∷ above ≡ (below ++ b ∷ []) ++ above
-    append_one [] b above = refl
-    append_one (c ∷ below) b above = ap (λ l. c ∷ l) (append_one below b above)
-
-    span-one : (below : List Block) (b : Block) → sizes (below ++ b ∷ []) ≡ sizes below + size b
-    span-one [] b = omega arith
-    span-one (c ∷ below) b = omega (arith, span-one below b)
 
 -- the content stands behind the header
 pub held-piece : (resource : ℕ → Bool) (b : Block) (at : ℕ) (xs : List ℕ)

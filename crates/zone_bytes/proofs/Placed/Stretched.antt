@@ -1,29 +1,23 @@
 -- A stretch of a zone in which one block is laid, and the rest is Free.
-use Rattle.std.proofs.Common.{◌≡◌, ℕ, Bool, false, ◌+◌, ◌-◌, ◌%◌, ◌<◌, ◌≤◌, ◌⊎◌, inl, inr, zero, suc, List, ◌∷◌, ◌++◌}
+use Rattle.std.proofs.Common.{◌≡◌, ℕ, Bool, false, ◌+◌, ◌-◌, ◌%◌, ◌<◌, ◌≤◌, ◌⊎◌, inl, inr, List, ◌∷◌, ◌++◌}
 use Rattle.std.proofs.Common.{length, take, drop, sym, refl, ap, ◌∙◌, subst, arith}
-use Rattle.std.proofs.lemmas.List.{length-drop, length-take-le, take-take, drop-drop, drop-take, append-nil}
+use Rattle.std.proofs.lemmas.List.{length-drop, length-take-le, take-take, drop-drop, drop-take}
 use Rattle.windows.specs.Writes.{piece}
 use Rattle.heap_words.specs.Words.{word}
 use Rattle.heap_words.specs.Headers.{header_bytes}
 use Rattle.heap_words.specs.declared.header.Header.{Header}
 use Rattle.block_store.specs.Block.{Block, size, sizes, free, is_masters}
 use Rattle.block_store.specs.Block.{resized_content}
-use Rattle.zone_bytes.specs.Layout.{head_of, Tile, Tiles, IsSlot, names, names_of, LeadsTo, Leads, Each, IsPlaced}
+use Rattle.zone_bytes.specs.Layout.{head_of, Tile, Tiles, IsSlot, names, names_of, Each, IsPlaced}
 use Rattle.zone_bytes.specs.Decode.{zone_in}
 use Rattle.zone_bytes.specs.Table.{Lays, slot_in}
 use Rattle.zone_bytes.specs.Lawful.{IsSound}
 use Rattle.zone_bytes.specs.Laying.{laid, MayLay}
 use Rattle.zone_bytes.proofs.Tiles.Tiling.{tile-take, tiles-one}
-use Rattle.zone_bytes.proofs.Tiles.Leading.{each-left, each-right, names-append}
-use Rattle.zone_bytes.proofs.Tiles.Keeping.{names-free, span-free}
-use Rattle.zone_bytes.proofs.Tiles.Splices.{piece-outside}
-use Rattle.zone_bytes.proofs.Tiles.Replaced.{zone, is-splice, replaced}
-use Rattle.zone_bytes.proofs.SlotTable.Tables.{each-both}
+use Rattle.zone_bytes.proofs.Tiles.Keeping.{span-free}
 use Rattle.block_store.proofs.Zone.Spots.{free-some}
 use Rattle.zone_bytes.proofs.Tiles.Heads.{free-tile}
-use Rattle.zone_bytes.proofs.Blocks.InPlace.{no-slots, each-leads}
-use Rattle.zone_bytes.proofs.Blocks.Carves.{outside}
-use Rattle.zone_bytes.proofs.Blocks.Carved.{free-slots, placed-free}
+use Rattle.zone_bytes.proofs.Blocks.InPlace.{put-lays}
 use Rattle.zone_bytes.proofs.Placed.Standing.{resource_in}
 use Rattle.zone_bytes.proofs.Placed.Laid.{laid-outside, laid-left, laid-tile}
 
@@ -55,16 +49,19 @@ tiles-two resource b k at len new e fits even t w =
       subst (λ j. Tiles head j (free k)) (sym cut) above,
     )
 
-pub leads-free : (o k : ℕ) (ys : List ℕ) → Leads o (free k) ys
-leads-free o zero ys = tt
-leads-free o (suc k) ys = (tt, tt)
-
--- neither a block that holds none nor Free bytes above it have slots
-pub no-slots-two : (b : Block) (k : ℕ) → is_masters b ≡ false → (s : ℕ) → IsSlot s (b ∷ free k) → ⊥
-no-slots-two b k e s i = elim i [
-  | inl j ↦ no-slots b e s (inl j)
-  | inr j ↦ free-slots k (s - size b) j.1
-]
+-- a block that was laid, and what is left above it
+pub laid-tiles : (h : Header) (place top held : ℕ) (xs : List ℕ) (may : MayLay h place top held xs) (resource : ℕ → Bool)
+    (b : Block) → size b ≡ h.size
+    → header_bytes h ++ resized_content h.logical (piece (place + 16) held xs) ≡ head_of resource b
+    → Tiles (head_of resource) (piece place (top - place) (laid h place top held xs)) (b ∷ free (top - place - h.size))
+laid-tiles h place top held xs may resource b same head =
+    let left = top - place - h.size in
+    let new = laid h place top held xs in
+    let o = laid-outside h place top held xs may in
+    tiles-two resource b _ _ _ _ (omega (arith, same)) (omega arith) (omega arith)
+    (subst (λ m. Tile (head_of resource b) m (drop place new)) (sym same) (laid-tile h place top held xs may _ head))
+    (subst (λ m. (left ≡ 0) ⊎ ((0 < left) × (piece (place + m) 4 new ≡ word left))) (sym same)
+    (laid-left h _ _ _ _ may))
 
 module _ (xs : List ℕ) (first count : ℕ) (i : IsSound xs first count) (below old above : List Block)
     (whole : zone_in xs ≡ below ++ (old ++ above)) (place top : ℕ) (low : sizes below ≡ place)
@@ -73,49 +70,7 @@ module _ (xs : List ℕ) (first count : ℕ) (i : IsSound xs first count) (below
     (n : names_of b ≡ names old) (p : IsPlaced place b)
     (head : header_bytes h ++ resized_content h.logical (piece (place + 16) held xs) ≡ head_of (resource_in xs) b)
     (lead : Each (λ s. piece s 4 xs ≡ word place) (names_of b)) where
-  abbrev all : List Block
-  all = below ++ (old ++ above)
-
-  abbrev new : List ℕ
-  new = laid h place top held xs
-
-  abbrev left : ℕ
-  left = top - place - h.size
-
-  was : Lays xs all (slot_in xs) i.unused
-  was = subst (λ z. Lays xs z (slot_in xs) i.unused) whole i.lays
-
-  of-old : Each (λ s. IsSlot s all) (names_of b)
-  of-old =
-      let e = each-right (λ s. IsSlot s all) _ _
-      (subst (Each (λ s. IsSlot s all)) (names-append below (old ++ above)) was.has_slots.slots) in
-      subst (Each (λ s. IsSlot s all)) (sym n) (each-left (λ s. IsSlot s all) _ _
-      (subst (Each (λ s. IsSlot s all)) (names-append old above) e))
-
-  leads-new : LeadsTo place b new
-  leads-new =
-      let o = laid-outside h place top held xs may in
-      let z = zone xs below old above (slot_in xs) i.unused was place top low high some plain in
-      let st = is-splice xs below old above (slot_in xs) i.unused was place top low high some plain in
-      each-leads _ b _ (each-both (λ s. IsSlot s all) (λ s. piece s 4 xs ≡ word place)
-      (λ s. piece s 4 new ≡ word place)
-      (λ s j q. piece-outside _ _ _ _ s o (outside z _ _ _ st s j) ∙ q) _ of-old lead)
-
-  tiles : Tiles (head_of (resource_in xs)) (piece place (top - place) new) (b ∷ free left)
-  tiles =
-      let o = laid-outside h place top held xs may in
-      let one = laid-tile h place top held xs may (head_of (resource_in xs) b) head in
-      tiles-two (resource_in xs) b _ _ _ _ (omega (arith, same)) (omega arith) (omega arith)
-      (subst (λ m. Tile (head_of (resource_in xs) b) m (drop place new)) (sym same) one)
-      (subst (λ m. (left ≡ 0) ⊎ ((0 < left) × (piece (place + m) 4 new ≡ word left))) (sym same)
-      (laid-left h _ _ _ _ may))
-
-  pub laid-lays : Lays new (below ++ ((b ∷ free left) ++ above)) (slot_in xs) i.unused
-  laid-lays =
-      replaced _ _ _ _ (slot_in xs) _ was _ _ low high some plain (b ∷ free left) new
-      (laid-outside h place top held xs may) tiles (omega (arith, same, span-free, high))
-      (ap (λ k. names_of b ++ k) (names-free left) ∙ append-nil (names_of b) ∙ n)
-      (no-slots-two b left solid) (p, placed-free (place + size b) left) (
-        leads-new,
-        leads-free (place + size b) left new,
-      )
+  pub laid-lays : Lays (laid h place top held xs) (below ++ ((b ∷ free (top - place - h.size)) ++ above)) (slot_in xs) i.unused
+  laid-lays = put-lays xs first count i below old above whole place top low high some plain b (top - place - h.size) solid
+      (omega (arith, same, span-free, high)) n p lead (laid h place top held xs) (laid-outside h place top held xs may)
+      (laid-tiles h place top held xs may (resource_in xs) b same head)

@@ -1,14 +1,16 @@
 -- Slots that are threaded, from the last down to the first.
-use Rattle.std.proofs.Common.{◌≡◌, ℕ, ◌+◌, ◌-◌, ◌*◌, ◌%◌, ◌<◌, ◌≤◌, zero, suc, List, [], ◌∷◌, ◌++◌, length}
+use Rattle.std.proofs.Common.{◌≡◌, ℕ, ◌+◌, ◌-◌, ◌*◌, ◌%◌, ◌<◌, ◌≤◌, zero, suc, List, [], ◌∷◌, ◌++◌, length, inl, inr}
 use Rattle.std.proofs.Common.{sym, ap, ◌∙◌, subst, arith}
 use Rattle.windows.specs.Writes.{written}
 use Rattle.windows.proofs.Pieces.{piece-written, piece-written_above}
 use Rattle.heap_words.specs.Words.{word}
 use Rattle.heap_words.proofs.Words.{length-word}
 use Rattle.zone_bytes.specs.Fresh.{slots_from}
-use Rattle.zone_bytes.specs.Table.{Chain, first_of}
+use Rattle.zone_bytes.specs.Table.{Chain, first_of, Has}
 use Rattle.zone_bytes.specs.Mastering.{slots_at, Thread, Threading}
 use Rattle.zone_bytes.proofs.Tiles.Splices.{outside-same, outside-written}
+use Rattle.std.proofs.lemmas.Bool.{cases_eq, cases_lt}
+use Rattle.zone_bytes.specs.Layout.{Apart, Each, Pairs}
 
 -- a write below threaded slots
 thread-above : (end at u n : ℕ) (xs w : List ℕ) → at + length w ≤ u → at ≤ length xs → Thread end xs (slots_from u n)
@@ -71,3 +73,23 @@ pub thread-chain : (end : ℕ) (xs slots unused : List ℕ) → end ≡ first_of
 thread-chain end xs [] unused e t c = c
 thread-chain end xs (s ∷ []) unused e t c = (t.0 ∙ ap (λ k. word (16 * k + 1)) e, c)
 thread-chain end xs (s ∷ u ∷ slots) unused e t c = (t.0, thread-chain _ _ (u ∷ slots) unused e t.1 c)
+
+above : (a b : ℕ) → a ≤ b → (a ≡ b → ⊥) → a % 4 ≡ 0 → b % 4 ≡ 0 → a + 4 ≤ b
+above a b l k e f = elim (cases_lt a b) [ inl m ↦ omega (arith, m, e, f) | inr m ↦ absurd (k (omega (arith, l, m))) ]
+
+-- each slot is among them
+pub has-slot : (at n s : ℕ) → at ≤ s → s + 4 ≤ at + 4 * n → at % 4 ≡ 0 → s % 4 ≡ 0 → Has (slots_from at n) s
+has-slot at zero s l h e f = absurd (omega (arith, l, h))
+has-slot at (suc n) s l h e f = elim (cases_eq at s) [
+  | inl k ↦ inl k
+  | inr k ↦ inr (has-slot (at + 4) n s (above at s l k e f) (omega (arith, h)) (omega (arith, e)) f)
+]
+
+-- and they are apart
+apart-above : (s at n : ℕ) → s + 4 ≤ at → Each (Apart s) (slots_from at n)
+apart-above s at zero l = tt
+apart-above s at (suc n) l = (inl l, apart-above s (at + 4) n (omega (arith, l)))
+
+pub once-from : (at n : ℕ) → Pairs Apart (slots_from at n)
+once-from at zero = tt
+once-from at (suc n) = (apart-above _ (at + 4) n (omega arith), once-from (at + 4) n)

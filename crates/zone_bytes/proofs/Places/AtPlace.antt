@@ -1,66 +1,34 @@
 -- The block at a place of a RawZone.
-use Rattle.std.proofs.Common.{◌≡◌, ℕ, Bool, ◌+◌, ◌<◌, ◌≤◌, ◌^◌, Some, List, [], ◌∷◌, ◌++◌, length, drop, sym}
-use Rattle.std.proofs.Common.{refl, ap, ◌∙◌, subst, arith}
+use Rattle.std.proofs.Common.{◌≡◌, ℕ, ◌+◌, ◌<◌, ◌≤◌, ◌^◌, Some, List, [], ◌∷◌, ◌++◌, length, sym}
+use Rattle.std.proofs.Common.{refl, ap, subst, arith}
 use Rattle.block_store.specs.Block.{Block, size, sizes}
 use Rattle.block_store.specs.Room.{Spot, spot_at}
 use Rattle.block_store.proofs.Zone.Aligned.{spot_at-is}
 use Rattle.block_store.proofs.Nonrelocatable.Placing.{spot_at-below}
-use Rattle.zone_bytes.specs.Layout.{head_of, Tiles, IsSlot, names, Each, ArePlaced}
 use Rattle.zone_bytes.specs.Decode.{zone_in}
-use Rattle.zone_bytes.specs.Table.{slot_in}
+use Rattle.zone_bytes.specs.Table.{slot_in, Lays}
 use Rattle.zone_bytes.specs.Lawful.{IsSound}
 use Rattle.zone_bytes.specs.Stepping.{left_in, IsOnWay}
-use Rattle.zone_bytes.proofs.Tiles.Tiling.{span-append, slot-inside, tiles-split}
-use Rattle.zone_bytes.proofs.Tiles.Leading.{each-map, each-right, names-append}
-use Rattle.zone_bytes.proofs.Tiles.Tiling.{span-whole}
-use Rattle.zone_bytes.proofs.Tiles.Keeping.{placed-right}
+use Rattle.zone_bytes.proofs.Tiles.Tiling.{span-append}
 use Rattle.zone_bytes.proofs.Laws.Lawful.{sizes-length}
-use Rattle.zone_bytes.proofs.Places.Stepped.{left-is}
-use Rattle.block_store.specs.Slot.{is_resource}
+use Rattle.zone_bytes.proofs.Joined.Ways.{way, left, tile-at}
 
 pub left-zone : (xs : List ℕ) → left_in 0 xs ≡ zone_in xs
 unfolding zone_in
 left-zone xs = refl
 
 module _ (xs : List ℕ) (first count : ℕ) (i : IsSound xs first count) where
-  abbrev resource : ℕ → Bool
-  resource = λ s. is_resource (slot_in xs s)
-
-  words : (blocks : List Block) → Each (λ s. IsSlot s (zone_in xs)) (names blocks)
-      → Each (λ s. s < 2 ^ 32) (names blocks)
-  words blocks e = each-map (λ s. IsSlot s (zone_in xs)) (λ s. s < 2 ^ 32)
-      (λ s j. omega (arith, slot-inside, sizes-length)) _ e
-
   -- the blocks above some lie on from where those end
-  parted : (below above : List Block) (place : ℕ) → zone_in xs ≡ below ++ above → sizes below ≡ place
-      → (w : IsOnWay place xs) × (w.rest ≡ above)
-  parted below above place z b =
-      let t = tiles-split (head_of resource) xs below above (subst (Tiles (head_of resource) xs) z i.lays.lies.tiles) in
-      let o : 0 + sizes below ≡ place = omega (arith, b) in (
-        record {
-          resource = resource;
-          rest = above;
-          walk = record {
-            high = subst (λ j. Tiles (head_of resource) (drop j xs) above) b t.1;
-            up = omega (arith, b, sizes-length, span-append, ap sizes z);
-            whole = omega (arith, span-whole, b);
-          };
-          placed = subst (λ j. ArePlaced j above) o (placed-right 0 below above (subst (ArePlaced 0) z i.lays.placed));
-          words = words above (each-right (λ s. IsSlot s (zone_in xs)) _ _
-              (subst (Each (λ s. IsSlot s (zone_in xs))) (ap names z ∙ names-append below above)
-              i.lays.has_slots.slots));
-          small = i.lays.small;
-        },
-        refl,
-      )
+  parted : (below above : List Block) → zone_in xs ≡ below ++ above → Lays xs (below ++ above) (slot_in xs) i.unused
+  parted below above z = subst (λ bs. Lays xs bs (slot_in xs) i.unused) z i.lays
 
   pub way-above : (below above : List Block) (place : ℕ) → zone_in xs ≡ below ++ above → sizes below ≡ place
       → IsOnWay place xs
-  way-above below above place z b = (parted _ _ _ z b).0
+  way-above below above place z b = way xs below above (slot_in xs) i.unused (parted below above z) place b
 
   pub left-above : (below above : List Block) (place : ℕ) → zone_in xs ≡ below ++ above → sizes below ≡ place
       → left_in place xs ≡ above
-  left-above below above place z b = left-is _ _ (parted _ _ _ z b).0 ∙ (parted _ _ _ z b).1
+  left-above below above place z b = left xs below above (slot_in xs) i.unused (parted below above z) place b
 
   pub on-way : IsOnWay 0 xs
   on-way = way-above [] (zone_in xs) 0 refl refl
@@ -85,10 +53,7 @@ module _ (xs : List ℕ) (first count : ℕ) (i : IsSound xs first count) where
     inside = omega (arith, ap sizes whole, span-append, sizes-length, low)
 
     pub some-here : 16 ≤ size s.here
-    some-here =
-        let t = tiles-split (head_of resource) _ _ (s.here ∷ s.above)
-        (subst (Tiles (head_of resource) xs) whole i.lays.lies.tiles) in
-        t.1.0.some
+    some-here = (tile-at xs s.below s.here s.above (slot_in xs) i.unused (parted s.below (s.here ∷ s.above) whole) place low).some
 
     pub above-fit : sizes s.above < 2 ^ 32
     above-fit = omega (arith, ap sizes whole, span-append, sizes-length)

@@ -16,7 +16,7 @@ use Rattle.zone_bytes.specs.Walking.{Walk}
 use Rattle.zone_bytes.specs.Stepping.{header_seen, left_in, IsOnWay}
 use Rattle.zone_bytes.proofs.Tiles.Leading.{each-left, each-right}
 use Rattle.zone_bytes.proofs.Tiles.Heads.{Next, same_parts}
-use Rattle.zone_bytes.proofs.Tiles.Heads.{length-head, first-reads, kind-small}
+use Rattle.zone_bytes.proofs.Tiles.Heads.{MayRead, next-may, length-head, first-reads, kind-small}
 use Rattle.zone_bytes.proofs.Tiles.Decoding.{says, flag_word-small, flags_of-word, blocks-back}
 use Rattle.zone_bytes.proofs.Places.Walks.{walk-next}
 
@@ -69,6 +69,10 @@ module _ (at : ℕ) (xs : List ℕ) (w : IsOnWay at xs) where
 
   pub next-header : at < length xs → Next xs at
   next-header l = walk-next w.resource _ w.small _ _ w.walk l
+
+-- a header may be read where a block begins
+pub may-read : (at : ℕ) (xs : List ℕ) → IsOnWay at xs → at < length xs → MayRead at xs
+may-read at xs w l = next-may xs at w.small (next-header at xs w l)
 
 pub stepped-on : (resource : ℕ → Bool) (at : ℕ) (xs : List ℕ) (small : length xs ≤ 134217728) (rest : List Block)
     → Walk resource at xs rest → ArePlaced at rest → Each (λ s. s < 2 ^ 32) (names rest)

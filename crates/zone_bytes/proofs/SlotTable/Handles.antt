@@ -1,8 +1,8 @@
 -- What the slot of a handle says: the place of its block, or that the handle is emptied.
-use Rattle.std.proofs.Common.{◌≡◌, ℕ, Bool, true, false, IsTrue, cond, ◌+◌, ◌%◌, ◌==◌, ◌||◌, ◌≤◌, ◌<◌, ◌^◌, nat_le}
+use Rattle.std.proofs.Common.{◌≡◌, ℕ, Bool, true, false, IsTrue, cond, ◌+◌, ◌%◌, ◌==◌, ◌||◌, ◌≤◌, nat_le}
 use Rattle.std.proofs.Common.{◌⊎◌, inl, inr, Option, Some, None, List, [], ◌∷◌, ◌++◌, length, take, drop, sym, refl}
 use Rattle.std.proofs.Common.{ap, ◌∙◌, subst, arith}
-use Rattle.std.proofs.lemmas.Bool.{false≢true, ne_eqb}
+use Rattle.std.proofs.lemmas.Bool.{false≢true, ne_eqb, or_parts, eq-eqb}
 use Rattle.std.proofs.lemmas.Bool.Decides.{eqb_tells}
 use Rattle.std.proofs.lemmas.List.{length-drop}
 use Rattle.std.proofs.lemmas.Option.{none-some, same_Some}
@@ -19,10 +19,11 @@ use Rattle.zone_bytes.specs.Looking.{place_of_word}
 use Rattle.zone_bytes.specs.Table.{Has, empty_word, Says, Lays}
 use Rattle.zone_bytes.proofs.Places.Stepped.{word-at}
 use Rattle.zone_bytes.proofs.Tiles.Tiling.{span-whole}
-use Rattle.zone_bytes.proofs.SlotTable.Tables.{slot-in, apart-other}
+use Rattle.zone_bytes.proofs.SlotTable.Tables.{slot-in, none-apart}
 use Rattle.zone_bytes.proofs.Tiles.Decoding.{says, flag_word-small}
-use Rattle.zone_bytes.proofs.Tiles.Spelling.{resource-bit}
+use Rattle.zone_bytes.proofs.Tiles.Spelling.{resource-bit, small-emptied}
 use Rattle.zone_bytes.proofs.Tiles.Tiling.{tiles-split}
+use Rattle.block_store.specs.Run.{has}
 
 pub used-is : (st : Slot) → IsTrue (is_used st) → (r : Bool) × (st ≡ Used r)
 used-is NoSlot u = absurd (false≢true u)
@@ -74,38 +75,23 @@ has-block xs o (Relocatable id flags content ∷ blocks) s l h = elim (eqb_tells
     above = blocks;
     whole = refl;
     found = ap (λ v. cond v (Some (record { below = []; here = Relocatable s flags content; above = blocks }))
-        (option_map (raised (Relocatable s flags content)) (spot (is_relocatable s) blocks))) (self s);
+        (option_map (raised (Relocatable s flags content)) (spot (is_relocatable s) blocks))) (eq-eqb s s refl);
     leads = ap (λ k. piece k 4 xs) (sym t.1) ∙ l.0 ∙ ap word (let z : o ≡ o + 0 = omega arith in z);
   })
   | inr t ↦ behind _ o _ _ s t.0 (has-block _ _ blocks s l.1 (elim h [ inl e ↦ absurd (t.1 e) | inr k ↦ k ]))
 ]
-  where
-    self : (s : ℕ) → (s == s) ≡ true
-    self s = elim (eqb_tells s s) [ inl t ↦ t.0 | inr t ↦ absurd (t.1 refl) ]
 
--- no block has a name that is apart from all names
-no-spot : (s : ℕ) (blocks : List Block) → Each (Apart s) (names blocks) → spot (is_relocatable s) blocks ≡ None
-no-spot s [] a = refl
-no-spot s (Free n ∷ blocks) a = ap (option_map (raised (Free n))) (no-spot s blocks a)
-no-spot s (Nonrelocatable id content ∷ blocks) a = ap (option_map (raised (Nonrelocatable id content))) (no-spot s blocks a)
-no-spot s (Masters ∷ blocks) a = ap (option_map (raised Masters)) (no-spot s blocks a)
-no-spot s (Relocatable id flags content ∷ blocks) a = elim (eqb_tells id s) [
-  | inl t ↦ absurd (apart-other s id a.0 (sym t.1))
-  | inr t ↦ ap (λ v. cond v (Some (record { below = []; here = Relocatable id flags content; above = blocks }))
-      (option_map (raised (Relocatable id flags content)) (spot (is_relocatable s) blocks))) t.0
-      ∙ ap (option_map (raised (Relocatable id flags content))) (no-spot s blocks a.1)
-]
+-- no block is the first that passes where none does
+spot-none : (t : Block → Bool) (blocks : List Block) → has t blocks ≡ false → spot t blocks ≡ None
+spot-none t [] e = refl
+spot-none t (b ∷ blocks) e = let p = or_parts (t b) (has t blocks) e in rw (p.0, spot-none t blocks p.1) refl
 
 -- the words of slots
 word-emptied : (r : Bool) → place_of_word (empty_word r) ≡ None
 word-emptied true = refl
 word-emptied false = refl
 
-pub emptied-small : (r : Bool) → empty_word r < 2 ^ 32
-emptied-small true = omega arith
-emptied-small false = omega arith
-
-emptied-tells : (r : Bool) → (empty_word r == 18) ≡ r
+pub emptied-tells : (r : Bool) → (empty_word r == 18) ≡ r
 emptied-tells true = refl
 emptied-tells false = refl
 
@@ -158,16 +144,16 @@ module _ (xs : List ℕ) (blocks : List Block) (slots : ℕ → Slot) (unused : 
     pub handle-in : (s % 4 ≡ 0) × (s + 4 ≤ length xs)
     handle-in = slot-in xs blocks slots unused h s told.0
 
-    state : IsEmptyHandle xs blocks s flag.0 ⊎ HasBlock xs 0 blocks s
+    pub state : IsEmptyHandle xs blocks s flag.0 ⊎ HasBlock xs 0 blocks s
     state = elim told.1 [
       | inl k ↦ inr (has-block xs 0 blocks s h.lies.leads k)
       | inr k ↦ inl (record { apart = k.0; leads = k.1 })
     ]
 
-    emptied-reads : IsEmptyHandle xs blocks s flag.0 → word_at s xs ≡ empty_word flag.0
-    emptied-reads e = read_back s _ _ (emptied-small _) e.leads
+    pub emptied-reads : IsEmptyHandle xs blocks s flag.0 → word_at s xs ≡ empty_word flag.0
+    emptied-reads e = read_back s _ _ (small-emptied _) e.leads
 
-    block-reads : (b : HasBlock xs 0 blocks s) → word_at s xs ≡ sizes b.below
+    pub block-reads : (b : HasBlock xs 0 blocks s) → word_at s xs ≡ sizes b.below
     block-reads b =
         let z : 0 + sizes b.below ≡ sizes b.below = omega arith in
         read_back s (sizes b.below) xs (omega (arith, (block-here s b).fits)) (b.leads ∙ ap word z)
@@ -182,7 +168,7 @@ module _ (xs : List ℕ) (blocks : List Block) (slots : ℕ → Slot) (unused : 
     pub leads-is : place_of_word (word_at s xs) ≡ option_map (λ (q : Spot). sizes q.below)
         (spot (is_relocatable s) blocks)
     leads-is = elim state [
-      | inl e ↦ emptied-word e ∙ sym (ap (option_map (λ (q : Spot). sizes q.below)) (no-spot s blocks e.apart))
+      | inl e ↦ emptied-word e ∙ sym (ap (option_map (λ (q : Spot). sizes q.below)) (spot-none (is_relocatable s) blocks (none-apart s blocks e.apart)))
       | inr b ↦ block-word b ∙ sym (ap (option_map (λ (q : Spot). sizes q.below)) b.found)
     ]
 

@@ -1,10 +1,10 @@
 -- A handle's resource flag is set or cleared.
-use Rattle.std.proofs.Common.{◌≡◌, ℕ, Bool, true, false, cond, ◌+◌, ◌-◌, ◌*◌, ◌/◌, ◌≤◌, inl, inr, List, [], ◌∷◌}
+use Rattle.std.proofs.Common.{◌≡◌, ℕ, Bool, cond, ◌+◌, ◌-◌, ◌*◌, ◌/◌, ◌≤◌, inl, inr, List, [], ◌∷◌}
 use Rattle.std.proofs.Common.{◌++◌, length, take, drop, sym, refl, ap, ◌∙◌, subst, arith}
 use Rattle.std.proofs.lemmas.Bool.{cases_eq}
-use Rattle.std.proofs.lemmas.List.{length-drop, length-take-le, drop-drop}
+use Rattle.std.proofs.lemmas.List.{length-drop, drop-drop}
 use Rattle.windows.specs.Writes.{written, piece}
-use Rattle.windows.proofs.Pieces.{piece-written, drop-written_below}
+use Rattle.windows.proofs.Pieces.{piece-written}
 use Rattle.heap_words.specs.Words.{word, header}
 use Rattle.heap_words.proofs.Words.{length-word}
 use Rattle.block_store.specs.declared.flags.Flags.{Flags}
@@ -15,35 +15,22 @@ use Rattle.zone_bytes.specs.Settling.{Lies}
 use Rattle.zone_bytes.specs.Splicing.{Splice, SameOutside, IsSplice}
 use Rattle.zone_bytes.specs.Table.{Has, Says, IsUsed, Lays, empty_word}
 use Rattle.zone_bytes.proofs.Blocks.Carves.{clear, outside}
-use Rattle.zone_bytes.proofs.Blocks.InPlace.{no-slots}
-use Rattle.zone_bytes.proofs.Blocks.Marked.{tile-flagged}
+use Rattle.zone_bytes.proofs.Blocks.InPlace.{no-slots, tile-inside, tiles-piece}
+use Rattle.zone_bytes.proofs.Blocks.Marked.{flagged-header}
 use Rattle.zone_bytes.proofs.SlotTable.Handles.{BlockHere}
-use Rattle.zone_bytes.proofs.SlotTable.Tables.{tiles-agree, set-other, set-same, apart-of, slot-in, apart-other}
+use Rattle.zone_bytes.proofs.SlotTable.Tables.{tiles-agree, set-other, set-same, slot-in, apart-other, used-apart}
 use Rattle.zone_bytes.proofs.SlotTable.Tables.{chain-written, lays-written}
 use Rattle.zone_bytes.proofs.Tiles.Keeping.{chain-kept}
 use Rattle.zone_bytes.proofs.Tiles.Leading.{each-map, names-append, pairs-before, pairs-after}
 use Rattle.zone_bytes.proofs.Tiles.Replaced.{zone, is-splice}
 use Rattle.zone_bytes.proofs.Tiles.Splices.{outside-same, outside-written, piece-outside, leads-splice, tiles-joined}
-use Rattle.zone_bytes.proofs.Tiles.Tiling.{tiles-one, tile-take, tiles-split}
+use Rattle.zone_bytes.proofs.Tiles.Tiling.{tiles-split}
+use Rattle.zone_bytes.proofs.Tiles.Heads.{length-head}
+use Rattle.zone_bytes.proofs.Tiles.Decoding.{high-flags, low-flag}
 
 -- the flags of a header with another resource flag
 pub flags-set : (flags : Flags) (was r : Bool) → flag_word flags was / 64 * 64 + cond {A = ℕ} r 32 0 ≡ flag_word flags r
-flags-set flags was r = ap (λ n. n + cond {A = ℕ} r 32 0) (others flags.locked flags.purgeable was)
-  where
-    others : (l p r : Bool)
-        → (cond {A = ℕ} l 128 0 + cond {A = ℕ} p 64 0 + cond {A = ℕ} r 32 0) / 64 * 64 ≡ cond {A = ℕ} l 128 0 + cond
-        {A = ℕ} p 64 0
-    others true true true = refl
-    others true true false = refl
-    others true false true = refl
-    others true false false = refl
-    others false true true = refl
-    others false true false = refl
-    others false false true = refl
-    others false false false = refl
-
-used-no-unused : (r : Bool) → Used r ≡ Unused → ⊥
-used-no-unused r e = cc
+flags-set flags was r = let h = high-flags flags in omega (arith, h, low-flag)
 
 module _ (xs : List ℕ) (blocks : List Block) (slots : ℕ → Slot) (unused : List ℕ) (h : Lays xs blocks slots unused)
     (s : ℕ) (was r : Bool) (u : slots s ≡ Used was) where
@@ -55,16 +42,11 @@ module _ (xs : List ℕ) (blocks : List Block) (slots : ℕ → Slot) (unused : 
 
   -- an unused slot is another, and stays unused
   unused-still : (t : ℕ) → slots t ≡ Unused → now t ≡ Unused
-  unused-still t e = set-other slots s t _ (λ k. used-no-unused _ (sym u ∙ ap slots (sym k) ∙ e)) ∙ e
+  unused-still t e = set-other slots s t _ (λ k. let z : Used was ≡ Unused = sym u ∙ ap slots (sym k) ∙ e in cc) ∙ e
 
   still-unused : Each (λ t. IsSlot t blocks × (now t ≡ Unused)) unused
   still-unused = each-map (λ t. IsSlot t blocks × (slots t ≡ Unused)) (λ t. IsSlot t blocks × (now t ≡ Unused))
       (λ t q. (q.0, unused-still t q.1)) _ h.unused_slots
-
-  apart-unused : Each (Apart s) unused
-  apart-unused = each-map (λ t. IsSlot t blocks × (slots t ≡ Unused)) (Apart s)
-      (λ t q. apart-of _ _ slots _ h s t is-slot q.0 (λ e. used-no-unused _ (sym u ∙ ap slots e ∙ q.1)))
-      _ h.unused_slots
 
   -- the flag in the word of an empty handle
   pub lays-emptied : Each (Apart s) (names blocks) → Lays (written s (word (empty_word r)) xs) blocks now unused
@@ -73,7 +55,7 @@ module _ (xs : List ℕ) (blocks : List Block) (slots : ℕ → Slot) (unused : 
       let b = slot-in xs blocks slots unused h s is-slot in
       lays-written _ _ slots _ h s n _ _ is-slot a (λ t d e k. k)
       (is-slot, inr (a, piece-written s _ _ 4 (sym (length-word n)) (omega (arith, b))))
-      (chain-written _ _ slots _ h s n _ (omega (arith, b)) apart-unused h.chain) still-unused h.once
+      (chain-written _ _ slots _ h s n _ (omega (arith, b)) (used-apart xs blocks slots unused h s was is-slot u) h.chain) still-unused h.once
 
   -- the flag in a header
   module _ (new : List ℕ) (lies : Lies (λ t. is_resource (now t)) blocks new) (mine : Has (names blocks) s)
@@ -166,22 +148,13 @@ module _ (xs : List ℕ) (below : List Block) (s : ℕ) (flags : Flags) (content
     unfolding head_of
     tile-now =
         let z = size here in
-        let up : drop place new ≡ written 12 (word (flag_word flags r)) (drop place xs) =
-        drop-written_below _ _ xs place (omega arith) (omega (arith, fits))
-        ∙ (let v : place + 12 - place ≡ 12 = omega arith in
-        ap (λ j. written j (word (flag_word flags r)) (drop place xs)) v) in
-        let t = tile-flagged _ _ s _ _ z _ _ parts.1.0 in
         let e : is_resource (marked s) ≡ r = ap is_resource (set-same slots s s (Used r) refl) in
         subst (λ q. Tile (header (z + 3) (length content) s (flag_word flags q) ++ content) z (drop place new)) (sym e)
-        (subst (λ ys. Tile (header (z + 3) (length content) s (flag_word flags r) ++ content) z ys) (sym up) t)
+        (tile-inside _ _ (word (flag_word flags r)) 12 z place (place + 12) xs refl
+        (omega (arith, length-head, length-word)) (flagged-header _ _ _ _ _ content) parts.1.0)
 
     one : Tiles head (piece place (top - place) new) (here ∷ [])
-    one =
-        let f = tile-now.fits in
-        let l : top - place ≡ size here = omega arith in
-        let k = length-take-le (size here) (drop place new) f in
-        subst (λ j. Tiles head (take j (drop place new)) (here ∷ [])) (sym l) (tiles-one head _ _ k
-        (tile-take head _ _ _ _ (omega arith) f tile-now))
+    one = tiles-piece head here place (top - place) new (omega arith) tile-now
 
     tiles : Tiles head new all
     tiles =

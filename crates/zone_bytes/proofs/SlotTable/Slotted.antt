@@ -1,5 +1,5 @@
 -- A RawZone whose slot is taken or given back.
-use Rattle.std.proofs.Common.{◌≡◌, ℕ, Bool, true, false, IsTrue, eqb, ◌||◌, ◌+◌, ◌-◌, ◌<◌, ◌≤◌, inl, inr, [], ◌∷◌}
+use Rattle.std.proofs.Common.{◌≡◌, ℕ, Bool, true, false, IsTrue, eqb, ◌||◌, ◌+◌, ◌-◌, ◌<◌, ◌≤◌, inl, inr, [], ◌∷◌, ◌==◌, ◌%◌}
 use Rattle.std.proofs.Common.{List, length, sym, refl, ap, ◌∙◌, subst, arith}
 use Rattle.std.proofs.lemmas.Bool.{false≢true}
 use Rattle.std.proofs.lemmas.Bool.Decides.{eqb_tells}
@@ -7,14 +7,18 @@ use Rattle.std.proofs.lemmas.Map.Steps.{length-le_from_distinct_below}
 use Rattle.std.specs.List.{IsDistinct, AllByRecursion, list_any}
 use Rattle.block_store.specs.Block.{Block, Free, Nonrelocatable, Masters, Relocatable, is_relocatable}
 use Rattle.block_store.specs.Run.{has}
-use Rattle.block_store.specs.Slot.{Slot, NoSlot, Unused, Used, set_slot, is_used}
+use Rattle.block_store.specs.Slot.{Unused, Used, set_slot, is_used, is_resource}
 use Rattle.zone_bytes.specs.Decode.{zone_in}
 use Rattle.zone_bytes.specs.Lawful.{IsSound}
-use Rattle.zone_bytes.specs.Table.{Table, Says, Lays, MayGive, slot_in, first_of}
+use Rattle.zone_bytes.specs.Table.{Table, Says, Lays, MayGive, slot_in, first_of, empty_word}
 use Rattle.zone_bytes.specs.Layout.{IsSlot, names, Apart, Each, Pairs}
-use Rattle.zone_bytes.proofs.SlotTable.Tables.{each-both, apart-other, apart-of, slot-in}
+use Rattle.zone_bytes.proofs.SlotTable.Tables.{each-both, apart-other, apart-of, slot-in, each-has}
 use Rattle.zone_bytes.proofs.Tiles.Zones.{SomeUnused, some-unused}
 use Rattle.zone_bytes.proofs.Laws.Lawful.{Made, made}
+use Rattle.zone_bytes.proofs.SlotTable.Handles.{used-is, emptied-tells}
+use Rattle.heap_words.specs.Words.{word_at}
+use Rattle.heap_words.proofs.Words.{read_back}
+use Rattle.zone_bytes.proofs.Tiles.Spelling.{small-emptied}
 
 module _ (xs : List ℕ) (first count : ℕ) (i : IsSound xs first count) where
   module _ (some : 0 < count) where
@@ -82,13 +86,8 @@ module _ (xs : List ℕ) (first count : ℕ) (i : IsSound xs first count) (slot 
     | inr t ↦ ((λ k. t.1 (sym k)), no-name blocks (sym (ap (λ v. v || has (is_relocatable slot) blocks) t.0) ∙ e))
   ]
 
-  pub is-used : (st : Slot) → slot_in xs slot ≡ st → IsTrue (is_used st) → (r : Bool) × (slot_in xs slot ≡ Used r)
-  is-used NoSlot e u = absurd (false≢true u)
-  is-used Unused e u = absurd (false≢true u)
-  is-used (Used r) e u = (r, e)
-
-  abbrev flag : (r : Bool) × (slot_in xs slot ≡ Used r)
-  flag = is-used (slot_in xs slot) refl used
+  abbrev pub flag : (r : Bool) × (slot_in xs slot ≡ Used r)
+  flag = used-is (slot_in xs slot) used
 
   pub slot-is : IsSlot slot (zone_in xs)
   slot-is = (subst (λ st. Says (zone_in xs) xs i.unused slot st) flag.1 (i.lays.says slot)).0
@@ -97,6 +96,17 @@ module _ (xs : List ℕ) (first count : ℕ) (i : IsSound xs first count) (slot 
   name-apart = each-both (λ t. IsSlot t (zone_in xs)) (λ t. slot ≡ t → ⊥) (Apart slot)
       (λ t j d. apart-of _ _ (slot_in xs) i.unused i.lays slot t slot-is j d)
       _ i.lays.has_slots.slots (no-name (zone_in xs) none)
+
+  pub slot-reads-in : (slot % 4 ≡ 0) × (slot + 4 ≤ length xs)
+  slot-reads-in = slot-in xs (zone_in xs) (slot_in xs) i.unused i.lays slot slot-is
+
+  -- the slot's word tells whether its empty handle is a resource's
+  pub flag-kept : (word_at slot xs == 18) ≡ is_resource (slot_in xs slot)
+  flag-kept = elim (subst (Says (zone_in xs) xs i.unused slot) flag.1 (i.lays.says slot)).1 [
+    | inl h ↦ absurd (apart-other slot slot (each-has (Apart slot) (names (zone_in xs)) slot name-apart h) refl)
+    | inr h ↦ ap (λ w. w == 18) (read_back slot (empty_word flag.0) xs (small-emptied flag.0) h.1)
+        ∙ emptied-tells flag.0 ∙ ap is_resource (sym flag.1)
+  ]
 
   abbrev give-table : Table
   give-table = record { blocks = zone_in xs; slots = slot_in xs; unused = i.unused }

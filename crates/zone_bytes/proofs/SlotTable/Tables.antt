@@ -1,13 +1,12 @@
 -- A slot's word is written.
-use Rattle.std.proofs.Common.{◌≡◌, ℕ, Bool, cond, ◌+◌, ◌%◌, ◌≤◌, inl, inr, List, [], ◌∷◌, ◌++◌, length, drop, sym}
+use Rattle.std.proofs.Common.{◌≡◌, ℕ, Bool, ◌+◌, ◌%◌, ◌≤◌, inl, inr, List, [], ◌∷◌, ◌++◌, length, drop, sym, false}
 use Rattle.std.proofs.Common.{refl, ap, ◌∙◌, subst, arith}
-use Rattle.std.proofs.lemmas.Bool.{cases_lt, cases_eq}
-use Rattle.std.proofs.lemmas.Bool.Decides.{eqb_tells}
+use Rattle.std.proofs.lemmas.Bool.{cases_lt, cases_eq, ne_eqb, eq-eqb}
 use Rattle.windows.specs.Writes.{written}
 use Rattle.heap_words.specs.Words.{word, header}
 use Rattle.heap_words.proofs.Words.{length-word}
 use Rattle.windows.proofs.Pieces.{length-written}
-use Rattle.block_store.specs.Block.{Block, Free, Nonrelocatable, Masters, Relocatable, size}
+use Rattle.block_store.specs.Block.{Block, Free, Nonrelocatable, Masters, Relocatable, size, is_relocatable}
 use Rattle.block_store.specs.Slot.{Slot, NoSlot, Unused, Used, set_slot, is_resource}
 use Rattle.zone_bytes.specs.Layout.{head_of, flag_word, Tile, Tiles, IsSlot, names, names_of, Apart, Each, Pairs}
 use Rattle.zone_bytes.specs.Settling.{Lies}
@@ -16,6 +15,7 @@ use Rattle.zone_bytes.proofs.Tiles.Tiling.{length-tiles, slot-inside, tiles-slot
 use Rattle.zone_bytes.proofs.Tiles.Leading.{Clear, piece-clear, each-map, each-left, each-right, leads-written}
 use Rattle.zone_bytes.proofs.Tiles.Heads.{length-masters}
 use Rattle.zone_bytes.proofs.Tiles.Tiling.{slot-even}
+use Rattle.block_store.specs.Run.{has}
 
 pub each-both : {A : Type 0} (P Q R : A → Type 0) → ((x : A) → P x → Q x → R x) → (xs : List A) → Each P xs
     → Each Q xs → Each R xs
@@ -32,6 +32,19 @@ each-has P (x ∷ xs) s h (inr k) = each-has P xs s h.1 k
 pub apart-other : (s t : ℕ) → Apart s t → s ≡ t → ⊥
 apart-other s t (inl h) e = omega (arith, h, e)
 apart-other s t (inr h) e = omega (arith, h, e)
+
+-- no block has a name that none of them has
+pub none-other : (s : ℕ) (blocks : List Block) → Each (λ t. t ≡ s → ⊥) (names blocks)
+    → has (is_relocatable s) blocks ≡ false
+none-other s [] e = refl
+none-other s (Free n ∷ blocks) e = none-other s blocks e
+none-other s (Nonrelocatable id content ∷ blocks) e = none-other s blocks e
+none-other s (Masters ∷ blocks) e = none-other s blocks e
+none-other s (Relocatable id flags content ∷ blocks) e = rw (ne_eqb id s e.0) (none-other s blocks e.1)
+
+pub none-apart : (s : ℕ) (blocks : List Block) → Each (Apart s) (names blocks) → has (is_relocatable s) blocks ≡ false
+none-apart s blocks a =
+    none-other s blocks (each-map (Apart s) (λ t. t ≡ s → ⊥) (λ t p e. apart-other s t p (sym e)) (names blocks) a)
 
 -- a slot's word is clear of another's
 pub apart-clear : (s n t : ℕ) → Apart s t → Clear s (length (word n)) t
@@ -61,16 +74,10 @@ lies-agree f g xs blocks e l = record { tiles = tiles-agree f g _ _ e l.tiles; l
 
 -- the state of another slot
 pub set-other : (slots : ℕ → Slot) (s t : ℕ) (state : Slot) → (t ≡ s → ⊥) → set_slot slots s state t ≡ slots t
-set-other slots s t state h = elim (eqb_tells t s) [
-  | inl e ↦ absurd (h e.1)
-  | inr e ↦ ap (λ v. cond v state (slots t)) e.0
-]
+set-other slots s t state h = rw (ne_eqb t s h) refl
 
 pub set-same : (slots : ℕ → Slot) (s t : ℕ) (state : Slot) → t ≡ s → set_slot slots s state t ≡ state
-set-same slots s t state h = elim (eqb_tells t s) [
-  | inl e ↦ ap (λ v. cond v state (slots t)) e.0
-  | inr e ↦ absurd (e.1 h)
-]
+set-same slots s t state h = rw (eq-eqb t s h) refl
 
 module _ (xs : List ℕ) (blocks : List Block) (slots : ℕ → Slot) (unused : List ℕ)
     (h : Lays xs blocks slots unused) where
@@ -89,6 +96,11 @@ module _ (xs : List ℕ) (blocks : List Block) (slots : ℕ → Slot) (unused : 
           | inr k ↦ absurd (n (omega (arith, k, l)))
         ]
       ]
+
+  -- the slot of a handle is apart from the unused ones
+  pub used-apart : (s : ℕ) (r : Bool) → IsSlot s blocks → slots s ≡ Used r → Each (Apart s) unused
+  used-apart s r i u = each-map (λ t. IsSlot t blocks × (slots t ≡ Unused)) (Apart s)
+      (λ t q. apart-of s t i q.0 (λ e. let z : Used r ≡ Unused = sym u ∙ ap slots e ∙ q.1 in cc)) unused h.unused_slots
 
   pub slot-in : (s : ℕ) → IsSlot s blocks → (s % 4 ≡ 0) × (s + 4 ≤ length xs)
   slot-in s i = ((slot-even head _ s _ h.lies.tiles i), omega (arith, slot-inside, length-tiles))

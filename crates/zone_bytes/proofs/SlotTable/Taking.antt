@@ -1,5 +1,5 @@
 -- A slot is taken from the list of unused ones, and given back.
-use Rattle.std.proofs.Common.{◌≡◌, ℕ, Bool, false, ◌+◌, ◌*◌, ◌/◌, ◌<◌, inl, inr, List, [], ◌∷◌, sym, refl, ap, ◌∙◌}
+use Rattle.std.proofs.Common.{◌≡◌, ℕ, Bool, false, ◌+◌, ◌*◌, ◌/◌, ◌<◌, inl, inr, List, [], ◌∷◌, sym, refl, ◌∙◌}
 use Rattle.std.proofs.Common.{subst, arith}
 use Rattle.windows.specs.Writes.{written}
 use Rattle.heap_words.specs.Words.{word, word_at}
@@ -9,12 +9,8 @@ use Rattle.block_store.specs.Block.{Block}
 use Rattle.block_store.specs.Slot.{Slot, Unused, Used, set_slot}
 use Rattle.zone_bytes.specs.Layout.{IsSlot, names, Apart, Each}
 use Rattle.zone_bytes.specs.Table.{first_of, Says, Lays}
-use Rattle.zone_bytes.proofs.Tiles.Leading.{each-map}
-use Rattle.zone_bytes.proofs.SlotTable.Tables.{each-both, apart-other, set-other, set-same, apart-of, slot-in}
+use Rattle.zone_bytes.proofs.SlotTable.Tables.{each-both, apart-other, set-other, set-same, slot-in, used-apart}
 use Rattle.zone_bytes.proofs.SlotTable.Tables.{unused-apart, chain-written, lays-written}
-
-used-not_unused : (r : Bool) → Used r ≡ Unused → ⊥
-used-not_unused r e = cc
 
 module _ (xs : List ℕ) (blocks : List Block) (slots : ℕ → Slot) (first : ℕ) (unused : List ℕ)
     (h : Lays xs blocks slots (first ∷ unused)) where
@@ -53,15 +49,11 @@ module _ (xs : List ℕ) (blocks : List Block) (slots : ℕ → Slot) (unused : 
   pub first-fits : first_of unused < 134217728
   first-fits = first-small blocks slots unused xs unused h h.unused_slots
 
-  apart-unused : Each (Apart s) unused
-  apart-unused = each-map (λ t. IsSlot t blocks × (slots t ≡ Unused)) (Apart s)
-      (λ t q. apart-of _ _ slots _ h s t used-slot q.0 (λ e. used-not_unused r (sym u ∙ ap slots e ∙ q.1)))
-      _ h.unused_slots
-
   pub given : Lays (written s (word (16 * first_of unused + 1)) xs) blocks (set_slot slots s Unused) (s ∷ unused)
   given =
       let i = used-slot in
       let n = 16 * first_of unused + 1 in
+      let apart-unused = used-apart xs blocks slots unused h s r i u in
       let b = slot-in xs blocks slots unused h s i in
       lays-written _ _ slots _ h s n _ _ i a (λ t d e k. inr k) (i, inl refl) (
         piece-written s (word n) xs 4 (sym (length-word n)) (omega (arith, b)),

@@ -32,18 +32,23 @@ purgeable-of false true false = refl
 purgeable-of false false true = refl
 purgeable-of false false false = refl
 
-pub flag_word-small : (flags : Flags) (r : Bool) → flag_word flags r < 256
-flag_word-small flags r = small flags.locked flags.purgeable r
+-- the flags of a block, above the resource flag of its handle
+pub high-flags : (flags : Flags) → ((cond {A = ℕ} flags.locked 128 0 + cond {A = ℕ} flags.purgeable 64 0) % 64 ≡ 0)
+    × (cond {A = ℕ} flags.locked 128 0 + cond {A = ℕ} flags.purgeable 64 0 ≤ 192)
+high-flags flags = high flags.locked flags.purgeable
   where
-    small : (l p r : Bool) → cond l 128 0 + cond p 64 0 + cond r 32 0 < 256
-    small true true true = omega arith
-    small true true false = omega arith
-    small true false true = omega arith
-    small true false false = omega arith
-    small false true true = omega arith
-    small false true false = omega arith
-    small false false true = omega arith
-    small false false false = omega arith
+    high : (l p : Bool) → ((cond {A = ℕ} l 128 0 + cond {A = ℕ} p 64 0) % 64 ≡ 0) × (cond {A = ℕ} l 128 0 + cond {A = ℕ} p 64 0 ≤ 192)
+    high true true = (refl, omega arith)
+    high true false = (refl, omega arith)
+    high false true = (refl, omega arith)
+    high false false = (refl, omega arith)
+
+pub low-flag : (r : Bool) → cond {A = ℕ} r 32 0 ≤ 32
+low-flag true = omega arith
+low-flag false = omega arith
+
+pub flag_word-small : (flags : Flags) (r : Bool) → flag_word flags r < 256
+flag_word-small flags r = let h = high-flags flags in omega (arith, h, low-flag)
 
 pub flags_of-word : (flags : Flags) (r : Bool) → flags_of (flag_word flags r) ≡ flags
 flags_of-word flags r i = record

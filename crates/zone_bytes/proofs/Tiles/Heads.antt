@@ -106,8 +106,8 @@ MayRead from xs = record {
   tag : word_at from xs % 16 < 4;
 }
 
-pub may-read : (xs : List ℕ) (from : ℕ) → length xs ≤ 134217728 → Next xs from → MayRead from xs
-may-read xs from small n = record { within = (n.even, n.fits); fits = omega (arith, small); tag = n.tag }
+pub next-may : (xs : List ℕ) (from : ℕ) → length xs ≤ 134217728 → Next xs from → MayRead from xs
+next-may xs from small n = record { within = (n.even, n.fits); fits = omega (arith, small); tag = n.tag }
 
 module _ (resource : ℕ → Bool) (xs : List ℕ) (from : ℕ) (small : length xs ≤ 134217728) where
   pub first-reads : (b : Block) → Tile (head_of resource b) (size b) (drop from xs) → word_at from xs ≡ size b + kind b

@@ -160,6 +160,21 @@ placed-right o (b ∷ ls) ms h =
     let e : o + size b + sizes ls ≡ o + (size b + sizes ls) = omega arith in
     subst (λ j. ArePlaced j ms) e (placed-right (o + size b) ls ms h.1)
 
+-- other blocks in the place of some, of as many bytes
+pub placed-swap : (o : ℕ) (below was now above : List Block) → sizes now ≡ sizes was → ArePlaced (o + sizes below) now
+    → ArePlaced o (below ++ (was ++ above)) → ArePlaced o (below ++ (now ++ above))
+placed-swap o below was now above e n h =
+    let q = placed-right (o + sizes below) was above (placed-right o below (was ++ above) h) in
+    placed-append o below (now ++ above) (placed-left o below (was ++ above) h)
+    (placed-append (o + sizes below) now above n (subst (λ k. ArePlaced (o + sizes below + k) above) (sym e) q))
+
+-- and of the same names
+pub names-swap : (below was now above : List Block) → names now ≡ names was
+    → names (below ++ (now ++ above)) ≡ names (below ++ (was ++ above))
+names-swap below was now above n = names-append below (now ++ above)
+    ∙ ap (λ k. names below ++ k) (names-append now above ∙ ap (λ k. k ++ names above) n ∙ sym (names-append was above))
+    ∙ sym (names-append below (was ++ above))
+
 pub placed-run : (o : ℕ) (run : List Block) → Each InRun run → ArePlaced o run
 placed-run o [] h = tt
 placed-run o (Free n ∷ run) h = (tt, placed-run _ run h.1)
@@ -171,11 +186,7 @@ placed-run o (Relocatable slot flags content ∷ run) h =
 -- with the same names
 pub run-names : (below was now above : List Block) → names now ≡ names was
     → SameNames (names (below ++ (was ++ above))) (names (below ++ (now ++ above)))
-run-names below was now above n =
-    let up : names (now ++ above) ≡ names (was ++ above) = names-append now above ∙ ap (λ k. k ++ names above) n
-    ∙ sym (names-append was above) in
-    same-names _ _ (names-append below (was ++ above)
-    ∙ ap (λ k. names below ++ k) (sym up) ∙ sym (names-append below (now ++ above)))
+run-names below was now above n = same-names _ _ (sym (names-swap below was now above n))
 
 -- another run may stand in the place of one: it has as many bytes, and the same names
 pub record Instead (below was now above : List Block) : Type 0 where
@@ -215,8 +226,6 @@ module _ {below was now above : List Block} (k : Instead below was now above) wh
   pub lays-run : (xs ys : List ℕ) (slots : ℕ → Slot) (unused : List ℕ) → Lays xs old slots unused
       → Relaid (λ s. is_resource (slots s)) old new xs ys → Lays ys new slots unused
   lays-run xs ys slots unused h d =
-      let q = placed-right (0 + sizes below) was above (placed-right 0 below (was ++ above) h.placed) in
-      let placed = placed-append 0 _ _ (placed-left 0 _ _ h.placed) (placed-append _ _ _ (placed-run _ _ k.in_now)
-      (subst (λ j. ArePlaced (0 + sizes below + j) above) (sym k.span) q)) in
+      let placed = placed-swap 0 below was now above k.span (placed-run _ now k.in_now) h.placed in
       lays-permuted xs ys old new slots unused h d.lies k.names_are
       slot-now (λ s i. slot-run s below now was above k.in_now (sym k.span) i) placed d.others d.kept

@@ -1,17 +1,16 @@
 -- A stretch of a zone with other blocks of the same names in its place.
-use Rattle.std.proofs.Common.{◌≡◌, ℕ, ◌+◌, ◌-◌, ◌<◌, List, ◌++◌, sym, ap, ◌∙◌, subst, arith}
+use Rattle.std.proofs.Common.{◌≡◌, ℕ, ◌+◌, ◌-◌, ◌<◌, List, ◌++◌, sym, subst, arith}
 use Rattle.windows.specs.Writes.{piece}
 use Rattle.block_store.specs.Block.{Block, sizes}
 use Rattle.block_store.specs.Slot.{Slot, is_resource}
 use Rattle.zone_bytes.specs.Layout.{head_of, Tiles, IsSlot, names, Leads, Each, ArePlaced}
-use Rattle.zone_bytes.specs.Settling.{Lies}
 use Rattle.zone_bytes.specs.Splicing.{Splice, SameOutside, IsSplice}
 use Rattle.zone_bytes.specs.Table.{Lays}
 use Rattle.zone_bytes.proofs.Tiles.Tiling.{slot-swap}
 use Rattle.zone_bytes.proofs.Tiles.Leading.{names-append, each-left, each-right}
-use Rattle.zone_bytes.proofs.Tiles.Splices.{piece-outside, tiles-splice, leads-splice}
-use Rattle.zone_bytes.proofs.Blocks.Carves.{clear, outside, slot-kept}
-use Rattle.zone_bytes.proofs.Tiles.Keeping.{lays-kept, placed-append, placed-left, placed-right}
+use Rattle.zone_bytes.proofs.Tiles.Splices.{piece-outside}
+use Rattle.zone_bytes.proofs.Blocks.Carves.{outside, lies-put}
+use Rattle.zone_bytes.proofs.Tiles.Keeping.{lays-kept, placed-swap, names-swap}
 
 module _ (xs : List ℕ) (below here above : List Block) (slots : ℕ → Slot) (unused : List ℕ)
     (h : Lays xs (below ++ (here ++ above)) slots unused)
@@ -46,28 +45,12 @@ module _ (xs : List ℕ) (below here above : List Block) (slots : ℕ → Slot) 
       (e : sizes now ≡ sizes here)
       (n : names now ≡ names here) (none-now : (s : ℕ) → IsSlot s now → ⊥) (placed : ArePlaced bottom now)
       (leads : Leads bottom now new) where
-    pub lies-now : Lies (λ s. is_resource (slots s)) (below ++ (now ++ above)) new
-    lies-now =
-        let c = clear zone bottom top xs is-splice in
-        record {
-          tiles = tiles-splice (head_of (λ s. is_resource (slots s))) _ _ _ _ _ _ _ _ low high h.lies.tiles same t;
-          leads = leads-splice xs new below here above now bottom top low high e h.lies.leads same c.0 c.1 leads;
-        }
-
     pub replaced : Lays new (below ++ (now ++ above)) slots unused
     replaced =
-        let p = placed-right 0 below (here ++ above) h.placed in
-        let q = placed-right (0 + sizes below) here above p in
         let o : bottom ≡ 0 + sizes below = omega (arith, low) in
-        let all-names : names (below ++ (now ++ above)) ≡ names all =
-        names-append below (now ++ above)
-        ∙ ap (λ k. names below ++ k) (names-append now above ∙ ap (λ k. k ++ names above) n
-        ∙ sym (names-append here above)) ∙ sym (names-append below (here ++ above)) in
-        let ok : ArePlaced 0 (below ++ (now ++ above)) =
-        placed-append 0 _ _ (placed-left 0 below (here ++ above) h.placed)
-        (placed-append _ _ _ (subst (λ j. ArePlaced j now) o placed)
-        (subst (λ k. ArePlaced (0 + sizes below + k) above) (sym e) q)) in
-        lays-kept _ _ _ _ slots _ h lies-now all-names
-        (λ s i. slot-kept zone bottom top xs is-splice s now e i)
-        (λ s i. slot-swap s _ _ _ _ (none-now _) (sym e) i) ok
+        let ok = placed-swap 0 below here now above e (subst (λ j. ArePlaced j now) o placed) h.placed in
+        lays-kept _ _ _ _ slots _ h (lies-put zone bottom top xs is-splice now new same t e leads)
+        (names-swap below here now above n)
+        (λ s i. slot-swap s below here now above (none _) e i)
+        (λ s i. slot-swap s below now here above (none-now _) (sym e) i) ok
         (λ s i a. piece-outside bottom top xs new s same (outside zone bottom top xs is-splice s i)) same.kept

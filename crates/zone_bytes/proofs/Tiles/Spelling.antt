@@ -16,7 +16,7 @@ use Rattle.zone_bytes.specs.Decode.{zone_in}
 use Rattle.zone_bytes.specs.Table.{Has, empty_word, Chain, Says, Lays, is_slot, slot_of_word, slot_in}
 use Rattle.zone_bytes.proofs.Tiles.Tiling.{length-tiles, slot-inside}
 use Rattle.zone_bytes.proofs.Tiles.Leading.{each-map}
-use Rattle.zone_bytes.proofs.Tiles.Decoding.{says, flag_word-small, zone-back}
+use Rattle.zone_bytes.proofs.Tiles.Decoding.{says, flag_word-small, zone-back, high-flags}
 
 pub test-true : (s : ℕ) → 16 ≤ s → s + 4 ≤ 272 → s % 4 ≡ 0
     → (nat_le 16 s && (nat_le (s + 4) 272 && (s % 4 == 0))) ≡ true
@@ -29,6 +29,12 @@ or-true false w e = absurd (false≢true e)
 or-right : (v w : Bool) → w ≡ true → (v || w) ≡ true
 or-right true w e = refl
 or-right false w e = e
+
+le-true : (m n : ℕ) → m ≤ n → nat_le m n ≡ true
+le-true m n h = grind (arith, nat_tests)
+
+le-false : (m n : ℕ) → n < m → nat_le m n ≡ false
+le-false m n h = grind (arith, nat_tests)
 
 pub is_slot-true : (s : ℕ) (blocks : List Block) → IsSlot s blocks → is_slot s blocks ≡ true
 is_slot-true s [] i = absurd i
@@ -43,9 +49,6 @@ is_slot-true s (b ∷ blocks) (inr i) =
     and-true : (v w : Bool) → v ≡ true → w ≡ true → (v && w) ≡ true
     and-true true w e f = f
     and-true false w e f = e
-
-    le-true : (m n : ℕ) → m ≤ n → nat_le m n ≡ true
-    le-true m n h = grind (arith, nat_tests)
 
 pub test-back : (s : ℕ) → (nat_le 16 s && (nat_le (s + 4) 272 && (s % 4 == 0))) ≡ true
     → (16 ≤ s) × (s + 4 ≤ 272) × (s % 4 ≡ 0)
@@ -83,17 +86,8 @@ is_slot-back s (Masters ∷ blocks) e =
     ]
 
 pub resource-bit : (flags : Flags) (r : Bool) → nat_le 32 (flag_word flags r % 64) ≡ r
-resource-bit flags r = bit flags.locked flags.purgeable r
-  where
-    bit : (l p r : Bool) → nat_le 32 ((cond l 128 0 + cond p 64 0 + cond r 32 0) % 64) ≡ r
-    bit true true true = refl
-    bit true true false = refl
-    bit true false true = refl
-    bit true false false = refl
-    bit false true true = refl
-    bit false true false = refl
-    bit false false true = refl
-    bit false false false = refl
+resource-bit flags true = let h = high-flags flags in le-true 32 (flag_word flags true % 64) (omega (arith, h))
+resource-bit flags false = let h = high-flags flags in le-false 32 (flag_word flags false % 64) (omega (arith, h))
 
 -- what a word says
 word-unused : (xs : List ℕ) (w k : ℕ) → w ≡ 16 * k + 1 → slot_of_word xs w ≡ Unused
@@ -114,7 +108,7 @@ word-leads xs w r e f =
     let a : eqb (w % 16) 0 ≡ true = elim (eqb_tells (w % 16) 0) [ inl p ↦ p.0 | inr p ↦ absurd (p.1 e) ] in
     (λ i. cond (a i) (Used (f i)) (cond (eqb w 2) (Used false) (cond (eqb w 18) (Used true) Unused)))
 
-small-emptied : (r : Bool) → empty_word r < 2 ^ 32
+pub small-emptied : (r : Bool) → empty_word r < 2 ^ 32
 small-emptied true = omega arith
 small-emptied false = omega arith
 

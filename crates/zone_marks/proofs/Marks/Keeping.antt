@@ -1,5 +1,5 @@
 -- Landmarks where a block changes in place, and where one is put into a Free block.
-use Rattle.std.proofs.Common.{◌≡◌, ℕ, ◌+◌, ◌-◌, ◌≤◌, ◌<◌, inl, inr, List, [], ◌∷◌, ◌++◌, sym, refl, ap, ◌∙◌, subst, arith}
+use Rattle.std.proofs.Common.{◌≡◌, ℕ, ◌+◌, ◌≤◌, ◌<◌, inl, inr, List, [], ◌∷◌, ◌++◌, sym, refl, ap, ◌∙◌, subst, arith}
 use Rattle.std.proofs.Common.{zero, suc, append_assoc, Bool, true, false, ◌&&◌, cond, nat_le, nat_lt}
 use Rattle.block_store.specs.Block.{Block, Free, Nonrelocatable, Masters, Relocatable, size, sizes, free, free_of, add}
 use Rattle.zone_bytes.specs.Laying.{free_first}
@@ -72,22 +72,6 @@ became-replaced place bytes old new b e = record {
   low = b.low;
   high = (omega (arith, e));
   span = (omega arith);
-}
-
--- a block was put at the lower end of a Free block
-pub carved-replaced : (below : List Block) (n : ℕ) (b : Block) (above : List Block) (old new : List Block)
-    (place : ℕ) → old ≡ below ++ Free n ∷ above → new ≡ below ++ (b ∷ (free (n - size b) ++ above)) → size b ≤ n
-    → sizes below ≡ place → Replaced place (place + n) old new
-carved-replaced below n b above old new place was is room low = record {
-  below = below;
-  here = Free n ∷ [];
-  there = b ∷ free (n - size b);
-  above = above;
-  was = was;
-  is = is;
-  low = low;
-  high = (let e : place + (n + 0) ≡ place + n = omega arith in e);
-  span = (omega (arith, span-free, room));
 }
 
 -- nothing was changed

@@ -1,5 +1,5 @@
 -- What each change of a zone owes of its landmarks.
-use Rattle.std.proofs.Common.{◌≡◌, ℕ, ◌+◌, ◌-◌, ◌≤◌, false, cond, List, ◌∷◌, ◌++◌, length, refl, sym, ap, ◌∙◌, subst}
+use Rattle.std.proofs.Common.{◌≡◌, ℕ, ◌+◌, ◌-◌, ◌≤◌, false, cond, List, ◌∷◌, ◌++◌, length, refl, sym, ap, ◌∙◌, subst, []}
 use Rattle.std.proofs.Common.{arith}
 use Rattle.mac_words.specs.Size.{padded}
 use Rattle.windows.specs.Writes.{written}
@@ -10,7 +10,6 @@ use Rattle.block_store.specs.Block.{content_of, is_purgeable, with_content}
 use Rattle.block_store.specs.Inner.Stretch.{is_free}
 use Rattle.block_store.specs.Room.{filled}
 use Rattle.block_store.specs.Seen.{with_flags}
-use Rattle.block_store.proofs.Content.Sized.{cut-sized}
 use Rattle.block_store.proofs.Zone.Spots.{size-content}
 use Rattle.block_store.proofs.Zone.Totals.{total-append}
 use Rattle.zone_bytes.specs.Decode.{zone_in}
@@ -22,17 +21,13 @@ use Rattle.zone_bytes.specs.PurgeableBytes.{purgeable_of, purgeable_sum}
 use Rattle.zone_marks.specs.declared.keeping.Landmarks.{Landmarks}
 use Rattle.zone_marks.proofs.Bounds.Going.{stays-same}
 use Rattle.zone_marks.proofs.Marks.Between.{one-same}
-use Rattle.zone_marks.proofs.Marks.Keeping.{marks-same, carved-replaced}
+use Rattle.zone_marks.proofs.Marks.Keeping.{marks-same}
 use Rattle.zone_summary.specs.Stretches.{counted, one, space}
-use Rattle.zone_bytes.proofs.Placed.NonrelocatableCarved.{Roomy}
+use Rattle.zone_bytes.proofs.Placed.Carved.{Roomy, filled-is}
+use Rattle.zone_bytes.proofs.Blocks.Writes.{free-content}
+use Rattle.zone_bytes.proofs.Tiles.Keeping.{span-free}
 
 -- a block whose content is another of as many bytes
-free-content : (x : List ℕ) (b : Block) → free_of (with_content x b) ≡ free_of b
-free-content x (Free n) = refl
-free-content x (Nonrelocatable id content) = refl
-free-content x Masters = refl
-free-content x (Relocatable id flags content) = refl
-
 ends-content : (x : List ℕ) (b : Block) → ends_run (with_content x b) ≡ ends_run b
 ends-content x (Free n) = refl
 ends-content x (Nonrelocatable id content) = refl
@@ -106,24 +101,21 @@ pub filled-replaced : (xs : List ℕ) (place need : ℕ) (r : Roomy xs place nee
     → size new ≤ need → (bytes : ℕ) → bytes ≡ size r.s.here → (zone : List Block) → zone ≡ filled new r.s
     → Replaced place (place + bytes) (zone_in xs) zone
 filled-replaced xs place need r new solid fits bytes e zone is =
-    let l : size r.s.here ≡ r.bytes = ap size r.here in
-    let k : size r.s.here + 0 - size new ≡ r.bytes - size new = omega (arith, l) in
-    subst (λ n. Replaced place (place + n) (zone_in xs) zone) (sym (e ∙ l)) (carved-replaced _ _ _ _ _ _ _
-    (r.at.whole ∙ ap (λ b. r.s.below ++ b ∷ r.s.above) r.here)
-    (is ∙ cut-sized _ solid _ r.at.apart 0 _ r.head (omega (arith, l, fits))
-    ∙ ap (λ m. r.s.below ++ new ∷ (free m ++ r.s.above)) k) (omega (arith, fits)) r.at.low)
+    let k = size r.s.here - size new in
+    let l : k + size new ≡ size r.s.here = omega (arith, ap size r.here, fits) in
+    record {
+      below = r.s.below;
+      here = r.s.here ∷ [];
+      there = new ∷ free k;
+      above = r.s.above;
+      was = r.at.whole;
+      is = is ∙ sym (filled-is xs place need r new solid k l);
+      low = r.at.low;
+      high = omega (arith, e);
+      span = omega (arith, span-free, l);
+    }
 
 -- the same change, of zones known by other names
 pub replaced-as : (lo hi : ℕ) (old new was is : List Block) → was ≡ old → is ≡ new → Replaced lo hi old new
     → Replaced lo hi was is
-replaced-as lo hi old new was is e f r = record {
-  below = r.below;
-  here = r.here;
-  there = r.there;
-  above = r.above;
-  was = e ∙ r.was;
-  is = f ∙ r.is;
-  low = r.low;
-  high = r.high;
-  span = r.span;
-}
+replaced-as lo hi old new was is e f r = subst (λ z. Replaced lo hi z is) (sym e) (subst (Replaced lo hi old) (sym f) r)

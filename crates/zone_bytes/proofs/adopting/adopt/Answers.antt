@@ -3,18 +3,13 @@ use Rattle.heap_words.specs.Words.{word, word_at, header}
 use Rattle.windows.specs.Writes.{written}
 use Rattle.zone_bytes.specs.Layout.{flag_word}
 use Rattle.zone_bytes.proofs.Tiles.Tags.{tag-small}
-use Rattle.zone_bytes.proofs.Places.Stepped.{next-header}
+use Rattle.zone_bytes.proofs.Places.Stepped.{next-header, may-read}
 use Rattle.zone_bytes.proofs.Places.HeaderTells.{size-at}
 use Rattle.zone_bytes.proofs.Blocks.Adopted.{length-at}
 use Rattle.zone_bytes.proofs.adopting.adopt.Goals as goal
 
-pub read_header-nonrelocatable-requires-clause-within : goal.read_header-nonrelocatable-requires-clause-within
-read_header-nonrelocatable-requires-clause-within c =
-    let n = next-header c.args.place c.args.part.now.bytes c.requires.way c.requires.some in (n.even, n.fits)
-
-pub read_header-nonrelocatable-requires-clause-tag : goal.read_header-nonrelocatable-requires-clause-tag
-read_header-nonrelocatable-requires-clause-tag c =
-    (next-header c.args.place c.args.part.now.bytes c.requires.way c.requires.some).tag
+pub read_header-nonrelocatable-requires : goal.read_header-nonrelocatable-requires
+read_header-nonrelocatable-requires c = may-read _ _ c.requires.way c.requires.some
 
 pub write_header-requires-clause-within : goal.write_header-requires-clause-within
 write_header-requires-clause-within c =

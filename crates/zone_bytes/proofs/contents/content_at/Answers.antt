@@ -2,20 +2,12 @@ use Rattle.std.proofs.Common.{◌+◌, sym, ap, ◌∙◌, arith}
 use Rattle.block_store.specs.Block.{content_of}
 use Rattle.windows.specs.Writes.{piece}
 use Rattle.zone_bytes.proofs.Tiles.Tags.{tag-small}
-use Rattle.zone_bytes.proofs.Places.Stepped.{next-header}
+use Rattle.zone_bytes.proofs.Places.Stepped.{may-read}
 use Rattle.zone_bytes.proofs.Places.HeaderTells.{here-on, holds, holds-none, same-here}
 use Rattle.zone_bytes.proofs.contents.content_at.Goals as goal
 
-pub read_header-header-requires-clause-within : goal.read_header-header-requires-clause-within
-read_header-header-requires-clause-within c = let n = next-header _ _ c.requires.way
-    c.requires.some in (n.even, n.fits)
-
-pub read_header-header-requires-clause-fits : goal.read_header-header-requires-clause-fits
-read_header-header-requires-clause-fits c = omega arith
-
-pub read_header-header-requires-clause-tag : goal.read_header-header-requires-clause-tag
-read_header-header-requires-clause-tag c =
-    (next-header c.args.place c.args.part.now.bytes c.requires.way c.requires.some).tag
+pub read_header-header-requires : goal.read_header-header-requires
+read_header-header-requires c = may-read _ _ c.requires.way c.requires.some
 
 pub get_bytes-requires : goal.get_bytes-requires
 get_bytes-requires c =

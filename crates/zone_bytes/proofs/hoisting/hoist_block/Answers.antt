@@ -1,14 +1,14 @@
 use Rattle.std.proofs.Common.{◌≡◌, length, refl, ap, arith}
 use Rattle.windows.specs.Writes.{written}
 use Rattle.zone_bytes.proofs.Tiles.Tags.{tag-small}
-use Rattle.zone_bytes.proofs.Tiles.Heads.{may-read}
+use Rattle.zone_bytes.proofs.Tiles.Heads.{next-may}
 use Rattle.zone_bytes.proofs.Runs.Hoists.{wide, next, size-read, turned-bytes, is-moved, is-hoisted}
 use Rattle.zone_bytes.proofs.hoisting.hoist_block.Given.{Over}
 use Rattle.zone_bytes.proofs.hoisting.hoist_block.Goals.{After-rotate}
 use Rattle.zone_bytes.proofs.hoisting.hoist_block.Goals as goal
 
 pub read_header-size-requires : goal.read_header-size-requires
-read_header-size-requires g c = rw c.requires.0 (may-read _ _ c.requires.1.run.small (next g.hoist _ _ c.requires.1))
+read_header-size-requires g c = rw c.requires.0 (next-may _ _ c.requires.1.run.small (next g.hoist _ _ c.requires.1))
 
 pub rotate-requires-clause-turn : goal.rotate-requires-clause-turn
 rotate-requires-clause-turn g c =

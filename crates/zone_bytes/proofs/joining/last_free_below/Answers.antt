@@ -1,22 +1,15 @@
 use Rattle.std.proofs.Common.{◌<◌, arith}
 use Rattle.heap_words.specs.Headers.{tag_number}
-use Rattle.zone_bytes.proofs.Tiles.Tags.{tag-small}
-use Rattle.zone_bytes.proofs.Places.Stepped.{next-header}
-use Rattle.zone_bytes.proofs.Joined.FreeTags.{free-true, free-false}
+use Rattle.zone_bytes.proofs.Tiles.Tags.{tag-small, free-true, free-false}
+use Rattle.zone_bytes.proofs.Places.Stepped.{next-header, may-read}
 use Rattle.zone_bytes.proofs.Joined.Below.{below-from, below-done, below-inside, below-free, below-other}
 use Rattle.zone_bytes.proofs.joining.last_free_below.Goals as goal
 
 pub loop-at-init : goal.loop-at-init
 loop-at-init c = below-from _ _ _ c.requires.up c.requires.inside
 
-pub read_header-header-requires-clause-within : goal.read_header-header-requires-clause-within
-read_header-header-requires-clause-within c =
-    let n = next-header _ _ c.loop-at.invariant.way (omega (arith, c.loop-at-test.true, c.requires.inside)) in
-    (n.even, n.fits)
-
-pub read_header-header-requires-clause-tag : goal.read_header-header-requires-clause-tag
-read_header-header-requires-clause-tag c =
-    (next-header _ _ c.loop-at.invariant.way (omega (arith, c.loop-at-test.true, c.requires.inside))).tag
+pub read_header-header-requires : goal.read_header-header-requires
+read_header-header-requires c = may-read _ _ c.loop-at.invariant.way (omega (arith, c.loop-at-test.true, c.requires.inside))
 
 pub overflow_add-end : goal.overflow_add-end
 overflow_add-end c =

@@ -1,47 +1,32 @@
-use Rattle.std.proofs.Common.{◌+◌, ap, subst, arith}
-use Rattle.zone_bytes.specs.Splicing.{SameOutside}
-use Rattle.zone_bytes.proofs.Placed.NonrelocatableCarved.{roomy}
-use Rattle.zone_bytes.proofs.Placed.MastersCarved.{first-fits, may-master, masters-inside, masters-lays-if}
+use Rattle.std.proofs.Common.{arith, subst, ap}
+use Rattle.block_store.specs.Block.{size}
+use Rattle.zone_bytes.specs.Mastering.{HasMasters}
+use Rattle.zone_bytes.proofs.Placed.Carved.{Roomy, roomy}
+use Rattle.zone_bytes.proofs.Placed.MastersCarved.{first-fits, masters-lays}
 use Rattle.zone_bytes.proofs.mastering.add_masters.Goals as goal
+use Rattle.zone_bytes.proofs.mastering.add_masters.Goals.{Start}
 
-pub size_at-requires-clause-way : goal.size_at-requires-clause-way
-size_at-requires-clause-way c = (roomy _ _ _ _ _ c.requires.sound.1 c.requires.room).at.way
+-- the Free block at the place
+here : (c : Start) → Roomy c.args.part.now.bytes c.args.place 272
+here c = roomy _ _ _ _ _ c.requires.sound.1 c.requires.room
 
-pub size_at-requires-clause-some : goal.size_at-requires-clause-some
-size_at-requires-clause-some c =
-    let r = roomy _ _ _ _ _ c.requires.sound.1 c.requires.room in
-    omega arith
+pub size_at-size-requires : goal.size_at-size-requires
+size_at-size-requires c = let r = here (goal.at.size_at-size-requires c).Start in record { way = r.at.way; some = omega arith }
 
-pub overflow_add-top : goal.overflow_add-top
-overflow_add-top c =
-    let r = roomy _ _ _ _ _ c.requires.sound.1 c.requires.room in
-    omega (arith, c.size_at.ensures r.s.here r.s.above r.at.left)
-
-pub lay_block-requires : goal.lay_block-requires
-lay_block-requires c =
-    let r = roomy _ _ _ _ _ c.requires.sound.1 c.requires.room in
-    let n = c.size_at.ensures r.s.here r.s.above r.at.left in
-    may-master c.args.part.now.bytes c.args.place (c.args.place + c.size_at.result) r (ap (λ k. c.args.place + k) n)
-
-pub thread_slots-requires-clause-even : goal.thread_slots-requires-clause-even
-thread_slots-requires-clause-even c =
-    let r = roomy _ _ _ _ _ c.requires.sound.1 c.requires.room in
-    (masters-inside _ _ _ r (ap (λ k. c.args.place + k) (c.size_at.ensures r.s.here r.s.above r.at.left))).0
-
-pub thread_slots-requires-clause-inside : goal.thread_slots-requires-clause-inside
-thread_slots-requires-clause-inside c =
-    let r = roomy _ _ _ _ _ c.requires.sound.1 c.requires.room in
-    rw c.lay_block.ensures.bytes (masters-inside _ _ _ r (ap
-    (λ k. c.args.place + k) (c.size_at.ensures r.s.here r.s.above r.at.left))).1
-
-pub thread_slots-requires-clause-first : goal.thread_slots-requires-clause-first
-thread_slots-requires-clause-first c =
-    first-fits c.args.part.now.bytes c.args.first c.requires.sound.0 c.requires.sound.1
+pub lay_masters-requires : goal.lay_masters-requires
+lay_masters-requires c =
+    let r = here (goal.at.lay_masters-requires c).Start in
+    let n = c.size_at-size.ensures r.s.here r.s.above r.at.left in
+    let f = first-fits c.args.part.now.bytes c.args.first c.requires.sound.0 c.requires.sound.1 in
+    record {
+      whole = (r.at.way.walk.whole, omega (arith, n));
+      room = (omega (arith, n, ap size r.here), omega (arith, n));
+      small = r.at.small;
+      first = f;
+    }
 
 pub returns-clause-lays : goal.returns-clause-lays
 returns-clause-lays c = λ unused i.
-    let r = roomy c.args.part.now.bytes c.args.first unused c.args.place 272 i c.requires.room in
-    masters-lays-if _ _ _ r (ap (λ k. c.args.place + k) (c.size_at.ensures r.s.here r.s.above r.at.left))
-    _ _ i _ c.thread_slots.ensures.thread
-    (subst (λ m. SameOutside (c.args.place + 16) (c.args.place + 272) m c.thread_slots.new.part.bytes)
-    c.lay_block.ensures.bytes c.thread_slots.ensures.outside)
+    let r = here (goal.at.returns-clause-lays c).Start in
+    rw r.is (masters-lays _ _ r _ _ i _ (subst (λ n. HasMasters c.args.place n c.args.first c.args.part.now.bytes
+    c.lay_masters.new.part.bytes) (c.size_at-size.ensures r.s.here r.s.above r.at.left) c.lay_masters.ensures.masters))

@@ -1,35 +1,31 @@
 use Rattle.std.proofs.Common.{◌+◌, ap, arith}
+use Rattle.mac_words.specs.Size.{padded}
 use Rattle.block_store.specs.Block.{size}
-use Rattle.zone_bytes.proofs.Placed.NonrelocatableCarved.{roomy, may-lay, nonrelocatable-lays-if}
+use Rattle.zone_bytes.proofs.Placed.Carved.{Roomy, roomy, may-lay, nonrelocatable-lays}
 use Rattle.zone_bytes.proofs.placing.carve_nonrelocatable.Goals as goal
+use Rattle.zone_bytes.proofs.placing.carve_nonrelocatable.Goals.{Start}
 
-pub size_at-requires-clause-way : goal.size_at-requires-clause-way
-size_at-requires-clause-way c = (roomy _ _ _ _ _ c.requires.sound.2 c.requires.room).at.way
+-- the Free block at the place
+here : (c : Start) → Roomy c.args.part.now.bytes c.args.place (padded c.args.size)
+here c = roomy _ _ _ _ _ c.requires.sound.2 c.requires.room
 
-pub size_at-requires-clause-some : goal.size_at-requires-clause-some
-size_at-requires-clause-some c =
-    let r = roomy _ _ _ _ _ c.requires.sound.2 c.requires.room in
-    omega arith
+pub size_at-requires : goal.size_at-requires
+size_at-requires c = let r = here (goal.at.size_at-requires c).Start in record { way = r.at.way; some = omega arith }
 
 pub overflow_add-top : goal.overflow_add-top
-overflow_add-top c =
-    let r = roomy _ _ _ _ _ c.requires.sound.2 c.requires.room in
+overflow_add-top c = let r = here (goal.at.overflow_add-top c).Start in
     omega (arith, c.size_at.ensures r.s.here r.s.above r.at.left)
 
 pub padded_size-requires : goal.padded_size-requires
-padded_size-requires c =
-    let r = roomy _ _ _ _ _ c.requires.sound.2 c.requires.room in
-    omega (arith, ap size r.here)
+padded_size-requires c = let r = here (goal.at.padded_size-requires c).Start in omega (arith, ap size r.here)
 
 pub lay_block-requires : goal.lay_block-requires
 lay_block-requires c =
-    let r = roomy _ _ _ _ _ c.requires.sound.2 c.requires.room in
-    may-lay _ _ _ _ _ r
-    (ap (λ k. c.args.place + k) (c.size_at.ensures r.s.here r.s.above r.at.left)) c.padded_size.ensures
+    let r = here (goal.at.lay_block-requires c).Start in
+    may-lay _ _ _ _ _ r (ap (λ k. c.args.place + k) (c.size_at.ensures r.s.here r.s.above r.at.left)) c.padded_size.ensures
 
 pub returns-clause-lays : goal.returns-clause-lays
 returns-clause-lays c = λ first unused i.
-    let r = roomy _ _ _ _ _ c.requires.sound.2 c.requires.room in
-    let n = c.size_at.ensures r.s.here r.s.above r.at.left in
-    rw c.lay_block.ensures.bytes (nonrelocatable-lays-if _ _ _ _ _ r (ap
-    (λ k. c.args.place + k) n) c.padded_size.ensures _ _ i)
+    let r = here (goal.at.returns-clause-lays c).Start in
+    rw (c.lay_block.ensures.bytes, r.is) (nonrelocatable-lays _ _ _ _ _ r
+    (ap (λ k. c.args.place + k) (c.size_at.ensures r.s.here r.s.above r.at.left)) c.padded_size.ensures _ _ i)

@@ -2,16 +2,12 @@ use Rattle.std.proofs.Common.{◌∙◌, arith}
 use Rattle.heap_words.specs.Headers.{tag_number}
 use Rattle.zone_bytes.specs.Stepping.{header_seen}
 use Rattle.zone_bytes.proofs.Tiles.Tags.{tag-small}
-use Rattle.zone_bytes.proofs.Places.Stepped.{next-header, stepped}
+use Rattle.zone_bytes.proofs.Places.Stepped.{stepped, may-read}
 use Rattle.zone_bytes.proofs.Places.Steps.{steps}
 use Rattle.zone_bytes.proofs.raw_walk.step_at.Goals as goal
 
-pub read_header-header-requires-clause-within : goal.read_header-header-requires-clause-within
-read_header-header-requires-clause-within c =
-    let n = next-header c.args.at c.args.part.now.bytes c.requires.way c.requires.some in (n.even, n.fits)
-
-pub read_header-header-requires-clause-tag : goal.read_header-header-requires-clause-tag
-read_header-header-requires-clause-tag c = (next-header _ _ c.requires.way c.requires.some).tag
+pub read_header-header-requires : goal.read_header-header-requires
+read_header-header-requires c = may-read _ _ c.requires.way c.requires.some
 
 pub overflow_add-result : goal.overflow_add-result
 overflow_add-result c =

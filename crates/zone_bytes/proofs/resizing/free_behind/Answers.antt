@@ -1,13 +1,14 @@
 use Rattle.std.proofs.Common.{◌∙◌, sym, arith}
-use Rattle.zone_bytes.proofs.Places.Stepped.{next-header}
-use Rattle.zone_bytes.proofs.Placed.FreeTags.{free-true, free-false, none-behind, first-free, first-other}
+use Rattle.zone_bytes.proofs.Places.Stepped.{may-read}
+use Rattle.zone_bytes.proofs.Placed.FreeTags.{none-behind, first-free, first-other}
 use Rattle.zone_bytes.proofs.resizing.free_behind.Goals as goal
+use Rattle.zone_bytes.proofs.Tiles.Tags.{free-true, free-false}
 
 pub returns-then-at-len : goal.returns-then-at-len
 returns-then-at-len c = none-behind _ _ c.requires (omega arith)
 
-pub read_header-header-requires-clause-tag : goal.read_header-header-requires-clause-tag
-read_header-header-requires-clause-tag c = (next-header _ _ c.requires (omega arith)).tag
+pub read_header-header-requires : goal.read_header-header-requires
+read_header-header-requires c = may-read _ _ c.requires (omega arith)
 
 pub returns-then-eq : goal.returns-then-eq
 returns-then-eq c =

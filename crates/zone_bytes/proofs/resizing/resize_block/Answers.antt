@@ -7,9 +7,9 @@ use Rattle.zone_bytes.specs.Stepping.{left_in}
 use Rattle.zone_bytes.proofs.Placed.Resized.{resize-replaced, kept-replaced}
 use Rattle.mac_words.specs.Size.{padded}
 use Rattle.heap_words.specs.Headers.{tag_number}
-use Rattle.zone_bytes.proofs.Places.Stepped.{next-header}
+use Rattle.zone_bytes.proofs.Places.Stepped.{may-read}
 use Rattle.zone_bytes.proofs.Placed.Sizes.{Read, room-at, size-is, kind-is, way-behind, fits, ends, may-size, cut-lays}
-use Rattle.zone_bytes.proofs.Placed.Sizes.{grown-lays, free-sized, kept-cut, kept-grown, cut-if, grown-if, same-of}
+use Rattle.zone_bytes.proofs.Placed.Sizes.{grown-lays, free-sized, kept-cut, kept-grown, same-of}
 use Rattle.zone_bytes.proofs.resizing.resize_block.Goals as goal
 use Rattle.zone_bytes.proofs.resizing.resize_block.Goals.{After-read_header-header}
 
@@ -19,21 +19,9 @@ read c =
     let e = c.read_header-header.ensures in
     record { first = e.first; even = e.size; long = e.logical; named = e.slot; marked = e.flags }
 
-pub read_header-header-requires-clause-within : goal.read_header-header-requires-clause-within
-read_header-header-requires-clause-within c =
-    let a = room-at _ _ _ _ _ c.requires.sound.2 c.requires.room in
-    let n = next-header c.args.place c.args.part.now.bytes a.3.way (omega arith) in
-    (n.even, n.fits)
-
-pub read_header-header-requires-clause-fits : goal.read_header-header-requires-clause-fits
-read_header-header-requires-clause-fits c =
-    let a = room-at _ _ _ _ _ c.requires.sound.2 c.requires.room in
-    omega arith
-
-pub read_header-header-requires-clause-tag : goal.read_header-header-requires-clause-tag
-read_header-header-requires-clause-tag c =
-    let a = room-at _ _ _ _ _ c.requires.sound.2 c.requires.room in
-    (next-header c.args.place c.args.part.now.bytes a.3.way (omega arith)).tag
+pub read_header-header-requires : goal.read_header-header-requires
+read_header-header-requires c =
+    let a = room-at _ _ _ _ _ c.requires.sound.2 c.requires.room in may-read _ _ a.3.way (omega arith)
 
 pub returns-then-not-has_content-clause-cut : goal.returns-then-not-has_content-clause-cut
 returns-then-not-has_content-clause-cut c = λ first unused i.
@@ -42,7 +30,7 @@ returns-then-not-has_content-clause-cut c = λ first unused i.
     let k : (tag_number c.read_header-header.result.tag % 2 == 1) ≡ false =
     sym c.has_content.ensures ∙ c.if-not-has_content.true in
     let none = ap (λ t. t % 2 == 1) (sym (kind-is c.args.part.now.bytes c.args.place c.args.bytes a.0 a.3 _ r)) ∙ k in
-    cut-if _ _ _ _ _ a.1 _ (λ le. kept-cut _ _ _ _ a.3 none _ _ i)
+    rw a.1 (λ le. kept-cut _ _ _ _ a.3 none _ _ i)
 
 pub returns-then-not-has_content-clause-grown : goal.returns-then-not-has_content-clause-grown
 returns-then-not-has_content-clause-grown c = λ first unused i.
@@ -51,7 +39,7 @@ returns-then-not-has_content-clause-grown c = λ first unused i.
     let k : (tag_number c.read_header-header.result.tag % 2 == 1) ≡ false =
     sym c.has_content.ensures ∙ c.if-not-has_content.true in
     let none = ap (λ t. t % 2 == 1) (sym (kind-is c.args.part.now.bytes c.args.place c.args.bytes a.0 a.3 _ r)) ∙ k in
-    grown-if _ _ _ _ _ a.1 _ (kept-grown c.args.part.now.bytes c.args.place c.args.bytes a.0 a.3 none first unused i)
+    rw a.1 (kept-grown c.args.part.now.bytes c.args.place c.args.bytes a.0 a.3 none first unused i)
 
 pub overflow_add-end : goal.overflow_add-end
 overflow_add-end c =
@@ -109,16 +97,16 @@ returns-clause-cut c = λ first unused i.
     let a = room-at c.args.part.now.bytes first unused c.args.place c.args.bytes i c.requires.room in
     let r = read (goal.at.returns-clause-cut c).After-read_header-header in
     let o = sym c.has_content.ensures ∙ c.if-not-has_content.false in
-    rw c.lay_block.ensures.bytes (cut-if _ _ _ _ _ a.1 _ (cut-lays _ _ _ _ a.3 _ r o a.2 _
-    _ c.free_behind.ensures c.padded_size.ensures _ _ i))
+    rw (c.lay_block.ensures.bytes, a.1) (cut-lays _ _ _ _ a.3 _ r o a.2 _
+    _ c.free_behind.ensures c.padded_size.ensures _ _ i)
 
 pub returns-clause-grown : goal.returns-clause-grown
 returns-clause-grown c = λ first unused i.
     let a = room-at c.args.part.now.bytes first unused c.args.place c.args.bytes i c.requires.room in
     let r = read (goal.at.returns-clause-grown c).After-read_header-header in
     let o = sym c.has_content.ensures ∙ c.if-not-has_content.false in
-    rw c.lay_block.ensures.bytes (grown-if _ _ _ _ _ a.1 _ (grown-lays _ _ _ _ a.3 _ r o a.2 _
-    _ c.free_behind.ensures c.padded_size.ensures _ _ i))
+    rw (c.lay_block.ensures.bytes, a.1) (grown-lays _ _ _ _ a.3 _ r o a.2 _
+    _ c.free_behind.ensures c.padded_size.ensures _ _ i)
 
 pub returns-clause-free : goal.returns-clause-free
 returns-clause-free c =

@@ -13,7 +13,7 @@ use Rattle.zone_bytes.proofs.Runs.Ends.{within, beyond}
 use Rattle.zone_bytes.proofs.Runs.Packed.{Bounds, run-moved, bounds}
 use Rattle.zone_bytes.proofs.Runs.Settled.{NextMover, packing-next, next-free, next-mover, moves-bound, begun, free-left}
 use Rattle.zone_bytes.proofs.Runs.Until.{until-none, until-free, gone-is}
-use Rattle.zone_bytes.proofs.Tiles.Heads.{Next, may-read}
+use Rattle.zone_bytes.proofs.Tiles.Heads.{Next, next-may}
 use Rattle.zone_bytes.proofs.Tiles.Tiling.{span-append, tiles-none}
 use Rattle.zone_bytes.proofs.Tiles.Tags.{tag-true, tag-false, tag-small}
 use Rattle.zone_bytes.proofs.settling.pack_until.Given.{Over}
@@ -48,7 +48,7 @@ ends g c = bounds _ _ _ (run g c) c.loop-from.invariant.1.state
 pub read_header-header-requires : goal.read_header-header-requires
 read_header-header-requires g c =
     let d = (goal.at.read_header-header-requires g c).In-loop-from in
-    may-read _ _ (ends g d).small (there g d)
+    next-may _ _ (ends g d).small (there g d)
 
 -- it is one of the run
 some : (g : Over) (c : After-eq g) → c.loop-from.invariant.1.rest ≡ [] → ⊥

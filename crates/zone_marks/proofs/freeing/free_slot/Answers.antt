@@ -16,7 +16,7 @@ free_block-requires c =
     let f = leads c.requires.0 c.args.slot c.args.part.now.bytes c.requires.1 (omega (arith, e)) in (
       leading c.requires.0 c.args.slot c.args.part.now.bytes c.requires.1 f,
       may-release _ _ _ c.requires.1 f _ e,
-      subst (AreOf c.args.marks.now) f.block.is c.requires.2,
+      subst (AreOf c.args.marks.now) f.block.whole c.requires.2,
     )
 
 pub returns-then-word-eq0-clause-lays : goal.returns-then-word-eq0-clause-lays

@@ -5,19 +5,8 @@ use Rattle.zone_bytes.proofs.Tiles.Tags.{tag-true, tag-false, tag-small}
 use Rattle.zone_bytes.proofs.Joined.Freed.{here-read, may-make, other-lays, slot-fits, slot-lays, led, none-led}
 use Rattle.zone_marks.proofs.freeing.free_up.Goals as goal
 
-pub read_header-header-requires-clause-within : goal.read_header-header-requires-clause-within
-read_header-header-requires-clause-within c =
-    let n = (here-read c.requires.0 c.args.start c.args.at c.args.part.now.bytes c.requires.1).next in
-    (n.even, n.fits)
-
-pub read_header-header-requires-clause-fits : goal.read_header-header-requires-clause-fits
-read_header-header-requires-clause-fits c =
-    let n = (here-read c.requires.0 c.args.start c.args.at c.args.part.now.bytes c.requires.1).next in
-    omega arith
-
-pub read_header-header-requires-clause-tag : goal.read_header-header-requires-clause-tag
-read_header-header-requires-clause-tag c =
-    (here-read c.requires.0 c.args.start c.args.at c.args.part.now.bytes c.requires.1).next.tag
+pub read_header-header-requires : goal.read_header-header-requires
+read_header-header-requires c = (here-read _ _ _ _ c.requires.1).may
 
 pub overflow_add-end : goal.overflow_add-end
 overflow_add-end c =

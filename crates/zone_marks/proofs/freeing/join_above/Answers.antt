@@ -1,7 +1,6 @@
 use Rattle.std.proofs.Common.{◌<◌, length, sym, ◌∙◌, subst, arith}
 use Rattle.heap_words.specs.Headers.{tag_number}
-use Rattle.zone_bytes.proofs.Tiles.Tags.{tag-small}
-use Rattle.zone_bytes.proofs.Joined.FreeTags.{free-true, free-false}
+use Rattle.zone_bytes.proofs.Tiles.Tags.{tag-small, free-true, free-false}
 use Rattle.zone_bytes.proofs.Joined.Above.{next, joined-none, joined-other, one, may-free, joined-two}
 use Rattle.zone_marks.proofs.freeing.join_above.Goals as goal
 
@@ -9,14 +8,9 @@ pub returns-then-at-len-clause-lays : goal.returns-then-at-len-clause-lays
 returns-then-at-len-clause-lays c = λ j m. joined-none j _ _ _ m (let l =
     c.if-at-len.true in omega (arith, l, c.len.ensures.count))
 
-pub read_header-requires-clause-within : goal.read_header-requires-clause-within
-read_header-requires-clause-within c =
-    let n = (next _ _ _ _ c.requires.1 (let l =
-    c.if-at-len.false in omega (arith, l, c.len.ensures.count))).tells.next in
-    (n.even, n.fits)
-
-pub read_header-requires-clause-tag : goal.read_header-requires-clause-tag
-read_header-requires-clause-tag c = (next _ _ _ _ c.requires.1 (omega (arith, c.len.ensures.count))).tells.next.tag
+pub read_header-requires : goal.read_header-requires
+read_header-requires c =
+    (next _ _ _ _ c.requires.1 (let l = c.if-at-len.false in omega (arith, l, c.len.ensures.count))).tells.may
 
 pub free_up-requires : goal.free_up-requires
 free_up-requires c =

@@ -5,15 +5,11 @@ use Rattle.block_store.specs.Walk.{Tells}
 use Rattle.zone_bytes.specs.Stepping.{header_seen, left_in}
 use Rattle.zone_bytes.proofs.Tiles.Tags.{tag-small}
 use Rattle.zone_bytes.proofs.Places.HeaderTells.{size-at}
-use Rattle.zone_bytes.proofs.Places.Stepped.{next-header, stepped, tells-step}
+use Rattle.zone_bytes.proofs.Places.Stepped.{stepped, tells-step, may-read}
 use Rattle.zone_marks.proofs.purgeable.purgeable_at.Goals as goal
 
-pub read_header-header-requires-clause-within : goal.read_header-header-requires-clause-within
-read_header-header-requires-clause-within c =
-    let n = next-header c.args.place c.args.part.now.bytes c.requires.way c.requires.some in (n.even, n.fits)
-
-pub read_header-header-requires-clause-tag : goal.read_header-header-requires-clause-tag
-read_header-header-requires-clause-tag c = (next-header _ _ c.requires.way c.requires.some).tag
+pub read_header-header-requires : goal.read_header-header-requires
+read_header-header-requires c = may-read _ _ c.requires.way c.requires.some
 
 pub returns : goal.returns
 returns c = λ b above q.

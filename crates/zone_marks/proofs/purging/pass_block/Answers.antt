@@ -5,16 +5,8 @@ use Rattle.zone_bytes.proofs.Tiles.Tags.{tag-small}
 use Rattle.zone_marks.proofs.Joined.Passing.{next, freed-fits, freeing, may-free, freed-next, kept-next}
 use Rattle.zone_marks.proofs.purging.pass_block.Goals as goal
 
-pub read_header-header-requires-clause-within : goal.read_header-header-requires-clause-within
-read_header-header-requires-clause-within c =
-    let a = c.args.pass in
-    let n = (next _ _ _ _ _ _ _ c.requires.pass.1 c.requires.some).tells.next in
-    (n.even, n.fits)
-
-pub read_header-header-requires-clause-tag : goal.read_header-header-requires-clause-tag
-read_header-header-requires-clause-tag c =
-    let a = c.args.pass in
-    (next _ _ _ _ _ _ _ c.requires.pass.1 c.requires.some).tells.next.tag
+pub read_header-header-requires : goal.read_header-header-requires
+read_header-header-requires c = (next _ _ _ _ _ _ _ c.requires.pass.1 c.requires.some).tells.may
 
 pub free_up-requires : goal.free_up-requires
 free_up-requires c =

@@ -2,24 +2,13 @@ use Rattle.std.proofs.Common.{◌<◌, ◌+◌, sym, ap, ◌∙◌, subst, arith
 use Rattle.heap_words.specs.Headers.{tag_number}
 use Rattle.zone_bytes.specs.Joining.{Freeing}
 use Rattle.zone_marks.specs.Purging.{Purging, Purged, MayPurge, purge_above}
-use Rattle.zone_bytes.proofs.Tiles.Tags.{tag-small}
-use Rattle.zone_bytes.proofs.Joined.FreeTags.{free-true, free-false}
+use Rattle.zone_bytes.proofs.Tiles.Tags.{tag-small, free-true, free-false}
 use Rattle.zone_marks.proofs.Joined.PurgeStarts.{place-read, above-other, above-free}
 use Rattle.zone_marks.proofs.purging.purge_above.Goals as goal
 use Rattle.zone_marks.proofs.purging.purge_above.Goals.{then-eq, else-eq}
 
-pub read_header-header-requires-clause-within : goal.read_header-header-requires-clause-within
-read_header-header-requires-clause-within c =
-    let n = (place-read c.requires.0 c.args.place c.args.part.now.bytes c.requires.1).next in
-    (n.even, n.fits)
-
-pub read_header-header-requires-clause-fits : goal.read_header-header-requires-clause-fits
-read_header-header-requires-clause-fits c =
-    omega (arith, (place-read c.requires.0 c.args.place c.args.part.now.bytes c.requires.1).next.fits)
-
-pub read_header-header-requires-clause-tag : goal.read_header-header-requires-clause-tag
-read_header-header-requires-clause-tag c =
-    (place-read c.requires.0 c.args.place c.args.part.now.bytes c.requires.1).next.tag
+pub read_header-header-requires : goal.read_header-header-requires
+read_header-header-requires c = (place-read _ _ _ c.requires.1).may
 
 pub overflow_add-end : goal.overflow_add-end
 overflow_add-end c =

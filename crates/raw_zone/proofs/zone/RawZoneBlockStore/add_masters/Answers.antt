@@ -1,6 +1,6 @@
-use Rattle.std.proofs.Common.{◌≡◌, ◌+◌, ◌*◌, ◌++◌, ℕ, IsTrue, refl, ap, sym, subst, arith}
-use Rattle.std.specs.Option.{IfSome, IsSomeAnd}
-use Rattle.block_store.specs.Block.{Masters, is_room, count, is_masters, free_sum}
+use Rattle.std.proofs.Common.{◌≡◌, ◌+◌, ◌++◌, ℕ, IsTrue, refl, ap, sym, subst, arith}
+use Rattle.std.specs.Option.{IsSomeAnd}
+use Rattle.block_store.specs.Block.{Masters, is_room, free_sum}
 use Rattle.block_store.specs.Room.{spot_at, filled}
 use Rattle.block_store.specs.Slot.{is_used}
 use Rattle.zone_bytes.specs.Decode.{zone_in}
@@ -9,8 +9,8 @@ use Rattle.zone_bytes.specs.Mastering.{slots_at, with_slots}
 use Rattle.zone_bytes.proofs.Laws.Lawful.{Made, kept-made}
 use Rattle.zone_bytes.proofs.Places.Options.{the-if}
 use Rattle.zone_bytes.proofs.SlotTable.Slotted.{count-small}
-use Rattle.zone_bytes.proofs.Placed.NonrelocatableCarved.{Roomy, roomy, free-roomy}
-use Rattle.zone_bytes.proofs.Placed.MastersCarved.{masters-made, masters-free, masters-all, masters-zone, masters-slots}
+use Rattle.zone_bytes.proofs.Placed.Carved.{Roomy, roomy, free-roomy, carved-free, carved-masters}
+use Rattle.zone_bytes.proofs.Placed.MastersCarved.{masters-made, masters-slots}
 use Rattle.zone_marks.proofs.Marks.Owed.{with-marks, filled-replaced}
 use Rattle.raw_zone.specs.Parted.{zone_of, rest_of}
 use Rattle.zone_bytes.specs.PurgeableBytes.{purgeable_sum}
@@ -80,8 +80,7 @@ pub invariant_of-self : goal.invariant_of-self
 invariant_of-self c =
     let a = (goal.at.invariant_of-self c).After-add_masters in
     let m = done a in
-    let q = masters-free c.self.inside.part.bytes c.add_masters.new.part.bytes c.self.inside.first c.self.inside.unused
-    c.args.place c.self.invariant.sound (there a) (laid a) in
+    let q = carved-free _ _ _ (there a) _ Masters refl (omega arith) m.zone in
     let z = ap free_sum m.zone in
     let f = c.self.invariant.free_is in
     let r = there a in
@@ -93,21 +92,13 @@ invariant_of-self c =
 pub returns-clause-ok : goal.returns-clause-ok
 returns-clause-ok c =
     let a = (goal.at.returns-clause-ok c).After-add_masters in
-    subst (λ v. IfSome (spot_at c.args.place (zone_of v))
-    (λ s. zone_in c.add_masters.new.part.bytes ≡ filled Masters s))
-    c.self.view_is
-    (masters-zone c.self.inside.part.bytes c.add_masters.new.part.bytes c.self.inside.first c.self.inside.unused
-    c.args.place
-    c.self.invariant.sound (there a) (laid a))
+    rw (← c.self.view_is, (there a).is) (done a).zone
 
 pub returns-clause-all : goal.returns-clause-all
 returns-clause-all c =
     let a = (goal.at.returns-clause-all c).After-add_masters in
-    subst (λ v. 64 * count is_masters (zone_in c.add_masters.new.part.bytes) ≡ 64 * count is_masters (zone_of v) + 64)
-    c.self.view_is
-    (masters-all c.self.inside.part.bytes c.add_masters.new.part.bytes c.self.inside.first c.self.inside.unused
-    c.args.place
-    c.self.invariant.sound (there a) (laid a))
+    let k = carved-masters _ _ _ (there a) _ Masters refl (omega arith) (done a).zone in
+    rw (← c.self.view_is) (omega (arith, k))
 
 pub returns-clause-slots : goal.returns-clause-slots
 returns-clause-slots c =

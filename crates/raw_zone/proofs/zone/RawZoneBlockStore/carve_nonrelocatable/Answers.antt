@@ -1,19 +1,16 @@
-use Rattle.std.proofs.Common.{◌≡◌, ℕ, IsTrue, refl, ap, sym, subst, arith, replicate}
+use Rattle.std.proofs.Common.{◌≡◌, ℕ, IsTrue, refl, ap, sym, subst, arith, replicate, ◌++◌, ◌∷◌, ◌-◌}
 use Rattle.std.proofs.lemmas.List.{length-replicate}
-use Rattle.std.specs.Option.{IfSome, IsSomeAnd}
+use Rattle.std.specs.Option.{IsSomeAnd}
 use Rattle.mac_words.specs.Size.{padded}
-use Rattle.block_store.specs.Block.{Nonrelocatable, is_room, size, free_sum}
+use Rattle.block_store.specs.Block.{Block, Free, Nonrelocatable, is_room, size, free_sum}
 use Rattle.block_store.specs.Room.{spot_at, filled}
-use Rattle.block_store.specs.Rest.{IsRest}
 use Rattle.zone_bytes.specs.Decode.{zone_in}
 use Rattle.zone_bytes.specs.Table.{slot_in}
-use Rattle.zone_bytes.specs.Beside.{rest_in}
 use Rattle.zone_bytes.proofs.Laws.Lawful.{Made, rest-made, kept-made}
 use Rattle.zone_bytes.proofs.Places.Options.{the-if}
-use Rattle.zone_bytes.proofs.Placed.NonrelocatableCarved.{Roomy, roomy, nonrelocatable-made, nonrelocatable-free, nonrelocatable-masters, nonrelocatable-zone}
-use Rattle.zone_bytes.proofs.Placed.NonrelocatableCarved.{free-roomy}
+use Rattle.zone_bytes.proofs.Placed.Carved.{Roomy, roomy, tidy-made, carved-free, carved-masters, free-roomy}
 use Rattle.zone_marks.proofs.Marks.Owed.{with-marks, filled-replaced}
-use Rattle.raw_zone.specs.Parted.{zone_of, rest_of}
+use Rattle.raw_zone.specs.Parted.{zone_of}
 use Rattle.zone_bytes.specs.PurgeableBytes.{purgeable_sum}
 use Rattle.zone_bytes.proofs.Bounds.Given.{given-put}
 use Rattle.raw_zone.proofs.zone.RawZoneBlockStore.carve_nonrelocatable.Goals as goal
@@ -44,14 +41,18 @@ there c =
     (subst (λ v. IsSomeAnd (spot_at c.args.place (zone_of v)) (λ s. IsTrue (is_room (padded c.args.size) s.here)))
     (sym c.self.view_is) c.requires)
 
+abbrev new : After-carve_nonrelocatable → Block
+new c = Nonrelocatable c.args.place (replicate c.args.size 0)
+
 done : (c : After-carve_nonrelocatable) → Made c.carve_nonrelocatable.new.part.bytes c.self.inside.first c.self.inside.unused
-    (filled (Nonrelocatable c.args.place (replicate c.args.size 0)) (there c).s) (slot_in c.self.inside.part.bytes)
+    (filled (new c) (there c).s) (slot_in c.self.inside.part.bytes)
 done c =
     let r = there c in
-    nonrelocatable-made c.self.inside.part.bytes c.carve_nonrelocatable.new.part.bytes c.self.inside.first c.self.inside.unused
-    c.args.place
-    c.args.size c.self.invariant.sound r
+    tidy-made _ _ _ _ c.self.invariant.sound (r.s.below ++ new c ∷ Free (size r.s.here - size (new c)) ∷ r.s.above)
     (the-if _ _ r.s r.is (c.carve_nonrelocatable.ensures.lays c.self.inside.first c.self.inside.unused c.self.invariant.sound))
+
+new-size : (c : After-carve_nonrelocatable) → size (new c) ≡ padded c.args.size
+new-size c = ap padded (length-replicate {A = ℕ} c.args.size 0)
 
 pub padded_size-requires : goal.padded_size-requires
 padded_size-requires c =
@@ -75,48 +76,29 @@ invariant_of-self-inside c = ((done (goal.at.invariant_of-self-inside c).After-c
 
 pub invariant_of-self : goal.invariant_of-self
 invariant_of-self c =
-    let r = there (goal.at.invariant_of-self c).After-carve_nonrelocatable in
-    let m = done (goal.at.invariant_of-self c).After-carve_nonrelocatable in
-    let q = nonrelocatable-free c.self.inside.part.bytes c.carve_nonrelocatable.new.part.bytes c.self.inside.first c.self.inside.unused
-    c.args.place
-    c.args.size c.self.invariant.sound r
-    (the-if _ _ r.s r.is (c.carve_nonrelocatable.ensures.lays c.self.inside.first c.self.inside.unused
-    c.self.invariant.sound)) in
-    let z = ap free_sum m.zone in
-    let f = c.self.invariant.free_is in
-    let p = c.padded_size.ensures in
-    let g = given-put (Nonrelocatable c.args.place (replicate c.args.size 0)) refl r.s (zone_in c.self.inside.part.bytes) r.at.whole
-    r.bytes r.here in
-    let y = ap purgeable_sum m.zone in
-    let b = c.self.invariant.purgeable_is in
-    with-marks _ _ _ _ _ _ (kept-made _ _ _ _ _ _ m (omega (arith, q, z, f, p))) c.note.ensures
-    (omega (arith, g, y, b))
+    let a = (goal.at.invariant_of-self c).After-carve_nonrelocatable in
+    let r = there a in
+    let m = done a in
+    let l = new-size a in
+    let q = carved-free _ _ _ r _ (new a) refl (omega (arith, l)) m.zone in
+    let g = given-put (new a) refl r.s _ r.at.whole r.bytes r.here in
+    with-marks _ _ _ _ _ _
+    (kept-made _ _ _ _ _ _ m (omega (arith, q, ap free_sum m.zone, c.self.invariant.free_is, c.padded_size.ensures, l)))
+    c.note.ensures (omega (arith, g, ap purgeable_sum m.zone, c.self.invariant.purgeable_is))
 
 pub returns-clause-ok : goal.returns-clause-ok
 returns-clause-ok c =
-    subst (λ v. IfSome (spot_at c.args.place (zone_of v)) (λ s. zone_in c.carve_nonrelocatable.new.part.bytes ≡ filled
-    (Nonrelocatable c.args.place (replicate c.args.size 0)) s))
-    c.self.view_is
-    (nonrelocatable-zone c.self.inside.part.bytes c.carve_nonrelocatable.new.part.bytes c.self.inside.first c.self.inside.unused
-    c.args.place
-    c.args.size c.self.invariant.sound (there (goal.at.returns-clause-ok c).After-carve_nonrelocatable)
-    (the-if _ _ (there (goal.at.returns-clause-ok c).After-carve_nonrelocatable).s (there
-    (goal.at.returns-clause-ok c).After-carve_nonrelocatable).is
-    (c.carve_nonrelocatable.ensures.lays c.self.inside.first c.self.inside.unused c.self.invariant.sound)))
+    let a = (goal.at.returns-clause-ok c).After-carve_nonrelocatable in
+    rw (← c.self.view_is, (there a).is) (done a).zone
 
 pub returns-clause-rest : goal.returns-clause-rest
 returns-clause-rest c =
-    subst (λ v. IsRest (rest_of v) (rest_in c.carve_nonrelocatable.new.part c.self.inside.unused c.self.inside.moves))
-    c.self.view_is
-    (rest-made c.self.inside.part c.carve_nonrelocatable.new.part (slot_in c.self.inside.part.bytes) c.self.inside.unused
-    c.self.inside.moves (done (goal.at.returns-clause-rest c).After-carve_nonrelocatable).slots
-    (nonrelocatable-masters c.self.inside.part.bytes c.carve_nonrelocatable.new.part.bytes c.self.inside.first c.self.inside.unused
-    c.args.place
-    c.args.size c.self.invariant.sound (there (goal.at.returns-clause-rest c).After-carve_nonrelocatable)
-    (the-if _ _ (there (goal.at.returns-clause-rest c).After-carve_nonrelocatable).s (there
-    (goal.at.returns-clause-rest c).After-carve_nonrelocatable).is
-    (c.carve_nonrelocatable.ensures.lays c.self.inside.first c.self.inside.unused c.self.invariant.sound)))
-    c.carve_nonrelocatable.ensures.same)
+    let a = (goal.at.returns-clause-rest c).After-carve_nonrelocatable in
+    let m = done a in
+    let l = new-size a in
+    let k = carved-masters _ _ _ (there a) _ (new a) refl (omega (arith, l)) m.zone in
+    rw (← c.self.view_is) (rest-made c.self.inside.part c.carve_nonrelocatable.new.part (slot_in c.self.inside.part.bytes)
+    c.self.inside.unused c.self.inside.moves m.slots (omega (arith, k)) c.carve_nonrelocatable.ensures.same)
 
 pub overflow_add-place : goal.overflow_add-place
 overflow_add-place c =
@@ -137,10 +119,9 @@ pub note-requires-clause-marks : goal.note-requires-clause-marks
 note-requires-clause-marks c =
     let a = (goal.at.note-requires-clause-marks c).After-carve_nonrelocatable in
     let r = there a in
-    let l = ap padded (length-replicate {A = ℕ} c.args.size 0) in (
+    let l = new-size a in (
       zone_in c.self.inside.part.bytes,
-      filled-replaced c.self.inside.part.bytes c.args.place (padded c.args.size) r
-          (Nonrelocatable c.args.place (replicate c.args.size 0)) refl (omega (arith, l)) c.size_at-free.result
-          (c.size_at-free.ensures r.s.here r.s.above r.at.left) (zone_in c.carve_nonrelocatable.new.part.bytes) (done a).zone,
+      filled-replaced _ _ _ r (new a) refl (omega (arith, l)) c.size_at-free.result
+          (c.size_at-free.ensures r.s.here r.s.above r.at.left) _ (done a).zone,
       c.self.invariant.marked,
     )

@@ -3,21 +3,15 @@ use Rattle.heap_words.specs.Headers.{tag_number}
 use Rattle.block_store.specs.Walk.{Tells}
 use Rattle.zone_bytes.specs.Stepping.{header_seen, left_in}
 use Rattle.zone_bytes.proofs.Tiles.Tags.{tag-small}
-use Rattle.zone_bytes.proofs.Places.Stepped.{next-header, stepped, tells-step, tells-none}
+use Rattle.zone_bytes.proofs.Places.Stepped.{stepped, tells-step, tells-none, may-read}
 use Rattle.zone_bytes.proofs.raw_walk.RawWalkWalk.next_block.Goals as goal
 
 pub returns-then-self-len : goal.returns-then-self-len
 returns-then-self-len c =
     subst (λ v. Tells v None v) c.self.view_is (tells-none _ _ c.self.invariant (omega (arith, c.len.ensures)))
 
-pub read_header-header-requires-clause-within : goal.read_header-header-requires-clause-within
-read_header-header-requires-clause-within c =
-    let n = next-header _ _ c.self.invariant (omega (arith, c.len.ensures)) in
-    (n.even, n.fits)
-
-pub read_header-header-requires-clause-tag : goal.read_header-header-requires-clause-tag
-read_header-header-requires-clause-tag c =
-    (next-header c.self.inside.at c.self.inside.part.now.bytes c.self.invariant (omega (arith, c.len.ensures))).tag
+pub read_header-header-requires : goal.read_header-header-requires
+read_header-header-requires c = may-read _ _ c.self.invariant (omega (arith, c.len.ensures))
 
 pub overflow_add-self : goal.overflow_add-self
 overflow_add-self c =
