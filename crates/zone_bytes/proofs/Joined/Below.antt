@@ -10,7 +10,7 @@ use Rattle.zone_bytes.specs.Joining.{LeadsUp}
 use Rattle.zone_bytes.specs.Stepping.{left_in, IsOnWay}
 use Rattle.zone_bytes.proofs.Tiles.Tiling.{span-append}
 use Rattle.zone_bytes.proofs.Places.Stepped.{Stepped, stepped, left-is}
-use Rattle.zone_bytes.proofs.Places.HeaderTells.{here-on, size-at}
+use Rattle.zone_bytes.proofs.Places.HeaderTells.{size-at}
 use Rattle.zone_bytes.proofs.Joined.Above.{free-is, free-other}
 
 -- what is left of blocks that end at a place, of which the last so far is Free from `start` to `at`
@@ -110,7 +110,7 @@ module _ (xs : List ℕ) (place at start : ℕ) (b : Below xs place at start) wh
       -- the block's Free bytes
       tells : (c : Block) (blocks : List Block) → left_in at xs ≡ c ∷ blocks → (n ≡ size c) × (t ≡ kind c)
       tells c blocks q =
-          let o = here-on at xs b.way i n t e k m in
+          let o = stepped at xs b.way i n t e k m in
           let f : o.here ≡ c = (let p = sym o.is ∙ q in cc) in
           (size-at at xs b.way i n t e k m c blocks q, o.tag ∙ ap kind f)
 

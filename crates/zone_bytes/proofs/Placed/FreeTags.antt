@@ -9,7 +9,8 @@ use Rattle.zone_bytes.specs.Walking.{Walk}
 use Rattle.zone_bytes.specs.Laying.{free_first}
 use Rattle.zone_bytes.proofs.Tiles.Tags.{tag-small}
 use Rattle.zone_bytes.proofs.Places.Stepped.{left-is}
-use Rattle.zone_bytes.proofs.Places.HeaderTells.{here-on, size-at}
+use Rattle.zone_bytes.proofs.Places.HeaderTells.{size-at}
+use Rattle.zone_bytes.proofs.Places.Stepped.{stepped}
 use Rattle.zone_bytes.proofs.Joined.Above.{free-is, free-other}
 
 module _ (at : ℕ) (xs : List ℕ) (w : IsOnWay at xs) where
@@ -24,10 +25,10 @@ module _ (at : ℕ) (xs : List ℕ) (w : IsOnWay at xs) where
   module _ (l : at < length xs) (n : ℕ) (t : Tag) (e : n + tag_number t ≡ word_at at xs) (h : n % 16 ≡ 0) where
     pub first-free : tag_number t ≡ 0 → n ≡ free_first (left_in at xs)
     first-free z =
-        let o = here-on at xs w l n (tag_number t) e h (tag-small t) in
+        let o = stepped at xs w l n (tag_number t) e h (tag-small t) in
         size-at _ _ w l n _ e h (tag-small t) _ _ o.is ∙ sym (ap free_of (free-is o.here (sym o.tag ∙ z))) ∙ sym (ap free_first o.is)
 
     pub first-other : 0 < tag_number t → 0 ≡ free_first (left_in at xs)
     first-other z =
-        let o = here-on at xs w l n (tag_number t) e h (tag-small t) in
+        let o = stepped at xs w l n (tag_number t) e h (tag-small t) in
         sym (free-other o.here (omega (arith, z))) ∙ sym (ap free_first o.is)

@@ -37,7 +37,8 @@ use Rattle.zone_bytes.proofs.Tiles.Heads.{length-head}
 use Rattle.zone_bytes.proofs.Tiles.Keeping.{names-free, span-free}
 use Rattle.zone_bytes.proofs.Tiles.Spelling.{zone-of}
 use Rattle.zone_bytes.proofs.Places.Stepped.{word-at, left-is}
-use Rattle.zone_bytes.proofs.Places.HeaderTells.{here-on, size-at, same-here}
+use Rattle.zone_bytes.proofs.Places.HeaderTells.{size-at, same-here}
+use Rattle.zone_bytes.proofs.Places.Stepped.{stepped}
 use Rattle.zone_bytes.proofs.Places.Options.{the-spot, a-spot, if-spot}
 use Rattle.zone_bytes.proofs.Blocks.InPlace.{leads-each, no-slots-two}
 use Rattle.zone_bytes.proofs.Blocks.Writes.{content-room}
@@ -155,7 +156,7 @@ module _ (xs : List ℕ) (place n : ℕ) (s : Spot) (at : Standing xs place s) (
 
   pub kind-is : tag_number hd.tag ≡ kind s.here
   kind-is =
-      let o = here-on place xs at.way below-end hd.size (tag_number hd.tag) r.first r.even (tag-small hd.tag) in
+      let o = stepped place xs at.way below-end hd.size (tag_number hd.tag) r.first r.even (tag-small hd.tag) in
       o.tag ∙ ap kind (same-here place xs (tag_number hd.tag) o s.here s.above at.left)
 
   pub way-behind : IsOnWay (place + hd.size) xs

@@ -8,12 +8,10 @@ use Rattle.heap_words.specs.Words.{word_at}
 use Rattle.heap_words.proofs.Words.{read_back}
 use Rattle.block_store.specs.Block.{Block, Free, Nonrelocatable, Masters, Relocatable, size, content_of}
 use Rattle.zone_bytes.specs.Layout.{kind, flag_word, head_of, Tile}
-use Rattle.zone_bytes.specs.Walking.{Walk}
 use Rattle.zone_bytes.specs.Stepping.{left_in, IsOnWay}
-use Rattle.zone_bytes.proofs.Tiles.Heads.{same_parts}
-use Rattle.zone_bytes.proofs.Tiles.Heads.{length-head, first-reads, kind-small}
+use Rattle.zone_bytes.proofs.Tiles.Heads.{length-head}
 use Rattle.zone_bytes.proofs.Tiles.Decoding.{says}
-use Rattle.zone_bytes.proofs.Places.Stepped.{left-is, word-at}
+use Rattle.zone_bytes.proofs.Places.Stepped.{Stepped, stepped, word-at}
 
 -- the content of a block at a place, whose kind has one
 pub record Contained (at : ℕ) (xs : List ℕ) (b : Block) : Type 0 where
@@ -54,30 +52,9 @@ empty (Relocatable slot flags content) k = absurd (false≢true (sym k))
 same-head : (b c : Block) (bs cs : List Block) → b ∷ bs ≡ c ∷ cs → b ≡ c
 same-head b c bs cs e = cc
 
--- the block on the way, and its kind
-pub record OnWay (at : ℕ) (xs : List ℕ) (t : ℕ) : Type 0 where
-  pub here : Block
-  pub above : List Block
-  pub is : left_in at xs ≡ here ∷ above
-  pub tag : t ≡ kind here
-  pub resource : ℕ → Bool
-  pub tile : Tile (head_of resource here) (size here) (drop at xs)
-  pub small : length xs ≤ 134217728
-
-pub here-on : (at : ℕ) (xs : List ℕ) (w : IsOnWay at xs) → at < length xs → (n t : ℕ) → n + t ≡ word_at at xs
-    → n % 16 ≡ 0 → t ≤ 3 → OnWay at xs t
-here-on at xs w l n t e h k = next w.rest (left-is _ _ w) w.walk
-  where
-    next : (rest : List Block) → left_in at xs ≡ rest → Walk w.resource at xs rest → OnWay at xs t
-    next [] q v = absurd (omega (arith, l))
-    next (b ∷ rest) q v =
-        let same = same_parts n t _ _ (e ∙ first-reads w.resource _ _ w.small b v.high.0) h
-        v.high.0.whole k (kind-small b) in
-        record { here = b; above = rest; is = q; tag = same.1; resource = w.resource; tile = v.high.0; small = w.small }
-
-module _ (at : ℕ) (xs : List ℕ) (t : ℕ) (o : OnWay at xs t) where
+module _ (at : ℕ) (xs : List ℕ) (t : ℕ) {n : ℕ} (o : Stepped at xs n t) where
   pub holds : (t % 2 == 1) ≡ true → Contained at xs o.here
-  holds k = contained o.resource _ _ o.small _ o.tile (ap (λ m. m % 2 == 1) (sym o.tag) ∙ k)
+  holds k = contained o.resource at xs o.way.small o.here o.tile (ap (λ m. m % 2 == 1) (sym o.tag) ∙ k)
 
   pub holds-none : (t % 2 == 1) ≡ false → content_of o.here ≡ []
   holds-none k = empty _ (ap (λ m. m % 2 == 1) (sym o.tag) ∙ k)
@@ -87,11 +64,6 @@ module _ (at : ℕ) (xs : List ℕ) (t : ℕ) (o : OnWay at xs t) where
 
 pub size-at : (at : ℕ) (xs : List ℕ) (w : IsOnWay at xs) → at < length xs → (n t : ℕ) → n + t ≡ word_at at xs
     → n % 16 ≡ 0 → t ≤ 3 → (b : Block) (above : List Block) → left_in at xs ≡ b ∷ above → n ≡ size b
-size-at at xs w l n t e h k b above q = next w.rest (sym (left-is _ _ w) ∙ q) w.walk
-  where
-    next : (rest : List Block) → rest ≡ b ∷ above → Walk w.resource at xs rest → n ≡ size b
-    next [] r v = absurd (omega (arith, l))
-    next (c ∷ rest) r v =
-        let same = same_parts n t _ _ (e ∙ first-reads w.resource _ _ w.small c v.high.0) h
-        v.high.0.whole k (kind-small c) in
-        same.0 ∙ ap size (same-head c b rest above r)
+size-at at xs w l n t e h k b above q =
+    let o = stepped at xs w l n t e h k in
+    o.bytes ∙ ap size (same-here at xs t o b above q)

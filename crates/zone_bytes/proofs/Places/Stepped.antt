@@ -15,10 +15,9 @@ use Rattle.zone_bytes.specs.Decode.{flags_of}
 use Rattle.zone_bytes.specs.Walking.{Walk}
 use Rattle.zone_bytes.specs.Stepping.{header_seen, left_in, IsOnWay}
 use Rattle.zone_bytes.proofs.Tiles.Leading.{each-left, each-right}
-use Rattle.zone_bytes.proofs.Tiles.Heads.{Next, same_parts}
-use Rattle.zone_bytes.proofs.Tiles.Heads.{MayRead, next-may, length-head, first-reads, kind-small}
+use Rattle.zone_bytes.proofs.Tiles.Heads.{Next, next-there, header-tells}
+use Rattle.zone_bytes.proofs.Tiles.Heads.{MayRead, next-may, length-head}
 use Rattle.zone_bytes.proofs.Tiles.Decoding.{says, flag_word-small, flags_of-word, blocks-back}
-use Rattle.zone_bytes.proofs.Places.Walks.{walk-next}
 
 -- a word of a tile, by its place in all the bytes
 pub word-at : (at k : ℕ) (xs : List ℕ) → piece (at + k) 4 xs ≡ piece k 4 (drop at xs)
@@ -53,6 +52,10 @@ pub record Stepped (at : ℕ) (xs : List ℕ) (n t : ℕ) : Type 0 where
   pub is : left_in at xs ≡ here ∷ left_in (at + n) xs
   pub told : header_seen t n (word_at (at + 4) xs) (word_at (at + 8) xs) (word_at (at + 12) xs) ≡ seen here
   pub way : IsOnWay (at + n) xs
+  pub bytes : n ≡ size here
+  pub tag : t ≡ kind here
+  pub resource : ℕ → Bool
+  pub tile : Tile (head_of resource here) (size here) (drop at xs)
 
 module _ (at : ℕ) (xs : List ℕ) (w : IsOnWay at xs) where
   pub left-is : left_in at xs ≡ w.rest
@@ -68,7 +71,7 @@ module _ (at : ℕ) (xs : List ℕ) (w : IsOnWay at xs) where
       none (b ∷ rest) k = absurd (omega (arith, l))
 
   pub next-header : at < length xs → Next xs at
-  next-header l = walk-next w.resource _ w.small _ _ w.walk l
+  next-header l = next-there w.resource xs at w.small w.rest w.walk.high w.walk.whole l
 
 -- a header may be read where a block begins
 pub may-read : (at : ℕ) (xs : List ℕ) → IsOnWay at xs → at < length xs → MayRead at xs
@@ -80,7 +83,7 @@ pub stepped-on : (resource : ℕ → Bool) (at : ℕ) (xs : List ℕ) (small : l
 stepped-on resource at xs small [] v p o l n t e h k = absurd (omega (arith, l))
 stepped-on resource at xs small (b ∷ rest) v p o l n t e h k =
     let P : ℕ → Type 0 = λ s. s < 2 ^ 32 in
-    let same = same_parts n t _ _ (e ∙ first-reads resource _ _ small b v.high.0) h v.high.0.whole k (kind-small b) in
+    let same = header-tells resource xs at small b v.high.0 n t e h k in
     let bytes = same.0 in
     let now : IsOnWay at xs = record
     { resource = resource; rest = b ∷ rest; walk = v; placed = p; words = o; small = small } in
@@ -103,6 +106,10 @@ stepped-on resource at xs small (b ∷ rest) v p o l n t e h k =
       told = (λ i. header_seen (same.1 i) (bytes i) (word_at (at + 4) xs) (word_at (at + 8) xs)
           (word_at (at + 12) xs)) ∙ told-is resource _ _ small b v.high.0 (each-left P _ _ o);
       way = way;
+      bytes = bytes;
+      tag = same.1;
+      resource = resource;
+      tile = v.high.0;
     }
 
 pub stepped : (at : ℕ) (xs : List ℕ) (w : IsOnWay at xs) → at < length xs → (n t : ℕ) → n + t ≡ word_at at xs

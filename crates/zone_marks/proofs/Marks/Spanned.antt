@@ -12,7 +12,7 @@ use Rattle.zone_summary.specs.Stretches.{counted, is_space, space}
 use Rattle.zone_bytes.proofs.Runs.Ends.{flags-read, runs-told}
 use Rattle.zone_bytes.proofs.Tiles.Heads.{first-reads, kind-small}
 use Rattle.zone_bytes.proofs.Places.Stepped.{stepped}
-use Rattle.zone_bytes.proofs.Places.HeaderTells.{here-on, size-at, same-here}
+use Rattle.zone_bytes.proofs.Places.HeaderTells.{size-at, same-here}
 
 -- the Free bytes of a block by its kind and size
 free-told : (b : Block) (n t : ℕ) → t ≡ kind b → n ≡ size b → cond (t == 0) n 0 ≡ free_of b
@@ -61,7 +61,7 @@ pub span-made : (at : ℕ) (xs : List ℕ) (w : IsOnWay at xs) → at < length x
 span-made at xs w l n t e h k free f barrier b =
     let s = stepped at xs w l n t e h k in
     let z = size-at at xs w l n t e h k s.here (left_in (at + n) xs) s.is in
-    let o = here-on at xs w l n t e h k in
+    let o = stepped at xs w l n t e h k in
     let same = same-here at xs t o s.here (left_in (at + n) xs) s.is in
     let tile = subst (λ c. Tile (head_of o.resource c) (size c) (drop at xs)) same o.tile in
     record {
@@ -69,7 +69,7 @@ span-made at xs w l n t e h k free f barrier b =
       is = s.is;
       up = ap (λ m. at + m) (sym z);
       bytes = f ∙ free-told s.here n t (o.tag ∙ ap kind same) z;
-      ends = b ∙ ap not (runs-told o.resource xs at o.small s.here tile n t (word_at (at + 12) xs) e h k refl);
+      ends = b ∙ ap not (runs-told o.resource xs at o.way.small s.here tile n t (word_at (at + 12) xs) e h k refl);
       way = s.way;
       some = (omega (arith, z));
     }
@@ -79,10 +79,10 @@ pub space-made : (at : ℕ) (xs : List ℕ) (w : IsOnWay at xs) → at < length 
     → n % 16 ≡ 0 → t ≤ 3 → (b : Block) (above : List Block) → left_in at xs ≡ b ∷ above
     → counted (gives_space t (word_at (at + 12) xs)) n ≡ space b
 space-made at xs w l n t e h k b above is =
-    let o = here-on at xs w l n t e h k in
+    let o = stepped at xs w l n t e h k in
     let same = same-here at xs t o b above is in
     let tile = subst (λ c. Tile (head_of o.resource c) (size c) (drop at xs)) same o.tile in
-    ap (λ g. counted g n) (space-told o.resource _ _ o.small b tile n t _ e h k refl)
+    ap (λ g. counted g n) (space-told o.resource _ _ o.way.small b tile n t _ e h k refl)
     ∙ ap (counted (is_space b)) (size-at _ _ w l n t e h k b _ is)
 
 -- a block that isn't room by its Free bytes
