@@ -24,10 +24,11 @@ use Rattle.zone_bytes.specs.Layout.{head_of, Tiles}
 use Rattle.zone_bytes.proofs.Tiles.Splices.{tiles-parts}
 use Rattle.zone_bytes.proofs.Tiles.Keeping.{Instead, instead-settle, lays-run}
 use Rattle.zone_bytes.proofs.Laws.Lawful.{Made, made}
-use Rattle.zone_bytes.proofs.Runs.RunsAt.{if-run, one-run, whole, bottom, in-run, lay-is, lowered-lowered_in_run}
+use Rattle.zone_bytes.proofs.Places.Options.{if-spot, one-spot}
+use Rattle.zone_bytes.proofs.Runs.RunsAt.{whole, bottom, in-run, lay-is, lowered-lowered_in_run}
 
 pub if-one : (o : Option RunSpot) (P : RunSpot → Type 0) (r : RunSpot) → o ≡ Some r → P r → IfSome o P
-if-one o P r e p = if-run o P (λ q f. subst P (one-run o r q e f) p)
+if-one o P r e p = if-spot o P (λ q f. subst P (one-spot o r q e f) p)
 
 -- the bytes are those of the zone with the run at a place changed, and its Masters blocks, Free bytes and those that
 -- may be purged stay

@@ -15,18 +15,15 @@ use Rattle.zone_bytes.specs.Table.{slot_in}
 use Rattle.zone_bytes.specs.Lawful.{IsSound}
 use Rattle.zone_bytes.specs.Placing.{lay_at}
 use Rattle.zone_bytes.proofs.Runs.Changed.{ChangedRun, relaid-run}
+use Rattle.zone_bytes.proofs.Places.Options.{the-spot}
 use Rattle.zone_bytes.proofs.Runs.RunsAt.{whole, in-run, lay-is, may-settle}
 use Rattle.zone_bytes.proofs.Runs.Lifts.{lifted-none, lifted-some, any-movers, lifted-instead}
-
-the-run : (o : Option RunSpot) (A : RunSpot → Type 0) → IsSomeAnd o A → (r : RunSpot) × (o ≡ Some r)
-the-run None A h = absurd h
-the-run (Some r) A h = (r, refl)
 
 -- the run at a place, which has so many Free bytes
 pub room-run : (zone : List Block) (place gap : ℕ) → IsSomeAnd (run_at place zone) (λ r. IsTrue (has_free gap r.run))
     → (r : RunSpot) × (run_at place zone ≡ Some r) × (gap ≤ free_sum r.run)
 room-run zone place gap h =
-    let a = the-run (run_at place zone) (λ r. IsTrue (has_free gap r.run)) h in
+    let a = the-spot (run_at place zone) (λ r. IsTrue (has_free gap r.run)) h in
     (a.0, a.1, free-enough gap zone place a.0 a.1 h)
 
 module _ (xs : List ℕ) (first unused : ℕ) (i : IsSound xs first unused) (place : ℕ) (r : RunSpot)

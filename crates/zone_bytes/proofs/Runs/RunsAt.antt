@@ -22,17 +22,6 @@ use Rattle.zone_bytes.proofs.Places.AtPlace.{way-above}
 use Rattle.zone_bytes.proofs.Places.Stepped.{left-is}
 use Rattle.block_store.specs.Slot.{is_resource}
 
-pub a-run : (o : Option RunSpot) → IsSome o → (r : RunSpot) × (o ≡ Some r)
-a-run None h = absurd (false≢true h)
-a-run (Some r) h = (r, refl)
-
-pub if-run : (o : Option RunSpot) (P : RunSpot → Type 0) → ((r : RunSpot) → o ≡ Some r → P r) → IfSome o P
-if-run None P f = tt
-if-run (Some r) P f = f r refl
-
-pub one-run : (o : Option RunSpot) (r q : RunSpot) → o ≡ Some r → o ≡ Some q → r ≡ q
-one-run o r q e f = same_Some r q (sym e ∙ f)
-
 pub loose-each : (run : List Block) → Each InRun run → Loose run
 loose-each [] e = tt
 loose-each (b ∷ run) e = (e.0, loose-each run e.1)

@@ -11,7 +11,8 @@ use Rattle.zone_bytes.specs.Table.{slot_in}
 use Rattle.zone_bytes.specs.Beside.{rest_in}
 use Rattle.zone_bytes.specs.Placing.{lay_at}
 use Rattle.zone_bytes.proofs.Laws.Lawful.{rest-made, kept-made}
-use Rattle.zone_bytes.proofs.Runs.RunsAt.{a-run, lay-is, lay-bytes, may-end, may-settle}
+use Rattle.zone_bytes.proofs.Runs.RunsAt.{lay-is, lay-bytes, may-end, may-settle}
+use Rattle.zone_bytes.proofs.Places.Options.{a-spot}
 use Rattle.raw_zone.specs.Parted.{zone_of, rest_of}
 use Rattle.zone_bytes.proofs.Runs.Changed.{ChangedRun, if-one, settled-run, replaced-run}
 use Rattle.zone_bytes.proofs.Runs.Edged.{settled-edges}
@@ -22,7 +23,7 @@ use Rattle.raw_zone.proofs.zone.RawZone.pack.Goals.{After-self, After-settle_run
 
 -- the run
 found : (c : After-self) → (r : RunSpot) × (run_at c.args.run (zone_in c.self.inside.part.bytes) ≡ Some r)
-found c = a-run (run_at c.args.run (zone_in c.self.inside.part.bytes))
+found c = a-spot (run_at c.args.run (zone_in c.self.inside.part.bytes))
     (subst (λ v. IsSome (run_at c.args.run (zone_of v))) (sym c.self.view_is) c.requires)
 
 pub settle_run-packed-requires : goal.settle_run-packed-requires
@@ -48,7 +49,7 @@ done : (c : After-settle_run-packed) → (r : RunSpot) × (run_at c.args.run (zo
 done c =
     let xs = c.self.inside.part.bytes in
     let i = c.self.invariant.sound in
-    let a = a-run (run_at c.args.run (zone_in xs)) (subst (λ v. IsSome (run_at c.args.run (zone_of v)))
+    let a = a-spot (run_at c.args.run (zone_in xs)) (subst (λ v. IsSome (run_at c.args.run (zone_of v)))
     (sym c.self.view_is) c.requires) in
     let l = lay-is xs c.self.inside.first c.self.inside.unused i c.args.run a.0 a.1 in
     let d = settled-run xs c.self.inside.first c.self.inside.unused i c.args.run a.0 a.1 (c.args.run + sizes a.0.run) refl

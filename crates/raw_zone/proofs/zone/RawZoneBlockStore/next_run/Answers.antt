@@ -5,21 +5,22 @@ use Rattle.block_store.specs.Compact.{next_run}
 use Rattle.block_store.specs.Run.{RunSpot, run_at}
 use Rattle.raw_zone.specs.Parted.{zone_of}
 use Rattle.zone_bytes.specs.Decode.{zone_in}
-use Rattle.zone_bytes.proofs.Runs.RunsAt.{a-run, if-run, run-way, left-fits}
+use Rattle.zone_bytes.proofs.Runs.RunsAt.{run-way, left-fits}
+use Rattle.zone_bytes.proofs.Places.Options.{a-spot, if-spot}
 use Rattle.zone_bytes.proofs.Runs.NextRuns.{next-fits, next-none, next-some}
 use Rattle.raw_zone.proofs.zone.RawZoneBlockStore.next_run.Goals as goal
 
 pub walk_from-requires : goal.walk_from-requires
 walk_from-requires c =
     let z = c.self.inside in
-    let a = a-run (run_at c.args.run (zone_in z.part.bytes))
+    let a = a-spot (run_at c.args.run (zone_in z.part.bytes))
     (subst (λ v. IsSome (run_at c.args.run (zone_of v))) (sym c.self.view_is) c.requires) in
     run-way z.part.bytes z.first z.unused c.self.invariant.sound c.args.run a.0 a.1
 
 pub next_run_in-requires : goal.next_run_in-requires
 next_run_in-requires c =
     let z = c.self.inside in
-    let a = a-run (run_at c.args.run (zone_in z.part.bytes))
+    let a = a-spot (run_at c.args.run (zone_in z.part.bytes))
     (subst (λ v. IsSome (run_at c.args.run (zone_of v))) (sym c.self.view_is) c.requires) in
     let f = left-fits z.part.bytes z.first z.unused c.self.invariant.sound c.args.run a.0 a.1 in
     let e = ap sizes c.walk_from.ensures in
@@ -28,7 +29,7 @@ next_run_in-requires c =
 pub overflow_add-result : goal.overflow_add-result
 overflow_add-result c =
     let z = c.self.inside in
-    let a = a-run (run_at c.args.run (zone_in z.part.bytes))
+    let a = a-spot (run_at c.args.run (zone_in z.part.bytes))
     (subst (λ v. IsSome (run_at c.args.run (zone_of v))) (sym c.self.view_is) c.requires) in
     let f = next-fits z.part.bytes z.first z.unused c.self.invariant.sound c.args.run a.0 a.1 c.walk_from.result
     c.walk_from.ensures c.in-Some.bytes c.in-Some.ensures in
@@ -39,7 +40,7 @@ returns-in-Some c =
     let z = c.self.inside in
     let is = λ (r : RunSpot). Some (c.args.run + c.in-Some.bytes) ≡ next_run r in
     subst (λ v. IfSome (run_at c.args.run (zone_of v)) is) c.self.view_is
-    (if-run (run_at c.args.run (zone_in z.part.bytes)) is (λ r e.
+    (if-spot (run_at c.args.run (zone_in z.part.bytes)) is (λ r e.
     next-some z.part.bytes z.first z.unused c.self.invariant.sound c.args.run r e c.walk_from.result
     c.walk_from.ensures c.in-Some.bytes c.in-Some.ensures))
 
@@ -48,6 +49,6 @@ returns-in-None c =
     let z = c.self.inside in
     let is = λ (r : RunSpot). None ≡ next_run r in
     subst (λ v. IfSome (run_at c.args.run (zone_of v)) is) c.self.view_is
-    (if-run (run_at c.args.run (zone_in z.part.bytes)) is (λ r e.
+    (if-spot (run_at c.args.run (zone_in z.part.bytes)) is (λ r e.
     next-none z.part.bytes z.first z.unused c.self.invariant.sound c.args.run r e c.walk_from.result
     c.walk_from.ensures c.in-None.ensures))
