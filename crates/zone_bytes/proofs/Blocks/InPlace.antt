@@ -1,5 +1,5 @@
 -- A block of a RawZone that is written anew where it stands.
-use Rattle.std.proofs.Common.{◌≡◌, ℕ, false, ◌+◌, ◌-◌, ◌<◌, inl, inr, if◌then◌else◌, List, [], ◌∷◌, ◌++◌, take, drop, zero, suc, ◌≤◌, length}
+use Rattle.std.proofs.Common.{◌≡◌, ℕ, false, ◌+◌, ◌-◌, ◌<◌, inl, inr, if◌then◌else◌, List, [], ◌∷◌, ◌++◌, take, drop, ◌≤◌, length}
 use Rattle.std.proofs.Common.{sym, ap, ◌∙◌, subst, arith}
 use Rattle.std.proofs.lemmas.Bool.{false≢true}
 use Rattle.std.proofs.lemmas.List.{length-take-le, length-drop, append-nil}
@@ -14,7 +14,7 @@ use Rattle.zone_bytes.specs.Decode.{zone_in}
 use Rattle.zone_bytes.specs.Table.{Lays, slot_in}
 use Rattle.zone_bytes.specs.Lawful.{IsSound}
 use Rattle.zone_bytes.proofs.Tiles.Tiling.{tiles-one, tile-take}
-use Rattle.zone_bytes.proofs.Tiles.Leading.{each-left, each-right, names-append, leads-right}
+use Rattle.zone_bytes.proofs.Tiles.Leading.{each-names, leads-right}
 use Rattle.zone_bytes.proofs.SlotTable.Tables.{each-both}
 use Rattle.zone_bytes.proofs.Tiles.Splices.{piece-outside, outside-same, outside-written}
 use Rattle.zone_bytes.proofs.Blocks.Carves.{outside}
@@ -23,7 +23,7 @@ use Rattle.zone_bytes.proofs.Laws.Lawful.{Made, made}
 use Rattle.block_store.specs.Slot.{is_resource}
 use Rattle.windows.proofs.Pieces.{length-written, take-written_above, drop-written_below}
 use Rattle.zone_bytes.proofs.Tiles.Keeping.{each-free, names-free, placed-right, placed-run}
-use Rattle.zone_bytes.proofs.Tiles.Keeping.{run-no_slot}
+use Rattle.zone_bytes.proofs.Tiles.Keeping.{run-no_slot, leads-free}
 use Rattle.zone_bytes.proofs.Joined.Ways.{tile-at}
 
 -- where a slot leads hangs on the block's names alone
@@ -55,10 +55,6 @@ pub masters-same : (below above : List Block) (b c : Block) → is_masters c ≡
     → count is_masters (below ++ c ∷ above) ≡ count is_masters (below ++ b ∷ above)
 masters-same below above b c e = total-same (λ b. if is_masters b then 1 else 0) _ _ b c
     (ap (λ v. if v then 1 else 0) e)
-
-pub leads-free : (o k : ℕ) (ys : List ℕ) → Leads o (free k) ys
-leads-free o zero ys = tt
-leads-free o (suc k) ys = (tt, tt)
 
 -- neither a block that holds none nor Free bytes above it have slots
 pub no-slots-two : (b : Block) (k : ℕ) → is_masters b ≡ false → (s : ℕ) → IsSlot s (b ∷ free k) → ⊥
@@ -107,11 +103,8 @@ module _ (xs : List ℕ) (first count : ℕ) (i : IsSound xs first count) (below
   was = subst (λ z. Lays xs z (slot_in xs) i.unused) whole i.lays
 
   of-old : Each (λ s. IsSlot s all) (names_of b)
-  of-old =
-      let e = each-right (λ s. IsSlot s all) _ _
-      (subst (Each (λ s. IsSlot s all)) (names-append below (old ++ above)) was.has_slots.slots) in
-      subst (Each (λ s. IsSlot s all)) (sym n) (each-left (λ s. IsSlot s all) _ _
-      (subst (Each (λ s. IsSlot s all)) (names-append old above) e))
+  of-old = subst (Each (λ s. IsSlot s all)) (sym n) (each-names (λ s. IsSlot s all) old above
+      (each-names (λ s. IsSlot s all) below (old ++ above) was.has_slots.slots).1).0
 
   leads-new : LeadsTo place b new
   leads-new =

@@ -8,7 +8,7 @@ use Rattle.zone_bytes.specs.Layout.{kind, head_of, Tile, Tiles, IsSlot, names, E
 use Rattle.zone_bytes.specs.Stepping.{left_in, IsOnWay}
 use Rattle.zone_bytes.specs.Table.{Lays}
 use Rattle.zone_bytes.proofs.Tiles.Tiling.{span-append, length-tiles, slot-inside, tiles-split}
-use Rattle.zone_bytes.proofs.Tiles.Leading.{each-map, each-right, names-append}
+use Rattle.zone_bytes.proofs.Tiles.Leading.{each-names, each-map}
 use Rattle.zone_bytes.proofs.Tiles.Keeping.{placed-right}
 use Rattle.zone_bytes.proofs.Tiles.Heads.{first-reads, kind-small}
 use Rattle.zone_bytes.proofs.Tiles.Tiling.{span-whole}
@@ -48,8 +48,7 @@ module _ (xs : List ℕ) (below above : List Block) (slots : ℕ
             whole = omega (arith, span-whole, low);
           };
           placed = subst (λ j. ArePlaced j above) o (placed-right 0 below above h.placed);
-          words = words above (each-right (λ s. IsSlot s all) _ _
-              (subst (Each (λ s. IsSlot s all)) (names-append below above) h.has_slots.slots));
+          words = words above (each-names (λ s. IsSlot s all) below above h.has_slots.slots).1;
           small = h.small;
         },
         refl,

@@ -25,7 +25,8 @@ use Rattle.zone_bytes.proofs.Tiles.Keeping.{chain-kept, names-free, span-free, e
 use Rattle.zone_bytes.proofs.Tiles.Splices.{piece-outside}
 use Rattle.zone_bytes.proofs.Tiles.Replaced.{zone, is-splice}
 use Rattle.zone_bytes.proofs.SlotTable.Tables.{each-both, lies-agree}
-use Rattle.zone_bytes.proofs.Blocks.InPlace.{no-slots, leads-free}
+use Rattle.zone_bytes.proofs.Blocks.InPlace.{no-slots}
+use Rattle.zone_bytes.proofs.Tiles.Keeping.{leads-free}
 use Rattle.zone_bytes.proofs.Blocks.Carves.{outside, even, lies-put}
 use Rattle.zone_bytes.proofs.Placed.Stretched.{tiles-two}
 use Rattle.zone_bytes.proofs.Placed.Threads.{has-slot, once-from, thread-chain}

@@ -28,7 +28,7 @@ use Rattle.zone_bytes.proofs.SlotTable.Slotted.{flag, slot-is, name-apart, slot-
 use Rattle.zone_bytes.proofs.SlotTable.Tables.{apart-clear}
 use Rattle.zone_bytes.proofs.Blocks.Carves.{clear, outside}
 use Rattle.zone_bytes.proofs.Placed.Standing.{resource_in}
-use Rattle.zone_bytes.proofs.Blocks.InPlace.{leads-free}
+use Rattle.zone_bytes.proofs.Tiles.Keeping.{leads-free}
 
 -- one name more
 each-put : (P : ℕ → Type 0) (s : ℕ) (xs ys : List ℕ) → P s → Each P (xs ++ ys) → Each P (xs ++ s ∷ ys)

@@ -1,6 +1,6 @@
 -- A stretch of a zone in which one block is laid, and the rest is Free.
 use Rattle.std.proofs.Common.{◌≡◌, ℕ, Bool, false, ◌+◌, ◌-◌, ◌%◌, ◌<◌, ◌≤◌, ◌⊎◌, inl, inr, List, ◌∷◌, ◌++◌}
-use Rattle.std.proofs.Common.{length, take, drop, sym, refl, ap, ◌∙◌, subst, arith}
+use Rattle.std.proofs.Common.{length, take, drop, sym, ap, ◌∙◌, subst, arith}
 use Rattle.std.proofs.lemmas.List.{length-drop, length-take-le, take-take, drop-drop, drop-take}
 use Rattle.windows.specs.Writes.{piece}
 use Rattle.heap_words.specs.Words.{word}
@@ -13,10 +13,9 @@ use Rattle.zone_bytes.specs.Decode.{zone_in}
 use Rattle.zone_bytes.specs.Table.{Lays, slot_in}
 use Rattle.zone_bytes.specs.Lawful.{IsSound}
 use Rattle.zone_bytes.specs.Laying.{laid, MayLay}
-use Rattle.zone_bytes.proofs.Tiles.Tiling.{tile-take, tiles-one}
+use Rattle.zone_bytes.proofs.Tiles.Tiling.{tile-take}
 use Rattle.zone_bytes.proofs.Tiles.Keeping.{span-free}
-use Rattle.block_store.proofs.Zone.Spots.{free-some}
-use Rattle.zone_bytes.proofs.Tiles.Heads.{free-tile}
+use Rattle.zone_bytes.proofs.Tiles.Heads.{free-tiles}
 use Rattle.zone_bytes.proofs.Blocks.InPlace.{put-lays}
 use Rattle.zone_bytes.proofs.Placed.Standing.{resource_in}
 use Rattle.zone_bytes.proofs.Placed.Laid.{laid-outside, laid-left, laid-tile}
@@ -32,19 +31,11 @@ tiles-two resource b k at len new e fits even t w =
     let cut : drop (size b) (piece at len new) ≡ piece (at + size b) k new =
     ap (λ j. drop (size b) (take j (drop at new))) e ∙ drop-take (size b) k (drop at new)
     ∙ ap (take k) (drop-drop (size b) at new) in
-    let l : length (piece (at + size b) k new) ≡ k = length-take-le k (drop (at + size b) new) (omega (
-      arith,
-      (length-drop (at + size b) new),
-      fits,
-      e,
-    )) in
-    let above : Tiles head (piece (at + size b) k new) (free k) = elim w [
-      | inl z ↦ subst (λ j. Tiles head (piece (at + size b) j new) (free j)) (sym z) refl
-      | inr z ↦
-          let some : 16 ≤ k = omega (arith, z.0, even) in
-          subst (λ j. Tiles head (piece (at + size b) k new) j) (sym (free-some k z.0)) (tiles-one head _ _ l
-          (free-tile resource k _ l even some (take-take 4 k (drop (at + size b) new) (omega (arith, some)) ∙ z.1)))
-    ] in (
+    let l = length-take-le k (drop (at + size b) new) (omega (arith, length-drop (at + size b) new, fits, e)) in
+    let above = free-tiles resource k (piece (at + size b) k new) l even (elim w [
+      | inl z ↦ inl z
+      | inr z ↦ inr (z.0, take-take 4 k (drop (at + size b) new) (omega (arith, z.0, even)) ∙ z.1)
+    ]) in (
       tile-take head (head b) (size b) len (drop at new) (omega (arith, e)) (omega (arith, d, fits)) t,
       subst (λ j. Tiles head j (free k)) (sym cut) above,
     )

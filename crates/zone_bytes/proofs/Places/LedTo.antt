@@ -20,7 +20,7 @@ use Rattle.zone_bytes.specs.Stepping.{left_in, IsOnWay}
 use Rattle.zone_bytes.specs.Table.{slot_in}
 use Rattle.zone_bytes.specs.Lawful.{IsSound}
 use Rattle.zone_bytes.specs.Adopting.{LeadsHere}
-use Rattle.zone_bytes.proofs.Tiles.Leading.{each-right, leads-right, names-append}
+use Rattle.zone_bytes.proofs.Tiles.Leading.{each-names, leads-right}
 use Rattle.zone_bytes.proofs.SlotTable.Tables.{slot-in}
 use Rattle.zone_bytes.proofs.Places.AtPlace.{way-at, left-at, inside}
 
@@ -50,9 +50,9 @@ module _ (xs : List ℕ) (first count : ℕ) (i : IsSound xs first count) (numbe
   led-at = spot_at-spot (is_relocatable number) (zone_in xs) s (apart-tidied (zone_in xs) i.tidied) e
 
   is-slot : IsSlot number (zone_in xs)
-  is-slot = (each-right (λ s. IsSlot s (zone_in xs)) _ (names (block ∷ s.above))
-      (subst (Each (λ s. IsSlot s (zone_in xs))) (ap names whole ∙ names-append s.below (block ∷ s.above))
-      i.lays.has_slots.slots)).0
+  is-slot =
+      let P : ℕ → Type 0 = λ s. IsSlot s (zone_in xs) in
+      (each-names P s.below (block ∷ s.above) (subst (λ z. Each P (names z)) whole i.lays.has_slots.slots)).1.0
 
   pub led-slot : (number % 4 ≡ 0) × (number + 4 ≤ length xs)
   led-slot = slot-in xs (zone_in xs) (slot_in xs) i.unused i.lays number is-slot

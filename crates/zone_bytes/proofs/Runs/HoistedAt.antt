@@ -15,13 +15,13 @@ use Rattle.block_store.proofs.Regroup.Ends.{first-run, run_at-ended}
 use Rattle.block_store.proofs.Regroup.Packed.{high-total}
 use Rattle.block_store.proofs.Regroup.Regrouping.{apart-high, tidy-change}
 use Rattle.block_store.proofs.Regroup.RunLists.{run_at-is}
-use Rattle.zone_bytes.specs.Layout.{IsSlot, names, Each}
+use Rattle.zone_bytes.specs.Layout.{IsSlot}
 use Rattle.zone_bytes.specs.Hoisting.{Hoist, MayHoist, Hoisted}
 use Rattle.zone_bytes.specs.Decode.{zone_in}
 use Rattle.zone_bytes.specs.Table.{Lays, slot_in}
 use Rattle.zone_bytes.specs.Placing.{hoist_from, hoist_at}
 use Rattle.zone_bytes.proofs.Tiles.Tiling.{span-append}
-use Rattle.zone_bytes.proofs.Tiles.Leading.{each-right, names-append, leads-from}
+use Rattle.zone_bytes.proofs.Tiles.Leading.{each-names, leads-from}
 use Rattle.zone_bytes.proofs.Tiles.Keeping.{span-settle}
 use Rattle.zone_bytes.proofs.SlotTable.Tables.{slot-in}
 use Rattle.zone_bytes.proofs.Runs.Hoists.{hoisted-instead}
@@ -69,8 +69,7 @@ module _ {xs : List ℕ} {first unused place top stop : ℕ} {old : List Block}
   slot-here : IsSlot number (beneath ++ block ∷ (over ++ r.above))
   slot-here =
       let P : ℕ → Type 0 = λ s. IsSlot s (beneath ++ block ∷ (over ++ r.above)) in
-      (each-right P _ (number ∷ names (over ++ r.above))
-      (subst (Each P) (names-append beneath (block ∷ (over ++ r.above))) laid-was.has_slots.slots)).0
+      (each-names P beneath (block ∷ (over ++ r.above)) laid-was.has_slots.slots).1.0
 
   -- the slot's word may be read
   pub slot-inside : (number % 4 ≡ 0) × (number + 4 ≤ length xs)

@@ -17,7 +17,7 @@ use Rattle.zone_bytes.proofs.Tiles.Tiling.{span-append, span-whole, tiles-append
 use Rattle.zone_bytes.proofs.Tiles.Leading.{each-append, each-left, each-names, Clear, leads-append, leads-joined}
 use Rattle.zone_bytes.proofs.Tiles.Splices.{tiles-parts, outside-same, outside-written, leads-outside}
 use Rattle.zone_bytes.proofs.Tiles.Keeping.{Instead, instead, names-left, span-free, each-free}
-use Rattle.zone_bytes.proofs.Runs.Led.{leads-free}
+use Rattle.zone_bytes.proofs.Tiles.Keeping.{leads-free}
 use Rattle.zone_bytes.proofs.Runs.Packed.{run-bounds}
 use Rattle.zone_bytes.proofs.Runs.Moved.{is-moved, clears, others-moved}
 
@@ -107,7 +107,7 @@ module _ (z : Raise) (place top stop gap : ℕ) (h : MayRaise z place top stop g
           lies = record {
             tiles = m.tiles;
             leads = leads-joined mid z.below (raised_run z) z.above place stop r.bottom m.top m.low
-                (tt, leads-append mid _ z.movers (free z.rest) (rw h.same led) (leads-free mid _ z.rest)) m.high;
+                (tt, leads-append mid _ z.movers (free z.rest) (rw h.same led) (leads-free _ z.rest mid)) m.high;
           };
           others = others-moved (packed_run z) place stop r (raised_run z) raised-instead mid s new-tiles;
           kept = s.kept;

@@ -8,7 +8,7 @@ use Rattle.heap_words.specs.Words.{word}
 use Rattle.block_store.specs.Block.{Block, Free, Nonrelocatable, Masters, Relocatable, size, free, free_sum, sizes, is_mover}
 use Rattle.block_store.specs.Run.{movers, settle}
 use Rattle.block_store.specs.Slot.{Slot, NoSlot, Unused, Used, is_resource}
-use Rattle.zone_bytes.specs.Layout.{IsSlot, names, Apart, Each, ArePlaced}
+use Rattle.zone_bytes.specs.Layout.{IsSlot, names, Apart, Each, ArePlaced, Leads}
 use Rattle.zone_bytes.specs.Settling.{InRun, Lies, HasSlots, SameOthers, Relaid}
 use Rattle.zone_bytes.specs.Table.{IsUsed, Chain, Says, Lays, Has, empty_word}
 use Rattle.zone_bytes.proofs.Tiles.Tiling.{span-append, slot-swap}
@@ -109,6 +109,10 @@ names-left blocks n = names-append blocks (free n) ∙ ap (λ k. names blocks ++
 pub span-free : (n : ℕ) → sizes (free n) ≡ n
 span-free zero = refl
 span-free (suc n) = omega arith
+
+pub leads-free : (o n : ℕ) (xs : List ℕ) → Leads o (free n) xs
+leads-free o zero xs = tt
+leads-free o (suc n) xs = (tt, tt)
 
 pub span-movers : (run : List Block) → Each InRun run → sizes (movers run) + free_sum run ≡ sizes run
 span-movers [] h = refl

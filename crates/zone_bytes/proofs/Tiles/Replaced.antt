@@ -3,11 +3,11 @@ use Rattle.std.proofs.Common.{◌≡◌, ℕ, ◌+◌, ◌-◌, ◌<◌, List, �
 use Rattle.windows.specs.Writes.{piece}
 use Rattle.block_store.specs.Block.{Block, sizes}
 use Rattle.block_store.specs.Slot.{Slot, is_resource}
-use Rattle.zone_bytes.specs.Layout.{head_of, Tiles, IsSlot, names, Leads, Each, ArePlaced}
+use Rattle.zone_bytes.specs.Layout.{head_of, Tiles, IsSlot, names, Leads, ArePlaced}
 use Rattle.zone_bytes.specs.Splicing.{Splice, SameOutside, IsSplice}
 use Rattle.zone_bytes.specs.Table.{Lays}
 use Rattle.zone_bytes.proofs.Tiles.Tiling.{slot-swap}
-use Rattle.zone_bytes.proofs.Tiles.Leading.{names-append, each-left, each-right}
+use Rattle.zone_bytes.proofs.Tiles.Leading.{each-names}
 use Rattle.zone_bytes.proofs.Tiles.Splices.{piece-outside}
 use Rattle.zone_bytes.proofs.Blocks.Carves.{outside, lies-put}
 use Rattle.zone_bytes.proofs.Tiles.Keeping.{lays-kept, placed-swap, names-swap}
@@ -24,19 +24,14 @@ module _ (xs : List ℕ) (below here above : List Block) (slots : ℕ → Slot) 
 
   pub is-splice : IsSplice zone bottom top xs
   is-splice =
-      let e = subst (Each (λ s. IsSlot s all)) (names-append below (here ++ above)) h.has_slots.slots in
-      let f = subst (Each (λ s. IsSlot s all)) (names-append here above)
-      (each-right (λ s. IsSlot s all) (names below) (names (here ++ above)) e) in
+      let e = each-names (λ s. IsSlot s all) below (here ++ above) h.has_slots.slots in
       record {
         lies = h.lies;
         low = low;
         high = high;
         some = some;
         small = h.small;
-        slots = (
-          each-left (λ s. IsSlot s all) (names below) (names (here ++ above)) e,
-          each-right (λ s. IsSlot s all) (names here) (names above) f,
-        );
+        slots = (e.0, (each-names (λ s. IsSlot s all) here above e.1).1);
         no_masters = none;
       }
 
