@@ -11,14 +11,14 @@ use Rattle.block_store.specs.Seen.{with_flags}
 use Rattle.block_store.proofs.Purged.Purges.{tidy-flags}
 use Rattle.zone_bytes.specs.Layout.{kind, flag_word, head_of}
 use Rattle.zone_bytes.specs.Decode.{zone_in}
-use Rattle.zone_bytes.specs.Table.{Lays, slot_in}
+use Rattle.zone_bytes.specs.Table.{slot_in}
 use Rattle.zone_bytes.specs.Lawful.{IsSound}
 use Rattle.zone_bytes.specs.Flagged.{flagged}
 use Rattle.zone_bytes.proofs.Tiles.Heads.{length-head, first-reads, kind-small}
 use Rattle.zone_bytes.proofs.Tiles.Decoding.{says, flag_word-small, high-flags, low-flag}
 use Rattle.zone_bytes.proofs.Places.Stepped.{word-at}
 use Rattle.zone_bytes.proofs.Blocks.InPlace.{masters-same, total-same, tile, inside-made}
-use Rattle.zone_bytes.proofs.Laws.Lawful.{Made, made}
+use Rattle.zone_bytes.proofs.Laws.Lawful.{Made, made-same}
 use Rattle.block_store.specs.Slot.{is_resource}
 
 -- the last word of a header is written
@@ -37,19 +37,13 @@ module _ (xs : List ℕ) (first count : ℕ) (i : IsSound xs first count) (place
       let t = tile xs first count i below here above whole place low in
       omega (arith, first-reads resource xs place i.lays.small here t, kind-small)
 
-  same-here : (below : List Block) (here : Block) (above : List Block) (whole : zone_in xs ≡ below ++ here ∷ above)
-      → Made xs first count (below ++ here ∷ above) (slot_in xs)
-  same-here below here above whole =
-      made _ _ (slot_in xs) _ (subst (λ z. Lays xs z (slot_in xs) i.unused) whole i.lays) _ _
-      (sym (ap tidy whole) ∙ i.tidied ∙ whole) i.begins i.counted
-
   other : (below : List Block) (here : Block) (above : List Block) (whole : zone_in xs ≡ below ++ here ∷ above)
       (low : sizes below ≡ place) → (kind here == 3) ≡ false
       → Made (flagged flags place xs) first count (below ++ here ∷ above) (slot_in xs)
   other below here above whole low k =
       subst (λ ys. Made ys first count (below ++ here ∷ above) (slot_in xs))
       (sym (ap (λ v. cond v (written (place + 12) (word (flag_word flags false + word_at (place + 12) xs % 64))
-      xs) xs) (ap (λ t. t == 3) (tag below here above whole low) ∙ k))) (same-here _ _ _ whole)
+      xs) xs) (ap (λ t. t == 3) (tag below here above whole low) ∙ k))) (made-same xs first count i _ whole)
 
   pub flagged-made : (below : List Block) (here : Block) (above : List Block)
       (whole : zone_in xs ≡ below ++ here ∷ above) (low : sizes below ≡ place)
