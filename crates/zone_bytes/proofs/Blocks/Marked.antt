@@ -1,9 +1,9 @@
 -- A block whose flags are set.
-use Rattle.std.proofs.Common.{◌≡◌, ℕ, Bool, false, cond, ◌==◌, ◌+◌, ◌%◌, List, ◌∷◌, ◌++◌, length}
-use Rattle.std.proofs.Common.{drop, sym, refl, ap, ◌∙◌, subst, arith}
+use Rattle.std.proofs.Common.{◌≡◌, ℕ, Bool, false, cond, ◌==◌, ◌+◌, ◌%◌, List, ◌∷◌, ◌++◌}
+use Rattle.std.proofs.Common.{sym, refl, ap, ◌∙◌, subst, arith}
 use Rattle.windows.specs.Writes.{written}
 use Rattle.heap_words.specs.Words.{word, word_at, header}
-use Rattle.heap_words.proofs.Words.{length-word, read_back}
+use Rattle.heap_words.proofs.Words.{length-word}
 use Rattle.block_store.specs.declared.flags.Flags.{Flags}
 use Rattle.block_store.specs.Block.{Block, Free, Nonrelocatable, Masters, Relocatable, size, sizes, tidy, count, is_masters}
 use Rattle.block_store.specs.Block.{free_of, free_sum}
@@ -11,14 +11,14 @@ use Rattle.block_store.specs.Seen.{with_flags}
 use Rattle.block_store.proofs.Purged.Purges.{tidy-flags}
 use Rattle.zone_bytes.specs.Layout.{kind, flag_word, head_of}
 use Rattle.zone_bytes.specs.Decode.{zone_in}
-use Rattle.zone_bytes.specs.Table.{Lays, slot_in}
+use Rattle.zone_bytes.specs.Table.{slot_in}
 use Rattle.zone_bytes.specs.Lawful.{IsSound}
 use Rattle.zone_bytes.specs.Flagged.{flagged}
 use Rattle.zone_bytes.proofs.Tiles.Heads.{length-head, first-reads, kind-small}
-use Rattle.zone_bytes.proofs.Tiles.Decoding.{says, flag_word-small, high-flags, low-flag}
-use Rattle.zone_bytes.proofs.Places.Stepped.{word-at}
+use Rattle.zone_bytes.proofs.Tiles.Decoding.{flag_word-small, high-flags, low-flag}
+use Rattle.zone_bytes.proofs.Places.Stepped.{header-told}
 use Rattle.zone_bytes.proofs.Blocks.InPlace.{masters-same, total-same, tile, inside-made}
-use Rattle.zone_bytes.proofs.Laws.Lawful.{Made, made}
+use Rattle.zone_bytes.proofs.Laws.Lawful.{Made, made-same}
 use Rattle.block_store.specs.Slot.{is_resource}
 
 -- the last word of a header is written
@@ -37,19 +37,13 @@ module _ (xs : List ℕ) (first count : ℕ) (i : IsSound xs first count) (place
       let t = tile xs first count i below here above whole place low in
       omega (arith, first-reads resource xs place i.lays.small here t, kind-small)
 
-  same-here : (below : List Block) (here : Block) (above : List Block) (whole : zone_in xs ≡ below ++ here ∷ above)
-      → Made xs first count (below ++ here ∷ above) (slot_in xs)
-  same-here below here above whole =
-      made _ _ (slot_in xs) _ (subst (λ z. Lays xs z (slot_in xs) i.unused) whole i.lays) _ _
-      (sym (ap tidy whole) ∙ i.tidied ∙ whole) i.begins i.counted
-
   other : (below : List Block) (here : Block) (above : List Block) (whole : zone_in xs ≡ below ++ here ∷ above)
       (low : sizes below ≡ place) → (kind here == 3) ≡ false
       → Made (flagged flags place xs) first count (below ++ here ∷ above) (slot_in xs)
   other below here above whole low k =
       subst (λ ys. Made ys first count (below ++ here ∷ above) (slot_in xs))
       (sym (ap (λ v. cond v (written (place + 12) (word (flag_word flags false + word_at (place + 12) xs % 64))
-      xs) xs) (ap (λ t. t == 3) (tag below here above whole low) ∙ k))) (same-here _ _ _ whole)
+      xs) xs) (ap (λ t. t == 3) (tag below here above whole low) ∙ k))) (made-same xs first count i _ whole)
 
   pub flagged-made : (below : List Block) (here : Block) (above : List Block)
       (whole : zone_in xs ≡ below ++ here ∷ above) (low : sizes below ≡ place)
@@ -62,9 +56,8 @@ module _ (xs : List ℕ) (first count : ℕ) (i : IsSound xs first count) (place
       let here : Block = Relocatable slot old content in
       let t = tile xs first count i below here above whole place low in
       let z = size here in
-      let q = says z (z + 3) (length content) slot (flag_word old (resource slot)) content (drop place xs) t in
       let g = flag_word-small old (resource slot) in
-      let e = read_back _ _ _ (omega (arith, g)) (word-at place 12 xs ∙ q.2) in
+      let e = (header-told _ _ slot (flag_word old (resource slot)) place content xs t).marked (omega (arith, g)) in
       let w : flag_word flags false + word_at (place + 12) xs % 64 ≡ flag_word flags (resource slot) =
       let h = high-flags old in ap (λ n. flag_word flags false + n % 64) e ∙ omega (arith, h, low-flag) in
       let new = written (place + 12) (word (flag_word flags (resource slot))) xs in

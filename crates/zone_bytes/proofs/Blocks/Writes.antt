@@ -12,10 +12,10 @@ use Rattle.block_store.specs.Block.{content_of, with_content, free_of, free_sum}
 use Rattle.block_store.proofs.Zone.Apart.{tidy-content}
 use Rattle.zone_bytes.specs.Layout.{head_of}
 use Rattle.zone_bytes.specs.Decode.{zone_in}
-use Rattle.zone_bytes.specs.Table.{Lays, slot_in}
+use Rattle.zone_bytes.specs.Table.{slot_in}
 use Rattle.zone_bytes.specs.Lawful.{IsSound}
 use Rattle.zone_bytes.proofs.Tiles.Heads.{length-head}
-use Rattle.zone_bytes.proofs.Laws.Lawful.{Made, made}
+use Rattle.zone_bytes.proofs.Laws.Lawful.{Made, made-same}
 use Rattle.zone_bytes.proofs.Blocks.InPlace.{masters-same, total-same, tile, fits, inside-made}
 use Rattle.block_store.proofs.Zone.Leading.{is_masters-content}
 
@@ -56,9 +56,7 @@ module _ (xs : List ℕ) (first count : ℕ) (i : IsSound xs first count) (place
       let f = fits xs first count i below here above whole place low in
       let m = (tile xs first count i below here above whole place low).some in
       let s = written-same (place + 16 + from) 0 x xs (omega (arith, f, m, w)) (nil x l) in
-      subst (λ ys. Made ys first count (below ++ here ∷ above) (slot_in xs)) (sym s) (made _ _ (slot_in xs) _
-      (subst (λ z. Lays xs z (slot_in xs) i.unused) whole i.lays) _ _
-      (sym (ap tidy whole) ∙ i.tidied ∙ whole) i.begins i.counted)
+      subst (λ ys. Made ys first count (below ++ here ∷ above) (slot_in xs)) (sym s) (made-same xs first count i _ whole)
 
   -- a write behind a header
   past : (h content : List ℕ) → length h ≡ 16 → written (16 + from) x (h ++ content) ≡ h ++ written from x content

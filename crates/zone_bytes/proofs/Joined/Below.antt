@@ -80,11 +80,7 @@ module _ (xs : List ℕ) (from place : ℕ) (u : LeadsUp from place xs) where
 
 some-block : (at : ℕ) (xs : List ℕ) (w : IsOnWay at xs) (b : Block) (blocks : List Block)
     → left_in at xs ≡ b ∷ blocks → 16 ≤ size b
-some-block at xs w b blocks e = next w.rest w.walk (sym (left-is _ _ w) ∙ e)
-  where
-    next : (rest : List Block) → Walk w.resource at xs rest → rest ≡ b ∷ blocks → 16 ≤ size b
-    next [] v q = absurd (let f : [] ≡ b ∷ blocks = q in cc)
-    next (c ∷ rest) v q = let f : c ≡ b = cc in subst (λ d. 16 ≤ size d) f v.high.0.some
+some-block at xs w b blocks e = (subst (Walk w.resource at xs) (sym (left-is at xs w) ∙ e) w.walk).high.0.some
 
 module _ (xs : List ℕ) (place at start : ℕ) (b : Below xs place at start) where
   pub below-done : place ≤ at → (below above : List Block) → left_in 0 xs ≡ below ++ above → sizes below ≡ place

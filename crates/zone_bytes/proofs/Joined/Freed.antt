@@ -4,7 +4,7 @@ use Rattle.std.proofs.Common.{◌++◌, length, drop, sym, refl, ap, ◌∙◌, 
 use Rattle.windows.specs.Writes.{written, piece}
 use Rattle.windows.proofs.Pieces.{length-written, piece-written}
 use Rattle.heap_words.specs.Words.{word, word_at}
-use Rattle.heap_words.proofs.Words.{length-word, read_back}
+use Rattle.heap_words.proofs.Words.{length-word}
 use Rattle.block_store.specs.declared.flags.Flags.{Flags}
 use Rattle.block_store.specs.Block.{Block, Free, Nonrelocatable, Masters, Relocatable, size, sizes, free}
 use Rattle.block_store.specs.Slot.{Slot, NoSlot, Unused, Used, is_resource}
@@ -22,9 +22,8 @@ use Rattle.zone_bytes.proofs.Tiles.Changing.{lays-removed}
 use Rattle.zone_bytes.proofs.Tiles.Replaced.{zone, is-splice}
 use Rattle.zone_bytes.proofs.Tiles.Splices.{piece-outside}
 use Rattle.zone_bytes.proofs.Tiles.Spelling.{resource-bit}
-use Rattle.zone_bytes.proofs.Tiles.Heads.{slot-reads}
-use Rattle.zone_bytes.proofs.Tiles.Decoding.{says, flag_word-small}
-use Rattle.zone_bytes.proofs.Places.Stepped.{word-at}
+use Rattle.zone_bytes.proofs.Tiles.Decoding.{flag_word-small}
+use Rattle.zone_bytes.proofs.Places.Stepped.{header-told}
 use Rattle.zone_bytes.proofs.SlotTable.Tables.{apart-clear}
 use Rattle.zone_bytes.proofs.Tiles.Heads.{length-masters}
 use Rattle.zone_bytes.proofs.Tiles.Keeping.{run-no_slot}
@@ -110,13 +109,13 @@ module _ (f : Freeing) (start at : ℕ) (xs : List ℕ) (m : MayFree f start at 
       let t = subst (λ c. Tile (head_of resource c) (size c) (drop at xs)) e
       (tile-at _ _ _ _ f.slots f.unused here-laid at here-low) in
       let y = size b in
-      let q = says y (y + 3) (length content) slot (flag_word flags (resource slot)) content (drop at xs) t in
+      let q = header-told _ _ slot (flag_word flags (resource slot)) at content xs t in
       let g = flag_word-small flags (resource slot) in
       let i = each-right (λ s. IsSlot s all) _ (slot ∷ names f.above)
       (subst (Each (λ s. IsSlot s all)) (named-here slot (ap names_of e)) laid.has_slots.slots) in
       let l = length-tiles (head_of resource) xs all laid.lies.tiles in
-      let v = slot-reads resource xs at m.lays.small slot flags content (omega (arith, slot-inside, l, m.lays.small)) t in
-      let w = read_back (at + 12) (flag_word flags (resource slot)) xs (omega (arith, g)) (word-at at 12 xs ∙ q.2) in
+      let v = q.named (omega (arith, slot-inside, l, m.lays.small)) in
+      let w = q.marked (omega (arith, g)) in
       record {
         named = ap names_of e ∙ ap (λ s. s ∷ []) (sym v);
         flag = ap (λ n. nat_le 32 (n % 64)) w ∙ resource-bit flags (resource slot) ∙ ap resource (sym v);

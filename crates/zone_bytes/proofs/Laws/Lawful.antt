@@ -103,6 +103,12 @@ module _ (xs : List ℕ) (blocks : List Block) (slots : ℕ → Slot) (unused : 
         slots = slots-of xs blocks slots unused h;
       }
 
+-- where nothing was changed
+pub made-same : (xs : List ℕ) (first count : ℕ) (i : IsSound xs first count) (blocks : List Block)
+    → zone_in xs ≡ blocks → Made xs first count blocks (slot_in xs)
+made-same xs first count i blocks e = made xs blocks (slot_in xs) i.unused
+    (subst (λ z. Lays xs z (slot_in xs) i.unused) e i.lays) first count (sym (ap tidy e) ∙ i.tidied ∙ e) i.begins i.counted
+
 -- what a RawZone has beside its blocks, after a call
 pub rest-made : (old new : Bytes) (table : ℕ → Slot) (unused moves : ℕ) → ((s : ℕ) → slot_in new.bytes s ≡ table s)
     → count is_masters (zone_in new.bytes) ≡ count is_masters (zone_in old.bytes)

@@ -1,26 +1,21 @@
 -- Whether a Free block begins at a place.
-use Rattle.std.proofs.Common.{◌≡◌, ℕ, ◌+◌, ◌%◌, ◌<◌, ◌≤◌, List, [], ◌∷◌, length, refl, sym, ap, ◌∙◌, arith}
+use Rattle.std.proofs.Common.{◌≡◌, ℕ, ◌+◌, ◌%◌, ◌<◌, ◌≤◌, List, length, sym, ap, ◌∙◌, arith}
 use Rattle.heap_words.specs.declared.header.Tag.{Tag}
 use Rattle.heap_words.specs.Headers.{tag_number}
 use Rattle.heap_words.specs.Words.{word_at}
-use Rattle.block_store.specs.Block.{Block, free_of}
+use Rattle.block_store.specs.Block.{free_of}
 use Rattle.zone_bytes.specs.Stepping.{left_in, IsOnWay}
-use Rattle.zone_bytes.specs.Walking.{Walk}
 use Rattle.zone_bytes.specs.Laying.{free_first}
 use Rattle.zone_bytes.proofs.Tiles.Tags.{tag-small}
-use Rattle.zone_bytes.proofs.Places.Stepped.{left-is}
 use Rattle.zone_bytes.proofs.Places.HeaderTells.{size-at}
 use Rattle.zone_bytes.proofs.Places.Stepped.{stepped}
+use Rattle.zone_bytes.proofs.Places.Stepped.{left-none}
 use Rattle.zone_bytes.proofs.Joined.Above.{free-is, free-other}
 
 module _ (at : ℕ) (xs : List ℕ) (w : IsOnWay at xs) where
   -- at the end of the bytes there is none
   pub none-behind : length xs ≤ at → 0 ≡ free_first (left_in at xs)
-  none-behind l = go w.rest w.walk ∙ sym (ap free_first (left-is _ _ w))
-    where
-      go : (rest : List Block) → Walk w.resource at xs rest → 0 ≡ free_first rest
-      go [] v = refl
-      go (b ∷ rest) v = absurd (omega (arith, l))
+  none-behind l = sym (ap free_first (left-none at xs w l))
 
   module _ (l : at < length xs) (n : ℕ) (t : Tag) (e : n + tag_number t ≡ word_at at xs) (h : n % 16 ≡ 0) where
     pub first-free : tag_number t ≡ 0 → n ≡ free_first (left_in at xs)

@@ -3,14 +3,13 @@ use Rattle.std.proofs.Common.{◌≡◌, ℕ, Bool, true, false, ◌==◌, ◌+�
 use Rattle.std.proofs.Common.{Some}
 use Rattle.std.proofs.Common.{List, [], ◌∷◌, ◌++◌, length, drop, refl, sym, ap, ◌∙◌, subst, arith}
 use Rattle.std.proofs.lemmas.Bool.{false≢true}
-use Rattle.std.proofs.lemmas.List.{length-drop, append-nil}
+use Rattle.std.proofs.lemmas.List.{append-nil}
 use Rattle.std.specs.Option.{IfSome, IsSome, IsSomeAnd}
 use Rattle.mac_words.specs.Size.{padded}
 use Rattle.windows.specs.Writes.{piece}
 use Rattle.heap_words.specs.Words.{word, word_at, header}
 use Rattle.heap_words.specs.Headers.{header_bytes, tag_number}
 use Rattle.heap_words.specs.declared.header.Header.{Header}
-use Rattle.heap_words.proofs.Words.{read_back}
 use Rattle.block_store.specs.Block.{Block, Free, Nonrelocatable, Masters, Relocatable, size, sizes, free, free_of, free_sum}
 use Rattle.block_store.specs.Block.{is_masters}
 use Rattle.block_store.specs.Block.{content_of, resized, resized_content, tidy}
@@ -32,13 +31,13 @@ use Rattle.zone_bytes.specs.Table.{Lays, slot_in}
 use Rattle.zone_bytes.specs.Lawful.{IsSound}
 use Rattle.zone_bytes.specs.Laying.{laid, MayLay, free_first, past_free}
 use Rattle.zone_bytes.proofs.Tiles.Tags.{tag-small}
-use Rattle.zone_bytes.proofs.Tiles.Decoding.{says, flag_word-small}
-use Rattle.zone_bytes.proofs.Tiles.Heads.{length-head}
+use Rattle.zone_bytes.proofs.Tiles.Decoding.{flag_word-small}
 use Rattle.zone_bytes.proofs.Tiles.Keeping.{names-free, span-free}
 use Rattle.zone_bytes.proofs.Tiles.Spelling.{zone-of}
-use Rattle.zone_bytes.proofs.Places.Stepped.{word-at, left-is}
+use Rattle.zone_bytes.proofs.Places.Stepped.{left-is}
 use Rattle.zone_bytes.proofs.Places.HeaderTells.{size-at, same-here}
 use Rattle.zone_bytes.proofs.Places.Stepped.{stepped}
+use Rattle.zone_bytes.proofs.Places.Stepped.{header-told}
 use Rattle.zone_bytes.proofs.Places.Options.{the-spot, a-spot, if-spot}
 use Rattle.zone_bytes.proofs.Blocks.InPlace.{leads-each, no-slots-two}
 use Rattle.zone_bytes.proofs.Blocks.Writes.{content-room}
@@ -105,25 +104,18 @@ module _ (resource : ℕ → Bool) (n at : ℕ) (xs : List ℕ) (small : length 
   unfolding head_of
   sized-head (Free m) t w k = absurd (false≢true k)
   sized-head (Nonrelocatable id content) t w k =
-      let z = size (Nonrelocatable id content) in
-      let q = says z (z + 1) (length content) 0 0 content (drop at xs) t in
-      let d = length-drop at xs in
-      let c = read_back (at + 4) (length content) xs (omega (arith, length-head, d, small)) (word-at at 4 xs ∙ q.0) in
-      let v = read_back (at + 8) 0 xs (omega arith) (word-at at 8 xs ∙ q.1) in
-      let e = read_back (at + 12) 0 xs (omega arith) (word-at at 12 xs ∙ q.2) in
+      let q = header-told _ _ 0 0 at content xs t in
       let y = length-resized n content in
-      (c, (λ j. header (padded (sym y j) + 1) (sym y j) (v j) (e j) ++ (resized_content n content)))
+      let v = q.named (omega arith) in
+      let e = q.marked (omega arith) in
+      (q.long small, (λ j. header (padded (sym y j) + 1) (sym y j) (v j) (e j) ++ (resized_content n content)))
   sized-head Masters t w k = absurd (false≢true k)
   sized-head (Relocatable slot flags content) t w k =
-      let z = size (Relocatable slot flags content) in
-      let q = says z (z + 3) (length content) slot (flag_word flags (resource slot)) content (drop at xs) t in
-      let d = length-drop at xs in
+      let q = header-told _ _ slot (flag_word flags (resource slot)) at content xs t in
       let g = flag_word-small flags (resource slot) in
-      let c = read_back (at + 4) (length content) xs (omega (arith, length-head, d, small)) (word-at at 4 xs ∙ q.0) in
-      let v = read_back (at + 8) slot xs w.0 (word-at at 8 xs ∙ q.1) in
-      let e = read_back (at + 12) (flag_word flags (resource slot)) xs (omega (arith, g)) (word-at at 12 xs ∙ q.2) in
       let y = length-resized n content in
-      (c, (λ j. header (padded (sym y j) + 3) (sym y j) (v j) (e j) ++ (resized_content n content)))
+      let e = q.marked (omega (arith, g)) in
+      (q.long small, (λ j. header (padded (sym y j) + 3) (sym y j) (q.named w.0 j) (e j) ++ (resized_content n content)))
 
 -- the header that was read at a place
 pub record Read (header : Header) (place : ℕ) (xs : List ℕ) : Type 0 where

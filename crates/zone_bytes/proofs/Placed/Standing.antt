@@ -1,8 +1,7 @@
 -- What is known of the block at a place.
-use Rattle.std.proofs.Common.{◌≡◌, ℕ, ◌+◌, ◌<◌, ◌≤◌, ◌^◌, Bool, Some, List, [], ◌∷◌, ◌++◌, length, take, drop, refl, append_assoc}
+use Rattle.std.proofs.Common.{◌≡◌, ℕ, ◌+◌, ◌<◌, ◌≤◌, ◌^◌, Bool, Some, List, [], ◌∷◌, ◌++◌, length, drop, refl, append_assoc}
 use Rattle.std.proofs.Common.{sym, ap, ◌∙◌}
 use Rattle.std.proofs.Common.{subst, arith}
-use Rattle.std.proofs.lemmas.List.{drop-drop}
 use Rattle.windows.specs.Writes.{piece}
 use Rattle.block_store.specs.Block.{Block, Free, Nonrelocatable, Masters, Relocatable, size, sizes, content_of, tidy}
 use Rattle.block_store.specs.Room.{Spot, spot_at}
@@ -18,9 +17,9 @@ use Rattle.zone_bytes.specs.Stepping.{left_in, IsOnWay}
 use Rattle.zone_bytes.proofs.Tiles.Tiling.{span-append}
 use Rattle.zone_bytes.proofs.Tiles.Leading.{leads-right, each-map, each-left, each-right, names-append}
 use Rattle.zone_bytes.proofs.Tiles.Keeping.{placed-right}
-use Rattle.zone_bytes.proofs.Tiles.Decoding.{says}
 use Rattle.zone_bytes.proofs.Places.AtPlace.{whole, low, way-at, left-at, inside, some-here, way-above, left-above}
 use Rattle.zone_bytes.proofs.Blocks.InPlace.{tile}
+use Rattle.zone_bytes.proofs.Places.Stepped.{header-told}
 
 -- the resource flags that bytes tell
 abbrev pub resource_in : List ℕ → ℕ → Bool
@@ -82,10 +81,6 @@ pub held-piece : (resource : ℕ → Bool) (b : Block) (at : ℕ) (xs : List ℕ
     → Tile (head_of resource b) (size b) (drop at xs) → piece (at + 16) (length (content_of b)) xs ≡ content_of b
 unfolding head_of
 held-piece resource (Free n) at xs t = refl
-held-piece resource (Nonrelocatable id content) at xs t =
-    let z = size (Nonrelocatable id content) in
-    ap (take (length content)) (sym (drop-drop 16 at xs)) ∙ (says z _ _ 0 0 _ _ t).3
+held-piece resource (Nonrelocatable id content) at xs t = (header-told _ _ 0 0 at content xs t).holds
 held-piece resource Masters at xs t = refl
-held-piece resource (Relocatable slot flags content) at xs t =
-    let z = size (Relocatable slot flags content) in
-    ap (take (length content)) (sym (drop-drop 16 at xs)) ∙ (says z _ _ _ _ _ _ t).3
+held-piece resource (Relocatable slot flags content) at xs t = (header-told _ _ slot _ at content xs t).holds

@@ -1,17 +1,14 @@
 -- What a block holds, in its bytes.
-use Rattle.std.proofs.Common.{◌≡◌, ℕ, Bool, true, false, ◌==◌, ◌+◌, ◌%◌, ◌<◌, ◌≤◌, List, [], ◌∷◌, length, take, drop}
+use Rattle.std.proofs.Common.{◌≡◌, ℕ, Bool, true, false, ◌==◌, ◌+◌, ◌%◌, ◌<◌, ◌≤◌, List, [], ◌∷◌, length, drop}
 use Rattle.std.proofs.Common.{sym, refl, ap, ◌∙◌, arith}
 use Rattle.std.proofs.lemmas.Bool.{false≢true}
-use Rattle.std.proofs.lemmas.List.{length-drop, drop-drop}
 use Rattle.windows.specs.Writes.{piece}
 use Rattle.heap_words.specs.Words.{word_at}
-use Rattle.heap_words.proofs.Words.{read_back}
 use Rattle.block_store.specs.Block.{Block, Free, Nonrelocatable, Masters, Relocatable, size, content_of}
 use Rattle.zone_bytes.specs.Layout.{kind, flag_word, head_of, Tile}
 use Rattle.zone_bytes.specs.Stepping.{left_in, IsOnWay}
-use Rattle.zone_bytes.proofs.Tiles.Heads.{length-head}
-use Rattle.zone_bytes.proofs.Tiles.Decoding.{says}
-use Rattle.zone_bytes.proofs.Places.Stepped.{Stepped, stepped, word-at}
+use Rattle.zone_bytes.proofs.Places.Stepped.{Stepped, stepped}
+use Rattle.zone_bytes.proofs.Places.Stepped.{header-told}
 
 -- the content of a block at a place, whose kind has one
 pub record Contained (at : ℕ) (xs : List ℕ) (b : Block) : Type 0 where
@@ -24,24 +21,14 @@ module _ (resource : ℕ → Bool) (at : ℕ) (xs : List ℕ) (small : length xs
   unfolding head_of
   contained (Free n) t k = absurd (false≢true k)
   contained (Nonrelocatable id content) t k =
-      let z = size (Nonrelocatable id content) in
-      let q = says z (z + 1) (length content) 0 0 content (drop at xs) t in
-      let d = length-drop at xs in
-      let w = read_back (at + 4) (length content) xs (omega (arith, length-head, d, small)) (word-at at 4 xs ∙ q.0) in
-      record {
-        fits = omega (arith, w, length-head, d);
-        is = ap (λ n. piece (at + 16) n xs) w ∙ ap (take (length content)) (sym (drop-drop 16 at xs)) ∙ q.3;
-      }
+      let q = header-told _ _ 0 0 at content xs t in
+      let w = q.long small in
+      record { fits = omega (arith, w, q.fits); is = ap (λ n. piece (at + 16) n xs) w ∙ q.holds }
   contained Masters t k = absurd (false≢true k)
   contained (Relocatable slot flags content) t k =
-      let z = size (Relocatable slot flags content) in
-      let q = says z (z + 3) (length content) slot (flag_word flags (resource slot)) content (drop at xs) t in
-      let d = length-drop at xs in
-      let w = read_back (at + 4) (length content) xs (omega (arith, length-head, d, small)) (word-at at 4 xs ∙ q.0) in
-      record {
-        fits = omega (arith, w, length-head, d);
-        is = ap (λ n. piece (at + 16) n xs) w ∙ ap (take (length content)) (sym (drop-drop 16 at xs)) ∙ q.3;
-      }
+      let q = header-told _ _ slot (flag_word flags (resource slot)) at content xs t in
+      let w = q.long small in
+      record { fits = omega (arith, w, q.fits); is = ap (λ n. piece (at + 16) n xs) w ∙ q.holds }
 
 pub empty : (b : Block) → (kind b % 2 == 1) ≡ false → content_of b ≡ []
 empty (Free n) k = refl

@@ -1,9 +1,9 @@
 -- One step of a walk over the blocks that bytes spell.
-use Rattle.std.proofs.Common.{◌≡◌, ℕ, Bool, ◌+◌, ◌%◌, ◌<◌, ◌≤◌, ◌^◌, Some, None, List, [], ◌∷◌, length, take, drop}
+use Rattle.std.proofs.Common.{◌≡◌, ℕ, Bool, ◌+◌, ◌%◌, ◌<◌, ◌≤◌, ◌^◌, Some, None, List, [], ◌∷◌, length, take, drop, ◌++◌}
 use Rattle.std.proofs.Common.{sym, refl, ap, ◌∙◌, subst, arith}
 use Rattle.std.proofs.lemmas.List.{length-drop, drop-drop}
 use Rattle.windows.specs.Writes.{piece}
-use Rattle.heap_words.specs.Words.{word_at}
+use Rattle.heap_words.specs.Words.{word_at, header}
 use Rattle.heap_words.proofs.Words.{read_back}
 use Rattle.block_store.specs.declared.sparing.Seen.{Seen}
 use Rattle.block_store.specs.declared.sparing.Seen.TheVariants as see
@@ -23,27 +23,41 @@ use Rattle.zone_bytes.proofs.Tiles.Decoding.{says, flag_word-small, flags_of-wor
 pub word-at : (at k : ℕ) (xs : List ℕ) → piece (at + k) 4 xs ≡ piece k 4 (drop at xs)
 word-at at k xs = sym (ap (take 4) (drop-drop k at xs))
 
+-- what a header and its content say, where they stand
+pub record Told (n c d at : ℕ) (content xs : List ℕ) : Type 0 where
+  pub long : length xs ≤ 134217728 → word_at (at + 4) xs ≡ length content
+  pub named : c < 2 ^ 32 → word_at (at + 8) xs ≡ c
+  pub marked : d < 2 ^ 32 → word_at (at + 12) xs ≡ d
+  pub holds : piece (at + 16) (length content) xs ≡ content
+  pub fits : at + 16 + length content ≤ length xs
+
+pub header-told : (n a c d at : ℕ) (content xs : List ℕ) → Tile (header a (length content) c d ++ content) n (drop at xs)
+    → Told n c d at content xs
+header-told n a c d at content xs t =
+    let q = says n a (length content) c d content (drop at xs) t in
+    let f : at + 16 + length content ≤ length xs =
+    omega (arith, length-head a (length content) c d content, length-drop at xs, t.fits, t.room) in
+    record {
+      long = λ small. read_back (at + 4) (length content) xs (omega (arith, small, f)) (word-at at 4 xs ∙ q.0);
+      named = λ small. read_back (at + 8) c xs small (word-at at 8 xs ∙ q.1);
+      marked = λ small. read_back (at + 12) d xs small (word-at at 12 xs ∙ q.2);
+      holds = ap (take (length content)) (sym (drop-drop 16 at xs)) ∙ q.3;
+      fits = f;
+    }
+
 module _ (resource : ℕ → Bool) (at : ℕ) (xs : List ℕ) (small : length xs ≤ 134217728) where
   -- what a header tells is its block without its bytes
   pub told-is : (b : Block) → Tile (head_of resource b) (size b) (drop at xs) → Each (λ s. s < 2 ^ 32) (names_of b)
       → header_seen (kind b) (size b) (word_at (at + 4) xs) (word_at (at + 8) xs) (word_at (at + 12) xs) ≡ seen b
   unfolding head_of
   told-is (Free n) t w = refl
-  told-is (Nonrelocatable id content) t w =
-      let z = size (Nonrelocatable id content) in
-      let q = says z (z + 1) (length content) 0 0 content (drop at xs) t in
-      let d = length-drop at xs in
-      ap see.Nonrelocatable (read_back _ _ _ (omega (arith, length-head, d, small)) (word-at at 4 xs ∙ q.0))
+  told-is (Nonrelocatable id content) t w = ap see.Nonrelocatable ((header-told _ _ 0 0 at content xs t).long small)
   told-is Masters t w = refl
   told-is (Relocatable slot flags content) t w =
-      let z = size (Relocatable slot flags content) in
-      let q = says z (z + 3) (length content) slot (flag_word flags (resource slot)) content (drop at xs) t in
-      let d = length-drop at xs in
+      let q = header-told _ _ slot (flag_word flags (resource slot)) at content xs t in
       let g = flag_word-small flags (resource slot) in
-      let c = read_back (at + 4) (length content) xs (omega (arith, length-head, d, small)) (word-at at 4 xs ∙ q.0) in
-      let v = read_back (at + 8) slot xs w.0 (word-at at 8 xs ∙ q.1) in
-      let e = read_back (at + 12) (flag_word flags (resource slot)) xs (omega (arith, g)) (word-at at 12 xs ∙ q.2) in
-      (λ i. see.Relocatable (v i) (flags_of (e i)) (c i))
+      let e = q.marked (omega (arith, g)) in
+      (λ i. see.Relocatable (q.named w.0 i) (flags_of (e i)) (q.long small i))
       ∙ (λ i. see.Relocatable slot (flags_of-word flags (resource slot) i) (length content))
 
 -- a step over the block whose header is of n bytes and a kind of number t

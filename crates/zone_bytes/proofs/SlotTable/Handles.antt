@@ -17,10 +17,11 @@ use Rattle.block_store.specs.Slot.{Slot, NoSlot, Unused, Used, is_used, is_resou
 use Rattle.zone_bytes.specs.Layout.{flag_word, head_of, Tile, Tiles, names, Leads, Apart, Each}
 use Rattle.zone_bytes.specs.Looking.{place_of_word}
 use Rattle.zone_bytes.specs.Table.{Has, empty_word, Says, Lays}
-use Rattle.zone_bytes.proofs.Places.Stepped.{word-at}
+use Rattle.zone_bytes.proofs.Tiles.Tiling.{span-whole}
+use Rattle.zone_bytes.proofs.Places.Stepped.{header-told}
 use Rattle.zone_bytes.proofs.Tiles.Tiling.{span-whole}
 use Rattle.zone_bytes.proofs.SlotTable.Tables.{slot-in, none-apart}
-use Rattle.zone_bytes.proofs.Tiles.Decoding.{says, flag_word-small}
+use Rattle.zone_bytes.proofs.Tiles.Decoding.{flag_word-small}
 use Rattle.zone_bytes.proofs.Tiles.Spelling.{resource-bit, small-emptied}
 use Rattle.zone_bytes.proofs.Tiles.Tiling.{tiles-split}
 use Rattle.block_store.specs.Run.{has}
@@ -123,7 +124,6 @@ module _ (xs : List ℕ) (blocks : List Block) (slots : ℕ → Slot) (unused : 
       let z = size here in
       let place = sizes b.below in
       let t = tiles-split (head_of resource) _ _ _ (subst (Tiles (head_of resource) xs) b.whole h.lies.tiles) in
-      let q = says z (z + 3) (length b.content) s (flag_word b.flags (resource s)) b.content (drop place xs) t.1.0 in
       let g = flag_word-small b.flags (resource s) in
       record {
         block = b;
@@ -131,7 +131,7 @@ module _ (xs : List ℕ) (blocks : List Block) (slots : ℕ → Slot) (unused : 
         even = (span-whole (head_of resource) (take place xs) b.below t.0);
         tile = t.1.0;
         fits = omega (arith, length-drop place xs);
-        flags_are = read_back _ _ _ (omega (arith, g)) (word-at place 12 xs ∙ q.2);
+        flags_are = (header-told _ _ s (flag_word b.flags (resource s)) place b.content xs t.1.0).marked (omega (arith, g));
       }
 
   module _ (s : ℕ) (used : IsTrue (is_used (slots s))) where
