@@ -10,7 +10,7 @@ use Rattle.block_store.specs.Block.{Block, Free, sizes}
 use Rattle.zone_bytes.specs.Layout.{head_of, names, IsSlot, Each, Tiles, Leads}
 use Rattle.zone_bytes.specs.Settling.{Lies}
 use Rattle.zone_bytes.specs.Splicing.{SameOutside, Splice, IsSplice}
-use Rattle.zone_bytes.proofs.Tiles.Tiling.{span-append, length-tiles, slot-inside, slot-split}
+use Rattle.zone_bytes.proofs.Tiles.Tiling.{span-append, length-tiles, slot-beside}
 use Rattle.zone_bytes.proofs.Tiles.Tiling.{tiles-one, tiles-split}
 use Rattle.zone_bytes.proofs.Tiles.Leading.{Clear, each-map}
 use Rattle.zone_bytes.proofs.Tiles.Tiling.{span-whole}
@@ -34,12 +34,9 @@ module _ (zone : Splice) (bottom top : ℕ) (xs : List ℕ) (h : IsSplice zone b
 
   -- a slot is below the stretch or above it
   pub outside : (s : ℕ) → IsSlot s all → Clear bottom (top - bottom) s
-  outside s i = elim (slot-split s _ _ i) [
-    | inl j ↦ inl (omega (arith, slot-inside s zone.below j))
-    | inr j ↦ elim (slot-split (s - sizes zone.below) zone.here zone.above j.1) [
-      | inl k ↦ absurd (h.no_masters (s - sizes zone.below) k)
-      | inr k ↦ inr (omega (arith, j.0, k.0))
-    ]
+  outside s i = elim (slot-beside s _ _ _ _ _ (h.no_masters _) h.low h.high i) [
+    | inl j ↦ inl j.0
+    | inr j ↦ inr (omega arith)
   ]
 
   pub clear : Each (Clear bottom (top - bottom)) (names zone.below) × Each (Clear bottom (top - bottom))

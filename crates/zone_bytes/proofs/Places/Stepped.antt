@@ -15,8 +15,8 @@ use Rattle.zone_bytes.specs.Decode.{flags_of}
 use Rattle.zone_bytes.specs.Walking.{Walk}
 use Rattle.zone_bytes.specs.Stepping.{header_seen, left_in, IsOnWay}
 use Rattle.zone_bytes.proofs.Tiles.Leading.{each-left, each-right}
-use Rattle.zone_bytes.proofs.Tiles.Heads.{Next, next-there, header-tells}
-use Rattle.zone_bytes.proofs.Tiles.Heads.{MayRead, next-may, length-head}
+use Rattle.zone_bytes.proofs.Tiles.Heads.{next-may, Next, next-there, header-tells}
+use Rattle.zone_bytes.proofs.Tiles.Heads.{MayRead, length-head}
 use Rattle.zone_bytes.proofs.Tiles.Decoding.{says, flag_word-small, flags_of-word, blocks-back}
 
 -- a word of a tile, by its place in all the bytes
@@ -89,7 +89,7 @@ module _ (at : ℕ) (xs : List ℕ) (w : IsOnWay at xs) where
 
 -- a header may be read where a block begins
 pub may-read : (at : ℕ) (xs : List ℕ) → IsOnWay at xs → at < length xs → MayRead at xs
-may-read at xs w l = next-may xs at w.small (next-header at xs w l)
+may-read at xs w l = next-may (next-header at xs w l)
 
 pub stepped-on : (resource : ℕ → Bool) (at : ℕ) (xs : List ℕ) (small : length xs ≤ 134217728) (rest : List Block)
     → Walk resource at xs rest → ArePlaced at rest → Each (λ s. s < 2 ^ 32) (names rest)

@@ -1,6 +1,6 @@
 -- Edges that were noted while a run was packed or raised.
 use Rattle.std.proofs.Common.{◌≡◌, ℕ, ◌+◌, ◌-◌, ◌<◌, inl, inr, Bool, true, false, Some, cond, List, [], ◌∷◌, ◌++◌}
-use Rattle.std.proofs.Common.{append_assoc, refl, sym, ap, ◌∙◌, subst, arith}
+use Rattle.std.proofs.Common.{append_assoc, refl, ap, ◌∙◌, subst, arith}
 use Rattle.block_store.specs.Block.{Block, Free, free, free_sum, is_mover}
 use Rattle.block_store.specs.Run.{RunSpot, run_at, movers, settle}
 use Rattle.block_store.specs.Slot.{Slot}
@@ -47,9 +47,7 @@ module _ {zone : List Block} {r : RunSpot} {new : List ℕ} {first unused : ℕ}
           below = r.below ++ Free gap ∷ [];
           movers = movers r.run;
           above = left ++ r.above;
-          is = d.is ∙ ap (λ l. r.below ++ (l ++ r.above)) (lifted-some gap r.run some s)
-              ∙ ap (λ l. r.below ++ Free gap ∷ l) (append_assoc (movers r.run) left r.above)
-              ∙ sym (append_assoc r.below (Free gap ∷ []) (movers r.run ++ (left ++ r.above)));
+          is = d.is ∙ rw (lifted-some gap r.run some s) (simp append_assoc);
           low = omega (arith, run_at-bottom place zone r e, span-append);
           solid = movers-solid r.run;
           edges_are = a;

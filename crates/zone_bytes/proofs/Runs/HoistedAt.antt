@@ -59,9 +59,7 @@ module _ {xs : List ℕ} {first unused place top stop : ℕ} {old : List Block}
 
   packed-parts : zone_in xs ≡ beneath ++ block ∷ (over ++ r.above)
   packed-parts =
-      packed-zone k ∙ ap (λ l. r.below ++ (l ++ r.above)) (settle-parts _ r.run cut loose-run)
-      ∙ ap (λ l. r.below ++ l) (append_assoc (movers cut.low) (block ∷ over) r.above)
-      ∙ sym (append_assoc r.below (movers cut.low) (block ∷ (over ++ r.above)))
+      packed-zone k ∙ rw (settle-parts _ r.run cut loose-run) (simp append_assoc)
 
   laid-was : Lays xs (beneath ++ block ∷ (over ++ r.above)) (slot_in xs) k.sound.unused
   laid-was = subst (λ l. Lays xs l (slot_in xs) k.sound.unused) packed-parts k.sound.lays
@@ -145,10 +143,7 @@ module _ {xs : List ℕ} {first unused place top stop : ℕ} {old : List Block}
         let b : count test (r.run ++ r.above) ≡ count test r.run + count test r.above =
         total-append ones r.run r.above in
         let shape : beneath ++ ((over ++ block ∷ []) ++ r.above) ≡ with_run (high test) r =
-        append_assoc r.below (movers cut.low) ((over ++ block ∷ []) ++ r.above)
-        ∙ ap (λ l. r.below ++ l) (sym (append_assoc (movers cut.low) (over ++ block ∷ []) r.above)
-        ∙ ap (λ l. l ++ r.above) (sym (high-parts number r.run cut (omega (arith, all, a, b, once)))))
-        ∙ sym (append_assoc r.below (high test r.run) r.above) in
+        rw (high-parts number r.run cut (omega (arith, all, a, b, once))) (simp append_assoc) in
         relaid-run (high test) place old r k.is (λ of adds l. high-total of adds number r.run l)
         (tidy-change place old r k.is k.tidied (high test r.run) (apart-high test (λ n. refl) r.run)) xs first unused k.sound
         (hoisted-instead raw here stop may-move) packed-parts shape new (subst (λ z. Hoisted z new) hoist-at d)

@@ -1,6 +1,6 @@
 -- The blocks of a run are passed one after another, and moved down or left in their places.
 use Rattle.std.proofs.Common.{◌≡◌, ℕ, ◌+◌, ◌-◌, ◌%◌, ◌≤◌, ◌⊎◌, inl, inr, List, [], ◌∷◌, ◌++◌}
-use Rattle.std.proofs.Common.{length, take, drop, sym, refl, ap, ◌∙◌, subst, arith, append_assoc}
+use Rattle.std.proofs.Common.{length, take, drop, sym, refl, ap, ◌∙◌, subst, arith, append_assoc, ◌<◌}
 use Rattle.std.proofs.lemmas.List.{append-nil, length-take-le, drop-drop}
 use Rattle.windows.specs.Writes.{written, piece}
 use Rattle.heap_words.specs.Words.{word}
@@ -13,7 +13,7 @@ use Rattle.zone_bytes.specs.Layout.{head_of, Tiles, IsSlot, names, Apart, Each, 
 use Rattle.zone_bytes.specs.Settling.{Lay, InRun, IsRunFrom, Passing}
 use Rattle.zone_bytes.specs.Splicing.{SameOutside}
 use Rattle.zone_bytes.specs.Pointing.{IsMoved}
-use Rattle.zone_bytes.proofs.Tiles.Heads.{length-masters}
+use Rattle.zone_bytes.proofs.Tiles.Heads.{Next, next-there, length-masters}
 use Rattle.zone_bytes.proofs.Tiles.Tiling.{span-append, slot-inside, slot-append_left, slot-append_right, slot-beside, span-whole}
 use Rattle.zone_bytes.proofs.Tiles.Tiling.{length-tiles, tile-take, tiles-append, tiles-one, tiles-slot-beside}
 use Rattle.zone_bytes.proofs.Tiles.Leading.{Clear, each-left, each-right, each-names, pairs-before, pairs-after, apart-turned}
@@ -64,7 +64,7 @@ module _ (lay : Lay) (place stop : ℕ) (r : IsMoved lay place stop) where
   -- a slot is below the run or above it
   pub slot-spot : (s : ℕ) → IsSlot s all
       → ((s + 4 ≤ place) × IsSlot s lay.below) ⊎ ((stop ≤ s) × IsSlot (s - stop) lay.above)
-  slot-spot s = slot-beside s _ _ _ _ _ (λ k. run-no_slot k lay.run r.in_run) r.bottom r.top
+  slot-spot s = slot-beside s _ _ _ _ _ (run-no_slot _ lay.run r.in_run) r.bottom r.top
 
   -- so it is clear of a write inside the run
   pub slot-clear : (at n : ℕ) → place ≤ at → at + n ≤ stop → (s : ℕ) → IsSlot s all → Clear at n s
@@ -113,6 +113,12 @@ module _ (lay : Lay) (place stop : ℕ) (r : IsMoved lay place stop) where
           gone_in = each-left InRun gone rest in-run;
           rest_in = each-right InRun gone rest in-run;
         }
+
+    -- a block's header may be read
+    pub passing-next : {rest : List Block} → Passing lay gap from to xs gone moved rest → from < length xs → Next xs from
+    passing-next {rest} q l =
+        let b = bounds q in
+        next-there lay.resource xs from b.small (rest ++ lay.above) q.high b.evens.1 l
 
     -- a Free block is left out
     pub step-free : {rest : List Block} (n : ℕ) → Passing lay gap from to xs gone moved (Free n ∷ rest)

@@ -10,10 +10,10 @@ use Rattle.zone_bytes.specs.Layout.{head_of, Leads}
 use Rattle.zone_bytes.specs.Settling.{Lay, Passing}
 use Rattle.zone_bytes.specs.Pointing.{IsMoved, Pointing, Pointed}
 use Rattle.zone_bytes.proofs.Tiles.Tiling.{slot-even, tiles-append, tiles-none}
-use Rattle.zone_bytes.proofs.Tiles.Heads.{Next, next-there, slot-reads}
+use Rattle.zone_bytes.proofs.Tiles.Heads.{Next, slot-reads}
 use Rattle.zone_bytes.proofs.Tiles.Leading.{each-names, leads-joined, leads-same}
 use Rattle.zone_bytes.proofs.Runs.Ends.{next-is-free, next-is-mover}
-use Rattle.zone_bytes.proofs.Runs.Packed.{bounds, start, step-stay, step-move, is-slot, slot-fits, kept-high}
+use Rattle.zone_bytes.proofs.Runs.Packed.{passing-next, bounds, start, step-stay, step-move, is-slot, slot-fits, kept-high}
 
 pub record NextSlot (lay : Lay) (stop from : ℕ) (xs : List ℕ) (n slot : ℕ) : Type 0 where
   pub inside : from + n ≤ stop
@@ -51,9 +51,7 @@ module _ (lay : Lay) (place stop : ℕ) (r : IsMoved lay place stop) where
       some e = omega (arith, (bounds lay place stop r p.state).rest_end, ap sizes e, l)
 
       pub point-next : Next xs from
-      point-next =
-          let b = bounds lay place stop r p.state in
-          next-there lay.resource xs from b.small (p.rest ++ lay.above) p.state.high b.evens.1 (omega (arith, l))
+      point-next = passing-next lay place stop r p.state (omega (arith, l, pointing-bounds))
 
       module _ (n t : ℕ) (e : n + t ≡ word_at from xs) (w : n % 16 ≡ 0) where
         pub point-free : t < 3 → Pointing lay stop (from + n) xs

@@ -11,7 +11,7 @@ use Rattle.zone_bytes.specs.Layout.{head_of, Leads, Each}
 use Rattle.zone_bytes.specs.Settling.{lowered_in_run_from, Lay, InRun, IsRunFrom, Passing, Packing}
 use Rattle.zone_bytes.specs.Pointing.{IsMoved}
 use Rattle.zone_bytes.proofs.Tiles.Tiling.{slot-even}
-use Rattle.zone_bytes.proofs.Tiles.Heads.{Next, next-there, slot-reads}
+use Rattle.zone_bytes.proofs.Tiles.Heads.{slot-reads}
 use Rattle.zone_bytes.proofs.Tiles.Leading.{leads-from, leads-same}
 use Rattle.zone_bytes.proofs.Tiles.Keeping.{movers-more}
 use Rattle.zone_bytes.proofs.Runs.Ends.{next-is-free, next-is-mover}
@@ -66,12 +66,6 @@ free-left gone n = filter-append is_mover gone (Free n ∷ []) ∙ append-nil (m
 
 module _ (lay : Lay) (place stop : ℕ) (r : IsMoved lay place stop) {gap from to moves : ℕ} {xs : List ℕ}
     {gone : List Block} (p : Packing lay gap from to moves xs gone) where
-  -- a block's header may be read
-  pub packing-next : from < length xs → Next xs from
-  packing-next l =
-      let b = bounds lay place stop r p.state in
-      next-there lay.resource xs from b.small (p.rest ++ lay.above) p.state.high b.evens.1 l
-
   -- no more blocks come lower than there are bytes
   pub moves-bound : moves ≤ 134217728
   moves-bound =

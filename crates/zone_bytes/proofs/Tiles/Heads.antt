@@ -91,14 +91,7 @@ free-tiles resource n ys l w (inr e) =
     subst (Tiles (head_of resource) ys) (sym (free-some n e.0))
     (tiles-one (head_of resource) (Free n) ys l (free-tile resource n ys l w (omega (arith, w, e.0)) e.1))
 
--- where there is a next block
-pub record Next (xs : List ℕ) (from : ℕ) : Type 0 where
-  pub even : from % 4 ≡ 0
-  pub fits : from + 16 ≤ length xs
-  pub tag : word_at from xs % 16 < 4
-  pub big : 16 ≤ word_at from xs
-
--- what reading it requires
+-- what reading a header requires
 abbrev pub MayRead : ℕ → List ℕ → Type 0
 MayRead from xs = record {
   within : (from % 4 ≡ 0) × (from + 16 ≤ length xs);
@@ -106,8 +99,16 @@ MayRead from xs = record {
   tag : word_at from xs % 16 < 4;
 }
 
-pub next-may : (xs : List ℕ) (from : ℕ) → length xs ≤ 134217728 → Next xs from → MayRead from xs
-next-may xs from small n = record { within = (n.even, n.fits); fits = omega (arith, small); tag = n.tag }
+-- where there is a next block
+pub record Next (xs : List ℕ) (from : ℕ) : Type 0 where
+  pub even : from % 4 ≡ 0
+  pub fits : from + 16 ≤ length xs
+  pub below : from + 16 < 2 ^ 32
+  pub tag : word_at from xs % 16 < 4
+  pub big : 16 ≤ word_at from xs
+
+pub next-may : {xs : List ℕ} {from : ℕ} → Next xs from → MayRead from xs
+next-may n = record { within = (n.even, n.fits); fits = n.below; tag = n.tag }
 
 module _ (resource : ℕ → Bool) (xs : List ℕ) (from : ℕ) (small : length xs ≤ 134217728) where
   pub first-reads : (b : Block) → Tile (head_of resource b) (size b) (drop from xs) → word_at from xs ≡ size b + kind b
@@ -126,11 +127,13 @@ module _ (resource : ℕ → Bool) (xs : List ℕ) (from : ℕ) (small : length 
   pub header-there : (b : Block) → Tile (head_of resource b) (size b) (drop from xs) → from % 16 ≡ 0 → Next xs from
   header-there b t w =
       let r = first-reads b t in
+      let d = length-drop from xs in
       record {
         even = omega (arith, w);
-        fits = omega (arith, length-drop from xs);
-        tag = omega (arith, r, kind-small);
-        big = omega (arith, r);
+        fits = omega arith;
+        below = omega arith;
+        tag = omega (arith, kind-small);
+        big = omega arith;
       }
 
   -- and tells its bytes and its kind

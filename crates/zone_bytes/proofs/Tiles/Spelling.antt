@@ -1,17 +1,17 @@
 -- Bytes spell one table of slots.
-use Rattle.std.proofs.Common.{◌≡◌, ℕ, Bool, true, false, cond, eqb, nat_le, ◌&&◌, ◌||◌, ◌==◌, ◌+◌, ◌-◌, ◌*◌, ◌%◌, ◌<◌}
-use Rattle.std.proofs.Common.{◌≤◌, ◌^◌, ◌⊎◌, inl, inr, List, [], ◌∷◌, length, take, drop, sym, refl, ap, ◌∙◌, subst}
+use Rattle.std.proofs.Common.{◌≡◌, ℕ, Bool, true, false, cond, eqb, nat_le, ◌&&◌, ◌==◌, ◌+◌, ◌-◌, ◌*◌, ◌%◌, ◌<◌}
+use Rattle.std.proofs.Common.{◌≤◌, ◌^◌, inl, inr, List, [], ◌∷◌, length, take, drop, sym, refl, ap, ◌∙◌, subst}
 use Rattle.std.proofs.Common.{arith}
 use Rattle.std.proofs.lemmas.List.{length-drop, drop-drop}
-use Rattle.std.proofs.lemmas.Bool.{false≢true, ne_eqb}
+use Rattle.std.proofs.lemmas.Bool.{false≢true, ne_eqb, or_left, or_right, or_cases, and_from, and_parts}
 use Rattle.std.proofs.lemmas.Bool.Decides.{nat_tests, eqb_tells}
 use Rattle.windows.specs.Writes.{piece}
 use Rattle.heap_words.specs.Words.{word, word_at}
 use Rattle.heap_words.proofs.Words.{read_back}
 use Rattle.block_store.specs.declared.flags.Flags.{Flags}
-use Rattle.block_store.specs.Block.{Block, Free, Nonrelocatable, Masters, Relocatable, size}
+use Rattle.block_store.specs.Block.{Block, Free, Nonrelocatable, Masters, Relocatable, size, is_masters}
 use Rattle.block_store.specs.Slot.{Slot, NoSlot, Unused, Used, is_resource}
-use Rattle.zone_bytes.specs.Layout.{flag_word, head_of, Tiles, IsSlot, names, Leads, Each}
+use Rattle.zone_bytes.specs.Layout.{flag_word, head_of, Tiles, IsSlot, IsSlotOf, names, Leads, Each}
 use Rattle.zone_bytes.specs.Decode.{zone_in}
 use Rattle.zone_bytes.specs.Table.{Has, empty_word, Chain, Says, Lays, is_slot, slot_of_word, slot_in}
 use Rattle.zone_bytes.proofs.Tiles.Tiling.{length-tiles, slot-inside}
@@ -21,14 +21,6 @@ use Rattle.zone_bytes.proofs.Tiles.Decoding.{says, flag_word-small, zone-back, h
 pub test-true : (s : ℕ) → 16 ≤ s → s + 4 ≤ 272 → s % 4 ≡ 0
     → (nat_le 16 s && (nat_le (s + 4) 272 && (s % 4 == 0))) ≡ true
 test-true s a b c = grind (arith, nat_tests)
-
-or-true : (v w : Bool) → v ≡ true → (v || w) ≡ true
-or-true true w e = refl
-or-true false w e = absurd (false≢true e)
-
-or-right : (v w : Bool) → w ≡ true → (v || w) ≡ true
-or-right true w e = refl
-or-right false w e = e
 
 le-true : (m n : ℕ) → m ≤ n → nat_le m n ≡ true
 le-true m n h = grind (arith, nat_tests)
@@ -41,49 +33,31 @@ is_slot-true s [] i = absurd i
 is_slot-true s (Free n ∷ blocks) (inl i) = absurd i
 is_slot-true s (Nonrelocatable id content ∷ blocks) (inl i) = absurd i
 is_slot-true s (Relocatable slot flags content ∷ blocks) (inl i) = absurd i
-is_slot-true s (Masters ∷ blocks) (inl i) = or-true _ _ (test-true s i.0 i.1 i.2)
+is_slot-true s (Masters ∷ blocks) (inl i) = or_left _ _ (test-true s i.0 i.1 i.2)
 is_slot-true s (b ∷ blocks) (inr i) =
-    or-right _ _ (and-true (nat_le (size b) s) (is_slot (s - size b) blocks) (le-true (size b) s i.0)
-    (is_slot-true (s - size b) blocks i.1))
-  where
-    and-true : (v w : Bool) → v ≡ true → w ≡ true → (v && w) ≡ true
-    and-true true w e f = f
-    and-true false w e f = e
+    or_right _ _ (and_from _ _ (le-true (size b) s i.0) (is_slot-true (s - size b) blocks i.1))
 
 pub test-back : (s : ℕ) → (nat_le 16 s && (nat_le (s + 4) 272 && (s % 4 == 0))) ≡ true
     → (16 ≤ s) × (s + 4 ≤ 272) × (s % 4 ≡ 0)
 test-back s h = (grind (arith, nat_tests), grind (arith, nat_tests), grind (arith, nat_tests))
-
-and-split : (v w : Bool) → (v && w) ≡ true → (v ≡ true) × (w ≡ true)
-and-split true w e = (refl, e)
-and-split false w e = absurd (false≢true e)
-
-or-split : (v w : Bool) → (v || w) ≡ true → (v ≡ true) ⊎ (w ≡ true)
-or-split true w e = inl refl
-or-split false w e = inr e
 
 pub le-back : (m n : ℕ) → nat_le m n ≡ true → m ≤ n
 le-back m n h = grind (arith, nat_tests)
 
 pub is_slot-back : (s : ℕ) (blocks : List Block) → is_slot s blocks ≡ true → IsSlot s blocks
 is_slot-back s [] e = absurd (false≢true e)
-is_slot-back s (Free n ∷ blocks) e = let p = and-split _ _ e in
-    inr (le-back n s p.0, is_slot-back _ blocks p.1)
-is_slot-back s (Nonrelocatable id content ∷ blocks) e =
-    let p = and-split (nat_le (size (Nonrelocatable id content)) s) (is_slot (s - size (Nonrelocatable id content)) blocks) e in
-    inr (le-back (size (Nonrelocatable id content)) s p.0, is_slot-back (s - size (Nonrelocatable id content)) blocks p.1)
-is_slot-back s (Relocatable slot flags content ∷ blocks) e =
-    let p = and-split _ _ e in
-    inr (
-      le-back (size (Relocatable slot flags content)) s p.0,
-      is_slot-back (s - size (Relocatable slot flags content)) blocks p.1,
-    )
-is_slot-back s (Masters ∷ blocks) e =
-    elim (or-split (nat_le 16 s && (nat_le (s + 4) 272 && (s % 4 == 0))) (nat_le 272 s && is_slot (s - 272) blocks) e) [
-      | inl p ↦ inl (test-back s p)
-      | inr p ↦ let q = and-split (nat_le 272 s) (is_slot (s - 272) blocks) p in
-          inr (le-back 272 s q.0, is_slot-back (s - 272) blocks q.1)
-    ]
+is_slot-back s (b ∷ blocks) e = elim (or_cases _ (nat_le (size b) s && is_slot (s - size b) blocks) e) [
+  | inl p ↦ inl (own b p)
+  | inr p ↦
+      let q = and_parts (nat_le (size b) s) (is_slot (s - size b) blocks) p in
+      inr (le-back (size b) s q.0, is_slot-back (s - size b) blocks q.1)
+]
+  where
+    own : (b : Block) → (is_masters b && (nat_le 16 s && (nat_le (s + 4) 272 && (s % 4 == 0)))) ≡ true → IsSlotOf b s
+    own (Free n) p = absurd (false≢true p)
+    own (Nonrelocatable id content) p = absurd (false≢true p)
+    own Masters p = test-back s p
+    own (Relocatable slot flags content) p = absurd (false≢true p)
 
 pub resource-bit : (flags : Flags) (r : Bool) → nat_le 32 (flag_word flags r % 64) ≡ r
 resource-bit flags true = let h = high-flags flags in le-true 32 (flag_word flags true % 64) (omega (arith, h))

@@ -1,5 +1,5 @@
 -- Blocks that lie one after another.
-use Rattle.std.proofs.Common.{◌≡◌, ℕ, ◌+◌, ◌-◌, ◌%◌, ◌≤◌, ◌⊎◌, inl, inr, List, [], ◌∷◌, ◌++◌, length, take, drop, sym, refl, ap}
+use Rattle.std.proofs.Common.{◌≡◌, ℕ, ◌+◌, ◌-◌, ◌%◌, ◌≤◌, ◌⊎◌, inl, inr, List, [], ◌∷◌, ◌++◌, length, take, drop, refl, ap}
 use Rattle.std.proofs.Common.{◌∙◌, subst, arith, length-append}
 use Rattle.std.proofs.lemmas.List.{length-take-le, length-drop, take-append-le, drop-append-le, drop-drop, take-take}
 use Rattle.std.proofs.lemmas.List.{drop-take, drop_all}
@@ -43,17 +43,27 @@ slot-split s (b ∷ ls) ms (inr i) = elim (slot-split (s - size b) ls ms i.1) [
       inr (omega (arith, i.0, j.0), subst (λ k. IsSlot k ms) e j.1)
 ]
 
+-- a slot is below a stretch that has none, or above it
+pub slot-beside : (s : ℕ) (ls ms ns : List Block) (lo hi : ℕ) → (IsSlot (s - sizes ls) ms → ⊥) → sizes ls ≡ lo
+    → lo + sizes ms ≡ hi → IsSlot s (ls ++ (ms ++ ns)) → ((s + 4 ≤ lo) × IsSlot s ls) ⊎ ((hi ≤ s) × IsSlot (s - hi) ns)
+slot-beside s ls ms ns lo hi none a b i = elim (slot-split s ls (ms ++ ns) i) [
+  | inl j ↦ inl (omega (arith, slot-inside), j)
+  | inr j ↦ elim (slot-split (s - sizes ls) ms ns j.1) [
+    | inl k ↦ absurd (none k)
+    | inr k ↦
+        let e : s - sizes ls - sizes ms ≡ s - hi = omega arith in
+        inr (omega (arith, j.0, k.0), subst (λ q. IsSlot q ns) e k.1)
+  ]
+]
+
 -- other blocks in the place of some that have no slot
 pub slot-swap : (s : ℕ) (below was now above : List Block) → (IsSlot (s - sizes below) was → ⊥) → sizes now ≡ sizes was
     → IsSlot s (below ++ (was ++ above)) → IsSlot s (below ++ (now ++ above))
-slot-swap s below was now above none e i = elim (slot-split s _ _ i) [
-  | inl j ↦ slot-append_left s below (now ++ above) j
-  | inr j ↦ elim (slot-split (s - sizes below) was above j.1) [
-    | inl k ↦ absurd (none k)
-    | inr k ↦
-        let f : s - sizes below - sizes was ≡ s - sizes below - sizes now = ap (λ m. s - sizes below - m) (sym e) in
-        slot-append_right s _ _ j.0 (slot-append_right _ _ _ (omega (arith, e)) (subst (λ q. IsSlot q above) f k.1))
-  ]
+slot-swap s below was now above none e i = elim (slot-beside s below was above _ _ none refl refl i) [
+  | inl j ↦ slot-append_left s below (now ++ above) j.1
+  | inr j ↦
+      let f : s - (sizes below + sizes was) ≡ s - sizes below - sizes now = omega (arith, e) in
+      slot-append_right s _ _ (omega arith) (slot-append_right _ _ _ (omega (arith, e)) (subst (λ q. IsSlot q above) f j.1))
 ]
 
 module _ (head : Block → List ℕ) where
@@ -156,19 +166,6 @@ module _ (head : Block → List ℕ) where
         rw (take-written_below s w xs lo (omega (arith, i.0)) (omega arith)) t,
         rw (drop-written_below s w xs hi i.0 (omega arith)) (tiles-slot m _ w (s - hi) ns e i.1 u),
       )
-
--- a slot is below a stretch that has none, or above it
-pub slot-beside : (s : ℕ) (ls ms ns : List Block) (lo hi : ℕ) → ((k : ℕ) → IsSlot k ms → ⊥) → sizes ls ≡ lo
-    → lo + sizes ms ≡ hi → IsSlot s (ls ++ (ms ++ ns)) → ((s + 4 ≤ lo) × IsSlot s ls) ⊎ ((hi ≤ s) × IsSlot (s - hi) ns)
-slot-beside s ls ms ns lo hi none a b i = elim (slot-split s ls (ms ++ ns) i) [
-  | inl j ↦ inl (omega (arith, slot-inside), j)
-  | inr j ↦ elim (slot-split (s - sizes ls) ms ns j.1) [
-    | inl k ↦ absurd (none (s - sizes ls) k)
-    | inr k ↦
-        let e : s - sizes ls - sizes ms ≡ s - hi = omega arith in
-        inr (omega (arith, j.0, k.0), subst (λ q. IsSlot q ns) e k.1)
-  ]
-]
 
 -- blocks of no bytes are none
 pub tiles-none : (head : Block → List ℕ) (xs : List ℕ) (blocks above : List Block) → Tiles head xs (blocks ++ above)

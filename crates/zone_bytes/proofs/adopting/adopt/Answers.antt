@@ -3,7 +3,7 @@ use Rattle.heap_words.specs.Words.{word, word_at, header}
 use Rattle.windows.specs.Writes.{written}
 use Rattle.zone_bytes.specs.Layout.{flag_word}
 use Rattle.zone_bytes.proofs.Tiles.Tags.{tag-small}
-use Rattle.zone_bytes.proofs.Places.Stepped.{next-header, may-read}
+use Rattle.zone_bytes.proofs.Places.Stepped.{may-read}
 use Rattle.zone_bytes.proofs.Places.HeaderTells.{size-at}
 use Rattle.zone_bytes.proofs.Blocks.Adopted.{length-at}
 use Rattle.zone_bytes.proofs.adopting.adopt.Goals as goal
@@ -13,7 +13,7 @@ read_header-nonrelocatable-requires c = may-read _ _ c.requires.way c.requires.s
 
 pub write_header-requires-clause-within : goal.write_header-requires-clause-within
 write_header-requires-clause-within c =
-    let n = next-header c.args.place c.args.part.now.bytes c.requires.way c.requires.some in (n.even, n.fits)
+    (may-read c.args.place c.args.part.now.bytes c.requires.way c.requires.some).within
 
 pub returns-clause-bytes : goal.returns-clause-bytes
 returns-clause-bytes c id content above e =

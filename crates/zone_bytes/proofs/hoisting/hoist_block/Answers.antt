@@ -8,7 +8,7 @@ use Rattle.zone_bytes.proofs.hoisting.hoist_block.Goals.{After-rotate}
 use Rattle.zone_bytes.proofs.hoisting.hoist_block.Goals as goal
 
 pub read_header-size-requires : goal.read_header-size-requires
-read_header-size-requires g c = rw c.requires.0 (next-may _ _ c.requires.1.run.small (next g.hoist _ _ c.requires.1))
+read_header-size-requires g c = rw c.requires.0 (next-may (next g.hoist _ _ c.requires.1))
 
 pub rotate-requires-clause-turn : goal.rotate-requires-clause-turn
 rotate-requires-clause-turn g c =

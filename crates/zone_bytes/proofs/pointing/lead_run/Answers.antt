@@ -6,7 +6,7 @@ use Rattle.zone_bytes.specs.Pointing.{Pointing}
 use Rattle.zone_bytes.proofs.Runs.Pointers.{start-pointing, pointing-bounds, point-next, point-free}
 use Rattle.zone_bytes.proofs.Runs.Pointers.{NextSlot, point-slot, pointed}
 use Rattle.zone_bytes.proofs.Tiles.Tags.{tag-true, tag-false, tag-small}
-use Rattle.zone_bytes.proofs.Tiles.Heads.{Next, next-may}
+use Rattle.zone_bytes.proofs.Tiles.Heads.{next-may, Next}
 use Rattle.zone_bytes.proofs.pointing.lead_run.Given.{Over}
 use Rattle.zone_bytes.proofs.pointing.lead_run.Goals.{In-loop-from, After-eq}
 use Rattle.zone_bytes.proofs.pointing.lead_run.Goals as goal
@@ -20,8 +20,7 @@ there : (g : Over) (c : In-loop-from g) → Next c.loop-from.part.bytes c.loop-f
 there g c = point-next _ _ _ c.requires.1 c.loop-from.invariant.0 c.loop-from-test.true
 
 pub read_header-header-requires : goal.read_header-header-requires
-read_header-header-requires g c = next-may _ _ (pointing-bounds _ _ _ c.requires.1 c.loop-from.invariant.0).2
-    (there g (goal.at.read_header-header-requires g c).In-loop-from)
+read_header-header-requires g c = next-may (there g (goal.at.read_header-header-requires g c).In-loop-from)
 
 -- it is relocatable
 slot : (g : Over) (c : After-eq g) → true ≡ sameb the_type c.read_header-header.result.tag Relocatable

@@ -10,10 +10,10 @@ use Rattle.zone_bytes.specs.Edges.{AreEdges}
 use Rattle.zone_bytes.specs.Pointing.{IsMoved}
 use Rattle.zone_bytes.specs.Settling.{Packing, gone_to}
 use Rattle.zone_bytes.proofs.Runs.Ends.{within, beyond}
-use Rattle.zone_bytes.proofs.Runs.Packed.{Bounds, run-moved, bounds}
-use Rattle.zone_bytes.proofs.Runs.Settled.{NextMover, packing-next, next-free, next-mover, moves-bound, begun, free-left}
+use Rattle.zone_bytes.proofs.Runs.Packed.{Bounds, passing-next, run-moved, bounds}
+use Rattle.zone_bytes.proofs.Runs.Settled.{NextMover, next-free, next-mover, moves-bound, begun, free-left}
 use Rattle.zone_bytes.proofs.Runs.Until.{until-none, until-free, gone-is}
-use Rattle.zone_bytes.proofs.Tiles.Heads.{Next, next-may}
+use Rattle.zone_bytes.proofs.Tiles.Heads.{next-may, Next}
 use Rattle.zone_bytes.proofs.Tiles.Tiling.{span-append, tiles-none}
 use Rattle.zone_bytes.proofs.Tiles.Tags.{tag-true, tag-false, tag-small}
 use Rattle.zone_bytes.proofs.settling.pack_until.Given.{Over}
@@ -38,7 +38,7 @@ run g c = run-moved _ _ _ c.requires.1.0
 
 -- a block is next
 there : (g : Over) (c : In-loop-from g) → Next c.loop-from.part.bytes c.loop-from.from
-there g c = packing-next _ _ _ (run g c) c.loop-from.invariant.1 (omega arith)
+there g c = passing-next _ _ _ (run g c) c.loop-from.invariant.1.state (omega arith)
 
 ends : (g : Over) (c : In-loop-from g) → let p = c.loop-from.invariant.1 in
     Bounds g.lay c.args.place (c.args.place + sizes g.lay.run) c.loop-from.from c.loop-from.to c.loop-from.part.bytes
@@ -47,8 +47,7 @@ ends g c = bounds _ _ _ (run g c) c.loop-from.invariant.1.state
 
 pub read_header-header-requires : goal.read_header-header-requires
 read_header-header-requires g c =
-    let d = (goal.at.read_header-header-requires g c).In-loop-from in
-    next-may _ _ (ends g d).small (there g d)
+    next-may (there g (goal.at.read_header-header-requires g c).In-loop-from)
 
 -- it is one of the run
 some : (g : Over) (c : After-eq g) → c.loop-from.invariant.1.rest ≡ [] → ⊥
