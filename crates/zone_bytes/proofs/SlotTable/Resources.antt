@@ -18,7 +18,8 @@ use Rattle.zone_bytes.proofs.Blocks.Carves.{clear, outside}
 use Rattle.zone_bytes.proofs.Blocks.InPlace.{no-slots, tile-inside, tiles-piece}
 use Rattle.zone_bytes.proofs.Blocks.Marked.{flagged-header}
 use Rattle.zone_bytes.proofs.SlotTable.Handles.{BlockHere}
-use Rattle.zone_bytes.proofs.SlotTable.Tables.{tiles-agree, set-other, set-same, slot-in, apart-other, used-apart, lays-set}
+use Rattle.zone_bytes.proofs.SlotTable.Tables.{tiles-agree, set-other, set-same, slot-in, apart-other, used-apart}
+use Rattle.zone_bytes.proofs.SlotTable.Tables.{lays-set}
 use Rattle.zone_bytes.proofs.SlotTable.Tables.{chain-written, lays-written}
 use Rattle.zone_bytes.proofs.Tiles.Keeping.{chain-kept}
 use Rattle.zone_bytes.proofs.Tiles.Leading.{each-map, names-append, pairs-before, pairs-after}
@@ -55,7 +56,8 @@ module _ (xs : List ℕ) (blocks : List Block) (slots : ℕ → Slot) (unused : 
       let b = slot-in xs blocks slots unused h s is-slot in
       lays-written _ _ slots _ h s n _ _ is-slot a (λ t d e k. k)
       (is-slot, inr (a, piece-written s _ _ 4 (sym (length-word n)) (omega (arith, b))))
-      (chain-written _ _ slots _ h s n _ (omega (arith, b)) (used-apart xs blocks slots unused h s was is-slot u) h.chain) still-unused h.once
+      (chain-written _ _ slots _ h s n _ (omega (arith, b)) (used-apart xs blocks slots unused h s was is-slot u)
+      h.chain) still-unused h.once
 
   -- the flag in a header
   module _ (new : List ℕ) (lies : Lies (λ t. is_resource (now t)) blocks new) (mine : Has (names blocks) s)

@@ -129,13 +129,15 @@ module _ (xs : List ℕ) (blocks : List Block) (slots : ℕ → Slot) (unused : 
   )
 
   -- the same blocks, with another state of a slot
-  module _ (s : ℕ) (state : Slot) (new now : List ℕ) (lies : Lies (λ t. is_resource (set_slot slots s state t)) blocks new)
+  module _ (s : ℕ) (state : Slot) (new now : List ℕ) (lies : Lies (λ t. is_resource
+      (set_slot slots s state t)) blocks new)
       (used : Each (λ t. IsUsed (set_slot slots s state t)) (names blocks)) (l : length new ≡ length xs)
       (same : (t : ℕ) → (t ≡ s → ⊥) → IsSlot t blocks → piece t 4 new ≡ piece t 4 xs)
       (kept : (t : ℕ) → (t ≡ s → ⊥) → slots t ≡ Unused → Has unused t → Has now t) (mine : Says blocks new now s state)
       (chain : Chain new now) (ok : Each (λ u. IsSlot u blocks × (set_slot slots s state u ≡ Unused)) now)
       (once : Pairs Apart now) where
-    says-other : (t : ℕ) (st : Slot) → (t ≡ s → ⊥) → slots t ≡ st → Says blocks xs unused t st → Says blocks new now t st
+    says-other : (t : ℕ) (st : Slot) → (t ≡ s → ⊥) → slots t ≡ st → Says blocks xs unused t st
+        → Says blocks new now t st
     says-other t NoSlot d e q = q
     says-other t Unused d e q = (q.0, kept t d e q.1)
     says-other t (Used r) d e q = (q.0, elim q.1 [ inl k ↦ inl k | inr k ↦ inr (k.0, same t d q.0 ∙ k.1) ])
