@@ -87,7 +87,8 @@ module _ (xs : List ℕ) (first count : ℕ) (i : IsSound xs first count) (numbe
   new-tile =
       subst (λ r. Tile (header (n + 3) (length content) number (flag_word flags r) ++ content) n (drop place mid))
       (flag-kept xs first count i number used none) (tile-inside _ _ head 0 n place place xs (omega arith)
-      (omega (arith, length-head, long)) (header-over _ _ 0 0 _ _ _ _ content) (tile xs first count i below old above whole place low))
+      (omega (arith, length-head, long)) (header-over _ _ 0 0 _ _ _ _ content)
+      (tile xs first count i below old above whole place low))
 
   one : Tiles (head_of (resource_in xs)) (piece place (place + n - place) mid) (new ∷ [])
   one = tiles-piece (head_of (resource_in xs)) new place (place + n - place) mid (omega arith) new-tile

@@ -65,7 +65,8 @@ module _ (xs : List ℕ) (first count : ℕ) (i : IsSound xs first count) (place
       ap (λ v. cond v (written (place + 12) (word (flag_word flags false + word_at (place + 12) xs % 64)) xs) xs)
       (ap (λ t. t == 3) (tag below here above whole low)) ∙ ap (λ n. written (place + 12) (word n) xs) w in
       subst (λ ys. Made ys first count (below ++ Relocatable slot flags content ∷ above) (slot_in xs)) (sym is)
-      (inside-made xs first count i below here above whole place low refl 12 (place + 12) _ (Relocatable slot flags content)
+      (inside-made xs first count i below here above whole place low refl 12 (place + 12) _
+      (Relocatable slot flags content)
       refl (omega (arith, length-head, length-word)) (flagged-header _ _ _ _ _ content) refl refl refl (λ p. p)
       (tidy-flags flags below here above (sym (ap tidy whole) ∙ i.tidied ∙ whole)))
 

@@ -131,7 +131,8 @@ module _ (xs : List ℕ) (blocks : List Block) (slots : ℕ → Slot) (unused : 
         even = (span-whole (head_of resource) (take place xs) b.below t.0);
         tile = t.1.0;
         fits = omega (arith, length-drop place xs);
-        flags_are = (header-told _ _ s (flag_word b.flags (resource s)) place b.content xs t.1.0).marked (omega (arith, g));
+        flags_are = (header-told _ _ s (flag_word b.flags (resource s)) place b.content xs t.1.0).marked (omega
+            (arith, g));
       }
 
   module _ (s : ℕ) (used : IsTrue (is_used (slots s))) where
@@ -168,7 +169,8 @@ module _ (xs : List ℕ) (blocks : List Block) (slots : ℕ → Slot) (unused : 
     pub leads-is : place_of_word (word_at s xs) ≡ option_map (λ (q : Spot). sizes q.below)
         (spot (is_relocatable s) blocks)
     leads-is = elim state [
-      | inl e ↦ emptied-word e ∙ sym (ap (option_map (λ (q : Spot). sizes q.below)) (spot-none (is_relocatable s) blocks (none-apart s blocks e.apart)))
+      | inl e ↦ emptied-word e ∙ sym (ap (option_map (λ (q : Spot). sizes q.below)) (spot-none (is_relocatable s) blocks
+          (none-apart s blocks e.apart)))
       | inr b ↦ block-word b ∙ sym (ap (option_map (λ (q : Spot). sizes q.below)) b.found)
     ]
 

@@ -37,7 +37,8 @@ pub high-flags : (flags : Flags) → ((cond {A = ℕ} flags.locked 128 0 + cond 
     × (cond {A = ℕ} flags.locked 128 0 + cond {A = ℕ} flags.purgeable 64 0 ≤ 192)
 high-flags flags = high flags.locked flags.purgeable
   where
-    high : (l p : Bool) → ((cond {A = ℕ} l 128 0 + cond {A = ℕ} p 64 0) % 64 ≡ 0) × (cond {A = ℕ} l 128 0 + cond {A = ℕ} p 64 0 ≤ 192)
+    high : (l p : Bool) → ((cond {A = ℕ} l 128 0 + cond {A = ℕ} p 64 0) % 64 ≡ 0)
+        × (cond {A = ℕ} l 128 0 + cond {A = ℕ} p 64 0 ≤ 192)
     high true true = (refl, omega arith)
     high true false = (refl, omega arith)
     high false true = (refl, omega arith)
