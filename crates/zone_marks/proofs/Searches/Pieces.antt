@@ -1,5 +1,5 @@
 -- The blocks from one place of a zone up to another.
-use Rattle.std.proofs.Common.{◌≡◌, ℕ, ◌+◌, ◌≤◌, ◌<◌, ◌⊎◌, inl, inr, List, ◌∷◌, ◌++◌, length, take, drop, get_or}
+use Rattle.std.proofs.Common.{◌≡◌, ℕ, ◌+◌, ◌≤◌, ◌<◌, ◌⊎◌, inl, inr, List, [], ◌∷◌, ◌++◌, length, take, drop, get_or}
 use Rattle.std.proofs.Common.{append_assoc}
 use Rattle.std.proofs.Common.{refl, sym, ap, ◌∙◌, subst, arith}
 use Rattle.std.proofs.lemmas.Bool.{cases_lt}
@@ -32,6 +32,19 @@ use Rattle.zone_summary.specs.declared.stretch.Stretch.{Stretch}
 pub piece-begins : (xs : List ℕ) (from to : ℕ) (here : List Block) → IsPiece from to xs here → Begins to from (left_in from xs)
 piece-begins xs from to here p = subst (Begins to from) (sym p.is) (begins-right _ _ _ _
     (subst (λ y. Begins to y (left_in to xs)) (sym p.up) (begins-here _ _)))
+
+-- a piece of no blocks
+pub piece-none : (xs : List ℕ) (at : ℕ) → Begins at 0 (zone_in xs) → IsPiece at at xs []
+piece-none xs at b = record { is = refl; up = omega arith; edge = b }
+
+-- a piece and the one above it
+pub piece-more : (xs : List ℕ) (from at to : ℕ) (low high : List Block) → IsPiece from at xs low → IsPiece at to xs high
+    → IsPiece from to xs (low ++ high)
+piece-more xs from at to low high p q = record {
+  is = p.is ∙ ap (λ k. low ++ k) q.is ∙ sym (append_assoc low high (left_in to xs));
+  up = (omega (arith, span-append));
+  edge = q.edge;
+}
 
 -- where a search goes up to a landmark
 pub before : (marks : List Landmark) (index next to end : ℕ) (xs : List ℕ) → to ≡ next_of 4294967295 (drop index marks)

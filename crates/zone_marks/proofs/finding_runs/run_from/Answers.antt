@@ -2,10 +2,10 @@ use Rattle.std.proofs.Common.{◌≡◌, ◌≤◌, ◌⊎◌, drop, sym, subst,
 use Rattle.zone_bytes.specs.Decode.{zone_in}
 use Rattle.zone_bytes.specs.Changes.{Begins}
 use Rattle.zone_marks.specs.Marks.{next_of}
-use Rattle.zone_marks.specs.Searching.{IsKnown, finds_from}
+use Rattle.zone_marks.specs.Searching.{IsKnown}
 use Rattle.zone_marks.proofs.Marks.Lowering.{begins-way}
-use Rattle.zone_marks.proofs.Searches.Knowing.{known-start, not-found, scanned, short-of}
-use Rattle.zone_marks.proofs.Searches.Passed.{known-ready, ready-known}
+use Rattle.zone_marks.proofs.Searches.Going.{goes-finds}
+use Rattle.zone_marks.proofs.Searches.Knowing.{found-kept, not-found, scanned, short-of}
 use Rattle.zone_marks.proofs.Searches.Pieces.{bounded-edge, bounded-end, bounded-mark, edge-within, piece-of}
 use Rattle.zone_marks.proofs.finding_runs.run_from.Goals as goal
 use Rattle.zone_marks.proofs.finding_runs.run_from.Goals.{After-within-at, After-scan_up_to-scan}
@@ -37,26 +37,20 @@ higher c =
     ]
 
 -- and what it finds there
-there : (c : After-scan_up_to-scan) → IsKnown c.args.bytes (finds_from c.args.bytes c.args.begun c.args.part.now.bytes)
-    c.within-at.result c.args.part.now.bytes c.scan_up_to-scan.result
+there : (c : After-scan_up_to-scan)
+    → IsKnown c.args.bytes c.args.begun c.within-at.result c.args.part.now.bytes c.scan_up_to-scan.result
 there c =
     let i = c.requires.sound in
-    let xs = c.args.part.now.bytes in
-    let s = c.args.begun in
     let r = c.scan_up_to-scan.ensures in
-    let p = piece-of xs i.0 i.1 i.2 s.place c.within-at.result c.requires.ready.begins (edge c.before) (higher c.before) in
-    scanned _ _ _ _ _ i.2 _ _ s _ _ (ready-known _ _ s c.requires.ready) p.1 r.same r.begins r.free r.met r.left
-    r.stays r.came r.up_to
+    let p = piece-of _ _ _ i.2 _ _ c.requires.ready.begins (edge c.before) (higher c.before) in
+    scanned _ _ _ _ i.2 _ _ _ _ c.requires.ready p.1 r.goes r.free r.met r.left r.came r.up_to
 
 pub returns-then-is_found : goal.returns-then-is_found
-returns-then-is_found c =
-    let xs = c.args.part.now.bytes in
-    sym (known-start _ _ _ _ c.scan_up_to-scan.result
-    (there (goal.at.returns-then-is_found c).After-scan_up_to-scan) (sym c.is_found.ensures ∙ c.if-is_found.true))
+returns-then-is_found c = sym (goes-finds _ _ _ _ _ c.scan_up_to-scan.ensures.goes
+    ∙ found-kept _ c.scan_up_to-scan.result _ (sym c.is_found.ensures ∙ c.if-is_found.true))
 
 pub reach_run-requires-clause-ready : goal.reach_run-requires-clause-ready
-reach_run-requires-clause-ready c = known-ready _ _ _ _ c.scan_up_to-scan.result
-    (there (goal.at.reach_run-requires-clause-ready c).After-scan_up_to-scan)
+reach_run-requires-clause-ready c = (there (goal.at.reach_run-requires-clause-ready c).After-scan_up_to-scan).ready
 
 pub reach_run-requires-clause-short : goal.reach_run-requires-clause-short
 reach_run-requires-clause-short c =
@@ -79,4 +73,4 @@ reach_run-requires-clause-end c = λ l.
     omega (arith, s, e)
 
 pub returns : goal.returns
-returns c = c.reach_run.ensures ∙ sym (there (goal.at.returns c).After-scan_up_to-scan).finds
+returns c = c.reach_run.ensures ∙ sym (goes-finds _ _ _ _ _ c.scan_up_to-scan.ensures.goes)
