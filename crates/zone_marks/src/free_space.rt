@@ -15,10 +15,9 @@ ghost use Rattle.zone_marks.specs.declared.landmark.TheConstants.{GROUP};
 use crate::landmark::{GROUP, Group, Landmark};
 use crate::largest::largest_space_by_marks;
 use crate::marking::place_of_mark;
-use crate::measuring::{greater, span_at, within};
+use crate::measuring::{greater, span_at, walk_at, within};
 use block_store::{GREATEST_ZONE, Sparing, largest_after_in};
 use raw_region::Part;
-use zone_bytes::walk_from;
 
 /// Returns the size of the largest free block of those that begin from `from` up to `to`, or `most` if none of them is
 /// larger.
@@ -113,6 +112,6 @@ pub fn largest_after_by_marks(
         return largest_space_by_marks(marks, groups, part);
     }
     let stands = largest_free_by_marks(marks, groups, part);
-    let above = largest_after_in(&mut walk_from(part, from), purges, Sparing::Nothing);
+    let above = largest_after_in(&mut walk_at(part, from), purges, Sparing::Nothing);
     greater(stands, above)
 }

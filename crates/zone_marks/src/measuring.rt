@@ -1,9 +1,11 @@
 //! Walks over a stretch of a zone.
 
-ghost use Rattle.std.specs.Prelude.{◌≡◌, ◌+◌, ◌%◌, ◌==◌, ◌<◌, ◌≤◌, ◌^◌, ◌⊎◌, ◌∷◌, not, if◌then◌else◌, List, length};
+ghost use Rattle.std.specs.Prelude.{◌≡◌, ◌+◌, ◌%◌, ◌==◌, ◌<◌, ◌≤◌, ◌^◌, ◌⊎◌, ◌∷◌, not, if◌then◌else◌, ℕ, List, length};
 ghost use Rattle.std.specs.Prelude.{MatchOption, IfSome};
-ghost use Rattle.block_store.specs.Block.{Block};
+ghost use Rattle.block_store.specs.Block.{Block, sizes};
 ghost use Rattle.heap_words.specs.Words.{word_at};
+ghost use Rattle.zone_bytes.specs.Decode.{zone_in};
+ghost use Rattle.zone_bytes.specs.Lawful.{IsSound};
 ghost use Rattle.zone_bytes.specs.Changes.{AtEach, Begins};
 ghost use Rattle.zone_marks.specs.Marks as marks;
 ghost use Rattle.zone_marks.specs.Marks.{NoRoom, Spans, RoomAt, Measures, between};
@@ -13,8 +15,18 @@ ghost use Rattle.zone_summary.specs.Stretches.{counted, space, spaces_of};
 
 use block_store::UNIT;
 use raw_region::Part;
-use zone_bytes::read_word;
+use zone_bytes::{RawWalk, read_word, walk_from};
 use zone_summary::Stretch;
+
+/// Returns a walk over the blocks of a zone from a place on.
+pub fn walk_at<'a>(part: &'a Part, at: u32) -> RawWalk<'a>
+    requires sound { (first : ℕ) × (unused : ℕ) × IsSound part.now.bytes first unused }
+    requires begins { Begins at 0 (zone_in part.now.bytes) }
+    ensures is { result ≡ left_in at part.now.bytes }
+    ensures fits { at + sizes result < 2 ^ 32 }
+{
+    walk_from(part, at)
+}
 
 /// Returns the lower of a place and the zone's end.
 pub fn within(to: u32, end: u32) -> u32
