@@ -13,7 +13,7 @@ ghost use Rattle.zone_bytes.specs.Changes.{Begins};
 ghost use Rattle.zone_marks.specs.Purgeable.{MayStart};
 ghost use Rattle.zone_marks.specs.Searching.{Goes, IsFound, IsKnown, IsPassed, IsPiece, IsReady};
 ghost use Rattle.zone_marks.specs.Searching.{begun, finds_purging, lowest_place};
-ghost use Rattle.zone_bytes.specs.Stepping.{left_in, IsOnWay};
+ghost use Rattle.zone_bytes.specs.Stepping.{left_in};
 ghost use Rattle.zone_summary.specs.Emptied.{all_purged};
 ghost use Rattle.zone_summary.specs.Stretches.{best, load, prefix, stretch_of, suffix};
 
@@ -107,7 +107,8 @@ pub fn is_found(scan: RunScan, bytes: u32) -> bool
 
 /// Searches up to the first block at or above `to`, or until the run is found.
 pub fn scan_up_to(part: &Part, scan: RunScan, to: u32, bytes: u32, sparing: Sparing) -> RunScan
-    requires way { IsOnWay scan.place part.now.bytes }
+    requires sound { (first : ℕ) × (unused : ℕ) × IsSound part.now.bytes first unused }
+    requires begins { Begins scan.place 0 (zone_in part.now.bytes) }
     requires free { scan.free ≤ scan.place }
     requires met { scan.met ≡ true }
     ensures goes { Goes bytes sparing part.now.bytes scan result }

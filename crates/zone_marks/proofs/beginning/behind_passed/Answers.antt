@@ -1,6 +1,5 @@
 use Rattle.std.proofs.Common.{ap, arith}
 use Rattle.zone_marks.specs.Searching.{IsKnown, begun}
-use Rattle.zone_marks.proofs.Marks.Lowering.{begins-way}
 use Rattle.zone_bytes.proofs.Places.Walks.{free_span-le}
 use Rattle.zone_marks.proofs.Searches.Knowing.{not-found, scanned}
 use Rattle.zone_marks.proofs.Searches.Passed.{known-barred, known-open, ready-at}
@@ -12,11 +11,9 @@ use Rattle.zone_summary.proofs.Searching.{whole-open}
 pub returns-in-Whole : goal.returns-in-Whole
 returns-in-Whole c = known-open _ _ _ c.requires.ready _ _ c.requires.passed c.requires.short _ c.in-Whole.is
 
-pub scan_up_to-walked-requires-clause-way : goal.scan_up_to-walked-requires-clause-way
-scan_up_to-walked-requires-clause-way c =
-    let i = c.requires.sound in
-    let b = c.requires.passed.barred (ap is_ended c.in-Ended.is) in
-    rw c.begun_at-begun.ensures (begins-way c.args.part.now.bytes i.0 i.1 i.2 c.args.passed.barred b.edge)
+pub scan_up_to-walked-requires-clause-begins : goal.scan_up_to-walked-requires-clause-begins
+scan_up_to-walked-requires-clause-begins c =
+    rw c.begun_at-begun.ensures (c.requires.passed.barred (ap is_ended c.in-Ended.is)).edge
 
 -- the search behind the blocks among which one ends a run
 walked : (c : After-scan_up_to-walked) → IsKnown c.args.bytes (begun c.args.passed.barred 0) c.args.passed.end

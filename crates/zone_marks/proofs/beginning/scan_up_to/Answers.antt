@@ -1,12 +1,13 @@
 use Rattle.std.proofs.Common.{◌≡◌, refl, sym, ◌∙◌, subst, arith}
 use Rattle.zone_bytes.specs.Stepping.{Steps}
+use Rattle.zone_marks.proofs.Marks.Lowering.{begins-way}
 use Rattle.zone_marks.proofs.Marks.Passing.{begins-within}
 use Rattle.zone_marks.proofs.Searches.Going.{seen-sized, edge-further, goes-start, goes-step}
 use Rattle.zone_marks.proofs.beginning.scan_up_to.Goals as goal
 
 pub loop-scan-init : goal.loop-scan-init
 loop-scan-init c = record {
-  goes = goes-start _ _ _ _ c.requires.way;
+  goes = goes-start _ _ _ _ (begins-way _ _ _ c.requires.sound.2 _ c.requires.begins);
   free = c.requires.free;
   met = c.requires.met;
   left = omega arith;

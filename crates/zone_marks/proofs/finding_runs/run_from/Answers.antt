@@ -3,17 +3,11 @@ use Rattle.zone_bytes.specs.Decode.{zone_in}
 use Rattle.zone_bytes.specs.Changes.{Begins}
 use Rattle.zone_marks.specs.Marks.{next_of}
 use Rattle.zone_marks.specs.Searching.{IsKnown}
-use Rattle.zone_marks.proofs.Marks.Lowering.{begins-way}
 use Rattle.zone_marks.proofs.Searches.Going.{goes-finds}
 use Rattle.zone_marks.proofs.Searches.Knowing.{found-kept, not-found, scanned, short-of}
 use Rattle.zone_marks.proofs.Searches.Pieces.{bounded-edge, bounded-end, bounded-mark, edge-within, piece-of}
 use Rattle.zone_marks.proofs.finding_runs.run_from.Goals as goal
 use Rattle.zone_marks.proofs.finding_runs.run_from.Goals.{After-within-at, After-scan_up_to-scan}
-
-pub scan_up_to-scan-requires-clause-way : goal.scan_up_to-scan-requires-clause-way
-scan_up_to-scan-requires-clause-way c =
-    let i = c.requires.sound in
-    begins-way c.args.part.now.bytes i.0 i.1 i.2 c.args.begun.place c.requires.ready.begins
 
 -- where it goes on by landmarks
 bounds : (c : After-within-at)

@@ -1,15 +1,9 @@
 use Rattle.std.proofs.Common.{None, sym, ◌∙◌}
 use Rattle.block_store.specs.Sparing.{spared}
 use Rattle.block_store.proofs.Regroup.RunScans.{scan_kept}
-use Rattle.zone_marks.proofs.Marks.Lowering.{begins-way}
 use Rattle.zone_marks.proofs.Searches.Going.{goes-finds}
 use Rattle.zone_marks.proofs.Searches.Passed.{walked-out}
 use Rattle.zone_marks.proofs.finding_runs.walk_on.Goals as goal
-
-pub scan_up_to-last-requires-clause-way : goal.scan_up_to-last-requires-clause-way
-scan_up_to-last-requires-clause-way c =
-    let i = c.requires.sound in
-    begins-way c.args.part.now.bytes i.0 i.1 i.2 c.args.scan.place c.requires.begins
 
 pub returns-then-is_found : goal.returns-then-is_found
 returns-then-is_found c =
