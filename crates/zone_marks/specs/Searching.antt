@@ -1,6 +1,6 @@
 -- Searches for a run that use the landmarks of a zone.
 use Rattle.std.specs.Prelude.{◌≡◌, ℕ, ◌+◌, ◌≤◌, ◌<◌, ◌⊎◌, ◌&&◌, nat_le, true, Option, None, List, ◌++◌, length}
-use Rattle.std.specs.Prelude.{drop, get_or}
+use Rattle.std.specs.Prelude.{get_or}
 use Rattle.std.specs.Option.{option_map}
 use Rattle.block_store.specs.Block.{Block, sizes}
 use Rattle.block_store.specs.Inner.RunScan.{scan_from, suits}
@@ -11,7 +11,7 @@ use Rattle.block_store.specs.declared.sparing.Sparing.{Sparing}
 use Rattle.block_store.specs.declared.sparing.Sparing.TheVariants as sparing
 use Rattle.zone_bytes.specs.Decode.{zone_in}
 use Rattle.zone_bytes.specs.Changes.{Begins}
-use Rattle.zone_marks.specs.Marks.{IsTally, above_all, next_of, no_mark}
+use Rattle.zone_marks.specs.Marks.{IsTally, no_mark}
 use Rattle.zone_bytes.specs.Stepping.{left_in, IsOnWay}
 use Rattle.zone_marks.specs.declared.beginning.Passed.{Passed}
 use Rattle.zone_marks.specs.declared.finding_runs.Reached.{Reached}
@@ -91,20 +91,18 @@ pub record IsPassed (s : RunScan) (at : ℕ) (xs : List ℕ) (p : Passed) : Type
   pub barred : is_ended p.runs ≡ true → IsBarred s.place xs here high p
 
 -- The place to which a search by landmarks goes below the landmark at an index: that of the landmark, or the zone's end if
--- it is lower.
+-- there is none.
 pub record IsBefore (index : ℕ) (marks : List Landmark) (xs : List ℕ) (next : ℕ) : Type 0 where
-  pub either : (next ≡ next_of above_all (drop index marks)) ⊎ (next ≡ length xs)
-  pub low : next ≤ length xs
-  pub least : next ≤ next_of above_all (drop index marks)
+  pub edge : Begins next 0 (zone_in xs)
+  pub here : index < length marks → next ≡ (get_or marks index no_mark).at
+  pub end : length marks ≤ index → length xs ≤ next
 
 -- A search has come, by landmarks, to the landmark at an index, or to the zone's end.
 pub record HasCome (s : RunScan) (marks : List Landmark) (xs : List ℕ) (r : Reached) : Type 0 where
   pub ready : IsReady xs s
   pub passed : IsPassed s r.at xs r.passed
-  pub edge : Begins r.at 0 (zone_in xs)
+  pub before : IsBefore r.index marks xs r.at
   pub inside : r.index ≤ length marks
-  pub here : r.index < length marks → r.at ≡ (get_or marks r.index no_mark).at
-  pub end : length marks ≤ r.index → length xs ≤ r.at
 
 -- The place of the lowest run of a zone with `bytes` free bytes or more.
 abbrev pub lowest_place : ℕ → List Block → Option ℕ

@@ -1,13 +1,13 @@
 //! The search for a run by landmarks: stretches with which no run comes to enough free bytes are passed without a walk
 //! over their blocks.
 
-ghost use Rattle.std.specs.Prelude.{◌≡◌, ◌+◌, ◌≤◌, ◌<◌, ◌^◌, ℕ, List, true, get_or, length, IfSome};
+ghost use Rattle.std.specs.Prelude.{◌≡◌, ◌+◌, ◌≤◌, ◌<◌, ◌^◌, ℕ, List, true, length, IfSome};
 ghost use Rattle.block_store.specs.Find.{FindsLowestRun};
 ghost use Rattle.block_store.specs.Run.{has_free};
 ghost use Rattle.block_store.specs.declared.run_search.RunScan.{RunScan as RunOf};
 ghost use Rattle.zone_bytes.specs.Decode.{zone_in};
 ghost use Rattle.zone_bytes.specs.Lawful.{IsSound};
-ghost use Rattle.zone_marks.specs.Marks.{AreGroups, AreMarks, above_all, no_mark};
+ghost use Rattle.zone_marks.specs.Marks.{AreGroups, AreMarks, above_all};
 ghost use Rattle.zone_bytes.specs.Changes.{Begins};
 ghost use Rattle.zone_marks.specs.Purgeable.{MayStart};
 ghost use Rattle.zone_marks.specs.Searching.{HasCome, IsBefore, IsPassed, IsReady, IsStretch, finds_from, finds_purging};
@@ -21,9 +21,8 @@ use crate::beginning::{
     Passed, begin_search, begun_at, behind_passed, is_found, pass_known, scan_up_to,
 };
 use crate::landmark::{Group, Landmark, Tally};
-use crate::largest::told_from;
-use crate::marking::{index_above, place_of_mark};
-use crate::measuring::within;
+use crate::largest::{edge_of, told_from};
+use crate::marking::index_above;
 use block_store::{RunScan, Sparing};
 use raw_region::Part;
 use zone_summary::{Counting, Stretch};
@@ -92,7 +91,7 @@ fn pass_up_to(
     ensures come { IfSome result (λ r. (scan : RunOf) → HasCome scan marks.now part.now.bytes reached →
         HasCome scan marks.now part.now.bytes r) }
 {
-    let next = within(place_of_mark(marks, behind), part.len() as u32);
+    let next = edge_of(marks, part, behind);
     match pass_stretch(reached.passed, tally, reached.at, next, bytes) {
         Some(passed) => Some(Reached {
             passed,
@@ -154,8 +153,7 @@ fn reach_run(
     requires first { first ≤ length marks.now }
     requires ready { IsReady part.now.bytes scan }
     requires short { scan.free < bytes }
-    requires here { first < length marks.now → scan.place ≡ (get_or marks.now first no_mark).at }
-    requires end { length marks.now ≤ first → length part.now.bytes ≤ scan.place }
+    requires before { IsBefore first marks.now part.now.bytes scan.place }
     ensures { result ≡ finds_from bytes scan part.now.bytes }
 {
     let mut reached = Reached {
@@ -194,7 +192,7 @@ fn run_from(
     ensures { result ≡ finds_from bytes begun part.now.bytes }
 {
     let first = index_above(marks, begun.place, 0);
-    let at = within(place_of_mark(marks, first), part.len() as u32);
+    let at = edge_of(marks, part, first);
     let scan = scan_up_to(part, begun, at, bytes, Sparing::Nothing);
     if is_found(scan, bytes) {
         return Some(scan.start);
