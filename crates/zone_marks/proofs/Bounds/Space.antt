@@ -1,7 +1,6 @@
 -- The largest Free block of a zone, as it stands and after purges.
 use Rattle.std.proofs.Common.{◌≡◌, ◌⊎◌, ℕ, ◌+◌, ◌≤◌, ◌<◌, zero, suc, inl, inr, Bool, true, false, max, cond, List}
 use Rattle.std.proofs.Common.{[], ◌∷◌, ◌++◌, refl, sym, ap, ◌∙◌, subst, arith}
-use Rattle.std.proofs.lemmas.Bool.{cond-false}
 use Rattle.block_store.specs.Block.{Block, Free, Nonrelocatable, Masters, Relocatable, add, free_of}
 use Rattle.block_store.specs.Block.{is_room, size, sizes, tidy}
 use Rattle.block_store.specs.Compact.{largest_free}
@@ -10,6 +9,7 @@ use Rattle.block_store.specs.Sparing.{purged, spared}
 use Rattle.block_store.specs.declared.sparing.Sparing.TheVariants as sparing
 use Rattle.block_store.proofs.Purged.Looks.{top_free}
 use Rattle.block_store.proofs.Purged.PurgedSums.{largest-purged, largest_stretch}
+use Rattle.block_store.proofs.Purged.Rising.{lowest_purged-stays}
 use Rattle.block_store.proofs.Zone.Apart.{Apart, apart-size, apart-tidied, two}
 use Rattle.zone_bytes.specs.Decode.{zone_in}
 use Rattle.zone_bytes.specs.Lawful.{IsSound}
@@ -103,18 +103,12 @@ module _ (xs : List ℕ) (first unused : ℕ) (i : IsSound xs first unused) wher
   pub left-largest : (p : ℕ) → Begins p 0 (zone_in xs) → largest_free (left_in p xs) ≤ largest_free (zone_in xs)
   left-largest p b = omega (arith, ap largest_free (seen-from xs first unused i p b).is, largest-above)
 
--- a block that stays
-purged-stays : (k : ℕ) (sp : Block → Bool) (b : Block) (above : List Block) → may_be_purged sp b ≡ false
-    → lowest_purged k sp (b ∷ above) ≡ b ∷ lowest_purged k sp above
-purged-stays zero sp b above e = refl
-purged-stays (suc k) sp b above e = cond-false (may_be_purged sp b) _ _ e
-
 -- blocks that stay, below others
 purged-above : (k bound x : ℕ) (below above : List Block) → AtEach (Stays bound) x below → x + sizes below ≤ bound
     → lowest_purged k spares (below ++ above) ≡ below ++ lowest_purged k spares above
 purged-above k bound x [] above s l = refl
 purged-above k bound x (b ∷ below) above s l =
-    purged-stays k spares b _ (none-passes sparing.Nothing b (stays-here bound x b s.0 (omega (arith, l))))
+    lowest_purged-stays k spares b _ (none-passes sparing.Nothing b (stays-here bound x b s.0 (omega (arith, l))))
     ∙ ap (λ q. b ∷ q) (purged-above k _ (x + size b) below above s.1 (omega (arith, l)))
 
 -- where nothing would be given, nothing is purged
@@ -129,7 +123,7 @@ none-purged : (k : ℕ) (sp : Block → Bool) (bs : List Block) → purgeable_su
 none-purged zero sp [] l = refl
 none-purged (suc k) sp [] l = refl
 none-purged k sp (b ∷ bs) l =
-    purged-stays k sp b bs (none-given sp b (omega (arith, l))) ∙ ap (λ q. b ∷ q) (none-purged k sp bs (omega (arith, l)))
+    lowest_purged-stays k sp b bs (none-given sp b (omega (arith, l))) ∙ ap (λ q. b ∷ q) (none-purged k sp bs (omega (arith, l)))
 
 pub stands-still : (k : ℕ) (zone : List Block) → tidy zone ≡ zone → purgeable_sum zone ≤ 0
     → purged k sparing.Nothing zone ≡ zone
@@ -155,12 +149,12 @@ purged-rises : (f k : ℕ) (sp : Block → Bool) (bs : List Block)
 purged-rises f zero sp [] = omega arith
 purged-rises f (suc k) sp [] = omega arith
 purged-rises f k sp (Free n ∷ bs) =
-    omega (arith, purged-rises (f + n) k sp bs, ap (largest_stretch f) (purged-stays k sp (Free n) bs refl))
+    omega (arith, purged-rises (f + n) k sp bs, ap (largest_stretch f) (lowest_purged-stays k sp (Free n) bs refl))
 purged-rises f k sp (Nonrelocatable id content ∷ bs) =
-    let e = ap (largest_stretch f) (purged-stays k sp (Nonrelocatable id content) bs refl) in
+    let e = ap (largest_stretch f) (lowest_purged-stays k sp (Nonrelocatable id content) bs refl) in
     omega (arith, purged-rises 0 k sp bs, e)
 purged-rises f k sp (Masters ∷ bs) =
-    let e = ap (largest_stretch f) (purged-stays k sp Masters bs refl) in
+    let e = ap (largest_stretch f) (lowest_purged-stays k sp Masters bs refl) in
     omega (arith, purged-rises 0 k sp bs, e)
 purged-rises f zero sp (Relocatable id flags content ∷ bs) = let r = purged-rises 0 0 sp bs in omega (arith, r)
 purged-rises f (suc k) sp (Relocatable id flags content ∷ bs) =
@@ -224,7 +218,7 @@ same-first : (k bound x : ℕ) (bs : List Block) → x < bound → AtEach (Stays
 same-first zero bound x [] l s = tt
 same-first (suc k) bound x [] l s = tt
 same-first k bound x (b ∷ bs) l s =
-    subst (SameFirst (b ∷ bs)) (sym (purged-stays k spares b bs (none-passes sparing.Nothing b (s.0 l)))) refl
+    subst (SameFirst (b ∷ bs)) (sym (lowest_purged-stays k spares b bs (none-passes sparing.Nothing b (s.0 l)))) refl
 
 -- the largest Free block from a place on, and of the zone as it stands, after purges from there on
 module _ (xs : List ℕ) (first unused : ℕ) (i : IsSound xs first unused) (k from : ℕ) (m : MayStart from (zone_in xs)) where
