@@ -41,10 +41,10 @@ fn count_in<W: Walk>(walk: &mut W, bytes: u32, sparing: Sparing) -> u32
         let Some(block) = walk.next_block() else {
             return total;
         };
+        left = left.saturating_sub(size_of_seen(block));
         if may_purge(block, sparing) {
             total += 1;
         }
-        left = left.saturating_sub(size_of_seen(block));
     }
     total
 }

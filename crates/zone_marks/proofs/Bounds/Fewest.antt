@@ -4,7 +4,7 @@ use Rattle.zone_summary.specs.declared.stretch.Counting.{Counting}
 use Rattle.zone_summary.specs.Stretches.{stretch_by}
 use Rattle.zone_summary.proofs.Monoid.{stretch_by-append}
 use Rattle.zone_summary.proofs.Sums.{load-counted}
-use Rattle.std.proofs.Common.{◌≡◌, ℕ, zero, suc, ◌+◌, ◌-◌, ◌≤◌, ◌<◌, Bool, true, false, List, [], ◌∷◌, ◌++◌}
+use Rattle.std.proofs.Common.{◌≡◌, ℕ, ◌+◌, ◌-◌, ◌≤◌, Bool, true, false, List, [], ◌∷◌, ◌++◌}
 use Rattle.std.proofs.Common.{◌&&◌, Some, inl, refl, sym, ap, ◌∙◌, subst, cond, arith}
 use Rattle.block_store.specs.Block.{Block, Free, count, size, sizes, is_purgeable, is_relocatable}
 use Rattle.block_store.specs.Find.{FindsLowestRun}
@@ -17,7 +17,7 @@ use Rattle.block_store.specs.declared.sparing.Sparing.{Sparing}
 use Rattle.block_store.specs.declared.sparing.Sparing.TheVariants as sparing
 use Rattle.block_store.proofs.Purged.Looks.{opened-none}
 use Rattle.block_store.proofs.Purged.Purges.{sizes-opened}
-use Rattle.block_store.proofs.Purged.Stretches.{opened-more, size-opened}
+use Rattle.block_store.proofs.Purged.Stretches.{opened-more}
 use Rattle.zone_summary.specs.Fewest.{count_within}
 use Rattle.zone_summary.proofs.BlockRuns.{IsRunOf, run-of}
 use Rattle.zone_summary.proofs.Fewest.{count-few, count-past, opened-append}
@@ -39,16 +39,6 @@ use Rattle.zone_marks.proofs.Bounds.Going.{none-passes, stays-here}
 use Rattle.zone_marks.proofs.Marks.Lowering.{begins-end, seen-from, one-here}
 use Rattle.zone_marks.proofs.Marks.Passing.{at-left, begins-left}
 use Rattle.zone_marks.proofs.Searches.Pieces.{stretch-at, zone-long}
-
--- a walk that counts them looks at one block
-module _ (n : Sparing) (b : Block) (above : List Block) where
-  pub within-more : (left : ℕ) → 0 < left → count_within (spared n) left (opened n (b ∷ above))
-      ≡ cond {A = ℕ} (may_be_purged (spared n) (opened_block n b)) 1 0
-      + count_within (spared n) (left - size b) (opened n above)
-  within-more zero l = absurd (omega (arith, l))
-  within-more (suc k) l = ap (count_within (spared n) (suc k)) (opened-more n b _)
-      ∙ ap (λ s. cond {A = ℕ} (may_be_purged (spared n) (opened_block n b)) 1 0
-      + count_within (spared n) (suc k - s) (opened n above)) (size-opened n b)
 
 -- a block that may not be purged may not be as a search sees it first
 opened-stays : (n : Sparing) (b : Block) → is_purgeable b ≡ false → may_be_purged (spared n) (opened_block n b) ≡ false
