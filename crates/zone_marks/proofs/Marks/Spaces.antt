@@ -1,9 +1,10 @@
 -- A walk that counts what it passes in spaces.
-use Rattle.std.proofs.Common.{◌≡◌, ℕ, ◌+◌, ◌≤◌, ◌<◌, ◌⊎◌, Bool, List, [], ◌∷◌, ◌++◌, length, append_assoc, refl}
+use Rattle.std.proofs.Common.{◌≡◌, ℕ, ◌+◌, ◌≤◌, ◌<◌, ◌⊎◌, List, [], ◌∷◌, ◌++◌, length, append_assoc, refl}
 use Rattle.std.proofs.Common.{sym, ap, ◌∙◌, arith, inl, inr}
 use Rattle.std.proofs.lemmas.List.{append-nil}
-use Rattle.zone_bytes.specs.Stepping.{left_in, IsOnWay}
-use Rattle.zone_marks.specs.Marks.{Spans, between}
+use Rattle.block_store.specs.declared.sparing.Seen.{Seen}
+use Rattle.zone_bytes.specs.Stepping.{left_in, IsOnWay, Steps}
+use Rattle.zone_marks.specs.Marks.{between}
 use Rattle.zone_marks.proofs.Marks.Between.{all-begin, between-append, none-above}
 use Rattle.zone_marks.proofs.Marks.Passing.{Passed, at-append, at-map}
 use Rattle.zone_bytes.proofs.Places.Stepped.{left-none}
@@ -28,10 +29,10 @@ module _ (xs : List ℕ) (from stop : ℕ) where
     comes = refl;
   }
 
-  pub spaced-step : (at end bytes : ℕ) (barrier : Bool) (spaces given more : Stretch) → Spaced xs from at stop spaces
-      → (s : Spans at end bytes barrier xs) → at < stop → given ≡ space s.here → more ≡ join spaces given
+  pub spaced-step : (at end : ℕ) (block : Seen) (spaces given more : Stretch) → Spaced xs from at stop spaces
+      → (s : Steps at block end xs) → at < stop → given ≡ space s.here → more ≡ join spaces given
       → Spaced xs from end stop more
-  spaced-step at end bytes barrier spaces given more c s l g j =
+  spaced-step at end block spaces given more c s l g j =
       let p = c.passed in
       record {
         passed = record {
@@ -45,9 +46,9 @@ module _ (xs : List ℕ) (from stop : ℕ) where
       }
 
   -- what the blocks come to and one block more fit
-  pub spaced-fits : (at end bytes : ℕ) (barrier : Bool) (spaces given : Stretch) → Spaced xs from at stop spaces
-      → (s : Spans at end bytes barrier xs) → given ≡ space s.here → suffix spaces + prefix given ≤ end
-  spaced-fits at end bytes barrier spaces given c s g =
+  pub spaced-fits : (at end : ℕ) (block : Seen) (spaces given : Stretch) → Spaced xs from at stop spaces
+      → (s : Steps at block end xs) → given ≡ space s.here → suffix spaces + prefix given ≤ end
+  spaced-fits at end block spaces given c s g =
       omega (arith, suffix-load, ap load c.comes, load-counted Spaces c.passed.done, prefix-counted, ap prefix g)
 
   -- what it tells of the blocks that begin below a bound which it came to

@@ -8,15 +8,16 @@ loop-at-init c = spaced-start _ _ _ c.requires
 
 pub join-spaces-requires : goal.join-spaces-requires
 join-spaces-requires c =
-    let s = c.span_at-span in
-    let f = spaced-fits _ _ _ _ _ _ _ c.loop-at.spaces c.space_at.result c.loop-at.invariant s.ensures
-    (c.space_at.ensures _ _ s.ensures.is) in
+    let s = c.step_at-step.ensures in
+    let f = spaced-fits _ _ _ _ _ _ c.loop-at.spaces c.space_of_seen.result c.loop-at.invariant s
+    (c.space_of_seen.ensures s.here s.told (omega arith)) in
     omega (arith, f)
 
 pub loop-at-preserved : goal.loop-at-preserved
 loop-at-preserved c =
-    spaced-step _ _ _ _ _ _ _ _ c.space_at.result c.join-spaces.result c.loop-at.invariant c.span_at-span.ensures
-    c.loop-at-test.true (c.space_at.ensures _ _ c.span_at-span.ensures.is) c.join-spaces.ensures.is
+    let s = c.step_at-step.ensures in
+    spaced-step _ _ _ _ _ _ _ c.space_of_seen.result c.join-spaces.result c.loop-at.invariant s
+    c.loop-at-test.true (c.space_of_seen.ensures s.here s.told (omega arith)) c.join-spaces.ensures.is
 
 pub returns : goal.returns
 returns c =
