@@ -1,6 +1,6 @@
 -- A place below which no block may be purged, through each change of a zone.
 use Rattle.std.proofs.Common.{◌≡◌, ℕ, ◌+◌, ◌-◌, ◌≤◌, ◌<◌, zero, suc, Bool, true, false, not, ◌&&◌, List, [], ◌∷◌, ◌++◌}
-use Rattle.std.proofs.Common.{refl, sym, ap, ◌∙◌, subst, cond, arith, inl, inr, Some, append_assoc}
+use Rattle.std.proofs.Common.{refl, sym, ap, ◌∙◌, subst, cond, arith, inl, inr, Some}
 use Rattle.std.proofs.Common.{None, length}
 use Rattle.std.proofs.lemmas.Bool.{cases_lt, false≢true}
 use Rattle.std.specs.Option.{option_map}
@@ -29,7 +29,7 @@ use Rattle.zone_marks.specs.Purgeable.{NoneGoes, Stays}
 use Rattle.zone_bytes.specs.Stepping.{left_in, Steps}
 use Rattle.zone_marks.proofs.Marks.Lowering.{Seen as Edge, seen-from}
 use Rattle.zone_marks.proofs.Searches.Pieces.{left-long}
-use Rattle.zone_marks.proofs.Marks.Passing.{Passed, at-all, at-append, at-left, at-map, at-right}
+use Rattle.zone_marks.proofs.Marks.Passing.{Passed, at-all, at-append, at-left, at-map, at-right, passed-on}
 use Rattle.zone_bytes.proofs.Runs.Runs.{run_at-splits}
 use Rattle.zone_bytes.proofs.Tiles.Tiling.{span-append}
 
@@ -159,14 +159,8 @@ goes-not b e = only (is_purgeable b) e
 module _ (xs : List ℕ) (from at : ℕ) (p : Passed xs from at (λ _ b. is_purgeable b ≡ false)) where
   pub passed-stays : (block : Seen) (end : ℕ) (s : Steps at block end xs)
       → may_be_purged (spared sparing.Nothing) s.here ≡ false → Passed xs from end (λ _ b. is_purgeable b ≡ false)
-  passed-stays block end s e =
-      record {
-        done = p.done ++ s.here ∷ [];
-        is = p.is ∙ ap (λ k. p.done ++ k) s.is ∙ sym (append_assoc p.done (s.here ∷ []) (left_in end xs));
-        up = omega (arith, span-append);
-        each = at-append (λ _ b. is_purgeable b ≡ false) from p.done (s.here ∷ []) p.each (goes-not s.here e, tt);
-        way = s.way;
-      }
+  passed-stays block end s e = passed-on xs from at end (λ _ b. is_purgeable b ≡ false) (λ _ b. is_purgeable b ≡ false)
+      (λ _ _ r. r) p s.here s.is s.up s.way (goes-not s.here e)
 
   pub all-stay : AtEach (Stays at) from (left_in from xs)
   all-stay =

@@ -22,7 +22,7 @@ use Rattle.zone_marks.proofs.Bounds.Going.{none-passes, stays-here}
 use Rattle.zone_bytes.proofs.Bounds.Short.{one-gives}
 use Rattle.zone_bytes.proofs.Laws.Lawful.{sizes-length}
 use Rattle.zone_marks.proofs.Marks.Lowering.{seen-from}
-use Rattle.zone_marks.proofs.Marks.Passing.{Passed, at-left, at-map, at-right, passed-more, passed-start, passed-step}
+use Rattle.zone_marks.proofs.Marks.Passing.{Passed, at-left, at-map, at-right, passed-on, passed-start}
 use Rattle.zone_marks.proofs.Marks.Spanned.{no-room}
 use Rattle.zone_bytes.proofs.Places.AtPlace.{left-zone}
 
@@ -84,10 +84,9 @@ module _ (xs : List ℕ) (from most : ℕ) where
   growing-step at end free largest next barrier g s l m o =
       let z = ap largest_free s.is in
       record {
-        passed = passed-step _ _ (λ _ c. is_room (next + 1) c ≡ false) _ _ _ _
-            (passed-more _ _ _ (λ _ c. is_room (largest + 1) c ≡ false) (λ _ c. is_room (next + 1) c ≡ false)
-            (λ _ c. room-more _ _ c (omega (arith, l))) g.passed) s
-            (λ c e k. no-room _ c k (λ _ q. omega (arith, e, m, q)));
+        passed = passed-on _ _ _ _ (λ _ c. is_room (largest + 1) c ≡ false) (λ _ c. is_room (next + 1) c ≡ false)
+            (λ _ c. room-more _ _ c (omega (arith, l))) g.passed s.here s.is s.up s.way
+            (no-room _ s.here (omega arith) (λ _ q. omega (arith, m, q)));
         no_less = omega (arith, l);
         reached = elim o [
           | inl e ↦ omega (arith, z, m, e)
