@@ -1,10 +1,9 @@
 -- A walk that goes over blocks one after another, of each of which something holds.
-use Rattle.std.proofs.Common.{◌≡◌, ℕ, ◌+◌, ◌≤◌, ◌<◌, inl, inr, ◌⊎◌, Bool, List, [], ◌∷◌, ◌++◌, length, sym, refl, ap, ◌∙◌, subst}
+use Rattle.std.proofs.Common.{◌≡◌, ℕ, ◌+◌, ◌≤◌, ◌<◌, inl, inr, ◌⊎◌, List, [], ◌∷◌, ◌++◌, length, sym, refl, ap, ◌∙◌, subst}
 use Rattle.std.proofs.Common.{arith, append_assoc}
-use Rattle.block_store.specs.Block.{Block, size, sizes, free_of}
+use Rattle.block_store.specs.Block.{Block, size, sizes}
 use Rattle.zone_bytes.specs.Stepping.{left_in, IsOnWay}
 use Rattle.zone_bytes.specs.Changes.{AtEach, Begins}
-use Rattle.zone_marks.specs.Marks.{Spans}
 use Rattle.zone_bytes.proofs.Tiles.Tiling.{span-append}
 use Rattle.zone_bytes.proofs.Places.Stepped.{left-none}
 
@@ -133,11 +132,6 @@ passed-on xs from at end R S f p here is up way s = record {
 module _ (xs : List ℕ) (from : ℕ) (R : ℕ → Block → Type 0) where
   pub passed-start : IsOnWay from xs → Passed xs from from R
   passed-start w = record { done = []; is = refl; up = omega arith; each = tt; way = w }
-
-  pub passed-step : (at end free : ℕ) (barrier : Bool) → Passed xs from at R → Spans at end free barrier xs
-      → ((b : Block) → free ≡ free_of b → 0 < size b → R at b) → Passed xs from end R
-  passed-step at end free barrier p s r =
-      passed-on xs from at end R R (λ _ _ h. h) p s.here s.is s.up s.way (r s.here s.bytes (omega arith))
 
   pub passed-begins : (at : ℕ) → Passed xs from at R → Begins at from (left_in from xs)
   passed-begins at p = subst (Begins at from) (sym p.is) (begins-right _ _ _ _

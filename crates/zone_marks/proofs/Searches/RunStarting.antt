@@ -15,7 +15,7 @@ use Rattle.zone_bytes.specs.Decode.{zone_in}
 use Rattle.zone_marks.specs.Purgeable.{MayStart, NoneGoes, Stays}
 use Rattle.zone_marks.specs.Searching.{IsKnown, begun, finds_in, finds_purging, lowest_place}
 use Rattle.zone_bytes.specs.Stepping.{left_in}
-use Rattle.zone_marks.proofs.Bounds.Fewest.{count-none}
+use Rattle.zone_marks.proofs.Bounds.Going.{count-none}
 use Rattle.zone_marks.proofs.Marks.Passing.{at-left}
 use Rattle.zone_marks.proofs.Searches.Knowing.{found-kept}
 use Rattle.zone_marks.proofs.Searches.Passed.{ready-finds}
