@@ -102,9 +102,9 @@ pub record Passed (xs : List ℕ) (from at : ℕ) (R : ℕ → Block → Type 0)
   pub way : IsOnWay at xs
 
 -- where the lower of two bounds was come to
-pub past : (to end at stop : ℕ) → (stop ≡ to) ⊎ (stop ≡ end) → stop ≤ at → (to ≤ at) ⊎ (end ≤ at)
-past to end at stop (inl e) l = inl (omega (arith, e, l))
-past to end at stop (inr e) l = inr (omega (arith, e, l))
+pub past : (to end all at stop : ℕ) → (stop ≡ to) ⊎ (stop ≡ end) → end ≡ all → stop ≤ at → (to ≤ at) ⊎ (all ≤ at)
+past to end all at stop (inl e) f l = inl (omega (arith, e, l))
+past to end all at stop (inr e) f l = inr (omega (arith, e, f, l))
 
 pub passed-more : (xs : List ℕ) (from at : ℕ) (R S : ℕ → Block → Type 0) → ((p : ℕ) (b : Block) → R p b → S p b)
     → Passed xs from at R → Passed xs from at S

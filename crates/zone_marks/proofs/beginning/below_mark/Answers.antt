@@ -1,4 +1,4 @@
-use Rattle.std.proofs.Common.{◌+◌, ◌<◌, ◌^◌, get_or, refl, sym, subst, arith}
+use Rattle.std.proofs.Common.{◌+◌, ◌<◌, ◌^◌, get_or, refl, subst, arith}
 use Rattle.zone_marks.specs.Marks.{no_mark}
 use Rattle.zone_marks.proofs.Searches.Passed.{passed-fits, passed-none, ready-begun}
 use Rattle.zone_marks.proofs.Searches.Pieces.{mark-edge, next-stretch}
@@ -6,23 +6,20 @@ use Rattle.zone_marks.proofs.beginning.below_mark.Goals as goal
 use Rattle.zone_marks.proofs.beginning.below_mark.Goals.{In-Known}
 use Rattle.zone_summary.specs.Stretches.{load, prefix, suffix}
 use Rattle.zone_summary.specs.declared.stretch.Counting.TheVariants.{Runs}
-use Rattle.zone_summary.specs.declared.stretch.Stretch.TheVariants.{Whole}
-use Rattle.zone_marks.specs.Searching.{IsPassed, IsStretch, begun}
+use Rattle.zone_marks.specs.Searching.{IsStretch}
 use Rattle.zone_marks.specs.declared.landmark.Tally.TheVariants as tally
 
 pub loop-index-init : goal.loop-index-init
-loop-index-init c = let xs = c.args.part.now.bytes in
-    subst (λ at. IsPassed (begun 0 0) at xs (record { runs = Whole 0; barred = 0; end = 0; free = 0 })) (sym c.requires.bottom)
-    (passed-none _ _ (ready-begun _))
+loop-index-init c = rw c.requires.bottom (passed-none _ _ (ready-begun _))
 
 -- the stretch of a landmark that is not the last
 piece : (c : In-Known) → IsStretch Runs (tally.Known c.in-Known.runs) (get_or c.args.marks.now c.loop-index.index no_mark).at
     (get_or c.args.marks.now (c.loop-index.index + 1) no_mark).at c.args.part.now.bytes
 piece c =
     let i = c.requires.sound.2 in
-    subst (λ t. IsStretch Runs t (get_or c.args.marks.now c.loop-index.index no_mark).at
-    (get_or c.args.marks.now (c.loop-index.index + 1) no_mark).at c.args.part.now.bytes) c.in-Known.is
-    (next-stretch _ _ _ i Runs _ c.requires.marks _ _ (omega arith) (record {
+    let at = c.loop-index.index in
+    subst (λ t. IsStretch Runs t (get_or c.args.marks.now at no_mark).at (get_or c.args.marks.now (at + 1) no_mark).at
+    c.args.part.now.bytes) c.in-Known.is (next-stretch _ _ _ i Runs _ c.requires.marks at _ (omega arith) (record {
       edge = mark-edge _ _ _ i _ c.requires.marks _ (omega arith);
       here = λ _. refl;
       end = λ l. absurd (omega (arith, l));

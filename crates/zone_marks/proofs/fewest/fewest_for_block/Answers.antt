@@ -1,8 +1,6 @@
-use Rattle.std.proofs.Common.{◌≡◌, ◌∙◌, ◌-◌, ◌&&◌, ap, arith, subst, sym, List, None}
-use Rattle.block_store.specs.Block.{Block, is_relocatable, tidy}
-use Rattle.block_store.specs.Find.{FindsLowestRun}
+use Rattle.std.proofs.Common.{◌≡◌, ◌∙◌, ◌-◌, ap, arith, sym, List}
+use Rattle.block_store.specs.Block.{Block}
 use Rattle.block_store.specs.Room.{count_of}
-use Rattle.block_store.specs.Run.{has, has_free}
 use Rattle.block_store.specs.Sparing.{spared}
 use Rattle.zone_summary.specs.Fewest.{run_purges_for}
 use Rattle.zone_summary.specs.Stretches.{prefix, stretch_of}
@@ -22,8 +20,7 @@ walk_at-requires-clause-begins c = begins-here 0 _
 pub returns-in_default : goal.returns-in_default
 returns-in_default c =
     no-run-of _ _ _ _ (c.requires.whole (zone_in c.args.part.now.bytes)) c.requires.spared
-    (subst (λ z. FindsLowestRun (λ run. has (is_relocatable c.args.number) run && has_free 0 run)
-    (tidy z) None) (c.walk_at.ensures.is ∙ left-zone _) c.in_default.ensures)
+    (rw (c.walk_at.ensures.is ∙ left-zone _) at c.in_default.ensures)
 
 -- the run of the block, and where it begins
 found : (c : In-Some) → IsRunOf c.args.number c.args.bytes c.args.sparing (zone_in c.args.part.now.bytes) c.in-Some.run'

@@ -1,7 +1,4 @@
-use Rattle.std.proofs.Common.{◌+◌, get_or, subst, sym, arith}
-use Rattle.zone_bytes.specs.Decode.{zone_in}
-use Rattle.zone_bytes.specs.Changes.{AtEach}
-use Rattle.zone_marks.specs.Marks.{NoRoom, no_mark}
+use Rattle.std.proofs.Common.{arith}
 use Rattle.zone_marks.proofs.Marks.Lowering.{mark-begins}
 use Rattle.zone_marks.proofs.Marks.Rooms.{none-group, stretch-room}
 use Rattle.zone_marks.proofs.free_space.larger_in_group.Goals as goal
@@ -15,7 +12,4 @@ larger_in_stretch-largest-requires-clause-begins c = mark-begins _ _ _ _ _ (omeg
 
 pub larger_in_stretch-largest-requires-clause-bound : goal.larger_in_stretch-largest-requires-clause-bound
 larger_in_stretch-largest-requires-clause-bound c = λ l.
-    let zone = zone_in c.args.part.now.bytes in
-    let m = get_or c.args.marks.now c.loop-index.index no_mark in
-    subst (λ n. AtEach (NoRoom (c.loop-index.largest + 1) m.at n) 0 zone) (sym c.place_of_mark-to.ensures)
-    (stretch-room _ _ _ _ (omega arith) c.requires.marks l)
+    rw c.place_of_mark-to.ensures (stretch-room _ _ _ _ (omega arith) c.requires.marks l)

@@ -1,8 +1,5 @@
-use Rattle.std.proofs.Common.{◌+◌, ◌*◌, subst, ap, arith}
+use Rattle.std.proofs.Common.{◌*◌, ap, arith}
 use Rattle.block_store.specs.Compact.{largest_free}
-use Rattle.zone_bytes.specs.Decode.{zone_in}
-use Rattle.zone_bytes.specs.Changes.{AtEach}
-use Rattle.zone_marks.specs.Marks.{NoRoom}
 use Rattle.zone_marks.specs.declared.landmark.TheConstants.{GROUP}
 use Rattle.zone_marks.proofs.Bounds.Space.{zone-largest}
 use Rattle.zone_marks.proofs.Marks.Rooms.{none-past}
@@ -17,8 +14,7 @@ loop-group-init c =
     let r = c.larger_between-largest.result in
     let e = c.larger_between-largest.ensures in
     record {
-      none = subst (λ p. AtEach (NoRoom (r + 1) 0 p) 0 (zone_in c.args.part.now.bytes)) c.place_of_mark.ensures
-          (subst (AtEach (NoRoom (r + 1) 0 c.place_of_mark.result) 0) (left-zone _) e.none);
+      none = rw (← c.place_of_mark.ensures) (rw left-zone at e.none);
       reached = omega (arith, ap largest_free (left-zone c.args.part.now.bytes));
     }
 

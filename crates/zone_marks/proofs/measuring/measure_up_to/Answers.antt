@@ -1,4 +1,4 @@
-use Rattle.std.proofs.Common.{◌≡◌, ◌≤◌, ◌<◌, ◌⊎◌, ◌∙◌, ap, sym, subst, arith}
+use Rattle.std.proofs.Common.{◌≤◌, ◌<◌, ◌∙◌, ap, sym, arith}
 use Rattle.block_store.specs.Block.{free_of}
 use Rattle.zone_summary.specs.Stretches.{prefix}
 use Rattle.zone_summary.specs.declared.stretch.Counting.TheVariants.{Runs}
@@ -39,6 +39,5 @@ returns-clause-passed c = measured-edge _ _ _ _ _ _ c.loop-at.invariant _
 
 pub returns-clause-below : goal.returns-clause-below
 returns-clause-below c =
-    measured-below _ _ _ _ _ _ c.loop-at.invariant _ _ c.within-stop.ensures.least (past _ _ _ _
-    (subst (λ n. (c.within-stop.result ≡ c.args.place) ⊎ (c.within-stop.result ≡ n)) c.len.ensures.count
-    c.within-stop.ensures.one) (omega arith))
+    measured-below _ _ _ _ _ _ c.loop-at.invariant _ _ c.within-stop.ensures.least 
+    (past _ _ _ _ _ c.within-stop.ensures.one c.len.ensures.count (omega arith))

@@ -1,4 +1,4 @@
-use Rattle.std.proofs.Common.{◌≡◌, false, inl, arith, subst, ◌⊎◌}
+use Rattle.std.proofs.Common.{◌≡◌, false, inl, arith}
 use Rattle.block_store.specs.Block.{is_room}
 use Rattle.zone_marks.proofs.Marks.Passing.{passed-begins, passed-on, passed-all, past}
 use Rattle.zone_marks.proofs.Marks.Spanned.{no-room, room-here}
@@ -29,8 +29,6 @@ loop-at-preserved c =
 
 pub returns-clause-none : goal.returns-clause-none
 returns-clause-none c =
-    let k = c.len.ensures.count in
     passed-all _ _ (λ _ b. is_room c.args.bytes b ≡ false)
-    (λ _ b. is_room c.args.bytes b ≡ false) _ _ _ c.loop-at.invariant (λ _ b r. r) (past _ _ _ _
-    (subst (λ n. (c.within-stop.result ≡ c.args.to) ⊎ (c.within-stop.result ≡ n)) k c.within-stop.ensures.one)
-    (omega arith))
+    (λ _ b. is_room c.args.bytes b ≡ false) _ _ _ c.loop-at.invariant (λ _ b r. r)
+    (past _ _ _ _ _ c.within-stop.ensures.one c.len.ensures.count (omega arith))

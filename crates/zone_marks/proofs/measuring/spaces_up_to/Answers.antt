@@ -1,4 +1,4 @@
-use Rattle.std.proofs.Common.{◌≡◌, ◌<◌, ◌⊎◌, ◌∙◌, ap, sym, subst, arith}
+use Rattle.std.proofs.Common.{◌<◌, ◌∙◌, ap, sym, arith}
 use Rattle.zone_summary.specs.Stretches.{prefix}
 use Rattle.zone_summary.specs.declared.stretch.Counting.TheVariants.{Spaces}
 use Rattle.zone_summary.proofs.Monoid.{join-unit_right}
@@ -26,6 +26,5 @@ loop-at-preserved c =
 pub returns : goal.returns
 returns c =
     walked-below Spaces _ _ _ (λ p _. p < c.within-stop.result) _ c.loop-at.invariant c.args.place
-    (λ p _ r. omega (arith, r, c.within-stop.ensures.least)) (past _ _ _ _
-    (subst (λ n. (c.within-stop.result ≡ c.args.place) ⊎ (c.within-stop.result ≡ n)) c.len.ensures.count
-    c.within-stop.ensures.one) (omega arith))
+    (λ p _ r. omega (arith, r, c.within-stop.ensures.least)) 
+    (past _ _ _ _ _ c.within-stop.ensures.one c.len.ensures.count (omega arith))
