@@ -1,21 +1,17 @@
 -- The blocks that may be purged below a run, counted from an edge of a zone below which none may be.
-use Rattle.block_store.specs.Block.{tidy}
 use Rattle.zone_summary.specs.declared.stretch.Counting.{Counting}
 use Rattle.zone_summary.specs.Stretches.{stretch_by}
 use Rattle.zone_summary.proofs.Monoid.{stretch_by-append}
 use Rattle.zone_summary.proofs.Sums.{load-counted}
 use Rattle.std.proofs.Common.{◌≡◌, ℕ, ◌+◌, ◌-◌, ◌≤◌, true, List, ◌++◌}
-use Rattle.std.proofs.Common.{◌&&◌, Some, inl, refl, sym, ap, ◌∙◌, subst, arith}
-use Rattle.block_store.specs.Block.{Block, count, sizes, is_relocatable}
-use Rattle.block_store.specs.Find.{FindsLowestRun}
-use Rattle.block_store.specs.Run.{has, has_free}
+use Rattle.std.proofs.Common.{inl, refl, sym, ap, ◌∙◌, subst, arith}
+use Rattle.block_store.specs.Block.{Block, sizes}
 use Rattle.block_store.specs.Room.{count_of}
 use Rattle.block_store.specs.Sparing.{most_purges, opened, spared}
 use Rattle.block_store.specs.declared.measures.TheConstants.{GREATEST_ZONE}
 use Rattle.block_store.specs.declared.sparing.Sparing.{Sparing}
 use Rattle.block_store.proofs.Purged.Purges.{sizes-opened}
 use Rattle.zone_summary.specs.Fewest.{count_within}
-use Rattle.zone_summary.proofs.BlockRuns.{IsRunOf, run-of}
 use Rattle.zone_summary.proofs.Fewest.{count-few, count-past, opened-append}
 use Rattle.zone_bytes.specs.Decode.{zone_in}
 use Rattle.zone_bytes.specs.Lawful.{IsSound}
@@ -79,15 +75,6 @@ pub run-begins : (xs : List ℕ) (run : ℕ) (low rest : List Block) → zone_in
 run-begins xs run low rest is at =
     subst (Begins run 0) (sym is) (begins-left _ 0 _ _
     (subst (λ k. Begins k 0 low) (let e : 0 + sizes low ≡ run = omega (arith, at) in e) (begins-end 0 _)))
-
--- the run of a block, as a walk from the bottom finds it
-pub block-run : (xs : List ℕ) (number p run : ℕ) (n : Sparing) (blocks : List Block) → blocks ≡ zone_in xs
-    → count (is_relocatable number) (zone_in xs) ≤ 1 → ((b : Block) → is_relocatable number b ≡ true → spared n b ≡ true)
-    → ((blocks : List Block) → opened n blocks ≡ blocks)
-    → FindsLowestRun (λ run. has (is_relocatable number) run && has_free 0 run) (tidy blocks) (Some run)
-    → IsRunOf number p n (zone_in xs) run
-block-run xs number p run n blocks e once keeps whole f = run-of _ p n _ (whole (zone_in xs)) keeps _ once
-    (subst (λ z. FindsLowestRun (λ run. has (is_relocatable number) run && has_free 0 run) (tidy z) (Some run)) e f)
 
 -- what blocks that are known come to, below others
 module _ (xs : List ℕ) (first unused : ℕ) (i : IsSound xs first unused) where

@@ -1,5 +1,5 @@
 -- The blocks from one place of a zone up to another.
-use Rattle.std.proofs.Common.{◌≡◌, ℕ, ◌+◌, ◌≤◌, ◌<◌, ◌⊎◌, inl, inr, List, [], ◌∷◌, ◌++◌, length, take, drop, get_or}
+use Rattle.std.proofs.Common.{◌≡◌, ℕ, ◌+◌, ◌≤◌, ◌<◌, ◌⊎◌, inl, inr, List, [], ◌++◌, length, take, drop, get_or}
 use Rattle.std.proofs.Common.{append_assoc}
 use Rattle.std.proofs.Common.{refl, sym, ap, ◌∙◌, subst, arith}
 use Rattle.std.proofs.lemmas.Bool.{cases_lt}
@@ -18,7 +18,7 @@ use Rattle.zone_marks.specs.declared.landmark.Tally.TheVariants as tally
 use Rattle.zone_marks.specs.declared.landmark.TheConstants.{GROUP}
 use Rattle.zone_bytes.proofs.Laws.Lawful.{sizes-length}
 use Rattle.zone_marks.proofs.Marks.Between.{CountAlike, tally-as, alike-back, alike-more, alike-same, between-parts}
-use Rattle.zone_marks.proofs.Marks.Lowering.{Seen, begins-way, seen-from, marks-below, marks-parted, mark-first}
+use Rattle.zone_marks.proofs.Marks.Lowering.{Seen, begins-way, mark-begins, seen-from, marks-below, marks-parted, mark-first}
 use Rattle.zone_marks.proofs.Marks.Lowering.{begins-end}
 use Rattle.zone_marks.proofs.Marks.Passing.{PartsAt, begins-either, begins-here, begins-right, begins-within, parts}
 use Rattle.zone_marks.proofs.Marks.Tallies.{group-tally}
@@ -106,17 +106,6 @@ module _ (xs : List ℕ) (first unused : ℕ) (i : IsSound xs first unused) wher
             | inr q ↦ inr (left-none next xs (begins-way xs first unused i next e) (omega (arith, q)))
           ]))
 
-  -- the stretch of a landmark
-  module _ (marks : List Landmark) (a : AreMarks 4294967295 (zone_in xs) marks) (index : ℕ) (l : index < length marks) where
-    knows : AreMarks 4294967295 (zone_in xs) (get_or marks index no_mark ∷ drop (index + 1) marks)
-    knows = subst (AreMarks 4294967295 (zone_in xs)) (drop_more marks index no_mark l) (marks-parted _ _ _ _ a).1
-
-    pub mark-rises : (get_or marks index no_mark).at ≤ next_of 4294967295 (drop (index + 1) marks)
-    mark-rises = knows.3
-
-    pub mark-edge : Begins (get_or marks index no_mark).at 0 (zone_in xs)
-    mark-edge = knows.0
-
   module _ (w : Counting) (marks : List Landmark) (a : AreMarks 4294967295 (zone_in xs) marks) where
     -- what is known up to a landmark is so up to where a search goes below it
     stretch-before : (t : Tally) (at index next : ℕ) → Begins at 0 (zone_in xs) → IsBefore index marks xs next
@@ -134,13 +123,14 @@ module _ (xs : List ℕ) (first unused : ℕ) (i : IsSound xs first unused) wher
     pub next-stretch : (index next : ℕ) → index < length marks → IsBefore (index + 1) marks xs next
         → IsStretch w (told w (get_or marks index no_mark).tally) (get_or marks index no_mark).at next xs
     next-stretch index next l b =
-        stretch-before _ _ _ next (mark-edge marks a index l) b (mark-rises marks a index l) ((knows marks a index l).2 w)
+        let k = subst (AreMarks 4294967295 (zone_in xs)) (drop_more marks index no_mark l) (marks-parted _ _ _ _ a).1 in
+        stretch-before _ _ _ next k.0 b k.3 (k.2 w)
 
     -- and so are the stretches of a group
     pub group-stretch : (low : ℕ) (t : Tally) → low < length marks
         → ((runs : Stretch) → t ≡ tally.Known runs → tally_of w (take GROUP (drop low marks)) ≡ tally.Known runs)
         → (next : ℕ) → IsBefore (low + GROUP) marks xs next → IsStretch w t (get_or marks low no_mark).at next xs
-    group-stretch low t l known next b = stretch-before t _ _ next (mark-edge marks a low l) b
+    group-stretch low t l known next b = stretch-before t _ _ next (mark-begins 4294967295 (zone_in xs) marks low no_mark l a) b
         (let r = marks-below to (zone_in xs) part are in omega (arith, r, at-first)) (tells t known)
       where
         m : Landmark

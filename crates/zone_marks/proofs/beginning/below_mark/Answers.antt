@@ -1,7 +1,8 @@
 use Rattle.std.proofs.Common.{◌+◌, ◌<◌, ◌^◌, get_or, refl, subst, arith}
 use Rattle.zone_marks.specs.Marks.{no_mark}
 use Rattle.zone_marks.proofs.Searches.Passed.{passed-fits, passed-none, ready-begun}
-use Rattle.zone_marks.proofs.Searches.Pieces.{mark-edge, next-stretch}
+use Rattle.zone_marks.proofs.Marks.Lowering.{mark-begins}
+use Rattle.zone_marks.proofs.Searches.Pieces.{next-stretch}
 use Rattle.zone_marks.proofs.beginning.below_mark.Goals as goal
 use Rattle.zone_marks.proofs.beginning.below_mark.Goals.{In-Known}
 use Rattle.zone_summary.specs.Stretches.{load, prefix, suffix}
@@ -20,7 +21,7 @@ piece c =
     let at = c.loop-index.index in
     subst (λ t. IsStretch Runs t (get_or c.args.marks.now at no_mark).at (get_or c.args.marks.now (at + 1) no_mark).at
     c.args.part.now.bytes) c.in-Known.is (next-stretch _ _ _ i Runs _ c.requires.marks at _ (omega arith) (record {
-      edge = mark-edge _ _ _ i _ c.requires.marks _ (omega arith);
+      edge = mark-begins _ _ _ _ _ (omega arith) c.requires.marks;
       here = λ _. refl;
       end = λ l. absurd (omega (arith, l));
     }))
@@ -40,4 +41,4 @@ pub loop-index-preserved : goal.loop-index-preserved
 loop-index-preserved c =
     let p = piece (goal.at.loop-index-preserved c).In-Known in
     c.pass_known-below.ensures _ _ p.0 c.loop-index.invariant
-    (mark-edge _ _ _ c.requires.sound.2 _ c.requires.marks _ (omega arith)) p.1 p.2
+    (mark-begins _ _ _ _ _ (omega arith) c.requires.marks) p.1 p.2

@@ -4,12 +4,12 @@ use Rattle.block_store.specs.Room.{count_of}
 use Rattle.block_store.specs.Sparing.{spared}
 use Rattle.zone_summary.specs.Fewest.{run_purges_for}
 use Rattle.zone_summary.specs.Stretches.{prefix, stretch_of}
-use Rattle.zone_summary.proofs.BlockRuns.{IsRunOf, enough-now, fewest-of, never-enough, no-run-of}
+use Rattle.zone_summary.proofs.BlockRuns.{IsRunOf, enough-now, fewest-of, never-enough, no-run-of, run-of}
 use Rattle.zone_bytes.specs.Changes.{Begins}
 use Rattle.zone_bytes.specs.Decode.{zone_in}
 use Rattle.zone_bytes.specs.Stepping.{left_in}
 use Rattle.zone_bytes.proofs.Places.AtPlace.{left-above, left-zone}
-use Rattle.zone_marks.proofs.Bounds.Fewest.{block-run, run-begins}
+use Rattle.zone_marks.proofs.Bounds.Fewest.{run-begins}
 use Rattle.zone_marks.proofs.Marks.Passing.{begins-here}
 use Rattle.zone_marks.proofs.fewest.fewest_for_block.Goals.{In-Some, After-free_at-free}
 use Rattle.zone_marks.proofs.fewest.fewest_for_block.Goals as goal
@@ -24,8 +24,8 @@ returns-in_default c =
 
 -- the run of the block, and where it begins
 found : (c : In-Some) → IsRunOf c.args.number c.args.bytes c.args.sparing (zone_in c.args.part.now.bytes) c.in-Some.run'
-found c = block-run _ _ _ _ _
-    _ (c.walk_at.ensures.is ∙ left-zone _) c.requires.once c.requires.spared c.requires.whole c.in-Some.ensures
+found c = run-of _ _ _ _ (c.requires.whole _) c.requires.spared _ c.requires.once
+    (rw (c.walk_at.ensures.is ∙ left-zone _) at c.in-Some.ensures)
 
 begins : (c : In-Some) → Begins c.in-Some.run' 0 (zone_in c.args.part.now.bytes)
 begins c = let r = found c in run-begins _ _ r.low r.rest r.is r.at

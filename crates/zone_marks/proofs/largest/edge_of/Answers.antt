@@ -1,7 +1,7 @@
 use Rattle.std.proofs.Common.{arith, refl}
 use Rattle.zone_marks.specs.Marks.{above_all, no_mark}
-use Rattle.zone_marks.proofs.Marks.Lowering.{mark-first}
-use Rattle.zone_marks.proofs.Searches.Pieces.{edge-within, end-begins, mark-edge}
+use Rattle.zone_marks.proofs.Marks.Lowering.{mark-begins, mark-first}
+use Rattle.zone_marks.proofs.Searches.Pieces.{edge-within, end-begins}
 use Rattle.zone_marks.proofs.largest.edge_of.Goals as goal
 
 pub returns-then-index-marks-clause-before : goal.returns-then-index-marks-clause-before
@@ -17,7 +17,7 @@ returns-then-index-marks-clause-low c = λ p b _.
 
 pub returns-clause-before : goal.returns-clause-before
 returns-clause-before c = record {
-  edge = mark-edge _ _ _ c.requires.sound.2 _ c.requires.marks _ (omega arith);
+  edge = mark-begins _ _ _ _ _ (omega arith) c.requires.marks;
   here = λ _. refl;
   end = λ l. absurd (omega (arith, l));
 }
