@@ -1,5 +1,6 @@
 -- Landmarks of a zone: places at which blocks begin, each with a bound on the free blocks up to the next.
-use Rattle.std.specs.Prelude.{◌≡◌, ℕ, ◌+◌, ◌*◌, ◌≤◌, ◌<◌, ◌⊎◌, Bool, true, false, not, ◌&&◌, if◌then◌else◌, nat_le, nat_lt}
+use Rattle.std.specs.Prelude.{◌≡◌, ℕ, ◌+◌, ◌*◌, ◌≤◌, ◌<◌, ◌⊎◌, Bool, true, false, not, ◌&&◌, if◌then◌else◌, nat_le}
+use Rattle.std.specs.Prelude.{nat_lt}
 use Rattle.std.specs.Prelude.{List, [], ◌∷◌, length, take, drop, get_or}
 use Rattle.block_store.specs.Block.{Block, size, free_of, is_room}
 use Rattle.block_store.specs.Run.{in_run}

@@ -131,7 +131,8 @@ pub fn scan_up_to(part: &Part, scan: RunScan, to: u32, bytes: u32, sparing: Spar
 fn past_open(scan: RunScan, free: u32, next: u32, bytes: u32) -> RunScan
     requires { (scan.met && nat_le bytes scan.free) ≡ false → scan.free + free < 2 ^ 32 }
     ensures { (from : RunOf) (at : ℕ) (xs : List ℕ) (here : List Block) → IsKnown bytes from at xs scan
-        → IsPiece at next xs here → has ends_run here ≡ false → free_sum here ≡ free → IsKnown bytes from next xs result }
+        → IsPiece at next xs here → has ends_run here ≡ false → free_sum here ≡ free
+        → IsKnown bytes from next xs result }
 {
     if is_found(scan, bytes) {
         return scan;
@@ -169,8 +170,8 @@ pub fn behind_passed(part: &Part, scan: RunScan, passed: Passed, at: u32, bytes:
     }
 }
 
-/// Returns the state at the place `from` of a search from the bottom on; `None` where it isn't known that no run below the
-/// place has `bytes` free bytes.
+/// Returns the state at the place `from` of a search from the bottom on; `None` where it isn't known that no run
+/// below the place has `bytes` free bytes.
 fn run_below(marks: &[Landmark], part: &Part, from: u32, bytes: u32) -> Option<RunScan>
     requires sound { (first : ℕ) × (unused : ℕ) × IsSound part.now.bytes first unused }
     requires marks { AreMarks above_all (zone_in part.now.bytes) marks.now }

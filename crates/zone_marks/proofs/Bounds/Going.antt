@@ -196,7 +196,8 @@ opened-stays (sparing.Freed slot) b e = cases (is_relocatable slot b)
     cases true = refl
     cases false = none-passes (sparing.Freed slot) b e
 
-pub count-none : (n : Sparing) (bound x : ℕ) (below : List Block) → AtEach (Stays bound) x below → x + sizes below ≤ bound
+pub count-none : (n : Sparing) (bound x : ℕ) (below : List Block) → AtEach (Stays bound) x below
+    → x + sizes below ≤ bound
     → count_of (spared n) (opened n below) ≡ 0
 count-none n bound x [] s l = ap (count_of (spared n)) (opened-none n)
 count-none n bound x (b ∷ below) s l =
@@ -226,9 +227,15 @@ module _ (xs : List ℕ) (first unused : ℕ) (i : IsSound xs first unused) (fro
 
   pub count-from : most_purges n (left_in from xs) ≡ most_purges n (zone_in xs)
   count-from =
-      let none = ap (count_of (spared n)) (sym (plain edge.below)) ∙ count-none n _ 0 _ below-stays (omega (arith, edge.low)) in
-      omega (arith, ap (count_of (spared n)) (plain (left_in from xs)),
-          ap (count_of (spared n)) (plain (zone_in xs) ∙ edge.is), total-append, none)
+      let none = ap (count_of (spared n)) (sym (plain edge.below))
+      ∙ count-none n _ 0 _ below-stays (omega (arith, edge.low)) in
+      omega (
+        arith,
+        ap (count_of (spared n)) (plain (left_in from xs)),
+        ap (count_of (spared n)) (plain (zone_in xs) ∙ edge.is),
+        total-append,
+        none,
+      )
 
   -- the place of the block to be purged next
   module _ (k : ℕ) where

@@ -122,7 +122,8 @@ none-purged : (k : ℕ) (sp : Block → Bool) (bs : List Block) → purgeable_su
 none-purged zero sp [] l = refl
 none-purged (suc k) sp [] l = refl
 none-purged k sp (b ∷ bs) l =
-    lowest_purged-stays k sp b bs (none-given sp b (omega (arith, l))) ∙ ap (λ q. b ∷ q) (none-purged k sp bs (omega (arith, l)))
+    lowest_purged-stays k sp b bs (none-given sp b (omega (arith, l)))
+    ∙ ap (λ q. b ∷ q) (none-purged k sp bs (omega (arith, l)))
 
 pub stands-still : (k : ℕ) (zone : List Block) → tidy zone ≡ zone → purgeable_sum zone ≤ 0
     → purged k sparing.Nothing zone ≡ zone

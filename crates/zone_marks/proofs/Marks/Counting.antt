@@ -41,7 +41,8 @@ module _ (w : Counting) (xs : List ℕ) (from : ℕ) where
   module _ (at : ℕ) (R : ℕ → Block → Type 0) (total : Stretch) (c : Walked w xs from at R total) where
     pub walked-step : (S : ℕ → Block → Type 0) → ((p : ℕ) (b : Block) → R p b → S p b) → (end : ℕ) (here : Block)
         → left_in at xs ≡ here ∷ left_in end xs → at + size here ≡ end → IsOnWay end xs → S at here
-        → (given more : Stretch) → given ≡ stretch_by w (here ∷ []) → more ≡ join total given → Walked w xs from end S more
+        → (given more : Stretch) → given ≡ stretch_by w (here ∷ []) → more ≡ join total given
+        → Walked w xs from end S more
     walked-step S f end here is up way s given more g j = record {
       passed = passed-on xs from at end R S f c.passed here is up way s;
       comes = sym (joined-is w c.passed.done (here ∷ []) total given more j (sym c.comes) g);
@@ -65,7 +66,8 @@ module _ (w : Counting) (xs : List ℕ) (from : ℕ) where
         alike = alike-more _ _ _ (alike-same _ _ (ap (between from hi from) c.passed.is
             ∙ between-append _ _ from c.passed.done (left_in at xs)
             ∙ ap (λ y. between from hi from c.passed.done ++ between from hi y (left_in at xs)) c.passed.up
-            ∙ ap (λ k. between from hi from c.passed.done ++ k) nothing ∙ append-nil (between from hi from c.passed.done))) a
+            ∙ ap (λ k. between from hi from c.passed.done ++ k) nothing
+            ∙ append-nil (between from hi from c.passed.done))) a
 
     -- where the walk began no block at or above the bound
     pub walked-below : (hi : ℕ) → ((p : ℕ) (b : Block) → R p b → p < hi) → (hi ≤ at) ⊎ (length xs ≤ at)
@@ -80,10 +82,12 @@ module _ (xs : List ℕ) (from at stop most : ℕ) (runs : Stretch)
       (passed-more _ _ _ (λ p b. (free_of b ≤ most) × (p < stop)) (λ _ b. free_of b ≤ most) (λ _ _ r. r.0) c.passed)
       (λ _ _ r. r) e
 
-  pub measured-edge : (edge : ℕ) → Measures from at from (left_in from xs) (record { edge = edge; most = most; runs = runs })
+  pub measured-edge : (edge : ℕ) → Measures from at from (left_in from xs)
+      (record { edge = edge; most = most; runs = runs })
   measured-edge edge = record {
     most = bound at (inl (omega arith));
-    runs = walked-tells _ _ _ _ _ _ c at (all-within _ _ _ _ (omega arith) (omega (arith, c.passed.up))) (inl (omega arith));
+    runs = walked-tells _ _ _ _ _ _ c at (all-within _ _ _ _ (omega arith) (omega (arith, c.passed.up)))
+        (inl (omega arith));
   }
 
   pub measured-below : (place edge : ℕ) → stop ≤ place → (place ≤ at) ⊎ (length xs ≤ at)

@@ -60,7 +60,8 @@ module _ (bytes : ℕ) where
 
       -- past blocks among which no run ends
       pub known-through : (free : ℕ) → r.place ≡ at → has ends_run here ≡ false → free_sum here ≡ free
-          → IsKnown bytes s next xs (record { left = r.left; start = r.start; free = r.free + free; met = r.met; place = next })
+          → IsKnown bytes s next xs
+          (record { left = r.left; start = r.start; free = r.free + free; met = r.met; place = next })
       known-through free e n f = record {
         ready = record {
           begins = p.edge;
@@ -74,7 +75,8 @@ module _ (bytes : ℕ) where
             ∙ ap (λ l. scan_runs None bytes spares l r.start r.free r.met r.place (here ++ above)) k.ready.left
             ∙ goes-through _ spares _ _ _ _ here above n
             ∙ ap (λ q. scan_runs None bytes spares 0 r.start (r.free + q) r.met (r.place + sizes here) above) f
-            ∙ ap (λ q. scan_runs None bytes spares 0 r.start (r.free + free) r.met q above) (ap (λ q. q + sizes here) e ∙ p.up)
+            ∙ ap (λ q. scan_runs None bytes spares 0 r.start (r.free + free) r.met q above)
+            (ap (λ q. q + sizes here) e ∙ p.up)
             ∙ ap (λ l. scan_runs None bytes spares l r.start (r.free + free) r.met next above) (sym k.ready.left);
         came = inr refl;
       }
@@ -89,7 +91,8 @@ module _ (bytes : ℕ) where
     ready = record { begins = edge; left = omega (arith, l, y.left); met = m; free = f };
     here = here;
     piece = p;
-    finds = λ above. ap (λ k. finds_in bytes s (k ++ above)) parts ∙ ap (finds_in bytes s) (append_assoc g.done q.0 above)
+    finds = λ above. ap (λ k. finds_in bytes s (k ++ above)) parts
+        ∙ ap (finds_in bytes s) (append_assoc g.done q.0 above)
         ∙ g.same (q.0 ++ above) ∙ on above;
     came = there;
   }

@@ -1,6 +1,7 @@
 -- A search for a run that passes blocks by what they come to in runs.
 use Rattle.zone_summary.specs.declared.stretch.Counting.TheVariants.{Runs}
-use Rattle.std.proofs.Common.{◌≡◌, ℕ, ◌+◌, ◌≤◌, ◌<◌, ◌^◌, ◌&&◌, ◌⊎◌, inl, inr, Bool, true, false, nat_le, None, List, [], ◌++◌, length}
+use Rattle.std.proofs.Common.{◌≡◌, ℕ, ◌+◌, ◌≤◌, ◌<◌, ◌^◌, ◌&&◌, ◌⊎◌, inl, inr, Bool, true, false, nat_le, None, List}
+use Rattle.std.proofs.Common.{[], ◌++◌, length}
 use Rattle.std.proofs.Common.{append_assoc, append-nil, refl, sym, ap, ◌∙◌, subst, arith}
 use Rattle.std.proofs.lemmas.Bool.{cond-false}
 use Rattle.std.proofs.lemmas.List.{append_cancel_right}
@@ -154,11 +155,13 @@ module _ (bytes : ℕ) (xs : List ℕ) (s : RunScan) (r : IsReady xs s) (at : �
   known-open free e =
       let w = whole-rest s.free free (stretch_of q.here) (q.sums ∙ e) in
       let o = whole-open q.here w.0 w.1 in
-      subst (λ n. IsKnown bytes s at xs (record { left = s.left; start = s.start; free = n; met = s.met; place = at })) w.2
+      subst (λ n. IsKnown bytes s at xs
+      (record { left = s.left; start = s.start; free = n; met = s.met; place = at })) w.2
       (known-through _ _ _ _ _ (ready-known _ _ s r) _ _ q.piece _ refl o.0 o.1)
 
   -- and one that has blocks with an end of a run behind it may begin at them
-  pub known-barred : (b : IsBarred s.place xs q.here q.high p) (last : RunScan) → IsKnown bytes (begun p.barred 0) at xs last
+  pub known-barred : (b : IsBarred s.place xs q.here q.high p) (last : RunScan)
+      → IsKnown bytes (begun p.barred 0) at xs last
       → IsKnown bytes s at xs last
   known-barred b last k = record {
     ready = k.ready;
@@ -169,7 +172,8 @@ module _ (bytes : ℕ) (xs : List ℕ) (s : RunScan) (r : IsReady xs s) (at : �
         ∙ ap (λ k. b.low ++ k) (append_assoc b.mid q.high above))
         ∙ scan-begun _ spares _ _ _ _ b.mid (q.high ++ above) b.ended less
         ∙ ap (λ y. found_from bytes spares y 0 y (b.mid ++ (q.high ++ above))) b.up
-        ∙ ap (found_from bytes spares p.barred 0 p.barred) (sym (ap (λ k. k ++ above) parts ∙ append_assoc b.mid q.high above))
+        ∙ ap (found_from bytes spares p.barred 0 p.barred)
+        (sym (ap (λ k. k ++ above) parts ∙ append_assoc b.mid q.high above))
         ∙ k.finds above;
     came = k.came;
   }
@@ -201,10 +205,12 @@ walked-out bytes n xs first unused i from last b g came f =
     let none = left-none _ _ g.way (elim came [
       | inl k ↦ let y : true ≡ false = sym k ∙ f in absurd (cc)
       | inr (inl l) ↦ l
-      | inr (inr l) ↦ absurd (omega (arith, l, g.up, ap sizes g.is, span-append, left-long xs first unused i from.place b,
-          i.lays.small))
+      | inr (inr l) ↦
+          let all = left-long xs first unused i from.place b in
+          absurd (omega (arith, l, g.up, ap sizes g.is, span-append, all, i.lays.small))
     ]) in
     goes-finds _ _ _ _ _ g
-    ∙ ap (scan_runs None bytes (spared n) last.left last.start last.free last.met last.place) (ap (opened n) none ∙ opened-none n)
+    ∙ ap (scan_runs None bytes (spared n) last.left last.start last.free last.met last.place)
+    (ap (opened n) none ∙ opened-none n)
     ∙ scan-end None bytes (spared n) last.left last.start last.free last.met last.place
     ∙ cond-false (last.met && nat_le bytes last.free) _ _ f

@@ -18,7 +18,8 @@ use Rattle.zone_marks.specs.declared.landmark.Tally.TheVariants as tally
 use Rattle.zone_marks.specs.declared.landmark.TheConstants.{GROUP}
 use Rattle.zone_bytes.proofs.Laws.Lawful.{sizes-length}
 use Rattle.zone_marks.proofs.Marks.Between.{CountAlike, tally-as, alike-back, alike-more, alike-same, between-parts}
-use Rattle.zone_marks.proofs.Marks.Lowering.{Seen, begins-way, mark-begins, seen-from, marks-below, marks-parted, mark-first}
+use Rattle.zone_marks.proofs.Marks.Lowering.{Seen, begins-way, mark-begins, seen-from, marks-below, marks-parted}
+use Rattle.zone_marks.proofs.Marks.Lowering.{mark-first}
 use Rattle.zone_marks.proofs.Marks.Lowering.{begins-end}
 use Rattle.zone_marks.proofs.Marks.Passing.{PartsAt, begins-either, begins-here, begins-right, begins-within, parts}
 use Rattle.zone_marks.proofs.Marks.Tallies.{group-tally}
@@ -115,8 +116,10 @@ module _ (xs : List ℕ) (first unused : ℕ) (i : IsSound xs first unused) wher
       | inl l ↦ let q : next ≡ next_of 4294967295 (drop index marks) = b.here l ∙ sym (mark-first _ _ _ _ l) in
           stretch-at w t at _ next e k b.edge (omega (arith, q, r)) (omega (arith, q)) (inl q)
       | inr l ↦ let q : next ≡ length xs = omega (arith, b.end l, edge-within next b.edge) in
-          let to : next_of 4294967295 (drop index marks) ≡ 4294967295 = ap (next_of 4294967295) (drop_all index marks l) in
-          stretch-at w t at _ next e k b.edge (omega (arith, q, edge-within at e)) (omega (arith, q, to, i.lays.small)) (inr q)
+          let to : next_of 4294967295 (drop index marks) ≡ 4294967295 =
+          ap (next_of 4294967295) (drop_all index marks l) in
+          stretch-at w t at _ next e k b.edge (omega (arith, q, edge-within at e))
+          (omega (arith, q, to, i.lays.small)) (inr q)
     ]
 
     -- so the stretch of a landmark is known up to there
@@ -130,7 +133,8 @@ module _ (xs : List ℕ) (first unused : ℕ) (i : IsSound xs first unused) wher
     pub group-stretch : (low : ℕ) (t : Tally) → low < length marks
         → ((runs : Stretch) → t ≡ tally.Known runs → tally_of w (take GROUP (drop low marks)) ≡ tally.Known runs)
         → (next : ℕ) → IsBefore (low + GROUP) marks xs next → IsStretch w t (get_or marks low no_mark).at next xs
-    group-stretch low t l known next b = stretch-before t _ _ next (mark-begins 4294967295 (zone_in xs) marks low no_mark l a) b
+    group-stretch low t l known next b = stretch-before t _ _ next
+        (mark-begins 4294967295 (zone_in xs) marks low no_mark l a) b
         (let r = marks-below to (zone_in xs) part are in omega (arith, r, at-first)) (tells t known)
       where
         m : Landmark

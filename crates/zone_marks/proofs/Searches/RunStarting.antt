@@ -63,11 +63,13 @@ module _ (xs : List ℕ) (from : ℕ) (m : MayStart from (zone_in xs)) (bytes pu
   few = omega (arith, all, ap (count_of (spared n)) (plain (zone_in xs) ∙ parts), total-append)
 
   -- the search that came there, with all purges
-  on : finds_in bytes r (map each above) ≡ scan_runs None bytes (spared n) purges r.start r.free true r.place (left_in r.place xs)
+  on : finds_in bytes r (map each above) ≡ scan_runs None bytes (spared n) purges r.start r.free true r.place
+      (left_in r.place xs)
   on = elim k.came [
     | inl f ↦ found-kept bytes r _ f ∙ sym (scan_kept None bytes (spared n) purges r.start r.free true r.place _
         (subst (λ t. (t && nat_le bytes r.free) ≡ true) k.ready.met f))
-    | inr e ↦ ready-finds bytes xs r k.ready _ ∙ found-any bytes (spared sparing.Nothing) (spared n) r.start r.free true r.place (map each above)
+    | inr e ↦ ready-finds bytes xs r k.ready _
+        ∙ found-any bytes (spared sparing.Nothing) (spared n) r.start r.free true r.place (map each above)
         ∙ sym (scan-emptied bytes (spared n) purges r.start r.free r.place above few)
         ∙ ap (λ q. scan_runs None bytes (spared n) purges r.start r.free true r.place (left_in q xs)) (sym e)
   ]
@@ -79,5 +81,6 @@ module _ (xs : List ℕ) (from : ℕ) (m : MayStart from (zone_in xs)) (bytes pu
       ∙ ap (λ z. found_from bytes (spared n) 0 0 0 (map each z)) (plain (zone_in xs) ∙ parts)
       ∙ ap (found_from bytes (spared n) 0 0 0) (map-append each k.here above
       ∙ ap (λ z. z ++ map each above) (emptied-none (spared n) k.here (let z = none-below in omega (arith, z))))
-      ∙ found-any bytes (spared n) (spared sparing.Nothing) 0 0 true 0 (k.here ++ map each above) ∙ k.finds (map each above) ∙ on
+      ∙ found-any bytes (spared n) (spared sparing.Nothing) 0 0 true 0 (k.here ++ map each above)
+      ∙ k.finds (map each above) ∙ on
       ∙ sym (ap (scan_runs None bytes (spared n) purges r.start r.free true r.place) (plain (left_in r.place xs)))

@@ -33,5 +33,6 @@ pub returns-in-Ended : goal.returns-in-Ended
 returns-in-Ended c =
     let p = c.requires.passed in
     let o = whole-open p.high c.args.passed.free p.goes_on in
-    known-barred _ _ _ c.requires.ready _ _ p c.requires.short (p.barred (ap is_ended c.in-Ended.is)) _ (c.past_open.ensures
+    known-barred _ _ _ c.requires.ready _ _ p c.requires.short (p.barred (ap is_ended c.in-Ended.is)) _
+    (c.past_open.ensures
     _ _ _ p.high (walked (goal.at.returns-in-Ended c).After-scan_up_to-walked) p.high_piece o.0 o.1)

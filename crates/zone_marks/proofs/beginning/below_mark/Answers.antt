@@ -14,7 +14,8 @@ pub loop-index-init : goal.loop-index-init
 loop-index-init c = rw c.requires.bottom (passed-none _ _ (ready-begun _))
 
 -- the stretch of a landmark that is not the last
-piece : (c : In-Known) → IsStretch Runs (tally.Known c.in-Known.runs) (get_or c.args.marks.now c.loop-index.index no_mark).at
+piece : (c : In-Known) → IsStretch Runs (tally.Known c.in-Known.runs)
+    (get_or c.args.marks.now c.loop-index.index no_mark).at
     (get_or c.args.marks.now (c.loop-index.index + 1) no_mark).at c.args.part.now.bytes
 piece c =
     let i = c.requires.sound.2 in

@@ -18,15 +18,16 @@ edge_begins c = elim c.within-first.ensures.one [
   | inr e ↦ rw e c.requires.run
 ]
 
-counted : (c : After-count_in) (low rest : List Block) → zone_in c.args.part.now.bytes ≡ low ++ rest → sizes low ≡ c.args.run
+counted : (c : After-count_in) (low rest : List Block) → zone_in c.args.part.now.bytes ≡ low ++ rest
+    → sizes low ≡ c.args.run
     → c.count_in.result ≡ count_of (spared c.args.sparing) (opened c.args.sparing low)
 counted c low rest is at =
     let n = c.args.sparing in
     let w = c.within-first.ensures in
     c.count_in.ensures.is
     ∙ ap (λ l. count_within (spared n) (c.args.run - c.within-first.result) (opened n l)) c.walk_at.ensures.is
-    ∙ count-below _ _ _ c.requires.sound.2 _ _ _ n low rest (edge_begins (goal.at.returns-clause-is c).After-within-first)
-    w.least c.requires.none w.low is at
+    ∙ count-below _ _ _ c.requires.sound.2 _ _ _ n low rest
+    (edge_begins (goal.at.returns-clause-is c).After-within-first) w.least c.requires.none w.low is at
 
 pub returns-clause-is : goal.returns-clause-is
 returns-clause-is c = counted c

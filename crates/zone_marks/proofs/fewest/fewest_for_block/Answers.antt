@@ -68,6 +68,7 @@ pub returns : goal.returns
 returns c =
     let d = (goal.at.returns c).After-free_at-free in
     let r = found d.before in
-    let below = c.count_below.ensures.is r.low r.rest r.is r.at ∙ ap (count_of (spared c.args.sparing)) (c.requires.whole r.low) in
+    let below = c.count_below.ensures.is r.low r.rest r.is r.at
+    ∙ ap (count_of (spared c.args.sparing)) (c.requires.whole r.low) in
     rw below (fewest-of _ _ _ _ _ r _ (omega (arith, now d, c.if-bytes-free.false))
     (sym (c.in-Some-count_in_run.ensures.is ∙ own d _ c.walk_at-2.ensures.is)))

@@ -22,7 +22,8 @@ returns c =
     let v = c.loop-reached.invariant in
     let r = c.loop-reached.reached in
     sym (passed-all _ _ _ c.requires.ready _ _ v.come.passed v.short
-    (left-none _ _ (begins-way _ _ _ c.requires.sound.2 _ v.come.before.edge) (v.come.before.end c.loop-reached-test.false)))
+    (left-none _ _ (begins-way _ _ _ c.requires.sound.2 _ v.come.before.edge)
+    (v.come.before.end c.loop-reached-test.false)))
 
 pub returns-in_default : goal.returns-in_default
 returns-in_default c = c.walk_on.ensures ∙ sym (known-finds _ _ _ _ _ c.behind_passed-behind.ensures)

@@ -27,7 +27,8 @@ some c = omega (arith, c.len.ensures.count)
 
 tag : (c : After-read_header) (j : Joining) (m : MayJoin j c.args.start c.args.at c.args.part.now.bytes)
     → tag_number c.read_header.result.tag ≡ kind (next j c.args.start c.args.at c.args.part.now.bytes m (some c)).here
-tag c j m = ((next _ _ _ _ m (some c)).tells.says _ _ c.read_header.ensures.first c.read_header.ensures.size (tag-small _)).1
+tag c j m = ((next _ _ _ _ m (some c)).tells.says _ _ c.read_header.ensures.first c.read_header.ensures.size
+    (tag-small _)).1
 
 pub free_up-requires : goal.free_up-requires
 free_up-requires c =

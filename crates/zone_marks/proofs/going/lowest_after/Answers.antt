@@ -19,7 +19,8 @@ first_going-found-requires c =
     way-above c.args.part.now.bytes i.0 i.1 i.2 r.below (r.there ++ r.above) c.args.lo r.is r.low
 
 -- the blocks up to the one that was found stay
-stays : (c : After-first_going-found) (old : List Block) (r : Replaced c.args.lo c.args.hi old (zone_in c.args.part.now.bytes))
+stays : (c : After-first_going-found) (old : List Block) (r : Replaced c.args.lo c.args.hi old
+    (zone_in c.args.part.now.bytes))
     → AtEach (Stays c.first_going-found.result) c.args.lo r.there
 stays c old r = at-left (Stays c.first_going-found.result) _ _ _
     (rw (left-above _ _ _ c.requires.sound.2 _ _ _ r.is r.low) at c.first_going-found.ensures)

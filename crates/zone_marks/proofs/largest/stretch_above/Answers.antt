@@ -12,8 +12,8 @@ use Rattle.zone_marks.proofs.largest.stretch_above.Goals.{After-edge_of-next, Af
 use Rattle.zone_marks.proofs.largest.stretch_above.Goals as goal
 
 -- what is known up to the next landmark
-stretch : (c : After-edge_of-next)
-    → IsStretch c.args.counting c.told_from-told.result.tally c.loop-index.at c.edge_of-next.result c.args.part.now.bytes
+stretch : (c : After-edge_of-next) → IsStretch c.args.counting c.told_from-told.result.tally c.loop-index.at
+    c.edge_of-next.result c.args.part.now.bytes
 stretch c = rw (c.loop-index.invariant.before.here c.loop-index-test.true)
     (c.told_from-told.ensures.stretch _ c.edge_of-next.ensures.before)
 
@@ -35,11 +35,12 @@ returns-then-suffices-clause-low c =
     ended-lowest _ _ (c.suffices.ensures c.if-suffices.true).1 ∙ sym (ap prefix c.loop-index.invariant.same)
 
 pub stretch_of_mark-requires-clause-order : goal.stretch_of_mark-requires-clause-order
-stretch_of_mark-requires-clause-order c = let s = stretch (goal.at.stretch_of_mark-requires-clause-order c).After-edge_of-next in
-    omega arith
+stretch_of_mark-requires-clause-order c =
+    let s = stretch (goal.at.stretch_of_mark-requires-clause-order c).After-edge_of-next in omega arith
 
 pub stretch_of_mark-requires-clause-stretch : goal.stretch_of_mark-requires-clause-stretch
-stretch_of_mark-requires-clause-stretch c = stretch (goal.at.stretch_of_mark-requires-clause-stretch c).After-edge_of-next
+stretch_of_mark-requires-clause-stretch c =
+    stretch (goal.at.stretch_of_mark-requires-clause-stretch c).After-edge_of-next
 
 pub join-stretch-requires : goal.join-stretch-requires
 join-stretch-requires c =

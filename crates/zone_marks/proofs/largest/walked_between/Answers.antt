@@ -14,10 +14,12 @@ spaces_up_to-requires c = let i = c.requires.sound in
 
 pub returns-in-Runs : goal.returns-in-Runs
 returns-in-Runs c = let t = tally.Known c.measure_up_to.result.runs in
-    rw c.in-Runs.is (stretch-from _ _ _ c.requires.sound.2 Runs t c.args.from c.args.to c.requires.begins c.requires.ends
+    rw c.in-Runs.is
+    (stretch-from _ _ _ c.requires.sound.2 Runs t c.args.from c.args.to c.requires.begins c.requires.ends
     c.requires.order c.measure_up_to.ensures.below.runs)
 
 pub returns-in-Spaces : goal.returns-in-Spaces
 returns-in-Spaces c = let t = tally.Known c.spaces_up_to.result in
-    rw c.in-Spaces.is (stretch-from _ _ _ c.requires.sound.2 Spaces t c.args.from c.args.to c.requires.begins c.requires.ends
+    rw c.in-Spaces.is
+    (stretch-from _ _ _ c.requires.sound.2 Spaces t c.args.from c.args.to c.requires.begins c.requires.ends
     c.requires.order c.spaces_up_to.ensures)

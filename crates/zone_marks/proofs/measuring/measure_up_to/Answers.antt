@@ -4,7 +4,8 @@ use Rattle.zone_summary.specs.Stretches.{prefix}
 use Rattle.zone_summary.specs.declared.stretch.Counting.TheVariants.{Runs}
 use Rattle.zone_summary.proofs.Monoid.{join-unit_right}
 use Rattle.zone_marks.proofs.Marks.Between.{one-spanned}
-use Rattle.zone_marks.proofs.Marks.Counting.{measured-below, measured-edge, prefix-counted, walked-few, walked-start, walked-step}
+use Rattle.zone_marks.proofs.Marks.Counting.{measured-below, measured-edge, prefix-counted, walked-few, walked-start}
+use Rattle.zone_marks.proofs.Marks.Counting.{walked-step}
 use Rattle.zone_marks.proofs.Marks.Passing.{passed-begins, past}
 use Rattle.zone_marks.proofs.Marks.Spanned.{free-size}
 use Rattle.zone_marks.proofs.measuring.measure_up_to.Goals as goal
@@ -15,7 +16,8 @@ loop-at-init c = walked-start Runs _ _ (λ p b. (free_of b ≤ 0) × (p < c.with
 pub join-runs-requires : goal.join-runs-requires
 join-runs-requires c =
     let s = c.span_at-span.ensures in
-    let f = walked-few _ _ _ _ (λ p b. (free_of b ≤ c.loop-at.most) × (p < c.within-stop.result)) _ c.loop-at.invariant in
+    let f = walked-few _ _ _ _ (λ p b. (free_of b ≤ c.loop-at.most)
+    × (p < c.within-stop.result)) _ c.loop-at.invariant in
     omega (arith, f, prefix-counted, ap prefix c.runs.ensures, free-size s.here)
 
 pub loop-at-preserved : goal.loop-at-preserved
@@ -23,7 +25,8 @@ loop-at-preserved c =
     let m = c.greater-most.ensures in
     let s = c.span_at-span.ensures in
     walked-step Runs _ _ _ (λ p b. (free_of b ≤ c.loop-at.most) × (p < c.within-stop.result)) _ c.loop-at.invariant
-    (λ p b. (free_of b ≤ c.greater-most.result) × (p < c.within-stop.result)) (λ p b r. (omega (arith, m.first, r.0), r.1))
+    (λ p b. (free_of b ≤ c.greater-most.result)
+    × (p < c.within-stop.result)) (λ p b r. (omega (arith, m.first, r.0), r.1))
     _ s.here s.is s.up s.way (omega (arith, m.second, s.bytes), c.loop-at-test.true) _ _
     (c.runs.ensures ∙ one-spanned s.here _ _ s.bytes s.ends ∙ sym (join-unit_right _)) c.join-runs.ensures.is
 
@@ -39,5 +42,5 @@ returns-clause-passed c = measured-edge _ _ _ _ _ _ c.loop-at.invariant _
 
 pub returns-clause-below : goal.returns-clause-below
 returns-clause-below c =
-    measured-below _ _ _ _ _ _ c.loop-at.invariant _ _ c.within-stop.ensures.least 
+    measured-below _ _ _ _ _ _ c.loop-at.invariant _ _ c.within-stop.ensures.least
     (past _ _ _ _ _ c.within-stop.ensures.one c.len.ensures.count (omega arith))

@@ -26,5 +26,5 @@ loop-at-preserved c =
 pub returns : goal.returns
 returns c =
     walked-below Spaces _ _ _ (λ p _. p < c.within-stop.result) _ c.loop-at.invariant c.args.place
-    (λ p _ r. omega (arith, r, c.within-stop.ensures.least)) 
+    (λ p _ r. omega (arith, r, c.within-stop.ensures.least))
     (past _ _ _ _ _ c.within-stop.ensures.one c.len.ensures.count (omega arith))

@@ -22,14 +22,17 @@ read_header-header-requires-clause-tag c = (next _ _ _ _ _ _ _ c.requires.pass.1
 module _ (c : After-left_after) (p : Purge) (u : Purging p c.args.sparing c.args.pass.start c.args.pass.at
     c.args.pass.left c.args.pass.freed c.args.part.now.bytes) where
   -- the block at the place
-  abbrev there : Next p c.args.sparing c.args.pass.start c.args.pass.at c.args.pass.left c.args.pass.freed c.args.part.now.bytes u
+  abbrev there : Next p c.args.sparing c.args.pass.start c.args.pass.at c.args.pass.left c.args.pass.freed
+      c.args.part.now.bytes u
   there = next p _ _ _ _ _ _ u c.requires.some
 
   -- what its header says
-  says : (c.read_header-header.result.size ≡ size there.here) × (tag_number c.read_header-header.result.tag ≡ kind there.here)
+  says : (c.read_header-header.result.size ≡ size there.here)
+      × (tag_number c.read_header-header.result.tag ≡ kind there.here)
   says = let e = c.read_header-header.ensures in there.tells.says _ _ e.first e.size (tag-small _)
 
-  left : left_past (spared c.args.sparing) c.args.pass.left (opened_block c.args.sparing there.here) ≡ c.left_after.result
+  left : left_past (spared c.args.sparing) c.args.pass.left (opened_block c.args.sparing there.here)
+      ≡ c.left_after.result
   left =
       let h = c.read_header-header.result in
       let e = c.read_header-header.ensures in
@@ -52,11 +55,14 @@ module _ (c : After-new_free) (p : Purge) (u : Purging p c.args.sparing c.args.p
 
   end : c.free_up.result ≡ c.args.pass.at + size (there early p u).here
   end = let m = left early p u ∙ c.in-Some.is in
-      c.free_up.ensures.end (freeing _ _ _ _ _ _ _ u (there early p u) _ m) (may-free _ _ _ _ _ _ _ u (there early p u) _ m)
+      let n = there early p u in
+      c.free_up.ensures.end (freeing _ _ _ _ _ _ _ u n _ m) (may-free _ _ _ _ _ _ _ u n _ m)
 
-  freed : Purging p c.args.sparing c.args.pass.start c.free_up.result c.in-Some.left (c.args.pass.freed + c.new_free.result)
+  freed : Purging p c.args.sparing c.args.pass.start c.free_up.result c.in-Some.left
+      (c.args.pass.freed + c.new_free.result)
       c.free_up.new.part.bytes
-  freed = freed-next p _ _ _ _ _ _ u (there early p u) _ (left early p u ∙ c.in-Some.is) _ c.free_up.ensures.lays _ end _
+  freed = freed-next p _ _ _ _ _ _ u (there early p u) _ (left early p u ∙ c.in-Some.is) _
+      c.free_up.ensures.lays _ end _
       (c.new_free.ensures ∙ (λ i. let z = says early p u in cond (z.1 i == 0) 0 (z.0 i)))
 
 pub overflow_add-result : goal.overflow_add-result

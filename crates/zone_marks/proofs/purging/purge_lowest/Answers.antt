@@ -28,7 +28,8 @@ last_free_below-start-requires-clause-up c =
 pub last_free_below-start-requires-clause-inside : goal.last_free_below-start-requires-clause-inside
 last_free_below-start-requires-clause-inside c =
     let f = c.in-Some.ensures.lowest in
-    let r = here-read _ _ _ (may-go _ _ _ c.requires.sound.2 c.args.purges _ _ f.1 _ f.3 (c.in-Some.ensures.plain refl)) in
+    let r = here-read _ _ _ (may-go _ _ _ c.requires.sound.2 c.args.purges _ _ f.1 _ f.3
+    (c.in-Some.ensures.plain refl)) in
     omega arith
 
 pub purge_from-requires-2 : goal.purge_from-requires-2
