@@ -9,7 +9,7 @@ use Rattle.block_store.specs.Sparing.{purged, spared}
 use Rattle.block_store.specs.declared.sparing.Sparing.TheVariants as sparing
 use Rattle.block_store.proofs.Purged.Looks.{top_free}
 use Rattle.block_store.proofs.Purged.PurgedSums.{largest-purged, largest_stretch}
-use Rattle.block_store.proofs.Purged.Rising.{lowest_purged-stays}
+use Rattle.block_store.proofs.Purged.Rising.{lowest_purged-none, lowest_purged-stays}
 use Rattle.block_store.proofs.Zone.Apart.{Apart, apart-size, apart-tidied, two}
 use Rattle.zone_bytes.specs.Decode.{zone_in}
 use Rattle.zone_bytes.specs.Lawful.{IsSound}
@@ -55,14 +55,10 @@ largest-within m hi x (b ∷ blocks) l e =
     let r = largest-within m hi (x + size b) blocks (omega (arith, l)) e.1 in
     omega (arith, room-less m b (e.0 (omega arith) (omega (arith, l))), r)
 
--- the largest of some blocks above others is no larger than that of all
-largest-above : (below above : List Block) → largest_free above ≤ largest_free (below ++ above)
-largest-above [] above = omega arith
-largest-above (b ∷ below) above = omega (arith, largest-above below above)
-
-largest-below : (below above : List Block) → largest_free below ≤ largest_free (below ++ above)
-largest-below [] above = omega arith
-largest-below (b ∷ below) above = omega (arith, largest-below below above)
+-- the largest of some blocks and others above them
+largest-append : (below above : List Block) → largest_free (below ++ above) ≡ max (largest_free below) (largest_free above)
+largest-append [] above = omega arith
+largest-append (b ∷ below) above = omega (arith, largest-append below above)
 
 -- a walk that keeps the size of the largest Free block that it passed
 pub record Growing (xs : List ℕ) (from at most largest : ℕ) : Type 0 where
@@ -100,7 +96,7 @@ module _ (xs : List ℕ) (first unused : ℕ) (i : IsSound xs first unused) wher
   zone-largest m e l = omega (arith, largest-within m 4294967295 0 (zone_in xs) (omega (arith, sizes-length)) e, l)
 
   pub left-largest : (p : ℕ) → Begins p 0 (zone_in xs) → largest_free (left_in p xs) ≤ largest_free (zone_in xs)
-  left-largest p b = omega (arith, ap largest_free (seen-from xs first unused i p b).is, largest-above)
+  left-largest p b = omega (arith, ap largest_free (seen-from xs first unused i p b).is, largest-append)
 
 -- blocks that stay, below others
 purged-above : (k bound x : ℕ) (below above : List Block) → AtEach (Stays bound) x below → x + sizes below ≤ bound
@@ -119,8 +115,7 @@ none-given sp b l = cases (may_be_purged sp b) (one-gives sp b)
     cases false g = refl
 
 none-purged : (k : ℕ) (sp : Block → Bool) (bs : List Block) → purgeable_sum bs ≤ 0 → lowest_purged k sp bs ≡ bs
-none-purged zero sp [] l = refl
-none-purged (suc k) sp [] l = refl
+none-purged k sp [] l = lowest_purged-none k sp
 none-purged k sp (b ∷ bs) l =
     lowest_purged-stays k sp b bs (none-given sp b (omega (arith, l)))
     ∙ ap (λ q. b ∷ q) (none-purged k sp bs (omega (arith, l)))
@@ -146,8 +141,7 @@ stretch-above f (Relocatable id flags content ∷ below) above = let r = stretch
 
 purged-rises : (f k : ℕ) (sp : Block → Bool) (bs : List Block)
     → max f (largest_free bs) ≤ largest_stretch f (lowest_purged k sp bs)
-purged-rises f zero sp [] = omega arith
-purged-rises f (suc k) sp [] = omega arith
+purged-rises f k sp [] = omega (arith, ap (largest_stretch f) (lowest_purged-none k sp))
 purged-rises f k sp (Free n ∷ bs) =
     omega (arith, purged-rises (f + n) k sp bs, ap (largest_stretch f) (lowest_purged-stays k sp (Free n) bs refl))
 purged-rises f k sp (Nonrelocatable id content ∷ bs) =
@@ -241,7 +235,7 @@ module _ (xs : List ℕ) (first unused : ℕ) (i : IsSound xs first unused) (k f
       (subst Apart s.is (apart-tidied (zone_in xs) i.tidied)) (inl refl)
       (same-first k m.bound (0 + sizes s.below) rest (omega (arith, l))
       (at-right (Stays m.bound) 0 s.below rest stays)) in
-      omega (arith, e, up, stretch-above, after-is, largest-below, ap largest_free s.is, rises)
+      omega (arith, e, up, stretch-above, after-is, largest-append, ap largest_free s.is, rises)
 
   pub largest-from : largest_free (purged k sparing.Nothing (zone_in xs))
       ≡ max (largest_free (zone_in xs)) (largest_free (purged k sparing.Nothing (left_in from xs)))
