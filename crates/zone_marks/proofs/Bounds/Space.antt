@@ -56,7 +56,8 @@ largest-within m hi x (b ∷ blocks) l e =
     omega (arith, room-less m b (e.0 (omega arith) (omega (arith, l))), r)
 
 -- the largest of some blocks and others above them
-largest-append : (below above : List Block) → largest_free (below ++ above) ≡ max (largest_free below) (largest_free above)
+largest-append : (below above : List Block)
+    → largest_free (below ++ above) ≡ max (largest_free below) (largest_free above)
 largest-append [] above = omega arith
 largest-append (b ∷ below) above = omega (arith, largest-append below above)
 
