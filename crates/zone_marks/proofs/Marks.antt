@@ -2,7 +2,6 @@ pub mod Passing
 pub mod Spanned
 pub mod Between
 pub mod Counting
-pub mod Spaces
 pub mod Lowering
 pub mod Rooms
 pub mod Keeping

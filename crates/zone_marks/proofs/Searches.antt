@@ -2,5 +2,4 @@ pub mod Going
 pub mod Pieces
 pub mod Knowing
 pub mod RunStarting
-pub mod Begun
 pub mod Passed

@@ -1,6 +1,5 @@
 pub mod Marks
 pub mod Marked
-pub mod Beginning
 pub mod Purgeable
 pub mod Searching
 pub mod Purging

@@ -1,5 +1,6 @@
 -- Landmarks of a zone: places at which blocks begin, each with a bound on the free blocks up to the next.
-use Rattle.std.specs.Prelude.{◌≡◌, ℕ, zero, suc, ◌+◌, ◌*◌, ◌≤◌, ◌<◌, ◌⊎◌, Bool, true, false, not, ◌&&◌, if◌then◌else◌, nat_le, nat_lt}
+use Rattle.std.specs.Prelude.{◌≡◌, ℕ, ◌+◌, ◌*◌, ◌≤◌, ◌<◌, ◌⊎◌, Bool, true, false, not, ◌&&◌, if◌then◌else◌, nat_le}
+use Rattle.std.specs.Prelude.{nat_lt}
 use Rattle.std.specs.Prelude.{List, [], ◌∷◌, length, take, drop, get_or}
 use Rattle.block_store.specs.Block.{Block, size, free_of, is_room}
 use Rattle.block_store.specs.Run.{in_run}
@@ -123,13 +124,6 @@ pub record AreGroups (groups : List Group) (marks : List Landmark) : Type 0 wher
 -- in the zone.
 abbrev pub NoneBelow : ℕ → List Block → List Landmark → ℕ → Type 0
 NoneBelow bytes zone marks index = AtEach (NoRoom bytes 0 (next_of above_all (drop index marks))) 0 zone
-
--- Reports whether a block is free, or would be if it were purged, by the number of its kind and the flags in its header.
-abbrev pub gives_space : ℕ → ℕ → Bool
-gives_space zero flags = true
-gives_space (suc zero) flags = false
-gives_space (suc (suc zero)) flags = false
-gives_space (suc (suc (suc kind))) flags = nat_le 64 flags && nat_lt flags 128
 
 -- A block is from the place `at` to `end`, has `free` free bytes, and ends a run or not.
 pub record Spans (at end free : ℕ) (barrier : Bool) (xs : List ℕ) : Type 0 where

@@ -1,26 +1,29 @@
-//! Where the search for a run after all purges begins: the blocks below the lowest one that may be purged are not walked
-//! over, since landmarks know what they come to in runs.
+//! The state of a search for a run behind blocks that it passed by what landmarks know of them, and so where the search
+//! for a run after all purges begins: the blocks below the lowest one that may be purged are not walked over.
 
-ghost use Rattle.std.specs.Prelude.{◌≡◌, ◌+◌, ◌≤◌, ◌<◌, ◌⊎◌, ◌^◌, ℕ, true, List, get_or, length, IfSome};
-ghost use Rattle.block_store.specs.Block.{Block};
+ghost use Rattle.std.specs.Prelude.{◌≡◌, ◌+◌, ◌≤◌, ◌<◌, ◌⊎◌, ◌&&◌, ◌^◌, ℕ, true, false, nat_le, List};
+ghost use Rattle.std.specs.Prelude.{get_or, length, IfSome};
+ghost use Rattle.block_store.specs.Block.{Block, free_sum};
+ghost use Rattle.block_store.specs.Run.{has};
 ghost use Rattle.block_store.specs.declared.run_search.RunScan.{RunScan as RunOf};
-ghost use Rattle.zone_marks.specs.Beginning.{IsOpen, IsReached};
 ghost use Rattle.zone_bytes.specs.Decode.{zone_in};
 ghost use Rattle.zone_bytes.specs.Lawful.{IsSound};
-ghost use Rattle.zone_marks.specs.Marks.{AreMarks, above_all, no_mark};
+ghost use Rattle.zone_marks.specs.Marks.{AreMarks, above_all, ends_run, no_mark};
 ghost use Rattle.zone_bytes.specs.Changes.{Begins};
 ghost use Rattle.zone_marks.specs.Purgeable.{MayStart};
-ghost use Rattle.zone_marks.specs.Searching.{IsPassed, IsPiece, RunBegins, begun, finds_purging, lowest_place};
+ghost use Rattle.zone_marks.specs.Searching.{Goes, IsFound, IsKnown, IsPassed, IsPiece, IsReady};
+ghost use Rattle.zone_marks.specs.Searching.{begun, finds_purging, lowest_place};
+ghost use Rattle.zone_bytes.specs.Stepping.{left_in};
 ghost use Rattle.zone_summary.specs.Emptied.{all_purged};
-ghost use Rattle.zone_summary.specs.Stretches.{load};
-ghost use Rattle.zone_summary.specs.Stretches.{prefix, stretch_of, suffix};
+ghost use Rattle.zone_summary.specs.Stretches.{best, load, prefix, stretch_of, suffix};
 
 use crate::landmark::{Landmark, Tally};
 use crate::marking::index_above;
-use crate::measuring::{span_at, within};
+use crate::measuring::within;
 use crate::purgeable::frees_one;
-use block_store::{GREATEST_ZONE, RunScan, Sparing};
+use block_store::{GREATEST_ZONE, RunScan, Sparing, scan_run};
 use raw_region::Part;
+use zone_bytes::step_at;
 use zone_summary::Stretch;
 
 /// What is known of blocks that were passed: what they come to in runs, with the free bytes so far of the run in which
@@ -32,14 +35,6 @@ pub struct Passed {
     pub barred: u32,
     pub end: u32,
     pub free: u32,
-}
-
-/// A run as far as up to a place: where it begins, the free bytes of its blocks below the place, and the place.
-#[derive(Clone, Copy, Drop)]
-pub struct OpenRun {
-    pub start: u32,
-    pub free: u32,
-    pub at: u32,
 }
 
 /// Returns what is known of the blocks that were passed up to the place `at`, and of those from there up to `next`, which
@@ -90,106 +85,6 @@ fn below_mark(marks: &[Landmark], part: &Part, last: usize) -> Option<Passed>
     Some(below)
 }
 
-/// Returns the place above the first block that ends a run, of those from `at` on that end up to `to`; if there is
-/// none, 0.
-fn run_above(part: &Part, at: u32, to: u32) -> u32
-    requires sound { (first : ℕ) × (unused : ℕ) × IsSound part.now.bytes first unused }
-    requires begins { Begins at 0 (zone_in part.now.bytes) }
-    ensures { (result ≡ 0) ⊎ RunBegins result part.now.bytes }
-{
-    let stop = within(to, part.len() as u32);
-    let mut place = at;
-    while place < stop {
-        let span = span_at(part, place);
-        if span.barrier {
-            return span.end;
-        }
-        place = span.end;
-    }
-    0
-}
-
-/// Takes a run past the block at its place: the block is one of the run, or another run begins above it.
-fn past_block(part: &Part, run: OpenRun) -> OpenRun
-    requires sound { (first : ℕ) × (unused : ℕ) × IsSound part.now.bytes first unused }
-    requires run { IsOpen part.now.bytes run }
-    requires some { run.at < length part.now.bytes }
-    ensures run { IsOpen part.now.bytes result }
-    ensures further { run.at < result.at }
-{
-    let span = span_at(part, run.at);
-    if span.barrier {
-        return OpenRun {
-            start: span.end,
-            free: 0,
-            at: span.end,
-        };
-    }
-    OpenRun {
-        start: run.start,
-        free: run.free + span.free,
-        at: span.end,
-    }
-}
-
-/// Returns the run of the first block at or above `to`, as far as up to that block, by a walk from another run on.
-fn run_up_to(part: &Part, run: OpenRun, to: u32) -> OpenRun
-    requires sound { (first : ℕ) × (unused : ℕ) × IsSound part.now.bytes first unused }
-    requires run { IsOpen part.now.bytes run }
-    ensures { IsOpen part.now.bytes result }
-{
-    let stop = within(to, part.len() as u32);
-    let mut run = run;
-    while run.at < stop {
-        run = past_block(part, run);
-    }
-    run
-}
-
-/// Returns the run as far as up to the landmark at `at`, by what is known of the blocks below.
-fn open_run(part: &Part, below: Passed, at: u32) -> Option<OpenRun>
-    requires sound { (first : ℕ) × (unused : ℕ) × IsSound part.now.bytes first unused }
-    requires below { IsPassed (begun 0 0) at part.now.bytes below }
-    ensures open { IfSome result (λ run. IsOpen part.now.bytes run) }
-    ensures at { IfSome result (λ run. run.at ≡ at) }
-{
-    if let Stretch::Whole(free) = below.runs {
-        return Some(OpenRun { start: 0, free, at });
-    }
-    let begins = run_above(part, below.barred, below.end);
-    let begun = OpenRun {
-        start: begins,
-        free: 0,
-        at: begins,
-    };
-    let run = run_up_to(part, begun, below.end);
-    if run.at != below.end {
-        return None;
-    }
-    Some(OpenRun {
-        start: run.start,
-        free: run.free + below.free,
-        at,
-    })
-}
-
-/// Returns the run as far as up to the place `from`, where it is known that no run below it has `bytes` free bytes.
-fn run_below(marks: &[Landmark], part: &Part, from: u32, bytes: u32) -> Option<OpenRun>
-    requires sound { (first : ℕ) × (unused : ℕ) × IsSound part.now.bytes first unused }
-    requires marks { AreMarks above_all (zone_in part.now.bytes) marks.now }
-    ensures { IfSome result (λ run. IsReached bytes from part.now.bytes run) }
-{
-    let last = index_above(marks, from, 0);
-    if last == marks.len() || marks[last].at != from || marks[0].at != 0 {
-        return None;
-    }
-    let below = below_mark(marks, part, last)?;
-    if bytes <= below.runs.best() {
-        return None;
-    }
-    open_run(part, below, from)
-}
-
 /// Returns a search that begins at `place` with the given number of purges.
 pub fn begun_at(place: u32, purges: u32) -> RunScan
     ensures { result ≡ begun place purges }
@@ -201,6 +96,96 @@ pub fn begun_at(place: u32, purges: u32) -> RunScan
         met: true,
         place,
     }
+}
+
+/// Reports whether the run so far is the one that is sought.
+pub fn is_found(scan: RunScan, bytes: u32) -> bool
+    ensures { result ≡ (scan.met && nat_le bytes scan.free) }
+{
+    scan.met && bytes <= scan.free
+}
+
+/// Searches up to the first block at or above `to`, or until the run is found.
+pub fn scan_up_to(part: &Part, scan: RunScan, to: u32, bytes: u32, sparing: Sparing) -> RunScan
+    requires sound { (first : ℕ) × (unused : ℕ) × IsSound part.now.bytes first unused }
+    requires begins { Begins scan.place 0 (zone_in part.now.bytes) }
+    requires free { scan.free ≤ scan.place }
+    requires met { scan.met ≡ true }
+    ensures goes { Goes bytes sparing part.now.bytes scan result }
+    ensures free { result.free ≤ result.place }
+    ensures met { result.met ≡ true }
+    ensures left { result.left ≤ scan.left }
+    ensures came { IsFound bytes result ⊎ ((length part.now.bytes ≤ result.place) ⊎ (to ≤ result.place)) }
+    ensures up_to { Begins to scan.place (left_in scan.place part.now.bytes) → result.place ≤ to }
+{
+    let stop = within(to, part.len() as u32);
+    let mut scan = scan;
+    while scan.place < stop && !is_found(scan, bytes) {
+        let step = step_at(part, scan.place);
+        scan = scan_run(step.block, None, scan, sparing);
+    }
+    scan
+}
+
+/// Takes a search up to the place `next` past blocks among which no run ends and of which `free` bytes are free.
+fn past_open(scan: RunScan, free: u32, next: u32, bytes: u32) -> RunScan
+    requires { (scan.met && nat_le bytes scan.free) ≡ false → scan.free + free < 2 ^ 32 }
+    ensures { (from : RunOf) (at : ℕ) (xs : List ℕ) (here : List Block) → IsKnown bytes from at xs scan
+        → IsPiece at next xs here → has ends_run here ≡ false → free_sum here ≡ free
+        → IsKnown bytes from next xs result }
+{
+    if is_found(scan, bytes) {
+        return scan;
+    }
+    RunScan {
+        left: scan.left,
+        start: scan.start,
+        free: scan.free + free,
+        met: scan.met,
+        place: next,
+    }
+}
+
+/// Returns the state at the place `at` of a search that passed blocks up to there.
+pub fn behind_passed(part: &Part, scan: RunScan, passed: Passed, at: u32, bytes: u32) -> RunScan
+    requires sound { (first : ℕ) × (unused : ℕ) × IsSound part.now.bytes first unused }
+    requires ready { IsReady part.now.bytes scan }
+    requires passed { IsPassed scan at part.now.bytes passed }
+    requires short { best passed.runs < bytes }
+    ensures { IsKnown bytes scan at part.now.bytes result }
+{
+    match passed.runs {
+        Stretch::Whole(free) => RunScan {
+            left: scan.left,
+            start: scan.start,
+            free,
+            met: scan.met,
+            place: at,
+        },
+        Stretch::Ended(_, _, _) => {
+            let begun = begun_at(passed.barred, 0);
+            let walked = scan_up_to(part, begun, passed.end, bytes, Sparing::Nothing);
+            past_open(walked, passed.free, at, bytes)
+        }
+    }
+}
+
+/// Returns the state at the place `from` of a search from the bottom on; `None` where it isn't known that no run
+/// below the place has `bytes` free bytes.
+fn run_below(marks: &[Landmark], part: &Part, from: u32, bytes: u32) -> Option<RunScan>
+    requires sound { (first : ℕ) × (unused : ℕ) × IsSound part.now.bytes first unused }
+    requires marks { AreMarks above_all (zone_in part.now.bytes) marks.now }
+    ensures { IfSome result (λ scan. IsKnown bytes (begun 0 0) from part.now.bytes scan) }
+{
+    let last = index_above(marks, from, 0);
+    if last == marks.len() || marks[last].at != from || marks[0].at != 0 {
+        return None;
+    }
+    let below = below_mark(marks, part, last)?;
+    if bytes <= below.runs.best() {
+        return None;
+    }
+    Some(behind_passed(part, begun_at(0, 0), below, from, bytes))
 }
 
 /// Returns where the search for a run with `bytes` free bytes once all blocks that may be purged were begins: at the
@@ -225,12 +210,12 @@ pub fn begin_search(
         return begun_at(0, GREATEST_ZONE);
     }
     match run_below(marks, part, from, bytes) {
-        Some(run) => RunScan {
+        Some(scan) => RunScan {
             left: GREATEST_ZONE,
-            start: run.start,
-            free: run.free,
+            start: scan.start,
+            free: scan.free,
             met: true,
-            place: run.at,
+            place: scan.place,
         },
         None => begun_at(0, GREATEST_ZONE),
     }

@@ -11,9 +11,10 @@ ghost use Rattle.zone_marks.specs.Marked.{AreOf};
 ghost use Rattle.zone_bytes.specs.Changes.{Begins};
 
 use crate::keeping::Landmarks;
+use crate::measuring::walk_at;
 use block_store::room_above_in;
 use raw_region::Part;
-use zone_bytes::{read_word, walk_from};
+use zone_bytes::read_word;
 
 /// Reads the word of a slot. Returns 0 for a number at which no word lies.
 fn word_of_slot(part: &Part, slot: u32) -> u32
@@ -46,5 +47,5 @@ pub fn has_room_behind(part: &Part, marks: &Landmarks, slot: u32, bytes: u32) ->
         result ≡ is_some (taken bytes s.above)) }
 {
     let from = edge_below(part, marks, slot);
-    room_above_in(&mut walk_from(part, from), slot, bytes)
+    room_above_in(&mut walk_at(part, from), slot, bytes)
 }

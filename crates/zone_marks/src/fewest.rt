@@ -21,13 +21,12 @@ ghost use Rattle.block_store.specs.Fewest.{serves, serves_block, IsFewest};
 
 use crate::landmark::{Group, Landmark};
 use crate::largest::stretch_above;
-use crate::measuring::within;
+use crate::measuring::{walk_at, within};
 use crate::purgeable::frees_one;
 use block_store::{
     Sparing, Walk, is_counted_free, is_in_run, may_purge, may_purge_now, run_of_in, size_of_seen,
 };
 use raw_region::Part;
-use zone_bytes::walk_from;
 use zone_summary::Counting;
 
 /// Returns the number of blocks that may be purged, of those of a walk that begin in the first `bytes` bytes.
@@ -42,10 +41,10 @@ fn count_in<W: Walk>(walk: &mut W, bytes: u32, sparing: Sparing) -> u32
         let Some(block) = walk.next_block() else {
             return total;
         };
+        left = left.saturating_sub(size_of_seen(block));
         if may_purge(block, sparing) {
             total += 1;
         }
-        left = left.saturating_sub(size_of_seen(block));
     }
     total
 }
@@ -118,7 +117,7 @@ fn free_at(marks: &[Landmark], groups: &[Group], part: &Part, run: u32, sparing:
     ensures { result ≡ prefix (stretch_of (opened sparing (left_in run part.now.bytes))) }
 {
     if frees_one(sparing) {
-        free_of_run(&mut walk_from(part, run), sparing)
+        free_of_run(&mut walk_at(part, run), sparing)
     } else {
         stretch_above(marks, groups, part, run, Counting::Runs, true).lowest()
     }
@@ -135,7 +134,7 @@ fn count_below(part: &Part, from: u32, run: u32, sparing: Sparing) -> u32
     ensures few { result ≤ run }
 {
     let first = within(from, run);
-    count_in(&mut walk_from(part, first), run - first, sparing)
+    count_in(&mut walk_at(part, first), run - first, sparing)
 }
 
 /// Returns the least number of purges after which a run has at least `bytes` free bytes, where no run has them before
@@ -161,7 +160,7 @@ pub fn fewest_by_marks(
     let below = count_below(part, from, run, sparing);
     let free = free_at(marks, groups, part, run, sparing);
     let lacks = bytes.saturating_sub(free);
-    below + count_for(&mut walk_from(part, run), lacks, sparing)
+    below + count_for(&mut walk_at(part, run), lacks, sparing)
 }
 
 /// Returns the least number of purges after which the run of a master pointer's block has at least `bytes` free bytes: 0
@@ -188,14 +187,14 @@ pub fn fewest_for_block(
         ((purges : ℕ) → serves_block number bytes sparing (zone_in part.now.bytes) purges ≡ false)
         (λ fewest. IsFewest (serves_block number bytes sparing (zone_in part.now.bytes)) fewest) }
 {
-    let Some(run) = run_of_in(&mut walk_from(part, 0), number, 0) else {
+    let Some(run) = run_of_in(&mut walk_at(part, 0), number, 0) else {
         return None;
     };
     let free = free_at(marks, groups, part, run, sparing);
     if bytes <= free {
         return Some(0);
     }
-    let Some(own) = count_in_run(&mut walk_from(part, run), bytes - free, sparing) else {
+    let Some(own) = count_in_run(&mut walk_at(part, run), bytes - free, sparing) else {
         return None;
     };
     Some(count_below(part, from, run, sparing) + own)

@@ -1,109 +1,32 @@
 //! The search for a run by landmarks: stretches with which no run comes to enough free bytes are passed without a walk
 //! over their blocks.
 
-ghost use Rattle.std.specs.Prelude.{◌≡◌, ◌+◌, ◌≤◌, ◌<◌, ◌⊎◌, ◌&&◌, ◌^◌, ℕ, List, Option, false, true, nat_le};
-ghost use Rattle.std.specs.Prelude.{get_or, length, IfSome};
-ghost use Rattle.block_store.specs.Block.{Block, free_sum};
+ghost use Rattle.std.specs.Prelude.{◌≡◌, ◌+◌, ◌≤◌, ◌<◌, ◌^◌, ℕ, List, true, length, IfSome};
 ghost use Rattle.block_store.specs.Find.{FindsLowestRun};
-ghost use Rattle.block_store.specs.Run.{has, has_free};
+ghost use Rattle.block_store.specs.Run.{has_free};
 ghost use Rattle.block_store.specs.declared.run_search.RunScan.{RunScan as RunOf};
 ghost use Rattle.zone_bytes.specs.Decode.{zone_in};
 ghost use Rattle.zone_bytes.specs.Lawful.{IsSound};
-ghost use Rattle.zone_marks.specs.Marks.{AreGroups, AreMarks, above_all, ends_run, no_mark};
+ghost use Rattle.zone_marks.specs.Marks.{AreGroups, AreMarks, above_all};
 ghost use Rattle.zone_bytes.specs.Changes.{Begins};
 ghost use Rattle.zone_marks.specs.Purgeable.{MayStart};
-ghost use Rattle.zone_marks.specs.Searching.{HasCome, IsBefore, IsFound, IsKnown, IsPassed, IsPiece, IsReady, IsStretch};
-ghost use Rattle.zone_marks.specs.Searching.{finds_from, finds_purging};
-ghost use Rattle.zone_bytes.specs.Stepping.{left_in, IsOnWay};
+ghost use Rattle.zone_marks.specs.Searching.{HasCome, IsBefore, IsPassed, IsReady, IsStretch, finds_from};
+ghost use Rattle.zone_marks.specs.Searching.{finds_purging};
 ghost use Rattle.zone_marks.specs.declared.landmark.Tally.TheVariants as tally;
 ghost use Rattle.zone_summary.specs.Emptied.{all_purged};
-ghost use Rattle.zone_summary.specs.Stretches.{load};
-ghost use Rattle.zone_summary.specs.Stretches.{best, prefix, suffix};
+ghost use Rattle.zone_summary.specs.Stretches.{best, load, prefix, suffix};
 ghost use Rattle.zone_summary.specs.declared.stretch.Counting.TheVariants as counting;
 ghost use Rattle.zone_summary.specs.declared.stretch.Stretch.{Stretch as StretchOf};
 
-use crate::beginning::{Passed, begin_search, begun_at, pass_known};
+use crate::beginning::{
+    Passed, begin_search, begun_at, behind_passed, is_found, pass_known, scan_up_to,
+};
 use crate::landmark::{Group, Landmark, Tally};
-use crate::largest::told_from;
-use crate::marking::{index_above, place_of_mark};
-use crate::measuring::within;
-use block_store::{RunScan, Sparing, scan_run};
+use crate::largest::{edge_of, told_from};
+use crate::marking::index_above;
+use block_store::{RunScan, Sparing};
 use raw_region::Part;
-use zone_bytes::step_at;
 use zone_summary::{Counting, Stretch};
-
-/// Reports whether the run so far is the one that is sought.
-fn is_found(scan: RunScan, bytes: u32) -> bool
-    ensures { result ≡ (scan.met && nat_le bytes scan.free) }
-{
-    scan.met && bytes <= scan.free
-}
-
-/// Searches up to the first block at or above `to`, or until the run is found.
-fn scan_up_to(part: &Part, scan: RunScan, to: u32, bytes: u32, sparing: Sparing) -> RunScan
-    requires way { IsOnWay scan.place part.now.bytes }
-    requires free { scan.free ≤ scan.place }
-    requires met { scan.met ≡ true }
-    ensures same { finds_purging bytes sparing scan part.now.bytes ≡ finds_purging bytes sparing result part.now.bytes }
-    ensures begins { Begins result.place scan.place (left_in scan.place part.now.bytes) }
-    ensures free { result.free ≤ result.place }
-    ensures met { result.met ≡ true }
-    ensures left { result.left ≤ scan.left }
-    ensures stays { IsFound bytes scan → IsFound bytes result }
-    ensures came { IsFound bytes result ⊎ ((length part.now.bytes ≤ result.place) ⊎ (to ≤ result.place)) }
-    ensures up_to { Begins to scan.place (left_in scan.place part.now.bytes) → result.place ≤ to }
-{
-    let stop = within(to, part.len() as u32);
-    let mut scan = scan;
-    while scan.place < stop && !is_found(scan, bytes) {
-        let step = step_at(part, scan.place);
-        scan = scan_run(step.block, None, scan, sparing);
-    }
-    scan
-}
-
-/// Takes a search up to the place `next` past blocks among which no run ends and of which `free` bytes are free.
-fn past_open(scan: RunScan, free: u32, next: u32, bytes: u32) -> RunScan
-    requires { (scan.met && nat_le bytes scan.free) ≡ false → scan.free + free < 2 ^ 32 }
-    ensures { (answer : Option ℕ) (at : ℕ) (xs : List ℕ) (here : List Block) → IsKnown bytes answer at xs scan →
-        IsPiece at next xs here → has ends_run here ≡ false → free_sum here ≡ free →
-        IsKnown bytes answer next xs result }
-{
-    if is_found(scan, bytes) {
-        return scan;
-    }
-    RunScan {
-        left: scan.left,
-        start: scan.start,
-        free: scan.free + free,
-        met: scan.met,
-        place: next,
-    }
-}
-
-/// Returns the state at the place `at` of a search that passed blocks up to there.
-fn behind_passed(part: &Part, scan: RunScan, passed: Passed, at: u32, bytes: u32) -> RunScan
-    requires sound { (first : ℕ) × (unused : ℕ) × IsSound part.now.bytes first unused }
-    requires ready { IsReady part.now.bytes scan }
-    requires passed { IsPassed scan at part.now.bytes passed }
-    requires short { best passed.runs < bytes }
-    ensures { IsKnown bytes (finds_from bytes scan part.now.bytes) at part.now.bytes result }
-{
-    match passed.runs {
-        Stretch::Whole(free) => RunScan {
-            left: scan.left,
-            start: scan.start,
-            free,
-            met: scan.met,
-            place: at,
-        },
-        Stretch::Ended(_, _, _) => {
-            let begun = begun_at(passed.barred, 0);
-            let walked = scan_up_to(part, begun, passed.end, bytes, Sparing::Nothing);
-            past_open(walked, passed.free, at, bytes)
-        }
-    }
-}
 
 /// Returns the place of the run that a search finds, by a walk from where it is.
 fn walk_on(part: &Part, scan: RunScan, bytes: u32, sparing: Sparing) -> Option<u32>
@@ -169,7 +92,7 @@ fn pass_up_to(
     ensures come { IfSome result (λ r. (scan : RunOf) → HasCome scan marks.now part.now.bytes reached →
         HasCome scan marks.now part.now.bytes r) }
 {
-    let next = within(place_of_mark(marks, behind), part.len() as u32);
+    let next = edge_of(marks, part, behind);
     match pass_stretch(reached.passed, tally, reached.at, next, bytes) {
         Some(passed) => Some(Reached {
             passed,
@@ -231,8 +154,7 @@ fn reach_run(
     requires first { first ≤ length marks.now }
     requires ready { IsReady part.now.bytes scan }
     requires short { scan.free < bytes }
-    requires here { first < length marks.now → scan.place ≡ (get_or marks.now first no_mark).at }
-    requires end { length marks.now ≤ first → length part.now.bytes ≤ scan.place }
+    requires before { IsBefore first marks.now part.now.bytes scan.place }
     ensures { result ≡ finds_from bytes scan part.now.bytes }
 {
     let mut reached = Reached {
@@ -271,7 +193,7 @@ fn run_from(
     ensures { result ≡ finds_from bytes begun part.now.bytes }
 {
     let first = index_above(marks, begun.place, 0);
-    let at = within(place_of_mark(marks, first), part.len() as u32);
+    let at = edge_of(marks, part, first);
     let scan = scan_up_to(part, begun, at, bytes, Sparing::Nothing);
     if is_found(scan, bytes) {
         return Some(scan.start);

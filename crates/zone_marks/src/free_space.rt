@@ -15,10 +15,9 @@ ghost use Rattle.zone_marks.specs.declared.landmark.TheConstants.{GROUP};
 use crate::landmark::{GROUP, Group, Landmark};
 use crate::largest::largest_space_by_marks;
 use crate::marking::place_of_mark;
-use crate::measuring::{greater, span_at, within};
+use crate::measuring::{greater, span_at, walk_at, within};
 use block_store::{GREATEST_ZONE, Sparing, largest_after_in};
 use raw_region::Part;
-use zone_bytes::walk_from;
 
 /// Returns the size of the largest free block of those that begin from `from` up to `to`, or `most` if none of them is
 /// larger.
@@ -58,16 +57,27 @@ fn larger_in_stretch(part: &Part, mark: Landmark, to: u32, most: u32) -> u32
 }
 
 /// Returns the size of the largest free block in the stretches of a group's landmarks, or `most` if none of them is
-/// larger. No free block below these stretches is larger than `most`.
-fn larger_in_group(marks: &[Landmark], part: &Part, group: usize, most: u32) -> u32
+/// larger. No free block below these stretches is larger than `most`. The stretch of a landmark is passed by where the
+/// bound on its free blocks is no more than a free block that was found, and so is the whole group.
+fn larger_in_group(
+    marks: &[Landmark],
+    groups: &[Group],
+    part: &Part,
+    group: usize,
+    most: u32,
+) -> u32
     requires sound { (first : ℕ) × (unused : ℕ) × IsSound part.now.bytes first unused }
     requires marks { AreMarks above_all (zone_in part.now.bytes) marks.now }
-    requires within { GROUP * group + GROUP ≤ length marks.now }
+    requires groups { AreGroups groups.now marks.now }
+    requires inside { group < length groups.now }
     requires below { NoneBelow (most + 1) (zone_in part.now.bytes) marks.now (GROUP * group) }
     requires reached { most ≤ largest_free (zone_in part.now.bytes) }
-    ensures none { NoneBelow (result + 1) (zone_in part.now.bytes) marks.now (GROUP * group + GROUP) }
+    ensures none { NoneBelow (result + 1) (zone_in part.now.bytes) marks.now (GROUP * (group + 1)) }
     ensures reached { result ≤ largest_free (zone_in part.now.bytes) }
 {
+    if groups[group].most <= most {
+        return most;
+    }
     let low = group * GROUP;
     let mut largest = most;
     for index in low..low + GROUP {
@@ -77,8 +87,7 @@ fn larger_in_group(marks: &[Landmark], part: &Part, group: usize, most: u32) -> 
     largest
 }
 
-/// Returns the size of the largest free block. A group of landmarks and the stretch of a landmark are passed by where
-/// the bound on their free blocks is no more than a free block that was found.
+/// Returns the size of the largest free block.
 pub fn largest_free_by_marks(marks: &[Landmark], groups: &[Group], part: &Part) -> u32
     requires sound { (first : ℕ) × (unused : ℕ) × IsSound part.now.bytes first unused }
     requires marks { AreMarks above_all (zone_in part.now.bytes) marks.now }
@@ -87,9 +96,7 @@ pub fn largest_free_by_marks(marks: &[Landmark], groups: &[Group], part: &Part) 
 {
     let mut largest = larger_between(part, 0, place_of_mark(marks, 0), 0);
     for group in 0..groups.len() {
-        if largest < groups[group].most {
-            largest = larger_in_group(marks, part, group, largest);
-        }
+        largest = larger_in_group(marks, groups, part, group, largest);
     }
     largest
 }
@@ -113,6 +120,6 @@ pub fn largest_after_by_marks(
         return largest_space_by_marks(marks, groups, part);
     }
     let stands = largest_free_by_marks(marks, groups, part);
-    let above = largest_after_in(&mut walk_from(part, from), purges, Sparing::Nothing);
+    let above = largest_after_in(&mut walk_at(part, from), purges, Sparing::Nothing);
     greater(stands, above)
 }

@@ -12,10 +12,10 @@ ghost use Rattle.zone_bytes.specs.Changes.{AtEach, Begins, Replaced};
 ghost use Rattle.zone_marks.specs.Purgeable.{NoneGoes, Stays};
 ghost use Rattle.zone_bytes.specs.Stepping.{left_in, IsOnWay};
 
-use crate::measuring::within;
+use crate::measuring::{walk_at, within};
 use block_store::{Sparing, may_purge_now, next_purgeable_in, purgeable_in};
 use raw_region::Part;
-use zone_bytes::{step_at, walk_from};
+use zone_bytes::step_at;
 
 /// Returns the place of the lowest block that may be purged, of those that begin from `from` up to `to`; if there is
 /// none, where the walk over them ends.
@@ -74,7 +74,7 @@ pub fn next_purgeable(part: &Part, from: u32, purges: u32, sparing: Sparing) -> 
     requires plain { (zone : List Block) → opened sparing zone ≡ zone }
     ensures { FindsLowest (may_be_purged (spared sparing)) (purged purges sparing (zone_in part.now.bytes)) result }
 {
-    let Some(above) = next_purgeable_in(&mut walk_from(part, from), purges, sparing) else {
+    let Some(above) = next_purgeable_in(&mut walk_at(part, from), purges, sparing) else {
         return None;
     };
     Some(from + above)
@@ -88,5 +88,5 @@ pub fn count_purgeable(part: &Part, from: u32, sparing: Sparing) -> u32
     requires plain { (zone : List Block) → opened sparing zone ≡ zone }
     ensures { result ≡ most_purges sparing (zone_in part.now.bytes) }
 {
-    purgeable_in(&mut walk_from(part, from), sparing)
+    purgeable_in(&mut walk_at(part, from), sparing)
 }

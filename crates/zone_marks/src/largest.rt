@@ -2,12 +2,12 @@
 //! walked over if it is known what they come to. So the greatest number of free bytes in one run is found, and the largest
 //! free block once all blocks that may be purged were.
 
-ghost use Rattle.std.specs.Prelude.{◌≡◌, ◌≤◌, ◌<◌, ℕ, true, false, get_or, length};
+ghost use Rattle.std.specs.Prelude.{◌≡◌, ◌≤◌, ◌<◌, ℕ, true, false, get_or, drop, length};
 ghost use Rattle.block_store.specs.Compact.{largest_free, largest_run};
 ghost use Rattle.block_store.specs.declared.sparing.Sparing.TheVariants.{Nothing};
 ghost use Rattle.zone_bytes.specs.Decode.{zone_in};
 ghost use Rattle.zone_bytes.specs.Lawful.{IsSound};
-ghost use Rattle.zone_marks.specs.Marks.{AreGroups, AreMarks, above_all, no_mark};
+ghost use Rattle.zone_marks.specs.Marks.{AreGroups, AreMarks, above_all, next_of, no_mark};
 ghost use Rattle.zone_bytes.specs.Changes.{Begins};
 ghost use Rattle.zone_marks.specs.Searching.{IsBefore, IsStretch};
 ghost use Rattle.zone_bytes.specs.Stepping.{left_in};
@@ -16,8 +16,8 @@ ghost use Rattle.zone_summary.specs.Emptied.{all_purged};
 ghost use Rattle.zone_summary.specs.Stretches.{is_ended, prefix, stretch_by};
 
 use crate::landmark::{GROUP, Group, Landmark, Tally};
-use crate::marking::{index_above, place_of_mark};
-use crate::measuring::{measure_up_to, spaces_up_to, within};
+use crate::marking::index_above;
+use crate::measuring::{measure_up_to, spaces_up_to};
 use raw_region::Part;
 use zone_summary::{Counting, Stretch};
 
@@ -48,6 +48,21 @@ fn stretch_of_mark(part: &Part, told: Tally, at: u32, next: u32, counting: Count
         Tally::Known(stretch) => stretch,
         Tally::Unknown => walked_between(part, at, next, counting),
     }
+}
+
+/// Returns the place of the landmark at an index, or the zone's end if there is none.
+pub fn edge_of(marks: &[Landmark], part: &Part, index: usize) -> u32
+    requires sound { (first : ℕ) × (unused : ℕ) × IsSound part.now.bytes first unused }
+    requires marks { AreMarks above_all (zone_in part.now.bytes) marks.now }
+    requires index { index ≤ length marks.now }
+    ensures before { IsBefore index marks.now part.now.bytes result }
+    ensures low { (p : ℕ) → Begins p 0 (zone_in part.now.bytes) → p ≤ next_of above_all (drop index marks.now)
+        → p ≤ result }
+{
+    if index == marks.len() {
+        return part.len() as u32;
+    }
+    marks[index].at
 }
 
 /// What is known of the blocks from a landmark on, and the index of the landmark up to which it is known.
@@ -120,16 +135,15 @@ pub fn stretch_above(
     ensures low { prefix result ≡ prefix (stretch_by counting (left_in from part.now.bytes)) }
     ensures all { lowest ≡ false → result ≡ stretch_by counting (left_in from part.now.bytes) }
 {
-    let end = part.len() as u32;
     let mut index = index_above(marks, from, 0);
-    let mut at = within(place_of_mark(marks, index), end);
+    let mut at = edge_of(marks, part, index);
     let mut stretch = walked_between(part, from, at, counting);
     while index < marks.len() {
         if suffices(stretch, lowest) {
             return stretch;
         }
         let told = told_from(marks, groups, part, index, counting);
-        let next = within(place_of_mark(marks, told.behind), end);
+        let next = edge_of(marks, part, told.behind);
         stretch = stretch.join(stretch_of_mark(part, told.tally, at, next, counting));
         at = next;
         index = told.behind;

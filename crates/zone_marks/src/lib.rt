@@ -19,7 +19,7 @@ mod paging;
 mod purgeable;
 mod purging;
 
-pub use beginning::{OpenRun, Passed};
+pub use beginning::Passed;
 pub use behind::has_room_behind;
 pub use fewest::{fewest_by_marks, fewest_for_block};
 pub use finding_runs::Reached;

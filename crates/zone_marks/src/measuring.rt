@@ -1,20 +1,32 @@
 //! Walks over a stretch of a zone.
 
-ghost use Rattle.std.specs.Prelude.{◌≡◌, ◌+◌, ◌%◌, ◌==◌, ◌<◌, ◌≤◌, ◌^◌, ◌⊎◌, ◌∷◌, not, if◌then◌else◌, List, length};
+ghost use Rattle.std.specs.Prelude.{◌≡◌, ◌+◌, ◌%◌, ◌==◌, ◌<◌, ◌≤◌, ◌^◌, ◌⊎◌, ◌∷◌, not, if◌then◌else◌, ℕ, List, length};
 ghost use Rattle.std.specs.Prelude.{MatchOption, IfSome};
-ghost use Rattle.block_store.specs.Block.{Block};
+ghost use Rattle.block_store.specs.Block.{Block, size, sizes};
+ghost use Rattle.block_store.specs.Seen.{seen};
 ghost use Rattle.heap_words.specs.Words.{word_at};
+ghost use Rattle.zone_bytes.specs.Decode.{zone_in};
+ghost use Rattle.zone_bytes.specs.Lawful.{IsSound};
 ghost use Rattle.zone_bytes.specs.Changes.{AtEach, Begins};
-ghost use Rattle.zone_marks.specs.Marks as marks;
 ghost use Rattle.zone_marks.specs.Marks.{NoRoom, Spans, RoomAt, Measures, between};
 ghost use Rattle.zone_bytes.specs.Settling.{runs_on};
 ghost use Rattle.zone_bytes.specs.Stepping.{left_in, IsOnWay};
 ghost use Rattle.zone_summary.specs.Stretches.{counted, space, spaces_of};
 
-use block_store::UNIT;
+use block_store::{Seen, UNIT};
 use raw_region::Part;
-use zone_bytes::read_word;
+use zone_bytes::{RawWalk, read_word, step_at, walk_from};
 use zone_summary::Stretch;
+
+/// Returns a walk over the blocks of a zone from a place on.
+pub fn walk_at<'a>(part: &'a Part, at: u32) -> RawWalk<'a>
+    requires sound { (first : ℕ) × (unused : ℕ) × IsSound part.now.bytes first unused }
+    requires begins { Begins at 0 (zone_in part.now.bytes) }
+    ensures is { result ≡ left_in at part.now.bytes }
+    ensures fits { at + sizes result < 2 ^ 32 }
+{
+    walk_from(part, at)
+}
 
 /// Returns the lower of a place and the zone's end.
 pub fn within(to: u32, end: u32) -> u32
@@ -92,34 +104,21 @@ pub fn span_at(part: &Part, at: u32) -> Span
     }
 }
 
-/// Returns what the block at a place comes to in spaces: a free block adds its bytes to a space, and so does a relocatable
-/// block that is purgeable and not locked. The flags are read of a relocatable block only.
-fn space_at(part: &Part, at: u32) -> Stretch
-    requires way { IsOnWay at part.now.bytes }
-    requires some { at < length part.now.bytes }
-    ensures { (here : Block) (above : List Block) → left_in at part.now.bytes ≡ here ∷ above → result ≡ space here }
+/// Returns what a block of `bytes` bytes comes to in spaces: a free block adds its bytes to a space, and so does a
+/// relocatable block that is purgeable and not locked.
+fn space_of_seen(block: Seen, bytes: u32) -> Stretch
+    ensures { (b : Block) → seen b ≡ block → size b ≡ bytes → result ≡ space b }
 {
-    let first = read_word(part, at);
-    let tag = first % UNIT;
-    if gives_space(part, at, tag) {
-        Stretch::Whole(first - tag)
+    let gives = match block {
+        Seen::Free(_) => true,
+        Seen::Relocatable(_, flags, _) => !flags.locked && flags.purgeable,
+        _ => false,
+    };
+    if gives {
+        Stretch::Whole(bytes)
     } else {
         Stretch::END
     }
-}
-
-/// Reports whether the block at `at` is free, or would be if it were purged, by the number of its kind.
-fn gives_space(part: &Part, at: u32, tag: u32) -> bool
-    requires multiple { at % 4 ≡ 0 }
-    requires inside { at + 16 ≤ length part.now.bytes }
-    requires fits { at + 16 < 2 ^ 32 }
-    ensures { result ≡ marks.gives_space tag (word_at (at + 12) part.now.bytes) }
-{
-    if tag < 3 {
-        return tag == 0;
-    }
-    let flags = read_word(part, at + 12);
-    64 <= flags && flags < 128
 }
 
 /// Walks from one place to the first block that begins at or above another, or to the zone's end, and returns what the
@@ -132,9 +131,9 @@ pub fn spaces_up_to(part: &Part, from: u32, place: u32) -> Stretch
     let mut spaces = Stretch::NONE;
     let mut at = from;
     while at < stop {
-        let span = span_at(part, at);
-        spaces = spaces.join(space_at(part, at));
-        at = span.end;
+        let step = step_at(part, at);
+        spaces = spaces.join(space_of_seen(step.block, step.end - at));
+        at = step.end;
     }
     spaces
 }

@@ -10,9 +10,10 @@ ghost use Rattle.zone_bytes.specs.Changes.{Became};
 ghost use Rattle.zone_bytes.specs.PurgeableBytes.{purgeable_of, purgeable_sum};
 ghost use Rattle.zone_bytes.specs.Stepping.{left_in, IsOnWay};
 
+use crate::measuring::walk_at;
 use block_store::{Flags, Seen, Sparing, Walk, may_purge_now, size_of_seen};
 use raw_region::Part;
-use zone_bytes::{padded_size, read_header, seen_of, walk_from};
+use zone_bytes::{padded_size, step_at};
 
 /// Returns the bytes that a block of `bytes` bytes would free if it were purged.
 fn purgeable_of_seen(block: Seen, bytes: u32) -> u32
@@ -31,8 +32,8 @@ pub fn purgeable_at(part: &Part, place: u32) -> u32
     requires some { place < length part.now.bytes }
     ensures { (b : Block) (above : List Block) → left_in place part.now.bytes ≡ b ∷ above → result ≡ purgeable_of b }
 {
-    let header = read_header(part, place);
-    purgeable_of_seen(seen_of(header), header.size)
+    let step = step_at(part, place);
+    purgeable_of_seen(step.block, step.end - place)
 }
 
 /// Returns the bytes that the blocks of a zone would free, where the block at `place` became another: before that the
@@ -86,7 +87,7 @@ pub fn purgeable_left(part: &Part, before: u32, freed: u32, sparing: Sparing) ->
         → result ≡ purgeable_sum (zone_in part.now.bytes) }
 {
     if frees_one(sparing) {
-        purgeable_bytes_in(&mut walk_from(part, 0))
+        purgeable_bytes_in(&mut walk_at(part, 0))
     } else {
         before.saturating_sub(freed)
     }

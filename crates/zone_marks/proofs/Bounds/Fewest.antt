@@ -1,29 +1,21 @@
 -- The blocks that may be purged below a run, counted from an edge of a zone below which none may be.
-use Rattle.block_store.specs.Block.{tidy}
 use Rattle.zone_summary.specs.declared.stretch.Counting.{Counting}
 use Rattle.zone_summary.specs.Stretches.{stretch_by}
 use Rattle.zone_summary.proofs.Monoid.{stretch_by-append}
 use Rattle.zone_summary.proofs.Sums.{load-counted}
-use Rattle.std.proofs.Common.{◌≡◌, ℕ, zero, suc, ◌+◌, ◌-◌, ◌≤◌, ◌<◌, Bool, true, false, List, [], ◌∷◌, ◌++◌}
-use Rattle.std.proofs.Common.{◌&&◌, Some, inl, refl, sym, ap, ◌∙◌, subst, cond, arith}
-use Rattle.block_store.specs.Block.{Block, Free, count, size, sizes, is_purgeable, is_relocatable}
-use Rattle.block_store.specs.Find.{FindsLowestRun}
-use Rattle.block_store.specs.Run.{has, has_free}
-use Rattle.block_store.specs.Inner.Stretch.{opened_block}
-use Rattle.block_store.specs.Room.{count_of, may_be_purged}
+use Rattle.std.proofs.Common.{◌≡◌, ℕ, ◌+◌, ◌-◌, ◌≤◌, true, List, ◌++◌}
+use Rattle.std.proofs.Common.{inl, refl, sym, ap, ◌∙◌, subst, arith}
+use Rattle.block_store.specs.Block.{Block, sizes}
+use Rattle.block_store.specs.Room.{count_of}
 use Rattle.block_store.specs.Sparing.{most_purges, opened, spared}
 use Rattle.block_store.specs.declared.measures.TheConstants.{GREATEST_ZONE}
 use Rattle.block_store.specs.declared.sparing.Sparing.{Sparing}
-use Rattle.block_store.specs.declared.sparing.Sparing.TheVariants as sparing
-use Rattle.block_store.proofs.Purged.Looks.{opened-none}
 use Rattle.block_store.proofs.Purged.Purges.{sizes-opened}
-use Rattle.block_store.proofs.Purged.Stretches.{opened-more, size-opened}
 use Rattle.zone_summary.specs.Fewest.{count_within}
-use Rattle.zone_summary.proofs.BlockRuns.{IsRunOf, run-of}
 use Rattle.zone_summary.proofs.Fewest.{count-few, count-past, opened-append}
 use Rattle.zone_bytes.specs.Decode.{zone_in}
 use Rattle.zone_bytes.specs.Lawful.{IsSound}
-use Rattle.zone_bytes.specs.Changes.{AtEach, Begins}
+use Rattle.zone_bytes.specs.Changes.{Begins}
 use Rattle.zone_marks.specs.Marks.{IsTally, between}
 use Rattle.zone_marks.specs.declared.landmark.Tally.{Tally}
 use Rattle.zone_marks.specs.Purgeable.{NoneGoes, Stays}
@@ -35,39 +27,10 @@ use Rattle.zone_summary.specs.Stretches.{is_ended, join, prefix}
 use Rattle.zone_summary.specs.declared.stretch.Stretch.{Stretch}
 use Rattle.zone_summary.specs.declared.stretch.Stretch.TheVariants.{Whole, Ended}
 use Rattle.std.proofs.lemmas.Bool.{false≢true}
-use Rattle.zone_marks.proofs.Bounds.Going.{none-passes, stays-here}
+use Rattle.zone_marks.proofs.Bounds.Going.{count-none}
 use Rattle.zone_marks.proofs.Marks.Lowering.{begins-end, seen-from, one-here}
 use Rattle.zone_marks.proofs.Marks.Passing.{at-left, begins-left}
 use Rattle.zone_marks.proofs.Searches.Pieces.{stretch-at, zone-long}
-
--- a walk that counts them looks at one block
-module _ (n : Sparing) (b : Block) (above : List Block) where
-  pub within-more : (left : ℕ) → 0 < left → count_within (spared n) left (opened n (b ∷ above))
-      ≡ cond {A = ℕ} (may_be_purged (spared n) (opened_block n b)) 1 0
-      + count_within (spared n) (left - size b) (opened n above)
-  within-more zero l = absurd (omega (arith, l))
-  within-more (suc k) l = ap (count_within (spared n) (suc k)) (opened-more n b _)
-      ∙ ap (λ s. cond {A = ℕ} (may_be_purged (spared n) (opened_block n b)) 1 0
-      + count_within (spared n) (suc k - s) (opened n above)) (size-opened n b)
-
--- a block that may not be purged may not be as a search sees it first
-opened-stays : (n : Sparing) (b : Block) → is_purgeable b ≡ false → may_be_purged (spared n) (opened_block n b) ≡ false
-opened-stays sparing.Nothing b e = none-passes sparing.Nothing b e
-opened-stays (sparing.One slot) b e = none-passes (sparing.One slot) b e
-opened-stays (sparing.Two slot other) b e = none-passes (sparing.Two slot other) b e
-opened-stays (sparing.Freed slot) b e = cases (is_relocatable slot b)
-  where
-    cases : (t : Bool) → may_be_purged (spared (sparing.Freed slot)) (cond t (Free (size b)) b) ≡ false
-    cases true = refl
-    cases false = none-passes (sparing.Freed slot) b e
-
-pub count-none : (n : Sparing) (bound x : ℕ) (below : List Block) → AtEach (Stays bound) x below → x + sizes below ≤ bound
-    → count_of (spared n) (opened n below) ≡ 0
-count-none n bound x [] s l = ap (count_of (spared n)) (opened-none n)
-count-none n bound x (b ∷ below) s l =
-    let t = ap (λ t. cond {A = ℕ} t 1 0) (opened-stays n b (stays-here bound x b s.0 (omega (arith, l)))) in
-    let r = count-none n bound (x + size b) below s.1 (omega (arith, l)) in
-    omega (arith, ap (count_of (spared n)) (opened-more n b below), t, r)
 
 pub count-below : (xs : List ℕ) (first unused : ℕ) (i : IsSound xs first unused) (from edge run : ℕ) (n : Sparing)
     (low rest : List Block) → Begins edge 0 (zone_in xs) → edge ≤ from → NoneGoes from (zone_in xs) → edge ≤ run
@@ -112,15 +75,6 @@ pub run-begins : (xs : List ℕ) (run : ℕ) (low rest : List Block) → zone_in
 run-begins xs run low rest is at =
     subst (Begins run 0) (sym is) (begins-left _ 0 _ _
     (subst (λ k. Begins k 0 low) (let e : 0 + sizes low ≡ run = omega (arith, at) in e) (begins-end 0 _)))
-
--- the run of a block, as a walk from the bottom finds it
-pub block-run : (xs : List ℕ) (number p run : ℕ) (n : Sparing) (blocks : List Block) → blocks ≡ zone_in xs
-    → count (is_relocatable number) (zone_in xs) ≤ 1 → ((b : Block) → is_relocatable number b ≡ true → spared n b ≡ true)
-    → ((blocks : List Block) → opened n blocks ≡ blocks)
-    → FindsLowestRun (λ run. has (is_relocatable number) run && has_free 0 run) (tidy blocks) (Some run)
-    → IsRunOf number p n (zone_in xs) run
-block-run xs number p run n blocks e once keeps whole f = run-of _ p n _ (whole (zone_in xs)) keeps _ once
-    (subst (λ z. FindsLowestRun (λ run. has (is_relocatable number) run && has_free 0 run) (tidy z) (Some run)) e f)
 
 -- what blocks that are known come to, below others
 module _ (xs : List ℕ) (first unused : ℕ) (i : IsSound xs first unused) where

@@ -1,11 +1,13 @@
 -- A place below which no block may be purged, through each change of a zone.
 use Rattle.std.proofs.Common.{◌≡◌, ℕ, ◌+◌, ◌-◌, ◌≤◌, ◌<◌, zero, suc, Bool, true, false, not, ◌&&◌, List, [], ◌∷◌, ◌++◌}
-use Rattle.std.proofs.Common.{refl, sym, ap, ◌∙◌, subst, cond, arith, inl, inr, Some, append_assoc}
+use Rattle.std.proofs.Common.{refl, sym, ap, ◌∙◌, subst, cond, arith, inl, inr, Some}
 use Rattle.std.proofs.Common.{None, length}
 use Rattle.std.proofs.lemmas.Bool.{cases_lt, false≢true}
 use Rattle.std.specs.Option.{option_map}
 use Rattle.block_store.specs.Block.{Block, Free, Nonrelocatable, Masters, Relocatable, size, sizes, free, free_sum}
-use Rattle.block_store.specs.Block.{is_mover, is_purgeable}
+use Rattle.block_store.specs.Block.{is_mover, is_purgeable, is_relocatable}
+use Rattle.block_store.specs.Inner.Stretch.{opened_block}
+use Rattle.block_store.proofs.Purged.Stretches.{opened-more}
 use Rattle.block_store.specs.Find.{FindsLowest}
 use Rattle.block_store.specs.Room.{Spot, spot, count_of, lowest_purged, may_be_purged}
 use Rattle.block_store.specs.Run.{RunSpot, run_at, movers, settle}
@@ -16,7 +18,7 @@ use Rattle.block_store.specs.declared.sparing.Sparing.TheVariants as sparing
 use Rattle.block_store.specs.Inner.Packing.{Loose}
 use Rattle.block_store.proofs.Regroup.RunLists.{run_at-is, run_at-parts}
 use Rattle.block_store.proofs.Regroup.Packed.{settle-total}
-use Rattle.block_store.proofs.Purged.Looks.{next_from, next-is, next-stays, place_from, place-tidy}
+use Rattle.block_store.proofs.Purged.Looks.{opened-none, next_from, next-is, next-stays, place_from, place-tidy}
 use Rattle.block_store.proofs.Purged.Purges.{sizes-lowest_purged}
 use Rattle.block_store.proofs.Zone.Apart.{apart-tidy}
 use Rattle.block_store.proofs.Zone.Spots.{finds}
@@ -29,8 +31,9 @@ use Rattle.zone_marks.specs.Purgeable.{NoneGoes, Stays}
 use Rattle.zone_bytes.specs.Stepping.{left_in, Steps}
 use Rattle.zone_marks.proofs.Marks.Lowering.{Seen as Edge, seen-from}
 use Rattle.zone_marks.proofs.Searches.Pieces.{left-long}
-use Rattle.zone_marks.proofs.Marks.Passing.{Passed, at-all, at-append, at-left, at-map, at-right}
+use Rattle.zone_marks.proofs.Marks.Passing.{Passed, at-all, at-append, at-left, at-map, at-right, passed-on}
 use Rattle.block_store.proofs.Regroup.RunsAbove.{run_at-bottom}
+use Rattle.zone_bytes.proofs.Runs.Runs.{run_at-splits}
 use Rattle.zone_bytes.proofs.Tiles.Tiling.{span-append}
 
 -- a lower place
@@ -159,14 +162,8 @@ goes-not b e = only (is_purgeable b) e
 module _ (xs : List ℕ) (from at : ℕ) (p : Passed xs from at (λ _ b. is_purgeable b ≡ false)) where
   pub passed-stays : (block : Seen) (end : ℕ) (s : Steps at block end xs)
       → may_be_purged (spared sparing.Nothing) s.here ≡ false → Passed xs from end (λ _ b. is_purgeable b ≡ false)
-  passed-stays block end s e =
-      record {
-        done = p.done ++ s.here ∷ [];
-        is = p.is ∙ ap (λ k. p.done ++ k) s.is ∙ sym (append_assoc p.done (s.here ∷ []) (left_in end xs));
-        up = omega (arith, span-append);
-        each = at-append (λ _ b. is_purgeable b ≡ false) from p.done (s.here ∷ []) p.each (goes-not s.here e, tt);
-        way = s.way;
-      }
+  passed-stays block end s e = passed-on xs from at end (λ _ b. is_purgeable b ≡ false) (λ _ b. is_purgeable b ≡ false)
+      (λ _ _ r. r) p s.here s.is s.up s.way (goes-not s.here e)
 
   pub all-stay : AtEach (Stays at) from (left_in from xs)
   all-stay =
@@ -189,12 +186,25 @@ next-above n k bound x (b ∷ below) above s l =
     ∙ (let e : x + size b + sizes below ≡ x + (size b + sizes below) = omega arith in
     ap (λ y. next_from y (spared n) k above) e)
 
-count-above : (n : Sparing) (bound x : ℕ) (below above : List Block) → AtEach (Stays bound) x below
-    → x + sizes below ≤ bound → count_of (spared n) (below ++ above) ≡ count_of (spared n) above
-count-above n bound x [] above s l = refl
-count-above n bound x (b ∷ below) above s l =
-    let r = count-above n bound (x + size b) below above s.1 (omega (arith, l)) in
-    omega (arith, ap (λ t. cond {A = ℕ} t 1 0) (none-passes n b (stays-here bound x b s.0 (omega (arith, l)))), r)
+-- a block that may not be purged may not be as a search sees it first
+opened-stays : (n : Sparing) (b : Block) → is_purgeable b ≡ false → may_be_purged (spared n) (opened_block n b) ≡ false
+opened-stays sparing.Nothing b e = none-passes sparing.Nothing b e
+opened-stays (sparing.One slot) b e = none-passes (sparing.One slot) b e
+opened-stays (sparing.Two slot other) b e = none-passes (sparing.Two slot other) b e
+opened-stays (sparing.Freed slot) b e = cases (is_relocatable slot b)
+  where
+    cases : (t : Bool) → may_be_purged (spared (sparing.Freed slot)) (cond t (Free (size b)) b) ≡ false
+    cases true = refl
+    cases false = none-passes (sparing.Freed slot) b e
+
+pub count-none : (n : Sparing) (bound x : ℕ) (below : List Block) → AtEach (Stays bound) x below
+    → x + sizes below ≤ bound
+    → count_of (spared n) (opened n below) ≡ 0
+count-none n bound x [] s l = ap (count_of (spared n)) (opened-none n)
+count-none n bound x (b ∷ below) s l =
+    let t = ap (λ t. cond {A = ℕ} t 1 0) (opened-stays n b (stays-here bound x b s.0 (omega (arith, l)))) in
+    let r = count-none n bound (x + size b) below s.1 (omega (arith, l)) in
+    omega (arith, ap (count_of (spared n)) (opened-more n b below), t, r)
 
 -- what a walk from an edge of a zone finds
 pub stays-from : (xs : List ℕ) (first unused : ℕ) (i : IsSound xs first unused) (from : ℕ) → Begins from 0 (zone_in xs)
@@ -207,17 +217,6 @@ stays-from xs first unused i from b g bound s =
     (at-left (Stays from) 0 _ _ (subst (NoneGoes from) e.is g)))
     (subst (λ x. AtEach (Stays bound) x (left_in from xs)) k s))
 
--- what a search that looks from the bottom of blocks found
-found-from : (edge : ℕ) (test : Block → Bool) (blocks : List Block) (place : ℕ)
-    → FindsLowest test blocks (Some place) → place_from edge test blocks ≡ Some (edge + place)
-found-from edge test blocks place f = ap (option_map (λ (s : Spot). edge + sizes s.below)) f.1
-    ∙ ap (λ n. Some (edge + n)) f.3
-
--- it lies among them
-found-within : (test : Block → Bool) (blocks : List Block) (place : ℕ) → FindsLowest test blocks (Some place)
-    → place ≤ sizes blocks
-found-within test blocks place f = omega (arith, ap sizes (spot-is test blocks f.0 f.1), span-append)
-
 -- from an edge of a zone on
 module _ (xs : List ℕ) (first unused : ℕ) (i : IsSound xs first unused) (from : ℕ) (b : Begins from 0 (zone_in xs))
     (g : NoneGoes from (zone_in xs)) (n : Sparing) (plain : (zone : List Block) → opened n zone ≡ zone) where
@@ -229,9 +228,15 @@ module _ (xs : List ℕ) (first unused : ℕ) (i : IsSound xs first unused) (fro
 
   pub count-from : most_purges n (left_in from xs) ≡ most_purges n (zone_in xs)
   count-from =
-      ap (count_of (spared n)) (plain (left_in from xs))
-      ∙ sym (ap (count_of (spared n)) (plain (zone_in xs) ∙ edge.is)
-      ∙ count-above n _ 0 _ _ below-stays (omega (arith, edge.low)))
+      let none = ap (count_of (spared n)) (sym (plain edge.below))
+      ∙ count-none n _ 0 _ below-stays (omega (arith, edge.low)) in
+      omega (
+        arith,
+        ap (count_of (spared n)) (plain (left_in from xs)),
+        ap (count_of (spared n)) (plain (zone_in xs) ∙ edge.is),
+        total-append,
+        none,
+      )
 
   -- the place of the block to be purged next
   module _ (k : ℕ) where
@@ -256,12 +261,12 @@ module _ (xs : List ℕ) (first unused : ℕ) (i : IsSound xs first unused) (fro
         → FindsLowest goes (purged k n (zone_in xs)) (Some (from + place))
     next-some place f = finds goes _ (Some (from + place))
         (apart-tidy (lowest_purged k (spared n) (opened n (zone_in xs))))
-        (sym (next-is-there ∙ found-from _ goes _ _ f))
+        (sym (next-is-there ∙ ap (option_map (λ (s : Spot). from + sizes s.below)) f.1 ∙ ap (λ n. Some (from + n)) f.3))
 
     pub next-fits : (place : ℕ) → FindsLowest goes (purged k n (left_in from xs)) (Some place)
         → from + place ≤ length xs
     next-fits place f =
-        let w = found-within goes (purged k n (left_in from xs)) place f in
+        let w = ap sizes (spot-is goes (purged k n (left_in from xs)) f.0 f.1) in
         let t = total-tidy size (λ n m. refl) (lowest_purged k (spared n) (opened n (left_in from xs))) in
         let l = left-long xs first unused i from b in
-        omega (arith, w, t, sizes-lowest_purged, ap sizes (plain (left_in from xs)), l)
+        omega (arith, w, f.3, span-append, t, sizes-lowest_purged, ap sizes (plain (left_in from xs)), l)

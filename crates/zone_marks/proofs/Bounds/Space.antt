@@ -1,7 +1,6 @@
 -- The largest Free block of a zone, as it stands and after purges.
 use Rattle.std.proofs.Common.{◌≡◌, ◌⊎◌, ℕ, ◌+◌, ◌≤◌, ◌<◌, zero, suc, inl, inr, Bool, true, false, max, cond, List}
 use Rattle.std.proofs.Common.{[], ◌∷◌, ◌++◌, refl, sym, ap, ◌∙◌, subst, arith}
-use Rattle.std.proofs.lemmas.Bool.{cond-false}
 use Rattle.block_store.specs.Block.{Block, Free, Nonrelocatable, Masters, Relocatable, add, free_of}
 use Rattle.block_store.specs.Block.{is_room, size, sizes, tidy}
 use Rattle.block_store.specs.Compact.{largest_free}
@@ -10,6 +9,7 @@ use Rattle.block_store.specs.Sparing.{purged, spared}
 use Rattle.block_store.specs.declared.sparing.Sparing.TheVariants as sparing
 use Rattle.block_store.proofs.Purged.Looks.{top_free}
 use Rattle.block_store.proofs.Purged.PurgedSums.{largest-purged, largest_stretch}
+use Rattle.block_store.proofs.Purged.Rising.{lowest_purged-none, lowest_purged-stays}
 use Rattle.block_store.proofs.Zone.Apart.{Apart, apart-size, apart-tidied, two}
 use Rattle.zone_bytes.specs.Decode.{zone_in}
 use Rattle.zone_bytes.specs.Lawful.{IsSound}
@@ -22,7 +22,7 @@ use Rattle.zone_marks.proofs.Bounds.Going.{none-passes, stays-here}
 use Rattle.zone_bytes.proofs.Bounds.Short.{one-gives}
 use Rattle.zone_bytes.proofs.Laws.Lawful.{sizes-length}
 use Rattle.zone_marks.proofs.Marks.Lowering.{seen-from}
-use Rattle.zone_marks.proofs.Marks.Passing.{Passed, at-left, at-map, at-right, passed-more, passed-start, passed-step}
+use Rattle.zone_marks.proofs.Marks.Passing.{Passed, at-left, at-map, at-right, passed-on, passed-start}
 use Rattle.zone_marks.proofs.Marks.Spanned.{no-room}
 use Rattle.zone_bytes.proofs.Places.AtPlace.{left-zone}
 
@@ -55,14 +55,11 @@ largest-within m hi x (b ∷ blocks) l e =
     let r = largest-within m hi (x + size b) blocks (omega (arith, l)) e.1 in
     omega (arith, room-less m b (e.0 (omega arith) (omega (arith, l))), r)
 
--- the largest of some blocks above others is no larger than that of all
-largest-above : (below above : List Block) → largest_free above ≤ largest_free (below ++ above)
-largest-above [] above = omega arith
-largest-above (b ∷ below) above = omega (arith, largest-above below above)
-
-largest-below : (below above : List Block) → largest_free below ≤ largest_free (below ++ above)
-largest-below [] above = omega arith
-largest-below (b ∷ below) above = omega (arith, largest-below below above)
+-- the largest of some blocks and others above them
+largest-append : (below above : List Block)
+    → largest_free (below ++ above) ≡ max (largest_free below) (largest_free above)
+largest-append [] above = omega arith
+largest-append (b ∷ below) above = omega (arith, largest-append below above)
 
 -- a walk that keeps the size of the largest Free block that it passed
 pub record Growing (xs : List ℕ) (from at most largest : ℕ) : Type 0 where
@@ -84,10 +81,9 @@ module _ (xs : List ℕ) (from most : ℕ) where
   growing-step at end free largest next barrier g s l m o =
       let z = ap largest_free s.is in
       record {
-        passed = passed-step _ _ (λ _ c. is_room (next + 1) c ≡ false) _ _ _ _
-            (passed-more _ _ _ (λ _ c. is_room (largest + 1) c ≡ false) (λ _ c. is_room (next + 1) c ≡ false)
-            (λ _ c. room-more _ _ c (omega (arith, l))) g.passed) s
-            (λ c e k. no-room _ c k (λ _ q. omega (arith, e, m, q)));
+        passed = passed-on _ _ _ _ (λ _ c. is_room (largest + 1) c ≡ false) (λ _ c. is_room (next + 1) c ≡ false)
+            (λ _ c. room-more _ _ c (omega (arith, l))) g.passed s.here s.is s.up s.way
+            (no-room _ s.here (omega arith) (λ _ q. omega (arith, m, q)));
         no_less = omega (arith, l);
         reached = elim o [
           | inl e ↦ omega (arith, z, m, e)
@@ -101,20 +97,14 @@ module _ (xs : List ℕ) (first unused : ℕ) (i : IsSound xs first unused) wher
   zone-largest m e l = omega (arith, largest-within m 4294967295 0 (zone_in xs) (omega (arith, sizes-length)) e, l)
 
   pub left-largest : (p : ℕ) → Begins p 0 (zone_in xs) → largest_free (left_in p xs) ≤ largest_free (zone_in xs)
-  left-largest p b = omega (arith, ap largest_free (seen-from xs first unused i p b).is, largest-above)
-
--- a block that stays
-purged-stays : (k : ℕ) (sp : Block → Bool) (b : Block) (above : List Block) → may_be_purged sp b ≡ false
-    → lowest_purged k sp (b ∷ above) ≡ b ∷ lowest_purged k sp above
-purged-stays zero sp b above e = refl
-purged-stays (suc k) sp b above e = cond-false (may_be_purged sp b) _ _ e
+  left-largest p b = omega (arith, ap largest_free (seen-from xs first unused i p b).is, largest-append)
 
 -- blocks that stay, below others
 purged-above : (k bound x : ℕ) (below above : List Block) → AtEach (Stays bound) x below → x + sizes below ≤ bound
     → lowest_purged k spares (below ++ above) ≡ below ++ lowest_purged k spares above
 purged-above k bound x [] above s l = refl
 purged-above k bound x (b ∷ below) above s l =
-    purged-stays k spares b _ (none-passes sparing.Nothing b (stays-here bound x b s.0 (omega (arith, l))))
+    lowest_purged-stays k spares b _ (none-passes sparing.Nothing b (stays-here bound x b s.0 (omega (arith, l))))
     ∙ ap (λ q. b ∷ q) (purged-above k _ (x + size b) below above s.1 (omega (arith, l)))
 
 -- where nothing would be given, nothing is purged
@@ -126,10 +116,10 @@ none-given sp b l = cases (may_be_purged sp b) (one-gives sp b)
     cases false g = refl
 
 none-purged : (k : ℕ) (sp : Block → Bool) (bs : List Block) → purgeable_sum bs ≤ 0 → lowest_purged k sp bs ≡ bs
-none-purged zero sp [] l = refl
-none-purged (suc k) sp [] l = refl
+none-purged k sp [] l = lowest_purged-none k sp
 none-purged k sp (b ∷ bs) l =
-    purged-stays k sp b bs (none-given sp b (omega (arith, l))) ∙ ap (λ q. b ∷ q) (none-purged k sp bs (omega (arith, l)))
+    lowest_purged-stays k sp b bs (none-given sp b (omega (arith, l)))
+    ∙ ap (λ q. b ∷ q) (none-purged k sp bs (omega (arith, l)))
 
 pub stands-still : (k : ℕ) (zone : List Block) → tidy zone ≡ zone → purgeable_sum zone ≤ 0
     → purged k sparing.Nothing zone ≡ zone
@@ -152,15 +142,14 @@ stretch-above f (Relocatable id flags content ∷ below) above = let r = stretch
 
 purged-rises : (f k : ℕ) (sp : Block → Bool) (bs : List Block)
     → max f (largest_free bs) ≤ largest_stretch f (lowest_purged k sp bs)
-purged-rises f zero sp [] = omega arith
-purged-rises f (suc k) sp [] = omega arith
+purged-rises f k sp [] = omega (arith, ap (largest_stretch f) (lowest_purged-none k sp))
 purged-rises f k sp (Free n ∷ bs) =
-    omega (arith, purged-rises (f + n) k sp bs, ap (largest_stretch f) (purged-stays k sp (Free n) bs refl))
+    omega (arith, purged-rises (f + n) k sp bs, ap (largest_stretch f) (lowest_purged-stays k sp (Free n) bs refl))
 purged-rises f k sp (Nonrelocatable id content ∷ bs) =
-    let e = ap (largest_stretch f) (purged-stays k sp (Nonrelocatable id content) bs refl) in
+    let e = ap (largest_stretch f) (lowest_purged-stays k sp (Nonrelocatable id content) bs refl) in
     omega (arith, purged-rises 0 k sp bs, e)
 purged-rises f k sp (Masters ∷ bs) =
-    let e = ap (largest_stretch f) (purged-stays k sp Masters bs refl) in
+    let e = ap (largest_stretch f) (lowest_purged-stays k sp Masters bs refl) in
     omega (arith, purged-rises 0 k sp bs, e)
 purged-rises f zero sp (Relocatable id flags content ∷ bs) = let r = purged-rises 0 0 sp bs in omega (arith, r)
 purged-rises f (suc k) sp (Relocatable id flags content ∷ bs) =
@@ -224,7 +213,7 @@ same-first : (k bound x : ℕ) (bs : List Block) → x < bound → AtEach (Stays
 same-first zero bound x [] l s = tt
 same-first (suc k) bound x [] l s = tt
 same-first k bound x (b ∷ bs) l s =
-    subst (SameFirst (b ∷ bs)) (sym (purged-stays k spares b bs (none-passes sparing.Nothing b (s.0 l)))) refl
+    subst (SameFirst (b ∷ bs)) (sym (lowest_purged-stays k spares b bs (none-passes sparing.Nothing b (s.0 l)))) refl
 
 -- the largest Free block from a place on, and of the zone as it stands, after purges from there on
 module _ (xs : List ℕ) (first unused : ℕ) (i : IsSound xs first unused) (k from : ℕ) (m : MayStart from (zone_in xs)) where
@@ -247,7 +236,7 @@ module _ (xs : List ℕ) (first unused : ℕ) (i : IsSound xs first unused) (k f
       (subst Apart s.is (apart-tidied (zone_in xs) i.tidied)) (inl refl)
       (same-first k m.bound (0 + sizes s.below) rest (omega (arith, l))
       (at-right (Stays m.bound) 0 s.below rest stays)) in
-      omega (arith, e, up, stretch-above, after-is, largest-below, ap largest_free s.is, rises)
+      omega (arith, e, up, stretch-above, after-is, largest-append, ap largest_free s.is, rises)
 
   pub largest-from : largest_free (purged k sparing.Nothing (zone_in xs))
       ≡ max (largest_free (zone_in xs)) (largest_free (purged k sparing.Nothing (left_in from xs)))

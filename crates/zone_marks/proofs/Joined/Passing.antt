@@ -17,6 +17,8 @@ use Rattle.block_store.specs.declared.sparing.Sparing.TheVariants as sparing
 use Rattle.block_store.proofs.Zone.Totals.{total-append}
 use Rattle.block_store.proofs.Zone.Apart.{Apart, apart-tidied, tidy-apart}
 use Rattle.block_store.proofs.Zone.Joining.{joined-below, closed-apart, closed-tidy, closed-free}
+use Rattle.block_store.proofs.Purged.Looks.{opened-none}
+use Rattle.block_store.proofs.Purged.Rising.{lowest_purged-none}
 use Rattle.block_store.proofs.Purged.Purges.{lowest_purged-free, lowest_purged-kept, kept-not_free, opened-same}
 use Rattle.block_store.proofs.Purged.Stretches.{opened-more, size-opened}
 use Rattle.zone_bytes.specs.Layout.{kind}
@@ -51,18 +53,8 @@ past-plain n k l Masters e =
     absurd (none-some l (sym (ap (left_past (spared n) k) (opened-masters n) ∙ past-none (spared n) k) ∙ e))
 past-plain n k l (Relocatable slot flags content) e = refl
 
-opened-none : (n : Sparing) → opened n [] ≡ []
-opened-none sparing.Nothing = refl
-opened-none (sparing.One slot) = refl
-opened-none (sparing.Two slot other) = refl
-opened-none (sparing.Freed slot) = refl
-
-lowest_purged-none : (k : ℕ) (sp : Block → Bool) → lowest_purged k sp [] ≡ []
-lowest_purged-none zero sp = refl
-lowest_purged-none (suc k) sp = refl
-
 -- the Free bytes of Free bytes
-pub sum-free : (n : ℕ) → free_sum (free n) ≡ n
+sum-free : (n : ℕ) → free_sum (free n) ≡ n
 sum-free zero = refl
 sum-free (suc n) = omega arith
 

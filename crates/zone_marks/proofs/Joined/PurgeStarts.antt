@@ -6,7 +6,7 @@ use Rattle.std.proofs.lemmas.List.{append-nil}
 use Rattle.std.proofs.lemmas.Option.{none-some, same_Some}
 use Rattle.std.specs.Option.{option_map}
 use Rattle.block_store.specs.Block.{Block, Free, Nonrelocatable, Masters, Relocatable, size, sizes, free, free_sum, tidy, count, is_masters}
-use Rattle.block_store.specs.Inner.Joining.{last_free}
+use Rattle.block_store.specs.Inner.Joining.{Closed, last_free}
 use Rattle.block_store.specs.Room.{Spot, raised, spot, spot_at, may_be_purged, lowest_purged}
 use Rattle.block_store.specs.Sparing.{spared, opened, purged}
 use Rattle.block_store.specs.declared.sparing.Sparing.{Sparing}
@@ -19,7 +19,7 @@ use Rattle.zone_bytes.specs.Decode.{zone_in}
 use Rattle.zone_bytes.specs.Layout.{kind}
 use Rattle.zone_bytes.specs.Joining.{Freeing, MayRelease}
 use Rattle.zone_bytes.specs.Lawful.{IsSound}
-use Rattle.zone_marks.specs.Purging.{Purging, Purged, MayPurge, purge_above, purge_zone}
+use Rattle.zone_marks.specs.Purging.{Purge, Purging, Purged, MayPurge, purge_above, purge_zone}
 use Rattle.zone_bytes.specs.Stepping.{left_in}
 use Rattle.zone_bytes.specs.Table.{Lays, slot_in}
 use Rattle.zone_bytes.proofs.Tiles.Tiling.{span-append}
@@ -31,16 +31,38 @@ use Rattle.zone_bytes.proofs.Joined.Ways.{Read, read}
 use Rattle.zone_bytes.proofs.Joined.Above.{free-is, not_free-is}
 use Rattle.zone_bytes.proofs.Joined.Handles.{Gained, gained}
 
+-- a pass may begin below blocks that are as they were
+starts : (p : Purge) (n : Sparing) (start at k : ℕ) (xs : List ℕ) (done rest : List Block)
+    → Lays xs p.zone p.slots p.unused → tidy p.zone ≡ p.zone → free_sum p.zone ≡ p.free
+    → p.zone ≡ done ++ (free (at - start) ++ rest)
+    → tidy (done ++ (free (at - start) ++ lowest_purged k (spared n) (opened n rest))) ≡ tidy p.goal
+    → sizes done ≡ start → p.from ≡ start → start ≤ at → Closed done → Purging p n start at k 0 xs
+starts p n start at k xs done rest lays tidied had is will low from up closed =
+    let a = subst Apart is (apart-tidied p.zone tidied) in
+    record {
+      done = done;
+      rest = rest;
+      lays = subst (λ z. Lays xs z p.slots p.unused) is lays;
+      low = low;
+      up = up;
+      tidied = tidy-apart done (apart-front done _ a);
+      closed = closed;
+      will = will;
+      count = omega (arith, ap free_sum is, had);
+      apart = tidy-apart rest (apart-above (free (at - start)) rest (apart-above done _ a));
+      below = done;
+      was = free (at - start);
+      now = [];
+      zone_is = is;
+      done_is = sym (append-nil done);
+      base = low ∙ sym from;
+      span = omega (arith, span-free, from, up);
+    }
+
 -- above a block
 module _ (f : Freeing) (place : ℕ) (xs : List ℕ) (m : MayPurge f place xs) where
-  abbrev all : List Block
-  all = f.below ++ f.here ∷ f.above
-
   pub place-read : Read xs f.here place
   place-read = read xs f.below f.here f.above f.slots f.unused m.lays place m.low
-
-  above-tidy : tidy f.above ≡ f.above
-  above-tidy = tidy-apart f.above (apart-above f.below (f.here ∷ f.above) (apart-tidied all m.tidied)).1
 
   module _ (purges : ℕ) (n now : Sparing) (same : (b : Block)
       → spared now b ≡ spared n b) (none : (blocks : List Block) → opened now blocks ≡ blocks) (stop : ℕ)
@@ -51,62 +73,27 @@ module _ (f : Freeing) (place : ℕ) (xs : List ℕ) (m : MayPurge f place xs) w
     -- a block that isn't Free
     pub above-other : 0 < kind f.here → Purging (purge_above stop f purges n) now stop stop purges 0 xs
     above-other k =
-        let a = apart-tidied all m.tidied in
         let front = f.below ++ f.here ∷ [] in
         let regrouped : (above : List Block) → f.below ++ f.here ∷ above ≡ front ++ (free (stop - stop) ++ above) =
         λ above. sym (append_assoc f.below (f.here ∷ []) above)
         ∙ (let z : 0 ≡ stop - stop = omega arith in ap (λ q. front ++ (free q ++ above)) z) in
-        record {
-          done = front;
-          rest = f.above;
-          lays = subst (λ q. Lays xs q f.slots f.unused) (regrouped f.above) m.lays;
-          low = (omega (arith, span-append, t));
-          up = omega arith;
-          tidied = tidy-apart _ (apart-front _ _ (subst Apart (sym (append_assoc f.below (f.here ∷ []) f.above)) a));
-          closed = closed-more f.below f.here (not_free-is f.here k);
-          will = ap (λ q. tidy (front ++ (free (stop - stop) ++ q))) after
-              ∙ ap tidy (sym (regrouped (lowest_purged purges (spared n) f.above)));
-          count = ap free_sum (sym (regrouped f.above)) ∙ (let z : free_sum all ≡ free_sum all + 0 = omega arith in z);
-          apart = above-tidy;
-          below = front;
-          was = [];
-          now = [];
-          zone_is = sym (append_assoc f.below (f.here ∷ []) f.above);
-          done_is = sym (append-nil front);
-          base = (omega (arith, span-append, t));
-          span = omega arith;
-        }
+        starts _ now _ _ _ _ front f.above m.lays m.tidied refl (regrouped f.above)
+        (ap (λ q. tidy (front ++ (free (stop - stop) ++ q))) after ∙ ap tidy (sym (regrouped _)))
+        (omega (arith, span-append, t, m.low)) refl (omega arith) (closed-more f.below f.here (not_free-is f.here k))
 
     -- a Free one
     pub above-free : kind f.here ≡ 0 → Purging (purge_above place f purges n) now place stop purges 0 xs
     above-free k =
-        let a = apart-tidied all m.tidied in
         let b = free-is f.here k in
         let one : free (stop - place) ≡ f.here ∷ [] =
         (let z : stop - place ≡ size f.here = omega (arith, t) in ap free z)
         ∙ free-some _ (omega (arith, place-read.some)) ∙ ap (λ q. q ∷ []) (sym b) in
         let regrouped : (above : List Block) → f.below ++ f.here ∷ above ≡ f.below ++ (free (stop - place) ++ above) =
         λ above. ap (λ q. f.below ++ (q ++ above)) (sym one) in
-        record {
-          done = f.below;
-          rest = f.above;
-          lays = subst (λ q. Lays xs q f.slots f.unused) (regrouped f.above) m.lays;
-          low = m.low;
-          up = omega (arith, t);
-          tidied = tidy-apart f.below (apart-front f.below (f.here ∷ f.above) a);
-          closed = closed-under f.below (size f.here) f.above (subst (λ q. Apart (f.below ++ q ∷ f.above)) b a);
-          will = ap (λ q. tidy (f.below ++ (free (stop - place) ++ q))) after
-              ∙ ap tidy (sym (regrouped (lowest_purged purges (spared n) f.above)));
-          count = ap free_sum (sym (regrouped f.above)) ∙ (let z : free_sum all ≡ free_sum all + 0 = omega arith in z);
-          apart = above-tidy;
-          below = f.below;
-          was = f.here ∷ [];
-          now = [];
-          zone_is = refl;
-          done_is = sym (append-nil f.below);
-          base = m.low;
-          span = omega (arith, t);
-        }
+        starts _ now _ _ _ _ f.below f.above m.lays m.tidied refl (regrouped f.above)
+        (ap (λ q. tidy (f.below ++ (free (stop - place) ++ q))) after ∙ ap tidy (sym (regrouped _)))
+        m.low refl (omega (arith, t)) (closed-under f.below (size f.here) f.above
+        (subst (λ q. Apart (f.below ++ q ∷ f.above)) b (apart-tidied (f.below ++ f.here ∷ f.above) m.tidied)))
 
 -- a block that goes is no Masters block
 goes-plain : (sp : Block → Bool) (b : Block) → may_be_purged sp b ≡ true → is_masters b ≡ false
@@ -139,25 +126,7 @@ masters-tidy blocks = total-tidy (λ (b : Block). if is_masters b then 1 else 0)
 module _ (xs : List ℕ) (first number : ℕ) (i : IsSound xs first number) (purges : ℕ) (n : Sparing) where
   -- over the whole zone
   pub all-start : Purging (purge_zone 0 xs i.unused purges n) n 0 0 purges 0 xs
-  all-start = record {
-    done = [];
-    rest = zone_in xs;
-    lays = i.lays;
-    low = refl;
-    up = omega arith;
-    tidied = refl;
-    closed = tt;
-    will = refl;
-    count = omega arith;
-    apart = i.tidied;
-    below = [];
-    was = [];
-    now = [];
-    zone_is = refl;
-    done_is = refl;
-    base = refl;
-    span = refl;
-  }
+  all-start = starts _ n _ _ _ _ [] (zone_in xs) i.lays i.tidied refl refl refl refl refl (omega arith) tt
 
   -- from the lowest block on that goes
   module _ (s : Spot) (e : spot (may_be_purged (spared n)) (zone_in xs) ≡ Some s) (place : ℕ) (low : sizes s.below ≡ place)
@@ -193,34 +162,13 @@ module _ (xs : List ℕ) (first number : ℕ) (i : IsSound xs first number) (pur
       zone-is : zone_in xs ≡ under.lower ++ (gap ++ here)
       zone-is = going-is ∙ regrouped here
 
-      start-low : sizes under.lower ≡ start
-      start-low = lower-low going place xs may-go start found
-
-      start-up : start ≤ place
-      start-up = let f = found s.below here (left-zone xs ∙ going-is) low in omega (arith, f)
-
       pub lowest-start : Purging (purge_zone start xs i.unused purges n) n start place purges 0 xs
-      lowest-start = record {
-        done = under.lower;
-        rest = here;
-        lays = subst (λ z. Lays xs z (slot_in xs) i.unused) zone-is i.lays;
-        low = start-low;
-        up = start-up;
-        tidied = tidy-apart under.lower under.apart;
-        closed = under.closed;
-        will = ap (λ q. tidy (under.lower ++ (gap ++ lowest_purged purges (spared n) q))) (none here)
-            ∙ ap tidy (sym (regrouped _)) ∙ ap tidy (sym (lowest_purged-spot _ (spared n) _ s e))
-            ∙ ap (λ q. tidy (lowest_purged purges (spared n) q)) (sym (none (zone_in xs)));
-        count = ap free_sum (sym zone-is) ∙ (let z : free_sum (zone_in xs) ≡ free_sum (zone_in xs) + 0 = omega arith in z);
-        apart = tidy-apart here (apart-above s.below here (subst Apart going-is (apart-tidied (zone_in xs) i.tidied)));
-        below = under.lower;
-        was = gap;
-        now = [];
-        zone_is = zone-is;
-        done_is = sym (append-nil under.lower);
-        base = start-low;
-        span = (omega (arith, span-free, start-up));
-      }
+      lowest-start = starts _ n _ _ _ _ under.lower here i.lays i.tidied refl zone-is
+          (ap (λ q. tidy (under.lower ++ (gap ++ lowest_purged purges (spared n) q))) (none here)
+          ∙ ap tidy (sym (regrouped _)) ∙ ap tidy (sym (lowest_purged-spot _ (spared n) _ s e))
+          ∙ ap (λ q. tidy (lowest_purged purges (spared n) q)) (sym (none (zone_in xs))))
+          (lower-low going place xs may-go start found) refl
+          (let f = found s.below here (left-zone xs ∙ going-is) low in omega (arith, f)) under.closed
 
   pub purge-gained : (from stop : ℕ) (new : List ℕ) (more : ℕ)
       → Purged (purge_zone from xs i.unused purges n) stop more new

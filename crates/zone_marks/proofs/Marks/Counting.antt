@@ -1,33 +1,27 @@
 -- A walk that counts what it passes.
-use Rattle.std.proofs.Common.{◌≡◌, ℕ, ◌+◌, ◌≤◌, ◌<◌, ◌⊎◌, Bool, true, false, not, List, [], ◌∷◌, ◌++◌, length, append_assoc, refl}
-use Rattle.std.proofs.Common.{sym, ap, ◌∙◌, arith, inl, inr}
+use Rattle.std.proofs.Common.{◌≡◌, ℕ, ◌+◌, ◌≤◌, ◌<◌, ◌⊎◌, Bool, true, false, List, [], ◌∷◌, ◌++◌, length}
+use Rattle.std.proofs.Common.{sym, refl, ap, ◌∙◌, arith, inl, inr}
 use Rattle.std.proofs.lemmas.List.{append-nil}
-use Rattle.block_store.specs.Block.{Block, sizes, free_of}
+use Rattle.block_store.specs.Block.{Block, size, free_of}
 use Rattle.zone_bytes.specs.Changes.{AtEach}
-use Rattle.zone_marks.specs.Marks.{Measures, Spans, between}
+use Rattle.zone_marks.specs.Marks.{AtMost, Measures, between}
 use Rattle.zone_bytes.specs.Stepping.{left_in, IsOnWay}
 use Rattle.zone_marks.proofs.Marks.Between.{CountAlike, alike-same, alike-more, all-begin, all-within, between-append}
-use Rattle.zone_marks.proofs.Marks.Between.{none-above, one-spanned}
-use Rattle.zone_marks.proofs.Marks.Passing.{at-append, at-map, passed-all}
-use Rattle.zone_marks.proofs.Marks.Spanned.{free-size}
+use Rattle.zone_marks.proofs.Marks.Between.{none-above}
+use Rattle.zone_marks.proofs.Marks.Passing.{Passed, at-map, passed-all, passed-more, passed-on}
 use Rattle.zone_bytes.proofs.Places.Stepped.{left-none}
-use Rattle.zone_bytes.proofs.Tiles.Tiling.{span-append}
-use Rattle.zone_summary.specs.Stretches.{load}
-use Rattle.zone_summary.specs.Stretches.{counted, join, one, prefix, stretch_of, suffix}
+use Rattle.zone_summary.specs.Stretches.{counted, join, load, prefix, stretch_by, suffix}
+use Rattle.zone_summary.specs.declared.stretch.Counting.{Counting}
 use Rattle.zone_summary.specs.declared.stretch.Counting.TheVariants.{Runs}
 use Rattle.zone_summary.specs.declared.stretch.Stretch.{Stretch}
 use Rattle.zone_summary.specs.declared.stretch.Stretch.TheVariants.{Whole, Ended}
-use Rattle.zone_summary.proofs.Monoid.{join-unit_right, joined-is}
-use Rattle.zone_summary.proofs.Sums.{load-blocks}
+use Rattle.zone_summary.proofs.Monoid.{counted-none, joined-is}
+use Rattle.zone_summary.proofs.Sums.{load-counted}
 
--- the blocks from a place on up to another, each of which began below a bound
-pub record Counted (xs : List ℕ) (from at stop most : ℕ) (runs : Stretch) : Type 0 where
-  pub done : List Block
-  pub is : left_in from xs ≡ done ++ left_in at xs
-  pub up : from + sizes done ≡ at
-  pub each : AtEach (λ p b. (free_of b ≤ most) × (p < stop)) from done
-  pub way : IsOnWay at xs
-  pub comes : stretch_of done ≡ runs
+-- the blocks from a place on up to another, of each of which something holds, and what they come to
+pub record Walked (w : Counting) (xs : List ℕ) (from at : ℕ) (R : ℕ → Block → Type 0) (total : Stretch) : Type 0 where
+  pub passed : Passed xs from at R
+  pub comes : stretch_by w passed.done ≡ total
 
 pub prefix-counted : (t : Bool) (n : ℕ) → prefix (counted t n) ≤ n
 prefix-counted true n = omega arith
@@ -37,66 +31,68 @@ pub suffix-load : (s : Stretch) → suffix s ≤ load s
 suffix-load (Whole a) = omega arith
 suffix-load (Ended p i s) = omega arith
 
-module _ (xs : List ℕ) (from stop : ℕ) where
-  pub counted-start : (most : ℕ) → IsOnWay from xs → Counted xs from from stop most (Whole 0)
-  counted-start most w = record { done = []; is = refl; up = omega arith; each = tt; way = w; comes = refl }
+module _ (w : Counting) (xs : List ℕ) (from : ℕ) where
+  pub walked-start : (R : ℕ → Block → Type 0) → IsOnWay from xs → Walked w xs from from R (Whole 0)
+  walked-start R way = record {
+    passed = record { done = []; is = refl; up = omega arith; each = tt; way = way };
+    comes = counted-none w;
+  }
 
-  pub counted-step : (at end most most' bytes : ℕ) (runs block next : Stretch) (barrier : Bool)
-      → Counted xs from at stop most runs → Spans at end bytes barrier xs → at < stop → most ≤ most' → bytes ≤ most'
-      → block ≡ counted (not barrier) bytes → next ≡ join runs block → Counted xs from end stop most' next
-  counted-step at end most most' bytes runs block next barrier c s l m n t j =
-      record {
-        done = c.done ++ s.here ∷ [];
-        is = c.is ∙ ap (λ k. c.done ++ k) s.is ∙ sym (append_assoc c.done (s.here ∷ []) (left_in end xs));
-        up = omega (arith, span-append);
-        each = at-append (λ p b. (free_of b ≤ most') × (p < stop)) _ _ _
-            (at-map (λ p b. (free_of b ≤ most) × (p < stop)) (λ p b. (free_of b ≤ most') × (p < stop)) _ _
-            (λ _ _ _ _ r. ((omega (arith, m)), r.1)) c.each) ((omega (arith, n, s.bytes), omega (arith, l)), tt);
-        way = s.way;
-        comes = sym (joined-is Runs c.done (s.here ∷ []) runs block next j (sym c.comes)
-            (t ∙ one-spanned s.here bytes barrier s.bytes s.ends ∙ sym (join-unit_right (one s.here))));
-      }
-
-  -- what the blocks come to and one block more fit
-  pub counted-fits : (at end most bytes : ℕ) (runs block : Stretch) (barrier : Bool) → Counted xs from at stop most runs
-      → Spans at end bytes barrier xs → block ≡ counted (not barrier) bytes → suffix runs + prefix block ≤ end
-  counted-fits at end most bytes runs block barrier c s t =
-      omega (arith, suffix-load, ap load c.comes, load-blocks, prefix-counted, ap prefix t, free-size)
-
-  -- what it tells of the blocks that begin below a bound which it came to
-  module _ (at most : ℕ) (runs : Stretch) (c : Counted xs from at stop most runs) where
-    pub counted-tells : (hi edge : ℕ) → CountAlike (between from hi from c.done) c.done → (hi ≤ at) ⊎ (length xs ≤ at)
-        → Measures from hi from (left_in from xs) (record { edge = edge; most = most; runs = runs })
-    counted-tells hi edge a e = record {
-      most = passed-all _ _ (λ _ b. free_of b ≤ most) (λ _ b. free_of b ≤ most) _ _ _ (record {
-        done = c.done;
-        is = c.is;
-        up = c.up;
-        each = at-map (λ p b. (free_of b ≤ most) × (p < stop)) (λ _ b. free_of b ≤ most) _ _
-            (λ _ _ _ _ r. r.0) c.each;
-        way = c.way;
-      }) (λ _ _ r. r) e;
-      runs = alike.same Runs ∙ c.comes;
+  module _ (at : ℕ) (R : ℕ → Block → Type 0) (total : Stretch) (c : Walked w xs from at R total) where
+    pub walked-step : (S : ℕ → Block → Type 0) → ((p : ℕ) (b : Block) → R p b → S p b) → (end : ℕ) (here : Block)
+        → left_in at xs ≡ here ∷ left_in end xs → at + size here ≡ end → IsOnWay end xs → S at here
+        → (given more : Stretch) → given ≡ stretch_by w (here ∷ []) → more ≡ join total given
+        → Walked w xs from end S more
+    walked-step S f end here is up way s given more g j = record {
+      passed = passed-on xs from at end R S f c.passed here is up way s;
+      comes = sym (joined-is w c.passed.done (here ∷ []) total given more j (sym c.comes) g);
     }
+
+    pub walked-few : suffix total ≤ at
+    walked-few = omega (arith, suffix-load, ap load c.comes, load-counted w c.passed.done, c.passed.up)
+
+    -- what it tells of the blocks that begin below a bound which it came to
+    pub walked-tells : (hi : ℕ) → CountAlike (between from hi from c.passed.done) c.passed.done
+        → (hi ≤ at) ⊎ (length xs ≤ at) → stretch_by w (between from hi from (left_in from xs)) ≡ total
+    walked-tells hi a e = alike.same w ∙ c.comes
       where
         nothing : between from hi at (left_in at xs) ≡ []
         nothing = elim e [
           | inl l ↦ none-above from hi at (left_in at xs) l
-          | inr l ↦ ap (between from hi at) (left-none at xs c.way l)
+          | inr l ↦ ap (between from hi at) (left-none at xs c.passed.way l)
         ]
 
-        alike : CountAlike (between from hi from (left_in from xs)) c.done
-        alike = alike-more _ _ _ (alike-same _ _ (ap (between from hi from) c.is
-            ∙ between-append _ _ from c.done (left_in at xs)
-            ∙ ap (λ y. between from hi from c.done ++ between from hi y (left_in at xs)) c.up
-            ∙ ap (λ k. between from hi from c.done ++ k) nothing ∙ append-nil (between from hi from c.done))) a
+        alike : CountAlike (between from hi from (left_in from xs)) c.passed.done
+        alike = alike-more _ _ _ (alike-same _ _ (ap (between from hi from) c.passed.is
+            ∙ between-append _ _ from c.passed.done (left_in at xs)
+            ∙ ap (λ y. between from hi from c.passed.done ++ between from hi y (left_in at xs)) c.passed.up
+            ∙ ap (λ k. between from hi from c.passed.done ++ k) nothing
+            ∙ append-nil (between from hi from c.passed.done))) a
 
-    pub counted-edge : (edge : ℕ) → Measures from at from (left_in from xs)
-        (record { edge = edge; most = most; runs = runs })
-    counted-edge edge = counted-tells _ _ (all-within _ _ _ _ (omega arith) (omega arith)) (inl (omega arith))
+    -- where the walk began no block at or above the bound
+    pub walked-below : (hi : ℕ) → ((p : ℕ) (b : Block) → R p b → p < hi) → (hi ≤ at) ⊎ (length xs ≤ at)
+        → stretch_by w (between from hi from (left_in from xs)) ≡ total
+    walked-below hi f e = walked-tells hi (alike-same _ _ (all-begin _ _ _ _ (omega arith)
+        (at-map R (λ p _. p < hi) _ _ (λ p b _ _ r. f p b r) c.passed.each))) e
 
-    pub counted-below : (place edge : ℕ) → stop ≤ place → (place ≤ at) ⊎ (length xs ≤ at)
-        → Measures from place from (left_in from xs) (record { edge = edge; most = most; runs = runs })
-    counted-below place edge l e = counted-tells _ _ (alike-same _ _ (all-begin _ _ _ _ (omega arith)
-        (at-map (λ p b. (free_of b ≤ most) × (p < stop)) (λ p _. p < place) _ _
-        (λ _ _ _ _ r. omega (arith, l)) c.each))) e
+module _ (xs : List ℕ) (from at stop most : ℕ) (runs : Stretch)
+    (c : Walked Runs xs from at (λ p b. (free_of b ≤ most) × (p < stop)) runs) where
+  bound : (hi : ℕ) → (hi ≤ at) ⊎ (length xs ≤ at) → AtEach (AtMost most from hi) from (left_in from xs)
+  bound hi e = passed-all _ _ (λ _ b. free_of b ≤ most) (λ _ b. free_of b ≤ most) _ _ _
+      (passed-more _ _ _ (λ p b. (free_of b ≤ most) × (p < stop)) (λ _ b. free_of b ≤ most) (λ _ _ r. r.0) c.passed)
+      (λ _ _ r. r) e
+
+  pub measured-edge : (edge : ℕ) → Measures from at from (left_in from xs)
+      (record { edge = edge; most = most; runs = runs })
+  measured-edge edge = record {
+    most = bound at (inl (omega arith));
+    runs = walked-tells _ _ _ _ _ _ c at (all-within _ _ _ _ (omega arith) (omega (arith, c.passed.up)))
+        (inl (omega arith));
+  }
+
+  pub measured-below : (place edge : ℕ) → stop ≤ place → (place ≤ at) ⊎ (length xs ≤ at)
+      → Measures from place from (left_in from xs) (record { edge = edge; most = most; runs = runs })
+  measured-below place edge l e = record {
+    most = bound place e;
+    runs = walked-below _ _ _ _ _ _ c place (λ p b r. omega (arith, r.1, l)) e;
+  }

@@ -1,10 +1,10 @@
 -- A walk that goes over blocks one after another, of each of which something holds.
-use Rattle.std.proofs.Common.{◌≡◌, ℕ, ◌+◌, ◌≤◌, ◌<◌, inl, inr, ◌⊎◌, Bool, List, [], ◌∷◌, ◌++◌, length, sym, refl, ap, ◌∙◌, subst}
+use Rattle.std.proofs.Common.{◌≡◌, ℕ, ◌+◌, ◌≤◌, ◌<◌, inl, inr, ◌⊎◌, List, [], ◌∷◌, ◌++◌, length, sym, refl, ap, ◌∙◌}
+use Rattle.std.proofs.Common.{subst}
 use Rattle.std.proofs.Common.{arith, append_assoc}
-use Rattle.block_store.specs.Block.{Block, size, sizes, free_of}
+use Rattle.block_store.specs.Block.{Block, size, sizes}
 use Rattle.zone_bytes.specs.Stepping.{left_in, IsOnWay}
 use Rattle.zone_bytes.specs.Changes.{AtEach, Begins}
-use Rattle.zone_marks.specs.Marks.{Spans}
 use Rattle.zone_bytes.proofs.Tiles.Tiling.{span-append}
 use Rattle.zone_bytes.proofs.Places.Stepped.{left-none}
 
@@ -103,9 +103,9 @@ pub record Passed (xs : List ℕ) (from at : ℕ) (R : ℕ → Block → Type 0)
   pub way : IsOnWay at xs
 
 -- where the lower of two bounds was come to
-pub past : (to end at stop : ℕ) → (stop ≡ to) ⊎ (stop ≡ end) → stop ≤ at → (to ≤ at) ⊎ (end ≤ at)
-past to end at stop (inl e) l = inl (omega (arith, e, l))
-past to end at stop (inr e) l = inr (omega (arith, e, l))
+pub past : (to end all at stop : ℕ) → (stop ≡ to) ⊎ (stop ≡ end) → end ≡ all → stop ≤ at → (to ≤ at) ⊎ (all ≤ at)
+past to end all at stop (inl e) f l = inl (omega (arith, e, l))
+past to end all at stop (inr e) f l = inr (omega (arith, e, f, l))
 
 pub passed-more : (xs : List ℕ) (from at : ℕ) (R S : ℕ → Block → Type 0) → ((p : ℕ) (b : Block) → R p b → S p b)
     → Passed xs from at R → Passed xs from at S
@@ -117,20 +117,22 @@ passed-more xs from at R S f p = record {
   way = p.way;
 }
 
+-- past one block more
+abbrev pub passed-on : (xs : List ℕ) (from at end : ℕ) (R S : ℕ → Block → Type 0)
+    → ((p : ℕ) (b : Block) → R p b → S p b) → Passed xs from at R → (here : Block)
+    → left_in at xs ≡ here ∷ left_in end xs → at + size here ≡ end → IsOnWay end xs → S at here → Passed xs from end S
+passed-on xs from at end R S f p here is up way s = record {
+  done = p.done ++ here ∷ [];
+  is = p.is ∙ ap (λ k. p.done ++ k) is ∙ sym (append_assoc p.done (here ∷ []) (left_in end xs));
+  up = omega (arith, p.up, span-append, up);
+  each = at-append S from p.done (here ∷ []) (at-map R S from p.done (λ q b _ _ r. f q b r) p.each)
+      (subst (λ q. S q here) (sym p.up) s, tt);
+  way = way;
+}
+
 module _ (xs : List ℕ) (from : ℕ) (R : ℕ → Block → Type 0) where
   pub passed-start : IsOnWay from xs → Passed xs from from R
   passed-start w = record { done = []; is = refl; up = omega arith; each = tt; way = w }
-
-  pub passed-step : (at end free : ℕ) (barrier : Bool) → Passed xs from at R → Spans at end free barrier xs
-      → ((b : Block) → free ≡ free_of b → 0 < size b → R at b) → Passed xs from end R
-  passed-step at end free barrier p s r =
-      record {
-        done = p.done ++ s.here ∷ [];
-        is = p.is ∙ ap (λ k. p.done ++ k) s.is ∙ sym (append_assoc p.done (s.here ∷ []) (left_in end xs));
-        up = omega (arith, p.up, span-append);
-        each = at-append R _ _ _ p.each (subst (λ q. R q s.here) (sym p.up) (r s.here s.bytes (omega arith)), tt);
-        way = s.way;
-      }
 
   pub passed-begins : (at : ℕ) → Passed xs from at R → Begins at from (left_in from xs)
   passed-begins at p = subst (Begins at from) (sym p.is) (begins-right _ _ _ _

@@ -1,9 +1,11 @@
 -- A search for a run that passes blocks by what they come to in runs.
 use Rattle.zone_summary.specs.declared.stretch.Counting.TheVariants.{Runs}
-use Rattle.std.proofs.Common.{◌≡◌, ℕ, ◌+◌, ◌≤◌, ◌<◌, ◌^◌, ◌&&◌, ◌⊎◌, inl, inr, Bool, true, false, nat_le, None, Option, List, [], ◌++◌, length}
+use Rattle.std.proofs.Common.{◌≡◌, ℕ, ◌+◌, ◌≤◌, ◌<◌, ◌^◌, ◌&&◌, ◌⊎◌, inl, inr, Bool, true, false, nat_le, None, List}
+use Rattle.std.proofs.Common.{[], ◌++◌, length}
 use Rattle.std.proofs.Common.{append_assoc, append-nil, refl, sym, ap, ◌∙◌, subst, arith}
 use Rattle.std.proofs.lemmas.Bool.{cond-false}
-use Rattle.block_store.specs.Block.{Block}
+use Rattle.std.proofs.lemmas.List.{append_cancel_right}
+use Rattle.block_store.specs.Block.{Block, sizes}
 use Rattle.block_store.specs.Inner.RunScan.{scan_runs}
 use Rattle.block_store.specs.Sparing.{opened, spared}
 use Rattle.block_store.specs.declared.run_search.RunScan.{RunScan}
@@ -14,16 +16,17 @@ use Rattle.block_store.proofs.Regroup.RunSkips.{scan-end}
 use Rattle.zone_bytes.specs.Decode.{zone_in}
 use Rattle.zone_bytes.specs.Lawful.{IsSound}
 use Rattle.zone_bytes.specs.Changes.{Begins}
-use Rattle.zone_marks.specs.Searching.{IsBarred, IsFound, IsKnown, IsPassed, IsPiece, IsReady, IsStretch, begun, finds_from, finds_purging}
+use Rattle.zone_marks.specs.Searching.{Goes, IsBarred, IsFound, IsKnown, IsPassed, IsPiece, IsReady, IsStretch, begun}
+use Rattle.zone_marks.specs.Searching.{finds_from, finds_in, finds_purging}
 use Rattle.zone_bytes.specs.Stepping.{left_in}
 use Rattle.zone_marks.specs.declared.beginning.Passed.{Passed}
 use Rattle.zone_marks.specs.declared.landmark.Tally.TheVariants as tally
-use Rattle.zone_marks.proofs.Marks.Lowering.{begins-further, begins-way}
 use Rattle.zone_marks.proofs.Marks.Passing.{begins-here}
 use Rattle.zone_bytes.proofs.Places.Stepped.{left-none}
-use Rattle.zone_marks.proofs.Searches.Begun.{open-more, piece-more, piece-none}
+use Rattle.zone_bytes.proofs.Tiles.Tiling.{span-append}
+use Rattle.zone_marks.proofs.Searches.Going.{goes-finds}
 use Rattle.zone_marks.proofs.Searches.Knowing.{known-through}
-use Rattle.zone_marks.proofs.Searches.Pieces.{edge-within}
+use Rattle.zone_marks.proofs.Searches.Pieces.{edge-within, left-long, piece-more, piece-none}
 use Rattle.zone_summary.specs.Stretches.{load}
 use Rattle.zone_summary.specs.Searches.{found_from}
 use Rattle.zone_summary.specs.Stretches.{best, is_ended, join, prefix, stretch_of, suffix}
@@ -37,29 +40,30 @@ abbrev spares : Block → Bool
 spares = spared sparing.Nothing
 
 -- what a search with no purges left finds
-pub ready-finds : (bytes : ℕ) (xs : List ℕ) (s : RunScan) → IsReady xs s
-    → finds_from bytes s xs ≡ found_from bytes (spared sparing.Nothing) s.start s.free s.place (left_in s.place xs)
-ready-finds bytes xs s r =
-    ap (λ l. scan_runs None bytes (spared sparing.Nothing) l s.start s.free s.met s.place (left_in s.place xs)) r.left
-    ∙ ap (λ m. scan_runs None bytes (spared sparing.Nothing) 0 s.start s.free m s.place (left_in s.place xs)) r.met
+pub ready-finds : (bytes : ℕ) (xs : List ℕ) (s : RunScan) → IsReady xs s → (above : List Block)
+    → finds_in bytes s above ≡ found_from bytes spares s.start s.free s.place above
+ready-finds bytes xs s r above = ap (λ l. scan_runs None bytes spares l s.start s.free s.met s.place above) r.left
+    ∙ ap (λ m. scan_runs None bytes spares 0 s.start s.free m s.place above) r.met
 
-pub ready-known : (bytes : ℕ) (xs : List ℕ) (s : RunScan) → IsReady xs s
-    → IsKnown bytes (finds_from bytes s xs) s.place xs s
+ready-known : (bytes : ℕ) (xs : List ℕ) (s : RunScan) → IsReady xs s → IsKnown bytes s s.place xs s
 ready-known bytes xs s r = record {
-  begins = r.begins;
-  left = r.left;
-  met = r.met;
-  free = r.free;
-  finds = refl;
-  here = inr refl;
+  ready = r;
+  here = [];
+  piece = piece-none xs s.place r.begins;
+  finds = λ above. refl;
+  came = inr refl;
 }
 
-pub ready-begun : (xs : List ℕ) → IsReady xs (begun 0 0)
-ready-begun xs = record { begins = begins-here 0 _; left = refl; met = refl; free = omega arith }
+pub ready-at : (xs : List ℕ) (at : ℕ) → Begins at 0 (zone_in xs) → IsReady xs (begun at 0)
+ready-at xs at b = record { begins = b; left = refl; met = refl; free = omega arith }
 
-pub known-ready : (bytes : ℕ) (answer : Option ℕ) (at : ℕ) (xs : List ℕ) (s : RunScan) → IsKnown bytes answer at xs s
-    → IsReady xs s
-known-ready bytes answer at xs s k = record { begins = k.begins; left = k.left; met = k.met; free = k.free }
+pub ready-begun : (xs : List ℕ) → IsReady xs (begun 0 0)
+ready-begun xs = ready-at xs 0 (begins-here 0 _)
+
+-- two pieces among which no run ends
+open-more : (low high : List Block) (a b : ℕ) → stretch_of low ≡ Whole a → stretch_of high ≡ Whole b
+    → stretch_of (low ++ high) ≡ Whole (a + b)
+open-more low high a b e f = stretch_of-append low _ ∙ ap (λ s. join s (stretch_of high)) e ∙ ap (join (Whole a)) f
 
 -- before it has passed any
 pub passed-none : (xs : List ℕ) (s : RunScan) → IsReady xs s
@@ -146,32 +150,37 @@ module _ (bytes : ℕ) (xs : List ℕ) (s : RunScan) (r : IsReady xs s) (at : �
   short-here = omega (arith, ap best q.sums, short)
 
   -- a search in which no run ended goes on with their free bytes
-  pub known-open : (free : ℕ) → p.runs ≡ Whole free → IsKnown bytes (finds_from bytes s xs) at xs
+  pub known-open : (free : ℕ) → p.runs ≡ Whole free → IsKnown bytes s at xs
       (record { left = s.left; start = s.start; free = free; met = s.met; place = at })
   known-open free e =
       let w = whole-rest s.free free (stretch_of q.here) (q.sums ∙ e) in
       let o = whole-open q.here w.0 w.1 in
-      subst (λ n. IsKnown bytes (finds_from bytes s xs) at xs
+      subst (λ n. IsKnown bytes s at xs
       (record { left = s.left; start = s.start; free = n; met = s.met; place = at })) w.2
-      (known-through _ _ _ _ _ _ s _ (ready-known _ _ s r) refl q.piece o.0 o.1)
+      (known-through _ _ _ _ _ (ready-known _ _ s r) _ _ q.piece _ refl o.0 o.1)
 
   -- and one that has blocks with an end of a run behind it may begin at them
-  pub known-barred : (b : IsBarred s.place xs q.here q.high p) → IsKnown bytes (finds_from bytes s xs) p.barred xs (begun p.barred 0)
-  known-barred b = record {
-    begins = b.edge;
-    left = refl;
-    met = refl;
-    free = omega arith;
-    finds = ready-finds _ _ s r ∙ ap (found_from bytes spares s.start s.free s.place) whole
-        ∙ scan-begun _ spares _ _ _ _ b.mid (q.high ++ left_in at xs) b.ended less
-        ∙ ap (λ y. found_from bytes spares y 0 y (b.mid ++ (q.high ++ left_in at xs))) b.up
-        ∙ ap (found_from bytes spares p.barred 0 p.barred) (sym (b.piece.is ∙ ap (λ k. b.mid ++ k) q.high_piece.is));
-    here = inr refl;
+  pub known-barred : (b : IsBarred s.place xs q.here q.high p) (last : RunScan)
+      → IsKnown bytes (begun p.barred 0) at xs last
+      → IsKnown bytes s at xs last
+  known-barred b last k = record {
+    ready = k.ready;
+    here = q.here;
+    piece = q.piece;
+    finds = λ above. ready-finds _ _ s r _ ∙ ap (found_from bytes spares s.start s.free s.place)
+        (ap (λ k. k ++ above) b.is ∙ append_assoc b.low (b.mid ++ q.high) above
+        ∙ ap (λ k. b.low ++ k) (append_assoc b.mid q.high above))
+        ∙ scan-begun _ spares _ _ _ _ b.mid (q.high ++ above) b.ended less
+        ∙ ap (λ y. found_from bytes spares y 0 y (b.mid ++ (q.high ++ above))) b.up
+        ∙ ap (found_from bytes spares p.barred 0 p.barred)
+        (sym (ap (λ k. k ++ above) parts ∙ append_assoc b.mid q.high above))
+        ∙ k.finds above;
+    came = k.came;
   }
     where
-      whole : left_in s.place xs ≡ b.low ++ (b.mid ++ (q.high ++ left_in at xs))
-      whole = q.piece.is ∙ ap (λ k. k ++ left_in at xs) b.is ∙ append_assoc b.low (b.mid ++ q.high) (left_in at xs)
-          ∙ ap (λ k. b.low ++ k) (append_assoc b.mid q.high (left_in at xs))
+      parts : k.here ≡ b.mid ++ q.high
+      parts = append_cancel_right k.here (b.mid ++ q.high) (left_in at xs) (sym k.piece.is ∙ b.piece.is
+          ∙ ap (λ k. b.mid ++ k) q.high_piece.is ∙ sym (append_assoc b.mid q.high (left_in at xs)))
 
       less : best (join (Whole s.free) (stretch_of (b.low ++ b.mid))) < bytes
       less =
@@ -183,22 +192,25 @@ module _ (bytes : ℕ) (xs : List ℕ) (s : RunScan) (r : IsReady xs s) (at : �
 
   -- at the zone's end none is found
   pub passed-all : left_in at xs ≡ [] → finds_from bytes s xs ≡ None
-  passed-all e = ready-finds _ _ s r
+  passed-all e = ready-finds _ _ s r _
       ∙ ap (found_from bytes spares s.start s.free s.place) (q.piece.is ∙ ap (λ k. q.here ++ k) e ∙ append-nil q.here)
       ∙ scan-never _ spares _ _ s.place q.here short-here
 
 -- a walk that has come to the zone's end without a run
 pub walked-out : (bytes : ℕ) (n : Sparing) (xs : List ℕ) (first unused : ℕ) → IsSound xs first unused
-    → (from last : RunScan) → Begins from.place 0 (zone_in xs) → Begins last.place from.place (left_in from.place xs)
+    → (from last : RunScan) → Begins from.place 0 (zone_in xs) → Goes bytes n xs from last
     → (IsFound bytes last ⊎ ((length xs ≤ last.place) ⊎ (4294967295 ≤ last.place)))
-    → (last.met && nat_le bytes last.free) ≡ false → finds_purging bytes n last xs ≡ None
-walked-out bytes n xs first unused i from last b e came f =
-    let edge = begins-further xs first unused i from.place last.place b e in
-    let none = left-none _ _ (begins-way xs first unused i last.place edge) (elim came [
+    → (last.met && nat_le bytes last.free) ≡ false → finds_purging bytes n from xs ≡ None
+walked-out bytes n xs first unused i from last b g came f =
+    let none = left-none _ _ g.way (elim came [
       | inl k ↦ let y : true ≡ false = sym k ∙ f in absurd (cc)
       | inr (inl l) ↦ l
-      | inr (inr l) ↦ absurd (omega (arith, l, edge-within xs first unused i last.place edge))
+      | inr (inr l) ↦
+          let all = left-long xs first unused i from.place b in
+          absurd (omega (arith, l, g.up, ap sizes g.is, span-append, all, i.lays.small))
     ]) in
-    ap (scan_runs None bytes (spared n) last.left last.start last.free last.met last.place) (ap (opened n) none ∙ opened-none n)
+    goes-finds _ _ _ _ _ g
+    ∙ ap (scan_runs None bytes (spared n) last.left last.start last.free last.met last.place)
+    (ap (opened n) none ∙ opened-none n)
     ∙ scan-end None bytes (spared n) last.left last.start last.free last.met last.place
     ∙ cond-false (last.met && nat_le bytes last.free) _ _ f

@@ -1,5 +1,5 @@
 -- The blocks from one place of a zone up to another.
-use Rattle.std.proofs.Common.{◌≡◌, ℕ, ◌+◌, ◌≤◌, ◌<◌, ◌⊎◌, inl, inr, List, ◌∷◌, ◌++◌, length, take, drop, get_or}
+use Rattle.std.proofs.Common.{◌≡◌, ℕ, ◌+◌, ◌≤◌, ◌<◌, ◌⊎◌, inl, inr, List, [], ◌++◌, length, take, drop, get_or}
 use Rattle.std.proofs.Common.{append_assoc}
 use Rattle.std.proofs.Common.{refl, sym, ap, ◌∙◌, subst, arith}
 use Rattle.std.proofs.lemmas.Bool.{cases_lt}
@@ -18,7 +18,8 @@ use Rattle.zone_marks.specs.declared.landmark.Tally.TheVariants as tally
 use Rattle.zone_marks.specs.declared.landmark.TheConstants.{GROUP}
 use Rattle.zone_bytes.proofs.Laws.Lawful.{sizes-length}
 use Rattle.zone_marks.proofs.Marks.Between.{CountAlike, tally-as, alike-back, alike-more, alike-same, between-parts}
-use Rattle.zone_marks.proofs.Marks.Lowering.{Seen, begins-way, seen-from, marks-below, marks-parted, mark-begins, mark-first}
+use Rattle.zone_marks.proofs.Marks.Lowering.{Seen, begins-way, mark-begins, seen-from, marks-below, marks-parted}
+use Rattle.zone_marks.proofs.Marks.Lowering.{mark-first}
 use Rattle.zone_marks.proofs.Marks.Lowering.{begins-end}
 use Rattle.zone_marks.proofs.Marks.Passing.{PartsAt, begins-either, begins-here, begins-right, begins-within, parts}
 use Rattle.zone_marks.proofs.Marks.Tallies.{group-tally}
@@ -33,16 +34,17 @@ pub piece-begins : (xs : List ℕ) (from to : ℕ) (here : List Block) → IsPie
 piece-begins xs from to here p = subst (Begins to from) (sym p.is) (begins-right _ _ _ _
     (subst (λ y. Begins to y (left_in to xs)) (sym p.up) (begins-here _ _)))
 
--- where a search goes up to a landmark
-pub before : (marks : List Landmark) (index next to end : ℕ) (xs : List ℕ) → to ≡ next_of 4294967295 (drop index marks)
-    → end ≡ length xs → (next ≡ to) ⊎ (next ≡ end) → next ≤ end → next ≤ to → IsBefore index marks xs next
-before marks index next to end xs t e o h l = record {
-  either = elim o [
-    | inl q ↦ inl (q ∙ t)
-    | inr q ↦ inr (q ∙ e)
-  ];
-  low = omega (arith, h, e);
-  least = omega (arith, l, t);
+-- a piece of no blocks
+pub piece-none : (xs : List ℕ) (at : ℕ) → Begins at 0 (zone_in xs) → IsPiece at at xs []
+piece-none xs at b = record { is = refl; up = omega arith; edge = b }
+
+-- a piece and the one above it
+pub piece-more : (xs : List ℕ) (from at to : ℕ) (low high : List Block) → IsPiece from at xs low → IsPiece at to xs high
+    → IsPiece from to xs (low ++ high)
+piece-more xs from at to low high p q = record {
+  is = p.is ∙ ap (λ k. low ++ k) q.is ∙ sym (append_assoc low high (left_in to xs));
+  up = (omega (arith, span-append));
+  edge = q.edge;
 }
 
 module _ (xs : List ℕ) (first unused : ℕ) (i : IsSound xs first unused) where
@@ -105,100 +107,55 @@ module _ (xs : List ℕ) (first unused : ℕ) (i : IsSound xs first unused) wher
             | inr q ↦ inr (left-none next xs (begins-way xs first unused i next e) (omega (arith, q)))
           ]))
 
-  -- the stretch of a landmark
-  module _ (marks : List Landmark) (a : AreMarks 4294967295 (zone_in xs) marks) (index : ℕ) (l : index < length marks) where
-    knows : AreMarks 4294967295 (zone_in xs) (get_or marks index no_mark ∷ drop (index + 1) marks)
-    knows = subst (AreMarks 4294967295 (zone_in xs)) (drop_more marks index no_mark l) (marks-parted _ _ _ _ a).1
+  module _ (w : Counting) (marks : List Landmark) (a : AreMarks 4294967295 (zone_in xs) marks) where
+    -- what is known up to a landmark is so up to where a search goes below it
+    stretch-before : (t : Tally) (at index next : ℕ) → Begins at 0 (zone_in xs) → IsBefore index marks xs next
+        → at ≤ next_of 4294967295 (drop index marks)
+        → IsTally w t (between at (next_of 4294967295 (drop index marks)) 0 (zone_in xs)) → IsStretch w t at next xs
+    stretch-before t at index next e b r k = elim (cases_lt index (length marks)) [
+      | inl l ↦ let q : next ≡ next_of 4294967295 (drop index marks) = b.here l ∙ sym (mark-first _ _ _ _ l) in
+          stretch-at w t at _ next e k b.edge (omega (arith, q, r)) (omega (arith, q)) (inl q)
+      | inr l ↦ let q : next ≡ length xs = omega (arith, b.end l, edge-within next b.edge) in
+          let to : next_of 4294967295 (drop index marks) ≡ 4294967295 =
+          ap (next_of 4294967295) (drop_all index marks l) in
+          stretch-at w t at _ next e k b.edge (omega (arith, q, edge-within at e))
+          (omega (arith, q, to, i.lays.small)) (inr q)
+    ]
 
-    pub mark-rises : (get_or marks index no_mark).at ≤ next_of 4294967295 (drop (index + 1) marks)
-    mark-rises = knows.3
-
-    pub mark-edge : Begins (get_or marks index no_mark).at 0 (zone_in xs)
-    mark-edge = knows.0
-
-    pub stretch-of : (w : Counting) (next : ℕ) → Begins next 0 (zone_in xs) → (get_or marks index no_mark).at ≤ next
-        → next ≤ next_of 4294967295 (drop (index + 1) marks)
-        → (next ≡ next_of 4294967295 (drop (index + 1) marks)) ⊎ (next ≡ length xs)
+    -- so the stretch of a landmark is known up to there
+    pub next-stretch : (index next : ℕ) → index < length marks → IsBefore (index + 1) marks xs next
         → IsStretch w (told w (get_or marks index no_mark).tally) (get_or marks index no_mark).at next xs
-    stretch-of w next e r h o = stretch-at w _ _ _ _ mark-edge (knows.2 w) e r h o
+    next-stretch index next l b =
+        let k = subst (AreMarks 4294967295 (zone_in xs)) (drop_more marks index no_mark l) (marks-parted _ _ _ _ a).1 in
+        stretch-before _ _ _ next k.0 b k.3 (k.2 w)
 
-  -- where the search past a landmark's stretch comes to: the next landmark, or the zone's end
-  pub bounded-edge : (marks : List Landmark) → AreMarks 4294967295 (zone_in xs) marks → (index next end : ℕ) → end ≡ length xs
-      → (next ≡ next_of 4294967295 (drop index marks)) ⊎ (next ≡ end) → next ≤ end → Begins next 0 (zone_in xs)
-  bounded-edge marks a index next end e (inr q) h = end-begins _ (q ∙ e)
-  bounded-edge marks a index next end e (inl q) h = elim (cases_lt index (length marks)) [
-    | inl l ↦ subst (λ p. Begins p 0 (zone_in xs)) (sym (q ∙ mark-first _ _ _ _ l))
-        (mark-begins 4294967295 (zone_in xs) marks index no_mark l a)
-    | inr l ↦ let k : next ≡ 4294967295 = q ∙ ap (next_of 4294967295) (drop_all index marks l) in
-        absurd (omega (arith, k, h, e))
-  ]
+    -- and so are the stretches of a group
+    pub group-stretch : (low : ℕ) (t : Tally) → low < length marks
+        → ((runs : Stretch) → t ≡ tally.Known runs → tally_of w (take GROUP (drop low marks)) ≡ tally.Known runs)
+        → (next : ℕ) → IsBefore (low + GROUP) marks xs next → IsStretch w t (get_or marks low no_mark).at next xs
+    group-stretch low t l known next b = stretch-before t _ _ next
+        (mark-begins 4294967295 (zone_in xs) marks low no_mark l a) b
+        (let r = marks-below to (zone_in xs) part are in omega (arith, r, at-first)) (tells t known)
+      where
+        m : Landmark
+        m = get_or marks low no_mark
 
-  -- that is the next landmark, where there is one
-  pub bounded-mark : (marks : List Landmark) → AreMarks 4294967295 (zone_in xs) marks → (index next end : ℕ) → end ≡ length xs
-      → (next ≡ next_of 4294967295 (drop index marks)) ⊎ (next ≡ end) → next ≤ next_of 4294967295 (drop index marks)
-      → index < length marks → next ≡ (get_or marks index no_mark).at
-  bounded-mark marks a index next end e (inl q) h l = q ∙ mark-first _ _ _ _ l
-  bounded-mark marks a index next end e (inr q) h l =
-      let w = edge-within (get_or marks index no_mark).at (mark-begins 4294967295 (zone_in xs) marks index no_mark l a) in
-      omega (arith, q, e, mark-first 4294967295 marks index no_mark l, w, h)
+        to : ℕ
+        to = next_of 4294967295 (drop (low + GROUP) marks)
 
-  -- and else the end
-  pub bounded-end : (marks : List Landmark) → (index next end : ℕ) → end ≡ length xs
-      → (next ≡ next_of 4294967295 (drop index marks)) ⊎ (next ≡ end) → next ≤ end → length marks ≤ index → length xs ≤ next
-  bounded-end marks index next end e (inr q) h l = omega (arith, q, e)
-  bounded-end marks index next end e (inl q) h l =
-      let k : next ≡ 4294967295 = q ∙ ap (next_of 4294967295) (drop_all index marks l) in
-      absurd (omega (arith, k, h, e))
+        part : List Landmark
+        part = take GROUP (drop low marks)
 
-  -- so the stretch of a landmark is known up to there
-  pub next-stretch : (w : Counting) (marks : List Landmark) (a : AreMarks 4294967295 (zone_in xs) marks) (index next end : ℕ)
-      → index < length marks → end ≡ length xs
-      → (next ≡ next_of 4294967295 (drop (index + 1) marks)) ⊎ (next ≡ end) → next ≤ end
-      → next ≤ next_of 4294967295 (drop (index + 1) marks)
-      → IsStretch w (told w (get_or marks index no_mark).tally) (get_or marks index no_mark).at next xs
-  next-stretch w marks a index next end l e o h least = stretch-of marks a index l w next
-      (bounded-edge _ a _ _ _ e o h) (elim o [
-        | inl q ↦ omega (arith, q, mark-rises marks a index l)
-        | inr q ↦ let w = edge-within (get_or marks index no_mark).at (mark-edge marks a index l) in omega (arith, q, e, w)
-      ]) least (elim o [
-        | inl q ↦ inl q
-        | inr q ↦ inr (q ∙ e)
-      ])
+        are : AreMarks to (zone_in xs) part
+        are = subst (λ k. AreMarks (next_of 4294967295 k) (zone_in xs) part) (drop-drop GROUP low marks)
+            (marks-parted _ _ (drop low marks) GROUP (marks-parted 4294967295 (zone_in xs) marks low a).1).0
 
-  -- and so are the stretches of a group
-  pub group-stretch : (w : Counting) (marks : List Landmark) → AreMarks 4294967295 (zone_in xs) marks → (low : ℕ) (t : Tally)
-      → low < length marks
-      → ((runs : Stretch) → t ≡ tally.Known runs → tally_of w (take GROUP (drop low marks)) ≡ tally.Known runs)
-      → (next : ℕ) → IsBefore (low + GROUP) marks xs next → IsStretch w t (get_or marks low no_mark).at next xs
-  group-stretch w marks a low t l known next b =
-      stretch-at w t _ _ _ (mark-edge marks a low l) (tells t known)
-      (bounded-edge _ a _ _ _ refl b.either b.low) rises b.least b.either
-    where
-      m : Landmark
-      m = get_or marks low no_mark
+        at-first : next_of to part ≡ m.at
+        at-first = ap (λ k. next_of to (take GROUP k)) (drop_more marks low no_mark l)
 
-      to : ℕ
-      to = next_of 4294967295 (drop (low + GROUP) marks)
-
-      part : List Landmark
-      part = take GROUP (drop low marks)
-
-      are : AreMarks to (zone_in xs) part
-      are = subst (λ k. AreMarks (next_of 4294967295 k) (zone_in xs) part) (drop-drop GROUP low marks)
-          (marks-parted _ _ (drop low marks) GROUP (marks-parted 4294967295 (zone_in xs) marks low a).1).0
-
-      at-first : next_of to part ≡ m.at
-      at-first = ap (λ k. next_of to (take GROUP k)) (drop_more marks low no_mark l)
-
-      tells : (t : Tally) → ((runs : Stretch) → t ≡ tally.Known runs → tally_of w part ≡ tally.Known runs)
-          → IsTally w t (between m.at to 0 (zone_in xs))
-      tells (tally.Known runs) f =
-          subst (λ k. IsTally w k (between m.at to 0 (zone_in xs))) (f runs refl)
-          (subst (λ p. IsTally w (tally_of w part) (between p to 0 (zone_in xs))) at-first (group-tally w _ _ _ are))
-      tells tally.Unknown f = tt
-
-      rises : m.at ≤ next
-      rises = elim b.either [
-        | inl q ↦ let r = marks-below to (zone_in xs) part are in omega (arith, q, r, at-first)
-        | inr q ↦ let w = edge-within m.at (mark-edge marks a low l) in omega (arith, q, w)
-      ]
+        tells : (t : Tally) → ((runs : Stretch) → t ≡ tally.Known runs → tally_of w part ≡ tally.Known runs)
+            → IsTally w t (between m.at to 0 (zone_in xs))
+        tells (tally.Known runs) f =
+            subst (λ k. IsTally w k (between m.at to 0 (zone_in xs))) (f runs refl)
+            (subst (λ p. IsTally w (tally_of w part) (between p to 0 (zone_in xs))) at-first (group-tally w _ _ _ are))
+        tells tally.Unknown f = tt

@@ -7,7 +7,6 @@ use Rattle.zone_bytes.specs.Decode.{zone_in}
 use Rattle.zone_marks.specs.Searching.{begun, finds_purging, lowest_place}
 use Rattle.zone_marks.proofs.Bounds.Fewest.{most-fits}
 use Rattle.zone_marks.proofs.Marks.Passing.{begins-here}
-use Rattle.zone_marks.proofs.Searches.Begun.{open-few}
 use Rattle.zone_marks.proofs.Searches.RunStarting.{reached-finds, run-start}
 use Rattle.zone_marks.proofs.beginning.begin_search.Goals as goal
 use Rattle.zone_marks.proofs.beginning.begin_search.Goals.{Start}
@@ -31,13 +30,11 @@ returns-then-frees_one-clause-begins c = rw c.begun_at.ensures (begins-here 0 _)
 pub returns-then-frees_one-clause-finds : goal.returns-then-frees_one-clause-finds
 returns-then-frees_one-clause-finds c = rw c.begun_at.ensures (bottom (goal.at.returns-then-frees_one-clause-finds c).Start)
 
-pub returns-in-Some-clause-free : goal.returns-in-Some-clause-free
-returns-in-Some-clause-free c = open-few _ _ c.in-Some.ensures.run
-
 pub returns-in-Some-clause-finds : goal.returns-in-Some-clause-finds
-returns-in-Some-clause-finds c = sym (ap (lowest_place c.args.bytes) (all (goal.at.returns-in-Some-clause-finds c).Start))
-    ∙ reached-finds c.args.part.now.bytes c.args.from c.requires.from c.args.bytes _ _
-    (few (goal.at.returns-in-Some-clause-finds c).Start) (c.frees_one.ensures c.if-frees_one.false) c.in-Some.run' c.in-Some.ensures
+returns-in-Some-clause-finds c = let d = (goal.at.returns-in-Some-clause-finds c).Start in
+    sym (ap (lowest_place c.args.bytes) (all d))
+    ∙ reached-finds c.args.part.now.bytes c.args.from c.requires.from c.args.bytes _ _ (few d)
+    (c.frees_one.ensures c.if-frees_one.false) _ c.in-Some.ensures
 
 pub returns-in-None-clause-begins : goal.returns-in-None-clause-begins
 returns-in-None-clause-begins c = rw c.begun_at-in-None.ensures (begins-here 0 _)

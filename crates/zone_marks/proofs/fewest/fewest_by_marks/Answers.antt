@@ -1,5 +1,4 @@
-use Rattle.std.proofs.Common.{◌∙◌, ◌-◌, ap, arith}
-use Rattle.block_store.specs.Block.{sizes}
+use Rattle.std.proofs.Common.{◌∙◌, ◌-◌, ap}
 use Rattle.block_store.specs.Sparing.{opened, spared}
 use Rattle.zone_summary.specs.Fewest.{purges_for}
 use Rattle.zone_summary.specs.Stretches.{prefix, stretch_of}
@@ -7,9 +6,7 @@ use Rattle.zone_summary.proofs.Fewest.{IsFirst, first-is}
 use Rattle.zone_bytes.specs.Decode.{zone_in}
 use Rattle.zone_bytes.specs.Changes.{Begins}
 use Rattle.zone_marks.proofs.Bounds.Fewest.{run-begins}
-use Rattle.zone_marks.proofs.Marks.Lowering.{begins-way}
 use Rattle.zone_bytes.proofs.Places.AtPlace.{left-above}
-use Rattle.zone_marks.proofs.Searches.Pieces.{left-long}
 use Rattle.zone_marks.proofs.fewest.fewest_by_marks.Goals.{Start}
 use Rattle.zone_marks.proofs.fewest.fewest_by_marks.Goals as goal
 
@@ -25,21 +22,8 @@ count_below-below-requires-clause-run c = run_begins (goal.at.count_below-below-
 pub free_at-free-requires-clause-begins : goal.free_at-free-requires-clause-begins
 free_at-free-requires-clause-begins c = run_begins (goal.at.free_at-free-requires-clause-begins c).Start
 
-pub walk_from-requires : goal.walk_from-requires
-walk_from-requires c = let i = c.requires.sound in
-    begins-way c.args.part.now.bytes i.0 i.1 i.2 c.args.run (run_begins (goal.at.walk_from-requires c).Start)
-
-pub count_for-requires : goal.count_for-requires
-count_for-requires c =
-    let i = c.requires.sound in
-    let l = left-long _ _ _ i.2 c.args.run (run_begins (goal.at.count_for-requires c).Start) in
-    omega (arith, l, ap sizes c.walk_from.ensures)
-
-pub overflow_add-result : goal.overflow_add-result
-overflow_add-result c =
-    let i = c.requires.sound in
-    let r = left-long _ _ _ i.2 c.args.run (run_begins (goal.at.overflow_add-result c).Start) in
-    omega (arith, r, ap sizes c.walk_from.ensures, c.count_below-below.ensures.few, c.count_for.ensures.few)
+pub walk_at-requires-clause-begins : goal.walk_at-requires-clause-begins
+walk_at-requires-clause-begins c = run_begins (goal.at.walk_at-requires-clause-begins c).Start
 
 pub returns : goal.returns
 returns c =
@@ -50,6 +34,6 @@ returns c =
     let lacks = c.saturating_sub-lacks.ensures
     ∙ ap (λ k. c.args.bytes - k) (c.free_at-free.ensures ∙ ap (λ l. prefix (stretch_of (opened n l))) left) in
     let own = c.count_for.ensures.is
-    ∙ ap (λ l. purges_for (spared n) c.saturating_sub-lacks.result (opened n l)) (c.walk_from.ensures ∙ left)
+    ∙ ap (λ l. purges_for (spared n) c.saturating_sub-lacks.result (opened n l)) (c.walk_at.ensures.is ∙ left)
     ∙ ap (λ k. purges_for (spared n) k (opened n f.rest)) lacks in
     rw ((c.count_below-below.ensures.is f.low f.rest f.is f.at), own) f.least

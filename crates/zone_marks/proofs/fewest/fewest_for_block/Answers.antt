@@ -1,111 +1,74 @@
-use Rattle.std.proofs.Common.{◌∙◌, ◌-◌, ◌+◌, ◌&&◌, ap, arith, subst, sym, None}
-use Rattle.block_store.specs.Block.{is_relocatable, sizes, tidy}
-use Rattle.block_store.specs.Fewest.{serves_block, IsFewest}
-use Rattle.block_store.specs.Find.{FindsLowestRun}
+use Rattle.std.proofs.Common.{◌≡◌, ◌∙◌, ◌-◌, ap, arith, sym, List}
+use Rattle.block_store.specs.Block.{Block}
 use Rattle.block_store.specs.Room.{count_of}
-use Rattle.block_store.specs.Run.{has, has_free}
 use Rattle.block_store.specs.Sparing.{spared}
 use Rattle.zone_summary.specs.Fewest.{run_purges_for}
 use Rattle.zone_summary.specs.Stretches.{prefix, stretch_of}
-use Rattle.zone_summary.proofs.BlockRuns.{enough-now, fewest-of, never-enough, no-run-of}
+use Rattle.zone_summary.proofs.BlockRuns.{IsRunOf, enough-now, fewest-of, never-enough, no-run-of, run-of}
+use Rattle.zone_bytes.specs.Changes.{Begins}
 use Rattle.zone_bytes.specs.Decode.{zone_in}
 use Rattle.zone_bytes.specs.Stepping.{left_in}
-use Rattle.zone_bytes.proofs.Places.AtPlace.{left-above, left-zone, on-way, sizes-fit}
-use Rattle.zone_marks.proofs.Bounds.Fewest.{block-run, run-begins}
-use Rattle.zone_marks.proofs.Marks.Lowering.{begins-way}
-use Rattle.zone_marks.proofs.Searches.Pieces.{left-long}
+use Rattle.zone_bytes.proofs.Places.AtPlace.{left-above, left-zone}
+use Rattle.zone_marks.proofs.Bounds.Fewest.{run-begins}
+use Rattle.zone_marks.proofs.Marks.Passing.{begins-here}
+use Rattle.zone_marks.proofs.fewest.fewest_for_block.Goals.{In-Some, After-free_at-free}
 use Rattle.zone_marks.proofs.fewest.fewest_for_block.Goals as goal
 
-pub walk_from-requires : goal.walk_from-requires
-walk_from-requires c = on-way _ _ _ c.requires.sound.2
-
-pub run_of_in-requires : goal.run_of_in-requires
-run_of_in-requires c = omega (arith, ap sizes c.walk_from.ensures, sizes-fit)
+pub walk_at-requires-clause-begins : goal.walk_at-requires-clause-begins
+walk_at-requires-clause-begins c = begins-here 0 _
 
 pub returns-in_default : goal.returns-in_default
 returns-in_default c =
     no-run-of _ _ _ _ (c.requires.whole (zone_in c.args.part.now.bytes)) c.requires.spared
-    (subst (λ z. FindsLowestRun (λ run. has (is_relocatable c.args.number) run && has_free 0 run)
-    (tidy z) None) (c.walk_from.ensures ∙ left-zone _) c.in_default.ensures)
+    (rw (c.walk_at.ensures.is ∙ left-zone _) at c.in_default.ensures)
+
+-- the run of the block, and where it begins
+found : (c : In-Some) → IsRunOf c.args.number c.args.bytes c.args.sparing (zone_in c.args.part.now.bytes) c.in-Some.run'
+found c = run-of _ _ _ _ (c.requires.whole _) c.requires.spared _ c.requires.once
+    (rw (c.walk_at.ensures.is ∙ left-zone _) at c.in-Some.ensures)
+
+begins : (c : In-Some) → Begins c.in-Some.run' 0 (zone_in c.args.part.now.bytes)
+begins c = let r = found c in run-begins _ _ r.low r.rest r.is r.at
+
+left : (c : In-Some) → left_in c.in-Some.run' c.args.part.now.bytes ≡ (found c).rest
+left c = let r = found c in left-above _ _ _ c.requires.sound.2 r.low r.rest _ r.is r.at
 
 pub free_at-free-requires-clause-begins : goal.free_at-free-requires-clause-begins
-free_at-free-requires-clause-begins c =
-    let r = block-run _ c.args.number c.args.bytes _ _
-    _ (c.walk_from.ensures ∙ left-zone _) c.requires.once c.requires.spared c.requires.whole c.in-Some.ensures in
-    run-begins c.args.part.now.bytes c.in-Some.run' r.low r.rest r.is r.at
+free_at-free-requires-clause-begins c = begins (goal.at.free_at-free-requires-clause-begins c).In-Some
+
+-- its free bytes
+now : (c : After-free_at-free) → c.free_at-free.result ≡ prefix (stretch_of (found c.before).rest)
+now c = c.free_at-free.ensures ∙ ap (λ l. prefix (stretch_of l)) (c.requires.whole _ ∙ left c.before)
 
 pub returns-then-bytes-free : goal.returns-then-bytes-free
 returns-then-bytes-free c =
-    let i = c.requires.sound in
-    let xs = c.args.part.now.bytes in
-    let run = c.in-Some.run' in
-    let r = block-run _ _ _ _ _
-    _ (c.walk_from.ensures ∙ left-zone _) c.requires.once c.requires.spared c.requires.whole c.in-Some.ensures in
-    let left = left-above xs i.0 i.1 i.2 r.low r.rest run r.is r.at in
-    let now = c.free_at-free.ensures ∙ ap (λ l. prefix (stretch_of l)) (c.requires.whole (left_in run xs) ∙ left) in
-    enough-now c.args.number c.args.bytes c.args.sparing (zone_in xs) run r (omega (arith, now, c.if-bytes-free.true))
+    let d = (goal.at.returns-then-bytes-free c).After-free_at-free in
+    enough-now _ _ _ _ _ (found d.before) (omega (arith, now d, c.if-bytes-free.true))
 
-pub walk_from-requires-2 : goal.walk_from-requires-2
-walk_from-requires-2 c =
-    let i = c.requires.sound in
-    let xs = c.args.part.now.bytes in
-    let r = block-run _ c.args.number c.args.bytes _ _
-    _ (c.walk_from.ensures ∙ left-zone _) c.requires.once c.requires.spared c.requires.whole c.in-Some.ensures in
-    begins-way xs i.0 i.1 i.2 c.in-Some.run' (run-begins xs c.in-Some.run' r.low r.rest r.is r.at)
+pub walk_at-requires-2-clause-begins : goal.walk_at-requires-2-clause-begins
+walk_at-requires-2-clause-begins c = begins (goal.at.walk_at-requires-2-clause-begins c).In-Some
 
-pub count_in_run-requires : goal.count_in_run-requires
-count_in_run-requires c =
-    let i = c.requires.sound in
-    let xs = c.args.part.now.bytes in
-    let r = block-run _ c.args.number c.args.bytes _ _
-    _ (c.walk_from.ensures ∙ left-zone _) c.requires.once c.requires.spared c.requires.whole c.in-Some.ensures in
-    let l = left-long xs i.0 i.1 i.2 c.in-Some.run' (run-begins xs c.in-Some.run' r.low r.rest r.is r.at) in
-    omega (arith, l, ap sizes c.walk_from-2.ensures)
+-- those of its own that are purged
+own : (c : After-free_at-free) (walk : List Block) → walk ≡ left_in c.in-Some.run' c.args.part.now.bytes
+    → run_purges_for (spared c.args.sparing) 0 (c.args.bytes - c.free_at-free.result) walk ≡ run_purges_for
+    (spared c.args.sparing) 0 (c.args.bytes - prefix (stretch_of (found c.before).rest)) (found c.before).rest
+own c walk e = let count = run_purges_for (spared c.args.sparing) 0 in
+    ap (λ k. count (c.args.bytes - k) walk) (now c) ∙ ap (count _) (e ∙ left c.before)
 
 pub returns-in_default-count_in_run : goal.returns-in_default-count_in_run
 returns-in_default-count_in_run c =
-    let i = c.requires.sound in
-    let xs = c.args.part.now.bytes in
-    let run = c.in-Some.run' in
-    let r = block-run _ _ _ _ _
-    _ (c.walk_from.ensures ∙ left-zone _) c.requires.once c.requires.spared c.requires.whole c.in-Some.ensures in
-    let left = left-above xs i.0 i.1 i.2 r.low r.rest run r.is r.at in
-    let now = c.free_at-free.ensures ∙ ap (λ l. prefix (stretch_of l)) (c.requires.whole (left_in run xs) ∙ left) in
-    let sp = spared c.args.sparing in
-    let own = ap (λ k. run_purges_for sp 0 (c.args.bytes - k) c.walk_from-2.result) now
-    ∙ ap (λ l. run_purges_for sp 0 (c.args.bytes - prefix (stretch_of r.rest)) l) (c.walk_from-2.ensures ∙ left) in
-    never-enough _ _ _ _ _ r (omega (arith, now, c.if-bytes-free.false))
-    (sym (c.in_default-count_in_run.ensures.is ∙ own))
+    let d = (goal.at.returns-in_default-count_in_run c).After-free_at-free in
+    never-enough _ _ _ _ _ (found d.before) (omega (arith, now d, c.if-bytes-free.false))
+    (sym (c.in_default-count_in_run.ensures.is ∙ own d _ c.walk_at-2.ensures.is))
 
 pub count_below-requires-clause-run : goal.count_below-requires-clause-run
-count_below-requires-clause-run c =
-    let r = block-run _ c.args.number c.args.bytes _ _
-    _ (c.walk_from.ensures ∙ left-zone _) c.requires.once c.requires.spared c.requires.whole c.in-Some.ensures in
-    run-begins c.args.part.now.bytes c.in-Some.run' r.low r.rest r.is r.at
-
-pub overflow_add-result : goal.overflow_add-result
-overflow_add-result c =
-    let i = c.requires.sound in
-    let xs = c.args.part.now.bytes in
-    let r = block-run _ c.args.number c.args.bytes _ _
-    _ (c.walk_from.ensures ∙ left-zone _) c.requires.once c.requires.spared c.requires.whole c.in-Some.ensures in
-    let l = left-long xs i.0 i.1 i.2 c.in-Some.run' (run-begins xs c.in-Some.run' r.low r.rest r.is r.at) in
-    let e = ap sizes c.walk_from-2.ensures in
-    omega (arith, l, e, c.count_below.ensures.few, c.in-Some-count_in_run.ensures.few)
+count_below-requires-clause-run c = begins (goal.at.count_below-requires-clause-run c).In-Some
 
 pub returns : goal.returns
 returns c =
-    let i = c.requires.sound in
-    let xs = c.args.part.now.bytes in
-    let run = c.in-Some.run' in
-    let r = block-run _ _ _ _ _
-    _ (c.walk_from.ensures ∙ left-zone _) c.requires.once c.requires.spared c.requires.whole c.in-Some.ensures in
-    let left = left-above xs i.0 i.1 i.2 r.low r.rest run r.is r.at in
-    let now = c.free_at-free.ensures ∙ ap (λ l. prefix (stretch_of l)) (c.requires.whole (left_in run xs) ∙ left) in
-    let sp = spared c.args.sparing in
-    let own = ap (λ k. run_purges_for sp 0 (c.args.bytes - k) c.walk_from-2.result) now
-    ∙ ap (λ l. run_purges_for sp 0 (c.args.bytes - prefix (stretch_of r.rest)) l) (c.walk_from-2.ensures ∙ left) in
-    let below = c.count_below.ensures.is r.low r.rest r.is r.at ∙ ap (count_of sp) (c.requires.whole r.low) in
-    subst (λ k. IsFewest (serves_block c.args.number c.args.bytes c.args.sparing (zone_in xs))
-    (k + c.in-Some-count_in_run.own)) (sym below) (fewest-of _ _ _ _ _ r _
-    (omega (arith, now, c.if-bytes-free.false)) (sym (c.in-Some-count_in_run.ensures.is ∙ own)))
+    let d = (goal.at.returns c).After-free_at-free in
+    let r = found d.before in
+    let below = c.count_below.ensures.is r.low r.rest r.is r.at
+    ∙ ap (count_of (spared c.args.sparing)) (c.requires.whole r.low) in
+    rw below (fewest-of _ _ _ _ _ r _ (omega (arith, now d, c.if-bytes-free.false))
+    (sym (c.in-Some-count_in_run.ensures.is ∙ own d _ c.walk_at-2.ensures.is)))

@@ -1,6 +1,3 @@
-use Rattle.std.proofs.Common.{subst}
-use Rattle.zone_marks.specs.Searching.{IsStretch}
-use Rattle.zone_summary.specs.declared.stretch.Counting.TheVariants.{Runs}
 use Rattle.zone_marks.proofs.finding_runs.pass_stretch.Goals as goal
 
 pub pass_known-farther-requires-clause-joins : goal.pass_known-farther-requires-clause-joins
@@ -11,5 +8,5 @@ pass_known-farther-requires-clause-sums c = (c.requires.fits c.in-Known.runs c.i
 
 pub returns-clause-passed : goal.returns-clause-passed
 returns-clause-passed c = λ xs scan q e s.
-    let t = subst (λ t. IsStretch Runs t c.args.at c.args.next xs) c.in-Known.is s in
+    let t = rw c.in-Known.is at s in
     c.pass_known-farther.ensures xs scan t.0 q e t.1 t.2

@@ -1,6 +1,7 @@
-use Rattle.std.proofs.Common.{sym, arith}
+use Rattle.std.proofs.Common.{sym, ◌∙◌, arith}
 use Rattle.zone_marks.proofs.Marks.Lowering.{begins-way}
 use Rattle.zone_bytes.proofs.Places.Stepped.{left-none}
+use Rattle.zone_marks.proofs.Searches.Knowing.{known-finds}
 use Rattle.zone_marks.proofs.Searches.Passed.{passed-all, passed-none}
 use Rattle.zone_marks.proofs.finding_runs.reach_run.Goals as goal
 
@@ -9,10 +10,8 @@ loop-reached-init c = record {
   come = record {
     ready = c.requires.ready;
     passed = passed-none c.args.part.now.bytes c.args.scan c.requires.ready;
-    edge = c.requires.ready.begins;
+    before = c.requires.before;
     inside = c.requires.first;
-    here = c.requires.here;
-    end = c.requires.end;
   };
   short = (omega arith);
 }
@@ -23,4 +22,8 @@ returns c =
     let v = c.loop-reached.invariant in
     let r = c.loop-reached.reached in
     sym (passed-all _ _ _ c.requires.ready _ _ v.come.passed v.short
-    (left-none _ _ (begins-way _ _ _ c.requires.sound.2 _ v.come.edge) (v.come.end c.loop-reached-test.false)))
+    (left-none _ _ (begins-way _ _ _ c.requires.sound.2 _ v.come.before.edge)
+    (v.come.before.end c.loop-reached-test.false)))
+
+pub returns-in_default : goal.returns-in_default
+returns-in_default c = c.walk_on.ensures ∙ sym (known-finds _ _ _ _ _ c.behind_passed-behind.ensures)

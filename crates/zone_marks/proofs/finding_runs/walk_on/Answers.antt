@@ -1,24 +1,19 @@
 use Rattle.std.proofs.Common.{None, sym, ◌∙◌}
 use Rattle.block_store.specs.Sparing.{spared}
 use Rattle.block_store.proofs.Regroup.RunScans.{scan_kept}
-use Rattle.zone_marks.proofs.Marks.Lowering.{begins-way}
+use Rattle.zone_marks.proofs.Searches.Going.{goes-finds}
 use Rattle.zone_marks.proofs.Searches.Passed.{walked-out}
 use Rattle.zone_marks.proofs.finding_runs.walk_on.Goals as goal
-
-pub scan_up_to-last-requires-clause-way : goal.scan_up_to-last-requires-clause-way
-scan_up_to-last-requires-clause-way c =
-    let i = c.requires.sound in
-    begins-way c.args.part.now.bytes i.0 i.1 i.2 c.args.scan.place c.requires.begins
 
 pub returns-then-is_found : goal.returns-then-is_found
 returns-then-is_found c =
     let last = c.scan_up_to-last.result in
-    sym (c.scan_up_to-last.ensures.same
+    sym (goes-finds _ _ _ _ _ c.scan_up_to-last.ensures.goes
     ∙ scan_kept None c.args.bytes (spared c.args.sparing) last.left last.start _ _ _
     _ (sym c.is_found.ensures ∙ c.if-is_found.true))
 
 pub returns : goal.returns
 returns c =
-    let r = c.scan_up_to-last in
-    sym (r.ensures.same ∙ walked-out _ _ _ _ _ c.requires.sound.2 c.args.scan r.result
-    c.requires.begins r.ensures.begins r.ensures.came (sym c.is_found.ensures ∙ c.if-is_found.false))
+    let r = c.scan_up_to-last.ensures in
+    sym (walked-out _ _ _ _ _ c.requires.sound.2 _ _ c.requires.begins r.goes r.came
+    (sym c.is_found.ensures ∙ c.if-is_found.false))

@@ -1,5 +1,4 @@
-use Rattle.std.proofs.Common.{sym, ap, ◌∙◌, subst, arith, inl, inr, ◌<◌, ◌^◌}
-use Rattle.block_store.specs.Block.{sizes}
+use Rattle.std.proofs.Common.{sym, ap, ◌∙◌, arith, inl, inr}
 use Rattle.block_store.specs.Compact.{largest_free}
 use Rattle.block_store.specs.Sparing.{purged}
 use Rattle.block_store.specs.declared.sparing.Sparing.TheVariants as sparing
@@ -7,25 +6,14 @@ use Rattle.zone_bytes.specs.Decode.{zone_in}
 use Rattle.zone_summary.proofs.Fewest.{purged-most}
 use Rattle.zone_marks.proofs.Bounds.Fewest.{most-fits}
 use Rattle.zone_marks.proofs.Bounds.Space.{largest-from}
-use Rattle.zone_marks.proofs.Marks.Lowering.{begins-way}
-use Rattle.zone_marks.proofs.Marks.Sought.{left-fits}
 use Rattle.zone_marks.proofs.free_space.largest_after_by_marks.Goals as goal
-
-pub walk_from-requires : goal.walk_from-requires
-walk_from-requires c =
-    let i = c.requires.sound in begins-way c.args.part.now.bytes i.0 i.1 i.2 c.args.from c.requires.from.begins
-
-pub largest_after_in-above-requires : goal.largest_after_in-above-requires
-largest_after_in-above-requires c =
-    let i = c.requires.sound in
-    subst (λ l. sizes l < 2 ^ 32) (sym c.walk_from.ensures) (left-fits _ _ _ i.2 _ c.requires.from.begins)
 
 pub returns : goal.returns
 returns c =
     let i = c.requires.sound in
     let f = largest-from c.args.part.now.bytes i.0 i.1 i.2 c.args.purges c.args.from c.requires.from in
     let a = c.largest_after_in-above.ensures
-    ∙ ap (λ l. largest_free (purged c.args.purges sparing.Nothing l)) c.walk_from.ensures in
+    ∙ ap (λ l. largest_free (purged c.args.purges sparing.Nothing l)) c.walk_at.ensures.is in
     elim c.greater.ensures.one [
       | inl e ↦ omega (arith, f, a, e)
       | inr e ↦ omega (arith, f, a, e)

@@ -1,5 +1,8 @@
-use Rattle.std.proofs.Common.{arith}
+use Rattle.std.proofs.Common.{◌≡◌, ◌+◌, arith}
+use Rattle.block_store.specs.Block.{size}
+use Rattle.zone_bytes.specs.Joining.{Freeing, MayRelease}
 use Rattle.zone_marks.proofs.Joined.Released.{leads-up, stop-way, stop-more, freed-replaced, here-read, lower, may-free, freed, may-join, released}
+use Rattle.zone_marks.proofs.freeing.free_block.Goals.{After-free_up-end}
 use Rattle.zone_marks.proofs.freeing.free_block.Goals as goal
 
 pub last_free_below-start-requires-clause-up : goal.last_free_below-start-requires-clause-up
@@ -7,66 +10,49 @@ last_free_below-start-requires-clause-up c = leads-up _ _ _ c.requires.1
     _ (c.below-from.ensures.begins _ c.requires.2) c.below-from.ensures.below
 
 pub last_free_below-start-requires-clause-inside : goal.last_free_below-start-requires-clause-inside
-last_free_below-start-requires-clause-inside c = let i =
-    (here-read c.requires.0 c.args.place c.args.part.now.bytes c.requires.1).inside in omega (arith, i)
+last_free_below-start-requires-clause-inside c = let i = here-read _ _ _ c.requires.1 in omega arith
 
 pub free_up-end-requires : goal.free_up-end-requires
 free_up-end-requires c =
-    let r = c.last_free_below-start in (
-      lower c.requires.0 c.args.place c.args.part.now.bytes c.requires.1 r.result r.ensures,
-      may-free c.requires.0 c.args.place c.args.part.now.bytes c.requires.1 r.result r.ensures,
-    )
+    let e = c.last_free_below-start.ensures in
+    (lower _ _ _ c.requires.1 _ e, may-free _ _ _ c.requires.1 _ e)
+
+-- where the block ends
+end : (c : After-free_up-end) (f : Freeing) → MayRelease f c.args.place c.args.part.now.bytes
+    → c.free_up-end.result ≡ c.args.place + size f.here
+end c f m = let e = c.last_free_below-start.ensures in
+    c.free_up-end.ensures.end (lower _ _ _ m _ e) (may-free _ _ _ m _ e)
 
 pub join_above-requires : goal.join_above-requires
 join_above-requires c =
-    let f = c.requires.0 in
-    let r = c.last_free_below-start in
-    let u = c.free_up-end in
-    let t = u.ensures.end (lower f _ _ c.requires.1 _ r.ensures) (may-free f _ _ c.requires.1 _ r.ensures) in (
-      freed f c.args.place c.args.part.now.bytes c.requires.1 r.result r.ensures,
-      may-join f _ _ c.requires.1 _ r.ensures _ t _ u.ensures.lays,
+    let e = c.last_free_below-start.ensures in (
+      freed _ _ _ c.requires.1 _ e,
+      may-join _ _ _ c.requires.1 _ e _ (end (goal.at.join_above-requires c).After-free_up-end _ c.requires.1) _
+          c.free_up-end.ensures.lays,
     )
 
 pub overflow_sub-result : goal.overflow_sub-result
-overflow_sub-result c =
-    let t = c.free_up-end.ensures.end (lower _ _ _ c.requires.1 _
-    c.last_free_below-start.ensures) (may-free _ _ _ c.requires.1 _ c.last_free_below-start.ensures) in
-    omega (arith, t)
+overflow_sub-result c = omega (arith, end (goal.at.overflow_sub-result c).After-free_up-end _ c.requires.1)
 
 pub returns-clause-bytes : goal.returns-clause-bytes
-returns-clause-bytes c = λ f m.
-    let r = c.last_free_below-start in
-    omega (arith, c.free_up-end.ensures.end (lower f _ _ m _ r.ensures) (may-free f _ _ m _ r.ensures))
+returns-clause-bytes c = λ f m. omega (arith, end (goal.at.returns-clause-bytes c).After-free_up-end f m)
 
 pub returns-clause-lays : goal.returns-clause-lays
-returns-clause-lays c = λ f m.
-    let xs = c.args.part.now.bytes in
-    let r = c.last_free_below-start in
-    let t = c.free_up-end.ensures.end (lower f _ _ m _ r.ensures) (may-free f _ _ m _ r.ensures) in
-    released f _ _ m _ r.ensures _ t _ c.free_up-end.ensures.lays _ c.join_above.ensures.lays
+returns-clause-lays c = λ f m. released _ _ _ m _ c.last_free_below-start.ensures _
+    (end (goal.at.returns-clause-lays c).After-free_up-end f m) _ c.free_up-end.ensures.lays _ c.join_above.ensures.lays
 
 pub returns-clause-replaced : goal.returns-clause-replaced
-returns-clause-replaced c = λ f m.
-    let xs = c.args.part.now.bytes in
-    let r = c.last_free_below-start in
-    let t = c.free_up-end.ensures.end (lower f _ _ m _ r.ensures) (may-free f _ _ m _ r.ensures) in
-    freed-replaced f _ _ m _ r.ensures _ t _ c.free_up-end.ensures.lays _ c.free_behind-more.ensures
+returns-clause-replaced c = λ f m. freed-replaced _ _ _ m _ c.last_free_below-start.ensures _
+    (end (goal.at.returns-clause-replaced c).After-free_up-end f m) _ c.free_up-end.ensures.lays _
+    c.free_behind-more.ensures
 
 pub free_behind-more-requires : goal.free_behind-more-requires
-free_behind-more-requires c =
-    let f = c.requires.0 in
-    let xs = c.args.part.now.bytes in
-    let r = c.last_free_below-start in
-    let u = c.free_up-end in
-    let t = u.ensures.end (lower f _ _ c.requires.1 _ r.ensures) (may-free f _ _ c.requires.1 _ r.ensures) in
-    stop-way f c.args.place xs c.requires.1 r.result r.ensures u.result t u.new.part.bytes u.ensures.lays
+free_behind-more-requires c = stop-way _ _ _ c.requires.1 _ c.last_free_below-start.ensures _
+    (end (goal.at.free_behind-more-requires c).After-free_up-end _ c.requires.1) _ c.free_up-end.ensures.lays
 
 pub overflow_add-result : goal.overflow_add-result
 overflow_add-result c =
-    let f = c.requires.0 in
-    let xs = c.args.part.now.bytes in
-    let r = c.last_free_below-start in
-    let u = c.free_up-end in
-    let t = u.ensures.end (lower f _ _ c.requires.1 _ r.ensures) (may-free f _ _ c.requires.1 _ r.ensures) in
-    let k = stop-more f _ _ c.requires.1 _ r.ensures _ t _ u.ensures.lays _ c.free_behind-more.ensures in
+    let k = stop-more _ _ _ c.requires.1 _ c.last_free_below-start.ensures _
+    (end (goal.at.overflow_add-result c).After-free_up-end _ c.requires.1) _ c.free_up-end.ensures.lays _
+    c.free_behind-more.ensures in
     omega (arith, k)

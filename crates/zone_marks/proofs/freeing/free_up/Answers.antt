@@ -1,77 +1,61 @@
-use Rattle.std.proofs.Common.{◌+◌, sym, ap, ◌∙◌, arith}
+use Rattle.std.proofs.Common.{◌≡◌, ◌+◌, sym, ap, ◌∙◌, arith}
 use Rattle.heap_words.specs.Headers.{tag_number}
+use Rattle.block_store.specs.Block.{size}
+use Rattle.zone_bytes.specs.Joining.{Freeing, MayFree}
+use Rattle.zone_bytes.specs.Layout.{kind}
 use Rattle.zone_bytes.specs.Table.{empty_word}
 use Rattle.zone_bytes.proofs.Tiles.Tags.{tag-true, tag-false, tag-small}
 use Rattle.zone_bytes.proofs.Joined.Freed.{here-read, may-make, other-lays, slot-fits, slot-lays, led, none-led}
+use Rattle.zone_marks.proofs.freeing.free_up.Goals.{After-read_header-header}
 use Rattle.zone_marks.proofs.freeing.free_up.Goals as goal
 
 pub read_header-header-requires : goal.read_header-header-requires
 read_header-header-requires c = (here-read _ _ _ _ c.requires.1).may
 
+-- what the header says of the block
+says : (c : After-read_header-header) (f : Freeing) → MayFree f c.args.start c.args.at c.args.part.now.bytes
+    → (c.read_header-header.result.size ≡ size f.here) × (tag_number c.read_header-header.result.tag ≡ kind f.here)
+says c f m = let e = c.read_header-header.ensures in (here-read _ _ _ _ m).says _ _ e.first e.size (tag-small _)
+
+top : (c : After-read_header-header) (f : Freeing) → MayFree f c.args.start c.args.at c.args.part.now.bytes
+    → c.args.at + size f.here ≡ c.args.at + c.read_header-header.result.size
+top c f m = ap (λ n. c.args.at + n) (sym (says c f m).0)
+
 pub overflow_add-end : goal.overflow_add-end
 overflow_add-end c =
-    let r = here-read c.requires.0 c.args.start c.args.at c.args.part.now.bytes c.requires.1 in
-    let h = c.read_header-header.result in
-    let e = c.read_header-header.ensures in
-    let s = r.says h.size (tag_number h.tag) e.first e.size (tag-small h.tag) in
-    omega arith
+    let r = here-read _ _ _ _ c.requires.1 in
+    omega (arith, says (goal.at.overflow_add-end c).After-read_header-header _ c.requires.1)
 
 pub make_free-requires : goal.make_free-requires
 make_free-requires c =
-    let r = here-read c.requires.0 c.args.start c.args.at c.args.part.now.bytes c.requires.1 in
-    let h = c.read_header-header.result in
-    let e = c.read_header-header.ensures in
-    let s = r.says h.size (tag_number h.tag) e.first e.size (tag-small h.tag) in
-    may-make _ _ _ _ c.requires.1 _ (ap (λ n. c.args.at + n) (sym s.0))
+    may-make _ _ _ _ c.requires.1 _ (top (goal.at.make_free-requires c).After-read_header-header _ c.requires.1)
 
 pub write_word-requires : goal.write_word-requires
 write_word-requires c =
-    let f = c.requires.0 in
-    let xs = c.args.part.now.bytes in
-    let r = here-read f c.args.start c.args.at xs c.requires.1 in
-    let h = c.read_header-header.result in
-    let e = c.read_header-header.ensures in
-    let s = r.says h.size (tag_number h.tag) e.first e.size (tag-small h.tag) in
-    let l = led f c.args.start c.args.at xs c.requires.1 (sym s.1 ∙ tag-true h.tag c.if-eq.ensures) in
-    let b = slot-fits f c.args.start c.args.at xs c.requires.1 (c.args.at + h.size)
-    (ap (λ n. c.args.at + n) (sym s.0)) c.make_free.new.part.bytes c.make_free.ensures.lies
-    c.make_free.ensures.outside _ l.named in
-    rw e.slot b
+    let d = (goal.at.write_word-requires c).After-read_header-header in
+    let m = c.requires.1 in
+    let l = led _ _ _ _ m (sym (says d _ m).1 ∙ tag-true _ c.if-eq.ensures) in
+    rw c.read_header-header.ensures.slot
+    (slot-fits _ _ _ _ m _ (top d _ m) _ c.make_free.ensures.lies c.make_free.ensures.outside _ l.named)
 
 pub returns-then-eq-clause-end : goal.returns-then-eq-clause-end
-returns-then-eq-clause-end c = λ f m.
-    let r = here-read f c.args.start c.args.at c.args.part.now.bytes m in
-    let h = c.read_header-header.result in
-    let e = c.read_header-header.ensures in
-    ap (λ n. c.args.at + n) (r.says h.size (tag_number h.tag) e.first e.size (tag-small h.tag)).0
+returns-then-eq-clause-end c = λ f m. sym (top (goal.at.returns-then-eq-clause-end c).After-read_header-header f m)
 
 pub returns-then-eq-clause-lays : goal.returns-then-eq-clause-lays
 returns-then-eq-clause-lays c = λ f m.
-    let xs = c.args.part.now.bytes in
-    let r = here-read f c.args.start c.args.at xs m in
-    let h = c.read_header-header.result in
+    let d = (goal.at.returns-then-eq-clause-lays c).After-read_header-header in
+    let l = led _ _ _ _ m (sym (says d f m).1 ∙ tag-true _ c.if-eq.ensures) in
     let e = c.read_header-header.ensures in
-    let s = r.says h.size (tag_number h.tag) e.first e.size (tag-small h.tag) in
-    let l = led f c.args.start c.args.at xs m (sym s.1 ∙ tag-true h.tag c.if-eq.ensures) in
     rw (c.write_word.ensures.bytes, c.word_once_empty.ensures, e.slot, e.flags)
-    (slot-lays f c.args.start c.args.at xs m (c.args.at + h.size) (ap (λ n. c.args.at + n) (sym s.0))
-    c.make_free.new.part.bytes c.make_free.ensures.lies c.make_free.ensures.outside _ l.named _
+    (slot-lays _ _ _ _ m _ (top d f m) _ c.make_free.ensures.lies c.make_free.ensures.outside _ l.named _
     (ap empty_word l.flag))
 
 pub returns-else-eq-clause-end : goal.returns-else-eq-clause-end
-returns-else-eq-clause-end c = λ f m.
-    let r = here-read f c.args.start c.args.at c.args.part.now.bytes m in
-    let h = c.read_header-header.result in
-    let e = c.read_header-header.ensures in
-    ap (λ n. c.args.at + n) (r.says h.size (tag_number h.tag) e.first e.size (tag-small h.tag)).0
+returns-else-eq-clause-end c = λ f m. sym (top (goal.at.returns-else-eq-clause-end c).After-read_header-header f m)
 
 pub returns-else-eq-clause-lays : goal.returns-else-eq-clause-lays
 returns-else-eq-clause-lays c = λ f m.
-    let xs = c.args.part.now.bytes in
-    let r = here-read f c.args.start c.args.at xs m in
-    let h = c.read_header-header.result in
-    let e = c.read_header-header.ensures in
-    let s = r.says h.size (tag_number h.tag) e.first e.size (tag-small h.tag) in
-    other-lays f c.args.start c.args.at xs m (c.args.at + h.size) (ap (λ n. c.args.at + n) (sym s.0))
-    c.make_free.new.part.bytes c.make_free.ensures.lies c.make_free.ensures.outside
-    (none-led f _ _ _ m (omega (arith, tag-false)))
+    let d = (goal.at.returns-else-eq-clause-lays c).After-read_header-header in
+    let s = says d f m in
+    other-lays _ _ _ _ m _ (top d f m) _ c.make_free.ensures.lies c.make_free.ensures.outside
+    (none-led _ _ _ _ m (omega (arith, tag-false)))

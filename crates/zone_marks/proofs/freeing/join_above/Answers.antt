@@ -1,7 +1,10 @@
-use Rattle.std.proofs.Common.{◌<◌, length, sym, ◌∙◌, subst, arith}
+use Rattle.std.proofs.Common.{◌≡◌, ◌<◌, length, sym, ◌∙◌, subst, arith}
 use Rattle.heap_words.specs.Headers.{tag_number}
 use Rattle.zone_bytes.proofs.Tiles.Tags.{tag-small, free-true, free-false}
+use Rattle.zone_bytes.specs.Joining.{Joining, MayJoin}
+use Rattle.zone_bytes.specs.Layout.{kind}
 use Rattle.zone_bytes.proofs.Joined.Above.{next, joined-none, joined-other, one, may-free, joined-two}
+use Rattle.zone_marks.proofs.freeing.join_above.Goals.{After-read_header}
 use Rattle.zone_marks.proofs.freeing.join_above.Goals as goal
 
 pub returns-then-at-len-clause-lays : goal.returns-then-at-len-clause-lays
@@ -12,37 +15,27 @@ pub read_header-requires : goal.read_header-requires
 read_header-requires c =
     (next _ _ _ _ c.requires.1 (let l = c.if-at-len.false in omega (arith, l, c.len.ensures.count))).tells.may
 
+-- a block begins at the place
+some : (c : After-read_header) → c.args.at < length c.args.part.now.bytes
+some c = omega (arith, c.len.ensures.count)
+
+tag : (c : After-read_header) (j : Joining) (m : MayJoin j c.args.start c.args.at c.args.part.now.bytes)
+    → tag_number c.read_header.result.tag ≡ kind (next j c.args.start c.args.at c.args.part.now.bytes m (some c)).here
+tag c j m = ((next _ _ _ _ m (some c)).tells.says _ _ c.read_header.ensures.first c.read_header.ensures.size
+    (tag-small _)).1
+
 pub free_up-requires : goal.free_up-requires
 free_up-requires c =
-    let i : c.args.at < length c.args.part.now.bytes =
-    (omega (arith, c.len.ensures.count)) in
-    let n = next c.requires.0 c.args.start c.args.at c.args.part.now.bytes c.requires.1 i in
-    let h = c.read_header.result in
-    let e = c.read_header.ensures in
-    let k = sym (n.tells.says h.size (tag_number h.tag) e.first e.size (tag-small _)).1
-    ∙ free-true _ c.if-eq.ensures in (
-      one c.requires.0 c.args.start c.args.at c.args.part.now.bytes c.requires.1 i k,
-      may-free c.requires.0 c.args.start c.args.at c.args.part.now.bytes c.requires.1 i k,
-    )
+    let d = (goal.at.free_up-requires c).After-read_header in
+    let k = sym (tag d _ c.requires.1) ∙ free-true _ c.if-eq.ensures in
+    (one _ _ _ _ c.requires.1 (some d) k, may-free _ _ _ _ c.requires.1 (some d) k)
 
 pub returns-then-eq-clause-lays : goal.returns-then-eq-clause-lays
 returns-then-eq-clause-lays c = λ j m.
-    let i : c.args.at < length c.args.part.now.bytes =
-    (omega (arith, c.len.ensures.count)) in
-    let n = next j c.args.start c.args.at c.args.part.now.bytes m i in
-    let h = c.read_header.result in
-    let e = c.read_header.ensures in
-    let k = sym (n.tells.says h.size (tag_number h.tag) e.first e.size (tag-small _)).1
-    ∙ free-true _ c.if-eq.ensures in
-    joined-two j c.args.start c.args.at c.args.part.now.bytes m i k c.free_up.new.part.bytes c.free_up.ensures.lays
+    let d = (goal.at.returns-then-eq-clause-lays c).After-read_header in
+    joined-two _ _ _ _ m (some d) (sym (tag d j m) ∙ free-true _ c.if-eq.ensures) _ c.free_up.ensures.lays
 
 pub returns-else-eq-clause-lays : goal.returns-else-eq-clause-lays
 returns-else-eq-clause-lays c = λ j m.
-    let i : c.args.at < length c.args.part.now.bytes =
-    (omega (arith, c.len.ensures.count)) in
-    let n = next j c.args.start c.args.at c.args.part.now.bytes m i in
-    let h = c.read_header.result in
-    let e = c.read_header.ensures in
-    joined-other j _ _ _ m i
-    (subst (λ t. 0 < t) (n.tells.says h.size (tag_number h.tag) e.first e.size (tag-small _)).1
-    (free-false _ c.if-eq.ensures))
+    let d = (goal.at.returns-else-eq-clause-lays c).After-read_header in
+    joined-other _ _ _ _ m (some d) (subst (λ t. 0 < t) (tag d j m) (free-false _ c.if-eq.ensures))

@@ -1,22 +1,9 @@
-use Rattle.std.proofs.Common.{ap, arith, ◌∙◌}
-use Rattle.block_store.specs.Block.{sizes}
+use Rattle.std.proofs.Common.{ap, ◌∙◌}
 use Rattle.block_store.specs.Sparing.{most_purges}
 use Rattle.zone_marks.proofs.Bounds.Going.{count-from}
-use Rattle.zone_marks.proofs.Marks.Lowering.{begins-way}
-use Rattle.zone_marks.proofs.Searches.Pieces.{left-long}
 use Rattle.zone_marks.proofs.going.count_purgeable.Goals as goal
-
-pub walk_from-requires : goal.walk_from-requires
-walk_from-requires c = let i = c.requires.sound in
-    begins-way c.args.part.now.bytes i.0 i.1 i.2 c.args.from c.requires.begins
-
-pub purgeable_in-requires : goal.purgeable_in-requires
-purgeable_in-requires c =
-    let i = c.requires.sound in
-    let l = left-long c.args.part.now.bytes i.0 i.1 i.2 c.args.from c.requires.begins in
-    omega (arith, l, ap sizes c.walk_from.ensures)
 
 pub returns : goal.returns
 returns c =
-    c.purgeable_in.ensures ∙ ap (most_purges c.args.sparing) c.walk_from.ensures
+    c.purgeable_in.ensures ∙ ap (most_purges c.args.sparing) c.walk_at.ensures.is
     ∙ count-from _ _ _ c.requires.sound.2 _ c.requires.begins c.requires.none _ c.requires.plain

@@ -1,9 +1,12 @@
-use Rattle.std.proofs.Common.{◌++◌, subst, arith}
-use Rattle.zone_bytes.specs.Changes.{AtEach}
+use Rattle.std.proofs.Common.{◌++◌, List, arith}
+use Rattle.block_store.specs.Block.{Block}
+use Rattle.zone_bytes.specs.Decode.{zone_in}
+use Rattle.zone_bytes.specs.Changes.{AtEach, Replaced}
 use Rattle.zone_marks.specs.Purgeable.{Stays}
 use Rattle.zone_marks.proofs.Bounds.Going.{stays-lower, stays-replaced, stays-under, stays-whole}
 use Rattle.zone_marks.proofs.Marks.Passing.{at-left}
 use Rattle.zone_bytes.proofs.Places.AtPlace.{left-above, way-above}
+use Rattle.zone_marks.proofs.going.lowest_after.Goals.{After-first_going-found}
 use Rattle.zone_marks.proofs.going.lowest_after.Goals as goal
 
 pub returns-then-lowest-lo : goal.returns-then-lowest-lo
@@ -15,16 +18,17 @@ first_going-found-requires c =
     let r = c.requires.replaced.1 in
     way-above c.args.part.now.bytes i.0 i.1 i.2 r.below (r.there ++ r.above) c.args.lo r.is r.low
 
+-- the blocks up to the one that was found stay
+stays : (c : After-first_going-found) (old : List Block) (r : Replaced c.args.lo c.args.hi old
+    (zone_in c.args.part.now.bytes))
+    → AtEach (Stays c.first_going-found.result) c.args.lo r.there
+stays c old r = at-left (Stays c.first_going-found.result) _ _ _
+    (rw (left-above _ _ _ c.requires.sound.2 _ _ _ r.is r.low) at c.first_going-found.ensures)
+
 pub returns-then-hi-found : goal.returns-then-hi-found
-returns-then-hi-found c = λ old r n.
-    let xs = c.args.part.now.bytes in
-    stays-replaced _ _ _ _ r _ n _ (omega arith) (stays-whole _ _ _ _ (omega arith)
-    (at-left (Stays c.first_going-found.result) _ _ _ (subst (AtEach (Stays c.first_going-found.result) c.args.lo)
-    (left-above _ _ _ c.requires.sound.2 _ _ _ r.is r.low) c.first_going-found.ensures)))
+returns-then-hi-found c = λ old r n. stays-replaced _ _ _ _ r _ n _ (omega arith) (stays-whole _ _ _ _ (omega arith)
+    (stays (goal.at.returns-then-hi-found c).After-first_going-found old r))
 
 pub returns : goal.returns
-returns c = λ old r n.
-    let xs = c.args.part.now.bytes in
-    stays-replaced _ _ _ _ r _ n _ c.within.ensures.least (stays-lower _ _ _ _ c.within.ensures.low
-    (at-left (Stays c.first_going-found.result) _ _ _ (subst (AtEach (Stays c.first_going-found.result) c.args.lo)
-    (left-above _ _ _ c.requires.sound.2 _ _ _ r.is r.low) c.first_going-found.ensures)))
+returns c = λ old r n. stays-replaced _ _ _ _ r _ n _ c.within.ensures.least
+    (stays-lower _ _ _ _ c.within.ensures.low (stays (goal.at.returns c).After-first_going-found old r))

@@ -1,6 +1,5 @@
-use Rattle.std.proofs.Common.{◌≡◌, ◌*◌, ◌/◌, get_or, take, drop, refl, sym, ◌∙◌, subst, arith}
-use Rattle.zone_marks.specs.Marks.{no_mark, tally_of}
-use Rattle.zone_marks.specs.Searching.{IsStretch}
+use Rattle.std.proofs.Common.{◌≡◌, ◌*◌, ◌/◌, take, drop, sym, ◌∙◌, subst, arith}
+use Rattle.zone_marks.specs.Marks.{tally_of}
 use Rattle.zone_marks.specs.declared.landmark.TheConstants.{GROUP}
 use Rattle.zone_marks.specs.declared.landmark.Tally.TheVariants as tally
 use Rattle.zone_marks.proofs.Searches.Pieces.{group-stretch, next-stretch}
@@ -18,6 +17,4 @@ returns-in-Known-clause-stretch c = λ next b.
 
 pub returns-clause-stretch : goal.returns-clause-stretch
 returns-clause-stretch c = λ next b.
-    let xs = c.args.part.now.bytes in
-    subst (λ t. IsStretch c.args.counting t (get_or c.args.marks.now c.args.index no_mark).at next xs) (sym c.told.ensures)
-    (next-stretch _ _ _ c.requires.sound.2 _ _ c.requires.marks _ _ _ c.requires.inside refl b.either b.low b.least)
+    rw c.told.ensures (next-stretch _ _ _ c.requires.sound.2 _ _ c.requires.marks _ _ c.requires.inside b)

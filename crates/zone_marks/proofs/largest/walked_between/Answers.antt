@@ -1,7 +1,5 @@
-use Rattle.std.proofs.Common.{sym, subst}
 use Rattle.zone_marks.proofs.Bounds.Fewest.{stretch-from}
 use Rattle.zone_marks.proofs.Marks.Lowering.{begins-way}
-use Rattle.zone_marks.specs.Searching.{IsStretch}
 use Rattle.zone_marks.specs.declared.landmark.Tally.TheVariants as tally
 use Rattle.zone_summary.specs.declared.stretch.Counting.TheVariants.{Runs, Spaces}
 use Rattle.zone_marks.proofs.largest.walked_between.Goals as goal
@@ -16,12 +14,12 @@ spaces_up_to-requires c = let i = c.requires.sound in
 
 pub returns-in-Runs : goal.returns-in-Runs
 returns-in-Runs c = let t = tally.Known c.measure_up_to.result.runs in
-    subst (λ w. IsStretch w t c.args.from c.args.to c.args.part.now.bytes) (sym c.in-Runs.is)
+    rw c.in-Runs.is
     (stretch-from _ _ _ c.requires.sound.2 Runs t c.args.from c.args.to c.requires.begins c.requires.ends
     c.requires.order c.measure_up_to.ensures.below.runs)
 
 pub returns-in-Spaces : goal.returns-in-Spaces
 returns-in-Spaces c = let t = tally.Known c.spaces_up_to.result in
-    subst (λ w. IsStretch w t c.args.from c.args.to c.args.part.now.bytes) (sym c.in-Spaces.is)
+    rw c.in-Spaces.is
     (stretch-from _ _ _ c.requires.sound.2 Spaces t c.args.from c.args.to c.requires.begins c.requires.ends
     c.requires.order c.spaces_up_to.ensures)

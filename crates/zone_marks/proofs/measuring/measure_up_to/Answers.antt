@@ -1,41 +1,46 @@
-use Rattle.std.proofs.Common.{◌≡◌, ◌⊎◌, sym, subst, arith}
-use Rattle.zone_bytes.specs.Changes.{Begins}
-use Rattle.zone_bytes.specs.Stepping.{left_in}
-use Rattle.zone_marks.proofs.Marks.Counting.{counted-start, counted-step, counted-fits, counted-edge}
-use Rattle.zone_marks.proofs.Marks.Counting.{counted-below}
-use Rattle.zone_marks.proofs.Marks.Passing.{begins-right, begins-here, past}
+use Rattle.std.proofs.Common.{◌≤◌, ◌<◌, ◌∙◌, ap, sym, arith}
+use Rattle.block_store.specs.Block.{free_of}
+use Rattle.zone_summary.specs.Stretches.{prefix}
+use Rattle.zone_summary.specs.declared.stretch.Counting.TheVariants.{Runs}
+use Rattle.zone_summary.proofs.Monoid.{join-unit_right}
+use Rattle.zone_marks.proofs.Marks.Between.{one-spanned}
+use Rattle.zone_marks.proofs.Marks.Counting.{measured-below, measured-edge, prefix-counted, walked-few, walked-start}
+use Rattle.zone_marks.proofs.Marks.Counting.{walked-step}
+use Rattle.zone_marks.proofs.Marks.Passing.{passed-begins, past}
+use Rattle.zone_marks.proofs.Marks.Spanned.{free-size}
 use Rattle.zone_marks.proofs.measuring.measure_up_to.Goals as goal
 
 pub loop-at-init : goal.loop-at-init
-loop-at-init c = counted-start _ _ _ 0 c.requires
+loop-at-init c = walked-start Runs _ _ (λ p b. (free_of b ≤ 0) × (p < c.within-stop.result)) c.requires
 
 pub join-runs-requires : goal.join-runs-requires
 join-runs-requires c =
-    let f = counted-fits _ _ _ _ _ _ _ _ _ _ c.loop-at.invariant c.span_at-span.ensures c.runs.ensures in
-    omega (arith, f)
+    let s = c.span_at-span.ensures in
+    let f = walked-few _ _ _ _ (λ p b. (free_of b ≤ c.loop-at.most)
+    × (p < c.within-stop.result)) _ c.loop-at.invariant in
+    omega (arith, f, prefix-counted, ap prefix c.runs.ensures, free-size s.here)
 
 pub loop-at-preserved : goal.loop-at-preserved
 loop-at-preserved c =
     let m = c.greater-most.ensures in
-    counted-step _ _ _ _ _ _ _ _ _ _ _
-    _ c.loop-at.invariant c.span_at-span.ensures c.loop-at-test.true m.first m.second
-    c.runs.ensures c.join-runs.ensures.is
+    let s = c.span_at-span.ensures in
+    walked-step Runs _ _ _ (λ p b. (free_of b ≤ c.loop-at.most) × (p < c.within-stop.result)) _ c.loop-at.invariant
+    (λ p b. (free_of b ≤ c.greater-most.result)
+    × (p < c.within-stop.result)) (λ p b r. (omega (arith, m.first, r.0), r.1))
+    _ s.here s.is s.up s.way (omega (arith, m.second, s.bytes), c.loop-at-test.true) _ _
+    (c.runs.ensures ∙ one-spanned s.here _ _ s.bytes s.ends ∙ sym (join-unit_right _)) c.join-runs.ensures.is
 
 pub returns-clause-edge : goal.returns-clause-edge
-returns-clause-edge c =
-    let i = c.loop-at.invariant in
-    subst (λ k. Begins c.loop-at.at c.args.from k) (sym i.is) (begins-right _ _ _ _
-    (subst (λ y. Begins c.loop-at.at y (left_in c.loop-at.at c.args.part.now.bytes)) (sym i.up) (begins-here _ _)))
+returns-clause-edge c = passed-begins _ _ (λ p b. (free_of b ≤ c.loop-at.most) × (p < c.within-stop.result)) _
+    c.loop-at.invariant.passed
 
 pub returns-clause-order : goal.returns-clause-order
-returns-clause-order c = omega arith
+returns-clause-order c = let p = c.loop-at.invariant.passed in omega (arith, p.up)
 
 pub returns-clause-passed : goal.returns-clause-passed
-returns-clause-passed c = counted-edge _ _ _ _ _ _ c.loop-at.invariant _
+returns-clause-passed c = measured-edge _ _ _ _ _ _ c.loop-at.invariant _
 
 pub returns-clause-below : goal.returns-clause-below
 returns-clause-below c =
-    let k = c.len.ensures.count in
-    counted-below _ _ _ _ _ _ c.loop-at.invariant _ _ c.within-stop.ensures.least (past _ _ _ _
-    (subst (λ n. (c.within-stop.result ≡ c.args.place) ⊎ (c.within-stop.result ≡ n)) k c.within-stop.ensures.one)
-    (omega arith))
+    measured-below _ _ _ _ _ _ c.loop-at.invariant _ _ c.within-stop.ensures.least
+    (past _ _ _ _ _ c.within-stop.ensures.one c.len.ensures.count (omega arith))

@@ -1,6 +1,6 @@
-use Rattle.std.proofs.Common.{◌≡◌, false, inl, arith, subst, ◌⊎◌}
+use Rattle.std.proofs.Common.{◌≡◌, false, inl, arith}
 use Rattle.block_store.specs.Block.{is_room}
-use Rattle.zone_marks.proofs.Marks.Passing.{passed-begins, passed-step, passed-all, past}
+use Rattle.zone_marks.proofs.Marks.Passing.{passed-begins, passed-on, passed-all, past}
 use Rattle.zone_marks.proofs.Marks.Spanned.{no-room, room-here}
 use Rattle.zone_marks.proofs.measuring.room_between.Goals as goal
 use Rattle.zone_marks.proofs.measuring.room_between.Goals.{else-span-gt0-via-then-span-gt0+else-bytes-span, else-span-gt0-via-else-span-gt0}
@@ -20,16 +20,15 @@ returns-then-bytes-span-clause-room c = room-here _ _ _
 
 pub loop-at-preserved : goal.loop-at-preserved
 loop-at-preserved c =
-    passed-step _ _ (λ _ b. is_room c.args.bytes b ≡ false) _ _
-    _ _ c.loop-at.invariant c.span_at-span.ensures (λ b e z. no-room _ b z (λ p q. elim c.else-span-gt0.branch [
-      | else-span-gt0-via-then-span-gt0+else-bytes-span w ↦ omega (arith, e, q)
-      | else-span-gt0-via-else-span-gt0 w ↦ omega (arith, e, p)
+    let s = c.span_at-span.ensures in
+    passed-on _ _ _ _ (λ _ b. is_room c.args.bytes b ≡ false) (λ _ b. is_room c.args.bytes b ≡ false) (λ _ _ r. r)
+    c.loop-at.invariant s.here s.is s.up s.way (no-room _ s.here (omega arith) (λ p q. elim c.else-span-gt0.branch [
+      | else-span-gt0-via-then-span-gt0+else-bytes-span w ↦ omega (arith, s.bytes, q)
+      | else-span-gt0-via-else-span-gt0 w ↦ omega (arith, s.bytes, p)
     ]))
 
 pub returns-clause-none : goal.returns-clause-none
 returns-clause-none c =
-    let k = c.len.ensures.count in
     passed-all _ _ (λ _ b. is_room c.args.bytes b ≡ false)
-    (λ _ b. is_room c.args.bytes b ≡ false) _ _ _ c.loop-at.invariant (λ _ b r. r) (past _ _ _ _
-    (subst (λ n. (c.within-stop.result ≡ c.args.to) ⊎ (c.within-stop.result ≡ n)) k c.within-stop.ensures.one)
-    (omega arith))
+    (λ _ b. is_room c.args.bytes b ≡ false) _ _ _ c.loop-at.invariant (λ _ b r. r)
+    (past _ _ _ _ _ c.within-stop.ensures.one c.len.ensures.count (omega arith))

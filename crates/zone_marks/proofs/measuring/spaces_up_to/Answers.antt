@@ -1,26 +1,30 @@
-use Rattle.std.proofs.Common.{◌≡◌, ◌⊎◌, subst, arith}
+use Rattle.std.proofs.Common.{◌<◌, ◌∙◌, ap, sym, arith}
+use Rattle.zone_summary.specs.Stretches.{prefix}
+use Rattle.zone_summary.specs.declared.stretch.Counting.TheVariants.{Spaces}
+use Rattle.zone_summary.proofs.Monoid.{join-unit_right}
+use Rattle.zone_marks.proofs.Marks.Counting.{prefix-counted, walked-below, walked-few, walked-start, walked-step}
 use Rattle.zone_marks.proofs.Marks.Passing.{past}
-use Rattle.zone_marks.proofs.Marks.Spaces.{spaced-fits, spaced-start, spaced-step, spaced-tells}
 use Rattle.zone_marks.proofs.measuring.spaces_up_to.Goals as goal
 
 pub loop-at-init : goal.loop-at-init
-loop-at-init c = spaced-start _ _ _ c.requires
+loop-at-init c = walked-start Spaces _ _ (λ p _. p < c.within-stop.result) c.requires
 
 pub join-spaces-requires : goal.join-spaces-requires
 join-spaces-requires c =
-    let s = c.span_at-span in
-    let f = spaced-fits _ _ _ _ _ _ _ c.loop-at.spaces c.space_at.result c.loop-at.invariant s.ensures
-    (c.space_at.ensures _ _ s.ensures.is) in
-    omega (arith, f)
+    let s = c.step_at-step.ensures in
+    let g = ap prefix (c.space_of_seen.ensures s.here s.told (omega arith)) in
+    let f = walked-few _ _ _ _ (λ p _. p < c.within-stop.result) _ c.loop-at.invariant in
+    omega (arith, f, g, prefix-counted)
 
 pub loop-at-preserved : goal.loop-at-preserved
 loop-at-preserved c =
-    spaced-step _ _ _ _ _ _ _ _ c.space_at.result c.join-spaces.result c.loop-at.invariant c.span_at-span.ensures
-    c.loop-at-test.true (c.space_at.ensures _ _ c.span_at-span.ensures.is) c.join-spaces.ensures.is
+    let s = c.step_at-step.ensures in
+    walked-step Spaces _ _ _ (λ p _. p < c.within-stop.result) _ c.loop-at.invariant
+    (λ p _. p < c.within-stop.result) (λ _ _ r. r) _ s.here s.is s.up s.way c.loop-at-test.true _ _
+    (c.space_of_seen.ensures s.here s.told (omega arith) ∙ sym (join-unit_right _)) c.join-spaces.ensures.is
 
 pub returns : goal.returns
 returns c =
-    let k = c.len.ensures.count in
-    spaced-tells _ _ _ _ _ _ c.loop-at.invariant c.within-stop.ensures.least (past _ _ _ _
-    (subst (λ n. (c.within-stop.result ≡ c.args.place) ⊎ (c.within-stop.result ≡ n)) k c.within-stop.ensures.one)
-    (omega arith))
+    walked-below Spaces _ _ _ (λ p _. p < c.within-stop.result) _ c.loop-at.invariant c.args.place
+    (λ p _ r. omega (arith, r, c.within-stop.ensures.least))
+    (past _ _ _ _ _ c.within-stop.ensures.one c.len.ensures.count (omega arith))

@@ -1,24 +1,11 @@
-use Rattle.std.proofs.Common.{◌+◌, ◌∙◌, Some, sym, subst}
-use Rattle.std.proofs.lemmas.Option.{same_Some}
-use Rattle.heap_words.specs.Headers.{tag_number}
-use Rattle.block_store.specs.Walk.{Tells}
-use Rattle.zone_bytes.specs.Stepping.{header_seen, left_in}
-use Rattle.zone_bytes.proofs.Tiles.Tags.{tag-small}
-use Rattle.zone_bytes.proofs.Places.HeaderTells.{size-at}
-use Rattle.zone_bytes.proofs.Places.Stepped.{stepped, tells-step, may-read}
+use Rattle.std.proofs.Common.{◌≡◌, ◌∷◌, ◌∙◌, ap, sym, arith}
+use Rattle.zone_bytes.specs.PurgeableBytes.{purgeable_of}
+use Rattle.zone_bytes.specs.Stepping.{left_in}
 use Rattle.zone_marks.proofs.purgeable.purgeable_at.Goals as goal
-
-pub read_header-header-requires : goal.read_header-header-requires
-read_header-header-requires c = may-read _ _ c.requires.way c.requires.some
 
 pub returns : goal.returns
 returns c = λ b above q.
-    let h = c.read_header-header.result in
-    let e = c.read_header-header.ensures in
-    let at = c.args.place in
-    let xs = c.args.part.now.bytes in
-    let s = stepped at xs c.requires.way c.requires.some h.size (tag_number h.tag) e.first e.size (tag-small h.tag) in
-    let a = c.seen_of.ensures ∙ (λ i. header_seen (tag_number h.tag) h.size (e.logical i) (e.slot i) (e.flags i)) in
-    let t = subst (λ l. Tells l (Some c.seen_of.result) (left_in (at + h.size) xs)) q (tells-step _ _ _ _ s _ a) in
-    c.purgeable_of_seen.ensures b (sym (same_Some _ _ t.0))
-    (sym (size-at _ _ c.requires.way c.requires.some _ _ e.first e.size (tag-small _) b _ q))
+    let s = c.step_at-step.ensures in
+    let e : s.here ∷ left_in c.step_at-step.result.end c.args.part.now.bytes ≡ b ∷ above = sym s.is ∙ q in
+    let same : s.here ≡ b = cc in
+    c.purgeable_of_seen.ensures s.here s.told (omega arith) ∙ ap purgeable_of same

@@ -1,8 +1,7 @@
-use Rattle.std.proofs.Common.{◌≡◌, ℕ, Bool, Option, Some, None, List, IfSome, ap, ◌∙◌, subst, rules}
+use Rattle.std.proofs.Common.{◌≡◌, ℕ, Bool, Option, Some, None, List, IfSome, ap, ◌∙◌, rules}
 use Rattle.block_store.specs.Block.{Block, tidy}
 use Rattle.block_store.specs.Find.{FindsLowest}
-use Rattle.block_store.specs.Room.{may_be_purged}
-use Rattle.block_store.specs.Sparing.{spared, purged}
+use Rattle.block_store.specs.Sparing.{purged}
 use Rattle.zone_bytes.specs.Decode.{zone_in}
 use Rattle.zone_marks.proofs.purging.first_to_go.Goals as goal
 
@@ -14,7 +13,6 @@ found test zone (Some place) f = f
 pub returns-clause-lowest : goal.returns-clause-lowest
 returns-clause-lowest c =
     let xs = c.args.part.now.bytes in
-    let test = may_be_purged (spared c.args.sparing) in
     let is : purged 0 c.args.sparing (zone_in xs) ≡ zone_in xs =
     ap tidy (c.frees_one.ensures (search rules) (zone_in xs)) ∙ c.requires.sound.2.tidied in
-    found test (zone_in xs) _ (subst (λ z. FindsLowest test z c.next_purgeable.result) is c.next_purgeable.ensures)
+    found _ (zone_in xs) _ (rw is at c.next_purgeable.ensures)

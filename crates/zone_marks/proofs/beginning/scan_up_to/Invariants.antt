@@ -1,18 +1,15 @@
 use Rattle.std.proofs.Common.{◌≡◌, ◌-◌, ◌≤◌, true, length}
 use Rattle.zone_bytes.specs.Changes.{Begins}
-use Rattle.zone_marks.specs.Searching.{IsFound, finds_purging}
+use Rattle.zone_marks.specs.Searching.{Goes}
 use Rattle.zone_bytes.specs.Stepping.{left_in}
-use Rattle.zone_marks.proofs.Marks.Passing.{Passed}
-use Rattle.zone_marks.proofs.finding_runs.scan_up_to.Given as goal
+use Rattle.zone_marks.proofs.beginning.scan_up_to.Given as goal
 
 abbrev pub invariant-loop-scan : goal.invariant-loop-scan
 invariant-loop-scan l = record {
-  same : finds_purging l.bytes l.sparing l.fn.scan l.part.bytes ≡ finds_purging l.bytes l.sparing l.scan l.part.bytes;
-  passed : Passed l.part.bytes l.fn.scan.place l.scan.place (λ _ _. Unit {0});
+  goes : Goes l.bytes l.sparing l.part.bytes l.fn.scan l.scan;
   free : l.scan.free ≤ l.scan.place;
   met : l.scan.met ≡ true;
   left : l.scan.left ≤ l.fn.scan.left;
-  stays : IsFound l.bytes l.fn.scan → IsFound l.bytes l.scan;
   up_to : Begins l.to l.fn.scan.place (left_in l.fn.scan.place l.part.bytes)
       → Begins l.to l.scan.place (left_in l.scan.place l.part.bytes);
 }

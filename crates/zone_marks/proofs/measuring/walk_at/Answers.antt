@@ -1,0 +1,13 @@
+use Rattle.std.proofs.Common.{ap, arith}
+use Rattle.block_store.specs.Block.{sizes}
+use Rattle.zone_marks.proofs.Marks.Lowering.{begins-way}
+use Rattle.zone_marks.proofs.Searches.Pieces.{left-long}
+use Rattle.zone_marks.proofs.measuring.walk_at.Goals as goal
+
+pub walk_from-requires : goal.walk_from-requires
+walk_from-requires c = begins-way _ _ _ c.requires.sound.2 _ c.requires.begins
+
+pub returns-clause-fits : goal.returns-clause-fits
+returns-clause-fits c =
+    let l = left-long _ _ _ c.requires.sound.2 _ c.requires.begins in
+    omega (arith, ap sizes c.walk_from.ensures)
