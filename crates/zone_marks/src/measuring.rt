@@ -1,8 +1,7 @@
 //! Walks over a stretch of a zone.
 
-ghost use Rattle.std.specs.Prelude.{◌≡◌, ◌+◌, ◌%◌, ◌==◌, ◌<◌, ◌≤◌, ◌^◌, ◌⊎◌, ◌∷◌, not, if◌then◌else◌, List, length};
+ghost use Rattle.std.specs.Prelude.{◌≡◌, ◌+◌, ◌%◌, ◌==◌, ◌<◌, ◌≤◌, ◌^◌, ◌⊎◌, ℕ, Bool, not, if◌then◌else◌, length};
 ghost use Rattle.std.specs.Prelude.{MatchOption, IfSome};
-ghost use Rattle.block_store.specs.Block.{Block};
 ghost use Rattle.heap_words.specs.Words.{word_at};
 ghost use Rattle.zone_bytes.specs.Changes.{AtEach, Begins};
 ghost use Rattle.zone_marks.specs.Marks as marks;
@@ -34,7 +33,8 @@ pub fn greater(most: u32, bytes: u32) -> u32
     if most < bytes { bytes } else { most }
 }
 
-/// The end of a block, its free bytes, and whether it ends a run.
+/// The end of a block, its free bytes, and whether it ends a run; or the bytes that it adds to a space, and whether it
+/// ends one.
 #[derive(Clone, Copy, Drop)]
 pub struct Span {
     pub end: u32,
@@ -43,7 +43,7 @@ pub struct Span {
 }
 
 impl Span {
-    /// Returns what the block comes to in runs.
+    /// Returns what the block comes to.
     fn runs(self) -> Stretch
         ensures { result ≡ counted (not self.barrier) self.free }
     {
@@ -92,19 +92,21 @@ pub fn span_at(part: &Part, at: u32) -> Span
     }
 }
 
-/// Returns what the block at a place comes to in spaces: a free block adds its bytes to a space, and so does a relocatable
-/// block that is purgeable and not locked. The flags are read of a relocatable block only.
-fn space_at(part: &Part, at: u32) -> Stretch
+/// Measures the block at a place in spaces: a free block adds its bytes to a space, and so does a relocatable block that is
+/// purgeable and not locked. The flags are read of a relocatable block only.
+fn space_at(part: &Part, at: u32) -> Span
     requires way { IsOnWay at part.now.bytes }
     requires some { at < length part.now.bytes }
-    ensures { (here : Block) (above : List Block) → left_in at part.now.bytes ≡ here ∷ above → result ≡ space here }
+    ensures { (free : ℕ) × (barrier : Bool) × (s : Spans at result.end free barrier part.now.bytes)
+        × (counted (not result.barrier) result.free ≡ space s.here) }
 {
     let first = read_word(part, at);
     let tag = first % UNIT;
-    if gives_space(part, at, tag) {
-        Stretch::Whole(first - tag)
-    } else {
-        Stretch::END
+    let size = first - tag;
+    Span {
+        end: at + size,
+        free: size,
+        barrier: !gives_space(part, at, tag),
     }
 }
 
@@ -132,8 +134,8 @@ pub fn spaces_up_to(part: &Part, from: u32, place: u32) -> Stretch
     let mut spaces = Stretch::NONE;
     let mut at = from;
     while at < stop {
-        let span = span_at(part, at);
-        spaces = spaces.join(space_at(part, at));
+        let span = space_at(part, at);
+        spaces = spaces.join(span.runs());
         at = span.end;
     }
     spaces

@@ -1,18 +1,12 @@
-use Rattle.std.proofs.Common.{◌≡◌, ℕ, ◌+◌, ◌-◌, ◌%◌, ◌≤◌, ◌<◌, ◌∙◌, ap, sym, arith}
-use Rattle.zone_bytes.proofs.Places.Stepped.{next-header}
-use Rattle.zone_marks.proofs.Marks.Spanned.{space-made}
+use Rattle.std.proofs.Common.{◌≡◌, ◌-◌, ◌%◌, ◌∙◌, ap, refl, Bool, true, false, not, arith}
+use Rattle.zone_bytes.proofs.Places.Stepped.{next-header, stepped}
+use Rattle.zone_marks.proofs.Marks.Spanned.{space-made, span-made}
 use Rattle.zone_summary.specs.Stretches.{counted}
 use Rattle.zone_marks.proofs.measuring.space_at.Goals as goal
 
--- the two parts of a first word
-whole : (first w : ℕ) → first ≡ w → first - first % 16 + first % 16 ≡ w
-whole first w e = omega (arith, e)
-
-even : (first : ℕ) → (first - first % 16) % 16 ≡ 0
-even first = omega arith
-
-small : (first w : ℕ) → first ≡ w → w % 16 < 4 → first % 16 ≤ 3
-small first w e l = omega (arith, e, l)
+twice : (b : Bool) → not (not b) ≡ b
+twice true = refl
+twice false = refl
 
 pub read_word-first-requires : goal.read_word-first-requires
 read_word-first-requires c =
@@ -23,18 +17,26 @@ pub gives_space-requires-clause-inside : goal.gives_space-requires-clause-inside
 gives_space-requires-clause-inside c =
     (next-header c.args.at c.args.part.now.bytes c.requires.way c.requires.some).fits
 
-pub returns-then-gives_space : goal.returns-then-gives_space
-returns-then-gives_space c = λ here above is.
+pub overflow_add-result : goal.overflow_add-result
+overflow_add-result c =
     let r = c.read_word-first in
     let h = next-header c.args.at c.args.part.now.bytes c.requires.way c.requires.some in
-    ap (λ t. counted t (r.result - r.result % 16)) (sym c.if-gives_space.true ∙ c.gives_space.ensures)
-    ∙ space-made _ _ c.requires.way c.requires.some _ _
-    (whole _ _ r.ensures) (even _) (small _ _ r.ensures h.tag) _ _ is
+    let s = stepped _ _ c.requires.way c.requires.some (r.result - r.result % 16) (r.result % 16) (omega arith)
+    (omega arith) (omega (arith, r.ensures, h.tag)) in
+    omega arith
 
-pub returns-else-gives_space : goal.returns-else-gives_space
-returns-else-gives_space c = λ here above is.
+pub returns : goal.returns
+returns c =
     let r = c.read_word-first in
-    let h = next-header c.args.at c.args.part.now.bytes c.requires.way c.requires.some in
-    ap (λ t. counted t (r.result - r.result % 16)) (sym c.if-gives_space.false ∙ c.gives_space.ensures)
-    ∙ space-made _ _ c.requires.way c.requires.some _ _
-    (whole _ _ r.ensures) (even _) (small _ _ r.ensures h.tag) _ _ is
+    let n = r.result - r.result % 16 in
+    let t = r.result % 16 in
+    let w = c.requires.way in
+    let l = c.requires.some in
+    let h = next-header _ _ w l in
+    let s = span-made _ _ w l n t (omega arith) (omega arith) (omega (arith, r.ensures, h.tag)) _ refl _ refl in (
+      _,
+      _,
+      s,
+      ap (λ g. counted g n) (twice c.gives_space.result ∙ c.gives_space.ensures)
+          ∙ space-made _ _ w l n t (omega arith) (omega arith) (omega (arith, r.ensures, h.tag)) s.here _ s.is,
+    )
