@@ -178,41 +178,40 @@ fn measured_mark(part: &Part, at: u32, above: u32, kept: Kept) -> Landmark
     }
 }
 
-/// Returns a landmark after the blocks from `lo` to `hi` became others; the next landmark stood at `next` and stands
+/// Changes a landmark after the blocks from `lo` to `hi` became others; the next landmark stood at `next` and stands
 /// at `above`. If some of its own blocks became others, what is to be known of them is measured anew by walks.
 fn changed_mark(
-    mark: Landmark,
+    mark: &mut Landmark,
     next: u32,
     above: u32,
     part: &Part,
     lo: u32,
     hi: u32,
     kept: Kept,
-) -> Landmark
+)
     requires sound { (first : ℕ) × (unused : ℕ) × IsSound part.now.bytes first unused }
     requires ordered { lo ≤ hi }
-    requires rising { mark.at ≤ next }
+    requires rising { mark.old.at ≤ next }
     requires lowered { Lowered lo hi next above }
-    requires begins { (at : ℕ) → Lowered lo hi mark.at at → Begins at 0 (zone_in part.now.bytes) }
-    ensures at { Lowered lo hi mark.at result.at }
+    requires begins { (at : ℕ) → Lowered lo hi mark.old.at at → Begins at 0 (zone_in part.now.bytes) }
+    ensures at { Lowered lo hi mark.old.at mark.new.at }
     ensures bound { (old : List Block) → Replaced lo hi old (zone_in part.now.bytes) →
-        AtEach (AtMost mark.most mark.at next) 0 old →
-        AtEach (AtMost result.most result.at above) 0 (zone_in part.now.bytes) }
+        AtEach (AtMost mark.old.most mark.old.at next) 0 old →
+        AtEach (AtMost mark.new.most mark.new.at above) 0 (zone_in part.now.bytes) }
     ensures tally { (old : List Block) → Replaced lo hi old (zone_in part.now.bytes) →
-        AreTold mark.tally (between mark.at next 0 old) →
-        AreTold result.tally (between result.at above 0 (zone_in part.now.bytes)) }
+        AreTold mark.old.tally (between mark.old.at next 0 old) →
+        AreTold mark.new.tally (between mark.new.at above 0 (zone_in part.now.bytes)) }
 {
     if hi <= mark.at || next <= lo {
-        return mark;
+        return;
     }
-    let at = lowered_mark(mark.at, lo, hi);
+    mark.at = lowered_mark(mark.at, lo, hi);
     match kept {
-        Kept::Nothing => Landmark {
-            at,
-            most: greater(mark.most, hi - lo),
-            tally: Tallies::UNKNOWN,
-        },
-        _ => measured_mark(part, at, above, kept),
+        Kept::Nothing => {
+            mark.most = greater(mark.most, hi - lo);
+            mark.tally = Tallies::UNKNOWN;
+        }
+        _ => *mark = measured_mark(part, mark.at, above, kept),
     }
 }
 
@@ -240,12 +239,12 @@ pub fn change_marks(
     let mut next = above;
     while first > 0 && lo <= above {
         first -= 1;
-        let old = marks[first];
-        let mark = changed_mark(old, next, above, part, lo, hi, kept);
-        marks[first] = mark;
+        let mark = &mut marks[first];
+        let old = mark.at;
+        changed_mark(mark, next, above, part, lo, hi, kept);
         raise_group(groups, first, mark.most);
         above = mark.at;
-        next = old.at;
+        next = old;
     }
     renew_groups(marks, groups, first, last);
 }
@@ -278,28 +277,25 @@ pub struct NextMark {
     pub at: u32,
 }
 
-/// Makes a landmark at `at`, with what is known of the blocks up to `edge`: from `base` on these are relocatable
+/// Lays a landmark anew at `at`, with what is known of the blocks up to `edge`: from `base` on these are relocatable
 /// blocks that lie packed, of which it isn't known what they come to in spaces, and below `base` they are measured by a
 /// walk.
-fn packed_mark(part: &Part, at: u32, edge: u32, base: u32, kept: Kept) -> Landmark
+fn packed_mark(mark: &mut Landmark, part: &Part, at: u32, edge: u32, base: u32, kept: Kept)
     requires sound { (first : ℕ) × (unused : ℕ) × IsSound part.now.bytes first unused }
     requires begins { Begins at 0 (zone_in part.now.bytes) }
     requires bare { base ≤ at → IsBare at edge (zone_in part.now.bytes) }
-    ensures at { result.at ≡ at }
-    ensures bound { AtEach (AtMost result.most at edge) 0 (zone_in part.now.bytes) }
-    ensures tally { AreTold result.tally (between at edge 0 (zone_in part.now.bytes)) }
+    ensures at { mark.new.at ≡ at }
+    ensures bound { AtEach (AtMost mark.new.most at edge) 0 (zone_in part.now.bytes) }
+    ensures tally { AreTold mark.new.tally (between at edge 0 (zone_in part.now.bytes)) }
 {
-    if base <= at {
-        return Landmark {
-            at,
-            most: 0,
-            tally: Tallies {
-                runs: Tally::Known(Stretch::NONE),
-                spaces: Tally::Unknown,
-            },
-        };
+    if at < base {
+        *mark = measured_mark(part, at, edge, kept);
+        return;
     }
-    measured_mark(part, at, edge, kept)
+    mark.at = at;
+    mark.most = 0;
+    mark.tally.runs = Tally::Known(Stretch::NONE);
+    mark.tally.spaces = Tally::Unknown;
 }
 
 /// Lays landmarks by the noted edges: the next landmark, with its stretch up to the first edge, and a landmark at each
@@ -329,8 +325,8 @@ pub fn lay_edges(
             break;
         };
         let edge = greater(next.at, place);
-        let mark = packed_mark(part, next.at, edge, base, kept);
-        marks[next.index] = mark;
+        let mark = &mut marks[next.index];
+        packed_mark(mark, part, next.at, edge, base, kept);
         raise_group(groups, next.index, mark.most);
         next = NextMark {
             index: next.index + 1,

@@ -14,20 +14,20 @@ loop-first-init c = (
       c.index_above-last.ensures.above a,
 )
 
-pub changed_mark-mark-requires-clause-ordered : goal.changed_mark-mark-requires-clause-ordered
-changed_mark-mark-requires-clause-ordered c = replaced-order _ _ _ _ c.requires.marks.1
+pub changed_mark-requires-clause-ordered : goal.changed_mark-requires-clause-ordered
+changed_mark-requires-clause-ordered c = replaced-order _ _ _ _ c.requires.marks.1
 
-pub changed_mark-mark-requires-clause-rising : goal.changed_mark-mark-requires-clause-rising
-changed_mark-mark-requires-clause-rising c =
+pub changed_mark-requires-clause-rising : goal.changed_mark-requires-clause-rising
+changed_mark-requires-clause-rising c =
     (last-mark _ _ _ _ _ _ _ _ _ _ (omega arith) c.loop-first.invariant.0
     (c.loop-first.invariant.2 c.requires.marks.0 c.requires.marks.1 c.requires.marks.2)).1.3
 
-pub changed_mark-mark-requires-clause-lowered : goal.changed_mark-mark-requires-clause-lowered
-changed_mark-mark-requires-clause-lowered c =
+pub changed_mark-requires-clause-lowered : goal.changed_mark-requires-clause-lowered
+changed_mark-requires-clause-lowered c =
     (c.loop-first.invariant.2 c.requires.marks.0 c.requires.marks.1 c.requires.marks.2).is
 
-pub changed_mark-mark-requires-clause-begins : goal.changed_mark-mark-requires-clause-begins
-changed_mark-mark-requires-clause-begins c = λ at w.
+pub changed_mark-requires-clause-begins : goal.changed_mark-requires-clause-begins
+changed_mark-requires-clause-begins c = λ at w.
     let old = c.requires.marks.0 in
     let new = zone_in c.args.part.now.bytes in
     let z = c.requires.marks.1 in
@@ -39,11 +39,11 @@ pub loop-first-preserved : goal.loop-first-preserved
 loop-first-preserved c =
     let l = c.loop-first.invariant.0 in
     let new = zone_in c.args.part.now.bytes in (
-      (let n = length-set c.loop-first.marks (c.loop-first.first - 1) c.changed_mark-mark.result in omega (arith, l, n)),
-      c.raise_group.ensures c.loop-first.marks c.changed_mark-mark.result (omega arith) c.loop-first.invariant.1,
+      (let n = length-set c.loop-first.marks (c.loop-first.first - 1) c.changed_mark.new.mark in omega (arith, l, n)),
+      c.raise_group.ensures c.loop-first.marks c.changed_mark.new.mark (omega arith) c.loop-first.invariant.1,
       λ old z a. changing-step _ _ _ _ z (replaced-order _ _ _ _ z) _ _ _ _ _ _ (omega arith) l
-          (c.loop-first.invariant.2 old z a) c.changed_mark-mark.ensures.at
-          (λ e. c.changed_mark-mark.ensures.bound old z e) (λ e. c.changed_mark-mark.ensures.tally old z e),
+          (c.loop-first.invariant.2 old z a) c.changed_mark.ensures.at
+          (λ e. c.changed_mark.ensures.bound old z e) (λ e. c.changed_mark.ensures.tally old z e),
     )
 
 pub returns-clause-marks : goal.returns-clause-marks

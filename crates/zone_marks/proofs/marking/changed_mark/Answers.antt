@@ -18,7 +18,7 @@ pub returns-then-hi-mark : goal.returns-then-hi-mark
 returns-then-hi-mark c =
     let lo = c.args.lo in
     let hi = c.args.hi in
-    let at = c.args.mark.at in
+    let at = c.args.mark.now.at in
     let new = zone_in c.args.part.now.bytes in
     let apart : (hi ≤ at) ⊎ (c.args.next ≤ lo) = elim c.then-hi-mark.either [
       | inl h ↦ inl h
@@ -39,26 +39,26 @@ returns-then-hi-mark c =
             | inl h ↦ omega (arith, a, h)
             | inr l ↦ absurd (omega (arith, b, l, same))
           ]) e;
-      tally = λ old z t. subst (λ k. AreTold c.args.mark.tally (between at k 0 new)) (sym same)
+      tally = λ old z t. subst (λ k. AreTold c.args.mark.now.tally (between at k 0 new)) (sym same)
           (alike-as _ _ _ (apart-alike _ _ _ _ z c.requires.ordered _ _ apart) t);
     }
 
 pub measured_mark-requires : goal.measured_mark-requires
 measured_mark-requires c =
-    begins-way _ _ _ c.requires.sound.2 _ (c.requires.begins c.lowered_mark-at.result c.lowered_mark-at.ensures)
+    begins-way _ _ _ c.requires.sound.2 _ (c.requires.begins c.lowered_mark-mark.result c.lowered_mark-mark.ensures)
 
 pub returns-in_default-clause-bound : goal.returns-in_default-clause-bound
 returns-in_default-clause-bound c = λ old z e.
     subst (λ p. AtEach (AtMost c.measured_mark.result.most p c.args.above) 0 (zone_in c.args.part.now.bytes))
     (sym c.measured_mark.ensures.at) (bound-here _ _ _ c.requires.sound.2 _ _ _
-    (c.requires.begins c.lowered_mark-at.result c.lowered_mark-at.ensures) c.measured_mark.ensures.bound)
+    (c.requires.begins c.lowered_mark-mark.result c.lowered_mark-mark.ensures) c.measured_mark.ensures.bound)
 
 pub returns-in_default-clause-tally : goal.returns-in_default-clause-tally
 returns-in_default-clause-tally c = λ old z e.
     subst (λ p. AreTold c.measured_mark.result.tally (between p c.args.above 0 (zone_in c.args.part.now.bytes)))
     (sym c.measured_mark.ensures.at) (tally-here _ _ _ c.requires.sound.2 _ _ _
-    (c.requires.begins c.lowered_mark-at.result c.lowered_mark-at.ensures) c.measured_mark.ensures.tally)
+    (c.requires.begins c.lowered_mark-mark.result c.lowered_mark-mark.ensures) c.measured_mark.ensures.tally)
 
 pub returns-in-Nothing-clause-bound : goal.returns-in-Nothing-clause-bound
 returns-in-Nothing-clause-bound c = λ old z e. bound-lowered _ _ _ _ z c.requires.ordered _ _ _
-    _ _ _ c.lowered_mark-at.ensures c.requires.lowered (omega arith) (λ _ _. omega arith) e
+    _ _ _ c.lowered_mark-mark.ensures c.requires.lowered (omega arith) (λ _ _. omega arith) e

@@ -6,8 +6,8 @@ measured_mark-requires c =
     let i = c.requires.sound in
     begins-way c.args.part.now.bytes i.0 i.1 i.2 c.args.at c.requires.begins
 
-pub returns-clause-bound : goal.returns-clause-bound
-returns-clause-bound c = bound-here _ _ _ c.requires.sound.2 _ _ _ c.requires.begins c.measured_mark.ensures.bound
+pub returns-then-at-base-clause-bound : goal.returns-then-at-base-clause-bound
+returns-then-at-base-clause-bound c = bound-here _ _ _ c.requires.sound.2 _ _ _ c.requires.begins c.measured_mark.ensures.bound
 
-pub returns-clause-tally : goal.returns-clause-tally
-returns-clause-tally c = tally-here _ _ _ c.requires.sound.2 _ _ _ c.requires.begins c.measured_mark.ensures.tally
+pub returns-then-at-base-clause-tally : goal.returns-then-at-base-clause-tally
+returns-then-at-base-clause-tally c = tally-here _ _ _ c.requires.sound.2 _ _ _ c.requires.begins c.measured_mark.ensures.tally
