@@ -33,7 +33,6 @@ use Rattle.zone_marks.proofs.Marks.Lowering.{Seen as Edge, seen-from}
 use Rattle.zone_marks.proofs.Searches.Pieces.{left-long}
 use Rattle.zone_marks.proofs.Marks.Passing.{Passed, at-all, at-append, at-left, at-map, at-right, passed-on}
 use Rattle.block_store.proofs.Regroup.RunsAbove.{run_at-bottom}
-use Rattle.zone_bytes.proofs.Runs.Runs.{run_at-splits}
 use Rattle.zone_bytes.proofs.Tiles.Tiling.{span-append}
 
 -- a lower place
