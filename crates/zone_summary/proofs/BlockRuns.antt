@@ -186,10 +186,8 @@ module _ (number p : ℕ) where
   wanted b = is_relocatable number b
 
   met-is : (met : Bool) (b : Block) → met_after (Some number) met b ≡ (met || wanted b)
-  met-is met (Free n) = sym (or-none met)
-  met-is met (Nonrelocatable id content) = sym (or-none met)
-  met-is met Masters = sym (or-none met)
   met-is met (Relocatable id flags content) = refl
+  met-is met _ = sym (or-none met)
 
   -- A run suffices, of the one that the search is in, with `free` free bytes below these blocks, and those above.
   abbrev pub serves_from : ℕ → Bool → List Block → Bool
@@ -434,8 +432,7 @@ module _ (number p : ℕ) (n : Sparing) (zone : List Block) (whole : opened n zo
 
   pub run-of : (run : ℕ) → count (is_relocatable number) zone ≤ 1
       → FindsLowestRun tested (purged 0 sparing.Nothing zone) (Some run) → IsRunOf number p n zone run
-  run-of run once f =
-      elim (cut number p (spared n) keeps 0 0 0 run zone once (found-is ∙ ap (option_map (λ (r : RunSpot). sizes r.below)) f.1 ∙ ap Some f.3)) [
+  run-of run once f = elim (cut number p (spared n) keeps 0 0 0 run zone once (grind (arith, found-is))) [
         | inl r ↦ (grind (arith, serves-here, here-now, here-purged, nat_le))
         | inr c ↦ (grind (arith, serves-here, here-now, here-purged))
       ]

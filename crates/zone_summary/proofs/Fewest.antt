@@ -154,10 +154,8 @@ record IsFreed (sp : Block → Bool) (bytes : ℕ) (blocks : List Block) : Type 
 
 module _ (sp : Block → Bool) where
   pub gone : (b : Block) → may_be_purged sp b ≡ true → (in_run b ≡ true) × (free_of b ≡ 0)
-  gone (Free n) e = absurd (true≢false (sym e))
-  gone (Nonrelocatable id content) e = absurd (true≢false (sym e))
-  gone Masters e = absurd (true≢false (sym e))
   gone (Relocatable id flags content) e = grind arith
+  gone _ e = absurd (true≢false (sym e))
 
   abbrev CanFree : ℕ → List Block → Type 0
   CanFree bytes blocks = (bytes ≡ 0) ⊎ (prefix (stretch_of blocks) + bytes ≤ prefix (stretch_of (map (emptied sp) blocks)))
@@ -171,9 +169,7 @@ module _ (sp : Block → Bool) where
       let z : free_of b ≡ 0 = g.1 in
       let here = prefix-on b above g.0 in
       let at : (k : ℕ) → prefix (stretch_of (lowest_purged (suc k) sp (b ∷ above)))
-      ≡ size b + prefix (stretch_of (lowest_purged k sp above)) =
-      λ k. ap (λ t. prefix (stretch_of t)) (lowest_purged-goes k sp b above e)
-      ∙ prefix-on (Free (size b)) (lowest_purged k sp above) refl in
+      ≡ size b + prefix (stretch_of (lowest_purged k sp above)) = grind arith in
       let pf : purges_for sp (suc n) (b ∷ above) ≡ suc j = cond-true (may_be_purged sp b) _ _ e in
       let r = more ((grind arith)) in
       let most = ap (λ k. prefix (stretch_of (lowest_purged k sp (b ∷ above)))) pf ∙ at j in
@@ -305,10 +301,8 @@ module _ (p run : ℕ) (n : Sparing) (zone : List Block) (f : FindsLowestRun (ha
 -- the blocks that may be purged below a place, and those above it
 module _ (sp : Block → Bool) where
   pub goes-size : (b : Block) → may_be_purged sp b ≡ true → 0 < size b
-  goes-size (Free n) e = absurd (true≢false (sym e))
-  goes-size (Nonrelocatable id content) e = absurd (true≢false (sym e))
-  goes-size Masters e = absurd (true≢false (sym e))
   goes-size (Relocatable id flags content) e = omega arith
+  goes-size _ e = absurd (true≢false (sym e))
 
   pub count-past : (low rest : List Block) (bytes : ℕ) → sizes low ≤ bytes
       → count_within sp bytes (low ++ rest) ≡ count_of sp low + count_within sp (bytes - sizes low) rest

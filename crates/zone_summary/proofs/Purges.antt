@@ -18,14 +18,8 @@ use Rattle.zone_summary.proofs.Runs.{best-runs}
 -- a stretch does not see whether neighbouring Free blocks are one
 stretch_of-add : (b : Block) (bs : List Block) → stretch_of (add b bs) ≡ join (one b) (stretch_of bs)
 stretch_of-add (Free zero) bs = sym (join-unit_left (stretch_of bs))
-stretch_of-add (Free (suc n)) [] = refl
 stretch_of-add (Free (suc n)) (Free m ∷ bs) = join-assoc (Whole (suc n)) (Whole m) (stretch_of bs)
-stretch_of-add (Free (suc n)) (Nonrelocatable id content ∷ bs) = refl
-stretch_of-add (Free (suc n)) (Masters ∷ bs) = refl
-stretch_of-add (Free (suc n)) (Relocatable id flags content ∷ bs) = refl
-stretch_of-add (Nonrelocatable id content) bs = refl
-stretch_of-add Masters bs = refl
-stretch_of-add (Relocatable id flags content) bs = refl
+stretch_of-add _ _ = refl
 
 stretch_of-tidy : (bs : List Block) → stretch_of (tidy bs) ≡ stretch_of bs
 stretch_of-tidy [] = refl

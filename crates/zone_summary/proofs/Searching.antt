@@ -16,9 +16,7 @@ use Rattle.zone_summary.proofs.Monoid.{join-assoc, join-unit_left, stretch_of-ap
 -- a run that need have no block has what it must have
 met-always : (b : Block) → met_after None true b ≡ true
 met-always (Free n) = refl
-met-always (Nonrelocatable id content) = refl
-met-always Masters = refl
-met-always (Relocatable id flags content) = refl
+met-always _ = refl
 
 module _ (p : ℕ) (sp : Block → Bool) where
   pub found-more : (start free place : ℕ) (b : Block) (above : List Block) → in_run b ≡ true
@@ -61,8 +59,7 @@ module _ (p : ℕ) (sp : Block → Bool) where
           → Past start had place (b ∷ low) high (join (Whole had) (join (counted t (free_of b)) (stretch_of low)))
       step true e h more = let r = more start (had + free_of b) (place + size b) (rw (join-assoc (Whole had) (Whole (free_of b)) (stretch_of low)) h) in
           let at : place + size b + sizes low ≡ place + (size b + sizes low) = omega arith in (search rules)
-      step false e h more = let s = had-short had (stretch_of low) h in
-          let r = more (place + size b) 0 (place + size b) s.1 in
+      step false e h more = let r = more (place + size b) 0 (place + size b) (had-short had (stretch_of low) h).1 in
           let at : place + size b + sizes low ≡ place + (size b + sizes low) = omega arith in (grind arith)
 
   -- and finds nothing where there is nothing more

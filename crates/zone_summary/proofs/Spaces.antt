@@ -32,11 +32,7 @@ record IsLed (s : Stretch) (t : List Block) : Type 0 where
 led_free : (n : ℕ) (s : Stretch) (t : List Block) → IsLed s t → IsLed (join (Whole n) s) (add (Free n) t)
 unfolding lead higher
 led_free zero s t h = rw join-unit_left h
-led_free (suc n) s [] h = grind arith
-led_free (suc n) s (Free m ∷ t) h = grind arith
-led_free (suc n) s (Nonrelocatable id content ∷ t) h = grind arith
-led_free (suc n) s (Masters ∷ t) h = grind arith
-led_free (suc n) s (Relocatable id flags content ∷ t) h = grind arith
+led_free (suc n) s _ h = grind arith
 
 led_ended : (b : Block) (s : Stretch) (t : List Block) → free_of b ≡ 0 → IsLed s t → IsLed (join (Ended 0 0 0) s) (b ∷ t)
 unfolding lead higher

@@ -23,10 +23,8 @@ ends-load (Ended p i s) (Ended q j t) = omega arith
 
 -- what stretches of blocks hold is no more than the blocks' bytes
 counted-within : (b : Block) → load (one b) ≤ size b
-counted-within (Free n) = omega arith
-counted-within (Nonrelocatable id content) = omega arith
-counted-within Masters = omega arith
 counted-within (Relocatable id flags content) = grind arith
+counted-within _ = omega arith
 
 pub load-blocks : (blocks : List Block) → load (stretch_of blocks) ≤ sizes blocks
 load-blocks [] = omega arith
