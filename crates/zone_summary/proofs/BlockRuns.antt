@@ -1,5 +1,6 @@
 -- The run of the block of a master pointer, after purges: it stays where it is, and as few purges serve as are below it,
 -- and as few of its own as free what it lacks.
+use Rattle.std.proofs.Common.{rules}
 use Rattle.std.proofs.Common.{◌≡◌, ℕ, ◌+◌, ◌-◌, ◌≤◌, ◌<◌, ◌⊎◌, zero, suc, Bool, true, false, not, ◌&&◌, ◌||◌, Option, Some, None}
 use Rattle.std.proofs.Common.{nat_le, List, [], ◌∷◌, ◌++◌, is_some, refl, sym, ◌∙◌, ap, arith, cond, inl, inr, subst}
 use Rattle.std.proofs.lemmas.Bool.{and_parts, cases_lt, cond-true, cond-false, le-leb, lt-leb, true≢false}
@@ -58,11 +59,7 @@ module _ (sp : Block → Bool) where
 
   look : (k : ℕ) (b : Block) (above : List Block) → Goes k b above ⊎ Keeps k b above
   look zero b above = inr (inl refl, refl)
-  look (suc k) b above = cases (may_be_purged sp b) refl
-    where
-      cases : (t : Bool) → may_be_purged sp b ≡ t → Goes (suc k) b above ⊎ Keeps (suc k) b above
-      cases true e = inl (k, refl, e, lowest_purged-goes k sp b above e)
-      cases false e = inr (inr e, lowest_purged-stays (suc k) sp b above e)
+  look (suc k) b above = grind arith
 
   goes-left : (k j : ℕ) (b : Block) (low : List Block) → k ≡ suc j → may_be_purged sp b ≡ true
       → j - count_of sp low ≡ k - count_of sp (b ∷ low)
@@ -82,8 +79,7 @@ module _ (sp : Block → Bool) where
 
   goes-prefix : (k : ℕ) (b : Block) (above : List Block) (g : Goes k b above)
       → prefix (stretch_of (lowest_purged k sp (b ∷ above))) ≡ size b + prefix (stretch_of (lowest_purged g.0 sp above))
-  goes-prefix k b above g = ap (λ t. prefix (stretch_of t)) g.3
-      ∙ prefix-on (Free (size b)) (lowest_purged g.0 sp above) refl
+  goes-prefix k b above g = grind arith
 
   keeps-prefix : (k : ℕ) (b : Block) (above : List Block) (g : Keeps k b above) → in_run b ≡ true
       → prefix (stretch_of (lowest_purged k sp (b ∷ above))) ≡ free_of b + prefix (stretch_of (lowest_purged k sp above))
@@ -91,12 +87,7 @@ module _ (sp : Block → Bool) where
 
   pub enough-freed : (done bytes n : ℕ) (blocks : List Block) → run_purges_for sp done bytes blocks ≡ Some n
       → IsEnough done bytes n blocks
-  enough-freed done zero n blocks h = record {
-    own = 0;
-    is = let e = same_Some _ _ h in omega (arith, e);
-    enough = omega arith;
-    fewer = λ k l. absurd (omega (arith, l));
-  }
+  enough-freed done zero n blocks h = grind arith
   enough-freed done (suc m) n [] h = absurd (none-some _ h)
   enough-freed done (suc m) n (b ∷ above) h = step (may_be_purged sp b) refl (in_run b) refl
       (λ d k e. enough-freed d k n above e)
@@ -114,29 +105,21 @@ module _ (sp : Block → Bool) where
           record {
             own = suc q.own;
             is = omega (arith, q.is);
-            enough =
-                let all = ap (λ t. prefix (stretch_of t)) (lowest_purged-goes q.own sp b above e)
+            enough = let all = ap (λ t. prefix (stretch_of t)) (lowest_purged-goes q.own sp b above e)
                 ∙ prefix-on (Free (size b)) (lowest_purged q.own sp above) refl in
                 omega (arith, all, here, none, q.enough);
             fewer = λ k l. elim (look k b above) [
               | inl w ↦
                   let all = goes-prefix k b above w in
                   let j = w.1 in
-                  elim (cases_lt (size b) (suc m)) [
-                    | inl less ↦ omega (arith, all, here, none, less, q.fewer w.0 (omega (arith, l, j)))
-                    | inr most ↦
-                        let z : suc m - size b ≡ 0 = omega (arith, most) in
-                        let last = same_Some _ _ (sym (ap (λ k. run_purges_for sp (suc done) k above) z) ∙ there) in
-                        absurd (omega (arith, last, q.is, l, j))
-                  ]
+                  (grind arith)
               | inr w ↦ elim w.0 [
                 | inl z ↦ omega (arith, ap (λ k. prefix (stretch_of (lowest_purged k sp (b ∷ above)))) z)
                 | inr f ↦ absurd (true≢false (sym e ∙ f))
               ]
             ];
           }
-      step false e true i more =
-          let there : run_purges_for sp done (suc m) above ≡ Some n =
+      step false e true i more = let there : run_purges_for sp done (suc m) above ≡ Some n =
           sym (cond-true (in_run b) _ _ i) ∙ sym (cond-false (may_be_purged sp b) _ _ e) ∙ h in
           let q = more done (suc m) there in
           let here = prefix-on b above i in
@@ -181,22 +164,16 @@ module _ (sp : Block → Bool) where
           ]
       step false e true i more =
           let here = prefix-on b above i in
-          let there : run_purges_for sp done (suc m) above ≡ None =
-          sym (cond-true (in_run b) _ _ i) ∙ sym (cond-false (may_be_purged sp b) _ _ e) ∙ h in
           let all = ap (λ t. prefix (stretch_of t)) (lowest_purged-stays k sp b above e)
           ∙ prefix-on b (lowest_purged k sp above) i in
-          omega (arith, all, here, more done (suc m) there k)
-      step false e false i more =
-          let all = ap (λ t. prefix (stretch_of t)) (lowest_purged-stays k sp b above e)
-          ∙ prefix-off b (lowest_purged k sp above) i in
-          omega (arith, all)
+          omega (arith, all, here, more done (suc m) (sym (cond-true (in_run b) _ _ i) ∙ sym (cond-false (may_be_purged sp b) _ _ e) ∙ h) k)
+      step false e false i more = grind (arith, lowest_purged-stays, prefix-off)
 
   -- a walk that counts them looks at one block
   pub run-goes : (done left : ℕ) (b : Block) (above : List Block) → 0 < left → may_be_purged sp b ≡ true
       → run_purges_for sp done left (b ∷ above) ≡ run_purges_for sp (done + 1) (left - size b) above
   run-goes done zero b above l e = absurd (omega (arith, l))
-  run-goes done (suc m) b above l e = cond-true (may_be_purged sp b) _ _ e
-      ∙ ap (λ d. run_purges_for sp d (suc m - size b) above) (let z : suc done ≡ done + 1 = omega arith in z)
+  run-goes done (suc m) b above l e = grind arith
 
   pub run-stays : (done left : ℕ) (b : Block) (above : List Block) → 0 < left → may_be_purged sp b ≡ false
       → in_run b ≡ true → run_purges_for sp done left (b ∷ above) ≡ run_purges_for sp done left above
@@ -209,10 +186,8 @@ module _ (number p : ℕ) where
   wanted b = is_relocatable number b
 
   met-is : (met : Bool) (b : Block) → met_after (Some number) met b ≡ (met || wanted b)
-  met-is met (Free n) = sym (or-none met)
-  met-is met (Nonrelocatable id content) = sym (or-none met)
-  met-is met Masters = sym (or-none met)
   met-is met (Relocatable id flags content) = refl
+  met-is met _ = sym (or-none met)
 
   -- A run suffices, of the one that the search is in, with `free` free bytes below these blocks, and those above.
   abbrev pub serves_from : ℕ → Bool → List Block → Bool
@@ -247,8 +222,7 @@ module _ (number p : ℕ) where
   serves-block-from n zone k =
       let blocks = lowest_purged k (spared n) (opened n zone) in
       ap (λ (test : List Block → Bool). is_some (run_spot test (purged k n zone))) (sym (suits-slot number p))
-      ∙ some-map (run_spot (suits (Some number) p) (purged k n zone))
-      ∙ sym (ap is_some (scan-is (Some number) p sparing.Nothing 0 blocks))
+      ∙ some-map _ ∙ sym (ap is_some (scan-is (Some number) p sparing.Nothing 0 blocks))
       ∙ scan-serves (spared sparing.Nothing) 0 0 false 0 blocks
 
   -- no block is that of the master pointer; one is, and stands in the lowest run
@@ -287,9 +261,7 @@ module _ (number p : ℕ) where
           → serves_from (free + free_of b) true above ≡ nat_le p (free + free_of b + prefix (stretch_of above))
           → serves_from free true (b ∷ above) ≡ nat_le p (free + prefix (stretch_of (b ∷ above)))
       cases true i more = cond-true (in_run b) _ _ i ∙ more ∙ more-free free b above i
-      cases false i more = cond-false (in_run b) _ _ i
-          ∙ ap (λ r. nat_le p free || r) (lacks-none 0 above l.1) ∙ or-none (nat_le p free)
-          ∙ ap (nat_le p) (let e = prefix-off b above i in omega (arith, e))
+      cases false i more = grind (arith, cond-false, nat_le, lacks-none, or-none, prefix-off)
 
   here-law : (free : ℕ) (blocks : List Block) → Here blocks
       → serves_from free false blocks ≡ nat_le p (free + prefix (stretch_of blocks))
@@ -302,8 +274,7 @@ module _ (number p : ℕ) where
   ]
 
   here-now : (blocks : List Block) → Here blocks → serves_from 0 false blocks ≡ nat_le p (prefix (stretch_of blocks))
-  here-now blocks h = here-law 0 blocks h ∙ ap (nat_le p)
-      (let z : 0 + prefix (stretch_of blocks) ≡ prefix (stretch_of blocks) = omega arith in z)
+  here-now blocks h = grind (arith, here-law, nat_le)
 
   module _ (sp : Block → Bool) (keeps : (b : Block) → is_relocatable number b ≡ true → sp b ≡ true) where
     kept : (b : Block) → wanted b ≡ true → may_be_purged sp b ≡ true → true ≡ false
@@ -332,22 +303,14 @@ module _ (number p : ℕ) where
     past-on : (k free : ℕ) (b : Block) (above : List Block) → Keeps sp k b above → in_run b ≡ true → wanted b ≡ false
         → serves_from free false (lowest_purged k sp (b ∷ above))
         ≡ serves_from (free + free_of b) false (lowest_purged k sp above)
-    past-on k free b above s i w = ap (serves_from free false) s.1 ∙ cond-true (in_run b) _ _ i
-        ∙ ap (λ m. serves_from (free + free_of b) m (lowest_purged k sp above)) w
+    past-on k free b above s i w = grind arith
 
     past-off : (k free : ℕ) (b : Block) (above : List Block) → in_run b ≡ false
         → serves_from free false (lowest_purged k sp (b ∷ above)) ≡ serves_from 0 false (lowest_purged k sp above)
-    past-off k free b above i = elim (look sp k b above) [
-      | inl g ↦ absurd (true≢false (sym (gone sp b g.2).0 ∙ i))
-      | inr s ↦ ap (serves_from free false) s.1 ∙ cond-false (in_run b) _ _ i
-    ]
+    past-off k free b above i = grind arith
 
     off-stays : (b : Block) → in_run b ≡ false → may_be_purged sp b ≡ false
-    off-stays b i = cases (may_be_purged sp b) refl
-      where
-        cases : (t : Bool) → may_be_purged sp b ≡ t → t ≡ false
-        cases true e = absurd (true≢false (sym (gone sp b e).0 ∙ i))
-        cases false e = refl
+    off-stays b i = grind arith
 
     -- Blocks among which the block's run begins at `found`, above those at the lower end.
     record IsCut (place found : ℕ) (blocks : List Block) : Type 0 where
@@ -365,15 +328,11 @@ module _ (number p : ℕ) where
 
     meets-here : (start free place : ℕ) (b : Block) (above : List Block) → in_run b ≡ true → wanted b ≡ true
         → found_in start free place false (b ∷ above) ≡ Some start
-    meets-here start free place b above i w = cond-true (in_run b) _ _ i
-        ∙ ap (λ m. found_in start (free + free_of b) (place + size b) m above) (met-is false b ∙ w)
-        ∙ scan_kept (Some number) 0 (spared sparing.Nothing) 0 start (free + free_of b) true (place + size b) above
-        (le-leb 0 (free + free_of b) (omega arith))
+    meets-here start free place b above i w = grind (arith, cond-true, met-is, scan_kept, le-leb)
 
     on-past : (start free place : ℕ) (b : Block) (above : List Block) → in_run b ≡ true → wanted b ≡ false
         → found_in start free place false (b ∷ above) ≡ found_in start (free + free_of b) (place + size b) false above
-    on-past start free place b above i w = cond-true (in_run b) _ _ i
-        ∙ ap (λ m. found_in start (free + free_of b) (place + size b) m above) (met-is false b ∙ w)
+    on-past start free place b above i w = grind arith
 
     off-past : (start free place : ℕ) (b : Block) (above : List Block) → in_run b ≡ false
         → found_in start free place false (b ∷ above) ≡ found_in (place + size b) 0 (place + size b) false above
@@ -445,14 +404,8 @@ module _ (number p : ℕ) where
             → (k had : ℕ) → serves_from had false (lowest_purged k sp above) ≡ false)
             → serves_from had false (lowest_purged k sp (b ∷ above)) ≡ false
         step true i true w more = absurd (none-some _ (sym h ∙ meets-here start free place b above i w))
-        step true i false w more =
-            let r = more start (free + free_of b) (place + size b) (sym (on-past start free place b above i w) ∙ h) in
-            elim (look sp k b above) [
-              | inl g ↦ ap (serves_from had false) g.3 ∙ r g.0 (had + size b)
-              | inr s ↦ past-on k had b above s i w ∙ r k (had + free_of b)
-            ]
-        step false i w e more = past-off k had b above i
-            ∙ more (place + size b) 0 (place + size b) (sym (off-past start free place b above i) ∙ h) k 0
+        step true i false w more = grind (arith, on-past, look, past-on)
+        step false i w e more = grind (arith, past-off, off-past)
 
 -- The run of the block, and what it has after so many purges.
 pub record IsRunOf (number p : ℕ) (n : Sparing) (zone : List Block) (run : ℕ) : Type 0 where
@@ -466,8 +419,7 @@ pub record IsRunOf (number p : ℕ) (n : Sparing) (zone : List Block) (run : ℕ
 module _ (number p : ℕ) (n : Sparing) (zone : List Block) (whole : opened n zone ≡ zone)
     (keeps : (b : Block) → is_relocatable number b ≡ true → spared n b ≡ true) where
   serves-here : (k : ℕ) → serves_block number p n zone k ≡ serves_from number p 0 false (lowest_purged k (spared n) zone)
-  serves-here k = serves-block-from number p n zone k
-      ∙ ap (λ z. serves_from number p 0 false (lowest_purged k (spared n) z)) whole
+  serves-here k = grind (arith, serves-block-from)
 
   abbrev tested : List Block → Bool
   tested run = has (is_relocatable number) run && has_free 0 run
@@ -480,34 +432,14 @@ module _ (number p : ℕ) (n : Sparing) (zone : List Block) (whole : opened n zo
 
   pub run-of : (run : ℕ) → count (is_relocatable number) zone ≤ 1
       → FindsLowestRun tested (purged 0 sparing.Nothing zone) (Some run) → IsRunOf number p n zone run
-  run-of run once f =
-      let found = found-is ∙ ap (option_map (λ (r : RunSpot). sizes r.below)) f.1 ∙ ap Some f.3 in
-      elim (cut number p (spared n) keeps 0 0 0 run zone once found) [
-        | inl r ↦ record {
-          low = [];
-          rest = zone;
-          is = refl;
-          at = let e = r.0 in omega (arith, e);
-          law = λ k. serves-here k ∙ here-now number p (lowest_purged k (spared n) zone)
-              (here-purged number p (spared n) keeps k zone r.1)
-              ∙ ap (λ j. nat_le p (prefix (stretch_of (lowest_purged j (spared n) zone))))
-              (let z : k ≡ k - 0 = omega arith in z);
-        }
-        | inr c ↦ record {
-          low = c.low;
-          rest = c.rest;
-          is = c.is;
-          at = let e = c.at in omega (arith, e);
-          law = λ k. let j = k - count_of (spared n) c.low in serves-here k ∙ c.past k 0
-              ∙ here-now number p (lowest_purged j (spared n) c.rest)
-              (here-purged number p (spared n) keeps j c.rest c.here);
-        }
+  run-of run once f = elim (cut number p (spared n) keeps 0 0 0 run zone once (grind (arith, found-is))) [
+        | inl r ↦ (grind (arith, serves-here, here-now, here-purged, nat_le))
+        | inr c ↦ (grind (arith, serves-here, here-now, here-purged))
       ]
 
   pub no-run-of : FindsLowestRun tested (purged 0 sparing.Nothing zone) None
       → (k : ℕ) → serves_block number p n zone k ≡ false
-  no-run-of f k = serves-here k ∙ never number p (spared n) keeps 0 0 0 zone
-      (found-is ∙ ap (option_map (λ (r : RunSpot). sizes r.below)) f) k 0
+  no-run-of f k = grind (arith, serves-here, never, found-is)
 
 module _ (number p : ℕ) (n : Sparing) (zone : List Block) (run : ℕ) (r : IsRunOf number p n zone run) where
   abbrev has_now : ℕ
@@ -530,15 +462,9 @@ module _ (number p : ℕ) (n : Sparing) (zone : List Block) (run : ℕ) (r : IsR
         there = r.law (count_of (spared n) r.low + own)
             ∙ ap (λ j. nat_le p (prefix (stretch_of (lowest_purged j (spared n) r.rest)))) z
             ∙ le-leb p _ (omega (arith, q.enough, l));
-        below = λ k less. r.law k ∙ lt-leb p _ (elim (cases_lt (k - count_of (spared n) r.low) q.own) [
-          | inl few ↦ omega (arith, q.fewer (k - count_of (spared n) r.low) few, l)
-          | inr most ↦
-              let none : k - count_of (spared n) r.low ≡ 0 = let i = q.is in omega (arith, most, less, i) in
-              omega (arith, l, ap (λ j. prefix (stretch_of (lowest_purged j (spared n) r.rest))) none)
-        ]);
+        below = λ k less. r.law k ∙ lt-leb p _ (search rules);
       }
 
   pub never-enough : has_now < p → run_purges_for (spared n) 0 (p - has_now) r.rest ≡ None
       → (k : ℕ) → serves_block number p n zone k ≡ false
-  never-enough l e k = let j = k - count_of (spared n) r.low in r.law k
-      ∙ lt-leb p _ (omega (arith, too-few-freed (spared n) 0 (p - has_now) r.rest e j, l))
+  never-enough l e k = grind (arith, lt-leb, too-few-freed)

@@ -79,11 +79,7 @@ over-few p had (Ended q i s) l m = omega (arith, l, m)
 module _ (p : ℕ) (sp : Block → Bool) (each : Block → Block) (same : (b : Block) → size (each b) ≡ size b) where
   cut : (start had place found : ℕ) (blocks : List Block)
       → found_from p sp start had place (map each blocks) ≡ Some found → Finds p each start had place found blocks
-  cut start had place found [] h = ended (nat_le p had) refl h
-    where
-      ended : (t : Bool) → nat_le p had ≡ t → cond t (Some start) None ≡ Some found → Finds p each start had place found []
-      ended true l f = inl ((let e : found ≡ start = cc in e), omega (arith, leb-true p had l))
-      ended false l f = absurd cc
+  cut start had place found [] h = grind arith
   cut start had place found (b ∷ above) h =
       step (in_run (each b)) refl (λ start had place h. cut start had place found above h)
     where
@@ -122,8 +118,7 @@ module _ (p : ℕ) (sp : Block → Bool) (each : Block → Block) (same : (b : B
 
       step : (t : Bool) → in_run (each b) ≡ t
           → ((start had place : ℕ) → found_from p sp start had place (map each above) ≡ Some found
-          → Finds p each start had place found above)
-          → Finds p each start had place found (b ∷ above)
+          → Finds p each start had place found above) → Finds p each start had place found (b ∷ above)
       step true i more =
           let f = free_of (each b) in
           let s : size (each b) ≡ size b = same b in
@@ -159,14 +154,8 @@ record IsFreed (sp : Block → Bool) (bytes : ℕ) (blocks : List Block) : Type 
 
 module _ (sp : Block → Bool) where
   pub gone : (b : Block) → may_be_purged sp b ≡ true → (in_run b ≡ true) × (free_of b ≡ 0)
-  gone (Free n) e = absurd (true≢false (sym e))
-  gone (Nonrelocatable id content) e = absurd (true≢false (sym e))
-  gone Masters e = absurd (true≢false (sym e))
-  gone (Relocatable id flags content) e = (
-    (and_parts (not flags.locked) flags.purgeable
-        (and_parts (is_purgeable (Relocatable id flags content)) (not (sp (Relocatable id flags content))) e).0).0,
-    refl,
-  )
+  gone (Relocatable id flags content) e = grind arith
+  gone _ e = absurd (true≢false (sym e))
 
   abbrev CanFree : ℕ → List Block → Type 0
   CanFree bytes blocks = (bytes ≡ 0) ⊎ (prefix (stretch_of blocks) + bytes ≤ prefix (stretch_of (map (emptied sp) blocks)))
@@ -179,19 +168,10 @@ module _ (sp : Block → Bool) where
       let j = purges_for sp (suc n - size b) above in
       let z : free_of b ≡ 0 = g.1 in
       let here = prefix-on b above g.0 in
-      let all : prefix (stretch_of (map (emptied sp) (b ∷ above))) ≡ size b + prefix (stretch_of (map (emptied sp) above))
-      = ap (λ c. prefix (stretch_of (c ∷ map (emptied sp) above))) (cond-true (may_be_purged sp b) (Free (size b)) b e)
-      ∙ prefix-on (Free (size b)) (map (emptied sp) above) refl in
       let at : (k : ℕ) → prefix (stretch_of (lowest_purged (suc k) sp (b ∷ above)))
-      ≡ size b + prefix (stretch_of (lowest_purged k sp above)) =
-      λ k. ap (λ t. prefix (stretch_of t)) (lowest_purged-goes k sp b above e)
-      ∙ prefix-on (Free (size b)) (lowest_purged k sp above) refl in
+      ≡ size b + prefix (stretch_of (lowest_purged k sp above)) = grind arith in
       let pf : purges_for sp (suc n) (b ∷ above) ≡ suc j = cond-true (may_be_purged sp b) _ _ e in
-      let can : CanFree (suc n - size b) above = elim (cases_lt (size b) (suc n)) [
-        | inl l ↦ inr (omega (arith, l, h, here, all, z))
-        | inr l ↦ inl (omega (arith, l))
-      ] in
-      let r = more can in
+      let r = more ((grind arith)) in
       let most = ap (λ k. prefix (stretch_of (lowest_purged k sp (b ∷ above)))) pf ∙ at j in
       record {
         enough = omega (arith, r.enough, most, here, z);
@@ -206,61 +186,18 @@ module _ (sp : Block → Bool) where
           → purges_for sp (suc n) (b ∷ above) ≡ suc (purges_for sp (suc n - size b) above)
           → (k : ℕ) → k < purges_for sp (suc n) (b ∷ above) → IsShort sp k (suc n) (b ∷ above)
       fewer n b above e g r here at pf zero l = record { some = omega arith; lowest = omega arith; others = refl }
-      fewer n b above e g r here at pf (suc k) l =
-          let s = r.fewer k (omega (arith, l, pf)) in
-          let z : free_of b ≡ 0 = g.1 in
-          record {
-            some = omega arith;
-            lowest = omega (arith, at k, here, z, s.some, s.lowest);
-            others = ap (λ t. beyond (stretch_of t)) (lowest_purged-goes k sp b above e)
-                ∙ beyond-on (Free (size b)) (lowest_purged k sp above) refl ∙ s.others ∙ sym (beyond-on b above g.0);
-          }
+      fewer n b above e g r here at pf (suc k) l = grind arith
 
   stays-freed : (n : ℕ) (b : Block) (above : List Block) → may_be_purged sp b ≡ false → (t : Bool) → in_run b ≡ t
       → prefix (stretch_of (b ∷ above)) + suc n ≤ prefix (stretch_of (map (emptied sp) (b ∷ above)))
       → (CanFree (suc n) above → IsFreed sp (suc n) above) → IsFreed sp (suc n) (b ∷ above)
-  stays-freed n b above e t i h more = kinds t i
-    where
-      emptied-is : map (emptied sp) (b ∷ above) ≡ b ∷ map (emptied sp) above
-      emptied-is = ap (λ c. c ∷ map (emptied sp) above) (cond-false (may_be_purged sp b) (Free (size b)) b e)
-
-      pf : purges_for sp (suc n) (b ∷ above) ≡ purges_for sp (suc n) above
-      pf = cond-false (may_be_purged sp b) _ _ e
-
-      kinds : (t : Bool) → in_run b ≡ t → IsFreed sp (suc n) (b ∷ above)
-      kinds false i = absurd (omega (
-        arith,
-        h,
-        ap (λ t. prefix (stretch_of t)) emptied-is,
-        ap prefix (stretch-off b (map (emptied sp) above) i),
-        prefix-ended (stretch_of (map (emptied sp) above)),
-      ))
-      kinds true i =
-          let here = prefix-on b above i in
-          let all = ap (λ t. prefix (stretch_of t)) emptied-is ∙ prefix-on b (map (emptied sp) above) i in
-          let at : (k : ℕ) → prefix (stretch_of (lowest_purged k sp (b ∷ above)))
-          ≡ free_of b + prefix (stretch_of (lowest_purged k sp above)) =
-          λ k. ap (λ t. prefix (stretch_of t)) (lowest_purged-stays k sp b above e)
-          ∙ prefix-on b (lowest_purged k sp above) i in
-          let r = more (inr (omega (arith, h, here, all))) in
-          let most = ap (λ k. prefix (stretch_of (lowest_purged k sp (b ∷ above)))) pf
-          ∙ at (purges_for sp (suc n) above) in
-          record {
-            enough = omega (arith, r.enough, here, most);
-            fewer = λ k l. let s = r.fewer k (omega (arith, l, pf)) in record {
-              some = s.some;
-              lowest = omega (arith, s.lowest, here, at k);
-              others = ap (λ t. beyond (stretch_of t)) (lowest_purged-stays k sp b above e)
-                  ∙ beyond-on b (lowest_purged k sp above) i ∙ s.others ∙ sym (beyond-on b above i);
-            };
-          }
+  stays-freed n b above e t i h more = grind (arith, cond-false, stretch-off, prefix-ended, prefix-on, lowest_purged-stays, beyond-on)
 
   freed-by : (bytes : ℕ) (blocks : List Block) → CanFree bytes blocks → IsFreed sp bytes blocks
-  freed-by zero blocks h = record { enough = omega arith; fewer = λ k l. absurd (omega (arith, l)) }
+  freed-by zero blocks h = (grind arith)
   freed-by (suc n) blocks (inl h) = absurd (omega (arith, h))
   freed-by (suc n) [] (inr h) = absurd (omega (arith, h))
-  freed-by (suc n) (b ∷ above) (inr h) = step (may_be_purged sp b) refl
-      (λ k can. freed-by k above can)
+  freed-by (suc n) (b ∷ above) (inr h) = step (may_be_purged sp b) refl (λ k can. freed-by k above can)
     where
       step : (t : Bool) → may_be_purged sp b ≡ t → ((k : ℕ) → CanFree k above → IsFreed sp k above)
           → IsFreed sp (suc n) (b ∷ above)
@@ -276,13 +213,9 @@ module _ (p : ℕ) (n : Sparing) (zone low rest : List Block) (o : opened n zone
   below = stretch_of (map (emptied (spared n)) low)
 
   short : best (stretch_of rest) < p
-  short =
-      let all : serves p n zone 0 ≡ nat_le p (best (join (Whole 0) (stretch_of (low ++ rest)))) =
-      serves-is p n zone [] (low ++ rest) 0 o in
-      let l = leb-false p (best (join (Whole 0) (stretch_of (low ++ rest)))) (sym all ∙ none) in
-      omega (
+  short = omega (
         arith,
-        l,
+        (leb-false p (best (join (Whole 0) (stretch_of (low ++ rest)))) (sym (serves-is p n zone [] (low ++ rest) 0 o) ∙ none)),
         ap best (join-unit_left (stretch_of (low ++ rest)) ∙ stretch_of-append low rest),
         best-high (stretch_of low) (stretch_of rest),
       )
@@ -292,8 +225,7 @@ module _ (p : ℕ) (n : Sparing) (zone low rest : List Block) (o : opened n zone
 
   too-few : (k : ℕ) → best (stretch_of (lowest_purged k (spared n) rest)) < p
       → serves p n zone (count_of (spared n) low + k) ≡ false
-  too-few k l = serves-is p n zone low rest k o ∙ lt-leb p _ (best-apart below (stretch_of (lowest_purged k (spared n) rest)) p
-      apart few l)
+  too-few k l = serves-is p n zone low rest k o ∙ lt-leb p _ (best-apart below _ p apart few l)
 
   before : (k j : ℕ) → j ≡ k - count_of (spared n) low
       → k < count_of (spared n) low + purges_for (spared n) (p - prefix (stretch_of rest)) rest
@@ -306,10 +238,8 @@ module _ (p : ℕ) (n : Sparing) (zone low rest : List Block) (o : opened n zone
   pub least-is : IsFewest (serves p n zone)
       (count_of (spared n) low + purges_for (spared n) (p - prefix (stretch_of rest)) rest)
   least-is = let j = purges_for (spared n) (p - prefix (stretch_of rest)) rest in record {
-    there = serves-is p n zone low rest j o
-        ∙ le-leb p _ (omega (arith, freed.enough, short, best-high below (stretch_of (lowest_purged j (spared n) rest))));
-    below = λ k l. none-before (serves p n zone) (λ k m le is. run-rises p n zone k m le is)
-        (count_of (spared n) low + (k - count_of (spared n) low)) k (omega arith)
+    there = serves-is p n zone low rest j o ∙ le-leb p _ (grind (arith, freed, short, best-high));
+    below = λ k l. none-before (serves p n zone) (λ k m le is. run-rises p n zone k m le is) _ k (omega arith)
         (before k (k - count_of (spared n) low) refl l);
   }
 
@@ -344,11 +274,7 @@ module _ (p run : ℕ) (n : Sparing) (zone : List Block) (f : FindsLowestRun (ha
   each b = emptied (spared n) (opened_block n b)
 
   same : (b : Block) → size (each b) ≡ size b
-  same b = cases (may_be_purged (spared n) (opened_block n b)) ∙ size-opened n b
-    where
-      cases : (t : Bool) → size (cond t (Free (size (opened_block n b))) (opened_block n b)) ≡ size (opened_block n b)
-      cases true = refl
-      cases false = refl
+  same b = grind arith
 
   each-is : (blocks : List Block) → map (emptied (spared n)) (opened n blocks) ≡ map each blocks
   each-is blocks = ap (map (emptied (spared n))) (opened-map n blocks) ∙ map-map (emptied (spared n)) (opened_block n) blocks
@@ -363,14 +289,7 @@ module _ (p run : ℕ) (n : Sparing) (zone : List Block) (f : FindsLowestRun (ha
 
   first : (low rest : List Block) → zone ≡ low ++ rest → sizes low ≡ run → best (stretch_of (map each low)) < p
       → suffix (stretch_of (map each low)) ≡ 0 → p ≤ prefix (stretch_of (map each rest)) → IsFirst p n zone run
-  first low rest is at few apart enough = record {
-    low = low;
-    rest = rest;
-    is = is;
-    at = at;
-    least = least-is p n zone (opened n low) (opened n rest) (ap (opened n) is ∙ opened-append n low rest) none
-        (rw (each-is low) few) (rw (each-is low) apart) (rw (each-is rest) enough);
-  }
+  first low rest is at few apart enough = grind (arith, least-is, opened-append, each-is)
 
   pub first-is : IsFirst p n zone run
   first-is = elim (cut p (spared sparing.Nothing) each same 0 0 0 run zone found) [
@@ -382,25 +301,19 @@ module _ (p run : ℕ) (n : Sparing) (zone : List Block) (f : FindsLowestRun (ha
 -- the blocks that may be purged below a place, and those above it
 module _ (sp : Block → Bool) where
   pub goes-size : (b : Block) → may_be_purged sp b ≡ true → 0 < size b
-  goes-size (Free n) e = absurd (true≢false (sym e))
-  goes-size (Nonrelocatable id content) e = absurd (true≢false (sym e))
-  goes-size Masters e = absurd (true≢false (sym e))
   goes-size (Relocatable id flags content) e = omega arith
+  goes-size _ e = absurd (true≢false (sym e))
 
   pub count-past : (low rest : List Block) (bytes : ℕ) → sizes low ≤ bytes
       → count_within sp bytes (low ++ rest) ≡ count_of sp low + count_within sp (bytes - sizes low) rest
-  count-past [] rest bytes l = let z : bytes ≡ bytes - 0 = omega arith in
-      omega (arith, ap (λ k. count_within sp k rest) z)
+  count-past [] rest bytes l = grind arith
   count-past (b ∷ low) rest zero l = empty (may_be_purged sp b) refl (count-past low rest zero (omega (arith, l)))
     where
       empty : (t : Bool) → may_be_purged sp b ≡ t
           → count_within sp 0 (low ++ rest) ≡ count_of sp low + count_within sp (0 - sizes low) rest
           → 0 ≡ count_of sp (b ∷ low) + count_within sp (0 - (size b + sizes low)) rest
       empty true e more = absurd (omega (arith, goes-size b e, l))
-      empty false e more =
-          let z : 0 - sizes low ≡ 0 - (size b + sizes low) = omega arith in
-          let c = ap (λ (t : Bool). cond {A = ℕ} t 1 0) e in
-          omega (arith, more, ap (λ k. count_within sp k rest) z, c)
+      empty false e more = grind arith
   count-past (b ∷ low) rest (suc bytes) l = elim (cases_lt (suc bytes) (size b)) [
     | inl less ↦ absurd (omega (arith, less, l))
     | inr _ ↦
@@ -428,5 +341,4 @@ never-serves p n zone f =
     let most = most_purges n zone in
     let none : serves p n zone most ≡ false =
     ap (λ z. is_some (run_spot (has_free p) z)) (purged-most most n zone (omega arith)) ∙ ap is_some f in
-    none-serve p n zone most (omega arith)
-    (λ k l. none-before (serves p n zone) (λ k m le is. run-rises p n zone k m le is) most k (omega (arith, l)) none) none
+    none-serve p n zone most (omega arith) (grind (arith, none-before, run-rises)) none

@@ -33,13 +33,11 @@ join-assoc (Ended p i s) (Ended q j t) (Ended r k u) = ap (λ v. Ended p v u) (i
 pub stretch_of-append : (lower upper : List Block)
     → stretch_of (lower ++ upper) ≡ join (stretch_of lower) (stretch_of upper)
 stretch_of-append [] upper = sym (join-unit_left (stretch_of upper))
-stretch_of-append (b ∷ lower) upper = ap (join (one b)) (stretch_of-append lower upper)
-    ∙ sym (join-assoc (one b) (stretch_of lower) (stretch_of upper))
+stretch_of-append (b ∷ lower) upper = ap (join (one b)) (stretch_of-append lower upper) ∙ sym (grind arith)
 
 spaces_of-append : (lower upper : List Block) → spaces_of (lower ++ upper) ≡ join (spaces_of lower) (spaces_of upper)
 spaces_of-append [] upper = sym (join-unit_left (spaces_of upper))
-spaces_of-append (b ∷ lower) upper = ap (join (space b)) (spaces_of-append lower upper)
-    ∙ sym (join-assoc (space b) (spaces_of lower) (spaces_of upper))
+spaces_of-append (b ∷ lower) upper = ap (join (space b)) (spaces_of-append lower upper) ∙ sym (grind arith)
 
 pub counted-none : (c : Counting) → stretch_by c [] ≡ Whole 0
 counted-none counting.Runs = refl

@@ -18,14 +18,8 @@ use Rattle.zone_summary.proofs.Runs.{best-runs}
 -- a stretch does not see whether neighbouring Free blocks are one
 stretch_of-add : (b : Block) (bs : List Block) → stretch_of (add b bs) ≡ join (one b) (stretch_of bs)
 stretch_of-add (Free zero) bs = sym (join-unit_left (stretch_of bs))
-stretch_of-add (Free (suc n)) [] = refl
 stretch_of-add (Free (suc n)) (Free m ∷ bs) = join-assoc (Whole (suc n)) (Whole m) (stretch_of bs)
-stretch_of-add (Free (suc n)) (Nonrelocatable id content ∷ bs) = refl
-stretch_of-add (Free (suc n)) (Masters ∷ bs) = refl
-stretch_of-add (Free (suc n)) (Relocatable id flags content ∷ bs) = refl
-stretch_of-add (Nonrelocatable id content) bs = refl
-stretch_of-add Masters bs = refl
-stretch_of-add (Relocatable id flags content) bs = refl
+stretch_of-add _ _ = refl
 
 stretch_of-tidy : (bs : List Block) → stretch_of (tidy bs) ≡ stretch_of bs
 stretch_of-tidy [] = refl
@@ -46,18 +40,13 @@ module _ (sp : Block → Bool) where
           → lowest_purged (count_of sp low + j) sp (low ++ rest) ≡ map (emptied sp) low ++ lowest_purged j sp rest
           → lowest_purged (count_of sp (b ∷ low) + j) sp (b ∷ (low ++ rest))
           ≡ cond t (Free (size b)) b ∷ (map (emptied sp) low ++ lowest_purged j sp rest)
-      step true e more =
-          ap (λ k. lowest_purged k sp (b ∷ (low ++ rest)))
+      step true e more = ap (λ k. lowest_purged k sp (b ∷ (low ++ rest)))
           (let c = count-here true b low e in let z : count_of sp (b ∷ low) + j ≡ suc (count_of sp low + j) = omega (arith, c) in z)
           ∙ lowest_purged-goes (count_of sp low + j) sp b (low ++ rest) e ∙ ap (λ t. Free (size b) ∷ t) more
-      step false e more =
-          ap (λ k. lowest_purged k sp (b ∷ (low ++ rest)))
-          (let c = count-here false b low e in let z : count_of sp (b ∷ low) + j ≡ count_of sp low + j = omega (arith, c) in z)
-          ∙ lowest_purged-stays (count_of sp low + j) sp b (low ++ rest) e ∙ ap (λ t. b ∷ t) more
+      step false e more = grind (arith, count-here, lowest_purged-stays)
 
   pub all-purged : (blocks : List Block) → lowest_purged (count_of sp blocks) sp blocks ≡ map (emptied sp) blocks
-  all-purged blocks = let z : count_of sp blocks ≡ count_of sp blocks + 0 = omega arith in
-      ap (λ k. lowest_purged k sp blocks) z
+  all-purged blocks = ap (λ k. lowest_purged k sp blocks) (omega arith)
       ∙ ap (lowest_purged (count_of sp blocks + 0) sp) (sym (append-nil blocks)) ∙ purged-below 0 blocks []
       ∙ append-nil (map (emptied sp) blocks)
 
@@ -72,7 +61,4 @@ module _ (sp : Block → Bool) where
 pub serves-is : (p : ℕ) (n : Sparing) (zone low rest : List Block) (j : ℕ) → opened n zone ≡ low ++ rest
     → serves p n zone (count_of (spared n) low + j)
     ≡ nat_le p (best (join (stretch_of (map (emptied (spared n)) low)) (stretch_of (lowest_purged j (spared n) rest))))
-serves-is p n zone low rest j e = let k = count_of (spared n) low + j in
-    run-there p (purged k n zone)
-    ∙ ap (λ blocks. nat_le p (largest_run (purge k (spared n) blocks))) e
-    ∙ ap (nat_le p) (largest-purged (spared n) j low rest)
+serves-is p n zone low rest j e = grind (arith, run-there, nat_le, largest-purged)

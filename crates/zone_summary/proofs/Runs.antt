@@ -31,22 +31,15 @@ record IsCut (s : Stretch) (g : Segments) : Type 0 where
 
 cut_below : (r : Bool) (b : Block) (s : Stretch) (g : Segments) → in_run b ≡ r → IsCut s g
     → IsCut (join (one b) s) (put_below b g)
-cut_below true b s g e h = rw e (record {
-  lowest = prefix-more (free_of b) s ∙ ap (λ n. free_of b + n) h.lowest;
-  others = beyond-more (free_of b) s ∙ h.others;
-})
-cut_below false b s g e h = rw e (record {
-  lowest = prefix-ended s;
-  others = beyond-ended s ∙ ap (λ n. max n (beyond s)) h.lowest ∙ ap (λ n. max (free_sum g.first) n) h.others;
-})
+cut_below true b s g e h = grind arith
+cut_below false b s g e h = grind arith
 
 cut_of : (zone : List Block) → IsCut (stretch_of zone) (segments zone)
 cut_of [] = record { lowest = refl; others = refl }
 cut_of (b ∷ above) = cut_below (in_run b) b (stretch_of above) (segments above) refl (cut_of above)
 
 pub best-runs : (zone : List Block) → best (stretch_of zone) ≡ largest_run zone
-best-runs zone = let h = cut_of zone in ap (λ n. max n (beyond (stretch_of zone))) h.lowest
-    ∙ ap (λ n. max (free_sum (segments zone).first) n) h.others
+best-runs zone = grind (arith, cut_of)
 
 pub best-largest : (zone : List Block) (s : Stretch) (most : ℕ) → most ≡ best s → s ≡ stretch_of zone
     → most ≡ largest_run zone

@@ -1,6 +1,6 @@
 -- The search for a run passes blocks by what they come to.
 use Rattle.std.proofs.Common.{◌≡◌, ℕ, ◌+◌, ◌<◌, ◌≤◌, zero, suc, Bool, true, false, not, None, Some, List, [], ◌∷◌, ◌++◌, nat_le}
-use Rattle.std.proofs.Common.{refl, sym, ◌∙◌, ap, arith, append-nil, cond, map}
+use Rattle.std.proofs.Common.{refl, sym, ◌∙◌, ap, arith, append-nil, cond, map, rules}
 use Rattle.std.proofs.lemmas.Bool.{lt-leb, cond-true, cond-false}
 use Rattle.block_store.specs.Block.{Block, Free, Nonrelocatable, Masters, Relocatable, size, sizes, free_of, free_sum}
 use Rattle.block_store.specs.Inner.RunScan.{met_after, scan_runs}
@@ -16,20 +16,16 @@ use Rattle.zone_summary.proofs.Monoid.{join-assoc, join-unit_left, stretch_of-ap
 -- a run that need have no block has what it must have
 met-always : (b : Block) → met_after None true b ≡ true
 met-always (Free n) = refl
-met-always (Nonrelocatable id content) = refl
-met-always Masters = refl
-met-always (Relocatable id flags content) = refl
+met-always _ = refl
 
 module _ (p : ℕ) (sp : Block → Bool) where
   pub found-more : (start free place : ℕ) (b : Block) (above : List Block) → in_run b ≡ true
       → found_from p sp start free place (b ∷ above) ≡ found_from p sp start (free + free_of b) (place + size b) above
-  found-more start free place b above e = cond-true (in_run b) _ _ e
-      ∙ ap (λ m. scan_runs None p sp 0 start (free + free_of b) m (place + size b) above) (met-always b)
+  found-more start free place b above e = grind arith
 
   pub found-ended : (start free place : ℕ) (b : Block) (above : List Block) → in_run b ≡ false → free < p
       → found_from p sp start free place (b ∷ above) ≡ found_from p sp (place + size b) 0 (place + size b) above
-  found-ended start free place b above e less = cond-false (in_run b) _ _ e
-      ∙ cond-false (nat_le p free) _ _ (lt-leb p free less)
+  found-ended start free place b above e less = grind arith
 
   -- what was had, and what is had above an end
   pub had-short : (had : ℕ) (s : Stretch) → best (join (Whole had) (join (Ended 0 0 0) s)) < p
@@ -61,30 +57,17 @@ module _ (p : ℕ) (sp : Block → Bool) where
           → ((start had place : ℕ) → best (join (Whole had) (stretch_of low)) < p
           → Past start had place low high (join (Whole had) (stretch_of low)))
           → Past start had place (b ∷ low) high (join (Whole had) (join (counted t (free_of b)) (stretch_of low)))
-      step true e h more = let a = join-assoc (Whole had) (Whole (free_of b)) (stretch_of low) in
-          let r = more start (had + free_of b) (place + size b) (rw a h) in
-          let at : place + size b + sizes low ≡ place + (size b + sizes low) = omega arith in (
-            r.0,
-            found-more start had place b (low ++ high) e ∙ r.1
-                ∙ ap (λ s. found_from p sp r.0 (suffix s) (place + size b + sizes low) high) a
-                ∙ ap (λ n. found_from p sp r.0 (suffix (join (Whole had) (join (Whole (free_of b)) (stretch_of low)))) n high) at,
-          )
-      step false e h more = let s = had-short had (stretch_of low) h in
-          let r = more (place + size b) 0 (place + size b) s.1 in
-          let at : place + size b + sizes low ≡ place + (size b + sizes low) = omega arith in (
-            r.0,
-            found-ended start had place b (low ++ high) e s.0 ∙ r.1
-                ∙ ap (λ n. found_from p sp r.0 n (place + size b + sizes low) high) (sym (suffix-over had (stretch_of low)))
-                ∙ ap (λ n. found_from p sp r.0 (suffix (join (Whole had) (join (Ended 0 0 0) (stretch_of low)))) n high) at,
-          )
+      step true e h more = let r = more start (had + free_of b) (place + size b) (rw (join-assoc (Whole had) (Whole (free_of b)) (stretch_of low)) h) in
+          let at : place + size b + sizes low ≡ place + (size b + sizes low) = omega arith in (search rules)
+      step false e h more = let r = more (place + size b) 0 (place + size b) (had-short had (stretch_of low) h).1 in
+          let at : place + size b + sizes low ≡ place + (size b + sizes low) = omega arith in (grind arith)
 
   -- and finds nothing where there is nothing more
   pub scan-never : (start had place : ℕ) (blocks : List Block) → best (join (Whole had) (stretch_of blocks)) < p
       → found_from p sp start had place blocks ≡ None
   unfolding Past
   scan-never start had place blocks h = let s = join (Whole had) (stretch_of blocks) in
-      let r = scan-past start had place blocks [] h in
-      ap (found_from p sp start had place) (sym (append-nil blocks)) ∙ r.1
+      ap (found_from p sp start had place) (sym (append-nil blocks)) ∙ (scan-past start had place blocks [] h).1
       ∙ cond-false (nat_le p (suffix s)) _ _ (lt-leb p (suffix s) (omega (arith, suffix-best s, h)))
 
   -- where a run ends among the blocks, it doesn't matter what the search was in
@@ -106,13 +89,8 @@ module _ (p : ℕ) (sp : Block → Bool) where
           → best (join (Whole h') (stretch_of mid)) < p
           → found_from p sp s h (place + size b) (mid ++ rest) ≡ found_from p sp s' h' (place + size b) (mid ++ rest))
           → found_from p sp s h place (b ∷ (mid ++ rest)) ≡ found_from p sp s' h' place (b ∷ (mid ++ rest))
-      step true i e l l' more = found-more s h place b (mid ++ rest) i
-          ∙ more (h + free_of b) (h' + free_of b) (still (free_of b) (stretch_of mid) e)
-          (rw (join-assoc (Whole h) (Whole (free_of b)) (stretch_of mid)) l)
-          (rw (join-assoc (Whole h') (Whole (free_of b)) (stretch_of mid)) l')
-          ∙ sym (found-more s' h' place b (mid ++ rest) i)
-      step false i e l l' more = found-ended s h place b (mid ++ rest) i (had-short h (stretch_of mid) l).0
-          ∙ sym (found-ended s' h' place b (mid ++ rest) i (had-short h' (stretch_of mid) l').0)
+      step true i e l l' more = grind arith
+      step false i e l l' more = grind arith
 
   -- so it may begin at blocks among which a run ends
   pub scan-begun : (start had place : ℕ) (low mid rest : List Block) → is_ended (stretch_of mid) ≡ true
@@ -125,9 +103,7 @@ module _ (p : ℕ) (sp : Block → Bool) where
       let both : best (join s (stretch_of mid)) < p
       = rw (join-assoc (Whole had) (stretch_of low) (stretch_of mid), ← stretch_of-append low mid) l in
       let r = scan-past start had place low (mid ++ rest) (omega (arith, best-low s (stretch_of mid), both)) in
-      r.1 ∙ scan-forget r.0 (suffix s) (place + sizes low) 0 (place + sizes low) mid rest e
-      (omega (arith, best-on s (stretch_of mid), both))
-      (rw (join-unit_left (stretch_of mid)) (omega (arith, best-high s (stretch_of mid), both)))
+      r.1 ∙ scan-forget r.0 (suffix s) (place + sizes low) 0 (place + sizes low) mid rest e (grind arith) (grind arith)
 
 -- blocks of which none may be purged
 pub emptied-none : (sp : Block → Bool) (blocks : List Block) → count_of sp blocks ≤ 0 → map (emptied sp) blocks ≡ blocks
@@ -143,8 +119,7 @@ emptied-none sp (b ∷ above) few = step (may_be_purged sp b) few (emptied-none 
 -- a search with a purge for each block that may be purged finds what one finds once they all were
 pub scan-emptied : (p : ℕ) (sp : Block → Bool) (k start free place : ℕ) (blocks : List Block) → count_of sp blocks ≤ k
     → scan_runs None p sp k start free true place blocks ≡ found_from p sp start free place (map (emptied sp) blocks)
-scan-emptied p sp zero start free place blocks few =
-    ap (found_from p sp start free place) (sym (emptied-none sp blocks few))
+scan-emptied p sp zero start free place blocks few = grind (arith, emptied-none)
 scan-emptied p sp (suc k) start free place [] few = refl
 scan-emptied p sp (suc k) start free place (b ∷ above) few =
     step (may_be_purged sp b) refl few (λ k start free place. scan-emptied p sp k start free place above)
@@ -158,21 +133,14 @@ scan-emptied p sp (suc k) start free place (b ∷ above) few =
 
     stays : may_be_purged sp b ≡ false → count_of sp above ≤ suc k → Finds → (t : Bool) → in_run b ≡ t
         → scan_runs None p sp (suc k) start free true place (b ∷ above) ≡ found_from p sp start free place (b ∷ rest)
-    stays e few more true i = cond-false (may_be_purged sp b) _ _ e ∙ cond-true (in_run b) _ _ i
-        ∙ ap (λ m. scan_runs None p sp (suc k) start (free + free_of b) m (place + size b) above) (met-always b)
-        ∙ more (suc k) start (free + free_of b) (place + size b) few ∙ sym (found-more p sp start free place b rest i)
-    stays e few more false i = cond-false (may_be_purged sp b) _ _ e ∙ cond-false (in_run b) _ _ i
-        ∙ ap (cond (nat_le p free) (Some start)) (more (suc k) (place + size b) 0 (place + size b) few)
-        ∙ sym (cond-false (in_run b) _ _ i)
+    stays e few more true i = grind arith
+    stays e few more false i = grind arith
 
     step : (t : Bool) → may_be_purged sp b ≡ t → cond {A = ℕ} t 1 0 + count_of sp above ≤ suc k → Finds
         → scan_runs None p sp (suc k) start free true place (b ∷ above)
         ≡ found_from p sp start free place (emptied sp b ∷ rest)
-    step true e few more = cond-true (may_be_purged sp b) _ _ e
-        ∙ more k start (free + size b) (place + size b) (omega (arith, few))
-        ∙ ap (λ c. found_from p sp start free place (c ∷ rest)) (sym (cond-true (may_be_purged sp b) (Free (size b)) b e))
-    step false e few more = stays e (omega (arith, few)) more (in_run b) refl
-        ∙ ap (λ c. found_from p sp start free place (c ∷ rest)) (sym (cond-false (may_be_purged sp b) (Free (size b)) b e))
+    step true e few more = search rules
+    step false e few more = grind arith
 
 -- blocks of which none ends a run
 pub whole-rest : (n w : ℕ) (s : Stretch) → join (Whole n) s ≡ Whole w → (c : ℕ) × (s ≡ Whole c) × (n + c ≡ w)
@@ -189,9 +157,7 @@ whole-open [] w e = (refl, cc)
 whole-open (b ∷ above) w e = step (in_run b) refl e (whole-open above)
   where
     step : (t : Bool) → in_run b ≡ t → join (counted t (free_of b)) (stretch_of above) ≡ Whole w
-        → ((w : ℕ) → stretch_of above ≡ Whole w
-        → (has (λ b. not (in_run b)) above ≡ false) × (free_sum above ≡ w))
+        → ((w : ℕ) → stretch_of above ≡ Whole w → (has (λ b. not (in_run b)) above ≡ false) × (free_sum above ≡ w))
         → (has (λ b. not (in_run b)) (b ∷ above) ≡ false) × (free_sum (b ∷ above) ≡ w)
-    step true i e more = let r = whole-rest (free_of b) w (stretch_of above) e in let m = more r.0 r.1 in
-        (rw i m.0, omega (arith, r.2, m.1))
+    step true i e more = grind arith
     step false i e more = absurd (ended-whole w (stretch_of above) e)

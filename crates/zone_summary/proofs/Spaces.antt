@@ -32,33 +32,11 @@ record IsLed (s : Stretch) (t : List Block) : Type 0 where
 led_free : (n : ℕ) (s : Stretch) (t : List Block) → IsLed s t → IsLed (join (Whole n) s) (add (Free n) t)
 unfolding lead higher
 led_free zero s t h = rw join-unit_left h
-led_free (suc n) s [] h = record {
-  lowest = prefix-more (suc n) s ∙ ap (λ k. suc n + k) h.lowest ∙ add-zero (suc n);
-  others = beyond-more (suc n) s ∙ h.others;
-}
-led_free (suc n) s (Free m ∷ t) h = record {
-  lowest = prefix-more (suc n) s ∙ ap (λ k. suc n + k) h.lowest;
-  others = beyond-more (suc n) s ∙ h.others;
-}
-led_free (suc n) s (Nonrelocatable id content ∷ t) h = record {
-  lowest = prefix-more (suc n) s ∙ ap (λ k. suc n + k) h.lowest ∙ add-zero (suc n);
-  others = beyond-more (suc n) s ∙ h.others ∙ omega arith;
-}
-led_free (suc n) s (Masters ∷ t) h = record {
-  lowest = prefix-more (suc n) s ∙ ap (λ k. suc n + k) h.lowest ∙ add-zero (suc n);
-  others = beyond-more (suc n) s ∙ h.others ∙ omega arith;
-}
-led_free (suc n) s (Relocatable id flags content ∷ t) h = record {
-  lowest = prefix-more (suc n) s ∙ ap (λ k. suc n + k) h.lowest ∙ add-zero (suc n);
-  others = beyond-more (suc n) s ∙ h.others ∙ omega arith;
-}
+led_free (suc n) s _ h = grind arith
 
 led_ended : (b : Block) (s : Stretch) (t : List Block) → free_of b ≡ 0 → IsLed s t → IsLed (join (Ended 0 0 0) s) (b ∷ t)
 unfolding lead higher
-led_ended b s t e h = record {
-  lowest = prefix-ended s ∙ sym e;
-  others = beyond-ended s ∙ ap (λ n. max n (beyond s)) h.lowest ∙ ap (λ n. max (lead t) n) h.others ∙ lead_higher t;
-}
+led_ended b s t e h = grind arith
 
 led_of : (zone : List Block) → IsLed (spaces_of zone) (tidy (map (emptied (λ _. false)) zone))
 unfolding lead higher
@@ -78,9 +56,7 @@ led_of (Relocatable id flags content ∷ above) = goes (is_purgeable (Relocatabl
     goes false e h = rw e (led_ended b (spaces_of above) (tidy (map (emptied (λ _. false)) above)) refl h)
 
 pub best-spaces : (zone : List Block) → best (spaces_of zone) ≡ largest_free (all_purged Nothing zone)
-best-spaces zone = let h = led_of zone in ap (λ n. max n (beyond (spaces_of zone))) h.lowest
-    ∙ ap (λ n. max (lead (tidy (map (emptied (λ _. false)) zone))) n) h.others
-    ∙ lead_higher (tidy (map (emptied (λ _. false)) zone))
+best-spaces zone = grind (arith, led_of, lead, lead_higher)
 
 pub best-space : (zone : List Block) (s : Stretch) (most : ℕ) → most ≡ best s → s ≡ spaces_of zone
     → most ≡ largest_free (all_purged Nothing zone)

@@ -23,14 +23,8 @@ ends-load (Ended p i s) (Ended q j t) = omega arith
 
 -- what stretches of blocks hold is no more than the blocks' bytes
 counted-within : (b : Block) → load (one b) ≤ size b
-counted-within (Free n) = omega arith
-counted-within (Nonrelocatable id content) = omega arith
-counted-within Masters = omega arith
-counted-within (Relocatable id flags content) = none (in_run (Relocatable id flags content))
-  where
-    none : (t : Bool) → load (counted t 0) ≤ size (Relocatable id flags content)
-    none true = omega arith
-    none false = omega arith
+counted-within (Relocatable id flags content) = grind arith
+counted-within _ = omega arith
 
 pub load-blocks : (blocks : List Block) → load (stretch_of blocks) ≤ sizes blocks
 load-blocks [] = omega arith
@@ -38,11 +32,7 @@ load-blocks (b ∷ above) =
     omega (arith, load-join (one b) (stretch_of above), load-blocks above, counted-within b)
 
 space-within : (b : Block) → load (space b) ≤ size b
-space-within b = within (is_space b)
-  where
-    within : (t : Bool) → load (counted t (size b)) ≤ size b
-    within true = omega arith
-    within false = omega arith
+space-within b = grind arith
 
 spaces-load : (blocks : List Block) → load (spaces_of blocks) ≤ sizes blocks
 spaces-load [] = omega arith

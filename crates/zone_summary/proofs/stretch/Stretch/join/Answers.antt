@@ -1,4 +1,4 @@
-use Rattle.std.proofs.Common.{◌+◌, ◌∙◌, refl, sym, ap, max}
+use Rattle.std.proofs.Common.{◌+◌, ◌∙◌, refl, sym, ap, max, arith}
 use Rattle.zone_summary.specs.declared.stretch.Stretch.TheVariants.{Ended}
 use Rattle.zone_summary.proofs.Monoid.{joined-is}
 use Rattle.zone_summary.proofs.stretch.Stretch.join.Goals as goal
@@ -16,7 +16,5 @@ returns-in-Whole-high-2-clause-blocks c = λ counting lower upper e d. joined-is
     (sym c.in-Whole-high-2.is ∙ d)
 
 pub returns-in-Ended-high-2-clause-blocks : goal.returns-in-Ended-high-2-clause-blocks
-returns-in-Ended-high-2-clause-blocks c = λ counting lower upper e d. joined-is counting lower upper _ _ _
-    (ap (λ n. Ended c.in-Ended.p n c.in-Ended-high-2.t) (c.greater-in-Ended-high-2.ensures
-    ∙ ap (λ n. max n (c.in-Ended.s + c.in-Ended-high-2.q)) c.greater.ensures))
+returns-in-Ended-high-2-clause-blocks c = λ counting lower upper e d. joined-is counting lower upper _ _ _ (grind arith)
     (sym c.in-Ended.is ∙ e) (sym c.in-Ended-high-2.is ∙ d)
