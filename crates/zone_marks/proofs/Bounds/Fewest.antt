@@ -46,28 +46,20 @@ module _ (n : Sparing) (b : Block) (above : List Block) where
       ≡ cond {A = ℕ} (may_be_purged (spared n) (opened_block n b)) 1 0
       + count_within (spared n) (left - size b) (opened n above)
   within-more zero l = absurd (omega (arith, l))
-  within-more (suc k) l = ap (count_within (spared n) (suc k)) (opened-more n b _)
-      ∙ ap (λ s. cond {A = ℕ} (may_be_purged (spared n) (opened_block n b)) 1 0
-      + count_within (spared n) (suc k - s) (opened n above)) (size-opened n b)
+  within-more (suc k) l = grind arith
 
 -- a block that may not be purged may not be as a search sees it first
 opened-stays : (n : Sparing) (b : Block) → is_purgeable b ≡ false → may_be_purged (spared n) (opened_block n b) ≡ false
 opened-stays sparing.Nothing b e = none-passes sparing.Nothing b e
 opened-stays (sparing.One slot) b e = none-passes (sparing.One slot) b e
 opened-stays (sparing.Two slot other) b e = none-passes (sparing.Two slot other) b e
-opened-stays (sparing.Freed slot) b e = cases (is_relocatable slot b)
-  where
-    cases : (t : Bool) → may_be_purged (spared (sparing.Freed slot)) (cond t (Free (size b)) b) ≡ false
-    cases true = refl
-    cases false = none-passes (sparing.Freed slot) b e
+opened-stays (sparing.Freed slot) b e = grind arith
 
 pub count-none : (n : Sparing) (bound x : ℕ) (below : List Block) → AtEach (Stays bound) x below → x + sizes below ≤ bound
     → count_of (spared n) (opened n below) ≡ 0
 count-none n bound x [] s l = ap (count_of (spared n)) (opened-none n)
 count-none n bound x (b ∷ below) s l =
-    let t = ap (λ t. cond {A = ℕ} t 1 0) (opened-stays n b (stays-here bound x b s.0 (omega (arith, l)))) in
-    let r = count-none n bound (x + size b) below s.1 (omega (arith, l)) in
-    omega (arith, ap (count_of (spared n)) (opened-more n b below), t, r)
+    omega (arith, ap (count_of (spared n)) (opened-more n b below), (ap (λ t. cond {A = ℕ} t 1 0) (opened-stays n b (stays-here bound x b s.0 (omega (arith, l))))), (count-none n bound (x + size b) below s.1 (omega (arith, l))))
 
 pub count-below : (xs : List ℕ) (first unused : ℕ) (i : IsSound xs first unused) (from edge run : ℕ) (n : Sparing)
     (low rest : List Block) → Begins edge 0 (zone_in xs) → edge ≤ from → NoneGoes from (zone_in xs) → edge ≤ run
@@ -79,8 +71,6 @@ count-below xs first unused i from edge run n low rest b under none less is at =
     let past = count-past sp (opened n e.below) (opened n (left_in edge xs)) run
     (omega (arith, sizes-opened n e.below, less)) in
     let all = count-past sp (opened n low) (opened n rest) run (omega (arith, sizes-opened n low, at)) in
-    let zones : opened n e.below ++ opened n (left_in edge xs) ≡ opened n low ++ opened n rest =
-    sym (opened-append n e.below (left_in edge xs)) ∙ ap (opened n) (sym e.is ∙ is) ∙ opened-append n low rest in
     let none_below = count-none n _ 0 _
     (at-left (Stays from) 0 e.below (left_in edge xs) (subst (NoneGoes from) e.is none)) (omega (arith, under)) in
     let p : run - edge ≡ run - sizes (opened n e.below) = omega (arith, sizes-opened n e.below) in
@@ -89,7 +79,7 @@ count-below xs first unused i from edge run n low rest b under none less is at =
       arith,
       past,
       all,
-      ap (count_within sp run) zones,
+      ap (count_within sp run) (sym (opened-append n e.below (left_in edge xs)) ∙ ap (opened n) (sym e.is ∙ is) ∙ opened-append n low rest),
       none_below,
       ap (λ k. count_within sp k (opened n (left_in edge xs))) p,
       ap (λ k. count_within sp k (opened n rest)) z,
@@ -98,20 +88,13 @@ count-below xs first unused i from edge run n low rest b under none less is at =
 -- no zone has more blocks than bytes
 pub most-fits : (xs : List ℕ) (first unused : ℕ) → IsSound xs first unused → (n : Sparing)
     → most_purges n (zone_in xs) ≤ GREATEST_ZONE
-most-fits xs first unused i n = omega (
-  arith,
-  count-few (spared n) (opened n (zone_in xs)),
-  sizes-opened n (zone_in xs),
-  zone-long xs first unused i,
-  i.lays.small,
-)
+most-fits xs first unused i n = omega (arith, count-few, sizes-opened, zone-long)
 
 -- a block begins at the run
 pub run-begins : (xs : List ℕ) (run : ℕ) (low rest : List Block) → zone_in xs ≡ low ++ rest → sizes low ≡ run
     → Begins run 0 (zone_in xs)
-run-begins xs run low rest is at =
-    subst (Begins run 0) (sym is) (begins-left _ 0 _ _
-    (subst (λ k. Begins k 0 low) (let e : 0 + sizes low ≡ run = omega (arith, at) in e) (begins-end 0 _)))
+run-begins xs run low rest is at = subst (Begins run 0) (sym is) (begins-left _ 0 _ _
+    (subst (λ k. Begins k 0 low) (grind arith) (begins-end 0 _)))
 
 -- the run of a block, as a walk from the bottom finds it
 pub block-run : (xs : List ℕ) (number p run : ℕ) (n : Sparing) (blocks : List Block) → blocks ≡ zone_in xs
@@ -119,8 +102,7 @@ pub block-run : (xs : List ℕ) (number p run : ℕ) (n : Sparing) (blocks : Lis
     → ((blocks : List Block) → opened n blocks ≡ blocks)
     → FindsLowestRun (λ run. has (is_relocatable number) run && has_free 0 run) (tidy blocks) (Some run)
     → IsRunOf number p n (zone_in xs) run
-block-run xs number p run n blocks e once keeps whole f = run-of _ p n _ (whole (zone_in xs)) keeps _ once
-    (subst (λ z. FindsLowestRun (λ run. has (is_relocatable number) run && has_free 0 run) (tidy z) (Some run)) e f)
+block-run xs number p run n blocks e once keeps whole f = grind (arith, run-of)
 
 -- what blocks that are known come to, below others
 module _ (xs : List ℕ) (first unused : ℕ) (i : IsSound xs first unused) where
@@ -132,8 +114,7 @@ module _ (xs : List ℕ) (first unused : ℕ) (i : IsSound xs first unused) wher
 -- what blocks come to, by what those up to a place do
 module _ (w : Counting) (xs : List ℕ) (from to : ℕ) (runs : Stretch) (s : IsStretch w (tally.Known runs) from to xs) where
   pub known-past : stretch_by w (left_in from xs) ≡ join runs (stretch_by w (left_in to xs))
-  known-past = ap (stretch_by w) s.1.is ∙ stretch_by-append w _ _
-      ∙ ap (λ r. join r (stretch_by w (left_in to xs))) s.2
+  known-past = grind (arith, stretch_by-append)
 
   pub known-fits : from + load runs ≤ to
   known-fits = omega (arith, s.1.up, load-counted w s.0, ap load s.2)

@@ -1,6 +1,6 @@
 -- A place below which no block may be purged, through each change of a zone.
 use Rattle.std.proofs.Common.{◌≡◌, ℕ, ◌+◌, ◌-◌, ◌≤◌, ◌<◌, zero, suc, Bool, true, false, not, ◌&&◌, List, [], ◌∷◌, ◌++◌}
-use Rattle.std.proofs.Common.{refl, sym, ap, ◌∙◌, subst, cond, arith, inl, inr, Some, append_assoc}
+use Rattle.std.proofs.Common.{refl, sym, ap, ◌∙◌, subst, cond, arith, inl, inr, Some, append_assoc, rules}
 use Rattle.std.proofs.Common.{None, length}
 use Rattle.std.proofs.lemmas.Bool.{cases_lt, false≢true}
 use Rattle.std.specs.Option.{option_map}
@@ -52,16 +52,12 @@ stays-here bound x (Relocatable id flags content) s l = s (omega (arith, l))
 -- blocks that end below it
 pub stays-whole : (bound other x : ℕ) (blocks : List Block) → x + sizes blocks ≤ bound → AtEach (Stays bound) x blocks
     → AtEach (Stays other) x blocks
-stays-whole bound other x blocks l = at-map (Stays bound) (Stays other) x _
-    (λ p b _ u s _. stays-here _ p b s (omega (arith, u, l)))
+stays-whole bound other x blocks l = grind (arith, at-map, stays-here)
 
 -- a block became one of as many bytes, which may be purged if it might
 pub stays-same : (bound x : ℕ) (below above : List Block) (b c : Block) → size c ≡ size b → is_purgeable c ≡ is_purgeable b
     → AtEach (Stays bound) x (below ++ b ∷ above) → AtEach (Stays bound) x (below ++ c ∷ above)
-stays-same bound x [] above b c s g e = (
-  λ l. g ∙ e.0 l,
-  subst (λ n. AtEach (Stays bound) (x + n) above) (sym s) e.1,
-)
+stays-same bound x [] above b c s g e = grind arith
 stays-same bound x (d ∷ below) above b c s g e = (e.0, stays-same _ (x + size d) below above b c s g e.1)
 
 -- some blocks became others
@@ -70,15 +66,7 @@ module _ (lo hi : ℕ) (old new : List Block) (r : Replaced lo hi old new) (boun
   old-parts = subst (NoneGoes bound) r.was n
 
   pub stays-replaced : (lower : ℕ) → lower ≤ bound → AtEach (Stays lower) lo r.there → NoneGoes lower new
-  stays-replaced lower l there =
-      let e : 0 + sizes r.below ≡ lo = omega arith in
-      let f : lo + sizes r.here ≡ lo + sizes r.there = omega arith in
-      let over = at-right (Stays bound) 0 r.below (r.here ++ r.above) old-parts in
-      subst (NoneGoes lower) (sym r.is) (at-append (Stays lower) 0 _ _
-      (stays-lower _ _ 0 _ l (at-left (Stays bound) 0 _ _ old-parts))
-      (subst (λ x. AtEach (Stays lower) x (r.there ++ r.above)) (sym e) (at-append (Stays lower) _ _ _ there
-      (stays-lower _ _ _ _ l (subst (λ x. AtEach (Stays bound) x r.above) f
-      (at-right (Stays bound) _ _ _ (subst (λ x. AtEach (Stays bound) x (r.here ++ r.above)) e over)))))))
+  stays-replaced lower l there = grind (arith, at-right, old-parts, at-append, stays-lower, at-left)
 
   -- above it
   pub stays-under : (lower : ℕ) → lower ≤ bound → lower ≤ lo → NoneGoes lower new
@@ -150,29 +138,21 @@ stays-settled bound lower run all zone r e f n same moved = elim (cases_lt run b
 
 -- the walk over blocks of which none may be purged
 pub goes-not : (b : Block) → may_be_purged (spared sparing.Nothing) b ≡ false → is_purgeable b ≡ false
-goes-not b e = only (is_purgeable b) e
-  where
-    only : (t : Bool) → (t && true) ≡ false → t ≡ false
-    only true e = e
-    only false e = e
+goes-not b e = grind arith
 
 module _ (xs : List ℕ) (from at : ℕ) (p : Passed xs from at (λ _ b. is_purgeable b ≡ false)) where
   pub passed-stays : (block : Seen) (end : ℕ) (s : Steps at block end xs)
       → may_be_purged (spared sparing.Nothing) s.here ≡ false → Passed xs from end (λ _ b. is_purgeable b ≡ false)
-  passed-stays block end s e =
-      record {
+  passed-stays block end s e = record {
         done = p.done ++ s.here ∷ [];
-        is = p.is ∙ ap (λ k. p.done ++ k) s.is ∙ sym (append_assoc p.done (s.here ∷ []) (left_in end xs));
+        is = p.is ∙ ap (λ k. p.done ++ k) s.is ∙ sym (grind (arith, append_assoc));
         up = omega (arith, span-append);
         each = at-append (λ _ b. is_purgeable b ≡ false) from p.done (s.here ∷ []) p.each (goes-not s.here e, tt);
         way = s.way;
       }
 
   pub all-stay : AtEach (Stays at) from (left_in from xs)
-  all-stay =
-      subst (AtEach (Stays at) from) (sym p.is) (at-append (Stays at) _ _ _
-      (at-map (λ _ b. is_purgeable b ≡ false) (Stays at) _ _ (λ _ b _ _ r _. r) p.each)
-      (stays-above _ _ _ (omega arith)))
+  all-stay = grind (arith, at-append, at-map, stays-above)
 
 -- blocks of which none may be purged, below others
 pub none-passes : (n : Sparing) (b : Block) → is_purgeable b ≡ false → may_be_purged (spared n) b ≡ false
@@ -182,19 +162,14 @@ next-above : (n : Sparing) (k bound x : ℕ) (below above : List Block) → AtEa
     → x + sizes below ≤ bound
     → next_from x (spared n) k (below ++ above) ≡ next_from (x + sizes below) (spared n) k above
 next-above n k bound x [] above s l = let e : x ≡ x + 0 = omega arith in ap (λ y. next_from y (spared n) k above) e
-next-above n k bound x (b ∷ below) above s l =
-    next-stays x (spared n) k b _
-    (none-passes n b (stays-here _ x b s.0 (omega (arith, l))))
-    ∙ next-above n k _ (x + size b) below above s.1 (omega (arith, l))
-    ∙ (let e : x + size b + sizes below ≡ x + (size b + sizes below) = omega arith in
-    ap (λ y. next_from y (spared n) k above) e)
+next-above n k bound x (b ∷ below) above s l = next-stays x (spared n) k b _ (search rules)
+    ∙ next-above n k _ (x + size b) below above s.1 (omega (arith, l)) ∙ (grind arith)
 
 count-above : (n : Sparing) (bound x : ℕ) (below above : List Block) → AtEach (Stays bound) x below
     → x + sizes below ≤ bound → count_of (spared n) (below ++ above) ≡ count_of (spared n) above
 count-above n bound x [] above s l = refl
 count-above n bound x (b ∷ below) above s l =
-    let r = count-above n bound (x + size b) below above s.1 (omega (arith, l)) in
-    omega (arith, ap (λ t. cond {A = ℕ} t 1 0) (none-passes n b (stays-here bound x b s.0 (omega (arith, l)))), r)
+    omega (arith, ap (λ t. cond {A = ℕ} t 1 0) (none-passes n b (stays-here bound x b s.0 (omega (arith, l)))), (count-above n bound (x + size b) below above s.1 (omega (arith, l))))
 
 -- what a walk from an edge of a zone finds
 pub stays-from : (xs : List ℕ) (first unused : ℕ) (i : IsSound xs first unused) (from : ℕ) → Begins from 0 (zone_in xs)
@@ -202,16 +177,12 @@ pub stays-from : (xs : List ℕ) (first unused : ℕ) (i : IsSound xs first unus
     → NoneGoes bound (zone_in xs)
 stays-from xs first unused i from b g bound s =
     let e = seen-from xs first unused i from b in
-    let k : from ≡ 0 + sizes e.below = omega arith in
-    subst (NoneGoes bound) (sym e.is) (at-append (Stays bound) 0 _ _ (stays-whole _ _ 0 _ (omega arith)
-    (at-left (Stays from) 0 _ _ (subst (NoneGoes from) e.is g)))
-    (subst (λ x. AtEach (Stays bound) x (left_in from xs)) k s))
+    subst (NoneGoes bound) (sym e.is) (grind (arith, at-append, stays-whole, at-left))
 
 -- what a search that looks from the bottom of blocks found
 found-from : (edge : ℕ) (test : Block → Bool) (blocks : List Block) (place : ℕ)
     → FindsLowest test blocks (Some place) → place_from edge test blocks ≡ Some (edge + place)
-found-from edge test blocks place f = ap (option_map (λ (s : Spot). edge + sizes s.below)) f.1
-    ∙ ap (λ n. Some (edge + n)) f.3
+found-from edge test blocks place f = grind arith
 
 -- it lies among them
 found-within : (test : Block → Bool) (blocks : List Block) (place : ℕ) → FindsLowest test blocks (Some place)
@@ -240,28 +211,20 @@ module _ (xs : List ℕ) (first unused : ℕ) (i : IsSound xs first unused) (fro
 
     next-is-there : option_map (λ (s : Spot). sizes s.below) (spot goes (purged k n (zone_in xs)))
         ≡ place_from from goes (purged k n (left_in from xs))
-    next-is-there =
-        let e : 0 + sizes edge.below ≡ from = omega (arith, edge.low) in
-        sym (next-is n k _) ∙ ap (next_from 0 (spared n) k) (plain (zone_in xs) ∙ edge.is)
+    next-is-there = sym (next-is n k _) ∙ ap (next_from 0 (spared n) k) (plain (zone_in xs) ∙ edge.is)
         ∙ next-above n k _ 0 _ _ below-stays (omega (arith, edge.low))
-        ∙ ap (λ y. next_from y (spared n) k (left_in from xs)) e
-        ∙ ap (λ z. next_from from (spared n) k z) (sym (plain (left_in from xs)))
-        ∙ sym (place-tidy _ goes (λ m. refl) (lowest_purged k (spared n) (opened n (left_in from xs))))
+        ∙ ap (λ y. next_from y (spared n) k (left_in from xs)) (omega (arith, edge.low))
+        ∙ ap (λ z. next_from from (spared n) k z) (sym (plain (left_in from xs))) ∙ sym (grind (arith, place-tidy))
 
     pub next-none : FindsLowest goes (purged k n (left_in from xs)) None → FindsLowest goes (purged k n (zone_in xs)) None
-    next-none f = finds goes _ _ (apart-tidy (lowest_purged k (spared n) (opened n (zone_in xs))))
-        (sym (next-is-there ∙ ap (option_map (λ (s : Spot). from + sizes s.below)) f))
+    next-none f = grind (arith, finds, apart-tidy, next-is-there)
 
     pub next-some : (place : ℕ) → FindsLowest goes (purged k n (left_in from xs)) (Some place)
         → FindsLowest goes (purged k n (zone_in xs)) (Some (from + place))
-    next-some place f = finds goes _ (Some (from + place))
-        (apart-tidy (lowest_purged k (spared n) (opened n (zone_in xs))))
+    next-some place f = finds goes _ (Some (from + place)) (grind (arith, apart-tidy))
         (sym (next-is-there ∙ found-from _ goes _ _ f))
 
     pub next-fits : (place : ℕ) → FindsLowest goes (purged k n (left_in from xs)) (Some place)
         → from + place ≤ length xs
     next-fits place f =
-        let w = found-within goes (purged k n (left_in from xs)) place f in
-        let t = total-tidy size (λ n m. refl) (lowest_purged k (spared n) (opened n (left_in from xs))) in
-        let l = left-long xs first unused i from b in
-        omega (arith, w, t, sizes-lowest_purged, ap sizes (plain (left_in from xs)), l)
+        omega (arith, (found-within goes (purged k n (left_in from xs)) place f), (total-tidy size (λ n m. refl) (lowest_purged k (spared n) (opened n (left_in from xs)))), sizes-lowest_purged, ap sizes (plain (left_in from xs)), (left-long xs first unused i from b))

@@ -44,8 +44,7 @@ module _ (xs : List ℕ) (from stop : ℕ) where
   pub counted-step : (at end most most' bytes : ℕ) (runs block next : Stretch) (barrier : Bool)
       → Counted xs from at stop most runs → Spans at end bytes barrier xs → at < stop → most ≤ most' → bytes ≤ most'
       → block ≡ counted (not barrier) bytes → next ≡ join runs block → Counted xs from end stop most' next
-  counted-step at end most most' bytes runs block next barrier c s l m n t j =
-      record {
+  counted-step at end most most' bytes runs block next barrier c s l m n t j = record {
         done = c.done ++ s.here ∷ [];
         is = c.is ∙ ap (λ k. c.done ++ k) s.is ∙ sym (append_assoc c.done (s.here ∷ []) (left_in end xs));
         up = omega (arith, span-append);
@@ -53,29 +52,20 @@ module _ (xs : List ℕ) (from stop : ℕ) where
             (at-map (λ p b. (free_of b ≤ most) × (p < stop)) (λ p b. (free_of b ≤ most') × (p < stop)) _ _
             (λ _ _ _ _ r. ((omega (arith, m)), r.1)) c.each) ((omega (arith, n, s.bytes), omega (arith, l)), tt);
         way = s.way;
-        comes = sym (joined-is Runs c.done (s.here ∷ []) runs block next j (sym c.comes)
-            (t ∙ one-spanned s.here bytes barrier s.bytes s.ends ∙ sym (join-unit_right (one s.here))));
+        comes = sym (joined-is Runs c.done (s.here ∷ []) runs block next j (sym c.comes) (grind arith));
       }
 
   -- what the blocks come to and one block more fit
   pub counted-fits : (at end most bytes : ℕ) (runs block : Stretch) (barrier : Bool) → Counted xs from at stop most runs
       → Spans at end bytes barrier xs → block ≡ counted (not barrier) bytes → suffix runs + prefix block ≤ end
-  counted-fits at end most bytes runs block barrier c s t =
-      omega (arith, suffix-load, ap load c.comes, load-blocks, prefix-counted, ap prefix t, free-size)
+  counted-fits at end most bytes runs block barrier c s t = grind (arith, suffix-load, load-blocks, prefix-counted, free-size)
 
   -- what it tells of the blocks that begin below a bound which it came to
   module _ (at most : ℕ) (runs : Stretch) (c : Counted xs from at stop most runs) where
     pub counted-tells : (hi edge : ℕ) → CountAlike (between from hi from c.done) c.done → (hi ≤ at) ⊎ (length xs ≤ at)
         → Measures from hi from (left_in from xs) (record { edge = edge; most = most; runs = runs })
     counted-tells hi edge a e = record {
-      most = passed-all _ _ (λ _ b. free_of b ≤ most) (λ _ b. free_of b ≤ most) _ _ _ (record {
-        done = c.done;
-        is = c.is;
-        up = c.up;
-        each = at-map (λ p b. (free_of b ≤ most) × (p < stop)) (λ _ b. free_of b ≤ most) _ _
-            (λ _ _ _ _ r. r.0) c.each;
-        way = c.way;
-      }) (λ _ _ r. r) e;
+      most = passed-all _ _ (λ _ b. free_of b ≤ most) (λ _ b. free_of b ≤ most) _ _ _ ((grind (arith, at-map))) (λ _ _ r. r) e;
       runs = alike.same Runs ∙ c.comes;
     }
       where
@@ -97,6 +87,4 @@ module _ (xs : List ℕ) (from stop : ℕ) where
 
     pub counted-below : (place edge : ℕ) → stop ≤ place → (place ≤ at) ⊎ (length xs ≤ at)
         → Measures from place from (left_in from xs) (record { edge = edge; most = most; runs = runs })
-    counted-below place edge l e = counted-tells _ _ (alike-same _ _ (all-begin _ _ _ _ (omega arith)
-        (at-map (λ p b. (free_of b ≤ most) × (p < stop)) (λ p _. p < place) _ _
-        (λ _ _ _ _ r. omega (arith, l)) c.each))) e
+    counted-below place edge l e = counted-tells _ _ (alike-same _ _ (grind (arith, all-begin, at-map))) e

@@ -43,8 +43,7 @@ space-content : (x : List ℕ) (b : Block) → length x ≡ length (content_of b
 space-content x (Free n) e = refl
 space-content x (Nonrelocatable id content) e = refl
 space-content x Masters e = refl
-space-content x (Relocatable id flags content) e =
-    ap (λ n. counted (is_purgeable (Relocatable id flags content)) (padded n)) e
+space-content x (Relocatable id flags content) e = grind arith
 
 goes-content : (x : List ℕ) (b : Block) → is_purgeable (with_content x b) ≡ is_purgeable b
 goes-content x (Free n) = refl
@@ -64,8 +63,7 @@ purgeable-content : (x : List ℕ) (b : Block) → length x ≡ length (content_
 purgeable-content x (Free n) e = refl
 purgeable-content x (Nonrelocatable id content) e = refl
 purgeable-content x Masters e = refl
-purgeable-content x (Relocatable id flags content) e =
-    ap (λ n. cond {A = ℕ} (is_purgeable (Relocatable id flags content)) (padded n) 0) e
+purgeable-content x (Relocatable id flags content) e = grind arith
 
 module _ (xs : List ℕ) (first unused free purgeable : ℕ) (l : Landmarks) where
   pub with-marks : IsKept xs first unused free → AreOf l (zone_in xs) → purgeable ≡ purgeable_sum (zone_in xs)
@@ -83,11 +81,7 @@ module _ (xs : List ℕ) (first unused free purgeable : ℕ) (l : Landmarks) whe
       → zone_in xs ≡ below ++ c ∷ above → zone ≡ below ++ b ∷ above → size c ≡ size b → free_of c ≡ free_of b
       → one c ≡ one b → space c ≡ space b → is_purgeable c ≡ is_purgeable b → AreOf l zone
       → purgeable ≡ purgeable_sum (below ++ c ∷ above) → IsMarked xs first unused free purgeable l
-  with-block below above b c zone k e was s f r h g a m = with-marks k
-      (subst (AreOf l) (sym e) (let o = subst (AreOf l) was a in (
-        (marks-same 4294967295 l.marks.items below above b c s f r h o.0.0, o.0.1),
-        stays-same l.lowest 0 below above b c s g o.1,
-      ))) (subst (λ z. purgeable ≡ purgeable_sum z) (sym e) m)
+  with-block below above b c zone k e was s f r h g a m = grind (arith, with-marks, marks-same, stays-same)
 
   -- bytes were written over some of a block's content
   pub with-written : (below above : List Block) (b : Block) (from : ℕ) (x : List ℕ) (zone : List Block)
@@ -95,7 +89,6 @@ module _ (xs : List ℕ) (first unused free purgeable : ℕ) (l : Landmarks) whe
       → zone ≡ below ++ b ∷ above → from + length x ≤ length (content_of b) → AreOf l zone
       → purgeable ≡ purgeable_sum zone → IsMarked xs first unused free purgeable l
   with-written below above b from x zone k e was w a m =
-      let now = written from x (content_of b) in
       let long = length-written from x (content_of b) w in
       with-block _ _ b _ _ k e was (size-content _ b long) (free-content _ b)
       (one-same b _ (free-content _ b) (ends-content _ b)) (space-content _ b long) (goes-content _ b) a
@@ -108,22 +101,11 @@ pub filled-replaced : (xs : List ℕ) (place need : ℕ) (r : Roomy xs place nee
 filled-replaced xs place need r new solid fits bytes e zone is =
     let l : size r.s.here ≡ r.bytes = ap size r.here in
     let k : size r.s.here + 0 - size new ≡ r.bytes - size new = omega (arith, l) in
-    subst (λ n. Replaced place (place + n) (zone_in xs) zone) (sym (e ∙ l)) (carved-replaced _ _ _ _ _ _ _
-    (r.at.whole ∙ ap (λ b. r.s.below ++ b ∷ r.s.above) r.here)
+    subst (λ n. Replaced place (place + n) (zone_in xs) zone) (sym (e ∙ l)) (carved-replaced _ _ _ _ _ _ _ (grind arith)
     (is ∙ cut-sized _ solid _ r.at.apart 0 _ r.head (omega (arith, l, fits))
     ∙ ap (λ m. r.s.below ++ new ∷ (free m ++ r.s.above)) k) (omega (arith, fits)) r.at.low)
 
 -- the same change, of zones known by other names
 pub replaced-as : (lo hi : ℕ) (old new was is : List Block) → was ≡ old → is ≡ new → Replaced lo hi old new
     → Replaced lo hi was is
-replaced-as lo hi old new was is e f r = record {
-  below = r.below;
-  here = r.here;
-  there = r.there;
-  above = r.above;
-  was = e ∙ r.was;
-  is = f ∙ r.is;
-  low = r.low;
-  high = r.high;
-  span = r.span;
-}
+replaced-as lo hi old new was is e f r = grind arith

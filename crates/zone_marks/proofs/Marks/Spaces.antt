@@ -59,10 +59,7 @@ module _ (xs : List ℕ) (from stop : ℕ) where
       p = c.passed
 
       nothing : between from place at (left_in at xs) ≡ []
-      nothing = elim e [
-        | inl h ↦ none-above from place at (left_in at xs) h
-        | inr h ↦ ap (between from place at) (left-none at xs p.way h)
-      ]
+      nothing = grind (arith, none-above, left-none)
 
       whole : between from place from (left_in from xs) ≡ p.done
       whole = ap (between from place from) p.is ∙ between-append _ _ from p.done (left_in at xs)

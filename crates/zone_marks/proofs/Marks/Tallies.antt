@@ -80,8 +80,7 @@ loads-parted w marks n = sym (loads-append w _ _) ∙ ap (known_loads w) (take-a
 pub loads-more : (w : Counting) (marks : List Landmark) (i : ℕ) → i < length marks
     → known_load (tally_of w (take i marks)) + known_load (told w (get_or marks i no_mark).tally) ≤ known_loads w marks
 loads-more w marks i l =
-    let q = ap (known_loads w) (take_more marks i no_mark l) ∙ loads-append w _ (get_or marks i no_mark ∷ []) in
-    omega (arith, loads-all, loads-parted, q)
+    omega (arith, loads-all, loads-parted, (ap (known_loads w) (take_more marks i no_mark l) ∙ loads-append w _ (get_or marks i no_mark ∷ [])))
 
 pub loads-part : (w : Counting) (marks : List Landmark) (low n : ℕ)
     → known_loads w (take n (drop low marks)) ≤ known_loads w marks
@@ -120,8 +119,7 @@ between-few lo hi x (b ∷ bs) = either (nat_le lo x && nat_lt x hi) (between-fe
 
 tally-join : (w : Counting) (s t : Tally) (xs ys : List Block) → IsTally w s xs → IsTally w t ys
     → IsTally w (join_tallies s t) (xs ++ ys)
-tally-join w (tally.Known a) (tally.Known b) xs ys e f = stretch_by-append w _ _
-    ∙ ap (λ k. join k (stretch_by w ys)) e ∙ ap (join a) f
+tally-join w (tally.Known a) (tally.Known b) xs ys e f = grind (arith, stretch_by-append)
 tally-join w (tally.Known a) tally.Unknown xs ys e f = tt
 tally-join w tally.Unknown t xs ys e f = tt
 
@@ -140,8 +138,7 @@ between-none end x (b ∷ bs) = elim (cases_lt x end) [
 pub group-tally : (w : Counting) (end : ℕ) (zone : List Block) (marks : List Landmark) → AreMarks end zone marks
     → IsTally w (tally_of w marks) (between (next_of end marks) end 0 zone)
 group-tally w end zone [] a = ap (stretch_by w) (between-none _ 0 zone) ∙ counted-none w
-group-tally w end zone (m ∷ marks) a =
-    subst (IsTally w (join_tallies (told w m.tally) (tally_of w marks)))
+group-tally w end zone (m ∷ marks) a = subst (IsTally w _)
     (sym (between-join _ _ _ 0 _ a.3 (marks-below _ _ marks a.4)))
     (tally-join w (told w m.tally) (tally_of w marks) _ _ (a.2 w) (group-tally w end zone marks a.4))
 
@@ -150,9 +147,7 @@ loads-within : (w : Counting) (end : ℕ) (zone : List Block) (marks : List Land
 loads-within w end zone [] a = omega arith
 loads-within w end zone (m ∷ marks) a =
     let n = next_of end marks in
-    let r = loads-within w end zone marks a.4 in
-    let j = ap sizes (between-join m.at n end 0 zone a.3 (marks-below end zone marks a.4)) in
-    omega (arith, tally-load w (told w m.tally) (between m.at n 0 zone) (a.2 w), r, j, span-append)
+    omega (arith, tally-load w (told w m.tally) (between m.at n 0 zone) (a.2 w), (loads-within w end zone marks a.4), (ap sizes (between-join m.at n end 0 zone a.3 (marks-below end zone marks a.4))), span-append)
 
 loads-fit : (w : Counting) (end : ℕ) (zone : List Block) (marks : List Landmark) → AreMarks end zone marks
     → known_loads w marks ≤ sizes zone

@@ -1,6 +1,6 @@
 -- What is known of the blocks below a place, and of the run in which the place lies.
 use Rattle.std.proofs.Common.{◌≡◌, ℕ, ◌+◌, ◌≤◌, ◌⊎◌, inl, inr, Bool, true, false, not, List, [], ◌∷◌, ◌++◌, append_assoc}
-use Rattle.std.proofs.Common.{refl, sym, ap, ◌∙◌, subst, arith}
+use Rattle.std.proofs.Common.{refl, sym, ap, ◌∙◌, subst, arith, rules}
 use Rattle.std.proofs.lemmas.Bool.{false≢true}
 use Rattle.block_store.specs.Block.{Block, free_of}
 use Rattle.block_store.specs.Run.{in_run}
@@ -28,11 +28,7 @@ piece-none xs at b = record { is = refl; up = omega arith; edge = b }
 -- a piece and the one above it
 pub piece-more : (xs : List ℕ) (from at to : ℕ) (low high : List Block) → IsPiece from at xs low → IsPiece at to xs high
     → IsPiece from to xs (low ++ high)
-piece-more xs from at to low high p q = record {
-  is = p.is ∙ ap (λ k. low ++ k) q.is ∙ sym (append_assoc low high (left_in to xs));
-  up = (omega (arith, span-append));
-  edge = q.edge;
-}
+piece-more xs from at to low high p q = grind (arith, append_assoc, span-append)
 
 -- two pieces among which no run ends
 pub open-more : (low high : List Block) (a b : ℕ) → stretch_of low ≡ Whole a → stretch_of high ≡ Whole b
@@ -42,18 +38,8 @@ open-more low high a b e f = stretch_of-append low _ ∙ ap (λ s. join s (stret
 -- a run is open where it begins
 pub open-begun : (xs : List ℕ) (start : ℕ) → (start ≡ 0) ⊎ RunBegins start xs
     → IsOpen xs (record { start = start; free = 0; at = start })
-open-begun xs start (inl z) = record {
-  begins = inr z;
-  here = [];
-  piece = piece-none xs start (subst (λ q. Begins q 0 (zone_in xs)) (sym z) (begins-here 0 (zone_in xs)));
-  goes_on = refl;
-}
-open-begun xs start (inr r) = record {
-  begins = inl r;
-  here = [];
-  piece = piece-none xs start (run-begins xs start r);
-  goes_on = refl;
-}
+open-begun xs start (inl z) = grind (arith, piece-none, begins-here)
+open-begun xs start (inr r) = grind (arith, piece-none, run-begins)
 
 -- farther, past blocks among which none ends
 pub open-farther : (xs : List ℕ) (r : OpenRun) (o : IsOpen xs r) (at next free : ℕ) (here : List Block) → r.at ≡ at
@@ -77,16 +63,7 @@ module _ (xs : List ℕ) (first unused : ℕ) (i : IsSound xs first unused) (r :
   open-past-bar e = open-begun _ _ (inr (run-here _ _ _ i _ _ _ _ o.piece.edge s e))
 
   mover : barrier ≡ false → in_run s.here ≡ true
-  mover e = only (in_run s.here) (sym s.ends ∙ e)
-    where
-      only : (t : Bool) → not t ≡ false → t ≡ true
-      only true e = refl
-      only false e = absurd (false≢true (sym e))
+  mover e = grind arith
 
   pub open-past-one : barrier ≡ false → IsOpen xs (record { start = r.start; free = r.free + free; at = end })
-  open-past-one e = open-farther _ r o _ _ free (s.here ∷ []) refl (record {
-    is = s.is;
-    up = (omega arith);
-    edge = edge-above xs first unused i r.at end free barrier o.piece.edge s;
-  }) (ap (λ t. join (counted t (free_of s.here)) (Whole 0)) (mover e)
-      ∙ ap Whole (let q : free_of s.here + 0 ≡ free = omega arith in q))
+  open-past-one e = open-farther _ r o _ _ free (s.here ∷ []) refl (search (rules, edge-above)) (grind arith)

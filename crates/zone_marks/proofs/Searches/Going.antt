@@ -25,8 +25,4 @@ module _ (xs : List ℕ) (at : ℕ) (block : Seen) (end : ℕ) (s : Steps at blo
 
   -- an edge above a block is one of those behind it
   pub edge-further : (to : ℕ) → at < to → Begins to at (left_in at xs) → Begins to end (left_in end xs)
-  edge-further to l b = cases (subst (Begins to at) s.is b)
-    where
-      cases : Begins to at (s.here ∷ left_in end xs) → Begins to end (left_in end xs)
-      cases (inl e) = absurd (omega (arith, e, l))
-      cases (inr d) = subst (λ y. Begins to y (left_in end xs)) s.up d
+  edge-further to l b = grind arith

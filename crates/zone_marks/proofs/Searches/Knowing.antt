@@ -28,45 +28,22 @@ module _ (bytes : ℕ) (answer : Option ℕ) (xs : List ℕ) where
   known-start at s k f = k.finds ∙ scan_kept None bytes spares s.left s.start _ _ _ _ f
 
   pub known-found : (at next : ℕ) (s : RunScan) → IsKnown bytes answer at xs s → IsFound bytes s → IsKnown bytes answer next xs s
-  known-found at next s k f = record {
-    begins = k.begins;
-    left = k.left;
-    met = k.met;
-    free = k.free;
-    finds = k.finds;
-    here = inl f;
-  }
+  known-found at next s k f = grind arith
 
   -- a search that has found none is at the place
   pub not-found : (at : ℕ) (s : RunScan) → IsKnown bytes answer at xs s → (s.met && nat_le bytes s.free) ≡ false → s.place ≡ at
-  not-found at s k n = elim k.here [
-    | inl f ↦ let e : true ≡ false = sym f ∙ n in absurd (cc)
-    | inr e ↦ e
-  ]
+  not-found at s k n = grind arith
 
   -- what it finds there
   pub finds-at : (at : ℕ) (s : RunScan) → IsKnown bytes answer at xs s → s.place ≡ at
       → answer ≡ scan_runs None bytes spares 0 s.start s.free s.met at (left_in at xs)
-  finds-at at s k e =
-      k.finds ∙ ap (λ l. scan_runs None bytes spares l s.start s.free s.met s.place (left_in s.place xs)) k.left
-      ∙ ap (λ q. scan_runs None bytes spares 0 s.start s.free s.met q (left_in q xs)) e
+  finds-at at s k e = grind arith
 
   -- past blocks among which no run ends
   pub known-through : (at next free : ℕ) (s : RunScan) (here : List Block) → IsKnown bytes answer at xs s → s.place ≡ at
       → IsPiece at next xs here → has ends_run here ≡ false → free_sum here ≡ free → IsKnown bytes answer next xs
       (record { left = s.left; start = s.start; free = s.free + free; met = s.met; place = next })
-  known-through at next free s here k e p n f = record {
-    begins = p.edge;
-    left = k.left;
-    met = k.met;
-    free = (omega (arith, e, free_span-le, f));
-    finds = finds-at _ s k e ∙ ap (scan_runs None bytes spares 0 s.start s.free s.met at) p.is
-        ∙ goes-through _ spares _ _ _ _ here (left_in next xs) n
-        ∙ ap (λ q. scan_runs None bytes spares 0 s.start (s.free + q) s.met (at + sizes here) (left_in next xs)) f
-        ∙ ap (λ q. scan_runs None bytes spares 0 s.start (s.free + free) s.met q (left_in next xs)) p.up
-        ∙ ap (λ l. scan_runs None bytes spares l s.start (s.free + free) s.met next (left_in next xs)) (sym k.left);
-    here = inr refl;
-  }
+  known-through at next free s here k e p n f = grind (arith, free_span-le, finds-at, goes-through)
 
   -- what a walk up to a place tells
   pub scanned : (first unused : ℕ) → IsSound xs first unused → (at next : ℕ) (s r : RunScan) (here : List Block)

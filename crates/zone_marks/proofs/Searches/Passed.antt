@@ -1,7 +1,7 @@
 -- A search for a run that passes blocks by what they come to in runs.
 use Rattle.zone_summary.specs.declared.stretch.Counting.TheVariants.{Runs}
 use Rattle.std.proofs.Common.{◌≡◌, ℕ, ◌+◌, ◌≤◌, ◌<◌, ◌^◌, ◌&&◌, ◌⊎◌, inl, inr, Bool, true, false, nat_le, None, Option, List, [], ◌++◌, length}
-use Rattle.std.proofs.Common.{append_assoc, append-nil, refl, sym, ap, ◌∙◌, subst, arith}
+use Rattle.std.proofs.Common.{append_assoc, append-nil, refl, sym, ap, ◌∙◌, subst, arith, rules}
 use Rattle.std.proofs.lemmas.Bool.{cond-false}
 use Rattle.block_store.specs.Block.{Block}
 use Rattle.block_store.specs.Inner.RunScan.{scan_runs}
@@ -39,20 +39,11 @@ spares = spared sparing.Nothing
 -- what a search with no purges left finds
 pub ready-finds : (bytes : ℕ) (xs : List ℕ) (s : RunScan) → IsReady xs s
     → finds_from bytes s xs ≡ found_from bytes (spared sparing.Nothing) s.start s.free s.place (left_in s.place xs)
-ready-finds bytes xs s r =
-    ap (λ l. scan_runs None bytes (spared sparing.Nothing) l s.start s.free s.met s.place (left_in s.place xs)) r.left
-    ∙ ap (λ m. scan_runs None bytes (spared sparing.Nothing) 0 s.start s.free m s.place (left_in s.place xs)) r.met
+ready-finds bytes xs s r = grind arith
 
 pub ready-known : (bytes : ℕ) (xs : List ℕ) (s : RunScan) → IsReady xs s
     → IsKnown bytes (finds_from bytes s xs) s.place xs s
-ready-known bytes xs s r = record {
-  begins = r.begins;
-  left = r.left;
-  met = r.met;
-  free = r.free;
-  finds = refl;
-  here = inr refl;
-}
+ready-known bytes xs s r = grind arith
 
 pub ready-begun : (xs : List ℕ) → IsReady xs (begun 0 0)
 ready-begun xs = record { begins = begins-here 0 _; left = refl; met = refl; free = omega arith }
@@ -83,9 +74,7 @@ module _ (xs : List ℕ) (s : RunScan) (at next : ℕ) (p : Passed) (q : IsPasse
     (piece : IsPiece at next xs here) (all : Stretch) where
   sum : (runs : Stretch) → stretch_of here ≡ runs → all ≡ join p.runs runs
       → join (Whole s.free) (stretch_of (q.here ++ here)) ≡ all
-  sum runs t e = ap (join (Whole s.free)) (stretch_of-append q.here here)
-      ∙ sym (join-assoc (Whole s.free) (stretch_of q.here) (stretch_of here))
-      ∙ ap (λ r. join r (stretch_of here)) q.sums ∙ ap (join p.runs) t ∙ sym e
+  sum runs t e = grind (arith, stretch_of-append, join-assoc)
 
   pub passed-open : (free : ℕ) → stretch_of here ≡ Whole free → all ≡ join p.runs (Whole free)
       → IsPassed s next xs (record { runs = all; barred = p.barred; end = p.end; free = p.free + free })
@@ -96,16 +85,7 @@ module _ (xs : List ℕ) (s : RunScan) (at next : ℕ) (p : Passed) (q : IsPasse
     high = q.high ++ here;
     high_piece = piece-more xs p.end at next q.high here q.high_piece piece;
     goes_on = open-more q.high here p.free free q.goes_on t;
-    barred = λ d. let b = q.barred (open-ended p.runs free (subst (λ r. is_ended r ≡ true) e d)) in record {
-      low = b.low;
-      mid = b.mid;
-      is = ap (λ k. k ++ here) b.is ∙ append_assoc b.low (b.mid ++ q.high) here
-          ∙ ap (λ k. b.low ++ k) (append_assoc b.mid q.high here);
-      up = b.up;
-      edge = b.edge;
-      piece = b.piece;
-      ended = b.ended;
-    };
+    barred = λ d. let b = q.barred (open-ended p.runs free (subst (λ r. is_ended r ≡ true) e d)) in (grind (arith, append_assoc));
   }
 
   pub passed-ended : (runs : Stretch) → stretch_of here ≡ runs → is_ended runs ≡ true → all ≡ join p.runs runs
@@ -117,15 +97,7 @@ module _ (xs : List ℕ) (s : RunScan) (at next : ℕ) (p : Passed) (q : IsPasse
     high = [];
     high_piece = piece-none xs next piece.edge;
     goes_on = refl;
-    barred = λ _. record {
-      low = q.here;
-      mid = here;
-      is = ap (λ k. q.here ++ k) (sym (append-nil here));
-      up = q.piece.up;
-      edge = k;
-      piece = piece;
-      ended = ap is_ended t ∙ d;
-    };
+    barred = λ _. (search rules);
   }
 
 -- no sum is too high
@@ -157,35 +129,11 @@ module _ (bytes : ℕ) (xs : List ℕ) (s : RunScan) (r : IsReady xs s) (at : �
 
   -- and one that has blocks with an end of a run behind it may begin at them
   pub known-barred : (b : IsBarred s.place xs q.here q.high p) → IsKnown bytes (finds_from bytes s xs) p.barred xs (begun p.barred 0)
-  known-barred b = record {
-    begins = b.edge;
-    left = refl;
-    met = refl;
-    free = omega arith;
-    finds = ready-finds _ _ s r ∙ ap (found_from bytes spares s.start s.free s.place) whole
-        ∙ scan-begun _ spares _ _ _ _ b.mid (q.high ++ left_in at xs) b.ended less
-        ∙ ap (λ y. found_from bytes spares y 0 y (b.mid ++ (q.high ++ left_in at xs))) b.up
-        ∙ ap (found_from bytes spares p.barred 0 p.barred) (sym (b.piece.is ∙ ap (λ k. b.mid ++ k) q.high_piece.is));
-    here = inr refl;
-  }
-    where
-      whole : left_in s.place xs ≡ b.low ++ (b.mid ++ (q.high ++ left_in at xs))
-      whole = q.piece.is ∙ ap (λ k. k ++ left_in at xs) b.is ∙ append_assoc b.low (b.mid ++ q.high) (left_in at xs)
-          ∙ ap (λ k. b.low ++ k) (append_assoc b.mid q.high (left_in at xs))
-
-      less : best (join (Whole s.free) (stretch_of (b.low ++ b.mid))) < bytes
-      less =
-          let a = ap best (ap (join (Whole s.free)) (ap stretch_of (b.is ∙ sym (append_assoc b.low b.mid q.high))
-          ∙ stretch_of-append (b.low ++ b.mid) q.high)
-          ∙ sym (join-assoc (Whole s.free) (stretch_of (b.low ++ b.mid)) (stretch_of q.high))) in
-          let h = short-here in
-          omega (arith, a, best-low (join (Whole s.free) (stretch_of (b.low ++ b.mid))) (stretch_of q.high), h)
+  known-barred b = grind (arith, ready-finds, scan-begun, append_assoc, stretch_of-append, join-assoc, short-here)
 
   -- at the zone's end none is found
   pub passed-all : left_in at xs ≡ [] → finds_from bytes s xs ≡ None
-  passed-all e = ready-finds _ _ s r
-      ∙ ap (found_from bytes spares s.start s.free s.place) (q.piece.is ∙ ap (λ k. q.here ++ k) e ∙ append-nil q.here)
-      ∙ scan-never _ spares _ _ s.place q.here short-here
+  passed-all e = grind (arith, ready-finds, append-nil, scan-never, short-here)
 
 -- a walk that has come to the zone's end without a run
 pub walked-out : (bytes : ℕ) (n : Sparing) (xs : List ℕ) (first unused : ℕ) → IsSound xs first unused
@@ -193,12 +141,6 @@ pub walked-out : (bytes : ℕ) (n : Sparing) (xs : List ℕ) (first unused : ℕ
     → (IsFound bytes last ⊎ ((length xs ≤ last.place) ⊎ (4294967295 ≤ last.place)))
     → (last.met && nat_le bytes last.free) ≡ false → finds_purging bytes n last xs ≡ None
 walked-out bytes n xs first unused i from last b e came f =
-    let edge = begins-further xs first unused i from.place last.place b e in
-    let none = left-none _ _ (begins-way xs first unused i last.place edge) (elim came [
-      | inl k ↦ let y : true ≡ false = sym k ∙ f in absurd (cc)
-      | inr (inl l) ↦ l
-      | inr (inr l) ↦ absurd (omega (arith, l, edge-within xs first unused i last.place edge))
-    ]) in
-    ap (scan_runs None bytes (spared n) last.left last.start last.free last.met last.place) (ap (opened n) none ∙ opened-none n)
+    ap (scan_runs None bytes (spared n) last.left last.start last.free last.met last.place) (ap (opened n) (left-none _ _ (begins-way xs first unused i last.place (begins-further xs first unused i from.place last.place b e)) ((grind arith))) ∙ opened-none n)
     ∙ scan-end None bytes (spared n) last.left last.start last.free last.met last.place
     ∙ cond-false (last.met && nat_le bytes last.free) _ _ f

@@ -30,20 +30,12 @@ use Rattle.zone_summary.specs.declared.stretch.Stretch.{Stretch}
 
 -- an edge is one of those behind a piece that ends there
 pub piece-begins : (xs : List ℕ) (from to : ℕ) (here : List Block) → IsPiece from to xs here → Begins to from (left_in from xs)
-piece-begins xs from to here p = subst (Begins to from) (sym p.is) (begins-right _ _ _ _
-    (subst (λ y. Begins to y (left_in to xs)) (sym p.up) (begins-here _ _)))
+piece-begins xs from to here p = grind (arith, begins-right, begins-here)
 
 -- where a search goes up to a landmark
 pub before : (marks : List Landmark) (index next to end : ℕ) (xs : List ℕ) → to ≡ next_of 4294967295 (drop index marks)
     → end ≡ length xs → (next ≡ to) ⊎ (next ≡ end) → next ≤ end → next ≤ to → IsBefore index marks xs next
-before marks index next to end xs t e o h l = record {
-  either = elim o [
-    | inl q ↦ inl (q ∙ t)
-    | inr q ↦ inr (q ∙ e)
-  ];
-  low = omega (arith, h, e);
-  least = omega (arith, l, t);
-}
+before marks index next to end xs t e o h l = grind arith
 
 module _ (xs : List ℕ) (first unused : ℕ) (i : IsSound xs first unused) where
   pub zone-long : sizes (zone_in xs) ≡ length xs
@@ -58,8 +50,7 @@ module _ (xs : List ℕ) (first unused : ℕ) (i : IsSound xs first unused) wher
   edge-within p b = omega (arith, (begins-within p 0 _ b).1, zone-long)
 
   pub end-begins : (end : ℕ) → end ≡ length xs → Begins end 0 (zone_in xs)
-  end-begins end e = subst (λ p. Begins p 0 (zone_in xs)) (let z = zone-long in
-      let q : 0 + sizes (zone_in xs) ≡ end = omega (arith, z, e) in q) (begins-end 0 (zone_in xs))
+  end-begins end e = subst (λ p. Begins p 0 (zone_in xs)) (grind (arith, zone-long)) (begins-end 0 (zone_in xs))
 
   pub piece-of : (from to : ℕ) → Begins from 0 (zone_in xs) → Begins to 0 (zone_in xs) → from ≤ to
       → (here : List Block) × IsPiece from to xs here
@@ -129,8 +120,7 @@ module _ (xs : List ℕ) (first unused : ℕ) (i : IsSound xs first unused) wher
   bounded-edge marks a index next end e (inl q) h = elim (cases_lt index (length marks)) [
     | inl l ↦ subst (λ p. Begins p 0 (zone_in xs)) (sym (q ∙ mark-first _ _ _ _ l))
         (mark-begins 4294967295 (zone_in xs) marks index no_mark l a)
-    | inr l ↦ let k : next ≡ 4294967295 = q ∙ ap (next_of 4294967295) (drop_all index marks l) in
-        absurd (omega (arith, k, h, e))
+    | inr l ↦ absurd (omega (arith, (q ∙ ap (next_of 4294967295) (drop_all index marks l)), h, e))
   ]
 
   -- that is the next landmark, where there is one
@@ -139,16 +129,13 @@ module _ (xs : List ℕ) (first unused : ℕ) (i : IsSound xs first unused) wher
       → index < length marks → next ≡ (get_or marks index no_mark).at
   bounded-mark marks a index next end e (inl q) h l = q ∙ mark-first _ _ _ _ l
   bounded-mark marks a index next end e (inr q) h l =
-      let w = edge-within (get_or marks index no_mark).at (mark-begins 4294967295 (zone_in xs) marks index no_mark l a) in
-      omega (arith, q, e, mark-first 4294967295 marks index no_mark l, w, h)
+      omega (arith, q, e, mark-first 4294967295 marks index no_mark l, (edge-within (get_or marks index no_mark).at (mark-begins 4294967295 (zone_in xs) marks index no_mark l a)), h)
 
   -- and else the end
   pub bounded-end : (marks : List Landmark) → (index next end : ℕ) → end ≡ length xs
       → (next ≡ next_of 4294967295 (drop index marks)) ⊎ (next ≡ end) → next ≤ end → length marks ≤ index → length xs ≤ next
   bounded-end marks index next end e (inr q) h l = omega (arith, q, e)
-  bounded-end marks index next end e (inl q) h l =
-      let k : next ≡ 4294967295 = q ∙ ap (next_of 4294967295) (drop_all index marks l) in
-      absurd (omega (arith, k, h, e))
+  bounded-end marks index next end e (inl q) h l = grind (arith, drop_all)
 
   -- so the stretch of a landmark is known up to there
   pub next-stretch : (w : Counting) (marks : List Landmark) (a : AreMarks 4294967295 (zone_in xs) marks) (index next end : ℕ)
@@ -160,10 +147,7 @@ module _ (xs : List ℕ) (first unused : ℕ) (i : IsSound xs first unused) wher
       (bounded-edge _ a _ _ _ e o h) (elim o [
         | inl q ↦ omega (arith, q, mark-rises marks a index l)
         | inr q ↦ let w = edge-within (get_or marks index no_mark).at (mark-edge marks a index l) in omega (arith, q, e, w)
-      ]) least (elim o [
-        | inl q ↦ inl q
-        | inr q ↦ inr (q ∙ e)
-      ])
+      ]) least (grind arith)
 
   -- and so are the stretches of a group
   pub group-stretch : (w : Counting) (marks : List Landmark) → AreMarks 4294967295 (zone_in xs) marks → (low : ℕ) (t : Tally)

@@ -34,11 +34,7 @@ use Rattle.zone_summary.proofs.Monoid.{best-low, join-assoc, stretch_of-append}
 use Rattle.zone_summary.proofs.Searching.{emptied-none, found-ended, scan-begun, scan-emptied, whole-open}
 
 barred : (b : Block) → ends_run b ≡ true → in_run b ≡ false
-barred b e = only (in_run b) e
-  where
-    only : (t : Bool) → not t ≡ true → t ≡ false
-    only true e = absurd (false≢true e)
-    only false e = refl
+barred b e = grind arith
 
 -- a search from the bottom
 pub run-start : (bytes purges : ℕ) (n : Sparing) (xs : List ℕ)
@@ -67,21 +63,14 @@ module _ (xs : List ℕ) (from : ℕ) (m : MayStart from (zone_in xs)) (bytes pu
   -- none of the blocks below may be purged
   none-below : count_of (spared n) q.low ≡ 0
   none-below = ap (count_of (spared n)) (sym (plain q.low)) ∙ count-none n _ 0 _
-      (at-left (Stays m.bound) 0 _ _ (subst (NoneGoes m.bound) parts m.none)) (elim m.low [
-        | inl k ↦ omega (arith, k)
-        | inr k ↦ omega (arith, k)
-      ])
+      (at-left (Stays m.bound) 0 _ _ (subst (NoneGoes m.bound) parts m.none)) ((grind arith))
 
   few : count_of (spared n) above ≤ purges
   few = omega (arith, all, ap (count_of (spared n)) (plain (zone_in xs) ∙ parts), total-append)
 
   -- in the run that goes on there
   on : (start : ℕ) (high : List Block) → start ≡ r.start → find start 0 start (o.here ++ high) ≡ find r.start r.free r.at high
-  on start high e = let w = whole-open o.here r.free o.goes_on in
-      ap (λ y. find y 0 y (o.here ++ high)) e
-      ∙ goes-through _ (spared n) _ 0 _ r.start o.here high w.0
-      ∙ ap (λ y. find r.start y (r.start + sizes o.here) high) (let y : 0 + free_sum o.here ≡ r.free = omega arith in y)
-      ∙ ap (λ y. find r.start r.free y high) o.piece.up
+  on start high e = grind (arith, whole-open, goes-through)
 
   -- past the blocks below
   past : (high : List Block) → find 0 0 0 (q.low ++ high) ≡ find r.start r.free r.at high
@@ -105,47 +94,28 @@ module _ (xs : List ℕ) (from : ℕ) (m : MayStart from (zone_in xs)) (bytes pu
     where
       ended : (below : List Block) (here : Block) → q.low ≡ below ++ here ∷ o.here
           → best (join (Whole 0) (stretch_of (below ++ here ∷ []))) < bytes
-      ended below here low =
-          let some = join (Whole 0) (stretch_of (below ++ here ∷ [])) in
-          let t = ap best (ap (join (Whole 0)) (ap stretch_of (low ∙ sym (append_assoc below (here ∷ []) o.here))
-          ∙ stretch_of-append (below ++ here ∷ []) o.here)
-          ∙ sym (join-assoc (Whole 0) (stretch_of (below ++ here ∷ [])) (stretch_of o.here))) in
-          omega (arith, best-low some (stretch_of o.here), t)
+      ended below here low = grind (arith, append_assoc, stretch_of-append, join-assoc, best-low)
 
   pub reached-finds : lowest_place bytes (purged purges n (zone_in xs))
       ≡ finds_purging bytes n (record { left = purges; start = r.start; free = r.free; met = true; place = r.at }) xs
-  reached-finds = sym (scan-is None bytes n purges (zone_in xs))
-      ∙ scan-emptied bytes (spared n) purges 0 0 0 (opened n (zone_in xs)) all
-      ∙ ap (λ z. find 0 0 0 (map each z)) (plain (zone_in xs) ∙ parts)
-      ∙ ap (find 0 0 0) (map-append each q.low above
-      ∙ ap (λ k. k ++ map each above) (emptied-none (spared n) q.low (let z = none-below in omega (arith, z))))
-      ∙ past _
+  reached-finds = sym (grind (arith, scan-is)) ∙ scan-emptied bytes (spared n) purges 0 0 0 (opened n (zone_in xs)) all
+      ∙ ap (λ z. find 0 0 0 (map each z)) (plain (zone_in xs) ∙ parts) ∙ ap (find 0 0 0) (map-append each q.low above
+      ∙ ap (λ k. k ++ map each above) (emptied-none (spared n) q.low (let z = none-below in omega (arith, z)))) ∙ past _
       ∙ sym (ap (λ z. scan_runs None bytes (spared n) purges r.start r.free true r.at z) (plain above)
       ∙ scan-emptied _ (spared n) _ _ _ _ _ few)
 
 -- a block begins where a run does
 pub run-begins : (xs : List ℕ) (at : ℕ) → RunBegins at xs → Begins at 0 (zone_in xs)
-run-begins xs at r =
-    subst (Begins at 0) (sym (r.is ∙ sym (append_assoc r.below (r.here ∷ []) (left_in at xs))))
-    (begins-right _ 0 _ _
-    (subst (λ y. Begins at y (left_in at xs))
-    (let q : at ≡ 0 + sizes (r.below ++ r.here ∷ []) = omega (arith, span-append) in q)
-    (begins-here _ _)))
+run-begins xs at r = subst (Begins at 0) (sym (r.is ∙ sym (append_assoc r.below (r.here ∷ []) (left_in at xs))))
+    (begins-right _ 0 _ _ (subst (λ y. Begins at y (left_in at xs)) (grind (arith, span-append)) (begins-here _ _)))
 
 -- a run begins above a block that ends one
 module _ (xs : List ℕ) (first unused : ℕ) (i : IsSound xs first unused) (at end free : ℕ) (barrier : Bool)
     (b : Begins at 0 (zone_in xs)) (s : Spans at end free barrier xs) where
   pub edge-above : Begins end 0 (zone_in xs)
-  edge-above = begins-further _ _ _ i _ _ b (subst (Begins end at) (sym s.is)
-      (inr (subst (λ y. Begins end y (left_in end xs)) (sym s.up) (begins-here _ _))))
+  edge-above = begins-further _ _ _ i _ _ b (subst (Begins end at) (sym s.is) (grind (arith, begins-here)))
 
   pub run-here : barrier ≡ true → RunBegins end xs
   run-here e =
       let f = seen-from xs first unused i at b in
-      record {
-        below = f.below;
-        here = s.here;
-        is = f.is ∙ ap (λ k. f.below ++ k) s.is;
-        ends = sym s.ends ∙ e;
-        up = omega arith;
-      }
+      (grind arith)

@@ -17,9 +17,7 @@ use Rattle.zone_marks.specs.declared.landmark.Tally.TheVariants as tally
 use Rattle.zone_summary.specs.declared.stretch.Stretch.{Stretch}
 
 pub loop-index-init : goal.loop-index-init
-loop-index-init c = let xs = c.args.part.now.bytes in
-    subst (λ at. IsPassed (begun 0 0) at xs (record { runs = Whole 0; barred = 0; end = 0; free = 0 })) (sym c.requires.bottom)
-    (passed-none _ _ (ready-begun _))
+loop-index-init c = grind (arith, passed-none, ready-begun)
 
 -- the stretch of a landmark that is not the last
 piece : (xs : List _) (first unused : _) (i : IsSound xs first unused) (marks : List Landmark)
@@ -28,10 +26,9 @@ piece : (xs : List _) (first unused : _) (i : IsSound xs first unused) (marks : 
     → IsStretch Runs (tally.Known runs) (get_or marks index no_mark).at (get_or marks (index + 1) no_mark).at xs
 piece xs first unused i marks a index last runs l h t =
     let f = mark-first above_all marks (index + 1) no_mark (omega (arith, l, h)) in
-    let r = mark-rises xs first unused i marks a index (omega (arith, l, h)) in
     subst (λ t. IsStretch Runs t (get_or marks index no_mark).at (get_or marks (index + 1) no_mark).at xs) t
     (stretch-of _ _ _ i marks a index (omega (arith, l, h)) Runs _
-    (mark-edge _ _ _ i _ a _ (omega (arith, l, h))) (omega (arith, f, r)) (omega (arith, f)) (inl (sym f)))
+    (mark-edge _ _ _ i _ a _ (omega (arith, l, h))) (omega (arith, f, (mark-rises xs first unused i marks a index (omega (arith, l, h))))) (omega (arith, f)) (inl (sym f)))
 
 -- no sum is too high
 fits : (xs : List _) (first unused : _) (i : IsSound xs first unused) (marks : List Landmark)
@@ -52,7 +49,5 @@ pass_known-below-requires-clause-sums c = (fits _ _ _ c.requires.sound.2 _ c.req
 
 pub loop-index-preserved : goal.loop-index-preserved
 loop-index-preserved c =
-    let h = c.loop-index-test.true in
-    let p = piece _ _ _ c.requires.sound.2 _ c.requires.marks _ _ _ c.requires.inside h c.in-Known.is in
-    c.pass_known-below.ensures c.args.part.now.bytes (begun 0 0) p.0 c.loop-index.invariant
-    (mark-edge _ _ _ c.requires.sound.2 _ c.requires.marks _ (omega (arith, c.requires.inside, h))) p.1 p.2
+    let p = piece _ _ _ c.requires.sound.2 _ c.requires.marks _ _ _ c.requires.inside c.loop-index-test.true c.in-Known.is in
+    c.pass_known-below.ensures c.args.part.now.bytes (begun 0 0) p.0 c.loop-index.invariant (grind arith) p.1 p.2

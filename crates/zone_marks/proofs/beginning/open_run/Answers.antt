@@ -6,14 +6,11 @@ pub run_up_to-run-requires-clause-run : goal.run_up_to-run-requires-clause-run
 run_up_to-run-requires-clause-run c = open-begun _ _ c.run_above-begins.ensures
 
 pub returns-clause-open : goal.returns-clause-open
-returns-clause-open c =
-    let b = c.requires.below in
-    open-farther _ _ c.run_up_to-run.ensures _ _ _ _ c.if-run-below.false b.high_piece b.goes_on
+returns-clause-open c = grind (arith, open-farther)
 
 pub overflow_add-result : goal.overflow_add-result
 overflow_add-result c =
     let b = c.requires.below in
-    let r = c.run_up_to-run.result in
-    let l = open-few _ _ (open-farther _ r c.run_up_to-run.ensures _ _ _ _
+    let l = open-few _ _ (open-farther _ c.run_up_to-run.result c.run_up_to-run.ensures _ _ _ _
     c.if-run-below.false b.high_piece b.goes_on) in
     omega (arith, l)

@@ -1,4 +1,4 @@
-use Rattle.std.proofs.Common.{◌≡◌, is_some, subst}
+use Rattle.std.proofs.Common.{◌≡◌, is_some, subst, arith, rules}
 use Rattle.std.specs.Option.{IfSome}
 use Rattle.block_store.specs.Block.{is_relocatable}
 use Rattle.block_store.specs.Grow.{taken}
@@ -8,14 +8,8 @@ use Rattle.zone_marks.proofs.Marks.Sought.{sought}
 use Rattle.zone_marks.proofs.behind.has_room_behind.Goals as goal
 
 pub walk_from-requires : goal.walk_from-requires
-walk_from-requires c =
-    let i = c.requires.sound in
-    begins-way c.args.part.now.bytes i.0 i.1 i.2 c.edge_below-from.result c.edge_below-from.ensures.begins
+walk_from-requires c = search (rules, begins-way)
 
 pub returns : goal.returns
-returns c =
-    sought _ _ _ c.requires.sound.2 _ c.edge_below-from.ensures.begins (is_relocatable c.args.slot)
-    (λ above. c.room_above_in.result ≡ is_some (taken c.args.bytes above)) c.edge_below-from.ensures.low
-    (subst (λ l. IfSome (spot (is_relocatable c.args.slot) l)
-    (λ (s : Spot). c.room_above_in.result ≡ is_some (taken c.args.bytes s.above))) c.walk_from.ensures
-    c.room_above_in.ensures)
+returns c = sought _ _ _ c.requires.sound.2 _ c.edge_below-from.ensures.begins (is_relocatable c.args.slot)
+    (λ above. c.room_above_in.result ≡ is_some (taken c.args.bytes above)) c.edge_below-from.ensures.low (grind arith)

@@ -16,27 +16,8 @@ loop-left-preserved g c =
     let left = c.loop-left.left in
     let after = g.W.Walk.rest c.next_block.new.self in
     let t = told _ _ _ _ c.next_block.ensures c.in-Some.is in
-    let less : c.saturating_sub-left.result ≡ left - size t.block =
-    c.saturating_sub-left.ensures ∙ ap (λ k. left - k) (c.size_of_seen.ensures ∙ told-size t) in
     let more = ap (λ l. count_within (spared n) left (opened n l)) t.before_is
     ∙ within-more n _ _ _ (omega (arith, c.loop-left-test.true)) in
-    let rest = ap (λ k. count_within (spared n) k (opened n after)) less in
+    let rest = ap (λ k. count_within (spared n) k (opened n after)) (c.saturating_sub-left.ensures ∙ ap (λ k. left - k) (c.size_of_seen.ensures ∙ told-size t)) in
     let goes = sym (c.may_purge.ensures t.block t.is) in
-    elim c.if-may_purge.branch [
-      | then-may_purge w ↦ let one = ap (λ (t : Bool). cond {A = ℕ} t 1 0) (goes ∙ w.if-may_purge.true) in record {
-        few = omega (
-          arith,
-          c.loop-left.invariant.few,
-          told-sizes t,
-          told-size t,
-          w.total-is,
-          size-opened n t.block,
-          goes-size (spared n) (opened_block n t.block) (goes ∙ w.if-may_purge.true),
-        );
-        is = omega (arith, c.loop-left.invariant.is, more, rest, one, w.total-is);
-      }
-      | else-may_purge w ↦ let none = ap (λ (t : Bool). cond {A = ℕ} t 1 0) (goes ∙ w.if-may_purge.false) in record {
-        few = omega (arith, c.loop-left.invariant.few, told-sizes t, w.total-is);
-        is = omega (arith, c.loop-left.invariant.is, more, rest, none, w.total-is);
-      }
-    ]
+    (grind arith)

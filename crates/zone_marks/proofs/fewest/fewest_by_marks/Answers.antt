@@ -1,4 +1,4 @@
-use Rattle.std.proofs.Common.{◌∙◌, ◌-◌, ap, arith}
+use Rattle.std.proofs.Common.{◌∙◌, ◌-◌, ap, arith, rules}
 use Rattle.block_store.specs.Block.{sizes}
 use Rattle.block_store.specs.Sparing.{opened, spared}
 use Rattle.zone_summary.specs.Fewest.{purges_for}
@@ -26,20 +26,15 @@ pub free_at-free-requires-clause-begins : goal.free_at-free-requires-clause-begi
 free_at-free-requires-clause-begins c = run_begins (goal.at.free_at-free-requires-clause-begins c).Start
 
 pub walk_from-requires : goal.walk_from-requires
-walk_from-requires c = let i = c.requires.sound in
-    begins-way c.args.part.now.bytes i.0 i.1 i.2 c.args.run (run_begins (goal.at.walk_from-requires c).Start)
+walk_from-requires c = search (rules, begins-way, run_begins)
 
 pub count_for-requires : goal.count_for-requires
 count_for-requires c =
-    let i = c.requires.sound in
-    let l = left-long _ _ _ i.2 c.args.run (run_begins (goal.at.count_for-requires c).Start) in
-    omega (arith, l, ap sizes c.walk_from.ensures)
+    omega (arith, (left-long _ _ _ c.requires.sound.2 c.args.run (run_begins (goal.at.count_for-requires c).Start)), ap sizes c.walk_from.ensures)
 
 pub overflow_add-result : goal.overflow_add-result
 overflow_add-result c =
-    let i = c.requires.sound in
-    let r = left-long _ _ _ i.2 c.args.run (run_begins (goal.at.overflow_add-result c).Start) in
-    omega (arith, r, ap sizes c.walk_from.ensures, c.count_below-below.ensures.few, c.count_for.ensures.few)
+    omega (arith, (left-long _ _ _ c.requires.sound.2 c.args.run (run_begins (goal.at.overflow_add-result c).Start)), ap sizes c.walk_from.ensures, c.count_below-below.ensures.few, c.count_for.ensures.few)
 
 pub returns : goal.returns
 returns c =
@@ -47,8 +42,7 @@ returns c =
     let n = c.args.sparing in
     let f = first (goal.at.returns c).Start in
     let left = left-above c.args.part.now.bytes i.0 i.1 i.2 f.low f.rest c.args.run f.is f.at in
-    let lacks = c.saturating_sub-lacks.ensures
-    ∙ ap (λ k. c.args.bytes - k) (c.free_at-free.ensures ∙ ap (λ l. prefix (stretch_of (opened n l))) left) in
+    let lacks = c.saturating_sub-lacks.ensures ∙ ap (λ k. c.args.bytes - k) (grind arith) in
     let own = c.count_for.ensures.is
     ∙ ap (λ l. purges_for (spared n) c.saturating_sub-lacks.result (opened n l)) (c.walk_from.ensures ∙ left)
     ∙ ap (λ k. purges_for (spared n) k (opened n f.rest)) lacks in

@@ -1,4 +1,4 @@
-use Rattle.std.proofs.Common.{◌∙◌, ◌-◌, ◌+◌, ◌&&◌, ap, arith, subst, sym, None}
+use Rattle.std.proofs.Common.{◌∙◌, ◌-◌, ◌+◌, ◌&&◌, ap, arith, subst, sym, None, rules}
 use Rattle.block_store.specs.Block.{is_relocatable, sizes, tidy}
 use Rattle.block_store.specs.Fewest.{serves_block, IsFewest}
 use Rattle.block_store.specs.Find.{FindsLowestRun}
@@ -23,10 +23,8 @@ pub run_of_in-requires : goal.run_of_in-requires
 run_of_in-requires c = omega (arith, ap sizes c.walk_from.ensures, sizes-fit)
 
 pub returns-in_default : goal.returns-in_default
-returns-in_default c =
-    no-run-of _ _ _ _ (c.requires.whole (zone_in c.args.part.now.bytes)) c.requires.spared
-    (subst (λ z. FindsLowestRun (λ run. has (is_relocatable c.args.number) run && has_free 0 run)
-    (tidy z) None) (c.walk_from.ensures ∙ left-zone _) c.in_default.ensures)
+returns-in_default c = no-run-of _ _ _ _ (c.requires.whole (zone_in c.args.part.now.bytes)) c.requires.spared
+    (grind (arith, left-zone))
 
 pub free_at-free-requires-clause-begins : goal.free_at-free-requires-clause-begins
 free_at-free-requires-clause-begins c =
@@ -41,9 +39,7 @@ returns-then-bytes-free c =
     let run = c.in-Some.run' in
     let r = block-run _ _ _ _ _
     _ (c.walk_from.ensures ∙ left-zone _) c.requires.once c.requires.spared c.requires.whole c.in-Some.ensures in
-    let left = left-above xs i.0 i.1 i.2 r.low r.rest run r.is r.at in
-    let now = c.free_at-free.ensures ∙ ap (λ l. prefix (stretch_of l)) (c.requires.whole (left_in run xs) ∙ left) in
-    enough-now c.args.number c.args.bytes c.args.sparing (zone_in xs) run r (omega (arith, now, c.if-bytes-free.true))
+    enough-now c.args.number c.args.bytes c.args.sparing (zone_in xs) run r (omega (arith, (c.free_at-free.ensures ∙ ap (λ l. prefix (stretch_of l)) (c.requires.whole (left_in run xs) ∙ (left-above xs i.0 i.1 i.2 r.low r.rest run r.is r.at))), c.if-bytes-free.true))
 
 pub walk_from-requires-2 : goal.walk_from-requires-2
 walk_from-requires-2 c =
@@ -59,8 +55,7 @@ count_in_run-requires c =
     let xs = c.args.part.now.bytes in
     let r = block-run _ c.args.number c.args.bytes _ _
     _ (c.walk_from.ensures ∙ left-zone _) c.requires.once c.requires.spared c.requires.whole c.in-Some.ensures in
-    let l = left-long xs i.0 i.1 i.2 c.in-Some.run' (run-begins xs c.in-Some.run' r.low r.rest r.is r.at) in
-    omega (arith, l, ap sizes c.walk_from-2.ensures)
+    omega (arith, (left-long xs i.0 i.1 i.2 c.in-Some.run' (run-begins xs c.in-Some.run' r.low r.rest r.is r.at)), ap sizes c.walk_from-2.ensures)
 
 pub returns-in_default-count_in_run : goal.returns-in_default-count_in_run
 returns-in_default-count_in_run c =
@@ -72,10 +67,7 @@ returns-in_default-count_in_run c =
     let left = left-above xs i.0 i.1 i.2 r.low r.rest run r.is r.at in
     let now = c.free_at-free.ensures ∙ ap (λ l. prefix (stretch_of l)) (c.requires.whole (left_in run xs) ∙ left) in
     let sp = spared c.args.sparing in
-    let own = ap (λ k. run_purges_for sp 0 (c.args.bytes - k) c.walk_from-2.result) now
-    ∙ ap (λ l. run_purges_for sp 0 (c.args.bytes - prefix (stretch_of r.rest)) l) (c.walk_from-2.ensures ∙ left) in
-    never-enough _ _ _ _ _ r (omega (arith, now, c.if-bytes-free.false))
-    (sym (c.in_default-count_in_run.ensures.is ∙ own))
+    never-enough _ _ _ _ _ r (omega (arith, now, c.if-bytes-free.false)) (search rules)
 
 pub count_below-requires-clause-run : goal.count_below-requires-clause-run
 count_below-requires-clause-run c =
@@ -89,9 +81,7 @@ overflow_add-result c =
     let xs = c.args.part.now.bytes in
     let r = block-run _ c.args.number c.args.bytes _ _
     _ (c.walk_from.ensures ∙ left-zone _) c.requires.once c.requires.spared c.requires.whole c.in-Some.ensures in
-    let l = left-long xs i.0 i.1 i.2 c.in-Some.run' (run-begins xs c.in-Some.run' r.low r.rest r.is r.at) in
-    let e = ap sizes c.walk_from-2.ensures in
-    omega (arith, l, e, c.count_below.ensures.few, c.in-Some-count_in_run.ensures.few)
+    omega (arith, (left-long xs i.0 i.1 i.2 c.in-Some.run' (run-begins xs c.in-Some.run' r.low r.rest r.is r.at)), (ap sizes c.walk_from-2.ensures), c.count_below.ensures.few, c.in-Some-count_in_run.ensures.few)
 
 pub returns : goal.returns
 returns c =

@@ -17,36 +17,29 @@ pub scan_up_to-walked-requires-clause-way : goal.scan_up_to-walked-requires-clau
 scan_up_to-walked-requires-clause-way c =
     let i = c.requires.sound in
     let xs = c.args.part.now.bytes in
-    let b = c.requires.passed.barred (ap is_ended c.in-Ended.is) in
-    subst (λ s. IsOnWay s.place xs) (sym c.begun_at-begun.ensures) (begins-way xs i.0 i.1 i.2 c.args.passed.barred b.edge)
+    subst (λ s. IsOnWay s.place xs) (sym c.begun_at-begun.ensures) (begins-way xs i.0 i.1 i.2 c.args.passed.barred (c.requires.passed.barred (ap is_ended c.in-Ended.is)).edge)
 
 -- the search behind the blocks among which one ends a run
 walked : (c : After-scan_up_to-walked)
     → IsKnown c.args.bytes (finds_from c.args.bytes c.args.scan c.args.part.now.bytes) c.args.passed.end
     c.args.part.now.bytes c.scan_up_to-walked.result
 walked c =
-    let i = c.requires.sound in
     let xs = c.args.part.now.bytes in
     let p = c.args.passed in
     let b = c.requires.passed.barred (ap is_ended c.in-Ended.is) in
     let answer = finds_from c.args.bytes c.args.scan xs in
     let r = c.scan_up_to-walked in
-    scanned _ _ _ _ _ i.2 _ _ _ _ _ (subst (IsKnown c.args.bytes answer p.barred xs) (sym c.begun_at-begun.ensures)
+    scanned _ _ _ _ _ c.requires.sound.2 _ _ _ _ _ (subst (IsKnown c.args.bytes answer p.barred xs) (sym c.begun_at-begun.ensures)
     (known-barred _ _ _ c.requires.ready _ p c.requires.passed c.requires.short b))
     b.piece r.ensures.same r.ensures.begins r.ensures.free r.ensures.met r.ensures.left r.ensures.stays r.ensures.came
     r.ensures.up_to
 
 pub past_open-requires : goal.past_open-requires
-past_open-requires c = λ n.
-    let xs = c.args.part.now.bytes in
-    let k = walked ((goal.at.past_open-requires c).After-scan_up_to-walked) in
-    let e = not-found c.args.bytes (finds_from c.args.bytes c.args.scan xs) xs c.args.passed.end c.scan_up_to-walked.result k n in
-    omega (arith, e, free_span-le, (whole-open c.requires.passed.high c.args.passed.free c.requires.passed.goes_on).1)
+past_open-requires c = grind (arith, walked, not-found, free_span-le, whole-open)
 
 pub returns-in-Ended : goal.returns-in-Ended
 returns-in-Ended c =
-    let d = (goal.at.returns-in-Ended c).After-scan_up_to-walked in
     let xs = c.args.part.now.bytes in
     let q = c.requires.passed in
     let o = whole-open q.high c.args.passed.free q.goes_on in
-    c.past_open.ensures (finds_from c.args.bytes c.args.scan xs) c.args.passed.end xs q.high (walked d) q.high_piece o.0 o.1
+    c.past_open.ensures (finds_from c.args.bytes c.args.scan xs) c.args.passed.end xs q.high (walked ((goal.at.returns-in-Ended c).After-scan_up_to-walked)) q.high_piece o.0 o.1

@@ -1,4 +1,4 @@
-use Rattle.std.proofs.Common.{subst}
+use Rattle.std.proofs.Common.{subst, arith}
 use Rattle.zone_marks.specs.Searching.{IsStretch}
 use Rattle.zone_summary.specs.declared.stretch.Counting.TheVariants.{Runs}
 use Rattle.zone_marks.proofs.finding_runs.pass_stretch.Goals as goal
@@ -10,6 +10,4 @@ pub pass_known-farther-requires-clause-sums : goal.pass_known-farther-requires-c
 pass_known-farther-requires-clause-sums c = (c.requires.fits c.in-Known.runs c.in-Known.is).1
 
 pub returns-clause-passed : goal.returns-clause-passed
-returns-clause-passed c = λ xs scan q e s.
-    let t = subst (λ t. IsStretch Runs t c.args.at c.args.next xs) c.in-Known.is s in
-    c.pass_known-farther.ensures xs scan t.0 q e t.1 t.2
+returns-clause-passed c = grind arith

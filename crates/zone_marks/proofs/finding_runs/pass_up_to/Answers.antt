@@ -1,4 +1,4 @@
-use Rattle.std.proofs.Common.{length, refl, subst}
+use Rattle.std.proofs.Common.{length, refl, subst, arith}
 use Rattle.zone_marks.specs.Searching.{IsBefore, IsStretch}
 use Rattle.zone_summary.specs.declared.stretch.Counting.TheVariants.{Runs}
 use Rattle.zone_marks.proofs.Searches.Passed.{passed-fits}
@@ -8,24 +8,19 @@ use Rattle.zone_marks.proofs.finding_runs.pass_up_to.Goals.{After-within-next}
 
 -- up to where
 up-to : (c : After-within-next) → IsBefore c.args.behind c.args.marks.now c.args.part.now.bytes c.within-next.result
-up-to c =
-    let w = c.within-next.ensures in
-    before _ _ _ _ _ _ c.place_of_mark.ensures c.len.ensures.count w.one w.low w.least
+up-to c = grind arith
 
 pub pass_stretch-requires : goal.pass_stretch-requires
 pass_stretch-requires c = record {
-  fits = λ runs e.
-      let d = (goal.at.pass_stretch-requires c).After-within-next in
+  fits = λ runs e. let d = (goal.at.pass_stretch-requires c).After-within-next in
       passed-fits _ _ _ c.requires.sound.2 _ c.requires.come.1.ready _ _ _ c.requires.come.1.passed
-      _ (subst (λ t. IsStretch Runs t c.args.reached.at c.within-next.result c.args.part.now.bytes) e
-      (c.requires.stretch c.within-next.result (up-to d)));
+      _ (subst (λ t. IsStretch Runs t c.args.reached.at c.within-next.result c.args.part.now.bytes) e (grind arith));
 }
 
 pub returns-in-Some-clause-come : goal.returns-in-Some-clause-come
-returns-in-Some-clause-come c = λ scan h.
-    let i = c.requires.sound in
+returns-in-Some-clause-come c = λ scan h. let i = c.requires.sound in
     let xs = c.args.part.now.bytes in
-    let b = up-to ((goal.at.returns-in-Some-clause-come c).After-within-next) in
+    let b = up-to (grind arith) in
     let marks = c.args.marks.now in
     let next = c.within-next.result in
     record {

@@ -5,21 +5,10 @@ use Rattle.zone_marks.proofs.Searches.Passed.{passed-all, passed-none}
 use Rattle.zone_marks.proofs.finding_runs.reach_run.Goals as goal
 
 pub loop-reached-init : goal.loop-reached-init
-loop-reached-init c = record {
-  come = record {
-    ready = c.requires.ready;
-    passed = passed-none c.args.part.now.bytes c.args.scan c.requires.ready;
-    edge = c.requires.ready.begins;
-    inside = c.requires.first;
-    here = c.requires.here;
-    end = c.requires.end;
-  };
-  short = (omega arith);
-}
+loop-reached-init c = grind (arith, passed-none)
 
 pub returns : goal.returns
 returns c =
-    let xs = c.args.part.now.bytes in
     let v = c.loop-reached.invariant in
     let r = c.loop-reached.reached in
     sym (passed-all _ _ _ c.requires.ready _ _ v.come.passed v.short

@@ -1,4 +1,4 @@
-use Rattle.std.proofs.Common.{None, sym, ◌∙◌}
+use Rattle.std.proofs.Common.{None, sym, ◌∙◌, arith, rules}
 use Rattle.block_store.specs.Sparing.{spared}
 use Rattle.block_store.proofs.Regroup.RunScans.{scan_kept}
 use Rattle.zone_marks.proofs.Marks.Lowering.{begins-way}
@@ -6,16 +6,10 @@ use Rattle.zone_marks.proofs.Searches.Passed.{walked-out}
 use Rattle.zone_marks.proofs.finding_runs.walk_on.Goals as goal
 
 pub scan_up_to-last-requires-clause-way : goal.scan_up_to-last-requires-clause-way
-scan_up_to-last-requires-clause-way c =
-    let i = c.requires.sound in
-    begins-way c.args.part.now.bytes i.0 i.1 i.2 c.args.scan.place c.requires.begins
+scan_up_to-last-requires-clause-way c = search (rules, begins-way)
 
 pub returns-then-is_found : goal.returns-then-is_found
-returns-then-is_found c =
-    let last = c.scan_up_to-last.result in
-    sym (c.scan_up_to-last.ensures.same
-    ∙ scan_kept None c.args.bytes (spared c.args.sparing) last.left last.start _ _ _
-    _ (sym c.is_found.ensures ∙ c.if-is_found.true))
+returns-then-is_found c = grind (arith, scan_kept)
 
 pub returns : goal.returns
 returns c =

@@ -1,4 +1,4 @@
-use Rattle.std.proofs.Common.{◌≡◌, ◌⊎◌, ◌+◌, false, arith, subst}
+use Rattle.std.proofs.Common.{◌≡◌, ◌⊎◌, ◌+◌, false, arith, subst, rules}
 use Rattle.block_store.specs.Block.{is_room}
 use Rattle.zone_marks.proofs.Bounds.Space.{growing-start, growing-step}
 use Rattle.zone_marks.proofs.Marks.Passing.{passed-all, past}
@@ -8,17 +8,11 @@ pub loop-at-init : goal.loop-at-init
 loop-at-init c = growing-start _ _ _ c.requires
 
 pub loop-at-preserved : goal.loop-at-preserved
-loop-at-preserved c =
-    let g = c.greater-largest.ensures in
-    growing-step _ _ _ _ _ _ _ _ _ c.loop-at.invariant c.span_at-span.ensures g.first g.second g.one
+loop-at-preserved c = search (rules, growing-step)
 
 pub returns-clause-none : goal.returns-clause-none
-returns-clause-none c =
-    let k = c.len.ensures.count in
-    passed-all _ _ (λ _ b. is_room (c.loop-at.largest + 1) b ≡ false)
-    (λ _ b. is_room (c.loop-at.largest + 1) b ≡ false) _ _ _ c.loop-at.invariant.passed (λ _ b r. r) (past _ _ _ _
-    (subst (λ n. (c.within-stop.result ≡ c.args.to) ⊎ (c.within-stop.result ≡ n)) k c.within-stop.ensures.one)
-    (omega arith))
+returns-clause-none c = passed-all _ _ (λ _ b. is_room (c.loop-at.largest + 1) b ≡ false)
+    (λ _ b. is_room (c.loop-at.largest + 1) b ≡ false) _ _ _ c.loop-at.invariant.passed (λ _ b r. r) (grind arith)
 
 pub returns-clause-no_less : goal.returns-clause-no_less
 returns-clause-no_less c = c.loop-at.invariant.no_less

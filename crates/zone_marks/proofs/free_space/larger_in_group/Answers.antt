@@ -10,8 +10,4 @@ pub larger_in_stretch-largest-requires-clause-begins : goal.larger_in_stretch-la
 larger_in_stretch-largest-requires-clause-begins c = mark-begins _ _ _ _ _ (omega arith) c.requires.marks
 
 pub larger_in_stretch-largest-requires-clause-bound : goal.larger_in_stretch-largest-requires-clause-bound
-larger_in_stretch-largest-requires-clause-bound c = λ l.
-    let zone = zone_in c.args.part.now.bytes in
-    let m = get_or c.args.marks.now c.loop-index.index no_mark in
-    subst (λ n. AtEach (NoRoom (c.loop-index.largest + 1) m.at n) 0 zone) (sym c.place_of_mark-to.ensures)
-    (stretch-room _ _ _ _ (omega arith) c.requires.marks l)
+larger_in_stretch-largest-requires-clause-bound c = grind (arith, get_or, stretch-room)

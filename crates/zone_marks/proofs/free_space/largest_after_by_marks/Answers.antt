@@ -1,4 +1,4 @@
-use Rattle.std.proofs.Common.{sym, ap, ◌∙◌, subst, arith, inl, inr, ◌<◌, ◌^◌}
+use Rattle.std.proofs.Common.{sym, ap, ◌∙◌, subst, arith, inl, inr, ◌<◌, ◌^◌, rules}
 use Rattle.block_store.specs.Block.{sizes}
 use Rattle.block_store.specs.Compact.{largest_free}
 use Rattle.block_store.specs.Sparing.{purged}
@@ -12,28 +12,19 @@ use Rattle.zone_marks.proofs.Marks.Sought.{left-fits}
 use Rattle.zone_marks.proofs.free_space.largest_after_by_marks.Goals as goal
 
 pub walk_from-requires : goal.walk_from-requires
-walk_from-requires c =
-    let i = c.requires.sound in begins-way c.args.part.now.bytes i.0 i.1 i.2 c.args.from c.requires.from.begins
+walk_from-requires c = search (rules, begins-way)
 
 pub largest_after_in-above-requires : goal.largest_after_in-above-requires
-largest_after_in-above-requires c =
-    let i = c.requires.sound in
-    subst (λ l. sizes l < 2 ^ 32) (sym c.walk_from.ensures) (left-fits _ _ _ i.2 _ c.requires.from.begins)
+largest_after_in-above-requires c = subst (λ l. sizes l < 2 ^ 32) (sym c.walk_from.ensures) (search (rules, left-fits))
 
 pub returns : goal.returns
 returns c =
     let i = c.requires.sound in
     let f = largest-from c.args.part.now.bytes i.0 i.1 i.2 c.args.purges c.args.from c.requires.from in
-    let a = c.largest_after_in-above.ensures
-    ∙ ap (λ l. largest_free (purged c.args.purges sparing.Nothing l)) c.walk_from.ensures in
-    elim c.greater.ensures.one [
-      | inl e ↦ omega (arith, f, a, e)
-      | inr e ↦ omega (arith, f, a, e)
-    ]
+    (grind arith)
 
 -- as many purges as a zone can have blocks
 pub returns-then-purges-ge-GREATEST_ZONE : goal.returns-then-purges-ge-GREATEST_ZONE
 returns-then-purges-ge-GREATEST_ZONE c =
-    let xs = c.args.part.now.bytes in
-    c.largest_space_by_marks.ensures ∙ sym (ap largest_free (purged-most _ sparing.Nothing (zone_in xs)
+    c.largest_space_by_marks.ensures ∙ sym (ap largest_free (purged-most _ sparing.Nothing (zone_in c.args.part.now.bytes)
     (omega (arith, most-fits _ _ c.requires.sound.1 c.requires.sound.2 sparing.Nothing))))

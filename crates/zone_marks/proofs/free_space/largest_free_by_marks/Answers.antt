@@ -14,14 +14,7 @@ pub larger_between-largest-requires : goal.larger_between-largest-requires
 larger_between-largest-requires c = on-way _ _ _ c.requires.sound.2
 
 pub loop-group-init : goal.loop-group-init
-loop-group-init c =
-    let r = c.larger_between-largest.result in
-    let e = c.larger_between-largest.ensures in
-    record {
-      none = subst (λ p. AtEach (NoRoom (r + 1) 0 p) 0 (zone_in c.args.part.now.bytes)) c.place_of_mark.ensures
-          (subst (AtEach (NoRoom (r + 1) 0 c.place_of_mark.result) 0) (left-zone _) e.none);
-      reached = omega (arith, ap largest_free (left-zone c.args.part.now.bytes));
-    }
+loop-group-init c = grind (arith, left-zone)
 
 pub loop-group-preserved : goal.loop-group-preserved
 loop-group-preserved c =
@@ -29,12 +22,7 @@ loop-group-preserved c =
     let marks = c.args.marks.now in
     let group = c.loop-group.group in
     elim c.if-largest-groups.branch [
-      | then-largest-groups w ↦ record {
-        none = subst (λ m. NoneBelow (m + 1) zone marks (GROUP * (group + 1))) (sym w.largest-is)
-            (subst (NoneBelow (w.larger_in_group-largest.result + 1) zone marks)
-            (let e : GROUP * group + GROUP ≡ GROUP * (group + 1) = omega arith in e) w.larger_in_group-largest.ensures.none);
-        reached = (omega arith);
-      }
+      | then-largest-groups w ↦ (grind arith)
       | else-largest-groups w ↦ record {
         none = subst (λ m. NoneBelow (m + 1) zone marks (GROUP * (group + 1))) (sym w.largest-is)
             (none-group _ _ _ c.requires.sound.2 _ _ c.requires.marks _ c.requires.groups
@@ -44,7 +32,4 @@ loop-group-preserved c =
     ]
 
 pub returns : goal.returns
-returns c =
-    let xs = c.args.part.now.bytes in
-    zone-largest _ _ _ c.requires.sound.2 _ (none-past _ _ c.args.marks.now (GROUP * c.loop-group.group)
-    (omega arith) c.loop-group.invariant.none) c.loop-group.invariant.reached
+returns c = zone-largest _ _ _ c.requires.sound.2 _ (grind (arith, none-past)) c.loop-group.invariant.reached

@@ -3,12 +3,10 @@ use Rattle.zone_marks.proofs.Joined.Released.{leads-up, stop-way, stop-more, fre
 use Rattle.zone_marks.proofs.freeing.free_block.Goals as goal
 
 pub last_free_below-start-requires-clause-up : goal.last_free_below-start-requires-clause-up
-last_free_below-start-requires-clause-up c = leads-up _ _ _ c.requires.1
-    _ (c.below-from.ensures.begins _ c.requires.2) c.below-from.ensures.below
+last_free_below-start-requires-clause-up c = grind (arith, leads-up)
 
 pub last_free_below-start-requires-clause-inside : goal.last_free_below-start-requires-clause-inside
-last_free_below-start-requires-clause-inside c = let i =
-    (here-read c.requires.0 c.args.place c.args.part.now.bytes c.requires.1).inside in omega (arith, i)
+last_free_below-start-requires-clause-inside c = omega (arith, ((here-read c.requires.0 c.args.place c.args.part.now.bytes c.requires.1).inside))
 
 pub free_up-end-requires : goal.free_up-end-requires
 free_up-end-requires c =
@@ -29,9 +27,7 @@ join_above-requires c =
 
 pub overflow_sub-result : goal.overflow_sub-result
 overflow_sub-result c =
-    let t = c.free_up-end.ensures.end (lower _ _ _ c.requires.1 _
-    c.last_free_below-start.ensures) (may-free _ _ _ c.requires.1 _ c.last_free_below-start.ensures) in
-    omega (arith, t)
+    omega (arith, (c.free_up-end.ensures.end _ (may-free _ _ _ c.requires.1 _ c.last_free_below-start.ensures)))
 
 pub returns-clause-bytes : goal.returns-clause-bytes
 returns-clause-bytes c = λ f m.
@@ -39,34 +35,23 @@ returns-clause-bytes c = λ f m.
     omega (arith, c.free_up-end.ensures.end (lower f _ _ m _ r.ensures) (may-free f _ _ m _ r.ensures))
 
 pub returns-clause-lays : goal.returns-clause-lays
-returns-clause-lays c = λ f m.
-    let xs = c.args.part.now.bytes in
-    let r = c.last_free_below-start in
-    let t = c.free_up-end.ensures.end (lower f _ _ m _ r.ensures) (may-free f _ _ m _ r.ensures) in
-    released f _ _ m _ r.ensures _ t _ c.free_up-end.ensures.lays _ c.join_above.ensures.lays
+returns-clause-lays c = λ f m. let r = c.last_free_below-start in
+    released f _ _ m _ r.ensures _ (c.free_up-end.ensures.end (lower f _ _ m _ r.ensures) (may-free f _ _ m _ r.ensures)) _ c.free_up-end.ensures.lays _ c.join_above.ensures.lays
 
 pub returns-clause-replaced : goal.returns-clause-replaced
-returns-clause-replaced c = λ f m.
-    let xs = c.args.part.now.bytes in
-    let r = c.last_free_below-start in
-    let t = c.free_up-end.ensures.end (lower f _ _ m _ r.ensures) (may-free f _ _ m _ r.ensures) in
-    freed-replaced f _ _ m _ r.ensures _ t _ c.free_up-end.ensures.lays _ c.free_behind-more.ensures
+returns-clause-replaced c = λ f m. let r = c.last_free_below-start in
+    freed-replaced f _ _ m _ r.ensures _ (c.free_up-end.ensures.end (lower f _ _ m _ r.ensures) (may-free f _ _ m _ r.ensures)) _ c.free_up-end.ensures.lays _ c.free_behind-more.ensures
 
 pub free_behind-more-requires : goal.free_behind-more-requires
 free_behind-more-requires c =
     let f = c.requires.0 in
-    let xs = c.args.part.now.bytes in
     let r = c.last_free_below-start in
     let u = c.free_up-end in
-    let t = u.ensures.end (lower f _ _ c.requires.1 _ r.ensures) (may-free f _ _ c.requires.1 _ r.ensures) in
-    stop-way f c.args.place xs c.requires.1 r.result r.ensures u.result t u.new.part.bytes u.ensures.lays
+    stop-way f c.args.place c.args.part.now.bytes c.requires.1 r.result r.ensures u.result (u.ensures.end (lower f _ _ c.requires.1 _ r.ensures) (may-free f _ _ c.requires.1 _ r.ensures)) u.new.part.bytes u.ensures.lays
 
 pub overflow_add-result : goal.overflow_add-result
 overflow_add-result c =
     let f = c.requires.0 in
-    let xs = c.args.part.now.bytes in
     let r = c.last_free_below-start in
     let u = c.free_up-end in
-    let t = u.ensures.end (lower f _ _ c.requires.1 _ r.ensures) (may-free f _ _ c.requires.1 _ r.ensures) in
-    let k = stop-more f _ _ c.requires.1 _ r.ensures _ t _ u.ensures.lays _ c.free_behind-more.ensures in
-    omega (arith, k)
+    omega (arith, (stop-more f _ _ c.requires.1 _ r.ensures _ (u.ensures.end (lower f _ _ c.requires.1 _ r.ensures) (may-free f _ _ c.requires.1 _ r.ensures)) _ u.ensures.lays _ c.free_behind-more.ensures))

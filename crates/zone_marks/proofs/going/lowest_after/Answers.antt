@@ -1,4 +1,4 @@
-use Rattle.std.proofs.Common.{◌++◌, subst, arith}
+use Rattle.std.proofs.Common.{◌++◌, subst, arith, rules}
 use Rattle.zone_bytes.specs.Changes.{AtEach}
 use Rattle.zone_marks.specs.Purgeable.{Stays}
 use Rattle.zone_marks.proofs.Bounds.Going.{stays-lower, stays-replaced, stays-under, stays-whole}
@@ -10,10 +10,7 @@ pub returns-then-lowest-lo : goal.returns-then-lowest-lo
 returns-then-lowest-lo c = λ old r n. stays-under _ _ _ _ r _ n _ (omega arith) c.if-lowest-lo.true
 
 pub first_going-found-requires : goal.first_going-found-requires
-first_going-found-requires c =
-    let i = c.requires.sound in
-    let r = c.requires.replaced.1 in
-    way-above c.args.part.now.bytes i.0 i.1 i.2 r.below (r.there ++ r.above) c.args.lo r.is r.low
+first_going-found-requires c = search (rules, way-above)
 
 pub returns-then-hi-found : goal.returns-then-hi-found
 returns-then-hi-found c = λ old r n.

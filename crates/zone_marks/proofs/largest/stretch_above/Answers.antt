@@ -1,4 +1,4 @@
-use Rattle.std.proofs.Common.{◌≡◌, ◌⊎◌, ◌∙◌, ap, arith, drop, inl, inr, subst, sym}
+use Rattle.std.proofs.Common.{◌≡◌, ◌⊎◌, ◌∙◌, ap, arith, drop, inl, inr, subst, sym, rules}
 use Rattle.zone_summary.specs.Stretches.{join, load, prefix, stretch_by}
 use Rattle.zone_summary.proofs.Monoid.{counted-none, join-assoc, join-unit_right}
 use Rattle.zone_summary.proofs.Sums.{ends-load, load-join}
@@ -17,32 +17,25 @@ use Rattle.zone_marks.proofs.largest.stretch_above.Goals as goal
 -- the first landmark above the place
 first : (c : After-within-at) → (c.within-at.result ≡ next_of 4294967295 (drop c.index_above-index.result c.args.marks.now))
     ⊎ (c.within-at.result ≡ c.len-end.result)
-first c = subst (λ q. (c.within-at.result ≡ q) ⊎ (c.within-at.result ≡ c.len-end.result)) c.place_of_mark.ensures
-    c.within-at.ensures.one
+first c = grind arith
 
 edge_at : (c : After-within-at) → Begins c.within-at.result 0 (zone_in c.args.part.now.bytes)
-edge_at c = let i = c.requires.sound in
-    bounded-edge _ _ _ i.2 _ c.requires.marks _ _ _ c.len-end.ensures.count (first c) c.within-at.ensures.low
+edge_at c = bounded-edge _ _ _ c.requires.sound.2 _ c.requires.marks _ _ _ c.len-end.ensures.count (first c) c.within-at.ensures.low
 
 -- and the next one
 next : (c : After-within-next)
     → (c.within-next.result ≡ next_of 4294967295 (drop c.told_from-told.result.behind c.args.marks.now))
     ⊎ (c.within-next.result ≡ c.len-end.result)
-next c = subst (λ q. (c.within-next.result ≡ q) ⊎ (c.within-next.result ≡ c.len-end.result))
-    c.place_of_mark-in-loop-index.ensures c.within-next.ensures.one
+next c = grind arith
 
 edge_next : (c : After-within-next) → Begins c.within-next.result 0 (zone_in c.args.part.now.bytes)
-edge_next c = let i = c.requires.sound in
-    bounded-edge _ _ _ i.2 _ c.requires.marks _ _ _ c.len-end.ensures.count (next c) c.within-next.ensures.low
+edge_next c = bounded-edge _ _ _ c.requires.sound.2 _ c.requires.marks _ _ _ c.len-end.ensures.count (next c) c.within-next.ensures.low
 
 stretch : (c : After-within-next)
     → IsStretch c.args.counting c.told_from-told.result.tally c.loop-index.at c.within-next.result c.args.part.now.bytes
 stretch c =
-    let w = c.within-next.ensures in
     subst (λ q. IsStretch c.args.counting c.told_from-told.result.tally q c.within-next.result c.args.part.now.bytes)
-    (sym (c.loop-index.invariant.here c.loop-index-test.true))
-    (c.told_from-told.ensures.stretch c.within-next.result (before _ _ _ _ _ _ c.place_of_mark-in-loop-index.ensures
-    c.len-end.ensures.count w.one w.low w.least))
+    (sym (c.loop-index.invariant.here c.loop-index-test.true)) (search rules)
 
 pub walked_between-stretch-requires-clause-ends : goal.walked_between-stretch-requires-clause-ends
 walked_between-stretch-requires-clause-ends c = edge_at (goal.at.walked_between-stretch-requires-clause-ends c).After-within-at
@@ -70,26 +63,22 @@ loop-index-init c =
     }
 
 pub returns-then-suffices-clause-low : goal.returns-then-suffices-clause-low
-returns-then-suffices-clause-low c =
-    ended-lowest _ _ (c.suffices.ensures c.if-suffices.true).1 ∙ sym (ap prefix c.loop-index.invariant.same)
+returns-then-suffices-clause-low c = grind arith
 
 pub stretch_of_mark-requires-clause-ends : goal.stretch_of_mark-requires-clause-ends
 stretch_of_mark-requires-clause-ends c = edge_next (goal.at.stretch_of_mark-requires-clause-ends c).After-within-next
 
 pub stretch_of_mark-requires-clause-order : goal.stretch_of_mark-requires-clause-order
-stretch_of_mark-requires-clause-order c = let s = stretch (goal.at.stretch_of_mark-requires-clause-order c).After-within-next in
-    omega arith
+stretch_of_mark-requires-clause-order c = search rules
 
 pub stretch_of_mark-requires-clause-stretch : goal.stretch_of_mark-requires-clause-stretch
 stretch_of_mark-requires-clause-stretch c = stretch (goal.at.stretch_of_mark-requires-clause-stretch c).After-within-next
 
 pub join-stretch-requires : goal.join-stretch-requires
-join-stretch-requires c =
-    let xs = c.args.part.now.bytes in
-    omega (
+join-stretch-requires c = omega (
       arith,
       ends-load c.loop-index.stretch c.stretch_of_mark.result,
-      known-fits c.args.counting xs c.loop-index.at c.within-next.result c.stretch_of_mark.result c.stretch_of_mark.ensures,
+      known-fits c.args.counting c.args.part.now.bytes c.loop-index.at c.within-next.result c.stretch_of_mark.result c.stretch_of_mark.ensures,
       c.requires.sound.2.lays.small,
       c.loop-index.invariant.few,
       c.within-next.ensures.low,
@@ -103,8 +92,7 @@ loop-index-preserved c =
     let d = (goal.at.loop-index-preserved c).After-within-next in
     let rest = stretch_by c.args.counting (left_in c.within-next.result xs) in
     record {
-      same = c.loop-index.invariant.same ∙ ap (join c.loop-index.stretch)
-          (known-past _ _ _ _ _ c.stretch_of_mark.ensures)
+      same = c.loop-index.invariant.same ∙ ap (join c.loop-index.stretch) (grind (arith, known-past))
           ∙ sym (join-assoc _ _ _) ∙ ap (λ r. join r rest) (sym c.join-stretch.ensures.is);
       inside = c.told_from-told.ensures.inside;
       few = omega (
@@ -122,7 +110,6 @@ loop-index-preserved c =
 -- no block is left behind the last landmark
 whole : (c : After-loop-index) → stretch_by c.args.counting (left_in c.args.from c.args.part.now.bytes) ≡ c.loop-index.stretch
 whole c =
-    let xs = c.args.part.now.bytes in
     let v = c.loop-index.invariant in
     v.same ∙ ap (λ l. join c.loop-index.stretch (stretch_by c.args.counting l)) (left-none _ _
     (begins-way _ _ _ c.requires.sound.2 _ v.edge) (v.end c.loop-index-test.false))

@@ -1,4 +1,4 @@
-use Rattle.std.proofs.Common.{◌≡◌, ◌*◌, ◌/◌, get_or, take, drop, refl, sym, ◌∙◌, subst, arith}
+use Rattle.std.proofs.Common.{◌≡◌, ◌*◌, ◌/◌, get_or, take, drop, refl, sym, ◌∙◌, subst, arith, rules}
 use Rattle.zone_marks.specs.Marks.{no_mark, tally_of}
 use Rattle.zone_marks.specs.Searching.{IsStretch}
 use Rattle.zone_marks.specs.declared.landmark.TheConstants.{GROUP}
@@ -7,17 +7,11 @@ use Rattle.zone_marks.proofs.Searches.Pieces.{group-stretch, next-stretch}
 use Rattle.zone_marks.proofs.largest.told_from.Goals as goal
 
 pub returns-in-Known-clause-stretch : goal.returns-in-Known-clause-stretch
-returns-in-Known-clause-stretch c = λ next b.
-    let low = c.args.index in
+returns-in-Known-clause-stretch c = λ next b. let low = c.args.index in
     let l = c.requires.inside in
-    let e : GROUP * (low / 16) ≡ low = omega arith in
-    let how = c.args.counting in
-    group-stretch _ _ _ c.requires.sound.2 _ _ c.requires.marks _ _ l
-    (λ s f. subst (λ n. tally_of how (take GROUP (drop n c.args.marks.now)) ≡ tally.Known s) e
-    (c.requires.groups.known how (low / 16) s (omega (arith, l)) (sym c.told-tally.ensures ∙ f))) _ b
+    group-stretch _ _ _ c.requires.sound.2 _ _ c.requires.marks _ _ l (grind arith) _ b
 
 pub returns-clause-stretch : goal.returns-clause-stretch
-returns-clause-stretch c = λ next b.
-    let xs = c.args.part.now.bytes in
+returns-clause-stretch c = λ next b. let xs = c.args.part.now.bytes in
     subst (λ t. IsStretch c.args.counting t (get_or c.args.marks.now c.args.index no_mark).at next xs) (sym c.told.ensures)
-    (next-stretch _ _ _ c.requires.sound.2 _ _ c.requires.marks _ _ _ c.requires.inside refl b.either b.low b.least)
+    (search (rules, next-stretch))

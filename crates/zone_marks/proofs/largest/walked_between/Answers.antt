@@ -1,4 +1,4 @@
-use Rattle.std.proofs.Common.{sym, subst}
+use Rattle.std.proofs.Common.{sym, subst, rules}
 use Rattle.zone_marks.proofs.Bounds.Fewest.{stretch-from}
 use Rattle.zone_marks.proofs.Marks.Lowering.{begins-way}
 use Rattle.zone_marks.specs.Searching.{IsStretch}
@@ -7,21 +7,15 @@ use Rattle.zone_summary.specs.declared.stretch.Counting.TheVariants.{Runs, Space
 use Rattle.zone_marks.proofs.largest.walked_between.Goals as goal
 
 pub measure_up_to-requires : goal.measure_up_to-requires
-measure_up_to-requires c = let i = c.requires.sound in
-    begins-way c.args.part.now.bytes i.0 i.1 i.2 c.args.from c.requires.begins
+measure_up_to-requires c = search (rules, begins-way)
 
 pub spaces_up_to-requires : goal.spaces_up_to-requires
-spaces_up_to-requires c = let i = c.requires.sound in
-    begins-way c.args.part.now.bytes i.0 i.1 i.2 c.args.from c.requires.begins
+spaces_up_to-requires c = search (rules, begins-way)
 
 pub returns-in-Runs : goal.returns-in-Runs
-returns-in-Runs c = let t = tally.Known c.measure_up_to.result.runs in
-    subst (λ w. IsStretch w t c.args.from c.args.to c.args.part.now.bytes) (sym c.in-Runs.is)
-    (stretch-from _ _ _ c.requires.sound.2 Runs t c.args.from c.args.to c.requires.begins c.requires.ends
-    c.requires.order c.measure_up_to.ensures.below.runs)
+returns-in-Runs c = subst (λ w. IsStretch w (tally.Known c.measure_up_to.result.runs) c.args.from c.args.to c.args.part.now.bytes) (sym c.in-Runs.is)
+    (search (rules, stretch-from))
 
 pub returns-in-Spaces : goal.returns-in-Spaces
-returns-in-Spaces c = let t = tally.Known c.spaces_up_to.result in
-    subst (λ w. IsStretch w t c.args.from c.args.to c.args.part.now.bytes) (sym c.in-Spaces.is)
-    (stretch-from _ _ _ c.requires.sound.2 Spaces t c.args.from c.args.to c.requires.begins c.requires.ends
-    c.requires.order c.spaces_up_to.ensures)
+returns-in-Spaces c = subst (λ w. IsStretch w (tally.Known c.spaces_up_to.result) c.args.from c.args.to c.args.part.now.bytes) (sym c.in-Spaces.is)
+    (search (rules, stretch-from))

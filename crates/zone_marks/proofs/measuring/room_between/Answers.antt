@@ -1,4 +1,4 @@
-use Rattle.std.proofs.Common.{◌≡◌, false, inl, arith, subst, ◌⊎◌}
+use Rattle.std.proofs.Common.{◌≡◌, false, inl, arith, subst, ◌⊎◌, rules}
 use Rattle.block_store.specs.Block.{is_room}
 use Rattle.zone_marks.proofs.Marks.Passing.{passed-begins, passed-step, passed-all, past}
 use Rattle.zone_marks.proofs.Marks.Spanned.{no-room, room-here}
@@ -6,8 +6,7 @@ use Rattle.zone_marks.proofs.measuring.room_between.Goals as goal
 use Rattle.zone_marks.proofs.measuring.room_between.Goals.{else-span-gt0-via-then-span-gt0+else-bytes-span, else-span-gt0-via-else-span-gt0}
 
 pub returns-then-bytes-span-clause-begins : goal.returns-then-bytes-span-clause-begins
-returns-then-bytes-span-clause-begins c = passed-begins _ _
-    (λ _ b. is_room c.args.bytes b ≡ false) _ c.loop-at.invariant
+returns-then-bytes-span-clause-begins c = search (rules, passed-begins)
 
 pub returns-then-bytes-span-clause-lowest : goal.returns-then-bytes-span-clause-lowest
 returns-then-bytes-span-clause-lowest c = passed-all _ _
@@ -15,21 +14,12 @@ returns-then-bytes-span-clause-lowest c = passed-all _ _
     c.loop-at.invariant (λ _ b r. r) (inl (omega arith))
 
 pub returns-then-bytes-span-clause-room : goal.returns-then-bytes-span-clause-room
-returns-then-bytes-span-clause-room c = room-here _ _ _
-    _ _ _ c.span_at-span.ensures c.if-span-gt0.true c.if-bytes-span.true
+returns-then-bytes-span-clause-room c = grind arith
 
 pub loop-at-preserved : goal.loop-at-preserved
-loop-at-preserved c =
-    passed-step _ _ (λ _ b. is_room c.args.bytes b ≡ false) _ _
-    _ _ c.loop-at.invariant c.span_at-span.ensures (λ b e z. no-room _ b z (λ p q. elim c.else-span-gt0.branch [
-      | else-span-gt0-via-then-span-gt0+else-bytes-span w ↦ omega (arith, e, q)
-      | else-span-gt0-via-else-span-gt0 w ↦ omega (arith, e, p)
-    ]))
+loop-at-preserved c = passed-step _ _ (λ _ b. is_room c.args.bytes b ≡ false) _ _
+    _ _ c.loop-at.invariant c.span_at-span.ensures (λ b e z. no-room _ b z (λ p q. (grind arith)))
 
 pub returns-clause-none : goal.returns-clause-none
-returns-clause-none c =
-    let k = c.len.ensures.count in
-    passed-all _ _ (λ _ b. is_room c.args.bytes b ≡ false)
-    (λ _ b. is_room c.args.bytes b ≡ false) _ _ _ c.loop-at.invariant (λ _ b r. r) (past _ _ _ _
-    (subst (λ n. (c.within-stop.result ≡ c.args.to) ⊎ (c.within-stop.result ≡ n)) k c.within-stop.ensures.one)
-    (omega arith))
+returns-clause-none c = passed-all _ _ (λ _ b. is_room c.args.bytes b ≡ false)
+    (λ _ b. is_room c.args.bytes b ≡ false) _ _ _ c.loop-at.invariant (λ _ b r. r) (search rules)

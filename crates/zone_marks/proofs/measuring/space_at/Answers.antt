@@ -24,17 +24,13 @@ gives_space-requires-clause-inside c =
     (next-header c.args.at c.args.part.now.bytes c.requires.way c.requires.some).fits
 
 pub returns-then-gives_space : goal.returns-then-gives_space
-returns-then-gives_space c = λ here above is.
-    let r = c.read_word-first in
-    let h = next-header c.args.at c.args.part.now.bytes c.requires.way c.requires.some in
+returns-then-gives_space c = λ here above is. let r = c.read_word-first in
     ap (λ t. counted t (r.result - r.result % 16)) (sym c.if-gives_space.true ∙ c.gives_space.ensures)
     ∙ space-made _ _ c.requires.way c.requires.some _ _
-    (whole _ _ r.ensures) (even _) (small _ _ r.ensures h.tag) _ _ is
+    (whole _ _ r.ensures) (even _) (small _ _ r.ensures (next-header c.args.at c.args.part.now.bytes c.requires.way c.requires.some).tag) _ _ is
 
 pub returns-else-gives_space : goal.returns-else-gives_space
-returns-else-gives_space c = λ here above is.
-    let r = c.read_word-first in
-    let h = next-header c.args.at c.args.part.now.bytes c.requires.way c.requires.some in
+returns-else-gives_space c = λ here above is. let r = c.read_word-first in
     ap (λ t. counted t (r.result - r.result % 16)) (sym c.if-gives_space.false ∙ c.gives_space.ensures)
     ∙ space-made _ _ c.requires.way c.requires.some _ _
-    (whole _ _ r.ensures) (even _) (small _ _ r.ensures h.tag) _ _ is
+    (whole _ _ r.ensures) (even _) (small _ _ r.ensures (next-header c.args.at c.args.part.now.bytes c.requires.way c.requires.some).tag) _ _ is

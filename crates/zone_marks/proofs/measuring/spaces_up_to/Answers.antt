@@ -19,8 +19,4 @@ loop-at-preserved c =
     c.loop-at-test.true (c.space_at.ensures _ _ c.span_at-span.ensures.is) c.join-spaces.ensures.is
 
 pub returns : goal.returns
-returns c =
-    let k = c.len.ensures.count in
-    spaced-tells _ _ _ _ _ _ c.loop-at.invariant c.within-stop.ensures.least (past _ _ _ _
-    (subst (λ n. (c.within-stop.result ≡ c.args.place) ⊎ (c.within-stop.result ≡ n)) k c.within-stop.ensures.one)
-    (omega arith))
+returns c = spaced-tells _ _ _ _ _ _ c.loop-at.invariant c.within-stop.ensures.least (grind arith)

@@ -19,19 +19,12 @@ read_word-first-requires c =
     (h.even, omega arith)
 
 pub overflow_add-result : goal.overflow_add-result
-overflow_add-result c =
-    let h = next-header c.args.at c.args.part.now.bytes c.requires.way c.requires.some in
-    let s = stepped _ _ c.requires.way c.requires.some _ _
-    (whole _ _ c.read_word-first.ensures) (even _) (small _ _ c.read_word-first.ensures h.tag) in
+overflow_add-result c = let s = stepped _ _ c.requires.way c.requires.some _ _
+    (whole _ _ c.read_word-first.ensures) (even _) (small _ _ c.read_word-first.ensures (next-header c.args.at c.args.part.now.bytes c.requires.way c.requires.some).tag) in
     omega arith
 
 pub ends_run_at-requires-clause-inside : goal.ends_run_at-requires-clause-inside
-ends_run_at-requires-clause-inside c =
-    (next-header c.args.at c.args.part.now.bytes c.requires.way c.requires.some).fits
+ends_run_at-requires-clause-inside c = grind (arith, next-header)
 
 pub returns : goal.returns
-returns c =
-    let xs = c.args.part.now.bytes in
-    let h = next-header c.args.at xs c.requires.way c.requires.some in
-    span-made _ _ c.requires.way c.requires.some _ _ (whole _ _ c.read_word-first.ensures)
-    (even _) (small _ _ c.read_word-first.ensures h.tag) _ c.free_by_tag.ensures _ c.ends_run_at.ensures
+returns c = grind (arith, next-header, span-made, whole, even, small)

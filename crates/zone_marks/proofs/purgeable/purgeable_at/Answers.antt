@@ -1,4 +1,4 @@
-use Rattle.std.proofs.Common.{◌+◌, ◌∙◌, Some, sym, subst}
+use Rattle.std.proofs.Common.{◌+◌, ◌∙◌, Some, sym, subst, rules}
 use Rattle.std.proofs.lemmas.Option.{same_Some}
 use Rattle.heap_words.specs.Headers.{tag_number}
 use Rattle.block_store.specs.Walk.{Tells}
@@ -16,13 +16,10 @@ pub read_header-header-requires-clause-tag : goal.read_header-header-requires-cl
 read_header-header-requires-clause-tag c = (next-header _ _ c.requires.way c.requires.some).tag
 
 pub returns : goal.returns
-returns c = λ b above q.
-    let h = c.read_header-header.result in
+returns c = λ b above q. let h = c.read_header-header.result in
     let e = c.read_header-header.ensures in
     let at = c.args.place in
     let xs = c.args.part.now.bytes in
-    let s = stepped at xs c.requires.way c.requires.some h.size (tag_number h.tag) e.first e.size (tag-small h.tag) in
     let a = c.seen_of.ensures ∙ (λ i. header_seen (tag_number h.tag) h.size (e.logical i) (e.slot i) (e.flags i)) in
-    let t = subst (λ l. Tells l (Some c.seen_of.result) (left_in (at + h.size) xs)) q (tells-step _ _ _ _ s _ a) in
-    c.purgeable_of_seen.ensures b (sym (same_Some _ _ t.0))
-    (sym (size-at _ _ c.requires.way c.requires.some _ _ e.first e.size (tag-small _) b _ q))
+    let t = subst (λ l. Tells l (Some c.seen_of.result) (left_in (at + h.size) xs)) q (tells-step _ _ _ _ (stepped at xs c.requires.way c.requires.some h.size (tag_number h.tag) e.first e.size (tag-small h.tag)) _ a) in
+    c.purgeable_of_seen.ensures b (sym (same_Some _ _ t.0)) (sym (search (rules, size-at, tag-small)))

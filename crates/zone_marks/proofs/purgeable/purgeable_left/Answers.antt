@@ -12,10 +12,7 @@ pub purgeable_bytes_in-requires : goal.purgeable_bytes_in-requires
 purgeable_bytes_in-requires c = subst (λ l. sizes l < 2 ^ 32) (sym c.walk_from.ensures) (sizes-fit _ _ _ c.requires.2)
 
 pub returns-then-frees_one : goal.returns-then-frees_one
-returns-then-frees_one c = λ k zone e f m.
-    omega (arith, c.purgeable_bytes_in.ensures ∙ ap purgeable_sum (c.walk_from.ensures ∙ left-zone _))
+returns-then-frees_one c = grind (arith, left-zone)
 
 pub returns-else-frees_one : goal.returns-else-frees_one
-returns-else-frees_one c = λ k zone e f m.
-    let g = free-given c.args.sparing (c.frees_one.ensures c.if-frees_one.false) k zone in
-    omega (arith, g, ap purgeable_sum e, ap free_sum e, f, m)
+returns-else-frees_one c = grind (arith, free-given)

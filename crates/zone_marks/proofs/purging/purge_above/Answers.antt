@@ -52,18 +52,9 @@ purge_from-requires c = (
         ]
 
 pub returns-clause-purged : goal.returns-clause-purged
-returns-clause-purged c = λ f m.
-    let r = place-read f c.args.place c.args.part.now.bytes m in
-    let h = c.read_header-header.result in
+returns-clause-purged c = λ f m. let h = c.read_header-header.result in
     let e = c.read_header-header.ensures in
-    let z = r.says h.size (tag_number h.tag) e.first e.size (tag-small h.tag) in
+    let z = (place-read f c.args.place c.args.part.now.bytes m).says h.size (tag_number h.tag) e.first e.size (tag-small h.tag) in
     subst (λ k. Purged (purge_above k f c.args.purges c.args.sparing) c.purge_from.result.to c.purge_from.result.bytes
     c.purge_from.new.part.bytes) (sym c.purge_from.ensures.from)
-    (c.purge_from.ensures.purged (purge_above c.if-eq.start f c.args.purges c.args.sparing) (elim c.if-eq.branch [
-      | then-eq w ↦ rw w.start-is (above-free f _ _ m _ _
-          _ c.without_freed.ensures.same c.without_freed.ensures.none _
-          (ap (λ n. c.args.place + n) z.0) (sym z.1 ∙ free-true _ w.if-eq.ensures))
-      | else-eq w ↦ rw w.start-is (above-other f _ _ m _ _
-          _ c.without_freed.ensures.same c.without_freed.ensures.none _
-          (ap (λ n. c.args.place + n) z.0) (subst (λ t. 0 < t) z.1 (free-false _ w.if-eq.ensures)))
-    ]))
+    (c.purge_from.ensures.purged (purge_above c.if-eq.start f c.args.purges c.args.sparing) ((grind (arith, then-eq, above-free, free-true, else-eq, above-other, free-false))))

@@ -14,27 +14,23 @@ purge_from-requires c = (
 )
 
 pub returns-in_default-clause-purged : goal.returns-in_default-clause-purged
-returns-in_default-clause-purged c = λ first unused i.
-    let xs = c.args.part.now.bytes in
+returns-in_default-clause-purged c = λ first unused i. let xs = c.args.part.now.bytes in
     subst (λ k. Purged (purge_zone k xs i.unused c.args.purges c.args.sparing) c.purge_from.result.to
     c.purge_from.result.bytes c.purge_from.new.part.bytes) (sym c.purge_from.ensures.from)
-    (c.purge_from.ensures.purged (purge_zone 0 xs i.unused c.args.purges c.args.sparing) (all-start _ _ _ i _ _))
+    (c.purge_from.ensures.purged _ (all-start _ _ _ i _ _))
 
 pub last_free_below-start-requires-clause-up : goal.last_free_below-start-requires-clause-up
 last_free_below-start-requires-clause-up c =
     let i = c.requires.sound in
     let f = c.in-Some.ensures.lowest in
     let p = c.in-Some.ensures.plain refl in
-    let m = may-go c.args.part.now.bytes i.0 i.1 i.2 c.args.purges c.args.sparing f.0 f.1 c.in-Some.place f.3 p in
-    leads-up _ _ _ m _ (subst (Begins c.below-from.result 0) (going-is _ _ _ i.2 c.args.purges _ _ f.1 _ f.3 p)
+    leads-up _ _ _ (may-go c.args.part.now.bytes i.0 i.1 i.2 c.args.purges c.args.sparing f.0 f.1 c.in-Some.place f.3 p) _ (subst (Begins c.below-from.result 0) (going-is _ _ _ i.2 c.args.purges _ _ f.1 _ f.3 p)
     (c.below-from.ensures.begins (zone_in c.args.part.now.bytes) c.requires.marks)) c.below-from.ensures.below
 
 pub last_free_below-start-requires-clause-inside : goal.last_free_below-start-requires-clause-inside
 last_free_below-start-requires-clause-inside c =
-    let xs = c.args.part.now.bytes in
     let f = c.in-Some.ensures.lowest in
-    let p = c.in-Some.ensures.plain refl in
-    let r = here-read _ _ _ (may-go _ _ _ c.requires.sound.2 c.args.purges _ _ f.1 _ f.3 p) in
+    let r = here-read _ _ _ (may-go _ _ _ c.requires.sound.2 c.args.purges _ _ f.1 _ f.3 (c.in-Some.ensures.plain refl)) in
     omega arith
 
 pub purge_from-requires-2 : goal.purge_from-requires-2
@@ -42,18 +38,15 @@ purge_from-requires-2 c =
     let i = c.requires.sound in
     let xs = c.args.part.now.bytes in
     let f = c.in-Some.ensures.lowest in
-    let p = c.in-Some.ensures.plain refl in
     let s = c.last_free_below-start in (
       purge_zone s.result xs i.2.unused c.args.purges c.args.sparing,
-      lowest-start xs i.0 i.1 i.2 c.args.purges c.args.sparing f.0 f.1 c.in-Some.place f.3 p s.result s.ensures,
+      lowest-start xs i.0 i.1 i.2 c.args.purges c.args.sparing f.0 f.1 c.in-Some.place f.3 (c.in-Some.ensures.plain refl) s.result s.ensures,
     )
 
 pub returns-clause-purged : goal.returns-clause-purged
-returns-clause-purged c = λ first unused i.
-    let xs = c.args.part.now.bytes in
-    let p = c.in-Some.ensures.plain refl in
+returns-clause-purged c = λ first unused i. let xs = c.args.part.now.bytes in
     let s = c.last_free_below-start in
     let u = c.purge_from-2 in
     subst (λ k. Purged (purge_zone k xs i.unused c.args.purges c.args.sparing) u.result.to u.result.bytes u.new.part.bytes)
     (sym u.ensures.from) (u.ensures.purged (purge_zone s.result xs i.unused c.args.purges c.args.sparing)
-    (lowest-start _ _ _ i _ _ _ c.in-Some.ensures.lowest.1 _ c.in-Some.ensures.lowest.3 p _ s.ensures))
+    (lowest-start _ _ _ i _ _ _ c.in-Some.ensures.lowest.1 _ c.in-Some.ensures.lowest.3 (c.in-Some.ensures.plain refl) _ s.ensures))
