@@ -44,10 +44,8 @@ stays-above bound x blocks l = at-all (Stays bound) x _ (λ p b m q. absurd (ome
 
 -- a block that ends below the place
 pub stays-here : (bound x : ℕ) (b : Block) → Stays bound x b → x + size b ≤ bound → is_purgeable b ≡ false
-stays-here bound x (Free n) s l = refl
-stays-here bound x (Nonrelocatable id content) s l = refl
-stays-here bound x Masters s l = refl
 stays-here bound x (Relocatable id flags content) s l = s (omega (arith, l))
+stays-here bound x _ s l = refl
 
 -- blocks that end below it
 pub stays-whole : (bound other x : ℕ) (blocks : List Block) → x + sizes blocks ≤ bound → AtEach (Stays bound) x blocks
@@ -176,8 +174,7 @@ pub stays-from : (xs : List ℕ) (first unused : ℕ) (i : IsSound xs first unus
     → NoneGoes from (zone_in xs) → (bound : ℕ) → AtEach (Stays bound) from (left_in from xs)
     → NoneGoes bound (zone_in xs)
 stays-from xs first unused i from b g bound s =
-    let e = seen-from xs first unused i from b in
-    subst (NoneGoes bound) (sym e.is) (grind (arith, at-append, stays-whole, at-left))
+    subst (NoneGoes bound) (sym (seen-from xs first unused i from b).is) (grind (arith, at-append, stays-whole, at-left))
 
 -- what a search that looks from the bottom of blocks found
 found-from : (edge : ℕ) (test : Block → Bool) (blocks : List Block) (place : ℕ)

@@ -32,15 +32,11 @@ spares = spared sparing.Nothing
 -- no room for so many bytes is none for more
 room-more : (p q : ℕ) (b : Block) → p ≤ q → is_room p b ≡ false → is_room q b ≡ false
 room-more p q (Free n) l e = grind (arith, l, e)
-room-more p q (Nonrelocatable id content) l e = refl
-room-more p q Masters l e = refl
-room-more p q (Relocatable id flags content) l e = refl
+room-more p q _ l e = refl
 
 room-less : (m : ℕ) (b : Block) → is_room (m + 1) b ≡ false → free_of b ≤ m
 room-less m (Free n) e = grind (arith, e)
-room-less m (Nonrelocatable id content) e = omega arith
-room-less m Masters e = omega arith
-room-less m (Relocatable id flags content) e = omega arith
+room-less m _ e = omega arith
 
 pub no-more-room : (p q lo hi x : ℕ) (blocks : List Block) → p ≤ q → AtEach (NoRoom p lo hi) x blocks
     → AtEach (NoRoom q lo hi) x blocks
@@ -75,9 +71,7 @@ module _ (xs : List ℕ) (from most : ℕ) where
   pub growing-step : (at end free largest next : ℕ) (barrier : Bool) → Growing xs from at most largest
       → Spans at end free barrier xs → largest ≤ next → free ≤ next → (next ≡ largest) ⊎ (next ≡ free)
       → Growing xs from end most next
-  growing-step at end free largest next barrier g s l m o =
-      let z = ap largest_free s.is in
-      record {
+  growing-step at end free largest next barrier g s l m o = record {
         passed = passed-step _ _ (λ _ c. is_room (next + 1) c ≡ false) _ _ _ _ (grind (arith, passed-more, room-more)) s
             (λ c e k. no-room _ c k (λ _ q. omega (arith, e, m, q)));
         no_less = omega (arith, l);
@@ -123,9 +117,7 @@ stands-still k zone t l = ap tidy (none-purged k spares _ l) ∙ t
 stretch-rises : (f g : ℕ) (bs : List Block) → f ≤ g → largest_stretch f bs ≤ largest_stretch g bs
 stretch-rises f g [] l = l
 stretch-rises f g (Free n ∷ bs) l = stretch-rises (f + n) _ bs (omega (arith, l))
-stretch-rises f g (Nonrelocatable id content ∷ bs) l = omega (arith, l)
-stretch-rises f g (Masters ∷ bs) l = omega (arith, l)
-stretch-rises f g (Relocatable id flags content ∷ bs) l = omega (arith, l)
+stretch-rises f g _ l = omega (arith, l)
 
 stretch-above : (f : ℕ) (below above : List Block) → largest_stretch 0 above ≤ largest_stretch f (below ++ above)
 stretch-above f [] above = stretch-rises 0 f above (omega arith)
@@ -170,21 +162,17 @@ SameFirst (b ∷ old) (c ∷ new) = b ≡ c
 stretch-ends : (f : ℕ) (old new : List Block) → Apart old → (f ≡ 0) ⊎ (top_free old ≡ 0) → SameFirst old new
     → largest_stretch f new ≤ max f (largest_stretch 0 new)
 stretch-ends f [] [] a e s = omega arith
-stretch-ends f [] (c ∷ new) a e s = absurd s
-stretch-ends f (b ∷ old) [] a e s = absurd s
 stretch-ends f (b ∷ old) (c ∷ new) a (inl e) s = omega (arith, ap (λ g. largest_stretch g (c ∷ new)) e)
 stretch-ends f (b ∷ old) (Free n ∷ new) a (inr e) s = grind (arith, apart-size, top_free)
 stretch-ends f (b ∷ old) (Nonrelocatable id content ∷ new) a (inr e) s = omega arith
 stretch-ends f (b ∷ old) (Masters ∷ new) a (inr e) s = omega arith
 stretch-ends f (b ∷ old) (Relocatable id flags content ∷ new) a (inr e) s = omega arith
+stretch-ends f _ _ a e s = absurd s
 
 top-apart : (n : ℕ) (bs : List Block) → add (Free n) bs ≡ Free n ∷ bs → top_free bs ≡ 0
-top-apart n [] e = refl
 top-apart zero (Free m ∷ bs) e = absurd (let z : 0 < 0 = apart-size _ _ e in omega (arith, z))
 top-apart (suc n) (Free m ∷ bs) e = absurd (two _ _ _ _ e)
-top-apart n (Nonrelocatable id content ∷ bs) e = refl
-top-apart n (Masters ∷ bs) e = refl
-top-apart n (Relocatable id flags content ∷ bs) e = refl
+top-apart n _ e = refl
 
 stretch-parts : (f : ℕ) (below old new : List Block) → Apart (below ++ old) → (f ≡ 0) ⊎ (top_free (below ++ old) ≡ 0)
     → SameFirst old new → largest_stretch f (below ++ new) ≤ max (max f (largest_free below)) (largest_stretch 0 new)

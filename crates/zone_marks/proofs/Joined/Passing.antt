@@ -38,23 +38,17 @@ past-none sp (suc k) = refl
 
 opened-masters : (n : Sparing) → opened_block n Masters ≡ Masters
 opened-masters sparing.Nothing = refl
-opened-masters (sparing.One slot) = refl
-opened-masters (sparing.Two slot other) = refl
-opened-masters (sparing.Freed slot) = refl
+opened-masters _ = refl
 
 -- a block that becomes Free isn't a Masters block
 past-plain : (n : Sparing) (k l : ℕ) (b : Block) → left_past (spared n) k (opened_block n b) ≡ Some l
     → is_masters b ≡ false
-past-plain n k l (Free m) e = refl
-past-plain n k l (Nonrelocatable id content) e = refl
 past-plain n k l Masters e = grind arith
-past-plain n k l (Relocatable slot flags content) e = refl
+past-plain n k l _ e = refl
 
 opened-none : (n : Sparing) → opened n [] ≡ []
 opened-none sparing.Nothing = refl
-opened-none (sparing.One slot) = refl
-opened-none (sparing.Two slot other) = refl
-opened-none (sparing.Freed slot) = refl
+opened-none _ = refl
 
 lowest_purged-none : (k : ℕ) (sp : Block → Bool) → lowest_purged k sp [] ≡ []
 lowest_purged-none zero sp = refl
@@ -127,8 +121,7 @@ module _ (p : Purge) (n : Sparing) (start at k freed : ℕ) (xs : List ℕ) (u :
             tells = read xs (u.done ++ gap) b above p.slots p.unused laid at here-low;
             told = λ m t f g h. let s = stepped _ _ (way _ _ _ p.slots _ laid _ here-low) l m t f g h in
                 let q = sym s.is ∙ left xs (u.done ++ gap) (b ∷ above) p.slots p.unused laid at here-low in
-                let same : s.here ≡ b = cc in
-                s.told ∙ ap seen same;
+                s.told ∙ ap seen cc;
           }
 
   -- no block is left
@@ -183,9 +176,7 @@ module _ (p : Purge) (n : Sparing) (start at k freed : ℕ) (xs : List ℕ) (u :
                 ∙ sym (joined-below u.done (at - start) (size v.here) after)
                 ∙ ap (λ q. tidy (u.done ++ (gap ++ Free q ∷ after))) (sym (size-opened n v.here))
                 ∙ ap (λ q. tidy (u.done ++ (gap ++ q))) (sym (lowest_purged-free (spared n) k m _ _ e)) ∙ will-next;
-            count =
-                (let z = more-free v.here more f in
-                omega (arith, total-append, sum-free, ap (λ q. free_sum (u.done ++ (gap ++ q))) v.is, z, g));
+            count = (grind (arith, more-free, total-append, sum-free));
             apart = apart-above;
             below = u.below;
             was = u.was ++ v.here ∷ [];

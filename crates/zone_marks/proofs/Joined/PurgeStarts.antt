@@ -63,8 +63,7 @@ module _ (f : Freeing) (place : ℕ) (xs : List ℕ) (m : MayPurge f place xs) w
           up = omega arith;
           tidied = tidy-apart _ (apart-front _ _ (subst Apart (sym (append_assoc f.below (f.here ∷ []) f.above)) a));
           closed = closed-more f.below f.here (not_free-is f.here k);
-          will = ap (λ q. tidy (front ++ (free (stop - stop) ++ q))) after
-              ∙ ap tidy (sym (regrouped (lowest_purged purges (spared n) f.above)));
+          will = ap (λ q. tidy (front ++ (free (stop - stop) ++ q))) after ∙ ap tidy (sym (regrouped _));
           count = ap free_sum (sym (regrouped f.above)) ∙ (let z : free_sum all ≡ free_sum all + 0 = omega arith in z);
           apart = above-tidy;
           below = front;
@@ -93,8 +92,7 @@ module _ (f : Freeing) (place : ℕ) (xs : List ℕ) (m : MayPurge f place xs) w
           up = omega (arith, t);
           tidied = tidy-apart f.below (apart-front f.below (f.here ∷ f.above) a);
           closed = closed-under f.below (size f.here) f.above (subst (λ q. Apart (f.below ++ q ∷ f.above)) b a);
-          will = ap (λ q. tidy (f.below ++ (free (stop - place) ++ q))) after
-              ∙ ap tidy (sym (regrouped (lowest_purged purges (spared n) f.above)));
+          will = ap (λ q. tidy (f.below ++ (free (stop - place) ++ q))) after ∙ ap tidy (sym (regrouped _));
           count = ap free_sum (sym (regrouped f.above)) ∙ (let z : free_sum all ≡ free_sum all + 0 = omega arith in z);
           apart = above-tidy;
           below = f.below;
@@ -108,10 +106,8 @@ module _ (f : Freeing) (place : ℕ) (xs : List ℕ) (m : MayPurge f place xs) w
 
 -- a block that goes is no Masters block
 goes-plain : (sp : Block → Bool) (b : Block) → may_be_purged sp b ≡ true → is_masters b ≡ false
-goes-plain sp (Free n) e = refl
-goes-plain sp (Nonrelocatable id content) e = refl
 goes-plain sp Masters e = absurd (false≢true e)
-goes-plain sp (Relocatable id flags content) e = refl
+goes-plain sp _ e = refl
 
 -- the blocks below the lowest that goes stay
 lowest_purged-spot : (k : ℕ) (sp : Block → Bool) (zone : List Block) (s : Spot) → spot (may_be_purged sp) zone ≡ Some s

@@ -112,7 +112,6 @@ module _ (f : Freeing) (place : ℕ) (xs : List ℕ) (m : MayRelease f place xs)
           → Lays new (j.below ++ add (Free (stop - start)) j.above) j.slots j.unused)
           → Lays new (tidy (f.below ++ Free (size f.here) ∷ f.above)) f.slots f.unused
       released new joined =
-          let k = here-read.some in
-          let z = released-tidy _ _ _ _ _ (omega (arith, k)) below-is end.apart end.closed above-tidy in
+          let z = released-tidy _ _ _ _ _ (omega (arith, here-read.some)) below-is end.apart end.closed above-tidy in
           subst (λ q. Lays new q f.slots f.unused) (ap (λ n. end.lower ++ add (Free n) f.above) (omega (arith, starts, t))
           ∙ sym z) (joined freed may-join)

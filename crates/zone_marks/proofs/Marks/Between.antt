@@ -52,10 +52,9 @@ told-both runs spaces blocks e t counting.Spaces = t
 
 -- one block
 not-same : (t u : Bool) → not t ≡ not u → t ≡ u
-not-same true true e = refl
 not-same true false e = cc
 not-same false true e = cc
-not-same false false e = refl
+not-same _ _ e = refl
 
 pub one-same : (b c : Block) → free_of c ≡ free_of b → ends_run c ≡ ends_run b → one c ≡ one b
 one-same b c f r = ap (counted (in_run c)) f ∙ ap (λ t. counted t (free_of b)) (not-same _ _ r)
@@ -75,15 +74,11 @@ one-spanned b free barrier f r = grind arith
 -- a block of no bytes more counts the same
 pub one-empty : (b : Block) → size b ≤ 0 → one b ≡ Whole 0
 one-empty (Free n) l = ap Whole (omega (arith, l))
-one-empty (Nonrelocatable id content) l = absurd (omega (arith, l))
-one-empty Masters l = absurd (omega (arith, l))
-one-empty (Relocatable id flags content) l = absurd (omega (arith, l))
+one-empty _ l = absurd (omega (arith, l))
 
 space-empty : (b : Block) → size b ≤ 0 → space b ≡ Whole 0
 space-empty (Free n) l = ap Whole (omega (arith, l))
-space-empty (Nonrelocatable id content) l = absurd (omega (arith, l))
-space-empty Masters l = absurd (omega (arith, l))
-space-empty (Relocatable id flags content) l = absurd (omega (arith, l))
+space-empty _ l = absurd (omega (arith, l))
 
 alike-empty : (b : Block) (some others : List Block) → size b ≤ 0 → CountAlike some others → CountAlike (b ∷ some)
     others

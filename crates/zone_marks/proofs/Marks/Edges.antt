@@ -29,15 +29,11 @@ starts-begins p x (b ∷ blocks) (inr s) = inr (starts-begins p (x + size b) blo
 -- blocks that may move have no Free byte and end no run
 mover-free : (b : Block) → IsMover b → free_of b ≡ 0
 mover-free (Free n) m = absurd (false≢true m)
-mover-free (Nonrelocatable id content) m = refl
-mover-free Masters m = refl
-mover-free (Relocatable id flags content) m = refl
+mover-free _ m = refl
 
 mover-one : (b : Block) → IsMover b → one b ≡ Whole 0
-mover-one (Free n) m = absurd (false≢true m)
-mover-one (Nonrelocatable id content) m = absurd (false≢true m)
-mover-one Masters m = absurd (false≢true m)
 mover-one (Relocatable id flags content) m = ap (λ t. counted t 0) m
+mover-one _ m = absurd (false≢true m)
 
 movers-bare : (lo hi x : ℕ) (movers : List Block) → Each IsMover movers → AtEach (AtMost 0 lo hi) x movers
 movers-bare lo hi x [] m = tt
@@ -86,8 +82,7 @@ module _ (base : ℕ) (below movers above : List Block) (low : sizes below ≡ b
         ap stretch_of (between-append p q 0 _ _ ∙ ap (λ k. between p q 0 below ++ k) (between-append p q x _ _))
             ∙ bare-both (between p q 0 below) (between p q x movers ++ between p q (x + sizes movers) above)
             ((none-below p q 0 below (omega (arith, l, low))).same Runs)
-            (bare-both (between p q x movers) (between p q (x + sizes movers) above) (movers-runs p q x movers solid)
-            (ap stretch_of (none-above p q (x + sizes movers) above (omega (arith, h, low))))),
+            (grind (arith, bare-both, movers-runs, none-above)),
       )
 
 -- an edge of the blocks that lie packed

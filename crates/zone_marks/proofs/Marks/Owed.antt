@@ -29,41 +29,29 @@ use Rattle.zone_bytes.proofs.Placed.NonrelocatableCarved.{Roomy}
 -- a block whose content is another of as many bytes
 free-content : (x : List ℕ) (b : Block) → free_of (with_content x b) ≡ free_of b
 free-content x (Free n) = refl
-free-content x (Nonrelocatable id content) = refl
-free-content x Masters = refl
-free-content x (Relocatable id flags content) = refl
+free-content x _ = refl
 
 ends-content : (x : List ℕ) (b : Block) → ends_run (with_content x b) ≡ ends_run b
 ends-content x (Free n) = refl
-ends-content x (Nonrelocatable id content) = refl
-ends-content x Masters = refl
-ends-content x (Relocatable id flags content) = refl
+ends-content x _ = refl
 
 space-content : (x : List ℕ) (b : Block) → length x ≡ length (content_of b) → space (with_content x b) ≡ space b
-space-content x (Free n) e = refl
-space-content x (Nonrelocatable id content) e = refl
-space-content x Masters e = refl
 space-content x (Relocatable id flags content) e = grind arith
+space-content x _ e = refl
 
 goes-content : (x : List ℕ) (b : Block) → is_purgeable (with_content x b) ≡ is_purgeable b
 goes-content x (Free n) = refl
-goes-content x (Nonrelocatable id content) = refl
-goes-content x Masters = refl
-goes-content x (Relocatable id flags content) = refl
+goes-content x _ = refl
 
 -- a block with other flags
 pub size-flags : (flags : Flags) (b : Block) → size (with_flags flags b) ≡ size b
 size-flags flags (Free n) = refl
-size-flags flags (Nonrelocatable id content) = refl
-size-flags flags Masters = refl
-size-flags flags (Relocatable id old content) = refl
+size-flags flags _ = refl
 
 purgeable-content : (x : List ℕ) (b : Block) → length x ≡ length (content_of b)
     → purgeable_of (with_content x b) ≡ purgeable_of b
-purgeable-content x (Free n) e = refl
-purgeable-content x (Nonrelocatable id content) e = refl
-purgeable-content x Masters e = refl
 purgeable-content x (Relocatable id flags content) e = grind arith
+purgeable-content x _ e = refl
 
 module _ (xs : List ℕ) (first unused free purgeable : ℕ) (l : Landmarks) where
   pub with-marks : IsKept xs first unused free → AreOf l (zone_in xs) → purgeable ≡ purgeable_sum (zone_in xs)
@@ -100,10 +88,9 @@ pub filled-replaced : (xs : List ℕ) (place need : ℕ) (r : Roomy xs place nee
     → Replaced place (place + bytes) (zone_in xs) zone
 filled-replaced xs place need r new solid fits bytes e zone is =
     let l : size r.s.here ≡ r.bytes = ap size r.here in
-    let k : size r.s.here + 0 - size new ≡ r.bytes - size new = omega (arith, l) in
     subst (λ n. Replaced place (place + n) (zone_in xs) zone) (sym (e ∙ l)) (carved-replaced _ _ _ _ _ _ _ (grind arith)
     (is ∙ cut-sized _ solid _ r.at.apart 0 _ r.head (omega (arith, l, fits))
-    ∙ ap (λ m. r.s.below ++ new ∷ (free m ++ r.s.above)) k) (omega (arith, fits)) r.at.low)
+    ∙ ap (λ m. r.s.below ++ new ∷ (free m ++ r.s.above)) (omega (arith, l))) (omega (arith, fits)) r.at.low)
 
 -- the same change, of zones known by other names
 pub replaced-as : (lo hi : ℕ) (old new was is : List Block) → was ≡ old → is ≡ new → Replaced lo hi old new

@@ -82,9 +82,8 @@ module _ (xs : List ℕ) (first unused : ℕ) (i : IsSound xs first unused) (byt
       → FindsLowest (is_room bytes) (zone_in xs) (Some place)
   lowest-found p place b n e f r =
       let s = seen-from xs first unused i place (begins-further xs first unused i p place b e) in
-      let g = none-below s.below (left_in place xs) place s.is s.low (none-further p place b n f) in
       let t : Spot = record { below = s.below; here = r.here; above = r.above } in
-      let found = ap (spot (is_room bytes)) (s.is ∙ ap (λ k. s.below ++ k) r.is) ∙ spot-past bytes 0 s.below r.here r.above g r.room in (
+      let found = ap (spot (is_room bytes)) (s.is ∙ ap (λ k. s.below ++ k) r.is) ∙ spot-past bytes 0 s.below r.here r.above (none-below s.below (left_in place xs) place s.is s.low (none-further p place b n f)) r.room in (
         t,
         found,
         subst (λ q. spot_at q (zone_in xs) ≡ Some t) s.low (spot_at-spot (is_room bytes) _ t apart found),

@@ -65,5 +65,4 @@ module _ (xs : List ℕ) (from stop : ℕ) where
       whole = ap (between from place from) p.is ∙ between-append _ _ from p.done (left_in at xs)
           ∙ ap (λ y. between from place from p.done ++ between from place y (left_in at xs)) p.up
           ∙ ap (λ k. between from place from p.done ++ k) nothing ∙ append-nil (between from place from p.done)
-          ∙ all-begin _ _ _ _ (omega arith)
-          (at-map (λ q _. q < stop) (λ q _. q < place) _ _ (λ _ _ _ _ r. omega (arith, r, l)) p.each)
+          ∙ all-begin _ _ _ _ (omega arith) (grind (arith, at-map))

@@ -44,15 +44,12 @@ pub space-made : (at : ℕ) (xs : List ℕ) (w : IsOnWay at xs) → at < length 
     → counted (gives_space t (word_at (at + 12) xs)) n ≡ space b
 space-made at xs w l n t e h k b above is =
     let o = here-on at xs w l n t e h k in
-    let same = same-here at xs t o b above is in
     ap (λ g. counted g n) (grind (arith, space-told)) ∙ ap (counted (is_space b)) (size-at _ _ w l n t e h k b _ is)
 
 -- a block that isn't room by its Free bytes
 pub room-free : (p : ℕ) (b : Block) → 0 < free_of b → p ≤ free_of b → is_room p b ≡ true
 room-free p (Free n) s l = grind arith
-room-free p (Nonrelocatable id content) s l = absurd (omega (arith, s))
-room-free p Masters s l = absurd (omega (arith, s))
-room-free p (Relocatable slot flags content) s l = absurd (omega (arith, s))
+room-free p _ s l = absurd (omega (arith, s))
 
 pub room-here : (p at end free : ℕ) (barrier : Bool) (xs : List ℕ) → Spans at end free barrier xs → 0 < free → p ≤ free
     → RoomAt p at xs
@@ -60,12 +57,8 @@ room-here p at end free barrier xs s some fits = grind arith
 
 pub no-room : (p : ℕ) (b : Block) → 0 < size b → (0 < free_of b → p ≤ free_of b → ⊥) → is_room p b ≡ false
 no-room p (Free n) s f = grind arith
-no-room p (Nonrelocatable id content) s f = refl
-no-room p Masters s f = refl
-no-room p (Relocatable slot flags content) s f = refl
+no-room p _ s f = refl
 
 pub free-size : (b : Block) → free_of b ≤ size b
 free-size (Free n) = omega arith
-free-size (Nonrelocatable id content) = omega arith
-free-size Masters = omega arith
-free-size (Relocatable slot flags content) = omega arith
+free-size _ = omega arith

@@ -62,8 +62,7 @@ tally_of-unknown w marks i s l k u =
 -- what they hold in sum
 known_load-join : (s t : Tally) → known_load (join_tallies s t) ≤ known_load s + known_load t
 known_load-join (tally.Known a) (tally.Known b) = load-join a b
-known_load-join (tally.Known a) tally.Unknown = omega arith
-known_load-join tally.Unknown t = omega arith
+known_load-join _ _ = omega arith
 
 pub loads-all : (w : Counting) (marks : List Landmark) → known_load (tally_of w marks) ≤ known_loads w marks
 loads-all w [] = omega arith
@@ -120,8 +119,7 @@ between-few lo hi x (b ∷ bs) = either (nat_le lo x && nat_lt x hi) (between-fe
 tally-join : (w : Counting) (s t : Tally) (xs ys : List Block) → IsTally w s xs → IsTally w t ys
     → IsTally w (join_tallies s t) (xs ++ ys)
 tally-join w (tally.Known a) (tally.Known b) xs ys e f = grind (arith, stretch_by-append)
-tally-join w (tally.Known a) tally.Unknown xs ys e f = tt
-tally-join w tally.Unknown t xs ys e f = tt
+tally-join w _ _ xs ys e f = tt
 
 tally-load : (w : Counting) (t : Tally) (xs : List Block) → IsTally w t xs → known_load t ≤ sizes xs
 tally-load w (tally.Known stretch) xs e = omega (arith, load-counted, ap load e)
@@ -138,8 +136,7 @@ between-none end x (b ∷ bs) = elim (cases_lt x end) [
 pub group-tally : (w : Counting) (end : ℕ) (zone : List Block) (marks : List Landmark) → AreMarks end zone marks
     → IsTally w (tally_of w marks) (between (next_of end marks) end 0 zone)
 group-tally w end zone [] a = ap (stretch_by w) (between-none _ 0 zone) ∙ counted-none w
-group-tally w end zone (m ∷ marks) a = subst (IsTally w _)
-    (sym (between-join _ _ _ 0 _ a.3 (marks-below _ _ marks a.4)))
+group-tally w end zone (m ∷ marks) a = subst (IsTally w _) (grind (arith, between-join, marks-below))
     (tally-join w (told w m.tally) (tally_of w marks) _ _ (a.2 w) (group-tally w end zone marks a.4))
 
 loads-within : (w : Counting) (end : ℕ) (zone : List Block) (marks : List Landmark) → AreMarks end zone marks

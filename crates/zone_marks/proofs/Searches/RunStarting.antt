@@ -101,8 +101,7 @@ module _ (xs : List ℕ) (from : ℕ) (m : MayStart from (zone_in xs)) (bytes pu
   reached-finds = sym (grind (arith, scan-is)) ∙ scan-emptied bytes (spared n) purges 0 0 0 (opened n (zone_in xs)) all
       ∙ ap (λ z. find 0 0 0 (map each z)) (plain (zone_in xs) ∙ parts) ∙ ap (find 0 0 0) (map-append each q.low above
       ∙ ap (λ k. k ++ map each above) (emptied-none (spared n) q.low (let z = none-below in omega (arith, z)))) ∙ past _
-      ∙ sym (ap (λ z. scan_runs None bytes (spared n) purges r.start r.free true r.at z) (plain above)
-      ∙ scan-emptied _ (spared n) _ _ _ _ _ few)
+      ∙ sym (grind (arith, scan-emptied, few))
 
 -- a block begins where a run does
 pub run-begins : (xs : List ℕ) (at : ℕ) → RunBegins at xs → Begins at 0 (zone_in xs)

@@ -14,10 +14,7 @@ pub loop-left-preserved : goal.loop-left-preserved
 loop-left-preserved g c =
     let n = c.args.sparing in
     let left = c.loop-left.left in
-    let after = g.W.Walk.rest c.next_block.new.self in
     let t = told _ _ _ _ c.next_block.ensures c.in-Some.is in
     let more = ap (λ l. count_within (spared n) left (opened n l)) t.before_is
     ∙ within-more n _ _ _ (omega (arith, c.loop-left-test.true)) in
-    let rest = ap (λ k. count_within (spared n) k (opened n after)) (c.saturating_sub-left.ensures ∙ ap (λ k. left - k) (c.size_of_seen.ensures ∙ told-size t)) in
-    let goes = sym (c.may_purge.ensures t.block t.is) in
     (grind arith)

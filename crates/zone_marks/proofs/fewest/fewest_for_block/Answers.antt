@@ -23,8 +23,7 @@ pub run_of_in-requires : goal.run_of_in-requires
 run_of_in-requires c = omega (arith, ap sizes c.walk_from.ensures, sizes-fit)
 
 pub returns-in_default : goal.returns-in_default
-returns-in_default c = no-run-of _ _ _ _ (c.requires.whole (zone_in c.args.part.now.bytes)) c.requires.spared
-    (grind (arith, left-zone))
+returns-in_default c = no-run-of _ _ _ _ (grind arith) c.requires.spared (grind (arith, left-zone))
 
 pub free_at-free-requires-clause-begins : goal.free_at-free-requires-clause-begins
 free_at-free-requires-clause-begins c =
@@ -65,9 +64,7 @@ returns-in_default-count_in_run c =
     let r = block-run _ _ _ _ _
     _ (c.walk_from.ensures ∙ left-zone _) c.requires.once c.requires.spared c.requires.whole c.in-Some.ensures in
     let left = left-above xs i.0 i.1 i.2 r.low r.rest run r.is r.at in
-    let now = c.free_at-free.ensures ∙ ap (λ l. prefix (stretch_of l)) (c.requires.whole (left_in run xs) ∙ left) in
-    let sp = spared c.args.sparing in
-    never-enough _ _ _ _ _ r (omega (arith, now, c.if-bytes-free.false)) (search rules)
+    never-enough _ _ _ _ _ r (omega (arith, (c.free_at-free.ensures ∙ ap (λ l. prefix (stretch_of l)) (c.requires.whole (left_in run xs) ∙ left)), c.if-bytes-free.false)) (search rules)
 
 pub count_below-requires-clause-run : goal.count_below-requires-clause-run
 count_below-requires-clause-run c =

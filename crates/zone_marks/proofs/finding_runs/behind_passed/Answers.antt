@@ -27,9 +27,8 @@ walked c =
     let xs = c.args.part.now.bytes in
     let p = c.args.passed in
     let b = c.requires.passed.barred (ap is_ended c.in-Ended.is) in
-    let answer = finds_from c.args.bytes c.args.scan xs in
     let r = c.scan_up_to-walked in
-    scanned _ _ _ _ _ c.requires.sound.2 _ _ _ _ _ (subst (IsKnown c.args.bytes answer p.barred xs) (sym c.begun_at-begun.ensures)
+    scanned _ _ _ _ _ c.requires.sound.2 _ _ _ _ _ (subst (IsKnown c.args.bytes (finds_from c.args.bytes c.args.scan xs) p.barred xs) (sym c.begun_at-begun.ensures)
     (known-barred _ _ _ c.requires.ready _ p c.requires.passed c.requires.short b))
     b.piece r.ensures.same r.ensures.begins r.ensures.free r.ensures.met r.ensures.left r.ensures.stays r.ensures.came
     r.ensures.up_to

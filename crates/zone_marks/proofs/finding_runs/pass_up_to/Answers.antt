@@ -12,8 +12,7 @@ up-to c = grind arith
 
 pub pass_stretch-requires : goal.pass_stretch-requires
 pass_stretch-requires c = record {
-  fits = λ runs e. let d = (goal.at.pass_stretch-requires c).After-within-next in
-      passed-fits _ _ _ c.requires.sound.2 _ c.requires.come.1.ready _ _ _ c.requires.come.1.passed
+  fits = λ runs e. passed-fits _ _ _ c.requires.sound.2 _ c.requires.come.1.ready _ _ _ c.requires.come.1.passed
       _ (subst (λ t. IsStretch Runs t c.args.reached.at c.within-next.result c.args.part.now.bytes) e (grind arith));
 }
 

@@ -10,6 +10,5 @@ loop-reached-init c = grind (arith, passed-none)
 pub returns : goal.returns
 returns c =
     let v = c.loop-reached.invariant in
-    let r = c.loop-reached.reached in
     sym (passed-all _ _ _ c.requires.ready _ _ v.come.passed v.short
     (left-none _ _ (begins-way _ _ _ c.requires.sound.2 _ v.come.edge) (v.come.end c.loop-reached-test.false)))

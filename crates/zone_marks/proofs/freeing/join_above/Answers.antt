@@ -17,10 +17,9 @@ pub read_header-requires-clause-tag : goal.read_header-requires-clause-tag
 read_header-requires-clause-tag c = (next _ _ _ _ c.requires.1 (omega (arith, c.len.ensures.count))).tells.next.tag
 
 pub free_up-requires : goal.free_up-requires
-free_up-requires c = let n = next c.requires.0 c.args.start c.args.at c.args.part.now.bytes c.requires.1 ((omega (arith, c.len.ensures.count))) in
-    let h = c.read_header.result in
+free_up-requires c = let h = c.read_header.result in
     let e = c.read_header.ensures in
-    let k = sym (n.tells.says h.size (tag_number h.tag) e.first e.size (tag-small _)).1
+    let k = sym ((next c.requires.0 c.args.start c.args.at c.args.part.now.bytes c.requires.1 ((omega (arith, c.len.ensures.count)))).tells.says h.size (tag_number h.tag) e.first e.size (tag-small _)).1
     ∙ free-true _ c.if-eq.ensures in (grind (arith, one, may-free))
 
 pub returns-then-eq-clause-lays : goal.returns-then-eq-clause-lays

@@ -90,10 +90,9 @@ loop-index-preserved c =
     let i = c.requires.sound in
     let xs = c.args.part.now.bytes in
     let d = (goal.at.loop-index-preserved c).After-within-next in
-    let rest = stretch_by c.args.counting (left_in c.within-next.result xs) in
     record {
       same = c.loop-index.invariant.same ∙ ap (join c.loop-index.stretch) (grind (arith, known-past))
-          ∙ sym (join-assoc _ _ _) ∙ ap (λ r. join r rest) (sym c.join-stretch.ensures.is);
+          ∙ sym (join-assoc _ _ _) ∙ ap (λ r. join r (stretch_by c.args.counting (left_in c.within-next.result xs))) (sym c.join-stretch.ensures.is);
       inside = c.told_from-told.ensures.inside;
       few = omega (
         arith,

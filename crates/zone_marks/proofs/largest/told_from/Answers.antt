@@ -7,11 +7,8 @@ use Rattle.zone_marks.proofs.Searches.Pieces.{group-stretch, next-stretch}
 use Rattle.zone_marks.proofs.largest.told_from.Goals as goal
 
 pub returns-in-Known-clause-stretch : goal.returns-in-Known-clause-stretch
-returns-in-Known-clause-stretch c = λ next b. let low = c.args.index in
-    let l = c.requires.inside in
-    group-stretch _ _ _ c.requires.sound.2 _ _ c.requires.marks _ _ l (grind arith) _ b
+returns-in-Known-clause-stretch c = λ next b. group-stretch _ _ _ c.requires.sound.2 _ _ c.requires.marks _ _ c.requires.inside (grind arith) _ b
 
 pub returns-clause-stretch : goal.returns-clause-stretch
-returns-clause-stretch c = λ next b. let xs = c.args.part.now.bytes in
-    subst (λ t. IsStretch c.args.counting t (get_or c.args.marks.now c.args.index no_mark).at next xs) (sym c.told.ensures)
+returns-clause-stretch c = λ next b. subst (λ t. IsStretch c.args.counting t (get_or c.args.marks.now c.args.index no_mark).at next c.args.part.now.bytes) (sym c.told.ensures)
     (search (rules, next-stretch))

@@ -20,6 +20,5 @@ returns c = λ b above q. let h = c.read_header-header.result in
     let e = c.read_header-header.ensures in
     let at = c.args.place in
     let xs = c.args.part.now.bytes in
-    let a = c.seen_of.ensures ∙ (λ i. header_seen (tag_number h.tag) h.size (e.logical i) (e.slot i) (e.flags i)) in
-    let t = subst (λ l. Tells l (Some c.seen_of.result) (left_in (at + h.size) xs)) q (tells-step _ _ _ _ (stepped at xs c.requires.way c.requires.some h.size (tag_number h.tag) e.first e.size (tag-small h.tag)) _ a) in
+    let t = subst (λ l. Tells l (Some c.seen_of.result) (left_in (at + h.size) xs)) q (tells-step _ _ _ _ (stepped at xs c.requires.way c.requires.some h.size (tag_number h.tag) e.first e.size (tag-small h.tag)) _ (c.seen_of.ensures ∙ (λ i. header_seen (tag_number h.tag) h.size (e.logical i) (e.slot i) (e.flags i)))) in
     c.purgeable_of_seen.ensures b (sym (same_Some _ _ t.0)) (sym (search (rules, size-at, tag-small)))

@@ -25,6 +25,5 @@ overflow_add-result c =
     omega (arith, (c.purgeable_at.ensures b.there b.above (became-left xs i.0 i.1 i.2 c.args.place r.0 b)), given-small)
 
 pub returns : goal.returns
-returns c = λ old b e p. let xs = c.args.part.now.bytes in
-    let g = given-became c.args.place old (zone_in xs) b in
+returns c = λ old b e p. let g = given-became c.args.place old (zone_in c.args.part.now.bytes) b in
     omega (arith, e, p, c.purgeable_at.ensures b.there b.above (search (rules, became-left)))

@@ -22,8 +22,7 @@ free_up-requires c =
     let h = c.read_header-header.result in
     let e = c.read_header-header.ensures in
     let n = next p c.args.sparing a.start a.at a.left a.freed xs u c.requires.some in
-    let s = sym (c.seen_of.ensures ∙ (grind arith) ∙ n.told h.size (tag_number h.tag) e.first e.size (tag-small _)) in
-    let m = sym (c.left_after.ensures n.here s) ∙ c.in-Some.is in (
+    let m = sym (c.left_after.ensures n.here (sym (c.seen_of.ensures ∙ (grind arith) ∙ n.told h.size (tag_number h.tag) e.first e.size (tag-small _)))) ∙ c.in-Some.is in (
       freeing p c.args.sparing a.start a.at a.left a.freed xs u n c.in-Some.left m,
       may-free p c.args.sparing a.start a.at a.left a.freed xs u n c.in-Some.left m,
     )
@@ -46,9 +45,7 @@ overflow_add-result c =
     let n = next p c.args.sparing a.start a.at a.left a.freed c.args.part.now.bytes u c.requires.some in
     let z = n.tells.says h.size (tag_number h.tag) e.first e.size (tag-small h.tag) in
     let m = sym (c.left_after.ensures n.here (sym (c.seen_of.ensures ∙ (search rules) ∙ n.told h.size (tag_number h.tag) e.first e.size (tag-small _)))) ∙ c.in-Some.is in
-    let t = c.free_up.ensures.end (freeing p _ _ _ _ _ _ u n _ m) (may-free p _ _ _ _ _ _ u n _ m) in
-    let more = c.new_free.ensures ∙ (λ i. cond (z.1 i == 0) 0 (z.0 i)) in
-    let f = freed-fits p _ _ _ _ _ _ (freed-next p _ _ _ _ _ _ u n _ m _ c.free_up.ensures.lays _ t _ more) in
+    let f = freed-fits p _ _ _ _ _ _ (freed-next p _ _ _ _ _ _ u n _ m _ c.free_up.ensures.lays _ (c.free_up.ensures.end (freeing p _ _ _ _ _ _ u n _ m) (may-free p _ _ _ _ _ _ u n _ m)) _ (c.new_free.ensures ∙ (λ i. cond (z.1 i == 0) 0 (z.0 i)))) in
     omega (arith, f)
 
 pub returns-in-Some-clause-pass : goal.returns-in-Some-clause-pass
@@ -58,8 +55,7 @@ returns-in-Some-clause-pass c = λ p u. let a = c.args.pass in
     let n = next p c.args.sparing a.start a.at a.left a.freed c.args.part.now.bytes u c.requires.some in
     let z = n.tells.says h.size (tag_number h.tag) e.first e.size (tag-small h.tag) in
     let m = sym (c.left_after.ensures n.here (sym (c.seen_of.ensures ∙ (search rules) ∙ n.told h.size (tag_number h.tag) e.first e.size (tag-small _)))) ∙ c.in-Some.is in
-    let more = c.new_free.ensures ∙ (λ i. cond (z.1 i == 0) 0 (z.0 i)) in
-    freed-next p _ _ _ _ _ _ u n _ m _ c.free_up.ensures.lays _ (c.free_up.ensures.end (freeing p _ _ _ _ _ _ u n _ m) (may-free p _ _ _ _ _ _ u n _ m)) _ more
+    freed-next p _ _ _ _ _ _ u n _ m _ c.free_up.ensures.lays _ (c.free_up.ensures.end (freeing p _ _ _ _ _ _ u n _ m) (may-free p _ _ _ _ _ _ u n _ m)) _ (c.new_free.ensures ∙ (λ i. cond (z.1 i == 0) 0 (z.0 i)))
 
 pub returns-in-Some-clause-further : goal.returns-in-Some-clause-further
 returns-in-Some-clause-further c =
@@ -78,8 +74,7 @@ returns-in-None-clause-pass c = λ p u. let a = c.args.pass in
     let h = c.read_header-header.result in
     let e = c.read_header-header.ensures in
     let n = next p c.args.sparing a.start a.at a.left a.freed xs u c.requires.some in
-    let m = sym (c.left_after.ensures n.here (sym (c.seen_of.ensures ∙ (search rules) ∙ n.told h.size (tag_number h.tag) e.first e.size (tag-small _)))) ∙ c.in-None.is in
-    kept-next p c.args.sparing a.start a.at a.left a.freed xs u n m (a.at + h.size) (ap (λ k. a.at + k) ((n.tells.says h.size (tag_number h.tag) e.first e.size (tag-small h.tag)).0))
+    kept-next p c.args.sparing a.start a.at a.left a.freed xs u n (sym (c.left_after.ensures n.here (sym (c.seen_of.ensures ∙ (search rules) ∙ n.told h.size (tag_number h.tag) e.first e.size (tag-small _)))) ∙ c.in-None.is) (a.at + h.size) (ap (λ k. a.at + k) ((n.tells.says h.size (tag_number h.tag) e.first e.size (tag-small h.tag)).0))
 
 pub returns-in-None-clause-further : goal.returns-in-None-clause-further
 returns-in-None-clause-further c =

@@ -14,8 +14,7 @@ purge_from-requires c = (
 )
 
 pub returns-in_default-clause-purged : goal.returns-in_default-clause-purged
-returns-in_default-clause-purged c = λ first unused i. let xs = c.args.part.now.bytes in
-    subst (λ k. Purged (purge_zone k xs i.unused c.args.purges c.args.sparing) c.purge_from.result.to
+returns-in_default-clause-purged c = λ first unused i. subst (λ k. Purged (purge_zone k c.args.part.now.bytes i.unused c.args.purges c.args.sparing) c.purge_from.result.to
     c.purge_from.result.bytes c.purge_from.new.part.bytes) (sym c.purge_from.ensures.from)
     (c.purge_from.ensures.purged _ (all-start _ _ _ i _ _))
 
