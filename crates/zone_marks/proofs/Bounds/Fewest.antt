@@ -42,8 +42,6 @@ count-below xs first unused i from edge run n low rest b under none less is at =
     let past = count-past sp (opened n e.below) (opened n (left_in edge xs)) run
     (omega (arith, sizes-opened n e.below, less)) in
     let all = count-past sp (opened n low) (opened n rest) run (omega (arith, sizes-opened n low, at)) in
-    let zones : opened n e.below ++ opened n (left_in edge xs) ≡ opened n low ++ opened n rest =
-    sym (opened-append n e.below (left_in edge xs)) ∙ ap (opened n) (sym e.is ∙ is) ∙ opened-append n low rest in
     let none_below = count-none n _ 0 _
     (at-left (Stays from) 0 e.below (left_in edge xs) (subst (NoneGoes from) e.is none)) (omega (arith, under)) in
     let p : run - edge ≡ run - sizes (opened n e.below) = omega (arith, sizes-opened n e.below) in
@@ -52,7 +50,7 @@ count-below xs first unused i from edge run n low rest b under none less is at =
       arith,
       past,
       all,
-      ap (count_within sp run) zones,
+      ap (count_within sp run) (sym (opened-append n e.below (left_in edge xs)) ∙ ap (opened n) (sym e.is ∙ is) ∙ opened-append n low rest),
       none_below,
       ap (λ k. count_within sp k (opened n (left_in edge xs))) p,
       ap (λ k. count_within sp k (opened n rest)) z,
@@ -61,20 +59,13 @@ count-below xs first unused i from edge run n low rest b under none less is at =
 -- no zone has more blocks than bytes
 pub most-fits : (xs : List ℕ) (first unused : ℕ) → IsSound xs first unused → (n : Sparing)
     → most_purges n (zone_in xs) ≤ GREATEST_ZONE
-most-fits xs first unused i n = omega (
-  arith,
-  count-few (spared n) (opened n (zone_in xs)),
-  sizes-opened n (zone_in xs),
-  zone-long xs first unused i,
-  i.lays.small,
-)
+most-fits xs first unused i n = omega (arith, count-few, sizes-opened, zone-long)
 
 -- a block begins at the run
 pub run-begins : (xs : List ℕ) (run : ℕ) (low rest : List Block) → zone_in xs ≡ low ++ rest → sizes low ≡ run
     → Begins run 0 (zone_in xs)
-run-begins xs run low rest is at =
-    subst (Begins run 0) (sym is) (begins-left _ 0 _ _
-    (subst (λ k. Begins k 0 low) (let e : 0 + sizes low ≡ run = omega (arith, at) in e) (begins-end 0 _)))
+run-begins xs run low rest is at = subst (Begins run 0) (sym is) (begins-left _ 0 _ _
+    (subst (λ k. Begins k 0 low) (grind arith) (begins-end 0 _)))
 
 -- what blocks that are known come to, below others
 module _ (xs : List ℕ) (first unused : ℕ) (i : IsSound xs first unused) where
@@ -86,8 +77,7 @@ module _ (xs : List ℕ) (first unused : ℕ) (i : IsSound xs first unused) wher
 -- what blocks come to, by what those up to a place do
 module _ (w : Counting) (xs : List ℕ) (from to : ℕ) (runs : Stretch) (s : IsStretch w (tally.Known runs) from to xs) where
   pub known-past : stretch_by w (left_in from xs) ≡ join runs (stretch_by w (left_in to xs))
-  known-past = ap (stretch_by w) s.1.is ∙ stretch_by-append w _ _
-      ∙ ap (λ r. join r (stretch_by w (left_in to xs))) s.2
+  known-past = grind (arith, stretch_by-append)
 
   pub known-fits : from + load runs ≤ to
   known-fits = omega (arith, s.1.up, load-counted w s.0, ap load s.2)

@@ -46,24 +46,18 @@ stays-above bound x blocks l = at-all (Stays bound) x _ (λ p b m q. absurd (ome
 
 -- a block that ends below the place
 pub stays-here : (bound x : ℕ) (b : Block) → Stays bound x b → x + size b ≤ bound → is_purgeable b ≡ false
-stays-here bound x (Free n) s l = refl
-stays-here bound x (Nonrelocatable id content) s l = refl
-stays-here bound x Masters s l = refl
 stays-here bound x (Relocatable id flags content) s l = s (omega (arith, l))
+stays-here bound x _ s l = refl
 
 -- blocks that end below it
 pub stays-whole : (bound other x : ℕ) (blocks : List Block) → x + sizes blocks ≤ bound → AtEach (Stays bound) x blocks
     → AtEach (Stays other) x blocks
-stays-whole bound other x blocks l = at-map (Stays bound) (Stays other) x _
-    (λ p b _ u s _. stays-here _ p b s (omega (arith, u, l)))
+stays-whole bound other x blocks l = grind (arith, at-map, stays-here)
 
 -- a block became one of as many bytes, which may be purged if it might
 pub stays-same : (bound x : ℕ) (below above : List Block) (b c : Block) → size c ≡ size b → is_purgeable c ≡ is_purgeable b
     → AtEach (Stays bound) x (below ++ b ∷ above) → AtEach (Stays bound) x (below ++ c ∷ above)
-stays-same bound x [] above b c s g e = (
-  λ l. g ∙ e.0 l,
-  subst (λ n. AtEach (Stays bound) (x + n) above) (sym s) e.1,
-)
+stays-same bound x [] above b c s g e = grind arith
 stays-same bound x (d ∷ below) above b c s g e = (e.0, stays-same _ (x + size d) below above b c s g e.1)
 
 -- some blocks became others
@@ -72,15 +66,7 @@ module _ (lo hi : ℕ) (old new : List Block) (r : Replaced lo hi old new) (boun
   old-parts = subst (NoneGoes bound) r.was n
 
   pub stays-replaced : (lower : ℕ) → lower ≤ bound → AtEach (Stays lower) lo r.there → NoneGoes lower new
-  stays-replaced lower l there =
-      let e : 0 + sizes r.below ≡ lo = omega arith in
-      let f : lo + sizes r.here ≡ lo + sizes r.there = omega arith in
-      let over = at-right (Stays bound) 0 r.below (r.here ++ r.above) old-parts in
-      subst (NoneGoes lower) (sym r.is) (at-append (Stays lower) 0 _ _
-      (stays-lower _ _ 0 _ l (at-left (Stays bound) 0 _ _ old-parts))
-      (subst (λ x. AtEach (Stays lower) x (r.there ++ r.above)) (sym e) (at-append (Stays lower) _ _ _ there
-      (stays-lower _ _ _ _ l (subst (λ x. AtEach (Stays bound) x r.above) f
-      (at-right (Stays bound) _ _ _ (subst (λ x. AtEach (Stays bound) x (r.here ++ r.above)) e over)))))))
+  stays-replaced lower l there = grind (arith, at-right, old-parts, at-append, stays-lower, at-left)
 
   -- above it
   pub stays-under : (lower : ℕ) → lower ≤ bound → lower ≤ lo → NoneGoes lower new
@@ -152,11 +138,7 @@ stays-settled bound lower run all zone r e f n same moved = elim (cases_lt run b
 
 -- the walk over blocks of which none may be purged
 pub goes-not : (b : Block) → may_be_purged (spared sparing.Nothing) b ≡ false → is_purgeable b ≡ false
-goes-not b e = only (is_purgeable b) e
-  where
-    only : (t : Bool) → (t && true) ≡ false → t ≡ false
-    only true e = e
-    only false e = e
+goes-not b e = grind arith
 
 module _ (xs : List ℕ) (from at : ℕ) (p : Passed xs from at (λ _ b. is_purgeable b ≡ false)) where
   pub passed-stays : (block : Seen) (end : ℕ) (s : Steps at block end xs)
@@ -165,10 +147,7 @@ module _ (xs : List ℕ) (from at : ℕ) (p : Passed xs from at (λ _ b. is_purg
       (λ _ _ r. r) p s.here s.is s.up s.way (goes-not s.here e)
 
   pub all-stay : AtEach (Stays at) from (left_in from xs)
-  all-stay =
-      subst (AtEach (Stays at) from) (sym p.is) (at-append (Stays at) _ _ _
-      (at-map (λ _ b. is_purgeable b ≡ false) (Stays at) _ _ (λ _ b _ _ r _. r) p.each)
-      (stays-above _ _ _ (omega arith)))
+  all-stay = grind (arith, at-append, at-map, stays-above)
 
 -- blocks of which none may be purged, below others
 pub none-passes : (n : Sparing) (b : Block) → is_purgeable b ≡ false → may_be_purged (spared n) b ≡ false
@@ -178,12 +157,8 @@ next-above : (n : Sparing) (k bound x : ℕ) (below above : List Block) → AtEa
     → x + sizes below ≤ bound
     → next_from x (spared n) k (below ++ above) ≡ next_from (x + sizes below) (spared n) k above
 next-above n k bound x [] above s l = let e : x ≡ x + 0 = omega arith in ap (λ y. next_from y (spared n) k above) e
-next-above n k bound x (b ∷ below) above s l =
-    next-stays x (spared n) k b _
-    (none-passes n b (stays-here _ x b s.0 (omega (arith, l))))
-    ∙ next-above n k _ (x + size b) below above s.1 (omega (arith, l))
-    ∙ (let e : x + size b + sizes below ≡ x + (size b + sizes below) = omega arith in
-    ap (λ y. next_from y (spared n) k above) e)
+next-above n k bound x (b ∷ below) above s l = next-stays x (spared n) k b _ (search rules)
+    ∙ next-above n k _ (x + size b) below above s.1 (omega (arith, l)) ∙ (grind arith)
 
 -- a block that may not be purged may not be as a search sees it first
 opened-stays : (n : Sparing) (b : Block) → is_purgeable b ≡ false → may_be_purged (spared n) (opened_block n b) ≡ false
@@ -210,11 +185,7 @@ pub stays-from : (xs : List ℕ) (first unused : ℕ) (i : IsSound xs first unus
     → NoneGoes from (zone_in xs) → (bound : ℕ) → AtEach (Stays bound) from (left_in from xs)
     → NoneGoes bound (zone_in xs)
 stays-from xs first unused i from b g bound s =
-    let e = seen-from xs first unused i from b in
-    let k : from ≡ 0 + sizes e.below = omega arith in
-    subst (NoneGoes bound) (sym e.is) (at-append (Stays bound) 0 _ _ (stays-whole _ _ 0 _ (omega arith)
-    (at-left (Stays from) 0 _ _ (subst (NoneGoes from) e.is g)))
-    (subst (λ x. AtEach (Stays bound) x (left_in from xs)) k s))
+    subst (NoneGoes bound) (sym (seen-from xs first unused i from b).is) (grind (arith, at-append, stays-whole, at-left))
 
 -- from an edge of a zone on
 module _ (xs : List ℕ) (first unused : ℕ) (i : IsSound xs first unused) (from : ℕ) (b : Begins from 0 (zone_in xs))
@@ -244,17 +215,13 @@ module _ (xs : List ℕ) (first unused : ℕ) (i : IsSound xs first unused) (fro
 
     next-is-there : option_map (λ (s : Spot). sizes s.below) (spot goes (purged k n (zone_in xs)))
         ≡ place_from from goes (purged k n (left_in from xs))
-    next-is-there =
-        let e : 0 + sizes edge.below ≡ from = omega (arith, edge.low) in
-        sym (next-is n k _) ∙ ap (next_from 0 (spared n) k) (plain (zone_in xs) ∙ edge.is)
+    next-is-there = sym (next-is n k _) ∙ ap (next_from 0 (spared n) k) (plain (zone_in xs) ∙ edge.is)
         ∙ next-above n k _ 0 _ _ below-stays (omega (arith, edge.low))
-        ∙ ap (λ y. next_from y (spared n) k (left_in from xs)) e
-        ∙ ap (λ z. next_from from (spared n) k z) (sym (plain (left_in from xs)))
-        ∙ sym (place-tidy _ goes (λ m. refl) (lowest_purged k (spared n) (opened n (left_in from xs))))
+        ∙ ap (λ y. next_from y (spared n) k (left_in from xs)) (omega (arith, edge.low))
+        ∙ ap (λ z. next_from from (spared n) k z) (sym (plain (left_in from xs))) ∙ sym (grind (arith, place-tidy))
 
     pub next-none : FindsLowest goes (purged k n (left_in from xs)) None → FindsLowest goes (purged k n (zone_in xs)) None
-    next-none f = finds goes _ _ (apart-tidy (lowest_purged k (spared n) (opened n (zone_in xs))))
-        (sym (next-is-there ∙ ap (option_map (λ (s : Spot). from + sizes s.below)) f))
+    next-none f = grind (arith, finds, apart-tidy, next-is-there)
 
     pub next-some : (place : ℕ) → FindsLowest goes (purged k n (left_in from xs)) (Some place)
         → FindsLowest goes (purged k n (zone_in xs)) (Some (from + place))

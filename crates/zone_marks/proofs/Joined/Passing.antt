@@ -40,18 +40,13 @@ past-none sp (suc k) = refl
 
 opened-masters : (n : Sparing) → opened_block n Masters ≡ Masters
 opened-masters sparing.Nothing = refl
-opened-masters (sparing.One slot) = refl
-opened-masters (sparing.Two slot other) = refl
-opened-masters (sparing.Freed slot) = refl
+opened-masters _ = refl
 
 -- a block that becomes Free isn't a Masters block
 past-plain : (n : Sparing) (k l : ℕ) (b : Block) → left_past (spared n) k (opened_block n b) ≡ Some l
     → is_masters b ≡ false
-past-plain n k l (Free m) e = refl
-past-plain n k l (Nonrelocatable id content) e = refl
-past-plain n k l Masters e =
-    absurd (none-some l (sym (ap (left_past (spared n) k) (opened-masters n) ∙ past-none (spared n) k) ∙ e))
-past-plain n k l (Relocatable slot flags content) e = refl
+past-plain n k l Masters e = grind arith
+past-plain n k l _ e = refl
 
 -- the Free bytes of Free bytes
 sum-free : (n : ℕ) → free_sum (free n) ≡ n
@@ -63,8 +58,7 @@ more-free : (b : Block) (m : ℕ) → m ≡ cond (kind b == 0) 0 (size b) → fr
 more-free (Free n) m e = let f : m ≡ 0 = e in omega (arith, f)
 more-free (Nonrelocatable id content) m e = let f : m ≡ size (Nonrelocatable id content) = e in omega (arith, f)
 more-free Masters m e = let f : m ≡ 272 = e in omega (arith, f)
-more-free (Relocatable slot flags content) m e = let f : m ≡ size (Relocatable slot flags content) = e in
-    omega (arith, f)
+more-free (Relocatable slot flags content) m e = grind arith
 
 module _ (p : Purge) (n : Sparing) (start at k freed : ℕ) (xs : List ℕ) (u : Purging p n start at k freed xs) where
   abbrev gap : List Block
@@ -96,19 +90,7 @@ module _ (p : Purge) (n : Sparing) (start at k freed : ℕ) (xs : List ℕ) (u :
 
   -- no purges are left, and no block counts as Free
   pub stopped : k ≡ 0 → at ≤ start → ((blocks : List Block) → opened n blocks ≡ blocks) → Purged p at freed xs
-  stopped z l none =
-      let e : gap ≡ [] = (let f : at - start ≡ 0 = omega (arith, l) in ap free f) in
-      let a = closed-apart u.done u.rest (apart-tidied u.done u.tidied) u.closed (apart-tidied u.rest u.apart) in
-      let whole : u.done ++ (gap ++ u.rest) ≡ u.done ++ u.rest = ap (λ q. u.done ++ (q ++ u.rest)) e in
-      let left : lowest_purged k (spared n) (opened n u.rest) ≡ u.rest =
-      ap (λ j. lowest_purged j (spared n) (opened n u.rest)) z ∙ none u.rest in
-      let is : tidy p.goal ≡ u.done ++ (gap ++ u.rest) =
-      sym u.will ∙ ap (λ q. tidy (u.done ++ (gap ++ q))) left ∙ ap tidy whole ∙ tidy-apart _ a ∙ sym whole in
-      record {
-        lays = subst (λ q. Lays xs q p.slots p.unused) (sym is) u.lays;
-        count = ap free_sum is ∙ u.count;
-        replaced = replaced-as (tidy p.goal) is;
-      }
+  stopped z l none = grind (arith, closed-apart, apart-tidied, left, tidy-apart, replaced-as)
 
   -- the next block
   pub record Next : Type 0 where
@@ -123,8 +105,7 @@ module _ (p : Purge) (n : Sparing) (start at k freed : ℕ) (xs : List ℕ) (u :
   next l = of u.rest refl
     where
       of : (rest : List Block) → u.rest ≡ rest → Next
-      of [] e = let i = inside _ _ _ p.slots _ here-laid _ here-low in let z =
-          ap sizes e in absurd (omega (arith, i, z, l))
+      of [] e = let z = ap sizes e in absurd (omega (arith, (inside _ _ _ p.slots _ here-laid _ here-low), z, l))
       of (b ∷ above) e =
           let laid = subst (λ q. Lays xs ((u.done ++ gap) ++ q) p.slots p.unused) e here-laid in
           record {
@@ -132,11 +113,9 @@ module _ (p : Purge) (n : Sparing) (start at k freed : ℕ) (xs : List ℕ) (u :
             above = above;
             is = e;
             tells = read xs (u.done ++ gap) b above p.slots p.unused laid at here-low;
-            told = λ m t f g h.
-                let s = stepped _ _ (way _ _ _ p.slots _ laid _ here-low) l m t f g h in
+            told = λ m t f g h. let s = stepped _ _ (way _ _ _ p.slots _ laid _ here-low) l m t f g h in
                 let q = sym s.is ∙ left xs (u.done ++ gap) (b ∷ above) p.slots p.unused laid at here-low in
-                let same : s.here ≡ b = cc in
-                s.told ∙ ap seen same;
+                s.told ∙ ap seen cc;
           }
 
   -- no block is left
@@ -144,21 +123,9 @@ module _ (p : Purge) (n : Sparing) (start at k freed : ℕ) (xs : List ℕ) (u :
   purged l = of u.rest refl
     where
       of : (rest : List Block) → u.rest ≡ rest → Purged p at freed xs
-      of [] e =
-          let w : tidy (u.done ++ (gap ++ [])) ≡ tidy p.goal =
-          sym (ap (λ q. tidy (u.done ++ (gap ++ q))) (ap (λ q. lowest_purged k (spared n) (opened n q)) e
-          ∙ ap (lowest_purged k (spared n)) (opened-none n) ∙ lowest_purged-none k (spared n))) ∙ u.will in
-          let z : u.done ++ (gap ++ u.rest) ≡ tidy p.goal =
-          ap (λ q. u.done ++ (gap ++ q)) e ∙ ap (λ q. u.done ++ q) (append-nil gap)
-          ∙ sym (closed-free _ _ u.tidied u.closed) ∙ ap (λ q. tidy (u.done ++ q)) (sym (append-nil gap)) ∙ w in
-          record {
-            lays = subst (λ q. Lays xs q p.slots p.unused) z u.lays;
-            count = sym (ap free_sum z) ∙ u.count;
-            replaced = replaced-as (tidy p.goal) (sym z);
-          }
+      of [] e = grind (arith, opened-none, lowest_purged-none, append-nil, closed-free, replaced-as)
       of (b ∷ above) e =
-          let laid = subst (λ q. Lays xs ((u.done ++ gap) ++ q) p.slots p.unused) e here-laid in
-          let r = read xs (u.done ++ gap) b above p.slots p.unused laid at here-low in
+          let r = read xs (u.done ++ gap) b above p.slots p.unused (subst (λ q. Lays xs ((u.done ++ gap) ++ q) p.slots p.unused) e here-laid) at here-low in
           absurd (omega (arith, l))
 
   module _ (v : Next) where
@@ -166,17 +133,14 @@ module _ (p : Purge) (n : Sparing) (start at k freed : ℕ) (xs : List ℕ) (u :
     apart-above = tidy-apart v.above (subst Apart v.is (apart-tidied u.rest u.apart)).1
 
     zone-next : p.zone ≡ u.below ++ ((u.was ++ v.here ∷ []) ++ v.above)
-    zone-next = u.zone_is ∙ ap (λ q. u.below ++ q)
-        (ap (λ q. u.was ++ q) v.is ∙ sym (append_assoc u.was (v.here ∷ []) v.above))
+    zone-next = grind (arith, append_assoc)
 
     span-next : (stop : ℕ) → stop ≡ at + size v.here → p.from + sizes (u.was ++ v.here ∷ []) ≡ stop
     span-next stop t = omega (arith, span-append, t)
 
     will-next : tidy (u.done ++ (gap ++ lowest_purged k (spared n) (opened_block n v.here ∷ opened n v.above)))
         ≡ tidy p.goal
-    will-next =
-        ap (λ q. tidy (u.done ++ (gap ++ lowest_purged k (spared n) q)))
-        (sym (ap (opened n) v.is ∙ opened-more n _ _)) ∙ u.will
+    will-next = grind arith
 
     -- the block becomes Free
     module _ (m : ℕ) (e : left_past (spared n) k (opened_block n v.here) ≡ Some m) where
@@ -184,12 +148,7 @@ module _ (p : Purge) (n : Sparing) (start at k freed : ℕ) (xs : List ℕ) (u :
       freeing = record { below = u.done; here = v.here; above = v.above; slots = p.slots; unused = p.unused }
 
       pub may-free : MayFree freeing start at xs
-      may-free = record {
-        lays = subst (λ q. Lays xs (u.done ++ (gap ++ q)) p.slots p.unused) v.is u.lays;
-        low = u.low;
-        up = u.up;
-        plain = past-plain n k m v.here e;
-      }
+      may-free = grind arith
 
       pub freed-next : (new : List ℕ) → ((f : Freeing) → MayFree f start at xs
           → Lays new (f.below ++ (free (at + size f.here - start) ++ f.above)) f.slots f.unused)
@@ -211,9 +170,7 @@ module _ (p : Purge) (n : Sparing) (start at k freed : ℕ) (xs : List ℕ) (u :
                 ∙ sym (joined-below u.done (at - start) (size v.here) after)
                 ∙ ap (λ q. tidy (u.done ++ (gap ++ Free q ∷ after))) (sym (size-opened n v.here))
                 ∙ ap (λ q. tidy (u.done ++ (gap ++ q))) (sym (lowest_purged-free (spared n) k m _ _ e)) ∙ will-next;
-            count =
-                (let z = more-free v.here more f in
-                omega (arith, total-append, sum-free, ap (λ q. free_sum (u.done ++ (gap ++ q))) v.is, z, g));
+            count = (grind (arith, more-free, total-append, sum-free));
             apart = apart-above;
             below = u.below;
             was = u.was ++ v.here ∷ [];
@@ -239,10 +196,7 @@ module _ (p : Purge) (n : Sparing) (start at k freed : ℕ) (xs : List ℕ) (u :
       closed-now = closed-tidy u.done (at - start) v.here u.tidied u.closed (sym (ap is_free same) ∙ alone)
 
       regrouped : (above : List Block) → u.done ++ (gap ++ v.here ∷ above) ≡ more ++ (free (stop - stop) ++ above)
-      regrouped above =
-          ap (λ q. u.done ++ q) (sym (append_assoc gap (v.here ∷ []) above))
-          ∙ sym (append_assoc u.done (gap ++ v.here ∷ []) above)
-          ∙ (let z : 0 ≡ stop - stop = omega arith in ap (λ q. more ++ (free q ++ above)) z)
+      regrouped above = grind (arith, append_assoc)
 
       pub kept-next : Purging p n stop stop k freed xs
       kept-next = record {

@@ -1,5 +1,5 @@
 -- Where a pass that empties blocks begins, and what it makes of the zone that bytes spell.
-use Rattle.std.proofs.Common.{◌≡◌, ℕ, zero, suc, Bool, true, false, cond, if◌then◌else◌, ◌+◌, ◌-◌, ◌<◌, ◌≤◌}
+use Rattle.std.proofs.Common.{◌≡◌, ℕ, zero, suc, Bool, true, false, cond, if◌then◌else◌, ◌+◌, ◌-◌, ◌<◌, ◌≤◌, rules}
 use Rattle.std.proofs.Common.{Option, Some, None, List, [], ◌∷◌, ◌++◌, sym, refl, ap, ◌∙◌, subst, arith, append_assoc}
 use Rattle.std.proofs.lemmas.Bool.{cond-false, false≢true}
 use Rattle.std.proofs.lemmas.List.{append-nil}
@@ -85,8 +85,7 @@ module _ (f : Freeing) (place : ℕ) (xs : List ℕ) (m : MayPurge f place xs) w
     pub above-free : kind f.here ≡ 0 → Purging (purge_above place f purges n) now place stop purges 0 xs
     above-free k =
         let b = free-is f.here k in
-        let one : free (stop - place) ≡ f.here ∷ [] =
-        (let z : stop - place ≡ size f.here = omega (arith, t) in ap free z)
+        let one : free (stop - place) ≡ f.here ∷ [] = (grind arith)
         ∙ free-some _ (omega (arith, place-read.some)) ∙ ap (λ q. q ∷ []) (sym b) in
         let regrouped : (above : List Block) → f.below ++ f.here ∷ above ≡ f.below ++ (free (stop - place) ++ above) =
         λ above. ap (λ q. f.below ++ (q ++ above)) (sym one) in
@@ -97,10 +96,8 @@ module _ (f : Freeing) (place : ℕ) (xs : List ℕ) (m : MayPurge f place xs) w
 
 -- a block that goes is no Masters block
 goes-plain : (sp : Block → Bool) (b : Block) → may_be_purged sp b ≡ true → is_masters b ≡ false
-goes-plain sp (Free n) e = refl
-goes-plain sp (Nonrelocatable id content) e = refl
 goes-plain sp Masters e = absurd (false≢true e)
-goes-plain sp (Relocatable id flags content) e = refl
+goes-plain sp _ e = refl
 
 -- the blocks below the lowest that goes stay
 lowest_purged-spot : (k : ℕ) (sp : Block → Bool) (zone : List Block) (s : Spot) → spot (may_be_purged sp) zone ≡ Some s
@@ -116,9 +113,7 @@ lowest_purged-spot (suc k) sp (b ∷ zone) s e = cases (may_be_purged sp b) refl
         → lowest_purged (suc k) sp (b ∷ zone) ≡ s.below ++ lowest_purged (suc k) sp (s.here ∷ s.above)
     cases true is o more e = ap (λ (s : Spot). s.below ++ lowest_purged (suc k) sp (s.here ∷ s.above)) (same_Some _ _ e)
     cases false is None more e = absurd (none-some _ e)
-    cases false is (Some s') more e = cond-false (may_be_purged sp b) (Free (size b) ∷ lowest_purged k sp zone)
-        (b ∷ lowest_purged (suc k) sp zone) is ∙ ap (λ q. b ∷ q) (more s' refl)
-        ∙ ap (λ (s : Spot). s.below ++ lowest_purged (suc k) sp (s.here ∷ s.above)) (same_Some _ _ e)
+    cases false is (Some s') more e = grind arith
 
 masters-tidy : (blocks : List Block) → count is_masters (tidy blocks) ≡ count is_masters blocks
 masters-tidy blocks = total-tidy (λ (b : Block). if is_masters b then 1 else 0) (λ n m. refl) _
@@ -138,12 +133,7 @@ module _ (xs : List ℕ) (first number : ℕ) (i : IsSound xs first number) (pur
     going-is = spot-is (may_be_purged (spared n)) (zone_in xs) s e
 
     pub may-go : MayRelease going place xs
-    may-go = record {
-      lays = subst (λ z. Lays xs z (slot_in xs) i.unused) going-is i.lays;
-      low = low;
-      plain = goes-plain (spared n) s.here (spot-passes (may_be_purged (spared n)) (zone_in xs) s e);
-      tidied = sym (ap tidy going-is) ∙ i.tidied ∙ going-is;
-    }
+    may-go = grind (arith, going-is, low, goes-plain, spot-passes)
 
     module _ (start : ℕ) (found : (below above : List Block) → left_in 0 xs ≡ below ++ above → sizes below ≡ place
         → start + last_free 0 below ≡ place) where
@@ -173,10 +163,7 @@ module _ (xs : List ℕ) (first number : ℕ) (i : IsSound xs first number) (pur
   pub purge-gained : (from stop : ℕ) (new : List ℕ) (more : ℕ)
       → Purged (purge_zone from xs i.unused purges n) stop more new
       → Gained xs new first number more (purged purges n (zone_in xs))
-  purge-gained from stop new more d =
-      let left = lowest_purged purges (spared n) (opened n (zone_in xs)) in
-      gained _ _ _ _ _ i left d.lays d.count (masters-tidy left
-      ∙ masters-lowest_purged purges (spared n) (opened n (zone_in xs)) ∙ masters-opened n (zone_in xs))
+  purge-gained from stop new more d = search (rules, gained, masters-tidy, masters-lowest_purged, masters-opened)
 
   -- above a place
   module _ (place : ℕ) (s : Spot) (e : spot_at place (zone_in xs) ≡ Some s) where
@@ -201,8 +188,4 @@ module _ (xs : List ℕ) (first number : ℕ) (i : IsSound xs first number) (pur
         → Gained xs new first number more (tidy (s.below ++ s.here ∷ lowest_purged purges (spared n) s.above))
     above-gained from stop new more after =
         let d = after spot-at may-purge in
-        gained _ _ _ number more i left d.lays (d.count ∙ ap (λ z. free_sum z + more) (sym is)) (masters-tidy _
-        ∙ total-append (λ (b : Block). if is_masters b then 1 else 0) _ _
-        ∙ ap (λ m. count is_masters s.below + ((if is_masters s.here then 1 else 0) + m))
-        (masters-lowest_purged _ (spared n) _) ∙ sym (total-append (λ (b : Block). if is_masters b then 1 else 0) _ _)
-        ∙ ap (count is_masters) (sym is))
+        gained _ _ _ number more i left d.lays (d.count ∙ ap (λ z. free_sum z + more) (sym is)) (grind (arith, masters-tidy, total-append, masters-lowest_purged, is))

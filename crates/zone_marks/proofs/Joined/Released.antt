@@ -63,13 +63,7 @@ module _ (f : Freeing) (place : ℕ) (xs : List ℕ) (m : MayRelease f place xs)
     lower-low = omega (arith, span-append, span-free, ap sizes below-is, starts)
 
     pub may-free : MayFree lower start place xs
-    may-free = record {
-      lays = subst (λ k. Lays xs k f.slots f.unused) (ap (λ k. k ++ f.here ∷ f.above) below-is
-          ∙ append_assoc end.lower (free (place - start)) (f.here ∷ f.above)) m.lays;
-      low = lower-low;
-      up = (omega (arith, starts));
-      plain = m.plain;
-    }
+    may-free = grind (arith, below-is, append_assoc, end, lower-low, starts)
 
     abbrev pub freed : Joining
     freed = record { below = end.lower; above = f.above; slots = f.slots; unused = f.unused }
@@ -90,8 +84,7 @@ module _ (f : Freeing) (place : ℕ) (xs : List ℕ) (m : MayRelease f place xs)
       low-stop = omega (arith, span-append, span-free, lower-low, starts, t)
 
       lays-stop : Lays mid ((end.lower ++ free (stop - start)) ++ f.above) f.slots f.unused
-      lays-stop = subst (λ k. Lays mid k f.slots f.unused)
-          (sym (append_assoc end.lower (free (stop - start)) f.above)) may-join.lays
+      lays-stop = grind (arith, append_assoc, end, may-join)
 
       -- what is above it
       pub stop-way : IsOnWay stop mid
@@ -110,18 +103,15 @@ module _ (f : Freeing) (place : ℕ) (xs : List ℕ) (m : MayRelease f place xs)
           → Replaced start (stop + more) all (tidy (f.below ++ Free (size f.here) ∷ f.above))
       freed-replaced more e =
           let k = here-read.some in
-          let z = released-tidy _ _ _ _ _ (omega (arith, k)) below-is end.apart end.closed above-tidy in
           joined-replaced _ _ _ _ _ _ _ _ _
           (ap (λ k. k ++ f.here ∷ f.above) below-is ∙ append_assoc end.lower (free (place - start)) (f.here ∷ f.above))
-          z refl (omega (arith, k)) lower-low (omega (arith, e ∙ ap free_first stop-left, starts, t))
+          (released-tidy _ _ _ _ _ (omega (arith, k)) below-is end.apart end.closed above-tidy) refl (omega (arith, k)) lower-low (omega (arith, e ∙ ap free_first stop-left, starts, t))
 
       -- and with the one above it
       pub released : (new : List ℕ) → ((j : Joining) → MayJoin j start stop mid
           → Lays new (j.below ++ add (Free (stop - start)) j.above) j.slots j.unused)
           → Lays new (tidy (f.below ++ Free (size f.here) ∷ f.above)) f.slots f.unused
       released new joined =
-          let k = here-read.some in
-          let e : stop - start ≡ place - start + size f.here = omega (arith, starts, t) in
-          let z = released-tidy _ _ _ _ _ (omega (arith, k)) below-is end.apart end.closed above-tidy in
-          subst (λ q. Lays new q f.slots f.unused) (ap (λ n. end.lower ++ add (Free n) f.above) e
+          let z = released-tidy _ _ _ _ _ (omega (arith, here-read.some)) below-is end.apart end.closed above-tidy in
+          subst (λ q. Lays new q f.slots f.unused) (ap (λ n. end.lower ++ add (Free n) f.above) (omega (arith, starts, t))
           ∙ sym z) (joined freed may-join)

@@ -39,10 +39,7 @@ pub alike-more : (a b c : List Block) → CountAlike a b → CountAlike b c → 
 alike-more a b c x y = record { same = λ w. x.same w ∙ y.same w }
 
 pub alike-append : (a b c d : List Block) → CountAlike a c → CountAlike b d → CountAlike (a ++ b) (c ++ d)
-alike-append a b c d x y = record {
-  same = λ w. stretch_by-append w a b ∙ ap (λ s. join s (stretch_by w b)) (x.same w) ∙ ap (join (stretch_by w c)) (y.same w)
-      ∙ sym (stretch_by-append w c d);
-}
+alike-append a b c d x y = grind (arith, stretch_by-append)
 
 pub alike-first : (b : Block) (some others : List Block) → CountAlike some others → CountAlike (b ∷ some) (b ∷ others)
 alike-first b some others a = alike-append _ _ _ _ (alike-same (b ∷ []) (b ∷ []) refl) a
@@ -55,21 +52,16 @@ told-both runs spaces blocks e t counting.Spaces = t
 
 -- one block
 not-same : (t u : Bool) → not t ≡ not u → t ≡ u
-not-same true true e = refl
 not-same true false e = cc
 not-same false true e = cc
-not-same false false e = refl
+not-same _ _ e = refl
 
 pub one-same : (b c : Block) → free_of c ≡ free_of b → ends_run c ≡ ends_run b → one c ≡ one b
 one-same b c f r = ap (counted (in_run c)) f ∙ ap (λ t. counted t (free_of b)) (not-same _ _ r)
 
 pub alike-other : (b c : Block) (some : List Block) → one c ≡ one b → space c ≡ space b
     → CountAlike (c ∷ some) (b ∷ some)
-alike-other b c some o s = record { same = either }
-  where
-    either : (w : Counting) → stretch_by w (c ∷ some) ≡ stretch_by w (b ∷ some)
-    either counting.Runs = ap (λ k. join k (stretch_of some)) o
-    either counting.Spaces = ap (λ k. join k (spaces_of some)) s
+alike-other b c some o s = grind arith
 
 not-not : (t : Bool) → not (not t) ≡ t
 not-not true = refl
@@ -77,29 +69,20 @@ not-not false = refl
 
 pub one-spanned : (b : Block) (free : ℕ) (barrier : Bool) → free ≡ free_of b → barrier ≡ ends_run b
     → counted (not barrier) free ≡ one b
-one-spanned b free barrier f r = ap (counted (not barrier)) f ∙ ap (λ t. counted (not t) (free_of b)) r
-    ∙ ap (λ t. counted t (free_of b)) (not-not _)
+one-spanned b free barrier f r = grind arith
 
 -- a block of no bytes more counts the same
 pub one-empty : (b : Block) → size b ≤ 0 → one b ≡ Whole 0
 one-empty (Free n) l = ap Whole (omega (arith, l))
-one-empty (Nonrelocatable id content) l = absurd (omega (arith, l))
-one-empty Masters l = absurd (omega (arith, l))
-one-empty (Relocatable id flags content) l = absurd (omega (arith, l))
+one-empty _ l = absurd (omega (arith, l))
 
 space-empty : (b : Block) → size b ≤ 0 → space b ≡ Whole 0
 space-empty (Free n) l = ap Whole (omega (arith, l))
-space-empty (Nonrelocatable id content) l = absurd (omega (arith, l))
-space-empty Masters l = absurd (omega (arith, l))
-space-empty (Relocatable id flags content) l = absurd (omega (arith, l))
+space-empty _ l = absurd (omega (arith, l))
 
 alike-empty : (b : Block) (some others : List Block) → size b ≤ 0 → CountAlike some others → CountAlike (b ∷ some)
     others
-alike-empty b some others l a = record { same = λ w. either w ∙ a.same w }
-  where
-    either : (w : Counting) → stretch_by w (b ∷ some) ≡ stretch_by w some
-    either counting.Runs = ap (λ s. join s (stretch_of some)) (one-empty b l) ∙ join-unit_left _
-    either counting.Spaces = ap (λ s. join s (spaces_of some)) (space-empty b l) ∙ join-unit_left _
+alike-empty b some others l a = grind arith
 
 module _ (lo hi : ℕ) where
   pub between-append : (x : ℕ) (below above : List Block)
@@ -127,9 +110,7 @@ module _ (lo hi : ℕ) where
     where
       cases : (t : Bool) → (nat_le lo x && nat_lt x hi) ≡ t → CountAlike (between lo hi (x + size b) blocks) []
           → CountAlike (cond t (b ∷ between lo hi (x + size b) blocks) (between lo hi (x + size b) blocks)) []
-      cases true e rest =
-          let k = leb-true lo x (and_parts (nat_le lo x) (nat_lt x hi) e).0 in
-          alike-empty b _ [] (omega (arith, l, k)) rest
+      cases true e rest = grind arith
       cases false e rest = rest
 
   -- none of the blocks above does
@@ -153,8 +134,7 @@ module _ (lo hi : ℕ) where
           → CountAlike (cond (nat_le lo x && nat_lt x hi) (b ∷ between lo hi (x + size b) blocks)
           (between lo hi (x + size b) blocks)) (b ∷ blocks)
       cases true e rest = rw (le-leb lo x l) (rw e (alike-first b _ _ rest))
-      cases false e rest = rw (le-leb lo x l) (rw e (alike-back _ _ (alike-empty b _ _ (omega (arith, h, ltb-false))
-          (alike-back _ _ rest))))
+      cases false e rest = grind arith
 
   -- and so do those of which each begins below the bound
   pub all-begin : (x : ℕ) (blocks : List Block) → lo ≤ x → AtEach (λ p _. p < hi) x blocks
@@ -166,15 +146,11 @@ module _ (lo hi : ℕ) where
   -- the blocks of a zone that begin there, where it is parted so
   pub between-parts : (below here above : List Block) → sizes below ≡ lo → lo + sizes here ≤ hi
       → (hi ≡ lo + sizes here) ⊎ (above ≡ []) → CountAlike (between lo hi 0 (below ++ (here ++ above))) here
-  between-parts below here above l h e =
-      alike-more _ _ _ (alike-same _ _ (between-append 0 _ (here ++ above)))
+  between-parts below here above l h e = alike-more _ _ _ (alike-same _ _ (between-append 0 _ (here ++ above)))
       (alike-append _ _ [] here (none-below 0 below (omega (arith, l)))
       (alike-more _ _ _ (alike-same _ _ (between-append (0 + sizes below) here above
       ∙ ap (λ k. between lo hi (0 + sizes below) here ++ k) top ∙ append-nil (between lo hi (0 + sizes below) here)))
       (all-within _ _ (omega (arith, l)) (omega (arith, l, h)))))
     where
       top : between lo hi (0 + sizes below + sizes here) above ≡ []
-      top = elim e [
-        | inl k ↦ none-above (0 + sizes below + sizes here) above (omega (arith, k, l))
-        | inr k ↦ ap (between lo hi (0 + sizes below + sizes here)) k
-      ]
+      top = grind (arith, none-above)

@@ -29,15 +29,11 @@ starts-begins p x (b ∷ blocks) (inr s) = inr (starts-begins p (x + size b) blo
 -- blocks that may move have no Free byte and end no run
 mover-free : (b : Block) → IsMover b → free_of b ≡ 0
 mover-free (Free n) m = absurd (false≢true m)
-mover-free (Nonrelocatable id content) m = refl
-mover-free Masters m = refl
-mover-free (Relocatable id flags content) m = refl
+mover-free _ m = refl
 
 mover-one : (b : Block) → IsMover b → one b ≡ Whole 0
-mover-one (Free n) m = absurd (false≢true m)
-mover-one (Nonrelocatable id content) m = absurd (false≢true m)
-mover-one Masters m = absurd (false≢true m)
 mover-one (Relocatable id flags content) m = ap (λ t. counted t 0) m
+mover-one _ m = absurd (false≢true m)
 
 movers-bare : (lo hi x : ℕ) (movers : List Block) → Each IsMover movers → AtEach (AtMost 0 lo hi) x movers
 movers-bare lo hi x [] m = tt
@@ -75,35 +71,25 @@ module _ (base : ℕ) (below movers above : List Block) (low : sizes below ≡ b
   zone = below ++ (movers ++ above)
 
   bare-same : (p q : ℕ) → p ≡ q → IsBare p q zone
-  bare-same p q e = (
-    at-all (AtMost 0 p q) 0 zone (λ x b _. λ l h. absurd (omega (arith, l, h, e))),
-    ap stretch_of (between-none p q 0 zone (omega (arith, e))),
-  )
+  bare-same p q e = grind (arith, at-all, between-none)
 
   bare-within : (p q : ℕ) → base ≤ p → q ≤ base + sizes movers → IsBare p q zone
   bare-within p q l h =
       let R = AtMost 0 p q in
       let x = 0 + sizes below in (
-        at-append R 0 _ _ (at-each R 0 _ (λ y b u v. λ m n. omega (arith, free-size, v, m, l, low)))
-            (at-append R x _ _ (movers-bare p q x _ solid)
+        at-append R 0 _ _ (at-each R 0 _ (grind arith)) (at-append R x _ _ (movers-bare p q x _ solid)
             (at-all R _ _ (λ y b u. λ m n. absurd (omega (arith, u, n, h, low))))),
         ap stretch_of (between-append p q 0 _ _ ∙ ap (λ k. between p q 0 below ++ k) (between-append p q x _ _))
             ∙ bare-both (between p q 0 below) (between p q x movers ++ between p q (x + sizes movers) above)
             ((none-below p q 0 below (omega (arith, l, low))).same Runs)
-            (bare-both (between p q x movers) (between p q (x + sizes movers) above) (movers-runs p q x movers solid)
-            (ap stretch_of (none-above p q (x + sizes movers) above (omega (arith, h, low))))),
+            (grind (arith, bare-both, movers-runs, none-above)),
       )
 
 -- an edge of the blocks that lie packed
 module _ (edges : Edges) (base : ℕ) (zone : List Block) (a : ByEdges edges base zone) (place : ℕ)
     (s : (x : ℕ) (blocks : List Block) → AreEdges edges x blocks → Starts place x blocks) where
   pub edge-begins : Begins place 0 zone
-  edge-begins = elim a [
-    | inl n ↦ absurd (s base [] n)
-    | inr p ↦ subst (Begins place 0) (sym p.is) (begins-right _ 0 _ _
-        (subst (λ x. Begins place x (p.movers ++ p.above)) (let e : base ≡ 0 + sizes p.below =
-        omega arith in e) (begins-left _ _ _ _ (starts-begins _ _ _ (s base p.movers p.edges_are)))))
-  ]
+  edge-begins = grind (arith, begins-right, begins-left, starts-begins)
 
   -- from the bottom of these blocks on nothing else lies up to it
   pub edge-bare : (at edge : ℕ) → (edge ≡ at) ⊎ (edge ≡ place) → base ≤ at → IsBare at edge zone

@@ -1,6 +1,6 @@
 -- The groups of landmarks.
 use Rattle.std.proofs.Common.{◌≡◌, ◌⊎◌, ℕ, ◌+◌, ◌-◌, ◌*◌, ◌≤◌, ◌<◌, inl, inr, List, length, take, drop, get_or, set, sym, ap}
-use Rattle.std.proofs.Common.{◌∙◌, subst, arith, length-set, replicate}
+use Rattle.std.proofs.Common.{◌∙◌, subst, arith, length-set, replicate, rules}
 use Rattle.std.proofs.lemmas.Bool.{cases_lt}
 use Rattle.std.proofs.lemmas.Bool.Decides.{eqb_tells}
 use Rattle.std.proofs.lemmas.List.{get_or-take, get_or-drop, get_or-set_same, get_or-set_other, length-take-le, length-drop}
@@ -40,17 +40,7 @@ group-raised groups marks group index g m a l low high was is none = record {
       let w = a.whole in
       omega (arith, w, length-set groups group g, length-set marks index m)
       );
-  each = λ other j u v h. elim (eqb_tells other group) [
-    | inl t ↦ subst (λ z. (get_or (set marks index m) j no_mark).most ≤ z)
-        (sym (ap (λ k. k.most) (same-group other t.1))) (here j (omega (arith, u)) (omega (arith, v))
-        (omega (arith, h)))
-    | inr t ↦ subst (λ z. (get_or (set marks index m) j no_mark).most ≤ z)
-        (sym (ap (λ k. k.most) (get_or-set_other groups group other g no_group t.1)))
-        (subst (λ z. z.most ≤ (get_or groups other no_group).most)
-        (sym (get_or-set_other marks index j m no_mark
-        (λ e. t.1 (let z : other ≡ group = omega (arith, e, u, v, low, high) in z))))
-        (a.each other j u v (omega (arith, length-set marks index m, h))))
-  ];
+  each = λ other j u v h. (search rules);
   known = λ w other runs h e. elim (eqb_tells other group) [
     | inl t ↦ absurd (unknown-known w runs (sym (ap (told w) none) ∙ sym (ap (λ k. told w k.tally) (same-group other t.1)) ∙ e))
     | inr t ↦ ap (tally_of w) (marks-apart _ m _ (GROUP * other) GROUP (elim (apart other t.1) [
@@ -125,16 +115,4 @@ group-renewed groups marks group low n g a l e k f s = record {
 -- landmarks that all note the same, and of which groups know no more
 pub same-groups : (count groups : ℕ) (m : Landmark) → count ≡ GROUP * groups
     → AreGroups (replicate groups (record { most = m.most; tally = unknown })) (replicate count m)
-same-groups count groups m e = record {
-  whole = (let s = length-replicate count m in let t = length-replicate groups g in omega (arith, e, s, t));
-  each = λ group index b h l.
-      let s = length-replicate count m in
-      let t = ap (λ k. k.most) (get_or-replicate groups group g no_group (omega (arith, l, s, e, b))) in
-      omega (arith, ap (λ k. k.most) (get_or-replicate count index m no_mark (omega (arith, l, s))), t);
-  known = λ w group runs h d. absurd (unknown-known w _
-      (sym (ap (λ k. told w k.tally) (get_or-replicate groups group g no_group
-      (omega (arith, h, length-replicate groups g)))) ∙ d));
-}
-  where
-    g : Group
-    g = record { most = m.most; tally = unknown }
+same-groups count groups m e = grind (arith, length-replicate, get_or-replicate, unknown-known)

@@ -20,21 +20,12 @@ begins-same p x (d ∷ below) above b c s (inr e) = inr (begins-same p (x + size
 
 bound-same : (most lo hi x : ℕ) (below above : List Block) (b c : Block) → size c ≡ size b → free_of c ≡ free_of b
     → AtEach (AtMost most lo hi) x (below ++ b ∷ above) → AtEach (AtMost most lo hi) x (below ++ c ∷ above)
-bound-same most lo hi x [] above b c s f e = (
-  λ l h. subst (λ n. n ≤ most) (sym f) (e.0 l h),
-  subst (λ n. AtEach (AtMost most lo hi) (x + n) above) (sym s) e.1,
-)
+bound-same most lo hi x [] above b c s f e = grind arith
 bound-same most lo hi x (d ∷ below) above b c s f e = (e.0, bound-same _ _ _ (x + size d) below above b c s f e.1)
 
 tally-same : (lo hi x : ℕ) (below above : List Block) (b c : Block) → size c ≡ size b → one c ≡ one b
     → space c ≡ space b → CountAlike (between lo hi x (below ++ c ∷ above)) (between lo hi x (below ++ b ∷ above))
-tally-same lo hi x [] above b c s f r = cases (nat_le lo x && nat_lt x hi) (ap (λ n. between lo hi (x + n) above) s)
-  where
-    cases : (t : Bool) → between lo hi (x + size c) above ≡ between lo hi (x + size b) above
-        → CountAlike (cond t (c ∷ between lo hi (x + size c) above) (between lo hi (x + size c) above))
-        (cond t (b ∷ between lo hi (x + size b) above) (between lo hi (x + size b) above))
-    cases true e = alike-more _ _ _ (alike-same _ _ (ap (λ k. c ∷ k) e)) (alike-other b c _ f r)
-    cases false e = alike-same _ _ e
+tally-same lo hi x [] above b c s f r = grind arith
 tally-same lo hi x (d ∷ below) above b c s f r = cases (nat_le lo x && nat_lt x hi)
     (tally-same _ _ (x + size d) below above b c s f r)
   where

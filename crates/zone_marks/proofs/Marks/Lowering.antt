@@ -24,8 +24,7 @@ use Rattle.zone_marks.proofs.Marks.Between.{between-append, none-below, none-abo
 -- what holds of each block by its place alone
 pub at-each : (S : ℕ → Block → Type 0) (x : ℕ) (blocks : List Block)
     → ((p : ℕ) (b : Block) → x ≤ p → p + size b ≤ x + sizes blocks → S p b) → AtEach S x blocks
-at-each S x blocks f = at-map (λ _ _. Unit {0}) S x _ (λ p b l u _. f p b l u)
-    (at-all (λ _ _. Unit {0}) x _ (λ p b l. tt))
+at-each S x blocks f = at-map (λ _ _. Unit {0}) S x _ (λ p b l u _. f p b l u) (grind (arith, at-all))
 
 -- the first of some landmarks is no higher than where they end
 pub marks-below : (end : ℕ) (zone : List Block) (marks : List Landmark) → AreMarks end zone marks → next_of end marks ≤ end
@@ -36,17 +35,13 @@ marks-below end zone (m ∷ marks) a = let n = marks-below _ _ marks a.4 in omeg
 lowered-order : (lo hi a b p q : ℕ) → a ≤ b → Lowered lo hi a p → Lowered lo hi b q → p ≤ q
 lowered-order lo hi a b p q l (inl x) (inl y) = omega arith
 lowered-order lo hi a b p q l (inl x) (inr y) = omega (arith, l)
-lowered-order lo hi a b p q l (inr x) (inl y) = elim x.1 [
-  | inl u ↦ omega (arith, u)
-  | inr u ↦ absurd (omega (arith, u, l))
-]
+lowered-order lo hi a b p q l (inr x) (inl y) = grind arith
 lowered-order lo hi a b p q l (inr x) (inr y) = omega (arith, l)
 
 module _ (lo hi : ℕ) (old new : List Block) (z : Replaced lo hi old new) (o : lo ≤ hi) where
   pub at-low : Begins lo 0 new
   at-low = subst (Begins lo 0) (sym z.is) (begins-right _ 0 _ _
-      (subst (λ y. Begins lo y (z.there ++ z.above)) (let e : lo ≡ 0 + sizes z.below = omega arith in e)
-      (begins-here _ _)))
+      (subst (λ y. Begins lo y (z.there ++ z.above)) (grind arith) (begins-here _ _)))
 
   pub begins-lowered : (at now : ℕ) → Lowered lo hi at now → Begins at 0 old → Begins now 0 new
   begins-lowered at now (inl w) b = subst (λ p. Begins p 0 new) (sym w.2) at-low
@@ -75,19 +70,10 @@ module _ (lo hi : ℕ) (old new : List Block) (z : Replaced lo hi old new) (o : 
   module _ (most most' at next at' above : ℕ) (a : Lowered lo hi at at') (n : Lowered lo hi next above)
       (m : most ≤ most') (k : at' ≤ lo → lo < above → hi - lo ≤ most') where
     low-in : (p : ℕ) (b : Block) → p + size b ≤ lo → AtMost most at next p b → AtMost most' at' above p b
-    low-in p b u r l h = elim a [
-      | inl w ↦ omega (arith, free-size, u, l)
-      | inr w ↦ omega (arith, m)
-    ]
+    low-in p b u r l h = grind arith
 
     middle : (p : ℕ) (b : Block) → lo ≤ p → p + size b ≤ hi → AtMost most' at' above p b
-    middle p b v u l h = elim a [
-      | inl w ↦ let q = k (omega arith) (omega (arith, v, h)) in omega (arith, free-size, q, u, v)
-      | inr w ↦ elim w.1 [
-        | inl d ↦ let q = k (omega (arith, d)) (omega (arith, v, h)) in omega (arith, free-size, q, u, v)
-        | inr d ↦ omega (arith, free-size, u, l, d)
-      ]
-    ]
+    middle p b v u l h = grind arith
 
     high-in : (p : ℕ) (b : Block) → hi ≤ p → AtMost most at next p b → AtMost most' at' above p b
     high-in p b v r l h = omega (arith, m)
@@ -128,12 +114,11 @@ module _ (lo hi : ℕ) (old new : List Block) (z : Replaced lo hi old new) (o : 
   pub marks-over : (end : ℕ) (marks : List Landmark) → hi ≤ end → hi ≤ next_of end marks → AreMarks end old marks
       → AreMarks end new marks
   marks-over end [] e u a = tt
-  marks-over end (m ∷ marks) e u a =
-      let v : hi ≤ next_of end marks = omega (arith, u, a.3) in (
+  marks-over end (m ∷ marks) e u a = let v : hi ≤ next_of end marks = omega (arith, u, a.3) in (
         begins-lowered m.at m.at (inr (refl, inr u)) a.0,
         bound-lowered m.most m.most m.at (next_of end marks) m.at (next_of end marks) (inr (refl, inr u))
             (inr (refl, inr v)) (omega arith) (λ l _. omega (arith, l, u)) a.1,
-        alike-as m.tally _ _ (apart-alike m.at (next_of end marks) (inl u)) a.2,
+        alike-as m.tally _ _ (grind (arith, apart-alike)) a.2,
         a.3,
         marks-over end marks e v a.4,
       )
@@ -175,30 +160,19 @@ module _ (xs : List ℕ) (first unused : ℕ) (i : IsSound xs first unused) wher
       }
 
   pub begins-further : (p q : ℕ) → Begins p 0 (zone_in xs) → Begins q p (left_in p xs) → Begins q 0 (zone_in xs)
-  begins-further p q b e =
-      let s = seen-from p b in
-      subst (Begins q 0) (sym s.is) (begins-right q 0 _ _
-      (subst (λ y. Begins q y (left_in p xs)) (let k : p ≡ 0 + sizes s.below = omega arith in k) e))
+  begins-further p q b e = grind (arith, seen-from, begins-right)
 
   pub bound-here : (most p to : ℕ) → Begins p 0 (zone_in xs) → AtEach (AtMost most p to) p (left_in p xs)
       → AtEach (AtMost most p to) 0 (zone_in xs)
-  bound-here most p to b e =
-      let s = seen-from p b in
-      let S = AtMost most p to in
-      subst (AtEach S 0) (sym s.is) (at-append S 0 _ _
-      (at-each S 0 _ (λ q c v u. λ m n. omega (arith, free-size, u, m)))
-      (subst (λ y. AtEach S y (left_in p xs)) (let k : p ≡ 0 + sizes s.below = omega arith in k) e))
+  bound-here most p to b e = grind (arith, seen-from, at-append, at-each, free-size)
 
   -- what is known of blocks from a place on
   pub one-here : (w : Counting) (t : Tally) (p to : ℕ) → Begins p 0 (zone_in xs)
       → IsTally w t (between p to p (left_in p xs)) → IsTally w t (between p to 0 (zone_in xs))
   one-here w t p to b e =
       let s = seen-from p b in
-      tally-as w t _ _ (alike-more _ _ _ (alike-same _ _ (ap (between p to 0) s.is
-      ∙ between-append p _ 0 _ _))
-      (alike-append _ _ [] _ (none-below p to 0 s.below (omega arith))
-      (alike-same _ _ (ap (λ y. between p to y (left_in p xs)) (let k : 0 + sizes s.below ≡ p = omega arith in k)))))
-      e
+      tally-as w t _ _ (alike-more _ _ _ (alike-same _ _ (ap (between p to 0) s.is ∙ between-append p _ 0 _ _))
+      (alike-append _ _ [] _ (none-below p to 0 s.below (omega arith)) (grind arith))) e
 
   pub tally-here : (t : Tallies) (p to : ℕ) → Begins p 0 (zone_in xs) → AreTold t (between p to p (left_in p xs))
       → AreTold t (between p to 0 (zone_in xs))
@@ -225,8 +199,7 @@ marks-parted end zone marks n a = marks-split _ _ _ _ (subst (AreMarks end zone)
 
 pub marks-whole : (end : ℕ) (zone : List Block) (marks : List Landmark) (n at : ℕ) → at ≡ next_of end (drop n marks)
     → AreMarks at zone (take n marks) → AreMarks end zone (drop n marks) → AreMarks end zone marks
-marks-whole end zone marks n at e a b = subst (AreMarks end zone) (take-append-drop n marks)
-    (marks-join _ _ _ _ (subst (λ k. AreMarks k zone (take n marks)) e a) b)
+marks-whole end zone marks n at e a b = grind (arith, take-append-drop, marks-join)
 
 -- the landmark at an index, as the first of those from there on
 pub mark-first : (end : ℕ) (marks : List Landmark) (i : ℕ) (d : Landmark) → i < length marks
@@ -245,16 +218,10 @@ drop-all [] = refl
 drop-all (x ∷ l) = drop-all l
 
 pub equal-yes : (a b : ℕ) → a ≡ b → (a == b) ≡ true
-equal-yes a b e = elim (eqb_tells a b) [
-  | inl t ↦ t.0
-  | inr t ↦ absurd (t.1 e)
-]
+equal-yes a b e = grind arith
 
 pub equal-no : (a b : ℕ) → a < b → (a == b) ≡ false
-equal-no a b l = elim (eqb_tells a b) [
-  | inl t ↦ absurd (omega (arith, l))
-  | inr t ↦ t.0
-]
+equal-no a b l = grind arith
 
 -- where blocks end
 pub begins-end : (x : ℕ) (blocks : List Block) → Begins (x + sizes blocks) x blocks
@@ -268,9 +235,7 @@ pub unlaid-marks : (zone : List Block) → sizes zone ≤ 134217728 → (n : ℕ
 unlaid-marks zone l zero = tt
 unlaid-marks zone l (suc n) = (
   begins-here 0 zone,
-  at-each (AtMost 4294967295 0 (next_of 4294967295
-      (replicate n (record { at = 0; most = 4294967295; tally = unknown })))) 0 _
-      (λ p b _ u _ _. omega (arith, free-size, u, l)),
+  at-each (AtMost 4294967295 0 _) 0 _ (λ p b _ u _ _. omega (arith, free-size, u, l)),
   none,
   omega arith,
   unlaid-marks zone l n,
@@ -303,8 +268,7 @@ module _ (lo hi : ℕ) (old new : List Block) where
       → AreMarks (get_or marks (left - 1) d).at old (take (left - 1) marks)
       × AreMarks next old (get_or marks (left - 1) d ∷ [])
   last-mark next above left marks back d s l g =
-      let e : left - 1 + 1 ≡ left = omega (arith, s) in
-      marks-split _ _ _ _ (subst (AreMarks next old) (ap (λ k. take k marks) (sym e)
+      marks-split _ _ _ _ (subst (AreMarks next old) (ap (λ k. take k marks) (sym (omega (arith, s)))
       ∙ take_more marks (left - 1) d (omega (arith, s, l))) g.low)
 
   pub changing-step : Replaced lo hi old new → lo ≤ hi → (next above left : ℕ) (marks : List Landmark) (d m : Landmark)
@@ -319,8 +283,7 @@ module _ (lo hi : ℕ) (old new : List Block) where
   changing-step z o next above left marks d m s l g w f c =
       let r = last-mark next above left marks (drop left marks) d s l g in
       let n = r.1 in
-      let e : left - 1 + 1 ≡ left = omega (arith, s) in
-      let q = drop-set marks (left - 1) m (omega (arith, s, l)) ∙ ap (λ k. m ∷ drop k marks) e in
+      let q = drop-set marks (left - 1) m (omega (arith, s, l)) ∙ ap (λ k. m ∷ drop k marks) (omega (arith, s)) in
       record {
         is = w;
         low = subst (AreMarks (get_or marks (left - 1) d).at old) (sym (take-set marks (left - 1) m)) r.0;
@@ -336,9 +299,7 @@ module _ (lo hi : ℕ) (old new : List Block) where
 
   pub changing-done : (next above left : ℕ) (marks : List Landmark) → left ≤ 0
       → Changing lo hi old new next above (take left marks) (drop left marks) → AreMarks 4294967295 new marks
-  changing-done next above left marks l g =
-      let e : left ≡ 0 = omega (arith, l) in
-      subst (λ k. AreMarks 4294967295 new (drop k marks)) e g.high
+  changing-done next above left marks l g = grind arith
 
   -- those below the stretch aren't gone over
   pub changing-below : Replaced lo hi old new → lo ≤ hi → (next above left : ℕ) (marks : List Landmark) → above < lo
@@ -347,17 +308,13 @@ module _ (lo hi : ℕ) (old new : List Block) where
       (marks-under _ _ _ _ z o _ _ (omega (arith, same, b)) g.low) g.high
     where
       same : above ≡ next
-      same = elim g.is [
-        | inl w ↦ absurd (omega (arith, b))
-        | inr w ↦ w.0
-      ]
+      same = grind arith
 
 -- new landmarks, one after another
 pub marks-next : (zone : List Block) (marks : List Landmark) (index to : ℕ) (m : Landmark) → index < length marks
     → AreMarks m.at zone (take index marks) → Begins m.at 0 zone → AtEach (AtMost m.most m.at to) 0 zone
     → AreTold m.tally (between m.at to 0 zone) → m.at ≤ to → AreMarks to zone (take (index + 1) (set marks index m))
-marks-next zone marks index to m l a b e t r =
-    subst (AreMarks to zone) (sym (take_more_set marks index m l)) (marks-join _ _ _ _ a (b, e, t, r, tt))
+marks-next zone marks index to m l a b e t r = grind (arith, take_more_set, marks-join)
 
 -- and those that are still to come
 pub marks-left : (end : ℕ) (zone : List Block) (marks : List Landmark) (index : ℕ) (m : Landmark) → index < length marks

@@ -31,37 +31,25 @@ use Rattle.zone_bytes.proofs.Tiles.Keeping.{span-free}
 -- a block whose content is another of as many bytes
 ends-content : (x : List ℕ) (b : Block) → ends_run (with_content x b) ≡ ends_run b
 ends-content x (Free n) = refl
-ends-content x (Nonrelocatable id content) = refl
-ends-content x Masters = refl
-ends-content x (Relocatable id flags content) = refl
+ends-content x _ = refl
 
 space-content : (x : List ℕ) (b : Block) → length x ≡ length (content_of b) → space (with_content x b) ≡ space b
-space-content x (Free n) e = refl
-space-content x (Nonrelocatable id content) e = refl
-space-content x Masters e = refl
-space-content x (Relocatable id flags content) e =
-    ap (λ n. counted (is_purgeable (Relocatable id flags content)) (padded n)) e
+space-content x (Relocatable id flags content) e = grind arith
+space-content x _ e = refl
 
 goes-content : (x : List ℕ) (b : Block) → is_purgeable (with_content x b) ≡ is_purgeable b
 goes-content x (Free n) = refl
-goes-content x (Nonrelocatable id content) = refl
-goes-content x Masters = refl
-goes-content x (Relocatable id flags content) = refl
+goes-content x _ = refl
 
 -- a block with other flags
 pub size-flags : (flags : Flags) (b : Block) → size (with_flags flags b) ≡ size b
 size-flags flags (Free n) = refl
-size-flags flags (Nonrelocatable id content) = refl
-size-flags flags Masters = refl
-size-flags flags (Relocatable id old content) = refl
+size-flags flags _ = refl
 
 purgeable-content : (x : List ℕ) (b : Block) → length x ≡ length (content_of b)
     → purgeable_of (with_content x b) ≡ purgeable_of b
-purgeable-content x (Free n) e = refl
-purgeable-content x (Nonrelocatable id content) e = refl
-purgeable-content x Masters e = refl
-purgeable-content x (Relocatable id flags content) e =
-    ap (λ n. cond {A = ℕ} (is_purgeable (Relocatable id flags content)) (padded n) 0) e
+purgeable-content x (Relocatable id flags content) e = grind arith
+purgeable-content x _ e = refl
 
 module _ (xs : List ℕ) (first unused free purgeable : ℕ) (l : Landmarks) where
   pub with-marks : IsKept xs first unused free → AreOf l (zone_in xs) → purgeable ≡ purgeable_sum (zone_in xs)
@@ -79,11 +67,7 @@ module _ (xs : List ℕ) (first unused free purgeable : ℕ) (l : Landmarks) whe
       → zone_in xs ≡ below ++ c ∷ above → zone ≡ below ++ b ∷ above → size c ≡ size b → free_of c ≡ free_of b
       → one c ≡ one b → space c ≡ space b → is_purgeable c ≡ is_purgeable b → AreOf l zone
       → purgeable ≡ purgeable_sum (below ++ c ∷ above) → IsMarked xs first unused free purgeable l
-  with-block below above b c zone k e was s f r h g a m = with-marks k
-      (subst (AreOf l) (sym e) (let o = subst (AreOf l) was a in (
-        (marks-same 4294967295 l.marks.items below above b c s f r h o.0.0, o.0.1),
-        stays-same l.lowest 0 below above b c s g o.1,
-      ))) (subst (λ z. purgeable ≡ purgeable_sum z) (sym e) m)
+  with-block below above b c zone k e was s f r h g a m = grind (arith, with-marks, marks-same, stays-same)
 
   -- bytes were written over some of a block's content
   pub with-written : (below above : List Block) (b : Block) (from : ℕ) (x : List ℕ) (zone : List Block)
@@ -91,7 +75,6 @@ module _ (xs : List ℕ) (first unused free purgeable : ℕ) (l : Landmarks) whe
       → zone ≡ below ++ b ∷ above → from + length x ≤ length (content_of b) → AreOf l zone
       → purgeable ≡ purgeable_sum zone → IsMarked xs first unused free purgeable l
   with-written below above b from x zone k e was w a m =
-      let now = written from x (content_of b) in
       let long = length-written from x (content_of b) w in
       with-block _ _ b _ _ k e was (size-content _ b long) (free-content _ b)
       (one-same b _ (free-content _ b) (ends-content _ b)) (space-content _ b long) (goes-content _ b) a

@@ -33,8 +33,7 @@ pub at-append : (R : ℕ → Block → Type 0) (x : ℕ) (below above : List Blo
 at-append R x [] above r s = subst (λ y. AtEach R y above) (let e : x + 0 ≡ x = omega arith in e) s
 at-append R x (b ∷ below) above r s = (
   r.0,
-  at-append R (x + size b) below above r.1
-      (subst (λ y. AtEach R y above) (let e : x + (size b + sizes below) ≡ x + size b + sizes below = omega arith in e) s),
+  at-append R (x + size b) below above r.1 (subst (λ y. AtEach R y above) (search rules) s),
 )
 
 pub at-left : (R : ℕ → Block → Type 0) (x : ℕ) (below above : List Block) → AtEach R x (below ++ above)
@@ -45,9 +44,7 @@ at-left R x (b ∷ below) above r = (r.0, at-left R (x + size b) below above r.1
 pub at-right : (R : ℕ → Block → Type 0) (x : ℕ) (below above : List Block) → AtEach R x (below ++ above)
     → AtEach R (x + sizes below) above
 at-right R x [] above r = subst (λ y. AtEach R y above) (let e : x ≡ x + 0 = omega arith in e) r
-at-right R x (b ∷ below) above r =
-    subst (λ y. AtEach R y above) (let e : x + size b + sizes below ≡ x + (size b + sizes below) = omega arith in e)
-    (at-right R (x + size b) below above r.1)
+at-right R x (b ∷ below) above r = subst (λ y. AtEach R y above) (grind arith) (at-right R (x + size b) below above r.1)
 
 -- where blocks begin
 pub begins-here : (x : ℕ) (blocks : List Block) → Begins x x blocks
@@ -56,8 +53,7 @@ begins-here x (b ∷ blocks) = inl refl
 
 pub begins-right : (p x : ℕ) (below above : List Block) → Begins p (x + sizes below) above → Begins p x (below ++ above)
 begins-right p x [] above e = subst (λ y. Begins p y above) (let e : x + 0 ≡ x = omega arith in e) e
-begins-right p x (b ∷ below) above e = inr (begins-right p (x + size b) below above
-    (subst (λ y. Begins p y above) (let e : x + (size b + sizes below) ≡ x + size b + sizes below = omega arith in e) e))
+begins-right p x (b ∷ below) above e = inr (begins-right p (x + size b) below above (grind arith))
 
 pub begins-left : (p x : ℕ) (below above : List Block) → Begins p x below → Begins p x (below ++ above)
 begins-left p x [] above e = subst (λ q. Begins q x above) (sym e) (begins-here x _)
@@ -70,8 +66,7 @@ begins-either p x [] above e = inr (subst (λ y. Begins p y above) (let e : x �
 begins-either p x (b ∷ below) above (inl e) = inl (inl e)
 begins-either p x (b ∷ below) above (inr e) = elim (begins-either p (x + size b) below above e) [
   | inl d ↦ inl (inr d)
-  | inr d ↦ inr (subst (λ y. Begins p y above)
-      (let e : x + size b + sizes below ≡ x + (size b + sizes below) = omega arith in e) d)
+  | inr d ↦ inr (subst (λ y. Begins p y above) (grind arith) d)
 ]
 
 pub begins-within : (p x : ℕ) (blocks : List Block) → Begins p x blocks → (x ≤ p) × (p ≤ x + sizes blocks)
@@ -109,13 +104,7 @@ past to end all at stop (inr e) f l = inr (omega (arith, e, f, l))
 
 pub passed-more : (xs : List ℕ) (from at : ℕ) (R S : ℕ → Block → Type 0) → ((p : ℕ) (b : Block) → R p b → S p b)
     → Passed xs from at R → Passed xs from at S
-passed-more xs from at R S f p = record {
-  done = p.done;
-  is = p.is;
-  up = p.up;
-  each = at-map R S from p.done (λ q b _ _ r. f q b r) p.each;
-  way = p.way;
-}
+passed-more xs from at R S f p = grind (arith, at-map)
 
 -- past one block more
 abbrev pub passed-on : (xs : List ℕ) (from at end : ℕ) (R S : ℕ → Block → Type 0)
@@ -135,19 +124,10 @@ module _ (xs : List ℕ) (from : ℕ) (R : ℕ → Block → Type 0) where
   passed-start w = record { done = []; is = refl; up = omega arith; each = tt; way = w }
 
   pub passed-begins : (at : ℕ) → Passed xs from at R → Begins at from (left_in from xs)
-  passed-begins at p = subst (Begins at from) (sym p.is) (begins-right _ _ _ _
-      (subst (λ y. Begins at y (left_in at xs)) (sym p.up) (begins-here _ _)))
+  passed-begins at p = grind (arith, begins-right, begins-here)
 
   -- so it is of each block that begins below a bound which the walk came to
   pub passed-all : (S : ℕ → Block → Type 0) (lo hi at : ℕ) → Passed xs from at R
       → ((p : ℕ) (b : Block) → R p b → S p b) → (hi ≤ at) ⊎ (length xs ≤ at)
       → AtEach (λ p b. lo ≤ p → p < hi → S p b) from (left_in from xs)
-  passed-all S lo hi at p f e =
-      subst (AtEach T from) (sym p.is) (at-append T _ _ _ (at-map R T _ _ (λ q b l u r. λ m n. f q b r) p.each)
-      (subst (λ y. AtEach T y (left_in at xs)) (sym p.up) (elim e [
-        | inl h ↦ at-all T at (left_in at xs) (λ q b l. λ m n. absurd (omega (arith, l, n, h)))
-        | inr h ↦ subst (AtEach T at) (sym (left-none at xs p.way h)) tt
-      ])))
-    where
-      T : ℕ → Block → Type 0
-      T = λ p b. lo ≤ p → p < hi → S p b
+  passed-all S lo hi at p f e = grind (arith, at-append, at-map, at-all, left-none)

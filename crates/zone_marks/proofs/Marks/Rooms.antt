@@ -1,6 +1,6 @@
 -- Room that is found stretch by stretch.
 use Rattle.std.proofs.Common.{◌≡◌, ℕ, true, false, ◌+◌, ◌≤◌, ◌<◌, Option, Some, None, inl, inr, List, [], ◌∷◌, ◌++◌, sym, refl, ap, ◌∙◌}
-use Rattle.std.proofs.Common.{subst, arith, cond, zero, suc, ◌*◌, length, drop, get_or}
+use Rattle.std.proofs.Common.{subst, arith, cond, zero, suc, ◌*◌, length, drop, get_or, rules}
 use Rattle.std.proofs.lemmas.List.{drop_more, drop_all}
 use Rattle.std.specs.Option.{option_map, IfSome, MatchOption}
 use Rattle.std.proofs.lemmas.Bool.Decides.{leb_tells}
@@ -28,21 +28,13 @@ filled x (b ∷ blocks) a = (apart-size b _ a.0, filled (x + size b) blocks a.1)
 -- a bound says where no room is
 pub bound-room : (most bytes lo hi : ℕ) (x : ℕ) (blocks : List Block) → most < bytes
     → AtEach (AtMost most lo hi) x blocks → AtEach (NoRoom bytes lo hi) x blocks
-bound-room most bytes lo hi x blocks l e = at-map (AtMost most lo hi) (NoRoom bytes lo hi) x _
-    (λ p b _ _ r m n. low b (r m n)) e
-  where
-    low : (b : Block) → free_of b ≤ most → is_room bytes b ≡ false
-    low (Free n) f = grind (arith, f, l)
-    low (Nonrelocatable id content) f = refl
-    low Masters f = refl
-    low (Relocatable slot flags content) f = refl
+bound-room most bytes lo hi x blocks l e = grind (arith, at-map)
 
 -- past blocks that are no room
 spot-past : (bytes x : ℕ) (below : List Block) (b : Block) (above : List Block)
     → AtEach (λ _ c. is_room bytes c ≡ false) x below → is_room bytes b ≡ true
     → spot (is_room bytes) (below ++ b ∷ above) ≡ Some (record { below = below; here = b; above = above })
-spot-past bytes x [] b above n r =
-    ap (λ v. cond v (Some (record { below = []; here = b; above = above })) (option_map (raised b) (spot (is_room bytes) above))) r
+spot-past bytes x [] b above n r = grind arith
 spot-past bytes x (c ∷ below) b above n r =
     ap (λ v. cond v (Some (record { below = []; here = c; above = below ++ b ∷ above })) (option_map (raised c)
     (spot (is_room bytes) (below ++ b ∷ above)))) n.0
@@ -77,21 +69,12 @@ module _ (xs : List ℕ) (first unused : ℕ) (i : IsSound xs first unused) (byt
       let s = seen-from xs first unused i p b in
       let S = NoRoom bytes 0 to in
       subst (AtEach S 0) (sym s.is) (at-append S 0 _ _
-      (at-map (λ _ c. is_room bytes c ≡ false) S 0 _ (λ q c _ _ r _ _. r)
-      (none-below _ _ p s.is s.low n))
-      (subst (λ y. AtEach S y (left_in p xs)) (let k : p ≡ 0 + sizes s.below = omega (arith, s.low) in k)
-      (at-map (NoRoom bytes p to) S p _ (λ q c v _ r _ h. r v h) e)))
+      (at-map (λ _ c. is_room bytes c ≡ false) S 0 _ (λ q c _ _ r _ _. r) (none-below _ _ p s.is s.low n))
+      (grind (arith, at-map)))
 
   pub none-whole : (p to : ℕ) → AtEach (NoRoom bytes 0 p) 0 (zone_in xs) → AtEach (NoRoom bytes p to) 0 (zone_in xs)
       → AtEach (NoRoom bytes 0 to) 0 (zone_in xs)
-  none-whole p to n e = at-both (NoRoom bytes 0 p) (NoRoom bytes p to) (NoRoom bytes 0 to) 0 _
-      (λ q c r s _ h. either q c r s h) n e
-    where
-      either : (q : ℕ) (c : Block) → NoRoom bytes 0 p q c → NoRoom bytes p to q c → q < to → is_room bytes c ≡ false
-      either q c r s h = elim (leb_tells p q) [
-        | inl l ↦ s l.1 h
-        | inr l ↦ r (omega arith) l.1
-      ]
+  none-whole p to n e = grind (arith, at-both, leb_tells)
 
   -- the lowest one
   pub lowest-found : (p place : ℕ) → Begins p 0 (zone_in xs) → AtEach (NoRoom bytes 0 p) 0 (zone_in xs)
@@ -99,10 +82,8 @@ module _ (xs : List ℕ) (first unused : ℕ) (i : IsSound xs first unused) (byt
       → FindsLowest (is_room bytes) (zone_in xs) (Some place)
   lowest-found p place b n e f r =
       let s = seen-from xs first unused i place (begins-further xs first unused i p place b e) in
-      let z = s.is ∙ ap (λ k. s.below ++ k) r.is in
-      let g = none-below s.below (left_in place xs) place s.is s.low (none-further p place b n f) in
       let t : Spot = record { below = s.below; here = r.here; above = r.above } in
-      let found = ap (spot (is_room bytes)) z ∙ spot-past bytes 0 s.below r.here r.above g r.room in (
+      let found = ap (spot (is_room bytes)) (s.is ∙ ap (λ k. s.below ++ k) r.is) ∙ spot-past bytes 0 s.below r.here r.above (none-below s.below (left_in place xs) place s.is s.low (none-further p place b n f)) r.room in (
         t,
         found,
         subst (λ q. spot_at q (zone_in xs) ≡ Some t) s.low (spot_at-spot (is_room bytes) _ t apart found),
@@ -111,9 +92,8 @@ module _ (xs : List ℕ) (first unused : ℕ) (i : IsSound xs first unused) (byt
 
   -- and where there is none
   pub none-found : AtEach (NoRoom bytes 0 4294967295) 0 (zone_in xs) → spot (is_room bytes) (zone_in xs) ≡ None
-  none-found n =
-      spot-none _ 0 _ (at-map (NoRoom bytes 0 4294967295) (λ _ c. is_room bytes c ≡ false) 0 _
-      (λ q c _ u r. r (omega arith) (omega (arith, u, sizes-length))) n)
+  none-found n = spot-none _ 0 _ (at-map (NoRoom bytes 0 4294967295) (λ _ c. is_room bytes c ≡ false) 0 _
+      (grind (arith, sizes-length)) n)
 
   pub nothing-below : AtEach (NoRoom bytes 0 0) 0 (zone_in xs)
   nothing-below = at-all (NoRoom bytes 0 0) 0 (zone_in xs) (λ q c _ _ h. absurd (omega (arith, h)))
@@ -133,33 +113,25 @@ pub stretch-room : (bytes : ℕ) (zone : List Block) (marks : List Landmark) (in
     → AreMarks 4294967295 zone marks → (get_or marks index no_mark).most < bytes
     → AtEach (NoRoom bytes (get_or marks index no_mark).at (next_of 4294967295 (drop (index + 1) marks))) 0 zone
 stretch-room bytes zone marks index u a l =
-    let d : Landmark = no_mark in
-    let m = get_or marks index d in
-    bound-room _ _ _ _ 0 _ l
-    (subst (AreMarks 4294967295 zone) (drop_more marks index d u) (marks-parted _ _ _ _ a).1).1
+    bound-room _ _ _ _ 0 _ l (subst (AreMarks 4294967295 zone) (drop_more marks index no_mark u) (marks-parted _ _ _ _ a).1).1
 
 -- no room lies in the zone, once none lies below any landmark
 pub none-past : (bytes : ℕ) (zone : List Block) (marks : List Landmark) (index : ℕ) → length marks ≤ index
     → NoneBelow bytes zone marks index → AtEach (NoRoom bytes 0 4294967295) 0 zone
-none-past bytes zone marks index l n =
-    subst (λ k. AtEach (NoRoom bytes 0 (next_of 4294967295 k)) 0 zone) (drop_all index marks l) n
+none-past bytes zone marks index l n = grind (arith, drop_all)
 
 module _ (xs : List ℕ) (first unused : ℕ) (i : IsSound xs first unused) (bytes : ℕ) (marks : List Landmark)
     (a : AreMarks 4294967295 (zone_in xs) marks) where
   -- over one landmark that notes less
   none-next : (index : ℕ) → index < length marks → (get_or marks index no_mark).most < bytes
       → NoneBelow bytes (zone_in xs) marks index → NoneBelow bytes (zone_in xs) marks (index + 1)
-  none-next index u l n =
-      let d : Landmark = no_mark in
-      none-whole _ _ _ i _ _ _ (subst (λ p. AtEach (NoRoom bytes 0 p) 0 (zone_in xs)) (mark-first _ _ _ d u) n)
-      (stretch-room _ _ _ _ u a l)
+  none-next index u l n = none-whole _ _ _ i _ _ _ (grind (arith, mark-first)) (stretch-room _ _ _ _ u a l)
 
   -- over so many of them
   none-along : (count index : ℕ) → index + count ≤ length marks
       → ((j : ℕ) → index ≤ j → j < index + count → (get_or marks j no_mark).most < bytes)
       → NoneBelow bytes (zone_in xs) marks index → NoneBelow bytes (zone_in xs) marks (index + count)
-  none-along zero index u f n =
-      subst (NoneBelow bytes (zone_in xs) marks) (let e : index ≡ index + 0 = omega arith in e) n
+  none-along zero index u f n = grind arith
   none-along (suc count) index u f n =
       subst (NoneBelow bytes (zone_in xs) marks) (let e : index + 1 + count ≡ index + suc count = omega arith in e)
       (none-along _ (index + 1) (omega (arith, u)) (λ j l h. f j (omega (arith, l)) (omega (arith, h)))
@@ -169,7 +141,5 @@ module _ (xs : List ℕ) (first unused : ℕ) (i : IsSound xs first unused) (byt
   pub none-group : (groups : List Group) → AreGroups groups marks → (group : ℕ) → group < length groups
       → (get_or groups group no_group).most < bytes
       → NoneBelow bytes (zone_in xs) marks (GROUP * group) → NoneBelow bytes (zone_in xs) marks (GROUP * (group + 1))
-  none-group groups t group u l n =
-      subst (NoneBelow bytes (zone_in xs) marks) (let e : GROUP * group + GROUP ≡ GROUP * (group + 1) = omega arith in e)
-      (none-along _ _ (omega (arith, u))
-      (λ j b h. let k = t.each group j b h (omega (arith, u, h)) in omega (arith, k, l)) n)
+  none-group groups t group u l n = subst (NoneBelow bytes (zone_in xs) marks) (search rules)
+      (none-along _ _ (omega (arith, u)) (λ j b h. omega (arith, (t.each group j b h (omega (arith, u, h))), l)) n)

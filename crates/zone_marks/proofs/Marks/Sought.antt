@@ -33,15 +33,7 @@ seen-past test (b ∷ below) rest s a e l = cases (test b) (spot test (below ++ 
         → SeenFrom test (b ∷ below) rest s
     cases true o more q = absurd (omega (arith, apart-size, ap (λ (r : Spot). sizes r.below) (same_Some _ _ q), l))
     cases false None more q = absurd (none-some _ q)
-    cases false (Some r) more q =
-        let z = ap (λ (r : Spot). sizes r.below) (same_Some _ _ q) in
-        let f = more r a.1 refl (omega (arith, z, l)) in
-        record {
-          there = f.there;
-          found = f.found;
-          same = f.same ∙ ap (λ (r : Spot). r.above) (same_Some _ _ q);
-          low = (omega (arith, z));
-        }
+    cases false (Some r) more q = grind arith
 
 module _ (xs : List ℕ) (first unused : ℕ) (i : IsSound xs first unused) (p : ℕ) (b : Begins p 0 (zone_in xs)) where
   pub left-fits : sizes (left_in p xs) < 2 ^ 32
@@ -52,9 +44,7 @@ module _ (xs : List ℕ) (first unused : ℕ) (i : IsSound xs first unused) (p :
       → IfSome (spot test (zone_in xs)) (λ (s : Spot). p ≤ sizes s.below)
       → IfSome (spot test (left_in p xs)) (λ (s : Spot). P s.above)
       → IfSome (spot test (zone_in xs)) (λ (s : Spot). P s.above)
-  sought test P low found = if-spot _ (λ s. P s.above) (λ s e.
-      let f = seen-from xs first unused i p b in
-      let l = the-if (spot test (zone_in xs)) (λ s. p ≤ sizes s.below) s e low in
+  sought test P low found = if-spot _ (λ s. P s.above) (λ s e. let f = seen-from xs first unused i p b in
       let r = seen-past test _ (left_in p xs) s (subst Apart f.is (apart-tidied (zone_in xs) i.tidied))
-      (sym (ap (spot test) f.is) ∙ e) (omega (arith, l)) in
+      (sym (ap (spot test) f.is) ∙ e) (omega (arith, (the-if (spot test (zone_in xs)) (λ s. p ≤ sizes s.below) s e low))) in
       subst P r.same (the-if (spot test (left_in p xs)) (λ s. P s.above) r.there r.found found))

@@ -13,13 +13,7 @@ use Rattle.zone_bytes.proofs.Places.HeaderTells.{size-at, same-here}
 
 -- the Free bytes of a block by its kind and size
 free-told : (b : Block) (n t : ℕ) → t ≡ kind b → n ≡ size b → cond (t == 0) n 0 ≡ free_of b
-free-told b n t k z = ap (λ j. cond (j == 0) n 0) k ∙ of-kind b z
-  where
-    of-kind : (b : Block) → n ≡ size b → cond (kind b == 0) n 0 ≡ free_of b
-    of-kind (Free m) z = z
-    of-kind (Nonrelocatable id content) z = refl
-    of-kind Masters z = refl
-    of-kind (Relocatable slot flags content) z = refl
+free-told b n t k z = grind arith
 
 -- two words of a header tell where its block ends, its Free bytes, and whether it ends a run
 pub span-made : (at : ℕ) (xs : List ℕ) (w : IsOnWay at xs) → at < length xs → (n t : ℕ) → n + t ≡ word_at at xs
@@ -44,32 +38,16 @@ span-made at xs w l n t e h k free f barrier b =
 -- a block that isn't room by its Free bytes
 pub room-free : (p : ℕ) (b : Block) → 0 < free_of b → p ≤ free_of b → is_room p b ≡ true
 room-free p (Free n) s l = grind arith
-room-free p (Nonrelocatable id content) s l = absurd (omega (arith, s))
-room-free p Masters s l = absurd (omega (arith, s))
-room-free p (Relocatable slot flags content) s l = absurd (omega (arith, s))
+room-free p _ s l = absurd (omega (arith, s))
 
 pub room-here : (p at end free : ℕ) (barrier : Bool) (xs : List ℕ) → Spans at end free barrier xs → 0 < free → p ≤ free
     → RoomAt p at xs
-room-here p at end free barrier xs s some fits =
-    record {
-      here = s.here;
-      above = left_in end xs;
-      is = s.is;
-      room = room-free p s.here (omega (arith, some)) (omega (arith, fits));
-    }
+room-here p at end free barrier xs s some fits = grind arith
 
 pub no-room : (p : ℕ) (b : Block) → 0 < size b → (0 < free_of b → p ≤ free_of b → ⊥) → is_room p b ≡ false
-no-room p (Free n) s f = none (nat_le p n) refl
-  where
-    none : (v : _) → nat_le p n ≡ v → nat_le p n ≡ false
-    none true e = absurd (f s (grind (arith, e)))
-    none false e = e
-no-room p (Nonrelocatable id content) s f = refl
-no-room p Masters s f = refl
-no-room p (Relocatable slot flags content) s f = refl
+no-room p (Free n) s f = grind arith
+no-room p _ s f = refl
 
 pub free-size : (b : Block) → free_of b ≤ size b
 free-size (Free n) = omega arith
-free-size (Nonrelocatable id content) = omega arith
-free-size Masters = omega arith
-free-size (Relocatable slot flags content) = omega arith
+free-size _ = omega arith

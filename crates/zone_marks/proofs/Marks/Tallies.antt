@@ -62,8 +62,7 @@ tally_of-unknown w marks i s l k u =
 -- what they hold in sum
 known_load-join : (s t : Tally) → known_load (join_tallies s t) ≤ known_load s + known_load t
 known_load-join (tally.Known a) (tally.Known b) = load-join a b
-known_load-join (tally.Known a) tally.Unknown = omega arith
-known_load-join tally.Unknown t = omega arith
+known_load-join _ _ = omega arith
 
 pub loads-all : (w : Counting) (marks : List Landmark) → known_load (tally_of w marks) ≤ known_loads w marks
 loads-all w [] = omega arith
@@ -80,8 +79,7 @@ loads-parted w marks n = sym (loads-append w _ _) ∙ ap (known_loads w) (take-a
 pub loads-more : (w : Counting) (marks : List Landmark) (i : ℕ) → i < length marks
     → known_load (tally_of w (take i marks)) + known_load (told w (get_or marks i no_mark).tally) ≤ known_loads w marks
 loads-more w marks i l =
-    let q = ap (known_loads w) (take_more marks i no_mark l) ∙ loads-append w _ (get_or marks i no_mark ∷ []) in
-    omega (arith, loads-all, loads-parted, q)
+    omega (arith, loads-all, loads-parted, (ap (known_loads w) (take_more marks i no_mark l) ∙ loads-append w _ (get_or marks i no_mark ∷ [])))
 
 pub loads-part : (w : Counting) (marks : List Landmark) (low n : ℕ)
     → known_loads w (take n (drop low marks)) ≤ known_loads w marks
@@ -120,10 +118,8 @@ between-few lo hi x (b ∷ bs) = either (nat_le lo x && nat_lt x hi) (between-fe
 
 tally-join : (w : Counting) (s t : Tally) (xs ys : List Block) → IsTally w s xs → IsTally w t ys
     → IsTally w (join_tallies s t) (xs ++ ys)
-tally-join w (tally.Known a) (tally.Known b) xs ys e f = stretch_by-append w _ _
-    ∙ ap (λ k. join k (stretch_by w ys)) e ∙ ap (join a) f
-tally-join w (tally.Known a) tally.Unknown xs ys e f = tt
-tally-join w tally.Unknown t xs ys e f = tt
+tally-join w (tally.Known a) (tally.Known b) xs ys e f = grind (arith, stretch_by-append)
+tally-join w _ _ xs ys e f = tt
 
 tally-load : (w : Counting) (t : Tally) (xs : List Block) → IsTally w t xs → known_load t ≤ sizes xs
 tally-load w (tally.Known stretch) xs e = omega (arith, load-counted, ap load e)
@@ -140,9 +136,7 @@ between-none end x (b ∷ bs) = elim (cases_lt x end) [
 pub group-tally : (w : Counting) (end : ℕ) (zone : List Block) (marks : List Landmark) → AreMarks end zone marks
     → IsTally w (tally_of w marks) (between (next_of end marks) end 0 zone)
 group-tally w end zone [] a = ap (stretch_by w) (between-none _ 0 zone) ∙ counted-none w
-group-tally w end zone (m ∷ marks) a =
-    subst (IsTally w (join_tallies (told w m.tally) (tally_of w marks)))
-    (sym (between-join _ _ _ 0 _ a.3 (marks-below _ _ marks a.4)))
+group-tally w end zone (m ∷ marks) a = subst (IsTally w _) (grind (arith, between-join, marks-below))
     (tally-join w (told w m.tally) (tally_of w marks) _ _ (a.2 w) (group-tally w end zone marks a.4))
 
 loads-within : (w : Counting) (end : ℕ) (zone : List Block) (marks : List Landmark) → AreMarks end zone marks
@@ -150,9 +144,7 @@ loads-within : (w : Counting) (end : ℕ) (zone : List Block) (marks : List Land
 loads-within w end zone [] a = omega arith
 loads-within w end zone (m ∷ marks) a =
     let n = next_of end marks in
-    let r = loads-within w end zone marks a.4 in
-    let j = ap sizes (between-join m.at n end 0 zone a.3 (marks-below end zone marks a.4)) in
-    omega (arith, tally-load w (told w m.tally) (between m.at n 0 zone) (a.2 w), r, j, span-append)
+    omega (arith, tally-load w (told w m.tally) (between m.at n 0 zone) (a.2 w), (loads-within w end zone marks a.4), (ap sizes (between-join m.at n end 0 zone a.3 (marks-below end zone marks a.4))), span-append)
 
 loads-fit : (w : Counting) (end : ℕ) (zone : List Block) (marks : List Landmark) → AreMarks end zone marks
     → known_loads w marks ≤ sizes zone

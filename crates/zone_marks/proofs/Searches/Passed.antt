@@ -87,9 +87,7 @@ module _ (xs : List ℕ) (s : RunScan) (at next : ℕ) (p : Passed) (q : IsPasse
     (piece : IsPiece at next xs here) (all : Stretch) where
   sum : (runs : Stretch) → stretch_of here ≡ runs → all ≡ join p.runs runs
       → join (Whole s.free) (stretch_of (q.here ++ here)) ≡ all
-  sum runs t e = ap (join (Whole s.free)) (stretch_of-append q.here here)
-      ∙ sym (join-assoc (Whole s.free) (stretch_of q.here) (stretch_of here))
-      ∙ ap (λ r. join r (stretch_of here)) q.sums ∙ ap (join p.runs) t ∙ sym e
+  sum runs t e = grind (arith, stretch_of-append, join-assoc)
 
   pub passed-open : (free : ℕ) → stretch_of here ≡ Whole free → all ≡ join p.runs (Whole free)
       → IsPassed s next xs (record { runs = all; barred = p.barred; end = p.end; free = p.free + free })
@@ -100,16 +98,7 @@ module _ (xs : List ℕ) (s : RunScan) (at next : ℕ) (p : Passed) (q : IsPasse
     high = q.high ++ here;
     high_piece = piece-more xs p.end at next q.high here q.high_piece piece;
     goes_on = open-more q.high here p.free free q.goes_on t;
-    barred = λ d. let b = q.barred (open-ended p.runs free (subst (λ r. is_ended r ≡ true) e d)) in record {
-      low = b.low;
-      mid = b.mid;
-      is = ap (λ k. k ++ here) b.is ∙ append_assoc b.low (b.mid ++ q.high) here
-          ∙ ap (λ k. b.low ++ k) (append_assoc b.mid q.high here);
-      up = b.up;
-      edge = b.edge;
-      piece = b.piece;
-      ended = b.ended;
-    };
+    barred = λ d. let b = q.barred (open-ended p.runs free (subst (λ r. is_ended r ≡ true) e d)) in (grind (arith, append_assoc));
   }
 
   pub passed-ended : (runs : Stretch) → stretch_of here ≡ runs → is_ended runs ≡ true → all ≡ join p.runs runs
@@ -121,15 +110,7 @@ module _ (xs : List ℕ) (s : RunScan) (at next : ℕ) (p : Passed) (q : IsPasse
     high = [];
     high_piece = piece-none xs next piece.edge;
     goes_on = refl;
-    barred = λ _. record {
-      low = q.here;
-      mid = here;
-      is = ap (λ k. q.here ++ k) (sym (append-nil here));
-      up = q.piece.up;
-      edge = k;
-      piece = piece;
-      ended = ap is_ended t ∙ d;
-    };
+    barred = λ _. (search rules);
   }
 
 -- no sum is too high

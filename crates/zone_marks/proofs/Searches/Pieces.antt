@@ -31,8 +31,7 @@ use Rattle.zone_summary.specs.declared.stretch.Stretch.{Stretch}
 
 -- an edge is one of those behind a piece that ends there
 pub piece-begins : (xs : List ℕ) (from to : ℕ) (here : List Block) → IsPiece from to xs here → Begins to from (left_in from xs)
-piece-begins xs from to here p = subst (Begins to from) (sym p.is) (begins-right _ _ _ _
-    (subst (λ y. Begins to y (left_in to xs)) (sym p.up) (begins-here _ _)))
+piece-begins xs from to here p = grind (arith, begins-right, begins-here)
 
 -- a piece of no blocks
 pub piece-none : (xs : List ℕ) (at : ℕ) → Begins at 0 (zone_in xs) → IsPiece at at xs []
@@ -60,8 +59,7 @@ module _ (xs : List ℕ) (first unused : ℕ) (i : IsSound xs first unused) wher
   edge-within p b = omega (arith, (begins-within p 0 _ b).1, zone-long)
 
   pub end-begins : (end : ℕ) → end ≡ length xs → Begins end 0 (zone_in xs)
-  end-begins end e = subst (λ p. Begins p 0 (zone_in xs)) (let z = zone-long in
-      let q : 0 + sizes (zone_in xs) ≡ end = omega (arith, z, e) in q) (begins-end 0 (zone_in xs))
+  end-begins end e = subst (λ p. Begins p 0 (zone_in xs)) (grind (arith, zone-long)) (begins-end 0 (zone_in xs))
 
   pub piece-of : (from to : ℕ) → Begins from 0 (zone_in xs) → Begins to 0 (zone_in xs) → from ≤ to
       → (here : List Block) × IsPiece from to xs here

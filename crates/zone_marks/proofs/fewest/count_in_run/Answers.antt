@@ -13,24 +13,14 @@ loop-left-preserved-then-may_purge_now g c =
     let after = g.W.Walk.rest c.next_block.new.self in
     let t = told _ _ _ _ c.next_block.ensures c.in-Some.is in
     let goes = sym (c.may_purge_now.ensures t.block t.is) ∙ c.if-may_purge_now.true in
-    let less : c.saturating_sub-left.result ≡ c.loop-left.left - size t.block =
-    c.saturating_sub-left.ensures ∙ ap (λ k. c.loop-left.left - k) (c.size_of_seen.ensures ∙ told-size t) in
     record {
       few = omega (arith, c.loop-left.invariant.few, told-sizes t, told-size t, goes-size sp t.block goes);
-      is = ap (λ k. run_purges_for sp (c.loop-left.total + 1) k after) less
+      is = ap (λ k. run_purges_for sp (c.loop-left.total + 1) k after) (c.saturating_sub-left.ensures ∙ ap (λ k. c.loop-left.left - k) (c.size_of_seen.ensures ∙ told-size t))
           ∙ sym (run-goes sp _ _ t.block after (omega (arith, c.loop-left-test.true)) goes)
           ∙ sym (ap (run_purges_for sp c.loop-left.total c.loop-left.left) t.before_is) ∙ c.loop-left.invariant.is;
     }
 
 pub loop-left-preserved : goal.loop-left-preserved
 loop-left-preserved g c =
-    let sp = spared c.args.sparing in
-    let after = g.W.Walk.rest c.next_block.new.self in
     let t = told _ _ _ _ c.next_block.ensures c.in-Some.is in
-    record {
-      few = omega (arith, c.loop-left.invariant.few, told-sizes t);
-      is = sym (run-stays sp _ _ t.block after (omega (arith, c.loop-left-test.true))
-          (sym (c.may_purge_now.ensures t.block t.is) ∙ c.if-may_purge_now.false)
-          (sym (c.is_in_run.ensures t.block t.is) ∙ c.if-not-is_in_run.false))
-          ∙ sym (ap (run_purges_for sp c.loop-left.total c.loop-left.left) t.before_is) ∙ c.loop-left.invariant.is;
-    }
+    (grind arith)

@@ -9,5 +9,4 @@ returns-then-frees_one c =
     c.free_of_run.ensures ∙ ap (λ l. prefix (stretch_of (opened c.args.sparing l))) c.walk_at.ensures.is
 
 pub returns-else-frees_one : goal.returns-else-frees_one
-returns-else-frees_one c = c.lowest.ensures ∙ c.stretch_above.ensures.low
-    ∙ sym (ap (λ l. prefix (stretch_of l)) (c.frees_one.ensures c.if-frees_one.false (left_in c.args.run c.args.part.now.bytes)))
+returns-else-frees_one c = grind arith

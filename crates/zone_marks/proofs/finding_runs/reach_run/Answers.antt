@@ -18,9 +18,7 @@ loop-reached-init c = record {
 
 pub returns : goal.returns
 returns c =
-    let xs = c.args.part.now.bytes in
     let v = c.loop-reached.invariant in
-    let r = c.loop-reached.reached in
     sym (passed-all _ _ _ c.requires.ready _ _ v.come.passed v.short
     (left-none _ _ (begins-way _ _ _ c.requires.sound.2 _ v.come.before.edge)
     (v.come.before.end c.loop-reached-test.false)))

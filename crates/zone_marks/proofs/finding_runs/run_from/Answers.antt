@@ -25,8 +25,7 @@ pub reach_run-requires-clause-ready : goal.reach_run-requires-clause-ready
 reach_run-requires-clause-ready c = (there (goal.at.reach_run-requires-clause-ready c).After-scan_up_to-scan).ready
 
 pub reach_run-requires-clause-short : goal.reach_run-requires-clause-short
-reach_run-requires-clause-short c =
-    short-of _ _ _ c.scan_up_to-scan.ensures.met (sym c.is_found.ensures ∙ c.if-is_found.false)
+reach_run-requires-clause-short c = grind arith
 
 pub reach_run-requires-clause-before : goal.reach_run-requires-clause-before
 reach_run-requires-clause-before c =

@@ -1,4 +1,4 @@
-use Rattle.std.proofs.Common.{None, sym, ◌∙◌}
+use Rattle.std.proofs.Common.{None, sym, ◌∙◌, arith, rules}
 use Rattle.block_store.specs.Sparing.{spared}
 use Rattle.block_store.proofs.Regroup.RunScans.{scan_kept}
 use Rattle.zone_marks.proofs.Searches.Going.{goes-finds}

@@ -8,9 +8,7 @@ pub loop-at-init : goal.loop-at-init
 loop-at-init c = growing-start _ _ _ c.requires
 
 pub loop-at-preserved : goal.loop-at-preserved
-loop-at-preserved c =
-    let g = c.greater-largest.ensures in
-    growing-step _ _ _ _ _ _ _ _ _ c.loop-at.invariant c.span_at-span.ensures g.first g.second g.one
+loop-at-preserved c = search (rules, growing-step)
 
 pub returns-clause-none : goal.returns-clause-none
 returns-clause-none c =

@@ -1,13 +1,11 @@
-use Rattle.std.proofs.Common.{arith}
+use Rattle.std.proofs.Common.{arith, rules}
 use Rattle.zone_marks.proofs.Bounds.Space.{left-largest, no-more-room}
 use Rattle.zone_marks.proofs.Marks.Lowering.{begins-way}
 use Rattle.zone_marks.proofs.Marks.Rooms.{none-further, none-whole}
 use Rattle.zone_marks.proofs.free_space.larger_in_stretch.Goals as goal
 
 pub larger_between-requires : goal.larger_between-requires
-larger_between-requires c =
-    let i = c.requires.sound in
-    begins-way c.args.part.now.bytes i.0 i.1 i.2 c.args.mark.at c.requires.begins
+larger_between-requires c = search (rules, begins-way)
 
 pub returns-then-mark-most-clause-none : goal.returns-then-mark-most-clause-none
 returns-then-mark-most-clause-none c =
@@ -15,11 +13,7 @@ returns-then-mark-most-clause-none c =
 
 pub returns-else-mark-most-clause-none : goal.returns-else-mark-most-clause-none
 returns-else-mark-most-clause-none c =
-    let i = c.requires.sound in
-    let xs = c.args.part.now.bytes in
-    let r = c.larger_between.result in
-    none-further _ _ _ i.2 _ _ _ c.requires.begins (no-more-room _ _ 0 _ 0 _ (omega arith) c.requires.below)
-    c.larger_between.ensures.none
+    none-further _ _ _ c.requires.sound.2 _ _ _ c.requires.begins (grind (arith, no-more-room)) c.larger_between.ensures.none
 
 pub returns-else-mark-most-clause-reached : goal.returns-else-mark-most-clause-reached
 returns-else-mark-most-clause-reached c =

@@ -22,6 +22,5 @@ returns c =
 -- as many purges as a zone can have blocks
 pub returns-then-purges-ge-GREATEST_ZONE : goal.returns-then-purges-ge-GREATEST_ZONE
 returns-then-purges-ge-GREATEST_ZONE c =
-    let xs = c.args.part.now.bytes in
-    c.largest_space_by_marks.ensures ∙ sym (ap largest_free (purged-most _ sparing.Nothing (zone_in xs)
+    c.largest_space_by_marks.ensures ∙ sym (ap largest_free (purged-most _ sparing.Nothing (zone_in c.args.part.now.bytes)
     (omega (arith, most-fits _ _ c.requires.sound.1 c.requires.sound.2 sparing.Nothing))))

@@ -19,7 +19,4 @@ loop-group-init c =
     }
 
 pub returns : goal.returns
-returns c =
-    let xs = c.args.part.now.bytes in
-    zone-largest _ _ _ c.requires.sound.2 _ (none-past _ _ c.args.marks.now (GROUP * c.loop-group.group)
-    (omega arith) c.loop-group.invariant.none) c.loop-group.invariant.reached
+returns c = zone-largest _ _ _ c.requires.sound.2 _ (grind (arith, none-past)) c.loop-group.invariant.reached

@@ -6,8 +6,7 @@ use Rattle.zone_marks.proofs.freeing.free_block.Goals.{After-free_up-end}
 use Rattle.zone_marks.proofs.freeing.free_block.Goals as goal
 
 pub last_free_below-start-requires-clause-up : goal.last_free_below-start-requires-clause-up
-last_free_below-start-requires-clause-up c = leads-up _ _ _ c.requires.1
-    _ (c.below-from.ensures.begins _ c.requires.2) c.below-from.ensures.below
+last_free_below-start-requires-clause-up c = grind (arith, leads-up)
 
 pub last_free_below-start-requires-clause-inside : goal.last_free_below-start-requires-clause-inside
 last_free_below-start-requires-clause-inside c = let i = here-read _ _ _ c.requires.1 in omega arith

@@ -1,4 +1,4 @@
-use Rattle.std.proofs.Common.{◌≡◌, ◌+◌, sym, ap, ◌∙◌, subst, arith}
+use Rattle.std.proofs.Common.{◌≡◌, ◌+◌, sym, ap, ◌∙◌, subst, arith, rules}
 use Rattle.block_store.specs.Block.{free_sum}
 use Rattle.zone_marks.specs.Marked.{AreOf}
 use Rattle.zone_marks.proofs.Marks.Keeping.{same-replaced}
@@ -20,31 +20,24 @@ free_block-requires c =
     )
 
 pub returns-then-word-eq0-clause-lays : goal.returns-then-word-eq0-clause-lays
-returns-then-word-eq0-clause-lays c = λ t h.
-    let f = leads t c.args.slot c.args.part.now.bytes h (omega (arith, c.read_word-word.ensures)) in
+returns-then-word-eq0-clause-lays c = λ t h. let f = leads t c.args.slot c.args.part.now.bytes h (grind arith) in
     subst (λ k. Lays c.free_block.new.part.bytes k t.slots t.unused) (sym (leading-is t _ _ h f))
     (c.free_block.ensures.lays (leading t _ _ h f) (may-release t _ _ h f _ c.read_word-word.ensures))
 
 pub returns-then-word-eq0-clause-bytes : goal.returns-then-word-eq0-clause-bytes
-returns-then-word-eq0-clause-bytes c = λ t h.
-    let f = leads t c.args.slot c.args.part.now.bytes h (omega (arith, c.read_word-word.ensures)) in
-    leading-free t _ _ h f _ (c.free_block.ensures.bytes (leading t _ _ h f)
-    (may-release t _ _ h f _ c.read_word-word.ensures))
+returns-then-word-eq0-clause-bytes c = λ t h. let f = leads t c.args.slot c.args.part.now.bytes h (search rules) in
+    leading-free t _ _ h f _ (c.free_block.ensures.bytes (leading t _ _ h f) (grind arith))
 
 pub returns-else-word-eq0-clause-lays : goal.returns-else-word-eq0-clause-lays
 returns-else-word-eq0-clause-lays c = λ t h. subst (λ k. Lays c.args.part.now.bytes k t.slots t.unused)
     (sym (emptied-is t _ _ h (λ q. omega (arith, q)))) h.lays
 
 pub returns-else-word-eq0-clause-bytes : goal.returns-else-word-eq0-clause-bytes
-returns-else-word-eq0-clause-bytes c = λ t h.
-    ap free_sum (emptied-is t _ _ h (λ q. omega (arith, q)))
-    ∙ (let k : free_sum t.blocks ≡ free_sum t.blocks + 0 = omega arith in k)
+returns-else-word-eq0-clause-bytes c = λ t h. ap free_sum (emptied-is t _ _ h (λ q. omega (arith, q))) ∙ (grind arith)
 
 pub returns-then-word-eq0-clause-replaced : goal.returns-then-word-eq0-clause-replaced
-returns-then-word-eq0-clause-replaced c = λ t h.
-    let f = leads t c.args.slot c.args.part.now.bytes h (omega (arith, c.read_word-word.ensures)) in
-    leading-replaced t _ _ h f _ _ (c.free_block.ensures.replaced (leading t _ _ h f)
-    (may-release t _ _ h f _ c.read_word-word.ensures))
+returns-then-word-eq0-clause-replaced c = λ t h. let f = leads t c.args.slot c.args.part.now.bytes h (grind arith) in
+    leading-replaced t _ _ h f _ _ (c.free_block.ensures.replaced (leading t _ _ h f) (grind arith))
 
 pub returns-else-word-eq0-clause-replaced : goal.returns-else-word-eq0-clause-replaced
 returns-else-word-eq0-clause-replaced c = λ t h. same-replaced _ _ (emptied-is t _ _ h (λ q. omega (arith, q)))

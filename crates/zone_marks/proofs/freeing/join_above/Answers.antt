@@ -8,8 +8,7 @@ use Rattle.zone_marks.proofs.freeing.join_above.Goals.{After-read_header}
 use Rattle.zone_marks.proofs.freeing.join_above.Goals as goal
 
 pub returns-then-at-len-clause-lays : goal.returns-then-at-len-clause-lays
-returns-then-at-len-clause-lays c = λ j m. joined-none j _ _ _ m (let l =
-    c.if-at-len.true in omega (arith, l, c.len.ensures.count))
+returns-then-at-len-clause-lays c = λ j m. joined-none j _ _ _ m (grind arith)
 
 pub read_header-requires : goal.read_header-requires
 read_header-requires c =

@@ -1,4 +1,4 @@
-use Rattle.std.proofs.Common.{sym, ◌∙◌}
+use Rattle.std.proofs.Common.{sym, ◌∙◌, rules}
 use Rattle.zone_marks.proofs.Bounds.Going.{all-stay, passed-stays}
 use Rattle.zone_marks.proofs.going.first_going.Goals as goal
 
@@ -8,8 +8,7 @@ returns-then-may_purge_now c = all-stay _ _ _ c.loop-at.invariant
 pub loop-at-preserved : goal.loop-at-preserved
 loop-at-preserved c =
     let s = c.step_at-step in
-    passed-stays _ _ _ c.loop-at.invariant _ s.result.end s.ensures
-    (sym (c.may_purge_now.ensures s.ensures.here s.ensures.told) ∙ c.if-may_purge_now.false)
+    passed-stays _ _ _ c.loop-at.invariant _ s.result.end s.ensures (sym (search rules) ∙ c.if-may_purge_now.false)
 
 pub returns : goal.returns
 returns c = all-stay _ _ _ c.loop-at.invariant

@@ -13,10 +13,7 @@ pub returns-then-lowest-lo : goal.returns-then-lowest-lo
 returns-then-lowest-lo c = λ old r n. stays-under _ _ _ _ r _ n _ (omega arith) c.if-lowest-lo.true
 
 pub first_going-found-requires : goal.first_going-found-requires
-first_going-found-requires c =
-    let i = c.requires.sound in
-    let r = c.requires.replaced.1 in
-    way-above c.args.part.now.bytes i.0 i.1 i.2 r.below (r.there ++ r.above) c.args.lo r.is r.low
+first_going-found-requires c = search (rules, way-above)
 
 -- the blocks up to the one that was found stay
 stays : (c : After-first_going-found) (old : List Block) (r : Replaced c.args.lo c.args.hi old

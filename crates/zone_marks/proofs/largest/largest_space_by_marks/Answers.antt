@@ -1,4 +1,4 @@
-use Rattle.std.proofs.Common.{refl, ◌∙◌, ap}
+use Rattle.std.proofs.Common.{refl, ◌∙◌, ap, arith}
 use Rattle.zone_summary.specs.Stretches.{spaces_of}
 use Rattle.zone_bytes.specs.Decode.{zone_in}
 use Rattle.zone_marks.proofs.Marks.Passing.{begins-here}
@@ -9,5 +9,4 @@ pub stretch_above-requires-clause-begins : goal.stretch_above-requires-clause-be
 stretch_above-requires-clause-begins c = begins-here 0 _
 
 pub returns : goal.returns
-returns c = c.best.ensures.space (zone_in c.args.part.now.bytes)
-    (c.stretch_above.ensures.all refl ∙ ap spaces_of (left-zone _))
+returns c = grind (arith, left-zone)

@@ -5,12 +5,10 @@ use Rattle.zone_summary.specs.declared.stretch.Counting.TheVariants.{Runs, Space
 use Rattle.zone_marks.proofs.largest.walked_between.Goals as goal
 
 pub measure_up_to-requires : goal.measure_up_to-requires
-measure_up_to-requires c = let i = c.requires.sound in
-    begins-way c.args.part.now.bytes i.0 i.1 i.2 c.args.from c.requires.begins
+measure_up_to-requires c = search (rules, begins-way)
 
 pub spaces_up_to-requires : goal.spaces_up_to-requires
-spaces_up_to-requires c = let i = c.requires.sound in
-    begins-way c.args.part.now.bytes i.0 i.1 i.2 c.args.from c.requires.begins
+spaces_up_to-requires c = search (rules, begins-way)
 
 pub returns-in-Runs : goal.returns-in-Runs
 returns-in-Runs c = let t = tally.Known c.measure_up_to.result.runs in

@@ -6,8 +6,7 @@ use Rattle.zone_marks.proofs.measuring.room_between.Goals as goal
 use Rattle.zone_marks.proofs.measuring.room_between.Goals.{else-span-gt0-via-then-span-gt0+else-bytes-span, else-span-gt0-via-else-span-gt0}
 
 pub returns-then-bytes-span-clause-begins : goal.returns-then-bytes-span-clause-begins
-returns-then-bytes-span-clause-begins c = passed-begins _ _
-    (λ _ b. is_room c.args.bytes b ≡ false) _ c.loop-at.invariant
+returns-then-bytes-span-clause-begins c = search (rules, passed-begins)
 
 pub returns-then-bytes-span-clause-lowest : goal.returns-then-bytes-span-clause-lowest
 returns-then-bytes-span-clause-lowest c = passed-all _ _
@@ -15,8 +14,7 @@ returns-then-bytes-span-clause-lowest c = passed-all _ _
     c.loop-at.invariant (λ _ b r. r) (inl (omega arith))
 
 pub returns-then-bytes-span-clause-room : goal.returns-then-bytes-span-clause-room
-returns-then-bytes-span-clause-room c = room-here _ _ _
-    _ _ _ c.span_at-span.ensures c.if-span-gt0.true c.if-bytes-span.true
+returns-then-bytes-span-clause-room c = grind arith
 
 pub loop-at-preserved : goal.loop-at-preserved
 loop-at-preserved c =

@@ -17,8 +17,7 @@ overflow_add-result c =
     omega arith
 
 pub ends_run_at-requires-clause-inside : goal.ends_run_at-requires-clause-inside
-ends_run_at-requires-clause-inside c =
-    (next-header c.args.at c.args.part.now.bytes c.requires.way c.requires.some).fits
+ends_run_at-requires-clause-inside c = grind (arith, next-header)
 
 pub returns : goal.returns
 returns c =

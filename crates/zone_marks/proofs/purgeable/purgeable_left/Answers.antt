@@ -14,6 +14,4 @@ returns-then-frees_one c = λ k zone e f m.
     omega (arith, c.purgeable_bytes_in.ensures ∙ ap purgeable_sum (c.walk_at.ensures.is ∙ left-zone _))
 
 pub returns-else-frees_one : goal.returns-else-frees_one
-returns-else-frees_one c = λ k zone e f m.
-    let g = free-given c.args.sparing (c.frees_one.ensures c.if-frees_one.false) k zone in
-    omega (arith, g, ap purgeable_sum e, ap free_sum e, f, m)
+returns-else-frees_one c = grind (arith, free-given)

@@ -1,4 +1,4 @@
-use Rattle.std.proofs.Common.{arith}
+use Rattle.std.proofs.Common.{arith, rules}
 use Rattle.zone_bytes.specs.Decode.{zone_in}
 use Rattle.zone_bytes.proofs.Bounds.Given.{given-became, given-small}
 use Rattle.zone_bytes.proofs.Places.Became.{became-inside, became-left, became-way}
@@ -10,14 +10,10 @@ overflow_sub-result c =
     omega (arith, (given-became c.args.place r.0 (zone_in c.args.part.now.bytes) r.1).1)
 
 pub purgeable_at-requires-clause-way : goal.purgeable_at-requires-clause-way
-purgeable_at-requires-clause-way c =
-    let i = c.requires.sound in
-    became-way c.args.part.now.bytes i.0 i.1 i.2 c.args.place c.requires.became.0 c.requires.became.1
+purgeable_at-requires-clause-way c = search (rules, became-way)
 
 pub purgeable_at-requires-clause-some : goal.purgeable_at-requires-clause-some
-purgeable_at-requires-clause-some c =
-    let i = c.requires.sound in
-    became-inside c.args.part.now.bytes i.0 i.1 i.2 c.args.place c.requires.became.0 c.requires.became.1
+purgeable_at-requires-clause-some c = search (rules, became-inside)
 
 pub overflow_add-result : goal.overflow_add-result
 overflow_add-result c =
@@ -26,12 +22,8 @@ overflow_add-result c =
     let r = c.requires.became in
     let b = r.1 in
     let g = given-became c.args.place r.0 (zone_in xs) b in
-    let w = c.purgeable_at.ensures b.there b.above (became-left xs i.0 i.1 i.2 c.args.place r.0 b) in
-    omega (arith, w, given-small)
+    omega (arith, (c.purgeable_at.ensures b.there b.above (became-left xs i.0 i.1 i.2 c.args.place r.0 b)), given-small)
 
 pub returns : goal.returns
-returns c = λ old b e p.
-    let i = c.requires.sound in
-    let xs = c.args.part.now.bytes in
-    let g = given-became c.args.place old (zone_in xs) b in
-    omega (arith, e, p, c.purgeable_at.ensures b.there b.above (became-left xs i.0 i.1 i.2 c.args.place old b))
+returns c = λ old b e p. let g = given-became c.args.place old (zone_in c.args.part.now.bytes) b in
+    omega (arith, e, p, c.purgeable_at.ensures b.there b.above (search (rules, became-left)))

@@ -1,7 +1,6 @@
-use Rattle.std.proofs.Common.{subst, sym}
+use Rattle.std.proofs.Common.{subst, sym, arith}
 use Rattle.zone_marks.specs.Marks.{AreMarks}
 use Rattle.zone_marks.proofs.keeping.Landmarks.below.Goals as goal
 
 pub returns-clause-begins : goal.returns-clause-begins
-returns-clause-begins c = λ zone a. c.mark_below.ensures.begins 4294967295 zone
-    (subst (AreMarks 4294967295 zone) (sym c.deref.ensures.value) a.0.0)
+returns-clause-begins c = λ zone a. c.mark_below.ensures.begins 4294967295 zone (grind arith)

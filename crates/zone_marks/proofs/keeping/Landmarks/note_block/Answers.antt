@@ -1,29 +1,22 @@
-use Rattle.std.proofs.Common.{arith}
+use Rattle.std.proofs.Common.{arith, rules}
 use Rattle.zone_bytes.specs.Decode.{zone_in}
 use Rattle.zone_marks.proofs.Marks.Keeping.{became-replaced}
 use Rattle.zone_bytes.proofs.Places.Became.{became-fits, became-inside, became-left, became-way}
 use Rattle.zone_marks.proofs.keeping.Landmarks.note_block.Goals as goal
 
 pub size_at-size-requires-clause-way : goal.size_at-size-requires-clause-way
-size_at-size-requires-clause-way c = let i = c.requires.sound in
-    became-way c.args.part.now.bytes i.0 i.1 i.2 c.args.place c.requires.marks.0 c.requires.marks.1
+size_at-size-requires-clause-way c = search (rules, became-way)
 
 pub size_at-size-requires-clause-some : goal.size_at-size-requires-clause-some
-size_at-size-requires-clause-some c = let i = c.requires.sound in
-    became-inside c.args.part.now.bytes i.0 i.1 i.2 c.args.place c.requires.marks.0 c.requires.marks.1
+size_at-size-requires-clause-some c = search (rules, became-inside)
 
 pub overflow_add-place : goal.overflow_add-place
 overflow_add-place c =
     let i = c.requires.sound in
     let b = c.requires.marks.1 in
-    let s = c.size_at-size.ensures b.there b.above (became-left _ _ _ i.2 _ _ b) in
-    omega (arith, became-fits c.args.part.now.bytes i.0 i.1 i.2 c.args.place c.requires.marks.0 b, s)
+    omega (arith, became-fits c.args.part.now.bytes i.0 i.1 i.2 c.args.place c.requires.marks.0 b, (c.size_at-size.ensures b.there b.above (became-left _ _ _ i.2 _ _ b)))
 
 pub note-requires-clause-marks : goal.note-requires-clause-marks
 note-requires-clause-marks c =
     let b = c.requires.marks.1 in
-    let s = c.size_at-size.ensures b.there b.above (became-left _ _ _ c.requires.sound.2 _ _ b) in (
-      c.requires.marks.0,
-      became-replaced c.args.place c.size_at-size.result c.requires.marks.0 (zone_in c.args.part.now.bytes) b s,
-      c.requires.marks.2,
-    )
+    let s = c.size_at-size.ensures b.there b.above (became-left _ _ _ c.requires.sound.2 _ _ b) in (search (rules, became-replaced))
