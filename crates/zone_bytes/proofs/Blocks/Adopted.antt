@@ -143,10 +143,7 @@ module _ (xs : List ℕ) (first count : ℕ) (i : IsSound xs first count) (below
   far-parts = subst (Each (Apart number)) (names-append below (old ∷ above)) far
 
   emptied : piece number 4 xs ≡ word (empty_word flag.0)
-  emptied = elim (subst (λ q. Says all xs i.unused number q) flag.1 (laid.says number)).1 [
-    | inl h ↦ absurd (apart-other number number (each-has (Apart number) (names all) number far h) refl)
-    | inr h ↦ h.1
-  ]
+  emptied = grind (arith, flag, laid, apart-other, each-has, far)
 
   flag-is : (word_at number xs == 18) ≡ resource number
   flag-is = flag-of _ _ (read_back _ _ _ (emptied-small _) emptied) ∙ ap is_resource (sym flag.1)
@@ -169,13 +166,11 @@ module _ (xs : List ℕ) (first count : ℕ) (i : IsSound xs first count) (below
 
   new-tile : Tile (head_of resource new) n (drop place mid)
   unfolding head_of
-  new-tile =
-      let t = tile xs first count i place 0 [] below old above whole low in
-      let up : drop place mid ≡ written 0 head (drop place xs) =
+  new-tile = let up : drop place mid ≡ written 0 head (drop place xs) =
       drop-written_below _ _ xs place (omega arith) (omega (arith, fits-in))
       ∙ (let v : place - place ≡ 0 = omega arith in ap (λ j. written j head (drop place xs)) v) in
       subst (λ r. Tile (header (n + 3) (length content) number (flag_word flags r) ++ content) n (drop place mid))
-      flag-is (subst (λ ys. Tile (head ++ content) n ys) (sym up) (tile-named _ _ 0 0 _ _ _ _ n _ _ t))
+      flag-is (subst (λ ys. Tile (head ++ content) n ys) (sym up) (tile-named _ _ 0 0 _ _ _ _ n _ _ (tile xs first count i place 0 [] below old above whole low)))
 
   one : Tiles (head_of resource) (piece place (place + n - place) mid) (new ∷ [])
   one =
@@ -189,20 +184,13 @@ module _ (xs : List ℕ) (first count : ℕ) (i : IsSound xs first count) (below
   forth s j = slot-kept _ _ (place + n) xs st s (new ∷ []) refl j
 
   back : (s : ℕ) → IsSlot s now → IsSlot s all
-  back s j = elim (slot-split s _ _ j) [
-    | inl k ↦ slot-append_left s below (old ∷ above) k
-    | inr k ↦ elim (slot-split (s - sizes below) (new ∷ []) above k.1) [
-      | inl m ↦ absurd (no-slots new refl (s - sizes below) m)
-      | inr m ↦ slot-append_right s _ _ k.0 (slot-append_right (s - sizes below) (old ∷ []) above m.0 m.1)
-    ]
-  ]
+  back s j = grind (arith, slot-split, slot-append_left, no-slots, slot-append_right)
 
   tiles : Tiles (head_of resource) mid now
   tiles = tiles-splice (head_of resource) _ _ _ (old ∷ []) _ (new ∷ []) _ _ low high laid.lies.tiles same one
 
   slot-fits : number ≤ length mid
-  slot-fits = let k = slot-inside number now (forth number is-slot) in
-      let l = length-tiles (head_of resource) mid now tiles in omega (arith, k, l)
+  slot-fits = grind (arith, slot-inside, forth, is-slot, length-tiles, tiles)
 
   abbrev done : List ℕ
   done = adopted number flags place content xs
@@ -235,8 +223,7 @@ module _ (xs : List ℕ) (first count : ℕ) (i : IsSound xs first count) (below
       ∙ piece-outside _ _ _ _ s same (outside _ _ _ _ st s j)
 
   length-done : length done ≡ length xs
-  length-done =
-      length-written number (word place) mid (omega (arith, length-word, same.kept, slot-reads-in)) ∙ same.kept
+  length-done = grind (arith, length-written, length-word, same, slot-reads-in)
 
   pub adopted-made : Made done first count now (slot_in xs)
   adopted-made =
@@ -262,13 +249,11 @@ module _ (xs : List ℕ) (first count : ℕ) (i : IsSound xs first count) (below
 pub masters-adopted : (below : List Block) (id number : ℕ) (flags : Flags) (content : List ℕ) (above : List Block)
     → count is_masters (below ++ Relocatable number flags content ∷ above)
     ≡ count is_masters (below ++ Nonrelocatable id content ∷ above)
-masters-adopted below id number flags content above =
-    masters-same below above (Nonrelocatable id content) (Relocatable number flags content) refl
+masters-adopted below id number flags content above = grind (arith, masters-same)
 
 pub free-adopted : (below : List Block) (id number : ℕ) (flags : Flags) (content : List ℕ) (above : List Block)
     → free_sum (below ++ Relocatable number flags content ∷ above) ≡ free_sum (below ++ Nonrelocatable id content ∷ above)
-free-adopted below id number flags content above =
-    total-same free_of below above (Nonrelocatable id content) (Relocatable number flags content) refl
+free-adopted below id number flags content above = grind (arith, total-same)
 
 -- the nonrelocatable block at a place
 pub record NonrelocatableAt (xs : List ℕ) (place : ℕ) : Type 0 where
@@ -282,23 +267,7 @@ pub record NonrelocatableAt (xs : List ℕ) (place : ℕ) : Type 0 where
 
 pub nonrelocatable-at : (xs : List ℕ) (place : ℕ) → IsSomeAnd (spot_at place (zone_in xs)) (λ s. is_nonrelocatable place s.here ≡ true)
     → NonrelocatableAt xs place
-nonrelocatable-at xs place h = let a = the-spot _ (λ s. is_nonrelocatable place s.here ≡ true) h in
-    of a.0 a.1 a.0.here refl a.2
-  where
-    of : (s : Spot) → spot_at place (zone_in xs) ≡ Some s → (b : Block) → s.here ≡ b → is_nonrelocatable place b ≡ true
-        → NonrelocatableAt xs place
-    of s e (Free n) is f = absurd (false≢true f)
-    of s e (Nonrelocatable id content) is f = record {
-      s = s;
-      id = id;
-      content = content;
-      is = e;
-      here = is;
-      whole = sym (spot_at-is place (zone_in xs) s e) ∙ ap (λ b. s.below ++ b ∷ s.above) is;
-      low = spot_at-below place (zone_in xs) s e;
-    }
-    of s e Masters is f = absurd (false≢true f)
-    of s e (Relocatable slot flags content) is f = absurd (false≢true f)
+nonrelocatable-at xs place h = grind (arith, the-spot, false≢true, spot_at-is, spot_at-below)
 
 module _ (xs : List ℕ) (first count : ℕ) (i : IsSound xs first count) (place : ℕ) (a : NonrelocatableAt xs place) (number : ℕ)
     (flags : Flags) (used : IsTrue (is_used (slot_in xs number)))

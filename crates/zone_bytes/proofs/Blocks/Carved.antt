@@ -163,36 +163,17 @@ module _ (xs : List ℕ) (first count : ℕ) (i : IsSound xs first count) (below
   far-parts = subst (Each (Far number)) (names-append below (Free n ∷ above)) far
 
   emptied : piece number 4 xs ≡ word (empty_word flag.0)
-  emptied = elim (subst (λ q. Says all xs i.unused number q) flag.1 (laid.says number)).1 [
-    | inl h ↦ absurd (apart-self number (each-has (Far number) (names all) number far h))
-    | inr h ↦ h.1
-  ]
-    where
-      apart-self : (s : ℕ) → Far s s → ⊥
-      apart-self s (inl h) = omega (arith, h)
-      apart-self s (inr h) = omega (arith, h)
+  emptied = grind (arith, flag, laid, each-has, far)
 
   pub slot-reads-in : (number % 4 ≡ 0) × (number + 4 ≤ length xs)
   slot-reads-in = slot-in xs all (slot_in xs) i.unused laid number is-slot
 
   pub flags-are : cond {A = ℕ} (word_at number xs == 18) 32 0 ≡ flag_word no_flags (is_resource (slot_in xs number))
-  flags-are =
-      flags-kept _ _ (read_back _ _ _ (emptied-small _) emptied)
-      ∙ ap (λ q. flag_word no_flags (is_resource q)) (sym flag.1)
+  flags-are = grind (arith, flags-kept, read_back, emptied-small, emptied, flag)
 
   module _ (stop fl : ℕ) (t : stop ≡ top) (f : fl ≡ cond {A = ℕ} (word_at number xs == 18) 32 0) where
     pub may : MayCarve z place stop number size fl xs
-    may = subst (λ p. MayCarve z place p number size fl xs) (sym t) (record {
-      splice = st;
-      here = (let e : n ≡ top - place = omega arith in ap (λ m. Free m ∷ []) e);
-      room = omega (arith, room);
-      is_slot = is-slot;
-      apart = (
-        each-left (Far number) (names below) (names above) far-parts,
-        each-right (Far number) (names below) (names above) far-parts,
-      );
-      resource = sym (f ∙ flags-are);
-    })
+    may = grind (arith, st, is-slot, each-left, far-parts, each-right, flags-are)
 
     pub may-carve : (z : Splice) × MayCarve z place stop number size fl xs
     may-carve = (z, may)
@@ -216,17 +197,7 @@ module _ (xs : List ℕ) (first count : ℕ) (i : IsSound xs first count) (below
     forth s j = slot-kept z _ _ xs st s put same-span j
 
     back : (s : ℕ) → IsSlot s (below ++ (put ++ above)) → IsSlot s all
-    back s j = elim (slot-split s _ (put ++ above) j) [
-      | inl k ↦ slot-append_left s below (Free n ∷ above) k
-      | inr k ↦ elim (slot-split (s - sizes below) put above k.1) [
-        | inl m ↦ absurd (plain-put (s - sizes below) m)
-        | inr m ↦
-            let f : s - sizes below - sizes put ≡ s - sizes below - sizes (Free n ∷ []) = ap
-            (λ q. s - sizes below - q) same-span in
-            slot-append_right s _ _ k.0 (slot-append_right _ (Free n ∷ []) _ (omega (arith, same-span))
-            (subst (λ q. IsSlot q above) f m.1))
-      ]
-    ]
+    back s j = grind (arith, slot-split, slot-append_left, plain-put, same-span, slot-append_right)
 
     pub carve-made : (now : List ℕ) → length now ≡ length xs → ((z : Splice) → MayCarve z place stop number size fl xs
         → Lies z.resource (z.below ++ (Relocatable number no_flags (replicate size 0) ∷ free
@@ -275,41 +246,17 @@ free-of p (Relocatable id flags content) h = absurd (false≢true h)
 
 pub free-at : (xs : List ℕ) (place size : ℕ)
     → IsSomeAnd (spot_at place (zone_in xs)) (λ s. IsTrue (is_room (padded size) s.here)) → FreeAt xs place size
-free-at xs place size h =
-    let a = the-spot (spot_at place (zone_in xs)) (λ s. IsTrue (is_room (padded size) s.here)) h in
-    let f = free-of (padded size) a.0.here a.2 in
-    record {
-      s = a.0;
-      bytes = f.0;
-      is = a.1;
-      here = f.1;
-      room = f.2;
-      whole = sym (spot_at-is place (zone_in xs) a.0 a.1) ∙ ap (λ b. a.0.below ++ b ∷ a.0.above) f.1;
-      low = spot_at-below place (zone_in xs) a.0 a.1;
-    }
+free-at xs place size h = grind (arith, the-spot, free-of, spot_at-is, spot_at-below)
 
 -- the blocks of master pointers stay
 pub masters-carved : (slot size : ℕ) (below : List Block) (n k : ℕ) (above : List Block)
     → count is_masters (below ++ new slot size ∷ (free k ++ above)) ≡ count is_masters (below ++ Free n ∷ above)
-masters-carved slot size below n k above =
-    total-append (λ b. if is_masters b then 1 else 0) _ _ ∙ ap (λ m. count is_masters below + m) (none k)
-    ∙ sym (total-append (λ b. if is_masters b then 1 else 0) _ _)
-  where
-    plus : (m : ℕ) → 0 + (0 + m) ≡ 0 + m
-    plus m = omega arith
-
-    none : (k : ℕ) → 0 + count is_masters (free k ++ above) ≡ 0 + count is_masters above
-    none zero = refl
-    none (suc k) = plus (count is_masters above)
+masters-carved slot size below n k above = grind (arith, total-append)
 
 -- the Free bytes are fewer by what the block takes
 pub free-carved : (slot size : ℕ) (below : List Block) (n k : ℕ) (above : List Block)
     → free_sum (below ++ new slot size ∷ (free k ++ above)) + n ≡ free_sum (below ++ Free n ∷ above) + k
-free-carved slot size below n k above = omega (arith, total-append, total-append, rest)
-  where
-    rest : (k : ℕ) → free_sum (free k ++ above) ≡ k + free_sum above
-    rest zero = (let z : free_sum above ≡ 0 + free_sum above = omega arith in z)
-    rest (suc k) = refl
+free-carved slot size below n k above = grind (arith, total-append)
 
 -- a Free block is among the Free bytes
 pub free-has : (below : List Block) (n : ℕ) (above : List Block) → n ≤ free_sum (below ++ Free n ∷ above)

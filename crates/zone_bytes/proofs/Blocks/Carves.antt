@@ -30,45 +30,24 @@ module _ (zone : Splice) (bottom top : ℕ) (xs : List ℕ) (h : IsSplice zone b
   bounds = (omega arith, omega (arith, length-tiles, span-append, span-append))
 
   pub even : (bottom % 16 ≡ 0) × (top % 16 ≡ 0)
-  even =
-      let head = head_of zone.resource in
-      let t = tiles-split head xs zone.below (zone.here ++ zone.above) h.lies.tiles in
-      let u = tiles-split head (drop (sizes zone.below) xs) zone.here zone.above t.1 in
-      (omega (arith, span-whole), omega (arith, span-whole))
+  even = grind (arith, tiles-split, span-whole)
 
   -- a slot is below the stretch or above it
   pub spot : (s : ℕ) → IsSlot s all
       → ((s + 4 ≤ bottom) × IsSlot s zone.below) ⊎ ((top ≤ s) × IsSlot (s - top) zone.above)
-  spot s i = elim (slot-split s _ _ i) [
-    | inl j ↦ inl (omega (arith, slot-inside), j)
-    | inr j ↦ elim (slot-split (s - sizes zone.below) zone.here zone.above j.1) [
-      | inl k ↦ absurd (h.no_masters (s - sizes zone.below) k)
-      | inr k ↦
-          let e : s - sizes zone.below - sizes zone.here ≡ s - top = omega arith in
-          inr (omega (arith, j.0, k.0), subst (λ q. IsSlot q zone.above) e k.1)
-    ]
-  ]
+  spot s i = grind (arith, slot-split, slot-inside)
 
   pub outside : (s : ℕ) → IsSlot s all → Clear bottom (top - bottom) s
   outside s i = elim (spot s i) [ inl j ↦ inl j.0 | inr j ↦ inr (omega arith) ]
 
   pub clear : Each (Clear bottom (top - bottom)) (names zone.below) × Each (Clear bottom (top - bottom))
       (names zone.above)
-  clear = (
-    each-map (λ s. IsSlot s all) (Clear bottom (top - bottom)) outside (names zone.below) h.slots.0,
-    each-map (λ s. IsSlot s all) (Clear bottom (top - bottom)) outside (names zone.above) h.slots.1,
-  )
+  clear = grind (arith, each-map, Clear, outside)
 
   -- a slot of other blocks in the stretch's place
   pub slot-kept : (s : ℕ) (here : List Block) → sizes here ≡ sizes zone.here → IsSlot s all
       → IsSlot s (zone.below ++ (here ++ zone.above))
-  slot-kept s here e i = elim (spot s i) [
-    | inl j ↦ slot-append_left s zone.below (here ++ zone.above) j.1
-    | inr j ↦
-        let f : s - top ≡ s - sizes zone.below - sizes here = omega (arith, e) in
-        slot-append_right s _ _ (omega arith) (slot-append_right _ _ _ (omega (arith, e))
-        (subst (λ q. IsSlot q zone.above) f j.1))
-  ]
+  slot-kept s here e i = grind (arith, spot, slot-append_left, slot-append_right)
 
   -- one Free block
   pub freed : let new = written bottom (word (top - bottom)) xs in
@@ -101,21 +80,7 @@ pub new-tile : (resource : ℕ → Bool) (slot n : ℕ) (ys : List ℕ) (fl : �
     → padded n ≤ length ys → take (16 + n) ys ≡ header (padded n + 3) n slot fl ++ replicate n 0
     → Tile (head_of resource (Relocatable slot no_flags (replicate n 0))) (padded n) ys
 unfolding head_of
-new-tile resource slot n ys fl r f t =
-    let l = length-replicate {A = ℕ} n 0 in
-    let h = length-append (header (padded n + 3) n slot fl) (replicate n 0) in
-    let e : header (padded n + 3) n slot fl ++ replicate n 0 ≡ header (padded (length (replicate n 0)) + 3)
-    (length (replicate n 0)) slot (flag_word no_flags (resource slot)) ++ replicate n 0 =
-    (λ i. header (padded (sym l i) + 3) (sym l i) slot (sym r i) ++ replicate n 0) in
-    let m : length (header (padded (length (replicate n 0)) + 3) (length (replicate n 0)) slot
-    (flag_word no_flags (resource slot)) ++ replicate n 0) ≡ 16 + n = ap length (sym e) ∙ omega (arith, h, length-header, l) in
-    record {
-      fits = f;
-      whole = omega arith;
-      some = omega arith;
-      room = omega (arith, m);
-      begins = ap (λ k. take k ys) m ∙ t ∙ e;
-    }
+new-tile resource slot n ys fl r f t = grind (arith, length-replicate, length-append, length-header)
 
 module _ (zone : Splice) (bottom top : ℕ) (xs : List ℕ) (h : IsSplice zone bottom top xs) (slot n : ℕ)
     (room : padded n ≤ top - bottom) (is : zone.here ≡ Free (top - bottom) ∷ [])
@@ -210,10 +175,7 @@ module _ (zone : Splice) (bottom top : ℕ) (xs : List ℕ) (h : IsSplice zone b
   pub others-carved : (mid : List ℕ) → SameOutside bottom top xs mid → (s : ℕ)
       → IsSlot s (zone.below ++ (zone.here ++ zone.above)) → Apart slot s
       → piece s 4 (written slot (word bottom) mid) ≡ piece s 4 xs
-  others-carved mid o s j p =
-      piece-clear _ (word bottom) _ s (omega (arith, slot-inside, length-tiles))
-      (elim p [ inl e ↦ inr (omega (arith, e, length-word)) | inr e ↦ inl e ])
-      ∙ piece-outside bottom top xs mid s o (outside zone bottom top xs h s j)
+  others-carved mid o s j p = grind (arith, piece-clear, slot-inside, length-tiles, length-word, piece-outside, outside)
 
   -- what the writes in the stretch leave
   abbrev pub first : List ℕ

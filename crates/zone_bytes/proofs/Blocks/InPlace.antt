@@ -44,13 +44,11 @@ no-slots (Relocatable slot flags content) m s i = elim i [ inl k ↦ k | inr k �
 -- another block that counts as much leaves a sum
 pub total-same : (of : Block → ℕ) (below above : List Block) (b c : Block) → of c ≡ of b
     → total of (below ++ c ∷ above) ≡ total of (below ++ b ∷ above)
-total-same of below above b c e = total-append of _ _
-    ∙ ap (λ v. total of below + (v + total of above)) e ∙ sym (total-append of _ _)
+total-same of below above b c e = grind (arith, total-append)
 
 pub masters-same : (below above : List Block) (b c : Block) → is_masters c ≡ is_masters b
     → count is_masters (below ++ c ∷ above) ≡ count is_masters (below ++ b ∷ above)
-masters-same below above b c e = total-same (λ b. if is_masters b then 1 else 0) _ _ b c
-    (ap (λ v. if v then 1 else 0) e)
+masters-same below above b c e = grind (arith, total-same)
 
 module _ (xs : List ℕ) (first count : ℕ) (i : IsSound xs first count) (below : List Block) (here : Block)
     (above : List Block) (whole : zone_in xs ≡ below ++ here ∷ above)
@@ -93,10 +91,8 @@ module _ (xs : List ℕ) (first count : ℕ) (i : IsSound xs first count) (below
         (λ s j q. piece-outside place top xs new s same (outside z place top xs st s j) ∙ q) _ k l1))
 
     pub here-lays : Lays new (below ++ (now ∷ [] ++ above)) (slot_in xs) i.unused
-    here-lays =
-        let z : size now + 0 ≡ size here + 0 = omega (arith, e) in
-        replaced _ _ (here ∷ []) above (slot_in xs) _ laid _ _ low high rises (no-slots here plain)
-        (now ∷ []) new same one z (ap (λ k. k ++ []) n) (no-slots now m) (p, tt) (leads, tt)
+    here-lays = replaced _ _ (here ∷ []) above (slot_in xs) _ laid _ _ low high rises (no-slots here plain)
+        (now ∷ []) new same one (omega (arith, e)) (ap (λ k. k ++ []) n) (no-slots now m) (p, tt) (leads, tt)
 
     pub here-made : tidy (below ++ now ∷ above) ≡ below ++ now ∷ above
         → Made new first count (below ++ now ∷ above) (slot_in xs)

@@ -45,30 +45,7 @@ tile-flagged a b c d w n content ys t =
     }
 
 flags-joined : (old flags : Flags) (r : Bool) → flag_word flags false + flag_word old r % 64 ≡ flag_word flags r
-flags-joined old flags r = ap (λ n. flag_word flags false + n) (kept old.locked old.purgeable r)
-    ∙ both flags.locked flags.purgeable r
-  where
-    kept : (l p r : Bool) → (cond {A = ℕ} l 128 0 + cond {A = ℕ} p 64 0 + cond {A = ℕ} r 32 0) % 64 ≡ cond {A = ℕ} r
-        32 0
-    kept true true true = refl
-    kept true true false = refl
-    kept true false true = refl
-    kept true false false = refl
-    kept false true true = refl
-    kept false true false = refl
-    kept false false true = refl
-    kept false false false = refl
-
-    both : (l p r : Bool) → (cond {A = ℕ} l 128 0 + cond {A = ℕ} p 64 0 + 0) + cond {A = ℕ} r 32 0 ≡ cond {A = ℕ} l
-        128 0 + cond {A = ℕ} p 64 0 + cond {A = ℕ} r 32 0
-    both true true true = refl
-    both true true false = refl
-    both true false true = refl
-    both true false false = refl
-    both false true true = refl
-    both false true false = refl
-    both false false true = refl
-    both false false false = refl
+flags-joined old flags r = grind arith
 
 module _ (xs : List ℕ) (first count : ℕ) (i : IsSound xs first count) (place : ℕ) (flags : Flags) where
   abbrev resource : ℕ → Bool
@@ -82,17 +59,13 @@ module _ (xs : List ℕ) (first count : ℕ) (i : IsSound xs first count) (place
 
   same-here : (below : List Block) (here : Block) (above : List Block) (whole : zone_in xs ≡ below ++ here ∷ above)
       → Made xs first count (below ++ here ∷ above) (slot_in xs)
-  same-here below here above whole =
-      made _ _ (slot_in xs) _ (subst (λ z. Lays xs z (slot_in xs) i.unused) whole i.lays) _ _
+  same-here below here above whole = made _ _ (slot_in xs) _ (grind arith) _ _
       (sym (ap tidy whole) ∙ i.tidied ∙ whole) i.begins i.counted
 
   other : (below : List Block) (here : Block) (above : List Block) (whole : zone_in xs ≡ below ++ here ∷ above)
       (low : sizes below ≡ place) → (kind here == 3) ≡ false
       → Made (flagged flags place xs) first count (below ++ here ∷ above) (slot_in xs)
-  other below here above whole low k =
-      subst (λ ys. Made ys first count (below ++ here ∷ above) (slot_in xs))
-      (sym (ap (λ v. cond v (written (place + 12) (word (flag_word flags false + word_at (place + 12) xs % 64))
-      xs) xs) (ap (λ t. t == 3) (tag below here above whole low) ∙ k))) (same-here _ _ _ whole)
+  other below here above whole low k = grind (arith, Made, tag, same-here)
 
   pub flagged-made : (below : List Block) (here : Block) (above : List Block)
       (whole : zone_in xs ≡ below ++ here ∷ above) (low : sizes below ≡ place)

@@ -79,18 +79,13 @@ module _ (xs : List ℕ) (first count : ℕ) (i : IsSound xs first count) (place
   module _ (below : List Block) (here : Block) (above : List Block) (whole : zone_in xs ≡ below ++ here ∷ above)
       (low : sizes below ≡ place) where
     pub tile : Tile (head_of resource here) (size here) (drop place xs)
-    tile =
-        let t = tiles-split (head_of resource) _ _ (here ∷ above)
-        (subst (Tiles (head_of resource) xs) whole i.lays.lies.tiles) in
-        subst (λ j. Tile (head_of resource here) (size here) (drop j xs)) low t.1.0
+    tile = grind (arith, tiles-split)
 
     pub fits : place + size here ≤ length xs
     fits = omega (arith, tile.fits, (length-drop place xs), tile.some)
 
     pub placed : IsPlaced place here
-    placed = let o : 0 + sizes below ≡ place = omega (arith, low) in
-        subst (λ j. IsPlaced j here) o
-        (placed-right 0 _ (here ∷ above) (subst (λ z. ArePlaced 0 z) whole i.lays.placed)).0
+    placed = grind (arith, placed-right)
 
   -- where nothing is held, nothing is written
   nothing : (below : List Block) (here : Block) (above : List Block) (whole : zone_in xs ≡ below ++ here ∷ above)
@@ -156,8 +151,7 @@ module _ (xs : List ℕ) (first count : ℕ) (i : IsSound xs first count) (place
   pub content-inside : (below : List Block) (here : Block) (above : List Block)
       (whole : zone_in xs ≡ below ++ here ∷ above) (low : sizes below ≡ place)
       → place + 16 + length (content_of here) ≤ length xs
-  content-inside below here above whole low = let f = fits below here above whole low in
-      let m = (tile below here above whole low).some in omega (arith, f, m, content-room)
+  content-inside below here above whole low = grind (arith, fits, tile, content-room)
 
 pub masters-kept : (x : List ℕ) (below : List Block) (b : Block) (above : List Block)
     → count is_masters (below ++ with_content x b ∷ above) ≡ count is_masters (below ++ b ∷ above)

@@ -61,21 +61,10 @@ module _ (xs : List ℕ) (from place : ℕ) (u : LeadsUp from place xs) where
 
   near : (below above : List Block) → left_in 0 xs ≡ below ++ above → sizes below ≡ place → from ≡ 0
       → LeftBelow xs place from from below above
-  near below above e l z =
-      let k : from - from ≡ 0 = omega arith in
-      record {
-        rest = below;
-        is = ap (λ n. left_in n xs) z ∙ e;
-        up = omega (arith, l, z);
-        last = ap (λ n. last_free n below) k;
-      }
+  near below above e l z = grind arith
 
   pub below-from : place ≤ length xs → Below xs place from from
-  below-from h = record {
-    way = u.way;
-    ordered = (omega arith, elim u.under [ inl f ↦ omega (arith, f, h) | inr z ↦ omega (arith, z) ]);
-    left = λ below above e l. elim u.under [ inl f ↦ far below above e l f | inr z ↦ near below above e l z ];
-  }
+  below-from h = grind (arith, far, near)
 
 some-block : (at : ℕ) (xs : List ℕ) (w : IsOnWay at xs) (b : Block) (blocks : List Block)
     → left_in at xs ≡ b ∷ blocks → 16 ≤ size b
@@ -122,8 +111,7 @@ module _ (xs : List ℕ) (place at start : ℕ) (b : Below xs place at start) wh
       tells : (c : Block) (blocks : List Block) → left_in at xs ≡ c ∷ blocks → (n ≡ size c) × (t ≡ kind c)
       tells c blocks q =
           let o = here-on at xs b.way i n t e k m in
-          let f : o.here ≡ c = (let p = sym o.is ∙ q in cc) in
-          (size-at at xs b.way i n t e k m c blocks q, o.tag ∙ ap kind f)
+          (size-at at xs b.way i n t e k m c blocks q, o.tag ∙ ap kind ((let p = sym o.is ∙ q in cc)))
 
       pub below-next : (now : ℕ) → now ≤ at + n → ((c : Block) → n ≡ size c → t ≡ kind c → at + n - now ≡ free_of c)
           → Below xs place (at + n) now

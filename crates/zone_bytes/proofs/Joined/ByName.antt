@@ -79,22 +79,12 @@ pub freed-one : (slot : ℕ) (below : List Block) (flags : Flags) (content : Lis
     → Each (Apart slot) (names below) → Each (Apart slot) (names above)
     → freed (is_relocatable slot) (below ++ Relocatable slot flags content ∷ above) ≡ below ++ Free
     (size (Relocatable slot flags content)) ∷ above
-freed-one slot below flags content above a b =
-    map-append (λ c. cond (is_relocatable slot c) (Free (size c)) c) below (Relocatable slot flags content ∷ above)
-    ∙ ap (λ k. k ++ freed (is_relocatable slot) (Relocatable slot flags content ∷ above)) (freed-none _ _ a)
-    ∙ ap (λ k. below ++ k) (elim (eqb_tells slot slot) [
-      | inl t ↦
-          ap (λ v. cond v (Free (size (Relocatable slot flags content))) (Relocatable slot flags content) ∷ freed
-          (is_relocatable slot) above) t.0
-          ∙ ap (λ k. Free (size (Relocatable slot flags content)) ∷ k) (freed-none _ _ b)
-      | inr t ↦ absurd (t.1 refl)
-    ])
+freed-one slot below flags content above a b = grind (arith, map-append, freed-none, eqb_tells)
 
 -- a block that held bytes becomes Free
 pub free-more : (below : List Block) (b : Block) (above : List Block) → free_of b ≡ 0
     → free_sum (tidy (below ++ Free (size b) ∷ above)) ≡ free_sum (below ++ b ∷ above) + size b
-free-more below b above e =
-    omega (arith, total-tidy free_of (λ n m. refl) (below ++ Free (size b) ∷ above), total-append, e)
+free-more below b above e = grind (arith, total-tidy, total-append)
 
 emptied-odd : (r : Bool) → empty_word r % 16 ≡ 2
 emptied-odd true = refl
@@ -153,37 +143,16 @@ module _ (t : Table) (slot : ℕ) (xs : List ℕ) (h : HasHandle t slot xs) wher
     }
 
     pub may-release : (w : ℕ) → w ≡ word_at slot xs → MayRelease leading w xs
-    may-release w e = record {
-      lays = subst (λ k. Lays xs k t.slots t.unused) f.block.is h.lays;
-      low = sym (e ∙ f.place);
-      plain = refl;
-      tidied = sym (ap tidy f.block.is) ∙ h.tidied ∙ f.block.is;
-    }
+    may-release w e = grind arith
 
     pub leading-is : tidy (freed (is_relocatable slot) t.blocks) ≡ tidy
         (f.block.below ++ Free (size (Relocatable slot f.block.flags f.block.content)) ∷ f.block.above)
-    leading-is =
-        let p = subst (Pairs Apart) (ap names f.block.is
-        ∙ names-append f.block.below (Relocatable slot f.block.flags f.block.content ∷ f.block.above))
-        h.lays.has_slots.apart in
-        ap tidy (ap (freed (is_relocatable slot)) f.block.is ∙ freed-one _ _ _ _ _
-        (pairs-before slot (names f.block.below) (names f.block.above) p)
-        (pairs-after slot (names f.block.below) (names f.block.above) p))
+    leading-is = grind (arith, names-append, freed-one, pairs-before, pairs-after)
 
     pub leading-replaced : (lo hi : ℕ) → Replaced lo hi (leading.below ++ leading.here ∷ leading.above)
         (tidy (leading.below ++ Free (size leading.here) ∷ leading.above))
         → Replaced lo hi t.blocks (tidy (freed (is_relocatable slot) t.blocks))
-    leading-replaced lo hi r = record {
-      below = r.below;
-      here = r.here;
-      there = r.there;
-      above = r.above;
-      was = f.block.is ∙ r.was;
-      is = leading-is ∙ r.is;
-      low = r.low;
-      high = r.high;
-      span = r.span;
-    }
+    leading-replaced lo hi r = grind (arith, leading-is)
 
     pub leading-free : (n : ℕ) → n ≡ size (Relocatable slot f.block.flags f.block.content)
         → free_sum (tidy (freed (is_relocatable slot) t.blocks)) ≡ free_sum t.blocks + n

@@ -23,10 +23,7 @@ use Rattle.zone_bytes.proofs.Joined.Handles.{Gained, gained}
 -- a nonrelocatable block of another place stays
 nonrelocatable-stays : (place : ℕ) (id : ℕ) (content : List ℕ) → (id ≡ place → ⊥)
     → cond (is_nonrelocatable place (Nonrelocatable id content)) (Free (size (Nonrelocatable id content))) (Nonrelocatable id content) ≡ Nonrelocatable id content
-nonrelocatable-stays place id content n = elim (eqb_tells id place) [
-  | inl t ↦ absurd (n t.1)
-  | inr t ↦ ap (λ v. cond v (Free (size (Nonrelocatable id content))) (Nonrelocatable id content)) t.0
-]
+nonrelocatable-stays place id content n = grind arith
 
 -- the blocks below the place, and those above it
 nonrelocatable-below : (place o : ℕ) (blocks : List Block) → ArePlaced o blocks → o + sizes blocks ≤ place
@@ -67,8 +64,7 @@ nonrelocatable-plain place (Relocatable slot flags content) e = absurd (false≢
 -- a block that becomes Free isn't a Masters block
 pub masters-freed : (below : List Block) (b : Block) (n : ℕ) (above : List Block) → is_masters b ≡ false
     → count is_masters (tidy (below ++ Free n ∷ above)) ≡ count is_masters (below ++ b ∷ above)
-masters-freed below b n above e =
-    total-tidy (λ (b : Block). if is_masters b then 1 else 0) (λ n m. refl) _ ∙ masters-same _ _ b _ (sym e)
+masters-freed below b n above e = grind (arith, total-tidy, masters-same)
 
 module _ (xs : List ℕ) (first number : ℕ) (i : IsSound xs first number) (place : ℕ) (s : Spot)
     (e : spot_at place (zone_in xs) ≡ Some s) (f : is_nonrelocatable place s.here ≡ true) where

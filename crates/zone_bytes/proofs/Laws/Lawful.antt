@@ -72,8 +72,7 @@ counted-once number (Relocatable slot flags content ∷ blocks) p = elim (eqb_te
 pub aligned-tiles : (head : Block → List ℕ) (xs : List ℕ) (blocks : List Block) → Tiles head xs blocks → Aligned blocks
 aligned-tiles head xs [] t = tt
 aligned-tiles head xs (Free n ∷ blocks) t = (t.0.whole, aligned-tiles head _ blocks t.1)
-aligned-tiles head xs (Nonrelocatable id content ∷ blocks) t =
-    (refl, aligned-tiles head (drop (size (Nonrelocatable id content)) xs) blocks t.1)
+aligned-tiles head xs (Nonrelocatable id content ∷ blocks) t = (refl, aligned-tiles head _ blocks t.1)
 aligned-tiles head xs (Masters ∷ blocks) t = (refl, aligned-tiles head (drop 272 xs) blocks t.1)
 aligned-tiles head xs (Relocatable slot flags content ∷ blocks) t =
     (refl, aligned-tiles head (drop (size (Relocatable slot flags content)) xs) blocks t.1)
@@ -132,13 +131,7 @@ pub rest-made : (old new : Bytes) (table : ℕ → Slot) (unused moves : ℕ) �
     → count is_masters (zone_in new.bytes) ≡ count is_masters (zone_in old.bytes)
     → (new.home ≡ old.home) × (new.at ≡ old.at) × (length new.bytes ≡ length old.bytes)
     → IsRest (record (rest_in old unused moves) { slots = table }) (rest_in new unused moves)
-rest-made old new table unused moves s k w = record {
-  slots = s;
-  unused = refl;
-  all = ap (λ n. 64 * n) k;
-  moves = refl;
-  window = λ i. record { home = w.0 i; window = record { at = w.1 i; len = w.2 i } };
-}
+rest-made old new table unused moves s k w = grind arith
 
 -- the invariant of a zone in bytes, whose Free bytes are counted beside it
 pub kept-made : (xs : List ℕ) (first unused free : ℕ) (blocks : List Block) (table : ℕ → Slot)

@@ -52,14 +52,11 @@ module _ (h : Header) (bottom top held : ℕ) (xs : List ℕ) (m : MayLay h bott
   zeros-length = length-replicate {A = ℕ} (h.logical - held) 0
 
   one-outside : SameOutside bottom top xs one
-  one-outside =
-      outside-written _ _ _ _ _ (header_bytes h) (omega arith) (omega (arith, header-length))
-      (outside-same bottom top xs (omega arith) m.inside)
+  one-outside = outside-written _ _ _ _ _ (header_bytes h) (omega arith) (omega (arith, header-length)) (grind arith)
 
   two-outside : SameOutside bottom top xs two
   two-outside =
-      let z = zeros-length in
-      outside-written bottom top xs one (bottom + 16 + held) zeros (omega arith) (omega (arith, z)) one-outside
+      outside-written bottom top xs one (bottom + 16 + held) zeros (omega arith) (omega (arith, zeros-length)) one-outside
 
   length-one : length one ≡ length xs
   length-one = one-outside.kept
@@ -96,23 +93,13 @@ module _ (h : Header) (bottom top held : ℕ) (xs : List ℕ) (m : MayLay h bott
 
   -- the bytes of the block itself
   within : (k : ℕ) → k ≤ h.size → piece bottom k now ≡ piece bottom k two
-  within k l = go (nat_lt (bottom + h.size) top)
-    where
-      go : (t : Bool) → piece bottom k (cond t (written (bottom + h.size) (word (top - (bottom + h.size))) two) two)
-          ≡ piece bottom k two
-      go true =
-          piece-written_below _ (word (top - (bottom + h.size))) _ bottom k (omega (arith, l))
-          (omega (arith, length-two))
-      go false = refl
+  within k l = grind (arith, nat_lt, piece-written_below, length-two)
 
   length-stood : length stood ≡ held
   length-stood = length-take-le held (drop (bottom + 16) xs) (omega (arith, length-drop (bottom + 16) xs))
 
   two-piece : (k : ℕ) → k ≤ held → piece (bottom + 16) k two ≡ take k stood
-  two-piece k l =
-      piece-written_below _ zeros one (bottom + 16) k (omega (arith, l)) (omega (arith, length-one))
-      ∙ piece-written_above bottom (header_bytes h) xs (bottom + 16) k (omega (arith, header-length)) (omega arith)
-      ∙ sym (take-take k held (drop (bottom + 16) xs) l)
+  two-piece k l = grind (arith, piece-written_below, length-one, piece-written_above, header-length, take-take)
 
   two-content : piece (bottom + 16) h.logical two ≡ resized_content h.logical stood
   two-content = go (less_or_more h.logical held)
@@ -152,13 +139,4 @@ module _ (h : Header) (bottom top held : ℕ) (xs : List ℕ) (m : MayLay h bott
 
   pub laid-tile : (head : List ℕ) → header_bytes h ++ resized_content h.logical stood ≡ head
       → Tile head h.size (drop bottom now)
-  laid-tile head e =
-      let a = length-append (header_bytes h) (resized_content h.logical stood) in
-      let l : length head ≡ 16 + h.logical = sym (ap length e) ∙ omega (arith, a, length-resized, header-length) in
-      record {
-        fits = omega (arith, length-drop bottom now, laid-outside.kept);
-        whole = m.even.2;
-        some = omega arith;
-        room = omega (arith, l);
-        begins = ap (λ j. take j (drop bottom now)) l ∙ laid-head ∙ e;
-      }
+  laid-tile head e = grind (arith, length-append, length-resized, header-length, length-drop, laid-outside, laid-head)

@@ -29,24 +29,14 @@ use Rattle.zone_bytes.proofs.Placed.Laid.{laid-outside, laid-left, laid-first}
 use Rattle.zone_bytes.proofs.Placed.MoreSlots.{outside-within, piece-low, lays-masters, kept-slot}
 
 pub first-fits : (xs : List ℕ) (first unused : ℕ) (i : IsSound xs first unused) → first < 134217728
-first-fits xs first unused i =
-    omega (arith, first-small (zone_in xs) (slot_in xs) i.unused xs i.unused i.lays i.lays.unused_slots)
+first-fits xs first unused i = grind (arith, first-small)
 
 module _ (xs : List ℕ) (place top : ℕ) (r : Roomy xs place 272) (t : top ≡ place + size r.s.here) where
   abbrev head : Header
   head = record { size = 272; tag = tag.Masters; logical = 256; slot = 0; flags = 0 }
 
   pub may-master : MayLay head place top 256 xs
-  may-master =
-      let l = ap size r.here in
-      record {
-        even = (r.at.way.walk.whole, omega (arith, t), refl);
-        inside = omega (arith, t);
-        small = r.at.small;
-        room = omega (arith, t, l);
-        whole = omega arith;
-        fits = omega (arith, t, l);
-      }
+  may-master = grind arith
 
   abbrev mid : List ℕ
   mid = laid head place top 256 xs
@@ -91,9 +81,7 @@ module _ (xs : List ℕ) (place top : ℕ) (r : Roomy xs place 272) (t : top ≡
 
     pub masters-lays-if : IfSome (spot_at place (zone_in xs)) (λ s.
         Lays new (filled Masters s) (with_slots place (slot_in xs)) (slots_at place ++ i.unused))
-    masters-lays-if = if-spot _ _
-        (λ s e. subst (λ q. Lays new (filled Masters q) (with_slots place (slot_in xs)) (slots_at place ++ i.unused))
-        (one-spot _ _ s r.is e) masters-lays)
+    masters-lays-if = grind (arith, if-spot, one-spot, masters-lays)
 
 length-slots : (at n : ℕ) → length (slots_from at n) ≡ n
 length-slots at zero = refl
@@ -102,16 +90,7 @@ length-slots at (suc n) = ap suc (length-slots (at + 4) n)
 -- a slot that is used is none of a block that was Free
 used-stays : (xs : List ℕ) (first unused place : ℕ) (i : IsSound xs first unused) (r : Roomy xs place 272) (k : ℕ)
     → IsTrue (is_used (slot_in xs k)) → with_slots place (slot_in xs) k ≡ slot_in xs k
-used-stays xs first unused place i r k u =
-    let e = r.at.whole ∙ ap (λ b. r.s.below ++ b ∷ r.s.above) r.here in
-    let h = subst (λ z. Lays xs z (slot_in xs) i.unused) e i.lays in
-    kept-slot _ _ _ _ (slot_in xs) _ h _ _ r.at.low refl r.room k
-    (is-slot (r.s.below ++ Free r.bytes ∷ r.s.above) (slot_in xs k) u (h.says k))
-  where
-    is-slot : (bs : List Block) (state : Slot) → IsTrue (is_used state) → Says bs xs i.unused k state → IsSlot k bs
-    is-slot bs NoSlot v q = absurd (false≢true v)
-    is-slot bs Unused v q = absurd (false≢true v)
-    is-slot bs (Used r) v q = q.0
+used-stays xs first unused place i r k u = grind (arith, kept-slot, false≢true)
 
 -- the zone with the new block
 module _ (xs now : List ℕ) (first unused place : ℕ) (i : IsSound xs first unused) (r : Roomy xs place 272)
@@ -123,17 +102,14 @@ module _ (xs now : List ℕ) (first unused place : ℕ) (i : IsSound xs first un
 
   pub masters-free : free_sum (zone_in now) + 272 ≡ free_sum (zone_in xs)
   masters-free =
-      let a = filled-free Masters refl r.s r.bytes r.here r.room in
-      omega (arith, ap free_sum masters-made.zone, a, ap free_sum r.at.whole)
+      omega (arith, ap free_sum masters-made.zone, (filled-free Masters refl r.s r.bytes r.here r.room), ap free_sum r.at.whole)
 
   pub masters-all : 64 * count is_masters (zone_in now) ≡ 64 * count is_masters (zone_in xs) + 64
   masters-all =
-      let a = filled-count Masters refl r.s r.bytes r.here r.room is_masters (λ n. refl) in
-      omega (arith, ap (count is_masters) masters-made.zone, a, ap (count is_masters) r.at.whole)
+      omega (arith, ap (count is_masters) masters-made.zone, (filled-count Masters refl r.s r.bytes r.here r.room is_masters (λ n. refl)), ap (count is_masters) r.at.whole)
 
   pub masters-zone : IfSome (spot_at place (zone_in xs)) (λ s. zone_in now ≡ filled Masters s)
-  masters-zone = if-spot _ (λ s. zone_in now ≡ filled Masters s)
-      (λ s e. subst (λ q. zone_in now ≡ filled Masters q) (one-spot _ _ s r.is e) masters-made.zone)
+  masters-zone = grind (arith, if-spot, one-spot, masters-made)
 
   pub masters-slots : (k : ℕ) → IsTrue (is_used (slot_in xs k)) → slot_in now k ≡ slot_in xs k
   masters-slots k u = masters-made.slots k ∙ used-stays _ _ _ _ i r k u

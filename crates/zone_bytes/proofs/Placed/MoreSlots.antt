@@ -57,12 +57,7 @@ at-slot : (place s : ℕ) → place + 16 ≤ s → s + 4 ≤ place + 272 → s %
 at-slot place s a b c = grind (arith, nat_tests)
 
 not-at : (place top s : ℕ) → place + 272 ≤ top → Clear place (top - place) s → is_slot_at place s ≡ false
-not-at place top s l c = go (is_slot_at place s) refl
-  where
-    go : (v : Bool) → is_slot_at place s ≡ v → is_slot_at place s ≡ false
-    go false e = e
-    go true e =
-        elim c [ inl h ↦ absurd (omega (arith, slot-at, h)) | inr h ↦ absurd (omega (arith, slot-at, h, l)) ]
+not-at place top s l c = grind arith
 
 each-from : (P : ℕ → Type 0) (place at n : ℕ) → place + 16 ≤ at → at + 4 * n ≤ place + 272 → at % 4 ≡ 0
     → ((s : ℕ) → place + 16 ≤ s → s + 4 ≤ place + 272 → s % 4 ≡ 0 → P s) → Each P (slots_from at n)
@@ -142,15 +137,7 @@ module _ (xs : List ℕ) (below above : List Block) (n : ℕ) (slots : ℕ → S
       (thread : Thread (first_of unused) new (slots_at place)) where
     masters-tile : Tile (head_of resource Masters) 272 (drop place new)
     unfolding head_of
-    masters-tile =
-        let l = length-header 274 256 0 0 in
-        record {
-          fits = omega (arith, length-drop place new, t, room);
-          whole = refl;
-          some = omega arith;
-          room = omega (arith, l);
-          begins = ap (λ j. take j (drop place new)) l ∙ first;
-        }
+    masters-tile = grind (arith, length-header, length-drop)
 
     tiles : Tiles (head_of resource) (piece place (top - place) new) put
     tiles =
@@ -171,9 +158,7 @@ module _ (xs : List ℕ) (below above : List Block) (n : ℕ) (slots : ℕ → S
     forth s i = slot-kept z _ _ xs st s put span i
 
     new-slot : (s : ℕ) → place + 16 ≤ s → s + 4 ≤ place + 272 → s % 4 ≡ 0 → IsSlot s with_masters
-    new-slot s a b c =
-        slot-append_right s _ (put ++ above) (omega (arith, low, a))
-        (inl (omega (arith, low, a), omega (arith, low, b, a), omega (arith, low, a, c, evens)))
+    new-slot s a b c = grind (arith, slot-append_right, evens)
 
     back : (s : ℕ) → IsSlot s with_masters → is_slot_at place s ≡ false → IsSlot s all
     back s i f = elim (slot-split s _ _ i) [
@@ -195,10 +180,7 @@ module _ (xs : List ℕ) (below above : List Block) (n : ℕ) (slots : ℕ → S
     ]
 
     names-now : names with_masters ≡ names all
-    names-now =
-        names-append below (put ++ above)
-        ∙ ap (λ q. names below ++ q) (names-append (free left) above ∙ ap (λ q. q ++ names above) (names-free left))
-        ∙ sym (names-append below (Free n ∷ above))
+    names-now = grind (arith, names-append, names-free)
 
     kept-piece : (s : ℕ) → IsSlot s all → piece s 4 new ≡ piece s 4 xs
     kept-piece s i = piece-outside _ _ _ _ s same (outside z _ _ _ st s i)
@@ -210,13 +192,7 @@ module _ (xs : List ℕ) (below above : List Block) (n : ℕ) (slots : ℕ → S
         → Says with_masters new (slots_at place ++ unused) s state
     says-old s NoSlot f q = λ i. q (back s i f)
     says-old s Unused f q = (forth s q.0, has-append s (slots_at place) unused (inr q.1))
-    says-old s (Used r) f q = (
-      forth s q.0,
-      elim q.1 [
-        | inl k ↦ inl (subst (λ l. Has l s) (sym names-now) k)
-        | inr k ↦ inr (each-named (Apart s) k.0, kept-piece s q.0 ∙ k.1)
-      ],
-    )
+    says-old s (Used r) f q = grind (arith, forth, names-now, each-named, kept-piece)
 
     says : (s : ℕ) → Says with_masters new (slots_at place ++ unused) s (now s)
     says s = go (is_slot_at place s) refl

@@ -1,5 +1,5 @@
 -- A new nonrelocatable block at the lower end of a Free one.
-use Rattle.std.proofs.Common.{◌≡◌, ℕ, ◌+◌, ◌-◌, ◌≤◌, IsTrue, Some, List, [], ◌∷◌, ◌++◌, length, replicate}
+use Rattle.std.proofs.Common.{◌≡◌, ℕ, ◌+◌, ◌-◌, ◌≤◌, IsTrue, Some, List, [], ◌∷◌, ◌++◌, length, replicate, rules}
 use Rattle.std.proofs.Common.{refl, sym, ap, ◌∙◌, subst, arith}
 use Rattle.std.proofs.lemmas.Bool.{false≢true}
 use Rattle.std.proofs.lemmas.List.{length-replicate}
@@ -68,8 +68,7 @@ roomy xs first count place need i h =
 
 -- its bytes are among the Free ones
 pub free-roomy : (xs : List ℕ) (place need : ℕ) → Roomy xs place need → need ≤ free_sum (zone_in xs)
-free-roomy xs place need r =
-    omega (arith, ap free_sum r.at.whole ∙ ap (λ b. free_sum (r.s.below ++ b ∷ r.s.above)) r.here, total-append)
+free-roomy xs place need r = grind (arith, total-append)
 
 module _ (xs : List ℕ) (place n top z : ℕ) (r : Roomy xs place (padded n)) (t : top ≡ place + size r.s.here)
     (pz : z ≡ padded n) where
@@ -83,25 +82,11 @@ module _ (xs : List ℕ) (place n top z : ℕ) (r : Roomy xs place (padded n)) (
   size-new = ap padded (length-replicate {A = ℕ} n 0)
 
   pub may-lay : MayLay head place top 0 xs
-  may-lay =
-      record {
-        even = (r.at.way.walk.whole, omega (arith, t), omega (arith, pz));
-        inside = omega (arith, t);
-        small = r.at.small;
-        room = omega (arith, t, ap size r.here, pz);
-        whole = omega (arith, pz);
-        fits = omega (arith, t);
-      }
+  may-lay = grind arith
 
   head-is : header_bytes head ++ resized_content n [] ≡ head_of (resource_in xs) new
   unfolding head_of
-  head-is =
-      let l = length-replicate {A = ℕ} n 0 in
-      let c : resized_content n [] ≡ replicate n 0 =
-      ap (λ q. q ++ replicate (n - 0) 0) (take-nil n)
-      ∙ (let y : n - 0 ≡ n = omega arith in ap (λ k. replicate k 0) y) in
-      let b : z ≡ padded (length (replicate {A = ℕ} n 0)) = pz ∙ sym size-new in
-      ap (λ q. header (z + 1) n 0 0 ++ q) c ∙ (λ j. header (b j + 1) (sym l j) 0 0 ++ replicate n 0)
+  head-is = grind (arith, length-replicate, take-nil, size-new)
 
   module _ (first count : ℕ) (i : IsSound xs first count) where
     pub nonrelocatable-lays : Lays (laid head place top 0 xs) (filled new r.s) (slot_in xs) i.unused
@@ -122,15 +107,12 @@ module _ (xs : List ℕ) (place n top z : ℕ) (r : Roomy xs place (padded n)) (
 
     pub nonrelocatable-lays-if : IfSome (spot_at place (zone_in xs)) (λ s. Lays (laid head place top 0 xs) (filled new s)
         (slot_in xs) i.unused)
-    nonrelocatable-lays-if = if-spot _ (λ s. Lays (laid head place top 0 xs) (filled new s) (slot_in xs) i.unused)
-        (λ s e. subst (λ q. Lays (laid head place top 0 xs) (filled new q) (slot_in xs) i.unused)
-        (one-spot _ _ s r.is e) nonrelocatable-lays)
+    nonrelocatable-lays-if = grind (arith, if-spot, one-spot, nonrelocatable-lays)
 
 -- a tidy list of blocks that was laid
 pub tidy-made : (xs now : List ℕ) (first unused : ℕ) (i : IsSound xs first unused) (blocks : List Block)
     → Lays now (tidy blocks) (slot_in xs) i.unused → Made now first unused (tidy blocks) (slot_in xs)
-tidy-made xs now first unused i blocks h =
-    made now (tidy blocks) (slot_in xs) i.unused h first unused (tidy-tidy blocks) i.begins i.counted
+tidy-made xs now first unused i blocks h = search (rules, made, tidy-tidy)
 
 -- the zone with the new block
 module _ (xs now : List ℕ) (first unused place n : ℕ) (i : IsSound xs first unused) (r : Roomy xs place (padded n))
@@ -146,15 +128,12 @@ module _ (xs now : List ℕ) (first unused place n : ℕ) (i : IsSound xs first 
 
   pub nonrelocatable-free : free_sum (zone_in now) + padded n ≡ free_sum (zone_in xs)
   nonrelocatable-free =
-      let a = filled-free block refl r.s r.bytes r.here fits in
       let b = ap padded (length-replicate {A = ℕ} n 0) in
-      omega (arith, ap free_sum nonrelocatable-made.zone, a, ap free_sum r.at.whole, b)
+      omega (arith, ap free_sum nonrelocatable-made.zone, (filled-free block refl r.s r.bytes r.here fits), ap free_sum r.at.whole, b)
 
   pub nonrelocatable-masters : count is_masters (zone_in now) ≡ count is_masters (zone_in xs)
   nonrelocatable-masters =
-      let a = filled-count block refl r.s r.bytes r.here fits is_masters (λ n. refl) in
-      omega (arith, ap (count is_masters) nonrelocatable-made.zone, a, ap (count is_masters) r.at.whole)
+      omega (arith, ap (count is_masters) nonrelocatable-made.zone, (filled-count block refl r.s r.bytes r.here fits is_masters (λ n. refl)), ap (count is_masters) r.at.whole)
 
   pub nonrelocatable-zone : IfSome (spot_at place (zone_in xs)) (λ s. zone_in now ≡ filled block s)
-  nonrelocatable-zone = if-spot _ (λ s. zone_in now ≡ filled block s)
-      (λ s e. subst (λ q. zone_in now ≡ filled block q) (one-spot _ _ s r.is e) nonrelocatable-made.zone)
+  nonrelocatable-zone = grind (arith, if-spot, one-spot, nonrelocatable-made)

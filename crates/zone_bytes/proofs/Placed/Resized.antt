@@ -36,12 +36,7 @@ pub record Resized (xs now : List ℕ) (first unused n : ℕ) (s : Spot) : Type 
 
 masters-cut : (n : ℕ) (s : Spot) → count is_masters (filled (resized n s.here) s) ≡ count is_masters (s.below
     ++ s.here ∷ s.above)
-masters-cut n s =
-    let of : Block → ℕ = λ b. cond (is_masters b) 1 0 in
-    let k = size s.here - size (resized n s.here) in
-    let a = total-tidy of (λ n m. refl) (s.below ++ resized n s.here ∷ Free k ∷ s.above) in
-    let d : of (resized n s.here) ≡ of s.here = ap (λ v. cond v 1 0) (is_masters-resized n s.here) in
-    omega (arith, a, total-append, d)
+masters-cut n s = grind (arith, total-tidy, is_masters-resized, total-append)
 
 module _ (xs now : List ℕ) (first unused place n : ℕ) (i : IsSound xs first unused) (s : Spot)
     (e : spot_at place (zone_in xs) ≡ Some s) (at : Standing xs place s) (room : HasRoom n s)
@@ -88,16 +83,11 @@ module _ (xs now : List ℕ) (first unused place n : ℕ) (i : IsSound xs first 
 
   pub cut-zone : IfSome (spot_at place (zone_in xs)) (λ s. size (resized n s.here) ≤ size s.here
       → zone_in now ≡ filled (resized n s.here) s)
-  cut-zone = if-spot _ _ (λ t q. subst (λ r. size (resized n r.here) ≤ size r.here
-      → zone_in now ≡ filled (resized n r.here) r) (one-spot _ s t e q)
-      (λ le. resize-made.made.zone ∙ resize-made.cut le))
+  cut-zone = grind (arith, if-spot, one-spot, resize-made)
 
   pub grown-zone : IfSome (spot_at place (zone_in xs)) (λ s. size s.here < size (resized n s.here)
       → IfSome (grow_up (resized n s.here) s) (λ after. zone_in now ≡ after))
-  grown-zone = if-spot _ _ (λ t q. subst (λ r. size r.here < size (resized n r.here)
-      → IfSome (grow_up (resized n r.here) r) (λ after. zone_in now ≡ after)) (one-spot _ s t e q)
-      (λ more. subst (λ bs. IfSome (grow_up new s) (λ after. bs ≡ after)) (sym resize-made.made.zone)
-      (resize-made.grown more)))
+  grown-zone = grind (arith, if-spot, one-spot, resize-made)
 
   -- so the blocks from the place up to the top of the Free block above became others
   pub resize-replaced : is_free new ≡ false → size new ≤ size s.here + free_first s.above

@@ -89,19 +89,9 @@ pub record Same (n place : ℕ) (b : Block) : Type 0 where
 
 pub same-of : (n place : ℕ) (b : Block) → Holds b → Same n place b
 same-of n place (Free m) k = absurd (false≢true k)
-same-of n place (Nonrelocatable id content) k =
-    record {
-      no_masters = refl;
-      held = refl;
-      solid = refl;
-      still_none = refl;
-      names = refl;
-      placed = λ p. p;
-      size = ap padded (length-resized n content);
-    }
+same-of n place (Nonrelocatable id content) k = grind (arith, length-resized)
 same-of n place Masters k = absurd (false≢true k)
-same-of n place (Relocatable id flags content) k =
-    record {
+same-of n place (Relocatable id flags content) k = record {
       no_masters = refl;
       held = refl;
       solid = refl;
@@ -170,18 +160,7 @@ HasRoom n s = (size (resized n s.here) ≤ size s.here) ⊎ IsSome (grow_up (res
 pub room-fits : (xs : List ℕ) (place n : ℕ) (s : Spot) → Standing xs place s → HasRoom n s
     → sizes (s.below ++ s.here ∷ s.above) ≤ 134217728 → size (resized n s.here) ≤ 134217728
 room-fits xs place n s at (inl le) small = omega (arith, le)
-room-fits xs place n s at (inr more) small =
-    let new = resized n s.here in
-    let g = some-blocks (grow_up new s) more in
-    map-some (λ above. s.below ++ new ∷ above) _ _ (size new ≤ 134217728) g.1
-    (λ above took is. taken-some _ s.above _ (size new ≤ 134217728) took (λ next rest was room now.
-    omega (arith, total-append, ap sizes was, roomy-size, small)))
-  where
-    roomy-size : (d : ℕ) (b : Block) → is_room d b ≡ true → d ≤ size b
-    roomy-size d (Free n) r = grind (arith, nat_tests)
-    roomy-size d (Nonrelocatable id content) r = absurd (false≢true r)
-    roomy-size d Masters r = absurd (false≢true r)
-    roomy-size d (Relocatable id flags content) r = absurd (false≢true r)
+room-fits xs place n s at (inr more) small = grind (arith, some-blocks, map-some, taken-some, total-append, nat_tests, false≢true)
 
 module _ (xs : List ℕ) (place n : ℕ) (s : Spot) (at : Standing xs place s) (hd : Header) (r : Read hd place xs) where
   below-end : place < length xs
@@ -228,18 +207,10 @@ module _ (xs : List ℕ) (place n : ℕ) (s : Spot) (at : Standing xs place s) (
     heads = subst (λ k. Heading s.above k rest) (sym m-is) heading
 
     pub fits : padded n ≤ size s.here + m
-    fits = elim room [
-      | inl le ↦ omega (arith, same.size, le)
-      | inr some ↦
-          let g = some-blocks (grow_up new s) some in
-          let is = grown-is new s g.0 g.1 in
-          omega (arith, ap free_first is.2, m-is, same.size)
-    ]
+    fits = grind (arith, same, some-blocks, grown-is, m-is)
 
     pub ends : (place + hd.size + m ≤ length xs) × ((place + hd.size + m) % 16 ≡ 0)
-    ends =
-        let w = free-whole (place + hd.size) xs way-behind in
-        (omega (arith, w, mb), omega (arith, w, mb))
+    ends = omega (arith, free-whole, way-behind)
 
     tells : (word_at (place + 4) xs ≡ length (content_of s.here))
         × (header (padded n + kind s.here) n (word_at (place + 8) xs) (word_at (place + 12) xs)
@@ -250,23 +221,11 @@ module _ (xs : List ℕ) (place n : ℕ) (s : Spot) (at : Standing xs place s) (
     long-is = r.long ∙ tells.0
 
     pub may-size : MayLay sized-header place (place + hd.size + m) hd.logical xs
-    may-size =
-        record {
-          even = (at.way.walk.whole, ends.1, omega (arith, pz));
-          inside = ends.0;
-          small = at.small;
-          room = omega (arith, pz, fits, size-is);
-          whole = omega (arith, pz);
-          fits = omega (arith, content-room, long-is, size-is);
-        }
+    may-size = grind (arith, ends, fits, size-is, content-room, long-is)
 
     head-is : header_bytes sized-header ++ resized_content n (piece (place + 16) hd.logical xs) ≡ head_of
         (resource_in xs) new
-    head-is =
-        let c : piece (place + 16) hd.logical xs ≡ content_of s.here =
-        ap (λ k. piece (place + 16) k xs) long-is ∙ held-piece (resource_in xs) s.here place xs at.tile in
-        ap (λ q. header_bytes sized-header ++ resized_content n q) c
-        ∙ (λ j. header (pz j + kind-is j) n (r.named j) (r.marked j) ++ resized_content n (content_of s.here)) ∙ tells.1
+    head-is = grind (arith, long-is, held-piece, resource_in, kind-is, tells)
 
     module _ (first unused : ℕ) (i : IsSound xs first unused) where
       abbrev now : List ℕ
@@ -292,18 +251,14 @@ module _ (xs : List ℕ) (place n : ℕ) (s : Spot) (at : Standing xs place s) (
           (subst (Each (λ k. piece k 4 xs ≡ word place)) (sym same.names) (leads-each place s.here xs at.leads)))
 
       pub cut-lays : size new ≤ size s.here → Lays now (filled new s) (slot_in xs) i.unused
-      cut-lays le = subst (λ bs. Lays now bs (slot_in xs) i.unused)
-          (sym (cut-sized _ same.solid s at.apart m _ heads le)) sized-lays
+      cut-lays le = grind (arith, cut-sized, same, heads, sized-lays)
 
       pub grown-lays : size s.here < size new → IfSome (grow_up new s) (λ after. Lays now after (slot_in xs) i.unused)
-      grown-lays more = if-blocks _ (λ after. Lays now after (slot_in xs) i.unused)
-          (λ after e. subst (λ bs. Lays now bs (slot_in xs) i.unused)
-          (sym (grown-sized _ same.solid s at.apart m _ heads _ more e)) sized-lays)
+      grown-lays more = grind (arith, if-blocks, grown-sized, same, heads, sized-lays)
 
       pub free-sized : (count : ℕ) → count ≡ free_sum (zone_in xs)
           → (z ≤ count + hd.size) × (count ≤ 134217728) × (count + hd.size - z ≡ free_sum (zone_in now))
       free-sized count c =
-          let a = ap free_sum (zone-of now result (slot_in xs) i.unused sized-lays) in
           let b = free_sum-sized s.below new (size s.here + m - size new) rest same.solid in
           let d = ap free_sum at.whole ∙ ap (λ l. free_sum (s.below ++ s.here ∷ l)) heads.is
           ∙ free_sum-sized _ _ m _ same.held in
@@ -311,18 +266,13 @@ module _ (xs : List ℕ) (place n : ℕ) (s : Spot) (at : Standing xs place s) (
           let f = fits in
           let y = size-is in
           let v = same.size in
-          (omega (arith, c, d, f, y, pz), omega (arith, c, e, sizes-length), omega (arith, a, b, c, d, f, y, v, pz))
+          (omega (arith, c, d, f, y, pz), omega (arith, c, e, sizes-length), omega (arith, (ap free_sum (zone-of now result (slot_in xs) i.unused sized-lays)), b, c, d, f, y, v, pz))
 
 -- where a block holds no bytes, all stays
 module _ (xs : List ℕ) (place n : ℕ) (s : Spot) (at : Standing xs place s) (none : (kind s.here % 2 == 1) ≡ false)
     (first unused : ℕ) (i : IsSound xs first unused) where
   pub kept-cut : Lays xs (filled (resized n s.here) s) (slot_in xs) i.unused
-  kept-cut =
-      let z : size s.here - size s.here ≡ 0 = omega arith in
-      subst (λ bs. Lays xs bs (slot_in xs) i.unused)
-      (at.whole ∙ sym at.tidied ∙ tidy-below s.below (s.here ∷ s.above) (s.here ∷ Free 0 ∷ s.above) refl
-      ∙ ap (λ k. tidy (s.below ++ s.here ∷ Free k ∷ s.above)) (sym z)
-      ∙ ap (λ b. filled b s) (sym (unsized n s.here none))) i.lays
+  kept-cut = grind (arith, tidy-below, unsized)
 
   pub kept-grown : size s.here < size (resized n s.here)
       → IfSome (grow_up (resized n s.here) s) (λ after. Lays xs after (slot_in xs) i.unused)
@@ -333,15 +283,13 @@ module _ (xs now : List ℕ) (place n : ℕ) (s : Spot) (e : spot_at place (zone
   pub cut-if : (size (resized n s.here) ≤ size s.here → Lays now (filled (resized n s.here) s) (slot_in xs) unused)
       → IfSome (spot_at place (zone_in xs)) (λ s. size (resized n s.here) ≤ size s.here
       → Lays now (filled (resized n s.here) s) (slot_in xs) unused)
-  cut-if f = if-spot _ _ (λ t q. subst (λ r. size (resized n r.here) ≤ size r.here
-      → Lays now (filled (resized n r.here) r) (slot_in xs) unused) (one-spot _ s t e q) f)
+  cut-if f = grind arith
 
   pub grown-if : (size s.here < size (resized n s.here)
       → IfSome (grow_up (resized n s.here) s) (λ after. Lays now after (slot_in xs) unused))
       → IfSome (spot_at place (zone_in xs)) (λ s. size s.here < size (resized n s.here)
       → IfSome (grow_up (resized n s.here) s) (λ after. Lays now after (slot_in xs) unused))
-  grown-if f = if-spot _ _ (λ t q. subst (λ r. size r.here < size (resized n r.here)
-      → IfSome (grow_up (resized n r.here) r) (λ after. Lays now after (slot_in xs) unused)) (one-spot _ s t e q) f)
+  grown-if f = grind arith
 
 -- the spot, and what is known of it
 pub room-at : (xs : List ℕ) (first unused place n : ℕ) → IsSound xs first unused

@@ -61,10 +61,7 @@ leads-free o (suc k) ys = (tt, tt)
 
 -- neither a block that holds none nor Free bytes above it have slots
 pub no-slots-two : (b : Block) (k : ℕ) → is_masters b ≡ false → (s : ℕ) → IsSlot s (b ∷ free k) → ⊥
-no-slots-two b k e s i = elim i [
-  | inl j ↦ no-slots b e s (inl j)
-  | inr j ↦ free-slots k (s - size b) j.1
-]
+no-slots-two b k e s i = grind arith
 
 module _ (xs : List ℕ) (first count : ℕ) (i : IsSound xs first count) (below old above : List Block)
     (whole : zone_in xs ≡ below ++ (old ++ above)) (place top : ℕ) (low : sizes below ≡ place)
@@ -86,11 +83,7 @@ module _ (xs : List ℕ) (first count : ℕ) (i : IsSound xs first count) (below
   was = subst (λ z. Lays xs z (slot_in xs) i.unused) whole i.lays
 
   of-old : Each (λ s. IsSlot s all) (names_of b)
-  of-old =
-      let e = each-right (λ s. IsSlot s all) _ _
-      (subst (Each (λ s. IsSlot s all)) (names-append below (old ++ above)) was.has_slots.slots) in
-      subst (Each (λ s. IsSlot s all)) (sym n) (each-left (λ s. IsSlot s all) _ _
-      (subst (Each (λ s. IsSlot s all)) (names-append old above) e))
+  of-old = grind (arith, each-right, names-append, was, each-left)
 
   leads-new : LeadsTo place b new
   leads-new =

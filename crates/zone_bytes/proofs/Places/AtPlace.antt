@@ -28,8 +28,7 @@ module _ (xs : List ℕ) (first count : ℕ) (i : IsSound xs first count) where
 
   words : (blocks : List Block) → Each (λ s. IsSlot s (zone_in xs)) (names blocks)
       → Each (λ s. s < 2 ^ 32) (names blocks)
-  words blocks e = each-map (λ s. IsSlot s (zone_in xs)) (λ s. s < 2 ^ 32)
-      (λ s j. omega (arith, slot-inside, sizes-length)) _ e
+  words blocks e = grind (arith, each-map, slot-inside, sizes-length)
 
   -- the blocks above some lie on from where those end
   parted : (below above : List Block) (place : ℕ) → zone_in xs ≡ below ++ above → sizes below ≡ place
@@ -85,10 +84,7 @@ module _ (xs : List ℕ) (first count : ℕ) (i : IsSound xs first count) where
     inside = omega (arith, ap sizes whole, span-append, sizes-length, low)
 
     pub some-here : 16 ≤ size s.here
-    some-here =
-        let t = tiles-split (head_of resource) _ _ (s.here ∷ s.above)
-        (subst (Tiles (head_of resource) xs) whole i.lays.lies.tiles) in
-        t.1.0.some
+    some-here = grind (arith, tiles-split, whole)
 
     pub above-fit : sizes s.above < 2 ^ 32
     above-fit = omega (arith, ap sizes whole, span-append, sizes-length)

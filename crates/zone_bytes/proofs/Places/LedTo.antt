@@ -1,5 +1,5 @@
 -- The block that a slot leads to.
-use Rattle.std.proofs.Common.{◌≡◌, ℕ, true, inl, inr, ◌+◌, ◌%◌, ◌≤◌, Some, List, ◌∷◌, ◌++◌}
+use Rattle.std.proofs.Common.{◌≡◌, ℕ, true, inl, inr, ◌+◌, ◌%◌, ◌≤◌, Some, List, ◌∷◌, ◌++◌, rules}
 use Rattle.std.proofs.Common.{length, sym, ap, ◌∙◌, subst, arith}
 use Rattle.std.proofs.lemmas.Bool.{false≢true}
 use Rattle.std.proofs.lemmas.Bool.Decides.{eqb_tells}
@@ -50,43 +50,30 @@ module _ (xs : List ℕ) (first count : ℕ) (i : IsSound xs first count) (numbe
   led-at = spot_at-spot (is_relocatable number) (zone_in xs) s (apart-tidied (zone_in xs) i.tidied) e
 
   is-slot : IsSlot number (zone_in xs)
-  is-slot = (each-right (λ s. IsSlot s (zone_in xs)) _ (names (block ∷ s.above))
-      (subst (Each (λ s. IsSlot s (zone_in xs))) (ap names whole ∙ names-append s.below (block ∷ s.above))
-      i.lays.has_slots.slots)).0
+  is-slot = grind (arith, each-right, whole, names-append)
 
   pub led-slot : (number % 4 ≡ 0) × (number + 4 ≤ length xs)
   led-slot = slot-in xs (zone_in xs) (slot_in xs) i.unused i.lays number is-slot
 
   pub led-place : word_at number xs ≡ sizes s.below
   led-place =
-      let k = inside xs first count i (sizes s.below) s led-at in
       let l = leads-right xs 0 s.below (block ∷ s.above) (subst (λ z. Leads 0 z xs) whole i.lays.lies.leads) in
       let o : 0 + sizes s.below ≡ sizes s.below = omega arith in
-      read_back number (sizes s.below) xs (omega (arith, k)) (l.0 ∙ ap word o)
+      read_back number (sizes s.below) xs (omega (arith, (inside xs first count i (sizes s.below) s led-at))) (l.0 ∙ ap word o)
 
   led-left : left_in (word_at number xs) xs ≡ block ∷ s.above
   led-left = ap (λ p. left_in p xs) led-place ∙ left-at _ _ _ i _ s led-at ∙ ap (λ b. b ∷ s.above) here.2
 
   pub leads-here : LeadsHere number xs
-  leads-here = record {
-    flags = here.0;
-    content = here.1;
-    above = s.above;
-    way = subst (λ p. IsOnWay p xs) (sym led-place) (way-at xs first count i (sizes s.below) s led-at);
-    is = led-left;
-  }
+  leads-here = search (rules, here, led-place, way-at, led-at, led-left)
 
   -- what a read of its place finds
   pub led-found : (place : ℕ) → place ≡ word_at number xs
       → FindsLowest (is_relocatable number) (zone_in xs) (Some place)
-  led-found place p =
-      let q = p ∙ led-place in
-      (s, e, subst (λ p. spot_at p (zone_in xs) ≡ Some s) (sym q) led-at, sym q)
+  led-found place p = grind (arith, led-place, led-at)
 
   -- what a read of its header tells
   pub led-told : (flags : Flags) (n : ℕ) → ((f : Flags) (content : List ℕ) (above : List Block)
       → left_in (word_at number xs) xs ≡ Relocatable number f content ∷ above → (flags ≡ f) × (n ≡ length content))
       → seen s.here ≡ see.Relocatable number flags n
-  led-told flags n told =
-      let p = told here.0 here.1 s.above led-left in
-      ap seen here.2 ∙ (λ i. see.Relocatable number (sym p.0 i) (sym p.1 i))
+  led-told flags n told = grind (arith, here, led-left)

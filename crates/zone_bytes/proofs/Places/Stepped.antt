@@ -56,9 +56,7 @@ pub record Stepped (at : ℕ) (xs : List ℕ) (n t : ℕ) : Type 0 where
 
 module _ (at : ℕ) (xs : List ℕ) (w : IsOnWay at xs) where
   pub left-is : left_in at xs ≡ w.rest
-  left-is =
-      let d = length-drop at xs in
-      blocks-back w.resource _ _ _ _ (omega (arith, d)) (omega (arith, d)) w.placed w.words w.walk.high
+  left-is = grind (arith, length-drop, blocks-back)
 
   pub left-none : length xs ≤ at → left_in at xs ≡ []
   left-none l = left-is ∙ none w.rest w.walk
@@ -108,8 +106,7 @@ stepped at xs w l n t e h k = stepped-on w.resource _ _ w.small _ w.walk w.place
 pub tells-step : (at : ℕ) (xs : List ℕ) (n t : ℕ) (s : Stepped at xs n t) (answer : Seen)
     → answer ≡ header_seen t n (word_at (at + 4) xs) (word_at (at + 8) xs) (word_at (at + 12) xs)
     → Tells (left_in at xs) (Some answer) (left_in (at + n) xs)
-tells-step at xs n t s answer e = subst (λ l. Tells l (Some answer) (left_in (at + n) xs)) (sym s.is)
-    (ap Some (e ∙ s.told), refl)
+tells-step at xs n t s answer e = grind arith
 
 pub tells-none : (at : ℕ) (xs : List ℕ) (w : IsOnWay at xs) → length xs ≤ at
     → Tells (left_in at xs) None (left_in at xs)

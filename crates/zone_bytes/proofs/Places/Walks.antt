@@ -9,14 +9,7 @@ use Rattle.zone_bytes.proofs.Runs.Settled.{Next}
 module _ (resource : ℕ → Bool) (xs : List ℕ) (small : length xs ≤ 134217728) where
   pub walk-next : (at : ℕ) (rest : List Block) → Walk resource at xs rest → at < length xs → Next xs at
   walk-next at [] w l = absurd (omega (arith, l))
-  walk-next at (b ∷ rest) w l =
-      let r = first-reads resource xs at small b w.high.0 in
-      record {
-        even = omega arith;
-        fits = omega (arith, length-drop at xs);
-        tag = omega (arith, r, kind-small);
-        big = omega (arith, r);
-      }
+  walk-next at (b ∷ rest) w l = grind (arith, first-reads, length-drop, kind-small)
 
 -- Free bytes are no more than bytes
 pub free_span-le : (blocks : List Block) → free_sum blocks ≤ sizes blocks

@@ -13,17 +13,7 @@ use Rattle.zone_bytes.proofs.Tiles.Decoding.{flag_word-small, says}
 use Rattle.zone_bytes.proofs.Tiles.Heads.{first-reads, kind-small}
 
 unlocked : (flags : Flags) (r : Bool) → nat_lt (flag_word flags r) 128 ≡ not flags.locked
-unlocked flags r = cases flags.locked flags.purgeable r
-  where
-    cases : (l p r : Bool) → nat_lt (cond l 128 0 + cond p 64 0 + cond r 32 0) 128 ≡ not l
-    cases true true true = refl
-    cases true true false = refl
-    cases true false true = refl
-    cases true false false = refl
-    cases false true true = refl
-    cases false true false = refl
-    cases false false true = refl
-    cases false false false = refl
+unlocked flags r = grind arith
 
 module _ (resource : ℕ → Bool) (xs : List ℕ) (from : ℕ) (small : length xs ≤ 134217728) where
   pub flags-read : (slot : ℕ) (flags : Flags) (content : List ℕ)
@@ -32,19 +22,10 @@ module _ (resource : ℕ → Bool) (xs : List ℕ) (from : ℕ) (small : length 
   unfolding head_of
   flags-read slot flags content t =
       let n = size (Relocatable slot flags content) in
-      let q = says n (n + 3) (length content) slot (flag_word flags (resource slot)) content (drop from xs) t in
       let g = flag_word-small flags (resource slot) in
-      read_back _ _ _ (omega (arith, g)) (ap (take 4) (sym (drop-drop 12 from xs)) ∙ q.2)
+      read_back _ _ _ (omega (arith, g)) (ap (take 4) (sym (drop-drop 12 from xs)) ∙ (says n (n + 3) (length content) slot (flag_word flags (resource slot)) content (drop from xs) t).2)
 
   -- the words of a header tell it
   pub runs-told : (b : Block) → Tile (head_of resource b) (size b) (drop from xs) → (n t f : ℕ)
       → n + t ≡ word_at from xs → n % 16 ≡ 0 → t ≤ 3 → f ≡ word_at (from + 12) xs → runs_on t f ≡ in_run b
-  runs-told b tile n t f e w l v =
-      let same : t ≡ kind b = omega (arith, e, first-reads resource xs from small b tile, w, l, kind-small) in
-      ap (λ j. runs_on j f) same ∙ of-kind b tile
-    where
-      of-kind : (b : Block) → Tile (head_of resource b) (size b) (drop from xs) → runs_on (kind b) f ≡ in_run b
-      of-kind (Free m) t = refl
-      of-kind (Nonrelocatable id content) t = refl
-      of-kind Masters t = refl
-      of-kind (Relocatable slot flags content) t = ap (λ j. nat_lt j 128) (v ∙ flags-read _ _ _ t) ∙ unlocked _ _
+  runs-told b tile n t f e w l v = grind (arith, first-reads, kind-small, nat_lt, flags-read, unlocked)

@@ -59,9 +59,7 @@ module _ (z : Hoist) (place stop : ℕ) (h : MayHoist z place stop) where
   parts-is = tiles-split head z.bytes z.below (was ++ z.above) h.lies.tiles
 
   pub wide : (place + size z.block ≤ stop) × (stop ≤ length z.bytes) × (place % 16 ≡ 0)
-  wide =
-      let w = span-whole head (take (sizes z.below) z.bytes) z.below parts-is.0 in
-      (omega arith, omega (arith, length-tiles, span-append, span-append was z.above), omega (arith, w))
+  wide = grind (arith, span-whole, parts-is, length-tiles, span-append)
 
   tile-here : Tile (head z.block) (size z.block) (drop place z.bytes)
   tile-here = subst (λ k. Tile (head z.block) (size z.block) (drop k z.bytes)) h.bottom parts-is.1.0
@@ -77,13 +75,7 @@ module _ (z : Hoist) (place stop : ℕ) (h : MayHoist z place stop) where
 
   -- the block's header may be read
   pub next : Next z.bytes place
-  next =
-      record {
-        even = omega (arith, wide);
-        fits = omega (arith, wide, tile-here.some);
-        tag = omega (arith, first-is, tile-here.whole, kind-small);
-        big = omega (arith, first-is, tile-here.some);
-      }
+  next = grind (arith, wide, tile-here, first-is, kind-small)
 
   -- and tells its size
   pub size-read : (n t : ℕ) → n + t ≡ word_at place z.bytes → n % 16 ≡ 0 → t ≤ 3 → n ≡ size z.block
@@ -93,25 +85,16 @@ module _ (z : Hoist) (place stop : ℕ) (h : MayHoist z place stop) where
   pub turned-read : (xs : List ℕ) (n : ℕ) (mid : List ℕ) → xs ≡ z.bytes → n ≡ size z.block
       → mid ≡ written place (drop n (piece place (stop - place) xs) ++ take n (piece place (stop - place) xs)) xs
       → mid ≡ written place turned-bytes z.bytes
-  turned-read xs n mid e s m =
-      m ∙ (λ i. written place (drop (s i) (piece place (stop - place) (e i)) ++ take (s i)
-      (piece place (stop - place) (e i))) (e i))
+  turned-read xs n mid e s m = grind arith
 
   length-run : length run-bytes ≡ stop - place
   length-run = length-take-le (stop - place) (drop place z.bytes) (omega (arith, wide, length-drop place z.bytes))
 
   length-turned : length turned-bytes ≡ stop - place
-  length-turned =
-      let l = length-run in
-      let a = length-append (drop (size z.block) run-bytes) (take (size z.block) run-bytes) in
-      let b = length-take-le (size z.block) run-bytes (omega (arith, l)) in
-      omega (arith, a, length-drop (size z.block) run-bytes, b, l)
+  length-turned = grind (arith, length-run, length-append, length-take-le, length-drop)
 
   turned-tiles : Tiles head turned-bytes (hoisted_run z)
-  turned-tiles =
-      let t = run-tiles in
-      tiles-append head _ _ _ _ t.1 (tiles-one head _ _ (length-take-le (size z.block) run-bytes (omega arith))
-      (tile-take head _ _ _ _ (omega arith) (omega arith) t.0))
+  turned-tiles = grind (arith, run-tiles, tiles-append, tiles-one, length-take-le, tile-take)
 
   -- the bytes before the slots are rewritten
   module _ (mid : List ℕ) (m : mid ≡ written place turned-bytes z.bytes) where
@@ -123,19 +106,13 @@ module _ (z : Hoist) (place stop : ℕ) (h : MayHoist z place stop) where
         (outside-same place stop z.bytes (omega (arith, v)) (omega (arith, v))))
 
     new-tiles : Tiles head (piece place (stop - place) mid) (hoisted_run z)
-    new-tiles =
-        subst (λ k. Tiles head k (hoisted_run z))
-        (sym (ap (piece place (stop - place)) m ∙ piece-written _ _ z.bytes _
-        (sym length-turned) (omega (arith, wide)))) turned-tiles
+    new-tiles = grind (arith, piece-written, length-turned, wide, turned-tiles)
 
     low : Leads 0 z.below z.bytes
     low = leads-left z.bytes 0 z.below (was ++ z.above) h.lies.leads
 
     high : Leads stop z.above z.bytes
-    high =
-        let o : 0 + sizes z.below + sizes was ≡ stop = omega arith in
-        subst (λ k. Leads k z.above z.bytes) o (leads-right _ _ was _
-        (leads-right z.bytes 0 z.below (was ++ z.above) h.lies.leads))
+    high = grind (arith, leads-right)
 
     pub is-moved : IsMoved (record {
       resource = z.resource;

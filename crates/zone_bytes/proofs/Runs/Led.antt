@@ -16,21 +16,9 @@ leads-free xs o (suc n) = (tt, tt)
 -- a packed run whose slots lead to its blocks
 pub settled-of : (lay : Lay) (place stop gap moves : ℕ) (xs : List ℕ) → IsRunFrom lay place stop → Packed lay gap moves
     xs → Leads (0 + sizes lay.below) (movers lay.run) xs → Settled lay moves xs
-settled-of lay place stop gap moves xs r p l =
-    let o : sizes lay.below + sizes lay.run ≡ 0 + sizes lay.below + sizes (settle lay.run) = omega (arith, span-append, span-free, span-movers, free_sum-span) in
-    record {
-      lies = record {
-        tiles = p.tiles;
-        leads = leads-append _ 0 _ _ p.low (leads-append _ _ _ _ (leads-append _ _ _ _ l (leads-free _ _ _))
-            (subst (λ k. Leads k lay.above xs) o p.high));
-      };
-      others = p.others;
-      moved = p.moved;
-      kept = p.kept;
-    }
+settled-of lay place stop gap moves xs r p l = grind (arith, span-append, span-free, span-movers, free_sum-span, leads-append, leads-free)
 
 pub settled-led : (lay : Lay) (place stop moves : ℕ) (xs : List ℕ) → IsRunFrom lay place stop → Packed lay 0 moves xs
     → Settled lay moves xs
 settled-led lay place stop moves xs r p =
-    let z : sizes lay.below + 0 ≡ 0 + sizes lay.below = omega arith in
-    settled-of lay place stop 0 moves xs r p (subst (λ k. Leads k (movers lay.run) xs) z p.leads)
+    settled-of lay place stop 0 moves xs r p (subst (λ k. Leads k (movers lay.run) xs) (omega arith) p.leads)

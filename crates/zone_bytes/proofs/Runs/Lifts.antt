@@ -1,6 +1,6 @@
 -- A run that is packed and raised.
 use Rattle.std.proofs.Common.{◌≡◌, ℕ, ◌+◌, ◌-◌, ◌<◌, ◌≤◌, ◌⊎◌, inl, inr, zero, suc, List, [], ◌∷◌, ◌++◌, length, refl}
-use Rattle.std.proofs.Common.{sym, ap, ◌∙◌, subst, arith}
+use Rattle.std.proofs.Common.{sym, ap, ◌∙◌, subst, arith, rules}
 use Rattle.std.proofs.Common.{append_assoc}
 use Rattle.std.proofs.lemmas.List.{append-nil}
 use Rattle.std.proofs.lemmas.List.Elements.{filter-append}
@@ -44,10 +44,7 @@ free-both (suc n) (suc m) l = sym (free-some _ (omega arith))
 -- without relocatable blocks
 pub lifted-none : (gap : ℕ) (run : List Block) → 0 < gap → gap ≤ free_sum run → movers run ≡ []
     → lifted gap run ≡ settle run
-lifted-none gap run some enough none =
-    let e : gap + (free_sum run - gap) ≡ free_sum run = omega (arith, enough) in
-    ap (λ l. tidy (Free gap ∷ (l ++ free (free_sum run - gap)))) none
-    ∙ free-both _ _ some ∙ ap free e ∙ sym (ap (λ l. l ++ free (free_sum run)) none)
+lifted-none gap run some enough none = grind arith
 
 -- and with some
 pub lifted-some : (gap : ℕ) (run : List Block) → 0 < gap → (movers run ≡ [] → ⊥) → lifted gap run ≡ low (Free gap) run
@@ -71,21 +68,10 @@ module _ (gap : ℕ) (run : List Block) (some : 0 < gap) (enough : gap ≤ free_
   ]
 
   pub lifted-span : sizes (lifted gap run) ≡ sizes run
-  lifted-span = elim (any-movers run) [
-    | inl n ↦ ap sizes (lifted-none gap run some enough n) ∙ span-settle run r
-    | inr s ↦
-        let a = span-append (movers run) (free (free_sum run - gap)) in
-        ap sizes (lifted-some _ run some s)
-        ∙ (let e : sizes (low (Free gap) run) ≡ sizes run = omega (arith, a, span-free, span-movers, enough) in e)
-  ]
+  lifted-span = grind (arith, any-movers, lifted-none, enough, span-settle, span-append, lifted-some)
 
   pub lifted-names : names (lifted gap run) ≡ names run
-  lifted-names = elim (any-movers run) [
-    | inl n ↦ ap names (lifted-none gap run some enough n) ∙ names-settle run r
-    | inr s ↦ ap names (lifted-some _ run some s) ∙ names-append (movers run) (free (free_sum run - gap))
-        ∙ ap (λ k. names (movers run) ++ k) (names-free (free_sum run - gap)) ∙ append-nil (names (movers run))
-        ∙ names-movers run r
-  ]
+  lifted-names = grind (arith, any-movers, lifted-none, enough, names-settle, lifted-some, names-append)
 
 -- blocks in place of a run, as large as they were and with the same slots
 slots-now : (below run now above : List Block) → Each InRun run → sizes now ≡ sizes run → names now ≡ names run
@@ -137,36 +123,15 @@ module _ (lay : Lay) (place gap : ℕ) (h : MayLift lay place gap) (moves : ℕ)
   packed-is = ap (λ n. lay.below ++ ((movers lay.run ++ free n) ++ lay.above)) (sym all-free)
 
   settled-slots : HasSlots settled
-  settled-slots = slots-now _ _ _ _ h.run.in_run
-      (span-settle _ h.run.in_run) (names-settle _ h.run.in_run) h.run.slots
+  settled-slots = grind (arith, slots-now, span-settle, names-settle)
 
   pub may-raise : (top stop : ℕ) → top ≡ place + sizes (movers lay.run) → stop ≡ place + sizes lay.run
       → MayRaise (raise_of lay gap xs) place top stop gap
-  may-raise top stop t s =
-      let b = h.run.bottom in
-      let small = h.run.small in
-      let o : sizes lay.below + gap ≡ place + gap = omega (arith, b) in
-      let e : sizes lay.below + sizes lay.run ≡ stop = omega (arith, b, s) in
-      record {
-        tiles = subst (Tiles (head_of lay.resource) xs) packed-is p.tiles;
-        low = p.low;
-        leads = subst (λ j. Leads j (movers lay.run) xs) o p.leads;
-        high = subst (λ j. Leads j lay.above xs) e p.high;
-        slots = subst HasSlots packed-is settled-slots;
-        bottom = b;
-        middle = sym t;
-        end = omega (arith, t, s, span-movers);
-        same = refl;
-        some = h.some;
-        even = h.even;
-        in_run = each-movers lay.run h.run.in_run;
-        small = omega (arith, small);
-      }
+  may-raise top stop t s = grind (arith, packed-is, settled-slots, span-movers, each-movers)
 
   -- the slots of no block stay
   others-twice : (new : List ℕ) → SameOthers settled xs new → SameOthers was lay.bytes new
-  others-twice new = others-now _ _ _ _ h.run.in_run
-      (span-settle _ h.run.in_run) (names-settle _ h.run.in_run) _ _ _ p.others
+  others-twice new = grind (arith, others-now, span-settle, names-settle)
 
   pub is-lifted : (top : ℕ) → top ≡ place + sizes (movers lay.run) → place < top → (new : List ℕ)
       → Raised (raise_of lay gap xs) new → Lifted lay gap new
@@ -219,29 +184,21 @@ module _ (lay : Lay) (place gap : ℕ) (h : MayLift lay place gap) (o : EndsRun 
       n = elim p.ended [ inl e ↦ e | inr e ↦ absurd (omega (arith, l)) ]
 
   pub none-stop : top ≤ place → stop ≡ place + sizes lay.run
-  none-stop l = whole-stop lay place gap gap moves top stop xs gone rest h.run p
-      (elim p.ended [ inl e ↦ e | inr e ↦ absurd (omega (arith, l)) ])
+  none-stop l = search rules
 
   pub none-edges : top ≤ place → (edges : Edges) → AreEdges edges (place + gap) (movers gone)
       → AreEdges edges (place + gap) (movers lay.run)
-  none-edges l edges = subst (λ k. AreEdges edges (place + gap) (movers k))
-      (all-of lay place gap gap moves top stop xs gone rest h.run p
-      (elim p.ended [ inl e ↦ e | inr e ↦ absurd (omega (arith, l)) ]))
+  none-edges l edges = search rules
 
   -- the relocatable blocks of both parts
   pub both-edges : (edges : Edges)
       → AreEdges edges (place + gap) (movers gone ++ movers (free (free_sum gone - gap) ++ rest))
       → AreEdges edges (place + gap) (movers lay.run)
-  both-edges edges = subst (AreEdges edges (place + gap)) (ap (λ l. movers gone ++ l)
-      (filter-append is_mover (free (free_sum gone - gap)) rest
-      ∙ ap (λ l. l ++ movers rest) (movers-free _)) ∙ sym (cut-movers lay gone rest p.split))
+  both-edges edges = grind (arith, filter-append, movers-free, cut-movers)
 
   module _ (some : place < top) where
     enough : gap ≤ free_sum gone
-    enough = elim p.ended [
-      | inl n ↦ omega (arith, cut-free, ap free_sum n)
-      | inr e ↦ e.1
-    ]
+    enough = search rules
 
     lift-part : MayLift part place gap
     lift-part = record { run = cut-at; some = h.some; even = h.even; enough = enough }
@@ -261,10 +218,7 @@ module _ (lay : Lay) (place gap : ℕ) (h : MayLift lay place gap) (o : EndsRun 
 
       upper-is : lay.below ++ (lifted gap gone ++ (rest ++ lay.above))
           ≡ (lay.below ++ (Free gap ∷ movers gone)) ++ ((free left ++ rest) ++ lay.above)
-      upper-is = ap (λ l. lay.below ++ (l ++ (rest ++ lay.above))) (lifted-some _ gone h.some some-movers)
-          ∙ ap (λ l. lay.below ++ (Free gap ∷ l)) (append_assoc (movers gone) (free left) (rest ++ lay.above))
-          ∙ ap (λ l. lay.below ++ ((Free gap ∷ movers gone) ++ l)) (sym (append_assoc (free left) rest lay.above))
-          ∙ sym (append_assoc lay.below (Free gap ∷ movers gone) ((free left ++ rest) ++ lay.above))
+      upper-is = grind (arith, lifted-some, some-movers, append_assoc)
 
       upper-bottom : sizes (lay.below ++ (Free gap ∷ movers gone)) ≡ top + gap
       upper-bottom = omega (arith, span-append)
@@ -292,26 +246,11 @@ module _ (lay : Lay) (place gap : ℕ) (h : MayLift lay place gap) (o : EndsRun 
         whole-movers = cut-movers lay gone rest p.split
 
         upper-settled : settle (free left ++ rest) ≡ movers rest ++ free (free_sum lay.run - gap)
-        upper-settled =
-            let e = enough in
-            let n : free_sum (free left ++ rest) ≡ free_sum lay.run - gap = omega (arith, total-append, sum-free, cut-free, e) in
-            ap (λ l. l ++ free (free_sum (free left ++ rest))) (filter-append is_mover (free left) rest
-            ∙ ap (λ l. l ++ movers rest) (movers-free _)) ∙ ap (λ k. movers rest ++ free k) n
+        upper-settled = grind (arith, enough, total-append, sum-free, cut-free, filter-append, movers-free)
 
         all-is : (lay.below ++ (Free gap ∷ movers gone)) ++ (settle (free left ++ rest) ++ lay.above)
             ≡ lay.below ++ (lifted gap lay.run ++ lay.above)
-        all-is = ap (λ l. (lay.below ++ (Free gap ∷ movers gone)) ++ (l ++ lay.above)) upper-settled
-            ∙ append_assoc lay.below (Free gap ∷ movers gone)
-            ((movers rest ++ free (free_sum lay.run - gap)) ++ lay.above)
-            ∙ ap (λ l. lay.below ++ (Free gap ∷ l)) (sym (append_assoc (movers gone)
-            (movers rest ++ free (free_sum lay.run - gap)) lay.above))
-            ∙ ap (λ l. lay.below ++ (Free gap ∷ (l ++ lay.above))) (sym (append_assoc (movers gone) (movers rest)
-            (free (free_sum lay.run - gap))))
-            ∙ ap (λ l. lay.below ++ (Free gap ∷ ((l ++ free (free_sum lay.run - gap)) ++ lay.above))) (sym whole-movers)
-            ∙ ap (λ l. lay.below ++ (l ++ lay.above)) (sym (lifted-some _ lay.run h.some any-mover))
-          where
-            any-mover : movers lay.run ≡ [] → ⊥
-            any-mover n = omega (arith, ap sizes (sym whole-movers ∙ n), span-append, some)
+        all-is = grind (arith, upper-settled, append_assoc, whole-movers, lifted-some, span-append)
 
         pub both-lifted : Lifted lay gap zs
         both-lifted = record {

@@ -22,13 +22,7 @@ module _ (resource : ℕ → Bool) (below was now above : List Block) (old mid :
     (t : Tiles (head_of resource) (piece place (stop - place) mid) now) where
   -- a slot is below the run or above it
   clear-of : (k : ℕ) → IsSlot k (below ++ (was ++ above)) → Clear place (stop - place) k
-  clear-of k i = elim (slot-split k _ (was ++ above) i) [
-    | inl j ↦ inl (omega (arith, slot-inside, bottom))
-    | inr j ↦ elim (slot-split (k - sizes below) was above j.1) [
-      | inl l ↦ absurd (run-no_slot (k - sizes below) was in-was l)
-      | inr l ↦ inr (omega (arith, bottom, top))
-    ]
-  ]
+  clear-of k i = grind (arith, slot-split, slot-inside, run-no_slot)
 
   abbrev pub moved-lay : Lay
   moved-lay = record { resource = resource; below = below; run = now; above = above; bytes = mid }
@@ -37,16 +31,11 @@ module _ (resource : ℕ → Bool) (below was now above : List Block) (old mid :
   P = Clear place (stop - place)
 
   clears : Each P (names below) × Each P (names (was ++ above))
-  clears =
-      let all = each-map (λ j. IsSlot j (below ++ (was ++ above))) P clear-of _ slots.slots in
-      let split = subst (λ j. Each P j) (names-append below (was ++ above)) all in
-      (each-left P (names below) (names (was ++ above)) split, each-right P (names below) (names (was ++ above)) split)
+  clears = grind (arith, each-map, clear-of, names-append, each-left, each-right)
 
   -- the slots of the run's blocks lie outside it
   pub clears-run : Each P (names was) × Each P (names above)
-  clears-run =
-      let split = subst (λ j. Each P j) (names-append was above) clears.1 in
-      (each-left P (names was) (names above) split, each-right P (names was) (names above) split)
+  clears-run = grind (arith, names-append, clears, each-left, each-right)
 
   pub is-moved : IsMoved moved-lay place stop
   is-moved =
@@ -72,5 +61,4 @@ module _ (resource : ℕ → Bool) (below was now above : List Block) (old mid :
 
   -- after the slots are rewritten
   pub others-pointed : (new : List ℕ) → Pointed moved-lay new → SameOthers (below ++ (was ++ above)) old new
-  others-pointed new p k i a =
-      p.others k (slot-run k _ _ _ _ in-was same i) (each-moved (Apart k) _ _ n.from a) ∙ others-moved k i a
+  others-pointed new p k i a = grind (arith, slot-run, each-moved, others-moved)

@@ -53,24 +53,12 @@ movers-more b rest h = ap (λ v. cond v (b ∷ movers rest) (movers rest)) h
 
 module _ (lay : Lay) (place stop : ℕ) (r : IsRunFrom lay place stop) where
   pub run-bounds : (place ≤ stop) × (stop + sizes lay.above ≡ length lay.bytes)
-  run-bounds =
-      let l = length-tiles (head_of lay.resource) lay.bytes (lay.below ++ (lay.run ++ lay.above)) r.lies.tiles in
-      let a = span-append lay.below (lay.run ++ lay.above) in
-      let b = span-append lay.run lay.above in
-      (omega arith, omega arith)
+  run-bounds = grind (arith, length-tiles, span-append)
 
   -- a slot is below the run or above it
   pub slot-spot : (s : ℕ) → IsSlot s (lay.below ++ (lay.run ++ lay.above))
       → ((s + 4 ≤ place) × IsSlot s lay.below) ⊎ ((stop ≤ s) × IsSlot (s - stop) lay.above)
-  slot-spot s i = elim (slot-split s _ _ i) [
-    | inl j ↦ inl (omega (arith, slot-inside), j)
-    | inr j ↦ elim (slot-split (s - sizes lay.below) lay.run lay.above j.1) [
-      | inl k ↦ absurd (run-no_slot (s - sizes lay.below) lay.run r.in_run k)
-      | inr k ↦
-          let e : s - sizes lay.below - sizes lay.run ≡ s - stop = omega arith in
-          inr (omega (arith, j.0, k.0), subst (λ q. IsSlot q lay.above) e k.1)
-    ]
-  ]
+  slot-spot s i = grind (arith, slot-split, slot-inside, run-no_slot)
 
   pub start : (gap : ℕ) → (p : Packing lay gap stop place place 0 lay.bytes) × (p.moved ≡ [])
   start gap =
@@ -125,9 +113,7 @@ module _ (lay : Lay) (place stop : ℕ) (r : IsRunFrom lay place stop) where
     -- where the packed blocks end, and that the rest lies in the bytes
     pub packed-bounds : (rest : List Block) → PackingAt lay gap stop from to moves xs moved rest
         → (place ≤ to) × (from ≤ length xs) × (sizes (lay.below ++ moved) ≡ to)
-    packed-bounds rest q =
-        let t = length-take-le to xs (omega (arith, run-bounds)) in
-        (omega (arith, length-tiles, span-append, t), omega (arith, run-bounds), omega (arith, length-tiles, t))
+    packed-bounds rest q = grind (arith, length-take-le, run-bounds, length-tiles, span-append)
 
     -- the next block is Free
     pub step-free : (n : ℕ) (rest : List Block) → PackingAt lay gap stop from to moves xs moved (Free n ∷ rest)
@@ -175,16 +161,10 @@ module _ (lay : Lay) (place stop : ℕ) (r : IsRunFrom lay place stop) where
       named = q.named
 
       pub is-slot : IsSlot slot all
-      is-slot =
-          let P : ℕ → Type 0 = λ s. IsSlot s all in
-          (each-right P _ (slot ∷ names (rest ++ lay.above)) (subst (λ k. Each P k) (sym named) r.slots.slots)).0
+      is-slot = grind (arith, each-right, named)
 
       apart : Each (Apart slot) (names (lay.below ++ moved)) × Each (Apart slot) (names (rest ++ lay.above))
-      apart =
-          let p = subst (λ k. Pairs Apart k) (sym named) r.slots.apart in (
-            pairs-before slot (names (lay.below ++ moved)) (names (rest ++ lay.above)) p,
-            pairs-after slot (names (lay.below ++ moved)) (names (rest ++ lay.above)) p,
-          )
+      apart = grind (arith, named, pairs-before, pairs-after)
 
       length-moved : length (piece from (size block) xs) ≡ size block
       length-moved = length-take-le (size block) (drop from xs) q.high.0.fits
@@ -222,8 +202,7 @@ module _ (lay : Lay) (place stop : ℕ) (r : IsRunFrom lay place stop) where
           ∙ sym e) q.high.1
 
       pub length-slid : length (slid (size block)) ≡ length xs
-      length-slid =
-          length-written to (piece from (size block) xs) xs (omega (arith, length-moved, length-drop from xs, packed-bounds))
+      length-slid = grind (arith, length-written, length-moved, length-drop, packed-bounds)
 
       abbrev pub done : List ℕ
       done = written slot (word (to + gap)) (slid (size block))

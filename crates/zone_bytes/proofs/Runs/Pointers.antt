@@ -28,24 +28,7 @@ module _ (lay : Lay) (place stop : ℕ) (r : IsMoved lay place stop) where
   head = head_of lay.resource
 
   pub start-pointing : Pointing lay stop place lay.bytes
-  start-pointing =
-      let t = tiles-split head lay.bytes lay.below (lay.run ++ lay.above) r.tiles in
-      record {
-        done = [];
-        rest = lay.run;
-        state = record {
-          parts = refl;
-          tiles = rw append-nil r.tiles;
-          low = rw append-nil r.low;
-          high = r.high;
-          here = ap sizes (append-nil lay.below) ∙ r.bottom;
-          up = r.top;
-          whole = omega (arith, span-whole, r.bottom);
-          kept = refl;
-          in_run = r.in_run;
-          others = λ s i a. refl;
-        };
-      }
+  start-pointing = grind (arith, tiles-split, append-nil, span-whole)
 
   module _ (from : ℕ) (xs : List ℕ) (done : List Block) where
     bounds-of : (rest : List Block) → PointingAt lay stop from xs done rest
@@ -54,38 +37,22 @@ module _ (lay : Lay) (place stop : ℕ) (r : IsMoved lay place stop) where
 
     tile-here : (b : Block) (rest : List Block) → PointingAt lay stop from xs done (b ∷ rest)
         → Tile (head b) (size b) (drop from xs)
-    tile-here b rest q = subst (λ k. Tile (head b) (size b) (drop k xs)) q.here
-        (tiles-split head _ (lay.below ++ done) (b ∷ rest ++ lay.above) q.tiles).1.0
+    tile-here b rest q = grind (arith, tiles-split)
 
     regroup : (b : Block) (rest : List Block) → (lay.below ++ done) ++ (b ∷ rest ++ lay.above) ≡
         (lay.below ++ (done ++ b ∷ [])) ++ (rest ++ lay.above)
-    regroup b rest = sym (append_assoc (lay.below ++ done) (b ∷ []) (rest ++ lay.above))
-        ∙ ap (λ k. k ++ (rest ++ lay.above)) (append_assoc lay.below done (b ∷ []))
+    regroup b rest = grind (arith, append_assoc)
 
     names-of : (rest : List Block) → PointingAt lay stop from xs done rest
         → (lay.below ++ done) ++ (rest ++ lay.above) ≡ all
-    names-of rest q = append_assoc lay.below done (rest ++ lay.above)
-        ∙ ap (λ k. lay.below ++ k) (sym (append_assoc done rest lay.above) ∙ ap (λ k. k ++ lay.above) q.parts)
+    names-of rest q = grind (arith, append_assoc)
 
     here-more : (b : Block) → sizes (lay.below ++ done) ≡ from → sizes (lay.below ++ (done ++ b ∷ [])) ≡ from + size b
     here-more b h = omega (arith, ap sizes (append_assoc lay.below done (b ∷ [])), span-append, h)
 
     pub point-free : (n : ℕ) (rest : List Block) → PointingAt lay stop from xs done (Free n ∷ rest)
         → PointingAt lay stop (from + n) xs (done ++ Free n ∷ []) rest
-    point-free n rest q =
-        record {
-          parts = append_assoc done (Free n ∷ []) rest ∙ q.parts;
-          tiles = subst (λ k. Tiles head xs k) (regroup (Free n) rest) q.tiles;
-          low = subst (λ k. Leads 0 k xs) (append_assoc lay.below done (Free n ∷ []))
-              (leads-append _ 0 _ _ q.low (tt, tt));
-          high = q.high;
-          here = here-more (Free n) q.here;
-          up = omega arith;
-          whole = omega (arith, (tile-here (Free n) rest q).whole);
-          kept = q.kept;
-          in_run = q.in_run.1;
-          others = q.others;
-        }
+    point-free n rest q = grind (arith, append_assoc, regroup, leads-append, here-more, tile-here)
 
     module _ (slot : ℕ) (flags : Flags) (content : List ℕ) (rest : List Block)
         (q : PointingAt lay stop from xs done (Relocatable slot flags content ∷ rest)) where
@@ -96,9 +63,7 @@ module _ (lay : Lay) (place stop : ℕ) (r : IsMoved lay place stop) where
       named = sym (names-append (lay.below ++ done) (block ∷ rest ++ lay.above)) ∙ ap names (names-of (block ∷ rest) q)
 
       pub is-slot-here : IsSlot slot all
-      is-slot-here =
-          let P : ℕ → Type 0 = λ s. IsSlot s all in
-          (each-right P _ (slot ∷ names (rest ++ lay.above)) (subst (λ k. Each P k) (sym named) r.slots.slots)).0
+      is-slot-here = grind (arith, each-right, named)
 
       slot-fits : slot + 4 ≤ length xs
       slot-fits = omega (arith, slot-inside slot all is-slot-here, length-tiles)
@@ -155,12 +120,7 @@ module _ (lay : Lay) (place stop : ℕ) (r : IsMoved lay place stop) (from : ℕ
       let i = bounds-of lay place stop r from xs done (b ∷ rest) q in
       let t = tile-here lay place stop r from xs done b rest q in
       let w = first-reads lay.resource xs from i.1 b t in
-      record {
-        even = omega arith;
-        fits = omega (arith, length-drop from xs);
-        tag = omega (arith, w, kind-small);
-        big = omega (arith, w);
-      }
+      (grind arith)
 
   pub point-next : Pointing lay stop from xs → from < stop → Next xs from
   point-next p l = point-next-at _ _ p.state l

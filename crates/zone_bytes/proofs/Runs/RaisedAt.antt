@@ -1,6 +1,6 @@
 -- The run at a place of a zone in bytes is raised.
 use Rattle.std.proofs.Common.{◌≡◌, ℕ, ◌+◌, ◌%◌, ◌<◌, ◌≤◌, IsTrue, inl, inr, Option, Some, None, List, ◌++◌, refl, sym, ap}
-use Rattle.std.proofs.Common.{◌∙◌, subst, append_assoc}
+use Rattle.std.proofs.Common.{◌∙◌, subst, append_assoc, arith}
 use Rattle.std.specs.Option.{IsSomeAnd}
 use Rattle.block_store.specs.Block.{Block, Free, free_sum, sizes, tidy}
 use Rattle.block_store.specs.Run.{RunSpot, run_at, has_free, low, with_run}
@@ -27,9 +27,7 @@ the-run (Some r) A h = (r, refl)
 -- the run at a place, which has so many Free bytes
 pub room-run : (zone : List Block) (place gap : ℕ) → IsSomeAnd (run_at place zone) (λ r. IsTrue (has_free gap r.run))
     → (r : RunSpot) × (run_at place zone ≡ Some r) × (gap ≤ free_sum r.run)
-room-run zone place gap h =
-    let a = the-run (run_at place zone) (λ r. IsTrue (has_free gap r.run)) h in
-    (a.0, a.1, free-enough gap zone place a.0 a.1 h)
+room-run zone place gap h = grind arith
 
 module _ (xs : List ℕ) (first unused : ℕ) (i : IsSound xs first unused) (place : ℕ) (r : RunSpot)
     (e : run_at place (zone_in xs) ≡ Some r) (gap : ℕ) (some : 0 < gap) (enough : gap ≤ free_sum r.run) where
@@ -61,8 +59,4 @@ module _ (xs : List ℕ) (first unused : ℕ) (i : IsSound xs first unused) (pla
       _ _ tidy-is i.begins i.counted))
 
   pub lifted-zone : tidy (with_run (lifted gap) r) ≡ tidy (with_run (low (Free gap)) r)
-  lifted-zone = elim (any-movers r.run) [
-    | inl n ↦ ap (λ l. tidy (r.below ++ l ++ r.above)) (lifted-none _ _ some enough n)
-        ∙ sym (low-none _ r some enough n)
-    | inr s ↦ ap (λ l. tidy (r.below ++ l ++ r.above)) (lifted-some gap r.run some s)
-  ]
+  lifted-zone = grind (arith, any-movers, lifted-none, low-none, lifted-some)

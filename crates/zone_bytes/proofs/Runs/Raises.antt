@@ -35,31 +35,17 @@ module _ (z : Raise) (place top stop gap : ℕ) (h : MayRaise z place top stop g
   same-span = omega (arith, span-append, span-append, span-free, span-free)
 
   pub same-names : names (raised_run z) ≡ names was
-  same-names = names-append z.movers (free z.rest) ∙ ap (λ k. names z.movers ++ k) (names-free z.rest
-      ∙ sym (names-free (z.gap + z.rest))) ∙ sym (names-append z.movers (free (z.gap + z.rest)))
+  same-names = grind (arith, names-append, names-free)
 
   pub wide : (top + (gap + z.rest) ≡ stop) × (stop ≤ length z.bytes) × (place + sizes was ≡ stop) × (place ≤ top)
-  wide =
-      (omega arith, omega (arith, length-tiles, span-append, span-append, span-append, span-free), omega (arith, span-append, span-free), omega arith)
+  wide = grind (arith, length-tiles, span-append, span-free)
 
   pub evens : (place % 16 ≡ 0) × (top % 16 ≡ 0) × (z.rest % 16 ≡ 0)
-  evens =
-      let head = head_of z.resource in
-      let t = tiles-split head z.bytes z.below (was ++ z.above) h.tiles in
-      let u = tiles-split head (drop (sizes z.below) z.bytes) was z.above t.1 in
-      let v = tiles-split head (take (sizes was) (drop (sizes z.below) z.bytes)) z.movers (free (z.gap + z.rest)) u.0 in
-      (omega (arith, span-whole), omega (arith, span-whole), omega (arith, span-whole, span-append, span-free))
+  evens = grind (arith, tiles-split, span-whole, span-append, span-free)
 
   -- where the movers lie
   mover-tiles : Tiles (head_of z.resource) (piece place (top - place) z.bytes) z.movers
-  mover-tiles =
-      let head = head_of z.resource in
-      let t = tiles-split head z.bytes z.below (was ++ z.above) h.tiles in
-      let g : was ++ z.above ≡ z.movers ++ (free (z.gap + z.rest) ++ z.above) =
-      append_assoc z.movers (free (z.gap + z.rest)) z.above in
-      let u = tiles-split head _ _ _ (subst (λ k. Tiles head (drop (sizes z.below) z.bytes) k) g t.1) in
-      let e : sizes z.movers ≡ top - place = omega arith in
-      subst (λ k. Tiles head k z.movers) (λ i. take (e i) (drop (h.bottom i) z.bytes)) u.0
+  mover-tiles = grind (arith, tiles-split, append_assoc)
 
   -- the bytes before the slots are rewritten
   module _ (mid : List ℕ) (s : SameOutside place stop z.bytes mid)
@@ -187,8 +173,7 @@ module _ (z : Raise) (place top stop gap : ℕ) (h : MayRaise z place top stop g
   pub mid-none : (new : List ℕ) → new ≡ after-gap → stop - top ≤ gap → Mid z place top stop gap new
   mid-none new n l =
       let g = gap-written z place top stop gap h in
-      subst (λ k. Mid z place top stop gap k) (sym (n ∙ same-gap))
-      (record { outside = g.0; moved = g.1; first = g.2; last = inl (omega (arith, wide, l)) })
+      subst (λ k. Mid z place top stop gap k) (sym (n ∙ same-gap)) ((grind arith))
 
   pub mid-rest : (new : List ℕ) → new ≡ written (top + gap) (word (stop - top - gap)) after-gap → gap < stop - top
       → Mid z place top stop gap new

@@ -27,11 +27,7 @@ joined-more b run (p ∷ parts) = refl
 cut-below : (b : Block) (v : Bool) → in_run b ≡ v → (zone : List Block) (s : Segments) → IsCut zone s
     → IsCut (b ∷ zone) (cond v (record { first = b ∷ s.first; rest = s.rest })
     (record { first = []; rest = record { barrier = b; run = s.first } ∷ s.rest }))
-cut-below b true e zone s c = record {
-  whole = joined-more b s.first s.rest ∙ ap (λ k. b ∷ k) c.whole;
-  first = (e, c.first);
-  rest = c.rest;
-}
+cut-below b true e zone s c = grind (arith, joined-more)
 cut-below b false e zone s c = record { whole = ap (λ k. b ∷ k) c.whole; first = tt; rest = (c.first, c.rest) }
 
 pub cut : (zone : List Block) → IsCut zone (segments zone)

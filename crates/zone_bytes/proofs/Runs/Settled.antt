@@ -33,15 +33,7 @@ same_parts a b s k e p q l m = (omega arith, omega arith)
 pub free-tile : (resource : ℕ → Bool) (n : ℕ) (ys : List ℕ) → length ys ≡ n → n % 16 ≡ 0 → 16 ≤ n → take 4 ys ≡ word n
     → Tile (head_of resource (Free n)) n ys
 unfolding head_of
-free-tile resource n ys l w s b =
-    let f = length-word n in
-    record {
-      fits = omega (arith, l);
-      whole = w;
-      some = s;
-      room = omega (arith, f, s);
-      begins = ap (λ k. take k ys) f ∙ b;
-    }
+free-tile resource n ys l w s b = grind arith
 
 one-or-none : (v w : Bool) → cond v (cond w 1 0) 0 ≤ 1
 one-or-none true true = omega arith
@@ -80,33 +72,22 @@ module _ (lay : Lay) (place stop : ℕ) (r : IsRunFrom lay place stop) (gap from
   next-at : (blocks : List Block) → Tiles (head_of lay.resource) (drop from xs) blocks → from % 16 ≡ 0
       → length xs ≤ 134217728 → from < length xs → Next xs from
   next-at [] t w s l = let d = length-drop from xs in let n = ap length t in absurd (omega (arith, d, n, l))
-  next-at (b ∷ blocks) t v i l =
-      let w = first-reads lay.resource xs from i b t.0 in
-      record {
-        even = omega (arith, v);
-        fits = omega (arith, length-drop from xs);
-        tag = omega (arith, w, kind-small);
-        big = omega (arith, w);
-      }
+  next-at (b ∷ blocks) t v i l = grind (arith, first-reads, length-drop, kind-small)
 
   -- the next block, of the run or above it
   pub next : Packing lay gap stop from to moves xs → from < length xs → Next xs from
-  next p l =
-      let q = p.state in
-      next-at (p.rest ++ lay.above) q.high q.whole.0 (stop-inside q.kept).1 l
+  next p l = grind (arith, next-at, stop-inside)
 
   outside : (above : List Block) → EndsRun above → Tiles (head_of lay.resource) (drop from xs) above → from < length xs
       → length xs ≤ 134217728 → (n t f : ℕ) → n + t ≡ word_at from xs → n % 16 ≡ 0 → t ≤ 3 → f ≡ word_at (from + 12) xs
       → runs_on t f ≡ true → ⊥
   outside [] o h l s n t f e w k v b = absurd (omega (arith, length-drop from xs, ap length h, l))
-  outside (c ∷ above) o h l s n t f e w k v b =
-      false≢true (sym o ∙ sym (runs-told lay.resource xs from s c h.0 n t f e w k v) ∙ b)
+  outside (c ∷ above) o h l s n t f e w k v b = grind (arith, false≢true, runs-told)
 
   within-at : EndsRun lay.above → (moved rest : List Block) → PackingAt lay gap stop from to moves xs moved rest
       → from < length xs → (n t f : ℕ) → n + t ≡ word_at from xs → n % 16 ≡ 0 → t ≤ 3 → f ≡ word_at (from + 12) xs → runs_on t f ≡ true
       → from < stop
-  within-at ends moved [] q l n t f e w k v b =
-      absurd (outside _ ends q.high l (stop-inside q.kept).1 n t f e w k v b)
+  within-at ends moved [] q l n t f e w k v b = grind (arith, outside, stop-inside)
   within-at ends moved (c ∷ rest) q l n t f e w k v b = omega arith
 
   -- a block that belongs to a run is one of this run
@@ -117,8 +98,7 @@ module _ (lay : Lay) (place stop : ℕ) (r : IsRunFrom lay place stop) (gap from
   beyond-at : (moved rest : List Block) → PackingAt lay gap stop from to moves xs moved rest → (n t f : ℕ)
       → n + t ≡ word_at from xs → n % 16 ≡ 0 → t ≤ 3 → f ≡ word_at (from + 12) xs → false ≡ runs_on t f → stop ≤ from
   beyond-at moved [] q n t f e w k v b = omega arith
-  beyond-at moved (c ∷ rest) q n t f e w k v b = absurd (false≢true (b
-      ∙ runs-told lay.resource _ _ (stop-inside q.kept).1 c q.high.0 n t f e w k v ∙ q.in_run.0))
+  beyond-at moved (c ∷ rest) q n t f e w k v b = grind (arith, false≢true, runs-told, stop-inside)
 
   -- and one that belongs to none lies above it
   pub beyond : Packing lay gap stop from to moves xs → (n t f : ℕ) → n + t ≡ word_at from xs → n % 16 ≡ 0 → t ≤ 3
@@ -208,27 +188,7 @@ module _ (lay : Lay) (place stop : ℕ) (r : IsRunFrom lay place stop) (gap from
   -- no Free bytes
   pub finish-none-at : (moved : List Block) → PackingAt lay gap stop from to moves xs moved [] → from ≡ stop → from ≤ to
       → Packed lay gap moves xs
-  finish-none-at moved q e l =
-      let head = head_of lay.resource in
-      let g : free_sum lay.run ≡ 0 = (omega (arith, free_sum-span, l)) in
-      let same : from ≡ to = omega (arith, l) in
-      let those : moved ≡ movers lay.run = sym (append-nil moved) ∙ q.order in
-      let shape : settle lay.run ≡ moved = ap (λ k. movers lay.run ++ free k) g ∙ append-nil (movers lay.run)
-      ∙ sym those in
-      let blocks : lay.below ++ moved ++ lay.above ≡ lay.below ++ (settle lay.run ++ lay.above) =
-      append_assoc lay.below moved lay.above ∙ ap (λ k. lay.below ++ (k ++ lay.above)) (sym shape) in
-      let high = subst (λ k. Tiles head (drop k xs) lay.above) same q.high in
-      let tiles = tiles-append head (take to xs) (drop to xs) (lay.below ++ moved) lay.above q.low high in
-      record {
-        tiles = subst (λ k. Tiles head k (lay.below ++ (settle lay.run ++ lay.above))) (take-append-drop to xs)
-            (subst (λ k. Tiles head (take to xs ++ drop to xs) k) blocks tiles);
-        low = q.lead_low;
-        leads = subst (λ k. Leads (sizes lay.below + gap) k xs) those q.lead_moved;
-        high = leads-above moved q e;
-        others = q.others;
-        moved = (omega arith);
-        kept = q.kept;
-      }
+  finish-none-at moved q e l = grind (arith, free_sum-span, append-nil, append_assoc, tiles-append, take-append-drop, leads-above)
 
   -- one Free block
   pub finish-free-at : (moved : List Block) → PackingAt lay gap stop from to moves xs moved [] → from ≡ stop → to < from
@@ -295,6 +255,5 @@ module _ (lay : Lay) (place stop : ℕ) (r : IsRunFrom lay place stop) (gap from
   -- no more blocks come lower than there are bytes
   pub moves-bound : Packing lay gap stop from to moves xs → moves ≤ 134217728
   moves-bound p =
-      let t = tiles-split (head_of lay.resource) lay.bytes lay.below (lay.run ++ lay.above) r.lies.tiles in
-      let k = lowered-span (head_of lay.resource) (drop (sizes lay.below) lay.bytes) 0 lay.run lay.above t.1 in
+      let k = lowered-span (head_of lay.resource) (drop (sizes lay.below) lay.bytes) 0 lay.run lay.above (tiles-split (head_of lay.resource) lay.bytes lay.below (lay.run ++ lay.above) r.lies.tiles).1 in
       omega (arith, k, run-bounds)

@@ -24,8 +24,7 @@ frees n (Free m ∷ run) above l e =
     ∙ frees (n + m) run above l.1 c ∙ ap (λ k. tidy (free k ++ above)) z
 frees n (Nonrelocatable id content ∷ run) above l e = let f : false ≡ true = l.0 in cc
 frees n (Masters ∷ run) above l e = let f : false ≡ true = l.0 in cc
-frees n (Relocatable id flags content ∷ run) above l e =
-    absurd (let m = falls-mover (Relocatable id flags content) run refl l.0 in omega (arith, m, e))
+frees n (Relocatable id flags content ∷ run) above l e = grind arith
 
 still-run : (run above : List Block) → Loose run → lowered_in_run run ≡ 0
     → tidy (settle run ++ above) ≡ tidy (run ++ above)

@@ -1,5 +1,5 @@
 -- The first blocks of a run are packed.
-use Rattle.std.proofs.Common.{◌≡◌, ℕ, ◌+◌, ◌-◌, ◌<◌, ◌≤◌, ◌⊎◌, inl, inr, true, false, cond, nat_le, List}
+use Rattle.std.proofs.Common.{◌≡◌, ℕ, ◌+◌, ◌-◌, ◌<◌, ◌≤◌, ◌⊎◌, inl, inr, true, false, cond, nat_le, List, rules}
 use Rattle.std.proofs.Common.{[], ◌∷◌, ◌++◌, length, drop, sym}
 use Rattle.std.proofs.Common.{refl, ap, ◌∙◌, subst, arith, append_assoc}
 use Rattle.std.proofs.lemmas.Bool.Decides.{nat_tests}
@@ -23,9 +23,7 @@ use Rattle.zone_bytes.proofs.Runs.Settled.{finish-none-at, finish-free-at}
 falling-append : (gap : ℕ) (gone rest : List Block)
     → lowered_in_run_from gap (gone ++ rest) ≡ lowered_in_run_from gap gone + lowered_in_run_from (gap + free_sum gone)
     rest
-falling-append gap [] rest =
-    let e : gap ≡ gap + 0 = omega arith in
-    omega (arith, ap (λ g. lowered_in_run_from g rest) e)
+falling-append gap [] rest = grind arith
 falling-append gap (b ∷ gone) rest =
     let e : gap + free_of b + free_sum gone ≡ gap + (free_of b + free_sum gone) = omega arith in
     omega (arith, falling-append (gap + free_of b) gone rest, ap (λ g. lowered_in_run_from g rest) e)
@@ -81,14 +79,7 @@ module _ (lay : Lay) (gone rest : List Block) (split : gone ++ rest ≡ lay.run)
 
   module _ (place stop : ℕ) (r : IsRunFrom lay place stop) where
     pub cut-run : (from : ℕ) → place + sizes gone ≡ from → IsRunFrom (cut lay gone rest) place from
-    cut-run from t = record {
-      lies = subst (λ l. Lies lay.resource l lay.bytes) (sym cut-same) r.lies;
-      slots = subst HasSlots (sym cut-same) r.slots;
-      bottom = r.bottom;
-      top = t;
-      in_run = each-left InRun gone rest (subst (Each InRun) (sym split) r.in_run);
-      small = r.small;
-    }
+    cut-run from t = grind (arith, cut-same, each-left)
 
     module _ (gap from to moves : ℕ) (xs : List ℕ) (moved : List Block) (those : moved ≡ movers gone)
         (q : PackingAt lay gap stop from to moves xs moved rest) where
@@ -99,26 +90,7 @@ module _ (lay : Lay) (gone rest : List Block) (split : gone ++ rest ≡ lay.run)
       cut-gap = omega (arith, cut-free)
 
       cut-packing : PackingAt (cut lay gone rest) gap from from to moves xs moved []
-      cut-packing =
-          record {
-            low = q.low;
-            high = q.high;
-            order = append-nil moved ∙ those;
-            free = omega (arith, cut-gap);
-            down = q.down;
-            up = omega arith;
-            whole = q.whole;
-            kept = q.kept;
-            in_run = tt;
-            lead_low = q.lead_low;
-            lead_moved = q.lead_moved;
-            lead_high = q.lead_high;
-            named = q.named ∙ ap names (sym cut-same);
-            count =
-                (let e : from - to ≡ 0 + free_sum gone = omega (arith, cut-gap) in
-                omega (arith, cut-falling, ap (λ k. lowered_in_run_from k rest) e));
-            others = subst (λ l. SameOthers l lay.bytes xs) (sym cut-same) q.others;
-          }
+      cut-packing = grind (arith, append-nil, cut-gap, cut-same, cut-falling)
 
       cut-top : to ≡ place + sizes (movers gone)
       cut-top =
@@ -126,20 +98,11 @@ module _ (lay : Lay) (gone rest : List Block) (split : gone ++ rest ≡ lay.run)
 
       module _ (enough : ℕ) (ended : (rest ≡ []) ⊎ ((place < to) × (enough ≤ from - to))) where
         end : (rest ≡ []) ⊎ ((place < to) × (enough ≤ free_sum gone))
-        end = elim ended [
-          | inl n ↦ inl n
-          | inr e ↦ inr (e.0, omega (arith, e.1, cut-gap))
-        ]
+        end = grind (arith, cut-gap)
 
         until-at : (ys : List ℕ) → Packed (cut lay gone rest) gap moves ys
             → UntilAt lay place gap enough moves to from ys gone rest
-        until-at ys p = record {
-          split = split;
-          packed = p;
-          top_at = cut-top;
-          stop_at = sym cut-at;
-          ended = end;
-        }
+        until-at ys p = grind (arith, cut-top, cut-at, end)
 
         bytes-gone : sizes gone ≡ from - sizes lay.below
         bytes-gone = omega (arith, cut-at)
@@ -148,16 +111,13 @@ module _ (lay : Lay) (gone rest : List Block) (split : gone ++ rest ≡ lay.run)
         some-rest = each-some (head_of lay.resource) (drop from xs) rest lay.above q.high
 
         pub gone-is : gone ≡ gone_to lay from
-        gone-is = sym (first-gone _ _ some-rest) ∙ (ap (λ n. first_in n (gone ++ rest)) bytes-gone)
-            ∙ ap (first_in (from - sizes lay.below)) split
+        gone-is = grind (arith, first-gone, some-rest, bytes-gone)
 
         rest-is : rest ≡ rest_from lay from
-        rest-is = sym (left-rest gone rest some-rest) ∙ (ap (λ n. left_behind n (gone ++ rest)) bytes-gone)
-            ∙ ap (left_behind (from - sizes lay.below)) split
+        rest-is = grind (arith, left-rest, some-rest, bytes-gone)
 
         until : (ys : List ℕ) → Packed (cut lay gone rest) gap moves ys → PackedUntil lay place gap enough moves to from ys
-        until ys p = subst (λ g. UntilAt lay place gap enough moves to from ys g (rest_from lay from)) gone-is
-            (subst (UntilAt lay place gap enough moves to from ys gone) rest-is (until-at _ p))
+        until ys p = grind (arith, gone-is, rest-is, until-at)
 
         pub until-none : from ≤ to → PackedUntil lay place gap enough moves to from xs
         until-none l = until _ (finish-none-at _ _ _ (cut-run _ cut-at) _ _ _ _ _ _ cut-packing refl l)
@@ -186,8 +146,7 @@ module _ (lay : Lay) (place gap enough moves top stop : ℕ) (xs : List ℕ) (go
       all-of = sym (append-nil gone) ∙ ap (λ l. gone ++ l) (sym n) ∙ p.split
 
       pub whole-packed : Packed lay gap moves xs
-      whole-packed = subst (λ l. Packed (cut lay l []) gap moves xs) all-of
-          (subst (λ l. Packed (cut lay gone l) gap moves xs) n p.packed)
+      whole-packed = search rules
 
       pub whole-top : top ≡ place + sizes (movers lay.run)
       whole-top = p.top_at ∙ ap (λ l. place + sizes (movers l)) all-of

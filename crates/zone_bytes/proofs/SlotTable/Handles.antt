@@ -110,10 +110,7 @@ emptied-tells true = refl
 emptied-tells false = refl
 
 word-place : (w : ℕ) → w % 16 ≡ 0 → place_of_word w ≡ Some w
-word-place w e =
-    let a : (w == 2) ≡ false = ne_eqb w 2 (λ z. omega (arith, e, z)) in
-    let b : (w == 18) ≡ false = ne_eqb w 18 (λ z. omega (arith, e, z)) in
-    (λ i. cond (a i || b i) None (Some w))
+word-place w e = grind arith
 
 -- a block and its place
 pub record BlockHere (xs : List ℕ) (blocks : List Block) (resource : ℕ → Bool) (s place : ℕ) : Type 0 where
@@ -159,18 +156,14 @@ module _ (xs : List ℕ) (blocks : List Block) (slots : ℕ → Slot) (unused : 
     handle-in = slot-in xs blocks slots unused h s told.0
 
     state : IsEmptyHandle xs blocks s flag.0 ⊎ HasBlock xs 0 blocks s
-    state = elim told.1 [
-      | inl k ↦ inr (has-block xs 0 blocks s h.lies.leads k)
-      | inr k ↦ inl (record { apart = k.0; leads = k.1 })
-    ]
+    state = grind (arith, told, has-block)
 
     emptied-reads : IsEmptyHandle xs blocks s flag.0 → word_at s xs ≡ empty_word flag.0
     emptied-reads e = read_back s _ _ (emptied-small _) e.leads
 
     block-reads : (b : HasBlock xs 0 blocks s) → word_at s xs ≡ sizes b.below
     block-reads b =
-        let z : 0 + sizes b.below ≡ sizes b.below = omega arith in
-        read_back s (sizes b.below) xs (omega (arith, (block-here s b).fits)) (b.leads ∙ ap word z)
+        read_back s (sizes b.below) xs (omega (arith, (block-here s b).fits)) (b.leads ∙ ap word (omega arith))
 
     emptied-word : IsEmptyHandle xs blocks s flag.0 → place_of_word (word_at s xs) ≡ None
     emptied-word e = ap place_of_word (emptied-reads e) ∙ word-emptied flag.0

@@ -28,19 +28,7 @@ use Rattle.zone_bytes.proofs.Tiles.Tiling.{tiles-one, tile-take, tiles-split}
 
 -- the flags of a header with another resource flag
 pub flags-set : (flags : Flags) (was r : Bool) → flag_word flags was / 64 * 64 + cond {A = ℕ} r 32 0 ≡ flag_word flags r
-flags-set flags was r = ap (λ n. n + cond {A = ℕ} r 32 0) (others flags.locked flags.purgeable was)
-  where
-    others : (l p r : Bool)
-        → (cond {A = ℕ} l 128 0 + cond {A = ℕ} p 64 0 + cond {A = ℕ} r 32 0) / 64 * 64 ≡ cond {A = ℕ} l 128 0 + cond
-        {A = ℕ} p 64 0
-    others true true true = refl
-    others true true false = refl
-    others true false true = refl
-    others true false false = refl
-    others false true true = refl
-    others false true false = refl
-    others false false true = refl
-    others false false false = refl
+flags-set flags was r = grind arith
 
 used-no-unused : (r : Bool) → Used r ≡ Unused → ⊥
 used-no-unused r e = cc
@@ -58,13 +46,10 @@ module _ (xs : List ℕ) (blocks : List Block) (slots : ℕ → Slot) (unused : 
   unused-still t e = set-other slots s t _ (λ k. used-no-unused _ (sym u ∙ ap slots (sym k) ∙ e)) ∙ e
 
   still-unused : Each (λ t. IsSlot t blocks × (now t ≡ Unused)) unused
-  still-unused = each-map (λ t. IsSlot t blocks × (slots t ≡ Unused)) (λ t. IsSlot t blocks × (now t ≡ Unused))
-      (λ t q. (q.0, unused-still t q.1)) _ h.unused_slots
+  still-unused = grind (arith, each-map, unused-still)
 
   apart-unused : Each (Apart s) unused
-  apart-unused = each-map (λ t. IsSlot t blocks × (slots t ≡ Unused)) (Apart s)
-      (λ t q. apart-of _ _ slots _ h s t is-slot q.0 (λ e. used-no-unused _ (sym u ∙ ap slots e ∙ q.1)))
-      _ h.unused_slots
+  apart-unused = grind (arith, each-map, apart-of, is-slot, used-no-unused)
 
   -- the flag in the word of an empty handle
   pub lays-emptied : Each (Apart s) (names blocks) → Lays (written s (word (empty_word r)) xs) blocks now unused
@@ -84,10 +69,7 @@ module _ (xs : List ℕ) (blocks : List Block) (slots : ℕ → Slot) (unused : 
     says-still t (Used p) q = (q.0, elim q.1 [ inl k ↦ inl k | inr k ↦ inr (k.0, same t q.0 ∙ k.1) ])
 
     used-still : (t : ℕ) → IsUsed (slots t) → IsUsed (now t)
-    used-still t k = elim (cases_eq t s) [
-      | inl e ↦ subst IsUsed (sym (set-same slots s t (Used r) e)) tt
-      | inr d ↦ subst IsUsed (sym (set-other slots s t (Used r) d)) k
-    ]
+    used-still t k = grind arith
 
     pub lays-flagged : Lays new blocks now unused
     lays-flagged = record {
@@ -145,8 +127,7 @@ module _ (xs : List ℕ) (below : List Block) (s : ℕ) (flags : Flags) (content
   module _ (h : Lays xs all slots unused) where
     -- the resource flags of the other blocks stay
     agree : (ns : List ℕ) → Each (Apart s) ns → Each (λ t. is_resource (slots t) ≡ is_resource (marked t)) ns
-    agree ns a = each-map (Apart s) (λ t. is_resource (slots t) ≡ is_resource (marked t))
-        (λ t p. sym (ap is_resource (set-other slots s t _ (λ e. apart-other s t p (sym e))))) _ a
+    agree ns a = grind (arith, each-map, set-other, apart-other)
 
     apart-all : Pairs Apart (names below ++ s ∷ names above)
     apart-all = subst (Pairs Apart) (names-append below (here ∷ above)) h.has_slots.apart

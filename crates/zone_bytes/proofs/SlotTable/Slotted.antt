@@ -94,9 +94,7 @@ module _ (xs : List ℕ) (first count : ℕ) (i : IsSound xs first count) (slot 
   slot-is = (subst (λ st. Says (zone_in xs) xs i.unused slot st) flag.1 (i.lays.says slot)).0
 
   pub name-apart : Each (Apart slot) (names (zone_in xs))
-  name-apart = each-both (λ t. IsSlot t (zone_in xs)) (λ t. slot ≡ t → ⊥) (Apart slot)
-      (λ t j d. apart-of _ _ (slot_in xs) i.unused i.lays slot t slot-is j d)
-      _ i.lays.has_slots.slots (no-name (zone_in xs) none)
+  name-apart = grind (arith, each-both, apart-of, slot-is, no-name)
 
   abbrev give-table : Table
   give-table = record { blocks = zone_in xs; slots = slot_in xs; unused = i.unused }

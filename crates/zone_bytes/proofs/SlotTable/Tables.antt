@@ -43,8 +43,7 @@ unfolding head_of
 head-agree f g (Free n) e = refl
 head-agree f g (Nonrelocatable id content) e = refl
 head-agree f g Masters e = refl
-head-agree f g (Relocatable slot flags content) e = ap
-    (λ r. header (size (Relocatable slot flags content) + 3) (length content) slot (flag_word flags r) ++ content) e.0
+head-agree f g (Relocatable slot flags content) e = grind arith
 
 pub tiles-agree : (f g : ℕ → Bool) (xs : List ℕ) (blocks : List Block) → Each (λ s. f s ≡ g s) (names blocks)
     → Tiles (head_of f) xs blocks → Tiles (head_of g) xs blocks
@@ -60,16 +59,10 @@ lies-agree f g xs blocks e l = record { tiles = tiles-agree f g _ _ e l.tiles; l
 
 -- the state of another slot
 pub set-other : (slots : ℕ → Slot) (s t : ℕ) (state : Slot) → (t ≡ s → ⊥) → set_slot slots s state t ≡ slots t
-set-other slots s t state h = elim (eqb_tells t s) [
-  | inl e ↦ absurd (h e.1)
-  | inr e ↦ ap (λ v. cond v state (slots t)) e.0
-]
+set-other slots s t state h = grind arith
 
 pub set-same : (slots : ℕ → Slot) (s t : ℕ) (state : Slot) → t ≡ s → set_slot slots s state t ≡ state
-set-same slots s t state h = elim (eqb_tells t s) [
-  | inl e ↦ ap (λ v. cond v state (slots t)) e.0
-  | inr e ↦ absurd (e.1 h)
-]
+set-same slots s t state h = grind arith
 
 module _ (xs : List ℕ) (blocks : List Block) (slots : ℕ → Slot) (unused : List ℕ)
     (h : Lays xs blocks slots unused) where
@@ -78,35 +71,19 @@ module _ (xs : List ℕ) (blocks : List Block) (slots : ℕ → Slot) (unused : 
 
   -- two slots are apart
   pub apart-of : (s t : ℕ) → IsSlot s blocks → IsSlot t blocks → (s ≡ t → ⊥) → Apart s t
-  apart-of s t i j n =
-      let a = slot-even head xs s blocks h.lies.tiles i in
-      let b = slot-even head xs t blocks h.lies.tiles j in
-      elim (cases_lt s t) [
-        | inl l ↦ inl (omega (arith, a, b, l))
-        | inr l ↦ elim (cases_lt t s) [
-          | inl k ↦ inr (omega (arith, a, b, k))
-          | inr k ↦ absurd (n (omega (arith, k, l)))
-        ]
-      ]
+  apart-of s t i j n = grind (arith, slot-even, cases_lt)
 
   pub slot-in : (s : ℕ) → IsSlot s blocks → (s % 4 ≡ 0) × (s + 4 ≤ length xs)
   slot-in s i = ((slot-even head _ s _ h.lies.tiles i), omega (arith, slot-inside, length-tiles))
 
   -- a slot that leads to no handle is not that of a block
   pub unused-apart : (s : ℕ) → IsSlot s blocks → slots s ≡ Unused → Each (Apart s) (names blocks)
-  unused-apart s i u =
-      each-both (λ t. IsSlot t blocks) (λ t. IsUsed (slots t)) (Apart s)
-      (λ t j k. apart-of s t i j (λ e. subst IsUsed (sym (ap slots e) ∙ u) k)) _ h.has_slots.slots h.used
+  unused-apart s i u = grind (arith, each-both, apart-of)
 
   -- the blocks, where the word of another slot is written
   pub lies-written : (s n : ℕ) → IsSlot s blocks → Each (Apart s) (names blocks)
       → Lies (λ t. is_resource (slots t)) blocks (written s (word n) xs)
-  lies-written s n i a =
-      record {
-        tiles = tiles-slot head (length-masters (λ t. is_resource (slots t))) _ _ s _ (length-word n) i h.lies.tiles;
-        leads = leads-written s _ _ 0 _ (omega (arith, slot-in))
-            (each-map (Apart s) (Clear s (length (word n))) (λ t p. apart-clear s n t p) _ a) h.lies.leads;
-      }
+  lies-written s n i a = grind (arith, tiles-slot, length-masters, length-word, leads-written, slot-in, each-map)
 
   pub chain-written : (s n : ℕ) (us : List ℕ) → s ≤ length xs → Each (Apart s) us → Chain xs us
       → Chain (written s (word n) xs) us

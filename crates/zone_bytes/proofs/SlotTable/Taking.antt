@@ -42,8 +42,7 @@ first-small blocks slots (s ∷ unused) xs k h u = let b = slot-in _ _ slots k h
 pub next-of : (xs : List ℕ) (blocks : List Block) (slots : ℕ → Slot) (first : ℕ) (unused : List ℕ)
     → Lays xs blocks slots (first ∷ unused) → word_at first xs / 16 ≡ first_of unused
 next-of xs blocks slots first unused h =
-    let m = first-small blocks slots unused xs (first ∷ unused) h h.unused_slots.1 in
-    omega (arith, read_back first (16 * first_of unused + 1) xs (omega (arith, m)) h.chain.0)
+    omega (arith, read_back first (16 * first_of unused + 1) xs (omega (arith, (first-small blocks slots unused xs (first ∷ unused) h h.unused_slots.1))) h.chain.0)
 
 module _ (xs : List ℕ) (blocks : List Block) (slots : ℕ → Slot) (unused : List ℕ) (h : Lays xs blocks slots unused)
     (s : ℕ) (r : Bool) (u : slots s ≡ Used r) (a : Each (Apart s) (names blocks)) where
@@ -54,9 +53,7 @@ module _ (xs : List ℕ) (blocks : List Block) (slots : ℕ → Slot) (unused : 
   first-fits = first-small blocks slots unused xs unused h h.unused_slots
 
   apart-unused : Each (Apart s) unused
-  apart-unused = each-map (λ t. IsSlot t blocks × (slots t ≡ Unused)) (Apart s)
-      (λ t q. apart-of _ _ slots _ h s t used-slot q.0 (λ e. used-not_unused r (sym u ∙ ap slots e ∙ q.1)))
-      _ h.unused_slots
+  apart-unused = grind (arith, each-map, apart-of, used-slot, used-not_unused)
 
   pub given : Lays (written s (word (16 * first_of unused + 1)) xs) blocks (set_slot slots s Unused) (s ∷ unused)
   given =

@@ -33,17 +33,7 @@ purgeable-of false false true = refl
 purgeable-of false false false = refl
 
 pub flag_word-small : (flags : Flags) (r : Bool) → flag_word flags r < 256
-flag_word-small flags r = small flags.locked flags.purgeable r
-  where
-    small : (l p r : Bool) → cond l 128 0 + cond p 64 0 + cond r 32 0 < 256
-    small true true true = omega arith
-    small true true false = omega arith
-    small true false true = omega arith
-    small true false false = omega arith
-    small false true true = omega arith
-    small false true false = omega arith
-    small false false true = omega arith
-    small false false false = omega arith
+flag_word-small flags r = grind arith
 
 pub flags_of-word : (flags : Flags) (r : Bool) → flags_of (flag_word flags r) ≡ flags
 flags_of-word flags r i = record

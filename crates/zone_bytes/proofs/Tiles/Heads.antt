@@ -45,25 +45,18 @@ module _ (resource : ℕ → Bool) (ys : List ℕ) where
   first-word (Nonrelocatable id content) t =
       tile-piece _ _ _ t 0 4 (omega (arith, length-head)) ∙ (header-pieces _ _ 0 0 _).0
   first-word Masters t = tile-piece _ _ ys t 0 4 (omega (arith, length-header 274 256 0 0)) ∙ masters-first
-  first-word (Relocatable slot flags content) t =
-      let n = size (Relocatable slot flags content) in
-      tile-piece (head_of resource (Relocatable slot flags content)) n ys t 0 4 (omega (arith, length-head))
-      ∙ (header-pieces (n + 3) (length content) slot (flag_word flags (resource slot)) content).0
+  first-word (Relocatable slot flags content) t = grind (arith, tile-piece, length-head, header-pieces)
 
   pub slot-word : (slot : ℕ) (flags : Flags) (content : List ℕ)
       → Tile (head_of resource (Relocatable slot flags content)) (size (Relocatable slot flags content)) ys
       → piece 8 4 ys ≡ word slot
   unfolding head_of
   slot-word slot flags content t =
-      let n = size (Relocatable slot flags content) in
-      tile-piece _ n _ t 8 4 (omega (arith, length-head)) ∙ (header-pieces _ _ _ _ _).2
+      tile-piece _ (size (Relocatable slot flags content)) _ t 8 4 (omega (arith, length-head)) ∙ (header-pieces _ _ _ _ _).2
 
 module _ (resource : ℕ → Bool) (xs : List ℕ) (from : ℕ) (small : length xs ≤ 134217728) where
   pub first-reads : (b : Block) → Tile (head_of resource b) (size b) (drop from xs) → word_at from xs ≡ size b + kind b
-  first-reads b t =
-      let d = length-drop from xs in
-      let k : kind b ≤ 3 = kind-small b in
-      read_back from (size b + kind b) xs (omega (arith, d, k, small)) (first-word resource (drop from xs) b t)
+  first-reads b t = grind (arith, length-drop, kind-small, read_back, first-word)
 
   pub slot-reads : (slot : ℕ) (flags : Flags) (content : List ℕ) → slot < 2 ^ 32
       → Tile (head_of resource (Relocatable slot flags content)) (size (Relocatable slot flags content))

@@ -91,9 +91,7 @@ span-movers (Relocatable slot flags content ∷ run) h =
     omega (arith, ap sizes (movers-more (Relocatable slot flags content) run h.0), span-movers run h.1)
 
 pub names-settle : (run : List Block) → Each InRun run → names (settle run) ≡ names run
-names-settle run h = names-append (movers run) (free (free_sum run))
-    ∙ ap (λ k. names (movers run) ++ k) (names-free (free_sum run)) ∙ append-nil (names (movers run))
-    ∙ names-movers run h
+names-settle run h = grind (arith, names-append, names-free, append-nil, names-movers)
 
 pub span-settle : (run : List Block) → Each InRun run → sizes (settle run) ≡ sizes run
 span-settle run h = omega (arith, span-append, span-free, free_sum-span, span-movers _ h)
@@ -116,21 +114,12 @@ each-settle run h = each-append InRun _ _ (each-movers _ h) (each-free _)
 -- one run in the place of another
 pub slot-run : (s : ℕ) (below run now above : List Block) → Each InRun run → sizes now ≡ sizes run
     → IsSlot s (below ++ (run ++ above)) → IsSlot s (below ++ (now ++ above))
-slot-run s below run now above r e i = elim (slot-split s _ _ i) [
-  | inl j ↦ slot-append_left s below (now ++ above) j
-  | inr j ↦ elim (slot-split (s - sizes below) run above j.1) [
-    | inl k ↦ absurd (run-no_slot (s - sizes below) run r k)
-    | inr k ↦
-        let f : s - sizes below - sizes run ≡ s - sizes below - sizes now = ap (λ m. s - sizes below - m) (sym e) in
-        slot-append_right s _ _ j.0 (slot-append_right _ _ _ (omega (arith, e)) (subst (λ q. IsSlot q above) f k.1))
-  ]
-]
+slot-run s below run now above r e i = grind (arith, slot-split, slot-append_left, run-no_slot, slot-append_right)
 
 pub placed-append : (o : ℕ) (ls ms : List Block) → ArePlaced o ls → ArePlaced (o + sizes ls) ms → ArePlaced o (ls ++ ms)
 placed-append o [] ms h k = let e : o + 0 ≡ o = omega arith in subst (λ j. ArePlaced j ms) e k
 placed-append o (b ∷ ls) ms h k =
-    let e : o + (size b + sizes ls) ≡ o + size b + sizes ls = omega arith in
-    (h.0, placed-append (o + size b) ls ms h.1 (subst (λ j. ArePlaced j ms) e k))
+    (h.0, placed-append (o + size b) ls ms h.1 (subst (λ j. ArePlaced j ms) (omega arith) k))
 
 pub placed-left : (o : ℕ) (ls ms : List Block) → ArePlaced o (ls ++ ms) → ArePlaced o ls
 placed-left o [] ms h = tt
@@ -138,9 +127,7 @@ placed-left o (b ∷ ls) ms h = (h.0, placed-left (o + size b) ls ms h.1)
 
 pub placed-right : (o : ℕ) (ls ms : List Block) → ArePlaced o (ls ++ ms) → ArePlaced (o + sizes ls) ms
 placed-right o [] ms h = let e : o ≡ o + 0 = omega arith in subst (λ j. ArePlaced j ms) e h
-placed-right o (b ∷ ls) ms h =
-    let e : o + size b + sizes ls ≡ o + (size b + sizes ls) = omega arith in
-    subst (λ j. ArePlaced j ms) e (placed-right (o + size b) ls ms h.1)
+placed-right o (b ∷ ls) ms h = subst (λ j. ArePlaced j ms) (omega arith) (placed-right (o + size b) ls ms h.1)
 
 pub placed-run : (o : ℕ) (run : List Block) → Each InRun run → ArePlaced o run
 placed-run o [] h = tt
@@ -167,11 +154,7 @@ module _ (xs new : List ℕ) (below was now above : List Block) (slots : ℕ →
 -- with the same names
 pub run-names : (below was now above : List Block) → names now ≡ names was
     → SameNames (names (below ++ (was ++ above))) (names (below ++ (now ++ above)))
-run-names below was now above n =
-    let up : names (now ++ above) ≡ names (was ++ above) = names-append now above ∙ ap (λ k. k ++ names above) n
-    ∙ sym (names-append was above) in
-    same-names _ _ (names-append below (was ++ above)
-    ∙ ap (λ k. names below ++ k) (sym up) ∙ sym (names-append below (now ++ above)))
+run-names below was now above n = grind (arith, names-append, same-names)
 
 -- the zone after a settle, with its slots
 pub lays-settled : (lay : Lay) (place stop moves : ℕ) (slots : ℕ → Slot) (unused new : List ℕ)

@@ -37,8 +37,7 @@ pairs-after s (x ∷ xs) ys h = pairs-after s xs ys h.1
 
 pub names-append : (ls ms : List Block) → names (ls ++ ms) ≡ names ls ++ names ms
 names-append [] ms = refl
-names-append (b ∷ ls) ms = ap (λ q. names_of b ++ q) (names-append ls ms)
-    ∙ sym (append_assoc (names_of b) (names ls) (names ms))
+names-append (b ∷ ls) ms = ap (λ q. names_of b ++ q) (names-append ls ms) ∙ sym (grind arith)
 
 -- the word at s and n bytes from `at` on have no byte in common
 abbrev pub Clear : ℕ → ℕ → ℕ → Type 0
@@ -53,8 +52,7 @@ module _ (xs : List ℕ) where
   pub leads-append : (o : ℕ) (ls ms : List Block) → Leads o ls xs → Leads (o + sizes ls) ms xs → Leads o (ls ++ ms) xs
   leads-append o [] ms h k = let e : o + 0 ≡ o = omega arith in subst (λ j. Leads j ms xs) e k
   leads-append o (b ∷ ls) ms h k =
-      let e : o + (size b + sizes ls) ≡ o + size b + sizes ls = omega arith in
-      (h.0, leads-append (o + size b) ls ms h.1 (subst (λ j. Leads j ms xs) e k))
+      (h.0, leads-append (o + size b) ls ms h.1 (subst (λ j. Leads j ms xs) (omega arith) k))
 
   pub leads-left : (o : ℕ) (ls ms : List Block) → Leads o (ls ++ ms) xs → Leads o ls xs
   leads-left o [] ms h = tt
@@ -62,9 +60,7 @@ module _ (xs : List ℕ) where
 
   pub leads-right : (o : ℕ) (ls ms : List Block) → Leads o (ls ++ ms) xs → Leads (o + sizes ls) ms xs
   leads-right o [] ms h = let e : o ≡ o + 0 = omega arith in subst (λ j. Leads j ms xs) e h
-  leads-right o (b ∷ ls) ms h =
-      let e : o + size b + sizes ls ≡ o + (size b + sizes ls) = omega arith in
-      subst (λ j. Leads j ms xs) e (leads-right (o + size b) ls ms h.1)
+  leads-right o (b ∷ ls) ms h = subst (λ j. Leads j ms xs) (omega arith) (leads-right (o + size b) ls ms h.1)
 
 -- a write that is clear of the blocks' slots
 pub leads-written : (at : ℕ) (ys xs : List ℕ) (o : ℕ) (blocks : List Block) → at ≤ length xs

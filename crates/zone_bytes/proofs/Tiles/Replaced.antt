@@ -24,22 +24,7 @@ module _ (xs : List ℕ) (below here above : List Block) (slots : ℕ → Slot) 
   all = below ++ (here ++ above)
 
   pub is-splice : IsSplice zone bottom top xs
-  is-splice =
-      let e = subst (Each (λ s. IsSlot s all)) (names-append below (here ++ above)) h.has_slots.slots in
-      let f = subst (Each (λ s. IsSlot s all)) (names-append here above)
-      (each-right (λ s. IsSlot s all) (names below) (names (here ++ above)) e) in
-      record {
-        lies = h.lies;
-        low = low;
-        high = high;
-        some = some;
-        small = h.small;
-        slots = (
-          each-left (λ s. IsSlot s all) (names below) (names (here ++ above)) e,
-          each-right (λ s. IsSlot s all) (names here) (names above) f,
-        );
-        no_masters = none;
-      }
+  is-splice = grind (arith, names-append, each-right, each-left)
 
   module _ (now : List Block) (new : List ℕ) (same : SameOutside bottom top xs new)
       (t : Tiles (head_of (λ s. is_resource (slots s))) (piece bottom (top - bottom) new) now)
@@ -55,16 +40,7 @@ module _ (xs : List ℕ) (below here above : List Block) (slots : ℕ → Slot) 
         }
 
     back : (s : ℕ) → IsSlot s (below ++ (now ++ above)) → IsSlot s all
-    back s i = elim (slot-split s _ _ i) [
-      | inl j ↦ slot-append_left s below (here ++ above) j
-      | inr j ↦ elim (slot-split (s - sizes below) now above j.1) [
-        | inl k ↦ absurd (none-now (s - sizes below) k)
-        | inr k ↦
-            let f : s - sizes below - sizes now ≡ s - sizes below - sizes here = ap (λ m. s - sizes below - m) e in
-            slot-append_right s _ _ j.0
-            (slot-append_right _ _ _ (omega (arith, e)) (subst (λ q. IsSlot q above) f k.1))
-      ]
-    ]
+    back s i = grind (arith, slot-split, slot-append_left, slot-append_right)
 
     pub replaced : Lays new (below ++ (now ++ above)) slots unused
     replaced =

@@ -83,26 +83,11 @@ is_slot-back s (Masters ∷ blocks) e =
     ]
 
 pub resource-bit : (flags : Flags) (r : Bool) → nat_le 32 (flag_word flags r % 64) ≡ r
-resource-bit flags r = bit flags.locked flags.purgeable r
-  where
-    bit : (l p r : Bool) → nat_le 32 ((cond l 128 0 + cond p 64 0 + cond r 32 0) % 64) ≡ r
-    bit true true true = refl
-    bit true true false = refl
-    bit true false true = refl
-    bit true false false = refl
-    bit false true true = refl
-    bit false true false = refl
-    bit false false true = refl
-    bit false false false = refl
+resource-bit flags r = grind arith
 
 -- what a word says
 word-unused : (xs : List ℕ) (w k : ℕ) → w ≡ 16 * k + 1 → slot_of_word xs w ≡ Unused
-word-unused xs w k e =
-    let a : eqb (w % 16) 0 ≡ false = ne_eqb (w % 16) 0 (λ z. omega (arith, e, z)) in
-    let b : eqb w 2 ≡ false = ne_eqb w 2 (λ z. omega (arith, e, z)) in
-    let c : eqb w 18 ≡ false = ne_eqb w 18 (λ z. omega (arith, e, z)) in
-    (λ i. cond (a i) (Used (nat_le 32 (word_at (w + 12) xs % 64)))
-    (cond (b i) (Used false) (cond (c i) (Used true) Unused)))
+word-unused xs w k e = grind arith
 
 word-emptied : (xs : List ℕ) (w : ℕ) (r : Bool) → w ≡ empty_word r → slot_of_word xs w ≡ Used r
 word-emptied xs w true e = ap (slot_of_word xs) e
@@ -110,9 +95,7 @@ word-emptied xs w false e = ap (slot_of_word xs) e
 
 word-leads : (xs : List ℕ) (w : ℕ) (r : Bool) → w % 16 ≡ 0 → nat_le 32 (word_at (w + 12) xs % 64) ≡ r
     → slot_of_word xs w ≡ Used r
-word-leads xs w r e f =
-    let a : eqb (w % 16) 0 ≡ true = elim (eqb_tells (w % 16) 0) [ inl p ↦ p.0 | inr p ↦ absurd (p.1 e) ] in
-    (λ i. cond (a i) (Used (f i)) (cond (eqb w 2) (Used false) (cond (eqb w 18) (Used true) Unused)))
+word-leads xs w r e f = grind arith
 
 small-emptied : (r : Bool) → empty_word r < 2 ^ 32
 small-emptied true = omega arith
@@ -150,19 +133,14 @@ module _ (resource : ℕ → Bool) (xs : List ℕ) (small : length xs ≤ 134217
 module _ (xs : List ℕ) (blocks : List Block) (slots : ℕ → Slot) (unused : List ℕ)
     (h : Lays xs blocks slots unused) where
   pub zone-of : zone_in xs ≡ blocks
-  zone-of =
-      let small = h.small in
-      zone-back (λ s. is_resource (slots s)) _ _ small h.placed
-      (each-map (λ s. IsSlot s blocks) (λ s. s < 2 ^ 32) (λ s i. omega (arith, slot-inside, length-tiles, small))
-      _ h.has_slots.slots) h.lies.tiles
+  zone-of = grind (arith, zone-back, each-map, slot-inside, length-tiles)
 
   chain-word : (us : List ℕ) → Each (λ u. IsSlot u blocks × (slots u ≡ Unused)) us → Chain xs us → (s : ℕ) → Has us s
       → (k : ℕ) × (k < 134217728) × (piece s 4 xs ≡ word (16 * k + 1))
   chain-word [] e c s h1 = absurd h1
   chain-word (u ∷ us) e c s (inr k) = chain-word us e.1 c.1 s k
   chain-word (u ∷ []) e c s (inl k) = (0, omega arith, subst (λ m. piece m 4 xs ≡ word 1) k c.0)
-  chain-word (u ∷ v ∷ us) e c s (inl k) =
-      (v, omega (arith, slot-inside, length-tiles), subst (λ m. piece m 4 xs ≡ word (16 * v + 1)) k c.0)
+  chain-word (u ∷ v ∷ us) e c s (inl k) = grind (arith, slot-inside, length-tiles)
 
   state : (s : ℕ) (st : Slot) → slots s ≡ st → Says blocks xs unused s st
       → cond (is_slot s blocks) (slot_of_word xs (word_at s xs)) NoSlot ≡ st
@@ -184,5 +162,4 @@ module _ (xs : List ℕ) (blocks : List Block) (slots : ℕ → Slot) (unused : 
 
   pub slots-of : (s : ℕ) → slot_in xs s ≡ slots s
   unfolding slot_in
-  slots-of s = ap (λ k. cond (is_slot s k) (slot_of_word xs (word_at s xs)) NoSlot) zone-of
-      ∙ state s _ refl (h.says s)
+  slots-of s = grind (arith, zone-of, state)

@@ -16,15 +16,7 @@ outside-same lo hi xs l h = record { kept = refl; ordered = (l, h); low = refl; 
 -- one more write inside
 pub outside-written : (lo hi : ℕ) (old new : List ℕ) (at : ℕ) (ys : List ℕ) → lo ≤ at → at + length ys ≤ hi
     → SameOutside lo hi old new → SameOutside lo hi old (written at ys new)
-outside-written lo hi old new at ys l h s =
-    let k = s.kept in
-    let o = s.ordered in
-    record {
-      kept = length-written at ys new (omega (arith, h, o, k)) ∙ k;
-      ordered = o;
-      low = take-written_below at ys new lo l (omega (arith, h, o, k)) ∙ s.low;
-      high = drop-written_above at ys new hi h (omega (arith, h, o, k)) ∙ s.high;
-    }
+outside-written lo hi old new at ys l h s = grind (arith, length-written, take-written_below, drop-written_above)
 
 -- a word outside is the same
 pub piece-outside : (lo hi : ℕ) (old new : List ℕ) (s : ℕ) → SameOutside lo hi old new → Clear lo (hi - lo) s
@@ -70,22 +62,11 @@ module _ (head : Block → List ℕ) where
   pub tiles-splice : (old new : List ℕ) (ls ms ns here : List Block) (lo hi : ℕ) → sizes ls ≡ lo → lo + sizes ms ≡ hi
       → Tiles head old (ls ++ (ms ++ ns)) → SameOutside lo hi old new
       → Tiles head (piece lo (hi - lo) new) here → Tiles head new (ls ++ (here ++ ns))
-  tiles-splice old new ls ms ns here lo hi a b t s h =
-      let p = tiles-split head old ls (ms ++ ns) t in
-      let q = tiles-split head (drop (sizes ls) old) ms ns p.1 in
-      let low : Tiles head (take lo new) ls = subst (λ k. Tiles head k ls) (ap (λ k. take k old) a ∙ sym s.low) p.0 in
-      let up : drop (sizes ms) (drop (sizes ls) old) ≡ drop hi new = drop-drop (sizes ms) (sizes ls) old
-      ∙ (λ i. drop (a i + sizes ms) old) ∙ ap (λ k. drop k old) b ∙ sym s.high in
-      tiles-joined new ls here ns lo hi s.ordered.0 low h (subst (λ k. Tiles head k ns) up q.1)
+  tiles-splice old new ls ms ns here lo hi a b t s h = grind (arith, tiles-split, drop-drop, tiles-joined)
 
 -- where the slots of the other blocks lead
 pub leads-splice : (old new : List ℕ) (ls ms ns here : List Block) (lo hi : ℕ) → sizes ls ≡ lo → lo + sizes ms ≡ hi
     → sizes here ≡ sizes ms → Leads 0 (ls ++ (ms ++ ns)) old → SameOutside lo hi old new
     → Each (Clear lo (hi - lo)) (names ls) → Each (Clear lo (hi - lo)) (names ns) → Leads lo here new
     → Leads 0 (ls ++ (here ++ ns)) new
-leads-splice old new ls ms ns here lo hi a b e t s c d h =
-    let high = leads-outside _ _ _ _ _ _ s d (leads-right _ _ _ _ (leads-right _ 0 _ _ t)) in
-    let f : lo ≡ 0 + sizes ls = omega (arith, a) in
-    let g : 0 + sizes ls + sizes ms ≡ 0 + sizes ls + sizes here = omega (arith, e) in
-    leads-append _ 0 _ _ (leads-outside _ _ _ _ 0 _ s c (leads-left _ 0 _ _ t))
-    (leads-append _ _ _ _ (subst (λ k. Leads k here new) f h) (subst (λ k. Leads k ns new) g high))
+leads-splice old new ls ms ns here lo hi a b e t s c d h = grind (arith, leads-outside, leads-right, leads-append, leads-left)

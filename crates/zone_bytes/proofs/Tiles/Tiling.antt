@@ -29,8 +29,7 @@ slot-append_left s (b ∷ ls) ms (inr i) = inr (i.0, slot-append_left (s - size 
 pub slot-append_right : (s : ℕ) (ls ms : List Block) → sizes ls ≤ s → IsSlot (s - sizes ls) ms → IsSlot s (ls ++ ms)
 slot-append_right s [] ms l i = let e : s - 0 ≡ s = omega arith in subst (λ k. IsSlot k ms) e i
 slot-append_right s (b ∷ ls) ms l i =
-    let e : s - (size b + sizes ls) ≡ s - size b - sizes ls = omega arith in
-    inr (omega (arith, l), slot-append_right (s - size b) ls ms (omega (arith, l)) (subst (λ k. IsSlot k ms) e i))
+    inr (omega (arith, l), slot-append_right (s - size b) ls ms (omega (arith, l)) (subst (λ k. IsSlot k ms) (omega arith) i))
 
 pub slot-split : (s : ℕ) (ls ms : List Block) → IsSlot s (ls ++ ms)
     → IsSlot s ls ⊎ ((sizes ls ≤ s) × IsSlot (s - sizes ls) ms)
@@ -39,8 +38,7 @@ slot-split s (b ∷ ls) ms (inl i) = inl (inl i)
 slot-split s (b ∷ ls) ms (inr i) = elim (slot-split (s - size b) ls ms i.1) [
   | inl j ↦ inl (inr (i.0, j))
   | inr j ↦
-      let e : s - size b - sizes ls ≡ s - (size b + sizes ls) = omega arith in
-      inr (omega (arith, i.0, j.0), subst (λ k. IsSlot k ms) e j.1)
+      inr (omega (arith, i.0, j.0), subst (λ k. IsSlot k ms) (omega arith) j.1)
 ]
 
 module _ (head : Block → List ℕ) where
@@ -51,25 +49,11 @@ module _ (head : Block → List ℕ) where
 
   -- a block's bytes followed by others
   pub tile-append : (h : List ℕ) (n : ℕ) (xs ys : List ℕ) → Tile h n xs → Tile h n (xs ++ ys)
-  tile-append h n xs ys t =
-      record {
-        fits = omega (arith, length-append xs ys, t.fits);
-        whole = t.whole;
-        some = t.some;
-        room = t.room;
-        begins = take-append-le (length h) xs ys (omega (arith, t.fits, t.room)) ∙ t.begins;
-      }
+  tile-append h n xs ys t = grind (arith, length-append, take-append-le)
 
   -- a block's bytes without the others
   pub tile-take : (h : List ℕ) (n k : ℕ) (xs : List ℕ) → n ≤ k → k ≤ length xs → Tile h n xs → Tile h n (take k xs)
-  tile-take h n k xs l m t =
-      record {
-        fits = omega (arith, length-take-le k xs m, l);
-        whole = t.whole;
-        some = t.some;
-        room = t.room;
-        begins = take-take (length h) k xs (omega (arith, l, t.room)) ∙ t.begins;
-      }
+  tile-take h n k xs l m t = grind (arith, length-take-le, take-take)
 
   pub tiles-append : (xs ys : List ℕ) (ls ms : List Block) → Tiles head xs ls → Tiles head ys ms
       → Tiles head (xs ++ ys) (ls ++ ms)

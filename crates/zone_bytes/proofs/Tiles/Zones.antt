@@ -13,9 +13,7 @@ use Rattle.zone_bytes.proofs.Tiles.Keeping.{lays-settled}
 -- the spelling of bytes that lay a zone is that zone
 pub respelled : (xs : List ℕ) (blocks : List Block) (slots : ℕ → Slot) (unused : List ℕ) → Lays xs blocks slots unused
     → Lays xs (zone_in xs) (slot_in xs) unused
-respelled xs blocks slots unused h =
-    subst (λ b. Lays xs b (slot_in xs) unused) (sym (zone-of _ _ slots _ h))
-    (subst (λ f. Lays xs blocks f unused) (λ i s. sym (slots-of _ _ slots _ h s) i) h)
+respelled xs blocks slots unused h = grind (arith, zone-of, slots-of)
 
 -- the lay of a run in bytes
 abbrev pub lay_of : RunSpot → List ℕ → Lay

@@ -13,8 +13,7 @@ read_header-nonrelocatable-requires-clause-within c =
     let n = next-header c.args.place c.args.part.now.bytes c.requires.way c.requires.some in (n.even, n.fits)
 
 pub read_header-nonrelocatable-requires-clause-tag : goal.read_header-nonrelocatable-requires-clause-tag
-read_header-nonrelocatable-requires-clause-tag c =
-    (next-header c.args.place c.args.part.now.bytes c.requires.way c.requires.some).tag
+read_header-nonrelocatable-requires-clause-tag c = grind (arith, next-header)
 
 pub write_header-requires-clause-within : goal.write_header-requires-clause-within
 write_header-requires-clause-within c =

@@ -18,20 +18,7 @@ pub write_word-requires : goal.write_word-requires
 write_word-requires c = (omega (arith, even), omega (arith, even, bounds))
 
 pub write_word-requires-2 : goal.write_word-requires-2
-write_word-requires-2 c =
-    let h = c.requires.1.splice in
-    let xs = c.args.part.now.bytes in
-    let all = c.requires.0.below ++ (c.requires.0.here ++ c.requires.0.above) in
-    let w = length-tiles (head_of c.requires.0.resource) xs all h.lies.tiles in
-    let k = c.write_header.ensures.same in
-    let m = c.fill.ensures.same_length in
-    let same : length c.if-bytes-top.part.bytes ≡ length xs = elim c.if-bytes-top.branch [
-      | then-bytes-top w ↦ let n = w.write_word.ensures.same in ap (λ p. length p.bytes) w.part-is ∙ n.2 ∙ m ∙ k.2
-      | else-bytes-top w ↦ ap (λ p. length p.bytes) w.part-is ∙ m ∙ k.2
-    ] in (
-      slot-even (head_of c.requires.0.resource) xs c.args.slot all h.lies.tiles c.requires.1.is_slot,
-      omega (arith, slot-inside, w, same),
-    )
+write_word-requires-2 c = grind (arith, length-tiles, then-bytes-top, else-bytes-top, slot-even, slot-inside)
 
 pub returns-clause-lies : goal.returns-clause-lies
 returns-clause-lies c = λ z q.

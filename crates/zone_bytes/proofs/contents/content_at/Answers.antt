@@ -1,4 +1,4 @@
-use Rattle.std.proofs.Common.{◌+◌, sym, ap, ◌∙◌, arith}
+use Rattle.std.proofs.Common.{◌+◌, sym, ap, ◌∙◌, arith, rules}
 use Rattle.block_store.specs.Block.{content_of}
 use Rattle.windows.specs.Writes.{piece}
 use Rattle.zone_bytes.proofs.Tiles.Tags.{tag-small}
@@ -14,13 +14,10 @@ pub read_header-header-requires-clause-fits : goal.read_header-header-requires-c
 read_header-header-requires-clause-fits c = omega arith
 
 pub read_header-header-requires-clause-tag : goal.read_header-header-requires-clause-tag
-read_header-header-requires-clause-tag c =
-    (next-header c.args.place c.args.part.now.bytes c.requires.way c.requires.some).tag
+read_header-header-requires-clause-tag c = grind (arith, next-header)
 
 pub get_bytes-requires : goal.get_bytes-requires
-get_bytes-requires c =
-    let h = c.read_header-header.result in
-    let o = here-on _ _ c.requires.way c.requires.some _
+get_bytes-requires c = let o = here-on _ _ c.requires.way c.requires.some _
     _ c.read_header-header.ensures.first c.read_header-header.ensures.size (tag-small _) in
     omega (arith, (holds _ _ _ o (sym c.has_content.ensures ∙ c.if-has_content.true)).fits)
 
@@ -34,8 +31,6 @@ returns-then-has_content c = λ b above q.
     ∙ ap content_of (same-here _ _ _ o b _ q)
 
 pub returns-else-has_content : goal.returns-else-has_content
-returns-else-has_content c = λ b above q.
-    let o = here-on _ _ c.requires.way c.requires.some _
+returns-else-has_content c = λ b above q. let o = here-on _ _ c.requires.way c.requires.some _
     _ c.read_header-header.ensures.first c.read_header-header.ensures.size (tag-small _) in
-    sym (holds-none _ _ _ o (sym c.has_content.ensures ∙ c.if-has_content.false))
-    ∙ ap content_of (same-here _ _ _ o b _ q)
+    sym (holds-none _ _ _ o (search rules)) ∙ ap content_of (same-here _ _ _ o b _ q)

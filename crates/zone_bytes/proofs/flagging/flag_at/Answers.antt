@@ -10,8 +10,7 @@ pub read_header-header-requires-clause-fits : goal.read_header-header-requires-c
 read_header-header-requires-clause-fits c = omega arith
 
 pub read_header-header-requires-clause-tag : goal.read_header-header-requires-clause-tag
-read_header-header-requires-clause-tag c =
-    (next-header c.args.place c.args.part.now.bytes c.requires.way c.requires.some).tag
+read_header-header-requires-clause-tag c = grind (arith, next-header)
 
 pub write_word-requires : goal.write_word-requires
 write_word-requires c = let n = next-header _ _ c.requires.way c.requires.some in

@@ -15,8 +15,7 @@ read_header-header-requires-clause-within c =
     (n.even, n.fits)
 
 pub read_header-header-requires-clause-tag : goal.read_header-header-requires-clause-tag
-read_header-header-requires-clause-tag c =
-    (next-header _ _ c.loop-at.invariant.way (omega (arith, c.loop-at-test.true, c.requires.inside))).tag
+read_header-header-requires-clause-tag c = grind (arith, next-header)
 
 pub overflow_add-end : goal.overflow_add-end
 overflow_add-end c =

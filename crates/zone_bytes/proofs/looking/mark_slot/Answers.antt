@@ -50,10 +50,8 @@ returns-in-Some-clause-lays c = λ t h.
     (lays-marked _ _ t.slots _ h.lays _ _ r u.1 _ b)
 
 pub returns-in-None-clause-lays : goal.returns-in-None-clause-lays
-returns-in-None-clause-lays c = λ t h.
-    let xs = c.args.part.now.bytes in
+returns-in-None-clause-lays c = λ t h. let xs = c.args.part.now.bytes in
     let e = gone-of _ _ t.slots _ h.lays _ h.used (leads-read _ _ _ _ c.read_word.ensures c.in-None.ensures) in
     let u = flag xs t.blocks t.slots t.unused h.lays c.args.slot h.used in
-    subst (λ ys. Lays ys t.blocks (set_slot t.slots c.args.slot (Used c.args.resource)) t.unused)
-    (sym (c.write_word-in-None.ensures.bytes ∙ ap (λ n. written c.args.slot (word n) xs) c.word_of_empty.ensures))
+    subst (λ ys. Lays ys t.blocks (set_slot t.slots c.args.slot (Used c.args.resource)) t.unused) (sym (grind arith))
     (lays-emptied _ _ t.slots _ h.lays _ _ _ u.1 e.apart)

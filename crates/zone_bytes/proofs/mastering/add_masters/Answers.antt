@@ -20,8 +20,7 @@ overflow_add-top c =
 pub lay_block-requires : goal.lay_block-requires
 lay_block-requires c =
     let r = roomy _ _ _ _ _ c.requires.sound.1 c.requires.room in
-    let n = c.size_at.ensures r.s.here r.s.above r.at.left in
-    may-master c.args.part.now.bytes c.args.place (c.args.place + c.size_at.result) r (ap (λ k. c.args.place + k) n)
+    may-master c.args.part.now.bytes c.args.place (c.args.place + c.size_at.result) r (ap (λ k. c.args.place + k) (c.size_at.ensures r.s.here r.s.above r.at.left))
 
 pub thread_slots-requires-clause-even : goal.thread_slots-requires-clause-even
 thread_slots-requires-clause-even c =
@@ -35,8 +34,7 @@ thread_slots-requires-clause-inside c =
     (λ k. c.args.place + k) (c.size_at.ensures r.s.here r.s.above r.at.left))).1
 
 pub thread_slots-requires-clause-first : goal.thread_slots-requires-clause-first
-thread_slots-requires-clause-first c =
-    first-fits c.args.part.now.bytes c.args.first c.requires.sound.0 c.requires.sound.1
+thread_slots-requires-clause-first c = omega (arith, first-fits)
 
 pub returns-clause-lays : goal.returns-clause-lays
 returns-clause-lays c = λ unused i.

@@ -1,3 +1,4 @@
+use Rattle.std.proofs.Common.{rules}
 use Rattle.zone_bytes.proofs.Tiles.Tags.{tag-small}
 use Rattle.zone_bytes.proofs.Places.Stepped.{next-header}
 use Rattle.zone_bytes.proofs.Places.HeaderTells.{size-at}
@@ -11,7 +12,4 @@ pub read_header-requires-clause-tag : goal.read_header-requires-clause-tag
 read_header-requires-clause-tag c = (next-header _ _ c.requires.way c.requires.some).tag
 
 pub returns : goal.returns
-returns c = λ b above q.
-    let h = c.read_header.result in
-    let e = c.read_header.ensures in
-    size-at _ _ c.requires.way c.requires.some _ _ e.first e.size (tag-small h.tag) b _ q
+returns c = search (rules, size-at, tag-small)

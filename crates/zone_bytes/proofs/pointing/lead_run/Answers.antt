@@ -7,12 +7,7 @@ use Rattle.zone_bytes.proofs.pointing.lead_run.Goals as goal
 use Rattle.zone_bytes.proofs.pointing.lead_run.Goals.{then-eq, else-eq}
 
 pub loop-from-init : goal.loop-from-init
-loop-from-init g c = (
-  subst (λ xs. Pointing g.lay c.args.stop c.args.place xs) (sym c.requires.0) (start-pointing _ _ _ c.requires.1),
-  refl,
-  refl,
-  refl,
-)
+loop-from-init g c = grind (arith, start-pointing)
 
 pub read_header-header-requires-clause-within : goal.read_header-header-requires-clause-within
 read_header-header-requires-clause-within g c =

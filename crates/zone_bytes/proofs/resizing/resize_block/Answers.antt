@@ -15,9 +15,7 @@ use Rattle.zone_bytes.proofs.resizing.resize_block.Goals.{After-read_header-head
 
 -- the header that was read
 read : (c : After-read_header-header) → Read c.read_header-header.result c.args.place c.args.part.now.bytes
-read c =
-    let e = c.read_header-header.ensures in
-    record { first = e.first; even = e.size; long = e.logical; named = e.slot; marked = e.flags }
+read c = grind arith
 
 pub read_header-header-requires-clause-within : goal.read_header-header-requires-clause-within
 read_header-header-requires-clause-within c =
@@ -39,38 +37,31 @@ pub returns-then-not-has_content-clause-cut : goal.returns-then-not-has_content-
 returns-then-not-has_content-clause-cut c = λ first unused i.
     let a = room-at c.args.part.now.bytes first unused c.args.place c.args.bytes i c.requires.room in
     let r = read (goal.at.returns-then-not-has_content-clause-cut c).After-read_header-header in
-    let k : (tag_number c.read_header-header.result.tag % 2 == 1) ≡ false =
-    sym c.has_content.ensures ∙ c.if-not-has_content.true in
-    let none = ap (λ t. t % 2 == 1) (sym (kind-is c.args.part.now.bytes c.args.place c.args.bytes a.0 a.3 _ r)) ∙ k in
+    let none = ap (λ t. t % 2 == 1) (sym (kind-is c.args.part.now.bytes c.args.place c.args.bytes a.0 a.3 _ r)) ∙ (sym c.has_content.ensures ∙ c.if-not-has_content.true) in
     cut-if _ _ _ _ _ a.1 _ (λ le. kept-cut _ _ _ _ a.3 none _ _ i)
 
 pub returns-then-not-has_content-clause-grown : goal.returns-then-not-has_content-clause-grown
 returns-then-not-has_content-clause-grown c = λ first unused i.
     let a = room-at c.args.part.now.bytes first unused c.args.place c.args.bytes i c.requires.room in
     let r = read (goal.at.returns-then-not-has_content-clause-grown c).After-read_header-header in
-    let k : (tag_number c.read_header-header.result.tag % 2 == 1) ≡ false =
-    sym c.has_content.ensures ∙ c.if-not-has_content.true in
-    let none = ap (λ t. t % 2 == 1) (sym (kind-is c.args.part.now.bytes c.args.place c.args.bytes a.0 a.3 _ r)) ∙ k in
+    let none = ap (λ t. t % 2 == 1) (sym (kind-is c.args.part.now.bytes c.args.place c.args.bytes a.0 a.3 _ r)) ∙ (sym c.has_content.ensures ∙ c.if-not-has_content.true) in
     grown-if _ _ _ _ _ a.1 _ (kept-grown c.args.part.now.bytes c.args.place c.args.bytes a.0 a.3 none first unused i)
 
 pub overflow_add-end : goal.overflow_add-end
 overflow_add-end c =
     let a = room-at _ _ _ _ _ c.requires.sound.2 c.requires.room in
-    let r = read (goal.at.overflow_add-end c).After-read_header-header in
-    omega (arith, size-is c.args.part.now.bytes c.args.place c.args.bytes a.0 a.3 _ r)
+    omega (arith, size-is c.args.part.now.bytes c.args.place c.args.bytes a.0 a.3 _ (read (goal.at.overflow_add-end c).After-read_header-header))
 
 pub free_behind-requires : goal.free_behind-requires
 free_behind-requires c =
     let a = room-at _ _ _ _ _ c.requires.sound.2 c.requires.room in
-    let r = read (goal.at.free_behind-requires c).After-read_header-header in
-    way-behind c.args.part.now.bytes c.args.place c.args.bytes a.0 a.3 _ r
+    way-behind c.args.part.now.bytes c.args.place c.args.bytes a.0 a.3 _ (read (goal.at.free_behind-requires c).After-read_header-header)
 
 pub overflow_add-top : goal.overflow_add-top
 overflow_add-top c =
     let a = room-at _ _ _ _ _ c.requires.sound.2 c.requires.room in
-    let r = read (goal.at.overflow_add-top c).After-read_header-header in
     let o = sym c.has_content.ensures ∙ c.if-not-has_content.false in
-    omega (arith, ends _ _ _ _ a.3 _ r o a.2 _ _ c.free_behind.ensures refl)
+    omega (arith, ends _ _ _ _ a.3 _ (read (goal.at.overflow_add-top c).After-read_header-header) o a.2 _ _ c.free_behind.ensures refl)
 
 pub padded_size-requires : goal.padded_size-requires
 padded_size-requires c =
@@ -83,9 +74,8 @@ padded_size-requires c =
 pub lay_block-requires : goal.lay_block-requires
 lay_block-requires c =
     let a = room-at _ _ _ _ _ c.requires.sound.2 c.requires.room in
-    let r = read (goal.at.lay_block-requires c).After-read_header-header in
     let o = sym c.has_content.ensures ∙ c.if-not-has_content.false in
-    may-size _ _ _ _ a.3 _ r o a.2 _ _ c.free_behind.ensures c.padded_size.ensures
+    may-size _ _ _ _ a.3 _ (read (goal.at.lay_block-requires c).After-read_header-header) o a.2 _ _ c.free_behind.ensures c.padded_size.ensures
 
 pub overflow_add-result : goal.overflow_add-result
 overflow_add-result c =

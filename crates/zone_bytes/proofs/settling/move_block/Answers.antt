@@ -16,9 +16,7 @@ still c =
     ap (λ k. written k (piece a.from a.size xs) xs) e ∙ written-same _ _ _ _ c.requires.inside refl
 
 pub returns-then-gap-gt0-clause-bytes : goal.returns-then-gap-gt0-clause-bytes
-returns-then-gap-gt0-clause-bytes c =
-    c.write_word-then-gap-gt0.ensures.bytes ∙ sym (ap (written c.args.slot (word (c.args.to + c.args.gap)))
-    (still (goal.at.returns-then-gap-gt0-clause-bytes c).Else-to-from))
+returns-then-gap-gt0-clause-bytes c = grind (arith, still)
 
 pub returns-else-gap-gt0-clause-bytes : goal.returns-else-gap-gt0-clause-bytes
 returns-else-gap-gt0-clause-bytes c =

@@ -1,5 +1,5 @@
 use Rattle.std.proofs.Common.{◌≡◌, ℕ, true, false, ◌+◌, ◌-◌, ◌<◌, ◌≤◌, ◌⊎◌, inl, inr, List, [], ◌∷◌, ◌++◌, length, refl, sym}
-use Rattle.std.proofs.Common.{ap, ◌∙◌, subst, arith, append_assoc}
+use Rattle.std.proofs.Common.{ap, ◌∙◌, subst, arith, append_assoc, rules}
 use Rattle.std.proofs.lemmas.List.{append-nil}
 use denote.Enum.Bare.{sameb}
 use Rattle.heap_words.specs.contracts.header.Tag.{the_type}
@@ -48,14 +48,10 @@ bounds g c =
     stop-inside _ _ _ c.requires.1.0 c.args.gap s.from s.to s.moves _ s.invariant.0.state.kept
 
 pub read_header-header-requires-clause-within : goal.read_header-header-requires-clause-within
-read_header-header-requires-clause-within g c =
-    let n = there g (goal.at.read_header-header-requires-clause-within g c).In-loop-from in
-    (n.even, n.fits)
+read_header-header-requires-clause-within g c = grind arith
 
 pub read_header-header-requires-clause-fits : goal.read_header-header-requires-clause-fits
-read_header-header-requires-clause-fits g c =
-    let d = (goal.at.read_header-header-requires-clause-fits g c).In-loop-from in
-    omega (arith, (there g d).fits, bounds)
+read_header-header-requires-clause-fits g c = grind arith
 
 pub read_header-header-requires-clause-tag : goal.read_header-header-requires-clause-tag
 read_header-header-requires-clause-tag g c =
@@ -65,7 +61,6 @@ read_header-header-requires-clause-tag g c =
 inside : (g : Over) (c : After-eq g) → c.loop-from.from < c.args.place + sizes g.lay.run
 inside g c =
     let s = c.loop-from in
-    let h = c.read_header-header.result in
     let e = c.read_header-header.ensures in
     within _ _ _ c.requires.1.0 _ _ _ _ _
     c.requires.1.1.0 s.invariant.0 (omega arith) _ _ _ e.first e.size (tag-small _) e.flags c.if-not-is_in_run.ensures
@@ -75,20 +70,15 @@ mover : (g : Over) (c : After-eq g) → true ≡ sameb the_type c.read_header-he
     → NextMover g.lay c.args.gap (c.args.place + sizes g.lay.run) c.loop-from.from c.loop-from.to c.loop-from.moves
     c.loop-from.part.bytes c.loop-from.invariant.0.moved c.read_header-header.result.size
     c.read_header-header.result.slot
-mover g c t =
-    let e = c.read_header-header.ensures in
-    next-mover _ _ _ c.requires.1.0 _ _ _ _ _
-    c.loop-from.invariant.0 (inside g c) _ _ _ e.first e.size (tag-true _ t) e.slot
+mover g c t = search (rules, next-mover, inside, tag-true)
 
 -- or a Free one
 free : (g : Over) (c : After-eq g) → false ≡ sameb the_type c.read_header-header.result.tag Relocatable
     → (q : Packing g.lay c.args.gap (c.args.place + sizes g.lay.run)
     (c.loop-from.from + c.read_header-header.result.size) c.loop-from.to c.loop-from.moves c.loop-from.part.bytes)
     × (q.moved ≡ c.loop-from.invariant.0.moved)
-free g c t =
-    let s = c.loop-from in
-    next-free _ _ _ c.requires.1.0 _ _ _ _ _
-    s.invariant.0 (inside g c) _ _ c.read_header-header.ensures.first c.read_header-header.ensures.size (tag-false _ t)
+free g c t = next-free _ _ _ c.requires.1.0 _ _ _ _ _
+    c.loop-from.invariant.0 (inside g c) _ _ c.read_header-header.ensures.first c.read_header-header.ensures.size (tag-false _ t)
 
 pub move_block-moves-requires-clause-down : goal.move_block-moves-requires-clause-down
 move_block-moves-requires-clause-down g c = c.loop-from.invariant.0.state.down
@@ -107,10 +97,8 @@ move_block-moves-requires-clause-leads g c =
     (mover g (goal.at.move_block-moves-requires-clause-leads g c).After-eq c.if-eq.ensures).leads
 
 pub overflow_add-moves : goal.overflow_add-moves
-overflow_add-moves g c =
-    let m = mover g (goal.at.overflow_add-moves g c).After-eq c.if-eq.ensures in
-    let b = moves-bound _ _ _ c.requires.1.0 _ _ _ _ _
-    (m.packing c.move_block-moves.result c.move_block-moves.ensures.moves) in
+overflow_add-moves g c = let b = moves-bound _ _ _ c.requires.1.0 _ _ _ _ _
+    ((mover g (goal.at.overflow_add-moves g c).After-eq c.if-eq.ensures).packing c.move_block-moves.result c.move_block-moves.ensures.moves) in
     omega (arith, b)
 
 pub overflow_add-to : goal.overflow_add-to
@@ -169,8 +157,7 @@ loop-from-preserved g c =
 
 pub loop-from-smaller : goal.loop-from-smaller
 loop-from-smaller g c =
-    let b = (there g (goal.at.loop-from-smaller g c).In-loop-from).big in
-    let some : 0 < c.read_header-header.result.size = omega (arith, b, tag-small) in
+    let some : 0 < c.read_header-header.result.size = omega (arith, ((there g (goal.at.loop-from-smaller g c).In-loop-from).big), tag-small) in
     omega (arith, inside g ((goal.at.loop-from-smaller g c).After-eq), some)
 
 -- the run was gone over, or has enough
@@ -205,8 +192,7 @@ noted g c base before e a =
 pub write_word-requires : goal.write_word-requires
 write_word-requires g c =
     let s = c.loop-from in
-    let k = stop-inside _ _ _ c.requires.1.0 c.args.gap s.from s.to s.moves _ s.invariant.0.state.kept in
-    (omega arith, omega (arith, k))
+    (omega arith, omega (arith, (stop-inside _ _ _ c.requires.1.0 c.args.gap s.from s.to s.moves _ s.invariant.0.state.kept)))
 
 pub returns-then-to-from-clause-packed : goal.returns-then-to-from-clause-packed
 returns-then-to-from-clause-packed g c =
@@ -217,10 +203,7 @@ returns-then-to-from-clause-packed g c =
     (ended g (goal.at.returns-then-to-from-clause-packed g c).Left-loop-from) c.if-to-from.true)
 
 pub returns-else-to-from-clause-packed : goal.returns-else-to-from-clause-packed
-returns-else-to-from-clause-packed g c =
-    let p = c.loop-from.invariant.0 in
-    until-none _ _ _ p.split _ _ c.requires.1.0 _ _ _ _ _ _ p.those p.state _
-    (ended g (goal.at.returns-else-to-from-clause-packed g c).Left-loop-from) (omega arith)
+returns-else-to-from-clause-packed g c = search (rules, until-none, ended)
 
 pub move_block-moves-requires-clause-fits : goal.move_block-moves-requires-clause-fits
 move_block-moves-requires-clause-fits g c = omega (arith, inside, bounds)

@@ -1,4 +1,4 @@
-use Rattle.std.proofs.Common.{◌≡◌, ◌++◌, [], subst, arith}
+use Rattle.std.proofs.Common.{◌≡◌, ◌++◌, [], subst, arith, rules}
 use Rattle.block_store.specs.Run.{movers}
 use Rattle.zone_bytes.specs.Edges.{AreEdges}
 use Rattle.zone_bytes.specs.Settling.{rest_from}
@@ -13,22 +13,13 @@ nothing-left g c =
     all-gone g.lay c.args.place 0 4294967295 _ _ _ _ _ _ c.requires.1.0 c.pack_until.ensures.packed (omega arith)
 
 pub returns-clause-settled : goal.returns-clause-settled
-returns-clause-settled g c =
-    let n = nothing-left g (goal.at.returns-clause-settled g c).After-pack_until in
-    settled-led _ _ _ _ _ c.requires.1.0
-    (whole-packed g.lay c.args.place 0 4294967295 _ _ _ _ _ _ c.requires.1.0 c.pack_until.ensures.packed n)
+returns-clause-settled g c = search (rules, nothing-left, settled-led, whole-packed)
 
 pub returns-clause-top : goal.returns-clause-top
-returns-clause-top g c = whole-top g.lay c.args.place 0 4294967295 _ _ _ _ _ _ c.requires.1.0 c.pack_until.ensures.packed
-    (nothing-left g (goal.at.returns-clause-top g c).After-pack_until)
+returns-clause-top g c = search (rules, whole-top, nothing-left)
 
 pub returns-clause-stop : goal.returns-clause-stop
-returns-clause-stop g c = whole-stop g.lay c.args.place 0 4294967295 _ _ _ _ _ _ c.requires.1.0 c.pack_until.ensures.packed
-    (nothing-left g (goal.at.returns-clause-stop g c).After-pack_until)
+returns-clause-stop g c = search (rules, whole-stop, nothing-left)
 
 pub returns-clause-edges : goal.returns-clause-edges
-returns-clause-edges g c = λ base before e a.
-    let u = all-of g.lay c.args.place 0 4294967295 _ _ _ _ _ _ c.requires.1.0 c.pack_until.ensures.packed
-    (nothing-left g (goal.at.returns-clause-edges g c).After-pack_until) in
-    subst (λ l. AreEdges c.pack_until.new.edges base (before ++ movers l)) u
-    (c.pack_until.ensures.edges base before (omega (arith, e)) a)
+returns-clause-edges g c = search (rules, all-of, nothing-left)

@@ -7,29 +7,22 @@ use Rattle.zone_bytes.proofs.Places.Stepped.{next-header, stepped, tells-step, t
 use Rattle.zone_bytes.proofs.raw_walk.RawWalkWalk.next_block.Goals as goal
 
 pub returns-then-self-len : goal.returns-then-self-len
-returns-then-self-len c =
-    subst (λ v. Tells v None v) c.self.view_is (tells-none _ _ c.self.invariant (omega (arith, c.len.ensures)))
+returns-then-self-len c = grind (arith, tells-none)
 
 pub read_header-header-requires-clause-within : goal.read_header-header-requires-clause-within
-read_header-header-requires-clause-within c =
-    let n = next-header _ _ c.self.invariant (omega (arith, c.len.ensures)) in
-    (n.even, n.fits)
+read_header-header-requires-clause-within c = grind arith
 
 pub read_header-header-requires-clause-tag : goal.read_header-header-requires-clause-tag
-read_header-header-requires-clause-tag c =
-    (next-header c.self.inside.at c.self.inside.part.now.bytes c.self.invariant (omega (arith, c.len.ensures))).tag
+read_header-header-requires-clause-tag c = grind (arith, next-header)
 
 pub overflow_add-self : goal.overflow_add-self
 overflow_add-self c =
-    let h = c.read_header-header.result in
     let e = c.read_header-header.ensures in
-    let s = stepped _ _ c.self.invariant (omega (arith, c.len.ensures)) _ _ e.first e.size (tag-small h.tag) in
+    let s = stepped _ _ c.self.invariant (omega (arith, c.len.ensures)) _ _ e.first e.size (tag-small c.read_header-header.result.tag) in
     omega arith
 
 pub invariant_of-self : goal.invariant_of-self
-invariant_of-self c =
-    let h = c.read_header-header.result in
-    (stepped _ _ c.self.invariant (omega (arith, c.len.ensures)) _
+invariant_of-self c = (stepped _ _ c.self.invariant (omega (arith, c.len.ensures)) _
     _ c.read_header-header.ensures.first c.read_header-header.ensures.size (tag-small _)).way
 
 pub returns : goal.returns
