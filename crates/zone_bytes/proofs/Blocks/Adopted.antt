@@ -1,5 +1,5 @@
 -- A nonrelocatable block that becomes the block of a slot.
-use Rattle.std.proofs.Common.{◌≡◌, ℕ, Bool, true, false, IsTrue, ◌==◌, ◌+◌, ◌-◌, ◌%◌, ◌<◌, ◌≤◌}
+use Rattle.std.proofs.Common.{◌≡◌, ℕ, Bool, true, false, IsTrue, ◌==◌, ◌+◌, ◌-◌, ◌%◌, ◌<◌, ◌≤◌, rules}
 use Rattle.std.proofs.Common.{inl, inr, Some, List, [], ◌∷◌, ◌++◌, length, take, drop, sym, refl}
 use Rattle.std.proofs.Common.{ap, ◌∙◌, subst, arith}
 use Rattle.std.proofs.lemmas.Bool.{false≢true}
@@ -55,8 +55,7 @@ use Rattle.zone_bytes.proofs.Laws.Lawful.{Made, made}
 pub length-at : (at : ℕ) (xs : List ℕ) → IsOnWay at xs → (id : ℕ) (content : List ℕ) (above : List Block)
     → left_in at xs ≡ Nonrelocatable id content ∷ above → word_at (at + 4) xs ≡ length content
 length-at at xs w id content above e =
-    let v = subst (Walk w.resource at xs) (sym (left-is at xs w) ∙ e) w.walk in
-    same _ _ (told-is w.resource at xs w.small (Nonrelocatable id content) v.high.0 tt)
+    same _ _ (told-is w.resource at xs w.small (Nonrelocatable id content) (subst (Walk w.resource at xs) (sym (left-is at xs w) ∙ e) w.walk).high.0 tt)
   where
     same : (a b : ℕ) → see.Nonrelocatable a ≡ see.Nonrelocatable b → a ≡ b
     same a b e = cc
@@ -161,8 +160,7 @@ module _ (xs : List ℕ) (first count : ℕ) (i : IsSound xs first count) (below
   fits-in = fits xs first count i place 0 [] below old above whole low
 
   same : SameOutside place (place + n) xs mid
-  same = outside-written _ _ _ _ _ head (omega arith) (omega (arith, long))
-      (outside-same place (place + n) xs (omega arith) fits-in)
+  same = outside-written _ _ _ _ _ head (omega arith) (omega (arith, long)) (grind (arith, outside-same, fits-in))
 
   new-tile : Tile (head_of resource new) n (drop place mid)
   unfolding head_of
@@ -177,8 +175,7 @@ module _ (xs : List ℕ) (first count : ℕ) (i : IsSound xs first count) (below
       let f = new-tile.fits in
       let l : place + n - place ≡ n = omega arith in
       subst (λ j. Tiles (head_of resource) (take j (drop place mid)) (new ∷ [])) (sym l)
-      (tiles-one (head_of resource) _ _ (length-take-le n (drop place mid) f)
-      (tile-take (head_of resource) _ n n _ (omega arith) f new-tile))
+      (search (rules, tiles-one, length-take-le, tile-take, new-tile))
 
   forth : (s : ℕ) → IsSlot s all → IsSlot s now
   forth s j = slot-kept _ _ (place + n) xs st s (new ∷ []) refl j
@@ -198,8 +195,7 @@ module _ (xs : List ℕ) (first count : ℕ) (i : IsSound xs first count) (below
   -- the slots of other blocks lead to them
   others-lead : (o : ℕ) (bs : List Block) → Each (Clear place (place + n - place)) (names bs)
       → Each (Apart number) (names bs) → Leads o bs xs → Leads o bs done
-  others-lead o bs c a l = leads-written _ _ _ o _ slot-fits
-      (each-map (Apart number) (Clear number (length (word place))) (λ t p. apart-clear _ _ t p) _ a)
+  others-lead o bs c a l = leads-written _ _ _ o _ slot-fits (search (rules, each-map, Clear, apart-clear))
       (leads-outside _ _ _ _ o _ same c l)
 
   lies : Lies resource now done
@@ -279,6 +275,5 @@ module _ (xs : List ℕ) (first count : ℕ) (i : IsSound xs first count) (place
       → left_in place xs ≡ Nonrelocatable id content ∷ above → after ≡ adopted number flags place content xs)
       → Made after first count (a.s.below ++ Relocatable number flags a.content ∷ a.s.above) (slot_in xs)
   adopted-at after bytes =
-      let e = bytes a.id a.content a.s.above (left-at _ _ _ i _ _ a.is ∙ ap (λ b. b ∷ a.s.above) a.here) in
       subst (λ ys. Made ys first count (a.s.below ++ Relocatable number flags a.content ∷ a.s.above) (slot_in xs))
-      (sym e) (adopted-made _ _ _ i _ _ _ _ a.whole _ a.low _ flags used none)
+      (sym (bytes a.id a.content a.s.above (left-at _ _ _ i _ _ a.is ∙ ap (λ b. b ∷ a.s.above) a.here))) (adopted-made _ _ _ i _ _ _ _ a.whole _ a.low _ flags used none)

@@ -53,10 +53,7 @@ apart-put (c ∷ d ∷ below) n new above st sw a = (
 swap : (slot : ℕ) (content : List ℕ) (c : Block) (n : ℕ) (bs cs : List Block) → add c (Free n ∷ bs) ≡ c ∷ Free n ∷ bs
     → add c (Relocatable slot no_flags content ∷ cs) ≡ c ∷ Relocatable slot no_flags content ∷ cs
 swap slot content (Free zero) n bs cs e = absurd (let l = ap length e in omega arith)
-swap slot content (Free (suc m)) n bs cs e = refl
-swap slot content (Nonrelocatable id held) n bs cs e = refl
-swap slot content Masters n bs cs e = refl
-swap slot content (Relocatable id flags held) n bs cs e = refl
+swap slot content _ n bs cs e = refl
 
 abbrev bytes_of : Block → ℕ
 bytes_of b = size b
@@ -69,8 +66,7 @@ module _ (slot size : ℕ) where
       → tidy (below ++ Free n ∷ above) ≡ below ++ Free n ∷ above
       → tidy (below ++ new ∷ (free k ++ above)) ≡ below ++ new ∷ (free k ++ above)
   carved-tidy below n k above t =
-      tidy-apart _ (apart-shrunk _ _ n k _ (λ bs. refl) (apart-put _ n _ _ (λ bs. refl) (swap _ _)
-      (apart-tidied _ t)))
+      tidy-apart _ (apart-shrunk _ _ n k _ (λ bs. refl) (grind (arith, apart-put, swap, apart-tidied)))
 
   pub carved-filled : (below : List Block) (k : ℕ) (above : List Block)
       → tidy (below ++ new ∷ Free k ∷ above) ≡ tidy (below ++ new ∷ (free k ++ above))
@@ -240,9 +236,7 @@ pub record FreeAt (xs : List ℕ) (place size : ℕ) : Type 0 where
 
 free-of : (p : ℕ) (b : Block) → IsTrue (is_room p b) → (n : ℕ) × (b ≡ Free n) × (p ≤ n)
 free-of p (Free n) h = (n, refl, le-back p n h)
-free-of p (Nonrelocatable id content) h = absurd (false≢true h)
-free-of p Masters h = absurd (false≢true h)
-free-of p (Relocatable id flags content) h = absurd (false≢true h)
+free-of p _ h = absurd (false≢true h)
 
 pub free-at : (xs : List ℕ) (place size : ℕ)
     → IsSomeAnd (spot_at place (zone_in xs)) (λ s. IsTrue (is_room (padded size) s.here)) → FreeAt xs place size

@@ -125,10 +125,7 @@ module _ (zone : Splice) (bottom top : ℕ) (xs : List ℕ) (h : IsSplice zone b
             let one = tiles-one head _ _ m (free-tile zone.resource _ _ m (omega (arith, even)) some
             (take-take 4 rest (drop (bottom + padded n) mid) (omega (arith, some)) ∙ z.1)) in
             subst (λ j. Tiles head (piece (bottom + padded n) rest mid) j) (sym (free-some rest z.0)) one
-      ] in (
-        subst (λ j. Tile (head block) j ys) (sym span-new) tile,
-        subst (λ j. Tiles head j (free rest)) (sym (ap (λ j. drop j ys) span-new ∙ cut)) above,
-      )
+      ] in (grind (arith, span-new))
 
   leads-free : (o k : ℕ) (ys : List ℕ) → Leads o (free k) ys
   leads-free o zero ys = tt
@@ -189,12 +186,9 @@ module _ (zone : Splice) (bottom top : ℕ) (xs : List ℕ) (h : IsSplice zone b
       (omega (arith, length-header, room)) (outside-same bottom top xs b.0 (omega (arith, b))))
 
   pub first-head : piece bottom (16 + n) first ≡ header (padded n + 3) n slot fl ++ replicate n 0
-  first-head =
-      let l = length-replicate {A = ℕ} n 0 in
-      let m = length-append (header (padded n + 3) n slot fl) (replicate n 0) in
-      ap (piece bottom (16 + n)) (written-written _ _ _
+  first-head = ap (piece bottom (16 + n)) (written-written _ _ _
       (replicate n 0) _ (omega (arith, length-header)) (omega (arith, bounds)))
-      ∙ piece-written _ (header (padded n + 3) n slot fl ++ replicate n 0) xs (16 + n) (omega (arith, m, length-header, l))
+      ∙ piece-written _ (header (padded n + 3) n slot fl ++ replicate n 0) xs (16 + n) (omega (arith, (length-append (header (padded n + 3) n slot fl) (replicate n 0)), length-header, (length-replicate {A = ℕ} n 0)))
       (omega (arith, bounds))
 
   pub with-rest : padded n < top - bottom → let mid = written (bottom + padded n) (word rest) first in

@@ -1,6 +1,6 @@
 -- A block of a RawZone that is written anew where it stands.
 use Rattle.std.proofs.Common.{◌≡◌, ℕ, false, ◌+◌, ◌-◌, ◌<◌, inl, inr, if◌then◌else◌, List, [], ◌∷◌, ◌++◌, take, drop}
-use Rattle.std.proofs.Common.{sym, ap, ◌∙◌, subst, arith}
+use Rattle.std.proofs.Common.{sym, ap, ◌∙◌, subst, arith, rules}
 use Rattle.std.proofs.lemmas.Bool.{false≢true}
 use Rattle.std.proofs.lemmas.List.{length-take-le}
 use Rattle.windows.specs.Writes.{piece}
@@ -24,22 +24,16 @@ use Rattle.block_store.specs.Slot.{is_resource}
 
 -- where a slot leads hangs on the block's names alone
 pub leads-each : (o : ℕ) (b : Block) (xs : List ℕ) → LeadsTo o b xs → Each (λ s. piece s 4 xs ≡ word o) (names_of b)
-leads-each o (Free n) xs l = tt
-leads-each o (Nonrelocatable id content) xs l = tt
-leads-each o Masters xs l = tt
 leads-each o (Relocatable slot flags content) xs l = (l, tt)
+leads-each o _ xs l = tt
 
 pub each-leads : (o : ℕ) (b : Block) (xs : List ℕ) → Each (λ s. piece s 4 xs ≡ word o) (names_of b) → LeadsTo o b xs
-each-leads o (Free n) xs e = tt
-each-leads o (Nonrelocatable id content) xs e = tt
-each-leads o Masters xs e = tt
 each-leads o (Relocatable slot flags content) xs e = e.0
+each-leads o _ xs e = tt
 
 pub no-slots : (b : Block) → is_masters b ≡ false → (s : ℕ) → IsSlot s (b ∷ []) → ⊥
-no-slots (Free n) m s i = elim i [ inl k ↦ k | inr k ↦ k.1 ]
-no-slots (Nonrelocatable id content) m s i = elim i [ inl k ↦ k | inr k ↦ k.1 ]
 no-slots Masters m s i = absurd (false≢true (sym m))
-no-slots (Relocatable slot flags content) m s i = elim i [ inl k ↦ k | inr k ↦ k.1 ]
+no-slots _ m s i = elim i [ inl k ↦ k | inr k ↦ k.1 ]
 
 -- another block that counts as much leaves a sum
 pub total-same : (of : Block → ℕ) (below above : List Block) (b c : Block) → of c ≡ of b
@@ -71,10 +65,8 @@ module _ (xs : List ℕ) (first count : ℕ) (i : IsSound xs first count) (below
     one : Tiles (head_of (λ s. is_resource (slot_in xs s))) (piece place (top - place) new) (now ∷ [])
     one =
         let l : top - place ≡ size now = omega (arith, e) in
-        let k = length-take-le (size now) (drop place new) t.fits in
         subst (λ j. Tiles (head_of (λ s. is_resource (slot_in xs s))) (take j (drop place new)) (now ∷ [])) (sym l)
-        (tiles-one (head_of (λ s. is_resource (slot_in xs s))) _ _ k
-        (tile-take (head_of (λ s. is_resource (slot_in xs s))) _ _ _ _ (omega arith) t.fits t))
+        (search (rules, tiles-one, tile-take))
 
     leads : LeadsTo place now new
     leads =

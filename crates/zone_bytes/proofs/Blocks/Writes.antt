@@ -50,20 +50,13 @@ tile-written h0 content x n from ys l w t =
       whole = t.whole;
       some = t.some;
       room = omega (arith, a, b, length-written);
-      begins =
-          (let e : length (h0 ++ written from x content) ≡ length (h0 ++ content) = omega (arith, a, b, length-written) in
-          ap (λ m. take m (written (16 + from) x ys)) e)
-          ∙ take-written_above _ x _ _ (omega (arith, a, l, w)) (omega arith)
-          ∙ ap (written (16 + from) x) t.begins
-          ∙ (let e : 16 + from ≡ length h0 + from = omega (arith, l) in ap (λ m. written m x (h0 ++ content)) e)
-          ∙ written-past _ _ x _;
+      begins = (grind (arith, length-written)) ∙ take-written_above _ x _ _ (omega (arith, a, l, w)) (omega arith)
+          ∙ ap (written (16 + from) x) t.begins ∙ (grind arith) ∙ written-past _ _ x _;
     }
 
 pub content-room : (b : Block) → 16 ≤ size b → 16 + length (content_of b) ≤ size b
 content-room (Free n) h = h
-content-room (Nonrelocatable id content) h = omega arith
-content-room Masters h = omega arith
-content-room (Relocatable slot flags content) h = omega arith
+content-room _ h = omega arith
 
 nil : (x : List ℕ) → length x ≡ 0 → [] ≡ x
 nil [] e = refl
@@ -91,13 +84,10 @@ module _ (xs : List ℕ) (first count : ℕ) (i : IsSound xs first count) (place
   nothing : (below : List Block) (here : Block) (above : List Block) (whole : zone_in xs ≡ below ++ here ∷ above)
       (low : sizes below ≡ place) → from + length x ≤ 0 → Made new first count (below ++ here ∷ above) (slot_in xs)
   nothing below here above whole low w =
-      let l : length x ≡ 0 = omega (arith, w) in
-      let f = fits below here above whole low in
       let m = (tile below here above whole low).some in
-      let s = written-same (place + 16 + from) 0 x xs (omega (arith, f, m, w)) (nil x l) in
+      let s = written-same (place + 16 + from) 0 x xs (omega (arith, (fits below here above whole low), m, w)) (nil x (omega (arith, w))) in
       subst (λ ys. Made ys first count (below ++ here ∷ above) (slot_in xs)) (sym s) (made _ _ (slot_in xs) _
-      (subst (λ z. Lays xs z (slot_in xs) i.unused) whole i.lays) _ _
-      (sym (ap tidy whole) ∙ i.tidied ∙ whole) i.begins i.counted)
+      (grind arith) _ _ (sym (ap tidy whole) ∙ i.tidied ∙ whole) i.begins i.counted)
 
   pub written-in : (below : List Block) (here : Block) (above : List Block)
       (whole : zone_in xs ≡ below ++ here ∷ above) (low : sizes below ≡ place)
@@ -140,9 +130,7 @@ module _ (xs : List ℕ) (first count : ℕ) (i : IsSound xs first count) (place
       let t1 = tile-written _ _ x z _ _
       (length-header (z + 3) (length content) slot (flag_word flags (resource slot))) w t in
       let t2 : Tile (header (size now + 3) (length (written from x content)) slot (flag_word flags (resource slot)) ++
-      written from x content) (size now) (drop place new) =
-      subst (λ ys. Tile (header (size now + 3) (length (written from x content)) slot
-      (flag_word flags (resource slot)) ++ written from x content) (size now) ys) (sym up) (rw (e, k) t1) in
+      written from x content) (size now) (drop place new) = grind arith in
       here-made _ _ _ i _ _ _ whole _ low refl
       (omega arith) _ _ same t2 e refl refl (placed below (Relocatable slot flags content) above whole low)
       (tidy-content _ _ _ _ (sym (ap tidy whole) ∙ i.tidied ∙ whole))
@@ -156,14 +144,12 @@ module _ (xs : List ℕ) (first count : ℕ) (i : IsSound xs first count) (place
 pub masters-kept : (x : List ℕ) (below : List Block) (b : Block) (above : List Block)
     → count is_masters (below ++ with_content x b ∷ above) ≡ count is_masters (below ++ b ∷ above)
 masters-kept x below (Free n) above = refl
-masters-kept x below (Nonrelocatable id content) above = masters-same _ _ _ _ refl
 masters-kept x below Masters above = refl
-masters-kept x below (Relocatable slot flags content) above = masters-same _ _ _ _ refl
+masters-kept x below _ above = masters-same _ _ _ _ refl
 
 -- the Free bytes stay
 pub free-kept : (x : List ℕ) (below : List Block) (b : Block) (above : List Block)
     → free_sum (below ++ with_content x b ∷ above) ≡ free_sum (below ++ b ∷ above)
 free-kept x below (Free n) above = refl
-free-kept x below (Nonrelocatable id content) above = total-same free_of _ _ _ _ refl
 free-kept x below Masters above = refl
-free-kept x below (Relocatable slot flags content) above = total-same free_of _ _ _ _ refl
+free-kept x below _ above = total-same free_of _ _ _ _ refl

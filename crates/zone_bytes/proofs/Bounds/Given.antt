@@ -119,10 +119,8 @@ given-fits xs first unused i = omega (arith, given-sizes, free_span-le, sizes-le
 
 -- a Free block that has room would give nothing
 given-room : (p : ℕ) (b : Block) → is_room p b ≡ true → purgeable_of b ≡ 0
-given-room p (Free n) e = refl
-given-room p (Nonrelocatable id content) e = refl
-given-room p Masters e = refl
 given-room p (Relocatable id flags content) e = absurd (false≢true e)
+given-room p _ e = refl
 
 -- a block that grew into the Free block above it
 pub given-grown : (new : Block) (s : Spot) (z : List Block) → grow_up new s ≡ Some z

@@ -42,8 +42,7 @@ no-room p zone short = cases (spot (is_room p) zone) refl
     cases : (o : Option Spot) → spot (is_room p) zone ≡ o → o ≡ None
     cases None e = refl
     cases (Some s) e =
-        let a = means s.here (spot-passes (is_room p) zone s e) in
-        absurd (omega (arith, ap free_sum (spot-is (is_room p) zone s e), a, total-append, short))
+        absurd (omega (arith, ap free_sum (spot-is (is_room p) zone s e), (means s.here (spot-passes (is_room p) zone s e)), total-append, short))
 
 -- nothing counts as Free that isn't
 abbrev pub FreesNone : Sparing → Type 0
@@ -56,17 +55,13 @@ free-given s none k zone = grind (arith, tidied, none-free, free-purged, given-l
 
 -- what counts as Free would give nothing more
 given-opened : (s : Sparing) (zone : List Block) → purgeable_sum (opened s zone) ≤ purgeable_sum zone
-given-opened sparing.Nothing zone = omega arith
-given-opened (sparing.One slot) zone = omega arith
-given-opened (sparing.Two slot other) zone = omega arith
 given-opened (sparing.Freed slot) zone = grind (arith, freed-is, none-free, unless-le)
+given-opened _ zone = omega arith
 
 -- each block that may go would give something
 pub one-gives : (sp : Block → Bool) (b : Block) → cond {A = ℕ} (may_be_purged sp b) 1 0 ≤ purgeable_of b
-one-gives sp (Free n) = omega arith
-one-gives sp (Nonrelocatable id content) = omega arith
-one-gives sp Masters = omega arith
 one-gives sp (Relocatable id flags content) = grind arith
+one-gives sp _ = omega arith
 
 count-given : (sp : Block → Bool) (zone : List Block) → count (may_be_purged sp) zone ≤ purgeable_sum zone
 count-given sp zone = total-le (λ b. cond {A = ℕ} (may_be_purged sp b) 1 0) purgeable_of (one-gives sp) _
@@ -82,8 +77,4 @@ none-next s k zone none = cases (spot (may_be_purged (spared s)) (purged k s zon
     cases : (o : Option Spot) → spot (may_be_purged (spared s)) (purged k s zone) ≡ o → o ≡ None
     cases None e = refl
     cases (Some b) e =
-        let z = ap purgeable_sum (spot-is (may_be_purged (spared s)) (purged k s zone) b e) in
-        let q : cond {A = ℕ} (may_be_purged (spared s) b.here) 1 0 ≡ 1 =
-        ap (λ v. cond {A = ℕ} v 1 0) (spot-passes (may_be_purged (spared s)) (purged k s zone) b e) in
-        let l = purged-le purgeable_of none-free k (spared s) (opened s zone) in
-        absurd (omega (arith, z, total-append, one-gives, q, l, given-opened, none))
+        absurd (omega (arith, (ap purgeable_sum (spot-is (may_be_purged (spared s)) (purged k s zone) b e)), total-append, one-gives, (ap (λ v. cond {A = ℕ} v 1 0) (spot-passes (may_be_purged (spared s)) (purged k s zone) b e)), (purged-le purgeable_of none-free k (spared s) (opened s zone)), given-opened, none))

@@ -37,7 +37,6 @@ chaining-start end old l h =
     let two = written 272 (word (end - 272)) one in
     let l1 = length-written 0 (header 274 256 0 0) old (omega (arith, a, l, h)) in
     let l2 = length-written 272 (word (end - 272)) one (omega (arith, b, l1, l, h)) in
-    let l3 = length-written 268 (word 1) two (omega (arith, c, l2, l1, l, h)) in
     record {
       more = 0;
       at = refl;
@@ -47,7 +46,7 @@ chaining-start end old l h =
           ∙ piece-written 0 (header 274 256 0 0) old 16 (sym a) (omega arith);
       rest = piece-written_above 268 (word 1) two 272 4 (omega (arith, c)) (omega (arith, l2, l1, l, h))
           ∙ piece-written 272 (word (end - 272)) one 4 (sym b) (omega (arith, l1, l, h));
-      kept = l3 ∙ l2 ∙ l1 ∙ l;
+      kept = (length-written 268 (word 1) two (omega (arith, c, l2, l1, l, h))) ∙ l2 ∙ l1 ∙ l;
       low = omega arith;
       even = refl;
     }
@@ -115,13 +114,7 @@ fresh-lays end slot n xs e h m l q =
     let some : free (end - 272) ≡ Free (end - 272) ∷ [] = free-some (end - 272) (omega (arith, h)) in
     let d = length-drop 272 xs in
     let hm = length-header 274 256 0 0 in
-    let masters : Tile (head Masters) 272 xs = record {
-      fits = omega (arith, h);
-      whole = refl;
-      some = omega arith;
-      room = omega (arith, hm);
-      begins = ap (λ j. take j xs) hm ∙ q.first;
-    } in
+    let masters : Tile (head Masters) 272 xs = grind arith in
     let above : Tiles head (drop 272 xs) (Free (end - 272) ∷ []) = tiles-one head (Free (end - 272)) _
     (omega (arith, d)) (free-tile resource _ _ (omega (arith, d)) (omega (arith, e, h)) (omega (arith, h)) q.rest) in
     subst (λ f. Lays xs (Masters ∷ f) fresh_slots (slots_from 16 64)) (sym some) (record {
@@ -140,7 +133,4 @@ fresh-lays end slot n xs e h m l q =
     says-of : (s : ℕ) (v : Bool) → v ≡ (nat_le 16 s && (nat_le (s + 4) 272 && (s % 4 == 0)))
         → Says (Masters ∷ Free (end - 272) ∷ []) xs (slots_from 16 64) s (cond v Unused NoSlot)
     says-of s true f = let b = test-back s (sym f) in (inl b, has-slot 16 64 s b.0 (omega (arith, b)) refl b.2)
-    says-of s false f = λ i. elim i [
-      | inl b ↦ false≢true (f ∙ test-true s b.0 b.1 b.2)
-      | inr b ↦ elim b.1 [ inl z ↦ z | inr z ↦ z.1 ]
-    ]
+    says-of s false f = grind arith

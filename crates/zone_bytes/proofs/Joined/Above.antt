@@ -20,9 +20,7 @@ free-is (Relocatable slot flags content) k = absurd (let z : 3 ≡ 0 = k in omeg
 
 pub not_free-is : (b : Block) → 0 < kind b → is_free b ≡ false
 not_free-is (Free n) k = absurd (let z : 0 < 0 = k in omega (arith, z))
-not_free-is (Nonrelocatable id content) k = refl
-not_free-is Masters k = refl
-not_free-is (Relocatable slot flags content) k = refl
+not_free-is _ k = refl
 
 module _ (j : Joining) (start at : ℕ) (xs : List ℕ) (m : MayJoin j start at xs) where
   here-laid : Lays xs ((j.below ++ free (at - start)) ++ j.above) j.slots j.unused
@@ -87,7 +85,5 @@ module _ (j : Joining) (start at : ℕ) (xs : List ℕ) (m : MayJoin j start at 
         → Lays new (j.below ++ add (Free (at - start)) j.above) j.slots j.unused
     joined-two new made =
         let n = next l in
-        let e : at + size n.here - start ≡ at - start + size n.here = omega arith in
-        let f : free (at + size n.here - start) ≡ Free (at - start + size n.here) ∷ [] = ap free e
-        ∙ free-some _ (omega arith) in
+        let f : free (at + size n.here - start) ≡ Free (at - start + size n.here) ∷ [] = grind arith in
         subst (λ q. Lays new (j.below ++ q) j.slots j.unused) (ap (λ q. q ++ n.above) f ∙ sym (ap (add (Free (at - start))) (n.is ∙ ap (λ b. b ∷ n.above) (free-is _ k)) ∙ add-free _ _ _ some)) (made one may-free)

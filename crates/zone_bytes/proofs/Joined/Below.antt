@@ -47,12 +47,11 @@ module _ (xs : List ℕ) (from place : ℕ) (u : LeadsUp from place xs) where
   far below above e l f =
       let r = front-of u.below (left_in from xs) below above (sym u.is ∙ e) (omega (arith, l, f)) in
       let k = ap sizes r.1 in
-      let z : from - from ≡ 0 = omega arith in
       record {
         rest = r.0;
         is = r.2;
         up = omega (arith, span-append, k, l);
-        last = ap (λ n. last_free n r.0) z ∙ same r.0 (omega (arith, span-append, k, l, f)) ∙ ap (last_free 0) (sym r.1);
+        last = ap (λ n. last_free n r.0) (omega arith) ∙ same r.0 (omega (arith, span-append, k, l, f)) ∙ ap (last_free 0) (sym r.1);
       }
     where
       same : (more : List Block) → 0 < sizes more → last_free 0 more ≡ last_free 0 (u.below ++ more)
@@ -82,9 +81,7 @@ free-kind (Relocatable slot flags content) k = absurd (let z : 3 ≡ 0 = k in om
 
 free-other : (b : Block) → 0 < kind b → free_of b ≡ 0
 free-other (Free n) k = absurd (let z : 0 < 0 = k in omega (arith, z))
-free-other (Nonrelocatable id content) k = refl
-free-other Masters k = refl
-free-other (Relocatable slot flags content) k = refl
+free-other _ k = refl
 
 module _ (xs : List ℕ) (place at start : ℕ) (b : Below xs place at start) where
   pub below-done : place ≤ at → (below above : List Block) → left_in 0 xs ≡ below ++ above → sizes below ≡ place
@@ -127,12 +124,7 @@ module _ (xs : List ℕ) (place at start : ℕ) (b : Below xs place at start) wh
           next (c ∷ rest) below above q u v =
               let f = tells c (rest ++ above) q in
               let s : step.here ∷ left_in (at + n) xs ≡ c ∷ (rest ++ above) = sym step.is ∙ q in
-              record {
-                rest = rest;
-                is = (let r : left_in (at + n) xs ≡ rest ++ above = cc in r);
-                up = omega (arith, u);
-                last = ap (λ j. last_free j rest) (g c f.0 f.1) ∙ v;
-              }
+              (grind arith)
 
       pub below-free : t ≡ 0 → Below xs place (at + n) at
       below-free z = below-next at (omega arith) (λ c p q. omega (arith, p, free-kind))

@@ -57,8 +57,7 @@ named o slot (Relocatable id flags content ∷ blocks) xs l (inl e) = record {
   is = ap (λ s. Relocatable s flags content ∷ blocks) e;
   leads = subst (λ s. piece s 4 xs ≡ word o) e l.0 ∙ (let z : o ≡ o + 0 = omega arith in ap word z);
 }
-named o slot (Relocatable id flags content ∷ blocks) xs l (inr h) =
-    named-more o _ _ _ _ (named (o + size (Relocatable id flags content)) slot blocks xs l.1 h)
+named o slot (Relocatable id flags content ∷ blocks) xs l (inr h) = named-more o _ _ _ _ (named _ slot blocks xs l.1 h)
 
 -- no block has the name
 pub freed-none : (slot : ℕ) (blocks : List Block) → Each (Apart slot) (names blocks)
@@ -112,17 +111,15 @@ module _ (t : Table) (slot : ℕ) (xs : List ℕ) (h : HasHandle t slot xs) wher
   found k =
       let n = named 0 slot t.blocks xs h.lays.lies.leads k in
       let head = head_of (λ s. is_resource (t.slots s)) in
-      let above : List Block = Relocatable slot n.flags n.content ∷ n.above in
       let laid = subst (Tiles head xs) n.is h.lays.lies.tiles in
-      let s = tiles-split head xs n.below above laid in
+      let s = tiles-split head xs n.below (Relocatable slot n.flags n.content ∷ n.above) laid in
       let r = read_back slot (0 + sizes n.below) xs (omega (arith, length-tiles, span-append)) n.leads in
       record { block = n; place = omega (arith, r); whole = omega (arith, r, span-whole) }
 
   pub leads : word_at slot xs % 16 ≡ 0 → Found
   leads e = elim said.1 [
     | inl k ↦ found k
-    | inr k ↦ (let r = read_back slot (empty_word h.resource) xs (emptied-fits h.resource) k.1 in let o =
-        emptied-odd h.resource in absurd (omega (arith, r, o, e)))
+    | inr k ↦ (grind (arith, read_back, emptied-fits, emptied-odd))
   ]
 
   -- the handle is emptied

@@ -9,12 +9,8 @@ use Rattle.heap_words.specs.Headers.{tag_number}
 
 pub free-true : (t : Tag) → true ≡ sameb the_type t Free → tag_number t ≡ 0
 free-true Free h = refl
-free-true Nonrelocatable h = absurd (false≢true (sym h))
-free-true Masters h = absurd (false≢true (sym h))
-free-true Relocatable h = absurd (false≢true (sym h))
+free-true _ h = absurd (false≢true (sym h))
 
 pub free-false : (t : Tag) → false ≡ sameb the_type t Free → 0 < tag_number t
 free-false Free h = absurd (false≢true h)
-free-false Nonrelocatable h = omega arith
-free-false Masters h = omega arith
-free-false Relocatable h = omega arith
+free-false _ h = omega arith

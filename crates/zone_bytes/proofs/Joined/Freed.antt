@@ -49,9 +49,8 @@ has-drop (x ∷ xs) s ys t (inl e) = inr (inl e)
 has-drop (x ∷ xs) s ys t (inr k) = elim (has-drop xs s ys t k) [ inl e ↦ inl e | inr j ↦ inr (inr j) ]
 
 used-is : (st : Slot) → IsUsed st → st ≡ Used (is_resource st)
-used-is NoSlot u = absurd u
-used-is Unused u = absurd u
 used-is (Used r) u = refl
+used-is _ u = absurd u
 
 module _ (f : Freeing) (start at : ℕ) (xs : List ℕ) (m : MayFree f start at xs) where
   abbrev resource : ℕ → Bool
@@ -95,18 +94,13 @@ module _ (f : Freeing) (start at : ℕ) (xs : List ℕ) (m : MayFree f start at 
 
   led-by : (slot : ℕ) (flags : Flags) (content : List ℕ) → f.here ≡ Relocatable slot flags content → Led
   unfolding head_of
-  led-by slot flags content e =
-      let b : Block = Relocatable slot flags content in
-      let t = subst (λ c. Tile (head_of resource c) (size c) (drop at xs)) e
+  led-by slot flags content e = let t = subst (λ c. Tile (head_of resource c) (size c) (drop at xs)) e
       (tile-at _ _ _ _ f.slots f.unused here-laid at here-low) in
-      let y = size b in
-      let q = says y (y + 3) (length content) slot (flag_word flags (resource slot)) content (drop at xs) t in
-      let g = flag_word-small flags (resource slot) in
+      let y = size (Relocatable slot flags content) in
       let i = each-right (λ s. IsSlot s all) _ (slot ∷ names f.above)
       (subst (Each (λ s. IsSlot s all)) (named-here slot (ap names_of e)) laid.has_slots.slots) in
-      let l = length-tiles (head_of resource) xs all laid.lies.tiles in
-      let v = slot-reads resource xs at m.lays.small slot flags content (omega (arith, slot-inside, l, m.lays.small)) t in
-      let w = read_back (at + 12) (flag_word flags (resource slot)) xs (omega (arith, g)) (word-at at 12 xs ∙ q.2) in
+      let v = slot-reads resource xs at m.lays.small slot flags content (omega (arith, slot-inside, (length-tiles (head_of resource) xs all laid.lies.tiles), m.lays.small)) t in
+      let w = read_back (at + 12) (flag_word flags (resource slot)) xs (omega (arith, (flag_word-small flags (resource slot)))) (word-at at 12 xs ∙ (says y (y + 3) (length content) slot (flag_word flags (resource slot)) content (drop at xs) t).2) in
       (grind arith)
 
   pub led : kind f.here ≡ 3 → Led
@@ -169,8 +163,7 @@ module _ (f : Freeing) (start at : ℕ) (xs : List ℕ) (m : MayFree f start at 
         pub other-lays : names_of f.here ≡ []
             → Lays mid (f.below ++ (free (at + size f.here - start) ++ f.above)) f.slots f.unused
         other-lays e =
-            subst (λ k. Lays mid k f.slots f.unused) now-is (lays-kept xs mid _ _ f.slots _ laid lies (names-now
-            ∙ sym (names-all ∙ ap (λ k. names f.below ++ (k ++ names f.above)) e))
+            subst (λ k. Lays mid k f.slots f.unused) now-is (lays-kept xs mid _ _ f.slots _ laid lies (grind (arith, names-now, names-all))
             into back placed (λ s i a. outside-same s i) out.kept)
 
         -- a block that a handle led to
@@ -198,8 +191,7 @@ module _ (f : Freeing) (start at : ℕ) (xs : List ℕ) (m : MayFree f start at 
 
           has : HasSlots now
           has = record {
-            slots = each-map (λ s. IsSlot s all) (λ s. IsSlot s now) into _
-                (subset (λ s. IsSlot s all) laid.has_slots.slots);
+            slots = each-map (λ s. IsSlot s all) (λ s. IsSlot s now) into _ (grind (arith, subset, laid));
             apart = subst (Pairs Apart) (sym names-now) (pairs-drop (names f.below) slot (names f.above) pairs);
           }
 
@@ -221,12 +213,9 @@ module _ (f : Freeing) (start at : ℕ) (xs : List ℕ) (m : MayFree f start at 
                     (into slot slot-is) lies.tiles;
                 leads = leads-written _ _ _ 0 _ fits
                     (each-map (Apart slot) _ (λ t p. apart-clear slot w t p) (names now) far) lies.leads;
-              })
-              has into back placed (length-written slot (word w) mid (omega (arith, slot-fits, wl)) ∙ out.kept)
+              }) has into back placed (length-written slot (word w) mid (omega (arith, slot-fits, wl)) ∙ out.kept)
               _ _ used fewer subset far (piece-written slot (word w) mid 4 (sym wl) fits
-              ∙ ap word e) (λ s i a. piece-clear _ _ _ s fits
-              (apart-clear slot w s (elim (of-all (Apart s) a) [ inl p ↦ inr p | inr p ↦ inl p ]))
-              ∙ outside-same s i))
+              ∙ ap word e) (grind (arith, piece-clear, apart-clear, of-all, outside-same)))
 
   pub none-led : kind f.here < 3 → names_of f.here ≡ []
   none-led k = grind arith

@@ -37,8 +37,7 @@ nonrelocatable-below place o (Nonrelocatable id content ∷ blocks) p l =
 nonrelocatable-below place o (Masters ∷ blocks) p l =
     ap (λ k. Masters ∷ k) (nonrelocatable-below place (o + 272) blocks p.1 (omega (arith, l)))
 nonrelocatable-below place o (Relocatable slot flags content ∷ blocks) p l =
-    ap (λ k. Relocatable slot flags content ∷ k)
-    (nonrelocatable-below place (o + size (Relocatable slot flags content)) blocks p.1 (omega (arith, l)))
+    ap (λ k. Relocatable slot flags content ∷ k) (nonrelocatable-below place _ blocks p.1 (omega (arith, l)))
 
 nonrelocatable-above : (place o : ℕ) (blocks : List Block) → ArePlaced o blocks → place < o
     → freed (is_nonrelocatable place) blocks ≡ blocks
@@ -51,15 +50,12 @@ nonrelocatable-above place o (Nonrelocatable id content ∷ blocks) p l =
 nonrelocatable-above place o (Masters ∷ blocks) p l =
     ap (λ k. Masters ∷ k) (nonrelocatable-above place (o + 272) blocks p.1 (omega (arith, l)))
 nonrelocatable-above place o (Relocatable slot flags content ∷ blocks) p l =
-    ap (λ k. Relocatable slot flags content ∷ k)
-    (nonrelocatable-above place (o + size (Relocatable slot flags content)) blocks p.1 (omega (arith, l)))
+    ap (λ k. Relocatable slot flags content ∷ k) (nonrelocatable-above place _ blocks p.1 (omega (arith, l)))
 
 nonrelocatable-plain : (place : ℕ) (b : Block) → is_nonrelocatable place b ≡ true
     → (is_masters b ≡ false) × (free_of b ≡ 0) × (0 < size b)
-nonrelocatable-plain place (Free n) e = absurd (false≢true e)
 nonrelocatable-plain place (Nonrelocatable id content) e = (refl, refl, omega arith)
-nonrelocatable-plain place Masters e = absurd (false≢true e)
-nonrelocatable-plain place (Relocatable slot flags content) e = absurd (false≢true e)
+nonrelocatable-plain place _ e = absurd (false≢true e)
 
 -- a block that becomes Free isn't a Masters block
 pub masters-freed : (below : List Block) (b : Block) (n : ℕ) (above : List Block) → is_masters b ≡ false
@@ -90,8 +86,7 @@ module _ (xs : List ℕ) (first number : ℕ) (i : IsSound xs first number) (pla
       let p = subst (ArePlaced 0) is i.lays.placed in
       let l = low xs first number i place s e in
       let q = placed-right 0 s.below (s.here ∷ s.above) p in
-      ap (freed (is_nonrelocatable place)) is
-      ∙ map-append (λ c. cond (is_nonrelocatable place c) (Free (size c)) c) s.below (s.here ∷ s.above)
+      ap (freed (is_nonrelocatable place)) is ∙ map-append _ s.below (s.here ∷ s.above)
       ∙ ap (λ k. k ++ freed (is_nonrelocatable place) (s.here ∷ s.above))
       (nonrelocatable-below _ 0 _ (placed-left 0 _ _ p) (omega (arith, l)))
       ∙ ap (λ k. s.below ++ k) (ap (λ v. cond v (Free (size s.here)) s.here ∷ freed (is_nonrelocatable place) s.above) f
@@ -101,10 +96,8 @@ module _ (xs : List ℕ) (first number : ℕ) (i : IsSound xs first number) (pla
       → Lays new (tidy (f.below ++ Free (size f.here) ∷ f.above)) f.slots f.unused)
       → ((f : Freeing) → MayRelease f place xs → more ≡ size f.here)
       → Gained xs new first number more (tidy (freed (is_nonrelocatable place) (zone_in xs)))
-  nonrelocatable-gained new more lays bytes =
-      gained _ _ _ _ _ i (freed (is_nonrelocatable place) (zone_in xs))
+  nonrelocatable-gained new more lays bytes = gained _ _ _ _ _ i (freed (is_nonrelocatable place) (zone_in xs))
       (subst (λ z. Lays new (tidy z) (slot_in xs) i.unused) (sym freed-is) (lays standing may-free_nonrelocatable))
       (ap (λ z. free_sum (tidy z)) freed-is ∙ free-more s.below s.here s.above plain.1
       ∙ (λ j. free_sum (sym is j) + sym (bytes standing may-free_nonrelocatable) j))
-      (ap (λ z. count is_masters (tidy z)) freed-is ∙ masters-freed s.below s.here (size s.here) s.above plain.0
-      ∙ ap (count is_masters) (sym is))
+      (grind (arith, freed-is, masters-freed, plain, is))

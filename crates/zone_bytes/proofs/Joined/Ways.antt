@@ -40,14 +40,9 @@ module _ (xs : List ℕ) (below above : List Block) (slots : ℕ
         record {
           resource = λ s. is_resource (slots s);
           rest = above;
-          walk = record {
-            high = subst (λ j. Tiles head (drop j xs) above) low t.1;
-            up = inside;
-            whole = omega (arith, span-whole, low);
-          };
+          walk = (grind (arith, inside, whole, span-whole));
           placed = subst (λ j. ArePlaced j above) o (placed-right 0 below above h.placed);
-          words = words above (each-right (λ s. IsSlot s all) _ _
-              (subst (Each (λ s. IsSlot s all)) (names-append below above) h.has_slots.slots));
+          words = words above (grind (arith, each-right, names-append));
           small = h.small;
         },
         refl,
@@ -78,11 +73,4 @@ module _ (xs : List ℕ) (below : List Block) (b : Block) (above : List Block) (
       let t = tile-at in
       let n = inside xs below (b ∷ above) slots unused h place low in
       let w = way xs below (b ∷ above) slots unused h place low in
-      record {
-        next = next-header place xs w (omega (arith, n, t.some));
-        inside = omega (arith, n);
-        some = t.some;
-        whole = (w.walk.whole, t.whole);
-        says = λ n t1 e k l. same_parts n _ _ _ (e
-            ∙ first-reads (λ s. is_resource (slots s)) _ _ h.small b t) k t.whole l (kind-small b);
-      }
+      (grind (arith, next-header, inside, whole, same_parts, first-reads, kind-small))

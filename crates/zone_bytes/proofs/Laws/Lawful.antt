@@ -22,9 +22,8 @@ use Rattle.zone_bytes.proofs.Tiles.Zones.{respelled}
 
 -- a name that is not used is that of no block
 not-used : (st : Slot) → IsUsed st → is_used st ≡ false → ⊥
-not-used NoSlot u e = u
-not-used Unused u e = u
 not-used (Used r) u e = false≢true (sym e)
+not-used _ u e = u
 
 pub none-named : (slots : ℕ → Slot) (blocks : List Block) → Each (λ s. IsUsed (slots s)) (names blocks) → (number : ℕ)
     → is_used (slots number) ≡ false → has (is_relocatable number) blocks ≡ false
@@ -62,11 +61,9 @@ counted-once number (Nonrelocatable id content ∷ blocks) p = let z = counted-o
 counted-once number (Masters ∷ blocks) p = let z = counted-once number blocks p in omega (arith, z)
 counted-once number (Relocatable slot flags content ∷ blocks) p = elim (eqb_tells slot number) [
   | inl t ↦
-      let e : cond {A = ℕ} (eqb slot number) 1 0 ≡ 1 = ap (λ v. cond {A = ℕ} v 1 0) t.0 in
-      omega (arith, e, count-apart number blocks (subst (λ k. Each (Apart k) (names blocks)) t.1 p.0))
+      omega (arith, (ap (λ v. cond {A = ℕ} v 1 0) t.0), count-apart number blocks (subst (λ k. Each (Apart k) (names blocks)) t.1 p.0))
   | inr t ↦
-      let e : cond {A = ℕ} (eqb slot number) 1 0 ≡ 0 = ap (λ v. cond {A = ℕ} v 1 0) t.0 in
-      omega (arith, e, counted-once number blocks p.1)
+      omega (arith, (ap (λ v. cond {A = ℕ} v 1 0) t.0), counted-once number blocks p.1)
 ]
 
 pub aligned-tiles : (head : Block → List ℕ) (xs : List ℕ) (blocks : List Block) → Tiles head xs blocks → Aligned blocks
@@ -74,8 +71,7 @@ aligned-tiles head xs [] t = tt
 aligned-tiles head xs (Free n ∷ blocks) t = (t.0.whole, aligned-tiles head _ blocks t.1)
 aligned-tiles head xs (Nonrelocatable id content ∷ blocks) t = (refl, aligned-tiles head _ blocks t.1)
 aligned-tiles head xs (Masters ∷ blocks) t = (refl, aligned-tiles head (drop 272 xs) blocks t.1)
-aligned-tiles head xs (Relocatable slot flags content ∷ blocks) t =
-    (refl, aligned-tiles head (drop (size (Relocatable slot flags content)) xs) blocks t.1)
+aligned-tiles head xs (Relocatable slot flags content ∷ blocks) t = (refl, aligned-tiles head _ blocks t.1)
 
 pub placed-of : (o : ℕ) (blocks : List Block) → ArePlaced o blocks → Placed o blocks
 placed-of o [] p = tt

@@ -18,15 +18,11 @@ use Rattle.zone_bytes.proofs.Places.HeaderTells.{here-on, size-at}
 
 pub free-true : (t : Tag) → true ≡ sameb the_type t tag.Free → tag_number t ≡ 0
 free-true tag.Free h = refl
-free-true tag.Nonrelocatable h = absurd (false≢true (sym h))
-free-true tag.Masters h = absurd (false≢true (sym h))
-free-true tag.Relocatable h = absurd (false≢true (sym h))
+free-true _ h = absurd (false≢true (sym h))
 
 pub free-false : (t : Tag) → false ≡ sameb the_type t tag.Free → 0 < tag_number t
 free-false tag.Free h = absurd (false≢true h)
-free-false tag.Nonrelocatable h = omega arith
-free-false tag.Masters h = omega arith
-free-false tag.Relocatable h = omega arith
+free-false _ h = omega arith
 
 module _ (at : ℕ) (xs : List ℕ) (w : IsOnWay at xs) where
   -- at the end of the bytes there is none

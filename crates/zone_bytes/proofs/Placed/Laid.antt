@@ -105,18 +105,14 @@ module _ (h : Header) (bottom top held : ℕ) (xs : List ℕ) (m : MayLay h bott
   two-content = go (less_or_more h.logical held)
     where
       go : (h.logical ≤ held) ⊎ (held < h.logical) → piece (bottom + 16) h.logical two ≡ resized_content h.logical stood
-      go (inl l) =
-          let z : 0 ≡ h.logical - length stood = omega (arith, length-stood, l) in
-          two-piece _ l ∙ sym (append-nil (take h.logical stood)) ∙ ap (λ k. take h.logical stood ++ replicate k 0) z
+      go (inl l) = grind (arith, length-stood, two-piece, append-nil)
       go (inr l) =
           let s = length-stood in
           let more = h.logical - held in
           let sum : h.logical ≡ held + more = omega (arith, l) in
           let same : more ≡ h.logical - length stood = omega (arith, s) in
           ap (λ k. piece (bottom + 16) k two) sum ∙ take-add held more (drop (bottom + 16) two)
-          ∙ ap (λ q. q ++ take more (drop held (drop (bottom + 16) two)))
-          (two-piece _ (omega arith) ∙ take_all held stood (omega (arith, s))
-          ∙ sym (take_all h.logical stood (omega (arith, s, l))))
+          ∙ ap (λ q. q ++ take more (drop held (drop (bottom + 16) two))) (grind (arith, two-piece, take_all))
           ∙ ap (λ q. take h.logical stood ++ take more q) (drop-drop held (bottom + 16) two)
           ∙ ap (λ q. take h.logical stood ++ q)
           (piece-written _ zeros one more (sym zeros-length) (omega (arith, length-one)))

@@ -58,9 +58,7 @@ module _ (xs : List ℕ) (place top : ℕ) (r : Roomy xs place 272) (t : top ≡
     begins = piece-low _ _ place 16 mid new (omega arith) o ∙ laid-first head place top 256 xs may-master
 
     left : (r.bytes - 272 ≡ 0) ⊎ ((0 < r.bytes - 272) × (piece (place + 272) 4 new ≡ word (r.bytes - 272)))
-    left =
-        let e : top - place - 272 ≡ r.bytes - 272 = omega (arith, top-is) in
-        subst (λ k. (k ≡ 0) ⊎ ((0 < k) × (piece (place + 272) 4 new ≡ word k))) e
+    left = subst (λ k. (k ≡ 0) ⊎ ((0 < k) × (piece (place + 272) 4 new ≡ word k))) (omega (arith, top-is))
         (elim (laid-left _ _ _ _ _ may-master) [
           | inl z ↦ inl z
           | inr z ↦ inr (z.0, ap (take 4) o.high ∙ z.1)
@@ -74,8 +72,7 @@ module _ (xs : List ℕ) (place top : ℕ) (r : Roomy xs place 272) (t : top ≡
         let l = ap size r.here in
         let k : r.bytes - 272 ≡ size r.s.here + 0 - 272 = omega (arith, l) in
         subst (λ bs. Lays new bs (with_slots place (slot_in xs)) (slots_at place ++ i.unused))
-        (ap (λ m. r.s.below ++ Masters ∷ (free m ++ r.s.above)) k
-        ∙ sym (cut-sized _ refl _ r.at.apart 0 _ r.head (omega (arith, l)))) (lays-masters _ _ _ _
+        (grind (arith, cut-sized)) (lays-masters _ _ _ _
         (slot_in xs) _ was _ _ r.at.low top-is r.room _ same begins left
         (subst (λ k. Thread k new (slots_at place)) i.begins thread))
 
@@ -96,9 +93,8 @@ used-stays xs first unused place i r k u = grind (arith, kept-slot, false≢true
 module _ (xs now : List ℕ) (first unused place : ℕ) (i : IsSound xs first unused) (r : Roomy xs place 272)
     (h : Lays now (filled Masters r.s) (with_slots place (slot_in xs)) (slots_at place ++ i.unused)) where
   pub masters-made : Made now (place + 16) (unused + 64) (filled Masters r.s) (with_slots place (slot_in xs))
-  masters-made =
-      made _ _ (with_slots place (slot_in xs)) _ h _ _
-      (tidy-tidy (r.s.below ++ Masters ∷ Free (size r.s.here - 272) ∷ r.s.above)) refl (omega (arith, length-slots))
+  masters-made = made _ _ (with_slots place (slot_in xs)) _ h _ _
+      (grind (arith, tidy-tidy)) refl (omega (arith, length-slots))
 
   pub masters-free : free_sum (zone_in now) + 272 ≡ free_sum (zone_in xs)
   masters-free =

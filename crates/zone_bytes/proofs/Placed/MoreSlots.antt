@@ -1,5 +1,5 @@
 -- A Masters block more in the bytes of a zone.
-use Rattle.std.proofs.Common.{◌≡◌, ℕ, Bool, true, false, cond, ◌+◌, ◌-◌, ◌*◌, ◌%◌, ◌<◌, ◌≤◌, ◌⊎◌, inl, inr}
+use Rattle.std.proofs.Common.{◌≡◌, ℕ, Bool, true, false, cond, ◌+◌, ◌-◌, ◌*◌, ◌%◌, ◌<◌, ◌≤◌, ◌⊎◌, inl, inr, rules}
 use Rattle.std.proofs.Common.{zero, suc, List, [], ◌∷◌, ◌++◌, take, drop, sym, refl, ap, ◌∙◌, subst, arith}
 use Rattle.std.proofs.lemmas.Bool.{false≢true}
 use Rattle.std.proofs.lemmas.Bool.Decides.{nat_tests}
@@ -31,10 +31,8 @@ use Rattle.zone_bytes.proofs.Placed.Threads.{thread-chain}
 -- a part of a stretch that was written anew
 pub outside-within : (lo hi a b : ℕ) (xs mid new : List ℕ) → lo ≤ a → b ≤ hi → SameOutside lo hi xs mid
     → SameOutside a b mid new → SameOutside lo hi xs new
-outside-within lo hi a b xs mid new l h s t =
-    let e : b + (hi - b) ≡ hi = omega (arith, h) in
-    let up : (ys : List ℕ) → drop hi ys ≡ drop (hi - b) (drop b ys) =
-    λ ys. ap (λ k. drop k ys) (sym e) ∙ sym (drop-drop (hi - b) b ys) in
+outside-within lo hi a b xs mid new l h s t = let up : (ys : List ℕ) → drop hi ys ≡ drop (hi - b) (drop b ys) =
+    λ ys. ap (λ k. drop k ys) (sym (omega (arith, h))) ∙ sym (drop-drop (hi - b) b ys) in
     record {
       kept = t.kept ∙ s.kept;
       ordered = s.ordered;
@@ -44,9 +42,8 @@ outside-within lo hi a b xs mid new l h s t =
 
 -- pieces below a stretch and above it
 pub piece-low : (a b i n : ℕ) (mid new : List ℕ) → i + n ≤ a → SameOutside a b mid new → piece i n new ≡ piece i n mid
-piece-low a b i n mid new l t =
-    let whole : (ys : List ℕ) → piece i n ys ≡ drop i (take (i + n) (take a ys)) =
-    λ ys. sym (ap (drop i) (take-take (i + n) a ys l) ∙ drop-take i n ys) in
+piece-low a b i n mid new l t = let whole : (ys : List ℕ) → piece i n ys ≡ drop i (take (i + n) (take a ys)) =
+    λ ys. sym (grind (arith, take-take, drop-take)) in
     whole new ∙ ap (λ k. drop i (take (i + n) k)) t.low ∙ sym (whole mid)
 
 -- the slots of a Masters block at a place
@@ -147,12 +144,7 @@ module _ (xs : List ℕ) (below above : List Block) (n : ℕ) (slots : ℕ → S
     lies : Lies resource with_masters new
     lies =
         let c = clear z place top xs st in
-        record {
-          tiles = tiles-splice (head_of resource) _ _ _ (Free n ∷ []) _ put place top low high h.lies.tiles
-              same tiles;
-          leads = leads-splice _ _ below (Free n ∷ []) above put place top low high span h.lies.leads same c.0 c.1
-              (tt, leads-free (place + 272) left new);
-        }
+        (search (rules, tiles, tiles-splice, high, leads-splice, span, leads-free))
 
     forth : (s : ℕ) → IsSlot s all → IsSlot s with_masters
     forth s i = slot-kept z _ _ xs st s put span i
@@ -164,18 +156,10 @@ module _ (xs : List ℕ) (below above : List Block) (n : ℕ) (slots : ℕ → S
     back s i f = elim (slot-split s _ _ i) [
       | inl j ↦ slot-append_left s below (Free n ∷ above) j
       | inr j ↦ elim (slot-split (s - sizes below) put above j.1) [
-        | inl k ↦ elim k [
-          | inl m ↦
-              let at = at-slot place s (omega (arith, m, low)) (omega (arith, m, low)) (omega (arith, m, low, evens))
-              in
-              absurd (false≢true (sym f ∙ at))
-          | inr m ↦ absurd (free-slots left (s - sizes below - 272) m.1)
-        ]
+        | inl k ↦ (grind (arith, at-slot, evens, false≢true, free-slots))
         | inr k ↦
-            let f : s - sizes below - sizes put ≡ s - sizes below - sizes (Free n ∷ []) = ap
-            (λ q. s - sizes below - q) span in
-            slot-append_right s _ _ j.0 (slot-append_right _ (Free n ∷ []) _
-            (omega (arith, span)) (subst (λ q. IsSlot q above) f k.1))
+            let f : s - sizes below - sizes put ≡ s - sizes below - sizes (Free n ∷ []) = grind arith in
+            slot-append_right s _ _ j.0 (grind (arith, slot-append_right, span))
       ]
     ]
 
@@ -206,9 +190,7 @@ module _ (xs : List ℕ) (below above : List Block) (n : ℕ) (slots : ℕ → S
               has-append s (slots_at place) _
                   (inl (has-slot (place + 16) 64 s b.0 (omega (arith, b)) (omega (arith, v)) b.2)),
             )
-        go false e =
-            subst (Says with_masters new (slots_at place ++ unused) s) (sym (ap (λ v. cond v Unused (slots s)) e))
-            (says-old s (slots s) e (h.says s))
+        go false e = grind (arith, says-old)
 
     pub lays-masters : Lays new with_masters now (slots_at place ++ unused)
     lays-masters =
@@ -219,11 +201,7 @@ module _ (xs : List ℕ) (below above : List Block) (n : ℕ) (slots : ℕ → S
               (each-named (λ s. resource s ≡ is_resource (now s)) (each-map (λ s. IsSlot s all)
               (λ s. resource s ≡ is_resource (now s)) (λ s i. sym (ap is_resource (kept-slot s i)))
               _ h.has_slots.slots)) lies;
-          has_slots = record {
-            slots = each-named (λ s. IsSlot s with_masters)
-                (each-map (λ s. IsSlot s all) (λ s. IsSlot s with_masters) forth (names all) h.has_slots.slots);
-            apart = subst (Pairs Apart) (sym names-now) h.has_slots.apart;
-          };
+          has_slots = (grind (arith, each-named, each-map, forth, names-now));
           placed = placed-append 0 _ _ (placed-left 0 below (Free n ∷ above) h.placed)
               (placed-append _ put above (tt, placed-free (0 + sizes below + 272) left)
               (subst (λ k. ArePlaced (0 + sizes below + k) above) (sym span) q));

@@ -44,21 +44,8 @@ pub roomy : (xs : List ℕ) (first count place need : ℕ) → IsSound xs first 
     → IsSomeAnd (spot_at place (zone_in xs)) (λ s. IsTrue (is_room need s.here)) → Roomy xs place need
 roomy xs first count place need i h =
     let a = the-spot (spot_at place (zone_in xs)) (λ s. IsTrue (is_room need s.here)) h in
-    let f = free-of a.0.here a.2 in
     let st = standing xs first count place i a.0 a.1 in
-    record {
-      s = a.0;
-      is = a.1;
-      at = st;
-      bytes = f.0;
-      here = f.1;
-      room = f.2;
-      head = record {
-        is = refl;
-        unjoined = unjoined-above _ _ (subst (λ b. Apart (b ∷ a.0.above)) f.1
-            (apart-above _ (a.0.here ∷ a.0.above) st.apart));
-      };
-    }
+    (grind (arith, unjoined-above, Apart, apart-above))
   where
     free-of : (b : Block) → IsTrue (is_room need b) → (n : ℕ) × (b ≡ Free n) × (need ≤ n)
     free-of (Free n) h = (n, refl, le-back need n h)
@@ -98,11 +85,7 @@ module _ (xs : List ℕ) (place n top z : ℕ) (r : Roomy xs place (padded n)) (
         subst (λ bs. Lays (laid head place top 0 xs) bs (slot_in xs) i.unused)
         (ap (λ m. r.s.below ++ new ∷ (free m ++ r.s.above)) k
         ∙ sym (cut-sized new refl r.s a.apart 0 r.s.above r.head (omega (arith, size-new, l))))
-        (laid-lays _ _ _ i _ (r.s.here ∷ []) _ a.whole _ _ a.low high (omega (
-          arith,
-          t,
-          a.some,
-        )) (no-slots r.s.here (ap is_masters r.here))
+        (laid-lays _ _ _ i _ (r.s.here ∷ []) _ a.whole _ _ a.low high (grind arith) (no-slots r.s.here (ap is_masters r.here))
         _ 0 may-lay _ refl (size-new ∙ sym pz) (sym (ap (λ b. names_of b ++ []) r.here)) refl head-is tt)
 
     pub nonrelocatable-lays-if : IfSome (spot_at place (zone_in xs)) (λ s. Lays (laid head place top 0 xs) (filled new s)
@@ -128,8 +111,7 @@ module _ (xs now : List ℕ) (first unused place n : ℕ) (i : IsSound xs first 
 
   pub nonrelocatable-free : free_sum (zone_in now) + padded n ≡ free_sum (zone_in xs)
   nonrelocatable-free =
-      let b = ap padded (length-replicate {A = ℕ} n 0) in
-      omega (arith, ap free_sum nonrelocatable-made.zone, (filled-free block refl r.s r.bytes r.here fits), ap free_sum r.at.whole, b)
+      omega (arith, ap free_sum nonrelocatable-made.zone, (filled-free block refl r.s r.bytes r.here fits), ap free_sum r.at.whole, (ap padded (length-replicate {A = ℕ} n 0)))
 
   pub nonrelocatable-masters : count is_masters (zone_in now) ≡ count is_masters (zone_in xs)
   nonrelocatable-masters =

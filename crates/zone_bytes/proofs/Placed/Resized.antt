@@ -69,11 +69,9 @@ module _ (xs now : List ℕ) (first unused place n : ℕ) (i : IsSound xs first 
       go (inr more) =
           let h = the-if (spot_at place (zone_in xs)) _ s e (grown first unused i) more in
           let g = some-blocks (grow_up new s) (elim room [ inl le ↦ absurd (omega (arith, le, more)) | inr is ↦ is ]) in
-          let l : Lays now g.0 (slot_in xs) i.unused =
-          subst (λ o. IfSome o (λ after. Lays now after (slot_in xs) i.unused)) g.1 h in
           record {
             blocks = g.0;
-            made = made _ _ (slot_in xs) _ l _ _ (tidy-grown n s g.0 more at.tidied g.1) i.begins i.counted;
+            made = made _ _ (slot_in xs) _ (subst (λ o. IfSome o (λ after. Lays now after (slot_in xs) i.unused)) g.1 h) _ _ (tidy-grown n s g.0 more at.tidied g.1) i.begins i.counted;
             masters = count-grown is_masters (λ m. refl) new s g.0 (is_masters-resized n s.here) g.1
                 ∙ ap (count is_masters) (sym at.whole);
             given = (omega (arith, given-grown, given-whole));
@@ -106,9 +104,7 @@ module _ (xs now : List ℕ) (first unused place n : ℕ) (i : IsSound xs first 
           | inl le ↦ resize-made.cut le ∙ cut-sized new solid s at.apart m (past_free s.above) heading le
           | inr more ↦
               let g = some-blocks (grow_up new s) (elim room [ inl le ↦ absurd (omega (arith, le, more)) | inr is ↦ is ]) in
-              let e : resize-made.blocks ≡ g.0 =
-              subst (λ o. IfSome o (λ after. resize-made.blocks ≡ after)) g.1 (resize-made.grown more) in
-              e ∙ grown-sized new solid s at.apart m (past_free s.above) heading g.0 more g.1
+              (subst (λ o. IfSome o (λ after. resize-made.blocks ≡ after)) g.1 (resize-made.grown more)) ∙ grown-sized new solid s at.apart m (past_free s.above) heading g.0 more g.1
         ];
         low = at.low;
         high = omega (arith, span-free);

@@ -47,12 +47,9 @@ use Rattle.zone_bytes.proofs.Placed.Stretched.{laid-lays, no-slots-two}
 
 -- blocks that stand apart, parted into the Free one that comes first and the others
 pub headed-above : (above : List Block) → Apart above → Heading above (free_first above) (past_free above)
-headed-above [] a = record { is = refl; unjoined = refl }
 headed-above (Free zero ∷ above) a = absurd (longer _ _ a.0)
 headed-above (Free (suc n) ∷ above) a = record { is = refl; unjoined = unjoined-above _ _ a }
-headed-above (Nonrelocatable id content ∷ above) a = record { is = refl; unjoined = refl }
-headed-above (Masters ∷ above) a = record { is = refl; unjoined = refl }
-headed-above (Relocatable id flags content ∷ above) a = record { is = refl; unjoined = refl }
+headed-above _ a = record { is = refl; unjoined = refl }
 
 -- the Free bytes that come first lie in the bytes
 pub free-whole : (at : ℕ) (xs : List ℕ) (w : IsOnWay at xs) → (free_first (left_in at xs) % 16 ≡ 0)
@@ -70,9 +67,7 @@ free-whole at xs w =
 
 free-part : (b : Block) → free_of b ≤ size b
 free-part (Free n) = omega arith
-free-part (Nonrelocatable id content) = omega arith
-free-part Masters = omega arith
-free-part (Relocatable id flags content) = omega arith
+free-part _ = omega arith
 
 abbrev Holds : Block → Type 0
 Holds b = (kind b % 2 == 1) ≡ true
@@ -89,24 +84,14 @@ pub record Same (n place : ℕ) (b : Block) : Type 0 where
 
 pub same-of : (n place : ℕ) (b : Block) → Holds b → Same n place b
 same-of n place (Free m) k = absurd (false≢true k)
-same-of n place (Nonrelocatable id content) k = grind (arith, length-resized)
 same-of n place Masters k = absurd (false≢true k)
-same-of n place (Relocatable id flags content) k = record {
-      no_masters = refl;
-      held = refl;
-      solid = refl;
-      still_none = refl;
-      names = refl;
-      placed = λ p. p;
-      size = ap padded (length-resized n content);
-    }
+same-of n place _ k = grind (arith, length-resized)
 
 -- a block that holds none has one size
 pub unsized : (n : ℕ) (b : Block) → (kind b % 2 == 1) ≡ false → resized n b ≡ b
 unsized n (Free m) k = refl
-unsized n (Nonrelocatable id content) k = absurd (false≢true (sym k))
 unsized n Masters k = refl
-unsized n (Relocatable id flags content) k = absurd (false≢true (sym k))
+unsized n _ k = absurd (false≢true (sym k))
 
 -- the header of a block at another size
 module _ (resource : ℕ → Bool) (n at : ℕ) (xs : List ℕ) (small : length xs ≤ 134217728) where
@@ -115,7 +100,6 @@ module _ (resource : ℕ → Bool) (n at : ℕ) (xs : List ℕ) (small : length 
       × (header (padded n + kind b) n (word_at (at + 8) xs) (word_at (at + 12) xs) ++ resized_content n (content_of b)
       ≡ head_of resource (resized n b))
   unfolding head_of
-  sized-head (Free m) t w k = absurd (false≢true k)
   sized-head (Nonrelocatable id content) t w k =
       let z = size (Nonrelocatable id content) in
       let q = says z (z + 1) (length content) 0 0 content (drop at xs) t in
@@ -125,7 +109,6 @@ module _ (resource : ℕ → Bool) (n at : ℕ) (xs : List ℕ) (small : length 
       let e = read_back (at + 12) 0 xs (omega arith) (word-at at 12 xs ∙ q.2) in
       let y = length-resized n content in
       (c, (λ j. header (padded (sym y j) + 1) (sym y j) (v j) (e j) ++ (resized_content n content)))
-  sized-head Masters t w k = absurd (false≢true k)
   sized-head (Relocatable slot flags content) t w k =
       let z = size (Relocatable slot flags content) in
       let q = says z (z + 3) (length content) slot (flag_word flags (resource slot)) content (drop at xs) t in
@@ -136,6 +119,7 @@ module _ (resource : ℕ → Bool) (n at : ℕ) (xs : List ℕ) (small : length 
       let e = read_back (at + 12) (flag_word flags (resource slot)) xs (omega (arith, g)) (word-at at 12 xs ∙ q.2) in
       let y = length-resized n content in
       (c, (λ j. header (padded (sym y j) + 3) (sym y j) (v j) (e j) ++ (resized_content n content)))
+  sized-head _ t w k = absurd (false≢true k)
 
 -- the header that was read at a place
 pub record Read (header : Header) (place : ℕ) (xs : List ℕ) : Type 0 where
@@ -240,15 +224,9 @@ module _ (xs : List ℕ) (place n : ℕ) (s : Spot) (at : Standing xs place s) (
           let k : place + hd.size + m - place - z ≡ size s.here + m - size new = omega (arith, y, same.size, pz) in
           subst (λ bs. Lays now bs (slot_in xs) i.unused) (ap (λ j. s.below ++ new ∷ (free j ++ rest)) k)
           (laid-lays _ _ _ i _ (s.here ∷ free m) _ (at.whole ∙ ap (λ l. s.below
-          ++ s.here ∷ l) heads.is) _ _ at.low (omega (arith, y, span-free)) (omega (
-            arith,
-            at.some,
-            y,
-          )) (no-slots-two s.here m same.no_masters)
-          _ _ may-size _ same.still_none (same.size ∙ sym pz)
-          (same.names ∙ sym (ap (λ l. names_of s.here ++ l) (names-free m) ∙ append-nil (names_of s.here)))
-          (same.placed at.placed) head-is
-          (subst (Each (λ k. piece k 4 xs ≡ word place)) (sym same.names) (leads-each place s.here xs at.leads)))
+          ++ s.here ∷ l) heads.is) _ _ at.low (omega (arith, y, span-free)) (grind arith) (no-slots-two s.here m same.no_masters)
+          _ _ may-size _ same.still_none (same.size ∙ sym pz) (grind arith) (same.placed at.placed) head-is
+          (grind arith))
 
       pub cut-lays : size new ≤ size s.here → Lays now (filled new s) (slot_in xs) i.unused
       cut-lays le = grind (arith, cut-sized, same, heads, sized-lays)
@@ -258,15 +236,11 @@ module _ (xs : List ℕ) (place n : ℕ) (s : Spot) (at : Standing xs place s) (
 
       pub free-sized : (count : ℕ) → count ≡ free_sum (zone_in xs)
           → (z ≤ count + hd.size) × (count ≤ 134217728) × (count + hd.size - z ≡ free_sum (zone_in now))
-      free-sized count c =
-          let b = free_sum-sized s.below new (size s.here + m - size new) rest same.solid in
-          let d = ap free_sum at.whole ∙ ap (λ l. free_sum (s.below ++ s.here ∷ l)) heads.is
+      free-sized count c = let d = ap free_sum at.whole ∙ ap (λ l. free_sum (s.below ++ s.here ∷ l)) heads.is
           ∙ free_sum-sized _ _ m _ same.held in
-          let e = total-le free_of size free-part (zone_in xs) in
           let f = fits in
           let y = size-is in
-          let v = same.size in
-          (omega (arith, c, d, f, y, pz), omega (arith, c, e, sizes-length), omega (arith, (ap free_sum (zone-of now result (slot_in xs) i.unused sized-lays)), b, c, d, f, y, v, pz))
+          (omega (arith, c, d, f, y, pz), omega (arith, c, (total-le free_of size free-part (zone_in xs)), sizes-length), omega (arith, (ap free_sum (zone-of now result (slot_in xs) i.unused sized-lays)), (free_sum-sized s.below new (size s.here + m - size new) rest same.solid), c, d, f, y, same.size, pz))
 
 -- where a block holds no bytes, all stays
 module _ (xs : List ℕ) (place n : ℕ) (s : Spot) (at : Standing xs place s) (none : (kind s.here % 2 == 1) ≡ false)

@@ -90,11 +90,10 @@ standing xs first count place i s e =
 pub held-piece : (resource : ℕ → Bool) (b : Block) (at : ℕ) (xs : List ℕ)
     → Tile (head_of resource b) (size b) (drop at xs) → piece (at + 16) (length (content_of b)) xs ≡ content_of b
 unfolding head_of
-held-piece resource (Free n) at xs t = refl
 held-piece resource (Nonrelocatable id content) at xs t =
     let z = size (Nonrelocatable id content) in
     ap (take (length content)) (sym (drop-drop 16 at xs)) ∙ (says z _ _ 0 0 _ _ t).3
-held-piece resource Masters at xs t = refl
 held-piece resource (Relocatable slot flags content) at xs t =
     let z = size (Relocatable slot flags content) in
     ap (take (length content)) (sym (drop-drop 16 at xs)) ∙ (says z _ _ _ _ _ _ t).3
+held-piece resource _ at xs t = refl

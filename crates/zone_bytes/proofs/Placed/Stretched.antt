@@ -44,13 +44,7 @@ tiles-two resource b k at len new e fits even t w =
       fits,
       e,
     )) in
-    let above : Tiles head (piece (at + size b) k new) (free k) = elim w [
-      | inl z ↦ subst (λ j. Tiles head (piece (at + size b) j new) (free j)) (sym z) refl
-      | inr z ↦
-          let some : 16 ≤ k = omega (arith, z.0, even) in
-          subst (λ j. Tiles head (piece (at + size b) k new) j) (sym (free-some k z.0)) (tiles-one head _ _ l
-          (free-tile resource k _ l even some (take-take 4 k (drop (at + size b) new) (omega (arith, some)) ∙ z.1)))
-    ] in (
+    let above : Tiles head (piece (at + size b) k new) (free k) = (grind (arith, free-some, tiles-one, free-tile, take-take)) in (
       tile-take head (head b) (size b) len (drop at new) (omega (arith, e)) (omega (arith, d, fits)) t,
       subst (λ j. Tiles head j (free k)) (sym cut) above,
     )
@@ -86,29 +80,19 @@ module _ (xs : List ℕ) (first count : ℕ) (i : IsSound xs first count) (below
   of-old = grind (arith, each-right, names-append, was, each-left)
 
   leads-new : LeadsTo place b new
-  leads-new =
-      let o = laid-outside h place top held xs may in
-      let z = zone xs below old above (slot_in xs) i.unused was place top low high some plain in
-      let st = is-splice xs below old above (slot_in xs) i.unused was place top low high some plain in
-      each-leads _ b _ (each-both (λ s. IsSlot s all) (λ s. piece s 4 xs ≡ word place)
+  leads-new = each-leads _ b _ (each-both (λ s. IsSlot s all) (λ s. piece s 4 xs ≡ word place)
       (λ s. piece s 4 new ≡ word place)
-      (λ s j q. piece-outside _ _ _ _ s o (outside z _ _ _ st s j) ∙ q) _ of-old lead)
+      (λ s j q. piece-outside _ _ _ _ s (laid-outside h place top held xs may) (outside (zone xs below old above (slot_in xs) i.unused was place top low high some plain) _ _ _ (is-splice xs below old above (slot_in xs) i.unused was place top low high some plain) s j) ∙ q) _ of-old lead)
 
   tiles : Tiles (head_of (resource_in xs)) (piece place (top - place) new) (b ∷ free left)
   tiles =
       let o = laid-outside h place top held xs may in
       let one = laid-tile h place top held xs may (head_of (resource_in xs) b) head in
-      tiles-two (resource_in xs) b _ _ _ _ (omega (arith, same)) (omega arith) (omega arith)
-      (subst (λ m. Tile (head_of (resource_in xs) b) m (drop place new)) (sym same) one)
+      tiles-two (resource_in xs) b _ _ _ _ (omega (arith, same)) (omega arith) (omega arith) (grind arith)
       (subst (λ m. (left ≡ 0) ⊎ ((0 < left) × (piece (place + m) 4 new ≡ word left))) (sym same)
       (laid-left h _ _ _ _ may))
 
   pub laid-lays : Lays new (below ++ ((b ∷ free left) ++ above)) (slot_in xs) i.unused
-  laid-lays =
-      replaced _ _ _ _ (slot_in xs) _ was _ _ low high some plain (b ∷ free left) new
-      (laid-outside h place top held xs may) tiles (omega (arith, same, span-free, high))
-      (ap (λ k. names_of b ++ k) (names-free left) ∙ append-nil (names_of b) ∙ n)
-      (no-slots-two b left solid) (p, placed-free (place + size b) left) (
-        leads-new,
-        leads-free (place + size b) left new,
-      )
+  laid-lays = replaced _ _ _ _ (slot_in xs) _ was _ _ low high some plain (b ∷ free left) new
+      (laid-outside h place top held xs may) tiles (omega (arith, same, span-free, high)) (grind arith)
+      (no-slots-two b left solid) (p, placed-free (place + size b) left) (grind (arith, leads-new, leads-free))

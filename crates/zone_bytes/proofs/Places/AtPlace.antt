@@ -45,9 +45,7 @@ module _ (xs : List ℕ) (first count : ℕ) (i : IsSound xs first count) where
             whole = omega (arith, span-whole, b);
           };
           placed = subst (λ j. ArePlaced j above) o (placed-right 0 below above (subst (ArePlaced 0) z i.lays.placed));
-          words = words above (each-right (λ s. IsSlot s (zone_in xs)) _ _
-              (subst (Each (λ s. IsSlot s (zone_in xs))) (ap names z ∙ names-append below above)
-              i.lays.has_slots.slots));
+          words = words above (grind (arith, each-right, names-append));
           small = i.lays.small;
         },
         refl,

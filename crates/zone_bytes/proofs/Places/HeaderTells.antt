@@ -24,7 +24,6 @@ module _ (resource : ℕ → Bool) (at : ℕ) (xs : List ℕ) (small : length xs
   pub contained : (b : Block) → Tile (head_of resource b) (size b) (drop at xs) → (kind b % 2 == 1) ≡ true
       → Contained at xs b
   unfolding head_of
-  contained (Free n) t k = absurd (false≢true k)
   contained (Nonrelocatable id content) t k =
       let z = size (Nonrelocatable id content) in
       let q = says z (z + 1) (length content) 0 0 content (drop at xs) t in
@@ -34,7 +33,6 @@ module _ (resource : ℕ → Bool) (at : ℕ) (xs : List ℕ) (small : length xs
         fits = omega (arith, w, length-head, d);
         is = ap (λ n. piece (at + 16) n xs) w ∙ ap (take (length content)) (sym (drop-drop 16 at xs)) ∙ q.3;
       }
-  contained Masters t k = absurd (false≢true k)
   contained (Relocatable slot flags content) t k =
       let z = size (Relocatable slot flags content) in
       let q = says z (z + 3) (length content) slot (flag_word flags (resource slot)) content (drop at xs) t in
@@ -44,12 +42,12 @@ module _ (resource : ℕ → Bool) (at : ℕ) (xs : List ℕ) (small : length xs
         fits = omega (arith, w, length-head, d);
         is = ap (λ n. piece (at + 16) n xs) w ∙ ap (take (length content)) (sym (drop-drop 16 at xs)) ∙ q.3;
       }
+  contained _ t k = absurd (false≢true k)
 
 pub empty : (b : Block) → (kind b % 2 == 1) ≡ false → content_of b ≡ []
 empty (Free n) k = refl
-empty (Nonrelocatable id content) k = absurd (false≢true (sym k))
 empty Masters k = refl
-empty (Relocatable slot flags content) k = absurd (false≢true (sym k))
+empty _ k = absurd (false≢true (sym k))
 
 same-head : (b c : Block) (bs cs : List Block) → b ∷ bs ≡ c ∷ cs → b ≡ c
 same-head b c bs cs e = cc
@@ -70,10 +68,7 @@ here-on at xs w l n t e h k = next w.rest (left-is _ _ w) w.walk
   where
     next : (rest : List Block) → left_in at xs ≡ rest → Walk w.resource at xs rest → OnWay at xs t
     next [] q v = absurd (omega (arith, l))
-    next (b ∷ rest) q v =
-        let same = same_parts n t _ _ (e ∙ first-reads w.resource _ _ w.small b v.high.0) h
-        v.high.0.whole k (kind-small b) in
-        record { here = b; above = rest; is = q; tag = same.1; resource = w.resource; tile = v.high.0; small = w.small }
+    next (b ∷ rest) q v = grind (arith, same_parts, first-reads, kind-small)
 
 module _ (at : ℕ) (xs : List ℕ) (t : ℕ) (o : OnWay at xs t) where
   pub holds : (t % 2 == 1) ≡ true → Contained at xs o.here
@@ -91,7 +86,4 @@ size-at at xs w l n t e h k b above q = next w.rest (sym (left-is _ _ w) ∙ q) 
   where
     next : (rest : List Block) → rest ≡ b ∷ above → Walk w.resource at xs rest → n ≡ size b
     next [] r v = absurd (omega (arith, l))
-    next (c ∷ rest) r v =
-        let same = same_parts n t _ _ (e ∙ first-reads w.resource _ _ w.small c v.high.0) h
-        v.high.0.whole k (kind-small c) in
-        same.0 ∙ ap size (same-head c b rest above r)
+    next (c ∷ rest) r v = grind (arith, same_parts, first-reads, kind-small, same-head)

@@ -27,13 +27,11 @@ use Rattle.zone_bytes.proofs.Places.AtPlace.{way-at, left-at, inside}
 -- the block of a slot's name
 named : (number : ℕ) (b : Block) → is_relocatable number b ≡ true → (flags : Flags) × (content : List ℕ)
     × (b ≡ Relocatable number flags content)
-named number (Free n) e = absurd (false≢true e)
-named number (Nonrelocatable id content) e = absurd (false≢true e)
-named number Masters e = absurd (false≢true e)
 named number (Relocatable id flags content) e = elim (eqb_tells id number) [
   | inl t ↦ (flags, content, ap (λ k. Relocatable k flags content) t.1)
   | inr t ↦ absurd (false≢true (sym t.0 ∙ e))
 ]
+named number _ e = absurd (false≢true e)
 
 module _ (xs : List ℕ) (first count : ℕ) (i : IsSound xs first count) (number : ℕ) (s : Spot)
     (e : spot (is_relocatable number) (zone_in xs) ≡ Some s) where
@@ -57,9 +55,7 @@ module _ (xs : List ℕ) (first count : ℕ) (i : IsSound xs first count) (numbe
 
   pub led-place : word_at number xs ≡ sizes s.below
   led-place =
-      let l = leads-right xs 0 s.below (block ∷ s.above) (subst (λ z. Leads 0 z xs) whole i.lays.lies.leads) in
-      let o : 0 + sizes s.below ≡ sizes s.below = omega arith in
-      read_back number (sizes s.below) xs (omega (arith, (inside xs first count i (sizes s.below) s led-at))) (l.0 ∙ ap word o)
+      read_back number (sizes s.below) xs (omega (arith, (inside xs first count i (sizes s.below) s led-at))) ((leads-right xs 0 s.below (block ∷ s.above) (subst (λ z. Leads 0 z xs) whole i.lays.lies.leads)).0 ∙ ap word (omega arith))
 
   led-left : left_in (word_at number xs) xs ≡ block ∷ s.above
   led-left = ap (λ p. left_in p xs) led-place ∙ left-at _ _ _ i _ s led-at ∙ ap (λ b. b ∷ s.above) here.2

@@ -44,8 +44,7 @@ module _ (resource : ℕ → Bool) (at : ℕ) (xs : List ℕ) (small : length xs
       let c = read_back (at + 4) (length content) xs (omega (arith, length-head, d, small)) (word-at at 4 xs ∙ q.0) in
       let v = read_back (at + 8) slot xs w.0 (word-at at 8 xs ∙ q.1) in
       let e = read_back (at + 12) (flag_word flags (resource slot)) xs (omega (arith, g)) (word-at at 12 xs ∙ q.2) in
-      (λ i. see.Relocatable (v i) (flags_of (e i)) (c i))
-      ∙ (λ i. see.Relocatable slot (flags_of-word flags (resource slot) i) (length content))
+      (λ i. see.Relocatable (v i) (flags_of (e i)) (c i)) ∙ (grind arith)
 
 -- a step over the block whose header is of n bytes and a kind of number t
 pub record Stepped (at : ℕ) (xs : List ℕ) (n t : ℕ) : Type 0 where
@@ -78,24 +77,11 @@ stepped-on resource at xs small (b ∷ rest) v p o l n t e h k =
     let bytes = same.0 in
     let now : IsOnWay at xs = record
     { resource = resource; rest = b ∷ rest; walk = v; placed = p; words = o; small = small } in
-    let way : IsOnWay (at + n) xs = record {
-      resource = resource;
-      rest = rest;
-      walk = record {
-        high = subst (λ j. Tiles (head_of resource) (drop (at + j) xs) rest) (sym bytes)
-            (subst (λ j. Tiles (head_of resource) j rest) (drop-drop (size b) at xs) v.high.1);
-        up = omega (arith, bytes);
-        whole = omega (arith, h);
-      };
-      placed = subst (λ j. ArePlaced (at + j) rest) (sym bytes) p.1;
-      words = each-right P (names_of b) (names rest) o;
-      small = small;
-    } in
+    let way : IsOnWay (at + n) xs = (grind (arith, drop-drop, each-right)) in
     record {
       here = b;
       is = left-is at xs now ∙ ap (λ q. b ∷ q) (sym (left-is (at + n) xs way));
-      told = (λ i. header_seen (same.1 i) (bytes i) (word_at (at + 4) xs) (word_at (at + 8) xs)
-          (word_at (at + 12) xs)) ∙ told-is resource _ _ small b v.high.0 (each-left P _ _ o);
+      told = (grind arith) ∙ told-is resource _ _ small b v.high.0 (each-left P _ _ o);
       way = way;
     }
 

@@ -1,5 +1,5 @@
 -- A run of a zone is changed.
-use Rattle.std.proofs.Common.{◌≡◌, ℕ, ◌+◌, Option, Some, cond, List, ◌++◌, refl, sym, ap, ◌∙◌, subst}
+use Rattle.std.proofs.Common.{◌≡◌, ℕ, ◌+◌, Option, Some, cond, List, ◌++◌, refl, sym, ap, ◌∙◌, subst, arith}
 use Rattle.std.proofs.Common.{append_assoc}
 use Rattle.std.specs.Option.{IfSome}
 use Rattle.block_store.specs.Block.{Block, size, total, count, is_masters, free_of, free_sum, sizes, tidy}
@@ -44,17 +44,7 @@ pub changed-run : (change : List Block → List Block) (place : ℕ) (zone : Lis
     → Made new first unused (tidy (with_run change r)) table → ChangedRun change zone r new first unused table
 changed-run change place zone r e keeps new first unused table t m =
     let l = (run_at-parts place zone r e).loose in
-    let masters : Block → ℕ = λ b. cond (is_masters b) 1 0 in
-    record {
-      made = m;
-      is = m.zone ∙ t ∙ append_assoc r.below (change r.run) r.above;
-      span = keeps size (λ n k. refl) l;
-      masters = ap (count is_masters) m.zone ∙ total-changed masters (λ n k. refl) change _ _ r e
-          (keeps masters (λ n k. refl) l);
-      free = total-changed free_of (λ n k. refl) change place zone r e (keeps free_of (λ n k. refl) l);
-      purgeable = ap purgeable_sum m.zone ∙ total-changed purgeable_of (λ n k. refl) change _ _ r e
-          (keeps purgeable_of (λ n k. refl) l);
-    }
+    (grind (arith, append_assoc, total-changed))
 
 -- so the blocks from the run's bottom to its top became others
 pub replaced-run : {change : List Block → List Block} {zone : List Block} {r : RunSpot} {new : List ℕ} {first unused : ℕ}
@@ -82,7 +72,6 @@ settled-run xs first unused i place r e stop t moves new d =
     let z : r.below ++ (settle r.run ++ r.above) ≡ tidy (with_run settle r) =
     sym (settled-tidy _ _ r i.tidied e) ∙ ap tidy (sym (append_assoc r.below (settle r.run) r.above)) in (
       changed-run settle _ _ r e (λ of adds l. settle-total of adds _ l) _ _ _
-          (slot_in xs) (sym z ∙ sym (append_assoc r.below (settle r.run) r.above))
-          (subst (λ k. Made new first unused k (slot_in xs)) z m.0),
+          (slot_in xs) (grind (arith, append_assoc)) (grind arith),
       m.1,
     )

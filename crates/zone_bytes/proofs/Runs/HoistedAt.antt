@@ -1,5 +1,5 @@
 -- The block of a slot is moved to the top of its run, of a zone in bytes.
-use Rattle.std.proofs.Common.{◌≡◌, ℕ, true, cond, ◌+◌, ◌%◌, ◌≤◌, Some, List, [], ◌∷◌, ◌++◌, length, drop}
+use Rattle.std.proofs.Common.{◌≡◌, ℕ, true, cond, ◌+◌, ◌%◌, ◌≤◌, Some, List, [], ◌∷◌, ◌++◌, length, drop, rules}
 use Rattle.std.proofs.Common.{refl, sym, ap, ◌∙◌, subst, arith, append_assoc}
 use Rattle.std.proofs.Math.Seq.{drop-append_seam}
 use Rattle.heap_words.specs.Words.{word_at}
@@ -62,10 +62,9 @@ module _ {xs : List ℕ} {first unused place top stop : ℕ} {old : List Block}
   loose-run = loose k
 
   packed-parts : zone_in xs ≡ beneath ++ block ∷ (over ++ r.above)
-  packed-parts =
-      packed-zone k ∙ ap (λ l. r.below ++ (l ++ r.above)) (settle-parts _ r.run cut loose-run)
+  packed-parts = packed-zone k ∙ ap (λ l. r.below ++ (l ++ r.above)) (settle-parts _ r.run cut loose-run)
       ∙ ap (λ l. r.below ++ l) (append_assoc (movers cut.low) (block ∷ over) r.above)
-      ∙ sym (append_assoc r.below (movers cut.low) (block ∷ (over ++ r.above)))
+      ∙ sym (grind (arith, append_assoc, cut))
 
   laid-was : Lays xs (beneath ++ block ∷ (over ++ r.above)) (slot_in xs) k.sound.unused
   laid-was = subst (λ l. Lays xs l (slot_in xs) k.sound.unused) packed-parts k.sound.lays
@@ -98,9 +97,7 @@ module _ {xs : List ℕ} {first unused place top stop : ℕ} {old : List Block}
   hoist-is = let s : spot_at here (zone_in xs) ≡ Some _ = ap (spot_at here) packed-parts ∙ spot_at-parts _ _ _
       (apart-tidied _ (sym (ap tidy packed-parts) ∙ k.sound.tidied ∙ packed-parts)) in
       let f = first-run over r.above (loose-over number r.run cut loose-run) (run_at-ended place old r k.is).stops in
-      let g : drop (length (segments (over ++ r.above)).first) (over ++ r.above) ≡ r.above =
-      ap (λ l. drop (length l) (over ++ r.above)) f ∙ drop-append_seam over r.above in
-      ap (hoist_from xs) s ∙ (λ j. record raw { over = f j; above = g j })
+      ap (hoist_from xs) s ∙ (λ j. record raw { over = f j; above = (ap (λ l. drop (length l) (over ++ r.above)) f ∙ drop-append_seam over r.above) j })
 
   module _ (at : ℕ) (w : at ≡ word_at number xs) where
     hoist-at : hoist_at xs at ≡ raw
@@ -110,17 +107,12 @@ module _ {xs : List ℕ} {first unused place top stop : ℕ} {old : List Block}
     hoist-bytes = sym (ap (λ z. z.bytes) hoist-at)
 
     may-move : MayHoist raw here stop
-    may-move =
-        record {
+    may-move = record {
           lies = laid-was.lies;
           slots = laid-was.has_slots;
           bottom = refl;
-          top = (let c = ap sizes (settle-parts number r.run cut loose-run) in
-              omega (arith, span-append, c, span-settle r.run (in-run k), bottom k));
-          in_run = each-loose (block ∷ over) (
-            loose-block number r.run cut loose-run,
-            loose-over number r.run cut loose-run,
-          );
+          top = (omega (arith, span-append, (ap sizes (settle-parts number r.run cut loose-run)), span-settle r.run (in-run k), bottom k));
+          in_run = each-loose (block ∷ over) (search (rules, loose-block, cut, loose-run, loose-over));
           small = laid-was.small;
         }
 
@@ -136,16 +128,10 @@ module _ {xs : List ℕ} {first unused place top stop : ℕ} {old : List Block}
         let lays = lays-run _ _ _ (block ∷ over) _ _ (slot_in xs) _ laid-was m.in_run
         (in-now raw here stop m) (same-span raw here stop m) (same-names raw here stop m) q.lies q.others q.kept in
         let ones : Block → ℕ = λ b. cond {A = ℕ} (test b) 1 0 in
-        let all : count test (r.below ++ (r.run ++ r.above)) ≡ count test old =
-        ap (count test) (run_at-is place old r k.is) in
-        let a : count test (r.below ++ (r.run ++ r.above)) ≡ count test r.below + count test (r.run ++ r.above) =
-        total-append ones r.below (r.run ++ r.above) in
-        let b : count test (r.run ++ r.above) ≡ count test r.run + count test r.above =
-        total-append ones r.run r.above in
         let shape : beneath ++ ((over ++ block ∷ []) ++ r.above) ≡ with_run (high test) r =
         append_assoc r.below (movers cut.low) ((over ++ block ∷ []) ++ r.above)
         ∙ ap (λ l. r.below ++ l) (sym (append_assoc (movers cut.low) (over ++ block ∷ []) r.above)
-        ∙ ap (λ l. l ++ r.above) (sym (high-parts number r.run cut (omega (arith, all, a, b, once)))))
+        ∙ ap (λ l. l ++ r.above) (sym (high-parts number r.run cut (omega (arith, (ap (count test) (run_at-is place old r k.is)), (total-append ones r.below (r.run ++ r.above)), (total-append ones r.run r.above), once)))))
         ∙ sym (append_assoc r.below (high test r.run) r.above) in
         let tidy-is = tidy-change place old r k.is k.tidied (high test r.run) (apart-high test (λ n. refl) r.run) in
         changed-run (high test) _ _ r k.is (λ of adds l. high-total of adds number r.run l) _ _ _

@@ -44,15 +44,9 @@ module _ (z : Hoist) (place stop : ℕ) (h : MayHoist z place stop) where
   same-names =
       let low = names z.below in
       let one = names_of z.block in
-      let w : names (unhoisted z) ≡ low ++ ((one ++ names z.over) ++ names z.above) =
-      names-append z.below (was ++ z.above) ∙ ap (λ k. low ++ k) (names-append was z.above) in
       let n : names (hoisted z) ≡ low ++ ((names z.over ++ one) ++ names z.above) =
-      names-append z.below (hoisted_run z ++ z.above) ∙ ap (λ k. low ++ k) (names-append (hoisted_run z) z.above
-      ∙ ap (λ k. k ++ names z.above) (names-append z.over (z.block ∷ [])
-      ∙ ap (λ k. names z.over ++ k) (append-nil one))) in
-      subst (λ k. SameNames k (names (hoisted z))) (sym w)
-      (subst (λ k. SameNames (low ++ ((one ++ names z.over) ++ names z.above)) k) (sym n)
-      (turned low one (names z.over) (names z.above)))
+      names-append z.below (hoisted_run z ++ z.above) ∙ ap (λ k. low ++ k) (grind (arith, names-append, append-nil)) in
+      subst (λ k. SameNames k (names (hoisted z))) (sym (names-append z.below (was ++ z.above) ∙ ap (λ k. low ++ k) (names-append was z.above))) (grind (arith, SameNames, low, turned))
 
   parts-is : Tiles head (take (sizes z.below) z.bytes) z.below
       × Tiles head (drop (sizes z.below) z.bytes) (was ++ z.above)
@@ -65,10 +59,7 @@ module _ (z : Hoist) (place stop : ℕ) (h : MayHoist z place stop) where
   tile-here = subst (λ k. Tile (head z.block) (size z.block) (drop k z.bytes)) h.bottom parts-is.1.0
 
   run-tiles : Tiles head run-bytes was
-  run-tiles =
-      let e : sizes was ≡ stop - place = omega arith in
-      subst (λ k. Tiles head k was) (λ i. take (e i) (drop (h.bottom i) z.bytes))
-      (tiles-split head _ was z.above parts-is.1).0
+  run-tiles = subst (λ k. Tiles head k was) (grind arith) (tiles-split head _ was z.above parts-is.1).0
 
   first-is : word_at place z.bytes ≡ size z.block + kind z.block
   first-is = first-reads z.resource z.bytes place h.small z.block tile-here
@@ -102,8 +93,7 @@ module _ (z : Hoist) (place stop : ℕ) (h : MayHoist z place stop) where
     outside =
         let v = wide in
         subst (λ k. SameOutside place stop z.bytes k) (sym m)
-        (outside-written _ _ _ _ _ turned-bytes (omega arith) (omega (arith, length-turned, v))
-        (outside-same place stop z.bytes (omega (arith, v)) (omega (arith, v))))
+        (outside-written _ _ _ _ _ turned-bytes (omega arith) (omega (arith, length-turned, v)) (grind arith))
 
     new-tiles : Tiles head (piece place (stop - place) mid) (hoisted_run z)
     new-tiles = grind (arith, piece-written, length-turned, wide, turned-tiles)

@@ -20,5 +20,4 @@ settled-of lay place stop gap moves xs r p l = grind (arith, span-append, span-f
 
 pub settled-led : (lay : Lay) (place stop moves : ℕ) (xs : List ℕ) → IsRunFrom lay place stop → Packed lay 0 moves xs
     → Settled lay moves xs
-settled-led lay place stop moves xs r p =
-    settled-of lay place stop 0 moves xs r p (subst (λ k. Leads k (movers lay.run) xs) (omega arith) p.leads)
+settled-led lay place stop moves xs r p = settled-of lay place stop 0 moves xs r p (grind arith)

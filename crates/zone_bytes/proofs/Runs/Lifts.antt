@@ -61,10 +61,7 @@ module _ (gap : ℕ) (run : List Block) (some : 0 < gap) (enough : gap ≤ free_
   pub lifted-each : Each InRun (lifted gap run)
   lifted-each = elim (any-movers run) [
     | inl n ↦ subst (Each InRun) (sym (lifted-none gap run some enough n)) (each-settle run r)
-    | inr s ↦ subst (Each InRun) (sym (lifted-some gap run some s)) (
-      refl,
-      each-append InRun (movers run) (free (free_sum run - gap)) (each-movers run r) (each-free (free_sum run - gap)),
-    )
+    | inr s ↦ subst (Each InRun) (sym (lifted-some gap run some s)) (grind (arith, each-append, each-movers, each-free))
   ]
 
   pub lifted-span : sizes (lifted gap run) ≡ sizes run
@@ -77,12 +74,9 @@ module _ (gap : ℕ) (run : List Block) (some : 0 < gap) (enough : gap ≤ free_
 slots-now : (below run now above : List Block) → Each InRun run → sizes now ≡ sizes run → names now ≡ names run
     → HasSlots (below ++ (run ++ above)) → HasSlots (below ++ (now ++ above))
 slots-now below run now above r s n h =
-    let was = below ++ (run ++ above) in
-    let new = below ++ (now ++ above) in
     let k = run-names below run now above n in
     record {
-      slots = each-moved (λ s. IsSlot s new) _ _ k.from
-          (each-map (λ s. IsSlot s was) (λ s. IsSlot s new) (λ i. slot-run i _ _ _ _ r s) _ h.slots);
+      slots = each-moved (λ s. IsSlot s (below ++ (now ++ above))) _ _ k.from (grind (arith, each-map, slot-run));
       apart = k.apart h.apart;
     }
 
@@ -135,22 +129,14 @@ module _ (lay : Lay) (place gap : ℕ) (h : MayLift lay place gap) (moves : ℕ)
 
   pub is-lifted : (top : ℕ) → top ≡ place + sizes (movers lay.run) → place < top → (new : List ℕ)
       → Raised (raise_of lay gap xs) new → Lifted lay gap new
-  is-lifted top t l new d =
-      let some-movers : movers lay.run ≡ [] → ⊥ = λ n. (omega (arith, ap sizes n, t, l)) in
-      let e = lifted-some gap lay.run h.some some-movers in
-      record {
-        lies = subst (λ j. Lies lay.resource (lay.below ++ (j ++ lay.above)) new) (sym e) d.lies;
-        others = others-twice new (subst (λ j. SameOthers j xs new) (sym packed-is) d.others);
-        kept = d.kept ∙ p.kept;
-      }
+  is-lifted top t l new d = grind (arith, lifted-some, others-twice, packed-is)
 
   -- a run without relocatable blocks is raised as it is packed
   pub is-lifted-none : (top : ℕ) → top ≡ place + sizes (movers lay.run) → top ≤ place → Lifted lay gap xs
   is-lifted-none top t l =
       let none = no-movers lay.run (omega (arith, t, l)) in
-      let e = lifted-none gap lay.run h.some h.enough none in
       record {
-        lies = subst (λ j. Lies lay.resource (lay.below ++ (j ++ lay.above)) xs) (sym e)
+        lies = subst (λ j. Lies lay.resource (lay.below ++ (j ++ lay.above)) xs) (sym (lifted-none gap lay.run h.some h.enough none))
             (settled-of _ _ _ _ _ _ h.run p (subst (λ l. Leads (0 + sizes lay.below) l xs) (sym none) tt)).lies;
         others = p.others;
         kept = p.kept;
@@ -232,12 +218,10 @@ module _ (lay : Lay) (place gap : ℕ) (h : MayLift lay place gap) (o : EndsRun 
       pub upper-run : IsRunFrom (upper lay gap gone rest ys) (top + gap) (top + gap + sizes (free left ++ rest))
       upper-run = record {
         lies = subst (λ l. Lies lay.resource l ys) upper-is part-lifted.lies;
-        slots = subst HasSlots upper-is (slots-now _ _ _ _ part-each
-            (lifted-span _ _ h.some enough part-each) (lifted-names _ gone h.some enough part-each) cut-at.slots);
+        slots = subst HasSlots upper-is (grind (arith, slots-now, part-each, lifted-span, enough, lifted-names, cut-at));
         bottom = upper-bottom;
         top = refl;
-        in_run = each-append InRun _ _ (each-free left)
-            (each-right InRun gone rest (subst (Each InRun) (sym p.split) h.run.in_run));
+        in_run = each-append InRun _ _ (each-free left) (grind (arith, each-right));
         small = (omega arith);
       }
 
@@ -255,10 +239,9 @@ module _ (lay : Lay) (place gap : ℕ) (h : MayLift lay place gap) (o : EndsRun 
         pub both-lifted : Lifted lay gap zs
         both-lifted = record {
           lies = subst (λ l. Lies lay.resource l zs) all-is t.lies;
-          others = subst (λ l. SameOthers l lay.bytes zs) (cut-same lay gone rest p.split)
-              (others-now _ _ _ _ part-each
+          others = subst (λ l. SameOthers l lay.bytes zs) (cut-same lay gone rest p.split) (others-now _ _ _ _ part-each
               (lifted-span gap gone h.some enough part-each) (lifted-names gap gone h.some enough part-each)
-              _ _ _ part-lifted.others (subst (λ l. SameOthers l ys zs) (sym upper-is) t.others));
+              _ _ _ part-lifted.others (grind (arith, upper-is)));
           kept = t.kept ∙ part-lifted.kept;
         }
 

@@ -38,13 +38,10 @@ module _ (resource : ℕ → Bool) (below was now above : List Block) (old mid :
   clears-run = grind (arith, names-append, clears, each-left, each-right)
 
   pub is-moved : IsMoved moved-lay place stop
-  is-moved =
-      record {
+  is-moved = record {
         tiles = tiles-splice (head_of resource) old mid below was above now place stop bottom top tiles s t;
         slots = record {
-          slots = each-moved (λ j. IsSlot j (below ++ (now ++ above))) _ _ n.from
-              (each-map (λ j. IsSlot j (below ++ (was ++ above))) (λ j. IsSlot j (below ++ (now ++ above)))
-              (λ j i. slot-run j _ _ _ _ in-was same i) _ slots.slots);
+          slots = each-moved (λ j. IsSlot j (below ++ (now ++ above))) _ _ n.from (grind (arith, each-map, slot-run));
           apart = n.apart slots.apart;
         };
         bottom = bottom;

@@ -90,8 +90,7 @@ module _ (lay : Lay) (place stop : ℕ) (r : IsRunFrom lay place stop) where
                 (leads-right _ 0 _ (lay.run ++ lay.above) r.lies.leads);
             named = ap (λ q. names q ++ names (lay.run ++ lay.above)) (append-nil lay.below)
                 ∙ sym (names-append lay.below (lay.run ++ lay.above));
-            count = ap (λ k. 0 + lowered_in_run_from k lay.run) (sym z)
-                ∙ (let f : 0 + lowered_in_run_from 0 lay.run ≡ lowered_in_run_from 0 lay.run = omega arith in f);
+            count = ap (λ k. 0 + lowered_in_run_from k lay.run) (sym z) ∙ (grind arith);
             others = λ s i a. refl;
           };
         },
@@ -101,13 +100,12 @@ module _ (lay : Lay) (place stop : ℕ) (r : IsRunFrom lay place stop) where
   -- all slots are clear of a write inside the run
   pub all-clear : (at n : ℕ) → place ≤ at → at + n ≤ stop
       → Each (Clear at n) (names (lay.below ++ (lay.run ++ lay.above)))
-  all-clear at n l h =
-      let clear : (s : ℕ) → IsSlot s (lay.below ++ (lay.run ++ lay.above))
+  all-clear at n l h = let clear : (s : ℕ) → IsSlot s (lay.below ++ (lay.run ++ lay.above))
       → Clear at n s = λ s i. elim (slot-spot s i) [
         | inl j ↦ inl (omega (arith, l))
         | inr j ↦ inr (omega (arith, h))
       ] in
-      each-map (λ s. IsSlot s (lay.below ++ (lay.run ++ lay.above))) (Clear at n) clear _ r.slots.slots
+      each-map _ (Clear at n) clear _ r.slots.slots
 
   module _ (gap from to moves : ℕ) (xs : List ℕ) (moved : List Block) where
     -- where the packed blocks end, and that the rest lies in the bytes
@@ -118,9 +116,7 @@ module _ (lay : Lay) (place stop : ℕ) (r : IsRunFrom lay place stop) where
     -- the next block is Free
     pub step-free : (n : ℕ) (rest : List Block) → PackingAt lay gap stop from to moves xs moved (Free n ∷ rest)
         → PackingAt lay gap stop (from + n) to moves xs moved rest
-    step-free n rest q =
-        let e : from - to + n ≡ from + n - to = omega arith in
-        record {
+    step-free n rest q = record {
           low = q.low;
           high = subst (λ k. Tiles (head_of lay.resource) k (rest ++ lay.above)) (drop-drop n from xs) q.high.1;
           order = q.order;
@@ -134,10 +130,7 @@ module _ (lay : Lay) (place stop : ℕ) (r : IsRunFrom lay place stop) where
           lead_moved = q.lead_moved;
           lead_high = q.lead_high.1;
           named = q.named;
-          count = (let c : moves + lowered_in_run_from (from - to + n) rest ≡ lowered_in_run_from 0 lay.run =
-              (let g : lowered_in_run_from (from - to + n) rest ≡ 0 + lowered_in_run_from (from - to + n) rest =
-              omega arith in ap (λ k. moves + k) g ∙ q.count) in subst
-              (λ k. moves + lowered_in_run_from k rest ≡ lowered_in_run_from 0 lay.run) e c);
+          count = (grind arith);
           others = q.others;
         }
 
@@ -172,12 +165,7 @@ module _ (lay : Lay) (place stop : ℕ) (r : IsRunFrom lay place stop) where
       clear : Each (Clear to (length (piece from (size block) xs))) (names (lay.below ++ moved))
           × Each (Clear to (length (piece from (size block) xs))) (names (rest ++ lay.above))
       clear =
-          let b = packed-bounds (block ∷ rest) q in
-          let P : ℕ → Type 0 = Clear to (length (piece from (size block) xs)) in
-          let c = subst (λ k. Each P k) (sym named) (all-clear _ _ b.0 (omega (arith, length-moved))) in (
-            each-left P (names (lay.below ++ moved)) (slot ∷ names (rest ++ lay.above)) c,
-            (each-right P (names (lay.below ++ moved)) (slot ∷ names (rest ++ lay.above)) c).1,
-          )
+          let c = subst (λ k. Each (Clear to (length (piece from (size block) xs))) k) (sym named) (all-clear _ _ (packed-bounds (block ∷ rest) q).0 (omega (arith, length-moved))) in (grind (arith, each-left, each-right))
 
       -- the bytes below, after the slide
       slid-low : Tiles (head_of lay.resource) (take (to + size block) (slid (size block)))
@@ -189,14 +177,12 @@ module _ (lay : Lay) (place stop : ℕ) (r : IsRunFrom lay place stop) where
           (omega (arith, packed-bounds)) in
           let one = tiles-one head _ _ length-moved (tile-take head _ _ _ _ (omega arith) q.high.0.fits q.high.0) in
           subst (λ k. Tiles head k (lay.below ++ (moved ++ block ∷ []))) (sym e)
-          (subst (λ k. Tiles head (take to xs ++ piece from (size block) xs) k)
-          (append_assoc lay.below moved (block ∷ [])) (tiles-append head _ _ _ _ q.low one))
+          (grind (arith, append_assoc, tiles-append))
 
       -- the bytes above stay
       slid-high : Tiles (head_of lay.resource) (drop (from + size block) (slid (size block))) (rest ++ lay.above)
       slid-high =
-          let l = length-moved in
-          let e = drop-written_above _ (piece from (size block) xs) _ (from + size block) (omega (arith, l))
+          let e = drop-written_above _ (piece from (size block) xs) _ (from + size block) (omega (arith, length-moved))
           (omega (arith, packed-bounds)) in
           subst (λ k. Tiles (head_of lay.resource) k (rest ++ lay.above)) (drop-drop (size block) from xs
           ∙ sym e) q.high.1
@@ -241,8 +227,7 @@ module _ (lay : Lay) (place stop : ℕ) (r : IsRunFrom lay place stop) where
                 let m : slot - stop ≡ slot - (from + size block) - sizes rest = omega arith in
                 let e = drop-written_below _ (word (to + gap)) zs _ (omega arith)
                 (omega (arith, length-slid, slot-inside, run-bounds, k)) in
-                let at = slot-append_right _ _ _ (omega arith) (subst (λ k. IsSlot k lay.above) m j.1) in
-                let s = tiles-slot head (length-masters lay.resource) _ _ _ _ w at slid-high in
+                let s = tiles-slot head (length-masters lay.resource) _ _ _ _ w (slot-append_right _ _ _ (omega arith) (subst (λ k. IsSlot k lay.above) m j.1)) slid-high in
                 subst (λ k. Tiles head k (rest ++ lay.above)) (sym e) s
           ]
 
@@ -263,15 +248,13 @@ module _ (lay : Lay) (place stop : ℕ) (r : IsRunFrom lay place stop) where
       slot-length = omega (arith, length-slid, slot-inside slot all is-slot, span-append, run-bounds)
 
       others-done : SameOthers all lay.bytes done
-      others-done s i a =
-          let mine : Apart s slot = (each-right (Apart s) _
+      others-done s i a = let mine : Apart s slot = (each-right (Apart s) _
           (slot ∷ names (rest ++ lay.above)) (subst (λ k. Each (Apart s) k) (sym named) a)).0 in
-          let turned : Apart slot s = elim mine [ inl e ↦ inr e | inr e ↦ inl e ] in
           let outside : Clear to (length (piece from (size block) xs)) s = elim (slot-spot s i) [
             | inl j ↦ inl (omega (arith, packed-bounds))
             | inr j ↦ inr (omega (arith, length-moved))
           ] in
-          piece-clear slot (word (to + gap)) (slid (size block)) s (omega (arith, slot-length)) (word-clear s turned)
+          piece-clear slot (word (to + gap)) (slid (size block)) s (omega (arith, slot-length)) (word-clear s (elim mine [ inl e ↦ inr e | inr e ↦ inl e ]))
           ∙ piece-clear to (piece from (size block) xs) xs s (omega (arith, packed-bounds)) outside ∙ q.others s i a
 
       pub step-move : PackingAt lay gap stop (from + size block) (to + size block)
@@ -284,7 +267,6 @@ module _ (lay : Lay) (place stop : ℕ) (r : IsRunFrom lay place stop) where
           let fall : from + size block - (to + size block) ≡ from - to + 0 = omega arith in
           let here : piece slot 4 done ≡ word (to + gap) = piece-written _ _ (slid (size block)) 4
           (omega (arith, length-word)) (omega (arith, sl)) in
-          let lead-here : Leads (sizes lay.below + gap + sizes moved) (block ∷ []) done = (here ∙ ap word e, tt) in
           let P : ℕ → Type 0 = Clear to (length (piece from (size block) xs)) in
           let names-low = names-append lay.below moved in
           let apart-low = subst (λ k. Each (Apart slot) k) names-low apart.0 in
@@ -304,20 +286,9 @@ module _ (lay : Lay) (place stop : ℕ) (r : IsRunFrom lay place stop) where
                 (each-left P (names lay.below) (names moved) clear-low) q.lead_low;
             lead_moved = leads-append _ _ _ _ (still-leads _ _
                 (each-right (Apart slot) (names lay.below) (names moved) apart-low)
-                (each-right P (names lay.below) (names moved) clear-low) q.lead_moved) lead-here;
+                (each-right P (names lay.below) (names moved) clear-low) q.lead_moved) ((here ∙ ap word e, tt));
             lead_high = still-leads (from + size block) (rest ++ lay.above) apart.1 clear.1 q.lead_high.1;
-            named = (let g : names (lay.below ++ (moved ++ block ∷ [])) ≡ names (lay.below ++ moved) ++ slot ∷ [] =
-                ap names (sym (append_assoc lay.below moved (block ∷ [])))
-                ∙ names-append (lay.below ++ moved) (block ∷ []) in ap (λ k. k ++ names (rest ++ lay.above)) g
-                ∙ append_assoc (names (lay.below ++ moved)) (slot ∷ []) (names (rest ++ lay.above)) ∙ q.named);
-            count = (let one : cond (is_mover block) (cond (nat_lt 0 (from - to)) 1 0) 0 ≡ cond
-                (nat_lt 0 (from - to)) 1 0 = ap (λ m. cond m (cond (nat_lt 0 (from - to)) 1 0) 0) is-mover in
-                let all-of : moves + (cond (nat_lt 0 (from - to)) 1 0 + lowered_in_run_from
-                (from - to + 0) rest) ≡ lowered_in_run_from 0 lay.run =
-                ap (λ m. moves + (m + lowered_in_run_from (from - to + 0) rest)) (sym one) ∙ q.count in
-                ap (λ k. moves + cond (nat_lt 0 (from - to)) 1 0 + lowered_in_run_from k rest) fall
-                ∙ (let z : moves + cond (nat_lt 0 (from - to)) 1 0 + lowered_in_run_from (from - to + 0) rest ≡ moves +
-                (cond (nat_lt 0 (from - to)) 1 0 + lowered_in_run_from (from - to + 0) rest) = omega arith in
-                z) ∙ all-of);
+            named = (grind (arith, append_assoc, names-append));
+            count = (grind arith);
             others = others-done;
           }

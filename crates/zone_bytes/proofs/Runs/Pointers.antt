@@ -79,17 +79,12 @@ module _ (lay : Lay) (place stop : ℕ) (r : IsMoved lay place stop) where
           (pairs-after slot (names (lay.below ++ done)) (names (rest ++ lay.above)) pairs) in
           let far = each-map (Apart slot) (Clear slot (length (word from))) (λ t p. apart-clear slot from t p) in
           let o : 0 + sizes (lay.below ++ done) ≡ from = omega (arith, q.here) in
-          let mine : piece slot 4 new ≡ word (0 + sizes (lay.below ++ done)) =
-          piece-written slot (word from) xs 4 (sym wl) (omega (arith, f)) ∙ sym (ap word o) in
-          let slot-all : IsSlot slot ((lay.below ++ (done ++ block ∷ [])) ++ (rest ++ lay.above)) =
-          subst (λ k. IsSlot slot k) (sym (names-of (block ∷ rest) q) ∙ regroup block rest) is-slot-here in
           record {
             parts = append_assoc done (block ∷ []) rest ∙ q.parts;
-            tiles = tiles-slot head (length-masters lay.resource) _ _ _ _ wl slot-all
+            tiles = tiles-slot head (length-masters lay.resource) _ _ _ _ wl (subst (λ k. IsSlot slot k) (sym (names-of (block ∷ rest) q) ∙ regroup block rest) is-slot-here)
                 (subst (λ k. Tiles head xs k) (regroup block rest) q.tiles);
             low = subst (λ k. Leads 0 k new) (append_assoc lay.below done (block ∷ [])) (leads-append _ 0 _ _
-                (leads-written _ _ _ 0 _ (omega (arith, f))
-                (far (names (lay.below ++ done)) before) q.low) (mine, tt));
+                (leads-written _ _ _ 0 _ (omega (arith, f)) (far (names (lay.below ++ done)) before) q.low) ((piece-written slot (word from) xs 4 (sym wl) (omega (arith, f)) ∙ sym (ap word o)), tt));
             high = leads-written _ _ _ _ _ (omega (arith, f))
                 (far (names lay.above) (each-right (Apart slot) (names rest) (names lay.above) after)) q.high;
             here = here-more block q.here;
@@ -97,8 +92,7 @@ module _ (lay : Lay) (place stop : ℕ) (r : IsMoved lay place stop) where
             whole = omega (arith, (tile-here block rest q).whole);
             kept = length-written slot (word from) xs (omega (arith, f, wl)) ∙ q.kept;
             in_run = q.in_run.1;
-            others = λ s i a.
-                let m : Apart s slot = (each-right (Apart s) (names (lay.below ++ done))
+            others = λ s i a. let m : Apart s slot = (each-right (Apart s) (names (lay.below ++ done))
                 (slot ∷ names (rest ++ lay.above)) (subst (λ k. Each (Apart s) k) (sym named) a)).0 in
                 piece-clear _ _ _ s (omega (arith, f))
                 (elim m [ inl b ↦ inl b | inr b ↦ inr (omega (arith, b, wl)) ]) ∙ q.others s i a;
@@ -132,21 +126,18 @@ module _ (lay : Lay) (place stop : ℕ) (r : IsMoved lay place stop) (from : ℕ
       let i = bounds-of lay place stop r from xs done (Free m ∷ rest) q in
       let h = tile-here lay place stop r from xs done (Free m) rest q in
       let f = first-reads lay.resource xs from i.1 (Free m) h in
-      let same = same_parts n t m 0 (e ∙ f) w h.whole (omega (arith, k)) (omega arith) in
       record {
         done = done ++ Free m ∷ [];
         rest = rest;
         state =
-            subst (λ j. PointingAt lay stop (from + j) xs (done ++ Free m ∷ []) rest) (sym same.0)
+            subst (λ j. PointingAt lay stop (from + j) xs (done ++ Free m ∷ []) rest) (sym (same_parts n t m 0 (e ∙ f) w h.whole (omega (arith, k)) (omega arith)).0)
             (point-free _ _ _ r _ _ _ m _ q);
       }
   point-free-at done (Nonrelocatable id content ∷ rest) q l n t e w k = absurd (false≢true q.in_run.0)
   point-free-at done (Masters ∷ rest) q l n t e w k = absurd (false≢true q.in_run.0)
   point-free-at done (Relocatable slot flags content ∷ rest) q l n t e w k =
       let b : Block = Relocatable slot flags content in
-      let i = bounds-of lay place stop r from xs done (b ∷ rest) q in
-      let h = tile-here lay place stop r from xs done b rest q in
-      let f = first-reads lay.resource xs from i.1 b h in
+      let f = first-reads lay.resource xs from (bounds-of lay place stop r from xs done (b ∷ rest) q).1 b (tile-here lay place stop r from xs done b rest q) in
       absurd (omega (arith, k))
 
   pub point-free-next : Pointing lay stop from xs → from < stop → (n t : ℕ) → n + t ≡ word_at from xs → n % 16 ≡ 0
@@ -161,8 +152,6 @@ module _ (lay : Lay) (place stop : ℕ) (r : IsMoved lay place stop) (from : ℕ
       let h = tile-here lay place stop r from xs done (Free m) rest q in
       let f = first-reads lay.resource xs from i.1 (Free m) h in
       absurd (omega (arith, k))
-  point-slot-at done (Nonrelocatable id content ∷ rest) q l n t s e w k v = absurd (false≢true q.in_run.0)
-  point-slot-at done (Masters ∷ rest) q l n t s e w k v = absurd (false≢true q.in_run.0)
   point-slot-at done (Relocatable slot flags content ∷ rest) q l n t s e w k v =
       let b : Block = Relocatable slot flags content in
       let i = bounds-of lay place stop r from xs done (b ∷ rest) q in
@@ -184,26 +173,17 @@ module _ (lay : Lay) (place stop : ℕ) (r : IsMoved lay place stop) (from : ℕ
       } in
       subst (λ j. NextSlot lay stop from xs j s) (sym same.0)
       (subst (λ j. NextSlot lay stop from xs (size b) j) (sym mine) base)
+  point-slot-at done _ q l n t s e w k v = absurd (false≢true q.in_run.0)
 
   pub point-slot-next : Pointing lay stop from xs → from < stop → (n t s : ℕ) → n + t ≡ word_at from xs → n % 16 ≡ 0
       → t ≡ 3 → s ≡ word_at (from + 8) xs → NextSlot lay stop from xs n s
   point-slot-next p l n t s e w k v = point-slot-at _ _ p.state l n t s e w k v
 
   pointed-at : (done rest : List Block) → PointingAt lay stop from xs done rest → stop ≤ from → Pointed lay xs
-  pointed-at done (b ∷ rest) q l = let s =
-      (tile-here _ _ _ r _ _ _ b _ q).some in absurd (omega (arith, s, l))
+  pointed-at done (b ∷ rest) q l = let s = (tile-here _ _ _ r _ _ _ b _ q).some in absurd (omega (arith, s, l))
   pointed-at done [] q l =
       let e = names-of lay place stop r from xs done [] q in
-      let o : stop ≡ 0 + sizes (lay.below ++ done) = omega arith in
-      record {
-        lies = record {
-          tiles = subst (λ k. Tiles (head_of lay.resource) xs k) e q.tiles;
-          leads = subst (λ k. Leads 0 k xs) e (leads-append _ 0 _ _ q.low
-              (subst (λ k. Leads k lay.above xs) o q.high));
-        };
-        others = q.others;
-        kept = q.kept;
-      }
+      (grind (arith, leads-append))
 
   pub pointed : Pointing lay stop from xs → stop ≤ from → Pointed lay xs
   pointed p l = pointed-at _ _ p.state l

@@ -1,6 +1,6 @@
 -- The run at a place of a zone in bytes is raised.
 use Rattle.std.proofs.Common.{◌≡◌, ℕ, ◌+◌, ◌%◌, ◌<◌, ◌≤◌, IsTrue, inl, inr, Option, Some, None, List, ◌++◌, refl, sym, ap}
-use Rattle.std.proofs.Common.{◌∙◌, subst, append_assoc, arith}
+use Rattle.std.proofs.Common.{◌∙◌, subst, append_assoc, arith, rules}
 use Rattle.std.specs.Option.{IsSomeAnd}
 use Rattle.block_store.specs.Block.{Block, Free, free_sum, sizes, tidy}
 use Rattle.block_store.specs.Run.{RunSpot, run_at, has_free, low, with_run}
@@ -54,9 +54,7 @@ module _ (xs : List ℕ) (first unused : ℕ) (i : IsSound xs first unused) (pla
       let tidy-is = tidy-change place (zone_in xs) r e i.tidied (lifted gap r.run) (apart-tidy (low (Free gap) r.run)) in
       changed-run (lifted gap) _ _ r e
       (λ of adds l. total-tidy of adds (low (Free gap) r.run) ∙ low-total of adds gap r.run l enough) _ _ _
-      (slot_in xs) tidy-is (subst (λ z. Made new first unused z (slot_in xs)) (sym tidy-is) (made _ _ (slot_in xs) _
-      (subst (λ z. Lays new z (slot_in xs) i.unused) (sym (append_assoc r.below (lifted gap r.run) r.above)) lays)
-      _ _ tidy-is i.begins i.counted))
+      (slot_in xs) tidy-is (subst (λ z. Made new first unused z (slot_in xs)) (sym tidy-is) (search (rules, made, append_assoc)))
 
   pub lifted-zone : tidy (with_run (lifted gap) r) ≡ tidy (with_run (low (Free gap)) r)
   lifted-zone = grind (arith, any-movers, lifted-none, low-none, lifted-some)

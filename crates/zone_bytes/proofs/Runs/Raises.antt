@@ -72,9 +72,7 @@ module _ (z : Raise) (place top stop gap : ℕ) (h : MayRaise z place top stop g
         let ea : drop (top - place) (drop gap ys) ≡ piece (top + gap) z.rest mid =
         ap (drop (top - place)) a ∙ ap (λ j. drop (top - place) (take j (drop (place + gap) mid)))
         (let j : stop - place - gap ≡ top - place + z.rest = omega (arith, h.same) in j)
-        ∙ drop-take (top - place) z.rest (drop (place + gap) mid)
-        ∙ ap (take z.rest) (drop-drop (top - place) (place + gap) mid
-        ∙ ap (λ j. drop j mid) (let j : place + gap + (top - place) ≡ top + gap = omega arith in j)) in
+        ∙ drop-take (top - place) z.rest (drop (place + gap) mid) ∙ ap (take z.rest) (grind (arith, drop-drop)) in
         let high : Tiles head up (free z.rest) = elim w [
           | inl n ↦ subst (λ j. Tiles head j (free z.rest)) (sym ea)
               (subst (λ j. Tiles head (piece (top + gap) j mid) (free j)) (sym n) refl)
@@ -104,16 +102,14 @@ module _ (z : Raise) (place top stop gap : ℕ) (h : MayRaise z place top stop g
         h.high h.slots h.bottom wide.2 in-was in-now same-span n h.small s new-tiles in
         let P : ℕ → Type 0 = Clear place (stop - place) in
         let d = each-left P _ _ (subst (λ k. Each P k) (names-append z.movers (free (z.gap + z.rest))) c.0) in
-        let o : place + gap ≡ 0 + sizes z.below + z.gap = (omega arith) in
         let led = leads-outside place stop z.bytes mid (place + gap) z.movers s d h.leads in
-        let q : stop ≡ 0 + sizes z.below + z.gap + sizes (z.movers ++ free z.rest) = omega (arith, span-append, span-free) in
-        let up = leads-append _ _ _ _ (subst (λ k. Leads k z.movers mid) o led) (leads-free _ _ _) in
+        let up = leads-append _ _ _ _ (subst (λ k. Leads k z.movers mid) ((omega arith)) led) (leads-free _ _ _) in
         record {
           lies = record {
             tiles = m.tiles;
             leads = leads-append _ 0 _ _ m.low (
               tt,
-              leads-append _ _ _ _ up (subst (λ k. Leads k z.above mid) q m.high),
+              leads-append _ _ _ _ up (subst (λ k. Leads k z.above mid) (omega (arith, span-append, span-free)) m.high),
             );
           };
           others = moved.others-moved z.resource z.below was (raised_run z) z.above z.bytes mid place stop h.tiles h.low

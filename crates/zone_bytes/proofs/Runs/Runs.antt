@@ -1,6 +1,6 @@
 -- A run at a place splits the zone.
 use Rattle.std.proofs.Common.{◌≡◌, ℕ, Bool, true, false, cond, nat_le, ◌-◌, inl, inr, Option, Some, None, List, [], ◌∷◌}
-use Rattle.std.proofs.Common.{◌++◌, sym, refl, ap, ◌∙◌, subst, arith, append_assoc}
+use Rattle.std.proofs.Common.{◌++◌, sym, refl, ap, ◌∙◌, subst, arith, append_assoc, rules}
 use Rattle.std.proofs.lemmas.List.{append-nil}
 use Rattle.std.proofs.lemmas.Bool.Decides.{eqb_tells}
 use Rattle.std.specs.Option.{option_map}
@@ -59,26 +59,12 @@ run-above : (place : ℕ) (run : List Block) (b : Block) (above : List Block) (o
 run-above place run b above o r false f ih e = absurd (none-some r e)
 run-above place run b above o r true f ih e =
     let m = mapped (run ++ b ∷ []) o r e in
-    let q = m.0 in
-    let s = ih q m.1 in
-    subst (λ k. Splits place (run ++ b ∷ above) k) m.2 (record {
-      whole = ap (λ k. run ++ b ∷ k) s.whole ∙ sym (append_assoc run (b ∷ []) (q.below ++ (q.run ++ q.above)))
-          ∙ sym (append_assoc (run ++ b ∷ []) q.below (q.run ++ q.above));
-      bottom = omega (arith, le-back (sizes (run ++ b ∷ [])) place (sym f), sizes-span, span-append);
-      in_run = s.in_run;
-    })
+    let s = ih m.0 m.1 in
+    subst (λ k. Splits place (run ++ b ∷ above) k) m.2 (grind (arith, append_assoc, le-back, sizes-span, span-append))
 
 pub run-splits : (parts : List Stretch) (place : ℕ) (run : List Block) (r : RunSpot) → Each InRun run
     → Each (λ p. Each InRun p.run) parts → run_from place run parts ≡ Some r → Splits place (joined run parts) r
-run-splits [] place run r h k e = elim (eqb_tells place 0) [
-  | inl t ↦
-      let f : Some (record { below = []; run = run; above = [] }) ≡ Some r =
-      ap (λ v. cond v (Some (record { below = []; run = run; above = [] })) None) (sym t.0) ∙ e in
-      let g = some-same (record { below = []; run = run; above = [] }) r f in
-      subst (λ q. Splits place run q) g (record { whole = sym (append-nil run); bottom = sym t.1; in_run = h })
-  | inr t ↦ absurd (none-some r (ap (λ v. cond v (Some (record { below = []; run = run; above = [] })) None) (sym t.0)
-      ∙ e))
-]
+run-splits [] place run r h k e = search rules
 run-splits (p ∷ parts) place run r h k e = elim (eqb_tells place 0) [
   | inl t ↦
       let s : RunSpot = record { below = []; run = run; above = p.barrier ∷ joined p.run parts } in

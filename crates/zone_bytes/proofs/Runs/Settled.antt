@@ -37,8 +37,7 @@ free-tile resource n ys l w s b = grind arith
 
 one-or-none : (v w : Bool) → cond v (cond w 1 0) 0 ≤ 1
 one-or-none true true = omega arith
-one-or-none true false = omega arith
-one-or-none false w = omega arith
+one-or-none _ _ = omega arith
 
 -- at most one move for each block
 pub lowered-span : (head : Block → List ℕ) (xs : List ℕ) (gap : ℕ) (run above : List Block)
@@ -125,10 +124,7 @@ module _ (lay : Lay) (place stop : ℕ) (r : IsRunFrom lay place stop) (gap from
       )
   next-free-at gone moved (Nonrelocatable id content ∷ rest) s o q l n t e w k = absurd (false≢true q.in_run.0)
   next-free-at gone moved (Masters ∷ rest) s o q l n t e w k = absurd (false≢true q.in_run.0)
-  next-free-at gone moved (Relocatable slot flags content ∷ rest) s o q l n t e w k =
-      let i = stop-inside q.kept in
-      let f = first-reads lay.resource xs from i.1 (Relocatable slot flags content) q.high.0 in
-      absurd (omega (arith, k))
+  next-free-at gone moved (Relocatable slot flags content ∷ rest) s o q l n t e w k = grind (arith, stop-inside, first-reads)
 
   pub next-free : (p : Packing lay gap stop from to moves xs) → from < stop → (n t : ℕ) → n + t ≡ word_at from xs
       → n % 16 ≡ 0 → t < 3 → (q : Packing lay gap stop (from + n) to moves xs) × (q.moved ≡ p.moved)
@@ -138,10 +134,7 @@ module _ (lay : Lay) (place stop : ℕ) (r : IsRunFrom lay place stop) (gap from
       → PackingAt lay gap stop from to moves xs moved rest → from < stop → (n t s : ℕ) → n + t ≡ word_at from xs → n % 16 ≡ 0 → t ≡ 3 → s ≡ word_at (from + 8) xs
       → NextMover lay gap stop from to moves xs moved n s
   next-mover-at gone moved [] j o q l n t s e w k v = absurd (omega (arith, l))
-  next-mover-at gone moved (Free m ∷ rest) j o q l n t s e w k v =
-      let f = first-reads lay.resource xs from (stop-inside q.kept).1 (Free m) q.high.0 in
-      let same = same_parts n t m 0 (e ∙ f) w q.high.0.whole (omega (arith, k)) (omega arith) in
-      absurd (let j = same.1 in omega (arith, j, k))
+  next-mover-at gone moved (Free m ∷ rest) j o q l n t s e w k v = grind (arith, first-reads, stop-inside, same_parts)
   next-mover-at gone moved (Nonrelocatable id content ∷ rest) j o q l n t s e w k v = absurd (false≢true q.in_run.0)
   next-mover-at gone moved (Masters ∷ rest) j o q l n t s e w k v = absurd (false≢true q.in_run.0)
   next-mover-at gone moved (Relocatable slot flags content ∷ rest) j o q l n t s e w k v =
@@ -255,5 +248,4 @@ module _ (lay : Lay) (place stop : ℕ) (r : IsRunFrom lay place stop) (gap from
   -- no more blocks come lower than there are bytes
   pub moves-bound : Packing lay gap stop from to moves xs → moves ≤ 134217728
   moves-bound p =
-      let k = lowered-span (head_of lay.resource) (drop (sizes lay.below) lay.bytes) 0 lay.run lay.above (tiles-split (head_of lay.resource) lay.bytes lay.below (lay.run ++ lay.above) r.lies.tiles).1 in
-      omega (arith, k, run-bounds)
+      omega (arith, (lowered-span (head_of lay.resource) (drop (sizes lay.below) lay.bytes) 0 lay.run lay.above (tiles-split (head_of lay.resource) lay.bytes lay.below (lay.run ++ lay.above) r.lies.tiles).1), run-bounds)

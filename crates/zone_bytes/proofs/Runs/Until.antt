@@ -47,17 +47,15 @@ first-gone : (gone rest : List Block) → Each IsSome rest → first_in (sizes g
 first-gone [] [] s = refl
 first-gone [] (b ∷ rest) s = ap (λ v. cond v (b ∷ first_in (0 - size b) rest) []) (le-none _ s.0)
 first-gone (b ∷ gone) rest s =
-    let e : size b + sizes gone - size b ≡ sizes gone = omega arith in
     ap (λ v. cond v (b ∷ first_in (size b + sizes gone - size b) (gone ++ rest)) []) (le-more _ _)
-    ∙ ap (λ n. b ∷ first_in n (gone ++ rest)) e ∙ ap (λ l. b ∷ l) (first-gone _ _ s)
+    ∙ ap (λ n. b ∷ first_in n (gone ++ rest)) (omega arith) ∙ ap (λ l. b ∷ l) (first-gone _ _ s)
 
 left-rest : (gone rest : List Block) → Each IsSome rest → left_behind (sizes gone) (gone ++ rest) ≡ rest
 left-rest [] [] s = refl
 left-rest [] (b ∷ rest) s = ap (λ v. cond v (left_behind (0 - size b) rest) (b ∷ rest)) (le-none _ s.0)
 left-rest (b ∷ gone) rest s =
-    let e : size b + sizes gone - size b ≡ sizes gone = omega arith in
     ap (λ v. cond v (left_behind (size b + sizes gone - size b) (gone ++ rest)) (b ∷ (gone ++ rest)))
-    (le-more _ (sizes gone)) ∙ ap (λ n. left_behind n (gone ++ rest)) e ∙ left-rest gone rest s
+    (le-more _ (sizes gone)) ∙ ap (λ n. left_behind n (gone ++ rest)) (omega arith) ∙ left-rest gone rest s
 
 module _ (lay : Lay) (gone rest : List Block) (split : gone ++ rest ≡ lay.run) where
   -- cutting a run leaves all blocks

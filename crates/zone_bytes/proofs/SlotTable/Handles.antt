@@ -25,9 +25,8 @@ use Rattle.zone_bytes.proofs.Tiles.Spelling.{resource-bit}
 use Rattle.zone_bytes.proofs.Tiles.Tiling.{tiles-split}
 
 pub used-is : (st : Slot) → IsTrue (is_used st) → (r : Bool) × (st ≡ Used r)
-used-is NoSlot u = absurd (false≢true u)
-used-is Unused u = absurd (false≢true u)
 used-is (Used r) u = (r, refl)
+used-is _ u = absurd (false≢true u)
 
 -- the handle of s is emptied
 pub record IsEmptyHandle (xs : List ℕ) (blocks : List Block) (s : ℕ) (r : Bool) : Type 0 where
@@ -130,19 +129,16 @@ module _ (xs : List ℕ) (blocks : List Block) (slots : ℕ → Slot) (unused : 
   pub block-here : (s : ℕ) (b : HasBlock xs 0 blocks s) → BlockHere xs blocks resource s (sizes b.below)
   unfolding head_of
   block-here s b =
-      let here : Block = Relocatable s b.flags b.content in
-      let z = size here in
+      let z = size (Relocatable s b.flags b.content) in
       let place = sizes b.below in
       let t = tiles-split (head_of resource) _ _ _ (subst (Tiles (head_of resource) xs) b.whole h.lies.tiles) in
-      let q = says z (z + 3) (length b.content) s (flag_word b.flags (resource s)) b.content (drop place xs) t.1.0 in
-      let g = flag_word-small b.flags (resource s) in
       record {
         block = b;
         low = refl;
         even = (span-whole (head_of resource) (take place xs) b.below t.0);
         tile = t.1.0;
         fits = omega (arith, length-drop place xs);
-        flags_are = read_back _ _ _ (omega (arith, g)) (word-at place 12 xs ∙ q.2);
+        flags_are = read_back _ _ _ (omega (arith, (flag_word-small b.flags (resource s)))) (word-at place 12 xs ∙ (says z (z + 3) (length b.content) s (flag_word b.flags (resource s)) b.content (drop place xs) t.1.0).2);
       }
 
   module _ (s : ℕ) (used : IsTrue (is_used (slots s))) where
@@ -182,8 +178,7 @@ module _ (xs : List ℕ) (blocks : List Block) (slots : ℕ → Slot) (unused : 
     pub here-of : (place : ℕ) → place_of_word (word_at s xs) ≡ Some place → BlockHere xs blocks resource s place
     here-of place w = elim state [
       | inl e ↦ absurd (none-some place (sym (emptied-word e) ∙ w))
-      | inr b ↦ subst (BlockHere xs blocks resource s) (same_Some (sizes b.below) place (sym (block-word b) ∙ w))
-          (block-here s b)
+      | inr b ↦ subst (BlockHere xs blocks resource s) (grind (arith, same_Some, block-word)) (block-here s b)
     ]
 
     pub gone-of : place_of_word (word_at s xs) ≡ None → IsEmptyHandle xs blocks s flag.0

@@ -64,9 +64,8 @@ module _ (xs : List ℕ) (blocks : List Block) (slots : ℕ → Slot) (unused : 
   module _ (new : List ℕ) (lies : Lies (λ t. is_resource (now t)) blocks new) (mine : Has (names blocks) s)
       (same : (t : ℕ) → IsSlot t blocks → piece t 4 new ≡ piece t 4 xs) (l : length new ≡ length xs) where
     says-still : (t : ℕ) (st : Slot) → Says blocks xs unused t st → Says blocks new unused t st
-    says-still t NoSlot q = q
-    says-still t Unused q = q
     says-still t (Used p) q = (q.0, elim q.1 [ inl k ↦ inl k | inr k ↦ inr (k.0, same t q.0 ∙ k.1) ])
+    says-still t _ q = q
 
     used-still : (t : ℕ) → IsUsed (slots t) → IsUsed (now t)
     used-still t k = grind arith
@@ -78,14 +77,8 @@ module _ (xs : List ℕ) (blocks : List Block) (slots : ℕ → Slot) (unused : 
       placed = h.placed;
       small = (omega (arith, l));
       used = each-map (λ t. IsUsed (slots t)) (λ t. IsUsed (now t)) used-still (names blocks) h.used;
-      says = λ t. elim (cases_eq t s) [
-        | inl e ↦ subst (λ k. Says blocks new unused k (now k)) (sym e)
-            (subst (Says blocks new unused s) (sym (set-same slots s s _ refl)) (is-slot, inl mine))
-        | inr d ↦ subst (Says blocks new unused t) (sym (set-other slots s t _ d)) (says-still t _ (h.says t))
-      ];
-      chain = chain-kept _ _ _
-          (each-map (λ t. IsSlot t blocks × (slots t ≡ Unused)) (λ t. piece t 4 new ≡ piece t 4 xs)
-          (λ t q. same t q.0) _ h.unused_slots) h.chain;
+      says = λ t. (grind arith);
+      chain = chain-kept _ _ _ (grind (arith, each-map, same)) h.chain;
       unused_slots = still-unused;
       once = h.once;
     }
@@ -139,9 +132,8 @@ module _ (xs : List ℕ) (below : List Block) (s : ℕ) (flags : Flags) (content
     fits = omega (arith, parts.1.0.fits, length-drop place xs)
 
     same : SameOutside place top xs new
-    same =
-        outside-written _ _ _ _ _ (word (flag_word flags r)) (omega arith) (omega (arith, length-word))
-        (outside-same place top xs (omega arith) fits)
+    same = outside-written _ _ _ _ _ (word (flag_word flags r)) (omega arith) (omega (arith, length-word))
+        (grind (arith, outside-same, fits))
 
     tile-now : Tile (head here) (size here) (drop place new)
     unfolding head_of
@@ -151,29 +143,22 @@ module _ (xs : List ℕ) (below : List Block) (s : ℕ) (flags : Flags) (content
         drop-written_below _ _ xs place (omega arith) (omega (arith, fits))
         ∙ (let v : place + 12 - place ≡ 12 = omega arith in
         ap (λ j. written j (word (flag_word flags r)) (drop place xs)) v) in
-        let t = tile-flagged _ _ s _ _ z _ _ parts.1.0 in
-        let e : is_resource (marked s) ≡ r = ap is_resource (set-same slots s s (Used r) refl) in
-        subst (λ q. Tile (header (z + 3) (length content) s (flag_word flags q) ++ content) z (drop place new)) (sym e)
-        (subst (λ ys. Tile (header (z + 3) (length content) s (flag_word flags r) ++ content) z ys) (sym up) t)
+        subst (λ q. Tile (header (z + 3) (length content) s (flag_word flags q) ++ content) z (drop place new)) (sym (ap is_resource (set-same slots s s (Used r) refl)))
+        (subst (λ ys. Tile (header (z + 3) (length content) s (flag_word flags r) ++ content) z ys) (sym up) (tile-flagged _ _ s _ _ z _ _ parts.1.0))
 
     one : Tiles head (piece place (top - place) new) (here ∷ [])
     one =
         let f = tile-now.fits in
-        let l : top - place ≡ size here = omega arith in
         let k = length-take-le (size here) (drop place new) f in
-        subst (λ j. Tiles head (take j (drop place new)) (here ∷ [])) (sym l) (tiles-one head _ _ k
+        subst (λ j. Tiles head (take j (drop place new)) (here ∷ [])) (sym (omega arith)) (tiles-one head _ _ k
         (tile-take head _ _ _ _ (omega arith) f tile-now))
 
     tiles : Tiles head new all
-    tiles =
-        let low : Tiles head (take place new) below =
-        subst (λ k. Tiles head k below) (sym same.low)
-        (tiles-agree (λ t. is_resource (slots t)) (λ t. is_resource (marked t)) _ _
-        (agree _ (pairs-before s _ _ apart-all)) parts.0) in
+    tiles = let low : Tiles head (take place new) below = subst (λ k. Tiles head k below) (sym same.low)
+        (grind (arith, tiles-agree, agree, pairs-before, apart-all, parts)) in
         let high : Tiles head (drop top new) above =
         subst (λ k. Tiles head k above) (drop-drop (size here) place xs ∙ sym same.high)
-        (tiles-agree (λ t. is_resource (slots t)) (λ t. is_resource (marked t)) _ _
-        (agree _ (pairs-after s _ _ apart-all)) parts.1.1) in
+        (grind (arith, tiles-agree, agree, pairs-after, apart-all, parts)) in
         tiles-joined head new below (here ∷ []) above place top (omega arith) low one high
 
     module _ (leads-s : piece s 4 xs ≡ word place) where
@@ -199,8 +184,7 @@ module _ (xs : List ℕ) (below : List Block) (s : ℕ) (flags : Flags) (content
           (omega arith) refl h.lies.leads same c.0 c.1 (pieces s slot-all ∙ leads-s, tt)
 
       pub header-marked : Lays new all marked unused
-      header-marked = lays-flagged _ _ slots _ h s _ r u _
-          (record { tiles = tiles; leads = leads }) mine pieces same.kept
+      header-marked = lays-flagged _ _ slots _ h s _ r u _ (grind (arith, tiles, leads)) mine pieces same.kept
 
 -- the header of a handle's block with another resource flag
 pub lays-marked : (xs : List ℕ) (blocks : List Block) (slots : ℕ → Slot) (unused : List ℕ)
@@ -209,9 +193,7 @@ pub lays-marked : (xs : List ℕ) (blocks : List Block) (slots : ℕ → Slot) (
     → Lays (written (place + 12) (word (flag_word b.block.flags r)) xs) blocks (set_slot slots s (Used r)) unused
 lays-marked xs blocks slots unused h s was r u place b =
     let k = b.block in
-    let q : 0 + sizes k.below ≡ sizes k.below = omega arith in
     let n = word (flag_word k.flags r) in
     subst (λ p. Lays (written (p + 12) n xs) blocks (set_slot slots s (Used r)) unused) b.low
     (subst (λ l. Lays (written (sizes k.below + 12) n xs) l (set_slot slots s (Used r)) unused) (sym k.whole)
-    (header-marked _ k.below s k.flags k.content k.above slots _ _ r u
-    (subst (λ l. Lays xs l slots unused) k.whole h) (k.leads ∙ ap word q)))
+    (header-marked _ k.below s k.flags k.content k.above slots _ _ r u (grind arith) (k.leads ∙ ap word (omega arith))))

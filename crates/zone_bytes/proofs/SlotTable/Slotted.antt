@@ -42,10 +42,7 @@ module _ (xs : List ℕ) (first count : ℕ) (i : IsSound xs first count) where
 all-apart : (s : ℕ) (us : List ℕ) → Each (Apart s) us → AllByRecursion (λ u. eqb s u ≡ false) us
 all-apart s [] a = tt
 all-apart s (u ∷ us) a = (
-  elim (eqb_tells s u) [
-    | inl t ↦ absurd (apart-other s u a.0 t.1)
-    | inr t ↦ t.0
-  ],
+  (grind arith),
   all-apart s us a.1,
 )
 
@@ -65,8 +62,7 @@ pub count-small : (xs : List ℕ) (first count : ℕ) → IsSound xs first count
 count-small xs first count i =
     let h = i.lays in
     let l = length-le_from_distinct_below i.unused (length xs) (distinct-apart i.unused h.once) (λ q k.
-    let p = any-has (λ s. IsSlot s (zone_in xs) × (slot_in xs s ≡ Unused)) i.unused q h.unused_slots k in
-    omega (arith, slot-in xs (zone_in xs) (slot_in xs) i.unused h q p.0)) in
+    omega (arith, slot-in xs (zone_in xs) (slot_in xs) i.unused h q (any-has (λ s. IsSlot s (zone_in xs) × (slot_in xs s ≡ Unused)) i.unused q h.unused_slots k).0)) in
     omega (arith, l)
 
 -- a slot that no block has is apart from those that blocks have
@@ -83,9 +79,8 @@ module _ (xs : List ℕ) (first count : ℕ) (i : IsSound xs first count) (slot 
   ]
 
   pub is-used : (st : Slot) → slot_in xs slot ≡ st → IsTrue (is_used st) → (r : Bool) × (slot_in xs slot ≡ Used r)
-  is-used NoSlot e u = absurd (false≢true u)
-  is-used Unused e u = absurd (false≢true u)
   is-used (Used r) e u = (r, e)
+  is-used _ e u = absurd (false≢true u)
 
   abbrev flag : (r : Bool) × (slot_in xs slot ≡ Used r)
   flag = is-used (slot_in xs slot) refl used

@@ -40,10 +40,8 @@ apart-clear s n t (inr h) = inl h
 -- resource flags that agree at the blocks' slots
 head-agree : (f g : ℕ → Bool) (b : Block) → Each (λ s. f s ≡ g s) (names_of b) → head_of f b ≡ head_of g b
 unfolding head_of
-head-agree f g (Free n) e = refl
-head-agree f g (Nonrelocatable id content) e = refl
-head-agree f g Masters e = refl
 head-agree f g (Relocatable slot flags content) e = grind arith
+head-agree f g _ e = refl
 
 pub tiles-agree : (f g : ℕ → Bool) (xs : List ℕ) (blocks : List Block) → Each (λ s. f s ≡ g s) (names blocks)
     → Tiles (head_of f) xs blocks → Tiles (head_of g) xs blocks
@@ -116,23 +114,15 @@ module _ (xs : List ℕ) (blocks : List Block) (slots : ℕ → Slot) (unused : 
     )
 
     pub lays-written : Lays (written s (word n) xs) blocks (set_slot slots s state) now
-    lays-written =
-        record {
+    lays-written = record {
           lies = lies-agree (λ t. is_resource (slots t)) (λ t. is_resource (set_slot slots s state t)) _ _
-              (each-map (Apart s) (λ t. is_resource (slots t) ≡ is_resource (set_slot slots s state t))
-              (λ t p. sym (ap is_resource (set-other slots s t _ (λ e. apart-other s t p (sym e)))))
-              _ a) (lies-written s n i a);
+              (grind (arith, each-map, set-other, apart-other)) (lies-written s n i a);
           has_slots = h.has_slots;
           placed = h.placed;
           small = (let l = length-written s (word n) xs (omega (arith, slot-in, length-word)) in omega (arith, l));
           used = each-both (Apart s) (λ t. IsUsed (slots t)) (λ t. IsUsed (set_slot slots s state t))
               (λ t p u. subst IsUsed (sym (set-other slots s t _ (λ e. apart-other s t p (sym e)))) u) _ a h.used;
-          says = λ t. elim (cases_eq t s) [
-            | inl e ↦ subst (λ k. Says blocks (written s (word n) xs) now k (set_slot slots s state k)) (sym e)
-                (subst (λ st. Says blocks (written s (word n) xs) now s st) (sym (set-same slots s s _ refl)) mine)
-            | inr d ↦ subst (λ st. Says blocks (written s (word n) xs) now t st) (sym (set-other slots s t _ d))
-                (says-other t _ d refl (h.says t))
-          ];
+          says = λ t. (grind (arith, cases_eq, set-same, set-other, says-other));
           chain = chain;
           unused_slots = ok;
           once = once;

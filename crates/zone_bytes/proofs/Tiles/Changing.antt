@@ -34,14 +34,7 @@ module _ (xs new : List ℕ) (blocks now : List Block) (slots : ℕ → Slot) (u
     removed-says t (Used p) e q = (
       i t q.0,
       elim q.1 [
-        | inl k ↦ elim (fewer t k) [
-          | inl m ↦ inr (
-            subst (λ v. Each (Apart v) (names now)) (sym m) a,
-            subst (λ v. piece v 4 new ≡ word (empty_word p)) (sym m)
-                (w ∙ ap (λ v. word (empty_word v)) (same-flag r p (sym u ∙ ap slots (sym m) ∙ e))),
-          )
-          | inr m ↦ inl m
-        ]
+        | inl k ↦ (grind arith)
         | inr k ↦ inr (subset (Apart t) k.0, o t q.0 k.0 ∙ k.1)
       ],
     )
@@ -54,11 +47,8 @@ module _ (xs new : List ℕ) (blocks now : List Block) (slots : ℕ → Slot) (u
       small = (omega (arith, l));
       used = subset (λ t. IsUsed (slots t)) h.used;
       says = λ t. removed-says t (slots t) refl (h.says t);
-      chain = chain-kept _ _ _
-          (each-map (λ v. IsSlot v blocks × (slots v ≡ Unused)) (λ v. piece v 4 new ≡ piece v 4 xs)
-          (λ v q. o v q.0 (unused-apart _ _ slots _ h v q.0 q.1)) _ h.unused_slots) h.chain;
-      unused_slots = each-map (λ v. IsSlot v blocks × (slots v ≡ Unused)) (λ v. IsSlot v now × (slots v ≡ Unused))
-          (λ v q. (i v q.0, q.1)) _ h.unused_slots;
+      chain = chain-kept _ _ _ (grind (arith, each-map, unused-apart)) h.chain;
+      unused_slots = each-map _ (λ v. IsSlot v now × (slots v ≡ Unused)) (λ v q. (i v q.0, q.1)) _ h.unused_slots;
       once = h.once;
     }
 
@@ -78,8 +68,7 @@ module _ (xs new : List ℕ) (blocks now : List Block) (slots : ℕ → Slot) (u
           | inl m ↦ inl (subst (Has (names now)) m mine)
           | inr d ↦
               let far = apart-of xs blocks slots unused h s t is q.0 d in
-              let back : Apart t s = elim far [ inl b ↦ inr b | inr b ↦ inl b ] in
-              inr (wider (Apart t) back k.0, o t q.0 far ∙ k.1)
+              inr (wider (Apart t) (elim far [ inl b ↦ inr b | inr b ↦ inl b ]) k.0, o t q.0 far ∙ k.1)
         ]
       ],
     )
@@ -92,11 +81,7 @@ module _ (xs new : List ℕ) (blocks now : List Block) (slots : ℕ → Slot) (u
       small = (omega (arith, l));
       used = wider (λ t. IsUsed (slots t)) (subst IsUsed (sym u) tt) h.used;
       says = λ t. added-says t (slots t) refl (h.says t);
-      chain = chain-kept _ _ _
-          (each-map (λ v. IsSlot v blocks × (slots v ≡ Unused)) (λ v. piece v 4 new ≡ piece v 4 xs)
-          (λ v q. o v q.0 (apart-of _ _ slots _ h s v is q.0
-          (λ e. not-unused _ (sym u ∙ ap slots e ∙ q.1)))) _ h.unused_slots) h.chain;
-      unused_slots = each-map (λ v. IsSlot v blocks × (slots v ≡ Unused)) (λ v. IsSlot v now × (slots v ≡ Unused))
-          (λ v q. (i v q.0, q.1)) _ h.unused_slots;
+      chain = chain-kept _ _ _ (grind (arith, each-map, apart-of, not-unused)) h.chain;
+      unused_slots = each-map _ (λ v. IsSlot v now × (slots v ≡ Unused)) (λ v q. (i v q.0, q.1)) _ h.unused_slots;
       once = h.once;
     }

@@ -52,13 +52,7 @@ module _ (xs new : List ℕ) (blocks now : List Block) (slots : ℕ → Slot) (u
       says : (s : ℕ) (st : Slot) → Says blocks xs unused s st → Says now new unused s st
       says s NoSlot q = λ k. q (j s k)
       says s Unused q = (i s q.0, q.1)
-      says s (Used r) q = (
-        i s q.0,
-        elim q.1 [
-          | inl k ↦ inl (n.to s k)
-          | inr k ↦ inr (each-moved (Apart s) (names blocks) (names now) n.from k.0, o s q.0 k.0 ∙ k.1)
-        ],
-      )
+      says s (Used r) q = grind (arith, each-moved)
 
   pub lays-kept : Lies (λ s. is_resource (slots s)) now new → names now ≡ names blocks
       → ((s : ℕ) → IsSlot s blocks → IsSlot s now) → ((s : ℕ) → IsSlot s now → IsSlot s blocks)
@@ -69,10 +63,9 @@ module _ (xs new : List ℕ) (blocks now : List Block) (slots : ℕ → Slot) (u
 pub names-movers : (run : List Block) → Each InRun run → names (movers run) ≡ names run
 names-movers [] h = refl
 names-movers (Free n ∷ run) h = names-movers run h.1
-names-movers (Nonrelocatable id content ∷ run) h = absurd (false≢true h.0)
-names-movers (Masters ∷ run) h = absurd (false≢true h.0)
 names-movers (Relocatable slot flags content ∷ run) h = ap names (movers-more (Relocatable slot flags content) run h.0)
     ∙ ap (λ k. slot ∷ k) (names-movers run h.1)
+names-movers _ h = absurd (false≢true h.0)
 
 pub names-free : (n : ℕ) → names (free n) ≡ []
 names-free zero = refl
@@ -85,10 +78,9 @@ span-free (suc n) = omega arith
 pub span-movers : (run : List Block) → Each InRun run → sizes (movers run) + free_sum run ≡ sizes run
 span-movers [] h = refl
 span-movers (Free n ∷ run) h = omega (arith, span-movers run h.1)
-span-movers (Nonrelocatable id content ∷ run) h = absurd (false≢true h.0)
-span-movers (Masters ∷ run) h = absurd (false≢true h.0)
 span-movers (Relocatable slot flags content ∷ run) h =
     omega (arith, ap sizes (movers-more (Relocatable slot flags content) run h.0), span-movers run h.1)
+span-movers _ h = absurd (false≢true h.0)
 
 pub names-settle : (run : List Block) → Each InRun run → names (settle run) ≡ names run
 names-settle run h = grind (arith, names-append, names-free, append-nil, names-movers)
@@ -99,10 +91,9 @@ span-settle run h = omega (arith, span-append, span-free, free_sum-span, span-mo
 pub each-movers : (run : List Block) → Each InRun run → Each InRun (movers run)
 each-movers [] h = tt
 each-movers (Free n ∷ run) h = each-movers run h.1
-each-movers (Nonrelocatable id content ∷ run) h = absurd (false≢true h.0)
-each-movers (Masters ∷ run) h = absurd (false≢true h.0)
 each-movers (Relocatable slot flags content ∷ run) h = subst (λ k. Each InRun k)
     (sym (movers-more (Relocatable slot flags content) run h.0)) (h.0, each-movers run h.1)
+each-movers _ h = absurd (false≢true h.0)
 
 pub each-free : (n : ℕ) → Each InRun (free n)
 each-free zero = tt
@@ -118,8 +109,7 @@ slot-run s below run now above r e i = grind (arith, slot-split, slot-append_lef
 
 pub placed-append : (o : ℕ) (ls ms : List Block) → ArePlaced o ls → ArePlaced (o + sizes ls) ms → ArePlaced o (ls ++ ms)
 placed-append o [] ms h k = let e : o + 0 ≡ o = omega arith in subst (λ j. ArePlaced j ms) e k
-placed-append o (b ∷ ls) ms h k =
-    (h.0, placed-append (o + size b) ls ms h.1 (subst (λ j. ArePlaced j ms) (omega arith) k))
+placed-append o (b ∷ ls) ms h k = (h.0, placed-append (o + size b) ls ms h.1 (grind arith))
 
 pub placed-left : (o : ℕ) (ls ms : List Block) → ArePlaced o (ls ++ ms) → ArePlaced o ls
 placed-left o [] ms h = tt
@@ -132,10 +122,9 @@ placed-right o (b ∷ ls) ms h = subst (λ j. ArePlaced j ms) (omega arith) (pla
 pub placed-run : (o : ℕ) (run : List Block) → Each InRun run → ArePlaced o run
 placed-run o [] h = tt
 placed-run o (Free n ∷ run) h = (tt, placed-run _ run h.1)
-placed-run o (Nonrelocatable id content ∷ run) h = absurd (false≢true h.0)
-placed-run o (Masters ∷ run) h = absurd (false≢true h.0)
 placed-run o (Relocatable slot flags content ∷ run) h =
     (tt, placed-run (o + size (Relocatable slot flags content)) run h.1)
+placed-run o _ h = absurd (false≢true h.0)
 
 -- another run in the place of one, of as many bytes
 module _ (xs new : List ℕ) (below was now above : List Block) (slots : ℕ → Slot) (unused : List ℕ)
@@ -145,9 +134,8 @@ module _ (xs new : List ℕ) (below was now above : List Block) (slots : ℕ →
       → Lies (λ s. is_resource (slots s)) (below ++ (now ++ above)) new → SameOthers (below ++ (was ++ above)) xs new
       → length new ≡ length xs → Lays new (below ++ (now ++ above)) slots unused
   lays-run w r e n lies others kept =
-      let q = placed-right (0 + sizes below) was above (placed-right 0 below (was ++ above) h.placed) in
       let placed = placed-append 0 _ _ (placed-left 0 _ _ h.placed) (placed-append _ _ _ (placed-run _ _ r)
-      (subst (λ k. ArePlaced (0 + sizes below + k) above) (sym e) q)) in
+      (subst (λ k. ArePlaced (0 + sizes below + k) above) (sym e) (placed-right (0 + sizes below) was above (placed-right 0 below (was ++ above) h.placed)))) in
       lays-permuted _ _ _ _ slots _ h lies n
       (λ s i. slot-run s _ _ _ _ w e i) (λ s i. slot-run s _ _ _ _ r (sym e) i) placed others kept
 

@@ -51,8 +51,7 @@ piece-clear at ys xs s l (inr h) = piece-written_above _ _ _ s 4 h l
 module _ (xs : List ℕ) where
   pub leads-append : (o : ℕ) (ls ms : List Block) → Leads o ls xs → Leads (o + sizes ls) ms xs → Leads o (ls ++ ms) xs
   leads-append o [] ms h k = let e : o + 0 ≡ o = omega arith in subst (λ j. Leads j ms xs) e k
-  leads-append o (b ∷ ls) ms h k =
-      (h.0, leads-append (o + size b) ls ms h.1 (subst (λ j. Leads j ms xs) (omega arith) k))
+  leads-append o (b ∷ ls) ms h k = (h.0, leads-append (o + size b) ls ms h.1 (grind arith))
 
   pub leads-left : (o : ℕ) (ls ms : List Block) → Leads o (ls ++ ms) xs → Leads o ls xs
   leads-left o [] ms h = tt

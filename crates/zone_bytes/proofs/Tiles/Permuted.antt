@@ -67,10 +67,9 @@ pairs-turned ks ls ms ns p =
     let up = pairs-split ks ((ls ++ ms) ++ ns) p in
     let here = pairs-split (ls ++ ms) ns up.1 in
     let two = pairs-split ls ms here.0 in
-    let turned = pairs-join ms ls two.1 two.0 (across-turned ls ms two.2) in
     let P : ℕ → Type 0 = λ x. Each (Apart x) ns in
     let past = each-append P ms ls (each-right P ls ms here.2) (each-left P ls ms here.2) in
-    pairs-join _ _ up.0 (pairs-join _ _ turned here.1 past)
+    pairs-join _ _ up.0 (pairs-join _ _ (pairs-join ms ls two.1 two.0 (across-turned ls ms two.2)) here.1 past)
     (each-map (λ x. Each (Apart x) ((ls ++ ms) ++ ns)) (λ x. Each (Apart x) ((ms ++ ls) ++ ns))
     (λ x e. each-moved (Apart x) _ _ (has-turned [] ms ls ns) e) _ up.2)
 

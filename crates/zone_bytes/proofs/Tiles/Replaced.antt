@@ -34,10 +34,7 @@ module _ (xs : List ℕ) (below here above : List Block) (slots : ℕ → Slot) 
     pub lies-now : Lies (λ s. is_resource (slots s)) (below ++ (now ++ above)) new
     lies-now =
         let c = clear zone bottom top xs is-splice in
-        record {
-          tiles = tiles-splice (head_of (λ s. is_resource (slots s))) _ _ _ _ _ _ _ _ low high h.lies.tiles same t;
-          leads = leads-splice xs new below here above now bottom top low high e h.lies.leads same c.0 c.1 leads;
-        }
+        (grind (arith, tiles-splice, leads-splice))
 
     back : (s : ℕ) → IsSlot s (below ++ (now ++ above)) → IsSlot s all
     back s i = grind (arith, slot-split, slot-append_left, slot-append_right)
@@ -47,14 +44,7 @@ module _ (xs : List ℕ) (below here above : List Block) (slots : ℕ → Slot) 
         let p = placed-right 0 below (here ++ above) h.placed in
         let q = placed-right (0 + sizes below) here above p in
         let o : bottom ≡ 0 + sizes below = omega (arith, low) in
-        let all-names : names (below ++ (now ++ above)) ≡ names all =
-        names-append below (now ++ above)
-        ∙ ap (λ k. names below ++ k) (names-append now above ∙ ap (λ k. k ++ names above) n
-        ∙ sym (names-append here above)) ∙ sym (names-append below (here ++ above)) in
-        let ok : ArePlaced 0 (below ++ (now ++ above)) =
-        placed-append 0 _ _ (placed-left 0 below (here ++ above) h.placed)
-        (placed-append _ _ _ (subst (λ j. ArePlaced j now) o placed)
-        (subst (λ k. ArePlaced (0 + sizes below + k) above) (sym e) q)) in
-        lays-kept _ _ _ _ slots _ h lies-now all-names
-        (λ s i. slot-kept zone bottom top xs is-splice s now e i) back ok
+        let all-names : names (below ++ (now ++ above)) ≡ names all = names-append below (now ++ above)
+        ∙ ap (λ k. names below ++ k) (grind (arith, names-append)) ∙ sym (names-append below (here ++ above)) in
+        lays-kept _ _ _ _ slots _ h lies-now all-names (λ s i. slot-kept zone bottom top xs is-splice s now e i) back (placed-append 0 _ _ (placed-left 0 below (here ++ above) h.placed) (grind (arith, placed-append)))
         (λ s i a. piece-outside bottom top xs new s same (outside zone bottom top xs is-splice s i)) same.kept

@@ -108,15 +108,12 @@ module _ (resource : ℕ → Bool) (xs : List ℕ) (small : length xs ≤ 134217
   named-word o [] e t l h = absurd h
   named-word o (Free n ∷ blocks) e t l h = named-word _ blocks (omega (arith, e))
       (subst (λ k. Tiles (head_of resource) k blocks) (drop-drop n o xs) t.1) l.1 h
-  named-word o (Nonrelocatable id content ∷ blocks) e t l h =
-      named-word _ blocks (omega (arith, e))
+  named-word o (Nonrelocatable id content ∷ blocks) e t l h = named-word _ blocks (omega (arith, e))
       (subst (λ k. Tiles (head_of resource) k blocks) (drop-drop (size (Nonrelocatable id content)) o xs) t.1) l.1 h
   named-word o (Masters ∷ blocks) e t l h = named-word (o + 272) blocks (omega (arith, e))
       (subst (λ k. Tiles (head_of resource) k blocks) (drop-drop 272 o xs) t.1) l.1 h
   named-word o (Relocatable slot flags content ∷ blocks) e t l (inr h) =
-      named-word (o + size (Relocatable slot flags content)) blocks (omega (arith, e))
-      (subst (λ k. Tiles (head_of resource) k blocks) (drop-drop (size (Relocatable slot flags content)) o xs)
-      t.1) l.1 h
+      named-word (o + size (Relocatable slot flags content)) blocks (omega (arith, e)) (grind (arith, drop-drop)) l.1 h
   named-word o (Relocatable slot flags content ∷ blocks) e t l (inl h) =
       let z = size (Relocatable slot flags content) in
       let q = says z (z + 3) (length content) slot (flag_word flags (resource slot)) content (drop o xs) t.0 in
@@ -125,9 +122,7 @@ module _ (resource : ℕ → Bool) (xs : List ℕ) (small : length xs ≤ 134217
       let g = flag_word-small flags (resource slot) in
       let v = read_back (o + 12) (flag_word flags (resource slot)) xs (omega (arith, g))
       (ap (take 4) (sym (drop-drop 12 o xs)) ∙ q.2) in
-      let bit : nat_le 32 (word_at (word_at s xs + 12) xs % 64) ≡ resource s =
-      ap (λ k. nat_le 32 (word_at (k + 12) xs % 64)) w ∙ ap (λ k. nat_le 32 (k % 64)) v
-      ∙ resource-bit flags (resource slot) ∙ ap resource h in
+      let bit : nat_le 32 (word_at (word_at s xs + 12) xs % 64) ≡ resource s = grind arith in
       word-leads xs (word_at s xs) (resource s) (omega (arith, w, e)) bit
 
 module _ (xs : List ℕ) (blocks : List Block) (slots : ℕ → Slot) (unused : List ℕ)
@@ -144,15 +139,8 @@ module _ (xs : List ℕ) (blocks : List Block) (slots : ℕ → Slot) (unused : 
 
   state : (s : ℕ) (st : Slot) → slots s ≡ st → Says blocks xs unused s st
       → cond (is_slot s blocks) (slot_of_word xs (word_at s xs)) NoSlot ≡ st
-  state s NoSlot e q = none (is_slot s blocks) (λ t. q (is_slot-back s _ t))
-    where
-      none : (v : Bool) → (v ≡ true → ⊥) → cond v (slot_of_word xs (word_at s xs)) NoSlot ≡ NoSlot
-      none true n = absurd (n refl)
-      none false n = refl
-  state s Unused e q =
-      let c = chain-word unused h.unused_slots h.chain s q.1 in
-      ap (λ v. cond v (slot_of_word xs (word_at s xs)) NoSlot) (is_slot-true s _ q.0)
-      ∙ word-unused _ _ _ (read_back s _ _ (omega arith) c.2)
+  state s NoSlot e q = grind (arith, is_slot-back)
+  state s Unused e q = grind (arith, chain-word, is_slot-true, word-unused, read_back)
   state s (Used r) e q =
       ap (λ v. cond v (slot_of_word xs (word_at s xs)) NoSlot) (is_slot-true s blocks q.0) ∙ elim q.1 [
         | inl k ↦ named-word (λ t. is_resource (slots t)) _ h.small s 0 _ refl h.lies.tiles h.lies.leads k

@@ -72,8 +72,7 @@ module _ (head : Block → List ℕ) where
   tiles-split xs [] ms t = (refl, t)
   tiles-split xs (b ∷ ls) ms t =
       let r = tiles-split (drop (size b) xs) ls ms t.1 in
-      let a = length-drop (size b) xs in
-      let enough : size b + sizes ls ≤ length xs = omega (arith, length-tiles, span-append ls ms, a) in (
+      let enough : size b + sizes ls ≤ length xs = omega (arith, length-tiles, span-append ls ms, (length-drop (size b) xs)) in (
         (
           tile-take (head b) (size b) (size b + sizes ls) xs (omega arith) enough t.0,
           rw (drop-take (size b) (sizes ls) xs) r.0,
@@ -89,25 +88,13 @@ module _ (head : Block → List ℕ) where
   tiles-slot m xs w s (Nonrelocatable id content ∷ blocks) e (inl i) t = absurd i
   tiles-slot m xs w s (Relocatable slot flags content ∷ blocks) e (inl i) t = absurd i
   tiles-slot m xs w s (Masters ∷ blocks) e (inl i) t = (
-    record {
-      fits = omega (arith, length-written);
-      whole = t.0.whole;
-      some = t.0.some;
-      room = t.0.room;
-      begins = take-written_below s w _ _ (omega (arith, i, m)) (omega (arith, i)) ∙ t.0.begins;
-    },
+    (grind (arith, length-written, take-written_below)),
     rw (drop-written_above s w xs 272 (omega (arith, i, e)) (omega (arith, i))) t.1,
   )
   tiles-slot m xs w s (b ∷ blocks) e (inr i) t =
       let a = slot-inside (s - size b) blocks i.1 in
       let inside : s + 4 ≤ length xs = omega (arith, i.0, a, length-tiles, length-drop (size b) xs) in (
-        record {
-          fits = omega (arith, length-written s w xs (omega (arith, e, inside)));
-          whole = t.0.whole;
-          some = t.0.some;
-          room = t.0.room;
-          begins = take-written_below s w _ _ (omega (arith, i.0)) (omega (arith, inside)) ∙ t.0.begins;
-        },
+        (grind (arith, length-written, take-written_below)),
         rw (drop-written_below s w xs (size b) i.0 (omega (arith, inside)))
             (tiles-slot m (drop (size b) xs) w (s - size b) blocks e i.1 t.1),
       )

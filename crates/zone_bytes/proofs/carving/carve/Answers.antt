@@ -45,8 +45,7 @@ returns-clause-lies c = λ z q.
     ])
 
 pub returns-clause-others : goal.returns-clause-others
-returns-clause-others c = λ z q s i p.
-    let h = q.splice in
+returns-clause-others c = λ z q s i p. let h = q.splice in
     let a = c.args in
     let xs = a.part.now.bytes in
     let header-is = c.write_header.ensures.bytes
@@ -61,6 +60,5 @@ returns-clause-others c = λ z q s i p.
           rw mid-is (others-carved z _ _ _ h _ _ q.room q.here q.is_slot q.apart _ q.resource _ f.0 s i p)
       | else-bytes-top w ↦
           let o = first-outside z _ _ _ h _ _ q.room q.here q.is_slot q.apart _ q.resource in
-          let mid-is = ap (λ p. p.bytes) w.part-is ∙ fill-is in
-          rw mid-is (others-carved z _ _ _ h _ _ q.room q.here q.is_slot q.apart _ q.resource _ o s i p)
+          rw (ap (λ p. p.bytes) w.part-is ∙ fill-is) (others-carved z _ _ _ h _ _ q.room q.here q.is_slot q.apart _ q.resource _ o s i p)
     ])

@@ -22,12 +22,9 @@ get_bytes-requires c = let o = here-on _ _ c.requires.way c.requires.some _
     omega (arith, (holds _ _ _ o (sym c.has_content.ensures ∙ c.if-has_content.true)).fits)
 
 pub returns-then-has_content : goal.returns-then-has_content
-returns-then-has_content c = λ b above q.
-    let h = c.read_header-header.result in
-    let e = c.read_header-header.ensures in
-    let o = here-on _ _ c.requires.way c.requires.some _ _ e.first e.size (tag-small h.tag) in
-    let f = (holds _ _ _ o (sym c.has_content.ensures ∙ c.if-has_content.true)).is in
-    c.get_bytes.ensures ∙ ap (λ n. piece (c.args.place + 16) n c.args.part.now.bytes) e.logical ∙ f
+returns-then-has_content c = λ b above q. let e = c.read_header-header.ensures in
+    let o = here-on _ _ c.requires.way c.requires.some _ _ e.first e.size (tag-small c.read_header-header.result.tag) in
+    c.get_bytes.ensures ∙ ap (λ n. piece (c.args.place + 16) n c.args.part.now.bytes) e.logical ∙ ((holds _ _ _ o (sym c.has_content.ensures ∙ c.if-has_content.true)).is)
     ∙ ap content_of (same-here _ _ _ o b _ q)
 
 pub returns-else-has_content : goal.returns-else-has_content

@@ -30,15 +30,9 @@ rotate-requires-clause-inside g c = omega (arith, wide, ap length c.requires.0)
 pub lead_run-requires : goal.lead_run-requires
 lead_run-requires g c =
     let e = c.read_header-size.ensures in
-    let s = size-read _ _ _ c.requires.1 _ _ (e.first
-    ∙ ap (word_at c.args.place) c.requires.0) e.size (tag-small _) in
-    let m = turned-read _ _ _ c.requires.1 _ _ _ c.requires.0 s c.rotate.ensures.bytes in
-    (refl, is-moved g.hoist c.args.place c.args.stop c.requires.1 c.rotate.new.self.bytes m)
+    (refl, is-moved g.hoist c.args.place c.args.stop c.requires.1 c.rotate.new.self.bytes (turned-read _ _ _ c.requires.1 _ _ _ c.requires.0 (size-read _ _ _ c.requires.1 _ _ (e.first ∙ ap (word_at c.args.place) c.requires.0) e.size (tag-small _)) c.rotate.ensures.bytes))
 
 pub returns-clause-hoisted : goal.returns-clause-hoisted
 returns-clause-hoisted g c =
     let e = c.read_header-size.ensures in
-    let s = size-read _ _ _ c.requires.1 _ _ (e.first
-    ∙ ap (word_at c.args.place) c.requires.0) e.size (tag-small _) in
-    let m = turned-read _ _ _ c.requires.1 _ _ _ c.requires.0 s c.rotate.ensures.bytes in
-    is-hoisted _ _ _ c.requires.1 _ m _ c.lead_run.ensures.pointed
+    is-hoisted _ _ _ c.requires.1 _ (turned-read _ _ _ c.requires.1 _ _ _ c.requires.0 (size-read _ _ _ c.requires.1 _ _ (e.first ∙ ap (word_at c.args.place) c.requires.0) e.size (tag-small _)) c.rotate.ensures.bytes) _ c.lead_run.ensures.pointed

@@ -40,6 +40,4 @@ pub returns-clause-lays : goal.returns-clause-lays
 returns-clause-lays c = λ unused i.
     let r = roomy c.args.part.now.bytes c.args.first unused c.args.place 272 i c.requires.room in
     masters-lays-if _ _ _ r (ap (λ k. c.args.place + k) (c.size_at.ensures r.s.here r.s.above r.at.left))
-    _ _ i _ c.thread_slots.ensures.thread
-    (subst (λ m. SameOutside (c.args.place + 16) (c.args.place + 272) m c.thread_slots.new.part.bytes)
-    c.lay_block.ensures.bytes c.thread_slots.ensures.outside)
+    _ _ i _ c.thread_slots.ensures.thread (grind arith)

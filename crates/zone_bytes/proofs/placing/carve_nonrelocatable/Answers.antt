@@ -23,10 +23,7 @@ padded_size-requires c =
 
 pub lay_block-requires : goal.lay_block-requires
 lay_block-requires c =
-    let r = roomy _ _ _ _ _ c.requires.sound.2 c.requires.room in
-    may-lay _ _ _ _ _ r (ap (λ k. c.args.place + k) (search rules)) c.padded_size.ensures
+    may-lay _ _ _ _ _ (roomy _ _ _ _ _ c.requires.sound.2 c.requires.room) (ap (λ k. c.args.place + k) (search rules)) c.padded_size.ensures
 
 pub returns-clause-lays : goal.returns-clause-lays
-returns-clause-lays c = λ first unused i. let r = roomy _ _ _ _ _ c.requires.sound.2 c.requires.room in
-    let n = c.size_at.ensures r.s.here r.s.above r.at.left in
-    rw c.lay_block.ensures.bytes (nonrelocatable-lays-if _ _ _ _ _ r (grind arith) c.padded_size.ensures _ _ i)
+returns-clause-lays c = λ first unused i. rw c.lay_block.ensures.bytes (nonrelocatable-lays-if _ _ _ _ _ (roomy _ _ _ _ _ c.requires.sound.2 c.requires.room) (grind arith) c.padded_size.ensures _ _ i)

@@ -33,7 +33,6 @@ write_word-requires g c =
 pub overflow_add-from : goal.overflow_add-from
 overflow_add-from g c =
     let s = c.loop-from in
-    let h = c.read_header-header.result in
     let e = c.read_header-header.ensures in
     elim c.if-eq.branch [
       | then-eq w ↦
@@ -58,14 +57,13 @@ pub loop-from-preserved : goal.loop-from-preserved
 loop-from-preserved g c =
     let s = c.loop-from in
     let v = s.invariant in
-    let h = c.read_header-header.result in
     let e = c.read_header-header.ensures in
     elim c.if-eq.branch [
       | then-eq w ↦
           let m = point-slot-next _ _ _ c.requires.1 _ _ s.invariant.0 c.loop-from-test.true _ _ _ e.first e.size
           (tag-true _ w.if-eq.ensures) e.slot in
           let b = w.write_word.ensures in
-          let p = subst (λ k. Pointing g.lay c.args.stop (s.from + h.size) k) (sym b.bytes) m.pointing in
+          let p = subst (λ k. Pointing g.lay c.args.stop (s.from + c.read_header-header.result.size) k) (sym b.bytes) m.pointing in
           rw w.part-is (p, b.same.0 ∙ v.1, b.same.1 ∙ v.2, b.same.2 ∙ v.3)
       | else-eq w ↦
           let p = point-free-next _ _ _ c.requires.1 _ _ s.invariant.0

@@ -15,9 +15,7 @@ write_word-requires-then-gap-stop g c = (omega (arith, evens), omega (arith, wid
 
 pub returns-then-gap-stop-clause-raised : goal.returns-then-gap-stop-clause-raised
 returns-then-gap-stop-clause-raised g c =
-    let a = c.args in
     let q = c.requires.1 in
-    let first = c.write_word.ensures.bytes ∙ ap (written a.place (word a.gap)) c.slide.ensures.bytes in
     let mid = mid-rest _ _ _ _ _ q _ c.requires.0 _ (search rules) c.if-gap-stop.true in
     is-raised _ _ _ _ _ q _ mid.outside mid.moved mid.first mid.last
 
@@ -25,6 +23,5 @@ pub returns-else-gap-stop-clause-raised : goal.returns-else-gap-stop-clause-rais
 returns-else-gap-stop-clause-raised g c =
     let a = c.args in
     let q = c.requires.1 in
-    let first = c.write_word.ensures.bytes ∙ ap (written a.place (word a.gap)) c.slide.ensures.bytes in
-    let mid = mid-none _ _ _ _ _ q _ c.requires.0 _ first c.if-gap-stop.false in
+    let mid = mid-none _ _ _ _ _ q _ c.requires.0 _ (c.write_word.ensures.bytes ∙ ap (written a.place (word a.gap)) c.slide.ensures.bytes) c.if-gap-stop.false in
     is-raised g.raise a.place a.top a.stop a.gap q c.write_word.new.part.bytes mid.outside mid.moved mid.first mid.last

@@ -60,10 +60,9 @@ read_header-header-requires-clause-tag g c =
 -- it is one of the run
 inside : (g : Over) (c : After-eq g) → c.loop-from.from < c.args.place + sizes g.lay.run
 inside g c =
-    let s = c.loop-from in
     let e = c.read_header-header.ensures in
     within _ _ _ c.requires.1.0 _ _ _ _ _
-    c.requires.1.1.0 s.invariant.0 (omega arith) _ _ _ e.first e.size (tag-small _) e.flags c.if-not-is_in_run.ensures
+    c.requires.1.1.0 c.loop-from.invariant.0 (omega arith) _ _ _ e.first e.size (tag-small _) e.flags c.if-not-is_in_run.ensures
 
 -- and a relocatable one
 mover : (g : Over) (c : After-eq g) → true ≡ sameb the_type c.read_header-header.result.tag Relocatable
@@ -166,12 +165,10 @@ ended : (g : Over) (c : Left-loop-from g) → (c.loop-from.invariant.0.rest ≡ 
 ended g c =
     let s = c.loop-from in
     let p = s.invariant.0 in
-    let stop = c.args.place + sizes g.lay.run in
-    let nothing = none-left g.lay c.args.gap stop s.from s.to s.moves s.part.bytes p.moved p.rest p.state in
+    let nothing = none-left g.lay c.args.gap (c.args.place + sizes g.lay.run) s.from s.to s.moves s.part.bytes p.moved p.rest p.state in
     elim c.loop-from-test.branch [
       | else-loop-from-test w ↦
-          let b = stop-inside _ _ _ c.requires.1.0 c.args.gap s.from s.to s.moves _ p.state.kept in
-          inl (nothing (omega (arith, b)))
+          inl (nothing (omega (arith, (stop-inside _ _ _ c.requires.1.0 c.args.gap s.from s.to s.moves _ p.state.kept))))
       | then-loop-from-test+then-is_enough w ↦ inr (w.if-is_enough.ensures refl)
       | then-loop-from-test+else-is_enough+then-not-is_in_run w ↦
           let e = w.read_header-header.ensures in
@@ -197,10 +194,8 @@ write_word-requires g c =
 pub returns-then-to-from-clause-packed : goal.returns-then-to-from-clause-packed
 returns-then-to-from-clause-packed g c =
     let s = c.loop-from in
-    let p = s.invariant.0 in
     subst (PackedUntil g.lay c.args.place c.args.gap c.args.enough s.moves s.to s.from) (sym c.write_word.ensures.bytes)
-    (until-free _ _ _ p.split _ _ c.requires.1.0 _ _ _ _ _ _ p.those p.state _
-    (ended g (goal.at.returns-then-to-from-clause-packed g c).Left-loop-from) c.if-to-from.true)
+    (search (rules, until-free, ended))
 
 pub returns-else-to-from-clause-packed : goal.returns-else-to-from-clause-packed
 returns-else-to-from-clause-packed g c = search (rules, until-none, ended)

@@ -29,8 +29,5 @@ pub returns : goal.returns
 returns c =
     let h = c.read_header-header.result in
     let e = c.read_header-header.ensures in
-    let xs = c.self.inside.part.now.bytes in
-    let s = stepped _ _ c.self.invariant (omega (arith, c.len.ensures)) _ _ e.first e.size (tag-small h.tag) in
-    let a = c.seen_of.ensures ∙ (λ i. header_seen (tag_number h.tag) h.size (e.logical i) (e.slot i) (e.flags i)) in
-    subst (λ v. Tells v (Some c.seen_of.result) (left_in (c.self.inside.at + h.size) xs)) c.self.view_is
-    (tells-step _ _ _ _ s _ a)
+    subst (λ v. Tells v (Some c.seen_of.result) (left_in (c.self.inside.at + h.size) c.self.inside.part.now.bytes)) c.self.view_is
+    (tells-step _ _ _ _ (stepped _ _ c.self.invariant (omega (arith, c.len.ensures)) _ _ e.first e.size (tag-small h.tag)) _ (c.seen_of.ensures ∙ (λ i. header_seen (tag_number h.tag) h.size (e.logical i) (e.slot i) (e.flags i))))
