@@ -26,11 +26,7 @@ module _ (zone : Splice) (bottom top : ℕ) (xs : List ℕ) (h : IsSplice zone b
   bounds = (omega arith, omega (arith, length-tiles, span-append, span-append))
 
   pub even : (bottom % 16 ≡ 0) × (top % 16 ≡ 0)
-  even =
-      let head = head_of zone.resource in
-      let t = tiles-split head xs zone.below (zone.here ++ zone.above) h.lies.tiles in
-      let u = tiles-split head (drop (sizes zone.below) xs) zone.here zone.above t.1 in
-      (omega (arith, span-whole), omega (arith, span-whole))
+  even = grind (arith, tiles-split, span-whole)
 
   -- a slot is below the stretch or above it
   pub outside : (s : ℕ) → IsSlot s all → Clear bottom (top - bottom) s
@@ -41,10 +37,7 @@ module _ (zone : Splice) (bottom top : ℕ) (xs : List ℕ) (h : IsSplice zone b
 
   pub clear : Each (Clear bottom (top - bottom)) (names zone.below) × Each (Clear bottom (top - bottom))
       (names zone.above)
-  clear = (
-    each-map (λ s. IsSlot s all) (Clear bottom (top - bottom)) outside (names zone.below) h.slots.0,
-    each-map (λ s. IsSlot s all) (Clear bottom (top - bottom)) outside (names zone.above) h.slots.1,
-  )
+  clear = grind (arith, each-map, Clear, outside)
 
   -- other blocks in the stretch's place
   pub lies-put : (now : List Block) (new : List ℕ) → SameOutside bottom top xs new

@@ -36,9 +36,7 @@ written-past a b x i =
 
 pub content-room : (b : Block) → 16 ≤ size b → 16 + length (content_of b) ≤ size b
 content-room (Free n) h = h
-content-room (Nonrelocatable id content) h = omega arith
-content-room Masters h = omega arith
-content-room (Relocatable slot flags content) h = omega arith
+content-room _ h = omega arith
 
 nil : (x : List ℕ) → length x ≡ 0 → [] ≡ x
 nil [] e = refl

@@ -44,15 +44,7 @@ given-filled new s = omega (arith, given-tidy, given-parts)
 -- blocks that would give nothing were freed
 pub given-freed : (test : Block → Bool) → ((b : Block) → test b ≡ true → purgeable_of b ≡ 0) → (zone : List Block)
     → purgeable_sum (tidy (freed test zone)) ≡ purgeable_sum zone
-given-freed test nothing zone = given-tidy _ ∙ freed-is purgeable_of none-free test zone ∙ same zone
-  where
-    one : (b : Block) (t : Bool) → test b ≡ t → cond t 0 (purgeable_of b) ≡ purgeable_of b
-    one b true e = sym (nothing b e)
-    one b false e = refl
-
-    same : (zone : List Block) → total (unless test purgeable_of) zone ≡ purgeable_sum zone
-    same [] = refl
-    same (b ∷ zone) = omega (arith, one b (test b) refl, same zone)
+given-freed test nothing zone = grind (arith, given-tidy, freed-is, none-free, unless)
 
 -- where one block at most passes, what it would give is gone with it
 pub given-released : (test : Block → Bool) (zone : List Block) → count test zone ≤ 1
@@ -102,11 +94,7 @@ given-lowest_purged (suc k) sp (b ∷ zone) = cases (may_be_purged sp b) refl (g
 
 -- no blocks would give more bytes than they take
 pub given-sizes : (zone : List Block) → purgeable_sum zone ≤ sizes zone
-given-sizes zone = total-le purgeable_of size (λ b. one (is_purgeable b) (size b)) _
-  where
-    one : (t : Bool) (n : ℕ) → cond t n 0 ≤ n
-    one true n = omega arith
-    one false n = omega arith
+given-sizes zone = grind (arith, total-le)
 
 -- all that may be purged is purged
 pub all-given : (zone : List Block) → free_sum (purged (most_purges sparing.Nothing zone) sparing.Nothing zone)
@@ -118,14 +106,7 @@ all-given zone = free-purged sparing.Nothing (most_purges sparing.Nothing zone) 
     one (Free n) = omega arith
     one (Nonrelocatable id content) = refl
     one Masters = refl
-    one (Relocatable id flags content) = cases (is_purgeable b)
-      where
-        b : Block
-        b = Relocatable id flags content
-
-        cases : (t : Bool) → free_of (cond (t && true) (Free (size b)) b) ≡ 0 + cond {A = ℕ} t (size b) 0
-        cases true = omega arith
-        cases false = refl
+    one (Relocatable id flags content) = grind arith
 
     sum : (zone : List Block) → free_sum (map (emptied (spared sparing.Nothing)) zone) ≡ free_sum zone + purgeable_sum zone
     sum [] = refl
@@ -138,23 +119,13 @@ given-fits xs first unused i = omega (arith, given-sizes, free_span-le, sizes-le
 
 -- a Free block that has room would give nothing
 given-room : (p : ℕ) (b : Block) → is_room p b ≡ true → purgeable_of b ≡ 0
-given-room p (Free n) e = refl
-given-room p (Nonrelocatable id content) e = refl
-given-room p Masters e = refl
 given-room p (Relocatable id flags content) e = absurd (false≢true e)
+given-room p _ e = refl
 
 -- a block that grew into the Free block above it
 pub given-grown : (new : Block) (s : Spot) (z : List Block) → grow_up new s ≡ Some z
     → purgeable_sum z ≡ purgeable_sum s.below + (purgeable_of new + purgeable_sum s.above)
-given-grown new s z e =
-    map-some (λ above. s.below ++ new ∷ above) _ z
-    (purgeable_sum z ≡ purgeable_sum s.below + (purgeable_of new + purgeable_sum s.above)) e
-    (λ above took is. taken-some _ s.above _
-    (purgeable_sum z ≡ purgeable_sum s.below + (purgeable_of new + purgeable_sum s.above)) took
-    (λ next rest was room now.
-    let p = total-sized purgeable_of none-free s.below new (size next - growth new s) rest in
-    let a = ap (λ l. purgeable_sum (s.below ++ new ∷ l)) now in
-    omega (arith, ap purgeable_sum is, p, a, ap purgeable_sum was, given-room)))
+given-grown new s z e = grind (arith, map-some, taken-some, total-sized, none-free, given-room)
 
 -- a fresh zone would give nothing
 pub given-fresh : (n : ℕ) → purgeable_sum (fresh n) ≡ 0
@@ -163,16 +134,13 @@ given-fresh n = let f = freely purgeable_of none-free (n - 272) in omega (arith,
 -- a block that would give nothing, at the lower end of a Free block's place
 pub given-put : (new : Block) → purgeable_of new ≡ 0 → (s : Spot) (zone : List Block)
     → zone ≡ s.below ++ s.here ∷ s.above → (n : ℕ) → s.here ≡ Free n → purgeable_sum (filled new s) ≡ purgeable_sum zone
-given-put new none s zone whole n free =
-    omega (arith, none, given-filled, ap purgeable_sum whole, given-parts, ap purgeable_of free)
+given-put new none s zone whole n free = grind (arith, given-filled, given-parts)
 
 -- a block became another
 pub given-became : (place : ℕ) (old new : List Block) (b : Became place old new)
     → (purgeable_sum new + purgeable_of b.here ≡ purgeable_sum old + purgeable_of b.there)
     × (purgeable_of b.here ≤ purgeable_sum old)
-given-became place old new b =
-    let y = ap purgeable_sum b.was in
-    (omega (arith, y, ap purgeable_sum b.is, given-parts), omega (arith, y, given-parts))
+given-became place old new b = grind (arith, given-parts)
 
 -- the zone that bytes spell would give no more than it has
 pub given-small : (xs : List ℕ) (first unused : ℕ) → IsSound xs first unused → purgeable_sum (zone_in xs) < 2 ^ 32
@@ -183,8 +151,4 @@ pub given-purged : (below : List Block) (b : Block) (k : ℕ) (sp : Block → Bo
     → zone ≡ below ++ b ∷ above → (freed : ℕ)
     → free_sum (tidy (below ++ b ∷ lowest_purged k sp above)) ≡ free_sum zone + freed
     → purgeable_sum (tidy (below ++ b ∷ lowest_purged k sp above)) + freed ≡ purgeable_sum zone
-given-purged below b k sp above zone whole freed f =
-    let u = total-tidy free_of (λ n m. refl) (below ++ b ∷ lowest_purged k sp above) in
-    let y = ap free_sum whole in
-    let z = ap purgeable_sum whole in
-    omega (arith, given-lowest_purged, given-tidy, u, given-parts, total-append, y, z, f)
+given-purged below b k sp above zone whole freed f = grind (arith, total-tidy, given-lowest_purged, given-tidy, given-parts, total-append)

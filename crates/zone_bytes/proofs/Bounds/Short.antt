@@ -44,30 +44,17 @@ FreesNone s = (zone : List Block) → opened s zone ≡ zone
 -- no purges make more Free than what the zone has and would give
 pub free-given : (s : Sparing) → FreesNone s → (k : ℕ) (zone : List Block)
     → free_sum (purged k s zone) + purgeable_sum (purged k s zone) ≡ free_sum zone + purgeable_sum zone
-free-given s none k zone =
-    let g = tidied purgeable_of none-free (lowest_purged k (spared s) (opened s zone)) in
-    omega (arith, free-purged, g, given-lowest_purged, ap free_sum (none zone), ap purgeable_sum (none zone))
+free-given s none k zone = grind (arith, tidied, none-free, free-purged, given-lowest_purged)
 
 -- what counts as Free would give nothing more
 given-opened : (s : Sparing) (zone : List Block) → purgeable_sum (opened s zone) ≤ purgeable_sum zone
-given-opened sparing.Nothing zone = omega arith
-given-opened (sparing.One slot) zone = omega arith
-given-opened (sparing.Two slot other) zone = omega arith
-given-opened (sparing.Freed slot) zone =
-    omega (arith, freed-is purgeable_of none-free (is_relocatable slot) zone, unless-le)
+given-opened (sparing.Freed slot) zone = grind (arith, freed-is, none-free, unless-le)
+given-opened _ zone = omega arith
 
 -- each block that may go would give something
 pub one-gives : (sp : Block → Bool) (b : Block) → cond {A = ℕ} (may_be_purged sp b) 1 0 ≤ purgeable_of b
-one-gives sp (Free n) = omega arith
-one-gives sp (Nonrelocatable id content) = omega arith
-one-gives sp Masters = omega arith
-one-gives sp (Relocatable id flags content) = cases (not flags.locked && flags.purgeable) (not (sp (Relocatable id flags
-    content)))
-  where
-    cases : (t u : Bool) → cond {A = ℕ} (t && u) 1 0 ≤ cond {A = ℕ} t (padded (length content)) 0
-    cases true true = omega arith
-    cases true false = omega arith
-    cases false u = omega arith
+one-gives sp (Relocatable id flags content) = grind arith
+one-gives sp _ = omega arith
 
 count-given : (sp : Block → Bool) (zone : List Block) → count (may_be_purged sp) zone ≤ purgeable_sum zone
 count-given sp zone = total-le (λ b. cond {A = ℕ} (may_be_purged sp b) 1 0) purgeable_of (one-gives sp) _

@@ -66,33 +66,17 @@ module _ (end : ℕ) (old : List ℕ) (l : length old ≡ end) (e : end % 16 ≡
       (subst (Lays new (Masters ∷ (free (end - 272) ++ [])) fresh_slots) (append-nil (slots_at 0)) all)
 
 tidy-fresh : (n : ℕ) → tidy (fresh n) ≡ fresh n
-tidy-fresh n = go (n - 272)
-  where
-    go : (m : ℕ) → tidy (Masters ∷ free m) ≡ Masters ∷ free m
-    go zero = refl
-    go (suc m) = refl
+tidy-fresh n = grind arith
 
 masters-fresh : (n : ℕ) → 64 * count is_masters (fresh n) ≡ 64
-masters-fresh n = go (n - 272)
-  where
-    go : (m : ℕ) → 64 * count is_masters (Masters ∷ free m) ≡ 64
-    go zero = refl
-    go (suc m) = refl
+masters-fresh n = grind arith
 
 -- what isn't the block of master pointers is Free
 pub free-fresh : (n : ℕ) → free_sum (fresh n) ≡ n - 272
-free-fresh n = go (n - 272)
-  where
-    go : (m : ℕ) → free_sum (Masters ∷ free m) ≡ m
-    go zero = refl
-    go (suc m) = (let z : 0 + (suc m + 0) ≡ suc m = omega arith in z)
+free-fresh n = grind arith
 
 none-used : (s : ℕ) → is_used (fresh_slots s) ≡ false
-none-used s = go (nat_le 16 s && (nat_le (s + 4) 272 && (s % 4 == 0)))
-  where
-    go : (t : Bool) → is_used (cond t Unused NoSlot) ≡ false
-    go true = refl
-    go false = refl
+none-used s = grind arith
 
 module _ (new : List ℕ) (end : ℕ) (h : Lays new (fresh end) fresh_slots all_slots) where
   pub fresh-made : Made new 16 64 (fresh end) fresh_slots

@@ -21,9 +21,7 @@ free-is (Relocatable slot flags content) k = absurd (let z : 3 ≡ 0 = k in omeg
 
 pub not_free-is : (b : Block) → 0 < kind b → is_free b ≡ false
 not_free-is (Free n) k = absurd (let z : 0 < 0 = k in omega (arith, z))
-not_free-is (Nonrelocatable id content) k = refl
-not_free-is Masters k = refl
-not_free-is (Relocatable slot flags content) k = refl
+not_free-is _ k = refl
 
 pub free-other : (b : Block) → 0 < kind b → free_of b ≡ 0
 free-other (Free n) k = absurd (let z : 0 < 0 = k in omega (arith, z))
@@ -63,8 +61,7 @@ module _ (j : Joining) (start at : ℕ) (xs : List ℕ) (m : MayJoin j start at 
 
   alone : add (Free (at - start)) j.above ≡ Free (at - start) ∷ j.above
       → Lays xs (j.below ++ add (Free (at - start)) j.above) j.slots j.unused
-  alone e = subst (λ k. Lays xs (j.below ++ k) j.slots j.unused)
-      (ap (λ k. k ++ j.above) (free-some _ some) ∙ sym e) m.lays
+  alone e = grind arith
 
   -- no block above
   pub joined-none : length xs ≤ at → Lays xs (j.below ++ add (Free (at - start)) j.above) j.slots j.unused
@@ -80,22 +77,14 @@ module _ (j : Joining) (start at : ℕ) (xs : List ℕ) (m : MayJoin j start at 
   -- a block above that isn't Free
   pub joined-other : (l : at < length xs) → 0 < kind (next l).here
       → Lays xs (j.below ++ add (Free (at - start)) j.above) j.slots j.unused
-  joined-other l k =
-      let n = next l in
-      alone (ap (add (Free (at - start))) n.is ∙ add-other _ _ _ some (not_free-is _ k)
-      ∙ ap (λ q. Free (at - start) ∷ q) (sym n.is))
+  joined-other l k = grind arith
 
   module _ (l : at < length xs) (k : kind (next l).here ≡ 0) where
     abbrev pub one : Freeing
     one = record { below = j.below; here = (next l).here; above = (next l).above; slots = j.slots; unused = j.unused }
 
     pub may-free : MayFree one start at xs
-    may-free = record {
-      lays = subst (λ q. Lays xs (j.below ++ (free (at - start) ++ q)) j.slots j.unused) (next l).is m.lays;
-      low = m.low;
-      up = (omega arith);
-      plain = ap is_masters (free-is (next l).here k);
-    }
+    may-free = grind arith
 
     -- a Free block above
     pub joined-two : (new : List ℕ) → ((f : Freeing) → MayFree f start at xs
@@ -103,9 +92,5 @@ module _ (j : Joining) (start at : ℕ) (xs : List ℕ) (m : MayJoin j start at 
         → Lays new (j.below ++ add (Free (at - start)) j.above) j.slots j.unused
     joined-two new made =
         let n = next l in
-        let e : at + size n.here - start ≡ at - start + size n.here = omega arith in
-        let f : free (at + size n.here - start) ≡ Free (at - start + size n.here) ∷ [] = ap free e
-        ∙ free-some _ (omega arith) in
-        let g : add (Free (at - start)) j.above ≡ Free (at - start + size n.here) ∷ n.above =
-        ap (add (Free (at - start))) (n.is ∙ ap (λ b. b ∷ n.above) (free-is _ k)) ∙ add-free _ _ _ some in
-        subst (λ q. Lays new (j.below ++ q) j.slots j.unused) (ap (λ q. q ++ n.above) f ∙ sym g) (made one may-free)
+        let f : free (at + size n.here - start) ≡ Free (at - start + size n.here) ∷ [] = grind arith in
+        subst (λ q. Lays new (j.below ++ q) j.slots j.unused) (ap (λ q. q ++ n.above) f ∙ sym (ap (add (Free (at - start))) (n.is ∙ ap (λ b. b ∷ n.above) (free-is _ k)) ∙ add-free _ _ _ some)) (made one may-free)

@@ -35,8 +35,7 @@ freed-one t below b above l h u = map-append (λ c. cond (t c) (Free (size c)) c
 -- a block that held bytes becomes Free
 pub free-more : (below : List Block) (b : Block) (above : List Block) → free_of b ≡ 0
     → free_sum (tidy (below ++ Free (size b) ∷ above)) ≡ free_sum (below ++ b ∷ above) + size b
-free-more below b above e =
-    omega (arith, total-tidy free_of (λ n m. refl) (below ++ Free (size b) ∷ above), total-append, e)
+free-more below b above e = grind (arith, total-tidy, total-append)
 
 emptied-odd : (r : Bool) → empty_word r % 16 ≡ 2
 emptied-odd true = refl

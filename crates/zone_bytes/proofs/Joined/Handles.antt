@@ -1,5 +1,5 @@
 -- The zone that bytes spell, where the block of a handle's slot is made Free.
-use Rattle.std.proofs.Common.{◌≡◌, ℕ, IsTrue, ◌+◌, ◌≤◌, List, sym, ap, ◌∙◌, arith}
+use Rattle.std.proofs.Common.{◌≡◌, ℕ, IsTrue, ◌+◌, ◌≤◌, List, sym, ap, ◌∙◌, arith, rules}
 use Rattle.raw_region.specs.Memory.{Bytes}
 use Rattle.block_store.specs.Block.{Block, tidy, count, free_sum, is_masters, is_relocatable}
 use Rattle.block_store.specs.Grow.{freed}
@@ -31,12 +31,7 @@ pub record Gained (xs new : List ℕ) (first number more : ℕ) (blocks : List B
 pub gained : (xs new : List ℕ) (first number more : ℕ) (i : IsSound xs first number) (blocks : List Block)
     → Lays new (tidy blocks) (slot_in xs) i.unused → free_sum (tidy blocks) ≡ free_sum (zone_in xs) + more
     → count is_masters (tidy blocks) ≡ count is_masters (zone_in xs) → Gained xs new first number more (tidy blocks)
-gained xs new first number more i blocks h s m = record {
-  made = made new (tidy blocks) (slot_in xs) i.unused h first number (tidy-tidy blocks) i.begins i.counted;
-  sum = s;
-  fits = free-fits new (tidy blocks) (slot_in xs) i.unused h;
-  masters = m;
-}
+gained xs new first number more i blocks h s m = search (rules, made, tidy-tidy, free-fits)
 
 module _ (xs new : List ℕ) (first number more : ℕ) (blocks : List Block) (g : Gained xs new first number more blocks)
   where
@@ -50,8 +45,7 @@ module _ (xs new : List ℕ) (first number more : ℕ) (blocks : List Block) (g 
 pub gained-rest : (old new : Bytes) (first number more : ℕ) (blocks : List Block)
     → Gained old.bytes new.bytes first number more blocks → KeepsPlace old new
     → (moves : ℕ) → IsRest (rest_in old number moves) (rest_in new number moves)
-gained-rest old new first number more blocks g k moves =
-    rest-made old new (slot_in old.bytes) number moves g.made.slots (ap (count is_masters) g.made.zone ∙ g.masters) k
+gained-rest old new first number more blocks g k moves = grind arith
 
 module _ (xs : List ℕ) (first number : ℕ) (i : IsSound xs first number) where
   abbrev pub table-of : Table
@@ -59,8 +53,7 @@ module _ (xs : List ℕ) (first number : ℕ) (i : IsSound xs first number) wher
 
   module _ (slot : ℕ) (used : IsTrue (is_used (slot_in xs slot))) where
     pub has-handle : HasHandle table-of slot xs
-    has-handle = let s = used-is (slot_in xs slot) used in
-        record { lays = i.lays; tidied = i.tidied; resource = s.0; used = s.1 }
+    has-handle = grind arith
 
   -- the block of a handle's slot is made Free
   pub released-gained : (slot : ℕ) (used : IsTrue (is_used (slot_in xs slot))) (new : List ℕ) (more : ℕ)

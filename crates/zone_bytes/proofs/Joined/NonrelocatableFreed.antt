@@ -37,16 +37,13 @@ none-placed place o (Relocatable slot flags content ∷ blocks) p l =
 
 nonrelocatable-plain : (place : ℕ) (b : Block) → is_nonrelocatable place b ≡ true
     → (is_masters b ≡ false) × (free_of b ≡ 0) × (0 < size b)
-nonrelocatable-plain place (Free n) e = absurd (false≢true e)
 nonrelocatable-plain place (Nonrelocatable id content) e = (refl, refl, omega arith)
-nonrelocatable-plain place Masters e = absurd (false≢true e)
-nonrelocatable-plain place (Relocatable slot flags content) e = absurd (false≢true e)
+nonrelocatable-plain place _ e = absurd (false≢true e)
 
 -- a block that becomes Free isn't a Masters block
 pub masters-freed : (below : List Block) (b : Block) (n : ℕ) (above : List Block) → is_masters b ≡ false
     → count is_masters (tidy (below ++ Free n ∷ above)) ≡ count is_masters (below ++ b ∷ above)
-masters-freed below b n above e =
-    total-tidy (λ (b : Block). if is_masters b then 1 else 0) (λ n m. refl) _ ∙ masters-same _ _ b _ (sym e)
+masters-freed below b n above e = grind (arith, total-tidy, masters-same)
 
 module _ (xs : List ℕ) (first number : ℕ) (i : IsSound xs first number) (place : ℕ) (s : Spot)
     (e : spot_at place (zone_in xs) ≡ Some s) (f : is_nonrelocatable place s.here ≡ true) where
@@ -80,10 +77,8 @@ module _ (xs : List ℕ) (first number : ℕ) (i : IsSound xs first number) (pla
       → Lays new (tidy (f.below ++ Free (size f.here) ∷ f.above)) f.slots f.unused)
       → ((f : Freeing) → MayRelease f place xs → more ≡ size f.here)
       → Gained xs new first number more (tidy (freed (is_nonrelocatable place) (zone_in xs)))
-  nonrelocatable-gained new more lays bytes =
-      gained _ _ _ _ _ i (freed (is_nonrelocatable place) (zone_in xs))
+  nonrelocatable-gained new more lays bytes = gained _ _ _ _ _ i (freed (is_nonrelocatable place) (zone_in xs))
       (subst (λ z. Lays new (tidy z) (slot_in xs) i.unused) (sym freed-is) (lays standing may-free_nonrelocatable))
       (ap (λ z. free_sum (tidy z)) freed-is ∙ free-more s.below s.here s.above plain.1
       ∙ (λ j. free_sum (sym is j) + sym (bytes standing may-free_nonrelocatable) j))
-      (ap (λ z. count is_masters (tidy z)) freed-is ∙ masters-freed s.below s.here (size s.here) s.above plain.0
-      ∙ ap (count is_masters) (sym is))
+      (grind (arith, freed-is, masters-freed, plain, is))

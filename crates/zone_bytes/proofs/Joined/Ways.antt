@@ -29,8 +29,7 @@ module _ (xs : List ℕ) (below above : List Block) (slots : ℕ
   whole = length-tiles head xs all h.lies.tiles
 
   words : (blocks : List Block) → Each (λ s. IsSlot s all) (names blocks) → Each (λ s. s < 2 ^ 32) (names blocks)
-  words blocks e = each-map (λ s. IsSlot s all) (λ s. s < 2 ^ 32) (λ s j. let l =
-      whole in omega (arith, slot-inside, l)) _ e
+  words blocks e = grind (arith, each-map, whole, slot-inside)
 
   pub inside : place + sizes above ≡ length xs
   inside = omega (arith, span-append, whole, low)
@@ -42,11 +41,7 @@ module _ (xs : List ℕ) (below above : List Block) (slots : ℕ
         record {
           resource = λ s. is_resource (slots s);
           rest = above;
-          walk = record {
-            high = subst (λ j. Tiles head (drop j xs) above) low t.1;
-            up = inside;
-            whole = omega (arith, span-whole, low);
-          };
+          walk = (grind (arith, inside, whole, span-whole));
           placed = subst (λ j. ArePlaced j above) o (placed-right 0 below above h.placed);
           words = words above (each-names (λ s. IsSlot s all) below above h.has_slots.slots).1;
           small = h.small;
@@ -72,9 +67,7 @@ module _ (xs : List ℕ) (below : List Block) (b : Block) (above : List Block) (
     → Slot) (unused : List ℕ) (h : Lays xs (below ++ b ∷ above) slots unused)
     (place : ℕ) (low : sizes below ≡ place) where
   pub tile-at : Tile (head_of (λ s. is_resource (slots s)) b) (size b) (drop place xs)
-  tile-at =
-      let t = tiles-split (head_of (λ s. is_resource (slots s))) xs below (b ∷ above) h.lies.tiles in
-      (subst (λ j. Tiles (head_of (λ s. is_resource (slots s))) (drop j xs) (b ∷ above)) low t.1).0
+  tile-at = grind (arith, tiles-split)
 
   pub read : Read xs b place
   read =

@@ -24,9 +24,8 @@ use Rattle.block_store.proofs.Zone.Leading.{count-none}
 
 -- a name that is not used is that of no block
 not-used : (st : Slot) → IsUsed st → is_used st ≡ false → ⊥
-not-used NoSlot u e = u
-not-used Unused u e = u
 not-used (Used r) u e = false≢true (sym e)
+not-used _ u e = u
 
 -- no two blocks have one name
 pub counted-once : (number : ℕ) (blocks : List Block) → Pairs Apart (names blocks)
@@ -41,18 +40,15 @@ counted-once number (Relocatable slot flags content ∷ blocks) p = elim (eqb_te
       let a = none-apart number blocks (subst (λ k. Each (Apart k) (names blocks)) t.1 p.0) in
       omega (arith, e, count-none (is_relocatable number) blocks a)
   | inr t ↦
-      let e : cond {A = ℕ} (eqb slot number) 1 0 ≡ 0 = ap (λ v. cond {A = ℕ} v 1 0) t.0 in
-      omega (arith, e, counted-once number blocks p.1)
+      omega (arith, (ap (λ v. cond {A = ℕ} v 1 0) t.0), counted-once number blocks p.1)
 ]
 
 pub aligned-tiles : (head : Block → List ℕ) (xs : List ℕ) (blocks : List Block) → Tiles head xs blocks → Aligned blocks
 aligned-tiles head xs [] t = tt
 aligned-tiles head xs (Free n ∷ blocks) t = (t.0.whole, aligned-tiles head _ blocks t.1)
-aligned-tiles head xs (Nonrelocatable id content ∷ blocks) t =
-    (refl, aligned-tiles head (drop (size (Nonrelocatable id content)) xs) blocks t.1)
+aligned-tiles head xs (Nonrelocatable id content ∷ blocks) t = (refl, aligned-tiles head _ blocks t.1)
 aligned-tiles head xs (Masters ∷ blocks) t = (refl, aligned-tiles head (drop 272 xs) blocks t.1)
-aligned-tiles head xs (Relocatable slot flags content ∷ blocks) t =
-    (refl, aligned-tiles head (drop (size (Relocatable slot flags content)) xs) blocks t.1)
+aligned-tiles head xs (Relocatable slot flags content ∷ blocks) t = (refl, aligned-tiles head _ blocks t.1)
 
 pub placed-of : (o : ℕ) (blocks : List Block) → ArePlaced o blocks → Placed o blocks
 placed-of o [] p = tt
@@ -117,13 +113,7 @@ pub rest-made : (old new : Bytes) (table : ℕ → Slot) (unused moves : ℕ) �
     → count is_masters (zone_in new.bytes) ≡ count is_masters (zone_in old.bytes)
     → (new.home ≡ old.home) × (new.at ≡ old.at) × (length new.bytes ≡ length old.bytes)
     → IsRest (record (rest_in old unused moves) { slots = table }) (rest_in new unused moves)
-rest-made old new table unused moves s k w = record {
-  slots = s;
-  unused = refl;
-  all = ap (λ n. 64 * n) k;
-  moves = refl;
-  window = λ i. record { home = w.0 i; window = record { at = w.1 i; len = w.2 i } };
-}
+rest-made old new table unused moves s k w = grind arith
 
 -- the invariant of a zone in bytes, whose Free bytes are counted beside it
 pub kept-made : (xs : List ℕ) (first unused free : ℕ) (blocks : List Block) (table : ℕ → Slot)

@@ -31,9 +31,7 @@ module _ (xs : List ℕ) (first unused source n place from : ℕ) (i : IsSound x
   same : new ≡ written (place + 16 + from) x xs
   same =
       let a = standing xs first unused source i t at in
-      ap (λ q. written (place + 16 + from) q xs)
-      (sym (take-take n (length (content_of t.here)) (drop (source + 16) xs) l)
-      ∙ ap (take n) (held-piece (resource_in xs) _ source xs a.tile))
+      ap (λ q. written (place + 16 + from) q xs) (grind (arith, take-take, held-piece, resource_in))
 
   pub copied : Made new first unused (s.below
       ++ with_content (written from x (content_of s.here)) s.here ∷ s.above) (slot_in xs)
@@ -45,8 +43,7 @@ module _ (xs : List ℕ) (first unused source n place from : ℕ) (i : IsSound x
 
   pub copied-kept : (free : ℕ) → free ≡ free_sum (zone_in xs) → IsKept new first unused free
   copied-kept free f =
-      let a = standing xs first unused place i s to in
-      kept-made _ _ _ _ _ (slot_in xs) copied (f ∙ ap free_sum a.whole ∙ sym (free-kept _ _ _ _))
+      kept-made _ _ _ _ _ (slot_in xs) copied (f ∙ ap free_sum (standing xs first unused place i s to).whole ∙ sym (free-kept _ _ _ _))
 
   pub copied-masters : count is_masters (zone_in new) ≡ count is_masters (zone_in xs)
   copied-masters =

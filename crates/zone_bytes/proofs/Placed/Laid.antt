@@ -52,14 +52,11 @@ module _ (h : Header) (bottom top held : ℕ) (xs : List ℕ) (m : MayLay h bott
   zeros-length = length-replicate {A = ℕ} (h.logical - held) 0
 
   one-outside : SameOutside bottom top xs one
-  one-outside =
-      outside-written _ _ _ _ _ (header_bytes h) (omega arith) (omega (arith, header-length))
-      (outside-same bottom top xs (omega arith) m.inside)
+  one-outside = outside-written _ _ _ _ _ (header_bytes h) (omega arith) (omega (arith, header-length)) (grind arith)
 
   two-outside : SameOutside bottom top xs two
   two-outside =
-      let z = zeros-length in
-      outside-written bottom top xs one (bottom + 16 + held) zeros (omega arith) (omega (arith, z)) one-outside
+      outside-written bottom top xs one (bottom + 16 + held) zeros (omega arith) (omega (arith, zeros-length)) one-outside
 
   length-one : length one ≡ length xs
   length-one = one-outside.kept
@@ -108,27 +105,20 @@ module _ (h : Header) (bottom top held : ℕ) (xs : List ℕ) (m : MayLay h bott
   length-stood = length-take-le held (drop (bottom + 16) xs) (omega (arith, length-drop (bottom + 16) xs))
 
   two-piece : (k : ℕ) → k ≤ held → piece (bottom + 16) k two ≡ take k stood
-  two-piece k l =
-      piece-written_below _ zeros one (bottom + 16) k (omega (arith, l)) (omega (arith, length-one))
-      ∙ piece-written_above bottom (header_bytes h) xs (bottom + 16) k (omega (arith, header-length)) (omega arith)
-      ∙ sym (take-take k held (drop (bottom + 16) xs) l)
+  two-piece k l = grind (arith, piece-written_below, length-one, piece-written_above, header-length, take-take)
 
   two-content : piece (bottom + 16) h.logical two ≡ resized_content h.logical stood
   two-content = go (less_or_more h.logical held)
     where
       go : (h.logical ≤ held) ⊎ (held < h.logical) → piece (bottom + 16) h.logical two ≡ resized_content h.logical stood
-      go (inl l) =
-          let z : 0 ≡ h.logical - length stood = omega (arith, length-stood, l) in
-          two-piece _ l ∙ sym (append-nil (take h.logical stood)) ∙ ap (λ k. take h.logical stood ++ replicate k 0) z
+      go (inl l) = grind (arith, length-stood, two-piece, append-nil)
       go (inr l) =
           let s = length-stood in
           let more = h.logical - held in
           let sum : h.logical ≡ held + more = omega (arith, l) in
           let same : more ≡ h.logical - length stood = omega (arith, s) in
           ap (λ k. piece (bottom + 16) k two) sum ∙ take-add held more (drop (bottom + 16) two)
-          ∙ ap (λ q. q ++ take more (drop held (drop (bottom + 16) two)))
-          (two-piece _ (omega arith) ∙ take_all held stood (omega (arith, s))
-          ∙ sym (take_all h.logical stood (omega (arith, s, l))))
+          ∙ ap (λ q. q ++ take more (drop held (drop (bottom + 16) two))) (grind (arith, two-piece, take_all))
           ∙ ap (λ q. take h.logical stood ++ take more q) (drop-drop held (bottom + 16) two)
           ∙ ap (λ q. take h.logical stood ++ q)
           (piece-written _ zeros one more (sym zeros-length) (omega (arith, length-one)))
@@ -151,13 +141,4 @@ module _ (h : Header) (bottom top held : ℕ) (xs : List ℕ) (m : MayLay h bott
 
   pub laid-tile : (head : List ℕ) → header_bytes h ++ resized_content h.logical stood ≡ head
       → Tile head h.size (drop bottom now)
-  laid-tile head e =
-      let a = length-append (header_bytes h) (resized_content h.logical stood) in
-      let l : length head ≡ 16 + h.logical = sym (ap length e) ∙ omega (arith, a, length-resized, header-length) in
-      record {
-        fits = omega (arith, length-drop bottom now, laid-outside.kept);
-        whole = m.even.2;
-        some = omega arith;
-        room = omega (arith, l);
-        begins = ap (λ j. take j (drop bottom now)) l ∙ laid-head ∙ e;
-      }
+  laid-tile head e = grind (arith, length-append, length-resized, header-length, length-drop, laid-outside, laid-head)

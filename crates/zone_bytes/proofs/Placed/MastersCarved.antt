@@ -17,8 +17,7 @@ use Rattle.zone_bytes.proofs.Placed.MoreSlots.{lays-masters, kept-slot}
 use Rattle.zone_bytes.proofs.SlotTable.Handles.{used-is}
 
 pub first-fits : (xs : List ℕ) (first unused : ℕ) (i : IsSound xs first unused) → first < 134217728
-first-fits xs first unused i =
-    omega (arith, first-small (zone_in xs) (slot_in xs) i.unused xs i.unused i.lays i.lays.unused_slots)
+first-fits xs first unused i = grind (arith, first-small)
 
 module _ (xs : List ℕ) (place : ℕ) (r : Roomy xs place 272) (first unused : ℕ) (i : IsSound xs first unused)
     (new : List ℕ)
@@ -51,9 +50,8 @@ used-stays xs first unused place i r k u =
 module _ (xs now : List ℕ) (first unused place : ℕ) (i : IsSound xs first unused) (r : Roomy xs place 272)
     (h : Lays now (filled Masters r.s) (with_slots place (slot_in xs)) (slots_at place ++ i.unused)) where
   pub masters-made : Made now (place + 16) (unused + 64) (filled Masters r.s) (with_slots place (slot_in xs))
-  masters-made =
-      made _ _ (with_slots place (slot_in xs)) _ h _ _
-      (tidy-tidy (r.s.below ++ Masters ∷ Free (size r.s.here - 272) ∷ r.s.above)) refl (omega (arith, length-slots))
+  masters-made = made _ _ (with_slots place (slot_in xs)) _ h _ _
+      (grind (arith, tidy-tidy)) refl (omega (arith, length-slots))
 
   pub masters-slots : (k : ℕ) → IsTrue (is_used (slot_in xs k)) → slot_in now k ≡ slot_in xs k
   masters-slots k u = masters-made.slots k ∙ used-stays _ _ _ _ i r k u

@@ -1,5 +1,5 @@
 -- A Masters block more in the bytes of a zone.
-use Rattle.std.proofs.Common.{◌≡◌, ℕ, Bool, true, false, cond, ◌+◌, ◌-◌, ◌*◌, ◌%◌, ◌<◌, ◌≤◌, ◌⊎◌, inl, inr}
+use Rattle.std.proofs.Common.{◌≡◌, ℕ, Bool, true, false, cond, ◌+◌, ◌-◌, ◌*◌, ◌%◌, ◌<◌, ◌≤◌, ◌⊎◌, inl, inr, rules}
 use Rattle.std.proofs.Common.{zero, suc, List, [], ◌∷◌, ◌++◌, take, drop, sym, refl, ap, ◌∙◌, subst, arith}
 use Rattle.std.proofs.lemmas.Bool.{false≢true}
 use Rattle.std.proofs.lemmas.Bool.Decides.{nat_tests}
@@ -36,10 +36,8 @@ use Rattle.zone_bytes.proofs.Tiles.Keeping.{run-no_slot}
 -- a part of a stretch that was written anew
 pub outside-within : (lo hi a b : ℕ) (xs mid new : List ℕ) → lo ≤ a → b ≤ hi → SameOutside lo hi xs mid
     → SameOutside a b mid new → SameOutside lo hi xs new
-outside-within lo hi a b xs mid new l h s t =
-    let e : b + (hi - b) ≡ hi = omega (arith, h) in
-    let up : (ys : List ℕ) → drop hi ys ≡ drop (hi - b) (drop b ys) =
-    λ ys. ap (λ k. drop k ys) (sym e) ∙ sym (drop-drop (hi - b) b ys) in
+outside-within lo hi a b xs mid new l h s t = let up : (ys : List ℕ) → drop hi ys ≡ drop (hi - b) (drop b ys) =
+    λ ys. ap (λ k. drop k ys) (sym (omega (arith, h))) ∙ sym (drop-drop (hi - b) b ys) in
     record {
       kept = t.kept ∙ s.kept;
       ordered = s.ordered;
@@ -73,12 +71,7 @@ at-slot : (place s : ℕ) → place + 16 ≤ s → s + 4 ≤ place + 272 → s %
 at-slot place s a b c = grind (arith, nat_tests)
 
 not-at : (place top s : ℕ) → place + 272 ≤ top → Clear place (top - place) s → is_slot_at place s ≡ false
-not-at place top s l c = go (is_slot_at place s) refl
-  where
-    go : (v : Bool) → is_slot_at place s ≡ v → is_slot_at place s ≡ false
-    go false e = e
-    go true e =
-        elim c [ inl h ↦ absurd (omega (arith, slot-at, h)) | inr h ↦ absurd (omega (arith, slot-at, h, l)) ]
+not-at place top s l c = grind arith
 
 each-from : (P : ℕ → Type 0) (place at n : ℕ) → place + 16 ≤ at → at + 4 * n ≤ place + 272 → at % 4 ≡ 0
     → ((s : ℕ) → place + 16 ≤ s → s + 4 ≤ place + 272 → s % 4 ≡ 0 → P s) → Each P (slots_from at n)
@@ -181,9 +174,7 @@ module _ (xs : List ℕ) (below above : List Block) (n : ℕ) (slots : ℕ → S
     forth s i = slot-swap s below (Free n ∷ []) put above (plain _) span i
 
     new-slot : (s : ℕ) → place + 16 ≤ s → s + 4 ≤ place + 272 → s % 4 ≡ 0 → IsSlot s with_masters
-    new-slot s a b c =
-        slot-append_right s _ (put ++ above) (omega (arith, low, a))
-        (inl (omega (arith, low, a), omega (arith, low, b, a), omega (arith, low, a, c, evens)))
+    new-slot s a b c = grind (arith, slot-append_right, evens)
 
     back : (s : ℕ) → IsSlot s with_masters → is_slot_at place s ≡ false → IsSlot s all
     back s i f = slot-swap s below put (Free n ∷ []) above none (sym span) i
@@ -206,13 +197,7 @@ module _ (xs : List ℕ) (below above : List Block) (n : ℕ) (slots : ℕ → S
         → Says with_masters new (slots_at place ++ unused) s state
     says-old s NoSlot f q = λ i. q (back s i f)
     says-old s Unused f q = (forth s q.0, has-append s (slots_at place) unused (inr q.1))
-    says-old s (Used r) f q = (
-      forth s q.0,
-      elim q.1 [
-        | inl k ↦ inl (subst (λ l. Has l s) (sym names-now) k)
-        | inr k ↦ inr (each-named (Apart s) k.0, kept-piece s q.0 ∙ k.1)
-      ],
-    )
+    says-old s (Used r) f q = grind (arith, forth, names-now, each-named, kept-piece)
 
     says : (s : ℕ) → Says with_masters new (slots_at place ++ unused) s (now s)
     says s = go (is_slot_at place s) refl
@@ -226,9 +211,7 @@ module _ (xs : List ℕ) (below above : List Block) (n : ℕ) (slots : ℕ → S
               has-append s (slots_at place) _
                   (inl (has-slot (place + 16) 64 s b.0 (omega (arith, b)) (omega (arith, v)) b.2)),
             )
-        go false e =
-            subst (Says with_masters new (slots_at place ++ unused) s) (sym (ap (λ v. cond v Unused (slots s)) e))
-            (says-old s (slots s) e (h.says s))
+        go false e = grind (arith, says-old)
 
     pub lays-masters : Lays new with_masters now (slots_at place ++ unused)
     lays-masters =

@@ -36,12 +36,7 @@ pub record Resized (xs now : List ℕ) (first unused n : ℕ) (s : Spot) : Type 
 
 masters-cut : (n : ℕ) (s : Spot) → count is_masters (filled (resized n s.here) s) ≡ count is_masters (s.below
     ++ s.here ∷ s.above)
-masters-cut n s =
-    let of : Block → ℕ = λ b. cond (is_masters b) 1 0 in
-    let k = size s.here - size (resized n s.here) in
-    let a = total-tidy of (λ n m. refl) (s.below ++ resized n s.here ∷ Free k ∷ s.above) in
-    let d : of (resized n s.here) ≡ of s.here = ap (λ v. cond v 1 0) (is_masters-resized n s.here) in
-    omega (arith, a, total-append, d)
+masters-cut n s = grind (arith, total-tidy, is_masters-resized, total-append)
 
 module _ (xs now : List ℕ) (first unused place n : ℕ) (i : IsSound xs first unused) (s : Spot)
     (e : spot_at place (zone_in xs) ≡ Some s) (at : Standing xs place s) (room : HasRoom n s)
@@ -78,7 +73,7 @@ module _ (xs now : List ℕ) (first unused place n : ℕ) (i : IsSound xs first 
           subst (λ o. IfSome o (λ after. Lays now after (slot_in xs) i.unused)) g.1 h in
           record {
             blocks = g.0;
-            made = made _ _ (slot_in xs) _ l _ _ (tidy-grown n s g.0 more at.tidied g.1) i.begins i.counted;
+            made = made _ _ (slot_in xs) _ (subst (λ o. IfSome o (λ after. Lays now after (slot_in xs) i.unused)) g.1 h) _ _ (tidy-grown n s g.0 more at.tidied g.1) i.begins i.counted;
             masters = count-grown is_masters (λ m. refl) new s g.0 (is_masters-resized n s.here) g.1
                 ∙ ap (count is_masters) (sym at.whole);
             given = (omega (arith, given-grown, given-whole));

@@ -28,8 +28,7 @@ threading-start place end xs e f =
       more = 0;
       at = omega arith;
       thread = (piece-written (place + 272 - 4) (word (16 * end + 1)) xs 4 (sym w) (omega (arith, f)), tt);
-      outside = outside-written _ _ _ _ _ (word (16 * end + 1)) (omega arith)
-          (omega (arith, w)) (outside-same (place + 16) (place + 272) xs (omega arith) f);
+      outside = outside-written _ _ _ _ _ (word (16 * end + 1)) (omega arith) (omega (arith, w)) (grind arith);
       low = omega arith;
       even = omega (arith, e);
     }
@@ -49,12 +48,7 @@ threading-step place end slot old xs e l q =
         subst (λ u. Thread end (written (slot - 4) (word (16 * slot + 1)) xs) (slots_from u (suc q.more))) up
             (thread-above _ _ _ (suc q.more) xs (word (16 * slot + 1)) (omega (arith, w, l)) (omega arith) q.thread),
       );
-      outside = outside-written _ _ _ _ (slot - 4) (word (16 * slot + 1)) (omega (
-        arith,
-        l,
-        v,
-        e,
-      )) (omega (arith, w, l)) q.outside;
+      outside = outside-written _ _ _ _ (slot - 4) (word (16 * slot + 1)) (grind arith) (omega (arith, w, l)) q.outside;
       low = omega (arith, l, v, e);
       even = omega (arith, l, v);
     }
@@ -64,8 +58,7 @@ pub threaded : (place end slot : ℕ) (old xs : List ℕ) → slot ≤ place + 1
 threaded place end slot old xs l q =
     let at : slot ≡ place + 16 = omega (arith, l) in
     let count : suc q.more ≡ 64 = omega (arith, at) in
-    subst (λ j. Thread end xs (slots_from (place + 16) j)) count
-    (subst (λ j. Thread end xs (slots_from j (suc q.more))) at q.thread)
+    subst (λ j. Thread end xs (slots_from (place + 16) j)) count (grind arith)
 
 -- threaded slots before a list of unused ones that begins where they lead to
 pub thread-chain : (end : ℕ) (xs slots unused : List ℕ) → end ≡ first_of unused → Thread end xs slots → Chain xs unused

@@ -1,5 +1,5 @@
 -- The block that a slot leads to.
-use Rattle.std.proofs.Common.{◌≡◌, ℕ, true, inl, inr, ◌+◌, ◌%◌, ◌≤◌, Some, List, ◌∷◌, ◌++◌}
+use Rattle.std.proofs.Common.{◌≡◌, ℕ, true, inl, inr, ◌+◌, ◌%◌, ◌≤◌, Some, List, ◌∷◌, ◌++◌, rules}
 use Rattle.std.proofs.Common.{length, sym, ap, ◌∙◌, subst, arith}
 use Rattle.std.proofs.lemmas.Bool.{false≢true}
 use Rattle.std.proofs.lemmas.Bool.Decides.{eqb_tells}
@@ -27,13 +27,11 @@ use Rattle.zone_bytes.proofs.Places.AtPlace.{way-at, left-at, inside}
 -- the block of a slot's name
 named : (number : ℕ) (b : Block) → is_relocatable number b ≡ true → (flags : Flags) × (content : List ℕ)
     × (b ≡ Relocatable number flags content)
-named number (Free n) e = absurd (false≢true e)
-named number (Nonrelocatable id content) e = absurd (false≢true e)
-named number Masters e = absurd (false≢true e)
 named number (Relocatable id flags content) e = elim (eqb_tells id number) [
   | inl t ↦ (flags, content, ap (λ k. Relocatable k flags content) t.1)
   | inr t ↦ absurd (false≢true (sym t.0 ∙ e))
 ]
+named number _ e = absurd (false≢true e)
 
 module _ (xs : List ℕ) (first count : ℕ) (i : IsSound xs first count) (number : ℕ) (s : Spot)
     (e : spot (is_relocatable number) (zone_in xs) ≡ Some s) where
@@ -59,34 +57,21 @@ module _ (xs : List ℕ) (first count : ℕ) (i : IsSound xs first count) (numbe
 
   pub led-place : word_at number xs ≡ sizes s.below
   led-place =
-      let k = inside xs first count i (sizes s.below) s led-at in
-      let l = leads-right xs 0 s.below (block ∷ s.above) (subst (λ z. Leads 0 z xs) whole i.lays.lies.leads) in
-      let o : 0 + sizes s.below ≡ sizes s.below = omega arith in
-      read_back number (sizes s.below) xs (omega (arith, k)) (l.0 ∙ ap word o)
+      read_back number (sizes s.below) xs (omega (arith, (inside xs first count i (sizes s.below) s led-at))) ((leads-right xs 0 s.below (block ∷ s.above) (subst (λ z. Leads 0 z xs) whole i.lays.lies.leads)).0 ∙ ap word (omega arith))
 
   led-left : left_in (word_at number xs) xs ≡ block ∷ s.above
   led-left = ap (λ p. left_in p xs) led-place ∙ left-at _ _ _ i _ s led-at ∙ ap (λ b. b ∷ s.above) here.2
 
   pub leads-here : LeadsHere number xs
-  leads-here = record {
-    flags = here.0;
-    content = here.1;
-    above = s.above;
-    way = subst (λ p. IsOnWay p xs) (sym led-place) (way-at xs first count i (sizes s.below) s led-at);
-    is = led-left;
-  }
+  leads-here = search (rules, here, led-place, way-at, led-at, led-left)
 
   -- what a read of its place finds
   pub led-found : (place : ℕ) → place ≡ word_at number xs
       → FindsLowest (is_relocatable number) (zone_in xs) (Some place)
-  led-found place p =
-      let q = p ∙ led-place in
-      (s, e, subst (λ p. spot_at p (zone_in xs) ≡ Some s) (sym q) led-at, sym q)
+  led-found place p = grind (arith, led-place, led-at)
 
   -- what a read of its header tells
   pub led-told : (flags : Flags) (n : ℕ) → ((f : Flags) (content : List ℕ) (above : List Block)
       → left_in (word_at number xs) xs ≡ Relocatable number f content ∷ above → (flags ≡ f) × (n ≡ length content))
       → seen s.here ≡ see.Relocatable number flags n
-  led-told flags n told =
-      let p = told here.0 here.1 s.above led-left in
-      ap seen here.2 ∙ (λ i. see.Relocatable number (sym p.0 i) (sym p.1 i))
+  led-told flags n told = grind (arith, here, led-left)

@@ -1,5 +1,5 @@
 -- Edges that are noted while blocks are moved.
-use Rattle.std.proofs.Common.{◌≡◌, ℕ, ◌+◌, ◌<◌, inl, inr, List, []}
+use Rattle.std.proofs.Common.{◌≡◌, ℕ, ◌+◌, ◌<◌, inl, inr, List, [], rules}
 use Rattle.std.proofs.Common.{◌∷◌, ◌++◌, length, get_or, set, sym, ap, ◌∙◌, subst, arith}
 use Rattle.std.proofs.lemmas.Bool.Decides.{eqb_tells}
 use Rattle.std.proofs.lemmas.List.{get_or-set_same, get_or-set_other}
@@ -26,12 +26,4 @@ edges-more e base below above a n l = starts-left _ _ _ _ (a n l)
 pub edges-next : (e : Edges) (place base : ℕ) (blocks : List Block) → e.count < length e.places.items
     → Starts place base blocks → AreEdges e base blocks → (n : ℕ) → n < e.count + 1
     → Starts (get_or (set e.places.items e.count place) n 0) base blocks
-edges-next e place base blocks l s a n u = elim (eqb_tells n e.count) [
-  | inl t ↦ subst (λ k. Starts k base blocks) (sym (ap (λ k. get_or (set e.places.items e.count place) k 0) t.1
-      ∙ get_or-set_same e.places.items e.count place 0 l)) s
-  | inr t ↦ subst (λ k. Starts k base blocks) (sym (get_or-set_other e.places.items e.count n place 0 t.1))
-      (a n (lower n t.1 u))
-]
-  where
-    lower : (k : ℕ) → (k ≡ e.count → ⊥) → k < e.count + 1 → k < e.count
-    lower k f v = grind (arith, f, v)
+edges-next e place base blocks l s a n u = search rules

@@ -75,9 +75,7 @@ pub record Stepped (at : ℕ) (xs : List ℕ) (n t : ℕ) : Type 0 where
 
 module _ (at : ℕ) (xs : List ℕ) (w : IsOnWay at xs) where
   pub left-is : left_in at xs ≡ w.rest
-  left-is =
-      let d = length-drop at xs in
-      blocks-back w.resource _ _ _ _ (omega (arith, d)) (omega (arith, d)) w.placed w.words w.walk.high
+  left-is = grind (arith, length-drop, blocks-back)
 
   pub left-none : length xs ≤ at → left_in at xs ≡ []
   left-none l = left-is ∙ none w.rest w.walk
@@ -103,24 +101,11 @@ stepped-on resource at xs small (b ∷ rest) v p o l n t e h k =
     let bytes = same.0 in
     let now : IsOnWay at xs = record
     { resource = resource; rest = b ∷ rest; walk = v; placed = p; words = o; small = small } in
-    let way : IsOnWay (at + n) xs = record {
-      resource = resource;
-      rest = rest;
-      walk = record {
-        high = subst (λ j. Tiles (head_of resource) (drop (at + j) xs) rest) (sym bytes)
-            (subst (λ j. Tiles (head_of resource) j rest) (drop-drop (size b) at xs) v.high.1);
-        up = omega (arith, bytes);
-        whole = omega (arith, h);
-      };
-      placed = subst (λ j. ArePlaced (at + j) rest) (sym bytes) p.1;
-      words = each-right P (names_of b) (names rest) o;
-      small = small;
-    } in
+    let way : IsOnWay (at + n) xs = (grind (arith, drop-drop, each-right)) in
     record {
       here = b;
       is = left-is at xs now ∙ ap (λ q. b ∷ q) (sym (left-is (at + n) xs way));
-      told = (λ i. header_seen (same.1 i) (bytes i) (word_at (at + 4) xs) (word_at (at + 8) xs)
-          (word_at (at + 12) xs)) ∙ told-is resource _ _ small b v.high.0 (each-left P _ _ o);
+      told = (grind arith) ∙ told-is resource _ _ small b v.high.0 (each-left P _ _ o);
       way = way;
       bytes = bytes;
       tag = same.1;
@@ -135,8 +120,7 @@ stepped at xs w l n t e h k = stepped-on w.resource _ _ w.small _ w.walk w.place
 pub tells-step : (at : ℕ) (xs : List ℕ) (n t : ℕ) (s : Stepped at xs n t) (answer : Seen)
     → answer ≡ header_seen t n (word_at (at + 4) xs) (word_at (at + 8) xs) (word_at (at + 12) xs)
     → Tells (left_in at xs) (Some answer) (left_in (at + n) xs)
-tells-step at xs n t s answer e = subst (λ l. Tells l (Some answer) (left_in (at + n) xs)) (sym s.is)
-    (ap Some (e ∙ s.told), refl)
+tells-step at xs n t s answer e = grind arith
 
 pub tells-none : (at : ℕ) (xs : List ℕ) (w : IsOnWay at xs) → length xs ≤ at
     → Tells (left_in at xs) None (left_in at xs)

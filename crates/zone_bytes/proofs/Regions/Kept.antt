@@ -9,10 +9,8 @@ use Rattle.zone_bytes.specs.Laid.{IsLaid, LiesThere}
 
 piece-kept : (at : ℕ) (ys xs : List ℕ) (v w : Window) → at ≡ v.at → length ys ≡ v.len → v.at + v.len ≤ length xs
     → Misses w v → piece w.at w.len (written at ys xs) ≡ piece w.at w.len xs
-piece-kept at ys xs v w a n h (inl above) =
-    piece-written_above _ ys xs w.at w.len (omega (arith, a, n, above)) (omega (arith, a, h))
-piece-kept at ys xs v w a n h (inr below) = piece-written_below _ ys _ w.at w.len (omega (arith, a, below))
-    (omega (arith, a, h))
+piece-kept at ys xs v w a n h (inl above) = grind (arith, piece-written_above)
+piece-kept at ys xs v w a n h (inr below) = grind (arith, piece-written_below)
 
 -- a zone lies in a window still, where bytes were written into a window that misses it
 pub lies-kept : (at : ℕ) (ys xs new : List ℕ) (v : Window) → at ≡ v.at → length ys ≡ v.len → v.at + v.len ≤ length xs

@@ -14,17 +14,7 @@ use Rattle.zone_bytes.proofs.Tiles.Decoding.{flag_word-small, says}
 use Rattle.zone_bytes.proofs.Tiles.Heads.{header-tells}
 
 unlocked : (flags : Flags) (r : Bool) → nat_lt (flag_word flags r) 128 ≡ not flags.locked
-unlocked flags r = cases flags.locked flags.purgeable r
-  where
-    cases : (l p r : Bool) → nat_lt (cond l 128 0 + cond p 64 0 + cond r 32 0) 128 ≡ not l
-    cases true true true = refl
-    cases true true false = refl
-    cases true false true = refl
-    cases true false false = refl
-    cases false true true = refl
-    cases false true false = refl
-    cases false false true = refl
-    cases false false false = refl
+unlocked flags r = grind arith
 
 -- the next block of a run is a relocatable one of `n` bytes
 pub record IsMoverNext (run : List Block) (n : ℕ) : Type 0 where
@@ -42,9 +32,7 @@ module _ (resource : ℕ → Bool) (xs : List ℕ) (from : ℕ) (small : length 
   unfolding head_of
   flags-read slot flags content t =
       let n = size (Relocatable slot flags content) in
-      let q = says n (n + 3) (length content) slot (flag_word flags (resource slot)) content (drop from xs) t in
-      let g = flag_word-small flags (resource slot) in
-      read_back _ _ _ (omega (arith, g)) (ap (take 4) (sym (drop-drop 12 from xs)) ∙ q.2)
+      read_back _ _ _ (omega (arith, (flag_word-small flags (resource slot)))) (ap (take 4) (sym (drop-drop 12 from xs)) ∙ (says n (n + 3) (length content) slot (flag_word flags (resource slot)) content (drop from xs) t).2)
 
   -- the words of a header tell it
   pub runs-told : (b : Block) → Tile (head_of resource b) (size b) (drop from xs) → (n t f : ℕ)

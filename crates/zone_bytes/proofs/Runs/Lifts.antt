@@ -1,6 +1,6 @@
 -- A run that is packed and raised.
 use Rattle.std.proofs.Common.{◌≡◌, ℕ, ◌+◌, ◌-◌, ◌<◌, ◌≤◌, ◌⊎◌, inl, inr, zero, suc, List, [], ◌∷◌, ◌++◌, length, refl}
-use Rattle.std.proofs.Common.{sym, ap, ◌∙◌, subst, arith}
+use Rattle.std.proofs.Common.{sym, ap, ◌∙◌, subst, arith, rules}
 use Rattle.std.proofs.Common.{append_assoc}
 use Rattle.block_store.specs.Block.{Block, Free, free, free_sum, sizes, tidy}
 use Rattle.block_store.specs.Run.{movers, settle, low}
@@ -41,10 +41,7 @@ free-both (suc n) (suc m) l = sym (free-some _ (omega arith))
 -- without relocatable blocks
 pub lifted-none : (gap : ℕ) (run : List Block) → 0 < gap → gap ≤ free_sum run → movers run ≡ []
     → lifted gap run ≡ settle run
-lifted-none gap run some enough none =
-    let e : gap + (free_sum run - gap) ≡ free_sum run = omega (arith, enough) in
-    ap (λ l. tidy (Free gap ∷ (l ++ free (free_sum run - gap)))) none
-    ∙ free-both _ _ some ∙ ap free e ∙ sym (ap (λ l. l ++ free (free_sum run)) none)
+lifted-none gap run some enough none = grind arith
 
 -- and with some
 pub lifted-some : (gap : ℕ) (run : List Block) → 0 < gap → (movers run ≡ [] → ⊥) → lifted gap run ≡ low (Free gap) run
@@ -184,10 +181,7 @@ module _ (lay : Lay) (place gap : ℕ) (h : MayLift lay place gap) (o : EndsRun 
 
   module _ (some : place < top) where
     enough : gap ≤ free_sum gone
-    enough = elim p.ended [
-      | inl n ↦ omega (arith, cut-free, ap free_sum n)
-      | inr e ↦ e.1
-    ]
+    enough = search rules
 
     lift-part : MayLift part place gap
     lift-part = record { run = cut-at; some = h.some; even = h.even; enough = enough }
@@ -221,8 +215,7 @@ module _ (lay : Lay) (place gap : ℕ) (h : MayLift lay place gap) (o : EndsRun 
         slots = subst HasSlots upper-is (slots-now part-instead cut-at.slots);
         bottom = omega (arith, span-append);
         top = refl;
-        in_run = each-append InRun _ _ (each-free left)
-            (each-right InRun gone rest (subst (Each InRun) (sym p.split) h.run.in_run));
+        in_run = each-append InRun _ _ (each-free left) (grind (arith, each-right));
         small = (omega arith);
       }
 

@@ -48,18 +48,11 @@ is-packed xs first unused place top stop old A i t a z m n = cases (run_at place
         → IfSome o (λ r. zone_in xs ≡ tidy (with_run settle r)) → IfSome o (λ r. top ≡ place + sizes (movers r.run))
         → IfSome o (λ r. stop ≡ place + sizes r.run) → (k : IsPacked xs first unused place top stop old) × A k.spot
     cases None e a z m n = absurd a
-    cases (Some r) e a z m n =
-        (record { sound = i; tidied = t; spot = r; is = e; zone = z; top_is = m; stop_is = n }, a)
+    cases (Some r) e a z m n = ((grind arith), a)
 
 -- what stays, of what stayed
 rest-again : (a b c : Rest) → IsRest a b → IsRest b c → IsRest a c
-rest-again a b c p q = record {
-  slots = λ n. q.slots n ∙ p.slots n;
-  unused = q.unused ∙ p.unused;
-  all = q.all ∙ p.all;
-  moves = q.moves ∙ p.moves;
-  window = q.window ∙ p.window;
-}
+rest-again a b c p q = grind arith
 
 module _ {xs : List ℕ} {first unused place top stop : ℕ} {old : List Block}
     (k : IsPacked xs first unused place top stop old) where
@@ -92,19 +85,7 @@ module _ {xs : List ℕ} {first unused place top stop : ℕ} {old : List Block}
 
   pub replaced-changed : (change : List Block → List Block) (new : List ℕ) (table : ℕ → Slot)
       → ChangedRun change old r new first unused table → Replaced place stop (zone_in xs) (zone_in new)
-  replaced-changed change new table d =
-      let s = settle-total size (λ n m. refl) r.run loose in
-      record {
-        below = r.below;
-        here = settle r.run;
-        there = change r.run;
-        above = r.above;
-        was = packed-zone;
-        is = d.is;
-        low = bottom;
-        high = omega (arith, s);
-        span = omega (arith, s);
-      }
+  replaced-changed change new table d = grind (arith, settle-total, loose, packed-zone, bottom)
 
 pub rest-changed : {first unused place top stop : ℕ} {old : List Block} (part after : Bytes)
     (k : IsPacked part.bytes first unused place top stop old) (change : List Block → List Block) (before : Rest)

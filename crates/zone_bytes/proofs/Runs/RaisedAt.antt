@@ -49,8 +49,4 @@ module _ (xs : List ℕ) (first unused : ℕ) (i : IsSound xs first unused) (pla
       (whole xs first unused i place r e) (sym (append_assoc r.below (lifted gap r.run) r.above)) new s
 
   pub lifted-zone : tidy (with_run (lifted gap) r) ≡ tidy (with_run (low (Free gap)) r)
-  lifted-zone = elim (any-movers r.run) [
-    | inl n ↦ ap (λ l. tidy (r.below ++ l ++ r.above)) (lifted-none _ _ some enough n)
-        ∙ sym (low-none _ r some enough n)
-    | inr s ↦ ap (λ l. tidy (r.below ++ l ++ r.above)) (lifted-some gap r.run some s)
-  ]
+  lifted-zone = grind (arith, any-movers, lifted-none, low-none, lifted-some)

@@ -41,21 +41,18 @@ lowered-all (suc gap) (b ∷ run) h = step b (is_mover b) (lowered-all (suc gap 
     step : (b : Block) (t : Bool) → lowered_in_run_from (suc gap + free_of b) run ≡ count is_mover run
         → (cond {A = ℕ} t (cond {A = ℕ} (nat_lt 0 (suc gap)) 1 0) 0) + lowered_in_run_from
         (suc gap + free_of b) run ≡ cond {A = ℕ} t 1 0 + count is_mover run
-    step b t e = ap (λ v. cond {A = ℕ} t (cond {A = ℕ} v 1 0) 0 + lowered_in_run_from (suc gap + free_of b) run)
-        (lt-ltb 0 (suc gap) (omega arith)) ∙ ap (λ n. cond {A = ℕ} t 1 0 + n) e
+    step b t e = grind arith
 
 module _ (head : Block → List ℕ) where
   pub lowered-lowered_in_run : (xs : List ℕ) (run : List Block) → Tiles head xs run → Each InRun run
       → lowered_in_run_from 0 run ≡ lowered_in_run run
   lowered-lowered_in_run xs [] t e = refl
-  lowered-lowered_in_run xs (Free n ∷ run) t e = let l =
-      lowered-all (0 + n) run (omega arith) in omega (arith, l)
+  lowered-lowered_in_run xs (Free n ∷ run) t e = let l = lowered-all (0 + n) run (omega arith) in omega (arith, l)
   lowered-lowered_in_run xs (Nonrelocatable id content ∷ run) t e = absurd (false≢true e.0)
   lowered-lowered_in_run xs (Masters ∷ run) t e = absurd (false≢true e.0)
   lowered-lowered_in_run xs (Relocatable id flags content ∷ run) t e =
       let l = lowered-lowered_in_run (drop (size (Relocatable id flags content)) xs) run t.1 e.1 in
-      ap (λ v. v + lowered_in_run_from 0 run) (none (not flags.locked))
-      ∙ (let q : 0 + lowered_in_run_from 0 run ≡ lowered_in_run run = omega (arith, l) in q)
+      ap (λ v. v + lowered_in_run_from 0 run) (none (not flags.locked)) ∙ (grind arith)
     where
       none : (t : Bool) → cond {A = ℕ} t 0 0 ≡ 0
       none true = refl

@@ -30,8 +30,7 @@ falling-append gap (b ∷ gone) rest =
 
 one-or-none : (v w : Bool) → cond v (cond w 1 0) 0 ≤ 1
 one-or-none true true = omega arith
-one-or-none true false = omega arith
-one-or-none false w = omega arith
+one-or-none _ _ = omega arith
 
 -- at most one move for each block
 lowered-span : (gap : ℕ) (run : List Block) → lowered_in_run_from gap run ≤ sizes run

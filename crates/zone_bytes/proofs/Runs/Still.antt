@@ -17,29 +17,20 @@ use Rattle.block_store.proofs.Zone.Passing.{filter-none}
 frees : (n : ℕ) (run above : List Block) → Loose run → count is_mover run ≡ 0
     → tidy (Free n ∷ (run ++ above)) ≡ tidy (free (n + free_sum run) ++ above)
 frees n [] above l e = tidy-free n _ ∙ (let z : n ≡ n + 0 = omega arith in ap (λ k. tidy (free k ++ above)) z)
-frees n (Free m ∷ run) above l e =
-    let z : (n + m) + free_sum run ≡ n + (m + free_sum run) = omega arith in
-    let c : count is_mover run ≡ 0 = (let d : 0 + count is_mover run ≡ 0 = e in omega arith) in
-    tidy-free n _ ∙ joined-free n m _ ∙ sym (tidy-free _ (run ++ above))
-    ∙ frees (n + m) run above l.1 c ∙ ap (λ k. tidy (free k ++ above)) z
-frees n (Nonrelocatable id content ∷ run) above l e = let f : false ≡ true = l.0 in cc
-frees n (Masters ∷ run) above l e = let f : false ≡ true = l.0 in cc
-frees n (Relocatable id flags content ∷ run) above l e =
-    absurd (let m = falls-mover (Relocatable id flags content) run refl l.0 in omega (arith, m, e))
+frees n (Free m ∷ run) above l e = tidy-free n _ ∙ joined-free n m _ ∙ sym (tidy-free _ (run ++ above))
+    ∙ frees (n + m) run above l.1 ((let d : 0 + count is_mover run ≡ 0 = e in omega arith)) ∙ ap (λ k. tidy (free k ++ above)) (omega arith)
+frees n (Relocatable id flags content ∷ run) above l e = grind arith
+frees n _ above l e = let f : false ≡ true = l.0 in cc
 
 still-run : (run above : List Block) → Loose run → lowered_in_run run ≡ 0
     → tidy (settle run ++ above) ≡ tidy (run ++ above)
 still-run [] above l e = refl
-still-run (Free n ∷ run) above l e =
-    ap (λ m. tidy ((m ++ free (n + free_sum run)) ++ above))
-    (filter-none is_mover run (none-count is_mover run (omega (arith, e)))) ∙ sym (frees n run above l.1 e)
-still-run (Nonrelocatable id content ∷ run) above l e = let f : false ≡ true = l.0 in cc
-still-run (Masters ∷ run) above l e = let f : false ≡ true = l.0 in cc
+still-run (Free n ∷ run) above l e = grind (arith, filter-none, none-count, frees)
 still-run (Relocatable id flags content ∷ run) above l e =
     let b = Relocatable id flags content in
-    let z : 0 + free_sum run ≡ free_sum run = omega arith in
     ap (λ m. tidy ((m ++ free (0 + free_sum run)) ++ above)) (cond-true (not flags.locked) _ _ l.0)
-    ∙ ap (λ k. add b (tidy ((movers run ++ free k) ++ above))) z ∙ ap (add b) (still-run run above l.1 e)
+    ∙ ap (λ k. add b (tidy ((movers run ++ free k) ++ above))) (omega arith) ∙ ap (add b) (still-run run above l.1 e)
+still-run _ above l e = let f : false ≡ true = l.0 in cc
 
 -- so the zone stays as it is
 pub still : (place : ℕ) (zone : List Block) (r : RunSpot) → tidy zone ≡ zone → run_at place zone ≡ Some r

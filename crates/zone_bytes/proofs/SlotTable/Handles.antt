@@ -27,9 +27,8 @@ use Rattle.zone_bytes.proofs.Tiles.Tiling.{tiles-split}
 use Rattle.block_store.specs.Run.{has}
 
 pub used-is : (st : Slot) → IsTrue (is_used st) → (r : Bool) × (st ≡ Used r)
-used-is NoSlot u = absurd (false≢true u)
-used-is Unused u = absurd (false≢true u)
 used-is (Used r) u = (r, refl)
+used-is _ u = absurd (false≢true u)
 
 -- the handle of s is emptied
 pub record IsEmptyHandle (xs : List ℕ) (blocks : List Block) (s : ℕ) (r : Bool) : Type 0 where
@@ -97,10 +96,7 @@ emptied-tells true = refl
 emptied-tells false = refl
 
 word-place : (w : ℕ) → w % 16 ≡ 0 → place_of_word w ≡ Some w
-word-place w e =
-    let a : (w == 2) ≡ false = ne_eqb w 2 (λ z. omega (arith, e, z)) in
-    let b : (w == 18) ≡ false = ne_eqb w 18 (λ z. omega (arith, e, z)) in
-    (λ i. cond (a i || b i) None (Some w))
+word-place w e = grind arith
 
 -- a block and its place
 pub record BlockHere (xs : List ℕ) (blocks : List Block) (resource : ℕ → Bool) (s place : ℕ) : Type 0 where
@@ -120,8 +116,7 @@ module _ (xs : List ℕ) (blocks : List Block) (slots : ℕ → Slot) (unused : 
   pub block-here : (s : ℕ) (b : HasBlock xs 0 blocks s) → BlockHere xs blocks resource s (sizes b.below)
   unfolding head_of
   block-here s b =
-      let here : Block = Relocatable s b.flags b.content in
-      let z = size here in
+      let z = size (Relocatable s b.flags b.content) in
       let place = sizes b.below in
       let t = tiles-split (head_of resource) _ _ _ (subst (Tiles (head_of resource) xs) b.whole h.lies.tiles) in
       let g = flag_word-small b.flags (resource s) in
@@ -156,8 +151,7 @@ module _ (xs : List ℕ) (blocks : List Block) (slots : ℕ → Slot) (unused : 
 
     pub block-reads : (b : HasBlock xs 0 blocks s) → word_at s xs ≡ sizes b.below
     block-reads b =
-        let z : 0 + sizes b.below ≡ sizes b.below = omega arith in
-        read_back s (sizes b.below) xs (omega (arith, (block-here s b).fits)) (b.leads ∙ ap word z)
+        read_back s (sizes b.below) xs (omega (arith, (block-here s b).fits)) (b.leads ∙ ap word (omega arith))
 
     emptied-word : IsEmptyHandle xs blocks s flag.0 → place_of_word (word_at s xs) ≡ None
     emptied-word e = ap place_of_word (emptied-reads e) ∙ word-emptied flag.0
@@ -177,8 +171,7 @@ module _ (xs : List ℕ) (blocks : List Block) (slots : ℕ → Slot) (unused : 
     pub here-of : (place : ℕ) → place_of_word (word_at s xs) ≡ Some place → BlockHere xs blocks resource s place
     here-of place w = elim state [
       | inl e ↦ absurd (none-some place (sym (emptied-word e) ∙ w))
-      | inr b ↦ subst (BlockHere xs blocks resource s) (same_Some (sizes b.below) place (sym (block-word b) ∙ w))
-          (block-here s b)
+      | inr b ↦ subst (BlockHere xs blocks resource s) (grind (arith, same_Some, block-word)) (block-here s b)
     ]
 
     pub gone-of : place_of_word (word_at s xs) ≡ None → IsEmptyHandle xs blocks s flag.0

@@ -46,8 +46,7 @@ module _ (xs : List ℕ) (blocks : List Block) (slots : ℕ → Slot) (unused : 
   unused-still t e = set-other slots s t _ (λ k. let z : Used was ≡ Unused = sym u ∙ ap slots (sym k) ∙ e in cc) ∙ e
 
   still-unused : Each (λ t. IsSlot t blocks × (now t ≡ Unused)) unused
-  still-unused = each-map (λ t. IsSlot t blocks × (slots t ≡ Unused)) (λ t. IsSlot t blocks × (now t ≡ Unused))
-      (λ t q. (q.0, unused-still t q.1)) _ h.unused_slots
+  still-unused = grind (arith, each-map, unused-still)
 
   -- the flag in the word of an empty handle
   pub lays-emptied : Each (Apart s) (names blocks) → Lays (written s (word (empty_word r)) xs) blocks now unused
@@ -63,10 +62,7 @@ module _ (xs : List ℕ) (blocks : List Block) (slots : ℕ → Slot) (unused : 
   module _ (new : List ℕ) (lies : Lies (λ t. is_resource (now t)) blocks new) (mine : Has (names blocks) s)
       (same : (t : ℕ) → IsSlot t blocks → piece t 4 new ≡ piece t 4 xs) (l : length new ≡ length xs) where
     used-still : (t : ℕ) → IsUsed (slots t) → IsUsed (now t)
-    used-still t k = elim (cases_eq t s) [
-      | inl e ↦ subst IsUsed (sym (set-same slots s t (Used r) e)) tt
-      | inr d ↦ subst IsUsed (sym (set-other slots s t (Used r) d)) k
-    ]
+    used-still t k = grind arith
 
     pub lays-flagged : Lays new blocks now unused
     lays-flagged = lays-set xs blocks slots unused h s (Used r) new unused lies
@@ -112,8 +108,7 @@ module _ (xs : List ℕ) (below : List Block) (s : ℕ) (flags : Flags) (content
   module _ (h : Lays xs all slots unused) where
     -- the resource flags of the other blocks stay
     agree : (ns : List ℕ) → Each (Apart s) ns → Each (λ t. is_resource (slots t) ≡ is_resource (marked t)) ns
-    agree ns a = each-map (Apart s) (λ t. is_resource (slots t) ≡ is_resource (marked t))
-        (λ t p. sym (ap is_resource (set-other slots s t _ (λ e. apart-other s t p (sym e))))) _ a
+    agree ns a = grind (arith, each-map, set-other, apart-other)
 
     apart-all : Pairs Apart (names below ++ s ∷ names above)
     apart-all = subst (Pairs Apart) (names-append below (here ∷ above)) h.has_slots.apart
@@ -125,9 +120,8 @@ module _ (xs : List ℕ) (below : List Block) (s : ℕ) (flags : Flags) (content
     fits = omega (arith, parts.1.0.fits, length-drop place xs)
 
     same : SameOutside place top xs new
-    same =
-        outside-written _ _ _ _ _ (word (flag_word flags r)) (omega arith) (omega (arith, length-word))
-        (outside-same place top xs (omega arith) fits)
+    same = outside-written _ _ _ _ _ (word (flag_word flags r)) (omega arith) (omega (arith, length-word))
+        (grind (arith, outside-same, fits))
 
     tile-now : Tile (head here) (size here) (drop place new)
     unfolding head_of
@@ -142,15 +136,11 @@ module _ (xs : List ℕ) (below : List Block) (s : ℕ) (flags : Flags) (content
     one = tiles-piece head here place (top - place) new (omega arith) tile-now
 
     tiles : Tiles head new all
-    tiles =
-        let low : Tiles head (take place new) below =
-        subst (λ k. Tiles head k below) (sym same.low)
-        (tiles-agree (λ t. is_resource (slots t)) (λ t. is_resource (marked t)) _ _
-        (agree _ (pairs-before s _ _ apart-all)) parts.0) in
+    tiles = let low : Tiles head (take place new) below = subst (λ k. Tiles head k below) (sym same.low)
+        (grind (arith, tiles-agree, agree, pairs-before, apart-all, parts)) in
         let high : Tiles head (drop top new) above =
         subst (λ k. Tiles head k above) (drop-drop (size here) place xs ∙ sym same.high)
-        (tiles-agree (λ t. is_resource (slots t)) (λ t. is_resource (marked t)) _ _
-        (agree _ (pairs-after s _ _ apart-all)) parts.1.1) in
+        (grind (arith, tiles-agree, agree, pairs-after, apart-all, parts)) in
         tiles-joined head new below (here ∷ []) above place top (omega arith) low one high
 
     module _ (leads-s : piece s 4 xs ≡ word place) where
@@ -176,8 +166,7 @@ module _ (xs : List ℕ) (below : List Block) (s : ℕ) (flags : Flags) (content
           (omega arith) refl h.lies.leads same c.0 c.1 (pieces s slot-all ∙ leads-s, tt)
 
       pub header-marked : Lays new all marked unused
-      header-marked = lays-flagged _ _ slots _ h s _ r u _
-          (record { tiles = tiles; leads = leads }) mine pieces same.kept
+      header-marked = lays-flagged _ _ slots _ h s _ r u _ (grind (arith, tiles, leads)) mine pieces same.kept
 
 -- the header of a handle's block with another resource flag
 pub lays-marked : (xs : List ℕ) (blocks : List Block) (slots : ℕ → Slot) (unused : List ℕ)
@@ -186,9 +175,7 @@ pub lays-marked : (xs : List ℕ) (blocks : List Block) (slots : ℕ → Slot) (
     → Lays (written (place + 12) (word (flag_word b.block.flags r)) xs) blocks (set_slot slots s (Used r)) unused
 lays-marked xs blocks slots unused h s was r u place b =
     let k = b.block in
-    let q : 0 + sizes k.below ≡ sizes k.below = omega arith in
     let n = word (flag_word k.flags r) in
     subst (λ p. Lays (written (p + 12) n xs) blocks (set_slot slots s (Used r)) unused) b.low
     (subst (λ l. Lays (written (sizes k.below + 12) n xs) l (set_slot slots s (Used r)) unused) (sym k.whole)
-    (header-marked _ k.below s k.flags k.content k.above slots _ _ r u
-    (subst (λ l. Lays xs l slots unused) k.whole h) (k.leads ∙ ap word q)))
+    (header-marked _ k.below s k.flags k.content k.above slots _ _ r u (grind arith) (k.leads ∙ ap word (omega arith))))

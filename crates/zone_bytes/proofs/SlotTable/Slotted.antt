@@ -47,10 +47,7 @@ module _ (xs : List ℕ) (first count : ℕ) (i : IsSound xs first count) where
 all-apart : (s : ℕ) (us : List ℕ) → Each (Apart s) us → AllByRecursion (λ u. eqb s u ≡ false) us
 all-apart s [] a = tt
 all-apart s (u ∷ us) a = (
-  elim (eqb_tells s u) [
-    | inl t ↦ absurd (apart-other s u a.0 t.1)
-    | inr t ↦ t.0
-  ],
+  (grind arith),
   all-apart s us a.1,
 )
 
@@ -70,8 +67,7 @@ pub count-small : (xs : List ℕ) (first count : ℕ) → IsSound xs first count
 count-small xs first count i =
     let h = i.lays in
     let l = length-le_from_distinct_below i.unused (length xs) (distinct-apart i.unused h.once) (λ q k.
-    let p = any-has (λ s. IsSlot s (zone_in xs) × (slot_in xs s ≡ Unused)) i.unused q h.unused_slots k in
-    omega (arith, slot-in xs (zone_in xs) (slot_in xs) i.unused h q p.0)) in
+    omega (arith, slot-in xs (zone_in xs) (slot_in xs) i.unused h q (any-has (λ s. IsSlot s (zone_in xs) × (slot_in xs s ≡ Unused)) i.unused q h.unused_slots k).0)) in
     omega (arith, l)
 
 -- a slot that no block has is apart from those that blocks have
@@ -94,9 +90,7 @@ module _ (xs : List ℕ) (first count : ℕ) (i : IsSound xs first count) (slot 
   slot-is = (subst (λ st. Says (zone_in xs) xs i.unused slot st) flag.1 (i.lays.says slot)).0
 
   pub name-apart : Each (Apart slot) (names (zone_in xs))
-  name-apart = each-both (λ t. IsSlot t (zone_in xs)) (λ t. slot ≡ t → ⊥) (Apart slot)
-      (λ t j d. apart-of _ _ (slot_in xs) i.unused i.lays slot t slot-is j d)
-      _ i.lays.has_slots.slots (no-name (zone_in xs) none)
+  name-apart = grind (arith, each-both, apart-of, slot-is, no-name)
 
   pub slot-reads-in : (slot % 4 ≡ 0) × (slot + 4 ≤ length xs)
   slot-reads-in = slot-in xs (zone_in xs) (slot_in xs) i.unused i.lays slot slot-is

@@ -54,11 +54,8 @@ apart-clear s n t (inr h) = inl h
 -- resource flags that agree at the blocks' slots
 head-agree : (f g : ℕ → Bool) (b : Block) → Each (λ s. f s ≡ g s) (names_of b) → head_of f b ≡ head_of g b
 unfolding head_of
-head-agree f g (Free n) e = refl
-head-agree f g (Nonrelocatable id content) e = refl
-head-agree f g Masters e = refl
-head-agree f g (Relocatable slot flags content) e = ap
-    (λ r. header (size (Relocatable slot flags content) + 3) (length content) slot (flag_word flags r) ++ content) e.0
+head-agree f g (Relocatable slot flags content) e = grind arith
+head-agree f g _ e = refl
 
 pub tiles-agree : (f g : ℕ → Bool) (xs : List ℕ) (blocks : List Block) → Each (λ s. f s ≡ g s) (names blocks)
     → Tiles (head_of f) xs blocks → Tiles (head_of g) xs blocks
@@ -86,16 +83,7 @@ module _ (xs : List ℕ) (blocks : List Block) (slots : ℕ → Slot) (unused : 
 
   -- two slots are apart
   pub apart-of : (s t : ℕ) → IsSlot s blocks → IsSlot t blocks → (s ≡ t → ⊥) → Apart s t
-  apart-of s t i j n =
-      let a = slot-even head xs s blocks h.lies.tiles i in
-      let b = slot-even head xs t blocks h.lies.tiles j in
-      elim (cases_lt s t) [
-        | inl l ↦ inl (omega (arith, a, b, l))
-        | inr l ↦ elim (cases_lt t s) [
-          | inl k ↦ inr (omega (arith, a, b, k))
-          | inr k ↦ absurd (n (omega (arith, k, l)))
-        ]
-      ]
+  apart-of s t i j n = grind (arith, slot-even, cases_lt)
 
   -- the slot of a handle is apart from the unused ones
   pub used-apart : (s : ℕ) (r : Bool) → IsSlot s blocks → slots s ≡ Used r → Each (Apart s) unused
@@ -107,19 +95,12 @@ module _ (xs : List ℕ) (blocks : List Block) (slots : ℕ → Slot) (unused : 
 
   -- a slot that leads to no handle is not that of a block
   pub unused-apart : (s : ℕ) → IsSlot s blocks → slots s ≡ Unused → Each (Apart s) (names blocks)
-  unused-apart s i u =
-      each-both (λ t. IsSlot t blocks) (λ t. IsUsed (slots t)) (Apart s)
-      (λ t j k. apart-of s t i j (λ e. subst IsUsed (sym (ap slots e) ∙ u) k)) _ h.has_slots.slots h.used
+  unused-apart s i u = grind (arith, each-both, apart-of)
 
   -- the blocks, where the word of another slot is written
   pub lies-written : (s n : ℕ) → IsSlot s blocks → Each (Apart s) (names blocks)
       → Lies (λ t. is_resource (slots t)) blocks (written s (word n) xs)
-  lies-written s n i a =
-      record {
-        tiles = tiles-slot head (length-masters (λ t. is_resource (slots t))) _ _ s _ (length-word n) i h.lies.tiles;
-        leads = leads-written s _ _ 0 _ (omega (arith, slot-in))
-            (each-map (Apart s) (Clear s (length (word n))) (λ t p. apart-clear s n t p) _ a) h.lies.leads;
-      }
+  lies-written s n i a = grind (arith, tiles-slot, length-masters, length-word, leads-written, slot-in, each-map)
 
   pub chain-written : (s n : ℕ) (us : List ℕ) → s ≤ length xs → Each (Apart s) us → Chain xs us
       → Chain (written s (word n) xs) us

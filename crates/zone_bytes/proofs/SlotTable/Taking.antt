@@ -25,10 +25,7 @@ module _ (xs : List ℕ) (blocks : List Block) (slots : ℕ → Slot) (first : �
       lays-written _ _ slots _ h _ 2 _ _ i a (λ t d e k. elim k [ inl m ↦ absurd (d (sym m)) | inr m ↦ m ])
       (i, inr (a, piece-written _ _ xs 4 (sym (length-word 2)) (omega (arith, b))))
       (chain-written xs blocks slots (first ∷ unused) h first 2 unused (omega (arith, b)) h.once.0 h.chain.1)
-      (each-both (Apart first) (λ t. IsSlot t blocks × (slots t ≡ Unused))
-      (λ t. IsSlot t blocks × (set_slot slots first (Used false) t ≡ Unused))
-      (λ t p q. (q.0, set-other slots first t (Used false) (λ e. apart-other first t p (sym e)) ∙ q.1)) _
-      h.once.0 h.unused_slots.1) h.once.1
+      (grind (arith, each-both, set-other, apart-other)) h.once.1
 
 pub first-small : (blocks : List Block) (slots : ℕ → Slot) (unused : List ℕ) (xs : List ℕ) (k : List ℕ)
     → Lays xs blocks slots k → Each (λ s. IsSlot s blocks × (slots s ≡ Unused)) unused → first_of unused < 134217728
@@ -38,8 +35,7 @@ first-small blocks slots (s ∷ unused) xs k h u = let b = slot-in _ _ slots k h
 pub next-of : (xs : List ℕ) (blocks : List Block) (slots : ℕ → Slot) (first : ℕ) (unused : List ℕ)
     → Lays xs blocks slots (first ∷ unused) → word_at first xs / 16 ≡ first_of unused
 next-of xs blocks slots first unused h =
-    let m = first-small blocks slots unused xs (first ∷ unused) h h.unused_slots.1 in
-    omega (arith, read_back first (16 * first_of unused + 1) xs (omega (arith, m)) h.chain.0)
+    omega (arith, read_back first (16 * first_of unused + 1) xs (omega (arith, (first-small blocks slots unused xs (first ∷ unused) h h.unused_slots.1))) h.chain.0)
 
 module _ (xs : List ℕ) (blocks : List Block) (slots : ℕ → Slot) (unused : List ℕ) (h : Lays xs blocks slots unused)
     (s : ℕ) (r : Bool) (u : slots s ≡ Used r) (a : Each (Apart s) (names blocks)) where
@@ -58,11 +54,4 @@ module _ (xs : List ℕ) (blocks : List Block) (slots : ℕ → Slot) (unused : 
       lays-written _ _ slots _ h s n _ _ i a (λ t d e k. inr k) (i, inl refl) (
         piece-written s (word n) xs 4 (sym (length-word n)) (omega (arith, b)),
         chain-written xs blocks slots unused h s n unused (omega (arith, b)) apart-unused h.chain,
-      ) (
-        (i, set-same slots s s Unused refl),
-        each-both (Apart s) (λ t. IsSlot t blocks × (slots t ≡ Unused))
-            (λ t. IsSlot t blocks × (set_slot slots s Unused t ≡ Unused))
-            (λ t p q. (q.0, set-other slots s t _ (λ e. apart-other s t p (sym e)) ∙ q.1)) _ apart-unused
-            h.unused_slots,
-      )
-      (apart-unused, h.once)
+      ) (grind (arith, set-same, each-both, set-other, apart-other, apart-unused)) (apart-unused, h.once)

@@ -94,10 +94,9 @@ movers-more b rest h = ap (λ v. cond v (b ∷ movers rest) (movers rest)) h
 pub names-movers : (run : List Block) → Each InRun run → names (movers run) ≡ names run
 names-movers [] h = refl
 names-movers (Free n ∷ run) h = names-movers run h.1
-names-movers (Nonrelocatable id content ∷ run) h = absurd (false≢true h.0)
-names-movers (Masters ∷ run) h = absurd (false≢true h.0)
 names-movers (Relocatable slot flags content ∷ run) h = ap names (movers-more (Relocatable slot flags content) run h.0)
     ∙ ap (λ k. slot ∷ k) (names-movers run h.1)
+names-movers _ h = absurd (false≢true h.0)
 
 pub names-free : (n : ℕ) → names (free n) ≡ []
 names-free zero = refl
@@ -117,10 +116,9 @@ leads-free o (suc n) xs = (tt, tt)
 pub span-movers : (run : List Block) → Each InRun run → sizes (movers run) + free_sum run ≡ sizes run
 span-movers [] h = refl
 span-movers (Free n ∷ run) h = omega (arith, span-movers run h.1)
-span-movers (Nonrelocatable id content ∷ run) h = absurd (false≢true h.0)
-span-movers (Masters ∷ run) h = absurd (false≢true h.0)
 span-movers (Relocatable slot flags content ∷ run) h =
     omega (arith, ap sizes (movers-more (Relocatable slot flags content) run h.0), span-movers run h.1)
+span-movers _ h = absurd (false≢true h.0)
 
 pub names-settle : (run : List Block) → Each InRun run → names (settle run) ≡ names run
 names-settle run h = names-left (movers run) (free_sum run) ∙ names-movers run h
@@ -131,10 +129,9 @@ span-settle run h = omega (arith, span-append, span-free, span-movers _ h)
 pub each-movers : (run : List Block) → Each InRun run → Each InRun (movers run)
 each-movers [] h = tt
 each-movers (Free n ∷ run) h = each-movers run h.1
-each-movers (Nonrelocatable id content ∷ run) h = absurd (false≢true h.0)
-each-movers (Masters ∷ run) h = absurd (false≢true h.0)
 each-movers (Relocatable slot flags content ∷ run) h = subst (λ k. Each InRun k)
     (sym (movers-more (Relocatable slot flags content) run h.0)) (h.0, each-movers run h.1)
+each-movers _ h = absurd (false≢true h.0)
 
 pub each-free : (n : ℕ) → Each InRun (free n)
 each-free zero = tt
@@ -150,9 +147,7 @@ slot-run s below run now above r e i = slot-swap s _ _ _ _ (run-no_slot _ run r)
 
 pub placed-append : (o : ℕ) (ls ms : List Block) → ArePlaced o ls → ArePlaced (o + sizes ls) ms → ArePlaced o (ls ++ ms)
 placed-append o [] ms h k = let e : o + 0 ≡ o = omega arith in subst (λ j. ArePlaced j ms) e k
-placed-append o (b ∷ ls) ms h k =
-    let e : o + (size b + sizes ls) ≡ o + size b + sizes ls = omega arith in
-    (h.0, placed-append (o + size b) ls ms h.1 (subst (λ j. ArePlaced j ms) e k))
+placed-append o (b ∷ ls) ms h k = (h.0, placed-append (o + size b) ls ms h.1 (grind arith))
 
 pub placed-left : (o : ℕ) (ls ms : List Block) → ArePlaced o (ls ++ ms) → ArePlaced o ls
 placed-left o [] ms h = tt
@@ -160,9 +155,7 @@ placed-left o (b ∷ ls) ms h = (h.0, placed-left (o + size b) ls ms h.1)
 
 pub placed-right : (o : ℕ) (ls ms : List Block) → ArePlaced o (ls ++ ms) → ArePlaced (o + sizes ls) ms
 placed-right o [] ms h = let e : o ≡ o + 0 = omega arith in subst (λ j. ArePlaced j ms) e h
-placed-right o (b ∷ ls) ms h =
-    let e : o + size b + sizes ls ≡ o + (size b + sizes ls) = omega arith in
-    subst (λ j. ArePlaced j ms) e (placed-right (o + size b) ls ms h.1)
+placed-right o (b ∷ ls) ms h = subst (λ j. ArePlaced j ms) (omega arith) (placed-right (o + size b) ls ms h.1)
 
 -- other blocks in the place of some, of as many bytes
 pub placed-swap : (o : ℕ) (below was now above : List Block) → sizes now ≡ sizes was → ArePlaced (o + sizes below) now
@@ -182,10 +175,9 @@ names-swap below was now above n = names-append below (now ++ above)
 pub placed-run : (o : ℕ) (run : List Block) → Each InRun run → ArePlaced o run
 placed-run o [] h = tt
 placed-run o (Free n ∷ run) h = (tt, placed-run _ run h.1)
-placed-run o (Nonrelocatable id content ∷ run) h = absurd (false≢true h.0)
-placed-run o (Masters ∷ run) h = absurd (false≢true h.0)
 placed-run o (Relocatable slot flags content ∷ run) h =
     (tt, placed-run (o + size (Relocatable slot flags content)) run h.1)
+placed-run o _ h = absurd (false≢true h.0)
 
 -- with the same names
 pub run-names : (below was now above : List Block) → names now ≡ names was

@@ -40,8 +40,7 @@ pairs-after s (x ∷ xs) ys h = pairs-after s xs ys h.1
 
 pub names-append : (ls ms : List Block) → names (ls ++ ms) ≡ names ls ++ names ms
 names-append [] ms = refl
-names-append (b ∷ ls) ms = ap (λ q. names_of b ++ q) (names-append ls ms)
-    ∙ sym (append_assoc (names_of b) (names ls) (names ms))
+names-append (b ∷ ls) ms = ap (λ q. names_of b ++ q) (names-append ls ms) ∙ sym (grind arith)
 
 pub each-names : (P : ℕ → Type 0) (ls ms : List Block) → Each P (names (ls ++ ms)) → Each P (names ls) × Each P (names ms)
 each-names P ls ms e = let k = subst (Each P) (names-append ls ms) e in (each-left P _ _ k, each-right P _ _ k)
@@ -58,9 +57,7 @@ piece-clear at ys xs s l (inr h) = piece-written_above _ _ _ s 4 h l
 module _ (xs : List ℕ) where
   pub leads-append : (o : ℕ) (ls ms : List Block) → Leads o ls xs → Leads (o + sizes ls) ms xs → Leads o (ls ++ ms) xs
   leads-append o [] ms h k = let e : o + 0 ≡ o = omega arith in subst (λ j. Leads j ms xs) e k
-  leads-append o (b ∷ ls) ms h k =
-      let e : o + (size b + sizes ls) ≡ o + size b + sizes ls = omega arith in
-      (h.0, leads-append (o + size b) ls ms h.1 (subst (λ j. Leads j ms xs) e k))
+  leads-append o (b ∷ ls) ms h k = (h.0, leads-append (o + size b) ls ms h.1 (grind arith))
 
   pub leads-left : (o : ℕ) (ls ms : List Block) → Leads o (ls ++ ms) xs → Leads o ls xs
   leads-left o [] ms h = tt
@@ -68,9 +65,7 @@ module _ (xs : List ℕ) where
 
   pub leads-right : (o : ℕ) (ls ms : List Block) → Leads o (ls ++ ms) xs → Leads (o + sizes ls) ms xs
   leads-right o [] ms h = let e : o ≡ o + 0 = omega arith in subst (λ j. Leads j ms xs) e h
-  leads-right o (b ∷ ls) ms h =
-      let e : o + size b + sizes ls ≡ o + (size b + sizes ls) = omega arith in
-      subst (λ j. Leads j ms xs) e (leads-right (o + size b) ls ms h.1)
+  leads-right o (b ∷ ls) ms h = subst (λ j. Leads j ms xs) (omega arith) (leads-right (o + size b) ls ms h.1)
 
 pub leads-from : (xs : List ℕ) (ls ms : List Block) (lo : ℕ) → sizes ls ≡ lo → Leads 0 (ls ++ ms) xs → Leads lo ms xs
 leads-from xs ls ms lo a h =

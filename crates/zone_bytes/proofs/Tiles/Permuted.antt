@@ -1,5 +1,5 @@
 -- Names in another order.
-use Rattle.std.proofs.Common.{◌≡◌, ℕ, ◌⊎◌, inl, inr, List, [], ◌∷◌, ◌++◌, subst}
+use Rattle.std.proofs.Common.{◌≡◌, ℕ, ◌⊎◌, inl, inr, List, [], ◌∷◌, ◌++◌, subst, arith}
 use Rattle.zone_bytes.specs.Layout.{Apart, Each, Pairs}
 use Rattle.zone_bytes.specs.Table.{Has}
 use Rattle.zone_bytes.proofs.Tiles.Leading.{each-append, each-left, each-right, each-map, apart-turned}
@@ -35,13 +35,7 @@ has-parts (x ∷ xs) ys s (inr h) = elim (has-parts xs ys s h) [ inl k ↦ inl (
 
 -- two stretches of names that change places
 has-turned : (ks ls ms ns : List ℕ) (s : ℕ) → Has (ks ++ ((ls ++ ms) ++ ns)) s → Has (ks ++ ((ms ++ ls) ++ ns)) s
-has-turned ks ls ms ns s h = elim (has-parts _ _ s h) [
-  | inl j ↦ has-left ks ((ms ++ ls) ++ ns) s j
-  | inr j ↦ has-right _ _ s (elim (has-parts (ls ++ ms) ns s j) [
-    | inl k ↦ has-left _ _ s (elim (has-parts ls ms s k) [ inl m ↦ has-right ms ls s m | inr m ↦ has-left ms ls s m ])
-    | inr k ↦ has-right (ms ++ ls) ns s k
-  ])
-]
+has-turned ks ls ms ns s h = grind (arith, has-parts, has-left, has-right)
 
 -- each name of the one list is apart from each of the other
 abbrev Across : List ℕ → List ℕ → Type 0
@@ -69,19 +63,14 @@ pairs-turned ks ls ms ns p =
     let up = pairs-split ks ((ls ++ ms) ++ ns) p in
     let here = pairs-split (ls ++ ms) ns up.1 in
     let two = pairs-split ls ms here.0 in
-    let turned = pairs-join ms ls two.1 two.0 (across-turned ls ms two.2) in
     let P : ℕ → Type 0 = λ x. Each (Apart x) ns in
     let past = each-append P ms ls (each-right P ls ms here.2) (each-left P ls ms here.2) in
-    pairs-join _ _ up.0 (pairs-join _ _ turned here.1 past)
+    pairs-join _ _ up.0 (pairs-join _ _ (pairs-join ms ls two.1 two.0 (across-turned ls ms two.2)) here.1 past)
     (each-map (λ x. Each (Apart x) ((ls ++ ms) ++ ns)) (λ x. Each (Apart x) ((ms ++ ls) ++ ns))
     (λ x e. each-moved (Apart x) _ _ (has-turned [] ms ls ns) e) _ up.2)
 
 pub turned : (ks ls ms ns : List ℕ) → SameNames (ks ++ ((ls ++ ms) ++ ns)) (ks ++ ((ms ++ ls) ++ ns))
-turned ks ls ms ns = record {
-  to = has-turned ks ls ms ns;
-  from = has-turned ks ms ls ns;
-  apart = pairs-turned ks ls ms ns;
-}
+turned ks ls ms ns = grind (arith, has-turned, pairs-turned)
 
 pub same-names : (was now : List ℕ) → was ≡ now → SameNames was now
 same-names was now e = subst (λ k. SameNames was k) e (record { to = λ s h. h; from = λ s h. h; apart = λ p. p })

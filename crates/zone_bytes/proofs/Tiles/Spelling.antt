@@ -65,12 +65,7 @@ resource-bit flags false = let h = high-flags flags in le-false 32 (flag_word fl
 
 -- what a word says
 word-unused : (xs : List ℕ) (w k : ℕ) → w ≡ 16 * k + 1 → slot_of_word xs w ≡ Unused
-word-unused xs w k e =
-    let a : eqb (w % 16) 0 ≡ false = ne_eqb (w % 16) 0 (λ z. omega (arith, e, z)) in
-    let b : eqb w 2 ≡ false = ne_eqb w 2 (λ z. omega (arith, e, z)) in
-    let c : eqb w 18 ≡ false = ne_eqb w 18 (λ z. omega (arith, e, z)) in
-    (λ i. cond (a i) (Used (nat_le 32 (word_at (w + 12) xs % 64)))
-    (cond (b i) (Used false) (cond (c i) (Used true) Unused)))
+word-unused xs w k e = grind arith
 
 word-emptied : (xs : List ℕ) (w : ℕ) (r : Bool) → w ≡ empty_word r → slot_of_word xs w ≡ Used r
 word-emptied xs w true e = ap (slot_of_word xs) e
@@ -78,9 +73,7 @@ word-emptied xs w false e = ap (slot_of_word xs) e
 
 word-leads : (xs : List ℕ) (w : ℕ) (r : Bool) → w % 16 ≡ 0 → nat_le 32 (word_at (w + 12) xs % 64) ≡ r
     → slot_of_word xs w ≡ Used r
-word-leads xs w r e f =
-    let a : eqb (w % 16) 0 ≡ true = elim (eqb_tells (w % 16) 0) [ inl p ↦ p.0 | inr p ↦ absurd (p.1 e) ] in
-    (λ i. cond (a i) (Used (f i)) (cond (eqb w 2) (Used false) (cond (eqb w 18) (Used true) Unused)))
+word-leads xs w r e f = grind arith
 
 pub small-emptied : (r : Bool) → empty_word r < 2 ^ 32
 small-emptied true = omega arith
@@ -93,15 +86,12 @@ module _ (resource : ℕ → Bool) (xs : List ℕ) (small : length xs ≤ 134217
   named-word o [] e t l h = absurd h
   named-word o (Free n ∷ blocks) e t l h = named-word _ blocks (omega (arith, e))
       (subst (λ k. Tiles (head_of resource) k blocks) (drop-drop n o xs) t.1) l.1 h
-  named-word o (Nonrelocatable id content ∷ blocks) e t l h =
-      named-word _ blocks (omega (arith, e))
+  named-word o (Nonrelocatable id content ∷ blocks) e t l h = named-word _ blocks (omega (arith, e))
       (subst (λ k. Tiles (head_of resource) k blocks) (drop-drop (size (Nonrelocatable id content)) o xs) t.1) l.1 h
   named-word o (Masters ∷ blocks) e t l h = named-word (o + 272) blocks (omega (arith, e))
       (subst (λ k. Tiles (head_of resource) k blocks) (drop-drop 272 o xs) t.1) l.1 h
   named-word o (Relocatable slot flags content ∷ blocks) e t l (inr h) =
-      named-word (o + size (Relocatable slot flags content)) blocks (omega (arith, e))
-      (subst (λ k. Tiles (head_of resource) k blocks) (drop-drop (size (Relocatable slot flags content)) o xs)
-      t.1) l.1 h
+      named-word (o + size (Relocatable slot flags content)) blocks (omega (arith, e)) (grind (arith, drop-drop)) l.1 h
   named-word o (Relocatable slot flags content ∷ blocks) e t l (inl h) =
       let z = size (Relocatable slot flags content) in
       let q = says z (z + 3) (length content) slot (flag_word flags (resource slot)) content (drop o xs) t.0 in
@@ -110,39 +100,25 @@ module _ (resource : ℕ → Bool) (xs : List ℕ) (small : length xs ≤ 134217
       let g = flag_word-small flags (resource slot) in
       let v = read_back (o + 12) (flag_word flags (resource slot)) xs (omega (arith, g))
       (ap (take 4) (sym (drop-drop 12 o xs)) ∙ q.2) in
-      let bit : nat_le 32 (word_at (word_at s xs + 12) xs % 64) ≡ resource s =
-      ap (λ k. nat_le 32 (word_at (k + 12) xs % 64)) w ∙ ap (λ k. nat_le 32 (k % 64)) v
-      ∙ resource-bit flags (resource slot) ∙ ap resource h in
+      let bit : nat_le 32 (word_at (word_at s xs + 12) xs % 64) ≡ resource s = grind arith in
       word-leads xs (word_at s xs) (resource s) (omega (arith, w, e)) bit
 
 module _ (xs : List ℕ) (blocks : List Block) (slots : ℕ → Slot) (unused : List ℕ)
     (h : Lays xs blocks slots unused) where
   pub zone-of : zone_in xs ≡ blocks
-  zone-of =
-      let small = h.small in
-      zone-back (λ s. is_resource (slots s)) _ _ small h.placed
-      (each-map (λ s. IsSlot s blocks) (λ s. s < 2 ^ 32) (λ s i. omega (arith, slot-inside, length-tiles, small))
-      _ h.has_slots.slots) h.lies.tiles
+  zone-of = grind (arith, zone-back, each-map, slot-inside, length-tiles)
 
   chain-word : (us : List ℕ) → Each (λ u. IsSlot u blocks × (slots u ≡ Unused)) us → Chain xs us → (s : ℕ) → Has us s
       → (k : ℕ) × (k < 134217728) × (piece s 4 xs ≡ word (16 * k + 1))
   chain-word [] e c s h1 = absurd h1
   chain-word (u ∷ us) e c s (inr k) = chain-word us e.1 c.1 s k
   chain-word (u ∷ []) e c s (inl k) = (0, omega arith, subst (λ m. piece m 4 xs ≡ word 1) k c.0)
-  chain-word (u ∷ v ∷ us) e c s (inl k) =
-      (v, omega (arith, slot-inside, length-tiles), subst (λ m. piece m 4 xs ≡ word (16 * v + 1)) k c.0)
+  chain-word (u ∷ v ∷ us) e c s (inl k) = grind (arith, slot-inside, length-tiles)
 
   state : (s : ℕ) (st : Slot) → slots s ≡ st → Says blocks xs unused s st
       → cond (is_slot s blocks) (slot_of_word xs (word_at s xs)) NoSlot ≡ st
-  state s NoSlot e q = none (is_slot s blocks) (λ t. q (is_slot-back s _ t))
-    where
-      none : (v : Bool) → (v ≡ true → ⊥) → cond v (slot_of_word xs (word_at s xs)) NoSlot ≡ NoSlot
-      none true n = absurd (n refl)
-      none false n = refl
-  state s Unused e q =
-      let c = chain-word unused h.unused_slots h.chain s q.1 in
-      ap (λ v. cond v (slot_of_word xs (word_at s xs)) NoSlot) (is_slot-true s _ q.0)
-      ∙ word-unused _ _ _ (read_back s _ _ (omega arith) c.2)
+  state s NoSlot e q = grind (arith, is_slot-back)
+  state s Unused e q = grind (arith, chain-word, is_slot-true, word-unused, read_back)
   state s (Used r) e q =
       ap (λ v. cond v (slot_of_word xs (word_at s xs)) NoSlot) (is_slot-true s blocks q.0) ∙ elim q.1 [
         | inl k ↦ named-word (λ t. is_resource (slots t)) _ h.small s 0 _ refl h.lies.tiles h.lies.leads k
@@ -152,5 +128,4 @@ module _ (xs : List ℕ) (blocks : List Block) (slots : ℕ → Slot) (unused : 
 
   pub slots-of : (s : ℕ) → slot_in xs s ≡ slots s
   unfolding slot_in
-  slots-of s = ap (λ k. cond (is_slot s k) (slot_of_word xs (word_at s xs)) NoSlot) zone-of
-      ∙ state s _ refl (h.says s)
+  slots-of s = grind (arith, zone-of, state)

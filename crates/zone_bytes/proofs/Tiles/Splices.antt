@@ -16,15 +16,7 @@ outside-same lo hi xs l h = record { kept = refl; ordered = (l, h); low = refl; 
 -- one more write inside
 pub outside-written : (lo hi : ℕ) (old new : List ℕ) (at : ℕ) (ys : List ℕ) → lo ≤ at → at + length ys ≤ hi
     → SameOutside lo hi old new → SameOutside lo hi old (written at ys new)
-outside-written lo hi old new at ys l h s =
-    let k = s.kept in
-    let o = s.ordered in
-    record {
-      kept = length-written at ys new (omega (arith, h, o, k)) ∙ k;
-      ordered = o;
-      low = take-written_below at ys new lo l (omega (arith, h, o, k)) ∙ s.low;
-      high = drop-written_above at ys new hi h (omega (arith, h, o, k)) ∙ s.high;
-    }
+outside-written lo hi old new at ys l h s = grind (arith, length-written, take-written_below, drop-written_above)
 
 -- a word outside is the same
 pub piece-outside : (lo hi : ℕ) (old new : List ℕ) (s : ℕ) → SameOutside lo hi old new → Clear lo (hi - lo) s
@@ -34,9 +26,8 @@ piece-outside lo hi old new s o (inl h) =
     (ap (drop s) (take-take (s + 4) lo xs h) ∙ drop-take s 4 xs) in
     whole new ∙ ap (λ k. drop s (take (s + 4) k)) o.low ∙ sym (whole old)
 piece-outside lo hi old new s o (inr h) =
-    let e : hi + (s - hi) ≡ s = omega (arith, h) in
     let whole : (xs : List ℕ) → piece s 4 xs ≡ take 4 (drop (s - hi) (drop hi xs)) = λ xs. ap
-    (λ k. take 4 (drop k xs)) (sym e) ∙ ap (take 4) (sym (drop-drop (s - hi) hi xs)) in
+    (λ k. take 4 (drop k xs)) (sym (omega (arith, h))) ∙ ap (take 4) (sym (drop-drop (s - hi) hi xs)) in
     whole new ∙ ap (λ k. take 4 (drop (s - hi) k)) o.high ∙ sym (whole old)
 
 pub leads-outside : (lo hi : ℕ) (old new : List ℕ) (o : ℕ) (blocks : List Block) → SameOutside lo hi old new
@@ -49,13 +40,11 @@ module _ (head : Block → List ℕ) where
   pub tiles-joined : (new : List ℕ) (ls here ns : List Block) (lo hi : ℕ) → lo ≤ hi → Tiles head (take lo new) ls
       → Tiles head (piece lo (hi - lo) new) here → Tiles head (drop hi new) ns → Tiles head new (ls ++ (here ++ ns))
   tiles-joined new ls here ns lo hi o low h high =
-      let m : lo + (hi - lo) ≡ hi = omega (arith, o) in
       let mid : piece lo (hi - lo) new ++ drop hi new ≡ drop lo new = ap (λ k. piece lo (hi - lo) new ++ k)
-      (sym (drop-drop (hi - lo) lo new ∙ ap (λ k. drop k new) m)) ∙ take-append-drop (hi - lo) (drop lo new) in
+      (sym (drop-drop (hi - lo) lo new ∙ ap (λ k. drop k new) (omega (arith, o)))) ∙ take-append-drop (hi - lo) (drop lo new) in
       let all : take lo new ++ (piece lo (hi - lo) new ++ drop hi new) ≡ new = ap (λ k. take lo new ++ k) mid
       ∙ take-append-drop lo new in
-      subst (λ k. Tiles head k (ls ++ (here ++ ns))) all (tiles-append head _ _ _ _ low
-      (tiles-append head _ _ _ _ h high))
+      subst (λ k. Tiles head k (ls ++ (here ++ ns))) all (grind (arith, tiles-append))
 
   pub tiles-parts : (xs : List ℕ) (ls ms ns : List Block) (lo hi : ℕ) → sizes ls ≡ lo → lo + sizes ms ≡ hi
       → Tiles head xs (ls ++ (ms ++ ns)) → Tiles head (take lo xs) ls × Tiles head (drop lo xs) (ms ++ ns)

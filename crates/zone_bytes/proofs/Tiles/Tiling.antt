@@ -30,8 +30,7 @@ slot-append_left s (b ∷ ls) ms (inr i) = inr (i.0, slot-append_left (s - size 
 pub slot-append_right : (s : ℕ) (ls ms : List Block) → sizes ls ≤ s → IsSlot (s - sizes ls) ms → IsSlot s (ls ++ ms)
 slot-append_right s [] ms l i = let e : s - 0 ≡ s = omega arith in subst (λ k. IsSlot k ms) e i
 slot-append_right s (b ∷ ls) ms l i =
-    let e : s - (size b + sizes ls) ≡ s - size b - sizes ls = omega arith in
-    inr (omega (arith, l), slot-append_right (s - size b) ls ms (omega (arith, l)) (subst (λ k. IsSlot k ms) e i))
+    inr (omega (arith, l), slot-append_right (s - size b) ls ms (omega (arith, l)) (subst (λ k. IsSlot k ms) (omega arith) i))
 
 pub slot-split : (s : ℕ) (ls ms : List Block) → IsSlot s (ls ++ ms)
     → IsSlot s ls ⊎ ((sizes ls ≤ s) × IsSlot (s - sizes ls) ms)
@@ -40,8 +39,7 @@ slot-split s (b ∷ ls) ms (inl i) = inl (inl i)
 slot-split s (b ∷ ls) ms (inr i) = elim (slot-split (s - size b) ls ms i.1) [
   | inl j ↦ inl (inr (i.0, j))
   | inr j ↦
-      let e : s - size b - sizes ls ≡ s - (size b + sizes ls) = omega arith in
-      inr (omega (arith, i.0, j.0), subst (λ k. IsSlot k ms) e j.1)
+      inr (omega (arith, i.0, j.0), subst (λ k. IsSlot k ms) (omega arith) j.1)
 ]
 
 -- a slot is below a stretch that has none, or above it
@@ -75,25 +73,11 @@ module _ (head : Block → List ℕ) where
 
   -- a block's bytes followed by others
   pub tile-append : (h : List ℕ) (n : ℕ) (xs ys : List ℕ) → Tile h n xs → Tile h n (xs ++ ys)
-  tile-append h n xs ys t =
-      record {
-        fits = omega (arith, length-append xs ys, t.fits);
-        whole = t.whole;
-        some = t.some;
-        room = t.room;
-        begins = take-append-le (length h) xs ys (omega (arith, t.fits, t.room)) ∙ t.begins;
-      }
+  tile-append h n xs ys t = grind (arith, length-append, take-append-le)
 
   -- a block's bytes without the others
   pub tile-take : (h : List ℕ) (n k : ℕ) (xs : List ℕ) → n ≤ k → k ≤ length xs → Tile h n xs → Tile h n (take k xs)
-  tile-take h n k xs l m t =
-      record {
-        fits = omega (arith, length-take-le k xs m, l);
-        whole = t.whole;
-        some = t.some;
-        room = t.room;
-        begins = take-take (length h) k xs (omega (arith, l, t.room)) ∙ t.begins;
-      }
+  tile-take h n k xs l m t = grind (arith, length-take-le, take-take)
 
   pub tiles-append : (xs ys : List ℕ) (ls ms : List Block) → Tiles head xs ls → Tiles head ys ms
       → Tiles head (xs ++ ys) (ls ++ ms)
@@ -112,8 +96,7 @@ module _ (head : Block → List ℕ) where
   tiles-split xs [] ms t = (refl, t)
   tiles-split xs (b ∷ ls) ms t =
       let r = tiles-split (drop (size b) xs) ls ms t.1 in
-      let a = length-drop (size b) xs in
-      let enough : size b + sizes ls ≤ length xs = omega (arith, length-tiles, span-append ls ms, a) in (
+      let enough : size b + sizes ls ≤ length xs = omega (arith, length-tiles, span-append ls ms, (length-drop (size b) xs)) in (
         (
           tile-take (head b) (size b) (size b + sizes ls) xs (omega arith) enough t.0,
           rw (drop-take (size b) (sizes ls) xs) r.0,
@@ -129,25 +112,13 @@ module _ (head : Block → List ℕ) where
   tiles-slot m xs w s (Nonrelocatable id content ∷ blocks) e (inl i) t = absurd i
   tiles-slot m xs w s (Relocatable slot flags content ∷ blocks) e (inl i) t = absurd i
   tiles-slot m xs w s (Masters ∷ blocks) e (inl i) t = (
-    record {
-      fits = omega (arith, length-written);
-      whole = t.0.whole;
-      some = t.0.some;
-      room = t.0.room;
-      begins = take-written_below s w _ _ (omega (arith, i, m)) (omega (arith, i)) ∙ t.0.begins;
-    },
+    (grind (arith, length-written, take-written_below)),
     rw (drop-written_above s w xs 272 (omega (arith, i, e)) (omega (arith, i))) t.1,
   )
   tiles-slot m xs w s (b ∷ blocks) e (inr i) t =
       let a = slot-inside (s - size b) blocks i.1 in
       let inside : s + 4 ≤ length xs = omega (arith, i.0, a, length-tiles, length-drop (size b) xs) in (
-        record {
-          fits = omega (arith, length-written s w xs (omega (arith, e, inside)));
-          whole = t.0.whole;
-          some = t.0.some;
-          room = t.0.room;
-          begins = take-written_below s w _ _ (omega (arith, i.0)) (omega (arith, inside)) ∙ t.0.begins;
-        },
+        (grind (arith, length-written, take-written_below)),
         rw (drop-written_below s w xs (size b) i.0 (omega (arith, inside)))
             (tiles-slot m (drop (size b) xs) w (s - size b) blocks e i.1 t.1),
       )

@@ -9,9 +9,7 @@ use Rattle.zone_bytes.proofs.Tiles.Spelling.{zone-of, slots-of}
 -- the spelling of bytes that lay a zone is that zone
 pub respelled : (xs : List ℕ) (blocks : List Block) (slots : ℕ → Slot) (unused : List ℕ) → Lays xs blocks slots unused
     → Lays xs (zone_in xs) (slot_in xs) unused
-respelled xs blocks slots unused h =
-    subst (λ b. Lays xs b (slot_in xs) unused) (sym (zone-of _ _ slots _ h))
-    (subst (λ f. Lays xs blocks f unused) (λ i s. sym (slots-of _ _ slots _ h s) i) h)
+respelled xs blocks slots unused h = grind (arith, zone-of, slots-of)
 
 -- a list of unused slots that isn't empty
 pub record SomeUnused (first : ℕ) (unused : List ℕ) : Type 0 where

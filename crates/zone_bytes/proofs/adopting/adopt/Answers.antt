@@ -18,13 +18,7 @@ write_header-requires-clause-within c =
 pub returns-clause-bytes : goal.returns-clause-bytes
 returns-clause-bytes c id content above e =
     let a = c.args in
-    let xs = a.part.now.bytes in
-    let h = c.read_header-nonrelocatable.result in
     let t = c.read_header-nonrelocatable.ensures in
-    let size = size-at _ _ c.requires.way c.requires.some _ _ t.first t.size (tag-small h.tag) _ _ e in
-    let long = t.logical ∙ length-at a.place xs c.requires.way id content above e in
-    let is : ℕ = cond (word_at a.slot xs == 18) 32 0 in
-    let flags : c.flag_bits.result + c.kept_flags-resource.result ≡ flag_word a.flags (word_at a.slot xs == 18) =
-    (omega arith) in
-    c.write_word.ensures.bytes ∙ ap (written a.slot (word a.place)) (c.write_header.ensures.bytes
-    ∙ (λ i. written a.place (header (size i + 3) (long i) a.slot (flags i)) xs))
+    let size = size-at _ _ c.requires.way c.requires.some _ _ t.first t.size (tag-small c.read_header-nonrelocatable.result.tag) _ _ e in
+    let long = t.logical ∙ length-at a.place a.part.now.bytes c.requires.way id content above e in
+    c.write_word.ensures.bytes ∙ ap (written a.slot (word a.place)) (grind arith)

@@ -1,4 +1,4 @@
-use Rattle.std.proofs.Common.{◌+◌, sym, ap, ◌∙◌, arith}
+use Rattle.std.proofs.Common.{◌+◌, sym, ap, ◌∙◌, arith, rules}
 use Rattle.block_store.specs.Block.{content_of}
 use Rattle.windows.specs.Writes.{piece}
 use Rattle.zone_bytes.proofs.Tiles.Tags.{tag-small}
@@ -30,5 +30,4 @@ pub returns-else-has_content : goal.returns-else-has_content
 returns-else-has_content c = λ b above q.
     let o = stepped _ _ c.requires.way c.requires.some _
     _ c.read_header-header.ensures.first c.read_header-header.ensures.size (tag-small _) in
-    sym (holds-none _ _ _ o (sym c.has_content.ensures ∙ c.if-has_content.false))
-    ∙ ap content_of (same-here _ _ _ o b _ q)
+    sym (holds-none _ _ _ o (search rules)) ∙ ap content_of (same-here _ _ _ o b _ q)

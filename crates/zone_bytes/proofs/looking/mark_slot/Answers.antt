@@ -38,22 +38,13 @@ pub write_word-requires-in-None : goal.write_word-requires-in-None
 write_word-requires-in-None c = handle-in _ _ _ _ c.requires.1.lays _ c.requires.1.used
 
 pub returns-in-Some-clause-lays : goal.returns-in-Some-clause-lays
-returns-in-Some-clause-lays c = λ t h.
-    let xs = c.args.part.now.bytes in
+returns-in-Some-clause-lays c = λ t h. let xs = c.args.part.now.bytes in
     let r = c.args.resource in
     let b = here-of _ _ t.slots _ h.lays _ h.used _ (leads-read _ _ _ _ c.read_word.ensures c.in-Some.ensures) in
     let u = flag xs t.blocks t.slots t.unused h.lays c.args.slot h.used in
-    let n = c.with_resource.ensures
-    ∙ ap (λ n. n / 64 * 64 + cond {A = ℕ} r 32 0) (c.read_word-flags.ensures ∙ b.flags_are) ∙ flags-set _ _ r in
-    subst (λ ys. Lays ys t.blocks (set_slot t.slots c.args.slot (Used r)) t.unused)
-    (sym (c.write_word.ensures.bytes ∙ ap (λ n. written (c.in-Some.place + 12) (word n) xs) n))
+    subst (λ ys. Lays ys t.blocks (set_slot t.slots c.args.slot (Used r)) t.unused) (grind arith)
     (lays-marked _ _ t.slots _ h.lays _ _ r u.1 _ b)
 
 pub returns-in-None-clause-lays : goal.returns-in-None-clause-lays
-returns-in-None-clause-lays c = λ t h.
-    let xs = c.args.part.now.bytes in
-    let e = gone-of _ _ t.slots _ h.lays _ h.used (leads-read _ _ _ _ c.read_word.ensures c.in-None.ensures) in
-    let u = flag xs t.blocks t.slots t.unused h.lays c.args.slot h.used in
-    subst (λ ys. Lays ys t.blocks (set_slot t.slots c.args.slot (Used c.args.resource)) t.unused)
-    (sym (c.write_word-in-None.ensures.bytes ∙ ap (λ n. written c.args.slot (word n) xs) c.word_of_empty.ensures))
-    (lays-emptied _ _ t.slots _ h.lays _ _ _ u.1 e.apart)
+returns-in-None-clause-lays c = λ t h. subst (λ ys. Lays ys t.blocks (set_slot t.slots c.args.slot (Used c.args.resource)) t.unused) (sym (grind arith))
+    (lays-emptied _ _ t.slots _ h.lays _ _ _ (flag c.args.part.now.bytes t.blocks t.slots t.unused h.lays c.args.slot h.used).1 (gone-of _ _ t.slots _ h.lays _ h.used (leads-read _ _ _ _ c.read_word.ensures c.in-None.ensures)).apart)

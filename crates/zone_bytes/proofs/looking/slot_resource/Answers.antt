@@ -18,9 +18,7 @@ read_word-requires c =
     (omega arith, omega arith)
 
 pub returns-in-Some : goal.returns-in-Some
-returns-in-Some c = λ t h. ap (λ n. nat_le 32 (n % 64)) c.read_word.ensures ∙ resource-here _ _ _ _ h.lays _ h.used _
-    (leads-read _ _ _ _ c.read_word-word.ensures c.in-Some.ensures)
+returns-in-Some c = grind (arith, nat_le, resource-here, leads-read)
 
 pub returns-in-None : goal.returns-in-None
-returns-in-None c = λ t h. ap (λ n. n == 18) c.read_word-word.ensures ∙ resource-gone _ _ _ _ h.lays _ h.used
-    (leads-read _ _ _ _ c.read_word-word.ensures c.in-None.ensures)
+returns-in-None c = grind (arith, resource-gone, leads-read)

@@ -1,3 +1,4 @@
+use Rattle.std.proofs.Common.{rules}
 use Rattle.zone_bytes.proofs.Tiles.Tags.{tag-small}
 use Rattle.zone_bytes.proofs.Places.Stepped.{may-read}
 use Rattle.zone_bytes.proofs.Places.HeaderTells.{size-at}
@@ -7,7 +8,4 @@ pub read_header-requires : goal.read_header-requires
 read_header-requires c = may-read _ _ c.requires.way c.requires.some
 
 pub returns : goal.returns
-returns c = λ b above q.
-    let h = c.read_header.result in
-    let e = c.read_header.ensures in
-    size-at _ _ c.requires.way c.requires.some _ _ e.first e.size (tag-small h.tag) b _ q
+returns c = search (rules, size-at, tag-small)

@@ -3,9 +3,7 @@ use Rattle.zone_bytes.proofs.Runs.Raises.{wide, evens, raised-none, raised-rest}
 use Rattle.zone_bytes.proofs.raising.lift_blocks.Goals as goal
 
 pub slide-requires : goal.slide-requires
-slide-requires g c =
-    let e = ap length c.requires.0 in
-    record { from_inside = omega (arith, wide, e); to_inside = omega (arith, wide, e) }
+slide-requires g c = grind (arith, wide)
 
 pub write_word-requires : goal.write_word-requires
 write_word-requires g c = (omega (arith, evens), omega (arith, wide, ap length c.requires.0))

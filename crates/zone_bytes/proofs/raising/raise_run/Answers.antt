@@ -1,4 +1,4 @@
-use Rattle.std.proofs.Common.{◌+◌, ◌<◌, [], refl, arith}
+use Rattle.std.proofs.Common.{◌+◌, ◌<◌, [], refl, arith, rules}
 use Rattle.block_store.specs.Run.{movers}
 use Rattle.zone_bytes.specs.Settling.{gone_to}
 use Rattle.zone_bytes.proofs.Runs.Lifts.{gap-fits, none-lifted, none-stop, none-edges, raise-part, upper-run}
@@ -11,45 +11,25 @@ pub pack_until-packed-requires : goal.pack_until-packed-requires
 pack_until-packed-requires g c = (c.requires.0, (c.requires.1.run, (c.requires.2, omega (arith, gap-fits))))
 
 pub returns-then-packed-place-clause-lifted : goal.returns-then-packed-place-clause-lifted
-returns-then-packed-place-clause-lifted g c =
-    none-lifted _ _ _ c.requires.1 c.requires.2 _ _ _ _ _ _ c.pack_until-packed.ensures.packed c.if-packed-place.true
+returns-then-packed-place-clause-lifted g c = search (rules, none-lifted)
 
 pub returns-then-packed-place-clause-stop : goal.returns-then-packed-place-clause-stop
-returns-then-packed-place-clause-stop g c =
-    none-stop _ _ _ c.requires.1 c.requires.2 _ _ _ _ _ _ c.pack_until-packed.ensures.packed c.if-packed-place.true
+returns-then-packed-place-clause-stop g c = search rules
 
 some : (g : Over) (c : Else-packed-place g) → c.args.place < c.pack_until-packed.result.top
 some g c = omega arith
 
 pub lift_blocks-requires : goal.lift_blocks-requires
-lift_blocks-requires g c = (
-  refl,
-  raise-part _ _ _ c.requires.1 c.requires.2 _ _ _ _ _ _
-      c.pack_until-packed.ensures.packed (some g (goal.at.lift_blocks-requires g c).Else-packed-place),
-)
+lift_blocks-requires g c = search (rules, raise-part)
 
 pub settle_above-requires : goal.settle_above-requires
-settle_above-requires g c = (
-  refl,
-  (
-    upper-run _ _ _ c.requires.1 c.requires.2 _ _ _ _ _ _
-        c.pack_until-packed.ensures.packed (some g (goal.at.settle_above-requires g c).Else-packed-place)
-        _ c.lift_blocks.ensures.raised,
-    c.requires.2,
-  ),
-)
+settle_above-requires g c = search (rules, upper-run)
 
 pub returns-clause-lifted : goal.returns-clause-lifted
-returns-clause-lifted g c =
-    both-lifted _ _ _ c.requires.1 c.requires.2 _ _ _ _ _ _
-    c.pack_until-packed.ensures.packed (some g (goal.at.returns-clause-lifted g c).Else-packed-place)
-    _ c.lift_blocks.ensures.raised _ _ c.settle_above.ensures.settled
+returns-clause-lifted g c = search (rules, both-lifted)
 
 pub returns-clause-stop : goal.returns-clause-stop
-returns-clause-stop g c =
-    both-stop _ _ _ c.requires.1 c.requires.2 _ _ _ _ _ _
-    c.pack_until-packed.ensures.packed (some g (goal.at.returns-clause-stop g c).Else-packed-place)
-    _ c.lift_blocks.ensures.raised _ _ c.settle_above.ensures.settled _ c.settle_above.ensures.stop
+returns-clause-stop g c = search (rules, both-stop)
 
 pub returns-then-packed-place-clause-edges : goal.returns-then-packed-place-clause-edges
 returns-then-packed-place-clause-edges g c = λ a.
@@ -59,7 +39,6 @@ returns-then-packed-place-clause-edges g c = λ a.
 
 pub returns-clause-edges : goal.returns-clause-edges
 returns-clause-edges g c = λ a.
-    let gone = gone_to g.lay c.pack_until-packed.result.stop in
     both-edges _ _ _ c.requires.1 c.requires.2 _ _ _ _ _ _ c.pack_until-packed.ensures.packed
-    c.settle_above.new.edges (c.settle_above.ensures.edges (c.args.place + c.args.gap) (movers gone) (omega arith)
+    c.settle_above.new.edges (c.settle_above.ensures.edges (c.args.place + c.args.gap) (movers (gone_to g.lay c.pack_until-packed.result.stop)) (omega arith)
     (c.pack_until-packed.ensures.edges (c.args.place + c.args.gap) [] (omega arith) a))

@@ -11,14 +11,9 @@ read_header-header-requires c = may-read _ _ c.requires.way c.requires.some
 
 pub overflow_add-result : goal.overflow_add-result
 overflow_add-result c =
-    let h = c.read_header-header.result in
     let e = c.read_header-header.ensures in
-    let s = stepped _ _ c.requires.way c.requires.some _ _ e.first e.size (tag-small h.tag) in
+    let s = stepped _ _ c.requires.way c.requires.some _ _ e.first e.size (tag-small c.read_header-header.result.tag) in
     omega arith
 
 pub returns : goal.returns
-returns c =
-    let h = c.read_header-header.result in
-    let e = c.read_header-header.ensures in
-    steps _ _ c.requires.way c.requires.some _ _ e.first e.size (tag-small _) _
-    (c.seen_of.ensures ∙ (λ i. header_seen (tag_number h.tag) h.size (e.logical i) (e.slot i) (e.flags i)))
+returns c = grind (arith, steps, tag-small)

@@ -12,20 +12,15 @@ still : (c : Else-to-from)
 still c =
     let a = c.args in
     let xs = a.part.now.bytes in
-    let e : a.to ≡ a.from = omega arith in
-    ap (λ k. written k (piece a.from a.size xs) xs) e ∙ written-same _ _ _ _ c.requires.inside refl
+    ap (λ k. written k (piece a.from a.size xs) xs) (omega arith) ∙ written-same _ _ _ _ c.requires.inside refl
 
 pub returns-then-gap-gt0-clause-bytes : goal.returns-then-gap-gt0-clause-bytes
-returns-then-gap-gt0-clause-bytes c =
-    c.write_word-then-gap-gt0.ensures.bytes ∙ sym (ap (written c.args.slot (word (c.args.to + c.args.gap)))
-    (still (goal.at.returns-then-gap-gt0-clause-bytes c).Else-to-from))
+returns-then-gap-gt0-clause-bytes c = grind (arith, still)
 
 pub returns-else-gap-gt0-clause-bytes : goal.returns-else-gap-gt0-clause-bytes
 returns-else-gap-gt0-clause-bytes c =
     let a = c.args in
     let xs = a.part.now.bytes in
-    let e : a.to + a.gap ≡ a.from = omega arith in
-    let slot : written a.slot (word (a.to + a.gap)) xs ≡ xs = ap (λ k. written a.slot (word k) xs) e
+    let slot : written a.slot (word (a.to + a.gap)) xs ≡ xs = ap (λ k. written a.slot (word k) xs) (omega arith)
     ∙ written-same _ 4 _ xs c.requires.slot.1 c.requires.leads in
-    sym (ap (written a.slot (word (a.to + a.gap))) (still (goal.at.returns-else-gap-gt0-clause-bytes c).Else-to-from)
-    ∙ slot)
+    sym (grind (arith, still))

@@ -1,4 +1,4 @@
-use Rattle.std.proofs.Common.{◌≡◌, ◌++◌, [], subst, arith}
+use Rattle.std.proofs.Common.{◌≡◌, ◌++◌, [], subst, arith, rules}
 use Rattle.block_store.specs.Run.{movers}
 use Rattle.zone_bytes.specs.Edges.{AreEdges}
 use Rattle.zone_bytes.specs.Settling.{UntilAt, rest_from}

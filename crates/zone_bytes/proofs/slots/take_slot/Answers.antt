@@ -1,3 +1,4 @@
+use Rattle.std.proofs.Common.{rules}
 use Rattle.zone_bytes.proofs.SlotTable.Tables.{slot-in}
 use Rattle.zone_bytes.proofs.SlotTable.Taking.{first-slot, taken, next-of}
 use Rattle.zone_bytes.proofs.slots.take_slot.Goals as goal
@@ -13,8 +14,7 @@ write_word-requires c =
     slot-in _ _ t.slots _ c.requires.1 _ (first-slot _ _ t.slots _ _ c.requires.1)
 
 pub returns-clause-lays : goal.returns-clause-lays
-returns-clause-lays c = λ t h.
-    let n = next-of c.args.part.now.bytes t.blocks t.slots c.args.first t.unused h in (
-      rw c.write_word.ensures.bytes (taken c.args.part.now.bytes t.blocks t.slots c.args.first t.unused h),
-      rw c.read_word-next.ensures n,
+returns-clause-lays c = λ t h. (
+      rw c.write_word.ensures.bytes (search (rules, taken)),
+      rw c.read_word-next.ensures (next-of c.args.part.now.bytes t.blocks t.slots c.args.first t.unused h),
     )
