@@ -40,7 +40,8 @@ use Rattle.zone_bytes.proofs.Placed.Named.{named-lays}
 pub length-at : (at : ℕ) (xs : List ℕ) → IsOnWay at xs → (id : ℕ) (content : List ℕ) (above : List Block)
     → left_in at xs ≡ Nonrelocatable id content ∷ above → word_at (at + 4) xs ≡ length content
 length-at at xs w id content above e =
-    same _ _ (told-is w.resource at xs w.small (Nonrelocatable id content) (subst (Walk w.resource at xs) (sym (left-is at xs w) ∙ e) w.walk).high.0 tt)
+    let v = subst (Walk w.resource at xs) (sym (left-is at xs w) ∙ e) w.walk in
+    same _ _ (told-is w.resource at xs w.small (Nonrelocatable id content) v.high.0 tt)
   where
     same : (a b : ℕ) → see.Nonrelocatable a ≡ see.Nonrelocatable b → a ≡ b
     same a b e = cc
@@ -78,7 +79,8 @@ module _ (xs : List ℕ) (first count : ℕ) (i : IsSound xs first count) (numbe
   fits-in = fits xs first count i below old above whole place low
 
   same : SameOutside place (place + n) xs mid
-  same = outside-written _ _ _ _ _ head (omega arith) (omega (arith, long)) (grind (arith, outside-same, fits-in))
+  same = outside-written _ _ _ _ _ head (omega arith) (omega (arith, long))
+      (outside-same place (place + n) xs (omega arith) fits-in)
 
   new-tile : Tile (head_of (resource_in xs) new) n (drop place mid)
   unfolding head_of
@@ -100,11 +102,13 @@ module _ (xs : List ℕ) (first count : ℕ) (i : IsSound xs first count) (numbe
 pub masters-adopted : (below : List Block) (id number : ℕ) (flags : Flags) (content : List ℕ) (above : List Block)
     → count is_masters (below ++ Relocatable number flags content ∷ above)
     ≡ count is_masters (below ++ Nonrelocatable id content ∷ above)
-masters-adopted below id number flags content above = grind (arith, masters-same)
+masters-adopted below id number flags content above =
+    masters-same below above (Nonrelocatable id content) (Relocatable number flags content) refl
 
 pub free-adopted : (below : List Block) (id number : ℕ) (flags : Flags) (content : List ℕ) (above : List Block)
     → free_sum (below ++ Relocatable number flags content ∷ above) ≡ free_sum (below ++ Nonrelocatable id content ∷ above)
-free-adopted below id number flags content above = grind (arith, total-same)
+free-adopted below id number flags content above =
+    total-same free_of below above (Nonrelocatable id content) (Relocatable number flags content) refl
 
 -- the nonrelocatable block at a place
 pub record NonrelocatableAt (xs : List ℕ) (place : ℕ) : Type 0 where
@@ -118,7 +122,23 @@ pub record NonrelocatableAt (xs : List ℕ) (place : ℕ) : Type 0 where
 
 pub nonrelocatable-at : (xs : List ℕ) (place : ℕ) → IsSomeAnd (spot_at place (zone_in xs)) (λ s. is_nonrelocatable place s.here ≡ true)
     → NonrelocatableAt xs place
-nonrelocatable-at xs place h = grind (arith, the-spot, false≢true, spot_at-is, spot_at-below)
+nonrelocatable-at xs place h = let a = the-spot _ (λ s. is_nonrelocatable place s.here ≡ true) h in
+    of a.0 a.1 a.0.here refl a.2
+  where
+    of : (s : Spot) → spot_at place (zone_in xs) ≡ Some s → (b : Block) → s.here ≡ b → is_nonrelocatable place b ≡ true
+        → NonrelocatableAt xs place
+    of s e (Free n) is f = absurd (false≢true f)
+    of s e (Nonrelocatable id content) is f = record {
+      s = s;
+      id = id;
+      content = content;
+      is = e;
+      here = is;
+      whole = sym (spot_at-is place (zone_in xs) s e) ∙ ap (λ b. s.below ++ b ∷ s.above) is;
+      low = spot_at-below place (zone_in xs) s e;
+    }
+    of s e Masters is f = absurd (false≢true f)
+    of s e (Relocatable slot flags content) is f = absurd (false≢true f)
 
 module _ (xs : List ℕ) (first count : ℕ) (i : IsSound xs first count) (place : ℕ) (a : NonrelocatableAt xs place) (number : ℕ)
     (flags : Flags) (used : IsTrue (is_used (slot_in xs number)))
@@ -130,5 +150,6 @@ module _ (xs : List ℕ) (first count : ℕ) (i : IsSound xs first count) (place
       → left_in place xs ≡ Nonrelocatable id content ∷ above → after ≡ adopted number flags place content xs)
       → Made after first count (a.s.below ++ Relocatable number flags a.content ∷ a.s.above) (slot_in xs)
   adopted-at after bytes =
+      let e = bytes a.id a.content a.s.above (left-at _ _ _ i _ _ a.is ∙ ap (λ b. b ∷ a.s.above) a.here) in
       subst (λ ys. Made ys first count (a.s.below ++ Relocatable number flags a.content ∷ a.s.above) (slot_in xs))
       (sym e) (adopted-made _ _ _ i _ used none _ _ _ _ a.whole _ a.low flags)

@@ -49,6 +49,9 @@ module _ (xs : List ℕ) (first count : ℕ) (i : IsSound xs first count) (place
       (whole : zone_in xs ≡ below ++ here ∷ above) (low : sizes below ≡ place)
       → Made (flagged flags place xs) first count (below ++ with_flags flags here ∷ above) (slot_in xs)
   unfolding head_of
+  flagged-made below (Free n) above whole low = other _ _ _ whole low refl
+  flagged-made below (Nonrelocatable id content) above whole low = other _ _ _ whole low refl
+  flagged-made below Masters above whole low = other _ _ _ whole low refl
   flagged-made below (Relocatable slot old content) above whole low =
       let here : Block = Relocatable slot old content in
       let t = tile xs first count i below here above whole place low in
@@ -69,11 +72,15 @@ module _ (xs : List ℕ) (first count : ℕ) (i : IsSound xs first count) (place
 
 pub masters-flagged : (flags : Flags) (below : List Block) (b : Block) (above : List Block)
     → count is_masters (below ++ with_flags flags b ∷ above) ≡ count is_masters (below ++ b ∷ above)
+masters-flagged flags below (Free n) above = refl
+masters-flagged flags below (Nonrelocatable id content) above = refl
+masters-flagged flags below Masters above = refl
 masters-flagged flags below (Relocatable slot old content) above = masters-same _ _ _ _ refl
-masters-flagged flags below _ above = refl
 
 -- the Free bytes stay
 pub free-flagged : (flags : Flags) (below : List Block) (b : Block) (above : List Block)
     → free_sum (below ++ with_flags flags b ∷ above) ≡ free_sum (below ++ b ∷ above)
+free-flagged flags below (Free n) above = refl
+free-flagged flags below (Nonrelocatable id content) above = refl
+free-flagged flags below Masters above = refl
 free-flagged flags below (Relocatable slot old content) above = total-same free_of _ _ _ _ refl
-free-flagged flags below _ above = refl

@@ -49,8 +49,9 @@ has-drop (x ∷ xs) s ys t (inl e) = inr (inl e)
 has-drop (x ∷ xs) s ys t (inr k) = elim (has-drop xs s ys t k) [ inl e ↦ inl e | inr j ↦ inr (inr j) ]
 
 used-is : (st : Slot) → IsUsed st → st ≡ Used (is_resource st)
+used-is NoSlot u = absurd u
+used-is Unused u = absurd u
 used-is (Used r) u = refl
-used-is _ u = absurd u
 
 module _ (f : Freeing) (start at : ℕ) (xs : List ℕ) (m : MayFree f start at xs) where
   abbrev resource : ℕ → Bool
@@ -82,7 +83,10 @@ module _ (f : Freeing) (start at : ℕ) (xs : List ℕ) (m : MayFree f start at 
   span-joined = omega (arith, span-append, span-free)
 
   none : (s : ℕ) → IsSlot s joined → ⊥
-  none s i = grind arith
+  none s i = elim (slot-split s _ _ i) [
+    | inl j ↦ run-no_slot s gap (each-free (at - start)) j
+    | inr j ↦ no-slots f.here m.plain (s - sizes gap) j.1
+  ]
 
   -- what the header of a relocatable block tells of its slot
   pub record Led : Type 0 where
@@ -100,7 +104,9 @@ module _ (f : Freeing) (start at : ℕ) (xs : List ℕ) (m : MayFree f start at 
 
   led-by : (slot : ℕ) (flags : Flags) (content : List ℕ) → f.here ≡ Relocatable slot flags content → Led
   unfolding head_of
-  led-by slot flags content e = let t = subst (λ c. Tile (head_of resource c) (size c) (drop at xs)) e
+  led-by slot flags content e =
+      let b : Block = Relocatable slot flags content in
+      let t = subst (λ c. Tile (head_of resource c) (size c) (drop at xs)) e
       (tile-at _ _ _ _ f.slots f.unused here-laid at here-low) in
       let y = size b in
       let q = header-told _ _ slot (flag_word flags (resource slot)) at content xs t in
@@ -116,7 +122,13 @@ module _ (f : Freeing) (start at : ℕ) (xs : List ℕ) (m : MayFree f start at 
       }
 
   pub led : kind f.here ≡ 3 → Led
-  led k = grind (arith, led-by)
+  led k = of-kind f.here refl k
+    where
+      of-kind : (b : Block) → f.here ≡ b → kind b ≡ 3 → Led
+      of-kind (Free n) e k = absurd (let q : 0 ≡ 3 = k in omega (arith, q))
+      of-kind (Nonrelocatable id content) e k = absurd (let q : 1 ≡ 3 = k in omega (arith, q))
+      of-kind Masters e k = absurd (let q : 2 ≡ 3 = k in omega (arith, q))
+      of-kind (Relocatable slot flags content) e k = led-by _ _ _ e
 
   module _ (top : ℕ) (t : at + size f.here ≡ top) where
     some : start < top
@@ -169,7 +181,8 @@ module _ (f : Freeing) (start at : ℕ) (xs : List ℕ) (m : MayFree f start at 
         pub other-lays : names_of f.here ≡ []
             → Lays mid (f.below ++ (free (at + size f.here - start) ++ f.above)) f.slots f.unused
         other-lays e =
-            subst (λ k. Lays mid k f.slots f.unused) now-is (lays-kept xs mid _ _ f.slots _ laid lies (grind (arith, names-now, names-all))
+            subst (λ k. Lays mid k f.slots f.unused) now-is (lays-kept xs mid _ _ f.slots _ laid lies (names-now
+            ∙ sym (names-all ∙ ap (λ k. names f.below ++ (k ++ names f.above)) e))
             into back placed (λ s i a. outside-same s i) out.kept)
 
         -- a block that a handle led to
@@ -181,10 +194,15 @@ module _ (f : Freeing) (start at : ℕ) (xs : List ℕ) (m : MayFree f start at 
           of-all P e = (each-right P (names f.below) (slot ∷ names f.above) (subst (Each P) names-slot e)).0
 
           subset : (P : ℕ → Type 0) → Each P (names all) → Each P (names now)
-          subset P e = grind (arith, names-now, each-drop, names-slot)
+          subset P e =
+              subst (Each P) (sym names-now)
+              (each-drop P (names f.below) slot (names f.above) (subst (Each P) names-slot e))
 
           fewer : (t : ℕ) → Has (names all) t → (t ≡ slot) ⊎ Has (names now) t
-          fewer t k = grind (arith, has-drop, names-slot, names-now)
+          fewer t k = elim (has-drop (names f.below) slot (names f.above) t (subst (λ q. Has q t) names-slot k)) [
+            | inl e ↦ inl e
+            | inr j ↦ inr (subst (λ q. Has q t) (sym names-now) j)
+          ]
 
           slot-is : IsSlot slot all
           slot-is = of-all (λ s. IsSlot s all) laid.has_slots.slots
@@ -193,11 +211,14 @@ module _ (f : Freeing) (start at : ℕ) (xs : List ℕ) (m : MayFree f start at 
           pairs = subst (Pairs Apart) names-slot laid.has_slots.apart
 
           far : Each (Apart slot) (names now)
-          far = grind (arith, names-now, each-append, pairs-before, pairs, pairs-after)
+          far = subst (Each (Apart slot)) (sym names-now) (each-append (Apart slot) _ _
+              (pairs-before slot (names f.below) (names f.above) pairs)
+              (pairs-after slot (names f.below) (names f.above) pairs))
 
           has : HasSlots now
           has = record {
-            slots = each-map (λ s. IsSlot s all) (λ s. IsSlot s now) into _ (grind (arith, subset, laid));
+            slots = each-map (λ s. IsSlot s all) (λ s. IsSlot s now) into _
+                (subset (λ s. IsSlot s all) laid.has_slots.slots);
             apart = subst (Pairs Apart) (sym names-now) (pairs-drop (names f.below) slot (names f.above) pairs);
           }
 
@@ -205,7 +226,10 @@ module _ (f : Freeing) (start at : ℕ) (xs : List ℕ) (m : MayFree f start at 
           used = used-is (f.slots slot) (of-all (λ s. IsUsed (f.slots s)) laid.used)
 
           pub slot-fits : (slot % 4 ≡ 0) × (slot + 4 ≤ length mid)
-          slot-fits = grind (arith, slot-inside, slot-is, length-tiles, laid, slot-even)
+          slot-fits =
+              let i = slot-inside slot all slot-is in
+              let l = length-tiles (head_of resource) xs all laid.lies.tiles in
+              (slot-even (head_of resource) xs slot all laid.lies.tiles slot-is, omega (arith, i, l))
 
           pub slot-lays : (w : ℕ) → w ≡ empty_word (is_resource (f.slots slot))
               → Lays (written slot (word w) mid) (f.below ++ (free (at + size f.here - start) ++ f.above)) f.slots
@@ -219,9 +243,18 @@ module _ (f : Freeing) (start at : ℕ) (xs : List ℕ) (m : MayFree f start at 
                     (into slot slot-is) lies.tiles;
                 leads = leads-written _ _ _ 0 _ fits
                     (each-map (Apart slot) _ (λ t p. apart-clear slot w t p) (names now) far) lies.leads;
-              }) has into back placed (length-written slot (word w) mid (omega (arith, slot-fits, wl)) ∙ out.kept)
+              })
+              has into back placed (length-written slot (word w) mid (omega (arith, slot-fits, wl)) ∙ out.kept)
               _ _ used fewer subset far (piece-written slot (word w) mid 4 (sym wl) fits
-              ∙ ap word e) (grind (arith, piece-clear, apart-clear, of-all, outside-same)))
+              ∙ ap word e) (λ s i a. piece-clear _ _ _ s fits
+              (apart-clear slot w s (elim (of-all (Apart s) a) [ inl p ↦ inr p | inr p ↦ inl p ]))
+              ∙ outside-same s i))
 
   pub none-led : kind f.here < 3 → names_of f.here ≡ []
-  none-led k = grind arith
+  none-led k = of-kind f.here k
+    where
+      of-kind : (b : Block) → kind b < 3 → names_of b ≡ []
+      of-kind (Free n) k = refl
+      of-kind (Nonrelocatable id content) k = refl
+      of-kind Masters k = refl
+      of-kind (Relocatable slot flags content) k = absurd (let q : 3 < 3 = k in omega (arith, q))

@@ -49,9 +49,12 @@ use Rattle.block_store.proofs.Zone.Spots.{room-size}
 
 -- blocks that stand apart, parted into the Free one that comes first and the others
 pub headed-above : (above : List Block) → Apart above → Heading above (free_first above) (past_free above)
+headed-above [] a = record { is = refl; unjoined = refl }
 headed-above (Free zero ∷ above) a = absurd (longer _ _ a.0)
 headed-above (Free (suc n) ∷ above) a = record { is = refl; unjoined = unjoined-above _ _ a }
-headed-above _ a = record { is = refl; unjoined = refl }
+headed-above (Nonrelocatable id content ∷ above) a = record { is = refl; unjoined = refl }
+headed-above (Masters ∷ above) a = record { is = refl; unjoined = refl }
+headed-above (Relocatable id flags content ∷ above) a = record { is = refl; unjoined = refl }
 
 -- the Free bytes that come first lie in the bytes
 pub free-whole : (at : ℕ) (xs : List ℕ) (w : IsOnWay at xs) → (free_first (left_in at xs) % 16 ≡ 0)
@@ -89,8 +92,9 @@ same-of n place (Relocatable id flags content) k = let z = ap padded (length-res
 -- a block that holds none has one size
 pub unsized : (n : ℕ) (b : Block) → (kind b % 2 == 1) ≡ false → resized n b ≡ b
 unsized n (Free m) k = refl
+unsized n (Nonrelocatable id content) k = absurd (false≢true (sym k))
 unsized n Masters k = refl
-unsized n _ k = absurd (false≢true (sym k))
+unsized n (Relocatable id flags content) k = absurd (false≢true (sym k))
 
 -- the header of a block at another size
 module _ (resource : ℕ → Bool) (n at : ℕ) (xs : List ℕ) (small : length xs ≤ 134217728) where
@@ -99,6 +103,7 @@ module _ (resource : ℕ → Bool) (n at : ℕ) (xs : List ℕ) (small : length 
       × (header (padded n + kind b) n (word_at (at + 8) xs) (word_at (at + 12) xs) ++ resized_content n (content_of b)
       ≡ head_of resource (resized n b))
   unfolding head_of
+  sized-head (Free m) t w k = absurd (false≢true k)
   sized-head (Nonrelocatable id content) t w k =
       let q = header-told _ _ 0 0 at content xs t in
       let y = length-resized n content in
@@ -190,7 +195,9 @@ module _ (xs : List ℕ) (place n : ℕ) (s : Spot) (at : Standing xs place s) (
     ]
 
     pub ends : (place + hd.size + m ≤ length xs) × ((place + hd.size + m) % 16 ≡ 0)
-    ends = omega (arith, free-whole, way-behind)
+    ends =
+        let w = free-whole (place + hd.size) xs way-behind in
+        (omega (arith, w, mb), omega (arith, w, mb))
 
     tells : (word_at (place + 4) xs ≡ length (content_of s.here))
         × (header (padded n + kind s.here) n (word_at (place + 8) xs) (word_at (place + 12) xs)
@@ -201,11 +208,23 @@ module _ (xs : List ℕ) (place n : ℕ) (s : Spot) (at : Standing xs place s) (
     long-is = r.long ∙ tells.0
 
     pub may-size : MayLay sized-header place (place + hd.size + m) hd.logical xs
-    may-size = grind (arith, ends, fits, size-is, content-room, long-is)
+    may-size =
+        record {
+          even = (at.way.walk.whole, ends.1, omega (arith, pz));
+          inside = ends.0;
+          small = at.small;
+          room = omega (arith, pz, fits, size-is);
+          whole = omega (arith, pz);
+          fits = omega (arith, content-room, long-is, size-is);
+        }
 
     head-is : header_bytes sized-header ++ resized_content n (piece (place + 16) hd.logical xs) ≡ head_of
         (resource_in xs) new
-    head-is = grind (arith, long-is, held-piece, resource_in, kind-is, tells)
+    head-is =
+        let c : piece (place + 16) hd.logical xs ≡ content_of s.here =
+        ap (λ k. piece (place + 16) k xs) long-is ∙ held-piece (resource_in xs) s.here place xs at.tile in
+        ap (λ q. header_bytes sized-header ++ resized_content n q) c
+        ∙ (λ j. header (pz j + kind-is j) n (r.named j) (r.marked j) ++ resized_content n (content_of s.here)) ∙ tells.1
 
     module _ (first unused : ℕ) (i : IsSound xs first unused) where
       abbrev now : List ℕ
@@ -220,12 +239,19 @@ module _ (xs : List ℕ) (place n : ℕ) (s : Spot) (at : Standing xs place s) (
           let k : place + hd.size + m - place - z ≡ size s.here + m - size new = omega (arith, y, same.size, pz) in
           subst (λ bs. Lays now bs (slot_in xs) i.unused) (ap (λ j. s.below ++ new ∷ (free j ++ rest)) k)
           (laid-lays _ _ _ i _ (s.here ∷ free m) _ (at.whole ∙ ap (λ l. s.below
-          ++ s.here ∷ l) heads.is) _ _ at.low (omega (arith, y, span-free)) (grind arith) (no-slots-two s.here m same.no_masters)
-          _ _ may-size _ same.still_none (same.size ∙ sym pz) (grind arith) (same.placed at.placed) head-is
-          (grind arith))
+          ++ s.here ∷ l) heads.is) _ _ at.low (omega (arith, y, span-free)) (omega (
+            arith,
+            at.some,
+            y,
+          )) (no-slots-two s.here m same.no_masters)
+          _ _ may-size _ same.still_none (same.size ∙ sym pz)
+          (same.names ∙ sym (ap (λ l. names_of s.here ++ l) (names-free m) ∙ append-nil (names_of s.here)))
+          (same.placed at.placed) head-is
+          (subst (Each (λ k. piece k 4 xs ≡ word place)) (sym same.names) (leads-each place s.here xs at.leads)))
 
       pub cut-lays : size new ≤ size s.here → Lays now (filled new s) (slot_in xs) i.unused
-      cut-lays le = grind (arith, cut-sized, same, heads, sized-lays)
+      cut-lays le = subst (λ bs. Lays now bs (slot_in xs) i.unused)
+          (sym (cut-sized _ same.solid s at.apart m _ heads le)) sized-lays
 
       pub grown-lays : size s.here < size new → IfSome (grow_up new s) (λ after. Lays now after (slot_in xs) i.unused)
       grown-lays more = if-spot _ (λ after. Lays now after (slot_in xs) i.unused)
@@ -234,18 +260,27 @@ module _ (xs : List ℕ) (place n : ℕ) (s : Spot) (at : Standing xs place s) (
 
       pub free-sized : (count : ℕ) → count ≡ free_sum (zone_in xs)
           → (z ≤ count + hd.size) × (count ≤ 134217728) × (count + hd.size - z ≡ free_sum (zone_in now))
-      free-sized count c = let d = ap free_sum at.whole ∙ ap (λ l. free_sum (s.below ++ s.here ∷ l)) heads.is
+      free-sized count c =
+          let a = ap free_sum (zone-of now result (slot_in xs) i.unused sized-lays) in
+          let b = free_sum-sized s.below new (size s.here + m - size new) rest same.solid in
+          let d = ap free_sum at.whole ∙ ap (λ l. free_sum (s.below ++ s.here ∷ l)) heads.is
           ∙ free_sum-sized _ _ m _ same.held in
           let e = total-le free_of size free_of-le (zone_in xs) in
           let f = fits in
           let y = size-is in
-          (omega (arith, c, d, f, y, pz), omega (arith, c, (total-le free_of size free-part (zone_in xs)), sizes-length), omega (arith, (ap free_sum (zone-of now result (slot_in xs) i.unused sized-lays)), (free_sum-sized s.below new (size s.here + m - size new) rest same.solid), c, d, f, y, same.size, pz))
+          let v = same.size in
+          (omega (arith, c, d, f, y, pz), omega (arith, c, e, sizes-length), omega (arith, a, b, c, d, f, y, v, pz))
 
 -- where a block holds no bytes, all stays
 module _ (xs : List ℕ) (place n : ℕ) (s : Spot) (at : Standing xs place s) (none : (kind s.here % 2 == 1) ≡ false)
     (first unused : ℕ) (i : IsSound xs first unused) where
   pub kept-cut : Lays xs (filled (resized n s.here) s) (slot_in xs) i.unused
-  kept-cut = grind (arith, tidy-below, unsized)
+  kept-cut =
+      let z : size s.here - size s.here ≡ 0 = omega arith in
+      subst (λ bs. Lays xs bs (slot_in xs) i.unused)
+      (at.whole ∙ sym at.tidied ∙ tidy-below s.below (s.here ∷ s.above) (s.here ∷ Free 0 ∷ s.above) refl
+      ∙ ap (λ k. tidy (s.below ++ s.here ∷ Free k ∷ s.above)) (sym z)
+      ∙ ap (λ b. filled b s) (sym (unsized n s.here none))) i.lays
 
   pub kept-grown : size s.here < size (resized n s.here)
       → IfSome (grow_up (resized n s.here) s) (λ after. Lays xs after (slot_in xs) i.unused)

@@ -19,6 +19,7 @@ module _ (resource : ℕ → Bool) (at : ℕ) (xs : List ℕ) (small : length xs
   pub contained : (b : Block) → Tile (head_of resource b) (size b) (drop at xs) → (kind b % 2 == 1) ≡ true
       → Contained at xs b
   unfolding head_of
+  contained (Free n) t k = absurd (false≢true k)
   contained (Nonrelocatable id content) t k =
       let q = header-told _ _ 0 0 at content xs t in
       let w = q.long small in
@@ -31,8 +32,9 @@ module _ (resource : ℕ → Bool) (at : ℕ) (xs : List ℕ) (small : length xs
 
 pub empty : (b : Block) → (kind b % 2 == 1) ≡ false → content_of b ≡ []
 empty (Free n) k = refl
+empty (Nonrelocatable id content) k = absurd (false≢true (sym k))
 empty Masters k = refl
-empty _ k = absurd (false≢true (sym k))
+empty (Relocatable slot flags content) k = absurd (false≢true (sym k))
 
 same-head : (b c : Block) (bs cs : List Block) → b ∷ bs ≡ c ∷ cs → b ≡ c
 same-head b c bs cs e = cc

@@ -1,5 +1,5 @@
 -- The block of a slot is moved to the top of its run, of a zone in bytes.
-use Rattle.std.proofs.Common.{◌≡◌, ℕ, true, cond, ◌+◌, ◌%◌, ◌≤◌, Some, List, [], ◌∷◌, ◌++◌, length, drop, rules}
+use Rattle.std.proofs.Common.{◌≡◌, ℕ, true, cond, ◌+◌, ◌%◌, ◌≤◌, Some, List, [], ◌∷◌, ◌++◌, length, drop}
 use Rattle.std.proofs.Common.{refl, sym, ap, ◌∙◌, subst, arith, append_assoc}
 use Rattle.std.proofs.Math.Seq.{drop-append_seam}
 use Rattle.heap_words.specs.Words.{word_at}
@@ -74,7 +74,9 @@ module _ {xs : List ℕ} {first unused place top stop : ℕ} {old : List Block}
   slot-inside = slot-in xs (beneath ++ block ∷ (over ++ r.above)) (slot_in xs) k.sound.unused laid-was number slot-here
 
   small-here : here ≤ 134217728
-  small-here = omega (arith, sizes-length, laid-was, span-append)
+  small-here =
+      let l = sizes-length xs (beneath ++ block ∷ (over ++ r.above)) (slot_in xs) k.sound.unused laid-was in
+      omega (arith, l, span-append)
 
   -- and tells where the block is
   slot-tells : word_at number xs ≡ here
@@ -92,10 +94,14 @@ module _ {xs : List ℕ} {first unused place top stop : ℕ} {old : List Block}
   }
 
   hoist-is : hoist_at xs here ≡ raw
-  hoist-is = let s : spot_at here (zone_in xs) ≡ Some _ = ap (spot_at here) packed-parts ∙ spot_at-parts _ _ _
+  hoist-is =
+      let s : spot_at here (zone_in xs) ≡ Some (record { below = beneath; here = block; above = over ++ r.above }) =
+      ap (spot_at here) packed-parts ∙ spot_at-parts _ _ _
       (apart-tidied _ (sym (ap tidy packed-parts) ∙ k.sound.tidied ∙ packed-parts)) in
       let f = first-run over r.above (loose-over number r.run cut loose-run) (run_at-ended place old r k.is).stops in
-      ap (hoist_from xs) s ∙ (λ j. record raw { over = f j; above = (ap (λ l. drop (length l) (over ++ r.above)) f ∙ drop-append_seam over r.above) j })
+      let g : drop (length (segments (over ++ r.above)).first) (over ++ r.above) ≡ r.above =
+      ap (λ l. drop (length l) (over ++ r.above)) f ∙ drop-append_seam over r.above in
+      ap (hoist_from xs) s ∙ (λ j. record raw { over = f j; above = g j })
 
   module _ (at : ℕ) (w : at ≡ word_at number xs) where
     hoist-at : hoist_at xs at ≡ raw
@@ -122,13 +128,20 @@ module _ {xs : List ℕ} {first unused place top stop : ℕ} {old : List Block}
         }
 
     pub may-hoist : MayHoist (hoist_at xs at) at stop
-    may-hoist = grind (arith, hoist-at, slot-tells, may-move)
+    may-hoist = subst (λ z. MayHoist z at stop) (sym hoist-at)
+        (subst (λ j. MayHoist raw j stop) (sym (w ∙ slot-tells)) may-move)
 
     pub hoist-changed : ((name : ℕ) → count (is_relocatable name) old ≤ 1) → (new : List ℕ)
         → Hoisted (hoist_at xs at) new → ChangedRun (high (is_relocatable number)) old r new first unused (slot_in xs)
     hoist-changed once new d =
         let test = is_relocatable number in
         let ones : Block → ℕ = λ b. cond {A = ℕ} (test b) 1 0 in
+        let all : count test (r.below ++ (r.run ++ r.above)) ≡ count test old =
+        ap (count test) (run_at-is place old r k.is) in
+        let a : count test (r.below ++ (r.run ++ r.above)) ≡ count test r.below + count test (r.run ++ r.above) =
+        total-append ones r.below (r.run ++ r.above) in
+        let b : count test (r.run ++ r.above) ≡ count test r.run + count test r.above =
+        total-append ones r.run r.above in
         let shape : beneath ++ ((over ++ block ∷ []) ++ r.above) ≡ with_run (high test) r =
         rw (high-parts number r.run cut (omega (arith, all, a, b, once))) (simp append_assoc) in
         relaid-run (high test) place old r k.is (λ of adds l. high-total of adds number r.run l)

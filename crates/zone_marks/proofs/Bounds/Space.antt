@@ -32,22 +32,28 @@ spares = spared sparing.Nothing
 -- no room for so many bytes is none for more
 room-more : (p q : ℕ) (b : Block) → p ≤ q → is_room p b ≡ false → is_room q b ≡ false
 room-more p q (Free n) l e = grind (arith, l, e)
-room-more p q _ l e = refl
+room-more p q (Nonrelocatable id content) l e = refl
+room-more p q Masters l e = refl
+room-more p q (Relocatable id flags content) l e = refl
 
 room-less : (m : ℕ) (b : Block) → is_room (m + 1) b ≡ false → free_of b ≤ m
 room-less m (Free n) e = grind (arith, e)
-room-less m _ e = omega arith
+room-less m (Nonrelocatable id content) e = omega arith
+room-less m Masters e = omega arith
+room-less m (Relocatable id flags content) e = omega arith
 
 pub no-more-room : (p q lo hi x : ℕ) (blocks : List Block) → p ≤ q → AtEach (NoRoom p lo hi) x blocks
     → AtEach (NoRoom q lo hi) x blocks
-no-more-room p q lo hi x blocks l = grind (arith, at-map, room-more)
+no-more-room p q lo hi x blocks l = at-map (NoRoom p lo hi) (NoRoom q lo hi) x _
+    (λ _ b _ _ r m n. room-more p q b l (r m n))
 
 -- where no room is for more, none is larger
 largest-within : (m hi x : ℕ) (blocks : List Block) → x + sizes blocks < hi → AtEach (NoRoom (m + 1) 0 hi) x blocks
     → largest_free blocks ≤ m
 largest-within m hi x [] l e = omega arith
 largest-within m hi x (b ∷ blocks) l e =
-    omega (arith, room-less m b (e.0 (omega arith) (omega (arith, l))), (largest-within m hi (x + size b) blocks (omega (arith, l)) e.1))
+    let r = largest-within m hi (x + size b) blocks (omega (arith, l)) e.1 in
+    omega (arith, room-less m b (e.0 (omega arith) (omega (arith, l))), r)
 
 -- the largest of some blocks and others above them
 largest-append : (below above : List Block)
@@ -63,7 +69,11 @@ pub record Growing (xs : List ℕ) (from at most largest : ℕ) : Type 0 where
 
 module _ (xs : List ℕ) (from most : ℕ) where
   pub growing-start : IsOnWay from xs → Growing xs from from most most
-  growing-start w = grind arith
+  growing-start w = record {
+    passed = passed-start xs from (λ _ b. is_room (most + 1) b ≡ false) w;
+    no_less = omega arith;
+    reached = omega arith;
+  }
 
   pub growing-step : (at end free largest next : ℕ) (barrier : Bool) → Growing xs from at most largest
       → Spans at end free barrier xs → largest ≤ next → free ≤ next → (next ≡ largest) ⊎ (next ≡ free)
@@ -75,7 +85,10 @@ module _ (xs : List ℕ) (from most : ℕ) where
             (λ _ c. room-more _ _ c (omega (arith, l))) g.passed s.here s.is s.up s.way
             (no-room _ s.here (omega arith) (λ _ q. omega (arith, m, q)));
         no_less = omega (arith, l);
-        reached = (grind arith);
+        reached = elim o [
+          | inl e ↦ omega (arith, z, m, e)
+          | inr e ↦ omega (arith, z, l, e)
+        ];
       }
 
 module _ (xs : List ℕ) (first unused : ℕ) (i : IsSound xs first unused) where
@@ -96,7 +109,11 @@ purged-above k bound x (b ∷ below) above s l =
 
 -- where nothing would be given, nothing is purged
 none-given : (sp : Block → Bool) (b : Block) → purgeable_of b ≤ 0 → may_be_purged sp b ≡ false
-none-given sp b l = grind arith
+none-given sp b l = cases (may_be_purged sp b) (one-gives sp b)
+  where
+    cases : (t : Bool) → cond {A = ℕ} t 1 0 ≤ purgeable_of b → t ≡ false
+    cases true g = absurd (omega (arith, g, l))
+    cases false g = refl
 
 none-purged : (k : ℕ) (sp : Block → Bool) (bs : List Block) → purgeable_sum bs ≤ 0 → lowest_purged k sp bs ≡ bs
 none-purged k sp [] l = lowest_purged-none k sp
@@ -112,7 +129,9 @@ stands-still k zone t l = ap tidy (none-purged k spares _ l) ∙ t
 stretch-rises : (f g : ℕ) (bs : List Block) → f ≤ g → largest_stretch f bs ≤ largest_stretch g bs
 stretch-rises f g [] l = l
 stretch-rises f g (Free n ∷ bs) l = stretch-rises (f + n) _ bs (omega (arith, l))
-stretch-rises f g _ l = omega (arith, l)
+stretch-rises f g (Nonrelocatable id content ∷ bs) l = omega (arith, l)
+stretch-rises f g (Masters ∷ bs) l = omega (arith, l)
+stretch-rises f g (Relocatable id flags content ∷ bs) l = omega (arith, l)
 
 stretch-above : (f : ℕ) (below above : List Block) → largest_stretch 0 above ≤ largest_stretch f (below ++ above)
 stretch-above f [] above = stretch-rises 0 f above (omega arith)
@@ -156,24 +175,31 @@ SameFirst (b ∷ old) (c ∷ new) = b ≡ c
 stretch-ends : (f : ℕ) (old new : List Block) → Apart old → (f ≡ 0) ⊎ (top_free old ≡ 0) → SameFirst old new
     → largest_stretch f new ≤ max f (largest_stretch 0 new)
 stretch-ends f [] [] a e s = omega arith
+stretch-ends f [] (c ∷ new) a e s = absurd s
+stretch-ends f (b ∷ old) [] a e s = absurd s
 stretch-ends f (b ∷ old) (c ∷ new) a (inl e) s = omega (arith, ap (λ g. largest_stretch g (c ∷ new)) e)
-stretch-ends f (b ∷ old) (Free n ∷ new) a (inr e) s = grind (arith, apart-size, top_free)
+stretch-ends f (b ∷ old) (Free n ∷ new) a (inr e) s =
+    let z : 0 < size b = apart-size b old a.0 in
+    absurd (omega (arith, z, ap size s, ap (λ q. top_free (q ∷ old)) s, e))
 stretch-ends f (b ∷ old) (Nonrelocatable id content ∷ new) a (inr e) s = omega arith
 stretch-ends f (b ∷ old) (Masters ∷ new) a (inr e) s = omega arith
 stretch-ends f (b ∷ old) (Relocatable id flags content ∷ new) a (inr e) s = omega arith
-stretch-ends f _ _ a e s = absurd s
 
 top-apart : (n : ℕ) (bs : List Block) → add (Free n) bs ≡ Free n ∷ bs → top_free bs ≡ 0
+top-apart n [] e = refl
 top-apart zero (Free m ∷ bs) e = absurd (let z : 0 < 0 = apart-size _ _ e in omega (arith, z))
 top-apart (suc n) (Free m ∷ bs) e = absurd (two _ _ _ _ e)
-top-apart n _ e = refl
+top-apart n (Nonrelocatable id content ∷ bs) e = refl
+top-apart n (Masters ∷ bs) e = refl
+top-apart n (Relocatable id flags content ∷ bs) e = refl
 
 stretch-parts : (f : ℕ) (below old new : List Block) → Apart (below ++ old) → (f ≡ 0) ⊎ (top_free (below ++ old) ≡ 0)
     → SameFirst old new → largest_stretch f (below ++ new) ≤ max (max f (largest_free below)) (largest_stretch 0 new)
 stretch-parts f [] old new a e s = let r = stretch-ends f _ _ a e s in omega (arith, r)
 stretch-parts f (Free n ∷ below) old new a (inl e) s =
     let r = stretch-parts (f + n) below old new a.1 (inr (top-apart n (below ++ old) a.0)) s in omega (arith, r, e)
-stretch-parts f (Free n ∷ below) old new a (inr e) s = omega (arith, apart-size)
+stretch-parts f (Free n ∷ below) old new a (inr e) s =
+    let z : 0 < n = apart-size (Free n) (below ++ old) a.0 in absurd (omega (arith, z, e))
 stretch-parts f (Nonrelocatable id content ∷ below) old new a e s =
     let r = stretch-parts 0 below old new a.1 (inl refl) s in omega (arith, r)
 stretch-parts f (Masters ∷ below) old new a e s =
@@ -203,8 +229,9 @@ module _ (xs : List ℕ) (first unused : ℕ) (i : IsSound xs first unused) (k f
   parted l =
       let s = seen-from xs first unused i from m.begins in
       let rest = left_in from xs in
+      let stays = subst (NoneGoes m.bound) s.is m.none in
       let e = after-is _ ∙ ap (λ z. largest_stretch 0 (lowest_purged k spares z)) s.is
-      ∙ ap (largest_stretch 0) (purged-above k _ 0 _ _ (at-left (Stays m.bound) 0 _ rest (subst (NoneGoes m.bound) s.is m.none)) (omega (arith, l))) in
+      ∙ ap (largest_stretch 0) (purged-above k _ 0 _ _ (at-left (Stays m.bound) 0 _ rest stays) (omega (arith, l))) in
       let up = stretch-parts 0 s.below rest (lowest_purged k spares rest)
       (subst Apart s.is (apart-tidied (zone_in xs) i.tidied)) (inl refl)
       (same-first k m.bound (0 + sizes s.below) rest (omega (arith, l))
@@ -213,4 +240,9 @@ module _ (xs : List ℕ) (first unused : ℕ) (i : IsSound xs first unused) (k f
 
   pub largest-from : largest_free (purged k sparing.Nothing (zone_in xs))
       ≡ max (largest_free (zone_in xs)) (largest_free (purged k sparing.Nothing (left_in from xs)))
-  largest-from = grind (arith, parted, left-zone, rises)
+  largest-from = elim m.low [
+    | inl l ↦ parted l
+    | inr e ↦
+        let z = ap (λ q. largest_free (purged k sparing.Nothing q)) (ap (λ p. left_in p xs) e ∙ left-zone xs) in
+        omega (arith, rises, z)
+  ]

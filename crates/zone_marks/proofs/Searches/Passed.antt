@@ -1,7 +1,7 @@
 -- A search for a run that passes blocks by what they come to in runs.
 use Rattle.zone_summary.specs.declared.stretch.Counting.TheVariants.{Runs}
 use Rattle.std.proofs.Common.{◌≡◌, ℕ, ◌+◌, ◌≤◌, ◌<◌, ◌^◌, ◌&&◌, ◌⊎◌, inl, inr, Bool, true, false, nat_le, None, List}
-use Rattle.std.proofs.Common.{[], ◌++◌, length}
+use Rattle.std.proofs.Common.{[], ◌++◌, length, rules}
 use Rattle.std.proofs.Common.{append_assoc, append-nil, refl, sym, ap, ◌∙◌, subst, arith}
 use Rattle.std.proofs.lemmas.Bool.{cond-false}
 use Rattle.std.proofs.lemmas.List.{append_cancel_right}

@@ -31,6 +31,8 @@ returns c =
     let n = c.args.sparing in
     let f = first (goal.at.returns c).Start in
     let left = left-above c.args.part.now.bytes i.0 i.1 i.2 f.low f.rest c.args.run f.is f.at in
+    let lacks = c.saturating_sub-lacks.ensures
+    ∙ ap (λ k. c.args.bytes - k) (c.free_at-free.ensures ∙ ap (λ l. prefix (stretch_of (opened n l))) left) in
     let own = c.count_for.ensures.is
     ∙ ap (λ l. purges_for (spared n) c.saturating_sub-lacks.result (opened n l)) (c.walk_at.ensures.is ∙ left)
     ∙ ap (λ k. purges_for (spared n) k (opened n f.rest)) lacks in

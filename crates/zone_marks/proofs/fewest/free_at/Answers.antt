@@ -1,4 +1,4 @@
-use Rattle.std.proofs.Common.{◌∙◌, ap, sym}
+use Rattle.std.proofs.Common.{◌∙◌, ap, sym, arith}
 use Rattle.block_store.specs.Sparing.{opened}
 use Rattle.zone_summary.specs.Stretches.{prefix, stretch_of}
 use Rattle.zone_bytes.specs.Stepping.{left_in}

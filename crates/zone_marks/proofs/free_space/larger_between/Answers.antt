@@ -1,4 +1,4 @@
-use Rattle.std.proofs.Common.{◌≡◌, ◌+◌, false, arith}
+use Rattle.std.proofs.Common.{◌≡◌, ◌+◌, false, arith, rules}
 use Rattle.block_store.specs.Block.{is_room}
 use Rattle.zone_marks.proofs.Bounds.Space.{growing-start, growing-step}
 use Rattle.zone_marks.proofs.Marks.Passing.{passed-all, past}

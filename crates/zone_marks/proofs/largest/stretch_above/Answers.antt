@@ -31,7 +31,8 @@ loop-index-init c =
     }
 
 pub returns-then-suffices-clause-low : goal.returns-then-suffices-clause-low
-returns-then-suffices-clause-low c = grind arith
+returns-then-suffices-clause-low c =
+    ended-lowest _ _ (c.suffices.ensures c.if-suffices.true).1 ∙ sym (ap prefix c.loop-index.invariant.same)
 
 pub stretch_of_mark-requires-clause-order : goal.stretch_of_mark-requires-clause-order
 stretch_of_mark-requires-clause-order c =
@@ -52,8 +53,9 @@ pub loop-index-preserved : goal.loop-index-preserved
 loop-index-preserved c =
     let rest = stretch_by c.args.counting (left_in c.edge_of-next.result c.args.part.now.bytes) in
     record {
-      same = c.loop-index.invariant.same ∙ ap (join c.loop-index.stretch) (grind (arith, known-past))
-          ∙ sym (join-assoc _ _ _) ∙ ap (λ r. join r (stretch_by c.args.counting (left_in c.within-next.result xs))) (sym c.join-stretch.ensures.is);
+      same = c.loop-index.invariant.same ∙ ap (join c.loop-index.stretch)
+          (known-past _ _ _ _ _ c.stretch_of_mark.ensures)
+          ∙ sym (join-assoc _ _ _) ∙ ap (λ r. join r rest) (sym c.join-stretch.ensures.is);
       inside = c.told_from-told.ensures.inside;
       few =
           (let k = known-fits _ _ _ _ _ c.stretch_of_mark.ensures in

@@ -1,3 +1,4 @@
+use Rattle.std.proofs.Common.{rules}
 use Rattle.zone_marks.proofs.Bounds.Fewest.{stretch-from}
 use Rattle.zone_marks.proofs.Marks.Lowering.{begins-way}
 use Rattle.zone_marks.specs.declared.landmark.Tally.TheVariants as tally

@@ -1,4 +1,4 @@
-use Rattle.std.proofs.Common.{◌≡◌, false, inl, arith}
+use Rattle.std.proofs.Common.{◌≡◌, false, inl, arith, rules}
 use Rattle.block_store.specs.Block.{is_room}
 use Rattle.zone_marks.proofs.Marks.Passing.{passed-begins, passed-on, passed-all, past}
 use Rattle.zone_marks.proofs.Marks.Spanned.{no-room, room-here}
