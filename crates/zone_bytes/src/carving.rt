@@ -41,7 +41,8 @@ pub fn carve(part: &mut Part, bottom: u32, top: u32, slot: u32, size: u32, flags
     requires may { MayLay (new_header slot size flags) bottom top 0 part.old.bytes }
     requires slot { (slot % 4 ≡ 0) × (slot + 4 ≤ length part.old.bytes) }
     ensures same { KeepsPlace part.old part.new }
-    ensures bytes { part.new.bytes ≡ written slot (word bottom) (laid (new_header slot size flags) bottom top 0 part.old.bytes) }
+    ensures bytes { part.new.bytes ≡ written slot (word bottom)
+        (laid (new_header slot size flags) bottom top 0 part.old.bytes) }
 {
     let header = Header {
         size: padded_size(size),

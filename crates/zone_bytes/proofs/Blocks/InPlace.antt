@@ -1,14 +1,17 @@
 -- A block of a RawZone that is written anew where it stands.
-use Rattle.std.proofs.Common.{◌≡◌, ℕ, false, ◌+◌, ◌-◌, ◌<◌, inl, inr, if◌then◌else◌, List, [], ◌∷◌, ◌++◌, take, drop, ◌≤◌, length}
+use Rattle.std.proofs.Common.{◌≡◌, ℕ, false, ◌+◌, ◌-◌, ◌<◌, inl, inr, if◌then◌else◌, List, [], ◌∷◌, ◌++◌, take, drop}
+use Rattle.std.proofs.Common.{◌≤◌, length}
 use Rattle.std.proofs.Common.{sym, ap, ◌∙◌, subst, arith}
 use Rattle.std.proofs.lemmas.Bool.{false≢true}
 use Rattle.std.proofs.lemmas.List.{length-take-le, length-drop, append-nil}
 use Rattle.windows.specs.Writes.{piece, written}
 use Rattle.heap_words.specs.Words.{word}
-use Rattle.block_store.specs.Block.{Block, Free, Nonrelocatable, Masters, Relocatable, size, sizes, tidy, count, is_masters, free}
+use Rattle.block_store.specs.Block.{Block, Free, Nonrelocatable, Masters, Relocatable, size, sizes, tidy, count}
+use Rattle.block_store.specs.Block.{is_masters, free}
 use Rattle.block_store.specs.Block.{total}
 use Rattle.block_store.proofs.Zone.Totals.{total-append}
-use Rattle.zone_bytes.specs.Layout.{head_of, Tile, Tiles, IsSlot, names_of, LeadsTo, Each, IsPlaced, names, Leads, ArePlaced}
+use Rattle.zone_bytes.specs.Layout.{head_of, Tile, Tiles, IsSlot, names_of, LeadsTo, Each, IsPlaced, names, Leads}
+use Rattle.zone_bytes.specs.Layout.{ArePlaced}
 use Rattle.zone_bytes.specs.Splicing.{SameOutside}
 use Rattle.zone_bytes.specs.Decode.{zone_in}
 use Rattle.zone_bytes.specs.Table.{Lays, slot_in}
@@ -126,7 +129,8 @@ module _ (xs : List ℕ) (first count : ℕ) (i : IsSound xs first count) (below
   head = head_of (λ s. is_resource (slot_in xs s))
 
   pub tile : Tile (head here) (size here) (drop place xs)
-  tile = tile-at xs below here above (slot_in xs) i.unused (subst (λ z. Lays xs z (slot_in xs) i.unused) whole i.lays) place low
+  tile = tile-at xs below here above (slot_in xs) i.unused
+      (subst (λ z. Lays xs z (slot_in xs) i.unused) whole i.lays) place low
 
   pub fits : place + size here ≤ length xs
   fits = omega (arith, tile.fits, length-drop place xs, tile.some)

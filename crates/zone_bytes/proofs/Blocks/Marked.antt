@@ -5,7 +5,8 @@ use Rattle.windows.specs.Writes.{written}
 use Rattle.heap_words.specs.Words.{word, word_at, header}
 use Rattle.heap_words.proofs.Words.{length-word}
 use Rattle.block_store.specs.declared.flags.Flags.{Flags}
-use Rattle.block_store.specs.Block.{Block, Free, Nonrelocatable, Masters, Relocatable, size, sizes, tidy, count, is_masters}
+use Rattle.block_store.specs.Block.{Block, Free, Nonrelocatable, Masters, Relocatable, size, sizes, tidy, count}
+use Rattle.block_store.specs.Block.{is_masters}
 use Rattle.block_store.specs.Block.{free_of, free_sum}
 use Rattle.block_store.specs.Seen.{with_flags}
 use Rattle.block_store.proofs.Purged.Purges.{tidy-flags}
@@ -65,7 +66,8 @@ module _ (xs : List ℕ) (first count : ℕ) (i : IsSound xs first count) (place
       ap (λ v. cond v (written (place + 12) (word (flag_word flags false + word_at (place + 12) xs % 64)) xs) xs)
       (ap (λ t. t == 3) (tag below here above whole low)) ∙ ap (λ n. written (place + 12) (word n) xs) w in
       subst (λ ys. Made ys first count (below ++ Relocatable slot flags content ∷ above) (slot_in xs)) (sym is)
-      (inside-made xs first count i below here above whole place low refl 12 (place + 12) _ (Relocatable slot flags content)
+      (inside-made xs first count i below here above whole place low refl 12 (place + 12) _
+      (Relocatable slot flags content)
       refl (omega (arith, length-head, length-word)) (flagged-header _ _ _ _ _ content) refl refl refl (λ p. p)
       (tidy-flags flags below here above (sym (ap tidy whole) ∙ i.tidied ∙ whole)))
 

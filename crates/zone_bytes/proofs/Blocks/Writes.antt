@@ -7,7 +7,8 @@ use Rattle.windows.specs.Writes.{written}
 use Rattle.windows.proofs.Pieces.{written-same, length-written}
 use Rattle.heap_words.proofs.Headers.{length-header}
 use Rattle.mac_words.specs.Size.{padded}
-use Rattle.block_store.specs.Block.{Block, Free, Nonrelocatable, Masters, Relocatable, size, sizes, tidy, count, is_masters}
+use Rattle.block_store.specs.Block.{Block, Free, Nonrelocatable, Masters, Relocatable, size, sizes, tidy, count}
+use Rattle.block_store.specs.Block.{is_masters}
 use Rattle.block_store.specs.Block.{content_of, with_content, free_of, free_sum}
 use Rattle.block_store.proofs.Zone.Apart.{tidy-content}
 use Rattle.zone_bytes.specs.Layout.{head_of}
@@ -56,7 +57,8 @@ module _ (xs : List ℕ) (first count : ℕ) (i : IsSound xs first count) (place
       let f = fits xs first count i below here above whole place low in
       let m = (tile xs first count i below here above whole place low).some in
       let s = written-same (place + 16 + from) 0 x xs (omega (arith, f, m, w)) (nil x l) in
-      subst (λ ys. Made ys first count (below ++ here ∷ above) (slot_in xs)) (sym s) (made-same xs first count i _ whole)
+      subst (λ ys. Made ys first count (below ++ here ∷ above) (slot_in xs)) (sym s)
+      (made-same xs first count i _ whole)
 
   -- a write behind a header
   past : (h content : List ℕ) → length h ≡ 16 → written (16 + from) x (h ++ content) ≡ h ++ written from x content
@@ -74,15 +76,18 @@ module _ (xs : List ℕ) (first count : ℕ) (i : IsSound xs first count) (place
       let now : Block = Nonrelocatable id (written from x content) in
       let k = length-written from x content w in
       let e : size now ≡ size (Nonrelocatable id content) = ap padded k in
-      inside-made xs first count i below _ above whole place low refl (16 + from) (place + 16 + from) x now (omega arith)
+      inside-made xs first count i below _ above whole place low refl (16 + from) (place + 16 + from) x now
+      (omega arith)
       (omega (arith, length-head, w)) (rw (e, k) (past _ _ (length-header _ (length content) 0 0))) e refl refl (λ p. p)
       (tidy-content (written from x content) below _ above (sym (ap tidy whole) ∙ i.tidied ∙ whole))
   written-in below (Relocatable slot flags content) above whole low w =
       let now : Block = Relocatable slot flags (written from x content) in
       let k = length-written from x content w in
       let e : size now ≡ size (Relocatable slot flags content) = ap padded k in
-      inside-made xs first count i below _ above whole place low refl (16 + from) (place + 16 + from) x now (omega arith)
-      (omega (arith, length-head, w)) (rw (e, k) (past _ _ (length-header _ (length content) slot _))) e refl refl (λ p. p)
+      inside-made xs first count i below _ above whole place low refl (16 + from) (place + 16 + from) x now
+      (omega arith)
+      (omega (arith, length-head, w)) (rw (e, k) (past _ _ (length-header _ (length content) slot _))) e refl refl
+      (λ p. p)
       (tidy-content (written from x content) below _ above (sym (ap tidy whole) ∙ i.tidied ∙ whole))
 
   -- a block's content lies in the bytes

@@ -1,5 +1,6 @@
 -- A fresh RawZone.
-use Rattle.std.proofs.Common.{◌≡◌, ℕ, ◌+◌, ◌-◌, ◌%◌, ◌≤◌, List, [], ◌∷◌, ◌++◌, length, drop, sym, refl, ◌∙◌, subst, arith, Bool, true, false, cond, ◌*◌, zero, suc, nat_le, ◌&&◌, ◌==◌, ap}
+use Rattle.std.proofs.Common.{◌≡◌, ℕ, ◌+◌, ◌-◌, ◌%◌, ◌≤◌, List, [], ◌∷◌, ◌++◌, length, drop, sym, refl, ◌∙◌, subst}
+use Rattle.std.proofs.Common.{arith, Bool, true, false, cond, ◌*◌, zero, suc, nat_le, ◌&&◌, ◌==◌, ap}
 use Rattle.std.proofs.lemmas.List.{append-nil, drop_all}
 use Rattle.windows.specs.Writes.{written}
 use Rattle.windows.proofs.Pieces.{length-written, piece-written}

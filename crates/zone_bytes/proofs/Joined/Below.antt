@@ -1,5 +1,6 @@
 -- A walk to a place, which keeps where the last Free block began.
-use Rattle.std.proofs.Common.{◌≡◌, ℕ, inl, inr, ◌+◌, ◌-◌, ◌%◌, ◌<◌, ◌≤◌, List, [], ◌∷◌, ◌++◌, length, sym, refl, ap, ◌∙◌, subst}
+use Rattle.std.proofs.Common.{◌≡◌, ℕ, inl, inr, ◌+◌, ◌-◌, ◌%◌, ◌<◌, ◌≤◌, List, [], ◌∷◌, ◌++◌, length, sym, refl, ap}
+use Rattle.std.proofs.Common.{◌∙◌, subst}
 use Rattle.std.proofs.Common.{arith}
 use Rattle.heap_words.specs.Words.{word_at}
 use Rattle.block_store.specs.Block.{Block, size, sizes, free_of}
@@ -53,7 +54,8 @@ module _ (xs : List ℕ) (from place : ℕ) (u : LeadsUp from place xs) where
         rest = r.0;
         is = r.2;
         up = omega (arith, span-append, k, l);
-        last = ap (λ n. last_free n r.0) z ∙ same r.0 (omega (arith, span-append, k, l, f)) ∙ ap (last_free 0) (sym r.1);
+        last = ap (λ n. last_free n r.0) z ∙ same r.0 (omega (arith, span-append, k, l, f)) ∙ ap (last_free 0)
+            (sym r.1);
       }
     where
       same : (more : List Block) → 0 < sizes more → last_free 0 more ≡ last_free 0 (u.below ++ more)

@@ -15,7 +15,8 @@ use Rattle.zone_bytes.specs.Joining.{Freeing, MayRelease, HasHandle}
 use Rattle.zone_bytes.specs.Table.{Table, Lays, empty_word}
 use Rattle.zone_bytes.proofs.Tiles.Leading.{names-append, pairs-before, pairs-after}
 use Rattle.zone_bytes.proofs.SlotTable.Tables.{none-apart}
-use Rattle.zone_bytes.proofs.SlotTable.Handles.{IsEmptyHandle, HasBlock, handle-in, block-here, flag, state, emptied-reads, block-reads}
+use Rattle.zone_bytes.proofs.SlotTable.Handles.{IsEmptyHandle, HasBlock, handle-in, block-here, flag, state}
+use Rattle.zone_bytes.proofs.SlotTable.Handles.{emptied-reads, block-reads}
 use Rattle.block_store.specs.Run.{has}
 use Rattle.std.proofs.lemmas.Bool.{or_parts, eq-eqb}
 
@@ -105,12 +106,14 @@ module _ (t : Table) (slot : ℕ) (xs : List ℕ) (h : HasHandle t slot xs) wher
         h.lays.has_slots.apart in
         ap tidy (ap (freed (is_relocatable slot)) f.block.whole ∙ freed-one (is_relocatable slot) _ _ _
         (none-apart slot f.block.below (pairs-before slot (names f.block.below) (names f.block.above) p))
-        (eq-eqb slot slot refl) (none-apart slot f.block.above (pairs-after slot (names f.block.below) (names f.block.above) p)))
+        (eq-eqb slot slot refl) (none-apart slot f.block.above (pairs-after slot (names f.block.below)
+        (names f.block.above) p)))
 
     pub leading-replaced : (lo hi : ℕ) → Replaced lo hi (leading.below ++ leading.here ∷ leading.above)
         (tidy (leading.below ++ Free (size leading.here) ∷ leading.above))
         → Replaced lo hi t.blocks (tidy (freed (is_relocatable slot) t.blocks))
-    leading-replaced lo hi r = subst (λ z. Replaced lo hi z (tidy (freed (is_relocatable slot) t.blocks))) (sym f.block.whole)
+    leading-replaced lo hi r = subst (λ z. Replaced lo hi z (tidy (freed (is_relocatable slot) t.blocks)))
+        (sym f.block.whole)
         (subst (Replaced lo hi (leading.below ++ leading.here ∷ leading.above)) (sym leading-is) r)
 
     pub leading-free : (n : ℕ) → n ≡ size (Relocatable slot f.block.flags f.block.content)

@@ -38,7 +38,8 @@ counted-once number (Masters ∷ blocks) p = let z = counted-once number blocks 
 counted-once number (Relocatable slot flags content ∷ blocks) p = elim (eqb_tells slot number) [
   | inl t ↦
       let e : cond {A = ℕ} (eqb slot number) 1 0 ≡ 1 = ap (λ v. cond {A = ℕ} v 1 0) t.0 in
-      omega (arith, e, count-none (is_relocatable number) blocks (none-apart number blocks (subst (λ k. Each (Apart k) (names blocks)) t.1 p.0)))
+      let a = none-apart number blocks (subst (λ k. Each (Apart k) (names blocks)) t.1 p.0) in
+      omega (arith, e, count-none (is_relocatable number) blocks a)
   | inr t ↦
       let e : cond {A = ℕ} (eqb slot number) 1 0 ≡ 0 = ap (λ v. cond {A = ℕ} v 1 0) t.0 in
       omega (arith, e, counted-once number blocks p.1)
@@ -78,7 +79,8 @@ module _ (xs : List ℕ) (blocks : List Block) (slots : ℕ → Slot) (unused : 
       let g = respelled xs blocks slots unused h in
       record {
         small = (omega (arith, length-tiles));
-        no_block = λ number e. none-other number (zone_in xs) (each-map (λ s. IsUsed (slot_in xs s)) (λ s. s ≡ number → ⊥)
+        no_block = λ number e. none-other number (zone_in xs) (each-map (λ s. IsUsed (slot_in xs s)) (λ s. s ≡ number
+            → ⊥)
             (λ s u q. not-used (slot_in xs s) u (ap (λ k. is_used (slot_in xs k)) q ∙ e)) (names (zone_in xs)) g.used);
         once = λ number. counted-once number (zone_in xs) g.has_slots.apart;
         tidied = ap tidy z ∙ t ∙ sym z;
@@ -107,7 +109,8 @@ module _ (xs : List ℕ) (blocks : List Block) (slots : ℕ → Slot) (unused : 
 pub made-same : (xs : List ℕ) (first count : ℕ) (i : IsSound xs first count) (blocks : List Block)
     → zone_in xs ≡ blocks → Made xs first count blocks (slot_in xs)
 made-same xs first count i blocks e = made xs blocks (slot_in xs) i.unused
-    (subst (λ z. Lays xs z (slot_in xs) i.unused) e i.lays) first count (sym (ap tidy e) ∙ i.tidied ∙ e) i.begins i.counted
+    (subst (λ z. Lays xs z (slot_in xs) i.unused) e i.lays) first count (sym (ap tidy e) ∙ i.tidied
+    ∙ e) i.begins i.counted
 
 -- what a RawZone has beside its blocks, after a call
 pub rest-made : (old new : Bytes) (table : ℕ → Slot) (unused moves : ℕ) → ((s : ℕ) → slot_in new.bytes s ≡ table s)

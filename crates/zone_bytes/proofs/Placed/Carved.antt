@@ -1,5 +1,6 @@
 -- A new block at the lower end of a Free one.
-use Rattle.std.proofs.Common.{◌≡◌, ℕ, ◌+◌, ◌-◌, ◌≤◌, IsTrue, Some, List, [], ◌∷◌, ◌++◌, length, replicate, cond, false, Bool, true, ◌==◌}
+use Rattle.std.proofs.Common.{◌≡◌, ℕ, ◌+◌, ◌-◌, ◌≤◌, IsTrue, Some, List, [], ◌∷◌, ◌++◌, length, replicate, cond, false}
+use Rattle.std.proofs.Common.{Bool, true, ◌==◌}
 use Rattle.std.proofs.Common.{refl, sym, ap, ◌∙◌, subst, arith}
 use Rattle.std.proofs.lemmas.Bool.{false≢true}
 use Rattle.std.proofs.lemmas.List.{length-replicate}
@@ -10,7 +11,8 @@ use Rattle.heap_words.specs.Words.{header, word, word_at}
 use Rattle.heap_words.specs.Headers.{header_bytes}
 use Rattle.heap_words.specs.declared.header.Header.{Header}
 use Rattle.heap_words.specs.declared.header.Tag.TheVariants as tag
-use Rattle.block_store.specs.Block.{Block, Free, Nonrelocatable, Masters, Relocatable, size, free, free_sum, is_relocatable, no_flags}
+use Rattle.block_store.specs.Block.{Block, Free, Nonrelocatable, Masters, Relocatable, size, free, free_sum}
+use Rattle.block_store.specs.Block.{is_relocatable, no_flags}
 use Rattle.block_store.specs.Block.{count, is_masters}
 use Rattle.block_store.specs.Block.{is_room, resized_content, tidy}
 use Rattle.block_store.specs.Room.{Spot, spot_at, filled}
@@ -96,8 +98,9 @@ module _ (xs : List ℕ) (place need : ℕ) (r : Roomy xs place need) where
         omega (arith, ap free_sum is, a, ap free_sum r.at.whole)
 
     pub carved-masters : count is_masters (zone_in now) ≡ count is_masters (zone_in xs) + cond (is_masters new) 1 0
-    carved-masters = ap (count is_masters) is ∙ filled-count new solid r.s r.bytes r.here (omega (arith, fits)) is_masters (λ n. refl)
-        ∙ ap (λ l. count is_masters l + cond (is_masters new) 1 0) (sym r.at.whole)
+    carved-masters =
+        let a = filled-count new solid r.s r.bytes r.here (omega (arith, fits)) is_masters (λ n. refl) in
+        ap (count is_masters) is ∙ a ∙ ap (λ l. count is_masters l + cond (is_masters new) 1 0) (sym r.at.whole)
 
 -- a new block of n bytes, all 0, may be laid in a Free one
 pub may-carve : (xs : List ℕ) (place n top : ℕ) (r : Roomy xs place (padded n)) → top ≡ place + size r.s.here
@@ -161,7 +164,8 @@ module _ (xs : List ℕ) (first unused : ℕ) (i : IsSound xs first unused) (num
   block = Relocatable number no_flags (replicate n 0)
 
   flags-are : flags ≡ flag_word no_flags (is_resource (slot_in xs number))
-  flags-are = f ∙ ap (λ v. cond v 32 0) (flag-kept xs first unused i number used none) ∙ plain (is_resource (slot_in xs number))
+  flags-are = f ∙ ap (λ v. cond v 32 0) (flag-kept xs first unused i number used none)
+      ∙ plain (is_resource (slot_in xs number))
     where
       plain : (r : Bool) → cond {A = ℕ} r 32 0 ≡ flag_word no_flags r
       plain true = refl
@@ -172,7 +176,8 @@ module _ (xs : List ℕ) (first unused : ℕ) (i : IsSound xs first unused) (num
   relocatable-head = zeros-head n (padded n) 3 number flags refl
       ∙ ap (λ w. header (size block + 3) (length (replicate {A = ℕ} n 0)) number w ++ replicate n 0) flags-are
 
-  pub relocatable-made : Made (written number (word place) (laid (new_header number n flags) place top 0 xs)) first unused
+  pub relocatable-made : Made (written number (word place)
+      (laid (new_header number n flags) place top 0 xs)) first unused
       (filled block r.s) (slot_in xs)
   relocatable-made =
       let h = new_header number n flags in
@@ -181,8 +186,11 @@ module _ (xs : List ℕ) (first unused : ℕ) (i : IsSound xs first unused) (num
       let l : size block ≡ padded n = ap padded (length-replicate {A = ℕ} n 0) in
       let e : top - place - padded n + size block ≡ size r.s.here = omega (arith, t, l, ap size r.here) in
       tidy-made xs now first unused i (r.s.below ++ block ∷ Free (size r.s.here - size block) ∷ r.s.above)
-      (subst (λ bs. Lays now bs (slot_in xs) i.unused) (filled-is xs place (padded n) r block refl (top - place - padded n) e)
+      (subst (λ bs. Lays now bs (slot_in xs) i.unused) (filled-is xs place (padded n) r block refl
+      (top - place - padded n) e)
       (named-lays xs first unused i number used none r.s.below (r.s.here ∷ []) r.s.above r.at.whole place top r.at.low
       (omega (arith, t)) (omega (arith, t, r.at.some)) (no-slots r.s.here (ap is_masters r.here))
-      (ap (λ b. names_of b ++ []) r.here) no_flags (replicate n 0) (top - place - padded n) (omega (arith, e, span-free))
-      (laid h place top 0 xs) (laid-outside h place top 0 xs may) (laid-tiles h place top 0 xs may (resource_in xs) block l relocatable-head)))
+      (ap (λ b. names_of b ++ []) r.here) no_flags (replicate n 0) (top - place - padded n) (omega
+      (arith, e, span-free))
+      (laid h place top 0 xs) (laid-outside h place top 0 xs may) (laid-tiles h place top 0 xs may
+      (resource_in xs) block l relocatable-head)))

@@ -20,7 +20,8 @@ pub first-fits : (xs : List ℕ) (first unused : ℕ) (i : IsSound xs first unus
 first-fits xs first unused i =
     omega (arith, first-small (zone_in xs) (slot_in xs) i.unused xs i.unused i.lays i.lays.unused_slots)
 
-module _ (xs : List ℕ) (place : ℕ) (r : Roomy xs place 272) (first unused : ℕ) (i : IsSound xs first unused) (new : List ℕ)
+module _ (xs : List ℕ) (place : ℕ) (r : Roomy xs place 272) (first unused : ℕ) (i : IsSound xs first unused)
+    (new : List ℕ)
     (m : HasMasters place (size r.s.here) first xs new) where
   was : Lays xs (r.s.below ++ (Free r.bytes ∷ [] ++ r.s.above)) (slot_in xs) i.unused
   was = subst (λ z. Lays xs z (slot_in xs) i.unused) (r.at.whole ∙ ap (λ b. r.s.below ++ b ∷ r.s.above) r.here) i.lays

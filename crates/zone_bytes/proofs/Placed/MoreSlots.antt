@@ -21,7 +21,8 @@ use Rattle.heap_words.specs.declared.header.Tag.TheVariants as tag
 use Rattle.zone_bytes.proofs.Placed.Laid.{laid-outside, laid-left, laid-first}
 use Rattle.zone_bytes.proofs.Tiles.Tiling.{slot-swap, slot-append_right}
 use Rattle.zone_bytes.proofs.Tiles.Leading.{Clear, each-append, each-map}
-use Rattle.zone_bytes.proofs.Tiles.Keeping.{chain-kept, names-free, span-free, each-free, placed-run, placed-swap, names-swap}
+use Rattle.zone_bytes.proofs.Tiles.Keeping.{chain-kept, names-free, span-free, each-free, placed-run, placed-swap}
+use Rattle.zone_bytes.proofs.Tiles.Keeping.{names-swap}
 use Rattle.zone_bytes.proofs.Tiles.Splices.{piece-outside}
 use Rattle.zone_bytes.proofs.Tiles.Replaced.{zone, is-splice}
 use Rattle.zone_bytes.proofs.SlotTable.Tables.{each-both, lies-agree}
@@ -241,7 +242,8 @@ module _ (xs : List ℕ) (below above : List Block) (n : ℕ) (slots : ℕ → S
                 (each-map (λ s. IsSlot s all) (λ s. IsSlot s with_masters) forth (names all) h.has_slots.slots);
             apart = subst (Pairs Apart) (sym names-now) h.has_slots.apart;
           };
-          placed = placed-swap 0 below (Free n ∷ []) put above span (tt, placed-run _ (free left) (each-free left)) h.placed;
+          placed = placed-swap 0 below (Free n ∷ []) put above span
+              (tt, placed-run _ (free left) (each-free left)) h.placed;
           small = (let o = m.outside.kept in omega arith);
           used = each-named (λ s. IsUsed (now s)) (each-both (λ s. IsSlot s all) (λ s. IsUsed (slots s))
               (λ s. IsUsed (now s))

@@ -1,5 +1,6 @@
 -- A block in the place of some that have no names and no slots, to which a slot is made to lead.
-use Rattle.std.proofs.Common.{◌≡◌, ℕ, false, IsTrue, ◌+◌, ◌-◌, ◌<◌, inl, inr, List, [], ◌∷◌, ◌++◌, length, sym, ap, ◌∙◌, subst, refl, ◌≤◌}
+use Rattle.std.proofs.Common.{◌≡◌, ℕ, false, IsTrue, ◌+◌, ◌-◌, ◌<◌, inl, inr, List, [], ◌∷◌, ◌++◌, length, sym, ap, ◌∙◌}
+use Rattle.std.proofs.Common.{subst, refl, ◌≤◌}
 use Rattle.std.proofs.Common.{arith}
 use Rattle.windows.specs.Writes.{written, piece}
 use Rattle.windows.proofs.Pieces.{length-written, piece-written}
@@ -111,10 +112,11 @@ module _ (xs : List ℕ) (first count : ℕ) (i : IsSound xs first count) (numbe
     tiles = tiles-splice (head_of (resource_in xs)) xs mid below old above put place top low high laid.lies.tiles same t
 
     slot-fits : number ≤ length mid
-    slot-fits = omega (arith, slot-inside number now (forth number is-slot), length-tiles (head_of (resource_in xs)) mid now tiles)
+    slot-fits = omega (arith, slot-inside number now (forth number is-slot), length-tiles (head_of _) mid now tiles)
 
     -- the slots of other blocks lead to them
-    others-lead : (o : ℕ) (bs : List Block) → Each (Clear place (top - place)) (names bs) → Each (Apart number) (names bs)
+    others-lead : (o : ℕ) (bs : List Block) → Each (Clear place (top - place)) (names bs)
+        → Each (Apart number) (names bs)
         → Leads o bs xs → Leads o bs done
     others-lead o bs c a l = leads-written number (word place) mid o bs slot-fits
         (each-map (Apart number) (Clear number (length (word place))) (apart-clear number place) (names bs) a)
@@ -125,12 +127,14 @@ module _ (xs : List ℕ) (first count : ℕ) (i : IsSound xs first count) (numbe
         let c = clear z place top xs st in
         let o : 0 + sizes below ≡ place = omega (arith, low) in
         let e : 0 + sizes below + sizes old ≡ 0 + sizes below + sizes put = omega (arith, span) in
-        let above-lead = leads-right xs (0 + sizes below) old above (leads-right xs 0 below (old ++ above) laid.lies.leads) in
+        let above-lead = leads-right xs (0 + sizes below) old above (leads-right xs 0 below
+        (old ++ above) laid.lies.leads) in
         record {
           tiles = tiles-slot (head_of (resource_in xs)) (length-masters (resource_in xs)) mid (word place) number now
               (length-word place) (forth number is-slot) tiles;
           leads = leads-append done 0 below (put ++ above) (others-lead 0 below c.0
-              (each-left (Apart number) (names below) (names above) far) (leads-left xs 0 below (old ++ above) laid.lies.leads))
+              (each-left (Apart number) (names below) (names above) far) (leads-left xs 0 below
+              (old ++ above) laid.lies.leads))
               (leads-append done (0 + sizes below) put above (
                 piece-written number (word place) mid 4 (sym (length-word place)) slot-fits ∙ sym (ap word o),
                 leads-free _ k done,

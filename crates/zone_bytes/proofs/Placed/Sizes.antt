@@ -1,5 +1,6 @@
 -- A block at another size, where it stands.
-use Rattle.std.proofs.Common.{◌≡◌, ℕ, Bool, true, false, ◌==◌, ◌+◌, ◌-◌, ◌%◌, ◌<◌, ◌≤◌, ◌^◌, ◌⊎◌, inl, inr, zero, suc, rules}
+use Rattle.std.proofs.Common.{◌≡◌, ℕ, Bool, true, false, ◌==◌, ◌+◌, ◌-◌, ◌%◌, ◌<◌, ◌≤◌, ◌^◌, ◌⊎◌, inl, inr, zero, suc}
+use Rattle.std.proofs.Common.{rules}
 use Rattle.std.proofs.Common.{Some}
 use Rattle.std.proofs.Common.{List, [], ◌∷◌, ◌++◌, length, drop, refl, sym, ap, ◌∙◌, subst, arith}
 use Rattle.std.proofs.lemmas.Bool.{false≢true}
@@ -10,7 +11,8 @@ use Rattle.windows.specs.Writes.{piece}
 use Rattle.heap_words.specs.Words.{word, word_at, header}
 use Rattle.heap_words.specs.Headers.{header_bytes, tag_number}
 use Rattle.heap_words.specs.declared.header.Header.{Header}
-use Rattle.block_store.specs.Block.{Block, Free, Nonrelocatable, Masters, Relocatable, size, sizes, free, free_of, free_sum}
+use Rattle.block_store.specs.Block.{Block, Free, Nonrelocatable, Masters, Relocatable, size, sizes, free, free_of}
+use Rattle.block_store.specs.Block.{free_sum}
 use Rattle.block_store.specs.Block.{is_masters}
 use Rattle.block_store.specs.Block.{content_of, resized, resized_content, tidy}
 use Rattle.block_store.specs.Room.{Spot, spot_at, filled}
@@ -114,8 +116,9 @@ module _ (resource : ℕ → Bool) (n at : ℕ) (xs : List ℕ) (small : length 
       let q = header-told _ _ slot (flag_word flags (resource slot)) at content xs t in
       let g = flag_word-small flags (resource slot) in
       let y = length-resized n content in
+      let v = q.named w.0 in
       let e = q.marked (omega (arith, g)) in
-      (q.long small, (λ j. header (padded (sym y j) + 3) (sym y j) (q.named w.0 j) (e j) ++ (resized_content n content)))
+      (q.long small, (λ j. header (padded (sym y j) + 3) (sym y j) (v j) (e j) ++ (resized_content n content)))
 
 -- the header that was read at a place
 pub record Read (header : Header) (place : ℕ) (xs : List ℕ) : Type 0 where

@@ -41,7 +41,8 @@ tiles-two resource b k at len new e fits even t w =
     )
 
 -- a block that was laid, and what is left above it
-pub laid-tiles : (h : Header) (place top held : ℕ) (xs : List ℕ) (may : MayLay h place top held xs) (resource : ℕ → Bool)
+pub laid-tiles : (h : Header) (place top held : ℕ) (xs : List ℕ) (may : MayLay h place top held xs) (resource : ℕ
+    → Bool)
     (b : Block) → size b ≡ h.size
     → header_bytes h ++ resized_content h.logical (piece (place + 16) held xs) ≡ head_of resource b
     → Tiles (head_of resource) (piece place (top - place) (laid h place top held xs)) (b ∷ free (top - place - h.size))
@@ -61,7 +62,9 @@ module _ (xs : List ℕ) (first count : ℕ) (i : IsSound xs first count) (below
     (n : names_of b ≡ names old) (p : IsPlaced place b)
     (head : header_bytes h ++ resized_content h.logical (piece (place + 16) held xs) ≡ head_of (resource_in xs) b)
     (lead : Each (λ s. piece s 4 xs ≡ word place) (names_of b)) where
-  pub laid-lays : Lays (laid h place top held xs) (below ++ ((b ∷ free (top - place - h.size)) ++ above)) (slot_in xs) i.unused
-  laid-lays = put-lays xs first count i below old above whole place top low high some plain b (top - place - h.size) solid
+  pub laid-lays : Lays (laid h place top held xs) (below ++ ((b ∷ free (top - place - h.size)) ++ above))
+      (slot_in xs) i.unused
+  laid-lays = put-lays xs first count i below old above whole place top low high some plain b
+      (top - place - h.size) solid
       (omega (arith, same, span-free, high)) n p lead (laid h place top held xs) (laid-outside h place top held xs may)
       (laid-tiles h place top held xs may (resource_in xs) b same head)

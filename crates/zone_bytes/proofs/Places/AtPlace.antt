@@ -53,7 +53,9 @@ module _ (xs : List ℕ) (first count : ℕ) (i : IsSound xs first count) where
     inside = omega (arith, ap sizes whole, span-append, sizes-length, low)
 
     pub some-here : 16 ≤ size s.here
-    some-here = (tile-at xs s.below s.here s.above (slot_in xs) i.unused (parted s.below (s.here ∷ s.above) whole) place low).some
+    some-here =
+        let h = parted s.below (s.here ∷ s.above) whole in
+        (tile-at xs s.below s.here s.above (slot_in xs) i.unused h place low).some
 
     pub above-fit : sizes s.above < 2 ^ 32
     above-fit = omega (arith, ap sizes whole, span-append, sizes-length)

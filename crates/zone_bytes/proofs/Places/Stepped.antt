@@ -1,5 +1,6 @@
 -- One step of a walk over the blocks that bytes spell.
-use Rattle.std.proofs.Common.{◌≡◌, ℕ, Bool, ◌+◌, ◌%◌, ◌<◌, ◌≤◌, ◌^◌, Some, None, List, [], ◌∷◌, length, take, drop, ◌++◌}
+use Rattle.std.proofs.Common.{◌≡◌, ℕ, Bool, ◌+◌, ◌%◌, ◌<◌, ◌≤◌, ◌^◌, Some, None, List, [], ◌∷◌, length, take, drop}
+use Rattle.std.proofs.Common.{◌++◌}
 use Rattle.std.proofs.Common.{sym, refl, ap, ◌∙◌, subst, arith}
 use Rattle.std.proofs.lemmas.List.{length-drop, drop-drop}
 use Rattle.windows.specs.Writes.{piece}
@@ -31,7 +32,8 @@ pub record Told (n c d at : ℕ) (content xs : List ℕ) : Type 0 where
   pub holds : piece (at + 16) (length content) xs ≡ content
   pub fits : at + 16 + length content ≤ length xs
 
-pub header-told : (n a c d at : ℕ) (content xs : List ℕ) → Tile (header a (length content) c d ++ content) n (drop at xs)
+pub header-told : (n a c d at : ℕ) (content xs : List ℕ) → Tile (header a (length content) c d ++ content) n
+    (drop at xs)
     → Told n c d at content xs
 header-told n a c d at content xs t =
     let q = says n a (length content) c d content (drop at xs) t in

@@ -17,7 +17,8 @@ use Rattle.zone_bytes.specs.Raising.{Raise, MayRaise, Raised, lifted, MayLift, L
 use Rattle.zone_bytes.proofs.Tiles.Tiling.{span-append}
 use Rattle.zone_bytes.proofs.Tiles.Leading.{each-append, each-right}
 use Rattle.zone_bytes.proofs.Tiles.Keeping.{each-free, each-movers, names-movers}
-use Rattle.zone_bytes.proofs.Tiles.Keeping.{span-free, span-movers, Instead, others-now, slots-now, instead-settle, instead, names-left}
+use Rattle.zone_bytes.proofs.Tiles.Keeping.{span-free, span-movers, Instead, others-now, slots-now, instead-settle}
+use Rattle.zone_bytes.proofs.Tiles.Keeping.{instead, names-left}
 use Rattle.zone_bytes.proofs.Runs.Packed.{run-bounds, run-moved}
 use Rattle.block_store.proofs.Zone.Spots.{free-some}
 use Rattle.zone_bytes.proofs.Runs.Led.{settled-of}
@@ -152,7 +153,8 @@ upper lay gap gone rest ys = record {
 }
 
 -- The first blocks of a run are raised, and the others are packed above them.
-module _ (lay : Lay) (place gap : ℕ) (h : MayLift lay place gap) (o : EndsRun lay.above) (moves top stop : ℕ) (xs : List ℕ)
+module _ (lay : Lay) (place gap : ℕ) (h : MayLift lay place gap) (o : EndsRun lay.above) (moves top stop : ℕ)
+    (xs : List ℕ)
     (gone rest : List Block) (p : UntilAt lay place gap gap moves top stop xs gone rest) where
   abbrev part : Lay
   part = cut lay gone rest

@@ -66,7 +66,8 @@ pub has-block : (xs : List ℕ) (o : ℕ) (blocks : List Block) (s : ℕ) → Le
 has-block xs o [] s l h = absurd h
 has-block xs o (Free n ∷ blocks) s l h = behind _ o _ _ s refl (has-block _ (o + n) blocks s l.1 h)
 has-block xs o (Nonrelocatable id content ∷ blocks) s l h =
-    behind xs o (Nonrelocatable id content) blocks s refl (has-block xs (o + size (Nonrelocatable id content)) blocks s l.1 h)
+    behind xs o (Nonrelocatable id content) blocks s refl
+    (has-block xs (o + size (Nonrelocatable id content)) blocks s l.1 h)
 has-block xs o (Masters ∷ blocks) s l h = behind xs o Masters blocks s refl (has-block xs (o + 272) blocks s l.1 h)
 has-block xs o (Relocatable id flags content ∷ blocks) s l h = elim (eqb_tells id s) [
   | inl t ↦ subst (λ k. HasBlock xs o (Relocatable k flags content ∷ blocks) s) (sym t.1) (record {
@@ -131,7 +132,8 @@ module _ (xs : List ℕ) (blocks : List Block) (slots : ℕ → Slot) (unused : 
         even = (span-whole (head_of resource) (take place xs) b.below t.0);
         tile = t.1.0;
         fits = omega (arith, length-drop place xs);
-        flags_are = (header-told _ _ s (flag_word b.flags (resource s)) place b.content xs t.1.0).marked (omega (arith, g));
+        flags_are = (header-told _ _ s (flag_word b.flags (resource s)) place b.content xs t.1.0).marked (omega
+            (arith, g));
       }
 
   module _ (s : ℕ) (used : IsTrue (is_used (slots s))) where
@@ -168,7 +170,8 @@ module _ (xs : List ℕ) (blocks : List Block) (slots : ℕ → Slot) (unused : 
     pub leads-is : place_of_word (word_at s xs) ≡ option_map (λ (q : Spot). sizes q.below)
         (spot (is_relocatable s) blocks)
     leads-is = elim state [
-      | inl e ↦ emptied-word e ∙ sym (ap (option_map (λ (q : Spot). sizes q.below)) (spot-none (is_relocatable s) blocks (none-apart s blocks e.apart)))
+      | inl e ↦ emptied-word e ∙ sym (ap (option_map (λ (q : Spot). sizes q.below)) (spot-none (is_relocatable s) blocks
+          (none-apart s blocks e.apart)))
       | inr b ↦ block-word b ∙ sym (ap (option_map (λ (q : Spot). sizes q.below)) b.found)
     ]
 

@@ -9,7 +9,7 @@ use Rattle.heap_words.specs.Words.{word, header}
 use Rattle.heap_words.proofs.Words.{length-word}
 use Rattle.block_store.specs.declared.flags.Flags.{Flags}
 use Rattle.block_store.specs.Block.{Block, Relocatable, size, sizes}
-use Rattle.block_store.specs.Slot.{Slot, NoSlot, Unused, Used, set_slot, is_resource}
+use Rattle.block_store.specs.Slot.{Slot, Unused, Used, set_slot, is_resource}
 use Rattle.zone_bytes.specs.Layout.{flag_word, head_of, Tile, Tiles, IsSlot, names, Apart, Each, Pairs, Leads}
 use Rattle.zone_bytes.specs.Settling.{Lies}
 use Rattle.zone_bytes.specs.Splicing.{Splice, SameOutside, IsSplice}
@@ -19,6 +19,7 @@ use Rattle.zone_bytes.proofs.Blocks.InPlace.{no-slots, tile-inside, tiles-piece}
 use Rattle.zone_bytes.proofs.Blocks.Marked.{flagged-header}
 use Rattle.zone_bytes.proofs.SlotTable.Handles.{BlockHere}
 use Rattle.zone_bytes.proofs.SlotTable.Tables.{tiles-agree, set-other, set-same, slot-in, apart-other, used-apart}
+use Rattle.zone_bytes.proofs.SlotTable.Tables.{lays-set}
 use Rattle.zone_bytes.proofs.SlotTable.Tables.{chain-written, lays-written}
 use Rattle.zone_bytes.proofs.Tiles.Keeping.{chain-kept}
 use Rattle.zone_bytes.proofs.Tiles.Leading.{each-map, names-append, pairs-before, pairs-after}
@@ -55,16 +56,12 @@ module _ (xs : List ℕ) (blocks : List Block) (slots : ℕ → Slot) (unused : 
       let b = slot-in xs blocks slots unused h s is-slot in
       lays-written _ _ slots _ h s n _ _ is-slot a (λ t d e k. k)
       (is-slot, inr (a, piece-written s _ _ 4 (sym (length-word n)) (omega (arith, b))))
-      (chain-written _ _ slots _ h s n _ (omega (arith, b)) (used-apart xs blocks slots unused h s was is-slot u) h.chain) still-unused h.once
+      (chain-written _ _ slots _ h s n _ (omega (arith, b)) (used-apart xs blocks slots unused h s was is-slot u)
+      h.chain) still-unused h.once
 
   -- the flag in a header
   module _ (new : List ℕ) (lies : Lies (λ t. is_resource (now t)) blocks new) (mine : Has (names blocks) s)
       (same : (t : ℕ) → IsSlot t blocks → piece t 4 new ≡ piece t 4 xs) (l : length new ≡ length xs) where
-    says-still : (t : ℕ) (st : Slot) → Says blocks xs unused t st → Says blocks new unused t st
-    says-still t NoSlot q = q
-    says-still t Unused q = q
-    says-still t (Used p) q = (q.0, elim q.1 [ inl k ↦ inl k | inr k ↦ inr (k.0, same t q.0 ∙ k.1) ])
-
     used-still : (t : ℕ) → IsUsed (slots t) → IsUsed (now t)
     used-still t k = elim (cases_eq t s) [
       | inl e ↦ subst IsUsed (sym (set-same slots s t (Used r) e)) tt
@@ -72,23 +69,11 @@ module _ (xs : List ℕ) (blocks : List Block) (slots : ℕ → Slot) (unused : 
     ]
 
     pub lays-flagged : Lays new blocks now unused
-    lays-flagged = record {
-      lies = lies;
-      has_slots = h.has_slots;
-      placed = h.placed;
-      small = (omega (arith, l));
-      used = each-map (λ t. IsUsed (slots t)) (λ t. IsUsed (now t)) used-still (names blocks) h.used;
-      says = λ t. elim (cases_eq t s) [
-        | inl e ↦ subst (λ k. Says blocks new unused k (now k)) (sym e)
-            (subst (Says blocks new unused s) (sym (set-same slots s s _ refl)) (is-slot, inl mine))
-        | inr d ↦ subst (Says blocks new unused t) (sym (set-other slots s t _ d)) (says-still t _ (h.says t))
-      ];
-      chain = chain-kept _ _ _
-          (each-map (λ t. IsSlot t blocks × (slots t ≡ Unused)) (λ t. piece t 4 new ≡ piece t 4 xs)
-          (λ t q. same t q.0) _ h.unused_slots) h.chain;
-      unused_slots = still-unused;
-      once = h.once;
-    }
+    lays-flagged = lays-set xs blocks slots unused h s (Used r) new unused lies
+        (each-map (λ t. IsUsed (slots t)) (λ t. IsUsed (now t)) used-still (names blocks) h.used) l (λ t d i. same t i)
+        (λ t d e k. k) (is-slot, inl mine) (chain-kept _ _ _
+        (each-map (λ t. IsSlot t blocks × (slots t ≡ Unused)) (λ t. piece t 4 new ≡ piece t 4 xs)
+        (λ t q. same t q.0) _ h.unused_slots) h.chain) still-unused h.once
 
 has-named : (s : ℕ) (below : List Block) (b : Block) (above : List Block) → Has (names (b ∷ above)) s
     → Has (names (below ++ b ∷ above)) s

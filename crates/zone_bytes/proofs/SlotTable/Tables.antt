@@ -2,7 +2,7 @@
 use Rattle.std.proofs.Common.{◌≡◌, ℕ, Bool, ◌+◌, ◌%◌, ◌≤◌, inl, inr, List, [], ◌∷◌, ◌++◌, length, drop, sym, false}
 use Rattle.std.proofs.Common.{refl, ap, ◌∙◌, subst, arith}
 use Rattle.std.proofs.lemmas.Bool.{cases_lt, cases_eq, ne_eqb, eq-eqb}
-use Rattle.windows.specs.Writes.{written}
+use Rattle.windows.specs.Writes.{written, piece}
 use Rattle.heap_words.specs.Words.{word, header}
 use Rattle.heap_words.proofs.Words.{length-word}
 use Rattle.windows.proofs.Pieces.{length-written}
@@ -129,47 +129,53 @@ module _ (xs : List ℕ) (blocks : List Block) (slots : ℕ → Slot) (unused : 
     chain-written s n us l a.1 c.1,
   )
 
-  -- the same blocks, with another state of a slot that has no block, and its word
-  module _ (s n : ℕ) (state : Slot) (now : List ℕ) (i : IsSlot s blocks) (a : Each (Apart s) (names blocks))
-      (kept : (t : ℕ) → (t ≡ s → ⊥) → slots t ≡ Unused → Has unused t → Has now t)
-      (mine : Says blocks (written s (word n) xs) now s state)
-      (chain : Chain (written s (word n) xs) now)
-      (ok : Each (λ u. IsSlot u blocks × (set_slot slots s state u ≡ Unused)) now) (once : Pairs Apart now) where
+  -- the same blocks, with another state of a slot
+  module _ (s : ℕ) (state : Slot) (new now : List ℕ) (lies : Lies (λ t. is_resource
+      (set_slot slots s state t)) blocks new)
+      (used : Each (λ t. IsUsed (set_slot slots s state t)) (names blocks)) (l : length new ≡ length xs)
+      (same : (t : ℕ) → (t ≡ s → ⊥) → IsSlot t blocks → piece t 4 new ≡ piece t 4 xs)
+      (kept : (t : ℕ) → (t ≡ s → ⊥) → slots t ≡ Unused → Has unused t → Has now t) (mine : Says blocks new now s state)
+      (chain : Chain new now) (ok : Each (λ u. IsSlot u blocks × (set_slot slots s state u ≡ Unused)) now)
+      (once : Pairs Apart now) where
     says-other : (t : ℕ) (st : Slot) → (t ≡ s → ⊥) → slots t ≡ st → Says blocks xs unused t st
-        → Says blocks (written s (word n) xs) now t st
+        → Says blocks new now t st
     says-other t NoSlot d e q = q
     says-other t Unused d e q = (q.0, kept t d e q.1)
-    says-other t (Used r) d e q = (
-      q.0,
-      elim q.1 [
-        | inl k ↦ inl k
-        | inr k ↦ inr (
-          k.0,
-          (piece-clear s _ _ t (omega (arith, slot-in)) (apart-clear s n t (apart-of s t i q.0 (λ m. d (sym m)))))
-              ∙ k.1,
-        )
-      ],
-    )
+    says-other t (Used r) d e q = (q.0, elim q.1 [ inl k ↦ inl k | inr k ↦ inr (k.0, same t d q.0 ∙ k.1) ])
 
-    pub lays-written : Lays (written s (word n) xs) blocks (set_slot slots s state) now
-    lays-written =
-        record {
-          lies = lies-agree (λ t. is_resource (slots t)) (λ t. is_resource (set_slot slots s state t)) _ _
-              (each-map (Apart s) (λ t. is_resource (slots t) ≡ is_resource (set_slot slots s state t))
-              (λ t p. sym (ap is_resource (set-other slots s t _ (λ e. apart-other s t p (sym e)))))
-              _ a) (lies-written s n i a);
-          has_slots = h.has_slots;
-          placed = h.placed;
-          small = (let l = length-written s (word n) xs (omega (arith, slot-in, length-word)) in omega (arith, l));
-          used = each-both (Apart s) (λ t. IsUsed (slots t)) (λ t. IsUsed (set_slot slots s state t))
-              (λ t p u. subst IsUsed (sym (set-other slots s t _ (λ e. apart-other s t p (sym e)))) u) _ a h.used;
-          says = λ t. elim (cases_eq t s) [
-            | inl e ↦ subst (λ k. Says blocks (written s (word n) xs) now k (set_slot slots s state k)) (sym e)
-                (subst (λ st. Says blocks (written s (word n) xs) now s st) (sym (set-same slots s s _ refl)) mine)
-            | inr d ↦ subst (λ st. Says blocks (written s (word n) xs) now t st) (sym (set-other slots s t _ d))
-                (says-other t _ d refl (h.says t))
-          ];
-          chain = chain;
-          unused_slots = ok;
-          once = once;
-        }
+    pub lays-set : Lays new blocks (set_slot slots s state) now
+    lays-set = record {
+      lies = lies;
+      has_slots = h.has_slots;
+      placed = h.placed;
+      small = omega (arith, l);
+      used = used;
+      says = λ t. elim (cases_eq t s) [
+        | inl e ↦ subst (λ k. Says blocks new now k (set_slot slots s state k)) (sym e)
+            (subst (Says blocks new now s) (sym (set-same slots s s _ refl)) mine)
+        | inr d ↦ subst (Says blocks new now t) (sym (set-other slots s t _ d)) (says-other t _ d refl (h.says t))
+      ];
+      chain = chain;
+      unused_slots = ok;
+      once = once;
+    }
+
+  -- of one that has no block, and whose word is written
+  pub lays-written : (s n : ℕ) (state : Slot) (now : List ℕ) (i : IsSlot s blocks) (a : Each (Apart s) (names blocks))
+      → ((t : ℕ) → (t ≡ s → ⊥) → slots t ≡ Unused → Has unused t → Has now t)
+      → Says blocks (written s (word n) xs) now s state → Chain (written s (word n) xs) now
+      → Each (λ u. IsSlot u blocks × (set_slot slots s state u ≡ Unused)) now → Pairs Apart now
+      → Lays (written s (word n) xs) blocks (set_slot slots s state) now
+  lays-written s n state now i a kept mine chain ok once =
+      let b = slot-in s i in
+      let other : (t : ℕ) → Apart s t → set_slot slots s state t ≡ slots t =
+      λ t p. set-other slots s t state (λ e. apart-other s t p (sym e)) in
+      lays-set s state (written s (word n) xs) now
+      (lies-agree (λ t. is_resource (slots t)) (λ t. is_resource (set_slot slots s state t)) _ blocks
+      (each-map (Apart s) (λ t. is_resource (slots t) ≡ is_resource (set_slot slots s state t))
+      (λ t p. sym (ap is_resource (other t p))) (names blocks) a) (lies-written s n i a))
+      (each-both (Apart s) (λ t. IsUsed (slots t)) (λ t. IsUsed (set_slot slots s state t))
+      (λ t p u. subst IsUsed (sym (other t p)) u) (names blocks) a h.used)
+      (length-written s (word n) xs (omega (arith, b, length-word)))
+      (λ t d j. piece-clear s (word n) xs t (omega (arith, b)) (apart-clear s n t (apart-of s t i j (λ m. d (sym m)))))
+      kept mine chain ok once

@@ -37,7 +37,8 @@ pub high-flags : (flags : Flags) → ((cond {A = ℕ} flags.locked 128 0 + cond 
     × (cond {A = ℕ} flags.locked 128 0 + cond {A = ℕ} flags.purgeable 64 0 ≤ 192)
 high-flags flags = high flags.locked flags.purgeable
   where
-    high : (l p : Bool) → ((cond {A = ℕ} l 128 0 + cond {A = ℕ} p 64 0) % 64 ≡ 0) × (cond {A = ℕ} l 128 0 + cond {A = ℕ} p 64 0 ≤ 192)
+    high : (l p : Bool) → ((cond {A = ℕ} l 128 0 + cond {A = ℕ} p 64 0) % 64 ≡ 0)
+        × (cond {A = ℕ} l 128 0 + cond {A = ℕ} p 64 0 ≤ 192)
     high true true = (refl, omega arith)
     high true false = (refl, omega arith)
     high false true = (refl, omega arith)
@@ -91,7 +92,8 @@ module _ (resource : ℕ → Bool) where
           → Tile (head_of resource b) (size b) ys → block_of_kind (kind b) (size b) o ys ≡ b
       of-kind (Free m) p n t = refl
       of-kind (Nonrelocatable id content) p n t =
-          let q = says (size (Nonrelocatable id content)) (size (Nonrelocatable id content) + 1) (length content) 0 0 content ys t in
+          let q = says (size (Nonrelocatable id content)) (size (Nonrelocatable id content) + 1) (length content) 0 0
+          content ys t in
           let c = read_back 4 (length content) ys (omega (arith, content-fits, length-head, s)) q.0 in
           (λ i. Nonrelocatable o (piece 16 (c i) ys)) ∙ (λ i. Nonrelocatable (sym p i) (q.3 i))
       of-kind Masters p n t = refl

@@ -1,5 +1,6 @@
 -- What the words of a block's header say.
-use Rattle.std.proofs.Common.{◌≡◌, ℕ, Bool, ◌+◌, ◌<◌, ◌≤◌, ◌^◌, inl, inr, List, [], ◌∷◌, ◌++◌, length, take, drop, sym, refl, ap, ◌∙◌}
+use Rattle.std.proofs.Common.{◌≡◌, ℕ, Bool, ◌+◌, ◌<◌, ◌≤◌, ◌^◌, inl, inr, List, [], ◌∷◌, ◌++◌, length, take, drop, sym}
+use Rattle.std.proofs.Common.{refl, ap, ◌∙◌}
 use Rattle.std.proofs.Common.{arith, length-append, ◌%◌, ◌⊎◌, ◌∷◌, inl, subst, inr}
 use Rattle.std.proofs.lemmas.List.{length-drop, drop-drop, drop-take, take-take, take_all}
 use Rattle.windows.specs.Writes.{piece}
@@ -43,7 +44,8 @@ module _ (resource : ℕ → Bool) (ys : List ℕ) where
   unfolding head_of
   first-word (Free n) t =
       let e : n + 0 ≡ n = omega arith in
-      tile-piece _ n _ t 0 4 (omega (arith, length-word)) ∙ take_all 4 (word n) (omega (arith, length-word)) ∙ sym (ap word e)
+      tile-piece _ n _ t 0 4 (omega (arith, length-word)) ∙ take_all 4 (word n) (omega (arith, length-word)) ∙ sym
+      (ap word e)
   first-word (Nonrelocatable id content) t =
       tile-piece _ _ _ t 0 4 (omega (arith, length-head)) ∙ (header-pieces _ _ 0 0 _).0
   first-word Masters t = tile-piece _ _ ys t 0 4 (omega (arith, length-header 274 256 0 0)) ∙ masters-first
@@ -137,7 +139,8 @@ module _ (resource : ℕ → Bool) (xs : List ℕ) (from : ℕ) (small : length 
       }
 
   -- and tells its bytes and its kind
-  pub header-tells : (b : Block) → Tile (head_of resource b) (size b) (drop from xs) → (n t : ℕ) → n + t ≡ word_at from xs
+  pub header-tells : (b : Block) → Tile (head_of resource b) (size b) (drop from xs) → (n t : ℕ) → n + t ≡ word_at
+      from xs
       → n % 16 ≡ 0 → t ≤ 3 → (n ≡ size b) × (t ≡ kind b)
   header-tells b t n k e w l = same_parts n k _ _ (e ∙ first-reads b t) w t.whole l (kind-small b)
 

@@ -1,10 +1,12 @@
 -- Blocks that lie one after another.
-use Rattle.std.proofs.Common.{◌≡◌, ℕ, ◌+◌, ◌-◌, ◌%◌, ◌≤◌, ◌⊎◌, inl, inr, List, [], ◌∷◌, ◌++◌, length, take, drop, refl, ap}
+use Rattle.std.proofs.Common.{◌≡◌, ℕ, ◌+◌, ◌-◌, ◌%◌, ◌≤◌, ◌⊎◌, inl, inr, List, [], ◌∷◌, ◌++◌, length, take, drop, refl}
+use Rattle.std.proofs.Common.{ap}
 use Rattle.std.proofs.Common.{◌∙◌, subst, arith, length-append}
 use Rattle.std.proofs.lemmas.List.{length-take-le, length-drop, take-append-le, drop-append-le, drop-drop, take-take}
 use Rattle.std.proofs.lemmas.List.{drop-take, drop_all}
 use Rattle.windows.specs.Writes.{written}
-use Rattle.windows.proofs.Pieces.{length-written, take-written_below, take-written_above, drop-written_above, drop-written_below}
+use Rattle.windows.proofs.Pieces.{length-written, take-written_below, take-written_above, drop-written_above}
+use Rattle.windows.proofs.Pieces.{drop-written_below}
 use Rattle.block_store.specs.Block.{Block, Free, Nonrelocatable, Masters, Relocatable, size, sizes}
 use Rattle.zone_bytes.specs.Layout.{Tile, Tiles, IsSlot}
 
@@ -63,7 +65,8 @@ slot-swap s below was now above none e i = elim (slot-beside s below was above _
   | inl j ↦ slot-append_left s below (now ++ above) j.1
   | inr j ↦
       let f : s - (sizes below + sizes was) ≡ s - sizes below - sizes now = omega (arith, e) in
-      slot-append_right s _ _ (omega arith) (slot-append_right _ _ _ (omega (arith, e)) (subst (λ q. IsSlot q above) f j.1))
+      slot-append_right s _ _ (omega arith) (slot-append_right _ _ _ (omega (arith, e))
+      (subst (λ q. IsSlot q above) f j.1))
 ]
 
 module _ (head : Block → List ℕ) where
@@ -162,7 +165,14 @@ module _ (head : Block → List ℕ) where
         rw (drop-written_above s w xs hi (omega (arith, e)) (omega arith)) u,
       )
   tiles-slot-beside m xs w s lo hi ls ns e l h (inr i) t u =
-      let inside : s + 4 ≤ length xs = omega (arith, i.0, slot-inside _ ns i.1, length-tiles _ ns u, length-drop hi xs) in (
+      let inside : s + 4 ≤ length xs = omega (
+        arith,
+        i.0,
+        slot-inside _ ns i.1,
+        length-tiles _ ns u,
+        length-drop hi
+            xs,
+      ) in (
         rw (take-written_below s w xs lo (omega (arith, i.0)) (omega arith)) t,
         rw (drop-written_below s w xs hi i.0 (omega arith)) (tiles-slot m _ w (s - hi) ns e i.1 u),
       )

@@ -1,5 +1,6 @@
 -- What each change of a zone owes of its landmarks.
-use Rattle.std.proofs.Common.{◌≡◌, ℕ, ◌+◌, ◌-◌, ◌≤◌, false, cond, List, ◌∷◌, ◌++◌, length, refl, sym, ap, ◌∙◌, subst, []}
+use Rattle.std.proofs.Common.{◌≡◌, ℕ, ◌+◌, ◌-◌, ◌≤◌, false, cond, List, ◌∷◌, ◌++◌, length, refl, sym, ap, ◌∙◌, subst}
+use Rattle.std.proofs.Common.{[]}
 use Rattle.std.proofs.Common.{arith}
 use Rattle.mac_words.specs.Size.{padded}
 use Rattle.windows.specs.Writes.{written}

@@ -11,7 +11,8 @@ here : (c : Start) → Roomy c.args.part.now.bytes c.args.place 272
 here c = roomy _ _ _ _ _ c.requires.sound.1 c.requires.room
 
 pub size_at-size-requires : goal.size_at-size-requires
-size_at-size-requires c = let r = here (goal.at.size_at-size-requires c).Start in record { way = r.at.way; some = omega arith }
+size_at-size-requires c =
+    let r = here (goal.at.size_at-size-requires c).Start in record { way = r.at.way; some = omega arith }
 
 pub lay_masters-requires : goal.lay_masters-requires
 lay_masters-requires c =

@@ -20,5 +20,7 @@ pub lay_block-requires : goal.lay_block-requires
 lay_block-requires c = may (goal.at.lay_block-requires c).Start
 
 pub returns-clause-masters : goal.returns-clause-masters
-returns-clause-masters c = has-masters _ _ _ _ _ (may (goal.at.returns-clause-masters c).Start) (subst (λ m. SameOutside (c.args.place + 16) (c.args.place + 272) m
-    c.thread_slots.new.part.bytes) c.lay_block.ensures.bytes c.thread_slots.ensures.outside) c.thread_slots.ensures.thread
+returns-clause-masters c =
+    let o = subst (λ m. SameOutside (c.args.place + 16) (c.args.place + 272) m c.thread_slots.new.part.bytes)
+    c.lay_block.ensures.bytes c.thread_slots.ensures.outside in
+    has-masters _ _ _ _ _ (may (goal.at.returns-clause-masters c).Start) o c.thread_slots.ensures.thread

@@ -11,7 +11,8 @@ use Rattle.zone_bytes.specs.Laying.{new_header}
 use Rattle.zone_bytes.specs.PurgeableBytes.{purgeable_sum}
 use Rattle.zone_bytes.proofs.Laws.Lawful.{Made, rest-made, kept-made}
 use Rattle.zone_bytes.proofs.SlotTable.Slotted.{slot-reads-in}
-use Rattle.zone_bytes.proofs.Placed.Carved.{Roomy, roomy, free-roomy, may-carve, carved-free, carved-masters, relocatable-made}
+use Rattle.zone_bytes.proofs.Placed.Carved.{Roomy, roomy, free-roomy, may-carve, carved-free, carved-masters}
+use Rattle.zone_bytes.proofs.Placed.Carved.{relocatable-made}
 use Rattle.zone_bytes.proofs.Bounds.Given.{given-put}
 use Rattle.zone_marks.proofs.Marks.Owed.{with-marks, filled-replaced}
 use Rattle.raw_zone.proofs.zone.RawZoneBlockStore.carve.Goals as goal
@@ -59,11 +60,13 @@ there c = roomy _ _ _ _ _ c.self.invariant.sound (rw (← c.self.view_is) at c.r
 abbrev new : After-carve → Block
 new c = Relocatable c.args.number no_flags (replicate c.args.size 0)
 
-done : (c : After-carve) → Made c.carve.new.part.bytes c.self.inside.first c.self.inside.unused (filled (new c) (there c).s)
+done : (c : After-carve) → Made c.carve.new.part.bytes c.self.inside.first c.self.inside.unused (filled (new c)
+    (there c).s)
     (slot_in c.self.inside.part.bytes)
 done c =
     let r = there c in
-    subst (λ xs. Made xs c.self.inside.first c.self.inside.unused (filled (new c) r.s) (slot_in c.self.inside.part.bytes))
+    subst (λ xs. Made xs c.self.inside.first c.self.inside.unused (filled (new c) r.s)
+    (slot_in c.self.inside.part.bytes))
     (sym c.carve.ensures.bytes) (relocatable-made _ _ _ c.self.invariant.sound _
     (rw (← c.self.view_is) at c.requires.used) (rw (← c.self.view_is) at c.requires.no_block) _ _ _ _ r
     (ap (λ m. c.args.place + m) (c.size_at-free.ensures r.s.here r.s.above r.at.left)) c.kept_flags-flags.ensures)

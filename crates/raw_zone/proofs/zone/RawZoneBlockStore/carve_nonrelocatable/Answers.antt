@@ -97,7 +97,8 @@ returns-clause-rest c =
     let m = done a in
     let l = new-size a in
     let k = carved-masters _ _ _ (there a) _ (new a) refl (omega (arith, l)) m.zone in
-    rw (← c.self.view_is) (rest-made c.self.inside.part c.carve_nonrelocatable.new.part (slot_in c.self.inside.part.bytes)
+    rw (← c.self.view_is) (rest-made c.self.inside.part c.carve_nonrelocatable.new.part
+    (slot_in c.self.inside.part.bytes)
     c.self.inside.unused c.self.inside.moves m.slots (omega (arith, k)) c.carve_nonrelocatable.ensures.same)
 
 pub overflow_add-place : goal.overflow_add-place
