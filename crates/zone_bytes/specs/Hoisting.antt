@@ -18,8 +18,7 @@ unhoisted z = record {
   below = z.below;
   run = z.block ∷ z.over;
   above = z.above;
-  bytes =
-      z.bytes;
+  bytes = z.bytes;
 }
 
 abbrev pub hoisted_run : Hoist → List Block

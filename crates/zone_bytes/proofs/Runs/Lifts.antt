@@ -71,12 +71,9 @@ lifted-instead gap below run above some enough r = elim (any-movers run) [
 ]
 
 pub gap-fits : (lay : Lay) (place gap : ℕ) → MayLift lay place gap → gap ≤ length lay.bytes
-gap-fits lay place gap h = omega (
-  arith,
-  h.enough,
-  span-movers lay.run h.run.in_run,
-  run-bounds lay place _ (run-moved lay place _ h.run),
-)
+gap-fits lay place gap h =
+    let b = run-bounds lay place _ (run-moved lay place _ h.run) in
+    omega (arith, h.enough, span-movers lay.run h.run.in_run, b)
 
 -- the packed blocks, which are to be raised
 abbrev pub raise_of : Lay → ℕ → List ℕ → Raise

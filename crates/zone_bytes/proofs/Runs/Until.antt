@@ -146,14 +146,9 @@ module _ (lay : Lay) (place : ℕ) (r : IsRunFrom lay place (place + sizes lay.r
   pub all-gone : length lay.bytes < enough → rest ≡ []
   all-gone l = elim p.ended [
     | inl n ↦ n
-    | inr e ↦ absurd (omega (
-      arith,
-      l,
-      e,
-      run-bounds lay place _ (run-moved lay place _ r),
-      cut-free lay gone rest p.split,
-      span-movers lay.run r.in_run,
-    ))
+    | inr e ↦
+        let b = run-bounds lay place _ (run-moved lay place _ r) in
+        absurd (omega (arith, l, e, b, cut-free lay gone rest p.split, span-movers lay.run r.in_run))
   ]
 
   module _ (n : rest ≡ []) where

@@ -165,14 +165,8 @@ module _ (head : Block → List ℕ) where
         rw (drop-written_above s w xs hi (omega (arith, e)) (omega arith)) u,
       )
   tiles-slot-beside m xs w s lo hi ls ns e l h (inr i) t u =
-      let inside : s + 4 ≤ length xs = omega (
-        arith,
-        i.0,
-        slot-inside _ ns i.1,
-        length-tiles _ ns u,
-        length-drop hi
-            xs,
-      ) in (
+      let n = length-tiles _ ns u in
+      let inside : s + 4 ≤ length xs = omega (arith, i.0, slot-inside _ ns i.1, length-drop hi xs) in (
         rw (take-written_below s w xs lo (omega (arith, i.0)) (omega arith)) t,
         rw (drop-written_below s w xs hi i.0 (omega arith)) (tiles-slot m _ w (s - hi) ns e i.1 u),
       )

@@ -99,11 +99,8 @@ move_block-moves-requires-clause-fits g c =
 pub overflow_add-moves : goal.overflow_add-moves
 overflow_add-moves g c =
     let m = mover g (goal.at.overflow_add-moves g c).After-eq c.if-eq.ensures in
-    omega (
-      arith,
-      moves-bound _ _ _ (run-moved _ _ _ c.requires.1.0)
-          (m.packing c.move_block-moves.result c.move_block-moves.ensures.moves),
-    )
+    let p = m.packing c.move_block-moves.result c.move_block-moves.ensures.moves in
+    omega (arith, moves-bound _ _ _ (run-moved _ _ _ c.requires.1.0) p)
 
 pub overflow_add-to-then-eq : goal.overflow_add-to-then-eq
 overflow_add-to-then-eq g c =
