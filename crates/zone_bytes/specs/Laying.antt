@@ -25,14 +25,8 @@ laid header bottom top held xs = left_over (bottom + header.size) top (headed he
 
 -- The header of a new relocatable block of `size` bytes.
 abbrev pub new_header : ℕ → ℕ → ℕ → Header
-new_header slot size flags = record {
-  size = padded size;
-  tag = tag.Relocatable;
-  logical = size;
-  slot = slot;
-  flags =
-      flags;
-}
+new_header slot size flags =
+    record { size = padded size; tag = tag.Relocatable; logical = size; slot = slot; flags = flags }
 
 -- A block with this header may be laid from `bottom` up to `top`.
 pub record MayLay (header : Header) (bottom top held : ℕ) (xs : List ℕ) : Type 0 where

@@ -39,8 +39,7 @@ pub record Threading (bottom end slot : ℕ) (old xs : List ℕ) : Type 0 where
   pub even : slot % 4 ≡ 0
 
 -- The bytes from `place` on are the header of a master pointer block, its slots, which are chained and end with
--- `first`,
--- and a free block of what is left of `size` bytes.
+-- `first`, and a free block of what is left of `size` bytes.
 pub record HasMasters (place size first : ℕ) (old new : List ℕ) : Type 0 where
   pub outside : SameOutside place (place + size) old new
   pub begins : piece place 16 new ≡ header 274 256 0 0
