@@ -13,7 +13,13 @@ pub record Hoist : Type 0 where
   pub bytes : List ℕ
 
 abbrev pub unhoisted : Hoist → Lay
-unhoisted z = record { resource = z.resource; below = z.below; run = z.block ∷ z.over; above = z.above; bytes = z.bytes }
+unhoisted z = record {
+  resource = z.resource;
+  below = z.below;
+  run = z.block ∷ z.over;
+  above = z.above;
+  bytes = z.bytes;
+}
 
 abbrev pub hoisted_run : Hoist → List Block
 hoisted_run z = z.over ++ z.block ∷ []

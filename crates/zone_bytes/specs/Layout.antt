@@ -21,7 +21,8 @@ kind (Relocatable slot flags content) = 3
 -- The bytes that a block begins with; its other bytes may have any values.
 unfoldable pub head_of : (ℕ → Bool) → Block → List ℕ
 head_of resource (Free n) = word n
-head_of resource (Nonrelocatable id content) = header (size (Nonrelocatable id content) + 1) (length content) 0 0 ++ content
+head_of resource (Nonrelocatable id content) = header (size (Nonrelocatable id content) + 1) (length content) 0 0
+    ++ content
 head_of resource Masters = header (272 + 2) 256 0 0
 head_of resource (Relocatable slot flags content) = header (size (Relocatable slot flags content) + 3)
     (length content) slot (flag_word flags (resource slot)) ++ content

@@ -1,5 +1,6 @@
 -- A run whose relocatable blocks are being moved down.
-use Rattle.std.specs.Prelude.{◌≡◌, ℕ, ◌+◌, ◌-◌, ◌≤◌, ◌<◌, ◌⊎◌, zero, suc, Bool, true, false, nat_le, nat_lt, if◌then◌else◌, List, []}
+use Rattle.std.specs.Prelude.{◌≡◌, ℕ, ◌+◌, ◌-◌, ◌≤◌, ◌<◌, ◌⊎◌, zero, suc, Bool, true, false, nat_le, nat_lt}
+use Rattle.std.specs.Prelude.{if◌then◌else◌, List, []}
 use Rattle.std.specs.Prelude.{◌∷◌, ◌++◌, length, take, drop}
 use Rattle.windows.specs.Writes.{piece}
 use Rattle.block_store.specs.Block.{Block, free_of, free_sum, is_mover, size, sizes}
@@ -68,8 +69,8 @@ pub record Relaid (resource : ℕ → Bool) (was now : List Block) (old new : Li
   pub others : SameOthers was old new
   pub kept : length new ≡ length old
 
--- The blocks `gone` of the run, which end at `from`, were passed, and now lie below `to` as `moved`; the blocks `rest` of
--- the run lie as they did. The slots of the blocks that were passed lead to the places `gap` above them.
+-- The blocks `gone` of the run, which end at `from`, were passed, and now lie below `to` as `moved`; the blocks `rest`
+-- of the run lie as they did. The slots of the blocks that were passed lead to the places `gap` above them.
 pub record Passing (lay : Lay) (gap from to : ℕ) (xs : List ℕ) (gone moved rest : List Block) : Type 0 where
   pub split : gone ++ rest ≡ lay.run
   pub named : names moved ≡ names gone
@@ -128,12 +129,13 @@ rest_from lay stop = left_behind (stop - sizes lay.below) lay.run
 
 -- The first blocks of a run are packed, up to `top`, with one free block above them, up to `stop`. They are all blocks
 -- of the run, or as many as have `enough` free bytes among them.
-pub record UntilAt (lay : Lay) (place gap enough moves top stop : ℕ) (xs : List ℕ) (gone rest : List Block) : Type 0 where
-  pub split : gone ++ rest ≡ lay.run
-  pub packed : Packed (cut lay gone rest) gap moves xs
-  pub top_at : top ≡ place + sizes (movers gone)
-  pub stop_at : stop ≡ place + sizes gone
-  pub ended : (rest ≡ []) ⊎ ((place < top) × (enough ≤ free_sum gone))
+pub record UntilAt (lay : Lay) (place gap enough moves top stop : ℕ) (xs : List ℕ) (gone rest : List Block) : Type 0
+  where
+    pub split : gone ++ rest ≡ lay.run
+    pub packed : Packed (cut lay gone rest) gap moves xs
+    pub top_at : top ≡ place + sizes (movers gone)
+    pub stop_at : stop ≡ place + sizes gone
+    pub ended : (rest ≡ []) ⊎ ((place < top) × (enough ≤ free_sum gone))
 
 abbrev pub PackedUntil : Lay → ℕ → ℕ → ℕ → ℕ → ℕ → ℕ → List ℕ → Type 0
 PackedUntil lay place gap enough moves top stop xs =

@@ -8,7 +8,8 @@ use Rattle.heap_words.specs.Words.{word, word_at, header}
 use Rattle.heap_words.proofs.Headers.{length-header}
 use Rattle.block_store.specs.declared.flags.Flags.{Flags}
 use Rattle.block_store.specs.declared.sparing.Seen.TheVariants as see
-use Rattle.block_store.specs.Block.{Block, Free, Nonrelocatable, Masters, Relocatable, size, sizes, count, is_relocatable}
+use Rattle.block_store.specs.Block.{Block, Free, Nonrelocatable, Masters, Relocatable, size, sizes, count}
+use Rattle.block_store.specs.Block.{is_relocatable}
 use Rattle.block_store.specs.Block.{is_nonrelocatable, is_masters, tidy, free_of, free_sum}
 use Rattle.block_store.specs.Run.{has}
 use Rattle.block_store.specs.Slot.{is_used}
@@ -106,7 +107,8 @@ masters-adopted below id number flags content above =
     masters-same below above (Nonrelocatable id content) (Relocatable number flags content) refl
 
 pub free-adopted : (below : List Block) (id number : ℕ) (flags : Flags) (content : List ℕ) (above : List Block)
-    → free_sum (below ++ Relocatable number flags content ∷ above) ≡ free_sum (below ++ Nonrelocatable id content ∷ above)
+    → free_sum (below ++ Relocatable number flags content ∷ above) ≡ free_sum
+    (below ++ Nonrelocatable id content ∷ above)
 free-adopted below id number flags content above =
     total-same free_of below above (Nonrelocatable id content) (Relocatable number flags content) refl
 
@@ -120,7 +122,8 @@ pub record NonrelocatableAt (xs : List ℕ) (place : ℕ) : Type 0 where
   pub whole : zone_in xs ≡ s.below ++ Nonrelocatable id content ∷ s.above
   pub low : sizes s.below ≡ place
 
-pub nonrelocatable-at : (xs : List ℕ) (place : ℕ) → IsSomeAnd (spot_at place (zone_in xs)) (λ s. is_nonrelocatable place s.here ≡ true)
+pub nonrelocatable-at : (xs : List ℕ) (place : ℕ) → IsSomeAnd (spot_at place (zone_in xs))
+    (λ s. is_nonrelocatable place s.here ≡ true)
     → NonrelocatableAt xs place
 nonrelocatable-at xs place h = let a = the-spot _ (λ s. is_nonrelocatable place s.here ≡ true) h in
     of a.0 a.1 a.0.here refl a.2
@@ -140,7 +143,8 @@ nonrelocatable-at xs place h = let a = the-spot _ (λ s. is_nonrelocatable place
     of s e Masters is f = absurd (false≢true f)
     of s e (Relocatable slot flags content) is f = absurd (false≢true f)
 
-module _ (xs : List ℕ) (first count : ℕ) (i : IsSound xs first count) (place : ℕ) (a : NonrelocatableAt xs place) (number : ℕ)
+module _ (xs : List ℕ) (first count : ℕ) (i : IsSound xs first count) (place : ℕ) (a : NonrelocatableAt xs place)
+    (number : ℕ)
     (flags : Flags) (used : IsTrue (is_used (slot_in xs number)))
     (none : has (is_relocatable number) (zone_in xs) ≡ false) where
   pub adopt-reads-in : (number % 4 ≡ 0) × (number + 4 ≤ length xs)

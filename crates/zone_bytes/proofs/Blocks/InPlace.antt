@@ -1,6 +1,6 @@
 -- A block of a RawZone that is written anew where it stands.
 use Rattle.std.proofs.Common.{◌≡◌, ℕ, false, ◌+◌, ◌-◌, ◌<◌, inl, inr, if◌then◌else◌, List, [], ◌∷◌, ◌++◌, take, drop}
-use Rattle.std.proofs.Common.{◌≤◌, length, zero, suc}
+use Rattle.std.proofs.Common.{◌≤◌, length}
 use Rattle.std.proofs.Common.{sym, ap, ◌∙◌, subst, arith}
 use Rattle.std.proofs.lemmas.Bool.{false≢true}
 use Rattle.std.proofs.lemmas.List.{length-take-le, length-drop, append-nil}
@@ -31,25 +31,33 @@ use Rattle.zone_bytes.proofs.Joined.Ways.{tile-at}
 
 -- where a slot leads hangs on the block's names alone
 pub leads-each : (o : ℕ) (b : Block) (xs : List ℕ) → LeadsTo o b xs → Each (λ s. piece s 4 xs ≡ word o) (names_of b)
+leads-each o (Free n) xs l = tt
+leads-each o (Nonrelocatable id content) xs l = tt
+leads-each o Masters xs l = tt
 leads-each o (Relocatable slot flags content) xs l = (l, tt)
-leads-each o _ xs l = tt
 
 pub each-leads : (o : ℕ) (b : Block) (xs : List ℕ) → Each (λ s. piece s 4 xs ≡ word o) (names_of b) → LeadsTo o b xs
+each-leads o (Free n) xs e = tt
+each-leads o (Nonrelocatable id content) xs e = tt
+each-leads o Masters xs e = tt
 each-leads o (Relocatable slot flags content) xs e = e.0
-each-leads o _ xs e = tt
 
 pub no-slots : (b : Block) → is_masters b ≡ false → (s : ℕ) → IsSlot s (b ∷ []) → ⊥
+no-slots (Free n) m s i = elim i [ inl k ↦ k | inr k ↦ k.1 ]
+no-slots (Nonrelocatable id content) m s i = elim i [ inl k ↦ k | inr k ↦ k.1 ]
 no-slots Masters m s i = absurd (false≢true (sym m))
-no-slots _ m s i = elim i [ inl k ↦ k | inr k ↦ k.1 ]
+no-slots (Relocatable slot flags content) m s i = elim i [ inl k ↦ k | inr k ↦ k.1 ]
 
 -- another block that counts as much leaves a sum
 pub total-same : (of : Block → ℕ) (below above : List Block) (b c : Block) → of c ≡ of b
     → total of (below ++ c ∷ above) ≡ total of (below ++ b ∷ above)
-total-same of below above b c e = grind (arith, total-append)
+total-same of below above b c e = total-append of _ _
+    ∙ ap (λ v. total of below + (v + total of above)) e ∙ sym (total-append of _ _)
 
 pub masters-same : (below above : List Block) (b c : Block) → is_masters c ≡ is_masters b
     → count is_masters (below ++ c ∷ above) ≡ count is_masters (below ++ b ∷ above)
-masters-same below above b c e = grind (arith, total-same)
+masters-same below above b c e = total-same (λ b. if is_masters b then 1 else 0) _ _ b c
+    (ap (λ v. if v then 1 else 0) e)
 
 -- neither a block that holds none nor Free bytes above it have slots
 pub no-slots-two : (b : Block) (k : ℕ) → is_masters b ≡ false → (s : ℕ) → IsSlot s (b ∷ free k) → ⊥

@@ -5,7 +5,8 @@ use Rattle.windows.specs.Writes.{written}
 use Rattle.heap_words.specs.Words.{word, word_at, header}
 use Rattle.heap_words.proofs.Words.{length-word}
 use Rattle.block_store.specs.declared.flags.Flags.{Flags}
-use Rattle.block_store.specs.Block.{Block, Free, Nonrelocatable, Masters, Relocatable, size, sizes, tidy, count, is_masters}
+use Rattle.block_store.specs.Block.{Block, Free, Nonrelocatable, Masters, Relocatable, size, sizes, tidy, count}
+use Rattle.block_store.specs.Block.{is_masters}
 use Rattle.block_store.specs.Block.{free_of, free_sum}
 use Rattle.block_store.specs.Seen.{with_flags}
 use Rattle.block_store.proofs.Purged.Purges.{tidy-flags}

@@ -7,7 +7,8 @@ use Rattle.windows.specs.Writes.{written}
 use Rattle.windows.proofs.Pieces.{written-same, length-written}
 use Rattle.heap_words.proofs.Headers.{length-header}
 use Rattle.mac_words.specs.Size.{padded}
-use Rattle.block_store.specs.Block.{Block, Free, Nonrelocatable, Masters, Relocatable, size, sizes, tidy, count, is_masters}
+use Rattle.block_store.specs.Block.{Block, Free, Nonrelocatable, Masters, Relocatable, size, sizes, tidy, count}
+use Rattle.block_store.specs.Block.{is_masters}
 use Rattle.block_store.specs.Block.{content_of, with_content, free_of, free_sum}
 use Rattle.block_store.proofs.Zone.Apart.{tidy-content}
 use Rattle.zone_bytes.specs.Layout.{head_of}

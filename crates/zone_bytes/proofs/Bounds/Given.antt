@@ -1,9 +1,11 @@
 -- What blocks would give if they were emptied, through each change of a zone.
-use Rattle.std.proofs.Common.{◌≡◌, ℕ, zero, suc, ◌+◌, ◌-◌, ◌≤◌, ◌<◌, ◌^◌, Bool, true, false, not, ◌&&◌, cond, Option, Some, None}
+use Rattle.std.proofs.Common.{◌≡◌, ℕ, zero, suc, ◌+◌, ◌-◌, ◌≤◌, ◌<◌, ◌^◌, Bool, true, false, not, ◌&&◌, cond, Option}
+use Rattle.std.proofs.Common.{Some, None}
 use Rattle.std.proofs.Common.{List, [], ◌∷◌, ◌++◌, map, refl, sym, ap, ◌∙◌, arith}
 use Rattle.std.proofs.lemmas.Bool.{and_parts, false≢true}
 use Rattle.std.specs.Option.{option_map}
-use Rattle.block_store.specs.Block.{Block, Free, Nonrelocatable, Masters, Relocatable, size, sizes, total, free_of, free_sum}
+use Rattle.block_store.specs.Block.{Block, Free, Nonrelocatable, Masters, Relocatable, size, sizes, total, free_of}
+use Rattle.block_store.specs.Block.{free_sum}
 use Rattle.block_store.specs.Block.{count, is_purgeable, is_room, fresh, tidy}
 use Rattle.block_store.specs.Grow.{freed, growth, grow_up}
 use Rattle.block_store.specs.Room.{Spot, spot, raised, filled, may_be_purged, lowest_purged}
@@ -108,7 +110,8 @@ all-given zone = free-purged sparing.Nothing (most_purges sparing.Nothing zone) 
     one Masters = refl
     one (Relocatable id flags content) = grind arith
 
-    sum : (zone : List Block) → free_sum (map (emptied (spared sparing.Nothing)) zone) ≡ free_sum zone + purgeable_sum zone
+    sum : (zone : List Block) → free_sum (map (emptied (spared sparing.Nothing)) zone) ≡ free_sum zone + purgeable_sum
+        zone
     sum [] = refl
     sum (b ∷ zone) = omega (arith, one b, sum zone)
 

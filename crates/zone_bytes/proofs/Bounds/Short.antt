@@ -3,7 +3,8 @@ use Rattle.std.proofs.Common.{◌≡◌, ℕ, ◌+◌, ◌≤◌, ◌<◌, Bool,
 use Rattle.std.proofs.Common.{length, ap, arith}
 use Rattle.std.proofs.lemmas.Bool.Decides.{nat_tests}
 use Rattle.mac_words.specs.Size.{padded}
-use Rattle.block_store.specs.Block.{Block, Free, Nonrelocatable, Masters, Relocatable, count, free_of, free_sum, is_room}
+use Rattle.block_store.specs.Block.{Block, Free, Nonrelocatable, Masters, Relocatable, count, free_of, free_sum}
+use Rattle.block_store.specs.Block.{is_room}
 use Rattle.block_store.specs.Block.{is_relocatable}
 use Rattle.block_store.specs.Run.{run_spot}
 use Rattle.block_store.specs.Room.{spot, may_be_purged, lowest_purged}

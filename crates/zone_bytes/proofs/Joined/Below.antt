@@ -1,5 +1,6 @@
 -- A walk to a place, which keeps where the last Free block began.
-use Rattle.std.proofs.Common.{◌≡◌, ℕ, inl, inr, ◌+◌, ◌-◌, ◌%◌, ◌<◌, ◌≤◌, List, [], ◌∷◌, ◌++◌, length, sym, refl, ap, ◌∙◌, subst}
+use Rattle.std.proofs.Common.{◌≡◌, ℕ, inl, inr, ◌+◌, ◌-◌, ◌%◌, ◌<◌, ◌≤◌, List, [], ◌∷◌, ◌++◌, length, sym, refl, ap}
+use Rattle.std.proofs.Common.{◌∙◌, subst}
 use Rattle.std.proofs.Common.{arith}
 use Rattle.heap_words.specs.Words.{word_at}
 use Rattle.block_store.specs.Block.{Block, size, sizes, free_of}
@@ -48,11 +49,13 @@ module _ (xs : List ℕ) (from place : ℕ) (u : LeadsUp from place xs) where
   far below above e l f =
       let r = front-of u.below (left_in from xs) below above (sym u.is ∙ e) (omega (arith, l, f)) in
       let k = ap sizes r.1 in
+      let z : from - from ≡ 0 = omega arith in
       record {
         rest = r.0;
         is = r.2;
         up = omega (arith, span-append, k, l);
-        last = ap (λ n. last_free n r.0) (omega arith) ∙ same r.0 (omega (arith, span-append, k, l, f)) ∙ ap (last_free 0) (sym r.1);
+        last = ap (λ n. last_free n r.0) z ∙ same r.0 (omega (arith, span-append, k, l, f)) ∙ ap (last_free 0)
+            (sym r.1);
       }
     where
       same : (more : List Block) → 0 < sizes more → last_free 0 more ≡ last_free 0 (u.below ++ more)
@@ -61,10 +64,21 @@ module _ (xs : List ℕ) (from place : ℕ) (u : LeadsUp from place xs) where
 
   near : (below above : List Block) → left_in 0 xs ≡ below ++ above → sizes below ≡ place → from ≡ 0
       → LeftBelow xs place from from below above
-  near below above e l z = grind arith
+  near below above e l z =
+      let k : from - from ≡ 0 = omega arith in
+      record {
+        rest = below;
+        is = ap (λ n. left_in n xs) z ∙ e;
+        up = omega (arith, l, z);
+        last = ap (λ n. last_free n below) k;
+      }
 
   pub below-from : place ≤ length xs → Below xs place from from
-  below-from h = grind (arith, far, near)
+  below-from h = record {
+    way = u.way;
+    ordered = (omega arith, elim u.under [ inl f ↦ omega (arith, f, h) | inr z ↦ omega (arith, z) ]);
+    left = λ below above e l. elim u.under [ inl f ↦ far below above e l f | inr z ↦ near below above e l z ];
+  }
 
 some-block : (at : ℕ) (xs : List ℕ) (w : IsOnWay at xs) (b : Block) (blocks : List Block)
     → left_in at xs ≡ b ∷ blocks → 16 ≤ size b
@@ -112,7 +126,12 @@ module _ (xs : List ℕ) (place at start : ℕ) (b : Below xs place at start) wh
           next (c ∷ rest) below above q u v =
               let f = tells c (rest ++ above) q in
               let s : step.here ∷ left_in (at + n) xs ≡ c ∷ (rest ++ above) = sym step.is ∙ q in
-              (grind arith)
+              record {
+                rest = rest;
+                is = (let r : left_in (at + n) xs ≡ rest ++ above = cc in r);
+                up = omega (arith, u);
+                last = ap (λ j. last_free j rest) (g c f.0 f.1) ∙ v;
+              }
 
       pub below-free : t ≡ 0 → Below xs place (at + n) at
       below-free z = below-next at (omega arith) (λ c p q. omega (arith, p, ap free_of (free-is c (sym q ∙ z))))

@@ -11,7 +11,8 @@ use Rattle.windows.specs.Writes.{piece}
 use Rattle.heap_words.specs.Words.{word, word_at, header}
 use Rattle.heap_words.specs.Headers.{header_bytes, tag_number}
 use Rattle.heap_words.specs.declared.header.Header.{Header}
-use Rattle.block_store.specs.Block.{Block, Free, Nonrelocatable, Masters, Relocatable, size, sizes, free, free_of, free_sum}
+use Rattle.block_store.specs.Block.{Block, Free, Nonrelocatable, Masters, Relocatable, size, sizes, free, free_of}
+use Rattle.block_store.specs.Block.{free_sum}
 use Rattle.block_store.specs.Block.{is_masters}
 use Rattle.block_store.specs.Block.{content_of, resized, resized_content, tidy}
 use Rattle.block_store.specs.Room.{Spot, spot_at, filled}

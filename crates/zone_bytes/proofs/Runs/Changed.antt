@@ -69,7 +69,8 @@ relaid-run change place zone r e keeps t xs first unused i k is shape new d =
     }
 
 -- so the blocks from the run's bottom to its top became others
-pub replaced-run : {change : List Block → List Block} {zone : List Block} {r : RunSpot} {new : List ℕ} {first unused : ℕ}
+pub replaced-run : {change : List Block → List Block} {zone : List Block} {r : RunSpot} {new : List ℕ}
+    {first unused : ℕ}
     {table : ℕ → Slot} (place stop : ℕ) → tidy zone ≡ zone → run_at place zone ≡ Some r → stop ≡ place + sizes r.run
     → ChangedRun change zone r new first unused table → Replaced place stop zone (zone_in new)
 replaced-run {change} {zone} {r} {new} place stop t e u d = record {

@@ -19,7 +19,8 @@ movers-solid : (run : List Block) → Each IsMover (movers run)
 movers-solid [] = tt
 movers-solid (b ∷ run) = cases (is_mover b) refl (movers-solid run)
   where
-    cases : (t : Bool) → is_mover b ≡ t → Each IsMover (movers run) → Each IsMover (cond t (b ∷ movers run) (movers run))
+    cases : (t : Bool) → is_mover b ≡ t → Each IsMover (movers run) → Each IsMover
+        (cond t (b ∷ movers run) (movers run))
     cases true e s = (e, s)
     cases false e s = s
 

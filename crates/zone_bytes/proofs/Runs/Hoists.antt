@@ -99,10 +99,12 @@ module _ (z : Hoist) (place stop : ℕ) (h : MayHoist z place stop) where
   pub is-moved : IsMoved (record (unhoisted z) { run = hoisted_run z; bytes = mid }) place stop
   is-moved = moved.is-moved (unhoisted z) place stop run (hoisted_run z) hoisted-instead mid outside new-tiles
 
-  pub is-hoisted : (new : List ℕ) → Pointed (record (unhoisted z) { run = hoisted_run z; bytes = mid }) new → Hoisted z new
+  pub is-hoisted : (new : List ℕ) → Pointed (record (unhoisted z) { run = hoisted_run z; bytes = mid }) new → Hoisted
+      z new
   is-hoisted new p = record {
     lies = p.lies;
     others = others-now hoisted-instead z.bytes mid new
-        (moved.others-moved (unhoisted z) place stop run (hoisted_run z) hoisted-instead mid outside new-tiles) p.others;
+        (moved.others-moved (unhoisted z) place stop run (hoisted_run z) hoisted-instead mid outside new-tiles)
+        p.others;
     kept = p.kept ∙ outside.kept;
   }

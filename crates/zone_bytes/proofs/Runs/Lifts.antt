@@ -17,7 +17,8 @@ use Rattle.zone_bytes.specs.Raising.{Raise, MayRaise, Raised, lifted, MayLift, L
 use Rattle.zone_bytes.proofs.Tiles.Tiling.{span-append}
 use Rattle.zone_bytes.proofs.Tiles.Leading.{each-append, each-right}
 use Rattle.zone_bytes.proofs.Tiles.Keeping.{each-free, each-movers, names-movers}
-use Rattle.zone_bytes.proofs.Tiles.Keeping.{span-free, span-movers, Instead, others-now, slots-now, instead-settle, instead, names-left}
+use Rattle.zone_bytes.proofs.Tiles.Keeping.{span-free, span-movers, Instead, others-now, slots-now, instead-settle}
+use Rattle.zone_bytes.proofs.Tiles.Keeping.{instead, names-left}
 use Rattle.zone_bytes.proofs.Runs.Packed.{run-bounds, run-moved}
 use Rattle.block_store.proofs.Zone.Spots.{free-some}
 use Rattle.zone_bytes.proofs.Runs.Led.{settled-of}
@@ -67,12 +68,9 @@ lifted-instead gap below run above some enough r = elim (any-movers run) [
 ]
 
 pub gap-fits : (lay : Lay) (place gap : ℕ) → MayLift lay place gap → gap ≤ length lay.bytes
-gap-fits lay place gap h = omega (
-  arith,
-  h.enough,
-  span-movers lay.run h.run.in_run,
-  run-bounds lay place _ (run-moved lay place _ h.run),
-)
+gap-fits lay place gap h =
+    let b = run-bounds lay place _ (run-moved lay place _ h.run) in
+    omega (arith, h.enough, span-movers lay.run h.run.in_run, b)
 
 -- the packed blocks, which are to be raised
 abbrev pub raise_of : Lay → ℕ → List ℕ → Raise
@@ -149,7 +147,8 @@ upper lay gap gone rest ys = record {
 }
 
 -- The first blocks of a run are raised, and the others are packed above them.
-module _ (lay : Lay) (place gap : ℕ) (h : MayLift lay place gap) (o : EndsRun lay.above) (moves top stop : ℕ) (xs : List ℕ)
+module _ (lay : Lay) (place gap : ℕ) (h : MayLift lay place gap) (o : EndsRun lay.above) (moves top stop : ℕ)
+    (xs : List ℕ)
     (gone rest : List Block) (p : UntilAt lay place gap gap moves top stop xs gone rest) where
   abbrev part : Lay
   part = cut lay gone rest

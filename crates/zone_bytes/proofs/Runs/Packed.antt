@@ -14,9 +14,11 @@ use Rattle.zone_bytes.specs.Settling.{Lay, InRun, IsRunFrom, Passing}
 use Rattle.zone_bytes.specs.Splicing.{SameOutside}
 use Rattle.zone_bytes.specs.Pointing.{IsMoved}
 use Rattle.zone_bytes.proofs.Tiles.Heads.{Next, next-there, length-masters}
-use Rattle.zone_bytes.proofs.Tiles.Tiling.{span-append, slot-inside, slot-append_left, slot-append_right, slot-beside, span-whole}
+use Rattle.zone_bytes.proofs.Tiles.Tiling.{span-append, slot-inside, slot-append_left, slot-append_right, slot-beside}
+use Rattle.zone_bytes.proofs.Tiles.Tiling.{span-whole}
 use Rattle.zone_bytes.proofs.Tiles.Tiling.{length-tiles, tile-take, tiles-append, tiles-one, tiles-slot-beside}
-use Rattle.zone_bytes.proofs.Tiles.Leading.{Clear, each-left, each-right, each-names, pairs-before, pairs-after, apart-turned}
+use Rattle.zone_bytes.proofs.Tiles.Leading.{Clear, each-left, each-right, each-names, pairs-before, pairs-after}
+use Rattle.zone_bytes.proofs.Tiles.Leading.{apart-turned}
 use Rattle.zone_bytes.proofs.Tiles.Leading.{names-append, piece-clear, leads-append, leads-parts, leads-same}
 use Rattle.zone_bytes.proofs.Tiles.Splices.{tiles-parts, outside-same, outside-written, piece-outside}
 use Rattle.zone_bytes.proofs.Tiles.Keeping.{run-no_slot, span-movers}
@@ -93,6 +95,8 @@ module _ (lay : Lay) (place stop : ℕ) (r : IsMoved lay place stop) where
         let s = ap sizes q.split in
         let n = span-append gone rest in
         let b = run-bounds in
+        let a = span-append lay.below (lay.run ++ lay.above) in
+        let c = span-append lay.run lay.above in
         let e : from + sizes rest ≡ stop = omega arith in
         let inside : stop ≤ length xs = omega arith in
         let t = length-take-le to xs (omega arith) in
@@ -108,14 +112,15 @@ module _ (lay : Lay) (place stop : ℕ) (r : IsMoved lay place stop) where
           small = omega arith;
           evens = (
             omega (arith, span-whole head _ _ q.low),
-            omega (arith, span-append rest lay.above, span-append lay.below (lay.run ++ lay.above), span-append lay.run lay.above),
+            omega (arith, span-append rest lay.above, a, c),
           );
           gone_in = each-left InRun gone rest in-run;
           rest_in = each-right InRun gone rest in-run;
         }
 
     -- a block's header may be read
-    pub passing-next : {rest : List Block} → Passing lay gap from to xs gone moved rest → from < length xs → Next xs from
+    pub passing-next : {rest : List Block} → Passing lay gap from to xs gone moved rest → from < length xs → Next xs
+        from
     passing-next {rest} q l =
         let b = bounds q in
         next-there lay.resource xs from b.small (rest ++ lay.above) q.high b.evens.1 l
@@ -220,7 +225,8 @@ module _ (lay : Lay) (place stop : ℕ) (r : IsMoved lay place stop) where
     -- the other slots hold what they held
     others-kept : (s : ℕ) → IsSlot s all → Apart slot s → Kept s
     others-kept s i a =
-        piece-clear slot _ (slid block q) s (omega (arith, slot-fits, length-slid block q)) (apart-clear slot (to + gap) s a)
+        piece-clear slot _ (slid block q) s (omega (arith, slot-fits, length-slid block q))
+        (apart-clear slot (to + gap) s a)
         ∙ piece-outside place stop xs (slid block q) s (slid-outside block q)
         (slot-clear place (stop - place) (omega arith) (omega (arith, run-bounds)) s i)
 
@@ -229,7 +235,8 @@ module _ (lay : Lay) (place stop : ℕ) (r : IsMoved lay place stop) where
         (pairs-before slot _ (names (rest ++ lay.above)) (subst (Pairs Apart) (sym named) r.slots.apart))
 
     pub kept-high : Each Kept (names (rest ++ lay.above))
-    kept-high = each-both P (Apart slot) Kept others-kept _ (each-right P _ (slot ∷ names (rest ++ lay.above)) are-slots).1
+    kept-high = each-both P (Apart slot) Kept others-kept _
+        (each-right P _ (slot ∷ names (rest ++ lay.above)) are-slots).1
         (pairs-after slot (names (lay.below ++ moved)) _ (subst (Pairs Apart) (sym named) r.slots.apart))
 
     done-tiles : Tiles head (take (to + size block) done) (lay.below ++ (moved ++ block ∷ []))
@@ -245,7 +252,8 @@ module _ (lay : Lay) (place stop : ℕ) (r : IsMoved lay place stop) where
               inr (omega arith, slot-append_right _ rest _ (omega arith) (subst (λ k. IsSlot k lay.above) e j.1))
         ]) (slid-low block q) (slid-high block q)
 
-    pub step-move : Passing lay gap (from + size block) (to + size block) done (gone ++ block ∷ []) (moved ++ block ∷ []) rest
+    pub step-move : Passing lay gap (from + size block) (to + size block) done (gone ++ block ∷ [])
+        (moved ++ block ∷ []) rest
     step-move =
         let p = bounds q in
         let f = slot-fits in
@@ -255,7 +263,8 @@ module _ (lay : Lay) (place stop : ℕ) (r : IsMoved lay place stop) where
         let e : to + gap ≡ sizes lay.below + gap + sizes moved = omega (arith, span-append lay.below moved) in
         record {
           split = append_assoc gone (block ∷ []) rest ∙ q.split;
-          named = names-append moved (block ∷ []) ∙ ap (λ k. k ++ slot ∷ []) q.named ∙ sym (names-append gone (block ∷ []));
+          named = names-append moved (block ∷ []) ∙ ap (λ k. k ++ slot ∷ []) q.named ∙ sym
+              (names-append gone (block ∷ []));
           low = done-tiles.0;
           high = done-tiles.1;
           up = omega (arith, span-append gone (block ∷ []));
@@ -264,7 +273,8 @@ module _ (lay : Lay) (place stop : ℕ) (r : IsMoved lay place stop) where
           lead_low = leads-same xs done 0 lay.below low.0 q.lead_low;
           lead_moved = leads-append done _ moved (block ∷ []) (leads-same xs done _ moved low.1 q.lead_moved)
               (piece-written slot _ (slid block q) 4 (sym w) (omega arith) ∙ ap word e, tt);
-          others = λ s i a. others-kept s i (apart-turned s slot (each-right (Apart s) _ (slot ∷ names (rest ++ lay.above))
+          others = λ s i a. others-kept s i (apart-turned s slot
+              (each-right (Apart s) _ (slot ∷ names (rest ++ lay.above))
               (subst (Each (Apart s)) (sym named) a)).0) ∙ q.others s i a;
         }
 

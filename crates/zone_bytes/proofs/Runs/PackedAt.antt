@@ -72,12 +72,14 @@ module _ {xs : List ℕ} {first unused place top stop : ℕ} {old : List Block}
   in-run = each-loose r.run loose
 
   pub total-packed : (of : Block → ℕ) → Adds of → total of (zone_in xs) ≡ total of old
-  total-packed of adds = ap (total of) k.zone ∙ total-changed of adds settle place old r k.is (settle-total of adds r.run loose)
+  total-packed of adds = ap (total of) k.zone ∙ total-changed of adds settle place old r k.is
+      (settle-total of adds r.run loose)
 
   -- after another change of the run
   pub kept-changed : (change : List Block → List Block) (new : List ℕ) (table : ℕ → Slot) (n : ℕ)
       → ChangedRun change old r new first unused table → n ≡ free_sum (zone_in xs) → IsKept new first unused n
-  kept-changed change new table n d e = kept-made _ _ _ _ _ _ d.made (e ∙ total-packed free_of (λ n m. refl) ∙ sym d.free)
+  kept-changed change new table n d e = kept-made _ _ _ _ _ _ d.made
+      (e ∙ total-packed free_of (λ n m. refl) ∙ sym d.free)
 
   pub purgeable-changed : (change : List Block → List Block) (new : List ℕ) (table : ℕ → Slot)
       → ChangedRun change old r new first unused table → purgeable_sum (zone_in xs) ≡ purgeable_sum (zone_in new)

@@ -13,7 +13,8 @@ use Rattle.zone_bytes.proofs.Tiles.Tiling.{slot-even, tiles-append, tiles-none}
 use Rattle.zone_bytes.proofs.Tiles.Heads.{Next, slot-reads}
 use Rattle.zone_bytes.proofs.Tiles.Leading.{each-names, leads-joined, leads-same}
 use Rattle.zone_bytes.proofs.Runs.Ends.{next-is-free, next-is-mover}
-use Rattle.zone_bytes.proofs.Runs.Packed.{passing-next, bounds, start, step-stay, step-move, is-slot, slot-fits, kept-high}
+use Rattle.zone_bytes.proofs.Runs.Packed.{passing-next, bounds, start, step-stay, step-move, is-slot, slot-fits}
+use Rattle.zone_bytes.proofs.Runs.Packed.{kept-high}
 
 pub record NextSlot (lay : Lay) (stop from : ℕ) (xs : List ℕ) (n slot : ℕ) : Type 0 where
   pub inside : from + n ≤ stop
@@ -73,7 +74,8 @@ module _ (lay : Lay) (place stop : ℕ) (r : IsMoved lay place stop) where
             let q = subst (Passing lay 0 from from xs p.done p.done) f.is p.state in
             let c = bounds lay place stop r q in
             let i = slot-fits lay place stop r f.slot f.flags f.content q in
-            let mine : s ≡ f.slot = v ∙ slot-reads lay.resource xs from b.small f.slot f.flags f.content (omega arith) q.high.0
+            let mine : s ≡ f.slot = v ∙ slot-reads lay.resource xs from b.small f.slot f.flags f.content (omega arith)
+            q.high.0
             in
             let o : from + 0 ≡ from = omega arith in
             let same : written f.slot (word (from + 0)) (written from (piece from (size block) xs) xs)

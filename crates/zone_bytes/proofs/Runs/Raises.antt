@@ -48,7 +48,8 @@ module _ (z : Raise) (place top stop gap : ℕ) (h : MayRaise z place top stop g
 
   -- where the movers lie
   mover-tiles : Tiles head (piece place (top - place) z.bytes) z.movers
-  mover-tiles = (tiles-parts head z.bytes z.below z.movers (free (z.gap + z.rest) ++ z.above) place top h.run.bottom h.middle
+  mover-tiles = (tiles-parts head z.bytes z.below z.movers (free (z.gap + z.rest) ++ z.above) place top h.run.bottom
+      h.middle
       (rw (← append_assoc z.movers (free (z.gap + z.rest)) z.above) h.run.tiles)).2
 
   pub evens : (place % 16 ≡ 0) × (top % 16 ≡ 0) × (z.rest % 16 ≡ 0)
@@ -79,7 +80,8 @@ module _ (z : Raise) (place top stop gap : ℕ) (h : MayRaise z place top stop g
         let mine : Tiles head (piece gap (top - place) ys) z.movers =
         rw (piece-piece place (stop - place) gap (top - place) mid (omega arith), m) mover-tiles in
         let up = drop (top - place) (drop gap ys) in
-        let high = free-tiles z.resource z.rest up (omega (arith, length-drop (top - place) (drop gap ys), length-drop gap ys))
+        let high = free-tiles z.resource z.rest up (omega
+        (arith, length-drop (top - place) (drop gap ys), length-drop gap ys))
         e.2 (elim w [
           | inl n ↦ inl n
           | inr n ↦
@@ -94,7 +96,8 @@ module _ (z : Raise) (place top stop gap : ℕ) (h : MayRaise z place top stop g
         let above = subst (λ j. Tiles head j (z.movers ++ free z.rest)) (take-append-drop (top - place) (drop gap ys))
         (tiles-append head _ up z.movers (free z.rest) mine high) in
         let one = subst (Tiles head (take gap ys)) (free-some gap h.some) low in
-        rw (h.same, ← take-append-drop gap ys) (tiles-append head _ _ (Free gap ∷ []) (z.movers ++ free z.rest) one above)
+        rw (h.same, ← take-append-drop gap ys) (tiles-append head _ _ (Free gap ∷ []) (z.movers ++ free z.rest) one
+        above)
 
     is-raised : Raised z mid
     is-raised =
@@ -121,7 +124,8 @@ module _ (z : Raise) (place top stop gap : ℕ) (h : MayRaise z place top stop g
   gapped = written place (word gap) slid
 
   gap-written : SameOutside place stop z.bytes gapped
-      × (piece (place + gap) (top - place) gapped ≡ piece place (top - place) z.bytes) × (piece place 4 gapped ≡ word gap)
+      × (piece (place + gap) (top - place) gapped ≡ piece place (top - place) z.bytes) ×
+      (piece place 4 gapped ≡ word gap)
   gap-written =
       let v = wide in
       let w = length-word gap in
@@ -130,7 +134,8 @@ module _ (z : Raise) (place top stop gap : ℕ) (h : MayRaise z place top stop g
       length-take-le (top - place) (drop place z.bytes) (omega (arith, length-drop place z.bytes, v)) in
       let n = length-written (place + gap) (piece place (top - place) z.bytes) z.bytes (omega arith) in (
         outside-written place stop _ _ place (word gap) (omega arith) (omega arith)
-            (outside-written place stop z.bytes z.bytes _ (piece place (top - place) z.bytes) (omega arith) (omega arith)
+            (outside-written place stop z.bytes z.bytes _ (piece place (top - place) z.bytes) (omega arith)
+            (omega arith)
             (outside-same place stop z.bytes (omega arith) (omega arith))),
         piece-written_above place (word gap) slid _ _ (omega arith) (omega arith)
             ∙ piece-written _ (piece place (top - place) z.bytes) z.bytes (top - place) (sym l) (omega arith),
@@ -151,6 +156,7 @@ module _ (z : Raise) (place top stop gap : ℕ) (h : MayRaise z place top stop g
       let k = g.0.kept in
       rw (← r) (is-raised (written (top + gap) (word z.rest) gapped)
       (outside-written place stop z.bytes gapped (top + gap) (word z.rest) (omega arith) (omega arith) g.0)
-      (piece-written_below (top + gap) (word z.rest) gapped (place + gap) (top - place) (omega arith) (omega arith) ∙ g.1)
+      (piece-written_below (top + gap) (word z.rest) gapped (place + gap) (top - place) (omega arith) (omega arith)
+      ∙ g.1)
       (piece-written_below (top + gap) (word z.rest) gapped place 4 (omega arith) (omega arith) ∙ g.2)
       (inr (omega arith, piece-written (top + gap) (word z.rest) gapped 4 (sym w) (omega arith))))

@@ -2,7 +2,8 @@
 use Rattle.std.proofs.Common.{◌≡◌, ℕ, Bool, true, false, not, cond, nat_lt, zero, suc, ◌+◌, ◌<◌, ◌≤◌, Some}
 use Rattle.std.proofs.Common.{List, [], ◌∷◌, ◌++◌, drop, sym, refl, ap, ◌∙◌, subst, arith}
 use Rattle.std.proofs.lemmas.Bool.{false≢true, lt-ltb}
-use Rattle.block_store.specs.Block.{Block, Free, Nonrelocatable, Masters, Relocatable, size, sizes, count, is_mover, free_of}
+use Rattle.block_store.specs.Block.{Block, Free, Nonrelocatable, Masters, Relocatable, size, sizes, count, is_mover}
+use Rattle.block_store.specs.Block.{free_of}
 use Rattle.block_store.specs.Run.{RunSpot, run_at}
 use Rattle.block_store.specs.Inner.Packing.{Loose}
 use Rattle.block_store.specs.Rest.{lowered_in_run}

@@ -5,7 +5,8 @@ use Rattle.std.proofs.lemmas.List.{append-nil}
 use Rattle.std.proofs.lemmas.List.Elements.{filter-append}
 use Rattle.windows.specs.Writes.{written, piece}
 use Rattle.heap_words.specs.Words.{word, word_at}
-use Rattle.block_store.specs.Block.{Block, Free, Nonrelocatable, Masters, Relocatable, size, sizes, is_mover, free_of, free_sum}
+use Rattle.block_store.specs.Block.{Block, Free, Nonrelocatable, Masters, Relocatable, size, sizes, is_mover, free_of}
+use Rattle.block_store.specs.Block.{free_sum}
 use Rattle.block_store.specs.Run.{movers}
 use Rattle.zone_bytes.specs.Layout.{head_of, Leads, Each}
 use Rattle.zone_bytes.specs.Settling.{lowered_in_run_from, Lay, InRun, IsRunFrom, Passing, Packing}
@@ -15,7 +16,8 @@ use Rattle.zone_bytes.proofs.Tiles.Heads.{slot-reads}
 use Rattle.zone_bytes.proofs.Tiles.Leading.{leads-from, leads-same}
 use Rattle.zone_bytes.proofs.Tiles.Keeping.{movers-more}
 use Rattle.zone_bytes.proofs.Runs.Ends.{next-is-free, next-is-mover}
-use Rattle.zone_bytes.proofs.Runs.Packed.{run-moved, start, bounds, step-free, step-move, is-slot, slot-fits, kept-high, gap-left}
+use Rattle.zone_bytes.proofs.Runs.Packed.{run-moved, start, bounds, step-free, step-move, is-slot, slot-fits, kept-high}
+use Rattle.zone_bytes.proofs.Runs.Packed.{gap-left}
 
 -- those that come lower among the first blocks, and those among the others
 falling-append : (gap : ℕ) (gone rest : List Block)
@@ -41,7 +43,8 @@ lowered-span gap (Masters ∷ run) = omega (arith, lowered-span (gap + 0) run)
 lowered-span gap (Relocatable slot flags content ∷ run) =
     omega (arith, lowered-span (gap + 0) run, one-or-none (not flags.locked) (nat_lt 0 gap))
 
-pub begun : (lay : Lay) (place stop : ℕ) → IsRunFrom lay place stop → (gap : ℕ) → Packing lay gap place place 0 lay.bytes []
+pub begun : (lay : Lay) (place stop : ℕ) → IsRunFrom lay place stop → (gap : ℕ) → Packing lay gap place place 0
+    lay.bytes []
 begun lay place stop r gap = record {
   rest = lay.run;
   state = start lay place stop (run-moved lay place stop r) gap;
@@ -50,15 +53,16 @@ begun lay place stop r gap = record {
 }
 
 -- the next block is relocatable
-pub record NextMover (lay : Lay) (gap stop from to moves : ℕ) (xs : List ℕ) (gone : List Block) (n slot : ℕ) : Type 0 where
-  pub inside : from + n ≤ stop
-  pub even : slot % 4 ≡ 0
-  pub slot_inside : slot + 4 ≤ length xs
-  pub leads : piece slot 4 xs ≡ word from
-  pub block : Block
-  pub more : movers (gone ++ block ∷ []) ≡ movers gone ++ block ∷ []
-  pub packing : (m : ℕ) → m ≡ cond (nat_lt 0 (from - to)) 1 0 → Packing lay gap (from + n) (to + n) (moves + m)
-      (written slot (word (to + gap)) (written to (piece from n xs) xs)) (gone ++ block ∷ [])
+pub record NextMover (lay : Lay) (gap stop from to moves : ℕ) (xs : List ℕ) (gone : List Block) (n slot : ℕ) : Type 0
+  where
+    pub inside : from + n ≤ stop
+    pub even : slot % 4 ≡ 0
+    pub slot_inside : slot + 4 ≤ length xs
+    pub leads : piece slot 4 xs ≡ word from
+    pub block : Block
+    pub more : movers (gone ++ block ∷ []) ≡ movers gone ++ block ∷ []
+    pub packing : (m : ℕ) → m ≡ cond (nat_lt 0 (from - to)) 1 0 → Packing lay gap (from + n) (to + n) (moves + m)
+        (written slot (word (to + gap)) (written to (piece from n xs) xs)) (gone ++ block ∷ [])
 
 pub free-left : (gone : List Block) (n : ℕ) → movers (gone ++ Free n ∷ []) ≡ movers gone
 free-left gone n = filter-append is_mover gone (Free n ∷ []) ∙ append-nil (movers gone)
@@ -96,7 +100,8 @@ module _ (lay : Lay) (place stop : ℕ) (r : IsMoved lay place stop) {gap from t
         let is-mover : is_mover block ≡ true = (subst (λ l. Each InRun l) f.is b.rest_in).0 in
         let more : movers (gone ++ block ∷ []) ≡ movers gone ++ block ∷ [] = filter-append is_mover gone (block ∷ [])
         ∙ ap (λ l. movers gone ++ l) (movers-more block [] is-mover) in
-        let mine : s ≡ f.slot = v ∙ slot-reads lay.resource xs from b.small f.slot f.flags f.content (omega arith) q.high.0 in
+        let mine : s ≡ f.slot = v ∙ slot-reads lay.resource xs from b.small f.slot f.flags f.content (omega arith)
+        q.high.0 in
         let base : NextMover lay gap stop from to moves xs gone (size block) f.slot = record {
           inside = omega (arith, bounds lay place stop r q);
           even = slot-even (head_of lay.resource) lay.bytes f.slot (lay.below ++ (lay.run ++ lay.above)) r.tiles
@@ -108,9 +113,11 @@ module _ (lay : Lay) (place stop : ℕ) (r : IsMoved lay place stop) {gap from t
           packing = λ m h. record {
             rest = f.others;
             state = subst (λ j. Passing lay gap (from + size block) (to + size block)
-                (written f.slot (word (to + gap)) (written to (piece from (size block) xs) xs)) (gone ++ block ∷ []) j f.others)
+                (written f.slot (word (to + gap)) (written to (piece from (size block) xs) xs)) (gone ++ block ∷ []) j
+                f.others)
                 (sym more) (step-move lay place stop r f.slot f.flags f.content q);
-            leads = leads-same xs _ _ (f.others ++ lay.above) (kept-high lay place stop r f.slot f.flags f.content q) l.1;
+            leads = leads-same xs _ _ (f.others ++ lay.above) (kept-high lay place stop r f.slot f.flags f.content q)
+                l.1;
             count = lowered block (gap-left lay place stop r p.state) is-mover h;
           };
         } in
@@ -121,6 +128,7 @@ module _ (lay : Lay) (place stop : ℕ) (r : IsMoved lay place stop) {gap from t
             → m ≡ cond (nat_lt 0 (from - to)) 1 0 → moves + m ≡ lowered_in_run_from 0 (gone ++ block ∷ [])
         lowered block g v h =
             let d : from - to ≡ 0 + free_sum gone = omega arith in
-            let one : cond {A = ℕ} (is_mover block) (cond (nat_lt 0 (0 + free_sum gone)) 1 0) 0 ≡ cond (nat_lt 0 (from - to)) 1 0 =
+            let one : cond {A = ℕ} (is_mover block) (cond (nat_lt 0 (0 + free_sum gone)) 1 0) 0 ≡ cond
+            (nat_lt 0 (from - to)) 1 0 =
             (λ i. cond (v i) (cond (nat_lt 0 (sym d i)) 1 0) 0) in
             omega (arith, p.count, falling-append 0 gone (block ∷ []), one, h)

@@ -28,8 +28,11 @@ cut-back : (head : Block → List ℕ) (xs : List ℕ) (gone rest above : List B
     → (first_in (sizes gone) (gone ++ rest) ≡ gone) × (left_behind (sizes gone) (gone ++ rest) ≡ rest)
 cut-back head xs [] [] above t = (refl, refl)
 cut-back head xs [] (b ∷ rest) above t =
-    let e : nat_le (size b) 0 ≡ false = grind (arith, nat_tests, t.0.some) in
-    (ap (λ v. cond v (b ∷ first_in (0 - size b) rest) []) e, ap (λ v. cond v (left_behind (0 - size b) rest) (b ∷ rest)) e)
+    let e : nat_le (size b) 0 ≡ false = grind (arith, nat_tests, t.0.some) in (
+      ap (λ v. cond v (b ∷ first_in (0 - size b) rest) []) e,
+      ap
+          (λ v. cond v (left_behind (0 - size b) rest) (b ∷ rest)) e,
+    )
 cut-back head xs (b ∷ gone) rest above t =
     let e : nat_le (size b) (size b + sizes gone) ≡ true = grind (arith, nat_tests) in
     let m : size b + sizes gone - size b ≡ sizes gone = omega arith in
@@ -74,7 +77,8 @@ module _ (lay : Lay) (place stop : ℕ) (r : IsMoved lay place stop) {gap from t
 
   -- the bytes between the packed blocks and the rest become one Free block
   packed : (zs : List ℕ) → SameOutside to from xs zs
-      → (from - to ≡ 0) ⊎ ((0 < from - to) × (piece to 4 zs ≡ word (from - to))) → Packed (cut lay gone p.rest) gap moves zs
+      → (from - to ≡ 0) ⊎ ((0 < from - to) × (piece to 4 zs ≡ word (from - to))) → Packed (cut lay gone p.rest) gap
+      moves zs
   packed zs s w =
       let q = p.state in
       let b = bounds lay place stop r q in
@@ -86,7 +90,8 @@ module _ (lay : Lay) (place stop : ℕ) (r : IsMoved lay place stop) {gap from t
         | inl e ↦ inl e
         | inr e ↦ inr (e.0, take-take 4 (from - to) (drop to zs) (omega (arith, b.evens, e.0)) ∙ e.1)
       ]) in
-      let tiles = tiles-joined head zs (lay.below ++ movers gone) (free (from - to)) (p.rest ++ lay.above) to from q.down
+      let tiles = tiles-joined head zs (lay.below ++ movers gone) (free (from - to)) (p.rest ++ lay.above) to from
+      q.down
       (rw s.low q.low) mid (rw s.high q.high) in
       let shape : (lay.below ++ movers gone) ++ (free (from - to) ++ (p.rest ++ lay.above))
       ≡ lay.below ++ (settle gone ++ (p.rest ++ lay.above)) = rw n (simp append_assoc) in
@@ -141,14 +146,9 @@ module _ (lay : Lay) (place : ℕ) (r : IsRunFrom lay place (place + sizes lay.r
   pub all-gone : length lay.bytes < enough → rest ≡ []
   all-gone l = elim p.ended [
     | inl n ↦ n
-    | inr e ↦ absurd (omega (
-      arith,
-      l,
-      e,
-      run-bounds lay place _ (run-moved lay place _ r),
-      cut-free lay gone rest p.split,
-      span-movers lay.run r.in_run,
-    ))
+    | inr e ↦
+        let b = run-bounds lay place _ (run-moved lay place _ r) in
+        absurd (omega (arith, l, e, b, cut-free lay gone rest p.split, span-movers lay.run r.in_run))
   ]
 
   module _ (n : rest ≡ []) where

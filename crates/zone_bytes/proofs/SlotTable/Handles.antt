@@ -65,7 +65,8 @@ pub has-block : (xs : List ℕ) (o : ℕ) (blocks : List Block) (s : ℕ) → Le
 has-block xs o [] s l h = absurd h
 has-block xs o (Free n ∷ blocks) s l h = behind _ o _ _ s refl (has-block _ (o + n) blocks s l.1 h)
 has-block xs o (Nonrelocatable id content ∷ blocks) s l h =
-    behind xs o (Nonrelocatable id content) blocks s refl (has-block xs (o + size (Nonrelocatable id content)) blocks s l.1 h)
+    behind xs o (Nonrelocatable id content) blocks s refl
+    (has-block xs (o + size (Nonrelocatable id content)) blocks s l.1 h)
 has-block xs o (Masters ∷ blocks) s l h = behind xs o Masters blocks s refl (has-block xs (o + 272) blocks s l.1 h)
 has-block xs o (Relocatable id flags content ∷ blocks) s l h = elim (eqb_tells id s) [
   | inl t ↦ subst (λ k. HasBlock xs o (Relocatable k flags content ∷ blocks) s) (sym t.1) (record {

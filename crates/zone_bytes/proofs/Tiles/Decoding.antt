@@ -92,7 +92,8 @@ module _ (resource : ℕ → Bool) where
           → Tile (head_of resource b) (size b) ys → block_of_kind (kind b) (size b) o ys ≡ b
       of-kind (Free m) p n t = refl
       of-kind (Nonrelocatable id content) p n t =
-          let q = says (size (Nonrelocatable id content)) (size (Nonrelocatable id content) + 1) (length content) 0 0 content ys t in
+          let q = says (size (Nonrelocatable id content)) (size (Nonrelocatable id content) + 1) (length content) 0 0
+          content ys t in
           let c = read_back 4 (length content) ys (omega (arith, content-fits, length-head, s)) q.0 in
           (λ i. Nonrelocatable o (piece 16 (c i) ys)) ∙ (λ i. Nonrelocatable (sym p i) (q.3 i))
       of-kind Masters p n t = refl

@@ -1,5 +1,6 @@
 -- What the words of a block's header say.
-use Rattle.std.proofs.Common.{◌≡◌, ℕ, Bool, ◌+◌, ◌<◌, ◌≤◌, ◌^◌, inl, inr, List, [], ◌∷◌, ◌++◌, length, take, drop, sym, refl, ap, ◌∙◌}
+use Rattle.std.proofs.Common.{◌≡◌, ℕ, Bool, ◌+◌, ◌<◌, ◌≤◌, ◌^◌, inl, inr, List, [], ◌∷◌, ◌++◌, length, take, drop, sym}
+use Rattle.std.proofs.Common.{refl, ap, ◌∙◌}
 use Rattle.std.proofs.Common.{arith, length-append, ◌%◌, ◌⊎◌, ◌∷◌, inl, subst, inr}
 use Rattle.std.proofs.lemmas.List.{length-drop, drop-drop, drop-take, take-take, take_all}
 use Rattle.windows.specs.Writes.{piece}
@@ -15,7 +16,9 @@ use Rattle.zone_bytes.specs.Layout.{kind, flag_word, head_of, Tile, Tiles}
 -- the pieces of what a block begins with
 pub tile-piece : (h : List ℕ) (n : ℕ) (ys : List ℕ) → Tile h n ys → (i k : ℕ) → i + k ≤ length h
     → piece i k ys ≡ piece i k h
-tile-piece h n ys t i k l = sym (drop-take i k ys) ∙ ap (drop i) (grind (arith, take-take)) ∙ drop-take i k h
+tile-piece h n ys t i k l =
+    sym (drop-take i k ys) ∙ ap (drop i) (sym (take-take (i + k) (length h) ys l) ∙ ap (take (i + k)) t.begins)
+    ∙ drop-take i k h
 
 pub header-pieces : (a b c d : ℕ) (content : List ℕ) → let h = header a b c d ++ content in
     (piece 0 4 h ≡ word a) × (piece 4 4 h ≡ word b) × (piece 8 4 h ≡ word c) × (piece 12 4 h ≡ word d) ×
@@ -32,21 +35,32 @@ length-head a b c d content = omega (arith, length-append (header a b c d) conte
 
 pub kind-small : (b : Block) → kind b ≤ 3
 kind-small (Free n) = omega arith
-kind-small _ = omega arith
+kind-small (Nonrelocatable id content) = omega arith
+kind-small Masters = omega arith
+kind-small (Relocatable slot flags content) = omega arith
 
 module _ (resource : ℕ → Bool) (ys : List ℕ) where
   pub first-word : (b : Block) → Tile (head_of resource b) (size b) ys → piece 0 4 ys ≡ word (size b + kind b)
   unfolding head_of
-  first-word (Free n) t = grind (arith, tile-piece, length-word, take_all)
+  first-word (Free n) t =
+      let e : n + 0 ≡ n = omega arith in
+      tile-piece _ n _ t 0 4 (omega (arith, length-word)) ∙ take_all 4 (word n) (omega (arith, length-word)) ∙ sym
+      (ap word e)
+  first-word (Nonrelocatable id content) t =
+      tile-piece _ _ _ t 0 4 (omega (arith, length-head)) ∙ (header-pieces _ _ 0 0 _).0
   first-word Masters t = tile-piece _ _ ys t 0 4 (omega (arith, length-header 274 256 0 0)) ∙ masters-first
-  first-word _ t = grind (arith, tile-piece, length-head, header-pieces)
+  first-word (Relocatable slot flags content) t =
+      let n = size (Relocatable slot flags content) in
+      tile-piece (head_of resource (Relocatable slot flags content)) n ys t 0 4 (omega (arith, length-head))
+      ∙ (header-pieces (n + 3) (length content) slot (flag_word flags (resource slot)) content).0
 
   pub slot-word : (slot : ℕ) (flags : Flags) (content : List ℕ)
       → Tile (head_of resource (Relocatable slot flags content)) (size (Relocatable slot flags content)) ys
       → piece 8 4 ys ≡ word slot
   unfolding head_of
   slot-word slot flags content t =
-      tile-piece _ (size (Relocatable slot flags content)) _ t 8 4 (omega (arith, length-head)) ∙ (header-pieces _ _ _ _ _).2
+      let n = size (Relocatable slot flags content) in
+      tile-piece _ n _ t 8 4 (omega (arith, length-head)) ∙ (header-pieces _ _ _ _ _).2
 
 pub length-masters : (resource : ℕ → Bool) → length (head_of resource Masters) ≡ 16
 unfolding head_of
@@ -100,7 +114,10 @@ next-may n = record { within = (n.even, n.fits); fits = n.below; tag = n.tag }
 
 module _ (resource : ℕ → Bool) (xs : List ℕ) (from : ℕ) (small : length xs ≤ 134217728) where
   pub first-reads : (b : Block) → Tile (head_of resource b) (size b) (drop from xs) → word_at from xs ≡ size b + kind b
-  first-reads b t = grind (arith, length-drop, kind-small, read_back, first-word)
+  first-reads b t =
+      let d = length-drop from xs in
+      let k : kind b ≤ 3 = kind-small b in
+      read_back from (size b + kind b) xs (omega (arith, d, k, small)) (first-word resource (drop from xs) b t)
 
   pub slot-reads : (slot : ℕ) (flags : Flags) (content : List ℕ) → slot < 2 ^ 32
       → Tile (head_of resource (Relocatable slot flags content)) (size (Relocatable slot flags content))
@@ -122,7 +139,8 @@ module _ (resource : ℕ → Bool) (xs : List ℕ) (from : ℕ) (small : length 
       }
 
   -- and tells its bytes and its kind
-  pub header-tells : (b : Block) → Tile (head_of resource b) (size b) (drop from xs) → (n t : ℕ) → n + t ≡ word_at from xs
+  pub header-tells : (b : Block) → Tile (head_of resource b) (size b) (drop from xs) → (n t : ℕ) → n + t ≡ word_at
+      from xs
       → n % 16 ≡ 0 → t ≤ 3 → (n ≡ size b) × (t ≡ kind b)
   header-tells b t n k e w l = same_parts n k _ _ (e ∙ first-reads b t) w t.whole l (kind-small b)
 

@@ -5,7 +5,8 @@ use Rattle.std.proofs.lemmas.List.{append-nil}
 use Rattle.std.proofs.lemmas.Bool.{false≢true}
 use Rattle.windows.specs.Writes.{piece}
 use Rattle.heap_words.specs.Words.{word}
-use Rattle.block_store.specs.Block.{Block, Free, Nonrelocatable, Masters, Relocatable, size, free, free_sum, sizes, is_mover}
+use Rattle.block_store.specs.Block.{Block, Free, Nonrelocatable, Masters, Relocatable, size, free, free_sum, sizes}
+use Rattle.block_store.specs.Block.{is_mover}
 use Rattle.block_store.specs.Run.{movers, settle}
 use Rattle.block_store.specs.Slot.{Slot, NoSlot, Unused, Used, is_resource}
 use Rattle.zone_bytes.specs.Layout.{IsSlot, names, Apart, Each, ArePlaced, Leads}
@@ -41,7 +42,8 @@ module _ (xs new : List ℕ) (blocks now : List Block) (slots : ℕ → Slot) (u
       → ((s : ℕ) (r : Bool) → slots s ≡ Used r → IsSlot s blocks → Stands blocks xs s r → Stands now new s r)
       → ((s : ℕ) → IsSlot s blocks → slots s ≡ Unused → piece s 4 new ≡ piece s 4 xs) → Lays new now slots unused
   lays-changed lies has i j placed l used stands kept =
-      let says-now : (s : ℕ) (st : Slot) → slots s ≡ st → Says blocks xs unused s st → Says now new unused s st = says in
+      let says-now : (s : ℕ) (st : Slot) → slots s ≡ st → Says blocks xs unused s st → Says now new unused s st = says
+      in
       record {
         lies = lies;
         has_slots = has;
@@ -103,7 +105,8 @@ names-free zero = refl
 names-free (suc n) = refl
 
 pub names-left : (blocks : List Block) (n : ℕ) → names (blocks ++ free n) ≡ names blocks
-names-left blocks n = names-append blocks (free n) ∙ ap (λ k. names blocks ++ k) (names-free n) ∙ append-nil (names blocks)
+names-left blocks n = names-append blocks (free n) ∙ ap (λ k. names blocks ++ k) (names-free n) ∙ append-nil
+    (names blocks)
 
 pub span-free : (n : ℕ) → sizes (free n) ≡ n
 span-free zero = refl

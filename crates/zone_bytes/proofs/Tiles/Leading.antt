@@ -42,7 +42,8 @@ pub names-append : (ls ms : List Block) → names (ls ++ ms) ≡ names ls ++ nam
 names-append [] ms = refl
 names-append (b ∷ ls) ms = ap (λ q. names_of b ++ q) (names-append ls ms) ∙ sym (grind arith)
 
-pub each-names : (P : ℕ → Type 0) (ls ms : List Block) → Each P (names (ls ++ ms)) → Each P (names ls) × Each P (names ms)
+pub each-names : (P : ℕ → Type 0) (ls ms : List Block) → Each P (names (ls ++ ms)) → Each P (names ls) × Each P
+    (names ms)
 each-names P ls ms e = let k = subst (Each P) (names-append ls ms) e in (each-left P _ _ k, each-right P _ _ k)
 
 -- the word at s and n bytes from `at` on have no byte in common
@@ -84,7 +85,8 @@ leads-parts xs ls ms ns lo hi a b h =
       subst (λ k. Leads k ns xs) d (leads-right xs _ ms ns up),
     )
 
-pub leads-joined : (xs : List ℕ) (ls ms ns : List Block) (lo hi : ℕ) → sizes ls ≡ lo → lo + sizes ms ≡ hi → Leads 0 ls xs
+pub leads-joined : (xs : List ℕ) (ls ms ns : List Block) (lo hi : ℕ) → sizes ls ≡ lo → lo + sizes ms ≡ hi → Leads 0 ls
+    xs
     → Leads lo ms xs → Leads hi ns xs → Leads 0 (ls ++ (ms ++ ns)) xs
 leads-joined xs ls ms ns lo hi a b h k m =
     let c : lo ≡ 0 + sizes ls = omega arith in
@@ -93,7 +95,8 @@ leads-joined xs ls ms ns lo hi a b h k m =
     (subst (λ j. Leads j ns xs) d m))
 
 -- the words of the slots are the same
-pub leads-same : (old new : List ℕ) (o : ℕ) (blocks : List Block) → Each (λ s. piece s 4 new ≡ piece s 4 old) (names blocks)
+pub leads-same : (old new : List ℕ) (o : ℕ) (blocks : List Block) → Each (λ s. piece s 4 new ≡ piece s 4 old)
+    (names blocks)
     → Leads o blocks old → Leads o blocks new
 leads-same old new o [] e h = tt
 leads-same old new o (Free n ∷ blocks) e h = (tt, leads-same old new (o + n) blocks e h.1)

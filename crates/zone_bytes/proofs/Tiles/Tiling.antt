@@ -1,11 +1,12 @@
 -- Blocks that lie one after another.
 use Rattle.std.proofs.Common.{◌≡◌, ℕ, ◌+◌, ◌-◌, ◌%◌, ◌≤◌, ◌⊎◌, inl, inr, List, [], ◌∷◌, ◌++◌, length, take, drop, refl}
-use Rattle.std.proofs.Common.{ap, sym}
+use Rattle.std.proofs.Common.{ap}
 use Rattle.std.proofs.Common.{◌∙◌, subst, arith, length-append}
 use Rattle.std.proofs.lemmas.List.{length-take-le, length-drop, take-append-le, drop-append-le, drop-drop, take-take}
 use Rattle.std.proofs.lemmas.List.{drop-take, drop_all}
 use Rattle.windows.specs.Writes.{written}
-use Rattle.windows.proofs.Pieces.{length-written, take-written_below, take-written_above, drop-written_above, drop-written_below}
+use Rattle.windows.proofs.Pieces.{length-written, take-written_below, take-written_above, drop-written_above}
+use Rattle.windows.proofs.Pieces.{drop-written_below}
 use Rattle.block_store.specs.Block.{Block, Free, Nonrelocatable, Masters, Relocatable, size, sizes}
 use Rattle.zone_bytes.specs.Layout.{Tile, Tiles, IsSlot}
 
@@ -30,7 +31,8 @@ slot-append_left s (b ∷ ls) ms (inr i) = inr (i.0, slot-append_left (s - size 
 pub slot-append_right : (s : ℕ) (ls ms : List Block) → sizes ls ≤ s → IsSlot (s - sizes ls) ms → IsSlot s (ls ++ ms)
 slot-append_right s [] ms l i = let e : s - 0 ≡ s = omega arith in subst (λ k. IsSlot k ms) e i
 slot-append_right s (b ∷ ls) ms l i =
-    inr (omega (arith, l), slot-append_right (s - size b) ls ms (omega (arith, l)) (subst (λ k. IsSlot k ms) (omega arith) i))
+    let e : s - (size b + sizes ls) ≡ s - size b - sizes ls = omega arith in
+    inr (omega (arith, l), slot-append_right (s - size b) ls ms (omega (arith, l)) (subst (λ k. IsSlot k ms) e i))
 
 pub slot-split : (s : ℕ) (ls ms : List Block) → IsSlot s (ls ++ ms)
     → IsSlot s ls ⊎ ((sizes ls ≤ s) × IsSlot (s - sizes ls) ms)
@@ -39,7 +41,8 @@ slot-split s (b ∷ ls) ms (inl i) = inl (inl i)
 slot-split s (b ∷ ls) ms (inr i) = elim (slot-split (s - size b) ls ms i.1) [
   | inl j ↦ inl (inr (i.0, j))
   | inr j ↦
-      inr (omega (arith, i.0, j.0), subst (λ k. IsSlot k ms) (omega arith) j.1)
+      let e : s - size b - sizes ls ≡ s - (size b + sizes ls) = omega arith in
+      inr (omega (arith, i.0, j.0), subst (λ k. IsSlot k ms) e j.1)
 ]
 
 -- a slot is below a stretch that has none, or above it
@@ -62,7 +65,8 @@ slot-swap s below was now above none e i = elim (slot-beside s below was above _
   | inl j ↦ slot-append_left s below (now ++ above) j.1
   | inr j ↦
       let f : s - (sizes below + sizes was) ≡ s - sizes below - sizes now = omega (arith, e) in
-      slot-append_right s _ _ (omega arith) (slot-append_right _ _ _ (omega (arith, e)) (subst (λ q. IsSlot q above) f j.1))
+      slot-append_right s _ _ (omega arith) (slot-append_right _ _ _ (omega (arith, e))
+      (subst (λ q. IsSlot q above) f j.1))
 ]
 
 module _ (head : Block → List ℕ) where
@@ -73,11 +77,25 @@ module _ (head : Block → List ℕ) where
 
   -- a block's bytes followed by others
   pub tile-append : (h : List ℕ) (n : ℕ) (xs ys : List ℕ) → Tile h n xs → Tile h n (xs ++ ys)
-  tile-append h n xs ys t = grind (arith, length-append, take-append-le)
+  tile-append h n xs ys t =
+      record {
+        fits = omega (arith, length-append xs ys, t.fits);
+        whole = t.whole;
+        some = t.some;
+        room = t.room;
+        begins = take-append-le (length h) xs ys (omega (arith, t.fits, t.room)) ∙ t.begins;
+      }
 
   -- a block's bytes without the others
   pub tile-take : (h : List ℕ) (n k : ℕ) (xs : List ℕ) → n ≤ k → k ≤ length xs → Tile h n xs → Tile h n (take k xs)
-  tile-take h n k xs l m t = grind (arith, length-take-le, take-take)
+  tile-take h n k xs l m t =
+      record {
+        fits = omega (arith, length-take-le k xs m, l);
+        whole = t.whole;
+        some = t.some;
+        room = t.room;
+        begins = take-take (length h) k xs (omega (arith, l, t.room)) ∙ t.begins;
+      }
 
   pub tiles-append : (xs ys : List ℕ) (ls ms : List Block) → Tiles head xs ls → Tiles head ys ms
       → Tiles head (xs ++ ys) (ls ++ ms)
@@ -96,7 +114,8 @@ module _ (head : Block → List ℕ) where
   tiles-split xs [] ms t = (refl, t)
   tiles-split xs (b ∷ ls) ms t =
       let r = tiles-split (drop (size b) xs) ls ms t.1 in
-      let enough : size b + sizes ls ≤ length xs = omega (arith, length-tiles, span-append ls ms, (length-drop (size b) xs)) in (
+      let a = length-drop (size b) xs in
+      let enough : size b + sizes ls ≤ length xs = omega (arith, length-tiles, span-append ls ms, a) in (
         (
           tile-take (head b) (size b) (size b + sizes ls) xs (omega arith) enough t.0,
           rw (drop-take (size b) (sizes ls) xs) r.0,
@@ -112,13 +131,25 @@ module _ (head : Block → List ℕ) where
   tiles-slot m xs w s (Nonrelocatable id content ∷ blocks) e (inl i) t = absurd i
   tiles-slot m xs w s (Relocatable slot flags content ∷ blocks) e (inl i) t = absurd i
   tiles-slot m xs w s (Masters ∷ blocks) e (inl i) t = (
-    (grind (arith, length-written, take-written_below)),
+    record {
+      fits = omega (arith, length-written);
+      whole = t.0.whole;
+      some = t.0.some;
+      room = t.0.room;
+      begins = take-written_below s w _ _ (omega (arith, i, m)) (omega (arith, i)) ∙ t.0.begins;
+    },
     rw (drop-written_above s w xs 272 (omega (arith, i, e)) (omega (arith, i))) t.1,
   )
   tiles-slot m xs w s (b ∷ blocks) e (inr i) t =
       let a = slot-inside (s - size b) blocks i.1 in
       let inside : s + 4 ≤ length xs = omega (arith, i.0, a, length-tiles, length-drop (size b) xs) in (
-        (grind (arith, length-written, take-written_below)),
+        record {
+          fits = omega (arith, length-written s w xs (omega (arith, e, inside)));
+          whole = t.0.whole;
+          some = t.0.some;
+          room = t.0.room;
+          begins = take-written_below s w _ _ (omega (arith, i.0)) (omega (arith, inside)) ∙ t.0.begins;
+        },
         rw (drop-written_below s w xs (size b) i.0 (omega (arith, inside)))
             (tiles-slot m (drop (size b) xs) w (s - size b) blocks e i.1 t.1),
       )
@@ -134,7 +165,8 @@ module _ (head : Block → List ℕ) where
         rw (drop-written_above s w xs hi (omega (arith, e)) (omega arith)) u,
       )
   tiles-slot-beside m xs w s lo hi ls ns e l h (inr i) t u =
-      let inside : s + 4 ≤ length xs = omega (arith, i.0, slot-inside _ ns i.1, length-tiles _ ns u, length-drop hi xs) in (
+      let n = length-tiles _ ns u in
+      let inside : s + 4 ≤ length xs = omega (arith, i.0, slot-inside _ ns i.1, length-drop hi xs) in (
         rw (take-written_below s w xs lo (omega (arith, i.0)) (omega arith)) t,
         rw (drop-written_below s w xs hi i.0 (omega arith)) (tiles-slot m _ w (s - hi) ns e i.1 u),
       )

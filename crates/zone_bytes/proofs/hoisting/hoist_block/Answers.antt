@@ -31,4 +31,5 @@ lead_run-requires g c =
 
 pub returns-clause-hoisted : goal.returns-clause-hoisted
 returns-clause-hoisted g c =
-    is-hoisted _ _ _ c.requires.1 _ (rw (made g (goal.at.returns-clause-hoisted g c).After-rotate) at c.lead_run.ensures.pointed)
+    is-hoisted _ _ _ c.requires.1 _ (rw (made g (goal.at.returns-clause-hoisted g c).After-rotate) at
+    c.lead_run.ensures.pointed)

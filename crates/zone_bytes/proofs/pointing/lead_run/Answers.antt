@@ -28,7 +28,8 @@ slot : (g : Over) (c : After-eq g) → true ≡ sameb the_type c.read_header-hea
     c.read_header-header.result.slot
 slot g c t =
     let e = c.read_header-header.ensures in
-    point-slot _ _ _ c.requires.1 c.loop-from.invariant.0 c.loop-from-test.true _ _ e.first e.size (tag-true _ t) _ e.slot
+    point-slot _ _ _ c.requires.1 c.loop-from.invariant.0 c.loop-from-test.true _ _ e.first e.size (tag-true _ t) _
+    e.slot
 
 -- or Free
 free : (g : Over) (c : After-eq g) → false ≡ sameb the_type c.read_header-header.result.tag Relocatable

@@ -9,4 +9,5 @@ abbrev pub ghost-lift_blocks : goal.ghost-lift_blocks
 ghost-lift_blocks g a = raise_of (cut g.lay (gone_to g.lay a.stop) (rest_from g.lay a.stop)) a.gap a.part.now.bytes
 
 abbrev pub ghost-settle_above : goal.ghost-settle_above
-ghost-settle_above g a = upper g.lay a.gap (gone_to g.lay a.packed.stop) (rest_from g.lay a.packed.stop) a.part.now.bytes
+ghost-settle_above g a = upper g.lay a.gap (gone_to g.lay a.packed.stop) (rest_from g.lay a.packed.stop)
+    a.part.now.bytes

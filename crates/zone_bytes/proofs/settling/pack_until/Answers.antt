@@ -63,7 +63,8 @@ mover : (g : Over) (c : After-eq g) → true ≡ sameb the_type c.read_header-he
     c.loop-from.part.bytes c.loop-from.invariant.0 c.read_header-header.result.size c.read_header-header.result.slot
 mover g c t =
     let e = c.read_header-header.ensures in
-    next-mover _ _ _ (run-moved _ _ _ c.requires.1.0) c.loop-from.invariant.1 (some g c) _ _ e.first e.size (tag-true _ t) _ e.slot
+    next-mover _ _ _ (run-moved _ _ _ c.requires.1.0) c.loop-from.invariant.1 (some g c) _ _ e.first e.size
+    (tag-true _ t) _ e.slot
 
 -- or a Free one
 free : (g : Over) (c : After-eq g) → false ≡ sameb the_type c.read_header-header.result.tag Relocatable
@@ -71,7 +72,8 @@ free : (g : Over) (c : After-eq g) → false ≡ sameb the_type c.read_header-he
     c.loop-from.part.bytes (c.loop-from.invariant.0 ++ Free c.read_header-header.result.size ∷ [])
 free g c t =
     let e = c.read_header-header.ensures in
-    next-free _ _ _ (run-moved _ _ _ c.requires.1.0) c.loop-from.invariant.1 (some g c) _ _ e.first e.size (tag-false _ t)
+    next-free _ _ _ (run-moved _ _ _ c.requires.1.0) c.loop-from.invariant.1 (some g c) _ _ e.first e.size
+    (tag-false _ t)
 
 pub move_block-moves-requires-clause-down : goal.move_block-moves-requires-clause-down
 move_block-moves-requires-clause-down g c = c.loop-from.invariant.1.state.down
@@ -97,11 +99,8 @@ move_block-moves-requires-clause-fits g c =
 pub overflow_add-moves : goal.overflow_add-moves
 overflow_add-moves g c =
     let m = mover g (goal.at.overflow_add-moves g c).After-eq c.if-eq.ensures in
-    omega (
-      arith,
-      moves-bound _ _ _ (run-moved _ _ _ c.requires.1.0)
-          (m.packing c.move_block-moves.result c.move_block-moves.ensures.moves),
-    )
+    let p = m.packing c.move_block-moves.result c.move_block-moves.ensures.moves in
+    omega (arith, moves-bound _ _ _ (run-moved _ _ _ c.requires.1.0) p)
 
 pub overflow_add-to-then-eq : goal.overflow_add-to-then-eq
 overflow_add-to-then-eq g c =
@@ -121,7 +120,8 @@ overflow_add-from g c =
     omega (arith, up g d.Joined-eq, ends g d.In-loop-from)
 
 -- where a block comes to lie, with the blocks that were there before
-lies : (g : Over) (c : In-loop-from g) (base : ℕ) (before : List Block) → base + sizes before ≡ c.args.place + c.args.gap
+lies : (g : Over) (c : In-loop-from g) (base : ℕ) (before : List Block) → base + sizes before ≡ c.args.place
+    + c.args.gap
     → base + sizes (before ++ movers c.loop-from.invariant.0) ≡ c.loop-from.to + c.args.gap
 lies g c base before e = omega (arith, (ends g c).moved_end, c.requires.1.0.bottom, e, span-append)
 
@@ -183,7 +183,8 @@ noted : (g : Over) (c : Left-loop-from g) (base : ℕ) (before : List Block)
     → AreEdges c.loop-from.edges base (before ++ movers (gone_to g.lay c.loop-from.from))
 noted g c base before e a =
     let s = c.loop-from in
-    subst (λ l. AreEdges s.edges base (before ++ movers l)) (gone-is _ _ _ (run-moved _ _ _ c.requires.1.0) s.invariant.1)
+    subst (λ l. AreEdges s.edges base (before ++ movers l))
+    (gone-is _ _ _ (run-moved _ _ _ c.requires.1.0) s.invariant.1)
     (s.invariant.5 base before e a)
 
 pub write_word-requires : goal.write_word-requires
