@@ -112,7 +112,7 @@ module _ (sp : Block → Bool) where
               | inl w ↦
                   let all = goes-prefix k b above w in
                   let j = w.1 in
-                  (grind arith)
+                  grind arith
               | inr w ↦ elim w.0 [
                 | inl z ↦ omega (arith, ap (λ k. prefix (stretch_of (lowest_purged k sp (b ∷ above)))) z)
                 | inr f ↦ absurd (true≢false (sym e ∙ f))
@@ -433,8 +433,8 @@ module _ (number p : ℕ) (n : Sparing) (zone : List Block) (whole : opened n zo
   pub run-of : (run : ℕ) → count (is_relocatable number) zone ≤ 1
       → FindsLowestRun tested (purged 0 sparing.Nothing zone) (Some run) → IsRunOf number p n zone run
   run-of run once f = elim (cut number p (spared n) keeps 0 0 0 run zone once (grind (arith, found-is))) [
-        | inl r ↦ (grind (arith, serves-here, here-now, here-purged, nat_le))
-        | inr c ↦ (grind (arith, serves-here, here-now, here-purged))
+        | inl r ↦ grind (arith, serves-here, here-now, here-purged, nat_le)
+        | inr c ↦ grind (arith, serves-here, here-now, here-purged)
       ]
 
   pub no-run-of : FindsLowestRun tested (purged 0 sparing.Nothing zone) None

@@ -60,7 +60,7 @@ module _ (p : ℕ) (sp : Block → Bool) where
       step true e h more = let r = more start (had + free_of b) (place + size b) (rw (join-assoc (Whole had) (Whole (free_of b)) (stretch_of low)) h) in
           let at : place + size b + sizes low ≡ place + (size b + sizes low) = omega arith in (search rules)
       step false e h more = let r = more (place + size b) 0 (place + size b) (had-short had (stretch_of low) h).1 in
-          let at : place + size b + sizes low ≡ place + (size b + sizes low) = omega arith in (grind arith)
+          let at : place + size b + sizes low ≡ place + (size b + sizes low) = omega arith in grind arith
 
   -- and finds nothing where there is nothing more
   pub scan-never : (start had place : ℕ) (blocks : List Block) → best (join (Whole had) (stretch_of blocks)) < p

@@ -143,8 +143,7 @@ goes-not b e = grind arith
 module _ (xs : List ℕ) (from at : ℕ) (p : Passed xs from at (λ _ b. is_purgeable b ≡ false)) where
   pub passed-stays : (block : Seen) (end : ℕ) (s : Steps at block end xs)
       → may_be_purged (spared sparing.Nothing) s.here ≡ false → Passed xs from end (λ _ b. is_purgeable b ≡ false)
-  passed-stays block end s e = passed-on xs from at end (λ _ b. is_purgeable b ≡ false) (λ _ b. is_purgeable b ≡ false)
-      (λ _ _ r. r) p s.here s.is s.up s.way (goes-not s.here e)
+  passed-stays block end s e = grind (arith, passed-on, goes-not)
 
   pub all-stay : AtEach (Stays at) from (left_in from xs)
   all-stay = grind (arith, at-append, at-map, stays-above)
@@ -165,11 +164,7 @@ opened-stays : (n : Sparing) (b : Block) → is_purgeable b ≡ false → may_be
 opened-stays sparing.Nothing b e = none-passes sparing.Nothing b e
 opened-stays (sparing.One slot) b e = none-passes (sparing.One slot) b e
 opened-stays (sparing.Two slot other) b e = none-passes (sparing.Two slot other) b e
-opened-stays (sparing.Freed slot) b e = cases (is_relocatable slot b)
-  where
-    cases : (t : Bool) → may_be_purged (spared (sparing.Freed slot)) (cond t (Free (size b)) b) ≡ false
-    cases true = refl
-    cases false = none-passes (sparing.Freed slot) b e
+opened-stays (sparing.Freed slot) b e = grind arith
 
 pub count-none : (n : Sparing) (bound x : ℕ) (below : List Block) → AtEach (Stays bound) x below
     → x + sizes below ≤ bound
@@ -226,8 +221,7 @@ module _ (xs : List ℕ) (first unused : ℕ) (i : IsSound xs first unused) (fro
     pub next-some : (place : ℕ) → FindsLowest goes (purged k n (left_in from xs)) (Some place)
         → FindsLowest goes (purged k n (zone_in xs)) (Some (from + place))
     next-some place f = finds goes _ (Some (from + place))
-        (apart-tidy (lowest_purged k (spared n) (opened n (zone_in xs))))
-        (sym (next-is-there ∙ ap (option_map (λ (s : Spot). from + sizes s.below)) f.1 ∙ ap (λ n. Some (from + n)) f.3))
+        (apart-tidy (lowest_purged k (spared n) (opened n (zone_in xs)))) (grind (arith, next-is-there))
 
     pub next-fits : (place : ℕ) → FindsLowest goes (purged k n (left_in from xs)) (Some place)
         → from + place ≤ length xs

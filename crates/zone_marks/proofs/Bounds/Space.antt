@@ -32,20 +32,15 @@ spares = spared sparing.Nothing
 -- no room for so many bytes is none for more
 room-more : (p q : ℕ) (b : Block) → p ≤ q → is_room p b ≡ false → is_room q b ≡ false
 room-more p q (Free n) l e = grind (arith, l, e)
-room-more p q (Nonrelocatable id content) l e = refl
-room-more p q Masters l e = refl
-room-more p q (Relocatable id flags content) l e = refl
+room-more p q _ l e = refl
 
 room-less : (m : ℕ) (b : Block) → is_room (m + 1) b ≡ false → free_of b ≤ m
 room-less m (Free n) e = grind (arith, e)
-room-less m (Nonrelocatable id content) e = omega arith
-room-less m Masters e = omega arith
-room-less m (Relocatable id flags content) e = omega arith
+room-less m _ e = omega arith
 
 pub no-more-room : (p q lo hi x : ℕ) (blocks : List Block) → p ≤ q → AtEach (NoRoom p lo hi) x blocks
     → AtEach (NoRoom q lo hi) x blocks
-no-more-room p q lo hi x blocks l = at-map (NoRoom p lo hi) (NoRoom q lo hi) x _
-    (λ _ b _ _ r m n. room-more p q b l (r m n))
+no-more-room p q lo hi x blocks l = grind (arith, at-map, room-more)
 
 -- where no room is for more, none is larger
 largest-within : (m hi x : ℕ) (blocks : List Block) → x + sizes blocks < hi → AtEach (NoRoom (m + 1) 0 hi) x blocks
@@ -69,27 +64,12 @@ pub record Growing (xs : List ℕ) (from at most largest : ℕ) : Type 0 where
 
 module _ (xs : List ℕ) (from most : ℕ) where
   pub growing-start : IsOnWay from xs → Growing xs from from most most
-  growing-start w = record {
-    passed = passed-start xs from (λ _ b. is_room (most + 1) b ≡ false) w;
-    no_less = omega arith;
-    reached = omega arith;
-  }
+  growing-start w = grind arith
 
   pub growing-step : (at end free largest next : ℕ) (barrier : Bool) → Growing xs from at most largest
       → Spans at end free barrier xs → largest ≤ next → free ≤ next → (next ≡ largest) ⊎ (next ≡ free)
       → Growing xs from end most next
-  growing-step at end free largest next barrier g s l m o =
-      let z = ap largest_free s.is in
-      record {
-        passed = passed-on _ _ _ _ (λ _ c. is_room (largest + 1) c ≡ false) (λ _ c. is_room (next + 1) c ≡ false)
-            (λ _ c. room-more _ _ c (omega (arith, l))) g.passed s.here s.is s.up s.way
-            (no-room _ s.here (omega arith) (λ _ q. omega (arith, m, q)));
-        no_less = omega (arith, l);
-        reached = elim o [
-          | inl e ↦ omega (arith, z, m, e)
-          | inr e ↦ omega (arith, z, l, e)
-        ];
-      }
+  growing-step at end free largest next barrier g s l m o = grind (arith, passed-on, room-more, no-room)
 
 module _ (xs : List ℕ) (first unused : ℕ) (i : IsSound xs first unused) where
   pub zone-largest : (m : ℕ) → AtEach (NoRoom (m + 1) 0 4294967295) 0 (zone_in xs) → m ≤ largest_free (zone_in xs)
@@ -103,17 +83,12 @@ module _ (xs : List ℕ) (first unused : ℕ) (i : IsSound xs first unused) wher
 purged-above : (k bound x : ℕ) (below above : List Block) → AtEach (Stays bound) x below → x + sizes below ≤ bound
     → lowest_purged k spares (below ++ above) ≡ below ++ lowest_purged k spares above
 purged-above k bound x [] above s l = refl
-purged-above k bound x (b ∷ below) above s l =
-    lowest_purged-stays k spares b _ (none-passes sparing.Nothing b (stays-here bound x b s.0 (omega (arith, l))))
+purged-above k bound x (b ∷ below) above s l = lowest_purged-stays k spares b _ (grind arith)
     ∙ ap (λ q. b ∷ q) (purged-above k _ (x + size b) below above s.1 (omega (arith, l)))
 
 -- where nothing would be given, nothing is purged
 none-given : (sp : Block → Bool) (b : Block) → purgeable_of b ≤ 0 → may_be_purged sp b ≡ false
-none-given sp b l = cases (may_be_purged sp b) (one-gives sp b)
-  where
-    cases : (t : Bool) → cond {A = ℕ} t 1 0 ≤ purgeable_of b → t ≡ false
-    cases true g = absurd (omega (arith, g, l))
-    cases false g = refl
+none-given sp b l = grind arith
 
 none-purged : (k : ℕ) (sp : Block → Bool) (bs : List Block) → purgeable_sum bs ≤ 0 → lowest_purged k sp bs ≡ bs
 none-purged k sp [] l = lowest_purged-none k sp
@@ -129,9 +104,7 @@ stands-still k zone t l = ap tidy (none-purged k spares _ l) ∙ t
 stretch-rises : (f g : ℕ) (bs : List Block) → f ≤ g → largest_stretch f bs ≤ largest_stretch g bs
 stretch-rises f g [] l = l
 stretch-rises f g (Free n ∷ bs) l = stretch-rises (f + n) _ bs (omega (arith, l))
-stretch-rises f g (Nonrelocatable id content ∷ bs) l = omega (arith, l)
-stretch-rises f g (Masters ∷ bs) l = omega (arith, l)
-stretch-rises f g (Relocatable id flags content ∷ bs) l = omega (arith, l)
+stretch-rises f g _ l = omega (arith, l)
 
 stretch-above : (f : ℕ) (below above : List Block) → largest_stretch 0 above ≤ largest_stretch f (below ++ above)
 stretch-above f [] above = stretch-rises 0 f above (omega arith)
@@ -175,31 +148,24 @@ SameFirst (b ∷ old) (c ∷ new) = b ≡ c
 stretch-ends : (f : ℕ) (old new : List Block) → Apart old → (f ≡ 0) ⊎ (top_free old ≡ 0) → SameFirst old new
     → largest_stretch f new ≤ max f (largest_stretch 0 new)
 stretch-ends f [] [] a e s = omega arith
-stretch-ends f [] (c ∷ new) a e s = absurd s
-stretch-ends f (b ∷ old) [] a e s = absurd s
 stretch-ends f (b ∷ old) (c ∷ new) a (inl e) s = omega (arith, ap (λ g. largest_stretch g (c ∷ new)) e)
-stretch-ends f (b ∷ old) (Free n ∷ new) a (inr e) s =
-    let z : 0 < size b = apart-size b old a.0 in
-    absurd (omega (arith, z, ap size s, ap (λ q. top_free (q ∷ old)) s, e))
+stretch-ends f (b ∷ old) (Free n ∷ new) a (inr e) s = grind (arith, apart-size, top_free)
 stretch-ends f (b ∷ old) (Nonrelocatable id content ∷ new) a (inr e) s = omega arith
 stretch-ends f (b ∷ old) (Masters ∷ new) a (inr e) s = omega arith
 stretch-ends f (b ∷ old) (Relocatable id flags content ∷ new) a (inr e) s = omega arith
+stretch-ends f _ _ a e s = absurd s
 
 top-apart : (n : ℕ) (bs : List Block) → add (Free n) bs ≡ Free n ∷ bs → top_free bs ≡ 0
-top-apart n [] e = refl
 top-apart zero (Free m ∷ bs) e = absurd (let z : 0 < 0 = apart-size _ _ e in omega (arith, z))
 top-apart (suc n) (Free m ∷ bs) e = absurd (two _ _ _ _ e)
-top-apart n (Nonrelocatable id content ∷ bs) e = refl
-top-apart n (Masters ∷ bs) e = refl
-top-apart n (Relocatable id flags content ∷ bs) e = refl
+top-apart n _ e = refl
 
 stretch-parts : (f : ℕ) (below old new : List Block) → Apart (below ++ old) → (f ≡ 0) ⊎ (top_free (below ++ old) ≡ 0)
     → SameFirst old new → largest_stretch f (below ++ new) ≤ max (max f (largest_free below)) (largest_stretch 0 new)
 stretch-parts f [] old new a e s = let r = stretch-ends f _ _ a e s in omega (arith, r)
 stretch-parts f (Free n ∷ below) old new a (inl e) s =
     let r = stretch-parts (f + n) below old new a.1 (inr (top-apart n (below ++ old) a.0)) s in omega (arith, r, e)
-stretch-parts f (Free n ∷ below) old new a (inr e) s =
-    let z : 0 < n = apart-size (Free n) (below ++ old) a.0 in absurd (omega (arith, z, e))
+stretch-parts f (Free n ∷ below) old new a (inr e) s = omega (arith, apart-size)
 stretch-parts f (Nonrelocatable id content ∷ below) old new a e s =
     let r = stretch-parts 0 below old new a.1 (inl refl) s in omega (arith, r)
 stretch-parts f (Masters ∷ below) old new a e s =
@@ -212,8 +178,7 @@ same-first : (k bound x : ℕ) (bs : List Block) → x < bound → AtEach (Stays
     → SameFirst bs (lowest_purged k spares bs)
 same-first zero bound x [] l s = tt
 same-first (suc k) bound x [] l s = tt
-same-first k bound x (b ∷ bs) l s =
-    subst (SameFirst (b ∷ bs)) (sym (lowest_purged-stays k spares b bs (none-passes sparing.Nothing b (s.0 l)))) refl
+same-first k bound x (b ∷ bs) l s = grind (arith, lowest_purged-stays, none-passes)
 
 -- the largest Free block from a place on, and of the zone as it stands, after purges from there on
 module _ (xs : List ℕ) (first unused : ℕ) (i : IsSound xs first unused) (k from : ℕ) (m : MayStart from (zone_in xs)) where
@@ -233,16 +198,9 @@ module _ (xs : List ℕ) (first unused : ℕ) (i : IsSound xs first unused) (k f
       let e = after-is _ ∙ ap (λ z. largest_stretch 0 (lowest_purged k spares z)) s.is
       ∙ ap (largest_stretch 0) (purged-above k _ 0 _ _ (at-left (Stays m.bound) 0 _ rest stays) (omega (arith, l))) in
       let up = stretch-parts 0 s.below rest (lowest_purged k spares rest)
-      (subst Apart s.is (apart-tidied (zone_in xs) i.tidied)) (inl refl)
-      (same-first k m.bound (0 + sizes s.below) rest (omega (arith, l))
-      (at-right (Stays m.bound) 0 s.below rest stays)) in
+      (subst Apart s.is (apart-tidied (zone_in xs) i.tidied)) (inl refl) (grind (arith, same-first, at-right)) in
       omega (arith, e, up, stretch-above, after-is, largest-append, ap largest_free s.is, rises)
 
   pub largest-from : largest_free (purged k sparing.Nothing (zone_in xs))
       ≡ max (largest_free (zone_in xs)) (largest_free (purged k sparing.Nothing (left_in from xs)))
-  largest-from = elim m.low [
-    | inl l ↦ parted l
-    | inr e ↦
-        let z = ap (λ q. largest_free (purged k sparing.Nothing q)) (ap (λ p. left_in p xs) e ∙ left-zone xs) in
-        omega (arith, rises, z)
-  ]
+  largest-from = grind (arith, parted, left-zone, rises)

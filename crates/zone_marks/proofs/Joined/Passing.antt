@@ -155,7 +155,6 @@ module _ (p : Purge) (n : Sparing) (start at k freed : ℕ) (xs : List ℕ) (u :
           → (stop : ℕ) → stop ≡ at + size v.here → (more : ℕ) → more ≡ cond (kind v.here == 0) 0 (size v.here)
           → Purging p n start stop m (freed + more) new
       freed-next new made stop t more f =
-          let g : at - start + size v.here ≡ stop - start = omega (arith, t) in
           let after = lowest_purged m (spared n) (opened n v.above) in
           record {
             done = u.done;
@@ -166,11 +165,11 @@ module _ (p : Purge) (n : Sparing) (start at k freed : ℕ) (xs : List ℕ) (u :
             up = omega (arith, t);
             tidied = u.tidied;
             closed = u.closed;
-            will = ap (λ q. tidy (u.done ++ (free q ++ after))) (sym g)
+            will = ap (λ q. tidy (u.done ++ (free q ++ after))) (sym (omega (arith, t)))
                 ∙ sym (joined-below u.done (at - start) (size v.here) after)
                 ∙ ap (λ q. tidy (u.done ++ (gap ++ Free q ∷ after))) (sym (size-opened n v.here))
                 ∙ ap (λ q. tidy (u.done ++ (gap ++ q))) (sym (lowest_purged-free (spared n) k m _ _ e)) ∙ will-next;
-            count = (grind (arith, more-free, total-append, sum-free));
+            count = grind (arith, more-free, total-append, sum-free);
             apart = apart-above;
             below = u.below;
             was = u.was ++ v.here ∷ [];
@@ -203,7 +202,7 @@ module _ (p : Purge) (n : Sparing) (start at k freed : ℕ) (xs : List ℕ) (u :
         done = more;
         rest = v.above;
         lays = subst (λ q. Lays xs q p.slots p.unused) (ap (λ q. u.done ++ (gap ++ q)) v.is ∙ regrouped v.above) u.lays;
-        low = (omega (arith, span-append, span-free, t));
+        low = omega (arith, span-append, span-free, t);
         up = omega arith;
         tidied = closed-now.0;
         closed = closed-now.1;

@@ -39,25 +39,7 @@ starts : (p : Purge) (n : Sparing) (start at k : ℕ) (xs : List ℕ) (done rest
     → sizes done ≡ start → p.from ≡ start → start ≤ at → Closed done → Purging p n start at k 0 xs
 starts p n start at k xs done rest lays tidied had is will low from up closed =
     let a = subst Apart is (apart-tidied p.zone tidied) in
-    record {
-      done = done;
-      rest = rest;
-      lays = subst (λ z. Lays xs z p.slots p.unused) is lays;
-      low = low;
-      up = up;
-      tidied = tidy-apart done (apart-front done _ a);
-      closed = closed;
-      will = will;
-      count = omega (arith, ap free_sum is, had);
-      apart = tidy-apart rest (apart-above (free (at - start)) rest (apart-above done _ a));
-      below = done;
-      was = free (at - start);
-      now = [];
-      zone_is = is;
-      done_is = sym (append-nil done);
-      base = low ∙ sym from;
-      span = omega (arith, span-free, from, up);
-    }
+    grind (arith, is, low, tidy-apart, apart-front, apart-above, append-nil)
 
 -- above a block
 module _ (f : Freeing) (place : ℕ) (xs : List ℕ) (m : MayPurge f place xs) where
@@ -75,10 +57,8 @@ module _ (f : Freeing) (place : ℕ) (xs : List ℕ) (m : MayPurge f place xs) w
     above-other k =
         let front = f.below ++ f.here ∷ [] in
         let regrouped : (above : List Block) → f.below ++ f.here ∷ above ≡ front ++ (free (stop - stop) ++ above) =
-        λ above. sym (append_assoc f.below (f.here ∷ []) above)
-        ∙ (let z : 0 ≡ stop - stop = omega arith in ap (λ q. front ++ (free q ++ above)) z) in
-        starts _ now _ _ _ _ front f.above m.lays m.tidied refl (regrouped f.above)
-        (ap (λ q. tidy (front ++ (free (stop - stop) ++ q))) after ∙ ap tidy (sym (regrouped _)))
+        λ above. sym (append_assoc f.below (f.here ∷ []) above) ∙ (grind arith) in
+        starts _ now _ _ _ _ front f.above m.lays m.tidied refl (regrouped f.above) (grind arith)
         (omega (arith, span-append, t, m.low)) refl (omega arith) (closed-more f.below f.here (not_free-is f.here k))
 
     -- a Free one
@@ -89,10 +69,8 @@ module _ (f : Freeing) (place : ℕ) (xs : List ℕ) (m : MayPurge f place xs) w
         ∙ free-some _ (omega (arith, place-read.some)) ∙ ap (λ q. q ∷ []) (sym b) in
         let regrouped : (above : List Block) → f.below ++ f.here ∷ above ≡ f.below ++ (free (stop - place) ++ above) =
         λ above. ap (λ q. f.below ++ (q ++ above)) (sym one) in
-        starts _ now _ _ _ _ f.below f.above m.lays m.tidied refl (regrouped f.above)
-        (ap (λ q. tidy (f.below ++ (free (stop - place) ++ q))) after ∙ ap tidy (sym (regrouped _)))
-        m.low refl (omega (arith, t)) (closed-under f.below (size f.here) f.above
-        (subst (λ q. Apart (f.below ++ q ∷ f.above)) b (apart-tidied (f.below ++ f.here ∷ f.above) m.tidied)))
+        starts _ now _ _ _ _ f.below f.above m.lays m.tidied refl (regrouped f.above) (grind arith)
+        m.low refl (omega (arith, t)) (grind (arith, closed-under, Apart, apart-tidied))
 
 -- a block that goes is no Masters block
 goes-plain : (sp : Block → Bool) (b : Block) → may_be_purged sp b ≡ true → is_masters b ≡ false

@@ -77,7 +77,7 @@ module _ (f : Freeing) (place : ℕ) (xs : List ℕ) (m : MayRelease f place xs)
         lays = subst (λ n. Lays mid (end.lower ++ (free (n - start) ++ f.above)) f.slots f.unused) (sym t)
             (made lower may-free);
         low = lower-low;
-        some = (omega (arith, starts, here-read.some, t));
+        some = omega (arith, starts, here-read.some, t);
       }
 
       low-stop : sizes (end.lower ++ free (stop - start)) ≡ stop

@@ -1,5 +1,5 @@
 -- A walk that counts what it passes.
-use Rattle.std.proofs.Common.{◌≡◌, ℕ, ◌+◌, ◌≤◌, ◌<◌, ◌⊎◌, Bool, true, false, List, [], ◌∷◌, ◌++◌, length}
+use Rattle.std.proofs.Common.{◌≡◌, ℕ, ◌+◌, ◌≤◌, ◌<◌, ◌⊎◌, Bool, true, false, List, [], ◌∷◌, ◌++◌, length, rules}
 use Rattle.std.proofs.Common.{sym, refl, ap, ◌∙◌, arith, inl, inr}
 use Rattle.std.proofs.lemmas.List.{append-nil}
 use Rattle.block_store.specs.Block.{Block, size, free_of}
@@ -54,40 +54,24 @@ module _ (w : Counting) (xs : List ℕ) (from : ℕ) where
     -- what it tells of the blocks that begin below a bound which it came to
     pub walked-tells : (hi : ℕ) → CountAlike (between from hi from c.passed.done) c.passed.done
         → (hi ≤ at) ⊎ (length xs ≤ at) → stretch_by w (between from hi from (left_in from xs)) ≡ total
-    walked-tells hi a e = alike.same w ∙ c.comes
-      where
-        nothing : between from hi at (left_in at xs) ≡ []
-        nothing = elim e [
-          | inl l ↦ none-above from hi at (left_in at xs) l
-          | inr l ↦ ap (between from hi at) (left-none at xs c.passed.way l)
-        ]
-
-        alike : CountAlike (between from hi from (left_in from xs)) c.passed.done
-        alike = alike-more _ _ _ (alike-same _ _ (ap (between from hi from) c.passed.is
-            ∙ between-append _ _ from c.passed.done (left_in at xs)
-            ∙ ap (λ y. between from hi from c.passed.done ++ between from hi y (left_in at xs)) c.passed.up
-            ∙ ap (λ k. between from hi from c.passed.done ++ k) nothing
-            ∙ append-nil (between from hi from c.passed.done))) a
+    walked-tells hi a e = search (rules, none-above, left-none, CountAlike, alike-more, alike-same, between-append)
 
     -- where the walk began no block at or above the bound
     pub walked-below : (hi : ℕ) → ((p : ℕ) (b : Block) → R p b → p < hi) → (hi ≤ at) ⊎ (length xs ≤ at)
         → stretch_by w (between from hi from (left_in from xs)) ≡ total
-    walked-below hi f e = walked-tells hi (alike-same _ _ (all-begin _ _ _ _ (omega arith)
-        (at-map R (λ p _. p < hi) _ _ (λ p b _ _ r. f p b r) c.passed.each))) e
+    walked-below hi f e = grind (arith, walked-tells, alike-same, all-begin, at-map)
 
 module _ (xs : List ℕ) (from at stop most : ℕ) (runs : Stretch)
     (c : Walked Runs xs from at (λ p b. (free_of b ≤ most) × (p < stop)) runs) where
   bound : (hi : ℕ) → (hi ≤ at) ⊎ (length xs ≤ at) → AtEach (AtMost most from hi) from (left_in from xs)
-  bound hi e = passed-all _ _ (λ _ b. free_of b ≤ most) (λ _ b. free_of b ≤ most) _ _ _
-      (passed-more _ _ _ (λ p b. (free_of b ≤ most) × (p < stop)) (λ _ b. free_of b ≤ most) (λ _ _ r. r.0) c.passed)
+  bound hi e = passed-all _ _ (λ _ b. free_of b ≤ most) (λ _ b. free_of b ≤ most) _ _ _ (grind (arith, passed-more))
       (λ _ _ r. r) e
 
   pub measured-edge : (edge : ℕ) → Measures from at from (left_in from xs)
       (record { edge = edge; most = most; runs = runs })
   measured-edge edge = record {
     most = bound at (inl (omega arith));
-    runs = walked-tells _ _ _ _ _ _ c at (all-within _ _ _ _ (omega arith) (omega (arith, c.passed.up)))
-        (inl (omega arith));
+    runs = walked-tells _ _ _ _ _ _ c at (grind (arith, all-within)) (inl (omega arith));
   }
 
   pub measured-below : (place edge : ℕ) → stop ≤ place → (place ≤ at) ⊎ (length xs ≤ at)

@@ -64,13 +64,7 @@ group-raised groups marks group index g m a l low high was is none = record {
     ]
 
     apart : (other : ℕ) → (other ≡ group → ⊥) → (group < other) ⊎ (other < group)
-    apart other n = elim (cases_lt group other) [
-      | inl z ↦ inl z
-      | inr z ↦ elim (cases_lt other group) [
-        | inl y ↦ inr y
-        | inr y ↦ absurd (n (omega (arith, z, y)))
-      ]
-    ]
+    apart other n = grind arith
 
 -- what is known of a group is computed anew
 pub group-renewed : (groups : List Group) (marks : List Landmark) (group low n : ℕ) (g : Group) → AreGroups groups marks

@@ -61,8 +61,8 @@ became-replaced place bytes old new b e = record {
   was = b.was;
   is = b.is;
   low = b.low;
-  high = (omega (arith, e));
-  span = (omega arith);
+  high = omega (arith, e);
+  span = omega arith;
 }
 
 -- nothing was changed

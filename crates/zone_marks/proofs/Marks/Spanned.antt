@@ -21,19 +21,9 @@ pub span-made : (at : ℕ) (xs : List ℕ) (w : IsOnWay at xs) → at < length x
     → barrier ≡ not (runs_on t (word_at (at + 12) xs)) → Spans at (at + n) free barrier xs
 span-made at xs w l n t e h k free f barrier b =
     let s = stepped at xs w l n t e h k in
-    let z = size-at at xs w l n t e h k s.here (left_in (at + n) xs) s.is in
     let o = stepped at xs w l n t e h k in
     let same = same-here at xs t o s.here (left_in (at + n) xs) s.is in
-    let tile = subst (λ c. Tile (head_of o.resource c) (size c) (drop at xs)) same o.tile in
-    record {
-      here = s.here;
-      is = s.is;
-      up = ap (λ m. at + m) (sym z);
-      bytes = f ∙ free-told s.here n t (o.tag ∙ ap kind same) z;
-      ends = b ∙ ap not (runs-told o.resource xs at o.way.small s.here tile n t (word_at (at + 12) xs) e h k refl);
-      way = s.way;
-      some = (omega (arith, z));
-    }
+    grind arith
 
 -- a block that isn't room by its Free bytes
 pub room-free : (p : ℕ) (b : Block) → 0 < free_of b → p ≤ free_of b → is_room p b ≡ true

@@ -21,11 +21,7 @@ module _ (xs : List ℕ) (at : ℕ) (block : Seen) (end : ℕ) (s : Steps at blo
 
   -- an edge above a block is one of those behind it
   pub edge-further : (to : ℕ) → at < to → Begins to at (left_in at xs) → Begins to end (left_in end xs)
-  edge-further to l b = cases (subst (Begins to at) s.is b)
-    where
-      cases : Begins to at (s.here ∷ left_in end xs) → Begins to end (left_in end xs)
-      cases (inl e) = absurd (omega (arith, e, l))
-      cases (inr d) = subst (λ y. Begins to y (left_in end xs)) s.up d
+  edge-further to l b = grind arith
 
 module _ (bytes : ℕ) (n : Sparing) (xs : List ℕ) (s : RunScan) where
   pub goes-start : IsOnWay s.place xs → Goes bytes n xs s s
@@ -45,8 +41,7 @@ module _ (bytes : ℕ) (n : Sparing) (xs : List ℕ) (s : RunScan) where
     }
 
     pub goes-begins : Begins r.place s.place (left_in s.place xs)
-    goes-begins = subst (Begins r.place s.place) (sym g.is) (begins-right _ _ _ _
-        (subst (λ y. Begins r.place y (left_in r.place xs)) (sym g.up) (begins-here _ _)))
+    goes-begins = grind (arith, begins-right, begins-here)
 
     pub goes-finds : finds_purging bytes n s xs ≡ finds_purging bytes n r xs
     goes-finds = ap (λ k. scan_from None bytes (spared n) s (opened n k)) g.is ∙ g.same (left_in r.place xs)

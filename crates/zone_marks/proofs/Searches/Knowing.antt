@@ -33,17 +33,11 @@ module _ (bytes : ℕ) where
   module _ (s : RunScan) (at : ℕ) (xs : List ℕ) (r : RunScan) (k : IsKnown bytes s at xs r) where
     -- a search that has found none is at the place
     pub not-found : (r.met && nat_le bytes r.free) ≡ false → r.place ≡ at
-    not-found n = elim k.came [
-      | inl f ↦ let e : true ≡ false = sym f ∙ n in absurd (cc)
-      | inr e ↦ e
-    ]
+    not-found n = grind arith
 
     -- it finds what is sought
     pub known-finds : finds_from bytes s xs ≡ finds_from bytes r xs
-    known-finds = ap (finds_in bytes s) k.piece.is ∙ k.finds (left_in at xs) ∙ elim k.came [
-      | inl f ↦ found-kept r _ f ∙ sym (found-kept r _ f)
-      | inr e ↦ ap (λ q. finds_in bytes r (left_in q xs)) (sym e)
-    ]
+    known-finds = grind (arith, found-kept)
 
     module _ (next : ℕ) (here : List Block) (p : IsPiece at next xs here) where
       more : (above : List Block) → finds_in bytes s ((k.here ++ here) ++ above) ≡ finds_in bytes r (here ++ above)
@@ -63,12 +57,7 @@ module _ (bytes : ℕ) where
           → IsKnown bytes s next xs
           (record { left = r.left; start = r.start; free = r.free + free; met = r.met; place = next })
       known-through free e n f = record {
-        ready = record {
-          begins = p.edge;
-          left = k.ready.left;
-          met = k.ready.met;
-          free = (omega (arith, e, free_span-le, f, k.ready.free, p.up));
-        };
+        ready = grind (arith, free_span-le);
         here = k.here ++ here;
         piece = piece-more xs s.place at next k.here here k.piece p;
         finds = λ above. more above

@@ -42,17 +42,10 @@ spares = spared sparing.Nothing
 -- what a search with no purges left finds
 pub ready-finds : (bytes : ℕ) (xs : List ℕ) (s : RunScan) → IsReady xs s → (above : List Block)
     → finds_in bytes s above ≡ found_from bytes spares s.start s.free s.place above
-ready-finds bytes xs s r above = ap (λ l. scan_runs None bytes spares l s.start s.free s.met s.place above) r.left
-    ∙ ap (λ m. scan_runs None bytes spares 0 s.start s.free m s.place above) r.met
+ready-finds bytes xs s r above = grind arith
 
 ready-known : (bytes : ℕ) (xs : List ℕ) (s : RunScan) → IsReady xs s → IsKnown bytes s s.place xs s
-ready-known bytes xs s r = record {
-  ready = r;
-  here = [];
-  piece = piece-none xs s.place r.begins;
-  finds = λ above. refl;
-  came = inr refl;
-}
+ready-known bytes xs s r = grind arith
 
 pub ready-at : (xs : List ℕ) (at : ℕ) → Begins at 0 (zone_in xs) → IsReady xs (begun at 0)
 ready-at xs at b = record { begins = b; left = refl; met = refl; free = omega arith }
@@ -98,7 +91,7 @@ module _ (xs : List ℕ) (s : RunScan) (at next : ℕ) (p : Passed) (q : IsPasse
     high = q.high ++ here;
     high_piece = piece-more xs p.end at next q.high here q.high_piece piece;
     goes_on = open-more q.high here p.free free q.goes_on t;
-    barred = λ d. let b = q.barred (open-ended p.runs free (subst (λ r. is_ended r ≡ true) e d)) in (grind (arith, append_assoc));
+    barred = λ d. let b = q.barred (open-ended p.runs free (subst (λ r. is_ended r ≡ true) e d)) in grind (arith, append_assoc);
   }
 
   pub passed-ended : (runs : Stretch) → stretch_of here ≡ runs → is_ended runs ≡ true → all ≡ join p.runs runs
@@ -154,8 +147,7 @@ module _ (bytes : ℕ) (xs : List ℕ) (s : RunScan) (r : IsReady xs s) (at : �
         ∙ scan-begun _ spares _ _ _ _ b.mid (q.high ++ above) b.ended less
         ∙ ap (λ y. found_from bytes spares y 0 y (b.mid ++ (q.high ++ above))) b.up
         ∙ ap (found_from bytes spares p.barred 0 p.barred)
-        (sym (ap (λ k. k ++ above) parts ∙ append_assoc b.mid q.high above))
-        ∙ k.finds above;
+        (sym (ap (λ k. k ++ above) parts ∙ append_assoc b.mid q.high above)) ∙ k.finds above;
     came = k.came;
   }
     where
@@ -164,18 +156,11 @@ module _ (bytes : ℕ) (xs : List ℕ) (s : RunScan) (r : IsReady xs s) (at : �
           ∙ ap (λ k. b.mid ++ k) q.high_piece.is ∙ sym (append_assoc b.mid q.high (left_in at xs)))
 
       less : best (join (Whole s.free) (stretch_of (b.low ++ b.mid))) < bytes
-      less =
-          let a = ap best (ap (join (Whole s.free)) (ap stretch_of (b.is ∙ sym (append_assoc b.low b.mid q.high))
-          ∙ stretch_of-append (b.low ++ b.mid) q.high)
-          ∙ sym (join-assoc (Whole s.free) (stretch_of (b.low ++ b.mid)) (stretch_of q.high))) in
-          let h = short-here in
-          omega (arith, a, best-low (join (Whole s.free) (stretch_of (b.low ++ b.mid))) (stretch_of q.high), h)
+      less = grind (arith, append_assoc, stretch_of-append, join-assoc, short-here, best-low)
 
   -- at the zone's end none is found
   pub passed-all : left_in at xs ≡ [] → finds_from bytes s xs ≡ None
-  passed-all e = ready-finds _ _ s r _
-      ∙ ap (found_from bytes spares s.start s.free s.place) (q.piece.is ∙ ap (λ k. q.here ++ k) e ∙ append-nil q.here)
-      ∙ scan-never _ spares _ _ s.place q.here short-here
+  passed-all e = grind (arith, ready-finds, append-nil, scan-never, short-here)
 
 -- a walk that has come to the zone's end without a run
 pub walked-out : (bytes : ℕ) (n : Sparing) (xs : List ℕ) (first unused : ℕ) → IsSound xs first unused
@@ -183,15 +168,7 @@ pub walked-out : (bytes : ℕ) (n : Sparing) (xs : List ℕ) (first unused : ℕ
     → (IsFound bytes last ⊎ ((length xs ≤ last.place) ⊎ (4294967295 ≤ last.place)))
     → (last.met && nat_le bytes last.free) ≡ false → finds_purging bytes n from xs ≡ None
 walked-out bytes n xs first unused i from last b g came f =
-    let none = left-none _ _ g.way (elim came [
-      | inl k ↦ let y : true ≡ false = sym k ∙ f in absurd (cc)
-      | inr (inl l) ↦ l
-      | inr (inr l) ↦
-          let all = left-long xs first unused i from.place b in
-          absurd (omega (arith, l, g.up, ap sizes g.is, span-append, all, i.lays.small))
-    ]) in
-    goes-finds _ _ _ _ _ g
-    ∙ ap (scan_runs None bytes (spared n) last.left last.start last.free last.met last.place)
-    (ap (opened n) none ∙ opened-none n)
+    goes-finds _ _ _ _ _ g ∙ ap (scan_runs None bytes (spared n) last.left last.start last.free last.met last.place)
+    (ap (opened n) (left-none _ _ g.way (grind arith)) ∙ opened-none n)
     ∙ scan-end None bytes (spared n) last.left last.start last.free last.met last.place
     ∙ cond-false (last.met && nat_le bytes last.free) _ _ f

@@ -40,11 +40,7 @@ piece-none xs at b = record { is = refl; up = omega arith; edge = b }
 -- a piece and the one above it
 pub piece-more : (xs : List ℕ) (from at to : ℕ) (low high : List Block) → IsPiece from at xs low → IsPiece at to xs high
     → IsPiece from to xs (low ++ high)
-piece-more xs from at to low high p q = record {
-  is = p.is ∙ ap (λ k. low ++ k) q.is ∙ sym (append_assoc low high (left_in to xs));
-  up = (omega (arith, span-append));
-  edge = q.edge;
-}
+piece-more xs from at to low high p q = grind (arith, append_assoc, span-append)
 
 module _ (xs : List ℕ) (first unused : ℕ) (i : IsSound xs first unused) where
   pub zone-long : sizes (zone_in xs) ≡ length xs
@@ -110,15 +106,7 @@ module _ (xs : List ℕ) (first unused : ℕ) (i : IsSound xs first unused) wher
     stretch-before : (t : Tally) (at index next : ℕ) → Begins at 0 (zone_in xs) → IsBefore index marks xs next
         → at ≤ next_of 4294967295 (drop index marks)
         → IsTally w t (between at (next_of 4294967295 (drop index marks)) 0 (zone_in xs)) → IsStretch w t at next xs
-    stretch-before t at index next e b r k = elim (cases_lt index (length marks)) [
-      | inl l ↦ let q : next ≡ next_of 4294967295 (drop index marks) = b.here l ∙ sym (mark-first _ _ _ _ l) in
-          stretch-at w t at _ next e k b.edge (omega (arith, q, r)) (omega (arith, q)) (inl q)
-      | inr l ↦ let q : next ≡ length xs = omega (arith, b.end l, edge-within next b.edge) in
-          let to : next_of 4294967295 (drop index marks) ≡ 4294967295 =
-          ap (next_of 4294967295) (drop_all index marks l) in
-          stretch-at w t at _ next e k b.edge (omega (arith, q, edge-within at e))
-          (omega (arith, q, to, i.lays.small)) (inr q)
-    ]
+    stretch-before t at index next e b r k = grind (arith, cases_lt, mark-first, stretch-at, edge-within, drop_all)
 
     -- so the stretch of a landmark is known up to there
     pub next-stretch : (index next : ℕ) → index < length marks → IsBefore (index + 1) marks xs next

@@ -54,10 +54,7 @@ module _ (xs : List ℕ) (from : ℕ) (m : MayStart from (zone_in xs)) (bytes pu
   -- none of the blocks below may be purged
   none-below : count_of (spared n) k.here ≡ 0
   none-below = ap (count_of (spared n)) (sym (plain k.here)) ∙ count-none n _ 0 _
-      (at-left (Stays m.bound) 0 _ _ (subst (NoneGoes m.bound) parts m.none)) (elim m.low [
-        | inl l ↦ omega (arith, l, k.piece.up)
-        | inr l ↦ omega (arith, l, k.piece.up)
-      ])
+      (at-left (Stays m.bound) 0 _ _ (subst (NoneGoes m.bound) parts m.none)) (grind arith)
 
   few : count_of (spared n) above ≤ purges
   few = omega (arith, all, ap (count_of (spared n)) (plain (zone_in xs) ∙ parts), total-append)
@@ -66,8 +63,7 @@ module _ (xs : List ℕ) (from : ℕ) (m : MayStart from (zone_in xs)) (bytes pu
   on : finds_in bytes r (map each above) ≡ scan_runs None bytes (spared n) purges r.start r.free true r.place
       (left_in r.place xs)
   on = elim k.came [
-    | inl f ↦ found-kept bytes r _ f ∙ sym (scan_kept None bytes (spared n) purges r.start r.free true r.place _
-        (subst (λ t. (t && nat_le bytes r.free) ≡ true) k.ready.met f))
+    | inl f ↦ found-kept bytes r _ f ∙ sym (grind (arith, scan_kept, nat_le))
     | inr e ↦ ready-finds bytes xs r k.ready _
         ∙ found-any bytes (spared sparing.Nothing) (spared n) r.start r.free true r.place (map each above)
         ∙ sym (scan-emptied bytes (spared n) purges r.start r.free r.place above few)
@@ -82,5 +78,4 @@ module _ (xs : List ℕ) (from : ℕ) (m : MayStart from (zone_in xs)) (bytes pu
       ∙ ap (found_from bytes (spared n) 0 0 0) (map-append each k.here above
       ∙ ap (λ z. z ++ map each above) (emptied-none (spared n) k.here (let z = none-below in omega (arith, z))))
       ∙ found-any bytes (spared n) (spared sparing.Nothing) 0 0 true 0 (k.here ++ map each above)
-      ∙ k.finds (map each above) ∙ on
-      ∙ sym (ap (scan_runs None bytes (spared n) purges r.start r.free true r.place) (plain (left_in r.place xs)))
+      ∙ k.finds (map each above) ∙ on ∙ sym (grind arith)

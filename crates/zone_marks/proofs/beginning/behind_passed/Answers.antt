@@ -1,4 +1,4 @@
-use Rattle.std.proofs.Common.{ap, arith}
+use Rattle.std.proofs.Common.{ap, arith, rules}
 use Rattle.zone_marks.specs.Searching.{IsKnown, begun}
 use Rattle.zone_bytes.proofs.Places.Walks.{free_span-le}
 use Rattle.zone_marks.proofs.Searches.Knowing.{not-found, scanned}
@@ -12,8 +12,7 @@ pub returns-in-Whole : goal.returns-in-Whole
 returns-in-Whole c = known-open _ _ _ c.requires.ready _ _ c.requires.passed c.requires.short _ c.in-Whole.is
 
 pub scan_up_to-walked-requires-clause-begins : goal.scan_up_to-walked-requires-clause-begins
-scan_up_to-walked-requires-clause-begins c =
-    rw c.begun_at-begun.ensures (c.requires.passed.barred (ap is_ended c.in-Ended.is)).edge
+scan_up_to-walked-requires-clause-begins c = grind arith
 
 -- the search behind the blocks among which one ends a run
 walked : (c : After-scan_up_to-walked) → IsKnown c.args.bytes (begun c.args.passed.barred 0) c.args.passed.end
@@ -34,5 +33,4 @@ returns-in-Ended c =
     let p = c.requires.passed in
     let o = whole-open p.high c.args.passed.free p.goes_on in
     known-barred _ _ _ c.requires.ready _ _ p c.requires.short (p.barred (ap is_ended c.in-Ended.is)) _
-    (c.past_open.ensures
-    _ _ _ p.high (walked (goal.at.returns-in-Ended c).After-scan_up_to-walked) p.high_piece o.0 o.1)
+    (c.past_open.ensures _ _ _ p.high (search (rules, walked)) p.high_piece o.0 o.1)

@@ -41,5 +41,4 @@ pass_known-below-requires-clause-sums c = (fits (goal.at.pass_known-below-requir
 pub loop-index-preserved : goal.loop-index-preserved
 loop-index-preserved c =
     let p = piece (goal.at.loop-index-preserved c).In-Known in
-    c.pass_known-below.ensures _ _ p.0 c.loop-index.invariant
-    (mark-begins _ _ _ _ _ (omega arith) c.requires.marks) p.1 p.2
+    c.pass_known-below.ensures _ _ p.0 c.loop-index.invariant (grind arith) p.1 p.2

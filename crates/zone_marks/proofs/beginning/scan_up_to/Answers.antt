@@ -1,4 +1,4 @@
-use Rattle.std.proofs.Common.{◌≡◌, refl, sym, ◌∙◌, subst, arith}
+use Rattle.std.proofs.Common.{◌≡◌, refl, sym, ◌∙◌, subst, arith, rules}
 use Rattle.zone_bytes.specs.Stepping.{Steps}
 use Rattle.zone_marks.proofs.Marks.Lowering.{begins-way}
 use Rattle.zone_marks.proofs.Marks.Passing.{begins-within}
@@ -6,13 +6,7 @@ use Rattle.zone_marks.proofs.Searches.Going.{seen-sized, edge-further, goes-star
 use Rattle.zone_marks.proofs.beginning.scan_up_to.Goals as goal
 
 pub loop-scan-init : goal.loop-scan-init
-loop-scan-init c = record {
-  goes = goes-start _ _ _ _ (begins-way _ _ _ c.requires.sound.2 _ c.requires.begins);
-  free = c.requires.free;
-  met = c.requires.met;
-  left = omega arith;
-  up_to = λ b. b;
-}
+loop-scan-init c = search (rules, goes-start, begins-way)
 
 pub loop-scan-preserved : goal.loop-scan-preserved
 loop-scan-preserved c =
@@ -23,14 +17,12 @@ loop-scan-preserved c =
     let s = step.ensures in
     let r = c.scan_run-scan.ensures in
     let z = seen-sized xs scan.place step.result.block step.result.end s in
-    let end : c.scan_run-scan.result.place ≡ step.result.end = omega (arith, z) in
-    let to = subst (λ q. Steps scan.place step.result.block q xs) (sym end) s in
+    let to = subst (λ q. Steps scan.place step.result.block q xs) (sym (omega (arith, z))) s in
     record {
-      goes = goes-step _ _ _ _ scan i.goes _ _ to (λ above. r.scan to.here above c.args.bytes to.told
-          (sym c.is_found.ensures ∙ c.if-not-is_found.true));
+      goes = goes-step _ _ _ _ scan i.goes _ _ to (grind arith);
       free = r.free;
       met = r.met refl i.met;
-      left = (omega arith);
+      left = omega arith;
       up_to = λ b. edge-further _ _ _ _ to _ (omega arith) (i.up_to b);
     }
 

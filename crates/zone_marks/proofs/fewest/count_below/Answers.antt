@@ -13,10 +13,7 @@ use Rattle.zone_marks.proofs.fewest.count_below.Goals.{After-within-first, After
 use Rattle.zone_marks.proofs.fewest.count_below.Goals as goal
 
 edge_begins : (c : After-within-first) → Begins c.within-first.result 0 (zone_in c.args.part.now.bytes)
-edge_begins c = elim c.within-first.ensures.one [
-  | inl e ↦ rw e c.requires.begins
-  | inr e ↦ rw e c.requires.run
-]
+edge_begins c = grind arith
 
 counted : (c : After-count_in) (low rest : List Block) → zone_in c.args.part.now.bytes ≡ low ++ rest
     → sizes low ≡ c.args.run
@@ -26,8 +23,7 @@ counted c low rest is at =
     let w = c.within-first.ensures in
     c.count_in.ensures.is
     ∙ ap (λ l. count_within (spared n) (c.args.run - c.within-first.result) (opened n l)) c.walk_at.ensures.is
-    ∙ count-below _ _ _ c.requires.sound.2 _ _ _ n low rest
-    (edge_begins (goal.at.returns-clause-is c).After-within-first) w.least c.requires.none w.low is at
+    ∙ count-below _ _ _ c.requires.sound.2 _ _ _ n low rest (grind arith) w.least c.requires.none w.low is at
 
 pub returns-clause-is : goal.returns-clause-is
 returns-clause-is c = counted c

@@ -23,4 +23,4 @@ loop-left-preserved-then-may_purge_now g c =
 pub loop-left-preserved : goal.loop-left-preserved
 loop-left-preserved g c =
     let t = told _ _ _ _ c.next_block.ensures c.in-Some.is in
-    (grind arith)
+    grind arith

@@ -1,4 +1,4 @@
-use Rattle.std.proofs.Common.{◌∙◌, ◌-◌, ap}
+use Rattle.std.proofs.Common.{◌∙◌, ◌-◌, ap, arith}
 use Rattle.block_store.specs.Sparing.{opened, spared}
 use Rattle.zone_summary.specs.Fewest.{purges_for}
 use Rattle.zone_summary.specs.Stretches.{prefix, stretch_of}
@@ -31,8 +31,7 @@ returns c =
     let n = c.args.sparing in
     let f = first (goal.at.returns c).Start in
     let left = left-above c.args.part.now.bytes i.0 i.1 i.2 f.low f.rest c.args.run f.is f.at in
-    let lacks = c.saturating_sub-lacks.ensures
-    ∙ ap (λ k. c.args.bytes - k) (c.free_at-free.ensures ∙ ap (λ l. prefix (stretch_of (opened n l))) left) in
+    let lacks = c.saturating_sub-lacks.ensures ∙ ap (λ k. c.args.bytes - k) (grind arith) in
     let own = c.count_for.ensures.is
     ∙ ap (λ l. purges_for (spared n) c.saturating_sub-lacks.result (opened n l)) (c.walk_at.ensures.is ∙ left)
     ∙ ap (λ k. purges_for (spared n) k (opened n f.rest)) lacks in

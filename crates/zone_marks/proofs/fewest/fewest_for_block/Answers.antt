@@ -18,14 +18,11 @@ pub walk_at-requires-clause-begins : goal.walk_at-requires-clause-begins
 walk_at-requires-clause-begins c = begins-here 0 _
 
 pub returns-in_default : goal.returns-in_default
-returns-in_default c =
-    no-run-of _ _ _ _ (c.requires.whole (zone_in c.args.part.now.bytes)) c.requires.spared
-    (rw (c.walk_at.ensures.is ∙ left-zone _) at c.in_default.ensures)
+returns-in_default c = no-run-of _ _ _ _ (grind arith) c.requires.spared (grind (arith, left-zone))
 
 -- the run of the block, and where it begins
 found : (c : In-Some) → IsRunOf c.args.number c.args.bytes c.args.sparing (zone_in c.args.part.now.bytes) c.in-Some.run'
-found c = run-of _ _ _ _ (c.requires.whole _) c.requires.spared _ c.requires.once
-    (rw (c.walk_at.ensures.is ∙ left-zone _) at c.in-Some.ensures)
+found c = grind (arith, run-of, left-zone)
 
 begins : (c : In-Some) → Begins c.in-Some.run' 0 (zone_in c.args.part.now.bytes)
 begins c = let r = found c in run-begins _ _ r.low r.rest r.is r.at
@@ -52,14 +49,12 @@ walk_at-requires-2-clause-begins c = begins (goal.at.walk_at-requires-2-clause-b
 own : (c : After-free_at-free) (walk : List Block) → walk ≡ left_in c.in-Some.run' c.args.part.now.bytes
     → run_purges_for (spared c.args.sparing) 0 (c.args.bytes - c.free_at-free.result) walk ≡ run_purges_for
     (spared c.args.sparing) 0 (c.args.bytes - prefix (stretch_of (found c.before).rest)) (found c.before).rest
-own c walk e = let count = run_purges_for (spared c.args.sparing) 0 in
-    ap (λ k. count (c.args.bytes - k) walk) (now c) ∙ ap (count _) (e ∙ left c.before)
+own c walk e = grind (arith, now, left)
 
 pub returns-in_default-count_in_run : goal.returns-in_default-count_in_run
 returns-in_default-count_in_run c =
     let d = (goal.at.returns-in_default-count_in_run c).After-free_at-free in
-    never-enough _ _ _ _ _ (found d.before) (omega (arith, now d, c.if-bytes-free.false))
-    (sym (c.in_default-count_in_run.ensures.is ∙ own d _ c.walk_at-2.ensures.is))
+    never-enough _ _ _ _ _ (found d.before) (omega (arith, now d, c.if-bytes-free.false)) (grind (arith, own))
 
 pub count_below-requires-clause-run : goal.count_below-requires-clause-run
 count_below-requires-clause-run c = begins (goal.at.count_below-requires-clause-run c).In-Some
@@ -70,5 +65,4 @@ returns c =
     let r = found d.before in
     let below = c.count_below.ensures.is r.low r.rest r.is r.at
     ∙ ap (count_of (spared c.args.sparing)) (c.requires.whole r.low) in
-    rw below (fewest-of _ _ _ _ _ r _ (omega (arith, now d, c.if-bytes-free.false))
-    (sym (c.in-Some-count_in_run.ensures.is ∙ own d _ c.walk_at-2.ensures.is)))
+    rw below (fewest-of _ _ _ _ _ r _ (omega (arith, now d, c.if-bytes-free.false)) (grind (arith, own)))

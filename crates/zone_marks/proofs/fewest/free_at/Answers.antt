@@ -5,8 +5,7 @@ use Rattle.zone_bytes.specs.Stepping.{left_in}
 use Rattle.zone_marks.proofs.fewest.free_at.Goals as goal
 
 pub returns-then-frees_one : goal.returns-then-frees_one
-returns-then-frees_one c =
-    c.free_of_run.ensures ∙ ap (λ l. prefix (stretch_of (opened c.args.sparing l))) c.walk_at.ensures.is
+returns-then-frees_one c = grind arith
 
 pub returns-else-frees_one : goal.returns-else-frees_one
 returns-else-frees_one c = grind arith

@@ -1,3 +1,4 @@
+use Rattle.std.proofs.Common.{arith}
 use Rattle.zone_marks.proofs.finding_runs.pass_stretch.Goals as goal
 
 pub pass_known-farther-requires-clause-joins : goal.pass_known-farther-requires-clause-joins
@@ -7,6 +8,4 @@ pub pass_known-farther-requires-clause-sums : goal.pass_known-farther-requires-c
 pass_known-farther-requires-clause-sums c = (c.requires.fits c.in-Known.runs c.in-Known.is).1
 
 pub returns-clause-passed : goal.returns-clause-passed
-returns-clause-passed c = λ xs scan q e s.
-    let t = rw c.in-Known.is at s in
-    c.pass_known-farther.ensures xs scan t.0 q e t.1 t.2
+returns-clause-passed c = grind arith

@@ -1,3 +1,4 @@
+use Rattle.std.proofs.Common.{arith}
 use Rattle.zone_marks.proofs.Searches.Passed.{passed-fits}
 use Rattle.zone_marks.proofs.finding_runs.pass_up_to.Goals as goal
 
@@ -8,9 +9,4 @@ pass_stretch-requires c = record {
 }
 
 pub returns-in-Some-clause-come : goal.returns-in-Some-clause-come
-returns-in-Some-clause-come c = λ scan h. record {
-  ready = h.ready;
-  passed = c.in-Some.ensures.passed _ scan h.passed h.before.edge (c.requires.stretch _ c.edge_of-next.ensures.before);
-  before = c.edge_of-next.ensures.before;
-  inside = c.requires.inside;
-}
+returns-in-Some-clause-come c = grind arith

@@ -6,15 +6,7 @@ use Rattle.zone_marks.proofs.Searches.Passed.{passed-all, passed-none}
 use Rattle.zone_marks.proofs.finding_runs.reach_run.Goals as goal
 
 pub loop-reached-init : goal.loop-reached-init
-loop-reached-init c = record {
-  come = record {
-    ready = c.requires.ready;
-    passed = passed-none c.args.part.now.bytes c.args.scan c.requires.ready;
-    before = c.requires.before;
-    inside = c.requires.first;
-  };
-  short = (omega arith);
-}
+loop-reached-init c = grind (arith, passed-none)
 
 pub returns : goal.returns
 returns c =

@@ -6,14 +6,9 @@ use Rattle.zone_marks.proofs.Searches.Passed.{walked-out}
 use Rattle.zone_marks.proofs.finding_runs.walk_on.Goals as goal
 
 pub returns-then-is_found : goal.returns-then-is_found
-returns-then-is_found c =
-    let last = c.scan_up_to-last.result in
-    sym (goes-finds _ _ _ _ _ c.scan_up_to-last.ensures.goes
-    ∙ scan_kept None c.args.bytes (spared c.args.sparing) last.left last.start _ _ _
-    _ (sym c.is_found.ensures ∙ c.if-is_found.true))
+returns-then-is_found c = grind (arith, goes-finds, scan_kept)
 
 pub returns : goal.returns
 returns c =
     let r = c.scan_up_to-last.ensures in
-    sym (walked-out _ _ _ _ _ c.requires.sound.2 _ _ c.requires.begins r.goes r.came
-    (sym c.is_found.ensures ∙ c.if-is_found.false))
+    sym (walked-out _ _ _ _ _ c.requires.sound.2 _ _ c.requires.begins r.goes r.came (grind arith))

@@ -11,10 +11,8 @@ pub loop-at-preserved : goal.loop-at-preserved
 loop-at-preserved c = search (rules, growing-step)
 
 pub returns-clause-none : goal.returns-clause-none
-returns-clause-none c =
-    passed-all _ _ (λ _ b. is_room (c.loop-at.largest + 1) b ≡ false)
-    (λ _ b. is_room (c.loop-at.largest + 1) b ≡ false) _ _ _ c.loop-at.invariant.passed (λ _ b r. r)
-    (past _ _ _ _ _ c.within-stop.ensures.one c.len.ensures.count (omega arith))
+returns-clause-none c = passed-all _ _ (λ _ b. is_room (c.loop-at.largest + 1) b ≡ false)
+    (λ _ b. is_room (c.loop-at.largest + 1) b ≡ false) _ _ _ c.loop-at.invariant.passed (λ _ b r. r) (grind arith)
 
 pub returns-clause-no_less : goal.returns-clause-no_less
 returns-clause-no_less c = c.loop-at.invariant.no_less

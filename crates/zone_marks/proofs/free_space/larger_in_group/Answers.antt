@@ -11,5 +11,4 @@ pub larger_in_stretch-largest-requires-clause-begins : goal.larger_in_stretch-la
 larger_in_stretch-largest-requires-clause-begins c = mark-begins _ _ _ _ _ (omega arith) c.requires.marks
 
 pub larger_in_stretch-largest-requires-clause-bound : goal.larger_in_stretch-largest-requires-clause-bound
-larger_in_stretch-largest-requires-clause-bound c = λ l.
-    rw c.place_of_mark-to.ensures (stretch-room _ _ _ _ (omega arith) c.requires.marks l)
+larger_in_stretch-largest-requires-clause-bound c = grind (arith, stretch-room)

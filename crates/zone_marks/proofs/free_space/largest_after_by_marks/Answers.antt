@@ -12,12 +12,7 @@ pub returns : goal.returns
 returns c =
     let i = c.requires.sound in
     let f = largest-from c.args.part.now.bytes i.0 i.1 i.2 c.args.purges c.args.from c.requires.from in
-    let a = c.largest_after_in-above.ensures
-    ∙ ap (λ l. largest_free (purged c.args.purges sparing.Nothing l)) c.walk_at.ensures.is in
-    elim c.greater.ensures.one [
-      | inl e ↦ omega (arith, f, a, e)
-      | inr e ↦ omega (arith, f, a, e)
-    ]
+    grind arith
 
 -- as many purges as a zone can have blocks
 pub returns-then-purges-ge-GREATEST_ZONE : goal.returns-then-purges-ge-GREATEST_ZONE

@@ -10,13 +10,7 @@ pub larger_between-largest-requires : goal.larger_between-largest-requires
 larger_between-largest-requires c = on-way _ _ _ c.requires.sound.2
 
 pub loop-group-init : goal.loop-group-init
-loop-group-init c =
-    let r = c.larger_between-largest.result in
-    let e = c.larger_between-largest.ensures in
-    record {
-      none = rw (← c.place_of_mark.ensures) (rw left-zone at e.none);
-      reached = omega (arith, ap largest_free (left-zone c.args.part.now.bytes));
-    }
+loop-group-init c = grind (arith, left-zone)
 
 pub returns : goal.returns
 returns c = zone-largest _ _ _ c.requires.sound.2 _ (grind (arith, none-past)) c.loop-group.invariant.reached

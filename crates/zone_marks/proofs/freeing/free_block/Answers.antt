@@ -1,4 +1,4 @@
-use Rattle.std.proofs.Common.{◌≡◌, ◌+◌, arith}
+use Rattle.std.proofs.Common.{◌≡◌, ◌+◌, arith, rules}
 use Rattle.block_store.specs.Block.{size}
 use Rattle.zone_bytes.specs.Joining.{Freeing, MayRelease}
 use Rattle.zone_marks.proofs.Joined.Released.{leads-up, stop-way, stop-more, freed-replaced, here-read, lower, may-free, freed, may-join, released}
@@ -23,11 +23,9 @@ end c f m = let e = c.last_free_below-start.ensures in
     c.free_up-end.ensures.end (lower _ _ _ m _ e) (may-free _ _ _ m _ e)
 
 pub join_above-requires : goal.join_above-requires
-join_above-requires c =
-    let e = c.last_free_below-start.ensures in (
+join_above-requires c = let e = c.last_free_below-start.ensures in (
       freed _ _ _ c.requires.1 _ e,
-      may-join _ _ _ c.requires.1 _ e _ (end (goal.at.join_above-requires c).After-free_up-end _ c.requires.1) _
-          c.free_up-end.ensures.lays,
+      may-join _ _ _ c.requires.1 _ e _ (grind (arith, end)) _ c.free_up-end.ensures.lays,
     )
 
 pub overflow_sub-result : goal.overflow_sub-result
@@ -41,17 +39,13 @@ returns-clause-lays c = λ f m. released _ _ _ m _ c.last_free_below-start.ensur
     (end (goal.at.returns-clause-lays c).After-free_up-end f m) _ c.free_up-end.ensures.lays _ c.join_above.ensures.lays
 
 pub returns-clause-replaced : goal.returns-clause-replaced
-returns-clause-replaced c = λ f m. freed-replaced _ _ _ m _ c.last_free_below-start.ensures _
-    (end (goal.at.returns-clause-replaced c).After-free_up-end f m) _ c.free_up-end.ensures.lays _
-    c.free_behind-more.ensures
+returns-clause-replaced c = search (rules, freed-replaced, end)
 
 pub free_behind-more-requires : goal.free_behind-more-requires
 free_behind-more-requires c = stop-way _ _ _ c.requires.1 _ c.last_free_below-start.ensures _
     (end (goal.at.free_behind-more-requires c).After-free_up-end _ c.requires.1) _ c.free_up-end.ensures.lays
 
 pub overflow_add-result : goal.overflow_add-result
-overflow_add-result c =
-    let k = stop-more _ _ _ c.requires.1 _ c.last_free_below-start.ensures _
-    (end (goal.at.overflow_add-result c).After-free_up-end _ c.requires.1) _ c.free_up-end.ensures.lays _
-    c.free_behind-more.ensures in
+overflow_add-result c = let k = stop-more _ _ _ c.requires.1 _ c.last_free_below-start.ensures _
+    (grind (arith, end)) _ c.free_up-end.ensures.lays _ c.free_behind-more.ensures in
     omega (arith, k)

@@ -22,13 +22,10 @@ top : (c : After-read_header-header) (f : Freeing) → MayFree f c.args.start c.
 top c f m = ap (λ n. c.args.at + n) (sym (says c f m).0)
 
 pub overflow_add-end : goal.overflow_add-end
-overflow_add-end c =
-    let r = here-read _ _ _ _ c.requires.1 in
-    omega (arith, says (goal.at.overflow_add-end c).After-read_header-header _ c.requires.1)
+overflow_add-end c = grind (arith, here-read, says)
 
 pub make_free-requires : goal.make_free-requires
-make_free-requires c =
-    may-make _ _ _ _ c.requires.1 _ (top (goal.at.make_free-requires c).After-read_header-header _ c.requires.1)
+make_free-requires c = may-make _ _ _ _ c.requires.1 _ (grind (arith, top))
 
 pub write_word-requires : goal.write_word-requires
 write_word-requires c =
@@ -54,8 +51,6 @@ pub returns-else-eq-clause-end : goal.returns-else-eq-clause-end
 returns-else-eq-clause-end c = λ f m. sym (top (goal.at.returns-else-eq-clause-end c).After-read_header-header f m)
 
 pub returns-else-eq-clause-lays : goal.returns-else-eq-clause-lays
-returns-else-eq-clause-lays c = λ f m.
-    let d = (goal.at.returns-else-eq-clause-lays c).After-read_header-header in
+returns-else-eq-clause-lays c = λ f m. let d = (goal.at.returns-else-eq-clause-lays c).After-read_header-header in
     let s = says d f m in
-    other-lays _ _ _ _ m _ (top d f m) _ c.make_free.ensures.lies c.make_free.ensures.outside
-    (none-led _ _ _ _ m (omega (arith, tag-false)))
+    other-lays _ _ _ _ m _ (top d f m) _ c.make_free.ensures.lies c.make_free.ensures.outside (grind arith)

@@ -11,8 +11,7 @@ pub returns-then-at-len-clause-lays : goal.returns-then-at-len-clause-lays
 returns-then-at-len-clause-lays c = λ j m. joined-none j _ _ _ m (grind arith)
 
 pub read_header-requires : goal.read_header-requires
-read_header-requires c =
-    (next _ _ _ _ c.requires.1 (let l = c.if-at-len.false in omega (arith, l, c.len.ensures.count))).tells.may
+read_header-requires c = (next _ _ _ _ c.requires.1 (grind arith)).tells.may
 
 -- a block begins at the place
 some : (c : After-read_header) → c.args.at < length c.args.part.now.bytes
@@ -30,11 +29,9 @@ free_up-requires c =
     (one _ _ _ _ c.requires.1 (some d) k, may-free _ _ _ _ c.requires.1 (some d) k)
 
 pub returns-then-eq-clause-lays : goal.returns-then-eq-clause-lays
-returns-then-eq-clause-lays c = λ j m.
-    let d = (goal.at.returns-then-eq-clause-lays c).After-read_header in
-    joined-two _ _ _ _ m (some d) (sym (tag d j m) ∙ free-true _ c.if-eq.ensures) _ c.free_up.ensures.lays
+returns-then-eq-clause-lays c = λ j m. let d = (goal.at.returns-then-eq-clause-lays c).After-read_header in
+    joined-two _ _ _ _ m (some d) (grind (arith, tag, free-true)) _ c.free_up.ensures.lays
 
 pub returns-else-eq-clause-lays : goal.returns-else-eq-clause-lays
-returns-else-eq-clause-lays c = λ j m.
-    let d = (goal.at.returns-else-eq-clause-lays c).After-read_header in
-    joined-other _ _ _ _ m (some d) (subst (λ t. 0 < t) (tag d j m) (free-false _ c.if-eq.ensures))
+returns-else-eq-clause-lays c = λ j m. let d = (goal.at.returns-else-eq-clause-lays c).After-read_header in
+    joined-other _ _ _ _ m (some d) (grind (arith, tag, free-false))

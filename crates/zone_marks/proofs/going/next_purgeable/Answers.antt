@@ -14,5 +14,4 @@ overflow_add-result c =
     omega (arith, f, i.lays.small)
 
 pub returns : goal.returns
-returns c = next-some _ _ _ c.requires.sound.2 _ c.requires.begins c.requires.none _ c.requires.plain _ _
-    (rw c.walk_at.ensures.is at c.in-Some.ensures)
+returns c = next-some _ _ _ c.requires.sound.2 _ c.requires.begins c.requires.none _ c.requires.plain _ _ (grind arith)

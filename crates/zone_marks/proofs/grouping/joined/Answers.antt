@@ -7,8 +7,7 @@ use Rattle.zone_marks.proofs.grouping.joined.Goals as goal
 
 -- one landmark of which nothing is known
 pub returns-in_default : goal.returns-in_default
-returns-in_default c = sym (tally_of-unknown _ _ _ _
-    c.loop-mark-test.true (sym c.loop-mark.invariant) (sym c.told.ensures ∙ c.in_default.is))
+returns-in_default c = grind (arith, tally_of-unknown)
 
 pub join-all-requires : goal.join-all-requires
 join-all-requires c =
@@ -21,7 +20,4 @@ join-all-requires c =
     )
 
 pub loop-mark-preserved : goal.loop-mark-preserved
-loop-mark-preserved c =
-    ap tally.Known c.join-all.ensures.is
-    ∙ ap (λ t. join_tallies t (tally.Known c.in-Known.stretch)) c.loop-mark.invariant
-    ∙ ap (join_tallies _) (sym c.in-Known.is ∙ c.told.ensures) ∙ sym (tally_of-more _ _ _ c.loop-mark-test.true)
+loop-mark-preserved c = grind (arith, tally_of-more)

@@ -14,12 +14,10 @@ use Rattle.zone_marks.proofs.largest.stretch_above.Goals as goal
 -- what is known up to the next landmark
 stretch : (c : After-edge_of-next) → IsStretch c.args.counting c.told_from-told.result.tally c.loop-index.at
     c.edge_of-next.result c.args.part.now.bytes
-stretch c = rw (c.loop-index.invariant.before.here c.loop-index-test.true)
-    (c.told_from-told.ensures.stretch _ c.edge_of-next.ensures.before)
+stretch c = grind arith
 
 pub walked_between-stretch-requires-clause-order : goal.walked_between-stretch-requires-clause-order
-walked_between-stretch-requires-clause-order c =
-    c.edge_of-at.ensures.low _ c.requires.begins c.index_above-index.ensures.above
+walked_between-stretch-requires-clause-order c = grind arith
 
 pub loop-index-init : goal.loop-index-init
 loop-index-init c =
@@ -31,22 +29,18 @@ loop-index-init c =
     }
 
 pub returns-then-suffices-clause-low : goal.returns-then-suffices-clause-low
-returns-then-suffices-clause-low c =
-    ended-lowest _ _ (c.suffices.ensures c.if-suffices.true).1 ∙ sym (ap prefix c.loop-index.invariant.same)
+returns-then-suffices-clause-low c = grind arith
 
 pub stretch_of_mark-requires-clause-order : goal.stretch_of_mark-requires-clause-order
-stretch_of_mark-requires-clause-order c =
-    let s = stretch (goal.at.stretch_of_mark-requires-clause-order c).After-edge_of-next in omega arith
+stretch_of_mark-requires-clause-order c = grind arith
 
 pub stretch_of_mark-requires-clause-stretch : goal.stretch_of_mark-requires-clause-stretch
-stretch_of_mark-requires-clause-stretch c =
-    stretch (goal.at.stretch_of_mark-requires-clause-stretch c).After-edge_of-next
+stretch_of_mark-requires-clause-stretch c = grind arith
 
 pub join-stretch-requires : goal.join-stretch-requires
 join-stretch-requires c =
     let i = c.requires.sound in
     let k = known-fits _ _ _ _ _ c.stretch_of_mark.ensures in
-    let e = edge-within _ _ _ i.2 _ c.edge_of-next.ensures.before.edge in
     omega (arith, ends-load c.loop-index.stretch c.stretch_of_mark.result, i.2.lays.small, c.loop-index.invariant.few)
 
 pub loop-index-preserved : goal.loop-index-preserved

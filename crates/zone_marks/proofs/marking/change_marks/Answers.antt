@@ -27,13 +27,12 @@ changed_mark-requires-clause-lowered c =
     (c.loop-first.invariant.2 c.requires.marks.0 c.requires.marks.1 c.requires.marks.2).is
 
 pub changed_mark-requires-clause-begins : goal.changed_mark-requires-clause-begins
-changed_mark-requires-clause-begins c = λ at w.
-    let old = c.requires.marks.0 in
+changed_mark-requires-clause-begins c = λ at w. let old = c.requires.marks.0 in
     let new = zone_in c.args.part.now.bytes in
     let z = c.requires.marks.1 in
     let r = last-mark _ _ _ _ _ _ _ _ _ _ (omega arith) c.loop-first.invariant.0
     (c.loop-first.invariant.2 old z c.requires.marks.2) in
-    begins-lowered c.args.lo c.args.hi old new z (replaced-order c.args.lo c.args.hi old new z) _ at w r.1.0
+    begins-lowered c.args.lo c.args.hi old new z (grind arith) _ at w r.1.0
 
 pub loop-first-preserved : goal.loop-first-preserved
 loop-first-preserved c =
@@ -48,24 +47,20 @@ loop-first-preserved c =
 
 pub returns-clause-marks : goal.returns-clause-marks
 returns-clause-marks c =
-    let new = zone_in c.args.part.now.bytes in
     let z = c.requires.marks.1 in
     let g = c.loop-first.invariant.2 c.requires.marks.0 z c.requires.marks.2 in
     elim c.loop-first-test.branch [
       | then-loop-first-test+else-lo-above w ↦ changing-below _ _ _ _ z (replaced-order _ _ _ _ z) _ _ _
           _ w.if-lo-above.false g
-      | else-loop-first-test w ↦ changing-done _ _ _ _ _ _
-          _ _ (omega arith) g
+      | else-loop-first-test w ↦ changing-done _ _ _ _ _ _ _ _ (omega arith) g
     ]
 
 pub renew_groups-requires-clause-fits : goal.renew_groups-requires-clause-fits
 renew_groups-requires-clause-fits c =
-    let new = zone_in c.args.part.now.bytes in
     let z = c.requires.marks.1 in
     let g = c.loop-first.invariant.2 c.requires.marks.0 z c.requires.marks.2 in
     loads-small _ _ _ c.requires.sound.2 _ _ (elim c.loop-first-test.branch [
       | then-loop-first-test+else-lo-above w ↦ changing-below _ _ _ _ z (replaced-order _ _ _ _ z) _ _ _
           _ w.if-lo-above.false g
-      | else-loop-first-test w ↦ changing-done _ _ _ _ _ _
-          _ _ (omega arith) g
+      | else-loop-first-test w ↦ changing-done _ _ _ _ _ _ _ _ (omega arith) g
     ])

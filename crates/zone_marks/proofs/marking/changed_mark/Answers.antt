@@ -1,4 +1,4 @@
-use Rattle.std.proofs.Common.{◌≡◌, ℕ, ◌≤◌, ◌⊎◌, inl, inr, refl, sym, subst, arith}
+use Rattle.std.proofs.Common.{◌≡◌, ℕ, ◌≤◌, ◌⊎◌, inl, inr, refl, sym, subst, arith, rules}
 use Rattle.zone_bytes.specs.Decode.{zone_in}
 use Rattle.zone_bytes.specs.Changes.{AtEach}
 use Rattle.zone_marks.specs.Marks.{AtMost, AreTold, Lowered, between}
@@ -8,10 +8,7 @@ use Rattle.zone_marks.proofs.marking.changed_mark.Goals as goal
 
 -- a stretch that is apart from what became others ends where it did
 same-end : (lo hi at next above : ℕ) → at ≤ next → (hi ≤ at) ⊎ (next ≤ lo) → Lowered lo hi next above → above ≡ next
-same-end lo hi at next above r e (inl w) = elim e [
-  | inl h ↦ absurd (omega (arith, r, h))
-  | inr l ↦ absurd (omega (arith, l))
-]
+same-end lo hi at next above r e (inl w) = grind arith
 same-end lo hi at next above r e (inr w) = w.0
 
 pub returns-then-hi-mark : goal.returns-then-hi-mark
@@ -25,27 +22,17 @@ returns-then-hi-mark c =
       | inr w ↦ inr w.1
     ] in
     let same = same-end lo hi at c.args.next c.args.above c.requires.rising apart c.requires.lowered in
-    let stays : Lowered lo hi at at = inr (
-      refl,
-      elim apart [
-        | inl h ↦ inr h
-        | inr l ↦ inl (omega (arith, l))
-      ],
-    ) in
+    let stays : Lowered lo hi at at = grind arith in
     record {
       at = stays;
       bound = λ old z e. bound-lowered _ _ _ _ z c.requires.ordered _ _ _ _ _
-          _ stays c.requires.lowered (omega arith) (λ a b. elim apart [
-            | inl h ↦ omega (arith, a, h)
-            | inr l ↦ absurd (omega (arith, b, l, same))
-          ]) e;
+          _ stays c.requires.lowered (omega arith) (grind arith) e;
       tally = λ old z t. subst (λ k. AreTold c.args.mark.now.tally (between at k 0 new)) (sym same)
           (alike-as _ _ _ (apart-alike _ _ _ _ z c.requires.ordered _ _ apart) t);
     }
 
 pub measured_mark-requires : goal.measured_mark-requires
-measured_mark-requires c =
-    begins-way _ _ _ c.requires.sound.2 _ (c.requires.begins c.lowered_mark-mark.result c.lowered_mark-mark.ensures)
+measured_mark-requires c = begins-way _ _ _ c.requires.sound.2 _ (grind arith)
 
 pub returns-in_default-clause-bound : goal.returns-in_default-clause-bound
 returns-in_default-clause-bound c = λ old z e.
@@ -60,5 +47,4 @@ returns-in_default-clause-tally c = λ old z e.
     (c.requires.begins c.lowered_mark-mark.result c.lowered_mark-mark.ensures) c.measured_mark.ensures.tally)
 
 pub returns-in-Nothing-clause-bound : goal.returns-in-Nothing-clause-bound
-returns-in-Nothing-clause-bound c = λ old z e. bound-lowered _ _ _ _ z c.requires.ordered _ _ _
-    _ _ _ c.lowered_mark-mark.ensures c.requires.lowered (omega arith) (λ _ _. omega arith) e
+returns-in-Nothing-clause-bound c = search (rules, bound-lowered)

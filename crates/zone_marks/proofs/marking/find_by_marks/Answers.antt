@@ -1,4 +1,4 @@
-use Rattle.std.proofs.Common.{◌≡◌, ◌+◌, ◌*◌, subst, arith}
+use Rattle.std.proofs.Common.{◌≡◌, ◌+◌, ◌*◌, subst, arith, rules}
 use Rattle.zone_bytes.specs.Decode.{zone_in}
 use Rattle.zone_marks.specs.Marks.{NoneBelow}
 use Rattle.zone_marks.specs.declared.landmark.TheConstants.{GROUP}
@@ -11,8 +11,7 @@ pub room_in_stretch-requires-clause-begins : goal.room_in_stretch-requires-claus
 room_in_stretch-requires-clause-begins c = begins-here 0 _
 
 pub room_in_stretch-requires-clause-below : goal.room_in_stretch-requires-clause-below
-room_in_stretch-requires-clause-below c =
-    let i = c.requires.sound in nothing-below c.args.part.now.bytes i.0 i.1 i.2 c.args.bytes
+room_in_stretch-requires-clause-below c = search (rules, nothing-below)
 
 pub loop-group-preserved : goal.loop-group-preserved
 loop-group-preserved c =
@@ -25,6 +24,4 @@ loop-group-preserved c =
     ]
 
 pub returns : goal.returns
-returns c =
-    none-found _ _ _ c.requires.sound.2 _ (none-past _ _ c.args.marks.now (GROUP * c.loop-group.group)
-    (omega arith) c.loop-group.invariant)
+returns c = none-found _ _ _ c.requires.sound.2 _ (grind (arith, none-past))

@@ -1,4 +1,4 @@
-use Rattle.std.proofs.Common.{◌+◌, length, length-set, refl, sym, ◌∙◌, arith}
+use Rattle.std.proofs.Common.{◌+◌, length, length-set, refl, sym, ◌∙◌, arith, rules}
 use Rattle.zone_bytes.specs.Decode.{zone_in}
 use Rattle.zone_marks.specs.Marks.{no_mark}
 use Rattle.zone_marks.specs.declared.landmark.Tallies.{Tallies}
@@ -9,15 +9,11 @@ use Rattle.zone_marks.proofs.Marks.Lowering.{marks-left, mark-first, equal-yes, 
 use Rattle.zone_marks.proofs.marking.lay_marks.Goals as goal
 
 pub loop-index-init : goal.loop-index-init
-loop-index-init c =
-    let l = c.requires.laid in
-    (refl, c.requires.groups, l.below, l.above, l.begins, l.last)
+loop-index-init c = grind arith
 
 pub returns-then-marks-index-clause-marks : goal.returns-then-marks-index-clause-marks
 returns-then-marks-index-clause-marks c =
-    let zone = zone_in c.args.part.now.bytes in
-    marks-whole _ _ _ _ _ (sym c.if-marks-index.true ∙ sym (mark-first _ _ c.loop-index.index no_mark
-    (omega arith))) c.loop-index.invariant.2 c.loop-index.invariant.3
+    marks-whole _ _ _ _ _ (grind (arith, mark-first)) c.loop-index.invariant.2 c.loop-index.invariant.3
 
 pub stretch_from-stretch-requires : goal.stretch_from-stretch-requires
 stretch_from-stretch-requires c =
@@ -39,11 +35,9 @@ loop-index-preserved c =
     let s = c.stretch_from-stretch in
     let told : Tallies = record { runs = tally.Known s.result.runs; spaces = c.spaces_told.result } in (
       length-set c.loop-index.marks c.loop-index.index _ ∙ n,
-      c.raise_group.ensures c.loop-index.marks (record { at = c.loop-index.at; most = s.result.most; tally = told })
-          (omega arith) v.1,
+      c.raise_group.ensures c.loop-index.marks _ (omega arith) v.1,
       marks-next _ _ _ _ _ (omega (arith, n)) v.2 b (bound-here _ _ _ i.2 _ _ _ b s.ensures.measured.most)
-          (tally-here _ _ _ i.2 _ _ _ b (told-both _ _ _ s.ensures.measured.runs c.spaces_told.ensures))
-          s.ensures.order,
+          (search (rules, tally-here, told-both)) s.ensures.order,
       marks-left 4294967295 (zone_in xs) c.loop-index.marks c.loop-index.index _ (omega (arith, n)) v.3,
       λ k. begins-further _ _ _ i.2 _ _ b (s.ensures.edge (equal-no _ _ (omega (arith, k, n)))),
       λ k. s.ensures.last (equal-yes (c.loop-index.index + 1) (length c.loop-index.marks) (omega (arith, k, n))),

@@ -1,10 +1,9 @@
+use Rattle.std.proofs.Common.{rules}
 use Rattle.zone_marks.proofs.Marks.Lowering.{begins-way, bound-here, tally-here}
 use Rattle.zone_marks.proofs.marking.packed_mark.Goals as goal
 
 pub measured_mark-requires : goal.measured_mark-requires
-measured_mark-requires c =
-    let i = c.requires.sound in
-    begins-way c.args.part.now.bytes i.0 i.1 i.2 c.args.at c.requires.begins
+measured_mark-requires c = search (rules, begins-way)
 
 pub returns-then-at-base-clause-bound : goal.returns-then-at-base-clause-bound
 returns-then-at-base-clause-bound c = bound-here _ _ _ c.requires.sound.2 _ _ _ c.requires.begins c.measured_mark.ensures.bound

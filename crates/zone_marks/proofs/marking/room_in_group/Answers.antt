@@ -10,8 +10,4 @@ pub room_in_stretch-requires-clause-begins : goal.room_in_stretch-requires-claus
 room_in_stretch-requires-clause-begins c = mark-begins _ _ _ _ _ (omega arith) c.requires.marks
 
 pub room_in_stretch-requires-clause-bound : goal.room_in_stretch-requires-clause-bound
-room_in_stretch-requires-clause-bound c = λ l.
-    let zone = zone_in c.args.part.now.bytes in
-    let m = get_or c.args.marks.now c.loop-index.index no_mark in
-    subst (λ n. AtEach (NoRoom c.args.bytes m.at n) 0 zone) (sym c.place_of_mark-to.ensures)
-    (stretch-room _ _ _ _ (omega arith) c.requires.marks l)
+room_in_stretch-requires-clause-bound c = grind (arith, get_or, stretch-room)

@@ -1,4 +1,4 @@
-use Rattle.std.proofs.Common.{◌≤◌, ◌<◌, ◌∙◌, ap, sym, arith}
+use Rattle.std.proofs.Common.{◌≤◌, ◌<◌, ◌∙◌, ap, sym, arith, rules}
 use Rattle.block_store.specs.Block.{free_of}
 use Rattle.zone_summary.specs.Stretches.{prefix}
 use Rattle.zone_summary.specs.declared.stretch.Counting.TheVariants.{Runs}
@@ -15,24 +15,19 @@ loop-at-init c = walked-start Runs _ _ (λ p b. (free_of b ≤ 0) × (p < c.with
 
 pub join-runs-requires : goal.join-runs-requires
 join-runs-requires c =
-    let s = c.span_at-span.ensures in
-    let f = walked-few _ _ _ _ (λ p b. (free_of b ≤ c.loop-at.most)
-    × (p < c.within-stop.result)) _ c.loop-at.invariant in
-    omega (arith, f, prefix-counted, ap prefix c.runs.ensures, free-size s.here)
+    let f = walked-few _ _ _ _ _ _ c.loop-at.invariant in
+    omega (arith, f, prefix-counted, ap prefix c.runs.ensures, free-size c.span_at-span.ensures.here)
 
 pub loop-at-preserved : goal.loop-at-preserved
 loop-at-preserved c =
     let m = c.greater-most.ensures in
     let s = c.span_at-span.ensures in
-    walked-step Runs _ _ _ (λ p b. (free_of b ≤ c.loop-at.most) × (p < c.within-stop.result)) _ c.loop-at.invariant
-    (λ p b. (free_of b ≤ c.greater-most.result)
-    × (p < c.within-stop.result)) (λ p b r. (omega (arith, m.first, r.0), r.1))
+    walked-step Runs _ _ _ _ _ c.loop-at.invariant _ (λ p b r. (omega (arith, m.first, r.0), r.1))
     _ s.here s.is s.up s.way (omega (arith, m.second, s.bytes), c.loop-at-test.true) _ _
     (c.runs.ensures ∙ one-spanned s.here _ _ s.bytes s.ends ∙ sym (join-unit_right _)) c.join-runs.ensures.is
 
 pub returns-clause-edge : goal.returns-clause-edge
-returns-clause-edge c = passed-begins _ _ (λ p b. (free_of b ≤ c.loop-at.most) × (p < c.within-stop.result)) _
-    c.loop-at.invariant.passed
+returns-clause-edge c = search (rules, passed-begins)
 
 pub returns-clause-order : goal.returns-clause-order
 returns-clause-order c = let p = c.loop-at.invariant.passed in omega (arith, p.up)
@@ -41,6 +36,4 @@ pub returns-clause-passed : goal.returns-clause-passed
 returns-clause-passed c = measured-edge _ _ _ _ _ _ c.loop-at.invariant _
 
 pub returns-clause-below : goal.returns-clause-below
-returns-clause-below c =
-    measured-below _ _ _ _ _ _ c.loop-at.invariant _ _ c.within-stop.ensures.least
-    (past _ _ _ _ _ c.within-stop.ensures.one c.len.ensures.count (omega arith))
+returns-clause-below c = search (rules, measured-below, past)

@@ -17,16 +17,8 @@ pub returns-then-bytes-span-clause-room : goal.returns-then-bytes-span-clause-ro
 returns-then-bytes-span-clause-room c = grind arith
 
 pub loop-at-preserved : goal.loop-at-preserved
-loop-at-preserved c =
-    let s = c.span_at-span.ensures in
-    passed-on _ _ _ _ (λ _ b. is_room c.args.bytes b ≡ false) (λ _ b. is_room c.args.bytes b ≡ false) (λ _ _ r. r)
-    c.loop-at.invariant s.here s.is s.up s.way (no-room _ s.here (omega arith) (λ p q. elim c.else-span-gt0.branch [
-      | else-span-gt0-via-then-span-gt0+else-bytes-span w ↦ omega (arith, s.bytes, q)
-      | else-span-gt0-via-else-span-gt0 w ↦ omega (arith, s.bytes, p)
-    ]))
+loop-at-preserved c = grind (arith, passed-on)
 
 pub returns-clause-none : goal.returns-clause-none
-returns-clause-none c =
-    passed-all _ _ (λ _ b. is_room c.args.bytes b ≡ false)
-    (λ _ b. is_room c.args.bytes b ≡ false) _ _ _ c.loop-at.invariant (λ _ b r. r)
-    (past _ _ _ _ _ c.within-stop.ensures.one c.len.ensures.count (omega arith))
+returns-clause-none c = passed-all _ _ (λ _ b. is_room c.args.bytes b ≡ false)
+    (λ _ b. is_room c.args.bytes b ≡ false) _ _ _ c.loop-at.invariant (λ _ b r. r) (grind arith)

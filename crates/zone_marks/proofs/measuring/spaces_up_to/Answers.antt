@@ -12,9 +12,7 @@ loop-at-init c = walked-start Spaces _ _ (λ p _. p < c.within-stop.result) c.re
 pub join-spaces-requires : goal.join-spaces-requires
 join-spaces-requires c =
     let s = c.step_at-step.ensures in
-    let g = ap prefix (c.space_of_seen.ensures s.here s.told (omega arith)) in
-    let f = walked-few _ _ _ _ (λ p _. p < c.within-stop.result) _ c.loop-at.invariant in
-    omega (arith, f, g, prefix-counted)
+    omega (arith, (walked-few _ _ _ _ (λ p _. p < c.within-stop.result) _ c.loop-at.invariant), (ap prefix (c.space_of_seen.ensures s.here s.told (omega arith))), prefix-counted)
 
 pub loop-at-preserved : goal.loop-at-preserved
 loop-at-preserved c =
@@ -24,7 +22,5 @@ loop-at-preserved c =
     (c.space_of_seen.ensures s.here s.told (omega arith) ∙ sym (join-unit_right _)) c.join-spaces.ensures.is
 
 pub returns : goal.returns
-returns c =
-    walked-below Spaces _ _ _ (λ p _. p < c.within-stop.result) _ c.loop-at.invariant c.args.place
-    (λ p _ r. omega (arith, r, c.within-stop.ensures.least))
-    (past _ _ _ _ _ c.within-stop.ensures.one c.len.ensures.count (omega arith))
+returns c = walked-below Spaces _ _ _ (λ p _. p < c.within-stop.result) _ c.loop-at.invariant c.args.place
+    (λ p _ r. omega (arith, r, c.within-stop.ensures.least)) (grind arith)

@@ -20,9 +20,4 @@ pub ends_run_at-requires-clause-inside : goal.ends_run_at-requires-clause-inside
 ends_run_at-requires-clause-inside c = grind (arith, next-header)
 
 pub returns : goal.returns
-returns c =
-    let xs = c.args.part.now.bytes in
-    let h = next-header c.args.at xs c.requires.way c.requires.some in
-    let r = c.read_word-first in
-    span-made _ _ c.requires.way c.requires.some (r.result - r.result % 16) (r.result % 16) (omega arith) (omega arith)
-    (omega (arith, r.ensures, h.tag)) _ c.free_by_tag.ensures _ c.ends_run_at.ensures
+returns c = grind (arith, next-header, span-made)

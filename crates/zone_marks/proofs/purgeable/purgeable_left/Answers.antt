@@ -10,8 +10,7 @@ pub walk_at-requires-clause-begins : goal.walk_at-requires-clause-begins
 walk_at-requires-clause-begins c = begins-here 0 _
 
 pub returns-then-frees_one : goal.returns-then-frees_one
-returns-then-frees_one c = λ k zone e f m.
-    omega (arith, c.purgeable_bytes_in.ensures ∙ ap purgeable_sum (c.walk_at.ensures.is ∙ left-zone _))
+returns-then-frees_one c = grind (arith, left-zone)
 
 pub returns-else-frees_one : goal.returns-else-frees_one
 returns-else-frees_one c = grind (arith, free-given)

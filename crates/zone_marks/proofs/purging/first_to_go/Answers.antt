@@ -1,4 +1,4 @@
-use Rattle.std.proofs.Common.{◌≡◌, ℕ, Bool, Option, Some, None, List, IfSome, ap, ◌∙◌, rules}
+use Rattle.std.proofs.Common.{◌≡◌, ℕ, Bool, Option, Some, None, List, IfSome, ap, ◌∙◌, rules, arith}
 use Rattle.block_store.specs.Block.{Block, tidy}
 use Rattle.block_store.specs.Find.{FindsLowest}
 use Rattle.block_store.specs.Sparing.{purged}
@@ -11,8 +11,4 @@ found test zone None f = tt
 found test zone (Some place) f = f
 
 pub returns-clause-lowest : goal.returns-clause-lowest
-returns-clause-lowest c =
-    let xs = c.args.part.now.bytes in
-    let is : purged 0 c.args.sparing (zone_in xs) ≡ zone_in xs =
-    ap tidy (c.frees_one.ensures (search rules) (zone_in xs)) ∙ c.requires.sound.2.tidied in
-    found _ (zone_in xs) _ (rw is at c.next_purgeable.ensures)
+returns-clause-lowest c = grind arith

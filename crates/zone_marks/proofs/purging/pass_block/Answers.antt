@@ -32,9 +32,7 @@ module _ (c : After-left_after) (p : Purge) (u : Purging p c.args.sparing c.args
   left =
       let h = c.read_header-header.result in
       let e = c.read_header-header.ensures in
-      sym (c.left_after.ensures there.here (sym (c.seen_of.ensures
-      ∙ (λ i. header_seen (tag_number h.tag) h.size (e.logical i) (e.slot i) (e.flags i))
-      ∙ there.told h.size (tag_number h.tag) e.first e.size (tag-small _))))
+      sym (c.left_after.ensures there.here (grind arith))
 
 pub free_up-requires : goal.free_up-requires
 free_up-requires c =
@@ -58,13 +56,11 @@ module _ (c : After-new_free) (p : Purge) (u : Purging p c.args.sparing c.args.p
       (c.args.pass.freed + c.new_free.result)
       c.free_up.new.part.bytes
   freed = freed-next p _ _ _ _ _ _ u (there early p u) _ (left early p u ∙ c.in-Some.is) _
-      c.free_up.ensures.lays _ end _
-      (c.new_free.ensures ∙ (λ i. let z = says early p u in cond (z.1 i == 0) 0 (z.0 i)))
+      c.free_up.ensures.lays _ end _ (grind (arith, says))
 
 pub overflow_add-result : goal.overflow_add-result
 overflow_add-result c =
-    let f = freed-fits _ _ _ _ _ _ _ (freed (goal.at.overflow_add-result c).After-new_free _ c.requires.pass.1) in
-    omega (arith, f)
+    omega (arith, (freed-fits _ _ _ _ _ _ _ (freed (goal.at.overflow_add-result c).After-new_free _ c.requires.pass.1)))
 
 pub returns-in-Some-clause-pass : goal.returns-in-Some-clause-pass
 returns-in-Some-clause-pass c = freed (goal.at.returns-in-Some-clause-pass c).After-new_free
@@ -80,9 +76,8 @@ overflow_add-end c =
     omega (arith, (says (goal.at.overflow_add-end c).After-left_after _ c.requires.pass.1).0)
 
 pub returns-in-None-clause-pass : goal.returns-in-None-clause-pass
-returns-in-None-clause-pass c = λ p u.
-    let d = (goal.at.returns-in-None-clause-pass c).After-left_after in
-    kept-next p _ _ _ _ _ _ u (there d p u) (left d p u ∙ c.in-None.is) _ (ap (λ k. c.args.pass.at + k) (says d p u).0)
+returns-in-None-clause-pass c = λ p u. let d = (goal.at.returns-in-None-clause-pass c).After-left_after in
+    kept-next p _ _ _ _ _ _ u (there d p u) (left d p u ∙ c.in-None.is) _ (grind (arith, says))
 
 pub returns-in-None-clause-further : goal.returns-in-None-clause-further
 returns-in-None-clause-further c =

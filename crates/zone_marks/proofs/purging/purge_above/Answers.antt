@@ -1,4 +1,4 @@
-use Rattle.std.proofs.Common.{◌≡◌, ◌<◌, ◌+◌, sym, ap, ◌∙◌, subst, arith}
+use Rattle.std.proofs.Common.{◌≡◌, ◌<◌, ◌+◌, sym, ap, ◌∙◌, subst, arith, rules}
 use Rattle.heap_words.specs.Headers.{tag_number}
 use Rattle.block_store.specs.Block.{size}
 use Rattle.zone_bytes.specs.Joining.{Freeing}
@@ -27,22 +27,10 @@ overflow_add-end c =
 begins : (c : After-without_freed) (f : Freeing) → MayPurge f c.args.place c.args.part.now.bytes
     → Purging (purge_above c.if-eq.start f c.args.purges c.args.sparing) c.without_freed.result c.if-eq.start
     (c.args.place + c.read_header-header.result.size) c.args.purges 0 c.args.part.now.bytes
-begins c f m =
-    let z = says (goal.at.purge_from-requires c).After-read_header-header f m in
-    let w = c.without_freed.ensures in
-    let t = ap (λ n. c.args.place + n) z.0 in
-    elim c.if-eq.branch [
-      | then-eq s ↦ rw s.start-is (above-free _ _ _ m _ _ _ w.same w.none _ t (sym z.1 ∙ free-true _ s.if-eq.ensures))
-      | else-eq s ↦ rw s.start-is (above-other _ _ _ m _ _ _ w.same w.none _ t
-          (subst (λ t. 0 < t) z.1 (free-false _ s.if-eq.ensures)))
-    ]
+begins c f m = grind (arith, says, then-eq, above-free, free-true, else-eq, above-other)
 
 pub purge_from-requires : goal.purge_from-requires
-purge_from-requires c = (
-  purge_above c.if-eq.start c.requires.0 c.args.purges c.args.sparing,
-  begins (goal.at.purge_from-requires c).After-without_freed _ c.requires.1,
-)
+purge_from-requires c = search (rules, begins)
 
 pub returns-clause-purged : goal.returns-clause-purged
-returns-clause-purged c = λ f m. rw c.purge_from.ensures.from
-    (c.purge_from.ensures.purged _ (begins (goal.at.returns-clause-purged c).After-without_freed f m))
+returns-clause-purged c = λ f m. rw c.purge_from.ensures.from (c.purge_from.ensures.purged _ (grind (arith, begins)))

@@ -19,4 +19,4 @@ overflow_add-place c =
 pub note-requires-clause-marks : goal.note-requires-clause-marks
 note-requires-clause-marks c =
     let b = c.requires.marks.1 in
-    let s = c.size_at-size.ensures b.there b.above (became-left _ _ _ c.requires.sound.2 _ _ b) in (search (rules, became-replaced))
+    let s = c.size_at-size.ensures b.there b.above (became-left _ _ _ c.requires.sound.2 _ _ b) in search (rules, became-replaced)

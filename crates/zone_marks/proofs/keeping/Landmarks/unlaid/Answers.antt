@@ -24,10 +24,8 @@ returns c =
     let f : marks ≡ replicate (count * 16) blank = c.in_ok-marks.ensures.items_if_clones_equal (λ y e. e) in
     let g : groups ≡ replicate count none = c.in_ok-groups.ensures.items_if_clones_equal (λ y e. e) in (
       (
-        subst (AreMarks 4294967295 (zone_in xs)) (sym f) (unlaid-marks _ (omega (arith, sizes-length))
-            _),
-        subst (AreGroups groups) (sym f) (subst (λ t. AreGroups t (replicate (count * 16) blank)) (sym g)
-            (same-groups _ _ _ (omega arith))),
+        subst (AreMarks 4294967295 (zone_in xs)) (sym f) (unlaid-marks _ (omega (arith, sizes-length)) _),
+        subst (AreGroups groups) (sym f) (grind (arith, same-groups)),
       ),
       stays-above 0 0 (zone_in xs) (omega arith),
     )
