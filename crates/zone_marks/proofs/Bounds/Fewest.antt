@@ -40,12 +40,12 @@ count-below xs first unused i from edge run n low rest b under none less is at =
     let sp = spared n in
     let e = seen-from xs first unused i edge b in
     let past = count-past sp (opened n e.below) (opened n (left_in edge xs)) run
-    (omega (arith, sizes-opened n e.below, less)) in
-    let all = count-past sp (opened n low) (opened n rest) run (omega (arith, sizes-opened n low, at)) in
+    (omega (arith, sizes-opened n e.below)) in
+    let all = count-past sp (opened n low) (opened n rest) run (omega (arith, sizes-opened n low)) in
     let none_below = count-none n _ 0 _
-    (at-left (Stays from) 0 e.below (left_in edge xs) (subst (NoneGoes from) e.is none)) (omega (arith, under)) in
+    (at-left (Stays from) 0 e.below (left_in edge xs) (subst (NoneGoes from) e.is none)) (omega arith) in
     let p : run - edge ≡ run - sizes (opened n e.below) = omega (arith, sizes-opened n e.below) in
-    let z : run - sizes (opened n low) ≡ 0 = omega (arith, sizes-opened n low, at) in
+    let z : run - sizes (opened n low) ≡ 0 = omega (arith, sizes-opened n low) in
     omega (
       arith,
       past,
@@ -80,7 +80,7 @@ module _ (w : Counting) (xs : List ℕ) (from to : ℕ) (runs : Stretch) (s : Is
   known-past = grind (arith, stretch_by-append)
 
   pub known-fits : from + load runs ≤ to
-  known-fits = omega (arith, s.1.up, load-counted w s.0, ap load s.2)
+  known-fits = omega (arith, load-counted w s.0, ap load s.2)
 
 -- the run at the lower end, once it has ended
 pub ended-lowest : (s t : Stretch) → is_ended s ≡ true → prefix s ≡ prefix (join s t)

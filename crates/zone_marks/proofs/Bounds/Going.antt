@@ -38,21 +38,21 @@ use Rattle.zone_bytes.proofs.Tiles.Tiling.{span-append}
 -- a lower place
 pub stays-lower : (bound lower x : ℕ) (blocks : List Block) → lower ≤ bound → AtEach (Stays bound) x blocks
     → AtEach (Stays lower) x blocks
-stays-lower bound lower x blocks l = at-map (Stays bound) (Stays lower) x _ (λ p b _ _ s q. s (omega (arith, l, q)))
+stays-lower bound lower x blocks l = at-map (Stays bound) (Stays lower) x _ (λ p b _ _ s q. s (omega arith))
 
 -- blocks at or above it
 pub stays-above : (bound x : ℕ) (blocks : List Block) → bound ≤ x → AtEach (Stays bound) x blocks
-stays-above bound x blocks l = at-all (Stays bound) x _ (λ p b m q. absurd (omega (arith, l, m, q)))
+stays-above bound x blocks l = at-all (Stays bound) x _ (λ p b m q. absurd (omega arith))
 
 -- a block that ends below the place
 pub stays-here : (bound x : ℕ) (b : Block) → Stays bound x b → x + size b ≤ bound → is_purgeable b ≡ false
-stays-here bound x (Relocatable id flags content) s l = s (omega (arith, l))
+stays-here bound x (Relocatable id flags content) s l = s (omega arith)
 stays-here bound x _ s l = refl
 
 -- blocks that end below it
 pub stays-whole : (bound other x : ℕ) (blocks : List Block) → x + sizes blocks ≤ bound → AtEach (Stays bound) x blocks
     → AtEach (Stays other) x blocks
-stays-whole bound other x blocks l = grind (arith, at-map, stays-here)
+stays-whole bound other x blocks l = grind (arith, at-map)
 
 -- a block became one of as many bytes, which may be purged if it might
 pub stays-same : (bound x : ℕ) (below above : List Block) (b c : Block) → size c ≡ size b → is_purgeable c ≡ is_purgeable b
@@ -66,7 +66,7 @@ module _ (lo hi : ℕ) (old new : List Block) (r : Replaced lo hi old new) (boun
   old-parts = subst (NoneGoes bound) r.was n
 
   pub stays-replaced : (lower : ℕ) → lower ≤ bound → AtEach (Stays lower) lo r.there → NoneGoes lower new
-  stays-replaced lower l there = grind (arith, at-right, old-parts, at-append, stays-lower, at-left)
+  stays-replaced lower l there = grind (arith, at-right, at-append, stays-lower, at-left)
 
   -- above it
   pub stays-under : (lower : ℕ) → lower ≤ bound → lower ≤ lo → NoneGoes lower new
@@ -77,11 +77,11 @@ pub stays-packed : (bound free x y used : ℕ) (run : List Block) → Loose run 
     → used + free_sum run ≤ free → AtEach (Stays bound) x run → AtEach (Stays (bound - free)) y (movers run)
 stays-packed bound free x y used [] l e f s = tt
 stays-packed bound free x y used (Free n ∷ run) l e f s =
-    stays-packed bound free (x + n) y (used + n) run l.1 (omega (arith, e)) (omega (arith, f)) s.1
+    stays-packed bound free (x + n) y (used + n) run l.1 (omega arith) (omega arith) s.1
 stays-packed bound free x y used (Nonrelocatable id content ∷ run) l e f s = absurd (let z : false ≡ true = l.0 in cc)
 stays-packed bound free x y used (Masters ∷ run) l e f s = absurd (let z : false ≡ true = l.0 in cc)
 stays-packed bound free x y used (Relocatable id flags content ∷ run) l e f s = cases (is_mover b) l.0
-    (λ q. s.0 (omega (arith, e, f, q))) (stays-packed _ _ _ _ used run l.1 (omega (arith, e)) (omega (arith, f)) s.1)
+    (λ q. s.0 (omega arith)) (stays-packed _ _ _ _ used run l.1 (omega arith) (omega arith) s.1)
   where
     b : Block
     b = Relocatable id flags content
@@ -143,7 +143,7 @@ goes-not b e = grind arith
 module _ (xs : List ℕ) (from at : ℕ) (p : Passed xs from at (λ _ b. is_purgeable b ≡ false)) where
   pub passed-stays : (block : Seen) (end : ℕ) (s : Steps at block end xs)
       → may_be_purged (spared sparing.Nothing) s.here ≡ false → Passed xs from end (λ _ b. is_purgeable b ≡ false)
-  passed-stays block end s e = grind (arith, passed-on, goes-not)
+  passed-stays block end s e = grind (arith, passed-on)
 
   pub all-stay : AtEach (Stays at) from (left_in from xs)
   all-stay = grind (arith, at-append, at-map, stays-above)
@@ -157,7 +157,7 @@ next-above : (n : Sparing) (k bound x : ℕ) (below above : List Block) → AtEa
     → next_from x (spared n) k (below ++ above) ≡ next_from (x + sizes below) (spared n) k above
 next-above n k bound x [] above s l = let e : x ≡ x + 0 = omega arith in ap (λ y. next_from y (spared n) k above) e
 next-above n k bound x (b ∷ below) above s l = next-stays x (spared n) k b _ (search rules)
-    ∙ next-above n k _ (x + size b) below above s.1 (omega (arith, l)) ∙ (grind arith)
+    ∙ next-above n k _ (x + size b) below above s.1 (omega arith) ∙ (grind arith)
 
 -- a block that may not be purged may not be as a search sees it first
 opened-stays : (n : Sparing) (b : Block) → is_purgeable b ≡ false → may_be_purged (spared n) (opened_block n b) ≡ false
@@ -171,8 +171,8 @@ pub count-none : (n : Sparing) (bound x : ℕ) (below : List Block) → AtEach (
     → count_of (spared n) (opened n below) ≡ 0
 count-none n bound x [] s l = ap (count_of (spared n)) (opened-none n)
 count-none n bound x (b ∷ below) s l =
-    let t = ap (λ t. cond {A = ℕ} t 1 0) (opened-stays n b (stays-here bound x b s.0 (omega (arith, l)))) in
-    let r = count-none n bound (x + size b) below s.1 (omega (arith, l)) in
+    let t = ap (λ t. cond {A = ℕ} t 1 0) (opened-stays n b (stays-here bound x b s.0 (omega arith))) in
+    let r = count-none n bound (x + size b) below s.1 (omega arith) in
     omega (arith, ap (count_of (spared n)) (opened-more n b below), t, r)
 
 -- what a walk from an edge of a zone finds
@@ -216,7 +216,7 @@ module _ (xs : List ℕ) (first unused : ℕ) (i : IsSound xs first unused) (fro
         ∙ ap (λ z. next_from from (spared n) k z) (sym (plain (left_in from xs))) ∙ sym (grind (arith, place-tidy))
 
     pub next-none : FindsLowest goes (purged k n (left_in from xs)) None → FindsLowest goes (purged k n (zone_in xs)) None
-    next-none f = grind (arith, finds, apart-tidy, next-is-there)
+    next-none f = grind (arith, next-is-there)
 
     pub next-some : (place : ℕ) → FindsLowest goes (purged k n (left_in from xs)) (Some place)
         → FindsLowest goes (purged k n (zone_in xs)) (Some (from + place))

@@ -31,24 +31,24 @@ spares = spared sparing.Nothing
 
 -- no room for so many bytes is none for more
 room-more : (p q : ℕ) (b : Block) → p ≤ q → is_room p b ≡ false → is_room q b ≡ false
-room-more p q (Free n) l e = grind (arith, l, e)
+room-more p q (Free n) l e = grind arith
 room-more p q _ l e = refl
 
 room-less : (m : ℕ) (b : Block) → is_room (m + 1) b ≡ false → free_of b ≤ m
-room-less m (Free n) e = grind (arith, e)
+room-less m (Free n) e = grind arith
 room-less m _ e = omega arith
 
 pub no-more-room : (p q lo hi x : ℕ) (blocks : List Block) → p ≤ q → AtEach (NoRoom p lo hi) x blocks
     → AtEach (NoRoom q lo hi) x blocks
-no-more-room p q lo hi x blocks l = grind (arith, at-map, room-more)
+no-more-room p q lo hi x blocks l = grind (arith, at-map)
 
 -- where no room is for more, none is larger
 largest-within : (m hi x : ℕ) (blocks : List Block) → x + sizes blocks < hi → AtEach (NoRoom (m + 1) 0 hi) x blocks
     → largest_free blocks ≤ m
 largest-within m hi x [] l e = omega arith
 largest-within m hi x (b ∷ blocks) l e =
-    let r = largest-within m hi (x + size b) blocks (omega (arith, l)) e.1 in
-    omega (arith, room-less m b (e.0 (omega arith) (omega (arith, l))), r)
+    let r = largest-within m hi (x + size b) blocks (omega arith) e.1 in
+    omega (arith, room-less m b (e.0 (omega arith) (omega arith)), r)
 
 -- the largest of some blocks and others above them
 largest-append : (below above : List Block)
@@ -69,7 +69,7 @@ module _ (xs : List ℕ) (from most : ℕ) where
   pub growing-step : (at end free largest next : ℕ) (barrier : Bool) → Growing xs from at most largest
       → Spans at end free barrier xs → largest ≤ next → free ≤ next → (next ≡ largest) ⊎ (next ≡ free)
       → Growing xs from end most next
-  growing-step at end free largest next barrier g s l m o = grind (arith, passed-on, room-more, no-room)
+  growing-step at end free largest next barrier g s l m o = grind (arith, passed-on)
 
 module _ (xs : List ℕ) (first unused : ℕ) (i : IsSound xs first unused) where
   pub zone-largest : (m : ℕ) → AtEach (NoRoom (m + 1) 0 4294967295) 0 (zone_in xs) → m ≤ largest_free (zone_in xs)
@@ -84,7 +84,7 @@ purged-above : (k bound x : ℕ) (below above : List Block) → AtEach (Stays bo
     → lowest_purged k spares (below ++ above) ≡ below ++ lowest_purged k spares above
 purged-above k bound x [] above s l = refl
 purged-above k bound x (b ∷ below) above s l = lowest_purged-stays k spares b _ (grind arith)
-    ∙ ap (λ q. b ∷ q) (purged-above k _ (x + size b) below above s.1 (omega (arith, l)))
+    ∙ ap (λ q. b ∷ q) (purged-above k _ (x + size b) below above s.1 (omega arith))
 
 -- where nothing would be given, nothing is purged
 none-given : (sp : Block → Bool) (b : Block) → purgeable_of b ≤ 0 → may_be_purged sp b ≡ false
@@ -92,9 +92,8 @@ none-given sp b l = grind arith
 
 none-purged : (k : ℕ) (sp : Block → Bool) (bs : List Block) → purgeable_sum bs ≤ 0 → lowest_purged k sp bs ≡ bs
 none-purged k sp [] l = lowest_purged-none k sp
-none-purged k sp (b ∷ bs) l =
-    lowest_purged-stays k sp b bs (none-given sp b (omega (arith, l)))
-    ∙ ap (λ q. b ∷ q) (none-purged k sp bs (omega (arith, l)))
+none-purged k sp (b ∷ bs) l = lowest_purged-stays k sp b bs (none-given sp b (omega arith))
+    ∙ ap (λ q. b ∷ q) (none-purged k sp bs (omega arith))
 
 pub stands-still : (k : ℕ) (zone : List Block) → tidy zone ≡ zone → purgeable_sum zone ≤ 0
     → purged k sparing.Nothing zone ≡ zone
@@ -103,15 +102,15 @@ stands-still k zone t l = ap tidy (none-purged k spares _ l) ∙ t
 -- the largest stretch of Free blocks, by purges
 stretch-rises : (f g : ℕ) (bs : List Block) → f ≤ g → largest_stretch f bs ≤ largest_stretch g bs
 stretch-rises f g [] l = l
-stretch-rises f g (Free n ∷ bs) l = stretch-rises (f + n) _ bs (omega (arith, l))
-stretch-rises f g _ l = omega (arith, l)
+stretch-rises f g (Free n ∷ bs) l = stretch-rises (f + n) _ bs (omega arith)
+stretch-rises f g _ l = omega arith
 
 stretch-above : (f : ℕ) (below above : List Block) → largest_stretch 0 above ≤ largest_stretch f (below ++ above)
 stretch-above f [] above = stretch-rises 0 f above (omega arith)
 stretch-above f (Free n ∷ below) above = stretch-above _ below above
-stretch-above f (Nonrelocatable id content ∷ below) above = let r = stretch-above 0 below above in omega (arith, r)
-stretch-above f (Masters ∷ below) above = let r = stretch-above 0 below above in omega (arith, r)
-stretch-above f (Relocatable id flags content ∷ below) above = let r = stretch-above 0 below above in omega (arith, r)
+stretch-above f (Nonrelocatable id content ∷ below) above = let r = stretch-above 0 below above in omega arith
+stretch-above f (Masters ∷ below) above = let r = stretch-above 0 below above in omega arith
+stretch-above f (Relocatable id flags content ∷ below) above = let r = stretch-above 0 below above in omega arith
 
 purged-rises : (f k : ℕ) (sp : Block → Bool) (bs : List Block)
     → max f (largest_free bs) ≤ largest_stretch f (lowest_purged k sp bs)
@@ -120,11 +119,11 @@ purged-rises f k sp (Free n ∷ bs) =
     omega (arith, purged-rises (f + n) k sp bs, ap (largest_stretch f) (lowest_purged-stays k sp (Free n) bs refl))
 purged-rises f k sp (Nonrelocatable id content ∷ bs) =
     let e = ap (largest_stretch f) (lowest_purged-stays k sp (Nonrelocatable id content) bs refl) in
-    omega (arith, purged-rises 0 k sp bs, e)
+    omega (arith, purged-rises 0 k sp bs)
 purged-rises f k sp (Masters ∷ bs) =
     let e = ap (largest_stretch f) (lowest_purged-stays k sp Masters bs refl) in
-    omega (arith, purged-rises 0 k sp bs, e)
-purged-rises f zero sp (Relocatable id flags content ∷ bs) = let r = purged-rises 0 0 sp bs in omega (arith, r)
+    omega (arith, purged-rises 0 k sp bs)
+purged-rises f zero sp (Relocatable id flags content ∷ bs) = let r = purged-rises 0 0 sp bs in omega arith
 purged-rises f (suc k) sp (Relocatable id flags content ∷ bs) =
     cases (may_be_purged sp b) (purged-rises (f + size b) k sp bs) (purged-rises 0 (suc k) sp bs)
   where
@@ -134,8 +133,8 @@ purged-rises f (suc k) sp (Relocatable id flags content ∷ bs) =
     cases : (t : Bool) → max (f + size b) (largest_free bs) ≤ largest_stretch (f + size b) (lowest_purged k sp bs)
         → max 0 (largest_free bs) ≤ largest_stretch 0 (lowest_purged (suc k) sp bs) → max f (max 0 (largest_free bs))
         ≤ largest_stretch f (cond t (Free (size b) ∷ lowest_purged k sp bs) (b ∷ lowest_purged (suc k) sp bs))
-    cases true e g = omega (arith, e)
-    cases false e g = omega (arith, g)
+    cases true e g = omega arith
+    cases false e g = omega arith
 
 -- two lists end, or begin with one and the same block
 abbrev SameFirst : List Block → List Block → Type 0
@@ -149,36 +148,36 @@ stretch-ends : (f : ℕ) (old new : List Block) → Apart old → (f ≡ 0) ⊎ 
     → largest_stretch f new ≤ max f (largest_stretch 0 new)
 stretch-ends f [] [] a e s = omega arith
 stretch-ends f (b ∷ old) (c ∷ new) a (inl e) s = omega (arith, ap (λ g. largest_stretch g (c ∷ new)) e)
-stretch-ends f (b ∷ old) (Free n ∷ new) a (inr e) s = grind (arith, apart-size, top_free)
+stretch-ends f (b ∷ old) (Free n ∷ new) a (inr e) s = grind (arith, apart-size)
 stretch-ends f (b ∷ old) (Nonrelocatable id content ∷ new) a (inr e) s = omega arith
 stretch-ends f (b ∷ old) (Masters ∷ new) a (inr e) s = omega arith
 stretch-ends f (b ∷ old) (Relocatable id flags content ∷ new) a (inr e) s = omega arith
 stretch-ends f _ _ a e s = absurd s
 
 top-apart : (n : ℕ) (bs : List Block) → add (Free n) bs ≡ Free n ∷ bs → top_free bs ≡ 0
-top-apart zero (Free m ∷ bs) e = absurd (let z : 0 < 0 = apart-size _ _ e in omega (arith, z))
+top-apart zero (Free m ∷ bs) e = absurd (let z : 0 < 0 = apart-size _ _ e in omega arith)
 top-apart (suc n) (Free m ∷ bs) e = absurd (two _ _ _ _ e)
 top-apart n _ e = refl
 
 stretch-parts : (f : ℕ) (below old new : List Block) → Apart (below ++ old) → (f ≡ 0) ⊎ (top_free (below ++ old) ≡ 0)
     → SameFirst old new → largest_stretch f (below ++ new) ≤ max (max f (largest_free below)) (largest_stretch 0 new)
-stretch-parts f [] old new a e s = let r = stretch-ends f _ _ a e s in omega (arith, r)
+stretch-parts f [] old new a e s = let r = stretch-ends f _ _ a e s in omega arith
 stretch-parts f (Free n ∷ below) old new a (inl e) s =
-    let r = stretch-parts (f + n) below old new a.1 (inr (top-apart n (below ++ old) a.0)) s in omega (arith, r, e)
+    let r = stretch-parts (f + n) below old new a.1 (inr (top-apart n (below ++ old) a.0)) s in omega arith
 stretch-parts f (Free n ∷ below) old new a (inr e) s = omega (arith, apart-size)
 stretch-parts f (Nonrelocatable id content ∷ below) old new a e s =
-    let r = stretch-parts 0 below old new a.1 (inl refl) s in omega (arith, r)
+    let r = stretch-parts 0 below old new a.1 (inl refl) s in omega arith
 stretch-parts f (Masters ∷ below) old new a e s =
-    let r = stretch-parts 0 below old new a.1 (inl refl) s in omega (arith, r)
+    let r = stretch-parts 0 below old new a.1 (inl refl) s in omega arith
 stretch-parts f (Relocatable id flags content ∷ below) old new a e s =
-    let r = stretch-parts 0 below old new a.1 (inl refl) s in omega (arith, r)
+    let r = stretch-parts 0 below old new a.1 (inl refl) s in omega arith
 
 -- where the first block stays, the lists begin alike
 same-first : (k bound x : ℕ) (bs : List Block) → x < bound → AtEach (Stays bound) x bs
     → SameFirst bs (lowest_purged k spares bs)
 same-first zero bound x [] l s = tt
 same-first (suc k) bound x [] l s = tt
-same-first k bound x (b ∷ bs) l s = grind (arith, lowest_purged-stays, none-passes)
+same-first k bound x (b ∷ bs) l s = grind (arith, lowest_purged-stays)
 
 -- the largest Free block from a place on, and of the zone as it stands, after purges from there on
 module _ (xs : List ℕ) (first unused : ℕ) (i : IsSound xs first unused) (k from : ℕ) (m : MayStart from (zone_in xs)) where
@@ -196,10 +195,10 @@ module _ (xs : List ℕ) (first unused : ℕ) (i : IsSound xs first unused) (k f
       let rest = left_in from xs in
       let stays = subst (NoneGoes m.bound) s.is m.none in
       let e = after-is _ ∙ ap (λ z. largest_stretch 0 (lowest_purged k spares z)) s.is
-      ∙ ap (largest_stretch 0) (purged-above k _ 0 _ _ (at-left (Stays m.bound) 0 _ rest stays) (omega (arith, l))) in
+      ∙ ap (largest_stretch 0) (purged-above k _ 0 _ _ (at-left (Stays m.bound) 0 _ rest stays) (omega arith)) in
       let up = stretch-parts 0 s.below rest (lowest_purged k spares rest)
       (subst Apart s.is (apart-tidied (zone_in xs) i.tidied)) (inl refl) (grind (arith, same-first, at-right)) in
-      omega (arith, e, up, stretch-above, after-is, largest-append, ap largest_free s.is, rises)
+      omega (arith, stretch-above, after-is, largest-append, ap largest_free s.is, rises)
 
   pub largest-from : largest_free (purged k sparing.Nothing (zone_in xs))
       ≡ max (largest_free (zone_in xs)) (largest_free (purged k sparing.Nothing (left_in from xs)))

@@ -55,9 +55,9 @@ sum-free (suc n) = omega arith
 
 -- the bytes that become Free with a block
 more-free : (b : Block) (m : ℕ) → m ≡ cond (kind b == 0) 0 (size b) → free_of b + m ≡ size b
-more-free (Free n) m e = let f : m ≡ 0 = e in omega (arith, f)
-more-free (Nonrelocatable id content) m e = let f : m ≡ size (Nonrelocatable id content) = e in omega (arith, f)
-more-free Masters m e = let f : m ≡ 272 = e in omega (arith, f)
+more-free (Free n) m e = let f : m ≡ 0 = e in omega arith
+more-free (Nonrelocatable id content) m e = let f : m ≡ size (Nonrelocatable id content) = e in omega arith
+more-free Masters m e = let f : m ≡ 272 = e in omega arith
 more-free (Relocatable slot flags content) m e = grind arith
 
 module _ (p : Purge) (n : Sparing) (start at k freed : ℕ) (xs : List ℕ) (u : Purging p n start at k freed xs) where
@@ -90,7 +90,7 @@ module _ (p : Purge) (n : Sparing) (start at k freed : ℕ) (xs : List ℕ) (u :
 
   -- no purges are left, and no block counts as Free
   pub stopped : k ≡ 0 → at ≤ start → ((blocks : List Block) → opened n blocks ≡ blocks) → Purged p at freed xs
-  stopped z l none = grind (arith, closed-apart, apart-tidied, left, tidy-apart, replaced-as)
+  stopped z l none = grind (arith, closed-apart, apart-tidied, tidy-apart, replaced-as)
 
   -- the next block
   pub record Next : Type 0 where
@@ -123,10 +123,10 @@ module _ (p : Purge) (n : Sparing) (start at k freed : ℕ) (xs : List ℕ) (u :
   purged l = of u.rest refl
     where
       of : (rest : List Block) → u.rest ≡ rest → Purged p at freed xs
-      of [] e = grind (arith, opened-none, lowest_purged-none, append-nil, closed-free, replaced-as)
+      of [] e = grind (arith, lowest_purged-none, closed-free, replaced-as)
       of (b ∷ above) e =
           let r = read xs (u.done ++ gap) b above p.slots p.unused (subst (λ q. Lays xs ((u.done ++ gap) ++ q) p.slots p.unused) e here-laid) at here-low in
-          absurd (omega (arith, l))
+          absurd (omega arith)
 
   module _ (v : Next) where
     apart-above : tidy v.above ≡ v.above
@@ -136,7 +136,7 @@ module _ (p : Purge) (n : Sparing) (start at k freed : ℕ) (xs : List ℕ) (u :
     zone-next = grind (arith, append_assoc)
 
     span-next : (stop : ℕ) → stop ≡ at + size v.here → p.from + sizes (u.was ++ v.here ∷ []) ≡ stop
-    span-next stop t = omega (arith, span-append, t)
+    span-next stop t = omega (arith, span-append)
 
     will-next : tidy (u.done ++ (gap ++ lowest_purged k (spared n) (opened_block n v.here ∷ opened n v.above)))
         ≡ tidy p.goal
@@ -162,14 +162,14 @@ module _ (p : Purge) (n : Sparing) (start at k freed : ℕ) (xs : List ℕ) (u :
             lays = subst (λ q. Lays new (u.done ++ (free (q - start) ++ v.above)) p.slots p.unused) (sym t)
                 (made freeing may-free);
             low = u.low;
-            up = omega (arith, t);
+            up = omega arith;
             tidied = u.tidied;
             closed = u.closed;
-            will = ap (λ q. tidy (u.done ++ (free q ++ after))) (sym (omega (arith, t)))
+            will = ap (λ q. tidy (u.done ++ (free q ++ after))) (sym (omega arith))
                 ∙ sym (joined-below u.done (at - start) (size v.here) after)
                 ∙ ap (λ q. tidy (u.done ++ (gap ++ Free q ∷ after))) (sym (size-opened n v.here))
                 ∙ ap (λ q. tidy (u.done ++ (gap ++ q))) (sym (lowest_purged-free (spared n) k m _ _ e)) ∙ will-next;
-            count = grind (arith, more-free, total-append, sum-free);
+            count = grind (arith, total-append);
             apart = apart-above;
             below = u.below;
             was = u.was ++ v.here ∷ [];
@@ -202,7 +202,7 @@ module _ (p : Purge) (n : Sparing) (start at k freed : ℕ) (xs : List ℕ) (u :
         done = more;
         rest = v.above;
         lays = subst (λ q. Lays xs q p.slots p.unused) (ap (λ q. u.done ++ (gap ++ q)) v.is ∙ regrouped v.above) u.lays;
-        low = omega (arith, span-append, span-free, t);
+        low = omega (arith, span-append, span-free);
         up = omega arith;
         tidied = closed-now.0;
         closed = closed-now.1;

@@ -39,7 +39,7 @@ starts : (p : Purge) (n : Sparing) (start at k : ℕ) (xs : List ℕ) (done rest
     → sizes done ≡ start → p.from ≡ start → start ≤ at → Closed done → Purging p n start at k 0 xs
 starts p n start at k xs done rest lays tidied had is will low from up closed =
     let a = subst Apart is (apart-tidied p.zone tidied) in
-    grind (arith, is, low, tidy-apart, apart-front, apart-above, append-nil)
+    grind (arith, tidy-apart, apart-front, apart-above, append-nil)
 
 -- above a block
 module _ (f : Freeing) (place : ℕ) (xs : List ℕ) (m : MayPurge f place xs) where
@@ -59,7 +59,7 @@ module _ (f : Freeing) (place : ℕ) (xs : List ℕ) (m : MayPurge f place xs) w
         let regrouped : (above : List Block) → f.below ++ f.here ∷ above ≡ front ++ (free (stop - stop) ++ above) =
         λ above. sym (append_assoc f.below (f.here ∷ []) above) ∙ (grind arith) in
         starts _ now _ _ _ _ front f.above m.lays m.tidied refl (regrouped f.above) (grind arith)
-        (omega (arith, span-append, t, m.low)) refl (omega arith) (closed-more f.below f.here (not_free-is f.here k))
+        (omega (arith, span-append)) refl (omega arith) (closed-more f.below f.here (not_free-is f.here k))
 
     -- a Free one
     pub above-free : kind f.here ≡ 0 → Purging (purge_above place f purges n) now place stop purges 0 xs
@@ -70,7 +70,7 @@ module _ (f : Freeing) (place : ℕ) (xs : List ℕ) (m : MayPurge f place xs) w
         let regrouped : (above : List Block) → f.below ++ f.here ∷ above ≡ f.below ++ (free (stop - place) ++ above) =
         λ above. ap (λ q. f.below ++ (q ++ above)) (sym one) in
         starts _ now _ _ _ _ f.below f.above m.lays m.tidied refl (regrouped f.above) (grind arith)
-        m.low refl (omega (arith, t)) (grind (arith, closed-under, Apart, apart-tidied))
+        m.low refl (omega arith) (grind (arith, closed-under, apart-tidied))
 
 -- a block that goes is no Masters block
 goes-plain : (sp : Block → Bool) (b : Block) → may_be_purged sp b ≡ true → is_masters b ≡ false
@@ -111,7 +111,7 @@ module _ (xs : List ℕ) (first number : ℕ) (i : IsSound xs first number) (pur
     going-is = spot-is (may_be_purged (spared n)) (zone_in xs) s e
 
     pub may-go : MayRelease going place xs
-    may-go = grind (arith, going-is, low, goes-plain, spot-passes)
+    may-go = grind (arith, going-is, spot-passes)
 
     module _ (start : ℕ) (found : (below above : List Block) → left_in 0 xs ≡ below ++ above → sizes below ≡ place
         → start + last_free 0 below ≡ place) where
@@ -136,7 +136,7 @@ module _ (xs : List ℕ) (first number : ℕ) (i : IsSound xs first number) (pur
           ∙ ap tidy (sym (regrouped _)) ∙ ap tidy (sym (lowest_purged-spot _ (spared n) _ s e))
           ∙ ap (λ q. tidy (lowest_purged purges (spared n) q)) (sym (none (zone_in xs))))
           (lower-low going place xs may-go start found) refl
-          (let f = found s.below here (left-zone xs ∙ going-is) low in omega (arith, f)) under.closed
+          (let f = found s.below here (left-zone xs ∙ going-is) low in omega arith) under.closed
 
   pub purge-gained : (from stop : ℕ) (new : List ℕ) (more : ℕ)
       → Purged (purge_zone from xs i.unused purges n) stop more new

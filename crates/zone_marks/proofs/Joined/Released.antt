@@ -63,7 +63,7 @@ module _ (f : Freeing) (place : ℕ) (xs : List ℕ) (m : MayRelease f place xs)
     lower-low = omega (arith, span-append, span-free, ap sizes below-is, starts)
 
     pub may-free : MayFree lower start place xs
-    may-free = grind (arith, below-is, append_assoc, end, lower-low, starts)
+    may-free = grind (arith, append_assoc, lower-low, starts)
 
     abbrev pub freed : Joining
     freed = record { below = end.lower; above = f.above; slots = f.slots; unused = f.unused }
@@ -77,14 +77,14 @@ module _ (f : Freeing) (place : ℕ) (xs : List ℕ) (m : MayRelease f place xs)
         lays = subst (λ n. Lays mid (end.lower ++ (free (n - start) ++ f.above)) f.slots f.unused) (sym t)
             (made lower may-free);
         low = lower-low;
-        some = omega (arith, starts, here-read.some, t);
+        some = omega (arith, starts, here-read.some);
       }
 
       low-stop : sizes (end.lower ++ free (stop - start)) ≡ stop
-      low-stop = omega (arith, span-append, span-free, lower-low, starts, t)
+      low-stop = omega (arith, span-append, span-free, lower-low, starts)
 
       lays-stop : Lays mid ((end.lower ++ free (stop - start)) ++ f.above) f.slots f.unused
-      lays-stop = grind (arith, append_assoc, end, may-join)
+      lays-stop = grind (arith, append_assoc, may-join)
 
       -- what is above it
       pub stop-way : IsOnWay stop mid
@@ -105,7 +105,7 @@ module _ (f : Freeing) (place : ℕ) (xs : List ℕ) (m : MayRelease f place xs)
           let k = here-read.some in
           joined-replaced _ _ _ _ _ _ _ _ _
           (ap (λ k. k ++ f.here ∷ f.above) below-is ∙ append_assoc end.lower (free (place - start)) (f.here ∷ f.above))
-          (released-tidy _ _ _ _ _ (omega (arith, k)) below-is end.apart end.closed above-tidy) refl (omega (arith, k)) lower-low (omega (arith, e ∙ ap free_first stop-left, starts, t))
+          (released-tidy _ _ _ _ _ (omega arith) below-is end.apart end.closed above-tidy) refl (omega arith) lower-low (omega (arith, e ∙ ap free_first stop-left, starts))
 
       -- and with the one above it
       pub released : (new : List ℕ) → ((j : Joining) → MayJoin j start stop mid
@@ -113,5 +113,5 @@ module _ (f : Freeing) (place : ℕ) (xs : List ℕ) (m : MayRelease f place xs)
           → Lays new (tidy (f.below ++ Free (size f.here) ∷ f.above)) f.slots f.unused
       released new joined =
           let z = released-tidy _ _ _ _ _ (omega (arith, here-read.some)) below-is end.apart end.closed above-tidy in
-          subst (λ q. Lays new q f.slots f.unused) (ap (λ n. end.lower ++ add (Free n) f.above) (omega (arith, starts, t))
+          subst (λ q. Lays new q f.slots f.unused) (ap (λ n. end.lower ++ add (Free n) f.above) (omega (arith, starts))
           ∙ sym z) (joined freed may-join)

@@ -73,12 +73,12 @@ one-spanned b free barrier f r = grind arith
 
 -- a block of no bytes more counts the same
 pub one-empty : (b : Block) → size b ≤ 0 → one b ≡ Whole 0
-one-empty (Free n) l = ap Whole (omega (arith, l))
-one-empty _ l = absurd (omega (arith, l))
+one-empty (Free n) l = ap Whole (omega arith)
+one-empty _ l = absurd (omega arith)
 
 space-empty : (b : Block) → size b ≤ 0 → space b ≡ Whole 0
-space-empty (Free n) l = ap Whole (omega (arith, l))
-space-empty _ l = absurd (omega (arith, l))
+space-empty (Free n) l = ap Whole (omega arith)
+space-empty _ l = absurd (omega arith)
 
 alike-empty : (b : Block) (some others : List Block) → size b ≤ 0 → CountAlike some others → CountAlike (b ∷ some)
     others
@@ -105,8 +105,7 @@ module _ (lo hi : ℕ) where
   -- none of the blocks below begins there
   pub none-below : (x : ℕ) (blocks : List Block) → x + sizes blocks ≤ lo → CountAlike (between lo hi x blocks) []
   none-below x [] l = record { same = λ w. refl }
-  none-below x (b ∷ blocks) l =
-      cases (nat_le lo x && nat_lt x hi) refl (none-below (x + size b) blocks (omega (arith, l)))
+  none-below x (b ∷ blocks) l = cases (nat_le lo x && nat_lt x hi) refl (none-below (x + size b) blocks (omega arith))
     where
       cases : (t : Bool) → (nat_le lo x && nat_lt x hi) ≡ t → CountAlike (between lo hi (x + size b) blocks) []
           → CountAlike (cond t (b ∷ between lo hi (x + size b) blocks) (between lo hi (x + size b) blocks)) []
@@ -116,7 +115,7 @@ module _ (lo hi : ℕ) where
   -- none of the blocks above does
   pub none-above : (x : ℕ) (blocks : List Block) → hi ≤ x → between lo hi x blocks ≡ []
   none-above x [] l = refl
-  none-above x (b ∷ blocks) l = cases (nat_le lo x) (none-above (x + size b) blocks (omega (arith, l)))
+  none-above x (b ∷ blocks) l = cases (nat_le lo x) (none-above (x + size b) blocks (omega arith))
     where
       cases : (t : Bool) → between lo hi (x + size b) blocks ≡ []
           → cond (t && nat_lt x hi) (b ∷ between lo hi (x + size b) blocks) (between lo hi (x + size b) blocks) ≡ []
@@ -128,7 +127,7 @@ module _ (lo hi : ℕ) where
       → CountAlike (between lo hi x blocks) blocks
   all-within x [] l h = record { same = λ w. refl }
   all-within x (b ∷ blocks) l h =
-      cases (nat_lt x hi) refl (all-within (x + size b) blocks (omega (arith, l)) (omega (arith, h)))
+      cases (nat_lt x hi) refl (all-within (x + size b) blocks (omega arith) (omega arith))
     where
       cases : (t : Bool) → nat_lt x hi ≡ t → CountAlike (between lo hi (x + size b) blocks) blocks
           → CountAlike (cond (nat_le lo x && nat_lt x hi) (b ∷ between lo hi (x + size b) blocks)
@@ -141,16 +140,16 @@ module _ (lo hi : ℕ) where
       → between lo hi x blocks ≡ blocks
   all-begin x [] l e = refl
   all-begin x (b ∷ blocks) l e =
-      rw (le-leb lo x l) (rw (lt-ltb x hi e.0) (ap (λ k. b ∷ k) (all-begin (x + size b) blocks (omega (arith, l)) e.1)))
+      rw (le-leb lo x l) (rw (lt-ltb x hi e.0) (ap (λ k. b ∷ k) (all-begin (x + size b) blocks (omega arith) e.1)))
 
   -- the blocks of a zone that begin there, where it is parted so
   pub between-parts : (below here above : List Block) → sizes below ≡ lo → lo + sizes here ≤ hi
       → (hi ≡ lo + sizes here) ⊎ (above ≡ []) → CountAlike (between lo hi 0 (below ++ (here ++ above))) here
   between-parts below here above l h e = alike-more _ _ _ (alike-same _ _ (between-append 0 _ (here ++ above)))
-      (alike-append _ _ [] here (none-below 0 below (omega (arith, l)))
+      (alike-append _ _ [] here (none-below 0 below (omega arith))
       (alike-more _ _ _ (alike-same _ _ (between-append (0 + sizes below) here above
       ∙ ap (λ k. between lo hi (0 + sizes below) here ++ k) top ∙ append-nil (between lo hi (0 + sizes below) here)))
-      (all-within _ _ (omega (arith, l)) (omega (arith, l, h)))))
+      (all-within _ _ (omega arith) (omega arith))))
     where
       top : between lo hi (0 + sizes below + sizes here) above ≡ []
       top = grind (arith, none-above)

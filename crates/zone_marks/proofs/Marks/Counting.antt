@@ -49,17 +49,17 @@ module _ (w : Counting) (xs : List ℕ) (from : ℕ) where
     }
 
     pub walked-few : suffix total ≤ at
-    walked-few = omega (arith, suffix-load, ap load c.comes, load-counted w c.passed.done, c.passed.up)
+    walked-few = omega (arith, suffix-load, ap load c.comes, load-counted w c.passed.done)
 
     -- what it tells of the blocks that begin below a bound which it came to
     pub walked-tells : (hi : ℕ) → CountAlike (between from hi from c.passed.done) c.passed.done
         → (hi ≤ at) ⊎ (length xs ≤ at) → stretch_by w (between from hi from (left_in from xs)) ≡ total
-    walked-tells hi a e = search (rules, none-above, left-none, CountAlike, alike-more, alike-same, between-append)
+    walked-tells hi a e = search (rules, none-above, left-none, between-append)
 
     -- where the walk began no block at or above the bound
     pub walked-below : (hi : ℕ) → ((p : ℕ) (b : Block) → R p b → p < hi) → (hi ≤ at) ⊎ (length xs ≤ at)
         → stretch_by w (between from hi from (left_in from xs)) ≡ total
-    walked-below hi f e = grind (arith, walked-tells, alike-same, all-begin, at-map)
+    walked-below hi f e = grind (arith, walked-tells, all-begin, at-map)
 
 module _ (xs : List ℕ) (from at stop most : ℕ) (runs : Stretch)
     (c : Walked Runs xs from at (λ p b. (free_of b ≤ most) × (p < stop)) runs) where
@@ -78,5 +78,5 @@ module _ (xs : List ℕ) (from at stop most : ℕ) (runs : Stretch)
       → Measures from place from (left_in from xs) (record { edge = edge; most = most; runs = runs })
   measured-below place edge l e = record {
     most = bound place e;
-    runs = walked-below _ _ _ _ _ _ c place (λ p b r. omega (arith, r.1, l)) e;
+    runs = walked-below _ _ _ _ _ _ c place (λ p b r. omega arith) e;
   }

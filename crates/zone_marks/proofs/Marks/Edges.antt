@@ -63,7 +63,7 @@ between-none lo hi x (b ∷ blocks) l = cases (nat_le lo x) refl (between-none _
     rest = between lo hi (x + size b) blocks
 
     cases : (t : Bool) → nat_le lo x ≡ t → rest ≡ [] → cond (t && nat_lt x hi) (b ∷ rest) rest ≡ []
-    cases true e r = rw (le-ltb x hi (omega (arith, leb-true, l))) r
+    cases true e r = rw (le-ltb x hi (omega (arith, leb-true))) r
     cases false e r = r
 
 module _ (base : ℕ) (below movers above : List Block) (low : sizes below ≡ base) (solid : Each IsMover movers) where
@@ -78,11 +78,10 @@ module _ (base : ℕ) (below movers above : List Block) (low : sizes below ≡ b
       let R = AtMost 0 p q in
       let x = 0 + sizes below in (
         at-append R 0 _ _ (at-each R 0 _ (grind arith)) (at-append R x _ _ (movers-bare p q x _ solid)
-            (at-all R _ _ (λ y b u. λ m n. absurd (omega (arith, u, n, h, low))))),
+            (at-all R _ _ (λ y b u. λ m n. absurd (omega arith)))),
         ap stretch_of (between-append p q 0 _ _ ∙ ap (λ k. between p q 0 below ++ k) (between-append p q x _ _))
             ∙ bare-both (between p q 0 below) (between p q x movers ++ between p q (x + sizes movers) above)
-            ((none-below p q 0 below (omega (arith, l, low))).same Runs)
-            (grind (arith, bare-both, movers-runs, none-above)),
+            ((none-below p q 0 below (omega arith)).same Runs) (grind (arith, bare-both, movers-runs, none-above)),
       )
 
 -- an edge of the blocks that lie packed
@@ -97,9 +96,8 @@ module _ (edges : Edges) (base : ℕ) (zone : List Block) (a : ByEdges edges bas
     | inl n ↦ absurd (s base [] n)
     | inr p ↦ subst (IsBare at edge) (sym p.is) (elim o [
       | inl e ↦ bare-same base p.below p.movers p.above p.low p.solid at edge (sym e)
-      | inr e ↦ bare-within _ _ _ p.above p.low p.solid _ _ l
-          (let w = (begins-within _ _ _ (starts-begins _ _ _
-          (s base p.movers p.edges_are))).1 in omega (arith, e, w))
+      | inr e ↦ bare-within _ _ _ p.above p.low p.solid _ _ l (let w = (begins-within _ _ _ (starts-begins _ _ _
+          (s base p.movers p.edges_are))).1 in omega arith)
     ])
   ]
 

@@ -38,15 +38,15 @@ pub group-raised : (groups : List Group) (marks : List Landmark) (group index : 
 group-raised groups marks group index g m a l low high was is none = record {
   whole = (
       let w = a.whole in
-      omega (arith, w, length-set groups group g, length-set marks index m)
+      omega (arith, length-set groups group g, length-set marks index m)
       );
   each = λ other j u v h. (search rules);
   known = λ w other runs h e. elim (eqb_tells other group) [
     | inl t ↦ absurd (unknown-known w runs (sym (ap (told w) none) ∙ sym (ap (λ k. told w k.tally) (same-group other t.1)) ∙ e))
     | inr t ↦ ap (tally_of w) (marks-apart _ m _ (GROUP * other) GROUP (elim (apart other t.1) [
-      | inl z ↦ inl (omega (arith, z, low))
-      | inr z ↦ inr (omega (arith, z, high))
-    ])) ∙ a.known w other runs (omega (arith, length-set groups group g, h))
+      | inl z ↦ inl (omega arith)
+      | inr z ↦ inr (omega arith)
+    ])) ∙ a.known w other runs (omega (arith, length-set groups group g))
         (sym (ap (λ k. told w k.tally) (get_or-set_other groups group other g no_group t.1)) ∙ e)
   ];
 }
@@ -58,9 +58,9 @@ group-raised groups marks group index g m a l low high was is none = record {
         → (get_or (set marks index m) j no_mark).most ≤ g.most
     here j u v h = elim (eqb_tells j index) [
       | inl t ↦ subst (λ z. z.most ≤ g.most) (sym (ap (λ k. get_or (set marks index m) k no_mark) t.1
-          ∙ get_or-set_same marks index m no_mark (omega (arith, h)))) is
+          ∙ get_or-set_same marks index m no_mark (omega arith))) is
       | inr t ↦ subst (λ z. z.most ≤ g.most) (sym (get_or-set_other marks index j m no_mark t.1))
-          (omega (arith, a.each group j u v h, was))
+          (omega (arith, a.each group j u v h))
     ]
 
     apart : (other : ℕ) → (other ≡ group → ⊥) → (group < other) ⊎ (other < group)
@@ -72,17 +72,17 @@ pub group-renewed : (groups : List Group) (marks : List Landmark) (group low n :
     → (get_or (take n (drop low marks)) index no_mark).most ≤ g.most)
     → ((w : Counting) → told w g.tally ≡ tally_of w (take n (drop low marks))) → AreGroups (set groups group g) marks
 group-renewed groups marks group low n g a l e k f s = record {
-  whole = (let w = a.whole in let s = length-set groups group g in omega (arith, w, s));
+  whole = (let w = a.whole in let s = length-set groups group g in omega arith);
   each = λ other index u v m. elim (eqb_tells other group) [
     | inl t ↦ subst (λ z. (get_or marks index no_mark).most ≤ z) (sym (ap (λ k. k.most) (same-group other t.1)))
-        (here index (omega (arith, e, u)) (let g = t.1 in omega (arith, e, k, v, g)) m)
+        (here index (omega arith) (let g = t.1 in omega arith) m)
     | inr t ↦ subst (λ z. (get_or marks index no_mark).most ≤ z)
         (sym (ap (λ k. k.most) (get_or-set_other groups group other g no_group t.1))) (a.each other index u v m)
   ];
   known = λ w other runs h d. elim (eqb_tells other group) [
     | inl t ↦ ap (λ o. tally_of w (marks_in o marks)) t.1 ∙ ap (tally_of w) part ∙ sym (s w)
         ∙ sym (ap (λ k. told w k.tally) (same-group other t.1)) ∙ d
-    | inr t ↦ a.known w other runs (let q = length-set groups group g in omega (arith, q, h))
+    | inr t ↦ a.known w other runs (let q = length-set groups group g in omega arith)
         (sym (ap (λ k. told w k.tally) (get_or-set_other groups group other g no_group t.1)) ∙ d)
   ];
 }
@@ -92,7 +92,7 @@ group-renewed groups marks group low n g a l e k f s = record {
 
     part : marks_in group marks ≡ take n (drop low marks)
     part = ap (λ z. take z (drop (GROUP * group) marks)) (sym k)
-        ∙ ap (λ z. take n (drop z marks)) (let z : GROUP * group ≡ low = omega (arith, e) in z)
+        ∙ ap (λ z. take n (drop z marks)) (let z : GROUP * group ≡ low = omega arith in z)
 
     here : (index : ℕ) → low ≤ index → index < low + n → index < length marks
         → (get_or marks index no_mark).most ≤ g.most
@@ -100,13 +100,13 @@ group-renewed groups marks group low n g a l e k f s = record {
         let d : Landmark = no_mark in
         let j = index - low in
         let t : length (take n (drop low marks)) ≡ n = length-take-le n (drop low marks)
-        (omega (arith, length-drop low marks, l, e, k)) in
+        (omega (arith, length-drop low marks)) in
         let s : get_or (take n (drop low marks)) j d ≡ get_or marks index d =
-        get_or-take n (drop low marks) j d (omega (arith, u, v)) ∙ get_or-drop low marks j d
-        ∙ ap (λ i. get_or marks i d) (let q : low + (index - low) ≡ index = omega (arith, u) in q) in
-        subst (λ b. b.most ≤ g.most) s (f j (omega (arith, t, u, v)))
+        get_or-take n (drop low marks) j d (omega arith) ∙ get_or-drop low marks j d
+        ∙ ap (λ i. get_or marks i d) (let q : low + (index - low) ≡ index = omega arith in q) in
+        subst (λ b. b.most ≤ g.most) s (f j (omega arith))
 
 -- landmarks that all note the same, and of which groups know no more
 pub same-groups : (count groups : ℕ) (m : Landmark) → count ≡ GROUP * groups
     → AreGroups (replicate groups (record { most = m.most; tally = unknown })) (replicate count m)
-same-groups count groups m e = grind (arith, length-replicate, get_or-replicate, unknown-known)
+same-groups count groups m e = grind (arith, length-replicate, get_or-replicate)

@@ -61,7 +61,7 @@ became-replaced place bytes old new b e = record {
   was = b.was;
   is = b.is;
   low = b.low;
-  high = omega (arith, e);
+  high = omega arith;
   span = omega arith;
 }
 
@@ -74,13 +74,12 @@ same-replaced zone new e =
 pub joined-replaced : (lower : List Block) (g : ℕ) (here : Block) (above : List Block) (start top n : ℕ)
     (old new : List Block) → old ≡ lower ++ (free g ++ here ∷ above) → new ≡ lower ++ add (Free n) above
     → n ≡ g + size here → 0 < n → sizes lower ≡ start → top ≡ start + n + free_first above → Replaced start top old new
-joined-replaced lower g here above start top zero old new was is e some low up = absurd (omega (arith, some))
+joined-replaced lower g here above start top zero old new was is e some low up = absurd (omega arith)
 joined-replaced lower g here above start top (suc n) old new was is e some low up = joined above was is up
   where
     alone : (rest : List Block) → old ≡ lower ++ (free g ++ here ∷ rest) → new ≡ lower ++ (Free (suc n) ∷ rest)
         → top ≡ start + suc n → Replaced start top old new
-    alone rest was is up =
-        record {
+    alone rest was is up = record {
           below = lower;
           here = free g ++ here ∷ [];
           there = Free (suc n) ∷ [];
@@ -88,15 +87,14 @@ joined-replaced lower g here above start top (suc n) old new was is e some low u
           was = was ∙ ap (λ k. lower ++ k) (sym (append_assoc (free g) (here ∷ []) rest));
           is = is;
           low = low;
-          high = omega (arith, span-append, span-free, e, up);
-          span = omega (arith, span-append, span-free, e);
+          high = omega (arith, span-append, span-free);
+          span = omega (arith, span-append, span-free);
         }
 
     joined : (above : List Block) → old ≡ lower ++ (free g ++ here ∷ above) → new ≡ lower ++ add (Free (suc n)) above
         → top ≡ start + suc n + free_first above → Replaced start top old new
-    joined [] was is up = alone [] was is (omega (arith, up))
-    joined (Free m ∷ rest) was is up =
-        record {
+    joined [] was is up = alone [] was is (omega arith)
+    joined (Free m ∷ rest) was is up = record {
           below = lower;
           here = free g ++ here ∷ Free m ∷ [];
           there = Free (suc n + m) ∷ [];
@@ -104,13 +102,13 @@ joined-replaced lower g here above start top (suc n) old new was is e some low u
           was = was ∙ ap (λ k. lower ++ k) (sym (append_assoc (free g) (here ∷ Free m ∷ []) rest));
           is = is;
           low = low;
-          high = omega (arith, span-append, span-free, e, up);
-          span = omega (arith, span-append, span-free, e);
+          high = omega (arith, span-append, span-free);
+          span = omega (arith, span-append, span-free);
         }
-    joined (Nonrelocatable id content ∷ rest) was is up = alone (Nonrelocatable id content ∷ rest) was is (omega (arith, up))
-    joined (Masters ∷ rest) was is up = alone (Masters ∷ rest) was is (omega (arith, up))
+    joined (Nonrelocatable id content ∷ rest) was is up = alone (Nonrelocatable id content ∷ rest) was is (omega arith)
+    joined (Masters ∷ rest) was is up = alone (Masters ∷ rest) was is (omega arith)
     joined (Relocatable id flags content ∷ rest) was is up =
-        alone (Relocatable id flags content ∷ rest) was is (omega (arith, up))
+        alone (Relocatable id flags content ∷ rest) was is (omega arith)
 
 pub first-small : (above : List Block) → free_first above ≤ sizes above
 first-small [] = omega arith

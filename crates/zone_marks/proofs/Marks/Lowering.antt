@@ -29,14 +29,14 @@ at-each S x blocks f = at-map (λ _ _. Unit {0}) S x _ (λ p b l u _. f p b l u)
 -- the first of some landmarks is no higher than where they end
 pub marks-below : (end : ℕ) (zone : List Block) (marks : List Landmark) → AreMarks end zone marks → next_of end marks ≤ end
 marks-below end zone [] a = omega arith
-marks-below end zone (m ∷ marks) a = let n = marks-below _ _ marks a.4 in omega (arith, n)
+marks-below end zone (m ∷ marks) a = let n = marks-below _ _ marks a.4 in omega arith
 
 -- places that rise still rise once they are lowered
 lowered-order : (lo hi a b p q : ℕ) → a ≤ b → Lowered lo hi a p → Lowered lo hi b q → p ≤ q
 lowered-order lo hi a b p q l (inl x) (inl y) = omega arith
-lowered-order lo hi a b p q l (inl x) (inr y) = omega (arith, l)
+lowered-order lo hi a b p q l (inl x) (inr y) = omega arith
 lowered-order lo hi a b p q l (inr x) (inl y) = grind arith
-lowered-order lo hi a b p q l (inr x) (inr y) = omega (arith, l)
+lowered-order lo hi a b p q l (inr x) (inr y) = omega arith
 
 module _ (lo hi : ℕ) (old new : List Block) (z : Replaced lo hi old new) (o : lo ≤ hi) where
   pub at-low : Begins lo 0 new
@@ -51,12 +51,10 @@ module _ (lo hi : ℕ) (old new : List Block) (z : Replaced lo hi old new) (o : 
       | inr d ↦ same (omega (arith, l, (begins-within at (0 + sizes z.below) (z.here ++ z.above) d).0))
     ]
     | inr h ↦ elim (begins-either at 0 z.below (z.here ++ z.above) (subst (Begins at 0) z.was b)) [
-      | inl d ↦ same (let v = (begins-within at 0 z.below d).1 in omega (arith, h, v, o))
+      | inl d ↦ same (let v = (begins-within at 0 z.below d).1 in omega arith)
       | inr d ↦ subst (Begins at 0) (sym z.is) (begins-right _ 0 _ _ (elim (begins-either _ _ _ _ d) [
-        | inl e ↦ begins-right _ _ _ _ (subst (λ y. Begins at y z.above)
-            (let q : at ≡ 0 + sizes z.below + sizes
-            z.there = omega (arith, h, (begins-within _ _ z.here e).1) in q)
-            (begins-here at z.above))
+        | inl e ↦ begins-right _ _ _ _ (subst (λ y. Begins at y z.above) (let q : at ≡ 0 + sizes z.below + sizes
+            z.there = omega (arith, h, (begins-within _ _ z.here e).1) in q) (begins-here at z.above))
         | inr e ↦ begins-right at (0 + sizes z.below) z.there z.above
             (subst (λ n. Begins at (0 + sizes z.below + n) z.above) (sym z.span) e)
       ]))
@@ -76,7 +74,7 @@ module _ (lo hi : ℕ) (old new : List Block) (z : Replaced lo hi old new) (o : 
     middle p b v u l h = grind arith
 
     high-in : (p : ℕ) (b : Block) → hi ≤ p → AtMost most at next p b → AtMost most' at' above p b
-    high-in p b v r l h = omega (arith, m)
+    high-in p b v r l h = omega arith
 
     pub bound-lowered : AtEach (AtMost most at next) 0 old → AtEach (AtMost most' at' above) 0 new
     bound-lowered e =
@@ -86,10 +84,9 @@ module _ (lo hi : ℕ) (old new : List Block) (z : Replaced lo hi old new) (o : 
         let s = z.span in
         let r = at-right R (0 + sizes z.below) z.here z.above (at-right R 0 z.below (z.here ++ z.above) w) in
         subst (AtEach S 0) (sym z.is) (at-append S 0 _ _
-        (at-map R S 0 _ (λ p b l u. low-in p b (omega (arith, u))) (at-left R 0 _ _ w)) (at-append S _ _ _
-        (at-each S _ _ (λ p b l u. middle p b (omega (arith, l)) (omega (arith, u, s)))) (at-map R S _ _
-        (λ p b l u. high-in p b (omega (arith, l, s)))
-        (subst (λ q. AtEach R (0 + sizes z.below + q) z.above) (sym s) r))))
+        (at-map R S 0 _ (λ p b l u. low-in p b (omega arith)) (at-left R 0 _ _ w)) (at-append S _ _ _
+        (at-each S _ _ (λ p b l u. middle p b (omega arith) (omega arith))) (at-map R S _ _
+        (λ p b l u. high-in p b (omega arith)) (subst (λ q. AtEach R (0 + sizes z.below + q) z.above) (sym s) r))))
 
   -- the blocks of a stretch apart from those that became others
   pub apart-alike : (a c : ℕ) → (hi ≤ a) ⊎ (c ≤ lo) → CountAlike (between a c 0 new) (between a c 0 old)
@@ -106,18 +103,18 @@ module _ (lo hi : ℕ) (old new : List Block) (z : Replaced lo hi old new) (o : 
       none : (blocks : List Block) → sizes blocks ≤ sizes z.here → CountAlike (between a c (0 + sizes z.below) blocks)
           []
       none blocks s = elim e [
-        | inl k ↦ none-below a c (0 + sizes z.below) blocks (omega (arith, k, s))
-        | inr k ↦ alike-same _ _ (none-above a c (0 + sizes z.below) blocks (omega (arith, k)))
+        | inl k ↦ none-below a c (0 + sizes z.below) blocks (omega arith)
+        | inr k ↦ alike-same _ _ (none-above a c (0 + sizes z.below) blocks (omega arith))
       ]
 
   -- landmarks above the stretch stay
   pub marks-over : (end : ℕ) (marks : List Landmark) → hi ≤ end → hi ≤ next_of end marks → AreMarks end old marks
       → AreMarks end new marks
   marks-over end [] e u a = tt
-  marks-over end (m ∷ marks) e u a = let v : hi ≤ next_of end marks = omega (arith, u, a.3) in (
+  marks-over end (m ∷ marks) e u a = let v : hi ≤ next_of end marks = omega arith in (
         begins-lowered m.at m.at (inr (refl, inr u)) a.0,
         bound-lowered m.most m.most m.at (next_of end marks) m.at (next_of end marks) (inr (refl, inr u))
-            (inr (refl, inr v)) (omega arith) (λ l _. omega (arith, l, u)) a.1,
+            (inr (refl, inr v)) (omega arith) (λ l _. omega arith) a.1,
         alike-as m.tally _ _ (grind (arith, apart-alike)) a.2,
         a.3,
         marks-over end marks e v a.4,
@@ -127,11 +124,11 @@ module _ (lo hi : ℕ) (old new : List Block) (z : Replaced lo hi old new) (o : 
   pub marks-under : (end : ℕ) (marks : List Landmark) → end ≤ lo → AreMarks end old marks → AreMarks end new marks
   marks-under end [] e a = tt
   marks-under end (m ∷ marks) e a =
-      let u : next_of end marks ≤ lo = omega (arith, marks-below end old marks a.4, e) in
-      let l : m.at ≤ lo = omega (arith, a.3, u) in (
+      let u : next_of end marks ≤ lo = omega (arith, marks-below end old marks a.4) in
+      let l : m.at ≤ lo = omega arith in (
         begins-lowered m.at m.at (inr (refl, inl l)) a.0,
         bound-lowered m.most m.most m.at (next_of end marks) m.at (next_of end marks) (inr (refl, inl l))
-            (inr (refl, inl u)) (omega arith) (λ _ b. absurd (omega (arith, b, u))) a.1,
+            (inr (refl, inl u)) (omega arith) (λ _ b. absurd (omega arith)) a.1,
         alike-as m.tally _ _ (apart-alike m.at (next_of end marks) (inr u)) a.2,
         a.3,
         marks-under end marks e a.4,
@@ -164,7 +161,7 @@ module _ (xs : List ℕ) (first unused : ℕ) (i : IsSound xs first unused) wher
 
   pub bound-here : (most p to : ℕ) → Begins p 0 (zone_in xs) → AtEach (AtMost most p to) p (left_in p xs)
       → AtEach (AtMost most p to) 0 (zone_in xs)
-  bound-here most p to b e = grind (arith, seen-from, at-append, at-each, free-size)
+  bound-here most p to b e = grind (arith, seen-from, at-append, at-each)
 
   -- what is known of blocks from a place on
   pub one-here : (w : Counting) (t : Tally) (p to : ℕ) → Begins p 0 (zone_in xs)
@@ -235,7 +232,7 @@ pub unlaid-marks : (zone : List Block) → sizes zone ≤ 134217728 → (n : ℕ
 unlaid-marks zone l zero = tt
 unlaid-marks zone l (suc n) = (
   begins-here 0 zone,
-  at-each (AtMost 4294967295 0 _) 0 _ (λ p b _ u _ _. omega (arith, free-size, u, l)),
+  at-each (AtMost 4294967295 0 _) 0 _ (λ p b _ u _ _. omega (arith, free-size)),
   none,
   omega arith,
   unlaid-marks zone l n,
@@ -256,7 +253,7 @@ module _ (lo hi : ℕ) (old new : List Block) where
   changing-start z o above left marks h e u a =
       let r = marks-parted 4294967295 old marks left a in
       record {
-        is = inr (refl, inr (omega (arith, u, e)));
+        is = inr (refl, inr (omega arith));
         low = subst (λ k. AreMarks k old (take left marks)) (sym e) r.0;
         high = marks-over lo hi old new z o 4294967295 (drop left marks) h u r.1;
         first = e;
@@ -268,8 +265,8 @@ module _ (lo hi : ℕ) (old new : List Block) where
       → AreMarks (get_or marks (left - 1) d).at old (take (left - 1) marks)
       × AreMarks next old (get_or marks (left - 1) d ∷ [])
   last-mark next above left marks back d s l g =
-      marks-split _ _ _ _ (subst (AreMarks next old) (ap (λ k. take k marks) (sym (omega (arith, s)))
-      ∙ take_more marks (left - 1) d (omega (arith, s, l))) g.low)
+      marks-split _ _ _ _ (subst (AreMarks next old) (ap (λ k. take k marks) (sym (omega arith))
+      ∙ take_more marks (left - 1) d (omega arith)) g.low)
 
   pub changing-step : Replaced lo hi old new → lo ≤ hi → (next above left : ℕ) (marks : List Landmark) (d m : Landmark)
       → 0 < left → left ≤ length marks → Changing lo hi old new next above (take left marks) (drop left marks)
@@ -283,7 +280,7 @@ module _ (lo hi : ℕ) (old new : List Block) where
   changing-step z o next above left marks d m s l g w f c =
       let r = last-mark next above left marks (drop left marks) d s l g in
       let n = r.1 in
-      let q = drop-set marks (left - 1) m (omega (arith, s, l)) ∙ ap (λ k. m ∷ drop k marks) (omega (arith, s)) in
+      let q = drop-set marks (left - 1) m (omega arith) ∙ ap (λ k. m ∷ drop k marks) (omega arith) in
       record {
         is = w;
         low = subst (AreMarks (get_or marks (left - 1) d).at old) (sym (take-set marks (left - 1) m)) r.0;
@@ -305,7 +302,7 @@ module _ (lo hi : ℕ) (old new : List Block) where
   pub changing-below : Replaced lo hi old new → lo ≤ hi → (next above left : ℕ) (marks : List Landmark) → above < lo
       → Changing lo hi old new next above (take left marks) (drop left marks) → AreMarks 4294967295 new marks
   changing-below z o next above left marks b g = marks-whole _ _ _ _ _ (sym same ∙ g.first)
-      (marks-under _ _ _ _ z o _ _ (omega (arith, same, b)) g.low) g.high
+      (marks-under _ _ _ _ z o _ _ (omega arith) g.low) g.high
     where
       same : above ≡ next
       same = grind arith
@@ -325,6 +322,6 @@ marks-left end zone marks index m l a =
 
 pub mark-begins : (end : ℕ) (zone : List Block) (marks : List Landmark) (i : ℕ) (d : Landmark) → i < length marks
     → AreMarks end zone marks → Begins (get_or marks i d).at 0 zone
-mark-begins end zone [] i d l a = absurd (omega (arith, l))
+mark-begins end zone [] i d l a = absurd (omega arith)
 mark-begins end zone (m ∷ marks) zero d l a = a.0
-mark-begins end zone (m ∷ marks) (suc i) d l a = mark-begins _ _ marks i d (omega (arith, l)) a.4
+mark-begins end zone (m ∷ marks) (suc i) d l a = mark-begins _ _ marks i d (omega arith) a.4

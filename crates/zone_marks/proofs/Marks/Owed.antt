@@ -67,7 +67,7 @@ module _ (xs : List ℕ) (first unused free purgeable : ℕ) (l : Landmarks) whe
       → zone_in xs ≡ below ++ c ∷ above → zone ≡ below ++ b ∷ above → size c ≡ size b → free_of c ≡ free_of b
       → one c ≡ one b → space c ≡ space b → is_purgeable c ≡ is_purgeable b → AreOf l zone
       → purgeable ≡ purgeable_sum (below ++ c ∷ above) → IsMarked xs first unused free purgeable l
-  with-block below above b c zone k e was s f r h g a m = grind (arith, with-marks, marks-same, stays-same)
+  with-block below above b c zone k e was s f r h g a m = grind (arith, marks-same, stays-same)
 
   -- bytes were written over some of a block's content
   pub with-written : (below above : List Block) (b : Block) (from : ℕ) (x : List ℕ) (zone : List Block)
@@ -78,7 +78,7 @@ module _ (xs : List ℕ) (first unused free purgeable : ℕ) (l : Landmarks) whe
       let long = length-written from x (content_of b) w in
       with-block _ _ b _ _ k e was (size-content _ b long) (free-content _ b)
       (one-same b _ (free-content _ b) (ends-content _ b)) (space-content _ b long) (goes-content _ b) a
-      (omega (arith, purgeable-content, ap purgeable_sum was, total-append, m))
+      (omega (arith, purgeable-content, ap purgeable_sum was, total-append))
 
 -- a block that isn't Free was put at the lower end of a Free one
 pub filled-replaced : (xs : List ℕ) (place need : ℕ) (r : Roomy xs place need) (new : Block) → is_free new ≡ false
@@ -86,7 +86,7 @@ pub filled-replaced : (xs : List ℕ) (place need : ℕ) (r : Roomy xs place nee
     → Replaced place (place + bytes) (zone_in xs) zone
 filled-replaced xs place need r new solid fits bytes e zone is =
     let k = size r.s.here - size new in
-    let l : k + size new ≡ size r.s.here = omega (arith, ap size r.here, fits) in
+    let l : k + size new ≡ size r.s.here = omega (arith, ap size r.here) in
     record {
       below = r.s.below;
       here = r.s.here ∷ [];
@@ -95,8 +95,8 @@ filled-replaced xs place need r new solid fits bytes e zone is =
       was = r.at.whole;
       is = is ∙ sym (filled-is xs place need r new solid k l);
       low = r.at.low;
-      high = omega (arith, e);
-      span = omega (arith, span-free, l);
+      high = omega arith;
+      span = omega (arith, span-free);
     }
 
 -- the same change, of zones known by other names

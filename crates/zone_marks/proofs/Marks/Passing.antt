@@ -15,13 +15,13 @@ pub at-map : (R S : ℕ → Block → Type 0) (x : ℕ) (blocks : List Block)
 at-map R S x [] f e = tt
 at-map R S x (b ∷ blocks) f e = (
   f x b (omega arith) (omega arith) e.0,
-  at-map R S (x + size b) blocks (λ p c l u r. f p c (omega (arith, l)) (omega (arith, u)) r) e.1,
+  at-map R S (x + size b) blocks (λ p c l u r. f p c (omega arith) (omega arith) r) e.1,
 )
 
 pub at-all : (R : ℕ → Block → Type 0) (x : ℕ) (blocks : List Block) → ((p : ℕ) (b : Block) → x ≤ p → R p b)
     → AtEach R x blocks
 at-all R x [] f = tt
-at-all R x (b ∷ blocks) f = (f x b (omega arith), at-all R (x + size b) blocks (λ p c l. f p c (omega (arith, l))))
+at-all R x (b ∷ blocks) f = (f x b (omega arith), at-all R (x + size b) blocks (λ p c l. f p c (omega arith)))
 
 pub at-both : (R S T : ℕ → Block → Type 0) (x : ℕ) (blocks : List Block)
     → ((p : ℕ) (b : Block) → R p b → S p b → T p b) → AtEach R x blocks → AtEach S x blocks → AtEach T x blocks
@@ -70,8 +70,8 @@ begins-either p x (b ∷ below) above (inr e) = elim (begins-either p (x + size 
 ]
 
 pub begins-within : (p x : ℕ) (blocks : List Block) → Begins p x blocks → (x ≤ p) × (p ≤ x + sizes blocks)
-begins-within p x [] e = (omega (arith, e), omega (arith, e))
-begins-within p x (b ∷ blocks) (inl e) = (omega (arith, e), omega (arith, e))
+begins-within p x [] e = (omega arith, omega arith)
+begins-within p x (b ∷ blocks) (inl e) = (omega arith, omega arith)
 begins-within p x (b ∷ blocks) (inr e) = let w = begins-within p (x + size b) blocks e in
     (omega arith, omega arith)
 
@@ -83,8 +83,8 @@ pub record PartsAt (p x : ℕ) (blocks : List Block) : Type 0 where
   pub low : x + sizes below ≡ p
 
 pub parts : (p x : ℕ) (blocks : List Block) → Begins p x blocks → PartsAt p x blocks
-parts p x [] e = record { below = []; above = []; is = refl; low = omega (arith, e) }
-parts p x (b ∷ blocks) (inl e) = record { below = []; above = b ∷ blocks; is = refl; low = omega (arith, e) }
+parts p x [] e = record { below = []; above = []; is = refl; low = omega arith }
+parts p x (b ∷ blocks) (inl e) = record { below = []; above = b ∷ blocks; is = refl; low = omega arith }
 parts p x (b ∷ blocks) (inr e) =
     let r = parts p (x + size b) blocks e in
     record { below = b ∷ r.below; above = r.above; is = ap (λ k. b ∷ k) r.is; low = omega arith }
@@ -99,8 +99,8 @@ pub record Passed (xs : List ℕ) (from at : ℕ) (R : ℕ → Block → Type 0)
 
 -- where the lower of two bounds was come to
 pub past : (to end all at stop : ℕ) → (stop ≡ to) ⊎ (stop ≡ end) → end ≡ all → stop ≤ at → (to ≤ at) ⊎ (all ≤ at)
-past to end all at stop (inl e) f l = inl (omega (arith, e, l))
-past to end all at stop (inr e) f l = inr (omega (arith, e, f, l))
+past to end all at stop (inl e) f l = inl (omega arith)
+past to end all at stop (inr e) f l = inr (omega arith)
 
 pub passed-more : (xs : List ℕ) (from at : ℕ) (R S : ℕ → Block → Type 0) → ((p : ℕ) (b : Block) → R p b → S p b)
     → Passed xs from at R → Passed xs from at S

@@ -56,7 +56,7 @@ module _ (xs : List ℕ) (first unused : ℕ) (i : IsSound xs first unused) (byt
       → AtEach (NoRoom bytes 0 p) 0 (zone_in xs) → AtEach (λ _ c. is_room bytes c ≡ false) 0 below
   none-below below above p z l n =
       at-map (λ q c. (0 < size c) × NoRoom bytes 0 p q c) (λ _ c. is_room bytes c ≡ false) 0 _
-      (λ q c v u r. let s = r.0 in r.1 (omega arith) (omega (arith, u, s, l)))
+      (λ q c v u r. let s = r.0 in r.1 (omega arith) (omega arith))
       (at-left (λ q c. (0 < size c) × NoRoom bytes 0 p q c) 0 _ _
       (subst (AtEach (λ q c. (0 < size c) × NoRoom bytes 0 p q c) 0) z
       (at-both (λ _ c. 0 < size c) (NoRoom bytes 0 p) (λ q c. (0 < size c) × NoRoom bytes 0 p q c) 0 _
@@ -74,7 +74,7 @@ module _ (xs : List ℕ) (first unused : ℕ) (i : IsSound xs first unused) (byt
 
   pub none-whole : (p to : ℕ) → AtEach (NoRoom bytes 0 p) 0 (zone_in xs) → AtEach (NoRoom bytes p to) 0 (zone_in xs)
       → AtEach (NoRoom bytes 0 to) 0 (zone_in xs)
-  none-whole p to n e = grind (arith, at-both, leb_tells)
+  none-whole p to n e = grind (arith, at-both)
 
   -- the lowest one
   pub lowest-found : (p place : ℕ) → Begins p 0 (zone_in xs) → AtEach (NoRoom bytes 0 p) 0 (zone_in xs)
@@ -96,7 +96,7 @@ module _ (xs : List ℕ) (first unused : ℕ) (i : IsSound xs first unused) (byt
       (grind (arith, sizes-length)) n)
 
   pub nothing-below : AtEach (NoRoom bytes 0 0) 0 (zone_in xs)
-  nothing-below = at-all (NoRoom bytes 0 0) 0 (zone_in xs) (λ q c _ _ h. absurd (omega (arith, h)))
+  nothing-below = at-all (NoRoom bytes 0 0) 0 (zone_in xs) (λ q c _ _ h. absurd (omega arith))
 
 -- what an answer gives, where another is known of it
 pub if-none : (o : Option ℕ) (A B : Type 0) → (A → B) → MatchOption o A (λ _. Unit {0}) → MatchOption o B (λ _. Unit {0})
@@ -134,12 +134,12 @@ module _ (xs : List ℕ) (first unused : ℕ) (i : IsSound xs first unused) (byt
   none-along zero index u f n = grind arith
   none-along (suc count) index u f n =
       subst (NoneBelow bytes (zone_in xs) marks) (let e : index + 1 + count ≡ index + suc count = omega arith in e)
-      (none-along _ (index + 1) (omega (arith, u)) (λ j l h. f j (omega (arith, l)) (omega (arith, h)))
-      (none-next index (omega (arith, u)) (f index (omega arith) (omega arith)) n))
+      (none-along _ (index + 1) (omega arith) (λ j l h. f j (omega arith) (omega arith))
+      (none-next index (omega arith) (f index (omega arith) (omega arith)) n))
 
   -- over a group whose top is less
   pub none-group : (groups : List Group) → AreGroups groups marks → (group : ℕ) → group < length groups
       → (get_or groups group no_group).most < bytes
       → NoneBelow bytes (zone_in xs) marks (GROUP * group) → NoneBelow bytes (zone_in xs) marks (GROUP * (group + 1))
   none-group groups t group u l n = subst (NoneBelow bytes (zone_in xs) marks) (search rules)
-      (none-along _ _ (omega (arith, u)) (λ j b h. omega (arith, (t.each group j b h (omega (arith, u, h))), l)) n)
+      (none-along _ _ (omega arith) (λ j b h. omega (arith, (t.each group j b h (omega arith)), l)) n)

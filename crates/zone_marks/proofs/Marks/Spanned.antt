@@ -28,7 +28,7 @@ span-made at xs w l n t e h k free f barrier b =
 -- a block that isn't room by its Free bytes
 pub room-free : (p : ℕ) (b : Block) → 0 < free_of b → p ≤ free_of b → is_room p b ≡ true
 room-free p (Free n) s l = grind arith
-room-free p _ s l = absurd (omega (arith, s))
+room-free p _ s l = absurd (omega arith)
 
 pub room-here : (p at end free : ℕ) (barrier : Bool) (xs : List ℕ) → Spans at end free barrier xs → 0 < free → p ≤ free
     → RoomAt p at xs

@@ -89,15 +89,15 @@ loads-part w marks low n = omega (arith, loads-parted w marks low, loads-parted 
 between-low : (a b c x : ℕ) (bs : List Block) → a ≤ x → b ≤ x → between a c x bs ≡ between b c x bs
 between-low a b c x [] l m = refl
 between-low a b c x (k ∷ bs) l m = rw (le-leb a x l) (rw (le-leb b x m)
-    (ap (λ q. cond (nat_lt x c) (k ∷ q) q) (between-low a b c (x + size k) bs (omega (arith, l)) (omega (arith, m)))))
+    (ap (λ q. cond (nat_lt x c) (k ∷ q) q) (between-low a b c (x + size k) bs (omega arith) (omega arith))))
 
 pub between-join : (a b c x : ℕ) (bs : List Block) → a ≤ b → b ≤ c
     → between a c x bs ≡ between a b x bs ++ between b c x bs
 between-join a b c x [] l m = refl
 between-join a b c x (k ∷ bs) l m = elim (cases_lt x b) [
-  | inl h ↦ rw (lt-leb b x h) (rw (lt-ltb x b h) (rw (lt-ltb x c (omega (arith, h, m)))
+  | inl h ↦ rw (lt-leb b x h) (rw (lt-ltb x b h) (rw (lt-ltb x c (omega arith))
       (either (nat_le a x) (between-join a b c (x + size k) bs l m))))
-  | inr h ↦ between-low a b c x (k ∷ bs) (omega (arith, l, h)) h
+  | inr h ↦ between-low a b c x (k ∷ bs) (omega arith) h
       ∙ ap (λ q. q ++ between b c x (k ∷ bs)) (sym (none-above a b x (k ∷ bs) h))
 ]
   where
@@ -113,8 +113,8 @@ between-few lo hi x (b ∷ bs) = either (nat_le lo x && nat_lt x hi) (between-fe
   where
     either : (t : Bool) → sizes (between lo hi (x + size b) bs) ≤ sizes bs
         → sizes (cond t (b ∷ between lo hi (x + size b) bs) (between lo hi (x + size b) bs)) ≤ size b + sizes bs
-    either true e = omega (arith, e)
-    either false e = omega (arith, e)
+    either true e = omega arith
+    either false e = omega arith
 
 tally-join : (w : Counting) (s t : Tally) (xs ys : List Block) → IsTally w s xs → IsTally w t ys
     → IsTally w (join_tallies s t) (xs ++ ys)

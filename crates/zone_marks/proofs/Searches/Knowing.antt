@@ -77,12 +77,11 @@ module _ (bytes : ℕ) where
       → (IsFound bytes r ⊎ ((length xs ≤ r.place) ⊎ (next ≤ r.place)))
       → (Begins next s.place (left_in s.place xs) → r.place ≤ next) → IsKnown bytes s next xs r
   scanned xs first unused i next s r here y p g f m l came up = record {
-    ready = record { begins = edge; left = omega (arith, l, y.left); met = m; free = f };
+    ready = record { begins = edge; left = omega arith; met = m; free = f };
     here = here;
     piece = p;
     finds = λ above. ap (λ k. finds_in bytes s (k ++ above)) parts
-        ∙ ap (finds_in bytes s) (append_assoc g.done q.0 above)
-        ∙ g.same (q.0 ++ above) ∙ on above;
+        ∙ ap (finds_in bytes s) (append_assoc g.done q.0 above) ∙ g.same (q.0 ++ above) ∙ on above;
     came = there;
   }
     where
@@ -102,8 +101,8 @@ module _ (bytes : ℕ) where
       there : IsFound bytes r ⊎ (r.place ≡ next)
       there = elim came [
         | inl found ↦ inl found
-        | inr (inl h) ↦ inr (omega (arith, low, h, edge-within xs first unused i next p.edge))
-        | inr (inr h) ↦ inr (omega (arith, low, h))
+        | inr (inl h) ↦ inr (omega (arith, low, edge-within xs first unused i next p.edge))
+        | inr (inr h) ↦ inr (omega (arith, low))
       ]
 
       on : (above : List Block) → finds_in bytes r (q.0 ++ above) ≡ finds_in bytes r above

@@ -80,7 +80,7 @@ module _ (xs : List ℕ) (s : RunScan) (at next : ℕ) (p : Passed) (q : IsPasse
     (piece : IsPiece at next xs here) (all : Stretch) where
   sum : (runs : Stretch) → stretch_of here ≡ runs → all ≡ join p.runs runs
       → join (Whole s.free) (stretch_of (q.here ++ here)) ≡ all
-  sum runs t e = grind (arith, stretch_of-append, join-assoc)
+  sum runs t e = grind (arith, stretch_of-append)
 
   pub passed-open : (free : ℕ) → stretch_of here ≡ Whole free → all ≡ join p.runs (Whole free)
       → IsPassed s next xs (record { runs = all; barred = p.barred; end = p.end; free = p.free + free })
@@ -113,15 +113,15 @@ module _ (xs : List ℕ) (first unused : ℕ) (i : IsSound xs first unused) (s :
   passed-fits =
       let w = edge-within xs first unused i next t.1.edge in
       let f = ap load t.2 in (
-        (omega (arith, w, load-blocks, f, ends-load p.runs runs, load-join, ap load q.sums)),
-        (omega (arith, w, load-blocks, f, ap load q.goes_on)),
+        (omega (arith, load-blocks, ends-load p.runs runs, load-join, ap load q.sums)),
+        (omega (arith, load-blocks, ap load q.goes_on)),
       )
 
 -- where the blocks that were passed brought no run to enough
 module _ (bytes : ℕ) (xs : List ℕ) (s : RunScan) (r : IsReady xs s) (at : ℕ) (p : Passed) (q : IsPassed s at xs p)
     (short : best p.runs < bytes) where
   short-here : best (join (Whole s.free) (stretch_of q.here)) < bytes
-  short-here = omega (arith, ap best q.sums, short)
+  short-here = omega (arith, ap best q.sums)
 
   -- a search in which no run ended goes on with their free bytes
   pub known-open : (free : ℕ) → p.runs ≡ Whole free → IsKnown bytes s at xs
@@ -156,11 +156,11 @@ module _ (bytes : ℕ) (xs : List ℕ) (s : RunScan) (r : IsReady xs s) (at : �
           ∙ ap (λ k. b.mid ++ k) q.high_piece.is ∙ sym (append_assoc b.mid q.high (left_in at xs)))
 
       less : best (join (Whole s.free) (stretch_of (b.low ++ b.mid))) < bytes
-      less = grind (arith, append_assoc, stretch_of-append, join-assoc, short-here, best-low)
+      less = grind (arith, stretch_of-append)
 
   -- at the zone's end none is found
   pub passed-all : left_in at xs ≡ [] → finds_from bytes s xs ≡ None
-  passed-all e = grind (arith, ready-finds, append-nil, scan-never, short-here)
+  passed-all e = grind (arith, append-nil, scan-never)
 
 -- a walk that has come to the zone's end without a run
 pub walked-out : (bytes : ℕ) (n : Sparing) (xs : List ℕ) (first unused : ℕ) → IsSound xs first unused

@@ -67,8 +67,7 @@ module _ (xs : List ℕ) (first unused : ℕ) (i : IsSound xs first unused) wher
       behind : Begins to from (left_in from xs)
       behind = elim (begins-either to 0 s.below (left_in from xs) (subst (Begins to 0) s.is e)) [
         | inl d ↦ let w = (begins-within to 0 s.below d).1 in let k = s.low in
-            subst (λ q. Begins q from (left_in from xs)) (let q : from ≡ to = omega (arith, w, k, l) in q)
-            (begins-here _ _)
+            subst (λ q. Begins q from (left_in from xs)) (let q : from ≡ to = omega arith in q) (begins-here _ _)
         | inr d ↦ subst (λ y. Begins to y (left_in from xs))
             (let q : 0 + sizes s.below ≡ from = omega (arith, s.low) in q) d
       ]
@@ -94,11 +93,10 @@ module _ (xs : List ℕ) (first unused : ℕ) (i : IsSound xs first unused) wher
       s = seen-from xs first unused i at b
 
       same : CountAlike (between at to 0 (zone_in xs)) p.0
-      same = alike-more _ _ _
-          (alike-same _ _ (ap (between at to 0) (s.is ∙ ap (λ k. s.below ++ k) p.1.is)))
-          (between-parts _ _ _ _ _ s.low (let u = p.1.up in omega (arith, u, h)) (elim o [
-            | inl q ↦ inl (omega (arith, p.1.up, q))
-            | inr q ↦ inr (left-none next xs (begins-way xs first unused i next e) (omega (arith, q)))
+      same = alike-more _ _ _ (alike-same _ _ (ap (between at to 0) (s.is ∙ ap (λ k. s.below ++ k) p.1.is)))
+          (between-parts _ _ _ _ _ s.low (let u = p.1.up in omega arith) (elim o [
+            | inl q ↦ inl (omega (arith, p.1.up))
+            | inr q ↦ inr (left-none next xs (begins-way xs first unused i next e) (omega arith))
           ]))
 
   module _ (w : Counting) (marks : List Landmark) (a : AreMarks 4294967295 (zone_in xs) marks) where
@@ -106,7 +104,7 @@ module _ (xs : List ℕ) (first unused : ℕ) (i : IsSound xs first unused) wher
     stretch-before : (t : Tally) (at index next : ℕ) → Begins at 0 (zone_in xs) → IsBefore index marks xs next
         → at ≤ next_of 4294967295 (drop index marks)
         → IsTally w t (between at (next_of 4294967295 (drop index marks)) 0 (zone_in xs)) → IsStretch w t at next xs
-    stretch-before t at index next e b r k = grind (arith, cases_lt, mark-first, stretch-at, edge-within, drop_all)
+    stretch-before t at index next e b r k = grind (arith, mark-first, stretch-at, edge-within, drop_all)
 
     -- so the stretch of a landmark is known up to there
     pub next-stretch : (index next : ℕ) → index < length marks → IsBefore (index + 1) marks xs next
@@ -121,7 +119,7 @@ module _ (xs : List ℕ) (first unused : ℕ) (i : IsSound xs first unused) wher
         → (next : ℕ) → IsBefore (low + GROUP) marks xs next → IsStretch w t (get_or marks low no_mark).at next xs
     group-stretch low t l known next b = stretch-before t _ _ next
         (mark-begins 4294967295 (zone_in xs) marks low no_mark l a) b
-        (let r = marks-below to (zone_in xs) part are in omega (arith, r, at-first)) (tells t known)
+        (let r = marks-below to (zone_in xs) part are in omega (arith, at-first)) (tells t known)
       where
         m : Landmark
         m = get_or marks low no_mark
@@ -141,7 +139,6 @@ module _ (xs : List ℕ) (first unused : ℕ) (i : IsSound xs first unused) wher
 
         tells : (t : Tally) → ((runs : Stretch) → t ≡ tally.Known runs → tally_of w part ≡ tally.Known runs)
             → IsTally w t (between m.at to 0 (zone_in xs))
-        tells (tally.Known runs) f =
-            subst (λ k. IsTally w k (between m.at to 0 (zone_in xs))) (f runs refl)
+        tells (tally.Known runs) f = subst (λ k. IsTally w k (between m.at to 0 (zone_in xs))) (f runs refl)
             (subst (λ p. IsTally w (tally_of w part) (between p to 0 (zone_in xs))) at-first (group-tally w _ _ _ are))
         tells tally.Unknown f = tt

@@ -63,7 +63,7 @@ module _ (xs : List ℕ) (from : ℕ) (m : MayStart from (zone_in xs)) (bytes pu
   on : finds_in bytes r (map each above) ≡ scan_runs None bytes (spared n) purges r.start r.free true r.place
       (left_in r.place xs)
   on = elim k.came [
-    | inl f ↦ found-kept bytes r _ f ∙ sym (grind (arith, scan_kept, nat_le))
+    | inl f ↦ found-kept bytes r _ f ∙ sym (grind (arith, scan_kept))
     | inr e ↦ ready-finds bytes xs r k.ready _
         ∙ found-any bytes (spared sparing.Nothing) (spared n) r.start r.free true r.place (map each above)
         ∙ sym (scan-emptied bytes (spared n) purges r.start r.free r.place above few)
@@ -76,6 +76,6 @@ module _ (xs : List ℕ) (from : ℕ) (m : MayStart from (zone_in xs)) (bytes pu
       ∙ scan-emptied bytes (spared n) purges 0 0 0 (opened n (zone_in xs)) all
       ∙ ap (λ z. found_from bytes (spared n) 0 0 0 (map each z)) (plain (zone_in xs) ∙ parts)
       ∙ ap (found_from bytes (spared n) 0 0 0) (map-append each k.here above
-      ∙ ap (λ z. z ++ map each above) (emptied-none (spared n) k.here (let z = none-below in omega (arith, z))))
+      ∙ ap (λ z. z ++ map each above) (emptied-none (spared n) k.here (let z = none-below in omega arith)))
       ∙ found-any bytes (spared n) (spared sparing.Nothing) 0 0 true 0 (k.here ++ map each above)
       ∙ k.finds (map each above) ∙ on ∙ sym (grind arith)

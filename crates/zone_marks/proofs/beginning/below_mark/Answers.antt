@@ -24,7 +24,7 @@ piece c =
     c.args.part.now.bytes) c.in-Known.is (next-stretch _ _ _ i Runs _ c.requires.marks at _ (omega arith) (record {
       edge = mark-begins _ _ _ _ _ (omega arith) c.requires.marks;
       here = λ _. refl;
-      end = λ l. absurd (omega (arith, l));
+      end = λ l. absurd (omega arith);
     }))
 
 -- no sum is too high

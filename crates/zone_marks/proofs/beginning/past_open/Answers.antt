@@ -6,4 +6,4 @@ pub returns-then-is_found : goal.returns-then-is_found
 returns-then-is_found c = grind (arith, known-found)
 
 pub returns : goal.returns
-returns c = grind (arith, known-through, not-found)
+returns c = grind (arith, known-through)

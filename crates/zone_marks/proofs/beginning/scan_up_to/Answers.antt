@@ -17,7 +17,7 @@ loop-scan-preserved c =
     let s = step.ensures in
     let r = c.scan_run-scan.ensures in
     let z = seen-sized xs scan.place step.result.block step.result.end s in
-    let to = subst (λ q. Steps scan.place step.result.block q xs) (sym (omega (arith, z))) s in
+    let to = subst (λ q. Steps scan.place step.result.block q xs) (sym (omega arith)) s in
     record {
       goes = goes-step _ _ _ _ scan i.goes _ _ to (grind arith);
       free = r.free;

@@ -9,4 +9,4 @@ returns-clause-low c =
     let i = c.requires.sound in
     if-spot _ (λ s. c.below.result ≤ sizes s.below) (λ s e.
     let l = led-slot c.args.part.now.bytes i.0 i.1 i.2 c.args.slot s e in
-    omega (arith, led-place c.args.part.now.bytes i.0 i.1 i.2 c.args.slot s e, c.word_of_slot.ensures l.0 l.1))
+    omega (arith, led-place c.args.part.now.bytes i.0 i.1 i.2 c.args.slot s e))

@@ -40,7 +40,7 @@ now c = c.free_at-free.ensures ∙ ap (λ l. prefix (stretch_of l)) (c.requires.
 pub returns-then-bytes-free : goal.returns-then-bytes-free
 returns-then-bytes-free c =
     let d = (goal.at.returns-then-bytes-free c).After-free_at-free in
-    enough-now _ _ _ _ _ (found d.before) (omega (arith, now d, c.if-bytes-free.true))
+    enough-now _ _ _ _ _ (found d.before) (omega (arith, now d))
 
 pub walk_at-requires-2-clause-begins : goal.walk_at-requires-2-clause-begins
 walk_at-requires-2-clause-begins c = begins (goal.at.walk_at-requires-2-clause-begins c).In-Some
@@ -49,12 +49,12 @@ walk_at-requires-2-clause-begins c = begins (goal.at.walk_at-requires-2-clause-b
 own : (c : After-free_at-free) (walk : List Block) → walk ≡ left_in c.in-Some.run' c.args.part.now.bytes
     → run_purges_for (spared c.args.sparing) 0 (c.args.bytes - c.free_at-free.result) walk ≡ run_purges_for
     (spared c.args.sparing) 0 (c.args.bytes - prefix (stretch_of (found c.before).rest)) (found c.before).rest
-own c walk e = grind (arith, now, left)
+own c walk e = grind (arith, left)
 
 pub returns-in_default-count_in_run : goal.returns-in_default-count_in_run
 returns-in_default-count_in_run c =
     let d = (goal.at.returns-in_default-count_in_run c).After-free_at-free in
-    never-enough _ _ _ _ _ (found d.before) (omega (arith, now d, c.if-bytes-free.false)) (grind (arith, own))
+    never-enough _ _ _ _ _ (found d.before) (omega (arith, now d)) (grind (arith, own))
 
 pub count_below-requires-clause-run : goal.count_below-requires-clause-run
 count_below-requires-clause-run c = begins (goal.at.count_below-requires-clause-run c).In-Some
@@ -65,4 +65,4 @@ returns c =
     let r = found d.before in
     let below = c.count_below.ensures.is r.low r.rest r.is r.at
     ∙ ap (count_of (spared c.args.sparing)) (c.requires.whole r.low) in
-    rw below (fewest-of _ _ _ _ _ r _ (omega (arith, now d, c.if-bytes-free.false)) (grind (arith, own)))
+    rw below (fewest-of _ _ _ _ _ r _ (omega (arith, now d)) (grind (arith, own)))

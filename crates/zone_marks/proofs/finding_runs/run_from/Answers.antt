@@ -18,7 +18,7 @@ there c =
     scanned _ _ _ _ i.2 _ _ _ _ c.requires.ready p.1 r.goes r.free r.met r.left r.came r.up_to
 
 pub returns-then-is_found : goal.returns-then-is_found
-returns-then-is_found c = grind (arith, goes-finds, found-kept)
+returns-then-is_found c = grind (arith, found-kept)
 
 pub reach_run-requires-clause-ready : goal.reach_run-requires-clause-ready
 reach_run-requires-clause-ready c = (there (goal.at.reach_run-requires-clause-ready c).After-scan_up_to-scan).ready

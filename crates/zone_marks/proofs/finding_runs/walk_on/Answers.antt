@@ -6,7 +6,7 @@ use Rattle.zone_marks.proofs.Searches.Passed.{walked-out}
 use Rattle.zone_marks.proofs.finding_runs.walk_on.Goals as goal
 
 pub returns-then-is_found : goal.returns-then-is_found
-returns-then-is_found c = grind (arith, goes-finds, scan_kept)
+returns-then-is_found c = grind (arith, scan_kept)
 
 pub returns : goal.returns
 returns c =

@@ -48,4 +48,4 @@ free_behind-more-requires c = stop-way _ _ _ c.requires.1 _ c.last_free_below-st
 pub overflow_add-result : goal.overflow_add-result
 overflow_add-result c = let k = stop-more _ _ _ c.requires.1 _ c.last_free_below-start.ensures _
     (grind (arith, end)) _ c.free_up-end.ensures.lays _ c.free_behind-more.ensures in
-    omega (arith, k)
+    omega arith

@@ -13,7 +13,7 @@ read_word-word-requires c = handle-fits _ _ _ c.requires.1
 pub free_block-requires : goal.free_block-requires
 free_block-requires c =
     let e = c.read_word-word.ensures in
-    let f = leads c.requires.0 c.args.slot c.args.part.now.bytes c.requires.1 (omega (arith, e)) in (
+    let f = leads c.requires.0 c.args.slot c.args.part.now.bytes c.requires.1 (omega arith) in (
       leading c.requires.0 c.args.slot c.args.part.now.bytes c.requires.1 f,
       may-release _ _ _ c.requires.1 f _ e,
       subst (AreOf c.args.marks.now) f.block.whole c.requires.2,
@@ -30,14 +30,14 @@ returns-then-word-eq0-clause-bytes c = λ t h. let f = leads t c.args.slot c.arg
 
 pub returns-else-word-eq0-clause-lays : goal.returns-else-word-eq0-clause-lays
 returns-else-word-eq0-clause-lays c = λ t h. subst (λ k. Lays c.args.part.now.bytes k t.slots t.unused)
-    (sym (emptied-is t _ _ h (λ q. omega (arith, q)))) h.lays
+    (sym (emptied-is t _ _ h (λ q. omega arith))) h.lays
 
 pub returns-else-word-eq0-clause-bytes : goal.returns-else-word-eq0-clause-bytes
-returns-else-word-eq0-clause-bytes c = λ t h. ap free_sum (emptied-is t _ _ h (λ q. omega (arith, q))) ∙ (grind arith)
+returns-else-word-eq0-clause-bytes c = λ t h. ap free_sum (emptied-is t _ _ h (λ q. omega arith)) ∙ (grind arith)
 
 pub returns-then-word-eq0-clause-replaced : goal.returns-then-word-eq0-clause-replaced
 returns-then-word-eq0-clause-replaced c = λ t h. let f = leads t c.args.slot c.args.part.now.bytes h (grind arith) in
     leading-replaced t _ _ h f _ _ (c.free_block.ensures.replaced (leading t _ _ h f) (grind arith))
 
 pub returns-else-word-eq0-clause-replaced : goal.returns-else-word-eq0-clause-replaced
-returns-else-word-eq0-clause-replaced c = λ t h. same-replaced _ _ (emptied-is t _ _ h (λ q. omega (arith, q)))
+returns-else-word-eq0-clause-replaced c = λ t h. same-replaced _ _ (emptied-is t _ _ h (λ q. omega arith))

@@ -15,7 +15,7 @@ read_header-requires c = (next _ _ _ _ c.requires.1 (grind arith)).tells.may
 
 -- a block begins at the place
 some : (c : After-read_header) → c.args.at < length c.args.part.now.bytes
-some c = omega (arith, c.len.ensures.count)
+some c = omega arith
 
 tag : (c : After-read_header) (j : Joining) (m : MayJoin j c.args.start c.args.at c.args.part.now.bytes)
     → tag_number c.read_header.result.tag ≡ kind (next j c.args.start c.args.at c.args.part.now.bytes m (some c)).here
@@ -30,8 +30,8 @@ free_up-requires c =
 
 pub returns-then-eq-clause-lays : goal.returns-then-eq-clause-lays
 returns-then-eq-clause-lays c = λ j m. let d = (goal.at.returns-then-eq-clause-lays c).After-read_header in
-    joined-two _ _ _ _ m (some d) (grind (arith, tag, free-true)) _ c.free_up.ensures.lays
+    joined-two _ _ _ _ m (some d) (grind (arith, tag)) _ c.free_up.ensures.lays
 
 pub returns-else-eq-clause-lays : goal.returns-else-eq-clause-lays
 returns-else-eq-clause-lays c = λ j m. let d = (goal.at.returns-else-eq-clause-lays c).After-read_header in
-    joined-other _ _ _ _ m (some d) (grind (arith, tag, free-false))
+    joined-other _ _ _ _ m (some d) (grind (arith, tag))

@@ -11,7 +11,7 @@ overflow_add-result c =
     let i = c.requires.sound.2 in
     let f = next-fits _ _ _ i _ c.requires.begins c.requires.none _ c.requires.plain _ _
     (rw c.walk_at.ensures.is at c.in-Some.ensures) in
-    omega (arith, f, i.lays.small)
+    omega arith
 
 pub returns : goal.returns
 returns c = next-some _ _ _ c.requires.sound.2 _ c.requires.begins c.requires.none _ c.requires.plain _ _ (grind arith)

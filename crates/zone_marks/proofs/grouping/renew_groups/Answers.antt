@@ -4,7 +4,7 @@ use Rattle.zone_marks.proofs.Marks.Tallies.{loads-part}
 use Rattle.zone_marks.proofs.grouping.renew_groups.Goals as goal
 
 pub group_of-requires : goal.group_of-requires
-group_of-requires c = λ w. omega (arith, loads-part, c.requires.fits w)
+group_of-requires c = λ w. omega (arith, loads-part)
 
 pub loop-group-preserved : goal.loop-group-preserved
-loop-group-preserved c = search (rules, group-renewed, length-set)
+loop-group-preserved c = search (rules, group-renewed)

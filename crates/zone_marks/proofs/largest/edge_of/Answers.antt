@@ -8,8 +8,7 @@ pub returns-then-index-marks-clause-before : goal.returns-then-index-marks-claus
 returns-then-index-marks-clause-before c = search (rules, end-begins)
 
 pub returns-then-index-marks-clause-low : goal.returns-then-index-marks-clause-low
-returns-then-index-marks-clause-low c = λ p b _.
-    omega (arith, edge-within _ _ _ c.requires.sound.2 p b, c.len.ensures.count)
+returns-then-index-marks-clause-low c = λ p b _. omega (arith, edge-within _ _ _ c.requires.sound.2 p b)
 
 pub returns-clause-before : goal.returns-clause-before
 returns-clause-before c = grind (arith, mark-begins)

@@ -41,7 +41,7 @@ pub join-stretch-requires : goal.join-stretch-requires
 join-stretch-requires c =
     let i = c.requires.sound in
     let k = known-fits _ _ _ _ _ c.stretch_of_mark.ensures in
-    omega (arith, ends-load c.loop-index.stretch c.stretch_of_mark.result, i.2.lays.small, c.loop-index.invariant.few)
+    omega (arith, ends-load c.loop-index.stretch c.stretch_of_mark.result)
 
 pub loop-index-preserved : goal.loop-index-preserved
 loop-index-preserved c =

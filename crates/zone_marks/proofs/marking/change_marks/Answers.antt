@@ -38,7 +38,7 @@ pub loop-first-preserved : goal.loop-first-preserved
 loop-first-preserved c =
     let l = c.loop-first.invariant.0 in
     let new = zone_in c.args.part.now.bytes in (
-      (let n = length-set c.loop-first.marks (c.loop-first.first - 1) c.changed_mark.new.mark in omega (arith, l, n)),
+      (let n = length-set c.loop-first.marks (c.loop-first.first - 1) c.changed_mark.new.mark in omega arith),
       c.raise_group.ensures c.loop-first.marks c.changed_mark.new.mark (omega arith) c.loop-first.invariant.1,
       λ old z a. changing-step _ _ _ _ z (replaced-order _ _ _ _ z) _ _ _ _ _ _ (omega arith) l
           (c.loop-first.invariant.2 old z a) c.changed_mark.ensures.at

@@ -20,21 +20,20 @@ loop-next-preserved c =
     let long = length-set c.loop-next.marks c.loop-next.next.index m in
     let at = c.packed_mark.ensures.at in (
       record {
-        below = marks-next _ _ _ _ m (omega (arith, inside))
+        below = marks-next _ _ _ _ m (omega arith)
             (subst (λ k. AreMarks k zone (take c.loop-next.next.index c.loop-next.marks)) (sym at) v.0.below)
-            (subst (λ k. Begins k 0 zone) (sym at) (v.0.begins (omega (arith, inside))))
+            (subst (λ k. Begins k 0 zone) (sym at) (v.0.begins (omega arith)))
             (subst (λ k. AtEach (AtMost m.most k edge) 0 zone) (sym at) c.packed_mark.ensures.bound)
-            (subst (λ k. AreTold m.tally (between k edge 0 zone)) (sym at) c.packed_mark.ensures.tally)
-            (omega (arith, at));
-        above = marks-left 4294967295 zone c.loop-next.marks c.loop-next.next.index m (omega (arith, inside)) v.0.above;
-        inside = omega (arith, long, inside);
+            (subst (λ k. AreTold m.tally (between k edge 0 zone)) (sym at) c.packed_mark.ensures.tally) (omega arith);
+        above = marks-left 4294967295 zone c.loop-next.marks c.loop-next.next.index m (omega arith) v.0.above;
+        inside = omega arith;
         begins = λ _. elim c.greater-edge.ensures.one [
-          | inl e ↦ subst (λ k. Begins k 0 zone) (sym e) (v.0.begins (omega (arith, inside)))
+          | inl e ↦ subst (λ k. Begins k 0 zone) (sym e) (v.0.begins (omega arith))
           | inr e ↦ subst (λ k. Begins k 0 zone) (sym e) (edge-begins _ _ _ c.requires.edges _ c.in-Some.ensures)
         ];
-        last = λ e. absurd (omega (arith, e, long, inside));
+        last = λ e. absurd (omega arith);
       },
       c.raise_group.ensures c.loop-next.marks m (omega arith) v.1,
       (omega arith),
-      (omega (arith, long)),
+      (omega arith),
     )

@@ -36,9 +36,9 @@ loop-index-preserved c =
     let told : Tallies = record { runs = tally.Known s.result.runs; spaces = c.spaces_told.result } in (
       length-set c.loop-index.marks c.loop-index.index _ ∙ n,
       c.raise_group.ensures c.loop-index.marks _ (omega arith) v.1,
-      marks-next _ _ _ _ _ (omega (arith, n)) v.2 b (bound-here _ _ _ i.2 _ _ _ b s.ensures.measured.most)
+      marks-next _ _ _ _ _ (omega arith) v.2 b (bound-here _ _ _ i.2 _ _ _ b s.ensures.measured.most)
           (search (rules, tally-here, told-both)) s.ensures.order,
-      marks-left 4294967295 (zone_in xs) c.loop-index.marks c.loop-index.index _ (omega (arith, n)) v.3,
-      λ k. begins-further _ _ _ i.2 _ _ b (s.ensures.edge (equal-no _ _ (omega (arith, k, n)))),
-      λ k. s.ensures.last (equal-yes (c.loop-index.index + 1) (length c.loop-index.marks) (omega (arith, k, n))),
+      marks-left 4294967295 (zone_in xs) c.loop-index.marks c.loop-index.index _ (omega arith) v.3,
+      λ k. begins-further _ _ _ i.2 _ _ b (s.ensures.edge (equal-no _ _ (omega arith))),
+      λ k. s.ensures.last (equal-yes (c.loop-index.index + 1) (length c.loop-index.marks) (omega arith)),
     )

@@ -10,4 +10,4 @@ pub room_in_stretch-requires-clause-begins : goal.room_in_stretch-requires-claus
 room_in_stretch-requires-clause-begins c = mark-begins _ _ _ _ _ (omega arith) c.requires.marks
 
 pub room_in_stretch-requires-clause-bound : goal.room_in_stretch-requires-clause-bound
-room_in_stretch-requires-clause-bound c = grind (arith, get_or, stretch-room)
+room_in_stretch-requires-clause-bound c = grind (arith, stretch-room)

@@ -16,21 +16,21 @@ loop-at-init c = walked-start Runs _ _ (λ p b. (free_of b ≤ 0) × (p < c.with
 pub join-runs-requires : goal.join-runs-requires
 join-runs-requires c =
     let f = walked-few _ _ _ _ _ _ c.loop-at.invariant in
-    omega (arith, f, prefix-counted, ap prefix c.runs.ensures, free-size c.span_at-span.ensures.here)
+    omega (arith, prefix-counted, ap prefix c.runs.ensures, free-size c.span_at-span.ensures.here)
 
 pub loop-at-preserved : goal.loop-at-preserved
 loop-at-preserved c =
     let m = c.greater-most.ensures in
     let s = c.span_at-span.ensures in
-    walked-step Runs _ _ _ _ _ c.loop-at.invariant _ (λ p b r. (omega (arith, m.first, r.0), r.1))
-    _ s.here s.is s.up s.way (omega (arith, m.second, s.bytes), c.loop-at-test.true) _ _
+    walked-step Runs _ _ _ _ _ c.loop-at.invariant _ (λ p b r. (omega arith, r.1))
+    _ s.here s.is s.up s.way (omega arith, c.loop-at-test.true) _ _
     (c.runs.ensures ∙ one-spanned s.here _ _ s.bytes s.ends ∙ sym (join-unit_right _)) c.join-runs.ensures.is
 
 pub returns-clause-edge : goal.returns-clause-edge
 returns-clause-edge c = search (rules, passed-begins)
 
 pub returns-clause-order : goal.returns-clause-order
-returns-clause-order c = let p = c.loop-at.invariant.passed in omega (arith, p.up)
+returns-clause-order c = let p = c.loop-at.invariant.passed in omega arith
 
 pub returns-clause-passed : goal.returns-clause-passed
 returns-clause-passed c = measured-edge _ _ _ _ _ _ c.loop-at.invariant _

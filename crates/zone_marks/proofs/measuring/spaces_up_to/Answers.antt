@@ -23,4 +23,4 @@ loop-at-preserved c =
 
 pub returns : goal.returns
 returns c = walked-below Spaces _ _ _ (λ p _. p < c.within-stop.result) _ c.loop-at.invariant c.args.place
-    (λ p _ r. omega (arith, r, c.within-stop.ensures.least)) (grind arith)
+    (λ p _ r. omega arith) (grind arith)

@@ -13,7 +13,7 @@ overflow_add-result c =
     let h = next-header c.args.at c.args.part.now.bytes c.requires.way c.requires.some in
     let r = c.read_word-first in
     let s = stepped _ _ c.requires.way c.requires.some (r.result - r.result % 16) (r.result % 16) (omega arith)
-    (omega arith) (omega (arith, r.ensures, h.tag)) in
+    (omega arith) (omega arith) in
     omega arith
 
 pub ends_run_at-requires-clause-inside : goal.ends_run_at-requires-clause-inside

@@ -27,7 +27,7 @@ overflow_add-end c =
 begins : (c : After-without_freed) (f : Freeing) → MayPurge f c.args.place c.args.part.now.bytes
     → Purging (purge_above c.if-eq.start f c.args.purges c.args.sparing) c.without_freed.result c.if-eq.start
     (c.args.place + c.read_header-header.result.size) c.args.purges 0 c.args.part.now.bytes
-begins c f m = grind (arith, says, then-eq, above-free, free-true, else-eq, above-other)
+begins c f m = grind (arith, says, above-free, above-other)
 
 pub purge_from-requires : goal.purge_from-requires
 purge_from-requires c = search (rules, begins)

@@ -9,4 +9,4 @@ returns-else-goes_on-clause-purged c = λ p u.
 
 pub returns-after-loop-pass-clause-purged : goal.returns-after-loop-pass-clause-purged
 returns-after-loop-pass-clause-purged c = λ p u.
-    purged p _ _ _ _ _ _ (c.loop-pass.invariant.passing p u) (omega (arith, c.len-end.ensures.count))
+    purged p _ _ _ _ _ _ (c.loop-pass.invariant.passing p u) (omega arith)

@@ -3,4 +3,4 @@ use Rattle.zone_marks.proofs.Bounds.Going.{stays-above, stays-lower}
 use Rattle.zone_marks.proofs.keeping.Landmarks.start.Goals as goal
 
 pub returns-clause-none : goal.returns-clause-none
-returns-clause-none c = grind (arith, stays-lower, stays-above)
+returns-clause-none c = grind (arith, stays-lower)
