@@ -43,12 +43,7 @@ module _ (zone : Splice) (bottom top : ℕ) (xs : List ℕ) (h : IsSplice zone b
   pub lies-put : (now : List Block) (new : List ℕ) → SameOutside bottom top xs new
       → Tiles (head_of zone.resource) (piece bottom (top - bottom) new) now → sizes now ≡ sizes zone.here
       → Leads bottom now new → Lies zone.resource (zone.below ++ (now ++ zone.above)) new
-  lies-put now new same t e l = record {
-    tiles = tiles-splice (head_of zone.resource) xs new zone.below zone.here zone.above now bottom top h.low h.high
-        h.lies.tiles same t;
-    leads = leads-splice xs new zone.below zone.here zone.above now bottom top h.low h.high e h.lies.leads same clear.0
-        clear.1 l;
-  }
+  lies-put now new same t e l = grind (arith, tiles-splice, leads-splice, clear)
 
   -- one Free block
   pub freed : let new = written bottom (word (top - bottom)) xs in

@@ -31,33 +31,25 @@ use Rattle.zone_bytes.proofs.Joined.Ways.{tile-at}
 
 -- where a slot leads hangs on the block's names alone
 pub leads-each : (o : ℕ) (b : Block) (xs : List ℕ) → LeadsTo o b xs → Each (λ s. piece s 4 xs ≡ word o) (names_of b)
-leads-each o (Free n) xs l = tt
-leads-each o (Nonrelocatable id content) xs l = tt
-leads-each o Masters xs l = tt
 leads-each o (Relocatable slot flags content) xs l = (l, tt)
+leads-each o _ xs l = tt
 
 pub each-leads : (o : ℕ) (b : Block) (xs : List ℕ) → Each (λ s. piece s 4 xs ≡ word o) (names_of b) → LeadsTo o b xs
-each-leads o (Free n) xs e = tt
-each-leads o (Nonrelocatable id content) xs e = tt
-each-leads o Masters xs e = tt
 each-leads o (Relocatable slot flags content) xs e = e.0
+each-leads o _ xs e = tt
 
 pub no-slots : (b : Block) → is_masters b ≡ false → (s : ℕ) → IsSlot s (b ∷ []) → ⊥
-no-slots (Free n) m s i = elim i [ inl k ↦ k | inr k ↦ k.1 ]
-no-slots (Nonrelocatable id content) m s i = elim i [ inl k ↦ k | inr k ↦ k.1 ]
 no-slots Masters m s i = absurd (false≢true (sym m))
-no-slots (Relocatable slot flags content) m s i = elim i [ inl k ↦ k | inr k ↦ k.1 ]
+no-slots _ m s i = elim i [ inl k ↦ k | inr k ↦ k.1 ]
 
 -- another block that counts as much leaves a sum
 pub total-same : (of : Block → ℕ) (below above : List Block) (b c : Block) → of c ≡ of b
     → total of (below ++ c ∷ above) ≡ total of (below ++ b ∷ above)
-total-same of below above b c e = total-append of _ _
-    ∙ ap (λ v. total of below + (v + total of above)) e ∙ sym (total-append of _ _)
+total-same of below above b c e = grind (arith, total-append)
 
 pub masters-same : (below above : List Block) (b c : Block) → is_masters c ≡ is_masters b
     → count is_masters (below ++ c ∷ above) ≡ count is_masters (below ++ b ∷ above)
-masters-same below above b c e = total-same (λ b. if is_masters b then 1 else 0) _ _ b c
-    (ap (λ v. if v then 1 else 0) e)
+masters-same below above b c e = grind (arith, total-same)
 
 -- neither a block that holds none nor Free bytes above it have slots
 pub no-slots-two : (b : Block) (k : ℕ) → is_masters b ≡ false → (s : ℕ) → IsSlot s (b ∷ free k) → ⊥
@@ -106,8 +98,7 @@ module _ (xs : List ℕ) (first count : ℕ) (i : IsSound xs first count) (below
   was = subst (λ z. Lays xs z (slot_in xs) i.unused) whole i.lays
 
   of-old : Each (λ s. IsSlot s all) (names_of b)
-  of-old = subst (Each (λ s. IsSlot s all)) (sym n) (each-names (λ s. IsSlot s all) old above
-      (each-names (λ s. IsSlot s all) below (old ++ above) was.has_slots.slots).1).0
+  of-old = grind (arith, each-names, was)
 
   leads-new : LeadsTo place b new
   leads-new =
@@ -118,9 +109,8 @@ module _ (xs : List ℕ) (first count : ℕ) (i : IsSound xs first count) (below
       (λ s j q. piece-outside _ _ _ _ s same (outside z _ _ _ st s j) ∙ q) _ of-old lead)
 
   pub put-lays : Lays new (below ++ ((b ∷ free k) ++ above)) (slot_in xs) i.unused
-  put-lays =
-      replaced _ _ _ _ (slot_in xs) _ was _ _ low high some plain (b ∷ free k) new same t span
-      (ap (λ l. names_of b ++ l) (names-free k) ∙ append-nil (names_of b) ∙ n) (no-slots-two b k solid)
+  put-lays = replaced _ _ _ _ (slot_in xs) _ was _ _ low high some plain (b ∷ free k) new same t span
+      (grind arith) (no-slots-two b k solid)
       (p, placed-run _ (free k) (each-free k)) (leads-new, leads-free (place + size b) k new)
 
 module _ (xs : List ℕ) (first count : ℕ) (i : IsSound xs first count) (below : List Block) (here : Block)
@@ -129,8 +119,7 @@ module _ (xs : List ℕ) (first count : ℕ) (i : IsSound xs first count) (below
   head = head_of (λ s. is_resource (slot_in xs s))
 
   pub tile : Tile (head here) (size here) (drop place xs)
-  tile = tile-at xs below here above (slot_in xs) i.unused
-      (subst (λ z. Lays xs z (slot_in xs) i.unused) whole i.lays) place low
+  tile = tile-at xs below here above (slot_in xs) i.unused (grind arith) place low
 
   pub fits : place + size here ≤ length xs
   fits = omega (arith, tile.fits, length-drop place xs, tile.some)

@@ -73,15 +73,11 @@ module _ (xs : List ℕ) (first count : ℕ) (i : IsSound xs first count) (place
 
 pub masters-flagged : (flags : Flags) (below : List Block) (b : Block) (above : List Block)
     → count is_masters (below ++ with_flags flags b ∷ above) ≡ count is_masters (below ++ b ∷ above)
-masters-flagged flags below (Free n) above = refl
-masters-flagged flags below (Nonrelocatable id content) above = refl
-masters-flagged flags below Masters above = refl
 masters-flagged flags below (Relocatable slot old content) above = masters-same _ _ _ _ refl
+masters-flagged flags below _ above = refl
 
 -- the Free bytes stay
 pub free-flagged : (flags : Flags) (below : List Block) (b : Block) (above : List Block)
     → free_sum (below ++ with_flags flags b ∷ above) ≡ free_sum (below ++ b ∷ above)
-free-flagged flags below (Free n) above = refl
-free-flagged flags below (Nonrelocatable id content) above = refl
-free-flagged flags below Masters above = refl
 free-flagged flags below (Relocatable slot old content) above = total-same free_of _ _ _ _ refl
+free-flagged flags below _ above = refl

@@ -60,8 +60,7 @@ module _ (xs : List ℕ) (first count : ℕ) (i : IsSound xs first count) (place
 
   -- a write behind a header
   past : (h content : List ℕ) → length h ≡ 16 → written (16 + from) x (h ++ content) ≡ h ++ written from x content
-  past h content l = (let e : 16 + from ≡ length h + from = omega (arith, l) in ap (λ m. written m x (h ++ content)) e)
-      ∙ written-past h content x from
+  past h content l = grind (arith, written-past)
 
   pub written-in : (below : List Block) (here : Block) (above : List Block)
       (whole : zone_in xs ≡ below ++ here ∷ above) (low : sizes below ≡ place)
@@ -101,9 +100,7 @@ masters-kept x below b above = masters-same below above b (with_content x b) (is
 
 pub free-content : (x : List ℕ) (b : Block) → free_of (with_content x b) ≡ free_of b
 free-content x (Free n) = refl
-free-content x (Nonrelocatable id content) = refl
-free-content x Masters = refl
-free-content x (Relocatable slot flags content) = refl
+free-content x _ = refl
 
 -- the Free bytes stay
 pub free-kept : (x : List ℕ) (below : List Block) (b : Block) (above : List Block)

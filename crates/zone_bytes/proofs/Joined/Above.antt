@@ -25,9 +25,7 @@ not_free-is _ k = refl
 
 pub free-other : (b : Block) → 0 < kind b → free_of b ≡ 0
 free-other (Free n) k = absurd (let z : 0 < 0 = k in omega (arith, z))
-free-other (Nonrelocatable id content) k = refl
-free-other Masters k = refl
-free-other (Relocatable slot flags content) k = refl
+free-other _ k = refl
 
 module _ (j : Joining) (start at : ℕ) (xs : List ℕ) (m : MayJoin j start at xs) where
   here-laid : Lays xs ((j.below ++ free (at - start)) ++ j.above) j.slots j.unused

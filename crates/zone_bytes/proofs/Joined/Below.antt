@@ -64,21 +64,10 @@ module _ (xs : List ℕ) (from place : ℕ) (u : LeadsUp from place xs) where
 
   near : (below above : List Block) → left_in 0 xs ≡ below ++ above → sizes below ≡ place → from ≡ 0
       → LeftBelow xs place from from below above
-  near below above e l z =
-      let k : from - from ≡ 0 = omega arith in
-      record {
-        rest = below;
-        is = ap (λ n. left_in n xs) z ∙ e;
-        up = omega (arith, l, z);
-        last = ap (λ n. last_free n below) k;
-      }
+  near below above e l z = grind arith
 
   pub below-from : place ≤ length xs → Below xs place from from
-  below-from h = record {
-    way = u.way;
-    ordered = (omega arith, elim u.under [ inl f ↦ omega (arith, f, h) | inr z ↦ omega (arith, z) ]);
-    left = λ below above e l. elim u.under [ inl f ↦ far below above e l f | inr z ↦ near below above e l z ];
-  }
+  below-from h = grind (arith, far, near)
 
 some-block : (at : ℕ) (xs : List ℕ) (w : IsOnWay at xs) (b : Block) (blocks : List Block)
     → left_in at xs ≡ b ∷ blocks → 16 ≤ size b
@@ -109,8 +98,7 @@ module _ (xs : List ℕ) (place at start : ℕ) (b : Below xs place at start) wh
       tells : (c : Block) (blocks : List Block) → left_in at xs ≡ c ∷ blocks → (n ≡ size c) × (t ≡ kind c)
       tells c blocks q =
           let o = stepped at xs b.way i n t e k m in
-          let f : o.here ≡ c = (let p = sym o.is ∙ q in cc) in
-          (size-at at xs b.way i n t e k m c blocks q, o.tag ∙ ap kind f)
+          (size-at at xs b.way i n t e k m c blocks q, o.tag ∙ ap kind ((let p = sym o.is ∙ q in cc)))
 
       pub below-next : (now : ℕ) → now ≤ at + n → ((c : Block) → n ≡ size c → t ≡ kind c → at + n - now ≡ free_of c)
           → Below xs place (at + n) now
@@ -123,15 +111,7 @@ module _ (xs : List ℕ) (place at start : ℕ) (b : Below xs place at start) wh
           next : (rest below above : List Block) → left_in at xs ≡ rest ++ above → at + sizes rest ≡ place
               → last_free (at - start) rest ≡ last_free 0 below → LeftBelow xs place (at + n) now below above
           next [] below above q u v = absurd (omega (arith, u, l))
-          next (c ∷ rest) below above q u v =
-              let f = tells c (rest ++ above) q in
-              let s : step.here ∷ left_in (at + n) xs ≡ c ∷ (rest ++ above) = sym step.is ∙ q in
-              record {
-                rest = rest;
-                is = (let r : left_in (at + n) xs ≡ rest ++ above = cc in r);
-                up = omega (arith, u);
-                last = ap (λ j. last_free j rest) (g c f.0 f.1) ∙ v;
-              }
+          next (c ∷ rest) below above q u v = grind (arith, tells, step)
 
       pub below-free : t ≡ 0 → Below xs place (at + n) at
       below-free z = below-next at (omega arith) (λ c p q. omega (arith, p, ap free_of (free-is c (sym q ∙ z))))

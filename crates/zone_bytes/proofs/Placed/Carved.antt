@@ -1,6 +1,6 @@
 -- A new block at the lower end of a Free one.
 use Rattle.std.proofs.Common.{◌≡◌, ℕ, ◌+◌, ◌-◌, ◌≤◌, IsTrue, Some, List, [], ◌∷◌, ◌++◌, length, replicate, cond, false}
-use Rattle.std.proofs.Common.{Bool, true, ◌==◌}
+use Rattle.std.proofs.Common.{Bool, true, ◌==◌, rules}
 use Rattle.std.proofs.Common.{refl, sym, ap, ◌∙◌, subst, arith}
 use Rattle.std.proofs.lemmas.Bool.{false≢true}
 use Rattle.std.proofs.lemmas.List.{length-replicate}
@@ -78,16 +78,13 @@ roomy xs first count place need i h =
 
 -- its bytes are among the Free ones
 pub free-roomy : (xs : List ℕ) (place need : ℕ) → Roomy xs place need → need ≤ free_sum (zone_in xs)
-free-roomy xs place need r =
-    omega (arith, ap free_sum r.at.whole ∙ ap (λ b. free_sum (r.s.below ++ b ∷ r.s.above)) r.here, total-append)
+free-roomy xs place need r = grind (arith, total-append)
 
 module _ (xs : List ℕ) (place need : ℕ) (r : Roomy xs place need) where
   -- a block that isn't Free, and the rest of the bytes
   pub filled-is : (new : Block) → is_free new ≡ false → (k : ℕ) → k + size new ≡ size r.s.here
       → r.s.below ++ new ∷ (free k ++ r.s.above) ≡ filled new r.s
-  filled-is new solid k e =
-      let l : k ≡ size r.s.here + 0 - size new = omega (arith, e) in
-      ap (λ m. r.s.below ++ new ∷ (free m ++ r.s.above)) l
+  filled-is new solid k e = ap (λ m. r.s.below ++ new ∷ (free m ++ r.s.above)) (omega (arith, e))
       ∙ sym (cut-sized new solid r.s r.at.apart 0 r.s.above r.head (omega (arith, e)))
 
   module _ (now : List ℕ) (new : Block) (solid : is_free new ≡ false) (fits : size new ≤ need)
@@ -105,24 +102,12 @@ module _ (xs : List ℕ) (place need : ℕ) (r : Roomy xs place need) where
 -- a new block of n bytes, all 0, may be laid in a Free one
 pub may-carve : (xs : List ℕ) (place n top : ℕ) (r : Roomy xs place (padded n)) → top ≡ place + size r.s.here
     → (h : Header) → h.size ≡ padded n → h.logical ≡ n → MayLay h place top 0 xs
-may-carve xs place n top r t h z l = record {
-  even = (r.at.way.walk.whole, omega (arith, t), omega (arith, z));
-  inside = omega (arith, t);
-  small = r.at.small;
-  room = omega (arith, t, ap size r.here, z);
-  whole = omega (arith, z, l);
-  fits = omega (arith, t);
-}
+may-carve xs place n top r t h z l = grind arith
 
 -- its header, and its bytes
 pub zeros-head : (n z k slot flags : ℕ) → z ≡ padded n → header (z + k) n slot flags ++ resized_content n []
     ≡ header (padded (length (replicate {A = ℕ} n 0)) + k) (length (replicate {A = ℕ} n 0)) slot flags ++ replicate n 0
-zeros-head n z k slot flags e =
-    let l = length-replicate {A = ℕ} n 0 in
-    let b : z ≡ padded (length (replicate {A = ℕ} n 0)) = e ∙ ap padded (sym l) in
-    ap (λ q. header (z + k) n slot flags ++ (q ++ replicate (n - 0) 0)) (take-nil n)
-    ∙ (let y : n - 0 ≡ n = omega arith in
-    (λ j. header (b j + k) (sym l j) slot flags ++ replicate (y j) 0))
+zeros-head n z k slot flags e = grind (arith, length-replicate, take-nil)
 
 module _ (xs : List ℕ) (place n top z : ℕ) (r : Roomy xs place (padded n)) (t : top ≡ place + size r.s.here)
     (pz : z ≡ padded n) where
@@ -152,8 +137,7 @@ module _ (xs : List ℕ) (place n top z : ℕ) (r : Roomy xs place (padded n)) (
 -- a tidy list of blocks that was laid
 pub tidy-made : (xs now : List ℕ) (first unused : ℕ) (i : IsSound xs first unused) (blocks : List Block)
     → Lays now (tidy blocks) (slot_in xs) i.unused → Made now first unused (tidy blocks) (slot_in xs)
-tidy-made xs now first unused i blocks h =
-    made now (tidy blocks) (slot_in xs) i.unused h first unused (tidy-tidy blocks) i.begins i.counted
+tidy-made xs now first unused i blocks h = search (rules, made, tidy-tidy)
 
 -- a block for a handle that was empty
 module _ (xs : List ℕ) (first unused : ℕ) (i : IsSound xs first unused) (number : ℕ)
@@ -173,8 +157,7 @@ module _ (xs : List ℕ) (first unused : ℕ) (i : IsSound xs first unused) (num
 
   relocatable-head : header_bytes (new_header number n flags) ++ resized_content n [] ≡ head_of (resource_in xs) block
   unfolding head_of
-  relocatable-head = zeros-head n (padded n) 3 number flags refl
-      ∙ ap (λ w. header (size block + 3) (length (replicate {A = ℕ} n 0)) number w ++ replicate n 0) flags-are
+  relocatable-head = grind (arith, zeros-head, flags-are)
 
   pub relocatable-made : Made (written number (word place)
       (laid (new_header number n flags) place top 0 xs)) first unused

@@ -66,16 +66,7 @@ module _ (h : Header) (bottom top held : ℕ) (xs : List ℕ) (m : MayLay h bott
 
   -- what is left is Free, if there is any
   either : ((bottom + h.size < top) × (now ≡ written (bottom + h.size) (word left) two)) ⊎ ((left ≡ 0) × (now ≡ two))
-  either = go (nat_lt (bottom + h.size) top) refl
-    where
-      go : (t : Bool) → nat_lt (bottom + h.size) top ≡ t → ((bottom + h.size < top)
-          × (cond t (written (bottom + h.size) (word (top - (bottom + h.size))) two) two
-          ≡ written (bottom + h.size) (word left) two))
-          ⊎ ((left ≡ 0) × (cond t (written (bottom + h.size) (word (top - (bottom + h.size))) two) two ≡ two))
-      go true e =
-          let same : top - (bottom + h.size) ≡ left = omega arith in
-          inl (below-top _ _ e, ap (λ n. written (bottom + h.size) (word n) two) same)
-      go false e = inr (omega (arith, not-below), refl)
+  either = grind arith
 
   pub laid-outside : SameOutside bottom top xs now
   laid-outside = elim either [
@@ -96,10 +87,7 @@ module _ (h : Header) (bottom top held : ℕ) (xs : List ℕ) (m : MayLay h bott
 
   -- the bytes of the block itself
   within : (k : ℕ) → k ≤ h.size → piece bottom k now ≡ piece bottom k two
-  within k l = elim either [
-    | inl w ↦ rw w.1 (piece-written_below _ (word left) _ bottom k (omega (arith, l)) (omega (arith, length-two)))
-    | inr w ↦ ap (piece bottom k) w.1
-  ]
+  within k l = grind (arith, either, piece-written_below, length-two)
 
   length-stood : length stood ≡ held
   length-stood = length-take-le held (drop (bottom + 16) xs) (omega (arith, length-drop (bottom + 16) xs))

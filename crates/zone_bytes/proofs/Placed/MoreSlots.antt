@@ -56,9 +56,7 @@ has-masters place size first xs new m o thread = record {
   outside = outside-within _ _ _ _ _ _ _ (omega arith) (omega arith) (laid-outside _ _ _ _ _ m) o;
   begins = sym (drop-take place 16 new) ∙ ap (drop place) o.low
       ∙ drop-take place 16 (laid masters_header place (place + size) 256 xs) ∙ laid-first _ _ _ _ _ m;
-  rest =
-      let e : place + size - place - 272 ≡ size - 272 = omega arith in
-      subst (λ k. (k ≡ 0) ⊎ ((0 < k) × (piece (place + 272) 4 new ≡ word k))) e
+  rest = subst (λ k. (k ≡ 0) ⊎ ((0 < k) × (piece (place + 272) 4 new ≡ word k))) (omega arith)
       (elim (laid-left _ _ _ _ _ m) [ inl z ↦ inl z | inr z ↦ inr (z.0, ap (take 4) o.high ∙ z.1) ]);
   thread = thread;
 }
@@ -152,19 +150,10 @@ module _ (xs : List ℕ) (below above : List Block) (n : ℕ) (slots : ℕ → S
   module _ (new : List ℕ) (m : HasMasters place n (first_of unused) xs new) where
     masters-tile : Tile (head_of resource Masters) 272 (drop place new)
     unfolding head_of
-    masters-tile =
-        let l = length-header 274 256 0 0 in
-        record {
-          fits = (let o = m.outside.kept in omega (arith, length-drop place new, o, room));
-          whole = refl;
-          some = omega arith;
-          room = omega (arith, l);
-          begins = ap (λ j. take j (drop place new)) l ∙ m.begins;
-        }
+    masters-tile = grind (arith, length-header, length-drop)
 
     tiles : Tiles (head_of resource) (piece place (top - place) new) put
-    tiles =
-        tiles-two resource _ _ _ _ new (omega (arith, room)) (let o = m.outside in omega arith)
+    tiles = tiles-two resource _ _ _ _ new (omega (arith, room)) (omega arith)
         (omega (arith, evens)) masters-tile m.rest
 
     lies : Lies resource with_masters new

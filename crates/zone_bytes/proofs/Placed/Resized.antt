@@ -62,7 +62,7 @@ module _ (xs now : List ℕ) (first unused place n : ℕ) (i : IsSound xs first 
             made = made _ _ (slot_in xs) _ h _ _
                 (tidy-tidy (s.below ++ new ∷ Free (size s.here - size new) ∷ s.above)) i.begins i.counted;
             masters = masters-cut n s ∙ ap (count is_masters) (sym at.whole);
-            given = (omega (arith, given-filled, given-whole));
+            given = omega (arith, given-filled, given-whole);
             cut = λ l. refl;
             grown = λ more. absurd (omega (arith, le, more));
           }
@@ -76,7 +76,7 @@ module _ (xs now : List ℕ) (first unused place n : ℕ) (i : IsSound xs first 
             made = made _ _ (slot_in xs) _ (subst (λ o. IfSome o (λ after. Lays now after (slot_in xs) i.unused)) g.1 h) _ _ (tidy-grown n s g.0 more at.tidied g.1) i.begins i.counted;
             masters = count-grown is_masters (λ m. refl) new s g.0 (is_masters-resized n s.here) g.1
                 ∙ ap (count is_masters) (sym at.whole);
-            given = (omega (arith, given-grown, given-whole));
+            given = omega (arith, given-grown, given-whole);
             cut = λ le. absurd (omega (arith, le, more));
             grown = λ m. subst (λ o. IfSome o (λ after. g.0 ≡ after)) (sym g.1) refl;
           }
@@ -87,8 +87,7 @@ module _ (xs now : List ℕ) (first unused place n : ℕ) (i : IsSound xs first 
 
   pub grown-zone : IfSome (spot_at place (zone_in xs)) (λ s. size s.here < size (resized n s.here)
       → IfSome (grow_up (resized n s.here) s) (λ after. zone_in now ≡ after))
-  grown-zone = rw e (λ more. subst (λ bs. IfSome (grow_up new s) (λ after. bs ≡ after)) (sym resize-made.made.zone)
-      (resize-made.grown more))
+  grown-zone = grind (arith, resize-made)
 
   -- so the blocks from the place up to the top of the Free block above became others
   pub resize-replaced : is_free new ≡ false → size new ≤ size s.here + free_first s.above

@@ -81,7 +81,6 @@ standing xs first count place i s e =
 pub held-piece : (resource : ℕ → Bool) (b : Block) (at : ℕ) (xs : List ℕ)
     → Tile (head_of resource b) (size b) (drop at xs) → piece (at + 16) (length (content_of b)) xs ≡ content_of b
 unfolding head_of
-held-piece resource (Free n) at xs t = refl
 held-piece resource (Nonrelocatable id content) at xs t = (header-told _ _ 0 0 at content xs t).holds
-held-piece resource Masters at xs t = refl
 held-piece resource (Relocatable slot flags content) at xs t = (header-told _ _ slot _ at content xs t).holds
+held-piece resource _ at xs t = refl

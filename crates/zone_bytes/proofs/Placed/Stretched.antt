@@ -1,5 +1,5 @@
 -- A stretch of a zone in which one block is laid, and the rest is Free.
-use Rattle.std.proofs.Common.{◌≡◌, ℕ, Bool, false, ◌+◌, ◌-◌, ◌%◌, ◌<◌, ◌≤◌, ◌⊎◌, inl, inr, List, ◌∷◌, ◌++◌}
+use Rattle.std.proofs.Common.{◌≡◌, ℕ, Bool, false, ◌+◌, ◌-◌, ◌%◌, ◌<◌, ◌≤◌, ◌⊎◌, inl, inr, List, ◌∷◌, ◌++◌, rules}
 use Rattle.std.proofs.Common.{length, take, drop, sym, ap, ◌∙◌, subst, arith}
 use Rattle.std.proofs.lemmas.List.{length-drop, length-take-le, take-take, drop-drop, drop-take}
 use Rattle.windows.specs.Writes.{piece}
@@ -35,10 +35,7 @@ tiles-two resource b k at len new e fits even t w =
     let above = free-tiles resource k (piece (at + size b) k new) l even (elim w [
       | inl z ↦ inl z
       | inr z ↦ inr (z.0, take-take 4 k (drop (at + size b) new) (omega (arith, z.0, even)) ∙ z.1)
-    ]) in (
-      tile-take head (head b) (size b) len (drop at new) (omega (arith, e)) (omega (arith, d, fits)) t,
-      subst (λ j. Tiles head j (free k)) (sym cut) above,
-    )
+    ]) in search (rules, tile-take)
 
 -- a block that was laid, and what is left above it
 pub laid-tiles : (h : Header) (place top held : ℕ) (xs : List ℕ) (may : MayLay h place top held xs) (resource : ℕ

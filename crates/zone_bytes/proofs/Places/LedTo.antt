@@ -48,9 +48,7 @@ module _ (xs : List ℕ) (first count : ℕ) (i : IsSound xs first count) (numbe
   led-at = spot_at-spot (is_relocatable number) (zone_in xs) s (apart-tidied (zone_in xs) i.tidied) e
 
   is-slot : IsSlot number (zone_in xs)
-  is-slot =
-      let P : ℕ → Type 0 = λ s. IsSlot s (zone_in xs) in
-      (each-names P s.below (block ∷ s.above) (subst (λ z. Each P (names z)) whole i.lays.has_slots.slots)).1.0
+  is-slot = grind (arith, each-names, whole)
 
   pub led-slot : (number % 4 ≡ 0) × (number + 4 ≤ length xs)
   led-slot = slot-in xs (zone_in xs) (slot_in xs) i.unused i.lays number is-slot

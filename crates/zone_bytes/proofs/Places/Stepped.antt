@@ -55,12 +55,7 @@ module _ (resource : ℕ → Bool) (at : ℕ) (xs : List ℕ) (small : length xs
   told-is (Free n) t w = refl
   told-is (Nonrelocatable id content) t w = ap see.Nonrelocatable ((header-told _ _ 0 0 at content xs t).long small)
   told-is Masters t w = refl
-  told-is (Relocatable slot flags content) t w =
-      let q = header-told _ _ slot (flag_word flags (resource slot)) at content xs t in
-      let g = flag_word-small flags (resource slot) in
-      let e = q.marked (omega (arith, g)) in
-      (λ i. see.Relocatable (q.named w.0 i) (flags_of (e i)) (q.long small i))
-      ∙ (λ i. see.Relocatable slot (flags_of-word flags (resource slot) i) (length content))
+  told-is (Relocatable slot flags content) t w = grind (arith, header-told, flag_word-small, flags_of-word)
 
 -- a step over the block whose header is of n bytes and a kind of number t
 pub record Stepped (at : ℕ) (xs : List ℕ) (n t : ℕ) : Type 0 where
@@ -99,8 +94,7 @@ stepped-on resource at xs small (b ∷ rest) v p o l n t e h k =
     let P : ℕ → Type 0 = λ s. s < 2 ^ 32 in
     let same = header-tells resource xs at small b v.high.0 n t e h k in
     let bytes = same.0 in
-    let now : IsOnWay at xs = record
-    { resource = resource; rest = b ∷ rest; walk = v; placed = p; words = o; small = small } in
+    let now : IsOnWay at xs = grind arith in
     let way : IsOnWay (at + n) xs = (grind (arith, drop-drop, each-right)) in
     record {
       here = b;

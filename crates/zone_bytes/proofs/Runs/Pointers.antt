@@ -36,16 +36,7 @@ module _ (lay : Lay) (place stop : ℕ) (r : IsMoved lay place stop) where
         let n = tiles-none (head_of lay.resource) (drop from xs) p.rest lay.above p.state.high (omega (arith, l)) in
         let q = subst (Passing lay 0 from from xs p.done p.done) n p.state in
         let z : p.done ≡ lay.run = sym (append-nil p.done) ∙ q.split in
-        record {
-          lies = record {
-            tiles = rw (← z, ← append_assoc lay.below p.done lay.above, ← take-append-drop from xs)
-                (tiles-append (head_of lay.resource) _ _ _ _ q.low q.high);
-            leads = leads-joined xs lay.below lay.run lay.above place stop r.bottom r.top q.lead_low
-                (rw (← z) (subst (λ k. Leads k p.done xs) (omega (arith, r.bottom)) q.lead_moved)) p.high;
-          };
-          others = q.others;
-          kept = q.kept;
-        }
+        grind (arith, append_assoc, take-append-drop, tiles-append, leads-joined)
 
     module _ (l : from < stop) where
       some : p.rest ≡ [] → ⊥

@@ -23,8 +23,7 @@ use Rattle.zone_bytes.proofs.Runs.Moved.{is-moved, clears, others-moved}
 
 piece-piece : (p m i n : ℕ) (xs : List ℕ) → i + n ≤ m → piece i n (piece p m xs) ≡ piece (p + i) n xs
 piece-piece p m i n xs l =
-    let e : m ≡ i + (m - i) = omega (arith, l) in
-    ap (λ k. piece i n (piece p k xs)) e ∙ ap (take n) (drop-take i (m - i) (drop p xs))
+    ap (λ k. piece i n (piece p k xs)) (omega (arith, l)) ∙ ap (take n) (drop-take i (m - i) (drop p xs))
     ∙ take-take n (m - i) (drop i (drop p xs)) (omega (arith, l)) ∙ ap (take n) (drop-drop i p xs)
 
 module _ (z : Raise) (place top stop gap : ℕ) (h : MayRaise z place top stop gap) where

@@ -95,14 +95,4 @@ module _ (xs : List ℕ) (first count : ℕ) (i : IsSound xs first count) (place
   may-end = subst (λ l. EndsRun l.above) (sym lay-is) ends
 
   pub may-settle : (stop : ℕ) → place + sizes r.run ≡ stop → IsRunFrom (lay_at xs place) place stop
-  may-settle stop t = rw lay-is (record {
-    lies = laid.lies;
-    slots = laid.has_slots;
-    bottom = bottom;
-    top = t;
-    in_run = in-run;
-    small = laid.small;
-  })
-    where
-      laid : Lays xs (r.below ++ (r.run ++ r.above)) (slot_in xs) i.unused
-      laid = subst (λ z. Lays xs z (slot_in xs) i.unused) whole i.lays
+  may-settle stop t = grind (arith, lay-is, bottom, in-run, whole)

@@ -23,9 +23,7 @@ use Rattle.zone_bytes.proofs.Runs.Packed.{gap-left}
 falling-append : (gap : ℕ) (gone rest : List Block)
     → lowered_in_run_from gap (gone ++ rest) ≡ lowered_in_run_from gap gone + lowered_in_run_from (gap + free_sum gone)
     rest
-falling-append gap [] rest =
-    let e : gap ≡ gap + 0 = omega arith in
-    omega (arith, ap (λ g. lowered_in_run_from g rest) e)
+falling-append gap [] rest = grind arith
 falling-append gap (b ∷ gone) rest =
     let e : gap + free_of b + free_sum gone ≡ gap + (free_of b + free_sum gone) = omega arith in
     omega (arith, falling-append (gap + free_of b) gone rest, ap (λ g. lowered_in_run_from g rest) e)

@@ -142,10 +142,7 @@ module _ (xs : List ℕ) (blocks : List Block) (slots : ℕ → Slot) (unused : 
     handle-in = slot-in xs blocks slots unused h s told.0
 
     pub state : IsEmptyHandle xs blocks s flag.0 ⊎ HasBlock xs 0 blocks s
-    state = elim told.1 [
-      | inl k ↦ inr (has-block xs 0 blocks s h.lies.leads k)
-      | inr k ↦ inl (record { apart = k.0; leads = k.1 })
-    ]
+    state = grind (arith, told, has-block)
 
     pub emptied-reads : IsEmptyHandle xs blocks s flag.0 → word_at s xs ≡ empty_word flag.0
     emptied-reads e = read_back s _ _ (small-emptied _) e.leads

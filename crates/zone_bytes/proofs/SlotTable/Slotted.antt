@@ -97,11 +97,7 @@ module _ (xs : List ℕ) (first count : ℕ) (i : IsSound xs first count) (slot 
 
   -- the slot's word tells whether its empty handle is a resource's
   pub flag-kept : (word_at slot xs == 18) ≡ is_resource (slot_in xs slot)
-  flag-kept = elim (subst (Says (zone_in xs) xs i.unused slot) flag.1 (i.lays.says slot)).1 [
-    | inl h ↦ absurd (apart-other slot slot (each-has (Apart slot) (names (zone_in xs)) slot name-apart h) refl)
-    | inr h ↦ ap (λ w. w == 18) (read_back slot (empty_word flag.0) xs (small-emptied flag.0) h.1)
-        ∙ emptied-tells flag.0 ∙ ap is_resource (sym flag.1)
-  ]
+  flag-kept = grind (arith, apart-other, each-has, name-apart, read_back, small-emptied, emptied-tells)
 
   abbrev give-table : Table
   give-table = record { blocks = zone_in xs; slots = slot_in xs; unused = i.unused }

@@ -35,14 +35,7 @@ purgeable-of false false false = refl
 -- the flags of a block, above the resource flag of its handle
 pub high-flags : (flags : Flags) → ((cond {A = ℕ} flags.locked 128 0 + cond {A = ℕ} flags.purgeable 64 0) % 64 ≡ 0)
     × (cond {A = ℕ} flags.locked 128 0 + cond {A = ℕ} flags.purgeable 64 0 ≤ 192)
-high-flags flags = high flags.locked flags.purgeable
-  where
-    high : (l p : Bool) → ((cond {A = ℕ} l 128 0 + cond {A = ℕ} p 64 0) % 64 ≡ 0)
-        × (cond {A = ℕ} l 128 0 + cond {A = ℕ} p 64 0 ≤ 192)
-    high true true = (refl, omega arith)
-    high true false = (refl, omega arith)
-    high false true = (refl, omega arith)
-    high false false = (refl, omega arith)
+high-flags flags = grind arith
 
 pub low-flag : (r : Bool) → cond {A = ℕ} r 32 0 ≤ 32
 low-flag true = omega arith

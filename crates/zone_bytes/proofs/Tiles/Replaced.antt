@@ -23,17 +23,7 @@ module _ (xs : List ℕ) (below here above : List Block) (slots : ℕ → Slot) 
   all = below ++ (here ++ above)
 
   pub is-splice : IsSplice zone bottom top xs
-  is-splice =
-      let e = each-names (λ s. IsSlot s all) below (here ++ above) h.has_slots.slots in
-      record {
-        lies = h.lies;
-        low = low;
-        high = high;
-        some = some;
-        small = h.small;
-        slots = (e.0, (each-names (λ s. IsSlot s all) here above e.1).1);
-        no_masters = none;
-      }
+  is-splice = grind (arith, each-names)
 
   module _ (now : List Block) (new : List ℕ) (same : SameOutside bottom top xs new)
       (t : Tiles (head_of (λ s. is_resource (slots s))) (piece bottom (top - bottom) new) now)

@@ -41,22 +41,13 @@ slot-split s (b ∷ ls) ms (inl i) = inl (inl i)
 slot-split s (b ∷ ls) ms (inr i) = elim (slot-split (s - size b) ls ms i.1) [
   | inl j ↦ inl (inr (i.0, j))
   | inr j ↦
-      let e : s - size b - sizes ls ≡ s - (size b + sizes ls) = omega arith in
-      inr (omega (arith, i.0, j.0), subst (λ k. IsSlot k ms) e j.1)
+      inr (omega (arith, i.0, j.0), subst (λ k. IsSlot k ms) (omega arith) j.1)
 ]
 
 -- a slot is below a stretch that has none, or above it
 pub slot-beside : (s : ℕ) (ls ms ns : List Block) (lo hi : ℕ) → (IsSlot (s - sizes ls) ms → ⊥) → sizes ls ≡ lo
     → lo + sizes ms ≡ hi → IsSlot s (ls ++ (ms ++ ns)) → ((s + 4 ≤ lo) × IsSlot s ls) ⊎ ((hi ≤ s) × IsSlot (s - hi) ns)
-slot-beside s ls ms ns lo hi none a b i = elim (slot-split s ls (ms ++ ns) i) [
-  | inl j ↦ inl (omega (arith, slot-inside), j)
-  | inr j ↦ elim (slot-split (s - sizes ls) ms ns j.1) [
-    | inl k ↦ absurd (none k)
-    | inr k ↦
-        let e : s - sizes ls - sizes ms ≡ s - hi = omega arith in
-        inr (omega (arith, j.0, k.0), subst (λ q. IsSlot q ns) e k.1)
-  ]
-]
+slot-beside s ls ms ns lo hi none a b i = grind (arith, slot-split, slot-inside)
 
 -- other blocks in the place of some that have no slot
 pub slot-swap : (s : ℕ) (below was now above : List Block) → (IsSlot (s - sizes below) was → ⊥) → sizes now ≡ sizes was
@@ -77,25 +68,11 @@ module _ (head : Block → List ℕ) where
 
   -- a block's bytes followed by others
   pub tile-append : (h : List ℕ) (n : ℕ) (xs ys : List ℕ) → Tile h n xs → Tile h n (xs ++ ys)
-  tile-append h n xs ys t =
-      record {
-        fits = omega (arith, length-append xs ys, t.fits);
-        whole = t.whole;
-        some = t.some;
-        room = t.room;
-        begins = take-append-le (length h) xs ys (omega (arith, t.fits, t.room)) ∙ t.begins;
-      }
+  tile-append h n xs ys t = grind (arith, length-append, take-append-le)
 
   -- a block's bytes without the others
   pub tile-take : (h : List ℕ) (n k : ℕ) (xs : List ℕ) → n ≤ k → k ≤ length xs → Tile h n xs → Tile h n (take k xs)
-  tile-take h n k xs l m t =
-      record {
-        fits = omega (arith, length-take-le k xs m, l);
-        whole = t.whole;
-        some = t.some;
-        room = t.room;
-        begins = take-take (length h) k xs (omega (arith, l, t.room)) ∙ t.begins;
-      }
+  tile-take h n k xs l m t = grind (arith, length-take-le, take-take)
 
   pub tiles-append : (xs ys : List ℕ) (ls ms : List Block) → Tiles head xs ls → Tiles head ys ms
       → Tiles head (xs ++ ys) (ls ++ ms)

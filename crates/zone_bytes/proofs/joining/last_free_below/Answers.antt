@@ -9,8 +9,7 @@ pub loop-at-init : goal.loop-at-init
 loop-at-init c = below-from _ _ _ c.requires.up c.requires.inside
 
 pub read_header-header-requires : goal.read_header-header-requires
-read_header-header-requires c =
-    may-read _ _ c.loop-at.invariant.way (omega (arith, c.loop-at-test.true, c.requires.inside))
+read_header-header-requires c = may-read _ _ c.loop-at.invariant.way (grind arith)
 
 pub overflow_add-end : goal.overflow_add-end
 overflow_add-end c =
