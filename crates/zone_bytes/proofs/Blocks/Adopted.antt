@@ -80,7 +80,7 @@ module _ (xs : List ℕ) (first count : ℕ) (i : IsSound xs first count) (numbe
   fits-in = fits xs first count i below old above whole place low
 
   same : SameOutside place (place + n) xs mid
-  same = outside-written _ _ _ _ _ head (omega arith) (omega (arith, long)) (grind (arith, outside-same, fits-in))
+  same = outside-written _ _ _ _ _ head (omega arith) (omega (arith, long)) (grind (arith, fits-in))
 
   new-tile : Tile (head_of (resource_in xs) new) n (drop place mid)
   unfolding head_of
@@ -122,7 +122,7 @@ pub record NonrelocatableAt (xs : List ℕ) (place : ℕ) : Type 0 where
 pub nonrelocatable-at : (xs : List ℕ) (place : ℕ) → IsSomeAnd (spot_at place (zone_in xs))
     (λ s. is_nonrelocatable place s.here ≡ true)
     → NonrelocatableAt xs place
-nonrelocatable-at xs place h = grind (arith, the-spot, false≢true, spot_at-is, spot_at-below)
+nonrelocatable-at xs place h = grind (arith, spot_at-is, spot_at-below)
 
 module _ (xs : List ℕ) (first count : ℕ) (i : IsSound xs first count) (place : ℕ) (a : NonrelocatableAt xs place)
     (number : ℕ)

@@ -63,17 +63,16 @@ tile-inside head head' w k n place at xs a l e t =
     let same : length head' ≡ length head = sym (ap length e) ∙ length-written k w head l in
     let d = length-drop place xs in
     let up : drop place (written at w xs) ≡ written k w (drop place xs) =
-    drop-written_below at w xs place (omega (arith, a)) (omega (arith, a, d, t.fits, t.room, l))
-    ∙ (let v : at - place ≡ k = omega (arith, a) in ap (λ j. written j w (drop place xs)) v) in
-    let q = length-written k w (drop place xs) (omega (arith, l, t.fits, t.room)) in
+    drop-written_below at w xs place (omega arith) (omega arith)
+    ∙ (let v : at - place ≡ k = omega arith in ap (λ j. written j w (drop place xs)) v) in
+    let q = length-written k w (drop place xs) (omega arith) in
     subst (Tile head' n) (sym up) (record {
-      fits = omega (arith, q, t.fits);
+      fits = omega arith;
       whole = t.whole;
       some = t.some;
-      room = omega (arith, same, t.room);
+      room = omega arith;
       begins = ap (λ m. take m (written k w (drop place xs))) same
-          ∙ take-written_above k w (drop place xs) (length head) l (omega (arith, t.fits, t.room))
-          ∙ ap (written k w) t.begins ∙ e;
+          ∙ take-written_above k w (drop place xs) (length head) l (omega arith) ∙ ap (written k w) t.begins ∙ e;
     })
 
 -- the bytes of one block
@@ -131,17 +130,16 @@ module _ (xs : List ℕ) (first count : ℕ) (i : IsSound xs first count) (below
       → (IsPlaced place here → IsPlaced place now) → tidy (below ++ now ∷ above) ≡ below ++ now ∷ above
       → Made new first count (below ++ now ∷ above) (slot_in xs)
   here-made plain now new same t e n m p y =
-      let o : 0 + sizes below ≡ place = omega (arith, low) in
+      let o : 0 + sizes below ≡ place = omega arith in
       let h = subst (λ j. IsPlaced j here) o
       (placed-right 0 below (here ∷ above) (subst (ArePlaced 0) whole i.lays.placed)).0 in
       let l = leads-each (0 + sizes below) here xs
       (leads-right xs 0 below (here ∷ above) (subst (λ z. Leads 0 z xs) whole i.lays.lies.leads)).0 in
       let l1 = subst (λ j. Each (λ s. piece s 4 xs ≡ word j) (names_of here)) o l in
       made _ _ (slot_in xs) _ (put-lays xs first count i below (here ∷ []) above whole place (place + size here) low
-      (omega arith) (omega (arith, tile.some)) (no-slots here plain) now 0 m (omega (arith, e))
-      (n ∙ sym (append-nil (names_of here))) (p h)
-      (subst (Each (λ s. piece s 4 xs ≡ word place)) (sym n) l1) new same
-      (tiles-piece head now place _ new (omega (arith, e)) t)) _ _ y i.begins i.counted
+      (omega arith) (omega arith) (no-slots here plain) now 0 m (omega arith)
+      (n ∙ sym (append-nil (names_of here))) (p h) (subst (Each (λ s. piece s 4 xs ≡ word place)) (sym n) l1) new same
+      (tiles-piece head now place _ new (omega arith) t)) _ _ y i.begins i.counted
 
   -- and so are they where a part of them is written
   pub inside-made : is_masters here ≡ false → (k at : ℕ) (w : List ℕ) (now : Block) → at ≡ place + k
@@ -150,7 +148,7 @@ module _ (xs : List ℕ) (first count : ℕ) (i : IsSound xs first count) (below
       → tidy (below ++ now ∷ above) ≡ below ++ now ∷ above
       → Made (written at w xs) first count (below ++ now ∷ above) (slot_in xs)
   inside-made plain k at w now a l f e n m p y =
-      here-made plain now _ (outside-written _ _ _ _ at w (omega (arith, a)) (omega (arith, a, l, tile.room))
+      here-made plain now _ (outside-written _ _ _ _ at w (omega arith) (omega (arith, tile.room))
       (outside-same place (place + size here) xs (omega arith) fits))
       (subst (λ j. Tile (head now) j (drop place (written at w xs))) (sym e)
       (tile-inside (head here) (head now) w k _ place at xs a l f tile)) e n m p y

@@ -58,9 +58,9 @@ module _ (xs : List ℕ) (first count : ℕ) (i : IsSound xs first count) (place
       let t = tile xs first count i below here above whole place low in
       let z = size here in
       let g = flag_word-small old (resource slot) in
-      let e = (header-told _ _ slot (flag_word old (resource slot)) place content xs t).marked (omega (arith, g)) in
+      let e = (header-told _ _ slot (flag_word old (resource slot)) place content xs t).marked (omega arith) in
       let w : flag_word flags false + word_at (place + 12) xs % 64 ≡ flag_word flags (resource slot) =
-      let h = high-flags old in ap (λ n. flag_word flags false + n % 64) e ∙ omega (arith, h, low-flag) in
+      let h = high-flags old in ap (λ n. flag_word flags false + n % 64) e ∙ omega (arith, low-flag) in
       let new = written (place + 12) (word (flag_word flags (resource slot))) xs in
       let is : flagged flags place xs ≡ new =
       ap (λ v. cond v (written (place + 12) (word (flag_word flags false + word_at (place + 12) xs % 64)) xs) xs)

@@ -31,11 +31,11 @@ pub record Below (xs : List ℕ) (place at start : ℕ) : Type 0 where
 front-of : (front rest below above : List Block) → front ++ rest ≡ below ++ above → sizes front < sizes below
     → (more : List Block) × (below ≡ front ++ more) × (rest ≡ more ++ above)
 front-of [] rest below above e l = (below, refl, e)
-front-of (b ∷ front) rest [] above e l = absurd (omega (arith, l))
+front-of (b ∷ front) rest [] above e l = absurd (omega arith)
 front-of (b ∷ front) rest (c ∷ below) above e l =
     let h : b ≡ c = cc in
     let t : front ++ rest ≡ below ++ above = cc in
-    let r = front-of front rest below above t (omega (arith, l, ap size h)) in
+    let r = front-of front rest below above t (omega (arith, ap size h)) in
     (r.0, (λ i. sym h i ∷ r.1 i), r.2)
 
 last-more : (n : ℕ) (front : List Block) (c : Block) (more : List Block)
@@ -47,19 +47,18 @@ module _ (xs : List ℕ) (from place : ℕ) (u : LeadsUp from place xs) where
   far : (below above : List Block) → left_in 0 xs ≡ below ++ above → sizes below ≡ place → from < place
       → LeftBelow xs place from from below above
   far below above e l f =
-      let r = front-of u.below (left_in from xs) below above (sym u.is ∙ e) (omega (arith, l, f)) in
+      let r = front-of u.below (left_in from xs) below above (sym u.is ∙ e) (omega arith) in
       let k = ap sizes r.1 in
       let z : from - from ≡ 0 = omega arith in
       record {
         rest = r.0;
         is = r.2;
-        up = omega (arith, span-append, k, l);
-        last = ap (λ n. last_free n r.0) z ∙ same r.0 (omega (arith, span-append, k, l, f)) ∙ ap (last_free 0)
-            (sym r.1);
+        up = omega (arith, span-append);
+        last = ap (λ n. last_free n r.0) z ∙ same r.0 (omega (arith, span-append)) ∙ ap (last_free 0) (sym r.1);
       }
     where
       same : (more : List Block) → 0 < sizes more → last_free 0 more ≡ last_free 0 (u.below ++ more)
-      same [] n = absurd (omega (arith, n))
+      same [] n = absurd (omega arith)
       same (c ∷ more) n = last-more 0 u.below c more
 
   near : (below above : List Block) → left_in 0 xs ≡ below ++ above → sizes below ≡ place → from ≡ 0
@@ -67,7 +66,7 @@ module _ (xs : List ℕ) (from place : ℕ) (u : LeadsUp from place xs) where
   near below above e l z = grind arith
 
   pub below-from : place ≤ length xs → Below xs place from from
-  below-from h = grind (arith, far, near)
+  below-from h = grind (arith, far)
 
 some-block : (at : ℕ) (xs : List ℕ) (w : IsOnWay at xs) (b : Block) (blocks : List Block)
     → left_in at xs ≡ b ∷ blocks → 16 ≤ size b
@@ -82,8 +81,8 @@ module _ (xs : List ℕ) (place at start : ℕ) (b : Below xs place at start) wh
     where
       next : (rest : List Block) → left_in at xs ≡ rest ++ above → at + sizes rest ≡ place
           → last_free (at - start) rest ≡ last_free 0 below → start + last_free 0 below ≡ place
-      next [] q u k = omega (arith, u, k)
-      next (c ∷ rest) q u k = let m = some-block _ _ b.way c _ q in absurd (omega (arith, u, m, l))
+      next [] q u k = omega arith
+      next (c ∷ rest) q u k = let m = some-block _ _ b.way c _ q in absurd (omega arith)
 
   -- one block more
   module _ (l : at < place) (n t : ℕ) (e : n + t ≡ word_at at xs) (k : n % 16 ≡ 0) (m : t ≤ 3) (i : at < length xs)
@@ -92,7 +91,7 @@ module _ (xs : List ℕ) (place at start : ℕ) (b : Below xs place at start) wh
       step = stepped at xs b.way i n t e k m
 
       pub below-inside : at + n ≤ length xs
-      below-inside = let u = step.way.walk.up in omega (arith, u)
+      below-inside = let u = step.way.walk.up in omega arith
 
       -- the block's Free bytes
       tells : (c : Block) (blocks : List Block) → left_in at xs ≡ c ∷ blocks → (n ≡ size c) × (t ≡ kind c)
@@ -110,8 +109,8 @@ module _ (xs : List ℕ) (place at start : ℕ) (b : Below xs place at start) wh
         where
           next : (rest below above : List Block) → left_in at xs ≡ rest ++ above → at + sizes rest ≡ place
               → last_free (at - start) rest ≡ last_free 0 below → LeftBelow xs place (at + n) now below above
-          next [] below above q u v = absurd (omega (arith, u, l))
-          next (c ∷ rest) below above q u v = grind (arith, tells, step)
+          next [] below above q u v = absurd (omega arith)
+          next (c ∷ rest) below above q u v = grind (arith, step)
 
       pub below-free : t ≡ 0 → Below xs place (at + n) at
       below-free z = below-next at (omega arith) (λ c p q. omega (arith, p, ap free_of (free-is c (sym q ∙ z))))

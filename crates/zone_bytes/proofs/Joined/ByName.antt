@@ -57,7 +57,7 @@ module _ (t : Table) (slot : ℕ) (xs : List ℕ) (h : HasHandle t slot xs) wher
   found b =
       let r = block-reads xs t.blocks t.slots t.unused h.lays slot is b in
       let e = (block-here xs t.blocks t.slots t.unused h.lays slot b).even in
-      record { block = b; place = r; whole = omega (arith, r, e) }
+      record { block = b; place = r; whole = omega arith }
 
   either : IsEmptyHandle xs t.blocks slot (flag xs t.blocks t.slots t.unused h.lays slot is).0
       ⊎ HasBlock xs 0 t.blocks slot
@@ -67,7 +67,7 @@ module _ (t : Table) (slot : ℕ) (xs : List ℕ) (h : HasHandle t slot xs) wher
   leads e = elim either [
     | inl k ↦
         let o = emptied-odd (flag xs t.blocks t.slots t.unused h.lays slot is).0 in
-        absurd (omega (arith, emptied-reads xs t.blocks t.slots t.unused h.lays slot is k, o, e))
+        absurd (omega (arith, emptied-reads xs t.blocks t.slots t.unused h.lays slot is k))
     | inr b ↦ found b
   ]
 

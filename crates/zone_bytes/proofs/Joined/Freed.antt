@@ -90,7 +90,7 @@ module _ (f : Freeing) (start at : ℕ) (xs : List ℕ) (m : MayFree f start at 
     pub flag : nat_le 32 (word_at (at + 12) xs % 64) ≡ is_resource (f.slots (word_at (at + 8) xs))
 
   names-all : names all ≡ names f.below ++ (names_of f.here ++ names f.above)
-  names-all = grind (arith, names-append, names-free, append_assoc)
+  names-all = grind (arith, names-append)
 
   named-here : (slot : ℕ) → names_of f.here ≡ slot ∷ [] → names all ≡ names f.below ++ slot ∷ names f.above
   named-here slot n = names-all ∙ ap (λ k. names f.below ++ (k ++ names f.above)) n
@@ -107,8 +107,8 @@ module _ (f : Freeing) (start at : ℕ) (xs : List ℕ) (m : MayFree f start at 
       let i = each-right (λ s. IsSlot s all) _ (slot ∷ names f.above)
       (subst (Each (λ s. IsSlot s all)) (named-here slot (ap names_of e)) laid.has_slots.slots) in
       let l = length-tiles (head_of resource) xs all laid.lies.tiles in
-      let v = q.named (omega (arith, slot-inside, l, m.lays.small)) in
-      let w = q.marked (omega (arith, g)) in
+      let v = q.named (omega (arith, slot-inside)) in
+      let w = q.marked (omega arith) in
       grind arith
 
   pub led : kind f.here ≡ 3 → Led
@@ -116,7 +116,7 @@ module _ (f : Freeing) (start at : ℕ) (xs : List ℕ) (m : MayFree f start at 
 
   module _ (top : ℕ) (t : at + size f.here ≡ top) where
     some : start < top
-    some = omega (arith, here-read.some, t)
+    some = omega (arith, here-read.some)
 
     abbrev z : Splice
     z = zone xs f.below joined f.above f.slots f.unused laid start top m.low (span-joined ∙ t) some none
@@ -137,14 +137,14 @@ module _ (f : Freeing) (start at : ℕ) (xs : List ℕ) (m : MayFree f start at 
         now = f.below ++ (one ++ f.above)
 
         now-is : now ≡ f.below ++ (free (at + size f.here - start) ++ f.above)
-        now-is = ap (λ n. f.below ++ (n ++ f.above)) (sym (free-some _ (let s = some in omega (arith, s))))
+        now-is = ap (λ n. f.below ++ (n ++ f.above)) (sym (free-some _ (let s = some in omega arith)))
             ∙ ap (λ k. f.below ++ (free (k - start) ++ f.above)) (sym t)
 
         lies : Lies resource now mid
         lies = made z is
 
         span-one : sizes one ≡ sizes joined
-        span-one = let e = span-joined in omega (arith, e, t)
+        span-one = let e = span-joined in omega arith
 
         into : (s : ℕ) → IsSlot s all → IsSlot s now
         into s i = slot-swap s f.below joined one f.above (none _) span-one i
@@ -203,7 +203,7 @@ module _ (f : Freeing) (start at : ℕ) (xs : List ℕ) (m : MayFree f start at 
           used = used-is (f.slots slot) (of-all (λ s. IsUsed (f.slots s)) laid.used)
 
           pub slot-fits : (slot % 4 ≡ 0) × (slot + 4 ≤ length mid)
-          slot-fits = grind (arith, slot-inside, slot-is, length-tiles, laid, slot-even)
+          slot-fits = grind (arith, slot-inside, slot-is, length-tiles, slot-even)
 
           pub slot-lays : (w : ℕ) → w ≡ empty_word (is_resource (f.slots slot))
               → Lays (written slot (word w) mid) (f.below ++ (free (at + size f.here - start) ++ f.above)) f.slots
@@ -217,12 +217,10 @@ module _ (f : Freeing) (start at : ℕ) (xs : List ℕ) (m : MayFree f start at 
                     (into slot slot-is) lies.tiles;
                 leads = leads-written _ _ _ 0 _ fits
                     (each-map (Apart slot) _ (λ t p. apart-clear slot w t p) (names now) far) lies.leads;
-              })
-              has into back placed (length-written slot (word w) mid (omega (arith, slot-fits, wl)) ∙ out.kept)
+              }) has into back placed (length-written slot (word w) mid (omega (arith, slot-fits)) ∙ out.kept)
               _ _ used fewer subset far (piece-written slot (word w) mid 4 (sym wl) fits
               ∙ ap word e) (λ s i a. piece-clear _ _ _ s fits
-              (apart-clear slot w s (elim (of-all (Apart s) a) [ inl p ↦ inr p | inr p ↦ inl p ]))
-              ∙ outside-same s i))
+              (apart-clear slot w s (elim (of-all (Apart s) a) [ inl p ↦ inr p | inr p ↦ inl p ])) ∙ outside-same s i))
 
   pub none-led : kind f.here < 3 → names_of f.here ≡ []
   none-led k = grind arith

@@ -31,9 +31,9 @@ not-used _ u e = u
 pub counted-once : (number : ℕ) (blocks : List Block) → Pairs Apart (names blocks)
     → count (is_relocatable number) blocks ≤ 1
 counted-once number [] p = omega arith
-counted-once number (Free n ∷ blocks) p = let z = counted-once number blocks p in omega (arith, z)
-counted-once number (Nonrelocatable id content ∷ blocks) p = let z = counted-once number blocks p in omega (arith, z)
-counted-once number (Masters ∷ blocks) p = let z = counted-once number blocks p in omega (arith, z)
+counted-once number (Free n ∷ blocks) p = let z = counted-once number blocks p in omega arith
+counted-once number (Nonrelocatable id content ∷ blocks) p = let z = counted-once number blocks p in omega arith
+counted-once number (Masters ∷ blocks) p = let z = counted-once number blocks p in omega arith
 counted-once number (Relocatable slot flags content ∷ blocks) p = elim (eqb_tells slot number) [
   | inl t ↦
       let e : cond {A = ℕ} (eqb slot number) 1 0 ≡ 1 = ap (λ v. cond {A = ℕ} v 1 0) t.0 in

@@ -84,19 +84,19 @@ module _ (xs : List ℕ) (place need : ℕ) (r : Roomy xs place need) where
   -- a block that isn't Free, and the rest of the bytes
   pub filled-is : (new : Block) → is_free new ≡ false → (k : ℕ) → k + size new ≡ size r.s.here
       → r.s.below ++ new ∷ (free k ++ r.s.above) ≡ filled new r.s
-  filled-is new solid k e = ap (λ m. r.s.below ++ new ∷ (free m ++ r.s.above)) (omega (arith, e))
-      ∙ sym (cut-sized new solid r.s r.at.apart 0 r.s.above r.head (omega (arith, e)))
+  filled-is new solid k e = ap (λ m. r.s.below ++ new ∷ (free m ++ r.s.above)) (omega arith)
+      ∙ sym (cut-sized new solid r.s r.at.apart 0 r.s.above r.head (omega arith))
 
   module _ (now : List ℕ) (new : Block) (solid : is_free new ≡ false) (fits : size new ≤ need)
       (is : zone_in now ≡ filled new r.s) where
     pub carved-free : free_sum (zone_in now) + size new ≡ free_sum (zone_in xs)
     carved-free =
-        let a = filled-free new solid r.s r.bytes r.here (omega (arith, fits)) in
-        omega (arith, ap free_sum is, a, ap free_sum r.at.whole)
+        let a = filled-free new solid r.s r.bytes r.here (omega arith) in
+        omega (arith, ap free_sum is, ap free_sum r.at.whole)
 
     pub carved-masters : count is_masters (zone_in now) ≡ count is_masters (zone_in xs) + cond (is_masters new) 1 0
     carved-masters =
-        let a = filled-count new solid r.s r.bytes r.here (omega (arith, fits)) is_masters (λ n. refl) in
+        let a = filled-count new solid r.s r.bytes r.here (omega arith) is_masters (λ n. refl) in
         ap (count is_masters) is ∙ a ∙ ap (λ l. count is_masters l + cond (is_masters new) 1 0) (sym r.at.whole)
 
 -- a new block of n bytes, all 0, may be laid in a Free one
@@ -107,7 +107,7 @@ may-carve xs place n top r t h z l = grind arith
 -- its header, and its bytes
 pub zeros-head : (n z k slot flags : ℕ) → z ≡ padded n → header (z + k) n slot flags ++ resized_content n []
     ≡ header (padded (length (replicate {A = ℕ} n 0)) + k) (length (replicate {A = ℕ} n 0)) slot flags ++ replicate n 0
-zeros-head n z k slot flags e = grind (arith, length-replicate, take-nil)
+zeros-head n z k slot flags e = grind (arith, length-replicate)
 
 module _ (xs : List ℕ) (place n top z : ℕ) (r : Roomy xs place (padded n)) (t : top ≡ place + size r.s.here)
     (pz : z ≡ padded n) where
@@ -129,8 +129,8 @@ module _ (xs : List ℕ) (place n top z : ℕ) (r : Roomy xs place (padded n)) (
   nonrelocatable-lays first count i =
       let l : size new ≡ padded n = ap padded (length-replicate {A = ℕ} n 0) in
       subst (λ bs. Lays (laid head place top 0 xs) bs (slot_in xs) i.unused)
-      (filled-is xs place (padded n) r new refl (top - place - z) (omega (arith, t, pz, l, ap size r.here)))
-      (laid-lays _ _ _ i _ (r.s.here ∷ []) _ r.at.whole _ _ r.at.low (omega (arith, t)) (omega (arith, t, r.at.some))
+      (filled-is xs place (padded n) r new refl (top - place - z) (omega (arith, ap size r.here)))
+      (laid-lays _ _ _ i _ (r.s.here ∷ []) _ r.at.whole _ _ r.at.low (omega arith) (omega arith)
       (no-slots r.s.here (ap is_masters r.here)) _ 0 may-lay new refl (l ∙ sym pz)
       (sym (ap (λ b. names_of b ++ []) r.here)) refl head-is tt)
 
@@ -167,12 +167,12 @@ module _ (xs : List ℕ) (first unused : ℕ) (i : IsSound xs first unused) (num
       let now = written number (word place) (laid h place top 0 xs) in
       let may = may-carve xs place n top r t h refl refl in
       let l : size block ≡ padded n = ap padded (length-replicate {A = ℕ} n 0) in
-      let e : top - place - padded n + size block ≡ size r.s.here = omega (arith, t, l, ap size r.here) in
+      let e : top - place - padded n + size block ≡ size r.s.here = omega arith in
       tidy-made xs now first unused i (r.s.below ++ block ∷ Free (size r.s.here - size block) ∷ r.s.above)
       (subst (λ bs. Lays now bs (slot_in xs) i.unused) (filled-is xs place (padded n) r block refl
       (top - place - padded n) e)
       (named-lays xs first unused i number used none r.s.below (r.s.here ∷ []) r.s.above r.at.whole place top r.at.low
-      (omega (arith, t)) (omega (arith, t, r.at.some)) (no-slots r.s.here (ap is_masters r.here))
+      (omega arith) (omega arith) (no-slots r.s.here (ap is_masters r.here))
       (ap (λ b. names_of b ++ []) r.here) no_flags (replicate n 0) (top - place - padded n) (omega
       (arith, e, span-free))
       (laid h place top 0 xs) (laid-outside h place top 0 xs may) (laid-tiles h place top 0 xs may

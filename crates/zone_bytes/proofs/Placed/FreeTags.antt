@@ -26,4 +26,4 @@ module _ (at : ℕ) (xs : List ℕ) (w : IsOnWay at xs) where
     pub first-other : 0 < tag_number t → 0 ≡ free_first (left_in at xs)
     first-other z =
         let o = stepped at xs w l n (tag_number t) e h (tag-small t) in
-        sym (free-other o.here (omega (arith, z))) ∙ sym (ap free_first o.is)
+        sym (free-other o.here (omega arith)) ∙ sym (ap free_first o.is)

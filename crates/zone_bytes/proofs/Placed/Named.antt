@@ -83,7 +83,7 @@ module _ (xs : List ℕ) (first count : ℕ) (i : IsSound xs first count) (numbe
   names-was = grind (arith, names-append)
 
   names-now : names now ≡ names below ++ number ∷ names above
-  names-now = grind (arith, names-append, names-free)
+  names-now = grind (arith, names-append)
 
   far : Each (Apart number) (names below ++ names above)
   far = subst (Each (Apart number)) (ap names whole ∙ names-was) (name-apart xs first count i number used none)
@@ -116,13 +116,13 @@ module _ (xs : List ℕ) (first count : ℕ) (i : IsSound xs first count) (numbe
     others-lead : (o : ℕ) (bs : List Block) → Each (Clear place (top - place)) (names bs)
         → Each (Apart number) (names bs)
         → Leads o bs xs → Leads o bs done
-    others-lead o bs c a l = search (rules, leads-written, slot-fits, each-map, Clear, apart-clear, leads-outside)
+    others-lead o bs c a l = search (rules, leads-written, slot-fits, each-map, apart-clear, leads-outside)
 
     lies : Lies (resource_in xs) now done
     lies =
         let c = clear z place top xs st in
-        let o : 0 + sizes below ≡ place = omega (arith, low) in
-        let e : 0 + sizes below + sizes old ≡ 0 + sizes below + sizes put = omega (arith, span) in
+        let o : 0 + sizes below ≡ place = omega arith in
+        let e : 0 + sizes below + sizes old ≡ 0 + sizes below + sizes put = omega arith in
         let above-lead = leads-right xs (0 + sizes below) old above (leads-right xs 0 below
         (old ++ above) laid.lies.leads) in
         record {
@@ -130,8 +130,7 @@ module _ (xs : List ℕ) (first count : ℕ) (i : IsSound xs first count) (numbe
               (length-word place) (forth number is-slot) tiles;
           leads = leads-append done 0 below (put ++ above) (others-lead 0 below c.0
               (each-left (Apart number) (names below) (names above) far) (leads-left xs 0 below
-              (old ++ above) laid.lies.leads))
-              (leads-append done (0 + sizes below) put above (
+              (old ++ above) laid.lies.leads)) (leads-append done (0 + sizes below) put above (
                 piece-written number (word place) mid 4 (sym (length-word place)) slot-fits ∙ sym (ap word o),
                 leads-free _ k done,
               ) (subst (λ j. Leads j above done) e (others-lead _ above c.1
@@ -145,7 +144,7 @@ module _ (xs : List ℕ) (first count : ℕ) (i : IsSound xs first count) (numbe
     length-done : length done ≡ length xs
     length-done =
         let r = slot-reads-in xs first count i number used none in
-        length-written number (word place) mid (omega (arith, length-word place, same.kept, r)) ∙ same.kept
+        length-written number (word place) mid (omega (arith, length-word place)) ∙ same.kept
 
     pub named-lays : Lays done now (slot_in xs) i.unused
     named-lays =

@@ -112,7 +112,7 @@ module _ (resource : ℕ → Bool) (n at : ℕ) (xs : List ℕ) (small : length 
       let g = flag_word-small flags (resource slot) in
       let y = length-resized n content in
       let v = q.named w.0 in
-      let e = q.marked (omega (arith, g)) in
+      let e = q.marked (omega arith) in
       (q.long small, (λ j. header (padded (sym y j) + 3) (sym y j) (v j) (e j) ++ (resized_content n content)))
 
 -- the header that was read at a place
@@ -129,8 +129,8 @@ HasRoom n s = (size (resized n s.here) ≤ size s.here) ⊎ IsSome (grow_up (res
 -- a block at another size, for which there is room, takes no more bytes than there are
 pub room-fits : (xs : List ℕ) (place n : ℕ) (s : Spot) → Standing xs place s → HasRoom n s
     → sizes (s.below ++ s.here ∷ s.above) ≤ 134217728 → size (resized n s.here) ≤ 134217728
-room-fits xs place n s at (inl le) small = omega (arith, le)
-room-fits xs place n s at (inr more) small = grind (arith, a-spot, map-some, taken-some, total-append, room-size)
+room-fits xs place n s at (inl le) small = omega arith
+room-fits xs place n s at (inr more) small = grind (arith, total-append)
 
 module _ (xs : List ℕ) (place n : ℕ) (s : Spot) (at : Standing xs place s) (hd : Header) (r : Read hd place xs) where
   below-end : place < length xs
@@ -177,7 +177,7 @@ module _ (xs : List ℕ) (place n : ℕ) (s : Spot) (at : Standing xs place s) (
     heads = subst (λ k. Heading s.above k rest) (sym m-is) heading
 
     pub fits : padded n ≤ size s.here + m
-    fits = grind (arith, same, a-spot, grown-is, m-is)
+    fits = grind (arith, same, m-is)
 
     pub ends : (place + hd.size + m ≤ length xs) × ((place + hd.size + m) % 16 ≡ 0)
     ends = omega (arith, free-whole, way-behind)
@@ -191,11 +191,11 @@ module _ (xs : List ℕ) (place n : ℕ) (s : Spot) (at : Standing xs place s) (
     long-is = r.long ∙ tells.0
 
     pub may-size : MayLay sized-header place (place + hd.size + m) hd.logical xs
-    may-size = grind (arith, ends, fits, size-is, content-room, long-is)
+    may-size = grind (arith, ends, fits, size-is, long-is)
 
     head-is : header_bytes sized-header ++ resized_content n (piece (place + 16) hd.logical xs) ≡ head_of
         (resource_in xs) new
-    head-is = grind (arith, long-is, held-piece, resource_in, kind-is, tells)
+    head-is = grind (arith, held-piece, kind-is, tells)
 
     module _ (first unused : ℕ) (i : IsSound xs first unused) where
       abbrev now : List ℕ
@@ -207,15 +207,11 @@ module _ (xs : List ℕ) (place n : ℕ) (s : Spot) (at : Standing xs place s) (
       sized-lays : Lays now result (slot_in xs) i.unused
       sized-lays =
           let y = size-is in
-          let k : place + hd.size + m - place - z ≡ size s.here + m - size new = omega (arith, y, same.size, pz) in
+          let k : place + hd.size + m - place - z ≡ size s.here + m - size new = omega (arith, same.size) in
           subst (λ bs. Lays now bs (slot_in xs) i.unused) (ap (λ j. s.below ++ new ∷ (free j ++ rest)) k)
           (laid-lays _ _ _ i _ (s.here ∷ free m) _ (at.whole ∙ ap (λ l. s.below
-          ++ s.here ∷ l) heads.is) _ _ at.low (omega (arith, y, span-free)) (omega (
-            arith,
-            at.some,
-            y,
-          )) (no-slots-two s.here m same.no_masters)
-          _ _ may-size _ same.still_none (same.size ∙ sym pz)
+          ++ s.here ∷ l) heads.is) _ _ at.low (omega (arith, span-free)) (omega (
+            arith)) (no-slots-two s.here m same.no_masters) _ _ may-size _ same.still_none (same.size ∙ sym pz)
           (same.names ∙ sym (ap (λ l. names_of s.here ++ l) (names-free m) ∙ append-nil (names_of s.here)))
           (same.placed at.placed) head-is
           (subst (Each (λ k. piece k 4 xs ≡ word place)) (sym same.names) (leads-each place s.here xs at.leads)))
@@ -224,7 +220,7 @@ module _ (xs : List ℕ) (place n : ℕ) (s : Spot) (at : Standing xs place s) (
       cut-lays le = grind (arith, cut-sized, same, heads, sized-lays)
 
       pub grown-lays : size s.here < size new → IfSome (grow_up new s) (λ after. Lays now after (slot_in xs) i.unused)
-      grown-lays more = grind (arith, if-spot, grown-sized, same, heads, sized-lays)
+      grown-lays more = grind (arith, heads, sized-lays)
 
       pub free-sized : (count : ℕ) → count ≡ free_sum (zone_in xs)
           → (z ≤ count + hd.size) × (count ≤ 134217728) × (count + hd.size - z ≡ free_sum (zone_in now))
@@ -237,17 +233,17 @@ module _ (xs : List ℕ) (place n : ℕ) (s : Spot) (at : Standing xs place s) (
           let f = fits in
           let y = size-is in
           let v = same.size in
-          (omega (arith, c, d, f, y, pz), omega (arith, c, e, sizes-length), omega (arith, a, b, c, d, f, y, v, pz))
+          (omega arith, omega (arith, sizes-length), omega arith)
 
 -- where a block holds no bytes, all stays
 module _ (xs : List ℕ) (place n : ℕ) (s : Spot) (at : Standing xs place s) (none : (kind s.here % 2 == 1) ≡ false)
     (first unused : ℕ) (i : IsSound xs first unused) where
   pub kept-cut : Lays xs (filled (resized n s.here) s) (slot_in xs) i.unused
-  kept-cut = grind (arith, tidy-below, unsized)
+  kept-cut = grind (arith, tidy-below)
 
   pub kept-grown : size s.here < size (resized n s.here)
       → IfSome (grow_up (resized n s.here) s) (λ after. Lays xs after (slot_in xs) i.unused)
-  kept-grown more = absurd (let z = ap size (unsized n _ none) in omega (arith, z, more))
+  kept-grown more = absurd (let z = ap size (unsized n _ none) in omega arith)
 
 -- the spot, and what is known of it
 pub room-at : (xs : List ℕ) (first unused place n : ℕ) → IsSound xs first unused

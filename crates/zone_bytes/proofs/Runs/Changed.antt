@@ -57,7 +57,7 @@ relaid-run change place zone r e keeps t xs first unused i k is shape new d =
     let lays = subst (λ z. Lays new z (slot_in xs) i.unused) shape (lays-run k xs new (slot_in xs) i.unused laid d) in
     let m = subst (λ z. Made new first unused z (slot_in xs)) (sym t)
     (made new _ (slot_in xs) _ lays first unused t i.begins i.counted) in
-    grind (arith, made, append_assoc, total-changed)
+    grind (arith, append_assoc, total-changed)
 
 -- so the blocks from the run's bottom to its top became others
 pub replaced-run : {change : List Block → List Block} {zone : List Block} {r : RunSpot} {new : List ℕ}

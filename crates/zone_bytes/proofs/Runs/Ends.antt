@@ -55,7 +55,7 @@ module _ (resource : ℕ → Bool) (xs : List ℕ) (from : ℕ) (small : length 
     within [] h o l k f v b q = outside above h o
       where
         outside : (above : List Block) → Tiles (head_of resource) (drop from xs) above → EndsRun above → ⊥
-        outside [] h o = omega (arith, length-drop from xs, ap length h, l)
+        outside [] h o = omega (arith, length-drop from xs, ap length h)
         outside (c ∷ above) h o = false≢true (sym o ∙ sym (runs-told c h.0 n t f e w k v) ∙ sym b)
     within (c ∷ run) h o l k f v b q = omega (arith, ap length q)
 

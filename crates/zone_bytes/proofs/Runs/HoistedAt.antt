@@ -136,8 +136,7 @@ module _ {xs : List ℕ} {first unused place top stop : ℕ} {old : List Block}
         let b : count test (r.run ++ r.above) ≡ count test r.run + count test r.above =
         total-append ones r.run r.above in
         let shape : beneath ++ ((over ++ block ∷ []) ++ r.above) ≡ with_run (high test) r =
-        rw (high-parts number r.run cut (omega (arith, all, a, b, once))) (simp append_assoc) in
+        rw (high-parts number r.run cut (omega arith)) (simp append_assoc) in
         relaid-run (high test) place old r k.is (λ of adds l. high-total of adds number r.run l)
         (tidy-change place old r k.is k.tidied (high test r.run) (apart-high test (λ n. refl) r.run)) xs first unused
-        k.sound
-        (hoisted-instead raw here stop may-move) packed-parts shape new (subst (λ z. Hoisted z new) hoist-at d)
+        k.sound (hoisted-instead raw here stop may-move) packed-parts shape new (subst (λ z. Hoisted z new) hoist-at d)

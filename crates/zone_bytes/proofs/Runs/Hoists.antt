@@ -38,7 +38,7 @@ module _ (z : Hoist) (place stop : ℕ) (h : MayHoist z place stop) where
   turned-bytes = drop (size z.block) run-bytes ++ take (size z.block) run-bytes
 
   pub hoisted-instead : Instead z.below was (hoisted_run z) z.above
-  hoisted-instead = search (rules, each-append, span-append, names-append, append-nil, turned)
+  hoisted-instead = search (rules, each-append, span-append, names-append, turned)
 
   parts : Tiles head (take place z.bytes) z.below × Tiles head (drop place z.bytes) (was ++ z.above)
       × Tiles head run-bytes was × Tiles head (drop stop z.bytes) z.above
@@ -59,7 +59,7 @@ module _ (z : Hoist) (place stop : ℕ) (h : MayHoist z place stop) where
   length-run = length-take-le (stop - place) (drop place z.bytes) (omega (arith, wide, length-drop place z.bytes))
 
   length-turned : length turned-bytes ≡ stop - place
-  length-turned = grind (arith, length-run, length-append, length-take-le, wide, length-drop)
+  length-turned = grind (arith, length-append, length-take-le, wide, length-drop)
 
   turned-tiles : Tiles head turned-bytes (hoisted_run z)
   turned-tiles = grind (arith, parts, tiles-append, tiles-one, length-take-le, tile-take)

@@ -10,7 +10,7 @@ use Rattle.zone_bytes.proofs.Tiles.Keeping.{leads-free, span-settle}
 -- a packed run whose slots lead to its blocks
 pub settled-of : (lay : Lay) (place stop gap moves : ℕ) (xs : List ℕ) → IsRunFrom lay place stop → Packed lay gap moves
     xs → Leads (sizes lay.below) (movers lay.run) xs → Settled lay moves xs
-settled-of lay place stop gap moves xs r p l = grind (arith, leads-joined, span-settle, leads-append, leads-free)
+settled-of lay place stop gap moves xs r p l = grind (arith, span-settle, leads-append)
 
 pub settled-led : (lay : Lay) (place stop moves : ℕ) (xs : List ℕ) → IsRunFrom lay place stop → Packed lay 0 moves xs
     → Settled lay moves xs

@@ -35,7 +35,7 @@ sum-free (suc n) = omega arith
 
 -- a Free block below another
 free-both : (n m : ℕ) → 0 < n → tidy (Free n ∷ free m) ≡ free (n + m)
-free-both zero m l = absurd (omega (arith, l))
+free-both zero m l = absurd (omega arith)
 free-both (suc n) zero l = let e : suc n ≡ suc n + zero = omega arith in ap free e
 free-both (suc n) (suc m) l = sym (free-some _ (omega arith))
 
@@ -89,22 +89,22 @@ module _ (lay : Lay) (place gap : ℕ) (h : MayLift lay place gap) (moves : ℕ)
   settled = instead-settle lay.below lay.run lay.above h.run.in_run
 
   all-free : free_sum lay.run ≡ gap + (free_sum lay.run - gap)
-  all-free = omega (arith, h.enough)
+  all-free = omega arith
 
   pub may-raise : (top stop : ℕ) → top ≡ place + sizes (movers lay.run) → stop ≡ place + sizes lay.run
       → MayRaise (raise_of lay gap xs) place top stop gap
-  may-raise top stop t s = grind (arith, slots-now, settled, all-free, span-movers)
+  may-raise top stop t s = grind (arith, slots-now, settled, span-movers)
 
   pub is-lifted : (top : ℕ) → top ≡ place + sizes (movers lay.run) → place < top → (new : List ℕ)
       → Raised (raise_of lay gap xs) new → Lifted lay gap new
   is-lifted top t l new d =
-      let some-movers : movers lay.run ≡ [] → ⊥ = λ n. (omega (arith, ap sizes n, t, l)) in
-      grind (arith, lifted-some, some-movers, others-now, settled, all-free)
+      let some-movers : movers lay.run ≡ [] → ⊥ = λ n. (omega (arith, ap sizes n)) in
+      grind (arith, lifted-some, others-now, settled)
 
   -- a run without relocatable blocks is raised as it is packed
   pub is-lifted-none : (top : ℕ) → top ≡ place + sizes (movers lay.run) → top ≤ place → Lifted lay gap xs
   is-lifted-none top t l =
-      let none = no-movers lay.run (omega (arith, t, l)) in
+      let none = no-movers lay.run (omega arith) in
       rw (lifted-none gap lay.run h.some h.enough none) (settled-of _ _ _ _ _ _ h.run p
       (subst (λ l. Leads (sizes lay.below) l xs) (sym none) tt)).zone
 
@@ -130,7 +130,7 @@ module _ (lay : Lay) (place gap : ℕ) (h : MayLift lay place gap) (o : EndsRun 
 
   -- no relocatable block is among those that were packed: they are all
   none-left : top ≤ place → rest ≡ []
-  none-left l = elim p.ended [ inl e ↦ e | inr e ↦ absurd (omega (arith, l)) ]
+  none-left l = elim p.ended [ inl e ↦ e | inr e ↦ absurd (omega arith) ]
 
   pub none-lifted : top ≤ place → Lifted lay gap xs
   none-lifted l = let w = whole lay place h.run p (none-left l) in is-lifted-none _ _ _ h _ _ w.packed _ w.top_at l
@@ -159,7 +159,7 @@ module _ (lay : Lay) (place gap : ℕ) (h : MayLift lay place gap) (o : EndsRun 
     raise-part = may-raise part place gap lift-part moves xs p.packed top stop p.top_at p.stop_at
 
     some-movers : movers gone ≡ [] → ⊥
-    some-movers n = omega (arith, ap sizes n, some)
+    some-movers n = omega (arith, ap sizes n)
 
     abbrev pub left : ℕ
     left = free_sum gone - gap

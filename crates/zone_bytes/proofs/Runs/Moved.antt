@@ -18,7 +18,7 @@ module _ (lay : Lay) (place stop : ℕ) (r : IsMoved lay place stop) (now : List
   P = Clear place (stop - place)
 
   clear-of : (j : ℕ) → IsSlot j (all lay) → P j
-  clear-of = slot-clear lay place stop r place (stop - place) (omega arith) (omega (arith, s.ordered))
+  clear-of = slot-clear lay place stop r place (stop - place) (omega arith) (omega arith)
 
   -- the slots of the blocks lie outside the run
   pub clears : Each P (names lay.below) × Each P (names lay.run) × Each P (names lay.above)

@@ -57,7 +57,7 @@ module _ (lay : Lay) (place stop : ℕ) (r : IsMoved lay place stop) where
 
   -- so it is clear of a write inside the run
   pub slot-clear : (at n : ℕ) → place ≤ at → at + n ≤ stop → (s : ℕ) → IsSlot s all → Clear at n s
-  slot-clear at n l h s i = elim (slot-spot s i) [ inl j ↦ inl (omega (arith, l)) | inr j ↦ inr (omega (arith, h)) ]
+  slot-clear at n l h s i = elim (slot-spot s i) [ inl j ↦ inl (omega arith) | inr j ↦ inr (omega arith) ]
 
   pub start : (gap : ℕ) → Passing lay gap place place lay.bytes [] [] lay.run
   start gap =
@@ -183,15 +183,13 @@ module _ (lay : Lay) (place stop : ℕ) (r : IsMoved lay place stop) where
     is-slot = (each-right P _ (slot ∷ names (rest ++ lay.above)) are-slots).0
 
     pub slot-fits : slot + 4 ≤ length xs
-    slot-fits = omega (arith, slot-inside slot all is-slot, length-tiles head lay.bytes all r.tiles, q.kept)
+    slot-fits = omega (arith, slot-inside slot all is-slot, length-tiles head lay.bytes all r.tiles)
 
     -- the other slots hold what they held
     others-kept : (s : ℕ) → IsSlot s all → Apart slot s → Kept s
-    others-kept s i a =
-        piece-clear slot _ (slid block q) s (omega (arith, slot-fits, length-slid block q))
-        (apart-clear slot (to + gap) s a)
-        ∙ piece-outside place stop xs (slid block q) s (slid-outside block q)
-        (slot-clear place (stop - place) (omega arith) (omega (arith, run-bounds)) s i)
+    others-kept s i a = piece-clear slot _ (slid block q) s (omega (arith, slot-fits, length-slid block q))
+        (apart-clear slot (to + gap) s a) ∙ piece-outside place stop xs (slid block q) s (slid-outside block q)
+        (slot-clear place (stop - place) (omega arith) (omega arith) s i)
 
     kept-low : Each Kept (names (lay.below ++ moved))
     kept-low = each-both P (Apart slot) Kept others-kept _ (each-left P _ _ are-slots)

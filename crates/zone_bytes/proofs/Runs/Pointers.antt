@@ -33,7 +33,7 @@ module _ (lay : Lay) (place stop : ℕ) (r : IsMoved lay place stop) where
     pub pointed : stop ≤ from → Pointed lay xs
     pointed l =
         let e = (bounds lay place stop r p.state).rest_end in
-        let n = tiles-none (head_of lay.resource) (drop from xs) p.rest lay.above p.state.high (omega (arith, l)) in
+        let n = tiles-none (head_of lay.resource) (drop from xs) p.rest lay.above p.state.high (omega arith) in
         let q = subst (Passing lay 0 from from xs p.done p.done) n p.state in
         let z : p.done ≡ lay.run = sym (append-nil p.done) ∙ q.split in
         grind (arith, append_assoc, take-append-drop, tiles-append, leads-joined)
@@ -43,7 +43,7 @@ module _ (lay : Lay) (place stop : ℕ) (r : IsMoved lay place stop) where
       some e = omega (arith, (bounds lay place stop r p.state).rest_end, ap sizes e, l)
 
       pub point-next : Next xs from
-      point-next = passing-next lay place stop r p.state (omega (arith, l, pointing-bounds))
+      point-next = passing-next lay place stop r p.state (omega (arith, pointing-bounds))
 
       module _ (n t : ℕ) (e : n + t ≡ word_at from xs) (w : n % 16 ≡ 0) where
         pub point-free : t < 3 → Pointing lay stop (from + n) xs

@@ -47,4 +47,4 @@ module _ (xs : List ℕ) (first unused : ℕ) (i : IsSound xs first unused) (pla
       (whole xs first unused i place r e) (sym (append_assoc r.below (lifted gap r.run) r.above)) new s
 
   pub lifted-zone : tidy (with_run (lifted gap) r) ≡ tidy (with_run (low (Free gap)) r)
-  lifted-zone = grind (arith, any-movers, lifted-none, low-none, lifted-some)
+  lifted-zone = grind (arith, any-movers, low-none, lifted-some)

@@ -71,7 +71,7 @@ module _ (lay : Lay) (place stop : ℕ) (r : IsMoved lay place stop) {gap from t
   pub moves-bound : moves ≤ 134217728
   moves-bound =
       let b = bounds lay place stop r p.state in
-      omega (arith, lowered-span 0 gone, p.count, p.state.up)
+      omega (arith, lowered-span 0 gone)
 
   module _ (some : p.rest ≡ [] → ⊥) (n t : ℕ) (e : n + t ≡ word_at from xs) (w : n % 16 ≡ 0) where
     pub next-free : t < 3 → Packing lay gap (from + n) to moves xs (gone ++ Free n ∷ [])

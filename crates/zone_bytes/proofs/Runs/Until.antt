@@ -29,7 +29,7 @@ cut-back : (head : Block → List ℕ) (xs : List ℕ) (gone rest above : List B
 cut-back head xs [] [] above t = (refl, refl)
 cut-back head xs [] (b ∷ rest) above t = grind arith
 cut-back head xs (b ∷ gone) rest above t =
-    let e : nat_le (size b) (size b + sizes gone) ≡ true = grind (arith, nat_tests) in
+    let e : nat_le (size b) (size b + sizes gone) ≡ true = grind arith in
     let m : size b + sizes gone - size b ≡ sizes gone = omega arith in
     let k = cut-back head xs gone rest above t in (
       (λ i. cond (e i) (b ∷ first_in (m i) (gone ++ rest)) []) ∙ ap (λ l. b ∷ l) k.0,
@@ -57,7 +57,7 @@ module _ (lay : Lay) (place stop : ℕ) (r : IsMoved lay place stop) {gap from t
     {gone : List Block} (p : Packing lay gap from to moves xs gone) where
   is-cut : (first_in (from - sizes lay.below) lay.run ≡ gone) × (left_behind (from - sizes lay.below) lay.run ≡ p.rest)
   is-cut =
-      let e : from - sizes lay.below ≡ sizes gone = omega (arith, p.state.up) in
+      let e : from - sizes lay.below ≡ sizes gone = omega arith in
       rw (e, ← p.state.split) (cut-back (head_of lay.resource) _ gone p.rest lay.above p.state.high)
 
   pub gone-is : gone ≡ gone_to lay from
@@ -73,10 +73,10 @@ module _ (lay : Lay) (place stop : ℕ) (r : IsMoved lay place stop) {gap from t
       let g = gap-left lay place stop r q in
       let head = head_of lay.resource in
       let n : from - to ≡ free_sum gone = omega arith in
-      let len = length-take-le (from - to) (drop to zs) (omega (arith, length-drop to zs, s.kept)) in
-      let mid = free-tiles lay.resource (from - to) (piece to (from - to) zs) len (omega (arith, b.evens)) (elim w [
+      let len = length-take-le (from - to) (drop to zs) (omega (arith, length-drop to zs)) in
+      let mid = free-tiles lay.resource (from - to) (piece to (from - to) zs) len (omega arith) (elim w [
         | inl e ↦ inl e
-        | inr e ↦ inr (e.0, take-take 4 (from - to) (drop to zs) (omega (arith, b.evens, e.0)) ∙ e.1)
+        | inr e ↦ inr (e.0, take-take 4 (from - to) (drop to zs) (omega arith) ∙ e.1)
       ]) in
       let tiles = tiles-joined head zs (lay.below ++ movers gone) (free (from - to)) (p.rest ++ lay.above) to from
       q.down (rw s.low q.low) mid (rw s.high q.high) in
@@ -100,8 +100,8 @@ module _ (lay : Lay) (place stop : ℕ) (r : IsMoved lay place stop) {gap from t
           split = p.state.split;
           packed = packed zs s w;
           top_at = omega (arith, span-append lay.below (movers gone), r.bottom);
-          stop_at = omega (arith, p.state.up, r.bottom);
-          ended = elim ended [ inl e ↦ inl e | inr e ↦ inr (e.0, omega (arith, e.1)) ];
+          stop_at = omega arith;
+          ended = elim ended [ inl e ↦ inl e | inr e ↦ inr (e.0, omega arith) ];
         } in
         rw (is-cut.0, is-cut.1) at
 
@@ -114,7 +114,7 @@ module _ (lay : Lay) (place stop : ℕ) (r : IsMoved lay place stop) {gap from t
     until-free l =
         let b = bounds lay place stop r p.state in
         let w = length-word (from - to) in
-        until _ (outside-written to from xs xs to (word (from - to)) (omega arith) (omega (arith, b.evens))
+        until _ (outside-written to from xs xs to (word (from - to)) (omega arith) (omega arith)
         (outside-same to from xs p.state.down (omega arith)))
         (inr (omega arith, piece-written to (word (from - to)) xs 4 (sym w) (omega arith)))
 
@@ -126,7 +126,7 @@ module _ (lay : Lay) (place : ℕ) (r : IsRunFrom lay place (place + sizes lay.r
     | inl n ↦ n
     | inr e ↦
         let b = run-bounds lay place _ (run-moved lay place _ r) in
-        absurd (omega (arith, l, e, b, cut-free lay gone rest p.split, span-movers lay.run r.in_run))
+        absurd (omega (arith, cut-free lay gone rest p.split, span-movers lay.run r.in_run))
   ]
 
   module _ (n : rest ≡ []) where

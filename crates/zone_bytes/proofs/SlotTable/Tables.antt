@@ -30,8 +30,8 @@ each-has P (x ∷ xs) s h (inr k) = each-has P xs s h.1 k
 
 -- what is apart is another
 pub apart-other : (s t : ℕ) → Apart s t → s ≡ t → ⊥
-apart-other s t (inl h) e = omega (arith, h, e)
-apart-other s t (inr h) e = omega (arith, h, e)
+apart-other s t (inl h) e = omega arith
+apart-other s t (inr h) e = omega arith
 
 -- no block has a name that none of them has
 pub none-other : (s : ℕ) (blocks : List Block) → Each (λ t. t ≡ s → ⊥) (names blocks)
@@ -43,11 +43,11 @@ none-other s (Masters ∷ blocks) e = none-other s blocks e
 none-other s (Relocatable id flags content ∷ blocks) e = rw (ne_eqb id s e.0) (none-other s blocks e.1)
 
 pub none-apart : (s : ℕ) (blocks : List Block) → Each (Apart s) (names blocks) → has (is_relocatable s) blocks ≡ false
-none-apart s blocks a = none-other s blocks (grind (arith, each-map, apart-other))
+none-apart s blocks a = none-other s blocks (grind (arith, each-map))
 
 -- a slot's word is clear of another's
 pub apart-clear : (s n t : ℕ) → Apart s t → Clear s (length (word n)) t
-apart-clear s n t (inl h) = inr (omega (arith, length-word, h))
+apart-clear s n t (inl h) = inr (omega (arith, length-word))
 apart-clear s n t (inr h) = inl h
 
 -- resource flags that agree at the blocks' slots
@@ -82,7 +82,7 @@ module _ (xs : List ℕ) (blocks : List Block) (slots : ℕ → Slot) (unused : 
 
   -- two slots are apart
   pub apart-of : (s t : ℕ) → IsSlot s blocks → IsSlot t blocks → (s ≡ t → ⊥) → Apart s t
-  apart-of s t i j n = grind (arith, slot-even, cases_lt)
+  apart-of s t i j n = grind (arith, slot-even)
 
   -- the slot of a handle is apart from the unused ones
   pub used-apart : (s : ℕ) (r : Bool) → IsSlot s blocks → slots s ≡ Used r → Each (Apart s) unused
@@ -141,6 +141,6 @@ module _ (xs : List ℕ) (blocks : List Block) (slots : ℕ → Slot) (unused : 
       (λ t p. sym (ap is_resource (other t p))) (names blocks) a) (lies-written s n i a))
       (each-both (Apart s) (λ t. IsUsed (slots t)) (λ t. IsUsed (set_slot slots s state t))
       (λ t p u. subst IsUsed (sym (other t p)) u) (names blocks) a h.used)
-      (length-written s (word n) xs (omega (arith, b, length-word)))
-      (λ t d j. piece-clear s (word n) xs t (omega (arith, b)) (apart-clear s n t (apart-of s t i j (λ m. d (sym m)))))
+      (length-written s (word n) xs (omega (arith, length-word)))
+      (λ t d j. piece-clear s (word n) xs t (omega arith) (apart-clear s n t (apart-of s t i j (λ m. d (sym m)))))
       kept mine chain ok once

@@ -38,11 +38,11 @@ kind-small _ = omega arith
 module _ (resource : ℕ → Bool) (ys : List ℕ) where
   pub first-word : (b : Block) → Tile (head_of resource b) (size b) ys → piece 0 4 ys ≡ word (size b + kind b)
   unfolding head_of
-  first-word (Free n) t = grind (arith, tile-piece, length-word, take_all)
+  first-word (Free n) t = grind (arith, length-word)
   first-word (Nonrelocatable id content) t =
       tile-piece _ _ _ t 0 4 (omega (arith, length-head)) ∙ (header-pieces _ _ 0 0 _).0
   first-word Masters t = tile-piece _ _ ys t 0 4 (omega (arith, length-header 274 256 0 0)) ∙ masters-first
-  first-word (Relocatable slot flags content) t = grind (arith, tile-piece, length-head, header-pieces)
+  first-word (Relocatable slot flags content) t = grind (arith, length-head, header-pieces)
 
   pub slot-word : (slot : ℕ) (flags : Flags) (content : List ℕ)
       → Tile (head_of resource (Relocatable slot flags content)) (size (Relocatable slot flags content)) ys
@@ -70,8 +70,8 @@ free-tile resource n ys l w s b = grind arith
 pub free-tiles : (resource : ℕ → Bool) (n : ℕ) (ys : List ℕ) → length ys ≡ n → n % 16 ≡ 0
     → (n ≡ 0) ⊎ ((0 < n) × (take 4 ys ≡ word n)) → Tiles (head_of resource) ys (free n)
 free-tiles resource n [] l w (inl e) = subst (λ k. Tiles (head_of resource) [] (free k)) (sym e) refl
-free-tiles resource n (y ∷ ys) l w (inl e) = absurd (omega (arith, l, e))
-free-tiles resource n ys l w (inr e) = grind (arith, free-some, tiles-one, free-tile)
+free-tiles resource n (y ∷ ys) l w (inl e) = absurd (omega arith)
+free-tiles resource n ys l w (inr e) = grind (arith, tiles-one, free-tile)
 
 -- what reading a header requires
 abbrev pub MayRead : ℕ → List ℕ → Type 0
@@ -94,7 +94,7 @@ next-may n = record { within = (n.even, n.fits); fits = n.below; tag = n.tag }
 
 module _ (resource : ℕ → Bool) (xs : List ℕ) (from : ℕ) (small : length xs ≤ 134217728) where
   pub first-reads : (b : Block) → Tile (head_of resource b) (size b) (drop from xs) → word_at from xs ≡ size b + kind b
-  first-reads b t = grind (arith, length-drop, kind-small, read_back, first-word)
+  first-reads b t = grind (arith, length-drop, read_back, first-word)
 
   pub slot-reads : (slot : ℕ) (flags : Flags) (content : List ℕ) → slot < 2 ^ 32
       → Tile (head_of resource (Relocatable slot flags content)) (size (Relocatable slot flags content))
@@ -104,7 +104,7 @@ module _ (resource : ℕ → Bool) (xs : List ℕ) (from : ℕ) (small : length 
 
   -- a block's header may be read
   pub header-there : (b : Block) → Tile (head_of resource b) (size b) (drop from xs) → from % 16 ≡ 0 → Next xs from
-  header-there b t w = grind (arith, first-reads, length-drop, kind-small)
+  header-there b t w = grind (arith, first-reads, length-drop)
 
   -- and tells its bytes and its kind
   pub header-tells : (b : Block) → Tile (head_of resource b) (size b) (drop from xs) → (n t : ℕ) → n + t ≡ word_at

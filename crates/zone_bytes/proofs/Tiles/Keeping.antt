@@ -43,12 +43,11 @@ module _ (xs new : List ℕ) (blocks now : List Block) (slots : ℕ → Slot) (u
       → ((s : ℕ) → IsSlot s blocks → slots s ≡ Unused → piece s 4 new ≡ piece s 4 xs) → Lays new now slots unused
   lays-changed lies has i j placed l used stands kept =
       let says-now : (s : ℕ) (st : Slot) → slots s ≡ st → Says blocks xs unused s st → Says now new unused s st = says
-      in
-      record {
+      in record {
         lies = lies;
         has_slots = has;
         placed = placed;
-        small = omega (arith, l);
+        small = omega arith;
         used = used;
         says = λ s. says-now s (slots s) refl (h.says s);
         chain = chain-kept _ _ _ (each-map (λ u. IsSlot u blocks × (slots u ≡ Unused))
@@ -99,7 +98,7 @@ names-free zero = refl
 names-free (suc n) = refl
 
 pub names-left : (blocks : List Block) (n : ℕ) → names (blocks ++ free n) ≡ names blocks
-names-left blocks n = grind (arith, names-append, names-free, append-nil)
+names-left blocks n = grind (arith, names-append, append-nil)
 
 pub span-free : (n : ℕ) → sizes (free n) ≡ n
 span-free zero = refl

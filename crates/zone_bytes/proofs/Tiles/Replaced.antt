@@ -32,10 +32,9 @@ module _ (xs : List ℕ) (below here above : List Block) (slots : ℕ → Slot) 
       (leads : Leads bottom now new) where
     pub replaced : Lays new (below ++ (now ++ above)) slots unused
     replaced =
-        let o : bottom ≡ 0 + sizes below = omega (arith, low) in
+        let o : bottom ≡ 0 + sizes below = omega arith in
         let ok = placed-swap 0 below here now above e (subst (λ j. ArePlaced j now) o placed) h.placed in
         lays-kept _ _ _ _ slots _ h (lies-put zone bottom top xs is-splice now new same t e leads)
-        (names-swap below here now above n)
-        (λ s i. slot-swap s below here now above (none _) e i)
+        (names-swap below here now above n) (λ s i. slot-swap s below here now above (none _) e i)
         (λ s i. slot-swap s below now here above (none-now _) (sym e) i) ok
         (λ s i a. piece-outside bottom top xs new s same (outside zone bottom top xs is-splice s i)) same.kept

@@ -27,12 +27,12 @@ piece-outside lo hi old new s o (inl h) =
     whole new ∙ ap (λ k. drop s (take (s + 4) k)) o.low ∙ sym (whole old)
 piece-outside lo hi old new s o (inr h) =
     let whole : (xs : List ℕ) → piece s 4 xs ≡ take 4 (drop (s - hi) (drop hi xs)) = λ xs. ap
-    (λ k. take 4 (drop k xs)) (sym (omega (arith, h))) ∙ ap (take 4) (sym (drop-drop (s - hi) hi xs)) in
+    (λ k. take 4 (drop k xs)) (sym (omega arith)) ∙ ap (take 4) (sym (drop-drop (s - hi) hi xs)) in
     whole new ∙ ap (λ k. take 4 (drop (s - hi) k)) o.high ∙ sym (whole old)
 
 pub leads-outside : (lo hi : ℕ) (old new : List ℕ) (o : ℕ) (blocks : List Block) → SameOutside lo hi old new
     → Each (Clear lo (hi - lo)) (names blocks) → Leads o blocks old → Leads o blocks new
-leads-outside lo hi old new o blocks s c h = grind (arith, leads-same, each-map, Clear, piece-outside)
+leads-outside lo hi old new o blocks s c h = grind (arith, leads-same, each-map, piece-outside)
 
 module _ (head : Block → List ℕ) where
   -- three stretches of blocks
@@ -40,7 +40,7 @@ module _ (head : Block → List ℕ) where
       → Tiles head (piece lo (hi - lo) new) here → Tiles head (drop hi new) ns → Tiles head new (ls ++ (here ++ ns))
   tiles-joined new ls here ns lo hi o low h high =
       let mid : piece lo (hi - lo) new ++ drop hi new ≡ drop lo new = ap (λ k. piece lo (hi - lo) new ++ k)
-      (sym (drop-drop (hi - lo) lo new ∙ ap (λ k. drop k new) (omega (arith, o)))) ∙ take-append-drop (hi - lo) (drop lo new) in
+      (sym (drop-drop (hi - lo) lo new ∙ ap (λ k. drop k new) (omega arith))) ∙ take-append-drop (hi - lo) (drop lo new) in
       let all : take lo new ++ (piece lo (hi - lo) new ++ drop hi new) ≡ new = ap (λ k. take lo new ++ k) mid
       ∙ take-append-drop lo new in
       subst (λ k. Tiles head k (ls ++ (here ++ ns))) all (grind (arith, tiles-append))

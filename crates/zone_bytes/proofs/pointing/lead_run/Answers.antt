@@ -50,11 +50,11 @@ overflow_add-from g c =
 pub loop-from-smaller : goal.loop-from-smaller
 loop-from-smaller g c =
     let n = there g (goal.at.loop-from-smaller g c).In-loop-from in
-    let some : 0 < c.read_header-header.result.size = omega (arith, n, tag-small) in
-    omega (arith, c.loop-from-test.true, some)
+    let some : 0 < c.read_header-header.result.size = omega (arith, tag-small) in
+    omega arith
 
 pub loop-from-preserved : goal.loop-from-preserved
-loop-from-preserved g c = grind (arith, then-eq, slot, else-eq, free)
+loop-from-preserved g c = grind (arith, slot, free)
 
 pub returns-clause-pointed : goal.returns-clause-pointed
 returns-clause-pointed g c = pointed _ _ _ c.requires.1 c.loop-from.invariant.0 c.loop-from-test.false

@@ -62,7 +62,7 @@ padded_size-requires c =
     let r = read (goal.at.padded_size-requires c).After-read_header-header in
     let o = sym c.has_content.ensures ∙ c.if-not-has_content.false in
     let f = fits _ _ _ _ a.3 _ r o a.2 _ _ c.free_behind.ensures refl in
-    omega (arith, f, ends _ _ _ _ a.3 _ r o a.2 _ _ c.free_behind.ensures refl, size-is)
+    omega (arith, ends _ _ _ _ a.3 _ r o a.2 _ _ c.free_behind.ensures refl)
 
 pub lay_block-requires : goal.lay_block-requires
 lay_block-requires c =
@@ -132,4 +132,4 @@ returns-clause-replaced c = λ first unused i. let xs = c.args.part.now.bytes in
     let f = fits xs c.args.place c.args.bytes a.0 a.3 _ r o a.2 b (padded c.args.bytes) c.free_behind.ensures refl in
     subst (λ t. Replaced c.args.place t (zone_in xs) (zone_in c.lay_block.new.part.bytes))
     (grind arith) (resize-replaced _ _ _ _ _ _ i _ a.1 a.3 a.2 (returns-clause-cut c)
-    (returns-clause-grown c) same.solid (omega (arith, f, z, m)))
+    (returns-clause-grown c) same.solid (omega arith))

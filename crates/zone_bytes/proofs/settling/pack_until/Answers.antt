@@ -50,7 +50,7 @@ read_header-header-requires g c = search (rules, next-may, there)
 
 -- it is one of the run
 some : (g : Over) (c : After-eq g) → c.loop-from.invariant.1.rest ≡ [] → ⊥
-some g c = grind (arith, within, bounds, run-moved, tag-small)
+some g c = grind (arith, within)
 
 -- and a relocatable one
 mover : (g : Over) (c : After-eq g) → true ≡ sameb the_type c.read_header-header.result.tag Relocatable
@@ -153,7 +153,7 @@ loop-from-preserved g c =
 pub loop-from-smaller : goal.loop-from-smaller
 loop-from-smaller g c =
     let b = (there g (goal.at.loop-from-smaller g c).In-loop-from).big in
-    let some : 0 < c.read_header-header.result.size = omega (arith, b, tag-small) in
+    let some : 0 < c.read_header-header.result.size = omega (arith, tag-small) in
     omega (arith, up g (goal.at.loop-from-smaller g c).Joined-eq, some)
 
 -- the run was gone over, or has enough
@@ -167,7 +167,7 @@ ended g c =
       | then-loop-from-test+then-is_enough w ↦ inr (w.if-is_enough.ensures refl)
       | then-loop-from-test+else-is_enough+then-not-is_in_run w ↦
           let e = w.read_header-header.ensures in
-          inl (grind (arith, beyond, tag-small))
+          inl (grind (arith, beyond))
     ]
 
 -- the edges are those of the blocks that were packed

@@ -26,4 +26,4 @@ pub returns-clause-stop : goal.returns-clause-stop
 returns-clause-stop g c = (done g (goal.at.returns-clause-stop g c).After-pack_until).stop_at
 
 pub returns-clause-edges : goal.returns-clause-edges
-returns-clause-edges g c = search (rules, all-of, nothing-left)
+returns-clause-edges g c = search (rules, nothing-left)
