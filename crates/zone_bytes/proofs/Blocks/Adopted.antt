@@ -80,8 +80,7 @@ module _ (xs : List ℕ) (first count : ℕ) (i : IsSound xs first count) (numbe
   fits-in = fits xs first count i below old above whole place low
 
   same : SameOutside place (place + n) xs mid
-  same = outside-written _ _ _ _ _ head (omega arith) (omega (arith, long))
-      (outside-same place (place + n) xs (omega arith) fits-in)
+  same = outside-written _ _ _ _ _ head (omega arith) (omega (arith, long)) (grind (arith, fits-in))
 
   new-tile : Tile (head_of (resource_in xs) new) n (drop place mid)
   unfolding head_of
@@ -103,14 +102,12 @@ module _ (xs : List ℕ) (first count : ℕ) (i : IsSound xs first count) (numbe
 pub masters-adopted : (below : List Block) (id number : ℕ) (flags : Flags) (content : List ℕ) (above : List Block)
     → count is_masters (below ++ Relocatable number flags content ∷ above)
     ≡ count is_masters (below ++ Nonrelocatable id content ∷ above)
-masters-adopted below id number flags content above =
-    masters-same below above (Nonrelocatable id content) (Relocatable number flags content) refl
+masters-adopted below id number flags content above = grind (arith, masters-same)
 
 pub free-adopted : (below : List Block) (id number : ℕ) (flags : Flags) (content : List ℕ) (above : List Block)
     → free_sum (below ++ Relocatable number flags content ∷ above) ≡ free_sum
     (below ++ Nonrelocatable id content ∷ above)
-free-adopted below id number flags content above =
-    total-same free_of below above (Nonrelocatable id content) (Relocatable number flags content) refl
+free-adopted below id number flags content above = grind (arith, total-same)
 
 -- the nonrelocatable block at a place
 pub record NonrelocatableAt (xs : List ℕ) (place : ℕ) : Type 0 where
@@ -125,23 +122,7 @@ pub record NonrelocatableAt (xs : List ℕ) (place : ℕ) : Type 0 where
 pub nonrelocatable-at : (xs : List ℕ) (place : ℕ) → IsSomeAnd (spot_at place (zone_in xs))
     (λ s. is_nonrelocatable place s.here ≡ true)
     → NonrelocatableAt xs place
-nonrelocatable-at xs place h = let a = the-spot _ (λ s. is_nonrelocatable place s.here ≡ true) h in
-    of a.0 a.1 a.0.here refl a.2
-  where
-    of : (s : Spot) → spot_at place (zone_in xs) ≡ Some s → (b : Block) → s.here ≡ b → is_nonrelocatable place b ≡ true
-        → NonrelocatableAt xs place
-    of s e (Free n) is f = absurd (false≢true f)
-    of s e (Nonrelocatable id content) is f = record {
-      s = s;
-      id = id;
-      content = content;
-      is = e;
-      here = is;
-      whole = sym (spot_at-is place (zone_in xs) s e) ∙ ap (λ b. s.below ++ b ∷ s.above) is;
-      low = spot_at-below place (zone_in xs) s e;
-    }
-    of s e Masters is f = absurd (false≢true f)
-    of s e (Relocatable slot flags content) is f = absurd (false≢true f)
+nonrelocatable-at xs place h = grind (arith, spot_at-is, spot_at-below)
 
 module _ (xs : List ℕ) (first count : ℕ) (i : IsSound xs first count) (place : ℕ) (a : NonrelocatableAt xs place)
     (number : ℕ)

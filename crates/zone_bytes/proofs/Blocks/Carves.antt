@@ -23,7 +23,7 @@ module _ (zone : Splice) (bottom top : ℕ) (xs : List ℕ) (h : IsSplice zone b
   all = zone.below ++ (zone.here ++ zone.above)
 
   pub bounds : (bottom ≤ top) × (top + sizes zone.above ≡ length xs)
-  bounds = (omega arith, omega (arith, length-tiles, span-append, span-append))
+  bounds = (omega arith, omega (arith, length-tiles, span-append))
 
   pub even : (bottom % 16 ≡ 0) × (top % 16 ≡ 0)
   even = grind (arith, tiles-split, span-whole)
@@ -37,18 +37,13 @@ module _ (zone : Splice) (bottom top : ℕ) (xs : List ℕ) (h : IsSplice zone b
 
   pub clear : Each (Clear bottom (top - bottom)) (names zone.below) × Each (Clear bottom (top - bottom))
       (names zone.above)
-  clear = grind (arith, each-map, Clear, outside)
+  clear = grind (arith, each-map, outside)
 
   -- other blocks in the stretch's place
   pub lies-put : (now : List Block) (new : List ℕ) → SameOutside bottom top xs new
       → Tiles (head_of zone.resource) (piece bottom (top - bottom) new) now → sizes now ≡ sizes zone.here
       → Leads bottom now new → Lies zone.resource (zone.below ++ (now ++ zone.above)) new
-  lies-put now new same t e l = record {
-    tiles = tiles-splice (head_of zone.resource) xs new zone.below zone.here zone.above now bottom top h.low h.high
-        h.lies.tiles same t;
-    leads = leads-splice xs new zone.below zone.here zone.above now bottom top h.low h.high e h.lies.leads same clear.0
-        clear.1 l;
-  }
+  lies-put now new same t e l = grind (arith, tiles-splice, leads-splice, clear)
 
   -- one Free block
   pub freed : let new = written bottom (word (top - bottom)) xs in
@@ -60,12 +55,11 @@ module _ (zone : Splice) (bottom top : ℕ) (xs : List ℕ) (h : IsSplice zone b
       let w = length-word n in
       let e = even in
       let b = bounds in
-      let same = outside-written _ _ _ _ bottom (word n) (omega arith) (omega (arith, w, e))
-      (outside-same bottom top xs b.0 (omega (arith, b))) in
-      let l = length-take-le n (drop bottom new) (omega (arith, length-drop bottom new, b)) in
-      let tile = free-tile zone.resource n (piece bottom n new) l (omega (arith, e)) (omega (arith, e))
-      (take-take 4 n (drop bottom new) (omega (arith, e))
-      ∙ piece-written bottom (word n) xs 4 (sym w) (omega (arith, b))) in
+      let same = outside-written _ _ _ _ bottom (word n) (omega arith) (omega arith)
+      (outside-same bottom top xs b.0 (omega arith)) in
+      let l = length-take-le n (drop bottom new) (omega (arith, length-drop bottom new)) in
+      let tile = free-tile zone.resource n (piece bottom n new) l (omega arith) (omega arith)
+      (take-take 4 n (drop bottom new) (omega arith) ∙ piece-written bottom (word n) xs 4 (sym w) (omega arith)) in
       let f : n + 0 ≡ sizes zone.here = omega arith in (
         lies-put (Free n ∷ []) new same (tiles-one head (Free n) (piece bottom n new) l tile) f (tt, tt),
         same,

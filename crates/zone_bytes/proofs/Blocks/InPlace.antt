@@ -31,33 +31,25 @@ use Rattle.zone_bytes.proofs.Joined.Ways.{tile-at}
 
 -- where a slot leads hangs on the block's names alone
 pub leads-each : (o : ℕ) (b : Block) (xs : List ℕ) → LeadsTo o b xs → Each (λ s. piece s 4 xs ≡ word o) (names_of b)
-leads-each o (Free n) xs l = tt
-leads-each o (Nonrelocatable id content) xs l = tt
-leads-each o Masters xs l = tt
 leads-each o (Relocatable slot flags content) xs l = (l, tt)
+leads-each o _ xs l = tt
 
 pub each-leads : (o : ℕ) (b : Block) (xs : List ℕ) → Each (λ s. piece s 4 xs ≡ word o) (names_of b) → LeadsTo o b xs
-each-leads o (Free n) xs e = tt
-each-leads o (Nonrelocatable id content) xs e = tt
-each-leads o Masters xs e = tt
 each-leads o (Relocatable slot flags content) xs e = e.0
+each-leads o _ xs e = tt
 
 pub no-slots : (b : Block) → is_masters b ≡ false → (s : ℕ) → IsSlot s (b ∷ []) → ⊥
-no-slots (Free n) m s i = elim i [ inl k ↦ k | inr k ↦ k.1 ]
-no-slots (Nonrelocatable id content) m s i = elim i [ inl k ↦ k | inr k ↦ k.1 ]
 no-slots Masters m s i = absurd (false≢true (sym m))
-no-slots (Relocatable slot flags content) m s i = elim i [ inl k ↦ k | inr k ↦ k.1 ]
+no-slots _ m s i = elim i [ inl k ↦ k | inr k ↦ k.1 ]
 
 -- another block that counts as much leaves a sum
 pub total-same : (of : Block → ℕ) (below above : List Block) (b c : Block) → of c ≡ of b
     → total of (below ++ c ∷ above) ≡ total of (below ++ b ∷ above)
-total-same of below above b c e = total-append of _ _
-    ∙ ap (λ v. total of below + (v + total of above)) e ∙ sym (total-append of _ _)
+total-same of below above b c e = grind (arith, total-append)
 
 pub masters-same : (below above : List Block) (b c : Block) → is_masters c ≡ is_masters b
     → count is_masters (below ++ c ∷ above) ≡ count is_masters (below ++ b ∷ above)
-masters-same below above b c e = total-same (λ b. if is_masters b then 1 else 0) _ _ b c
-    (ap (λ v. if v then 1 else 0) e)
+masters-same below above b c e = grind (arith, total-same)
 
 -- neither a block that holds none nor Free bytes above it have slots
 pub no-slots-two : (b : Block) (k : ℕ) → is_masters b ≡ false → (s : ℕ) → IsSlot s (b ∷ free k) → ⊥
@@ -71,17 +63,16 @@ tile-inside head head' w k n place at xs a l e t =
     let same : length head' ≡ length head = sym (ap length e) ∙ length-written k w head l in
     let d = length-drop place xs in
     let up : drop place (written at w xs) ≡ written k w (drop place xs) =
-    drop-written_below at w xs place (omega (arith, a)) (omega (arith, a, d, t.fits, t.room, l))
-    ∙ (let v : at - place ≡ k = omega (arith, a) in ap (λ j. written j w (drop place xs)) v) in
-    let q = length-written k w (drop place xs) (omega (arith, l, t.fits, t.room)) in
+    drop-written_below at w xs place (omega arith) (omega arith)
+    ∙ (let v : at - place ≡ k = omega arith in ap (λ j. written j w (drop place xs)) v) in
+    let q = length-written k w (drop place xs) (omega arith) in
     subst (Tile head' n) (sym up) (record {
-      fits = omega (arith, q, t.fits);
+      fits = omega arith;
       whole = t.whole;
       some = t.some;
-      room = omega (arith, same, t.room);
+      room = omega arith;
       begins = ap (λ m. take m (written k w (drop place xs))) same
-          ∙ take-written_above k w (drop place xs) (length head) l (omega (arith, t.fits, t.room))
-          ∙ ap (written k w) t.begins ∙ e;
+          ∙ take-written_above k w (drop place xs) (length head) l (omega arith) ∙ ap (written k w) t.begins ∙ e;
     })
 
 -- the bytes of one block
@@ -106,8 +97,7 @@ module _ (xs : List ℕ) (first count : ℕ) (i : IsSound xs first count) (below
   was = subst (λ z. Lays xs z (slot_in xs) i.unused) whole i.lays
 
   of-old : Each (λ s. IsSlot s all) (names_of b)
-  of-old = subst (Each (λ s. IsSlot s all)) (sym n) (each-names (λ s. IsSlot s all) old above
-      (each-names (λ s. IsSlot s all) below (old ++ above) was.has_slots.slots).1).0
+  of-old = grind (arith, each-names, was)
 
   leads-new : LeadsTo place b new
   leads-new =
@@ -118,9 +108,8 @@ module _ (xs : List ℕ) (first count : ℕ) (i : IsSound xs first count) (below
       (λ s j q. piece-outside _ _ _ _ s same (outside z _ _ _ st s j) ∙ q) _ of-old lead)
 
   pub put-lays : Lays new (below ++ ((b ∷ free k) ++ above)) (slot_in xs) i.unused
-  put-lays =
-      replaced _ _ _ _ (slot_in xs) _ was _ _ low high some plain (b ∷ free k) new same t span
-      (ap (λ l. names_of b ++ l) (names-free k) ∙ append-nil (names_of b) ∙ n) (no-slots-two b k solid)
+  put-lays = replaced _ _ _ _ (slot_in xs) _ was _ _ low high some plain (b ∷ free k) new same t span
+      (grind arith) (no-slots-two b k solid)
       (p, placed-run _ (free k) (each-free k)) (leads-new, leads-free (place + size b) k new)
 
 module _ (xs : List ℕ) (first count : ℕ) (i : IsSound xs first count) (below : List Block) (here : Block)
@@ -129,8 +118,7 @@ module _ (xs : List ℕ) (first count : ℕ) (i : IsSound xs first count) (below
   head = head_of (λ s. is_resource (slot_in xs s))
 
   pub tile : Tile (head here) (size here) (drop place xs)
-  tile = tile-at xs below here above (slot_in xs) i.unused
-      (subst (λ z. Lays xs z (slot_in xs) i.unused) whole i.lays) place low
+  tile = tile-at xs below here above (slot_in xs) i.unused (grind arith) place low
 
   pub fits : place + size here ≤ length xs
   fits = omega (arith, tile.fits, length-drop place xs, tile.some)
@@ -142,17 +130,16 @@ module _ (xs : List ℕ) (first count : ℕ) (i : IsSound xs first count) (below
       → (IsPlaced place here → IsPlaced place now) → tidy (below ++ now ∷ above) ≡ below ++ now ∷ above
       → Made new first count (below ++ now ∷ above) (slot_in xs)
   here-made plain now new same t e n m p y =
-      let o : 0 + sizes below ≡ place = omega (arith, low) in
+      let o : 0 + sizes below ≡ place = omega arith in
       let h = subst (λ j. IsPlaced j here) o
       (placed-right 0 below (here ∷ above) (subst (ArePlaced 0) whole i.lays.placed)).0 in
       let l = leads-each (0 + sizes below) here xs
       (leads-right xs 0 below (here ∷ above) (subst (λ z. Leads 0 z xs) whole i.lays.lies.leads)).0 in
       let l1 = subst (λ j. Each (λ s. piece s 4 xs ≡ word j) (names_of here)) o l in
       made _ _ (slot_in xs) _ (put-lays xs first count i below (here ∷ []) above whole place (place + size here) low
-      (omega arith) (omega (arith, tile.some)) (no-slots here plain) now 0 m (omega (arith, e))
-      (n ∙ sym (append-nil (names_of here))) (p h)
-      (subst (Each (λ s. piece s 4 xs ≡ word place)) (sym n) l1) new same
-      (tiles-piece head now place _ new (omega (arith, e)) t)) _ _ y i.begins i.counted
+      (omega arith) (omega arith) (no-slots here plain) now 0 m (omega arith)
+      (n ∙ sym (append-nil (names_of here))) (p h) (subst (Each (λ s. piece s 4 xs ≡ word place)) (sym n) l1) new same
+      (tiles-piece head now place _ new (omega arith) t)) _ _ y i.begins i.counted
 
   -- and so are they where a part of them is written
   pub inside-made : is_masters here ≡ false → (k at : ℕ) (w : List ℕ) (now : Block) → at ≡ place + k
@@ -161,7 +148,7 @@ module _ (xs : List ℕ) (first count : ℕ) (i : IsSound xs first count) (below
       → tidy (below ++ now ∷ above) ≡ below ++ now ∷ above
       → Made (written at w xs) first count (below ++ now ∷ above) (slot_in xs)
   inside-made plain k at w now a l f e n m p y =
-      here-made plain now _ (outside-written _ _ _ _ at w (omega (arith, a)) (omega (arith, a, l, tile.room))
+      here-made plain now _ (outside-written _ _ _ _ at w (omega arith) (omega (arith, tile.room))
       (outside-same place (place + size here) xs (omega arith) fits))
       (subst (λ j. Tile (head now) j (drop place (written at w xs))) (sym e)
       (tile-inside (head here) (head now) w k _ place at xs a l f tile)) e n m p y

@@ -58,9 +58,9 @@ module _ (xs : List ℕ) (first count : ℕ) (i : IsSound xs first count) (place
       let t = tile xs first count i below here above whole place low in
       let z = size here in
       let g = flag_word-small old (resource slot) in
-      let e = (header-told _ _ slot (flag_word old (resource slot)) place content xs t).marked (omega (arith, g)) in
+      let e = (header-told _ _ slot (flag_word old (resource slot)) place content xs t).marked (omega arith) in
       let w : flag_word flags false + word_at (place + 12) xs % 64 ≡ flag_word flags (resource slot) =
-      let h = high-flags old in ap (λ n. flag_word flags false + n % 64) e ∙ omega (arith, h, low-flag) in
+      let h = high-flags old in ap (λ n. flag_word flags false + n % 64) e ∙ omega (arith, low-flag) in
       let new = written (place + 12) (word (flag_word flags (resource slot))) xs in
       let is : flagged flags place xs ≡ new =
       ap (λ v. cond v (written (place + 12) (word (flag_word flags false + word_at (place + 12) xs % 64)) xs) xs)
@@ -73,15 +73,11 @@ module _ (xs : List ℕ) (first count : ℕ) (i : IsSound xs first count) (place
 
 pub masters-flagged : (flags : Flags) (below : List Block) (b : Block) (above : List Block)
     → count is_masters (below ++ with_flags flags b ∷ above) ≡ count is_masters (below ++ b ∷ above)
-masters-flagged flags below (Free n) above = refl
-masters-flagged flags below (Nonrelocatable id content) above = refl
-masters-flagged flags below Masters above = refl
 masters-flagged flags below (Relocatable slot old content) above = masters-same _ _ _ _ refl
+masters-flagged flags below _ above = refl
 
 -- the Free bytes stay
 pub free-flagged : (flags : Flags) (below : List Block) (b : Block) (above : List Block)
     → free_sum (below ++ with_flags flags b ∷ above) ≡ free_sum (below ++ b ∷ above)
-free-flagged flags below (Free n) above = refl
-free-flagged flags below (Nonrelocatable id content) above = refl
-free-flagged flags below Masters above = refl
 free-flagged flags below (Relocatable slot old content) above = total-same free_of _ _ _ _ refl
+free-flagged flags below _ above = refl

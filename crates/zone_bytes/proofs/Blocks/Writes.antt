@@ -41,7 +41,7 @@ content-room _ h = omega arith
 
 nil : (x : List ℕ) → length x ≡ 0 → [] ≡ x
 nil [] e = refl
-nil (y ∷ x) e = absurd (omega (arith, e))
+nil (y ∷ x) e = absurd (omega arith)
 
 module _ (xs : List ℕ) (first count : ℕ) (i : IsSound xs first count) (place from : ℕ) (x : List ℕ) where
   abbrev new : List ℕ
@@ -51,17 +51,16 @@ module _ (xs : List ℕ) (first count : ℕ) (i : IsSound xs first count) (place
   nothing : (below : List Block) (here : Block) (above : List Block) (whole : zone_in xs ≡ below ++ here ∷ above)
       (low : sizes below ≡ place) → from + length x ≤ 0 → Made new first count (below ++ here ∷ above) (slot_in xs)
   nothing below here above whole low w =
-      let l : length x ≡ 0 = omega (arith, w) in
+      let l : length x ≡ 0 = omega arith in
       let f = fits xs first count i below here above whole place low in
       let m = (tile xs first count i below here above whole place low).some in
-      let s = written-same (place + 16 + from) 0 x xs (omega (arith, f, m, w)) (nil x l) in
+      let s = written-same (place + 16 + from) 0 x xs (omega arith) (nil x l) in
       subst (λ ys. Made ys first count (below ++ here ∷ above) (slot_in xs)) (sym s)
       (made-same xs first count i _ whole)
 
   -- a write behind a header
   past : (h content : List ℕ) → length h ≡ 16 → written (16 + from) x (h ++ content) ≡ h ++ written from x content
-  past h content l = (let e : 16 + from ≡ length h + from = omega (arith, l) in ap (λ m. written m x (h ++ content)) e)
-      ∙ written-past h content x from
+  past h content l = grind (arith, written-past)
 
   pub written-in : (below : List Block) (here : Block) (above : List Block)
       (whole : zone_in xs ≡ below ++ here ∷ above) (low : sizes below ≡ place)
@@ -76,7 +75,7 @@ module _ (xs : List ℕ) (first count : ℕ) (i : IsSound xs first count) (place
       let e : size now ≡ size (Nonrelocatable id content) = ap padded k in
       inside-made xs first count i below _ above whole place low refl (16 + from) (place + 16 + from) x now
       (omega arith)
-      (omega (arith, length-head, w)) (rw (e, k) (past _ _ (length-header _ (length content) 0 0))) e refl refl (λ p. p)
+      (omega (arith, length-head)) (rw (e, k) (past _ _ (length-header _ (length content) 0 0))) e refl refl (λ p. p)
       (tidy-content (written from x content) below _ above (sym (ap tidy whole) ∙ i.tidied ∙ whole))
   written-in below (Relocatable slot flags content) above whole low w =
       let now : Block = Relocatable slot flags (written from x content) in
@@ -84,8 +83,7 @@ module _ (xs : List ℕ) (first count : ℕ) (i : IsSound xs first count) (place
       let e : size now ≡ size (Relocatable slot flags content) = ap padded k in
       inside-made xs first count i below _ above whole place low refl (16 + from) (place + 16 + from) x now
       (omega arith)
-      (omega (arith, length-head, w)) (rw (e, k) (past _ _ (length-header _ (length content) slot _))) e refl refl
-      (λ p. p)
+      (omega (arith, length-head)) (rw (e, k) (past _ _ (length-header _ (length content) slot _))) e refl refl (λ p. p)
       (tidy-content (written from x content) below _ above (sym (ap tidy whole) ∙ i.tidied ∙ whole))
 
   -- a block's content lies in the bytes
@@ -93,7 +91,7 @@ module _ (xs : List ℕ) (first count : ℕ) (i : IsSound xs first count) (place
       (whole : zone_in xs ≡ below ++ here ∷ above) (low : sizes below ≡ place)
       → place + 16 + length (content_of here) ≤ length xs
   content-inside below here above whole low = let f = fits xs first count i below here above whole place low in
-      let m = (tile xs first count i below here above whole place low).some in omega (arith, f, m, content-room)
+      let m = (tile xs first count i below here above whole place low).some in omega (arith, content-room)
 
 pub masters-kept : (x : List ℕ) (below : List Block) (b : Block) (above : List Block)
     → count is_masters (below ++ with_content x b ∷ above) ≡ count is_masters (below ++ b ∷ above)
@@ -101,9 +99,7 @@ masters-kept x below b above = masters-same below above b (with_content x b) (is
 
 pub free-content : (x : List ℕ) (b : Block) → free_of (with_content x b) ≡ free_of b
 free-content x (Free n) = refl
-free-content x (Nonrelocatable id content) = refl
-free-content x Masters = refl
-free-content x (Relocatable slot flags content) = refl
+free-content x _ = refl
 
 -- the Free bytes stay
 pub free-kept : (x : List ℕ) (below : List Block) (b : Block) (above : List Block)

@@ -46,7 +46,7 @@ given-filled new s = omega (arith, given-tidy, given-parts)
 -- blocks that would give nothing were freed
 pub given-freed : (test : Block → Bool) → ((b : Block) → test b ≡ true → purgeable_of b ≡ 0) → (zone : List Block)
     → purgeable_sum (tidy (freed test zone)) ≡ purgeable_sum zone
-given-freed test nothing zone = grind (arith, given-tidy, freed-is, none-free, unless)
+given-freed test nothing zone = grind (arith, given-tidy, freed-is)
 
 -- where one block at most passes, what it would give is gone with it
 pub given-released : (test : Block → Bool) (zone : List Block) → count test zone ≤ 1
@@ -66,9 +66,9 @@ given-released test zone once =
             → cond {A = ℕ} t 0 (purgeable_of b) + total (unless test purgeable_of) zone
             + purgeable_at (cond t (Some (record { below = []; here = b; above = zone })) (option_map (raised b) o))
             ≡ purgeable_of b + purgeable_sum zone
-        cases true o more none once = omega (arith, none (omega (arith, once)))
-        cases false None more none once = omega (arith, more (omega (arith, once)))
-        cases false (Some s) more none once = omega (arith, more (omega (arith, once)))
+        cases true o more none once = omega (arith, none (omega arith))
+        cases false None more none once = omega (arith, more (omega arith))
+        cases false (Some s) more none once = omega (arith, more (omega arith))
 
 -- what is emptied becomes Free
 pub given-lowest_purged : (k : ℕ) (sp : Block → Bool) (zone : List Block)
@@ -91,8 +91,8 @@ given-lowest_purged (suc k) sp (b ∷ zone) = cases (may_be_purged sp b) refl (g
         → free_sum (cond t (Free (size b) ∷ lowest_purged k sp zone) (b ∷ lowest_purged (suc k) sp zone))
         + purgeable_sum (cond t (Free (size b) ∷ lowest_purged k sp zone) (b ∷ lowest_purged (suc k) sp zone))
         ≡ free_sum (b ∷ zone) + purgeable_sum (b ∷ zone)
-    cases true e r r' = let g = gives b (and_parts (is_purgeable b) (not (sp b)) e).0 in omega (arith, g.0, g.1, r)
-    cases false e r r' = omega (arith, r')
+    cases true e r r' = let g = gives b (and_parts (is_purgeable b) (not (sp b)) e).0 in omega arith
+    cases false e r r' = omega arith
 
 -- no blocks would give more bytes than they take
 pub given-sizes : (zone : List Block) → purgeable_sum zone ≤ sizes zone
@@ -128,11 +128,11 @@ given-room p _ e = refl
 -- a block that grew into the Free block above it
 pub given-grown : (new : Block) (s : Spot) (z : List Block) → grow_up new s ≡ Some z
     → purgeable_sum z ≡ purgeable_sum s.below + (purgeable_of new + purgeable_sum s.above)
-given-grown new s z e = grind (arith, map-some, taken-some, total-sized, none-free, given-room)
+given-grown new s z e = grind (arith, total-sized)
 
 -- a fresh zone would give nothing
 pub given-fresh : (n : ℕ) → purgeable_sum (fresh n) ≡ 0
-given-fresh n = let f = freely purgeable_of none-free (n - 272) in omega (arith, f)
+given-fresh n = let f = freely purgeable_of none-free (n - 272) in omega arith
 
 -- a block that would give nothing, at the lower end of a Free block's place
 pub given-put : (new : Block) → purgeable_of new ≡ 0 → (s : Spot) (zone : List Block)
@@ -154,4 +154,4 @@ pub given-purged : (below : List Block) (b : Block) (k : ℕ) (sp : Block → Bo
     → zone ≡ below ++ b ∷ above → (freed : ℕ)
     → free_sum (tidy (below ++ b ∷ lowest_purged k sp above)) ≡ free_sum zone + freed
     → purgeable_sum (tidy (below ++ b ∷ lowest_purged k sp above)) + freed ≡ purgeable_sum zone
-given-purged below b k sp above zone whole freed f = grind (arith, total-tidy, given-lowest_purged, given-tidy, given-parts, total-append)
+given-purged below b k sp above zone whole freed f = grind (arith, total-tidy, given-lowest_purged, total-append)

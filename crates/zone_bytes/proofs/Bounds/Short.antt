@@ -24,7 +24,7 @@ use Rattle.zone_bytes.proofs.Places.Options.{no-spot}
 pub no-run : (passes : List Block → Bool) (p : ℕ) → ((run : List Block) → passes run ≡ true → p ≤ free_sum run)
     → (zone : List Block) → free_sum zone < p → run_spot passes zone ≡ None
 no-run passes p means zone short = no-spot (run_spot passes zone) (λ r e.
-    let v = run_spot-is passes zone r e in omega (arith, ap free_sum v.0, means, total-append, short))
+    let v = run_spot-is passes zone r e in omega (arith, ap free_sum v.0, total-append))
 
 -- and no Free block has
 pub no-room : (p : ℕ) (zone : List Block) → free_sum zone < p → spot (is_room p) zone ≡ None
@@ -33,7 +33,7 @@ no-room p zone short = no-spot (spot (is_room p) zone) (λ s e.
     omega (arith, ap free_sum (spot-is (is_room p) zone s e), a, total-append, short))
   where
     means : (b : Block) → is_room p b ≡ true → p ≤ free_of b
-    means (Free n) r = grind (arith, nat_tests)
+    means (Free n) r = grind arith
     means (Nonrelocatable id content) r = let f : false ≡ true = r in cc
     means Masters r = let f : false ≡ true = r in cc
     means (Relocatable id flags content) r = let f : false ≡ true = r in cc
@@ -45,11 +45,11 @@ FreesNone s = (zone : List Block) → opened s zone ≡ zone
 -- no purges make more Free than what the zone has and would give
 pub free-given : (s : Sparing) → FreesNone s → (k : ℕ) (zone : List Block)
     → free_sum (purged k s zone) + purgeable_sum (purged k s zone) ≡ free_sum zone + purgeable_sum zone
-free-given s none k zone = grind (arith, tidied, none-free, free-purged, given-lowest_purged)
+free-given s none k zone = grind (arith, tidied, free-purged, given-lowest_purged)
 
 -- what counts as Free would give nothing more
 given-opened : (s : Sparing) (zone : List Block) → purgeable_sum (opened s zone) ≤ purgeable_sum zone
-given-opened (sparing.Freed slot) zone = grind (arith, freed-is, none-free, unless-le)
+given-opened (sparing.Freed slot) zone = grind (arith, freed-is, unless-le)
 given-opened _ zone = omega arith
 
 -- each block that may go would give something
@@ -62,7 +62,7 @@ count-given sp zone = total-le (λ b. cond {A = ℕ} (may_be_purged sp b) 1 0) p
 
 -- where a zone would give nothing, no block may go
 pub none-goes : (s : Sparing) (zone : List Block) → purgeable_sum zone ≤ 0 → most_purges s zone ≡ 0
-none-goes s zone none = omega (arith, count-given, given-opened, none)
+none-goes s zone none = omega (arith, count-given, given-opened)
 
 pub none-next : (s : Sparing) (k : ℕ) (zone : List Block) → purgeable_sum zone ≤ 0
     → spot (may_be_purged (spared s)) (purged k s zone) ≡ None
@@ -71,4 +71,4 @@ none-next s k zone none = no-spot (spot (may_be_purged (spared s)) (purged k s z
     let q : cond {A = ℕ} (may_be_purged (spared s) b.here) 1 0 ≡ 1 =
     ap (λ v. cond {A = ℕ} v 1 0) (spot-passes (may_be_purged (spared s)) (purged k s zone) b e) in
     let l = purged-le purgeable_of none-free k (spared s) (opened s zone) in
-    omega (arith, z, total-append, one-gives, q, l, given-opened, none))
+    omega (arith, total-append, one-gives, given-opened))

@@ -26,19 +26,19 @@ module _ (end : ℕ) (old : List ℕ) (l : length old ≡ end) (e : end % 16 ≡
   one = written 0 (word end) old
 
   one-length : length one ≡ end
-  one-length = length-written 0 (word end) old (omega (arith, length-word, l, h)) ∙ l
+  one-length = length-written 0 (word end) old (omega (arith, length-word)) ∙ l
 
   one-lays : Lays one (Free end ∷ []) (λ s. NoSlot) []
   one-lays = record {
     lies = record {
       tiles = tiles-one (head_of (λ s. is_resource NoSlot)) (Free end) one one-length
-          (free-tile (λ s. is_resource NoSlot) end one one-length e (omega (arith, h))
+          (free-tile (λ s. is_resource NoSlot) end one one-length e (omega arith)
           (piece-written 0 (word end) old 4 (sym (length-word end)) (omega arith)));
       leads = (tt, tt);
     };
     has_slots = record { slots = tt; apart = tt };
     placed = (tt, tt);
-    small = omega (arith, one-length, m);
+    small = omega (arith, one-length);
     used = tt;
     says = no-slots (Free end) refl;
     chain = tt;
@@ -53,14 +53,14 @@ module _ (end : ℕ) (old : List ℕ) (l : length old ≡ end) (e : end % 16 ≡
       let o = q.outside in
       let k = q.outside.kept in
       let up : drop (0 + end) new ≡ drop (0 + end) one =
-      drop_all (0 + end) new (omega (arith, k, l)) ∙ sym (drop_all (0 + end) one (omega (arith, one-length))) in
+      drop_all (0 + end) new (omega arith) ∙ sym (drop_all (0 + end) one (omega (arith, one-length))) in
       let same : SameOutside 0 (0 + end) one new = record {
         kept = k ∙ l ∙ sym one-length;
         ordered = (omega arith, omega (arith, one-length));
         low = refl;
         high = up;
       } in
-      let all = lays-masters one [] [] end (λ s. NoSlot) [] one-lays 0 refl (omega (arith, h)) new
+      let all = lays-masters one [] [] end (λ s. NoSlot) [] one-lays 0 refl (omega arith) new
       (record { outside = same; begins = q.begins; rest = q.rest; thread = q.thread }) in
       subst (λ bs. Lays new (Masters ∷ bs) fresh_slots (slots_at 0)) (append-nil (free (end - 272)))
       (subst (Lays new (Masters ∷ (free (end - 272) ++ [])) fresh_slots) (append-nil (slots_at 0)) all)

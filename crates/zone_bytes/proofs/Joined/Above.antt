@@ -15,19 +15,17 @@ use Rattle.zone_bytes.proofs.Joined.Ways.{inside, Read, read}
 
 pub free-is : (b : Block) → kind b ≡ 0 → b ≡ Free (size b)
 free-is (Free n) k = refl
-free-is (Nonrelocatable id content) k = absurd (let z : 1 ≡ 0 = k in omega (arith, z))
-free-is Masters k = absurd (let z : 2 ≡ 0 = k in omega (arith, z))
-free-is (Relocatable slot flags content) k = absurd (let z : 3 ≡ 0 = k in omega (arith, z))
+free-is (Nonrelocatable id content) k = absurd (let z : 1 ≡ 0 = k in omega arith)
+free-is Masters k = absurd (let z : 2 ≡ 0 = k in omega arith)
+free-is (Relocatable slot flags content) k = absurd (let z : 3 ≡ 0 = k in omega arith)
 
 pub not_free-is : (b : Block) → 0 < kind b → is_free b ≡ false
-not_free-is (Free n) k = absurd (let z : 0 < 0 = k in omega (arith, z))
+not_free-is (Free n) k = absurd (let z : 0 < 0 = k in omega arith)
 not_free-is _ k = refl
 
 pub free-other : (b : Block) → 0 < kind b → free_of b ≡ 0
-free-other (Free n) k = absurd (let z : 0 < 0 = k in omega (arith, z))
-free-other (Nonrelocatable id content) k = refl
-free-other Masters k = refl
-free-other (Relocatable slot flags content) k = refl
+free-other (Free n) k = absurd (let z : 0 < 0 = k in omega arith)
+free-other _ k = refl
 
 module _ (j : Joining) (start at : ℕ) (xs : List ℕ) (m : MayJoin j start at xs) where
   here-laid : Lays xs ((j.below ++ free (at - start)) ++ j.above) j.slots j.unused
@@ -50,7 +48,7 @@ module _ (j : Joining) (start at : ℕ) (xs : List ℕ) (m : MayJoin j start at 
   next l = of j.above refl
     where
       of : (above : List Block) → j.above ≡ above → Next
-      of [] e = absurd (omega (arith, inside _ _ _ j.slots _ here-laid _ here-low, ap sizes e, l))
+      of [] e = absurd (omega (arith, inside _ _ _ j.slots _ here-laid _ here-low, ap sizes e))
       of (b ∷ above) e = record {
         here = b;
         above = above;
@@ -69,10 +67,9 @@ module _ (j : Joining) (start at : ℕ) (xs : List ℕ) (m : MayJoin j start at 
     where
       of : (above : List Block) → j.above ≡ above → add (Free (at - start)) above ≡ Free (at - start) ∷ above
       of [] e = add-alone _ some
-      of (b ∷ above) e =
-          let r = read _ _ b _ j.slots _
+      of (b ∷ above) e = let r = read _ _ b _ j.slots _
           (subst (λ k. Lays xs ((j.below ++ free (at - start)) ++ k) j.slots j.unused) e here-laid) _ here-low in
-          absurd (omega (arith, l))
+          absurd (omega arith)
 
   -- a block above that isn't Free
   pub joined-other : (l : at < length xs) → 0 < kind (next l).here

@@ -31,11 +31,11 @@ pub record Below (xs : List ℕ) (place at start : ℕ) : Type 0 where
 front-of : (front rest below above : List Block) → front ++ rest ≡ below ++ above → sizes front < sizes below
     → (more : List Block) × (below ≡ front ++ more) × (rest ≡ more ++ above)
 front-of [] rest below above e l = (below, refl, e)
-front-of (b ∷ front) rest [] above e l = absurd (omega (arith, l))
+front-of (b ∷ front) rest [] above e l = absurd (omega arith)
 front-of (b ∷ front) rest (c ∷ below) above e l =
     let h : b ≡ c = cc in
     let t : front ++ rest ≡ below ++ above = cc in
-    let r = front-of front rest below above t (omega (arith, l, ap size h)) in
+    let r = front-of front rest below above t (omega (arith, ap size h)) in
     (r.0, (λ i. sym h i ∷ r.1 i), r.2)
 
 last-more : (n : ℕ) (front : List Block) (c : Block) (more : List Block)
@@ -47,38 +47,26 @@ module _ (xs : List ℕ) (from place : ℕ) (u : LeadsUp from place xs) where
   far : (below above : List Block) → left_in 0 xs ≡ below ++ above → sizes below ≡ place → from < place
       → LeftBelow xs place from from below above
   far below above e l f =
-      let r = front-of u.below (left_in from xs) below above (sym u.is ∙ e) (omega (arith, l, f)) in
+      let r = front-of u.below (left_in from xs) below above (sym u.is ∙ e) (omega arith) in
       let k = ap sizes r.1 in
       let z : from - from ≡ 0 = omega arith in
       record {
         rest = r.0;
         is = r.2;
-        up = omega (arith, span-append, k, l);
-        last = ap (λ n. last_free n r.0) z ∙ same r.0 (omega (arith, span-append, k, l, f)) ∙ ap (last_free 0)
-            (sym r.1);
+        up = omega (arith, span-append);
+        last = ap (λ n. last_free n r.0) z ∙ same r.0 (omega (arith, span-append)) ∙ ap (last_free 0) (sym r.1);
       }
     where
       same : (more : List Block) → 0 < sizes more → last_free 0 more ≡ last_free 0 (u.below ++ more)
-      same [] n = absurd (omega (arith, n))
+      same [] n = absurd (omega arith)
       same (c ∷ more) n = last-more 0 u.below c more
 
   near : (below above : List Block) → left_in 0 xs ≡ below ++ above → sizes below ≡ place → from ≡ 0
       → LeftBelow xs place from from below above
-  near below above e l z =
-      let k : from - from ≡ 0 = omega arith in
-      record {
-        rest = below;
-        is = ap (λ n. left_in n xs) z ∙ e;
-        up = omega (arith, l, z);
-        last = ap (λ n. last_free n below) k;
-      }
+  near below above e l z = grind arith
 
   pub below-from : place ≤ length xs → Below xs place from from
-  below-from h = record {
-    way = u.way;
-    ordered = (omega arith, elim u.under [ inl f ↦ omega (arith, f, h) | inr z ↦ omega (arith, z) ]);
-    left = λ below above e l. elim u.under [ inl f ↦ far below above e l f | inr z ↦ near below above e l z ];
-  }
+  below-from h = grind (arith, far)
 
 some-block : (at : ℕ) (xs : List ℕ) (w : IsOnWay at xs) (b : Block) (blocks : List Block)
     → left_in at xs ≡ b ∷ blocks → 16 ≤ size b
@@ -93,8 +81,8 @@ module _ (xs : List ℕ) (place at start : ℕ) (b : Below xs place at start) wh
     where
       next : (rest : List Block) → left_in at xs ≡ rest ++ above → at + sizes rest ≡ place
           → last_free (at - start) rest ≡ last_free 0 below → start + last_free 0 below ≡ place
-      next [] q u k = omega (arith, u, k)
-      next (c ∷ rest) q u k = let m = some-block _ _ b.way c _ q in absurd (omega (arith, u, m, l))
+      next [] q u k = omega arith
+      next (c ∷ rest) q u k = let m = some-block _ _ b.way c _ q in absurd (omega arith)
 
   -- one block more
   module _ (l : at < place) (n t : ℕ) (e : n + t ≡ word_at at xs) (k : n % 16 ≡ 0) (m : t ≤ 3) (i : at < length xs)
@@ -103,14 +91,13 @@ module _ (xs : List ℕ) (place at start : ℕ) (b : Below xs place at start) wh
       step = stepped at xs b.way i n t e k m
 
       pub below-inside : at + n ≤ length xs
-      below-inside = let u = step.way.walk.up in omega (arith, u)
+      below-inside = let u = step.way.walk.up in omega arith
 
       -- the block's Free bytes
       tells : (c : Block) (blocks : List Block) → left_in at xs ≡ c ∷ blocks → (n ≡ size c) × (t ≡ kind c)
       tells c blocks q =
           let o = stepped at xs b.way i n t e k m in
-          let f : o.here ≡ c = (let p = sym o.is ∙ q in cc) in
-          (size-at at xs b.way i n t e k m c blocks q, o.tag ∙ ap kind f)
+          (size-at at xs b.way i n t e k m c blocks q, o.tag ∙ ap kind ((let p = sym o.is ∙ q in cc)))
 
       pub below-next : (now : ℕ) → now ≤ at + n → ((c : Block) → n ≡ size c → t ≡ kind c → at + n - now ≡ free_of c)
           → Below xs place (at + n) now
@@ -122,16 +109,8 @@ module _ (xs : List ℕ) (place at start : ℕ) (b : Below xs place at start) wh
         where
           next : (rest below above : List Block) → left_in at xs ≡ rest ++ above → at + sizes rest ≡ place
               → last_free (at - start) rest ≡ last_free 0 below → LeftBelow xs place (at + n) now below above
-          next [] below above q u v = absurd (omega (arith, u, l))
-          next (c ∷ rest) below above q u v =
-              let f = tells c (rest ++ above) q in
-              let s : step.here ∷ left_in (at + n) xs ≡ c ∷ (rest ++ above) = sym step.is ∙ q in
-              record {
-                rest = rest;
-                is = (let r : left_in (at + n) xs ≡ rest ++ above = cc in r);
-                up = omega (arith, u);
-                last = ap (λ j. last_free j rest) (g c f.0 f.1) ∙ v;
-              }
+          next [] below above q u v = absurd (omega arith)
+          next (c ∷ rest) below above q u v = grind (arith, step)
 
       pub below-free : t ≡ 0 → Below xs place (at + n) at
       below-free z = below-next at (omega arith) (λ c p q. omega (arith, p, ap free_of (free-is c (sym q ∙ z))))

@@ -29,8 +29,7 @@ freed-none t (b ∷ blocks) e =
 -- one is
 pub freed-one : (t : Block → Bool) (below : List Block) (b : Block) (above : List Block) → has t below ≡ false
     → t b ≡ true → has t above ≡ false → freed t (below ++ b ∷ above) ≡ below ++ Free (size b) ∷ above
-freed-one t below b above l h u = map-append (λ c. cond (t c) (Free (size c)) c) below (b ∷ above)
-    ∙ (λ i. freed-none t below l i ++ cond (h i) (Free (size b)) b ∷ freed-none t above u i)
+freed-one t below b above l h u = grind (arith, map-append, freed-none)
 
 -- a block that held bytes becomes Free
 pub free-more : (below : List Block) (b : Block) (above : List Block) → free_of b ≡ 0
@@ -58,7 +57,7 @@ module _ (t : Table) (slot : ℕ) (xs : List ℕ) (h : HasHandle t slot xs) wher
   found b =
       let r = block-reads xs t.blocks t.slots t.unused h.lays slot is b in
       let e = (block-here xs t.blocks t.slots t.unused h.lays slot b).even in
-      record { block = b; place = r; whole = omega (arith, r, e) }
+      record { block = b; place = r; whole = omega arith }
 
   either : IsEmptyHandle xs t.blocks slot (flag xs t.blocks t.slots t.unused h.lays slot is).0
       ⊎ HasBlock xs 0 t.blocks slot
@@ -68,16 +67,13 @@ module _ (t : Table) (slot : ℕ) (xs : List ℕ) (h : HasHandle t slot xs) wher
   leads e = elim either [
     | inl k ↦
         let o = emptied-odd (flag xs t.blocks t.slots t.unused h.lays slot is).0 in
-        absurd (omega (arith, emptied-reads xs t.blocks t.slots t.unused h.lays slot is k, o, e))
+        absurd (omega (arith, emptied-reads xs t.blocks t.slots t.unused h.lays slot is k))
     | inr b ↦ found b
   ]
 
   -- the handle is emptied
   pub emptied-is : (word_at slot xs % 16 ≡ 0 → ⊥) → tidy (freed (is_relocatable slot) t.blocks) ≡ t.blocks
-  emptied-is n = elim either [
-    | inl k ↦ ap tidy (freed-none (is_relocatable slot) t.blocks (none-apart slot t.blocks k.apart)) ∙ h.tidied
-    | inr b ↦ absurd (n (found b).whole)
-  ]
+  emptied-is n = grind (arith, either, freed-none, none-apart, found)
 
   module _ (f : Found) where
     abbrev pub leading : Freeing
@@ -90,12 +86,7 @@ module _ (t : Table) (slot : ℕ) (xs : List ℕ) (h : HasHandle t slot xs) wher
     }
 
     pub may-release : (w : ℕ) → w ≡ word_at slot xs → MayRelease leading w xs
-    may-release w e = record {
-      lays = subst (λ k. Lays xs k t.slots t.unused) f.block.whole h.lays;
-      low = sym (e ∙ f.place);
-      plain = refl;
-      tidied = sym (ap tidy f.block.whole) ∙ h.tidied ∙ f.block.whole;
-    }
+    may-release w e = grind arith
 
     pub leading-is : tidy (freed (is_relocatable slot) t.blocks) ≡ tidy
         (f.block.below ++ Free (size (Relocatable slot f.block.flags f.block.content)) ∷ f.block.above)
@@ -111,9 +102,7 @@ module _ (t : Table) (slot : ℕ) (xs : List ℕ) (h : HasHandle t slot xs) wher
     pub leading-replaced : (lo hi : ℕ) → Replaced lo hi (leading.below ++ leading.here ∷ leading.above)
         (tidy (leading.below ++ Free (size leading.here) ∷ leading.above))
         → Replaced lo hi t.blocks (tidy (freed (is_relocatable slot) t.blocks))
-    leading-replaced lo hi r = subst (λ z. Replaced lo hi z (tidy (freed (is_relocatable slot) t.blocks)))
-        (sym f.block.whole)
-        (subst (Replaced lo hi (leading.below ++ leading.here ∷ leading.above)) (sym leading-is) r)
+    leading-replaced lo hi r = grind (arith, leading-is)
 
     pub leading-free : (n : ℕ) → n ≡ size (Relocatable slot f.block.flags f.block.content)
         → free_sum (tidy (freed (is_relocatable slot) t.blocks)) ≡ free_sum t.blocks + n

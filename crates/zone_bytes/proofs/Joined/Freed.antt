@@ -49,9 +49,8 @@ has-drop (x ∷ xs) s ys t (inl e) = inr (inl e)
 has-drop (x ∷ xs) s ys t (inr k) = elim (has-drop xs s ys t k) [ inl e ↦ inl e | inr j ↦ inr (inr j) ]
 
 used-is : (st : Slot) → IsUsed st → st ≡ Used (is_resource st)
-used-is NoSlot u = absurd u
-used-is Unused u = absurd u
 used-is (Used r) u = refl
+used-is _ u = absurd u
 
 module _ (f : Freeing) (start at : ℕ) (xs : List ℕ) (m : MayFree f start at xs) where
   abbrev resource : ℕ → Bool
@@ -83,10 +82,7 @@ module _ (f : Freeing) (start at : ℕ) (xs : List ℕ) (m : MayFree f start at 
   span-joined = omega (arith, span-append, span-free)
 
   none : (s : ℕ) → IsSlot s joined → ⊥
-  none s i = elim (slot-split s _ _ i) [
-    | inl j ↦ run-no_slot s gap (each-free (at - start)) j
-    | inr j ↦ no-slots f.here m.plain (s - sizes gap) j.1
-  ]
+  none s i = grind arith
 
   -- what the header of a relocatable block tells of its slot
   pub record Led : Type 0 where
@@ -94,10 +90,7 @@ module _ (f : Freeing) (start at : ℕ) (xs : List ℕ) (m : MayFree f start at 
     pub flag : nat_le 32 (word_at (at + 12) xs % 64) ≡ is_resource (f.slots (word_at (at + 8) xs))
 
   names-all : names all ≡ names f.below ++ (names_of f.here ++ names f.above)
-  names-all = names-append f.below (joined ++ f.above) ∙ ap (λ k. names f.below ++ k) (names-append joined f.above
-      ∙ ap (λ k. k ++ names f.above) (names-append gap (f.here ∷ [])
-      ∙ ap (λ k. k ++ (names_of f.here ++ [])) (names-free (at - start)))
-      ∙ append_assoc (names_of f.here) [] (names f.above))
+  names-all = grind (arith, names-append)
 
   named-here : (slot : ℕ) → names_of f.here ≡ slot ∷ [] → names all ≡ names f.below ++ slot ∷ names f.above
   named-here slot n = names-all ∙ ap (λ k. names f.below ++ (k ++ names f.above)) n
@@ -114,25 +107,16 @@ module _ (f : Freeing) (start at : ℕ) (xs : List ℕ) (m : MayFree f start at 
       let i = each-right (λ s. IsSlot s all) _ (slot ∷ names f.above)
       (subst (Each (λ s. IsSlot s all)) (named-here slot (ap names_of e)) laid.has_slots.slots) in
       let l = length-tiles (head_of resource) xs all laid.lies.tiles in
-      let v = q.named (omega (arith, slot-inside, l, m.lays.small)) in
-      let w = q.marked (omega (arith, g)) in
-      record {
-        named = ap names_of e ∙ ap (λ s. s ∷ []) (sym v);
-        flag = ap (λ n. nat_le 32 (n % 64)) w ∙ resource-bit flags (resource slot) ∙ ap resource (sym v);
-      }
+      let v = q.named (omega (arith, slot-inside)) in
+      let w = q.marked (omega arith) in
+      grind arith
 
   pub led : kind f.here ≡ 3 → Led
-  led k = of-kind f.here refl k
-    where
-      of-kind : (b : Block) → f.here ≡ b → kind b ≡ 3 → Led
-      of-kind (Free n) e k = absurd (let q : 0 ≡ 3 = k in omega (arith, q))
-      of-kind (Nonrelocatable id content) e k = absurd (let q : 1 ≡ 3 = k in omega (arith, q))
-      of-kind Masters e k = absurd (let q : 2 ≡ 3 = k in omega (arith, q))
-      of-kind (Relocatable slot flags content) e k = led-by _ _ _ e
+  led k = grind (arith, led-by)
 
   module _ (top : ℕ) (t : at + size f.here ≡ top) where
     some : start < top
-    some = omega (arith, here-read.some, t)
+    some = omega (arith, here-read.some)
 
     abbrev z : Splice
     z = zone xs f.below joined f.above f.slots f.unused laid start top m.low (span-joined ∙ t) some none
@@ -153,14 +137,14 @@ module _ (f : Freeing) (start at : ℕ) (xs : List ℕ) (m : MayFree f start at 
         now = f.below ++ (one ++ f.above)
 
         now-is : now ≡ f.below ++ (free (at + size f.here - start) ++ f.above)
-        now-is = ap (λ n. f.below ++ (n ++ f.above)) (sym (free-some _ (let s = some in omega (arith, s))))
+        now-is = ap (λ n. f.below ++ (n ++ f.above)) (sym (free-some _ (let s = some in omega arith)))
             ∙ ap (λ k. f.below ++ (free (k - start) ++ f.above)) (sym t)
 
         lies : Lies resource now mid
         lies = made z is
 
         span-one : sizes one ≡ sizes joined
-        span-one = let e = span-joined in omega (arith, e, t)
+        span-one = let e = span-joined in omega arith
 
         into : (s : ℕ) → IsSlot s all → IsSlot s now
         into s i = slot-swap s f.below joined one f.above (none _) span-one i
@@ -194,15 +178,10 @@ module _ (f : Freeing) (start at : ℕ) (xs : List ℕ) (m : MayFree f start at 
           of-all P e = (each-right P (names f.below) (slot ∷ names f.above) (subst (Each P) names-slot e)).0
 
           subset : (P : ℕ → Type 0) → Each P (names all) → Each P (names now)
-          subset P e =
-              subst (Each P) (sym names-now)
-              (each-drop P (names f.below) slot (names f.above) (subst (Each P) names-slot e))
+          subset P e = grind (arith, names-now, each-drop, names-slot)
 
           fewer : (t : ℕ) → Has (names all) t → (t ≡ slot) ⊎ Has (names now) t
-          fewer t k = elim (has-drop (names f.below) slot (names f.above) t (subst (λ q. Has q t) names-slot k)) [
-            | inl e ↦ inl e
-            | inr j ↦ inr (subst (λ q. Has q t) (sym names-now) j)
-          ]
+          fewer t k = grind (arith, has-drop, names-slot, names-now)
 
           slot-is : IsSlot slot all
           slot-is = of-all (λ s. IsSlot s all) laid.has_slots.slots
@@ -211,9 +190,7 @@ module _ (f : Freeing) (start at : ℕ) (xs : List ℕ) (m : MayFree f start at 
           pairs = subst (Pairs Apart) names-slot laid.has_slots.apart
 
           far : Each (Apart slot) (names now)
-          far = subst (Each (Apart slot)) (sym names-now) (each-append (Apart slot) _ _
-              (pairs-before slot (names f.below) (names f.above) pairs)
-              (pairs-after slot (names f.below) (names f.above) pairs))
+          far = grind (arith, names-now, each-append, pairs-before, pairs, pairs-after)
 
           has : HasSlots now
           has = record {
@@ -226,10 +203,7 @@ module _ (f : Freeing) (start at : ℕ) (xs : List ℕ) (m : MayFree f start at 
           used = used-is (f.slots slot) (of-all (λ s. IsUsed (f.slots s)) laid.used)
 
           pub slot-fits : (slot % 4 ≡ 0) × (slot + 4 ≤ length mid)
-          slot-fits =
-              let i = slot-inside slot all slot-is in
-              let l = length-tiles (head_of resource) xs all laid.lies.tiles in
-              (slot-even (head_of resource) xs slot all laid.lies.tiles slot-is, omega (arith, i, l))
+          slot-fits = grind (arith, slot-inside, slot-is, length-tiles, slot-even)
 
           pub slot-lays : (w : ℕ) → w ≡ empty_word (is_resource (f.slots slot))
               → Lays (written slot (word w) mid) (f.below ++ (free (at + size f.here - start) ++ f.above)) f.slots
@@ -243,18 +217,10 @@ module _ (f : Freeing) (start at : ℕ) (xs : List ℕ) (m : MayFree f start at 
                     (into slot slot-is) lies.tiles;
                 leads = leads-written _ _ _ 0 _ fits
                     (each-map (Apart slot) _ (λ t p. apart-clear slot w t p) (names now) far) lies.leads;
-              })
-              has into back placed (length-written slot (word w) mid (omega (arith, slot-fits, wl)) ∙ out.kept)
+              }) has into back placed (length-written slot (word w) mid (omega (arith, slot-fits)) ∙ out.kept)
               _ _ used fewer subset far (piece-written slot (word w) mid 4 (sym wl) fits
               ∙ ap word e) (λ s i a. piece-clear _ _ _ s fits
-              (apart-clear slot w s (elim (of-all (Apart s) a) [ inl p ↦ inr p | inr p ↦ inl p ]))
-              ∙ outside-same s i))
+              (apart-clear slot w s (elim (of-all (Apart s) a) [ inl p ↦ inr p | inr p ↦ inl p ])) ∙ outside-same s i))
 
   pub none-led : kind f.here < 3 → names_of f.here ≡ []
-  none-led k = of-kind f.here k
-    where
-      of-kind : (b : Block) → kind b < 3 → names_of b ≡ []
-      of-kind (Free n) k = refl
-      of-kind (Nonrelocatable id content) k = refl
-      of-kind Masters k = refl
-      of-kind (Relocatable slot flags content) k = absurd (let q : 3 < 3 = k in omega (arith, q))
+  none-led k = grind arith

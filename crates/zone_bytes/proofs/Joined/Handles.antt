@@ -37,7 +37,7 @@ module _ (xs new : List ℕ) (first number more : ℕ) (blocks : List Block) (g 
   where
     module _ (free : ℕ) (e : free ≡ free_sum (zone_in xs)) where
       pub gained-fits : free + more ≤ 134217728
-      gained-fits = omega (arith, e)
+      gained-fits = omega arith
 
       pub gained-kept : IsKept new first number (free + more)
       gained-kept = kept-made _ _ _ _ _ (slot_in xs) g.made (ap (λ n. n + more) e ∙ sym g.sum)

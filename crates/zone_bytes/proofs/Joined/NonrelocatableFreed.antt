@@ -26,15 +26,15 @@ none-placed : (place o : ℕ) (blocks : List Block) → ArePlaced o blocks → (
 none-placed place o [] p l = refl
 none-placed place o (Nonrelocatable id content ∷ blocks) p l =
     let z = size (Nonrelocatable id content) in
-    rw (ne_eqb id place (λ e. elim l [ inl a ↦ omega (arith, a, e, p.0) | inr b ↦ omega (arith, b, e, p.0) ]))
-    (none-placed place (o + z) blocks p.1 (elim l [ inl a ↦ inl (omega (arith, a)) | inr b ↦ inr (omega (arith, b)) ]))
+    rw (ne_eqb id place (λ e. elim l [ inl a ↦ omega arith | inr b ↦ omega arith ]))
+    (none-placed place (o + z) blocks p.1 (elim l [ inl a ↦ inl (omega arith) | inr b ↦ inr (omega arith) ]))
 none-placed place o (Free n ∷ blocks) p l =
-    none-placed place (o + n) blocks p.1 (elim l [ inl a ↦ inl (omega (arith, a)) | inr b ↦ inr (omega (arith, b)) ])
+    none-placed place (o + n) blocks p.1 (elim l [ inl a ↦ inl (omega arith) | inr b ↦ inr (omega arith) ])
 none-placed place o (Masters ∷ blocks) p l =
-    none-placed place (o + 272) blocks p.1 (elim l [ inl a ↦ inl (omega (arith, a)) | inr b ↦ inr (omega (arith, b)) ])
+    none-placed place (o + 272) blocks p.1 (elim l [ inl a ↦ inl (omega arith) | inr b ↦ inr (omega arith) ])
 none-placed place o (Relocatable slot flags content ∷ blocks) p l =
     none-placed place (o + size (Relocatable slot flags content)) blocks p.1
-    (elim l [ inl a ↦ inl (omega (arith, a)) | inr b ↦ inr (omega (arith, b)) ])
+    (elim l [ inl a ↦ inl (omega arith) | inr b ↦ inr (omega arith) ])
 
 nonrelocatable-plain : (place : ℕ) (b : Block) → is_nonrelocatable place b ≡ true
     → (is_masters b ≡ false) × (free_of b ≡ 0) × (0 < size b)
@@ -71,8 +71,8 @@ module _ (xs : List ℕ) (first number : ℕ) (i : IsSound xs first number) (pla
       let l = low xs first number i place s e in
       let q = placed-right 0 s.below (s.here ∷ s.above) p in
       ap (freed (is_nonrelocatable place)) is ∙ freed-one (is_nonrelocatable place) s.below s.here s.above
-      (none-placed place 0 s.below (placed-left 0 s.below (s.here ∷ s.above) p) (inl (omega (arith, l)))) f
-      (none-placed place _ s.above q.1 (inr (omega (arith, l, plain.2))))
+      (none-placed place 0 s.below (placed-left 0 s.below (s.here ∷ s.above) p) (inl (omega arith))) f
+      (none-placed place _ s.above q.1 (inr (omega (arith, plain.2))))
 
   pub nonrelocatable-gained : (new : List ℕ) (more : ℕ) → ((f : Freeing) → MayRelease f place xs
       → Lays new (tidy (f.below ++ Free (size f.here) ∷ f.above)) f.slots f.unused)
@@ -82,4 +82,4 @@ module _ (xs : List ℕ) (first number : ℕ) (i : IsSound xs first number) (pla
       (subst (λ z. Lays new (tidy z) (slot_in xs) i.unused) (sym freed-is) (lays standing may-free_nonrelocatable))
       (ap (λ z. free_sum (tidy z)) freed-is ∙ free-more s.below s.here s.above plain.1
       ∙ (λ j. free_sum (sym is j) + sym (bytes standing may-free_nonrelocatable) j))
-      (grind (arith, freed-is, masters-freed, plain, is))
+      (grind (arith, freed-is, masters-freed, is))

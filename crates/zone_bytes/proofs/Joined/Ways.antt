@@ -32,16 +32,16 @@ module _ (xs : List ℕ) (below above : List Block) (slots : ℕ
   words blocks e = grind (arith, each-map, whole, slot-inside)
 
   pub inside : place + sizes above ≡ length xs
-  inside = omega (arith, span-append, whole, low)
+  inside = omega (arith, span-append, whole)
 
   parted : (w : IsOnWay place xs) × (w.rest ≡ above)
   parted =
       let t = tiles-split head xs below above h.lies.tiles in
-      let o : 0 + sizes below ≡ place = omega (arith, low) in (
+      let o : 0 + sizes below ≡ place = omega arith in (
         record {
           resource = λ s. is_resource (slots s);
           rest = above;
-          walk = (grind (arith, inside, whole, span-whole));
+          walk = grind (arith, inside, span-whole);
           placed = subst (λ j. ArePlaced j above) o (placed-right 0 below above h.placed);
           words = words above (each-names (λ s. IsSlot s all) below above h.has_slots.slots).1;
           small = h.small;
@@ -74,11 +74,4 @@ module _ (xs : List ℕ) (below : List Block) (b : Block) (above : List Block) (
       let t = tile-at in
       let n = inside xs below (b ∷ above) slots unused h place low in
       let w = way xs below (b ∷ above) slots unused h place low in
-      record {
-        may = may-read place xs w (omega (arith, n, t.some));
-        inside = omega (arith, n);
-        some = t.some;
-        whole = (w.walk.whole, t.whole);
-        says = λ n t1 e k l. same_parts n _ _ _ (e
-            ∙ first-reads (λ s. is_resource (slots s)) _ _ h.small b t) k t.whole l (kind-small b);
-      }
+      grind (arith, first-reads)

@@ -31,9 +31,9 @@ not-used _ u e = u
 pub counted-once : (number : ℕ) (blocks : List Block) → Pairs Apart (names blocks)
     → count (is_relocatable number) blocks ≤ 1
 counted-once number [] p = omega arith
-counted-once number (Free n ∷ blocks) p = let z = counted-once number blocks p in omega (arith, z)
-counted-once number (Nonrelocatable id content ∷ blocks) p = let z = counted-once number blocks p in omega (arith, z)
-counted-once number (Masters ∷ blocks) p = let z = counted-once number blocks p in omega (arith, z)
+counted-once number (Free n ∷ blocks) p = let z = counted-once number blocks p in omega arith
+counted-once number (Nonrelocatable id content ∷ blocks) p = let z = counted-once number blocks p in omega arith
+counted-once number (Masters ∷ blocks) p = let z = counted-once number blocks p in omega arith
 counted-once number (Relocatable slot flags content ∷ blocks) p = elim (eqb_tells slot number) [
   | inl t ↦
       let e : cond {A = ℕ} (eqb slot number) 1 0 ≡ 1 = ap (λ v. cond {A = ℕ} v 1 0) t.0 in
@@ -74,7 +74,7 @@ module _ (xs : List ℕ) (blocks : List Block) (slots : ℕ → Slot) (unused : 
       let z = zone-of xs blocks slots unused h in
       let g = respelled xs blocks slots unused h in
       record {
-        small = (omega (arith, length-tiles));
+        small = omega (arith, length-tiles);
         no_block = λ number e. none-other number (zone_in xs) (each-map (λ s. IsUsed (slot_in xs s)) (λ s. s ≡ number
             → ⊥)
             (λ s u q. not-used (slot_in xs s) u (ap (λ k. is_used (slot_in xs k)) q ∙ e)) (names (zone_in xs)) g.used);
@@ -105,8 +105,7 @@ module _ (xs : List ℕ) (blocks : List Block) (slots : ℕ → Slot) (unused : 
 pub made-same : (xs : List ℕ) (first count : ℕ) (i : IsSound xs first count) (blocks : List Block)
     → zone_in xs ≡ blocks → Made xs first count blocks (slot_in xs)
 made-same xs first count i blocks e = made xs blocks (slot_in xs) i.unused
-    (subst (λ z. Lays xs z (slot_in xs) i.unused) e i.lays) first count (sym (ap tidy e) ∙ i.tidied
-    ∙ e) i.begins i.counted
+    (grind arith) first count (grind arith) i.begins i.counted
 
 -- what a RawZone has beside its blocks, after a call
 pub rest-made : (old new : Bytes) (table : ℕ → Slot) (unused moves : ℕ) → ((s : ℕ) → slot_in new.bytes s ≡ table s)

@@ -1,6 +1,6 @@
 -- A new block at the lower end of a Free one.
 use Rattle.std.proofs.Common.{◌≡◌, ℕ, ◌+◌, ◌-◌, ◌≤◌, IsTrue, Some, List, [], ◌∷◌, ◌++◌, length, replicate, cond, false}
-use Rattle.std.proofs.Common.{Bool, true, ◌==◌}
+use Rattle.std.proofs.Common.{Bool, true, ◌==◌, rules}
 use Rattle.std.proofs.Common.{refl, sym, ap, ◌∙◌, subst, arith}
 use Rattle.std.proofs.lemmas.Bool.{false≢true}
 use Rattle.std.proofs.lemmas.List.{length-replicate}
@@ -78,51 +78,36 @@ roomy xs first count place need i h =
 
 -- its bytes are among the Free ones
 pub free-roomy : (xs : List ℕ) (place need : ℕ) → Roomy xs place need → need ≤ free_sum (zone_in xs)
-free-roomy xs place need r =
-    omega (arith, ap free_sum r.at.whole ∙ ap (λ b. free_sum (r.s.below ++ b ∷ r.s.above)) r.here, total-append)
+free-roomy xs place need r = grind (arith, total-append)
 
 module _ (xs : List ℕ) (place need : ℕ) (r : Roomy xs place need) where
   -- a block that isn't Free, and the rest of the bytes
   pub filled-is : (new : Block) → is_free new ≡ false → (k : ℕ) → k + size new ≡ size r.s.here
       → r.s.below ++ new ∷ (free k ++ r.s.above) ≡ filled new r.s
-  filled-is new solid k e =
-      let l : k ≡ size r.s.here + 0 - size new = omega (arith, e) in
-      ap (λ m. r.s.below ++ new ∷ (free m ++ r.s.above)) l
-      ∙ sym (cut-sized new solid r.s r.at.apart 0 r.s.above r.head (omega (arith, e)))
+  filled-is new solid k e = ap (λ m. r.s.below ++ new ∷ (free m ++ r.s.above)) (omega arith)
+      ∙ sym (cut-sized new solid r.s r.at.apart 0 r.s.above r.head (omega arith))
 
   module _ (now : List ℕ) (new : Block) (solid : is_free new ≡ false) (fits : size new ≤ need)
       (is : zone_in now ≡ filled new r.s) where
     pub carved-free : free_sum (zone_in now) + size new ≡ free_sum (zone_in xs)
     carved-free =
-        let a = filled-free new solid r.s r.bytes r.here (omega (arith, fits)) in
-        omega (arith, ap free_sum is, a, ap free_sum r.at.whole)
+        let a = filled-free new solid r.s r.bytes r.here (omega arith) in
+        omega (arith, ap free_sum is, ap free_sum r.at.whole)
 
     pub carved-masters : count is_masters (zone_in now) ≡ count is_masters (zone_in xs) + cond (is_masters new) 1 0
     carved-masters =
-        let a = filled-count new solid r.s r.bytes r.here (omega (arith, fits)) is_masters (λ n. refl) in
+        let a = filled-count new solid r.s r.bytes r.here (omega arith) is_masters (λ n. refl) in
         ap (count is_masters) is ∙ a ∙ ap (λ l. count is_masters l + cond (is_masters new) 1 0) (sym r.at.whole)
 
 -- a new block of n bytes, all 0, may be laid in a Free one
 pub may-carve : (xs : List ℕ) (place n top : ℕ) (r : Roomy xs place (padded n)) → top ≡ place + size r.s.here
     → (h : Header) → h.size ≡ padded n → h.logical ≡ n → MayLay h place top 0 xs
-may-carve xs place n top r t h z l = record {
-  even = (r.at.way.walk.whole, omega (arith, t), omega (arith, z));
-  inside = omega (arith, t);
-  small = r.at.small;
-  room = omega (arith, t, ap size r.here, z);
-  whole = omega (arith, z, l);
-  fits = omega (arith, t);
-}
+may-carve xs place n top r t h z l = grind arith
 
 -- its header, and its bytes
 pub zeros-head : (n z k slot flags : ℕ) → z ≡ padded n → header (z + k) n slot flags ++ resized_content n []
     ≡ header (padded (length (replicate {A = ℕ} n 0)) + k) (length (replicate {A = ℕ} n 0)) slot flags ++ replicate n 0
-zeros-head n z k slot flags e =
-    let l = length-replicate {A = ℕ} n 0 in
-    let b : z ≡ padded (length (replicate {A = ℕ} n 0)) = e ∙ ap padded (sym l) in
-    ap (λ q. header (z + k) n slot flags ++ (q ++ replicate (n - 0) 0)) (take-nil n)
-    ∙ (let y : n - 0 ≡ n = omega arith in
-    (λ j. header (b j + k) (sym l j) slot flags ++ replicate (y j) 0))
+zeros-head n z k slot flags e = grind (arith, length-replicate)
 
 module _ (xs : List ℕ) (place n top z : ℕ) (r : Roomy xs place (padded n)) (t : top ≡ place + size r.s.here)
     (pz : z ≡ padded n) where
@@ -144,16 +129,15 @@ module _ (xs : List ℕ) (place n top z : ℕ) (r : Roomy xs place (padded n)) (
   nonrelocatable-lays first count i =
       let l : size new ≡ padded n = ap padded (length-replicate {A = ℕ} n 0) in
       subst (λ bs. Lays (laid head place top 0 xs) bs (slot_in xs) i.unused)
-      (filled-is xs place (padded n) r new refl (top - place - z) (omega (arith, t, pz, l, ap size r.here)))
-      (laid-lays _ _ _ i _ (r.s.here ∷ []) _ r.at.whole _ _ r.at.low (omega (arith, t)) (omega (arith, t, r.at.some))
+      (filled-is xs place (padded n) r new refl (top - place - z) (omega (arith, ap size r.here)))
+      (laid-lays _ _ _ i _ (r.s.here ∷ []) _ r.at.whole _ _ r.at.low (omega arith) (omega arith)
       (no-slots r.s.here (ap is_masters r.here)) _ 0 may-lay new refl (l ∙ sym pz)
       (sym (ap (λ b. names_of b ++ []) r.here)) refl head-is tt)
 
 -- a tidy list of blocks that was laid
 pub tidy-made : (xs now : List ℕ) (first unused : ℕ) (i : IsSound xs first unused) (blocks : List Block)
     → Lays now (tidy blocks) (slot_in xs) i.unused → Made now first unused (tidy blocks) (slot_in xs)
-tidy-made xs now first unused i blocks h =
-    made now (tidy blocks) (slot_in xs) i.unused h first unused (tidy-tidy blocks) i.begins i.counted
+tidy-made xs now first unused i blocks h = search (rules, made, tidy-tidy)
 
 -- a block for a handle that was empty
 module _ (xs : List ℕ) (first unused : ℕ) (i : IsSound xs first unused) (number : ℕ)
@@ -173,8 +157,7 @@ module _ (xs : List ℕ) (first unused : ℕ) (i : IsSound xs first unused) (num
 
   relocatable-head : header_bytes (new_header number n flags) ++ resized_content n [] ≡ head_of (resource_in xs) block
   unfolding head_of
-  relocatable-head = zeros-head n (padded n) 3 number flags refl
-      ∙ ap (λ w. header (size block + 3) (length (replicate {A = ℕ} n 0)) number w ++ replicate n 0) flags-are
+  relocatable-head = grind (arith, zeros-head, flags-are)
 
   pub relocatable-made : Made (written number (word place)
       (laid (new_header number n flags) place top 0 xs)) first unused
@@ -184,12 +167,12 @@ module _ (xs : List ℕ) (first unused : ℕ) (i : IsSound xs first unused) (num
       let now = written number (word place) (laid h place top 0 xs) in
       let may = may-carve xs place n top r t h refl refl in
       let l : size block ≡ padded n = ap padded (length-replicate {A = ℕ} n 0) in
-      let e : top - place - padded n + size block ≡ size r.s.here = omega (arith, t, l, ap size r.here) in
+      let e : top - place - padded n + size block ≡ size r.s.here = omega arith in
       tidy-made xs now first unused i (r.s.below ++ block ∷ Free (size r.s.here - size block) ∷ r.s.above)
       (subst (λ bs. Lays now bs (slot_in xs) i.unused) (filled-is xs place (padded n) r block refl
       (top - place - padded n) e)
       (named-lays xs first unused i number used none r.s.below (r.s.here ∷ []) r.s.above r.at.whole place top r.at.low
-      (omega (arith, t)) (omega (arith, t, r.at.some)) (no-slots r.s.here (ap is_masters r.here))
+      (omega arith) (omega arith) (no-slots r.s.here (ap is_masters r.here))
       (ap (λ b. names_of b ++ []) r.here) no_flags (replicate n 0) (top - place - padded n) (omega
       (arith, e, span-free))
       (laid h place top 0 xs) (laid-outside h place top 0 xs may) (laid-tiles h place top 0 xs may

@@ -14,7 +14,7 @@ use Rattle.zone_bytes.proofs.Placed.Standing.{Standing, standing, held-piece, re
 -- a block at a place that holds so many bytes
 pub holds-inside : (xs : List ℕ) (place n : ℕ) (s : Spot) → Standing xs place s → n ≤ length (content_of s.here)
     → place + 16 + n ≤ length xs
-holds-inside xs place n s a l = omega (arith, content-room, l)
+holds-inside xs place n s a l = omega (arith, content-room)
 
 module _ (xs : List ℕ) (first unused source n place from : ℕ) (i : IsSound xs first unused) (t s : Spot)
     (at : spot_at source (zone_in xs) ≡ Some t) (to : spot_at place (zone_in xs) ≡ Some s)
@@ -31,7 +31,7 @@ module _ (xs : List ℕ) (first unused source n place from : ℕ) (i : IsSound x
   same : new ≡ written (place + 16 + from) x xs
   same =
       let a = standing xs first unused source i t at in
-      ap (λ q. written (place + 16 + from) q xs) (grind (arith, take-take, held-piece, resource_in))
+      ap (λ q. written (place + 16 + from) q xs) (grind (arith, take-take, held-piece))
 
   pub copied : Made new first unused (s.below
       ++ with_content (written from x (content_of s.here)) s.here ∷ s.above) (slot_in xs)
@@ -39,7 +39,7 @@ module _ (xs : List ℕ) (first unused source n place from : ℕ) (i : IsSound x
       let a = standing xs first unused place i s to in
       subst (λ ys. Made ys first unused (s.below
       ++ with_content (written from x (content_of s.here)) s.here ∷ s.above) (slot_in xs))
-      (sym same) (written-in _ _ _ i _ _ x _ _ _ a.whole a.low (omega (arith, length-x, w)))
+      (sym same) (written-in _ _ _ i _ _ x _ _ _ a.whole a.low (omega (arith, length-x)))
 
   pub copied-kept : (free : ℕ) → free ≡ free_sum (zone_in xs) → IsKept new first unused free
   copied-kept free f =

@@ -21,10 +21,9 @@ module _ (at : ℕ) (xs : List ℕ) (w : IsOnWay at xs) where
     pub first-free : tag_number t ≡ 0 → n ≡ free_first (left_in at xs)
     first-free z =
         let o = stepped at xs w l n (tag_number t) e h (tag-small t) in
-        size-at _ _ w l n _ e h (tag-small t) _ _ o.is ∙ sym (ap free_of (free-is o.here (sym o.tag ∙ z)))
-        ∙ sym (ap free_first o.is)
+        size-at _ _ w l n _ e h (tag-small t) _ _ o.is ∙ sym (grind arith) ∙ sym (ap free_first o.is)
 
     pub first-other : 0 < tag_number t → 0 ≡ free_first (left_in at xs)
     first-other z =
         let o = stepped at xs w l n (tag_number t) e h (tag-small t) in
-        sym (free-other o.here (omega (arith, z))) ∙ sym (ap free_first o.is)
+        sym (free-other o.here (omega arith)) ∙ sym (ap free_first o.is)

@@ -20,10 +20,10 @@ use Rattle.zone_bytes.specs.Laying.{headed, laid, MayLay}
 use Rattle.zone_bytes.proofs.Tiles.Splices.{outside-same, outside-written}
 
 pub below-top : (m n : ℕ) → nat_lt m n ≡ true → m < n
-below-top m n e = grind (arith, nat_tests)
+below-top m n e = grind arith
 
 not-below : (m n : ℕ) → nat_lt m n ≡ false → n ≤ m
-not-below m n e = grind (arith, nat_tests)
+not-below m n e = grind arith
 
 module _ (h : Header) (bottom top held : ℕ) (xs : List ℕ) (m : MayLay h bottom top held xs) where
   abbrev one : List ℕ
@@ -66,20 +66,11 @@ module _ (h : Header) (bottom top held : ℕ) (xs : List ℕ) (m : MayLay h bott
 
   -- what is left is Free, if there is any
   either : ((bottom + h.size < top) × (now ≡ written (bottom + h.size) (word left) two)) ⊎ ((left ≡ 0) × (now ≡ two))
-  either = go (nat_lt (bottom + h.size) top) refl
-    where
-      go : (t : Bool) → nat_lt (bottom + h.size) top ≡ t → ((bottom + h.size < top)
-          × (cond t (written (bottom + h.size) (word (top - (bottom + h.size))) two) two
-          ≡ written (bottom + h.size) (word left) two))
-          ⊎ ((left ≡ 0) × (cond t (written (bottom + h.size) (word (top - (bottom + h.size))) two) two ≡ two))
-      go true e =
-          let same : top - (bottom + h.size) ≡ left = omega arith in
-          inl (below-top _ _ e, ap (λ n. written (bottom + h.size) (word n) two) same)
-      go false e = inr (omega (arith, not-below), refl)
+  either = grind arith
 
   pub laid-outside : SameOutside bottom top xs now
   laid-outside = elim either [
-    | inl w ↦ rw w.1 (outside-written _ _ _ _ _ (word left) (omega arith) (omega (arith, w.0, length-word)) two-outside)
+    | inl w ↦ rw w.1 (outside-written _ _ _ _ _ (word left) (omega arith) (omega (arith, length-word)) two-outside)
     | inr w ↦ rw w.1 two-outside
   ]
 
@@ -88,18 +79,15 @@ module _ (h : Header) (bottom top held : ℕ) (xs : List ℕ) (m : MayLay h bott
     | inl w ↦
         let n = length-two in
         inr (
-          omega (arith, w.0),
-          rw w.1 (piece-written _ (word left) two 4 (sym (length-word left)) (omega (arith, w.0, n))),
+          omega arith,
+          rw w.1 (piece-written _ (word left) two 4 (sym (length-word left)) (omega arith)),
         )
     | inr w ↦ inl w.0
   ]
 
   -- the bytes of the block itself
   within : (k : ℕ) → k ≤ h.size → piece bottom k now ≡ piece bottom k two
-  within k l = elim either [
-    | inl w ↦ rw w.1 (piece-written_below _ (word left) _ bottom k (omega (arith, l)) (omega (arith, length-two)))
-    | inr w ↦ ap (piece bottom k) w.1
-  ]
+  within k l = grind (arith, piece-written_below, length-two)
 
   length-stood : length stood ≡ held
   length-stood = length-take-le held (drop (bottom + 16) xs) (omega (arith, length-drop (bottom + 16) xs))
@@ -115,8 +103,8 @@ module _ (h : Header) (bottom top held : ℕ) (xs : List ℕ) (m : MayLay h bott
       go (inr l) =
           let s = length-stood in
           let more = h.logical - held in
-          let sum : h.logical ≡ held + more = omega (arith, l) in
-          let same : more ≡ h.logical - length stood = omega (arith, s) in
+          let sum : h.logical ≡ held + more = omega arith in
+          let same : more ≡ h.logical - length stood = omega arith in
           ap (λ k. piece (bottom + 16) k two) sum ∙ take-add held more (drop (bottom + 16) two)
           ∙ ap (λ q. q ++ take more (drop held (drop (bottom + 16) two))) (grind (arith, two-piece, take_all))
           ∙ ap (λ q. take h.logical stood ++ take more q) (drop-drop held (bottom + 16) two)

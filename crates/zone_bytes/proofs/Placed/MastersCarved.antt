@@ -40,18 +40,13 @@ length-slots at (suc n) = ap suc (length-slots (at + 4) n)
 -- a slot that is used is none of a block that was Free
 used-stays : (xs : List ℕ) (first unused place : ℕ) (i : IsSound xs first unused) (r : Roomy xs place 272) (k : ℕ)
     → IsTrue (is_used (slot_in xs k)) → with_slots place (slot_in xs) k ≡ slot_in xs k
-used-stays xs first unused place i r k u =
-    let e = r.at.whole ∙ ap (λ b. r.s.below ++ b ∷ r.s.above) r.here in
-    let h = subst (λ z. Lays xs z (slot_in xs) i.unused) e i.lays in
-    kept-slot _ _ _ _ (slot_in xs) _ h _ r.at.low r.room k
-    (subst (Says (r.s.below ++ Free r.bytes ∷ r.s.above) xs i.unused k) (used-is (slot_in xs k) u).1 (h.says k)).0
+used-stays xs first unused place i r k u = grind (arith, kept-slot)
 
 -- the zone with the new block
 module _ (xs now : List ℕ) (first unused place : ℕ) (i : IsSound xs first unused) (r : Roomy xs place 272)
     (h : Lays now (filled Masters r.s) (with_slots place (slot_in xs)) (slots_at place ++ i.unused)) where
   pub masters-made : Made now (place + 16) (unused + 64) (filled Masters r.s) (with_slots place (slot_in xs))
-  masters-made = made _ _ (with_slots place (slot_in xs)) _ h _ _
-      (grind (arith, tidy-tidy)) refl (omega (arith, length-slots))
+  masters-made = made _ _ (with_slots place (slot_in xs)) _ h _ _ (grind (arith, tidy-tidy)) refl (omega arith)
 
   pub masters-slots : (k : ℕ) → IsTrue (is_used (slot_in xs k)) → slot_in now k ≡ slot_in xs k
   masters-slots k u = masters-made.slots k ∙ used-stays _ _ _ _ i r k u

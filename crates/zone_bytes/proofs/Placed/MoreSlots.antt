@@ -37,7 +37,7 @@ use Rattle.zone_bytes.proofs.Tiles.Keeping.{run-no_slot}
 pub outside-within : (lo hi a b : ℕ) (xs mid new : List ℕ) → lo ≤ a → b ≤ hi → SameOutside lo hi xs mid
     → SameOutside a b mid new → SameOutside lo hi xs new
 outside-within lo hi a b xs mid new l h s t = let up : (ys : List ℕ) → drop hi ys ≡ drop (hi - b) (drop b ys) =
-    λ ys. ap (λ k. drop k ys) (sym (omega (arith, h))) ∙ sym (drop-drop (hi - b) b ys) in
+    λ ys. ap (λ k. drop k ys) (sym (omega arith)) ∙ sym (drop-drop (hi - b) b ys) in
     record {
       kept = t.kept ∙ s.kept;
       ordered = s.ordered;
@@ -56,19 +56,17 @@ has-masters place size first xs new m o thread = record {
   outside = outside-within _ _ _ _ _ _ _ (omega arith) (omega arith) (laid-outside _ _ _ _ _ m) o;
   begins = sym (drop-take place 16 new) ∙ ap (drop place) o.low
       ∙ drop-take place 16 (laid masters_header place (place + size) 256 xs) ∙ laid-first _ _ _ _ _ m;
-  rest =
-      let e : place + size - place - 272 ≡ size - 272 = omega arith in
-      subst (λ k. (k ≡ 0) ⊎ ((0 < k) × (piece (place + 272) 4 new ≡ word k))) e
+  rest = subst (λ k. (k ≡ 0) ⊎ ((0 < k) × (piece (place + 272) 4 new ≡ word k))) (omega arith)
       (elim (laid-left _ _ _ _ _ m) [ inl z ↦ inl z | inr z ↦ inr (z.0, ap (take 4) o.high ∙ z.1) ]);
   thread = thread;
 }
 
 -- the slots of a Masters block at a place
 slot-at : (place s : ℕ) → is_slot_at place s ≡ true → (place + 16 ≤ s) × (s + 4 ≤ place + 272) × (s % 4 ≡ 0)
-slot-at place s h = (grind (arith, nat_tests), grind (arith, nat_tests), grind (arith, nat_tests))
+slot-at place s h = (grind arith, grind arith, grind arith)
 
 at-slot : (place s : ℕ) → place + 16 ≤ s → s + 4 ≤ place + 272 → s % 4 ≡ 0 → is_slot_at place s ≡ true
-at-slot place s a b c = grind (arith, nat_tests)
+at-slot place s a b c = grind arith
 
 not-at : (place top s : ℕ) → place + 272 ≤ top → Clear place (top - place) s → is_slot_at place s ≡ false
 not-at place top s l c = grind arith
@@ -77,13 +75,13 @@ each-from : (P : ℕ → Type 0) (place at n : ℕ) → place + 16 ≤ at → at
     → ((s : ℕ) → place + 16 ≤ s → s + 4 ≤ place + 272 → s % 4 ≡ 0 → P s) → Each P (slots_from at n)
 each-from P place at zero l h e f = tt
 each-from P place at (suc n) l h e f = (
-  f at l (omega (arith, h)) e,
-  each-from P place (at + 4) n (omega (arith, l)) (omega (arith, h)) (omega (arith, e)) f,
+  f at l (omega arith) e,
+  each-from P place (at + 4) n (omega arith) (omega arith) (omega arith) f,
 )
 
 each-at : (P : ℕ → Type 0) (place : ℕ) → place % 4 ≡ 0
     → ((s : ℕ) → place + 16 ≤ s → s + 4 ≤ place + 272 → s % 4 ≡ 0 → P s) → Each P (slots_at place)
-each-at P place e f = each-from P _ (place + 16) 64 (omega arith) (omega arith) (omega (arith, e)) f
+each-at P place e f = each-from P _ (place + 16) 64 (omega arith) (omega arith) (omega arith) f
 
 has-append : (s : ℕ) (xs ys : List ℕ) → Has xs s ⊎ Has ys s → Has (xs ++ ys) s
 has-append s [] ys (inl h) = absurd h
@@ -125,7 +123,7 @@ module _ (xs : List ℕ) (below above : List Block) (n : ℕ) (slots : ℕ → S
   high = omega arith
 
   rises : place < top
-  rises = omega (arith, room)
+  rises = omega arith
 
   plain : (s : ℕ) → IsSlot s (Free n ∷ []) → ⊥
   plain s j = no-slots (Free n) refl s j
@@ -140,11 +138,11 @@ module _ (xs : List ℕ) (below above : List Block) (n : ℕ) (slots : ℕ → S
   evens = even z place top xs st
 
   span : sizes put ≡ sizes (Free n ∷ [])
-  span = omega (arith, span-free, room)
+  span = omega (arith, span-free)
 
   -- the slots that were there stay
   far : (s : ℕ) → IsSlot s all → is_slot_at place s ≡ false
-  far s i = not-at _ _ s (omega (arith, room)) (outside z _ _ _ st s i)
+  far s i = not-at _ _ s (omega arith) (outside z _ _ _ st s i)
 
   pub kept-slot : (s : ℕ) → IsSlot s all → now s ≡ slots s
   kept-slot s i = ap (λ v. cond v Unused (slots s)) (far s i)
@@ -152,20 +150,10 @@ module _ (xs : List ℕ) (below above : List Block) (n : ℕ) (slots : ℕ → S
   module _ (new : List ℕ) (m : HasMasters place n (first_of unused) xs new) where
     masters-tile : Tile (head_of resource Masters) 272 (drop place new)
     unfolding head_of
-    masters-tile =
-        let l = length-header 274 256 0 0 in
-        record {
-          fits = (let o = m.outside.kept in omega (arith, length-drop place new, o, room));
-          whole = refl;
-          some = omega arith;
-          room = omega (arith, l);
-          begins = ap (λ j. take j (drop place new)) l ∙ m.begins;
-        }
+    masters-tile = grind (arith, length-header, length-drop)
 
     tiles : Tiles (head_of resource) (piece place (top - place) new) put
-    tiles =
-        tiles-two resource _ _ _ _ new (omega (arith, room)) (let o = m.outside in omega arith)
-        (omega (arith, evens)) masters-tile m.rest
+    tiles = tiles-two resource _ _ _ _ new (omega arith) (omega arith) (omega (arith, evens)) masters-tile m.rest
 
     lies : Lies resource with_masters new
     lies = lies-put z place top xs st put new m.outside tiles span (tt, leads-free (place + 272) left new)
@@ -180,8 +168,7 @@ module _ (xs : List ℕ) (below above : List Block) (n : ℕ) (slots : ℕ → S
     back s i f = slot-swap s below put (Free n ∷ []) above none (sym span) i
       where
         none : IsSlot (s - sizes below) put → ⊥
-        none (inl m) = false≢true (sym f ∙ at-slot place s (omega (arith, m, low)) (omega (arith, m, low))
-            (omega (arith, m, low, evens)))
+        none (inl m) = false≢true (sym f ∙ at-slot place s (omega arith) (omega arith) (omega (arith, evens)))
         none (inr m) = run-no_slot _ (free left) (each-free left) m.1
 
     names-now : names with_masters ≡ names all
@@ -197,7 +184,7 @@ module _ (xs : List ℕ) (below above : List Block) (n : ℕ) (slots : ℕ → S
         → Says with_masters new (slots_at place ++ unused) s state
     says-old s NoSlot f q = λ i. q (back s i f)
     says-old s Unused f q = (forth s q.0, has-append s (slots_at place) unused (inr q.1))
-    says-old s (Used r) f q = grind (arith, forth, names-now, each-named, kept-piece)
+    says-old s (Used r) f q = grind (arith, forth, names-now, kept-piece)
 
     says : (s : ℕ) → Says with_masters new (slots_at place ++ unused) s (now s)
     says s = go (is_slot_at place s) refl
@@ -209,13 +196,12 @@ module _ (xs : List ℕ) (below above : List Block) (n : ℕ) (slots : ℕ → S
             subst (Says with_masters new (slots_at place ++ unused) s) (sym (ap (λ v. cond v Unused (slots s)) e)) (
               new-slot s b.0 b.1 b.2,
               has-append s (slots_at place) _
-                  (inl (has-slot (place + 16) 64 s b.0 (omega (arith, b)) (omega (arith, v)) b.2)),
+                  (inl (has-slot (place + 16) 64 s b.0 (omega arith) (omega arith) b.2)),
             )
         go false e = grind (arith, says-old)
 
     pub lays-masters : Lays new with_masters now (slots_at place ++ unused)
-    lays-masters =
-        record {
+    lays-masters = record {
           lies = lies-agree resource (λ s. is_resource (now s)) _ _
               (each-named (λ s. resource s ≡ is_resource (now s)) (each-map (λ s. IsSlot s all)
               (λ s. resource s ≡ is_resource (now s)) (λ s i. sym (ap is_resource (kept-slot s i)))
@@ -247,5 +233,5 @@ module _ (xs : List ℕ) (below above : List Block) (n : ℕ) (slots : ℕ → S
         }
       where
         apart-from : (s u : ℕ) → place + 16 ≤ s → s + 4 ≤ place + 272 → Clear place (top - place) u → Apart s u
-        apart-from s u a b (inl c) = inr (omega (arith, c, a))
-        apart-from s u a b (inr c) = inl (omega (arith, c, b, room))
+        apart-from s u a b (inl c) = inr (omega arith)
+        apart-from s u a b (inr c) = inl (omega arith)

@@ -1,6 +1,6 @@
 -- A block in the place of some that have no names and no slots, to which a slot is made to lead.
 use Rattle.std.proofs.Common.{◌≡◌, ℕ, false, IsTrue, ◌+◌, ◌-◌, ◌<◌, inl, inr, List, [], ◌∷◌, ◌++◌, length, sym, ap, ◌∙◌}
-use Rattle.std.proofs.Common.{subst, refl, ◌≤◌}
+use Rattle.std.proofs.Common.{subst, refl, ◌≤◌, rules}
 use Rattle.std.proofs.Common.{arith}
 use Rattle.windows.specs.Writes.{written, piece}
 use Rattle.windows.proofs.Pieces.{length-written, piece-written}
@@ -80,12 +80,10 @@ module _ (xs : List ℕ) (first count : ℕ) (i : IsSound xs first count) (numbe
   is-slot = subst (IsSlot number) whole (slot-is xs first count i number used none)
 
   names-was : names all ≡ names below ++ names above
-  names-was = names-append below (old ++ above)
-      ∙ ap (λ q. names below ++ q) (names-append old above ∙ ap (λ q. q ++ names above) unnamed)
+  names-was = grind (arith, names-append)
 
   names-now : names now ≡ names below ++ number ∷ names above
-  names-now = names-append below (put ++ above)
-      ∙ ap (λ q. names below ++ number ∷ q) (names-append (free k) above ∙ ap (λ q. q ++ names above) (names-free k))
+  names-now = grind (arith, names-append)
 
   far : Each (Apart number) (names below ++ names above)
   far = subst (Each (Apart number)) (ap names whole ∙ names-was) (name-apart xs first count i number used none)
@@ -118,15 +116,13 @@ module _ (xs : List ℕ) (first count : ℕ) (i : IsSound xs first count) (numbe
     others-lead : (o : ℕ) (bs : List Block) → Each (Clear place (top - place)) (names bs)
         → Each (Apart number) (names bs)
         → Leads o bs xs → Leads o bs done
-    others-lead o bs c a l = leads-written number (word place) mid o bs slot-fits
-        (each-map (Apart number) (Clear number (length (word place))) (apart-clear number place) (names bs) a)
-        (leads-outside place top xs mid o bs same c l)
+    others-lead o bs c a l = search (rules, leads-written, slot-fits, each-map, apart-clear, leads-outside)
 
     lies : Lies (resource_in xs) now done
     lies =
         let c = clear z place top xs st in
-        let o : 0 + sizes below ≡ place = omega (arith, low) in
-        let e : 0 + sizes below + sizes old ≡ 0 + sizes below + sizes put = omega (arith, span) in
+        let o : 0 + sizes below ≡ place = omega arith in
+        let e : 0 + sizes below + sizes old ≡ 0 + sizes below + sizes put = omega arith in
         let above-lead = leads-right xs (0 + sizes below) old above (leads-right xs 0 below
         (old ++ above) laid.lies.leads) in
         record {
@@ -134,8 +130,7 @@ module _ (xs : List ℕ) (first count : ℕ) (i : IsSound xs first count) (numbe
               (length-word place) (forth number is-slot) tiles;
           leads = leads-append done 0 below (put ++ above) (others-lead 0 below c.0
               (each-left (Apart number) (names below) (names above) far) (leads-left xs 0 below
-              (old ++ above) laid.lies.leads))
-              (leads-append done (0 + sizes below) put above (
+              (old ++ above) laid.lies.leads)) (leads-append done (0 + sizes below) put above (
                 piece-written number (word place) mid 4 (sym (length-word place)) slot-fits ∙ sym (ap word o),
                 leads-free _ k done,
               ) (subst (λ j. Leads j above done) e (others-lead _ above c.1
@@ -144,13 +139,12 @@ module _ (xs : List ℕ) (first count : ℕ) (i : IsSound xs first count) (numbe
 
     -- and the words of other slots stay
     others : (s : ℕ) → IsSlot s all → Apart number s → piece s 4 done ≡ piece s 4 xs
-    others s j p = piece-clear number (word place) mid s slot-fits (apart-clear number place s p)
-        ∙ piece-outside place top xs mid s same (outside z place top xs st s j)
+    others s j p = search (rules, piece-clear, slot-fits, apart-clear, piece-outside, outside, st)
 
     length-done : length done ≡ length xs
     length-done =
         let r = slot-reads-in xs first count i number used none in
-        length-written number (word place) mid (omega (arith, length-word place, same.kept, r)) ∙ same.kept
+        length-written number (word place) mid (omega (arith, length-word place)) ∙ same.kept
 
     pub named-lays : Lays done now (slot_in xs) i.unused
     named-lays =

@@ -36,7 +36,7 @@ pub record Resized (xs now : List ℕ) (first unused n : ℕ) (s : Spot) : Type 
 
 masters-cut : (n : ℕ) (s : Spot) → count is_masters (filled (resized n s.here) s) ≡ count is_masters (s.below
     ++ s.here ∷ s.above)
-masters-cut n s = grind (arith, total-tidy, is_masters-resized, total-append)
+masters-cut n s = grind (arith, total-tidy, total-append)
 
 module _ (xs now : List ℕ) (first unused place n : ℕ) (i : IsSound xs first unused) (s : Spot)
     (e : spot_at place (zone_in xs) ≡ Some s) (at : Standing xs place s) (room : HasRoom n s)
@@ -62,13 +62,13 @@ module _ (xs now : List ℕ) (first unused place n : ℕ) (i : IsSound xs first 
             made = made _ _ (slot_in xs) _ h _ _
                 (tidy-tidy (s.below ++ new ∷ Free (size s.here - size new) ∷ s.above)) i.begins i.counted;
             masters = masters-cut n s ∙ ap (count is_masters) (sym at.whole);
-            given = (omega (arith, given-filled, given-whole));
+            given = omega (arith, given-filled, given-whole);
             cut = λ l. refl;
-            grown = λ more. absurd (omega (arith, le, more));
+            grown = λ more. absurd (omega arith);
           }
       go (inr more) =
           let h = the-if (spot_at place (zone_in xs)) _ s e (grown first unused i) more in
-          let g = a-spot (grow_up new s) (elim room [ inl le ↦ absurd (omega (arith, le, more)) | inr is ↦ is ]) in
+          let g = a-spot (grow_up new s) (elim room [ inl le ↦ absurd (omega arith) | inr is ↦ is ]) in
           let l : Lays now g.0 (slot_in xs) i.unused =
           subst (λ o. IfSome o (λ after. Lays now after (slot_in xs) i.unused)) g.1 h in
           record {
@@ -76,8 +76,8 @@ module _ (xs now : List ℕ) (first unused place n : ℕ) (i : IsSound xs first 
             made = made _ _ (slot_in xs) _ (subst (λ o. IfSome o (λ after. Lays now after (slot_in xs) i.unused)) g.1 h) _ _ (tidy-grown n s g.0 more at.tidied g.1) i.begins i.counted;
             masters = count-grown is_masters (λ m. refl) new s g.0 (is_masters-resized n s.here) g.1
                 ∙ ap (count is_masters) (sym at.whole);
-            given = (omega (arith, given-grown, given-whole));
-            cut = λ le. absurd (omega (arith, le, more));
+            given = omega (arith, given-grown, given-whole);
+            cut = λ le. absurd (omega arith);
             grown = λ m. subst (λ o. IfSome o (λ after. g.0 ≡ after)) (sym g.1) refl;
           }
 
@@ -87,8 +87,7 @@ module _ (xs now : List ℕ) (first unused place n : ℕ) (i : IsSound xs first 
 
   pub grown-zone : IfSome (spot_at place (zone_in xs)) (λ s. size s.here < size (resized n s.here)
       → IfSome (grow_up (resized n s.here) s) (λ after. zone_in now ≡ after))
-  grown-zone = rw e (λ more. subst (λ bs. IfSome (grow_up new s) (λ after. bs ≡ after)) (sym resize-made.made.zone)
-      (resize-made.grown more))
+  grown-zone = grind (arith, resize-made)
 
   -- so the blocks from the place up to the top of the Free block above became others
   pub resize-replaced : is_free new ≡ false → size new ≤ size s.here + free_first s.above
@@ -106,14 +105,14 @@ module _ (xs now : List ℕ) (first unused place n : ℕ) (i : IsSound xs first 
         is = resize-made.made.zone ∙ elim (less_or_more (size new) (size s.here)) [
           | inl le ↦ resize-made.cut le ∙ cut-sized new solid s at.apart m (past_free s.above) heading le
           | inr more ↦
-              let g = a-spot (grow_up new s) (elim room [ inl le ↦ absurd (omega (arith, le, more)) | inr is ↦ is ]) in
+              let g = a-spot (grow_up new s) (elim room [ inl le ↦ absurd (omega arith) | inr is ↦ is ]) in
               let e : resize-made.blocks ≡ g.0 =
               subst (λ o. IfSome o (λ after. resize-made.blocks ≡ after)) g.1 (resize-made.grown more) in
               e ∙ grown-sized new solid s at.apart m (past_free s.above) heading g.0 more g.1
         ];
         low = at.low;
         high = omega (arith, span-free);
-        span = omega (arith, span-free, g, fits);
+        span = omega (arith, span-free);
       }
     where
       heading : Heading s.above (free_first s.above) (past_free s.above)

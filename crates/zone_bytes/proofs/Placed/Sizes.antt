@@ -50,12 +50,9 @@ use Rattle.block_store.proofs.Zone.Spots.{room-size}
 
 -- blocks that stand apart, parted into the Free one that comes first and the others
 pub headed-above : (above : List Block) → Apart above → Heading above (free_first above) (past_free above)
-headed-above [] a = record { is = refl; unjoined = refl }
 headed-above (Free zero ∷ above) a = absurd (longer _ _ a.0)
 headed-above (Free (suc n) ∷ above) a = record { is = refl; unjoined = unjoined-above _ _ a }
-headed-above (Nonrelocatable id content ∷ above) a = record { is = refl; unjoined = refl }
-headed-above (Masters ∷ above) a = record { is = refl; unjoined = refl }
-headed-above (Relocatable id flags content ∷ above) a = record { is = refl; unjoined = refl }
+headed-above _ a = record { is = refl; unjoined = refl }
 
 -- the Free bytes that come first lie in the bytes
 pub free-whole : (at : ℕ) (xs : List ℕ) (w : IsOnWay at xs) → (free_first (left_in at xs) % 16 ≡ 0)
@@ -85,17 +82,15 @@ pub record Same (n place : ℕ) (b : Block) : Type 0 where
   pub size : size (resized n b) ≡ padded n
 
 pub same-of : (n place : ℕ) (b : Block) → Holds b → Same n place b
-same-of n place (Free m) k = absurd (false≢true k)
 same-of n place (Nonrelocatable id content) k = let z = ap padded (length-resized n content) in search rules
-same-of n place Masters k = absurd (false≢true k)
 same-of n place (Relocatable id flags content) k = let z = ap padded (length-resized n content) in search rules
+same-of n place _ k = absurd (false≢true k)
 
 -- a block that holds none has one size
 pub unsized : (n : ℕ) (b : Block) → (kind b % 2 == 1) ≡ false → resized n b ≡ b
 unsized n (Free m) k = refl
-unsized n (Nonrelocatable id content) k = absurd (false≢true (sym k))
 unsized n Masters k = refl
-unsized n (Relocatable id flags content) k = absurd (false≢true (sym k))
+unsized n _ k = absurd (false≢true (sym k))
 
 -- the header of a block at another size
 module _ (resource : ℕ → Bool) (n at : ℕ) (xs : List ℕ) (small : length xs ≤ 134217728) where
@@ -117,7 +112,7 @@ module _ (resource : ℕ → Bool) (n at : ℕ) (xs : List ℕ) (small : length 
       let g = flag_word-small flags (resource slot) in
       let y = length-resized n content in
       let v = q.named w.0 in
-      let e = q.marked (omega (arith, g)) in
+      let e = q.marked (omega arith) in
       (q.long small, (λ j. header (padded (sym y j) + 3) (sym y j) (v j) (e j) ++ (resized_content n content)))
 
 -- the header that was read at a place
@@ -134,13 +129,8 @@ HasRoom n s = (size (resized n s.here) ≤ size s.here) ⊎ IsSome (grow_up (res
 -- a block at another size, for which there is room, takes no more bytes than there are
 pub room-fits : (xs : List ℕ) (place n : ℕ) (s : Spot) → Standing xs place s → HasRoom n s
     → sizes (s.below ++ s.here ∷ s.above) ≤ 134217728 → size (resized n s.here) ≤ 134217728
-room-fits xs place n s at (inl le) small = omega (arith, le)
-room-fits xs place n s at (inr more) small =
-    let new = resized n s.here in
-    let g = a-spot (grow_up new s) more in
-    map-some (λ above. s.below ++ new ∷ above) _ _ (size new ≤ 134217728) g.1
-    (λ above took is. taken-some _ s.above _ (size new ≤ 134217728) took (λ next rest was room now.
-    omega (arith, total-append, ap sizes was, room-size, small)))
+room-fits xs place n s at (inl le) small = omega arith
+room-fits xs place n s at (inr more) small = grind (arith, total-append)
 
 module _ (xs : List ℕ) (place n : ℕ) (s : Spot) (at : Standing xs place s) (hd : Header) (r : Read hd place xs) where
   below-end : place < length xs
@@ -187,18 +177,10 @@ module _ (xs : List ℕ) (place n : ℕ) (s : Spot) (at : Standing xs place s) (
     heads = subst (λ k. Heading s.above k rest) (sym m-is) heading
 
     pub fits : padded n ≤ size s.here + m
-    fits = elim room [
-      | inl le ↦ omega (arith, same.size, le)
-      | inr some ↦
-          let g = a-spot (grow_up new s) some in
-          let is = grown-is new s g.0 g.1 in
-          omega (arith, ap free_first is.2, m-is, same.size)
-    ]
+    fits = grind (arith, same, m-is)
 
     pub ends : (place + hd.size + m ≤ length xs) × ((place + hd.size + m) % 16 ≡ 0)
-    ends =
-        let w = free-whole (place + hd.size) xs way-behind in
-        (omega (arith, w, mb), omega (arith, w, mb))
+    ends = omega (arith, free-whole, way-behind)
 
     tells : (word_at (place + 4) xs ≡ length (content_of s.here))
         × (header (padded n + kind s.here) n (word_at (place + 8) xs) (word_at (place + 12) xs)
@@ -209,23 +191,11 @@ module _ (xs : List ℕ) (place n : ℕ) (s : Spot) (at : Standing xs place s) (
     long-is = r.long ∙ tells.0
 
     pub may-size : MayLay sized-header place (place + hd.size + m) hd.logical xs
-    may-size =
-        record {
-          even = (at.way.walk.whole, ends.1, omega (arith, pz));
-          inside = ends.0;
-          small = at.small;
-          room = omega (arith, pz, fits, size-is);
-          whole = omega (arith, pz);
-          fits = omega (arith, content-room, long-is, size-is);
-        }
+    may-size = grind (arith, ends, fits, size-is, long-is)
 
     head-is : header_bytes sized-header ++ resized_content n (piece (place + 16) hd.logical xs) ≡ head_of
         (resource_in xs) new
-    head-is =
-        let c : piece (place + 16) hd.logical xs ≡ content_of s.here =
-        ap (λ k. piece (place + 16) k xs) long-is ∙ held-piece (resource_in xs) s.here place xs at.tile in
-        ap (λ q. header_bytes sized-header ++ resized_content n q) c
-        ∙ (λ j. header (pz j + kind-is j) n (r.named j) (r.marked j) ++ resized_content n (content_of s.here)) ∙ tells.1
+    head-is = grind (arith, held-piece, kind-is, tells)
 
     module _ (first unused : ℕ) (i : IsSound xs first unused) where
       abbrev now : List ℕ
@@ -237,27 +207,20 @@ module _ (xs : List ℕ) (place n : ℕ) (s : Spot) (at : Standing xs place s) (
       sized-lays : Lays now result (slot_in xs) i.unused
       sized-lays =
           let y = size-is in
-          let k : place + hd.size + m - place - z ≡ size s.here + m - size new = omega (arith, y, same.size, pz) in
+          let k : place + hd.size + m - place - z ≡ size s.here + m - size new = omega (arith, same.size) in
           subst (λ bs. Lays now bs (slot_in xs) i.unused) (ap (λ j. s.below ++ new ∷ (free j ++ rest)) k)
           (laid-lays _ _ _ i _ (s.here ∷ free m) _ (at.whole ∙ ap (λ l. s.below
-          ++ s.here ∷ l) heads.is) _ _ at.low (omega (arith, y, span-free)) (omega (
-            arith,
-            at.some,
-            y,
-          )) (no-slots-two s.here m same.no_masters)
-          _ _ may-size _ same.still_none (same.size ∙ sym pz)
+          ++ s.here ∷ l) heads.is) _ _ at.low (omega (arith, span-free)) (omega (
+            arith)) (no-slots-two s.here m same.no_masters) _ _ may-size _ same.still_none (same.size ∙ sym pz)
           (same.names ∙ sym (ap (λ l. names_of s.here ++ l) (names-free m) ∙ append-nil (names_of s.here)))
           (same.placed at.placed) head-is
           (subst (Each (λ k. piece k 4 xs ≡ word place)) (sym same.names) (leads-each place s.here xs at.leads)))
 
       pub cut-lays : size new ≤ size s.here → Lays now (filled new s) (slot_in xs) i.unused
-      cut-lays le = subst (λ bs. Lays now bs (slot_in xs) i.unused)
-          (sym (cut-sized _ same.solid s at.apart m _ heads le)) sized-lays
+      cut-lays le = grind (arith, cut-sized, same, heads, sized-lays)
 
       pub grown-lays : size s.here < size new → IfSome (grow_up new s) (λ after. Lays now after (slot_in xs) i.unused)
-      grown-lays more = if-spot _ (λ after. Lays now after (slot_in xs) i.unused)
-          (λ after e. subst (λ bs. Lays now bs (slot_in xs) i.unused)
-          (sym (grown-sized _ same.solid s at.apart m _ heads _ more e)) sized-lays)
+      grown-lays more = grind (arith, heads, sized-lays)
 
       pub free-sized : (count : ℕ) → count ≡ free_sum (zone_in xs)
           → (z ≤ count + hd.size) × (count ≤ 134217728) × (count + hd.size - z ≡ free_sum (zone_in now))
@@ -270,22 +233,17 @@ module _ (xs : List ℕ) (place n : ℕ) (s : Spot) (at : Standing xs place s) (
           let f = fits in
           let y = size-is in
           let v = same.size in
-          (omega (arith, c, d, f, y, pz), omega (arith, c, e, sizes-length), omega (arith, a, b, c, d, f, y, v, pz))
+          (omega arith, omega (arith, sizes-length), omega arith)
 
 -- where a block holds no bytes, all stays
 module _ (xs : List ℕ) (place n : ℕ) (s : Spot) (at : Standing xs place s) (none : (kind s.here % 2 == 1) ≡ false)
     (first unused : ℕ) (i : IsSound xs first unused) where
   pub kept-cut : Lays xs (filled (resized n s.here) s) (slot_in xs) i.unused
-  kept-cut =
-      let z : size s.here - size s.here ≡ 0 = omega arith in
-      subst (λ bs. Lays xs bs (slot_in xs) i.unused)
-      (at.whole ∙ sym at.tidied ∙ tidy-below s.below (s.here ∷ s.above) (s.here ∷ Free 0 ∷ s.above) refl
-      ∙ ap (λ k. tidy (s.below ++ s.here ∷ Free k ∷ s.above)) (sym z)
-      ∙ ap (λ b. filled b s) (sym (unsized n s.here none))) i.lays
+  kept-cut = grind (arith, tidy-below)
 
   pub kept-grown : size s.here < size (resized n s.here)
       → IfSome (grow_up (resized n s.here) s) (λ after. Lays xs after (slot_in xs) i.unused)
-  kept-grown more = absurd (let z = ap size (unsized n _ none) in omega (arith, z, more))
+  kept-grown more = absurd (let z = ap size (unsized n _ none) in omega arith)
 
 -- the spot, and what is known of it
 pub room-at : (xs : List ℕ) (first unused place n : ℕ) → IsSound xs first unused

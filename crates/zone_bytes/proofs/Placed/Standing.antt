@@ -48,11 +48,10 @@ pub standing : (xs : List ℕ) (first count place : ℕ) → IsSound xs first co
 standing xs first count place i s e =
     let all = whole xs first count i place s e in
     let at = low xs first count i place s e in
-    let o : 0 + sizes s.below ≡ place = omega (arith, at) in
+    let o : 0 + sizes s.below ≡ place = omega arith in
     let y : tidy (s.below ++ s.here ∷ s.above) ≡ s.below ++ s.here ∷ s.above = sym (ap tidy all) ∙ i.tidied ∙ all in
     let p = sym (append_assoc s.below (s.here ∷ []) s.above) in
-    let q : sizes (s.below ++ s.here ∷ []) ≡ place + size s.here =
-    omega (arith, span-append, at) in
+    let q : sizes (s.below ++ s.here ∷ []) ≡ place + size s.here = omega (arith, span-append) in
     record {
       whole = all;
       low = at;
@@ -81,7 +80,6 @@ standing xs first count place i s e =
 pub held-piece : (resource : ℕ → Bool) (b : Block) (at : ℕ) (xs : List ℕ)
     → Tile (head_of resource b) (size b) (drop at xs) → piece (at + 16) (length (content_of b)) xs ≡ content_of b
 unfolding head_of
-held-piece resource (Free n) at xs t = refl
 held-piece resource (Nonrelocatable id content) at xs t = (header-told _ _ 0 0 at content xs t).holds
-held-piece resource Masters at xs t = refl
 held-piece resource (Relocatable slot flags content) at xs t = (header-told _ _ slot _ at content xs t).holds
+held-piece resource _ at xs t = refl

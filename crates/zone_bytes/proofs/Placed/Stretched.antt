@@ -1,5 +1,5 @@
 -- A stretch of a zone in which one block is laid, and the rest is Free.
-use Rattle.std.proofs.Common.{◌≡◌, ℕ, Bool, false, ◌+◌, ◌-◌, ◌%◌, ◌<◌, ◌≤◌, ◌⊎◌, inl, inr, List, ◌∷◌, ◌++◌}
+use Rattle.std.proofs.Common.{◌≡◌, ℕ, Bool, false, ◌+◌, ◌-◌, ◌%◌, ◌<◌, ◌≤◌, ◌⊎◌, inl, inr, List, ◌∷◌, ◌++◌, rules}
 use Rattle.std.proofs.Common.{length, take, drop, sym, ap, ◌∙◌, subst, arith}
 use Rattle.std.proofs.lemmas.List.{length-drop, length-take-le, take-take, drop-drop, drop-take}
 use Rattle.windows.specs.Writes.{piece}
@@ -34,11 +34,8 @@ tiles-two resource b k at len new e fits even t w =
     let l = length-take-le k (drop (at + size b) new) (omega (arith, length-drop (at + size b) new, fits, e)) in
     let above = free-tiles resource k (piece (at + size b) k new) l even (elim w [
       | inl z ↦ inl z
-      | inr z ↦ inr (z.0, take-take 4 k (drop (at + size b) new) (omega (arith, z.0, even)) ∙ z.1)
-    ]) in (
-      tile-take head (head b) (size b) len (drop at new) (omega (arith, e)) (omega (arith, d, fits)) t,
-      subst (λ j. Tiles head j (free k)) (sym cut) above,
-    )
+      | inr z ↦ inr (z.0, take-take 4 k (drop (at + size b) new) (omega arith) ∙ z.1)
+    ]) in search (rules, tile-take)
 
 -- a block that was laid, and what is left above it
 pub laid-tiles : (h : Header) (place top held : ℕ) (xs : List ℕ) (may : MayLay h place top held xs) (resource : ℕ
@@ -50,7 +47,7 @@ laid-tiles h place top held xs may resource b same head =
     let left = top - place - h.size in
     let new = laid h place top held xs in
     let o = laid-outside h place top held xs may in
-    tiles-two resource b _ _ _ _ (omega (arith, same)) (omega arith) (omega arith)
+    tiles-two resource b _ _ _ _ (omega arith) (omega arith) (omega arith)
     (subst (λ m. Tile (head_of resource b) m (drop place new)) (sym same) (laid-tile h place top held xs may _ head))
     (subst (λ m. (left ≡ 0) ⊎ ((0 < left) × (piece (place + m) 4 new ≡ word left))) (sym same)
     (laid-left h _ _ _ _ may))
@@ -66,5 +63,5 @@ module _ (xs : List ℕ) (first count : ℕ) (i : IsSound xs first count) (below
       (slot_in xs) i.unused
   laid-lays = put-lays xs first count i below old above whole place top low high some plain b
       (top - place - h.size) solid
-      (omega (arith, same, span-free, high)) n p lead (laid h place top held xs) (laid-outside h place top held xs may)
+      (omega (arith, span-free)) n p lead (laid h place top held xs) (laid-outside h place top held xs may)
       (laid-tiles h place top held xs may (resource_in xs) b same head)

@@ -20,7 +20,7 @@ module _ (xs : List ℕ) (first unused : ℕ) (i : IsSound xs first unused) (pla
   became-left = left-above xs first unused i b.below (b.there ∷ b.above) place b.is b.low
 
   pub became-inside : place < length xs
-  became-inside = grind (arith, cases_lt, became-left, left-none, became-way)
+  became-inside = grind (arith, became-left, left-none, became-way)
 
   pub became-fits : place + sizes (b.there ∷ b.above) ≡ length xs
   became-fits = omega (arith, ap sizes b.is, span-append, sizes-length)

@@ -25,7 +25,7 @@ module _ (xs : List ℕ) (first count : ℕ) (i : IsSound xs first count) (place
   none-there : place ≡ sizes (zone_in xs) → (o : Option Spot) → spot_at place (zone_in xs) ≡ o → o ≡ None
   none-there e None q = refl
   none-there e (Some s) q =
-      absurd (omega (arith, e, inside xs first count i place s q, some-here xs first count i place s q, sizes-length))
+      absurd (omega (arith, inside xs first count i place s q, some-here xs first count i place s q, sizes-length))
 
   -- what a walk from there tells first
   pub edge-tells : IsEdge place (zone_in xs) → (told : Option Seen) (after : List _)

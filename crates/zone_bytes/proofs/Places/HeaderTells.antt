@@ -20,21 +20,14 @@ module _ (resource : ℕ → Bool) (at : ℕ) (xs : List ℕ) (small : length xs
       → Contained at xs b
   unfolding head_of
   contained (Free n) t k = absurd (false≢true k)
-  contained (Nonrelocatable id content) t k =
-      let q = header-told _ _ 0 0 at content xs t in
-      let w = q.long small in
-      record { fits = omega (arith, w, q.fits); is = ap (λ n. piece (at + 16) n xs) w ∙ q.holds }
+  contained (Nonrelocatable id content) t k = grind (arith, header-told)
   contained Masters t k = absurd (false≢true k)
-  contained (Relocatable slot flags content) t k =
-      let q = header-told _ _ slot (flag_word flags (resource slot)) at content xs t in
-      let w = q.long small in
-      record { fits = omega (arith, w, q.fits); is = ap (λ n. piece (at + 16) n xs) w ∙ q.holds }
+  contained (Relocatable slot flags content) t k = grind (arith, header-told)
 
 pub empty : (b : Block) → (kind b % 2 == 1) ≡ false → content_of b ≡ []
 empty (Free n) k = refl
-empty (Nonrelocatable id content) k = absurd (false≢true (sym k))
 empty Masters k = refl
-empty (Relocatable slot flags content) k = absurd (false≢true (sym k))
+empty _ k = absurd (false≢true (sym k))
 
 same-head : (b c : Block) (bs cs : List Block) → b ∷ bs ≡ c ∷ cs → b ≡ c
 same-head b c bs cs e = cc

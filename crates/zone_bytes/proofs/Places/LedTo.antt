@@ -48,9 +48,7 @@ module _ (xs : List ℕ) (first count : ℕ) (i : IsSound xs first count) (numbe
   led-at = spot_at-spot (is_relocatable number) (zone_in xs) s (apart-tidied (zone_in xs) i.tidied) e
 
   is-slot : IsSlot number (zone_in xs)
-  is-slot =
-      let P : ℕ → Type 0 = λ s. IsSlot s (zone_in xs) in
-      (each-names P s.below (block ∷ s.above) (subst (λ z. Each P (names z)) whole i.lays.has_slots.slots)).1.0
+  is-slot = grind (arith, each-names, whole)
 
   pub led-slot : (number % 4 ≡ 0) × (number + 4 ≤ length xs)
   led-slot = slot-in xs (zone_in xs) (slot_in xs) i.unused i.lays number is-slot
@@ -63,7 +61,7 @@ module _ (xs : List ℕ) (first count : ℕ) (i : IsSound xs first count) (numbe
   led-left = ap (λ p. left_in p xs) led-place ∙ left-at _ _ _ i _ s led-at ∙ ap (λ b. b ∷ s.above) here.2
 
   pub leads-here : LeadsHere number xs
-  leads-here = search (rules, here, led-place, way-at, led-at, led-left)
+  leads-here = search (rules, led-place, way-at, led-at, led-left)
 
   -- what a read of its place finds
   pub led-found : (place : ℕ) → place ≡ word_at number xs
@@ -74,4 +72,4 @@ module _ (xs : List ℕ) (first count : ℕ) (i : IsSound xs first count) (numbe
   pub led-told : (flags : Flags) (n : ℕ) → ((f : Flags) (content : List ℕ) (above : List Block)
       → left_in (word_at number xs) xs ≡ Relocatable number f content ∷ above → (flags ≡ f) × (n ≡ length content))
       → seen s.here ≡ see.Relocatable number flags n
-  led-told flags n told = grind (arith, here, led-left)
+  led-told flags n told = grind (arith, led-left)

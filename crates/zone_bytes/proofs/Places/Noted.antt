@@ -15,8 +15,8 @@ starts-left p x (b ∷ below) above (inr s) = inr (starts-left p (x + size b) be
 
 pub starts-last : (p x : ℕ) (before : List Block) (block : Block) → x + sizes before ≡ p
     → Starts p x (before ++ block ∷ [])
-starts-last p x [] block e = inl (omega (arith, e))
-starts-last p x (b ∷ before) block e = inr (starts-last p (x + size b) before block (omega (arith, e)))
+starts-last p x [] block e = inl (omega arith)
+starts-last p x (b ∷ before) block e = inr (starts-last p (x + size b) before block (omega arith))
 
 pub edges-more : (e : Edges) (base : ℕ) (below above : List Block) → AreEdges e base below
     → AreEdges e base (below ++ above)

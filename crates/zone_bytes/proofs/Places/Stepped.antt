@@ -40,7 +40,7 @@ header-told n a c d at content xs t =
     let f : at + 16 + length content ≤ length xs =
     omega (arith, length-head a (length content) c d content, length-drop at xs, t.fits, t.room) in
     record {
-      long = λ small. read_back (at + 4) (length content) xs (omega (arith, small, f)) (word-at at 4 xs ∙ q.0);
+      long = λ small. read_back (at + 4) (length content) xs (omega arith) (word-at at 4 xs ∙ q.0);
       named = λ small. read_back (at + 8) c xs small (word-at at 8 xs ∙ q.1);
       marked = λ small. read_back (at + 12) d xs small (word-at at 12 xs ∙ q.2);
       holds = ap (take (length content)) (sym (drop-drop 16 at xs)) ∙ q.3;
@@ -55,12 +55,7 @@ module _ (resource : ℕ → Bool) (at : ℕ) (xs : List ℕ) (small : length xs
   told-is (Free n) t w = refl
   told-is (Nonrelocatable id content) t w = ap see.Nonrelocatable ((header-told _ _ 0 0 at content xs t).long small)
   told-is Masters t w = refl
-  told-is (Relocatable slot flags content) t w =
-      let q = header-told _ _ slot (flag_word flags (resource slot)) at content xs t in
-      let g = flag_word-small flags (resource slot) in
-      let e = q.marked (omega (arith, g)) in
-      (λ i. see.Relocatable (q.named w.0 i) (flags_of (e i)) (q.long small i))
-      ∙ (λ i. see.Relocatable slot (flags_of-word flags (resource slot) i) (length content))
+  told-is (Relocatable slot flags content) t w = grind (arith, header-told)
 
 -- a step over the block whose header is of n bytes and a kind of number t
 pub record Stepped (at : ℕ) (xs : List ℕ) (n t : ℕ) : Type 0 where
@@ -82,7 +77,7 @@ module _ (at : ℕ) (xs : List ℕ) (w : IsOnWay at xs) where
     where
       none : (rest : List Block) → Walk w.resource at xs rest → rest ≡ []
       none [] k = refl
-      none (b ∷ rest) k = absurd (omega (arith, l))
+      none (b ∷ rest) k = absurd (omega arith)
 
   pub next-header : at < length xs → Next xs at
   next-header l = next-there w.resource xs at w.small w.rest w.walk.high w.walk.whole l
@@ -94,14 +89,13 @@ may-read at xs w l = next-may (next-header at xs w l)
 pub stepped-on : (resource : ℕ → Bool) (at : ℕ) (xs : List ℕ) (small : length xs ≤ 134217728) (rest : List Block)
     → Walk resource at xs rest → ArePlaced at rest → Each (λ s. s < 2 ^ 32) (names rest)
     → at < length xs → (n t : ℕ) → n + t ≡ word_at at xs → n % 16 ≡ 0 → t ≤ 3 → Stepped at xs n t
-stepped-on resource at xs small [] v p o l n t e h k = absurd (omega (arith, l))
+stepped-on resource at xs small [] v p o l n t e h k = absurd (omega arith)
 stepped-on resource at xs small (b ∷ rest) v p o l n t e h k =
     let P : ℕ → Type 0 = λ s. s < 2 ^ 32 in
     let same = header-tells resource xs at small b v.high.0 n t e h k in
     let bytes = same.0 in
-    let now : IsOnWay at xs = record
-    { resource = resource; rest = b ∷ rest; walk = v; placed = p; words = o; small = small } in
-    let way : IsOnWay (at + n) xs = (grind (arith, drop-drop, each-right)) in
+    let now : IsOnWay at xs = grind arith in
+    let way : IsOnWay (at + n) xs = (grind (arith, drop-drop)) in
     record {
       here = b;
       is = left-is at xs now ∙ ap (λ q. b ∷ q) (sym (left-is (at + n) xs way));

@@ -12,11 +12,4 @@ pub steps : (at : ℕ) (xs : List ℕ) (w : IsOnWay at xs) → at < length xs �
     → Steps at answer (at + n) xs
 steps at xs w l n t e h k answer a =
     let s = stepped at xs w l n t e h k in
-    record {
-      here = s.here;
-      is = s.is;
-      told = sym (a ∙ s.told);
-      up = ap (λ m. at + m) (sym s.bytes);
-      way = s.way;
-      some = omega (arith, s.tile.some, s.bytes);
-    }
+    grind arith

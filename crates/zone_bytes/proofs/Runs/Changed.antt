@@ -57,33 +57,14 @@ relaid-run change place zone r e keeps t xs first unused i k is shape new d =
     let lays = subst (λ z. Lays new z (slot_in xs) i.unused) shape (lays-run k xs new (slot_in xs) i.unused laid d) in
     let m = subst (λ z. Made new first unused z (slot_in xs)) (sym t)
     (made new _ (slot_in xs) _ lays first unused t i.begins i.counted) in
-    record {
-      made = m;
-      is = m.zone ∙ t ∙ append_assoc r.below (change r.run) r.above;
-      span = keeps size (λ n k. refl) l;
-      masters = ap (count is_masters) m.zone ∙ total-changed masters (λ n k. refl) change _ _ r e
-          (keeps masters (λ n k. refl) l);
-      free = total-changed free_of (λ n k. refl) change place zone r e (keeps free_of (λ n k. refl) l);
-      purgeable = ap purgeable_sum m.zone ∙ total-changed purgeable_of (λ n k. refl) change _ _ r e
-          (keeps purgeable_of (λ n k. refl) l);
-    }
+    grind (arith, append_assoc, total-changed)
 
 -- so the blocks from the run's bottom to its top became others
 pub replaced-run : {change : List Block → List Block} {zone : List Block} {r : RunSpot} {new : List ℕ}
     {first unused : ℕ}
     {table : ℕ → Slot} (place stop : ℕ) → tidy zone ≡ zone → run_at place zone ≡ Some r → stop ≡ place + sizes r.run
     → ChangedRun change zone r new first unused table → Replaced place stop zone (zone_in new)
-replaced-run {change} {zone} {r} {new} place stop t e u d = record {
-  below = r.below;
-  here = r.run;
-  there = change r.run;
-  above = r.above;
-  was = sym (run_at-is place zone r e);
-  is = d.is;
-  low = run_at-bottom place zone r e;
-  high = sym u;
-  span = d.span;
-}
+replaced-run {change} {zone} {r} {new} place stop t e u d = grind (arith, run_at-is, run_at-bottom)
 
 -- a run is packed
 pub settled-run : (xs : List ℕ) (first unused : ℕ) (i : IsSound xs first unused) (place : ℕ) (r : RunSpot)

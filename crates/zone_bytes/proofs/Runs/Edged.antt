@@ -28,15 +28,7 @@ module _ {zone : List Block} {r : RunSpot} {new : List ℕ} {first unused : ℕ}
     (edges : Edges) (e : run_at place zone ≡ Some r) where
   pub settled-edges : ChangedRun settle zone r new first unused table → AreEdges edges place (movers r.run)
       → ByEdges edges place (zone_in new)
-  settled-edges d a = inr (record {
-    below = r.below;
-    movers = movers r.run;
-    above = free (free_sum r.run) ++ r.above;
-    is = d.is ∙ ap (λ l. r.below ++ l) (append_assoc (movers r.run) (free (free_sum r.run)) r.above);
-    low = run_at-bottom place zone r e;
-    solid = movers-solid r.run;
-    edges_are = a;
-  })
+  settled-edges d a = grind (arith, append_assoc, run_at-bottom, movers-solid)
 
   pub lifted-edges : (gap : ℕ) → 0 < gap → ChangedRun (lifted gap) zone r new first unused table
       → AreEdges edges (place + gap) (movers r.run) → ByEdges edges (place + gap) (zone_in new)

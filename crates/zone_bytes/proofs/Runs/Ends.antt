@@ -55,7 +55,7 @@ module _ (resource : ℕ → Bool) (xs : List ℕ) (from : ℕ) (small : length 
     within [] h o l k f v b q = outside above h o
       where
         outside : (above : List Block) → Tiles (head_of resource) (drop from xs) above → EndsRun above → ⊥
-        outside [] h o = omega (arith, length-drop from xs, ap length h, l)
+        outside [] h o = omega (arith, length-drop from xs, ap length h)
         outside (c ∷ above) h o = false≢true (sym o ∙ sym (runs-told c h.0 n t f e w k v) ∙ sym b)
     within (c ∷ run) h o l k f v b q = omega (arith, ap length q)
 
@@ -70,10 +70,9 @@ module _ (resource : ℕ → Bool) (xs : List ℕ) (from : ℕ) (small : length 
     next-is-free [] h r some k = absurd (some refl)
     next-is-free (Free m ∷ run) h r some k =
         (run, ap (λ j. Free j ∷ run) (sym (header-tells resource xs from small (Free m) h.0 n t e w (omega arith)).0))
-    next-is-free (Nonrelocatable id content ∷ run) h r some k = absurd (false≢true r.0)
-    next-is-free (Masters ∷ run) h r some k = absurd (false≢true r.0)
     next-is-free (Relocatable slot flags content ∷ run) h r some k =
         absurd (omega (arith, header-tells resource xs from small _ h.0 n t e w (omega arith)))
+    next-is-free _ h r some k = absurd (false≢true r.0)
 
     pub next-is-mover : (run : List Block) → Tiles (head_of resource) (drop from xs) (run ++ above) → Each InRun run
         → (run ≡ [] → ⊥) → t ≡ 3 → IsMoverNext run n

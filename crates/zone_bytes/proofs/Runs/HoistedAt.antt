@@ -65,18 +65,14 @@ module _ {xs : List ℕ} {first unused place top stop : ℕ} {old : List Block}
   laid-was = subst (λ l. Lays xs l (slot_in xs) k.sound.unused) packed-parts k.sound.lays
 
   slot-here : IsSlot number (beneath ++ block ∷ (over ++ r.above))
-  slot-here =
-      let P : ℕ → Type 0 = λ s. IsSlot s (beneath ++ block ∷ (over ++ r.above)) in
-      (each-names P beneath (block ∷ (over ++ r.above)) laid-was.has_slots.slots).1.0
+  slot-here = grind (arith, each-names, laid-was)
 
   -- the slot's word may be read
   pub slot-inside : (number % 4 ≡ 0) × (number + 4 ≤ length xs)
   slot-inside = slot-in xs (beneath ++ block ∷ (over ++ r.above)) (slot_in xs) k.sound.unused laid-was number slot-here
 
   small-here : here ≤ 134217728
-  small-here =
-      let l = sizes-length xs (beneath ++ block ∷ (over ++ r.above)) (slot_in xs) k.sound.unused laid-was in
-      omega (arith, l, span-append)
+  small-here = omega (arith, sizes-length, laid-was, span-append)
 
   -- and tells where the block is
   slot-tells : word_at number xs ≡ here
@@ -94,9 +90,7 @@ module _ {xs : List ℕ} {first unused place top stop : ℕ} {old : List Block}
   }
 
   hoist-is : hoist_at xs here ≡ raw
-  hoist-is =
-      let s : spot_at here (zone_in xs) ≡ Some (record { below = beneath; here = block; above = over ++ r.above }) =
-      ap (spot_at here) packed-parts ∙ spot_at-parts _ _ _
+  hoist-is = let s : spot_at here (zone_in xs) ≡ Some _ = ap (spot_at here) packed-parts ∙ spot_at-parts _ _ _
       (apart-tidied _ (sym (ap tidy packed-parts) ∙ k.sound.tidied ∙ packed-parts)) in
       let f = first-run over r.above (loose-over number r.run cut loose-run) (run_at-ended place old r k.is).stops in
       let g : drop (length (segments (over ++ r.above)).first) (over ++ r.above) ≡ r.above =
@@ -128,8 +122,7 @@ module _ {xs : List ℕ} {first unused place top stop : ℕ} {old : List Block}
         }
 
     pub may-hoist : MayHoist (hoist_at xs at) at stop
-    may-hoist = subst (λ z. MayHoist z at stop) (sym hoist-at)
-        (subst (λ j. MayHoist raw j stop) (sym (w ∙ slot-tells)) may-move)
+    may-hoist = grind (arith, hoist-at, slot-tells, may-move)
 
     pub hoist-changed : ((name : ℕ) → count (is_relocatable name) old ≤ 1) → (new : List ℕ)
         → Hoisted (hoist_at xs at) new → ChangedRun (high (is_relocatable number)) old r new first unused (slot_in xs)
@@ -143,8 +136,7 @@ module _ {xs : List ℕ} {first unused place top stop : ℕ} {old : List Block}
         let b : count test (r.run ++ r.above) ≡ count test r.run + count test r.above =
         total-append ones r.run r.above in
         let shape : beneath ++ ((over ++ block ∷ []) ++ r.above) ≡ with_run (high test) r =
-        rw (high-parts number r.run cut (omega (arith, all, a, b, once))) (simp append_assoc) in
+        rw (high-parts number r.run cut (omega arith)) (simp append_assoc) in
         relaid-run (high test) place old r k.is (λ of adds l. high-total of adds number r.run l)
         (tidy-change place old r k.is k.tidied (high test r.run) (apart-high test (λ n. refl) r.run)) xs first unused
-        k.sound
-        (hoisted-instead raw here stop may-move) packed-parts shape new (subst (λ z. Hoisted z new) hoist-at d)
+        k.sound (hoisted-instead raw here stop may-move) packed-parts shape new (subst (λ z. Hoisted z new) hoist-at d)

@@ -1,5 +1,5 @@
 -- A block that is moved to the top of its run.
-use Rattle.std.proofs.Common.{◌≡◌, ℕ, ◌+◌, ◌-◌, ◌%◌, ◌≤◌, List, [], ◌∷◌, ◌++◌, length, take, drop, sym, ◌∙◌}
+use Rattle.std.proofs.Common.{◌≡◌, ℕ, ◌+◌, ◌-◌, ◌%◌, ◌≤◌, List, [], ◌∷◌, ◌++◌, length, take, drop, sym, ◌∙◌, rules}
 use Rattle.std.proofs.Common.{arith, length-append}
 use Rattle.std.proofs.lemmas.List.{append-nil, length-take-le, length-drop}
 use Rattle.windows.specs.Writes.{written, piece}
@@ -38,25 +38,14 @@ module _ (z : Hoist) (place stop : ℕ) (h : MayHoist z place stop) where
   turned-bytes = drop (size z.block) run-bytes ++ take (size z.block) run-bytes
 
   pub hoisted-instead : Instead z.below was (hoisted_run z) z.above
-  hoisted-instead =
-      let low = names z.below in
-      let one = names_of z.block in
-      record {
-        in_was = h.run.in_run;
-        in_now = each-append InRun z.over (z.block ∷ []) h.run.in_run.1 (h.run.in_run.0, tt);
-        span = omega (arith, span-append z.over (z.block ∷ []));
-        names_are = simp (names-append, append-nil) (turned low one (names z.over) (names z.above));
-      }
+  hoisted-instead = search (rules, each-append, span-append, names-append, turned)
 
   parts : Tiles head (take place z.bytes) z.below × Tiles head (drop place z.bytes) (was ++ z.above)
       × Tiles head run-bytes was × Tiles head (drop stop z.bytes) z.above
   parts = tiles-parts head z.bytes z.below was z.above place stop run.bottom run.top run.tiles
 
   pub wide : (place + size z.block ≤ stop) × (stop ≤ length z.bytes) × (place % 16 ≡ 0)
-  wide =
-      let w = span-whole head (take place z.bytes) z.below parts.0 in
-      let r = run in
-      (omega arith, omega (arith, run-bounds (unhoisted z) place stop r), omega arith)
+  wide = omega (arith, span-whole, parts, run, run-bounds)
 
   -- the block's header may be read
   pub next : Next z.bytes place
@@ -70,17 +59,10 @@ module _ (z : Hoist) (place stop : ℕ) (h : MayHoist z place stop) where
   length-run = length-take-le (stop - place) (drop place z.bytes) (omega (arith, wide, length-drop place z.bytes))
 
   length-turned : length turned-bytes ≡ stop - place
-  length-turned =
-      let l = length-run in
-      let a = length-append (drop (size z.block) run-bytes) (take (size z.block) run-bytes) in
-      let b = length-take-le (size z.block) run-bytes (omega (arith, wide, l)) in
-      omega (arith, a, length-drop (size z.block) run-bytes, b, l, wide)
+  length-turned = grind (arith, length-append, length-take-le, wide, length-drop)
 
   turned-tiles : Tiles head turned-bytes (hoisted_run z)
-  turned-tiles =
-      let t = parts.2 in
-      tiles-append head _ _ _ _ t.1 (tiles-one head _ _ (length-take-le (size z.block) run-bytes t.0.fits)
-      (tile-take head _ _ _ _ (omega arith) t.0.fits t.0))
+  turned-tiles = grind (arith, parts, tiles-append, tiles-one, length-take-le, tile-take)
 
   -- the bytes before the slots are rewritten
   abbrev mid : List ℕ
@@ -90,8 +72,7 @@ module _ (z : Hoist) (place stop : ℕ) (h : MayHoist z place stop) where
   outside =
       let v = wide in
       let l = length-turned in
-      outside-written place stop _ _ place turned-bytes (omega arith) (omega arith)
-      (outside-same place stop z.bytes (omega arith) (omega arith))
+      outside-written place stop _ _ place turned-bytes (omega arith) (omega arith) (grind arith)
 
   new-tiles : Tiles head (piece place (stop - place) mid) (hoisted_run z)
   new-tiles = rw (piece-written place turned-bytes z.bytes _ (sym length-turned) (omega (arith, wide))) turned-tiles

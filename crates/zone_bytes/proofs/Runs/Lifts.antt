@@ -35,7 +35,7 @@ sum-free (suc n) = omega arith
 
 -- a Free block below another
 free-both : (n m : ℕ) → 0 < n → tidy (Free n ∷ free m) ≡ free (n + m)
-free-both zero m l = absurd (omega (arith, l))
+free-both zero m l = absurd (omega arith)
 free-both (suc n) zero l = let e : suc n ≡ suc n + zero = omega arith in ap free e
 free-both (suc n) (suc m) l = sym (free-some _ (omega arith))
 
@@ -69,8 +69,7 @@ lifted-instead gap below run above some enough r = elim (any-movers run) [
 
 pub gap-fits : (lay : Lay) (place gap : ℕ) → MayLift lay place gap → gap ≤ length lay.bytes
 gap-fits lay place gap h =
-    let b = run-bounds lay place _ (run-moved lay place _ h.run) in
-    omega (arith, h.enough, span-movers lay.run h.run.in_run, b)
+    omega (arith, h.enough, span-movers lay.run h.run.in_run, (run-bounds lay place _ (run-moved lay place _ h.run)))
 
 -- the packed blocks, which are to be raised
 abbrev pub raise_of : Lay → ℕ → List ℕ → Raise
@@ -90,49 +89,22 @@ module _ (lay : Lay) (place gap : ℕ) (h : MayLift lay place gap) (moves : ℕ)
   settled = instead-settle lay.below lay.run lay.above h.run.in_run
 
   all-free : free_sum lay.run ≡ gap + (free_sum lay.run - gap)
-  all-free = omega (arith, h.enough)
+  all-free = omega arith
 
   pub may-raise : (top stop : ℕ) → top ≡ place + sizes (movers lay.run) → stop ≡ place + sizes lay.run
       → MayRaise (raise_of lay gap xs) place top stop gap
-  may-raise top stop t s =
-      let r = h.run in
-      let o : sizes lay.below + gap ≡ place + gap = omega arith in
-      let e : sizes lay.below + sizes lay.run ≡ stop = omega arith in
-      let run : IsMoved (record lay { run = settle lay.run; bytes = xs }) place stop = record {
-        tiles = p.tiles;
-        slots = slots-now settled r.slots;
-        bottom = r.bottom;
-        top = omega (arith, settled.span);
-        in_run = settled.in_now;
-        small = omega (arith, p.kept);
-        low = p.low;
-        high = subst (λ j. Leads j lay.above xs) e p.high;
-      } in
-      record {
-        run = subst (λ n. IsMoved (record lay { run = movers lay.run ++ free n; bytes = xs }) place stop) all-free run;
-        leads = subst (λ j. Leads j (movers lay.run) xs) o p.leads;
-        middle = sym t;
-        end = omega (arith, span-movers lay.run r.in_run, h.enough);
-        same = refl;
-        some = h.some;
-        even = h.even;
-      }
+  may-raise top stop t s = grind (arith, slots-now, settled, span-movers)
 
   pub is-lifted : (top : ℕ) → top ≡ place + sizes (movers lay.run) → place < top → (new : List ℕ)
       → Raised (raise_of lay gap xs) new → Lifted lay gap new
   is-lifted top t l new d =
-      let some-movers : movers lay.run ≡ [] → ⊥ = λ n. (omega (arith, ap sizes n, t, l)) in
-      record {
-        lies = rw (lifted-some gap lay.run h.some some-movers) d.lies;
-        others = others-now settled lay.bytes xs new p.others (subst
-            (λ n. SameOthers (lay.below ++ ((movers lay.run ++ free n) ++ lay.above)) xs new) (sym all-free) d.others);
-        kept = d.kept ∙ p.kept;
-      }
+      let some-movers : movers lay.run ≡ [] → ⊥ = λ n. (omega (arith, ap sizes n)) in
+      grind (arith, lifted-some, others-now, settled)
 
   -- a run without relocatable blocks is raised as it is packed
   pub is-lifted-none : (top : ℕ) → top ≡ place + sizes (movers lay.run) → top ≤ place → Lifted lay gap xs
   is-lifted-none top t l =
-      let none = no-movers lay.run (omega (arith, t, l)) in
+      let none = no-movers lay.run (omega arith) in
       rw (lifted-none gap lay.run h.some h.enough none) (settled-of _ _ _ _ _ _ h.run p
       (subst (λ l. Leads (sizes lay.below) l xs) (sym none) tt)).zone
 
@@ -158,7 +130,7 @@ module _ (lay : Lay) (place gap : ℕ) (h : MayLift lay place gap) (o : EndsRun 
 
   -- no relocatable block is among those that were packed: they are all
   none-left : top ≤ place → rest ≡ []
-  none-left l = elim p.ended [ inl e ↦ e | inr e ↦ absurd (omega (arith, l)) ]
+  none-left l = elim p.ended [ inl e ↦ e | inr e ↦ absurd (omega arith) ]
 
   pub none-lifted : top ≤ place → Lifted lay gap xs
   none-lifted l = let w = whole lay place h.run p (none-left l) in is-lifted-none _ _ _ h _ _ w.packed _ w.top_at l
@@ -168,15 +140,13 @@ module _ (lay : Lay) (place gap : ℕ) (h : MayLift lay place gap) (o : EndsRun 
 
   pub none-edges : top ≤ place → (edges : Edges) → AreEdges edges (place + gap) (movers gone)
       → AreEdges edges (place + gap) (movers lay.run)
-  none-edges l edges = subst (λ k. AreEdges edges (place + gap) (movers k))
-      (all-of lay place h.run p (none-left l))
+  none-edges l edges = search rules
 
   -- the relocatable blocks of both parts
   pub both-edges : (edges : Edges)
       → AreEdges edges (place + gap) (movers gone ++ movers (free (free_sum gone - gap) ++ rest))
       → AreEdges edges (place + gap) (movers lay.run)
-  both-edges edges = subst (AreEdges edges (place + gap)) (ap (λ l. movers gone ++ l)
-      (movers-above (free_sum gone - gap) rest) ∙ sym (cut-movers lay gone rest p.split))
+  both-edges edges = grind (arith, movers-above, cut-movers)
 
   module _ (some : place < top) where
     enough : gap ≤ free_sum gone
@@ -189,7 +159,7 @@ module _ (lay : Lay) (place gap : ℕ) (h : MayLift lay place gap) (o : EndsRun 
     raise-part = may-raise part place gap lift-part moves xs p.packed top stop p.top_at p.stop_at
 
     some-movers : movers gone ≡ [] → ⊥
-    some-movers n = omega (arith, ap sizes n, some)
+    some-movers n = omega (arith, ap sizes n)
 
     abbrev pub left : ℕ
     left = free_sum gone - gap
@@ -215,7 +185,7 @@ module _ (lay : Lay) (place gap : ℕ) (h : MayLift lay place gap) (o : EndsRun 
         bottom = omega (arith, span-append);
         top = refl;
         in_run = each-append InRun _ _ (each-free left) (grind (arith, each-right));
-        small = (omega arith);
+        small = omega arith;
       }
 
       module _ (lowered : ℕ) (zs : List ℕ) (t : Settled (upper lay gap gone rest ys) lowered zs) where
@@ -229,13 +199,7 @@ module _ (lay : Lay) (place gap : ℕ) (h : MayLift lay place gap) (o : EndsRun 
             rw (lifted-some gap lay.run h.some any, n, movers-above left rest, m) (simp append_assoc)
 
         pub both-lifted : Lifted lay gap zs
-        both-lifted = record {
-          lies = subst (λ l. Lies lay.resource l zs) all-is t.zone.lies;
-          others = subst (λ l. SameOthers l lay.bytes zs) (cut-same lay gone rest p.split)
-              (others-now part-instead lay.bytes ys zs part-lifted.others
-              (subst (λ l. SameOthers l ys zs) (sym upper-is) t.zone.others));
-          kept = t.zone.kept ∙ part-lifted.kept;
-        }
+        both-lifted = grind (arith, all-is, cut-same, others-now, part-instead, part-lifted, upper-is)
 
         pub both-stop : (at : ℕ) → at ≡ top + gap + sizes (free left ++ rest) → at ≡ place + sizes lay.run
         both-stop at e = e ∙ upper-top

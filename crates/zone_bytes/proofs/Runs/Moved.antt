@@ -18,27 +18,14 @@ module _ (lay : Lay) (place stop : ℕ) (r : IsMoved lay place stop) (now : List
   P = Clear place (stop - place)
 
   clear-of : (j : ℕ) → IsSlot j (all lay) → P j
-  clear-of = slot-clear lay place stop r place (stop - place) (omega arith) (omega (arith, s.ordered))
+  clear-of = slot-clear lay place stop r place (stop - place) (omega arith) (omega arith)
 
   -- the slots of the blocks lie outside the run
   pub clears : Each P (names lay.below) × Each P (names lay.run) × Each P (names lay.above)
-  clears =
-      let c = each-names P lay.below _ (each-map (λ j. IsSlot j (all lay)) P clear-of _ r.slots.slots) in
-      let d = each-names P lay.run lay.above c.1 in
-      (c.0, d.0, d.1)
+  clears = grind (arith, each-names, each-map, clear-of)
 
   pub is-moved : IsMoved (record lay { run = now; bytes = mid }) place stop
-  is-moved = record {
-    tiles = tiles-splice (head_of lay.resource) lay.bytes mid lay.below lay.run lay.above now place stop r.bottom r.top
-        r.tiles s t;
-    slots = slots-now k r.slots;
-    bottom = r.bottom;
-    top = omega (arith, r.top, k.span);
-    in_run = k.in_now;
-    small = omega (arith, r.small, s.kept);
-    low = leads-outside place stop lay.bytes mid 0 lay.below s clears.0 r.low;
-    high = leads-outside place stop lay.bytes mid stop lay.above s clears.2 r.high;
-  }
+  is-moved = grind (arith, tiles-splice, slots-now, leads-outside, clears)
 
   -- the other slots stay
   pub others-moved : SameOthers (all lay) lay.bytes mid

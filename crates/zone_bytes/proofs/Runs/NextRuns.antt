@@ -31,9 +31,7 @@ module _ (xs : List ℕ) (first count : ℕ) (i : IsSound xs first count) (place
       ap BehindFirst walk-is ∙ (λ j. place_behind (sizes (first-run _ _ l s j)) (beyond-first _ _ l s j))
 
   next-is : next_run r ≡ option_map (λ (d : ℕ). place + d) (BehindFirst walk)
-  next-is =
-      ap (λ n. place_behind (n + sizes r.run) r.above) (run_at-bottom _ (zone_in xs) r e)
-      ∙ behind-more place (sizes r.run) r.above ∙ ap (option_map (λ (d : ℕ). place + d)) (sym behind)
+  next-is = grind (arith, run_at-bottom, behind)
 
   pub next-none : None ≡ BehindFirst walk → None ≡ next_run r
   next-none n = ap (option_map (λ (d : ℕ). place + d)) n ∙ sym next-is

@@ -1,5 +1,5 @@
 -- The blocks of a run are passed one after another, and moved down or left in their places.
-use Rattle.std.proofs.Common.{◌≡◌, ℕ, ◌+◌, ◌-◌, ◌%◌, ◌≤◌, ◌⊎◌, inl, inr, List, [], ◌∷◌, ◌++◌}
+use Rattle.std.proofs.Common.{◌≡◌, ℕ, ◌+◌, ◌-◌, ◌%◌, ◌≤◌, ◌⊎◌, inl, inr, List, [], ◌∷◌, ◌++◌, rules}
 use Rattle.std.proofs.Common.{length, take, drop, sym, refl, ap, ◌∙◌, subst, arith, append_assoc, ◌<◌}
 use Rattle.std.proofs.lemmas.List.{append-nil, length-take-le, drop-drop}
 use Rattle.windows.specs.Writes.{written, piece}
@@ -27,16 +27,7 @@ use Rattle.zone_bytes.proofs.SlotTable.Tables.{apart-clear, each-both}
 pub run-moved : (lay : Lay) (place stop : ℕ) → IsRunFrom lay place stop → IsMoved lay place stop
 run-moved lay place stop r =
     let l = leads-parts lay.bytes lay.below lay.run lay.above place stop r.bottom r.top r.lies.leads in
-    record {
-      tiles = r.lies.tiles;
-      slots = r.slots;
-      bottom = r.bottom;
-      top = r.top;
-      in_run = r.in_run;
-      small = r.small;
-      low = l.0;
-      high = l.2;
-    }
+    grind arith
 
 -- where the blocks lie that were passed, and those that were not
 pub record Bounds (lay : Lay) (place stop from to : ℕ) (xs : List ℕ) (gone moved rest : List Block) : Type 0 where
@@ -57,11 +48,7 @@ module _ (lay : Lay) (place stop : ℕ) (r : IsMoved lay place stop) where
   head = head_of lay.resource
 
   pub run-bounds : (place ≤ stop) × (stop + sizes lay.above ≡ length lay.bytes)
-  run-bounds =
-      let l = length-tiles head lay.bytes all r.tiles in
-      let a = span-append lay.below (lay.run ++ lay.above) in
-      let b = span-append lay.run lay.above in
-      (omega arith, omega arith)
+  run-bounds = grind (arith, length-tiles, span-append)
 
   -- a slot is below the run or above it
   pub slot-spot : (s : ℕ) → IsSlot s all
@@ -70,23 +57,12 @@ module _ (lay : Lay) (place stop : ℕ) (r : IsMoved lay place stop) where
 
   -- so it is clear of a write inside the run
   pub slot-clear : (at n : ℕ) → place ≤ at → at + n ≤ stop → (s : ℕ) → IsSlot s all → Clear at n s
-  slot-clear at n l h s i = elim (slot-spot s i) [ inl j ↦ inl (omega (arith, l)) | inr j ↦ inr (omega (arith, h)) ]
+  slot-clear at n l h s i = elim (slot-spot s i) [ inl j ↦ inl (omega arith) | inr j ↦ inr (omega arith) ]
 
   pub start : (gap : ℕ) → Passing lay gap place place lay.bytes [] [] lay.run
   start gap =
       let t = tiles-parts head lay.bytes lay.below lay.run lay.above place stop r.bottom r.top r.tiles in
-      record {
-        split = refl;
-        named = refl;
-        low = rw append-nil t.0;
-        high = t.1;
-        up = omega arith;
-        down = omega arith;
-        kept = refl;
-        lead_low = r.low;
-        lead_moved = tt;
-        others = λ s i a. refl;
-      }
+      search rules
 
   module _ {gap from to : ℕ} {xs : List ℕ} {gone moved : List Block} where
     pub bounds : {rest : List Block} → Passing lay gap from to xs gone moved rest
@@ -104,19 +80,7 @@ module _ (lay : Lay) (place stop : ℕ) (r : IsMoved lay place stop) where
         let w = span-whole head lay.bytes all r.tiles in
         let v = span-whole head _ _ q.high in
         let in-run = subst (Each InRun) (sym q.split) r.in_run in
-        record {
-          moved_end = m;
-          low = omega (arith, span-append lay.below moved);
-          rest_end = e;
-          inside = inside;
-          small = omega arith;
-          evens = (
-            omega (arith, span-whole head _ _ q.low),
-            omega (arith, span-append rest lay.above, a, c),
-          );
-          gone_in = each-left InRun gone rest in-run;
-          rest_in = each-right InRun gone rest in-run;
-        }
+        grind (arith, span-append, span-whole, each-left, each-right)
 
     -- a block's header may be read
     pub passing-next : {rest : List Block} → Passing lay gap from to xs gone moved rest → from < length xs → Next xs
@@ -155,8 +119,7 @@ module _ (lay : Lay) (place stop : ℕ) (r : IsMoved lay place stop) where
 
       slid-outside : SameOutside place stop xs slid
       slid-outside = let p = bounds q in
-          outside-written place stop xs xs to (piece from (size b) xs) p.low (omega (arith, length-piece))
-          (outside-same place stop xs (omega arith) p.inside)
+          outside-written place stop xs xs to (piece from (size b) xs) p.low (omega (arith, length-piece)) (grind arith)
 
       slid-low : Tiles head (take (to + size b) slid) (lay.below ++ (moved ++ b ∷ []))
       slid-low =
@@ -220,15 +183,13 @@ module _ (lay : Lay) (place stop : ℕ) (r : IsMoved lay place stop) where
     is-slot = (each-right P _ (slot ∷ names (rest ++ lay.above)) are-slots).0
 
     pub slot-fits : slot + 4 ≤ length xs
-    slot-fits = omega (arith, slot-inside slot all is-slot, length-tiles head lay.bytes all r.tiles, q.kept)
+    slot-fits = omega (arith, slot-inside slot all is-slot, length-tiles head lay.bytes all r.tiles)
 
     -- the other slots hold what they held
     others-kept : (s : ℕ) → IsSlot s all → Apart slot s → Kept s
-    others-kept s i a =
-        piece-clear slot _ (slid block q) s (omega (arith, slot-fits, length-slid block q))
-        (apart-clear slot (to + gap) s a)
-        ∙ piece-outside place stop xs (slid block q) s (slid-outside block q)
-        (slot-clear place (stop - place) (omega arith) (omega (arith, run-bounds)) s i)
+    others-kept s i a = piece-clear slot _ (slid block q) s (omega (arith, slot-fits, length-slid block q))
+        (apart-clear slot (to + gap) s a) ∙ piece-outside place stop xs (slid block q) s (slid-outside block q)
+        (slot-clear place (stop - place) (omega arith) (omega arith) s i)
 
     kept-low : Each Kept (names (lay.below ++ moved))
     kept-low = each-both P (Apart slot) Kept others-kept _ (each-left P _ _ are-slots)
@@ -236,8 +197,7 @@ module _ (lay : Lay) (place stop : ℕ) (r : IsMoved lay place stop) where
 
     pub kept-high : Each Kept (names (rest ++ lay.above))
     kept-high = each-both P (Apart slot) Kept others-kept _
-        (each-right P _ (slot ∷ names (rest ++ lay.above)) are-slots).1
-        (pairs-after slot (names (lay.below ++ moved)) _ (subst (Pairs Apart) (sym named) r.slots.apart))
+        (each-right P _ (slot ∷ names (rest ++ lay.above)) are-slots).1 (grind (arith, pairs-after, named))
 
     done-tiles : Tiles head (take (to + size block) done) (lay.below ++ (moved ++ block ∷ []))
         × Tiles head (drop (from + size block) done) (rest ++ lay.above)

@@ -78,8 +78,7 @@ module _ {xs : List ℕ} {first unused place top stop : ℕ} {old : List Block}
   -- after another change of the run
   pub kept-changed : (change : List Block → List Block) (new : List ℕ) (table : ℕ → Slot) (n : ℕ)
       → ChangedRun change old r new first unused table → n ≡ free_sum (zone_in xs) → IsKept new first unused n
-  kept-changed change new table n d e = kept-made _ _ _ _ _ _ d.made
-      (e ∙ total-packed free_of (λ n m. refl) ∙ sym d.free)
+  kept-changed change new table n d e = grind (arith, total-packed)
 
   pub purgeable-changed : (change : List Block → List Block) (new : List ℕ) (table : ℕ → Slot)
       → ChangedRun change old r new first unused table → purgeable_sum (zone_in xs) ≡ purgeable_sum (zone_in new)

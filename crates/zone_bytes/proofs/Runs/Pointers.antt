@@ -33,26 +33,17 @@ module _ (lay : Lay) (place stop : ℕ) (r : IsMoved lay place stop) where
     pub pointed : stop ≤ from → Pointed lay xs
     pointed l =
         let e = (bounds lay place stop r p.state).rest_end in
-        let n = tiles-none (head_of lay.resource) (drop from xs) p.rest lay.above p.state.high (omega (arith, l)) in
+        let n = tiles-none (head_of lay.resource) (drop from xs) p.rest lay.above p.state.high (omega arith) in
         let q = subst (Passing lay 0 from from xs p.done p.done) n p.state in
         let z : p.done ≡ lay.run = sym (append-nil p.done) ∙ q.split in
-        record {
-          lies = record {
-            tiles = rw (← z, ← append_assoc lay.below p.done lay.above, ← take-append-drop from xs)
-                (tiles-append (head_of lay.resource) _ _ _ _ q.low q.high);
-            leads = leads-joined xs lay.below lay.run lay.above place stop r.bottom r.top q.lead_low
-                (rw (← z) (subst (λ k. Leads k p.done xs) (omega (arith, r.bottom)) q.lead_moved)) p.high;
-          };
-          others = q.others;
-          kept = q.kept;
-        }
+        grind (arith, append_assoc, take-append-drop, tiles-append, leads-joined)
 
     module _ (l : from < stop) where
       some : p.rest ≡ [] → ⊥
       some e = omega (arith, (bounds lay place stop r p.state).rest_end, ap sizes e, l)
 
       pub point-next : Next xs from
-      point-next = passing-next lay place stop r p.state (omega (arith, l, pointing-bounds))
+      point-next = passing-next lay place stop r p.state (omega (arith, pointing-bounds))
 
       module _ (n t : ℕ) (e : n + t ≡ word_at from xs) (w : n % 16 ≡ 0) where
         pub point-free : t < 3 → Pointing lay stop (from + n) xs

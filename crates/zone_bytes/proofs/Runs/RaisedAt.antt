@@ -22,9 +22,7 @@ use Rattle.zone_bytes.proofs.Runs.Lifts.{lifted-none, lifted-some, any-movers, l
 -- the run at a place, which has so many Free bytes
 pub room-run : (zone : List Block) (place gap : ℕ) → IsSomeAnd (run_at place zone) (λ r. IsTrue (has_free gap r.run))
     → (r : RunSpot) × (run_at place zone ≡ Some r) × (gap ≤ free_sum r.run)
-room-run zone place gap h =
-    let a = the-spot (run_at place zone) (λ r. IsTrue (has_free gap r.run)) h in
-    (a.0, a.1, free-enough gap zone place a.0 a.1 h)
+room-run zone place gap h = grind arith
 
 module _ (xs : List ℕ) (first unused : ℕ) (i : IsSound xs first unused) (place : ℕ) (r : RunSpot)
     (e : run_at place (zone_in xs) ≡ Some r) (gap : ℕ) (some : 0 < gap) (enough : gap ≤ free_sum r.run) where
@@ -49,4 +47,4 @@ module _ (xs : List ℕ) (first unused : ℕ) (i : IsSound xs first unused) (pla
       (whole xs first unused i place r e) (sym (append_assoc r.below (lifted gap r.run) r.above)) new s
 
   pub lifted-zone : tidy (with_run (lifted gap) r) ≡ tidy (with_run (low (Free gap)) r)
-  lifted-zone = grind (arith, any-movers, lifted-none, low-none, lifted-some)
+  lifted-zone = grind (arith, any-movers, low-none, lifted-some)

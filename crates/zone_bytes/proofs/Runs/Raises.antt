@@ -23,9 +23,8 @@ use Rattle.zone_bytes.proofs.Runs.Moved.{is-moved, clears, others-moved}
 
 piece-piece : (p m i n : ℕ) (xs : List ℕ) → i + n ≤ m → piece i n (piece p m xs) ≡ piece (p + i) n xs
 piece-piece p m i n xs l =
-    let e : m ≡ i + (m - i) = omega (arith, l) in
-    ap (λ k. piece i n (piece p k xs)) e ∙ ap (take n) (drop-take i (m - i) (drop p xs))
-    ∙ take-take n (m - i) (drop i (drop p xs)) (omega (arith, l)) ∙ ap (take n) (drop-drop i p xs)
+    ap (λ k. piece i n (piece p k xs)) (omega arith) ∙ ap (take n) (drop-take i (m - i) (drop p xs))
+    ∙ take-take n (m - i) (drop i (drop p xs)) (omega arith) ∙ ap (take n) (drop-drop i p xs)
 
 module _ (z : Raise) (place top stop gap : ℕ) (h : MayRaise z place top stop gap) where
   abbrev head : Block → List ℕ
@@ -59,7 +58,7 @@ module _ (z : Raise) (place top stop gap : ℕ) (h : MayRaise z place top stop g
       let a = span-whole head _ z.below p.0 in
       let b = span-whole head _ z.movers mover-tiles in
       let c = span-whole head _ was p.2 in
-      (omega arith, omega arith, omega (arith, wide))
+      (omega arith, omega arith, omega arith)
 
   -- the bytes before the slots are rewritten
   module _ (mid : List ℕ) (s : SameOutside place stop z.bytes mid)
@@ -69,10 +68,10 @@ module _ (z : Raise) (place top stop gap : ℕ) (h : MayRaise z place top stop g
     new-tiles =
         let v = wide in
         let e = evens in
-        let big : 16 ≤ gap = omega (arith, h.some, h.even) in
+        let big : 16 ≤ gap = omega arith in
         let ys = piece place (stop - place) mid in
         let l : length ys ≡ stop - place = length-take-le (stop - place) (drop place mid)
-        (omega (arith, length-drop place mid, s.kept)) in
+        (omega (arith, length-drop place mid)) in
         let low = free-tiles z.resource gap (take gap ys) (length-take-le gap ys (omega arith)) h.even (inr (
           h.some,
           take-take 4 gap ys (omega arith) ∙ take-take 4 (stop - place) (drop place mid) (omega arith) ∙ f,
@@ -81,15 +80,14 @@ module _ (z : Raise) (place top stop gap : ℕ) (h : MayRaise z place top stop g
         rw (piece-piece place (stop - place) gap (top - place) mid (omega arith), m) mover-tiles in
         let up = drop (top - place) (drop gap ys) in
         let high = free-tiles z.resource z.rest up (omega
-        (arith, length-drop (top - place) (drop gap ys), length-drop gap ys))
-        e.2 (elim w [
+        (arith, length-drop (top - place) (drop gap ys), length-drop gap ys)) e.2 (elim w [
           | inl n ↦ inl n
           | inr n ↦
               let k : place + (gap + (top - place)) ≡ top + gap = omega arith in
               inr (
                 n.0,
                 ap (take 4) (drop-drop (top - place) gap ys)
-                    ∙ piece-piece place (stop - place) (gap + (top - place)) 4 mid (omega (arith, n.0))
+                    ∙ piece-piece place (stop - place) (gap + (top - place)) 4 mid (omega arith)
                     ∙ ap (λ j. piece j 4 mid) k ∙ n.1,
               )
         ]) in
@@ -129,21 +127,20 @@ module _ (z : Raise) (place top stop gap : ℕ) (h : MayRaise z place top stop g
   gap-written =
       let v = wide in
       let w = length-word gap in
-      let big : 16 ≤ gap = omega (arith, h.some, h.even) in
+      let big : 16 ≤ gap = omega arith in
       let l : length (piece place (top - place) z.bytes) ≡ top - place =
-      length-take-le (top - place) (drop place z.bytes) (omega (arith, length-drop place z.bytes, v)) in
+      length-take-le (top - place) (drop place z.bytes) (omega (arith, length-drop place z.bytes)) in
       let n = length-written (place + gap) (piece place (top - place) z.bytes) z.bytes (omega arith) in (
         outside-written place stop _ _ place (word gap) (omega arith) (omega arith)
             (outside-written place stop z.bytes z.bytes _ (piece place (top - place) z.bytes) (omega arith)
-            (omega arith)
-            (outside-same place stop z.bytes (omega arith) (omega arith))),
+            (omega arith) (outside-same place stop z.bytes (omega arith) (omega arith))),
         piece-written_above place (word gap) slid _ _ (omega arith) (omega arith)
             ∙ piece-written _ (piece place (top - place) z.bytes) z.bytes (top - place) (sym l) (omega arith),
         piece-written place (word gap) slid 4 (sym w) (omega arith),
       )
 
   pub raised-none : stop - top ≤ gap → Raised z gapped
-  raised-none l = let g = gap-written in is-raised gapped g.0 g.1 g.2 (inl (omega (arith, wide, l)))
+  raised-none l = let g = gap-written in is-raised gapped g.0 g.1 g.2 (inl (omega arith))
 
   pub raised-rest : gap < stop - top → Raised z (written (top + gap) (word (stop - top - gap)) gapped)
   raised-rest l =
@@ -151,12 +148,11 @@ module _ (z : Raise) (place top stop gap : ℕ) (h : MayRaise z place top stop g
       let v = wide in
       let w = length-word z.rest in
       let r : z.rest ≡ stop - top - gap = omega arith in
-      let big : 16 ≤ z.rest = omega (arith, l, evens) in
-      let big-gap : 16 ≤ gap = omega (arith, h.some, h.even) in
+      let big : 16 ≤ z.rest = omega (arith, evens) in
+      let big-gap : 16 ≤ gap = omega arith in
       let k = g.0.kept in
       rw (← r) (is-raised (written (top + gap) (word z.rest) gapped)
       (outside-written place stop z.bytes gapped (top + gap) (word z.rest) (omega arith) (omega arith) g.0)
       (piece-written_below (top + gap) (word z.rest) gapped (place + gap) (top - place) (omega arith) (omega arith)
-      ∙ g.1)
-      (piece-written_below (top + gap) (word z.rest) gapped place 4 (omega arith) (omega arith) ∙ g.2)
+      ∙ g.1) (piece-written_below (top + gap) (word z.rest) gapped place 4 (omega arith) (omega arith) ∙ g.2)
       (inr (omega arith, piece-written (top + gap) (word z.rest) gapped 4 (sym w) (omega arith))))

@@ -35,7 +35,7 @@ ends-run (b ∷ above) s = s
 
 -- how many blocks come lower
 lowered-all : (gap : ℕ) (run : List Block) → 0 < gap → lowered_in_run_from gap run ≡ count is_mover run
-lowered-all zero run h = absurd (omega (arith, h))
+lowered-all zero run h = absurd (omega arith)
 lowered-all (suc gap) [] h = refl
 lowered-all (suc gap) (b ∷ run) h = step b (is_mover b) (lowered-all (suc gap + free_of b) run (omega arith))
   where
@@ -48,7 +48,7 @@ module _ (head : Block → List ℕ) where
   pub lowered-lowered_in_run : (xs : List ℕ) (run : List Block) → Tiles head xs run → Each InRun run
       → lowered_in_run_from 0 run ≡ lowered_in_run run
   lowered-lowered_in_run xs [] t e = refl
-  lowered-lowered_in_run xs (Free n ∷ run) t e = let l = lowered-all (0 + n) run (omega arith) in omega (arith, l)
+  lowered-lowered_in_run xs (Free n ∷ run) t e = let l = lowered-all (0 + n) run (omega arith) in omega arith
   lowered-lowered_in_run xs (Nonrelocatable id content ∷ run) t e = absurd (false≢true e.0)
   lowered-lowered_in_run xs (Masters ∷ run) t e = absurd (false≢true e.0)
   lowered-lowered_in_run xs (Relocatable id flags content ∷ run) t e =
@@ -95,14 +95,4 @@ module _ (xs : List ℕ) (first count : ℕ) (i : IsSound xs first count) (place
   may-end = subst (λ l. EndsRun l.above) (sym lay-is) ends
 
   pub may-settle : (stop : ℕ) → place + sizes r.run ≡ stop → IsRunFrom (lay_at xs place) place stop
-  may-settle stop t = rw lay-is (record {
-    lies = laid.lies;
-    slots = laid.has_slots;
-    bottom = bottom;
-    top = t;
-    in_run = in-run;
-    small = laid.small;
-  })
-    where
-      laid : Lays xs (r.below ++ (r.run ++ r.above)) (slot_in xs) i.unused
-      laid = subst (λ z. Lays xs z (slot_in xs) i.unused) whole i.lays
+  may-settle stop t = grind (arith, bottom, in-run, whole)

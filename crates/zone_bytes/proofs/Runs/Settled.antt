@@ -23,9 +23,7 @@ use Rattle.zone_bytes.proofs.Runs.Packed.{gap-left}
 falling-append : (gap : ℕ) (gone rest : List Block)
     → lowered_in_run_from gap (gone ++ rest) ≡ lowered_in_run_from gap gone + lowered_in_run_from (gap + free_sum gone)
     rest
-falling-append gap [] rest =
-    let e : gap ≡ gap + 0 = omega arith in
-    omega (arith, ap (λ g. lowered_in_run_from g rest) e)
+falling-append gap [] rest = grind arith
 falling-append gap (b ∷ gone) rest =
     let e : gap + free_of b + free_sum gone ≡ gap + (free_of b + free_sum gone) = omega arith in
     omega (arith, falling-append (gap + free_of b) gone rest, ap (λ g. lowered_in_run_from g rest) e)
@@ -73,7 +71,7 @@ module _ (lay : Lay) (place stop : ℕ) (r : IsMoved lay place stop) {gap from t
   pub moves-bound : moves ≤ 134217728
   moves-bound =
       let b = bounds lay place stop r p.state in
-      omega (arith, lowered-span 0 gone, p.count, p.state.up)
+      omega (arith, lowered-span 0 gone)
 
   module _ (some : p.rest ≡ [] → ⊥) (n t : ℕ) (e : n + t ≡ word_at from xs) (w : n % 16 ≡ 0) where
     pub next-free : t < 3 → Packing lay gap (from + n) to moves xs (gone ++ Free n ∷ [])

@@ -1,5 +1,5 @@
 -- The first blocks of a run are packed.
-use Rattle.std.proofs.Common.{◌≡◌, ℕ, ◌+◌, ◌-◌, ◌<◌, ◌≤◌, ◌⊎◌, inl, inr, true, false, cond, nat_le, List}
+use Rattle.std.proofs.Common.{◌≡◌, ℕ, ◌+◌, ◌-◌, ◌<◌, ◌≤◌, ◌⊎◌, inl, inr, true, false, cond, nat_le, List, rules}
 use Rattle.std.proofs.Common.{[], ◌∷◌, ◌++◌, length, drop, sym, refl, ap, ◌∙◌, subst, arith, append_assoc}
 use Rattle.std.proofs.lemmas.Bool.Decides.{nat_tests}
 use Rattle.std.proofs.lemmas.List.{append-nil, length-take-le, length-drop, take-take}
@@ -27,14 +27,9 @@ use Rattle.zone_bytes.proofs.Runs.Packed.{run-moved, run-bounds, bounds, slot-cl
 cut-back : (head : Block → List ℕ) (xs : List ℕ) (gone rest above : List Block) → Tiles head xs (rest ++ above)
     → (first_in (sizes gone) (gone ++ rest) ≡ gone) × (left_behind (sizes gone) (gone ++ rest) ≡ rest)
 cut-back head xs [] [] above t = (refl, refl)
-cut-back head xs [] (b ∷ rest) above t =
-    let e : nat_le (size b) 0 ≡ false = grind (arith, nat_tests, t.0.some) in (
-      ap (λ v. cond v (b ∷ first_in (0 - size b) rest) []) e,
-      ap
-          (λ v. cond v (left_behind (0 - size b) rest) (b ∷ rest)) e,
-    )
+cut-back head xs [] (b ∷ rest) above t = grind arith
 cut-back head xs (b ∷ gone) rest above t =
-    let e : nat_le (size b) (size b + sizes gone) ≡ true = grind (arith, nat_tests) in
+    let e : nat_le (size b) (size b + sizes gone) ≡ true = grind arith in
     let m : size b + sizes gone - size b ≡ sizes gone = omega arith in
     let k = cut-back head xs gone rest above t in (
       (λ i. cond (e i) (b ∷ first_in (m i) (gone ++ rest)) []) ∙ ap (λ l. b ∷ l) k.0,
@@ -56,20 +51,13 @@ module _ (lay : Lay) (gone rest : List Block) (split : gone ++ rest ≡ lay.run)
   cut-span = ap sizes (sym split) ∙ span-append gone rest
 
   pub cut-run : (place stop : ℕ) → IsRunFrom lay place stop → IsRunFrom (cut lay gone rest) place (place + sizes gone)
-  cut-run place stop r = record {
-    lies = subst (λ l. Lies lay.resource l lay.bytes) (sym cut-same) r.lies;
-    slots = subst HasSlots (sym cut-same) r.slots;
-    bottom = r.bottom;
-    top = refl;
-    in_run = each-left InRun gone rest (subst (Each InRun) (sym split) r.in_run);
-    small = r.small;
-  }
+  cut-run place stop r = grind (arith, cut-same, each-left)
 
 module _ (lay : Lay) (place stop : ℕ) (r : IsMoved lay place stop) {gap from to moves : ℕ} {xs : List ℕ}
     {gone : List Block} (p : Packing lay gap from to moves xs gone) where
   is-cut : (first_in (from - sizes lay.below) lay.run ≡ gone) × (left_behind (from - sizes lay.below) lay.run ≡ p.rest)
   is-cut =
-      let e : from - sizes lay.below ≡ sizes gone = omega (arith, p.state.up) in
+      let e : from - sizes lay.below ≡ sizes gone = omega arith in
       rw (e, ← p.state.split) (cut-back (head_of lay.resource) _ gone p.rest lay.above p.state.high)
 
   pub gone-is : gone ≡ gone_to lay from
@@ -85,14 +73,13 @@ module _ (lay : Lay) (place stop : ℕ) (r : IsMoved lay place stop) {gap from t
       let g = gap-left lay place stop r q in
       let head = head_of lay.resource in
       let n : from - to ≡ free_sum gone = omega arith in
-      let len = length-take-le (from - to) (drop to zs) (omega (arith, length-drop to zs, s.kept)) in
-      let mid = free-tiles lay.resource (from - to) (piece to (from - to) zs) len (omega (arith, b.evens)) (elim w [
+      let len = length-take-le (from - to) (drop to zs) (omega (arith, length-drop to zs)) in
+      let mid = free-tiles lay.resource (from - to) (piece to (from - to) zs) len (omega arith) (elim w [
         | inl e ↦ inl e
-        | inr e ↦ inr (e.0, take-take 4 (from - to) (drop to zs) (omega (arith, b.evens, e.0)) ∙ e.1)
+        | inr e ↦ inr (e.0, take-take 4 (from - to) (drop to zs) (omega arith) ∙ e.1)
       ]) in
       let tiles = tiles-joined head zs (lay.below ++ movers gone) (free (from - to)) (p.rest ++ lay.above) to from
-      q.down
-      (rw s.low q.low) mid (rw s.high q.high) in
+      q.down (rw s.low q.low) mid (rw s.high q.high) in
       let shape : (lay.below ++ movers gone) ++ (free (from - to) ++ (p.rest ++ lay.above))
       ≡ lay.below ++ (settle gone ++ (p.rest ++ lay.above)) = rw n (simp append_assoc) in
       let P : ℕ → Type 0 = Clear to (from - to) in
@@ -100,16 +87,7 @@ module _ (lay : Lay) (place stop : ℕ) (r : IsMoved lay place stop) {gap from t
       let c = each-map (λ t. IsSlot t (lay.below ++ (lay.run ++ lay.above))) P clear _ r.slots.slots in
       let k = each-names P lay.below _ (subst (λ l. Each P (names l)) (sym (cut-same lay gone p.rest q.split)) c) in
       let m = each-names P gone _ k.1 in
-      record {
-        tiles = subst (Tiles head zs) shape tiles;
-        low = leads-outside to from xs zs 0 lay.below s k.0 q.lead_low;
-        leads = leads-outside to from xs zs _ (movers gone) s (subst (Each P) (sym q.named) m.0) q.lead_moved;
-        high = rw q.up (leads-outside to from xs zs from (p.rest ++ lay.above) s m.1 p.leads);
-        others = subst (λ l. SameOthers l lay.bytes zs) (sym (cut-same lay gone p.rest q.split))
-            (λ t i a. piece-outside to from xs zs t s (clear t i) ∙ q.others t i a);
-        moved = p.count;
-        kept = s.kept ∙ q.kept;
-      }
+      grind (arith, leads-outside, cut-same, piece-outside)
 
   module _ (enough : ℕ) (ended : (p.rest ≡ []) ⊎ ((place < to) × (enough ≤ from - to))) where
     until : (zs : List ℕ) → SameOutside to from xs zs
@@ -122,8 +100,8 @@ module _ (lay : Lay) (place stop : ℕ) (r : IsMoved lay place stop) {gap from t
           split = p.state.split;
           packed = packed zs s w;
           top_at = omega (arith, span-append lay.below (movers gone), r.bottom);
-          stop_at = omega (arith, p.state.up, r.bottom);
-          ended = elim ended [ inl e ↦ inl e | inr e ↦ inr (e.0, omega (arith, e.1)) ];
+          stop_at = omega arith;
+          ended = elim ended [ inl e ↦ inl e | inr e ↦ inr (e.0, omega arith) ];
         } in
         rw (is-cut.0, is-cut.1) at
 
@@ -136,7 +114,7 @@ module _ (lay : Lay) (place stop : ℕ) (r : IsMoved lay place stop) {gap from t
     until-free l =
         let b = bounds lay place stop r p.state in
         let w = length-word (from - to) in
-        until _ (outside-written to from xs xs to (word (from - to)) (omega arith) (omega (arith, b.evens))
+        until _ (outside-written to from xs xs to (word (from - to)) (omega arith) (omega arith)
         (outside-same to from xs p.state.down (omega arith)))
         (inr (omega arith, piece-written to (word (from - to)) xs 4 (sym w) (omega arith)))
 
@@ -148,7 +126,7 @@ module _ (lay : Lay) (place : ℕ) (r : IsRunFrom lay place (place + sizes lay.r
     | inl n ↦ n
     | inr e ↦
         let b = run-bounds lay place _ (run-moved lay place _ r) in
-        absurd (omega (arith, l, e, b, cut-free lay gone rest p.split, span-movers lay.run r.in_run))
+        absurd (omega (arith, cut-free lay gone rest p.split, span-movers lay.run r.in_run))
   ]
 
   module _ (n : rest ≡ []) where
@@ -156,5 +134,4 @@ module _ (lay : Lay) (place : ℕ) (r : IsRunFrom lay place (place + sizes lay.r
     all-of = sym (append-nil gone) ∙ ap (λ l. gone ++ l) (sym n) ∙ p.split
 
     pub whole : UntilAt lay place gap enough moves top stop xs lay.run []
-    whole = subst (λ l. UntilAt lay place gap enough moves top stop xs l []) all-of
-        (subst (UntilAt lay place gap enough moves top stop xs gone) n p)
+    whole = search rules

@@ -142,10 +142,7 @@ module _ (xs : List ℕ) (blocks : List Block) (slots : ℕ → Slot) (unused : 
     handle-in = slot-in xs blocks slots unused h s told.0
 
     pub state : IsEmptyHandle xs blocks s flag.0 ⊎ HasBlock xs 0 blocks s
-    state = elim told.1 [
-      | inl k ↦ inr (has-block xs 0 blocks s h.lies.leads k)
-      | inr k ↦ inl (record { apart = k.0; leads = k.1 })
-    ]
+    state = grind (arith, has-block)
 
     pub emptied-reads : IsEmptyHandle xs blocks s flag.0 → word_at s xs ≡ empty_word flag.0
     emptied-reads e = read_back s _ _ (small-emptied _) e.leads
@@ -172,7 +169,7 @@ module _ (xs : List ℕ) (blocks : List Block) (slots : ℕ → Slot) (unused : 
     pub here-of : (place : ℕ) → place_of_word (word_at s xs) ≡ Some place → BlockHere xs blocks resource s place
     here-of place w = elim state [
       | inl e ↦ absurd (none-some place (sym (emptied-word e) ∙ w))
-      | inr b ↦ subst (BlockHere xs blocks resource s) (grind (arith, same_Some, block-word)) (block-here s b)
+      | inr b ↦ subst (BlockHere xs blocks resource s) (grind (arith, block-word)) (block-here s b)
     ]
 
     pub gone-of : place_of_word (word_at s xs) ≡ None → IsEmptyHandle xs blocks s flag.0

@@ -31,7 +31,7 @@ use Rattle.zone_bytes.proofs.Tiles.Decoding.{high-flags, low-flag}
 
 -- the flags of a header with another resource flag
 pub flags-set : (flags : Flags) (was r : Bool) → flag_word flags was / 64 * 64 + cond {A = ℕ} r 32 0 ≡ flag_word flags r
-flags-set flags was r = let h = high-flags flags in omega (arith, h, low-flag)
+flags-set flags was r = let h = high-flags flags in omega (arith, low-flag)
 
 module _ (xs : List ℕ) (blocks : List Block) (slots : ℕ → Slot) (unused : List ℕ) (h : Lays xs blocks slots unused)
     (s : ℕ) (was r : Bool) (u : slots s ≡ Used was) where
@@ -46,7 +46,7 @@ module _ (xs : List ℕ) (blocks : List Block) (slots : ℕ → Slot) (unused : 
   unused-still t e = set-other slots s t _ (λ k. let z : Used was ≡ Unused = sym u ∙ ap slots (sym k) ∙ e in cc) ∙ e
 
   still-unused : Each (λ t. IsSlot t blocks × (now t ≡ Unused)) unused
-  still-unused = grind (arith, each-map, unused-still)
+  still-unused = grind (arith, each-map)
 
   -- the flag in the word of an empty handle
   pub lays-emptied : Each (Apart s) (names blocks) → Lays (written s (word (empty_word r)) xs) blocks now unused
@@ -54,8 +54,8 @@ module _ (xs : List ℕ) (blocks : List Block) (slots : ℕ → Slot) (unused : 
       let n = empty_word r in
       let b = slot-in xs blocks slots unused h s is-slot in
       lays-written _ _ slots _ h s n _ _ is-slot a (λ t d e k. k)
-      (is-slot, inr (a, piece-written s _ _ 4 (sym (length-word n)) (omega (arith, b))))
-      (chain-written _ _ slots _ h s n _ (omega (arith, b)) (used-apart xs blocks slots unused h s was is-slot u)
+      (is-slot, inr (a, piece-written s _ _ 4 (sym (length-word n)) (omega arith)))
+      (chain-written _ _ slots _ h s n _ (omega arith) (used-apart xs blocks slots unused h s was is-slot u)
       h.chain) still-unused h.once
 
   -- the flag in a header
@@ -108,7 +108,7 @@ module _ (xs : List ℕ) (below : List Block) (s : ℕ) (flags : Flags) (content
   module _ (h : Lays xs all slots unused) where
     -- the resource flags of the other blocks stay
     agree : (ns : List ℕ) → Each (Apart s) ns → Each (λ t. is_resource (slots t) ≡ is_resource (marked t)) ns
-    agree ns a = grind (arith, each-map, set-other, apart-other)
+    agree ns a = grind (arith, each-map, set-other)
 
     apart-all : Pairs Apart (names below ++ s ∷ names above)
     apart-all = subst (Pairs Apart) (names-append below (here ∷ above)) h.has_slots.apart
@@ -121,7 +121,7 @@ module _ (xs : List ℕ) (below : List Block) (s : ℕ) (flags : Flags) (content
 
     same : SameOutside place top xs new
     same = outside-written _ _ _ _ _ (word (flag_word flags r)) (omega arith) (omega (arith, length-word))
-        (grind (arith, outside-same, fits))
+        (grind (arith, fits))
 
     tile-now : Tile (head here) (size here) (drop place new)
     unfolding head_of

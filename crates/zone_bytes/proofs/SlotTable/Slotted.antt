@@ -41,7 +41,7 @@ module _ (xs : List ℕ) (first count : ℕ) (i : IsSound xs first count) where
     taken-made new next e =
         let d = e table laid in
         let l : length i.unused ≡ length one.rest + 1 = ap length one.is ∙ omega arith in
-        made _ _ (set_slot (slot_in xs) first (Used false)) _ d.0 _ _ i.tidied d.1 (omega (arith, l))
+        made _ _ (set_slot (slot_in xs) first (Used false)) _ d.0 _ _ i.tidied d.1 (omega arith)
 
 -- unused slots are no more than there are bytes
 all-apart : (s : ℕ) (us : List ℕ) → Each (Apart s) us → AllByRecursion (λ u. eqb s u ≡ false) us
@@ -68,7 +68,7 @@ count-small xs first count i =
     let h = i.lays in
     let l = length-le_from_distinct_below i.unused (length xs) (distinct-apart i.unused h.once) (λ q k.
     omega (arith, slot-in xs (zone_in xs) (slot_in xs) i.unused h q (any-has (λ s. IsSlot s (zone_in xs) × (slot_in xs s ≡ Unused)) i.unused q h.unused_slots k).0)) in
-    omega (arith, l)
+    omega arith
 
 -- a slot that no block has is apart from those that blocks have
 module _ (xs : List ℕ) (first count : ℕ) (i : IsSound xs first count) (slot : ℕ)
@@ -90,18 +90,14 @@ module _ (xs : List ℕ) (first count : ℕ) (i : IsSound xs first count) (slot 
   slot-is = (subst (λ st. Says (zone_in xs) xs i.unused slot st) flag.1 (i.lays.says slot)).0
 
   pub name-apart : Each (Apart slot) (names (zone_in xs))
-  name-apart = grind (arith, each-both, apart-of, slot-is, no-name)
+  name-apart = grind (arith, each-both, apart-of, no-name)
 
   pub slot-reads-in : (slot % 4 ≡ 0) × (slot + 4 ≤ length xs)
   slot-reads-in = slot-in xs (zone_in xs) (slot_in xs) i.unused i.lays slot slot-is
 
   -- the slot's word tells whether its empty handle is a resource's
   pub flag-kept : (word_at slot xs == 18) ≡ is_resource (slot_in xs slot)
-  flag-kept = elim (subst (Says (zone_in xs) xs i.unused slot) flag.1 (i.lays.says slot)).1 [
-    | inl h ↦ absurd (apart-other slot slot (each-has (Apart slot) (names (zone_in xs)) slot name-apart h) refl)
-    | inr h ↦ ap (λ w. w == 18) (read_back slot (empty_word flag.0) xs (small-emptied flag.0) h.1)
-        ∙ emptied-tells flag.0 ∙ ap is_resource (sym flag.1)
-  ]
+  flag-kept = grind (arith, each-has, name-apart, read_back)
 
   abbrev give-table : Table
   give-table = record { blocks = zone_in xs; slots = slot_in xs; unused = i.unused }

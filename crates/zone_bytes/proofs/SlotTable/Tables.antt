@@ -30,8 +30,8 @@ each-has P (x ∷ xs) s h (inr k) = each-has P xs s h.1 k
 
 -- what is apart is another
 pub apart-other : (s t : ℕ) → Apart s t → s ≡ t → ⊥
-apart-other s t (inl h) e = omega (arith, h, e)
-apart-other s t (inr h) e = omega (arith, h, e)
+apart-other s t (inl h) e = omega arith
+apart-other s t (inr h) e = omega arith
 
 -- no block has a name that none of them has
 pub none-other : (s : ℕ) (blocks : List Block) → Each (λ t. t ≡ s → ⊥) (names blocks)
@@ -43,12 +43,11 @@ none-other s (Masters ∷ blocks) e = none-other s blocks e
 none-other s (Relocatable id flags content ∷ blocks) e = rw (ne_eqb id s e.0) (none-other s blocks e.1)
 
 pub none-apart : (s : ℕ) (blocks : List Block) → Each (Apart s) (names blocks) → has (is_relocatable s) blocks ≡ false
-none-apart s blocks a =
-    none-other s blocks (each-map (Apart s) (λ t. t ≡ s → ⊥) (λ t p e. apart-other s t p (sym e)) (names blocks) a)
+none-apart s blocks a = none-other s blocks (grind (arith, each-map))
 
 -- a slot's word is clear of another's
 pub apart-clear : (s n t : ℕ) → Apart s t → Clear s (length (word n)) t
-apart-clear s n t (inl h) = inr (omega (arith, length-word, h))
+apart-clear s n t (inl h) = inr (omega (arith, length-word))
 apart-clear s n t (inr h) = inl h
 
 -- resource flags that agree at the blocks' slots
@@ -83,12 +82,11 @@ module _ (xs : List ℕ) (blocks : List Block) (slots : ℕ → Slot) (unused : 
 
   -- two slots are apart
   pub apart-of : (s t : ℕ) → IsSlot s blocks → IsSlot t blocks → (s ≡ t → ⊥) → Apart s t
-  apart-of s t i j n = grind (arith, slot-even, cases_lt)
+  apart-of s t i j n = grind (arith, slot-even)
 
   -- the slot of a handle is apart from the unused ones
   pub used-apart : (s : ℕ) (r : Bool) → IsSlot s blocks → slots s ≡ Used r → Each (Apart s) unused
-  used-apart s r i u = each-map (λ t. IsSlot t blocks × (slots t ≡ Unused)) (Apart s)
-      (λ t q. apart-of s t i q.0 (λ e. let z : Used r ≡ Unused = sym u ∙ ap slots e ∙ q.1 in cc)) unused h.unused_slots
+  used-apart s r i u = grind (arith, each-map, apart-of)
 
   pub slot-in : (s : ℕ) → IsSlot s blocks → (s % 4 ≡ 0) × (s + 4 ≤ length xs)
   slot-in s i = ((slot-even head _ s _ h.lies.tiles i), omega (arith, slot-inside, length-tiles))
@@ -125,21 +123,7 @@ module _ (xs : List ℕ) (blocks : List Block) (slots : ℕ → Slot) (unused : 
     says-other t (Used r) d e q = (q.0, elim q.1 [ inl k ↦ inl k | inr k ↦ inr (k.0, same t d q.0 ∙ k.1) ])
 
     pub lays-set : Lays new blocks (set_slot slots s state) now
-    lays-set = record {
-      lies = lies;
-      has_slots = h.has_slots;
-      placed = h.placed;
-      small = omega (arith, l);
-      used = used;
-      says = λ t. elim (cases_eq t s) [
-        | inl e ↦ subst (λ k. Says blocks new now k (set_slot slots s state k)) (sym e)
-            (subst (Says blocks new now s) (sym (set-same slots s s _ refl)) mine)
-        | inr d ↦ subst (Says blocks new now t) (sym (set-other slots s t _ d)) (says-other t _ d refl (h.says t))
-      ];
-      chain = chain;
-      unused_slots = ok;
-      once = once;
-    }
+    lays-set = grind arith
 
   -- of one that has no block, and whose word is written
   pub lays-written : (s n : ℕ) (state : Slot) (now : List ℕ) (i : IsSlot s blocks) (a : Each (Apart s) (names blocks))
@@ -157,6 +141,6 @@ module _ (xs : List ℕ) (blocks : List Block) (slots : ℕ → Slot) (unused : 
       (λ t p. sym (ap is_resource (other t p))) (names blocks) a) (lies-written s n i a))
       (each-both (Apart s) (λ t. IsUsed (slots t)) (λ t. IsUsed (set_slot slots s state t))
       (λ t p u. subst IsUsed (sym (other t p)) u) (names blocks) a h.used)
-      (length-written s (word n) xs (omega (arith, b, length-word)))
-      (λ t d j. piece-clear s (word n) xs t (omega (arith, b)) (apart-clear s n t (apart-of s t i j (λ m. d (sym m)))))
+      (length-written s (word n) xs (omega (arith, length-word)))
+      (λ t d j. piece-clear s (word n) xs t (omega arith) (apart-clear s n t (apart-of s t i j (λ m. d (sym m)))))
       kept mine chain ok once

@@ -23,14 +23,14 @@ module _ (xs : List ℕ) (blocks : List Block) (slots : ℕ → Slot) (first : �
       let a = unused-apart xs blocks slots (first ∷ unused) h first i h.unused_slots.0.1 in
       let b = slot-in xs blocks slots (first ∷ unused) h first i in
       lays-written _ _ slots _ h _ 2 _ _ i a (λ t d e k. elim k [ inl m ↦ absurd (d (sym m)) | inr m ↦ m ])
-      (i, inr (a, piece-written _ _ xs 4 (sym (length-word 2)) (omega (arith, b))))
-      (chain-written xs blocks slots (first ∷ unused) h first 2 unused (omega (arith, b)) h.once.0 h.chain.1)
-      (grind (arith, each-both, set-other, apart-other)) h.once.1
+      (i, inr (a, piece-written _ _ xs 4 (sym (length-word 2)) (omega arith)))
+      (chain-written xs blocks slots (first ∷ unused) h first 2 unused (omega arith) h.once.0 h.chain.1)
+      (grind (arith, each-both, set-other)) h.once.1
 
 pub first-small : (blocks : List Block) (slots : ℕ → Slot) (unused : List ℕ) (xs : List ℕ) (k : List ℕ)
     → Lays xs blocks slots k → Each (λ s. IsSlot s blocks × (slots s ≡ Unused)) unused → first_of unused < 134217728
 first-small blocks slots [] xs k h u = omega arith
-first-small blocks slots (s ∷ unused) xs k h u = let b = slot-in _ _ slots k h s u.0.0 in omega (arith, b)
+first-small blocks slots (s ∷ unused) xs k h u = let b = slot-in _ _ slots k h s u.0.0 in omega arith
 
 pub next-of : (xs : List ℕ) (blocks : List Block) (slots : ℕ → Slot) (first : ℕ) (unused : List ℕ)
     → Lays xs blocks slots (first ∷ unused) → word_at first xs / 16 ≡ first_of unused
@@ -52,6 +52,6 @@ module _ (xs : List ℕ) (blocks : List Block) (slots : ℕ → Slot) (unused : 
       let apart-unused = used-apart xs blocks slots unused h s r i u in
       let b = slot-in xs blocks slots unused h s i in
       lays-written _ _ slots _ h s n _ _ i a (λ t d e k. inr k) (i, inl refl) (
-        piece-written s (word n) xs 4 (sym (length-word n)) (omega (arith, b)),
-        chain-written xs blocks slots unused h s n unused (omega (arith, b)) apart-unused h.chain,
-      ) (grind (arith, set-same, each-both, set-other, apart-other, apart-unused)) (apart-unused, h.once)
+        piece-written s (word n) xs 4 (sym (length-word n)) (omega arith),
+        chain-written xs blocks slots unused h s n unused (omega arith) apart-unused h.chain,
+      ) (grind (arith, each-both)) (apart-unused, h.once)

@@ -35,21 +35,14 @@ purgeable-of false false false = refl
 -- the flags of a block, above the resource flag of its handle
 pub high-flags : (flags : Flags) → ((cond {A = ℕ} flags.locked 128 0 + cond {A = ℕ} flags.purgeable 64 0) % 64 ≡ 0)
     × (cond {A = ℕ} flags.locked 128 0 + cond {A = ℕ} flags.purgeable 64 0 ≤ 192)
-high-flags flags = high flags.locked flags.purgeable
-  where
-    high : (l p : Bool) → ((cond {A = ℕ} l 128 0 + cond {A = ℕ} p 64 0) % 64 ≡ 0)
-        × (cond {A = ℕ} l 128 0 + cond {A = ℕ} p 64 0 ≤ 192)
-    high true true = (refl, omega arith)
-    high true false = (refl, omega arith)
-    high false true = (refl, omega arith)
-    high false false = (refl, omega arith)
+high-flags flags = grind arith
 
 pub low-flag : (r : Bool) → cond {A = ℕ} r 32 0 ≤ 32
 low-flag true = omega arith
 low-flag false = omega arith
 
 pub flag_word-small : (flags : Flags) (r : Bool) → flag_word flags r < 256
-flag_word-small flags r = let h = high-flags flags in omega (arith, h, low-flag)
+flag_word-small flags r = let h = high-flags flags in omega (arith, low-flag)
 
 pub flags_of-word : (flags : Flags) (r : Bool) → flags_of (flag_word flags r) ≡ flags
 flags_of-word flags r i = record
@@ -83,9 +76,9 @@ module _ (resource : ℕ → Bool) where
       → Each (λ s. s < 2 ^ 32) (names_of b) → Tile (head_of resource b) (size b) ys → block_in o ys ≡ b
   unfolding head_of
   block-back o b ys s p n t =
-      let w = read_back 0 (size b + kind b) ys (omega (arith, kind-small, s)) (first-word resource ys b t) in
-      let tag : word_at 0 ys % 16 ≡ kind b = omega (arith, w, kind-small) in
-      let bytes : word_at 0 ys - word_at 0 ys % 16 ≡ size b = omega (arith, w, kind-small) in
+      let w = read_back 0 (size b + kind b) ys (omega (arith, kind-small)) (first-word resource ys b t) in
+      let tag : word_at 0 ys % 16 ≡ kind b = omega (arith, kind-small) in
+      let bytes : word_at 0 ys - word_at 0 ys % 16 ≡ size b = omega arith in
       (λ i. block_of_kind (tag i) (bytes i) o ys) ∙ of-kind b p n t
     where
       of-kind : (b : Block) → IsPlaced o b → Each (λ s. s < 2 ^ 32) (names_of b)
@@ -94,15 +87,15 @@ module _ (resource : ℕ → Bool) where
       of-kind (Nonrelocatable id content) p n t =
           let q = says (size (Nonrelocatable id content)) (size (Nonrelocatable id content) + 1) (length content) 0 0
           content ys t in
-          let c = read_back 4 (length content) ys (omega (arith, content-fits, length-head, s)) q.0 in
+          let c = read_back 4 (length content) ys (omega arith) q.0 in
           (λ i. Nonrelocatable o (piece 16 (c i) ys)) ∙ (λ i. Nonrelocatable (sym p i) (q.3 i))
       of-kind Masters p n t = refl
       of-kind (Relocatable slot flags content) p n t =
           let z = size (Relocatable slot flags content) in
           let q = says z (z + 3) (length content) slot (flag_word flags (resource slot)) content ys t in
-          let c = read_back 4 (length content) ys (omega (arith, content-fits, s)) q.0 in
+          let c = read_back 4 (length content) ys (omega arith) q.0 in
           let g = flag_word-small flags (resource slot) in
-          let e = read_back 12 (flag_word flags (resource slot)) ys (omega (arith, g)) q.2 in
+          let e = read_back 12 (flag_word flags (resource slot)) ys (omega arith) q.2 in
           (λ i. Relocatable ((read_back 8 _ ys n.0 q.1) i) (flags_of (e i)) (piece 16 (c i) ys))
           ∙ (λ i. Relocatable slot (flags_of-word flags (resource slot) i) (q.3 i))
 
@@ -111,14 +104,14 @@ module _ (resource : ℕ → Bool) where
       → blocks_in k o xs ≡ blocks
   unfolding blocks_in
   blocks-back k o [] xs l s p n t = ap (blocks_in k o) t ∙ blocks-none k o
-  blocks-back zero o (b ∷ blocks) xs l s p n t = absurd (omega (arith, l))
+  blocks-back zero o (b ∷ blocks) xs l s p n t = absurd (omega arith)
   blocks-back (suc k) o (b ∷ blocks) [] l s p n t = absurd (omega arith)
   blocks-back (suc k) o (b ∷ blocks) (x ∷ xs) l s p n t =
       let ys : List ℕ = x ∷ xs in
       let P : ℕ → Type 0 = λ q. q < 2 ^ 32 in
       let e = block-back o b ys s p.0 (each-left P (names_of b) (names blocks) n) t.0 in
       let d = length-drop (size b) ys in
-      (λ i. e i ∷ blocks_in k (o + size (e i)) (drop (size (e i)) ys)) ∙ ap (λ q. b ∷ q) (blocks-back k _ _ _ (omega (arith, d, l)) (omega (arith, d, s)) p.1 (each-right P _ _ n) t.1)
+      (λ i. e i ∷ blocks_in k (o + size (e i)) (drop (size (e i)) ys)) ∙ ap (λ q. b ∷ q) (blocks-back k _ _ _ (omega arith) (omega arith) p.1 (each-right P _ _ n) t.1)
 
   -- the zone in the bytes
   pub zone-back : (blocks : List Block) (xs : List ℕ) → length xs ≤ 134217728 → ArePlaced 0 blocks

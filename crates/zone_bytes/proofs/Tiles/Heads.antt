@@ -16,9 +16,7 @@ use Rattle.zone_bytes.specs.Layout.{kind, flag_word, head_of, Tile, Tiles}
 -- the pieces of what a block begins with
 pub tile-piece : (h : List ℕ) (n : ℕ) (ys : List ℕ) → Tile h n ys → (i k : ℕ) → i + k ≤ length h
     → piece i k ys ≡ piece i k h
-tile-piece h n ys t i k l =
-    sym (drop-take i k ys) ∙ ap (drop i) (sym (take-take (i + k) (length h) ys l) ∙ ap (take (i + k)) t.begins)
-    ∙ drop-take i k h
+tile-piece h n ys t i k l = sym (drop-take i k ys) ∙ ap (drop i) (grind (arith, take-take)) ∙ drop-take i k h
 
 pub header-pieces : (a b c d : ℕ) (content : List ℕ) → let h = header a b c d ++ content in
     (piece 0 4 h ≡ word a) × (piece 4 4 h ≡ word b) × (piece 8 4 h ≡ word c) × (piece 12 4 h ≡ word d) ×
@@ -35,24 +33,16 @@ length-head a b c d content = omega (arith, length-append (header a b c d) conte
 
 pub kind-small : (b : Block) → kind b ≤ 3
 kind-small (Free n) = omega arith
-kind-small (Nonrelocatable id content) = omega arith
-kind-small Masters = omega arith
-kind-small (Relocatable slot flags content) = omega arith
+kind-small _ = omega arith
 
 module _ (resource : ℕ → Bool) (ys : List ℕ) where
   pub first-word : (b : Block) → Tile (head_of resource b) (size b) ys → piece 0 4 ys ≡ word (size b + kind b)
   unfolding head_of
-  first-word (Free n) t =
-      let e : n + 0 ≡ n = omega arith in
-      tile-piece _ n _ t 0 4 (omega (arith, length-word)) ∙ take_all 4 (word n) (omega (arith, length-word)) ∙ sym
-      (ap word e)
+  first-word (Free n) t = grind (arith, length-word)
   first-word (Nonrelocatable id content) t =
       tile-piece _ _ _ t 0 4 (omega (arith, length-head)) ∙ (header-pieces _ _ 0 0 _).0
   first-word Masters t = tile-piece _ _ ys t 0 4 (omega (arith, length-header 274 256 0 0)) ∙ masters-first
-  first-word (Relocatable slot flags content) t =
-      let n = size (Relocatable slot flags content) in
-      tile-piece (head_of resource (Relocatable slot flags content)) n ys t 0 4 (omega (arith, length-head))
-      ∙ (header-pieces (n + 3) (length content) slot (flag_word flags (resource slot)) content).0
+  first-word (Relocatable slot flags content) t = grind (arith, length-head, header-pieces)
 
   pub slot-word : (slot : ℕ) (flags : Flags) (content : List ℕ)
       → Tile (head_of resource (Relocatable slot flags content)) (size (Relocatable slot flags content)) ys
@@ -74,24 +64,14 @@ same_parts a b s k e p q l m = (omega arith, omega arith)
 pub free-tile : (resource : ℕ → Bool) (n : ℕ) (ys : List ℕ) → length ys ≡ n → n % 16 ≡ 0 → 16 ≤ n → take 4 ys ≡ word n
     → Tile (head_of resource (Free n)) n ys
 unfolding head_of
-free-tile resource n ys l w s b =
-    let f = length-word n in
-    record {
-      fits = omega (arith, l);
-      whole = w;
-      some = s;
-      room = omega (arith, f, s);
-      begins = ap (λ k. take k ys) f ∙ b;
-    }
+free-tile resource n ys l w s b = grind arith
 
 -- Free bytes stand where their number comes first
 pub free-tiles : (resource : ℕ → Bool) (n : ℕ) (ys : List ℕ) → length ys ≡ n → n % 16 ≡ 0
     → (n ≡ 0) ⊎ ((0 < n) × (take 4 ys ≡ word n)) → Tiles (head_of resource) ys (free n)
 free-tiles resource n [] l w (inl e) = subst (λ k. Tiles (head_of resource) [] (free k)) (sym e) refl
-free-tiles resource n (y ∷ ys) l w (inl e) = absurd (omega (arith, l, e))
-free-tiles resource n ys l w (inr e) =
-    subst (Tiles (head_of resource) ys) (sym (free-some n e.0))
-    (tiles-one (head_of resource) (Free n) ys l (free-tile resource n ys l w (omega (arith, w, e.0)) e.1))
+free-tiles resource n (y ∷ ys) l w (inl e) = absurd (omega arith)
+free-tiles resource n ys l w (inr e) = grind (arith, tiles-one, free-tile)
 
 -- what reading a header requires
 abbrev pub MayRead : ℕ → List ℕ → Type 0
@@ -114,10 +94,7 @@ next-may n = record { within = (n.even, n.fits); fits = n.below; tag = n.tag }
 
 module _ (resource : ℕ → Bool) (xs : List ℕ) (from : ℕ) (small : length xs ≤ 134217728) where
   pub first-reads : (b : Block) → Tile (head_of resource b) (size b) (drop from xs) → word_at from xs ≡ size b + kind b
-  first-reads b t =
-      let d = length-drop from xs in
-      let k : kind b ≤ 3 = kind-small b in
-      read_back from (size b + kind b) xs (omega (arith, d, k, small)) (first-word resource (drop from xs) b t)
+  first-reads b t = grind (arith, length-drop, read_back, first-word)
 
   pub slot-reads : (slot : ℕ) (flags : Flags) (content : List ℕ) → slot < 2 ^ 32
       → Tile (head_of resource (Relocatable slot flags content)) (size (Relocatable slot flags content))
@@ -127,16 +104,7 @@ module _ (resource : ℕ → Bool) (xs : List ℕ) (from : ℕ) (small : length 
 
   -- a block's header may be read
   pub header-there : (b : Block) → Tile (head_of resource b) (size b) (drop from xs) → from % 16 ≡ 0 → Next xs from
-  header-there b t w =
-      let r = first-reads b t in
-      let d = length-drop from xs in
-      record {
-        even = omega (arith, w);
-        fits = omega arith;
-        below = omega arith;
-        tag = omega (arith, kind-small);
-        big = omega arith;
-      }
+  header-there b t w = grind (arith, first-reads, length-drop)
 
   -- and tells its bytes and its kind
   pub header-tells : (b : Block) → Tile (head_of resource b) (size b) (drop from xs) → (n t : ℕ) → n + t ≡ word_at

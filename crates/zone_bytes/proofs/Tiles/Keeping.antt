@@ -43,12 +43,11 @@ module _ (xs new : List ℕ) (blocks now : List Block) (slots : ℕ → Slot) (u
       → ((s : ℕ) → IsSlot s blocks → slots s ≡ Unused → piece s 4 new ≡ piece s 4 xs) → Lays new now slots unused
   lays-changed lies has i j placed l used stands kept =
       let says-now : (s : ℕ) (st : Slot) → slots s ≡ st → Says blocks xs unused s st → Says now new unused s st = says
-      in
-      record {
+      in record {
         lies = lies;
         has_slots = has;
         placed = placed;
-        small = (omega (arith, l));
+        small = omega arith;
         used = used;
         says = λ s. says-now s (slots s) refl (h.says s);
         chain = chain-kept _ _ _ (each-map (λ u. IsSlot u blocks × (slots u ≡ Unused))
@@ -67,13 +66,7 @@ module _ (xs new : List ℕ) (blocks now : List Block) (slots : ℕ → Slot) (u
   pub lays-permuted : Lies (λ s. is_resource (slots s)) now new → SameNames (names blocks) (names now)
       → ((s : ℕ) → IsSlot s blocks → IsSlot s now) → ((s : ℕ) → IsSlot s now → IsSlot s blocks)
       → ArePlaced 0 now → SameOthers blocks xs new → length new ≡ length xs → Lays new now slots unused
-  lays-permuted lies n i j p o l = lays-changed lies (slots-moved blocks now i n h.has_slots) i j p l
-      (each-moved (λ s. IsUsed (slots s)) (names blocks) (names now) n.from h.used)
-      (λ s r e k q. elim q [
-        | inl m ↦ inl (n.to s m)
-        | inr m ↦ inr (each-moved (Apart s) (names blocks) (names now) n.from m.0, o s k m.0 ∙ m.1)
-      ])
-      (λ s k u. o s k (unused-apart xs blocks slots unused h s k u))
+  lays-permuted lies n i j p o l = grind (arith, lays-changed, slots-moved, each-moved, unused-apart)
 
   pub lays-kept : Lies (λ s. is_resource (slots s)) now new → names now ≡ names blocks
       → ((s : ℕ) → IsSlot s blocks → IsSlot s now) → ((s : ℕ) → IsSlot s now → IsSlot s blocks)
@@ -105,8 +98,7 @@ names-free zero = refl
 names-free (suc n) = refl
 
 pub names-left : (blocks : List Block) (n : ℕ) → names (blocks ++ free n) ≡ names blocks
-names-left blocks n = names-append blocks (free n) ∙ ap (λ k. names blocks ++ k) (names-free n) ∙ append-nil
-    (names blocks)
+names-left blocks n = grind (arith, names-append, append-nil)
 
 pub span-free : (n : ℕ) → sizes (free n) ≡ n
 span-free zero = refl
@@ -163,17 +155,12 @@ placed-right o (b ∷ ls) ms h = subst (λ j. ArePlaced j ms) (omega arith) (pla
 -- other blocks in the place of some, of as many bytes
 pub placed-swap : (o : ℕ) (below was now above : List Block) → sizes now ≡ sizes was → ArePlaced (o + sizes below) now
     → ArePlaced o (below ++ (was ++ above)) → ArePlaced o (below ++ (now ++ above))
-placed-swap o below was now above e n h =
-    let q = placed-right (o + sizes below) was above (placed-right o below (was ++ above) h) in
-    placed-append o below (now ++ above) (placed-left o below (was ++ above) h)
-    (placed-append (o + sizes below) now above n (subst (λ k. ArePlaced (o + sizes below + k) above) (sym e) q))
+placed-swap o below was now above e n h = grind (arith, placed-right, placed-append, placed-left)
 
 -- and of the same names
 pub names-swap : (below was now above : List Block) → names now ≡ names was
     → names (below ++ (now ++ above)) ≡ names (below ++ (was ++ above))
-names-swap below was now above n = names-append below (now ++ above)
-    ∙ ap (λ k. names below ++ k) (names-append now above ∙ ap (λ k. k ++ names above) n ∙ sym (names-append was above))
-    ∙ sym (names-append below (was ++ above))
+names-swap below was now above n = grind (arith, names-append)
 
 pub placed-run : (o : ℕ) (run : List Block) → Each InRun run → ArePlaced o run
 placed-run o [] h = tt
@@ -196,12 +183,10 @@ pub record Instead (below was now above : List Block) : Type 0 where
 
 pub instead : (below was now above : List Block) → Each InRun was → Each InRun now → sizes now ≡ sizes was
     → names now ≡ names was → Instead below was now above
-instead below was now above w r e n =
-    record { in_was = w; in_now = r; span = e; names_are = run-names below was now above n }
+instead below was now above w r e n = grind (arith, run-names)
 
 pub instead-settle : (below run above : List Block) → Each InRun run → Instead below run (settle run) above
-instead-settle below run above r =
-    instead below run (settle run) above r (each-settle run r) (span-settle run r) (names-settle run r)
+instead-settle below run above r = grind (arith, instead, each-settle, span-settle, names-settle)
 
 module _ {below was now above : List Block} (k : Instead below was now above) where
   abbrev old : List Block
@@ -219,8 +204,7 @@ module _ {below was now above : List Block} (k : Instead below was now above) wh
 
   -- the slots of no block stay
   pub others-now : (xs ys zs : List ℕ) → SameOthers old xs ys → SameOthers new ys zs → SameOthers old xs zs
-  others-now xs ys zs p o s i a =
-      o s (slot-now s i) (each-moved (Apart s) (names old) (names new) k.names_are.from a) ∙ p s i a
+  others-now xs ys zs p o s i a = grind (arith, slot-now, each-moved)
 
   pub lays-run : (xs ys : List ℕ) (slots : ℕ → Slot) (unused : List ℕ) → Lays xs old slots unused
       → Relaid (λ s. is_resource (slots s)) old new xs ys → Lays ys new slots unused

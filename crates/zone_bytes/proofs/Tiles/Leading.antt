@@ -69,30 +69,17 @@ module _ (xs : List ℕ) where
   leads-right o (b ∷ ls) ms h = subst (λ j. Leads j ms xs) (omega arith) (leads-right (o + size b) ls ms h.1)
 
 pub leads-from : (xs : List ℕ) (ls ms : List Block) (lo : ℕ) → sizes ls ≡ lo → Leads 0 (ls ++ ms) xs → Leads lo ms xs
-leads-from xs ls ms lo a h =
-    let e : 0 + sizes ls ≡ lo = omega arith in
-    subst (λ k. Leads k ms xs) e (leads-right xs 0 ls ms h)
+leads-from xs ls ms lo a h = grind (arith, leads-right)
 
 -- three stretches of blocks
 pub leads-parts : (xs : List ℕ) (ls ms ns : List Block) (lo hi : ℕ) → sizes ls ≡ lo → lo + sizes ms ≡ hi
     → Leads 0 (ls ++ (ms ++ ns)) xs → Leads 0 ls xs × Leads lo ms xs × Leads hi ns xs
-leads-parts xs ls ms ns lo hi a b h =
-    let up = leads-right xs 0 ls (ms ++ ns) h in
-    let c : 0 + sizes ls ≡ lo = omega arith in
-    let d : 0 + sizes ls + sizes ms ≡ hi = omega arith in (
-      leads-left xs 0 ls (ms ++ ns) h,
-      subst (λ k. Leads k ms xs) c (leads-left xs _ ms ns up),
-      subst (λ k. Leads k ns xs) d (leads-right xs _ ms ns up),
-    )
+leads-parts xs ls ms ns lo hi a b h = grind (arith, leads-right, leads-left)
 
 pub leads-joined : (xs : List ℕ) (ls ms ns : List Block) (lo hi : ℕ) → sizes ls ≡ lo → lo + sizes ms ≡ hi → Leads 0 ls
     xs
     → Leads lo ms xs → Leads hi ns xs → Leads 0 (ls ++ (ms ++ ns)) xs
-leads-joined xs ls ms ns lo hi a b h k m =
-    let c : lo ≡ 0 + sizes ls = omega arith in
-    let d : hi ≡ 0 + sizes ls + sizes ms = omega arith in
-    leads-append xs 0 ls (ms ++ ns) h (leads-append xs _ ms ns (subst (λ j. Leads j ms xs) c k)
-    (subst (λ j. Leads j ns xs) d m))
+leads-joined xs ls ms ns lo hi a b h k m = grind (arith, leads-append)
 
 -- the words of the slots are the same
 pub leads-same : (old new : List ℕ) (o : ℕ) (blocks : List Block) → Each (λ s. piece s 4 new ≡ piece s 4 old)
@@ -109,5 +96,4 @@ leads-same old new o (Relocatable slot flags content ∷ blocks) e h =
 -- a write that is clear of the blocks' slots
 pub leads-written : (at : ℕ) (ys xs : List ℕ) (o : ℕ) (blocks : List Block) → at ≤ length xs
     → Each (Clear at (length ys)) (names blocks) → Leads o blocks xs → Leads o blocks (written at ys xs)
-leads-written at ys xs o blocks l c h = leads-same xs (written at ys xs) o blocks (each-map (Clear at (length ys))
-    (λ s. piece s 4 (written at ys xs) ≡ piece s 4 xs) (λ s. piece-clear at ys xs s l) (names blocks) c) h
+leads-written at ys xs o blocks l c h = grind (arith, leads-same, each-map, piece-clear)

@@ -23,17 +23,7 @@ module _ (xs : List ℕ) (below here above : List Block) (slots : ℕ → Slot) 
   all = below ++ (here ++ above)
 
   pub is-splice : IsSplice zone bottom top xs
-  is-splice =
-      let e = each-names (λ s. IsSlot s all) below (here ++ above) h.has_slots.slots in
-      record {
-        lies = h.lies;
-        low = low;
-        high = high;
-        some = some;
-        small = h.small;
-        slots = (e.0, (each-names (λ s. IsSlot s all) here above e.1).1);
-        no_masters = none;
-      }
+  is-splice = grind (arith, each-names)
 
   module _ (now : List Block) (new : List ℕ) (same : SameOutside bottom top xs new)
       (t : Tiles (head_of (λ s. is_resource (slots s))) (piece bottom (top - bottom) new) now)
@@ -42,10 +32,9 @@ module _ (xs : List ℕ) (below here above : List Block) (slots : ℕ → Slot) 
       (leads : Leads bottom now new) where
     pub replaced : Lays new (below ++ (now ++ above)) slots unused
     replaced =
-        let o : bottom ≡ 0 + sizes below = omega (arith, low) in
+        let o : bottom ≡ 0 + sizes below = omega arith in
         let ok = placed-swap 0 below here now above e (subst (λ j. ArePlaced j now) o placed) h.placed in
         lays-kept _ _ _ _ slots _ h (lies-put zone bottom top xs is-splice now new same t e leads)
-        (names-swap below here now above n)
-        (λ s i. slot-swap s below here now above (none _) e i)
+        (names-swap below here now above n) (λ s i. slot-swap s below here now above (none _) e i)
         (λ s i. slot-swap s below now here above (none-now _) (sym e) i) ok
         (λ s i a. piece-outside bottom top xs new s same (outside zone bottom top xs is-splice s i)) same.kept

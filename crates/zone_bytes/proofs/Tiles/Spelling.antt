@@ -20,13 +20,13 @@ use Rattle.zone_bytes.proofs.Tiles.Decoding.{says, flag_word-small, zone-back, h
 
 pub test-true : (s : ℕ) → 16 ≤ s → s + 4 ≤ 272 → s % 4 ≡ 0
     → (nat_le 16 s && (nat_le (s + 4) 272 && (s % 4 == 0))) ≡ true
-test-true s a b c = grind (arith, nat_tests)
+test-true s a b c = grind arith
 
 le-true : (m n : ℕ) → m ≤ n → nat_le m n ≡ true
-le-true m n h = grind (arith, nat_tests)
+le-true m n h = grind arith
 
 le-false : (m n : ℕ) → n < m → nat_le m n ≡ false
-le-false m n h = grind (arith, nat_tests)
+le-false m n h = grind arith
 
 pub is_slot-true : (s : ℕ) (blocks : List Block) → IsSlot s blocks → is_slot s blocks ≡ true
 is_slot-true s [] i = absurd i
@@ -39,10 +39,10 @@ is_slot-true s (b ∷ blocks) (inr i) =
 
 pub test-back : (s : ℕ) → (nat_le 16 s && (nat_le (s + 4) 272 && (s % 4 == 0))) ≡ true
     → (16 ≤ s) × (s + 4 ≤ 272) × (s % 4 ≡ 0)
-test-back s h = (grind (arith, nat_tests), grind (arith, nat_tests), grind (arith, nat_tests))
+test-back s h = (grind arith, grind arith, grind arith)
 
 pub le-back : (m n : ℕ) → nat_le m n ≡ true → m ≤ n
-le-back m n h = grind (arith, nat_tests)
+le-back m n h = grind arith
 
 pub is_slot-back : (s : ℕ) (blocks : List Block) → is_slot s blocks ≡ true → IsSlot s blocks
 is_slot-back s [] e = absurd (false≢true e)
@@ -60,8 +60,8 @@ is_slot-back s (b ∷ blocks) e = elim (or_cases _ (nat_le (size b) s && is_slot
     own (Relocatable slot flags content) p = absurd (false≢true p)
 
 pub resource-bit : (flags : Flags) (r : Bool) → nat_le 32 (flag_word flags r % 64) ≡ r
-resource-bit flags true = let h = high-flags flags in le-true 32 (flag_word flags true % 64) (omega (arith, h))
-resource-bit flags false = let h = high-flags flags in le-false 32 (flag_word flags false % 64) (omega (arith, h))
+resource-bit flags true = let h = high-flags flags in le-true 32 (flag_word flags true % 64) (omega arith)
+resource-bit flags false = let h = high-flags flags in le-false 32 (flag_word flags false % 64) (omega arith)
 
 -- what a word says
 word-unused : (xs : List ℕ) (w k : ℕ) → w ≡ 16 * k + 1 → slot_of_word xs w ≡ Unused
@@ -84,24 +84,24 @@ module _ (resource : ℕ → Bool) (xs : List ℕ) (small : length xs ≤ 134217
       → Leads o blocks xs → Has (names blocks) s → slot_of_word xs (word_at s xs) ≡ Used (resource s)
   unfolding head_of
   named-word o [] e t l h = absurd h
-  named-word o (Free n ∷ blocks) e t l h = named-word _ blocks (omega (arith, e))
+  named-word o (Free n ∷ blocks) e t l h = named-word _ blocks (omega arith)
       (subst (λ k. Tiles (head_of resource) k blocks) (drop-drop n o xs) t.1) l.1 h
-  named-word o (Nonrelocatable id content ∷ blocks) e t l h = named-word _ blocks (omega (arith, e))
+  named-word o (Nonrelocatable id content ∷ blocks) e t l h = named-word _ blocks (omega arith)
       (subst (λ k. Tiles (head_of resource) k blocks) (drop-drop (size (Nonrelocatable id content)) o xs) t.1) l.1 h
-  named-word o (Masters ∷ blocks) e t l h = named-word (o + 272) blocks (omega (arith, e))
+  named-word o (Masters ∷ blocks) e t l h = named-word (o + 272) blocks (omega arith)
       (subst (λ k. Tiles (head_of resource) k blocks) (drop-drop 272 o xs) t.1) l.1 h
   named-word o (Relocatable slot flags content ∷ blocks) e t l (inr h) =
-      named-word (o + size (Relocatable slot flags content)) blocks (omega (arith, e)) (grind (arith, drop-drop)) l.1 h
+      named-word (o + size (Relocatable slot flags content)) blocks (omega arith) (grind (arith, drop-drop)) l.1 h
   named-word o (Relocatable slot flags content ∷ blocks) e t l (inl h) =
       let z = size (Relocatable slot flags content) in
       let q = says z (z + 3) (length content) slot (flag_word flags (resource slot)) content (drop o xs) t.0 in
       let d = length-drop o xs in
-      let w = read_back s o xs (omega (arith, d, small)) (ap (λ k. take 4 (drop k xs)) (sym h) ∙ l.0) in
+      let w = read_back s o xs (omega arith) (ap (λ k. take 4 (drop k xs)) (sym h) ∙ l.0) in
       let g = flag_word-small flags (resource slot) in
-      let v = read_back (o + 12) (flag_word flags (resource slot)) xs (omega (arith, g))
+      let v = read_back (o + 12) (flag_word flags (resource slot)) xs (omega arith)
       (ap (take 4) (sym (drop-drop 12 o xs)) ∙ q.2) in
       let bit : nat_le 32 (word_at (word_at s xs + 12) xs % 64) ≡ resource s = grind arith in
-      word-leads xs (word_at s xs) (resource s) (omega (arith, w, e)) bit
+      word-leads xs (word_at s xs) (resource s) (omega arith) bit
 
 module _ (xs : List ℕ) (blocks : List Block) (slots : ℕ → Slot) (unused : List ℕ)
     (h : Lays xs blocks slots unused) where
@@ -118,7 +118,7 @@ module _ (xs : List ℕ) (blocks : List Block) (slots : ℕ → Slot) (unused : 
   state : (s : ℕ) (st : Slot) → slots s ≡ st → Says blocks xs unused s st
       → cond (is_slot s blocks) (slot_of_word xs (word_at s xs)) NoSlot ≡ st
   state s NoSlot e q = grind (arith, is_slot-back)
-  state s Unused e q = grind (arith, chain-word, is_slot-true, word-unused, read_back)
+  state s Unused e q = grind (arith, chain-word, is_slot-true, read_back)
   state s (Used r) e q =
       ap (λ v. cond v (slot_of_word xs (word_at s xs)) NoSlot) (is_slot-true s blocks q.0) ∙ elim q.1 [
         | inl k ↦ named-word (λ t. is_resource (slots t)) _ h.small s 0 _ refl h.lies.tiles h.lies.leads k

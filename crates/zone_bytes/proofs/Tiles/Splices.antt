@@ -27,13 +27,12 @@ piece-outside lo hi old new s o (inl h) =
     whole new ∙ ap (λ k. drop s (take (s + 4) k)) o.low ∙ sym (whole old)
 piece-outside lo hi old new s o (inr h) =
     let whole : (xs : List ℕ) → piece s 4 xs ≡ take 4 (drop (s - hi) (drop hi xs)) = λ xs. ap
-    (λ k. take 4 (drop k xs)) (sym (omega (arith, h))) ∙ ap (take 4) (sym (drop-drop (s - hi) hi xs)) in
+    (λ k. take 4 (drop k xs)) (sym (omega arith)) ∙ ap (take 4) (sym (drop-drop (s - hi) hi xs)) in
     whole new ∙ ap (λ k. take 4 (drop (s - hi) k)) o.high ∙ sym (whole old)
 
 pub leads-outside : (lo hi : ℕ) (old new : List ℕ) (o : ℕ) (blocks : List Block) → SameOutside lo hi old new
     → Each (Clear lo (hi - lo)) (names blocks) → Leads o blocks old → Leads o blocks new
-leads-outside lo hi old new o blocks s c h = leads-same old new o blocks (each-map (Clear lo (hi - lo))
-    (λ t. piece t 4 new ≡ piece t 4 old) (λ t. piece-outside lo hi old new t s) (names blocks) c) h
+leads-outside lo hi old new o blocks s c h = grind (arith, leads-same, each-map, piece-outside)
 
 module _ (head : Block → List ℕ) where
   -- three stretches of blocks
@@ -41,7 +40,7 @@ module _ (head : Block → List ℕ) where
       → Tiles head (piece lo (hi - lo) new) here → Tiles head (drop hi new) ns → Tiles head new (ls ++ (here ++ ns))
   tiles-joined new ls here ns lo hi o low h high =
       let mid : piece lo (hi - lo) new ++ drop hi new ≡ drop lo new = ap (λ k. piece lo (hi - lo) new ++ k)
-      (sym (drop-drop (hi - lo) lo new ∙ ap (λ k. drop k new) (omega (arith, o)))) ∙ take-append-drop (hi - lo) (drop lo new) in
+      (sym (drop-drop (hi - lo) lo new ∙ ap (λ k. drop k new) (omega arith))) ∙ take-append-drop (hi - lo) (drop lo new) in
       let all : take lo new ++ (piece lo (hi - lo) new ++ drop hi new) ≡ new = ap (λ k. take lo new ++ k) mid
       ∙ take-append-drop lo new in
       subst (λ k. Tiles head k (ls ++ (here ++ ns))) all (grind (arith, tiles-append))
@@ -49,16 +48,7 @@ module _ (head : Block → List ℕ) where
   pub tiles-parts : (xs : List ℕ) (ls ms ns : List Block) (lo hi : ℕ) → sizes ls ≡ lo → lo + sizes ms ≡ hi
       → Tiles head xs (ls ++ (ms ++ ns)) → Tiles head (take lo xs) ls × Tiles head (drop lo xs) (ms ++ ns)
       × Tiles head (piece lo (hi - lo) xs) ms × Tiles head (drop hi xs) ns
-  tiles-parts xs ls ms ns lo hi a b t =
-      let p = tiles-split head xs ls (ms ++ ns) t in
-      let up = subst (λ k. Tiles head (drop k xs) (ms ++ ns)) a p.1 in
-      let q = tiles-split head (drop lo xs) ms ns up in
-      let e : sizes ms ≡ hi - lo = omega arith in (
-        subst (λ k. Tiles head (take k xs) ls) a p.0,
-        up,
-        subst (λ k. Tiles head (take k (drop lo xs)) ms) e q.0,
-        subst (λ k. Tiles head k ns) (drop-drop (sizes ms) lo xs ∙ ap (λ k. drop k xs) b) q.1,
-      )
+  tiles-parts xs ls ms ns lo hi a b t = grind (arith, tiles-split, drop-drop)
 
   -- a stretch of blocks in the place of another
   pub tiles-splice : (old new : List ℕ) (ls ms ns here : List Block) (lo hi : ℕ) → sizes ls ≡ lo → lo + sizes ms ≡ hi

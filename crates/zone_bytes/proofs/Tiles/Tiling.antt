@@ -20,7 +20,7 @@ slot-inside s [] i = absurd i
 slot-inside s (Free n ∷ blocks) (inl i) = absurd i
 slot-inside s (Nonrelocatable id content ∷ blocks) (inl i) = absurd i
 slot-inside s (Relocatable slot flags content ∷ blocks) (inl i) = absurd i
-slot-inside s (Masters ∷ blocks) (inl i) = omega (arith, i)
+slot-inside s (Masters ∷ blocks) (inl i) = omega arith
 slot-inside s (b ∷ blocks) (inr i) = omega (arith, i.0, slot-inside (s - size b) blocks i.1)
 
 pub slot-append_left : (s : ℕ) (ls ms : List Block) → IsSlot s ls → IsSlot s (ls ++ ms)
@@ -32,7 +32,7 @@ pub slot-append_right : (s : ℕ) (ls ms : List Block) → sizes ls ≤ s → Is
 slot-append_right s [] ms l i = let e : s - 0 ≡ s = omega arith in subst (λ k. IsSlot k ms) e i
 slot-append_right s (b ∷ ls) ms l i =
     let e : s - (size b + sizes ls) ≡ s - size b - sizes ls = omega arith in
-    inr (omega (arith, l), slot-append_right (s - size b) ls ms (omega (arith, l)) (subst (λ k. IsSlot k ms) e i))
+    inr (omega arith, slot-append_right (s - size b) ls ms (omega arith) (subst (λ k. IsSlot k ms) e i))
 
 pub slot-split : (s : ℕ) (ls ms : List Block) → IsSlot s (ls ++ ms)
     → IsSlot s ls ⊎ ((sizes ls ≤ s) × IsSlot (s - sizes ls) ms)
@@ -41,22 +41,13 @@ slot-split s (b ∷ ls) ms (inl i) = inl (inl i)
 slot-split s (b ∷ ls) ms (inr i) = elim (slot-split (s - size b) ls ms i.1) [
   | inl j ↦ inl (inr (i.0, j))
   | inr j ↦
-      let e : s - size b - sizes ls ≡ s - (size b + sizes ls) = omega arith in
-      inr (omega (arith, i.0, j.0), subst (λ k. IsSlot k ms) e j.1)
+      inr (omega arith, subst (λ k. IsSlot k ms) (omega arith) j.1)
 ]
 
 -- a slot is below a stretch that has none, or above it
 pub slot-beside : (s : ℕ) (ls ms ns : List Block) (lo hi : ℕ) → (IsSlot (s - sizes ls) ms → ⊥) → sizes ls ≡ lo
     → lo + sizes ms ≡ hi → IsSlot s (ls ++ (ms ++ ns)) → ((s + 4 ≤ lo) × IsSlot s ls) ⊎ ((hi ≤ s) × IsSlot (s - hi) ns)
-slot-beside s ls ms ns lo hi none a b i = elim (slot-split s ls (ms ++ ns) i) [
-  | inl j ↦ inl (omega (arith, slot-inside), j)
-  | inr j ↦ elim (slot-split (s - sizes ls) ms ns j.1) [
-    | inl k ↦ absurd (none k)
-    | inr k ↦
-        let e : s - sizes ls - sizes ms ≡ s - hi = omega arith in
-        inr (omega (arith, j.0, k.0), subst (λ q. IsSlot q ns) e k.1)
-  ]
-]
+slot-beside s ls ms ns lo hi none a b i = grind (arith, slot-split, slot-inside)
 
 -- other blocks in the place of some that have no slot
 pub slot-swap : (s : ℕ) (below was now above : List Block) → (IsSlot (s - sizes below) was → ⊥) → sizes now ≡ sizes was
@@ -64,8 +55,8 @@ pub slot-swap : (s : ℕ) (below was now above : List Block) → (IsSlot (s - si
 slot-swap s below was now above none e i = elim (slot-beside s below was above _ _ none refl refl i) [
   | inl j ↦ slot-append_left s below (now ++ above) j.1
   | inr j ↦
-      let f : s - (sizes below + sizes was) ≡ s - sizes below - sizes now = omega (arith, e) in
-      slot-append_right s _ _ (omega arith) (slot-append_right _ _ _ (omega (arith, e))
+      let f : s - (sizes below + sizes was) ≡ s - sizes below - sizes now = omega arith in
+      slot-append_right s _ _ (omega arith) (slot-append_right _ _ _ (omega arith)
       (subst (λ q. IsSlot q above) f j.1))
 ]
 
@@ -77,25 +68,11 @@ module _ (head : Block → List ℕ) where
 
   -- a block's bytes followed by others
   pub tile-append : (h : List ℕ) (n : ℕ) (xs ys : List ℕ) → Tile h n xs → Tile h n (xs ++ ys)
-  tile-append h n xs ys t =
-      record {
-        fits = omega (arith, length-append xs ys, t.fits);
-        whole = t.whole;
-        some = t.some;
-        room = t.room;
-        begins = take-append-le (length h) xs ys (omega (arith, t.fits, t.room)) ∙ t.begins;
-      }
+  tile-append h n xs ys t = grind (arith, length-append, take-append-le)
 
   -- a block's bytes without the others
   pub tile-take : (h : List ℕ) (n k : ℕ) (xs : List ℕ) → n ≤ k → k ≤ length xs → Tile h n xs → Tile h n (take k xs)
-  tile-take h n k xs l m t =
-      record {
-        fits = omega (arith, length-take-le k xs m, l);
-        whole = t.whole;
-        some = t.some;
-        room = t.room;
-        begins = take-take (length h) k xs (omega (arith, l, t.room)) ∙ t.begins;
-      }
+  tile-take h n k xs l m t = grind (arith, length-take-le, take-take)
 
   pub tiles-append : (xs ys : List ℕ) (ls ms : List Block) → Tiles head xs ls → Tiles head ys ms
       → Tiles head (xs ++ ys) (ls ++ ms)
@@ -107,7 +84,7 @@ module _ (head : Block → List ℕ) where
 
   -- one block
   pub tiles-one : (b : Block) (xs : List ℕ) → length xs ≡ size b → Tile (head b) (size b) xs → Tiles head xs (b ∷ [])
-  tiles-one b xs l t = (t, drop_all (size b) xs (omega (arith, l)))
+  tiles-one b xs l t = (t, drop_all (size b) xs (omega arith))
 
   pub tiles-split : (xs : List ℕ) (ls ms : List Block) → Tiles head xs (ls ++ ms)
       → Tiles head (take (sizes ls) xs) ls × Tiles head (drop (sizes ls) xs) ms
@@ -115,7 +92,7 @@ module _ (head : Block → List ℕ) where
   tiles-split xs (b ∷ ls) ms t =
       let r = tiles-split (drop (size b) xs) ls ms t.1 in
       let a = length-drop (size b) xs in
-      let enough : size b + sizes ls ≤ length xs = omega (arith, length-tiles, span-append ls ms, a) in (
+      let enough : size b + sizes ls ≤ length xs = omega (arith, length-tiles, span-append ls ms) in (
         (
           tile-take (head b) (size b) (size b + sizes ls) xs (omega arith) enough t.0,
           rw (drop-take (size b) (sizes ls) xs) r.0,
@@ -136,21 +113,21 @@ module _ (head : Block → List ℕ) where
       whole = t.0.whole;
       some = t.0.some;
       room = t.0.room;
-      begins = take-written_below s w _ _ (omega (arith, i, m)) (omega (arith, i)) ∙ t.0.begins;
+      begins = take-written_below s w _ _ (omega arith) (omega arith) ∙ t.0.begins;
     },
-    rw (drop-written_above s w xs 272 (omega (arith, i, e)) (omega (arith, i))) t.1,
+    rw (drop-written_above s w xs 272 (omega arith) (omega arith)) t.1,
   )
   tiles-slot m xs w s (b ∷ blocks) e (inr i) t =
       let a = slot-inside (s - size b) blocks i.1 in
       let inside : s + 4 ≤ length xs = omega (arith, i.0, a, length-tiles, length-drop (size b) xs) in (
         record {
-          fits = omega (arith, length-written s w xs (omega (arith, e, inside)));
+          fits = omega (arith, length-written s w xs (omega arith));
           whole = t.0.whole;
           some = t.0.some;
           room = t.0.room;
-          begins = take-written_below s w _ _ (omega (arith, i.0)) (omega (arith, inside)) ∙ t.0.begins;
+          begins = take-written_below s w _ _ (omega arith) (omega arith) ∙ t.0.begins;
         },
-        rw (drop-written_below s w xs (size b) i.0 (omega (arith, inside)))
+        rw (drop-written_below s w xs (size b) i.0 (omega arith))
             (tiles-slot m (drop (size b) xs) w (s - size b) blocks e i.1 t.1),
       )
 
@@ -161,13 +138,13 @@ module _ (head : Block → List ℕ) where
       → Tiles head (take lo (written s w xs)) ls × Tiles head (drop hi (written s w xs)) ns
   tiles-slot-beside m xs w s lo hi ls ns e l h (inl i) t u =
       let inside : s + 4 ≤ lo = omega (arith, slot-inside, length-tiles, length-take-le lo xs) in (
-        rw (take-written_above s w xs lo (omega (arith, e)) (omega arith)) (tiles-slot m _ w s ls e i t),
-        rw (drop-written_above s w xs hi (omega (arith, e)) (omega arith)) u,
+        rw (take-written_above s w xs lo (omega arith) (omega arith)) (tiles-slot m _ w s ls e i t),
+        rw (drop-written_above s w xs hi (omega arith) (omega arith)) u,
       )
   tiles-slot-beside m xs w s lo hi ls ns e l h (inr i) t u =
       let n = length-tiles _ ns u in
-      let inside : s + 4 ≤ length xs = omega (arith, i.0, slot-inside _ ns i.1, length-drop hi xs) in (
-        rw (take-written_below s w xs lo (omega (arith, i.0)) (omega arith)) t,
+      let inside : s + 4 ≤ length xs = omega (arith, slot-inside _ ns i.1, length-drop hi xs) in (
+        rw (take-written_below s w xs lo (omega arith) (omega arith)) t,
         rw (drop-written_below s w xs hi i.0 (omega arith)) (tiles-slot m _ w (s - hi) ns e i.1 u),
       )
 
@@ -175,7 +152,7 @@ module _ (head : Block → List ℕ) where
 pub tiles-none : (head : Block → List ℕ) (xs : List ℕ) (blocks above : List Block) → Tiles head xs (blocks ++ above)
     → sizes blocks ≡ 0 → blocks ≡ []
 tiles-none head xs [] above t e = refl
-tiles-none head xs (b ∷ blocks) above t e = absurd (omega (arith, t.0.some, e))
+tiles-none head xs (b ∷ blocks) above t e = absurd (omega arith)
 
 pub span-whole : (head : Block → List ℕ) (xs : List ℕ) (blocks : List Block) → Tiles head xs blocks
     → sizes blocks % 16 ≡ 0

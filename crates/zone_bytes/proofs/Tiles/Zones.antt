@@ -18,5 +18,5 @@ pub record SomeUnused (first : ℕ) (unused : List ℕ) : Type 0 where
 
 pub some-unused : (first count : ℕ) (unused : List ℕ) → first ≡ first_of unused → count ≡ length unused → 0 < count
     → SomeUnused first unused
-some-unused first count [] f c l = absurd (omega (arith, c, l))
+some-unused first count [] f c l = absurd (omega arith)
 some-unused first count (s ∷ unused) f c l = record { rest = unused; is = ap (λ k. k ∷ unused) (sym f) }

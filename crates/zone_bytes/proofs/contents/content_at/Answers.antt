@@ -11,9 +11,7 @@ pub read_header-header-requires : goal.read_header-header-requires
 read_header-header-requires c = may-read _ _ c.requires.way c.requires.some
 
 pub get_bytes-requires : goal.get_bytes-requires
-get_bytes-requires c =
-    let h = c.read_header-header.result in
-    let o = stepped _ _ c.requires.way c.requires.some _
+get_bytes-requires c = let o = stepped _ _ c.requires.way c.requires.some _
     _ c.read_header-header.ensures.first c.read_header-header.ensures.size (tag-small _) in
     omega (arith, (holds _ _ _ o (sym c.has_content.ensures ∙ c.if-has_content.true)).fits)
 

@@ -1,4 +1,4 @@
-use Rattle.std.proofs.Common.{◌≡◌, length, refl, ap, arith}
+use Rattle.std.proofs.Common.{◌≡◌, length, refl, ap, arith, rules}
 use Rattle.windows.specs.Writes.{written}
 use Rattle.zone_bytes.proofs.Tiles.Tags.{tag-small}
 use Rattle.zone_bytes.proofs.Tiles.Heads.{next-may}
@@ -26,10 +26,7 @@ made g c =
     rw (c.rotate.ensures.bytes, s, c.requires.0)
 
 pub lead_run-requires : goal.lead_run-requires
-lead_run-requires g c =
-    (refl, rw (made g (goal.at.lead_run-requires g c).After-rotate) (is-moved _ _ _ c.requires.1))
+lead_run-requires g c = search (rules, made, is-moved)
 
 pub returns-clause-hoisted : goal.returns-clause-hoisted
-returns-clause-hoisted g c =
-    is-hoisted _ _ _ c.requires.1 _ (rw (made g (goal.at.returns-clause-hoisted g c).After-rotate) at
-    c.lead_run.ensures.pointed)
+returns-clause-hoisted g c = is-hoisted _ _ _ c.requires.1 _ (grind (arith, made))

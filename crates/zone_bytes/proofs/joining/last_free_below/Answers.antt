@@ -9,8 +9,7 @@ pub loop-at-init : goal.loop-at-init
 loop-at-init c = below-from _ _ _ c.requires.up c.requires.inside
 
 pub read_header-header-requires : goal.read_header-header-requires
-read_header-header-requires c =
-    may-read _ _ c.loop-at.invariant.way (omega (arith, c.loop-at-test.true, c.requires.inside))
+read_header-header-requires c = may-read _ _ c.loop-at.invariant.way (grind arith)
 
 pub overflow_add-end : goal.overflow_add-end
 overflow_add-end c =
@@ -18,14 +17,14 @@ overflow_add-end c =
     let e = c.read_header-header.ensures in
     let l = c.loop-at-test.true in
     let i = below-inside c.args.part.now.bytes c.args.place c.loop-at.at c.loop-at.start c.loop-at.invariant l h.size
-    (tag_number h.tag) e.first e.size (tag-small _) (omega (arith, l, c.requires.inside)) in
-    omega (arith, i)
+    (tag_number h.tag) e.first e.size (tag-small _) (omega arith) in
+    omega arith
 
 pub loop-at-smaller-then-eq : goal.loop-at-smaller-then-eq
 loop-at-smaller-then-eq c =
-    let n = next-header _ _ c.loop-at.invariant.way (omega (arith, c.requires.inside)) in
+    let n = next-header _ _ c.loop-at.invariant.way (omega arith) in
     let some : 0 < c.read_header-header.result.size = omega (arith, tag-small) in
-    omega (arith, some)
+    omega arith
 
 pub loop-at-preserved-then-eq : goal.loop-at-preserved-then-eq
 loop-at-preserved-then-eq c =
@@ -33,14 +32,13 @@ loop-at-preserved-then-eq c =
     let e = c.read_header-header.ensures in
     let l = c.loop-at-test.true in
     below-free c.args.part.now.bytes c.args.place c.loop-at.at c.loop-at.start c.loop-at.invariant l h.size
-    (tag_number h.tag) e.first e.size (tag-small _) (omega (arith, l, c.requires.inside))
-    (free-true _ c.if-eq.ensures)
+    (tag_number h.tag) e.first e.size (tag-small _) (omega arith) (free-true _ c.if-eq.ensures)
 
 pub loop-at-smaller : goal.loop-at-smaller
 loop-at-smaller c =
-    let n = next-header _ _ c.loop-at.invariant.way (omega (arith, c.requires.inside)) in
+    let n = next-header _ _ c.loop-at.invariant.way (omega arith) in
     let some : 0 < c.read_header-header.result.size = omega (arith, tag-small) in
-    omega (arith, some)
+    omega arith
 
 pub loop-at-preserved : goal.loop-at-preserved
 loop-at-preserved c =
@@ -48,8 +46,7 @@ loop-at-preserved c =
     let e = c.read_header-header.ensures in
     let l = c.loop-at-test.true in
     below-other c.args.part.now.bytes c.args.place c.loop-at.at c.loop-at.start c.loop-at.invariant l h.size
-    (tag_number h.tag) e.first e.size (tag-small _) (omega (arith, l, c.requires.inside))
-    (free-false _ c.if-eq.ensures)
+    (tag_number h.tag) e.first e.size (tag-small _) (omega arith) (free-false _ c.if-eq.ensures)
 
 pub returns : goal.returns
 returns c = below-done _ _ _ _ c.loop-at.invariant c.loop-at-test.false

@@ -18,7 +18,7 @@ read_word-requires c =
     (omega arith, omega arith)
 
 pub returns-in-Some : goal.returns-in-Some
-returns-in-Some c = grind (arith, nat_le, resource-here, leads-read)
+returns-in-Some c = grind (arith, resource-here)
 
 pub returns-in-None : goal.returns-in-None
-returns-in-None c = grind (arith, resource-gone, leads-read)
+returns-in-None c = grind (arith, resource-gone)

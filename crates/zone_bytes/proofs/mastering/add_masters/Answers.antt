@@ -19,12 +19,7 @@ lay_masters-requires c =
     let r = here (goal.at.lay_masters-requires c).Start in
     let n = c.size_at-size.ensures r.s.here r.s.above r.at.left in
     let f = first-fits c.args.part.now.bytes c.args.first c.requires.sound.0 c.requires.sound.1 in
-    record {
-      whole = (r.at.way.walk.whole, omega (arith, n));
-      room = (omega (arith, n, ap size r.here), omega (arith, n));
-      small = r.at.small;
-      first = f;
-    }
+    grind arith
 
 pub returns-clause-lays : goal.returns-clause-lays
 returns-clause-lays c = λ unused i.

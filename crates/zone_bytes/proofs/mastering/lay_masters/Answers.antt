@@ -7,14 +7,7 @@ use Rattle.zone_bytes.proofs.mastering.lay_masters.Goals.{Start}
 
 -- the block may be laid
 may : (c : Start) → MayLay masters_header c.args.place (c.args.place + c.args.size) 256 c.args.part.now.bytes
-may c = record {
-  even = (c.requires.whole.0, omega arith, refl);
-  inside = c.requires.room.1;
-  small = c.requires.small;
-  room = omega arith;
-  whole = omega arith;
-  fits = omega arith;
-}
+may c = grind arith
 
 pub lay_block-requires : goal.lay_block-requires
 lay_block-requires c = may (goal.at.lay_block-requires c).Start

@@ -22,8 +22,7 @@ padded_size-requires c = let r = here (goal.at.padded_size-requires c).Start in 
 pub lay_block-requires : goal.lay_block-requires
 lay_block-requires c =
     let r = here (goal.at.lay_block-requires c).Start in
-    may-lay _ _ _ _ _ r (ap (λ k. c.args.place + k) (c.size_at.ensures r.s.here r.s.above r.at.left))
-    c.padded_size.ensures
+    may-lay _ _ _ _ _ r (grind arith) c.padded_size.ensures
 
 pub returns-clause-lays : goal.returns-clause-lays
 returns-clause-lays c = λ first unused i.

@@ -1,4 +1,4 @@
-use Rattle.std.proofs.Common.{◌+◌, ◌<◌, refl, ◌∙◌, arith, true, false, ◌≡◌}
+use Rattle.std.proofs.Common.{◌+◌, ◌<◌, refl, ◌∙◌, arith, true, false, ◌≡◌, rules}
 use denote.Enum.Bare.{sameb}
 use Rattle.heap_words.specs.contracts.header.Tag.{the_type}
 use Rattle.heap_words.specs.declared.header.Tag.TheVariants.{Relocatable}
@@ -26,17 +26,12 @@ read_header-header-requires g c = next-may (there g (goal.at.read_header-header-
 slot : (g : Over) (c : After-eq g) → true ≡ sameb the_type c.read_header-header.result.tag Relocatable
     → NextSlot g.lay c.args.stop c.loop-from.from c.loop-from.part.bytes c.read_header-header.result.size
     c.read_header-header.result.slot
-slot g c t =
-    let e = c.read_header-header.ensures in
-    point-slot _ _ _ c.requires.1 c.loop-from.invariant.0 c.loop-from-test.true _ _ e.first e.size (tag-true _ t) _
-    e.slot
+slot g c t = search (rules, point-slot, tag-true)
 
 -- or Free
 free : (g : Over) (c : After-eq g) → false ≡ sameb the_type c.read_header-header.result.tag Relocatable
     → Pointing g.lay c.args.stop (c.loop-from.from + c.read_header-header.result.size) c.loop-from.part.bytes
-free g c t =
-    let e = c.read_header-header.ensures in
-    point-free _ _ _ c.requires.1 c.loop-from.invariant.0 c.loop-from-test.true _ _ e.first e.size (tag-false _ t)
+free g c t = search (rules, point-free, tag-false)
 
 pub write_word-requires : goal.write_word-requires
 write_word-requires g c =
@@ -55,19 +50,11 @@ overflow_add-from g c =
 pub loop-from-smaller : goal.loop-from-smaller
 loop-from-smaller g c =
     let n = there g (goal.at.loop-from-smaller g c).In-loop-from in
-    let some : 0 < c.read_header-header.result.size = omega (arith, n, tag-small) in
-    omega (arith, c.loop-from-test.true, some)
+    let some : 0 < c.read_header-header.result.size = omega (arith, tag-small) in
+    omega arith
 
 pub loop-from-preserved : goal.loop-from-preserved
-loop-from-preserved g c =
-    let d = (goal.at.loop-from-preserved g c).After-eq in
-    let v = c.loop-from.invariant in
-    elim c.if-eq.branch [
-      | then-eq w ↦
-          let b = w.write_word.ensures in
-          rw w.part-is (rw b.bytes (slot g d w.if-eq.ensures).pointing, b.same.0 ∙ v.1, b.same.1 ∙ v.2, b.same.2 ∙ v.3)
-      | else-eq w ↦ rw w.part-is (free g d w.if-eq.ensures, v.1, v.2, v.3)
-    ]
+loop-from-preserved g c = grind (arith, slot, free)
 
 pub returns-clause-pointed : goal.returns-clause-pointed
 returns-clause-pointed g c = pointed _ _ _ c.requires.1 c.loop-from.invariant.0 c.loop-from-test.false

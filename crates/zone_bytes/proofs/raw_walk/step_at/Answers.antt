@@ -16,4 +16,4 @@ overflow_add-result c =
     omega arith
 
 pub returns : goal.returns
-returns c = grind (arith, steps, tag-small)
+returns c = grind (arith, steps)

@@ -15,9 +15,7 @@ use Rattle.zone_bytes.proofs.resizing.resize_block.Goals.{After-read_header-head
 
 -- the header that was read
 read : (c : After-read_header-header) → Read c.read_header-header.result c.args.place c.args.part.now.bytes
-read c =
-    let e = c.read_header-header.ensures in
-    record { first = e.first; even = e.size; long = e.logical; named = e.slot; marked = e.flags }
+read c = grind arith
 
 pub read_header-header-requires : goal.read_header-header-requires
 read_header-header-requires c =
@@ -27,8 +25,7 @@ pub returns-then-not-has_content-clause-cut : goal.returns-then-not-has_content-
 returns-then-not-has_content-clause-cut c = λ first unused i.
     let a = room-at c.args.part.now.bytes first unused c.args.place c.args.bytes i c.requires.room in
     let r = read (goal.at.returns-then-not-has_content-clause-cut c).After-read_header-header in
-    let k : (tag_number c.read_header-header.result.tag % 2 == 1) ≡ false =
-    sym c.has_content.ensures ∙ c.if-not-has_content.true in
+    let k : _ ≡ false = sym c.has_content.ensures ∙ c.if-not-has_content.true in
     let none = ap (λ t. t % 2 == 1) (sym (kind-is c.args.part.now.bytes c.args.place c.args.bytes a.0 a.3 _ r)) ∙ k in
     rw a.1 (λ le. kept-cut _ _ _ _ a.3 none _ _ i)
 
@@ -36,8 +33,7 @@ pub returns-then-not-has_content-clause-grown : goal.returns-then-not-has_conten
 returns-then-not-has_content-clause-grown c = λ first unused i.
     let a = room-at c.args.part.now.bytes first unused c.args.place c.args.bytes i c.requires.room in
     let r = read (goal.at.returns-then-not-has_content-clause-grown c).After-read_header-header in
-    let k : (tag_number c.read_header-header.result.tag % 2 == 1) ≡ false =
-    sym c.has_content.ensures ∙ c.if-not-has_content.true in
+    let k : _ ≡ false = sym c.has_content.ensures ∙ c.if-not-has_content.true in
     let none = ap (λ t. t % 2 == 1) (sym (kind-is c.args.part.now.bytes c.args.place c.args.bytes a.0 a.3 _ r)) ∙ k in
     rw a.1 (kept-grown c.args.part.now.bytes c.args.place c.args.bytes a.0 a.3 none first unused i)
 
@@ -66,7 +62,7 @@ padded_size-requires c =
     let r = read (goal.at.padded_size-requires c).After-read_header-header in
     let o = sym c.has_content.ensures ∙ c.if-not-has_content.false in
     let f = fits _ _ _ _ a.3 _ r o a.2 _ _ c.free_behind.ensures refl in
-    omega (arith, f, ends _ _ _ _ a.3 _ r o a.2 _ _ c.free_behind.ensures refl, size-is)
+    omega (arith, ends _ _ _ _ a.3 _ r o a.2 _ _ c.free_behind.ensures refl)
 
 pub lay_block-requires : goal.lay_block-requires
 lay_block-requires c =
@@ -123,8 +119,7 @@ returns-then-not-has_content-clause-replaced c = λ first unused i.
     kept-replaced c.args.part.now.bytes c.args.place a.0 a.3
 
 pub returns-clause-replaced : goal.returns-clause-replaced
-returns-clause-replaced c = λ first unused i.
-    let xs = c.args.part.now.bytes in
+returns-clause-replaced c = λ first unused i. let xs = c.args.part.now.bytes in
     let a = room-at xs first unused c.args.place c.args.bytes i c.requires.room in
     let r = read (goal.at.returns-clause-replaced c).After-read_header-header in
     let o = sym c.has_content.ensures ∙ c.if-not-has_content.false in
@@ -136,6 +131,5 @@ returns-clause-replaced c = λ first unused i.
     let same = same-of c.args.bytes c.args.place a.0.here holds in
     let f = fits xs c.args.place c.args.bytes a.0 a.3 _ r o a.2 b (padded c.args.bytes) c.free_behind.ensures refl in
     subst (λ t. Replaced c.args.place t (zone_in xs) (zone_in c.lay_block.new.part.bytes))
-    (let t : c.args.place + size a.0.here + free_first a.0.above ≡ c.args.place + c.read_header-header.result.size + b =
-    omega (arith, z, m) in t) (resize-replaced _ _ _ _ _ _ i _ a.1 a.3 a.2 (returns-clause-cut c)
-    (returns-clause-grown c) same.solid (omega (arith, f, z, m)))
+    (grind arith) (resize-replaced _ _ _ _ _ _ i _ a.1 a.3 a.2 (returns-clause-cut c)
+    (returns-clause-grown c) same.solid (omega arith))

@@ -1,5 +1,5 @@
 use Rattle.std.proofs.Common.{◌≡◌, ℕ, true, false, ◌+◌, ◌-◌, ◌<◌, ◌≤◌, ◌⊎◌, inl, inr, List, [], ◌∷◌, ◌++◌, refl, sym}
-use Rattle.std.proofs.Common.{ap, ◌∙◌, subst, arith, append_assoc}
+use Rattle.std.proofs.Common.{ap, ◌∙◌, subst, arith, append_assoc, rules}
 use Rattle.std.proofs.lemmas.List.{append-nil}
 use denote.Enum.Bare.{sameb}
 use Rattle.heap_words.specs.contracts.header.Tag.{the_type}
@@ -46,16 +46,11 @@ ends : (g : Over) (c : In-loop-from g) → let p = c.loop-from.invariant.1 in
 ends g c = bounds _ _ _ (run g c) c.loop-from.invariant.1.state
 
 pub read_header-header-requires : goal.read_header-header-requires
-read_header-header-requires g c =
-    next-may (there g (goal.at.read_header-header-requires g c).In-loop-from)
+read_header-header-requires g c = search (rules, next-may, there)
 
 -- it is one of the run
 some : (g : Over) (c : After-eq g) → c.loop-from.invariant.1.rest ≡ [] → ⊥
-some g c =
-    let e = c.read_header-header.ensures in
-    let p = c.loop-from.invariant.1 in
-    within g.lay.resource _ _ (bounds _ _ _ (run-moved _ _ _ c.requires.1.0) p.state).small _ _ _ e.first e.size _
-    p.state.high c.requires.1.1.0 (omega arith) (tag-small _) _ e.flags c.if-not-is_in_run.ensures
+some g c = grind (arith, within)
 
 -- and a relocatable one
 mover : (g : Over) (c : After-eq g) → true ≡ sameb the_type c.read_header-header.result.tag Relocatable
@@ -93,8 +88,7 @@ move_block-moves-requires-clause-leads g c =
     (mover g (goal.at.move_block-moves-requires-clause-leads g c).After-eq c.if-eq.ensures).leads
 
 pub move_block-moves-requires-clause-fits : goal.move_block-moves-requires-clause-fits
-move_block-moves-requires-clause-fits g c =
-    omega (arith, ends g (goal.at.move_block-moves-requires-clause-fits g c).In-loop-from)
+move_block-moves-requires-clause-fits g c = grind arith
 
 pub overflow_add-moves : goal.overflow_add-moves
 overflow_add-moves g c =
@@ -159,7 +153,7 @@ loop-from-preserved g c =
 pub loop-from-smaller : goal.loop-from-smaller
 loop-from-smaller g c =
     let b = (there g (goal.at.loop-from-smaller g c).In-loop-from).big in
-    let some : 0 < c.read_header-header.result.size = omega (arith, b, tag-small) in
+    let some : 0 < c.read_header-header.result.size = omega (arith, tag-small) in
     omega (arith, up g (goal.at.loop-from-smaller g c).Joined-eq, some)
 
 -- the run was gone over, or has enough
@@ -173,8 +167,7 @@ ended g c =
       | then-loop-from-test+then-is_enough w ↦ inr (w.if-is_enough.ensures refl)
       | then-loop-from-test+else-is_enough+then-not-is_in_run w ↦
           let e = w.read_header-header.ensures in
-          inl (beyond g.lay.resource _ _ b.small _ _ _ e.first e.size _ p.state.high b.rest_in (tag-small _) _ e.flags
-          w.if-not-is_in_run.ensures)
+          inl (grind (arith, beyond))
     ]
 
 -- the edges are those of the blocks that were packed

@@ -26,7 +26,4 @@ pub returns-clause-stop : goal.returns-clause-stop
 returns-clause-stop g c = (done g (goal.at.returns-clause-stop g c).After-pack_until).stop_at
 
 pub returns-clause-edges : goal.returns-clause-edges
-returns-clause-edges g c = λ base before e a.
-    subst (λ l. AreEdges c.pack_until.new.edges base (before ++ movers l)) (all-of g.lay c.args.place c.requires.1.0
-    c.pack_until.ensures.packed (nothing-left g (goal.at.returns-clause-edges g c).After-pack_until))
-    (c.pack_until.ensures.edges base before (omega (arith, e)) a)
+returns-clause-edges g c = search (rules, nothing-left)
