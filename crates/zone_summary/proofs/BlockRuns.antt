@@ -6,11 +6,11 @@ use Rattle.std.proofs.Common.{nat_le, List, [], ◌∷◌, ◌++◌, is_some, re
 use Rattle.std.proofs.lemmas.Bool.{and_parts, cases_lt, cond-true, cond-false, le-leb, lt-leb, true≢false}
 use Rattle.std.proofs.lemmas.Option.{none-some, same_Some}
 use Rattle.std.specs.Option.{option_map}
-use Rattle.block_store.specs.Block.{Block, Free, Nonrelocatable, Masters, Relocatable, size, sizes, free_of, count, is_relocatable}
+use Rattle.block_store.specs.Block.{Block, Free, Relocatable, size, sizes, free_of, count, is_relocatable}
 use Rattle.block_store.specs.Block.{is_purgeable}
 use Rattle.block_store.specs.Fewest.{serves_block, IsFewest}
 use Rattle.block_store.specs.Find.{FindsLowestRun}
-use Rattle.block_store.specs.Inner.RunScan.{met_after, scan_runs, suits}
+use Rattle.block_store.specs.Inner.RunScan.{met_after, scan_runs}
 use Rattle.block_store.specs.Room.{count_of, lowest_purged, may_be_purged}
 use Rattle.block_store.specs.Run.{RunSpot, has, has_free, in_run, run_spot}
 use Rattle.block_store.specs.Sparing.{opened, purged, spared}
@@ -433,9 +433,9 @@ module _ (number p : ℕ) (n : Sparing) (zone : List Block) (whole : opened n zo
   pub run-of : (run : ℕ) → count (is_relocatable number) zone ≤ 1
       → FindsLowestRun tested (purged 0 sparing.Nothing zone) (Some run) → IsRunOf number p n zone run
   run-of run once f = elim (cut number p (spared n) keeps 0 0 0 run zone once (grind (arith, found-is))) [
-        | inl r ↦ grind (arith, serves-here, here-now, here-purged, nat_le)
-        | inr c ↦ grind (arith, serves-here, here-now, here-purged)
-      ]
+    | inl r ↦ grind (arith, serves-here, here-now, here-purged, nat_le)
+    | inr c ↦ grind (arith, serves-here, here-now, here-purged)
+  ]
 
   pub no-run-of : FindsLowestRun tested (purged 0 sparing.Nothing zone) None
       → (k : ℕ) → serves_block number p n zone k ≡ false

@@ -1,11 +1,11 @@
 -- The least number of purges after which a run has enough free bytes: all blocks below the run that is the first to have
 -- them, and as few of its own as serve.
-use Rattle.std.proofs.Common.{◌≡◌, ℕ, ◌+◌, ◌-◌, ◌≤◌, ◌<◌, ◌⊎◌, zero, suc, Bool, true, false, not, Some, None, nat_le}
+use Rattle.std.proofs.Common.{◌≡◌, ℕ, ◌+◌, ◌-◌, ◌≤◌, ◌<◌, ◌⊎◌, zero, suc, Bool, true, false, Some, None, nat_le}
 use Rattle.std.proofs.Common.{List, [], ◌∷◌, ◌++◌, map, is_some, refl, sym, ◌∙◌, ap, arith, cond, inl, inr}
-use Rattle.std.proofs.lemmas.Bool.{and_parts, cases_lt, cond-true, cond-false, le-leb, leb-false, leb-true, lt-leb, true≢false}
+use Rattle.std.proofs.lemmas.Bool.{cases_lt, cond-true, cond-false, le-leb, leb-false, leb-true, lt-leb, true≢false}
 use Rattle.std.proofs.lemmas.Simd.{map-map}
 use Rattle.std.specs.Option.{option_map}
-use Rattle.block_store.specs.Block.{Block, Free, Nonrelocatable, Masters, Relocatable, size, sizes, free_of, is_purgeable, tidy}
+use Rattle.block_store.specs.Block.{Block, Relocatable, size, sizes, free_of, tidy}
 use Rattle.block_store.specs.Find.{FindsLowestRun}
 use Rattle.block_store.specs.Inner.Stretch.{opened_block}
 use Rattle.block_store.specs.Room.{count_of, lowest_purged, may_be_purged}
@@ -16,8 +16,8 @@ use Rattle.block_store.specs.declared.sparing.Sparing.TheVariants as sparing
 use Rattle.block_store.proofs.Plain.Trials.{none-before}
 use Rattle.block_store.proofs.Purged.Fewest.{none-serve}
 use Rattle.block_store.proofs.Purged.Looks.{opened-none}
-use Rattle.block_store.proofs.Purged.Rising.{lowest_purged-goes, lowest_purged-stays, purged-all, run-rises}
-use Rattle.block_store.proofs.Purged.Stretches.{opened-more, size-opened}
+use Rattle.block_store.proofs.Purged.Rising.{lowest_purged-stays, purged-all, run-rises}
+use Rattle.block_store.proofs.Purged.Stretches.{opened-more}
 use Rattle.block_store.proofs.Regroup.RunScans.{scan-is}
 use Rattle.zone_summary.specs.Emptied.{all_purged, emptied}
 use Rattle.zone_summary.specs.Fewest.{count_within, purges_for}
@@ -214,11 +214,11 @@ module _ (p : ℕ) (n : Sparing) (zone low rest : List Block) (o : opened n zone
 
   short : best (stretch_of rest) < p
   short = omega (
-        arith,
-        (leb-false p (best (join (Whole 0) (stretch_of (low ++ rest)))) (sym (serves-is p n zone [] (low ++ rest) 0 o) ∙ none)),
-        ap best (join-unit_left (stretch_of (low ++ rest)) ∙ stretch_of-append low rest),
-        best-high (stretch_of low) (stretch_of rest),
-      )
+    arith,
+    (leb-false p (best (join (Whole 0) (stretch_of (low ++ rest)))) (sym (serves-is p n zone [] (low ++ rest) 0 o) ∙ none)),
+    ap best (join-unit_left (stretch_of (low ++ rest)) ∙ stretch_of-append low rest),
+    best-high (stretch_of low) (stretch_of rest),
+  )
 
   freed : IsFreed (spared n) (p - prefix (stretch_of rest)) rest
   freed = freed-by (spared n) (p - prefix (stretch_of rest)) rest (inr (omega (arith, short, enough)))

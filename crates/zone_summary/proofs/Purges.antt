@@ -1,10 +1,10 @@
 -- What blocks come to after purges: all those below a place, and some of those above it.
 use Rattle.std.proofs.Common.{◌≡◌, ℕ, ◌+◌, zero, suc, Bool, true, false, List, [], ◌∷◌, ◌++◌, map, nat_le}
 use Rattle.std.proofs.Common.{refl, sym, ◌∙◌, ap, arith, cond, append-nil}
-use Rattle.block_store.specs.Block.{Block, Free, Nonrelocatable, Masters, Relocatable, size, add, tidy}
+use Rattle.block_store.specs.Block.{Block, Free, size, add, tidy}
 use Rattle.block_store.specs.Compact.{largest_run}
 use Rattle.block_store.specs.Room.{may_be_purged, lowest_purged, purge, count_of}
-use Rattle.block_store.specs.Sparing.{opened, purged, spared}
+use Rattle.block_store.specs.Sparing.{opened, spared}
 use Rattle.block_store.specs.declared.sparing.Sparing.{Sparing}
 use Rattle.block_store.proofs.Purged.Rising.{lowest_purged-goes, lowest_purged-stays}
 use Rattle.block_store.proofs.Regroup.MostRoom.{run-there}

@@ -1,8 +1,8 @@
 -- The search for a run passes blocks by what they come to.
-use Rattle.std.proofs.Common.{◌≡◌, ℕ, ◌+◌, ◌<◌, ◌≤◌, zero, suc, Bool, true, false, not, None, Some, List, [], ◌∷◌, ◌++◌, nat_le}
+use Rattle.std.proofs.Common.{◌≡◌, ℕ, ◌+◌, ◌<◌, ◌≤◌, zero, suc, Bool, true, false, not, None, List, [], ◌∷◌, ◌++◌, nat_le}
 use Rattle.std.proofs.Common.{refl, sym, ◌∙◌, ap, arith, append-nil, cond, map, rules}
-use Rattle.std.proofs.lemmas.Bool.{lt-leb, cond-true, cond-false}
-use Rattle.block_store.specs.Block.{Block, Free, Nonrelocatable, Masters, Relocatable, size, sizes, free_of, free_sum}
+use Rattle.std.proofs.lemmas.Bool.{lt-leb, cond-false}
+use Rattle.block_store.specs.Block.{Block, Free, size, sizes, free_of, free_sum}
 use Rattle.block_store.specs.Inner.RunScan.{met_after, scan_runs}
 use Rattle.block_store.specs.Room.{count_of, may_be_purged}
 use Rattle.block_store.specs.Run.{in_run, has}
@@ -11,7 +11,7 @@ use Rattle.zone_summary.specs.Searches.{found_from}
 use Rattle.zone_summary.specs.Stretches.{counted, join, suffix, best, is_ended, stretch_of}
 use Rattle.zone_summary.specs.declared.stretch.Stretch.{Stretch}
 use Rattle.zone_summary.specs.declared.stretch.Stretch.TheVariants.{Whole, Ended}
-use Rattle.zone_summary.proofs.Monoid.{join-assoc, join-unit_left, stretch_of-append, suffix-best, best-low, best-high, best-on}
+use Rattle.zone_summary.proofs.Monoid.{join-assoc, stretch_of-append, suffix-best, best-low}
 
 -- a run that need have no block has what it must have
 met-always : (b : Block) → met_after None true b ≡ true

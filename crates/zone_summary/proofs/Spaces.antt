@@ -1,6 +1,6 @@
 -- The most of the spaces of blocks is the largest free block of the zone once all that may be purged were.
-use Rattle.std.proofs.Common.{◌≡◌, ℕ, ◌+◌, max, zero, suc, Bool, true, false, List, [], ◌∷◌, map}
-use Rattle.std.proofs.Common.{refl, sym, ◌∙◌, ap, arith, add-zero}
+use Rattle.std.proofs.Common.{◌≡◌, ℕ, max, zero, suc, Bool, true, false, List, [], ◌∷◌, map}
+use Rattle.std.proofs.Common.{refl, arith}
 use Rattle.block_store.specs.Block.{Block, Free, Nonrelocatable, Masters, Relocatable, add, free_of, is_purgeable, size, tidy}
 use Rattle.block_store.specs.Compact.{largest_free}
 use Rattle.block_store.specs.declared.sparing.Sparing.TheVariants.{Nothing}
@@ -9,7 +9,6 @@ use Rattle.zone_summary.specs.Stretches.{beyond, best, join, prefix, space, spac
 use Rattle.zone_summary.specs.declared.stretch.Stretch.{Stretch}
 use Rattle.zone_summary.specs.declared.stretch.Stretch.TheVariants.{Whole, Ended}
 use Rattle.zone_summary.proofs.Monoid.{join-unit_left}
-use Rattle.zone_summary.proofs.Runs.{beyond-ended, beyond-more, prefix-ended, prefix-more}
 
 -- the bytes of a Free block at the bottom, and the largest Free block above the lowest block
 lead : List Block → ℕ

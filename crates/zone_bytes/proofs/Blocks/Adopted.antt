@@ -2,15 +2,14 @@
 use Rattle.std.proofs.Common.{◌≡◌, ℕ, true, false, IsTrue, ◌==◌, ◌+◌, ◌-◌, ◌%◌, ◌≤◌}
 use Rattle.std.proofs.Common.{Some, List, [], ◌∷◌, ◌++◌, length, drop, sym, refl}
 use Rattle.std.proofs.Common.{ap, ◌∙◌, subst, arith}
-use Rattle.std.proofs.lemmas.Bool.{false≢true}
 use Rattle.windows.specs.Writes.{written, piece}
 use Rattle.heap_words.specs.Words.{word, word_at, header}
 use Rattle.heap_words.proofs.Headers.{length-header}
 use Rattle.block_store.specs.declared.flags.Flags.{Flags}
 use Rattle.block_store.specs.declared.sparing.Seen.TheVariants as see
-use Rattle.block_store.specs.Block.{Block, Free, Nonrelocatable, Masters, Relocatable, size, sizes, count}
+use Rattle.block_store.specs.Block.{Block, Nonrelocatable, Relocatable, size, sizes, count}
 use Rattle.block_store.specs.Block.{is_relocatable}
-use Rattle.block_store.specs.Block.{is_nonrelocatable, is_masters, tidy, free_of, free_sum}
+use Rattle.block_store.specs.Block.{is_nonrelocatable, is_masters, tidy, free_sum}
 use Rattle.block_store.specs.Run.{has}
 use Rattle.block_store.specs.Slot.{is_used}
 use Rattle.block_store.specs.Room.{Spot, spot_at}
@@ -18,7 +17,6 @@ use Rattle.std.specs.Option.{IsSomeAnd}
 use Rattle.block_store.proofs.Zone.Aligned.{spot_at-is}
 use Rattle.block_store.proofs.Nonrelocatable.Placing.{spot_at-below}
 use Rattle.zone_bytes.proofs.Places.AtPlace.{left-at}
-use Rattle.zone_bytes.proofs.Places.Options.{the-spot}
 use Rattle.block_store.proofs.Zone.Parted.{tidy-renamed}
 use Rattle.zone_bytes.specs.Layout.{flag_word, head_of, Tile, Tiles}
 use Rattle.zone_bytes.specs.Splicing.{SameOutside}
@@ -29,7 +27,7 @@ use Rattle.zone_bytes.specs.Table.{slot_in}
 use Rattle.zone_bytes.specs.Lawful.{IsSound}
 use Rattle.zone_bytes.specs.Adopting.{named_header, adopted}
 use Rattle.zone_bytes.proofs.Tiles.Heads.{length-head}
-use Rattle.zone_bytes.proofs.Tiles.Splices.{outside-same, outside-written}
+use Rattle.zone_bytes.proofs.Tiles.Splices.{outside-written}
 use Rattle.zone_bytes.proofs.SlotTable.Slotted.{slot-reads-in, flag-kept}
 use Rattle.zone_bytes.proofs.Places.Stepped.{told-is, left-is}
 use Rattle.zone_bytes.proofs.Blocks.InPlace.{no-slots, masters-same, total-same, tile, fits, tile-inside, tiles-piece}

@@ -1,13 +1,13 @@
 -- What blocks would give if they were emptied, through each change of a zone.
-use Rattle.std.proofs.Common.{◌≡◌, ℕ, zero, suc, ◌+◌, ◌-◌, ◌≤◌, ◌<◌, ◌^◌, Bool, true, false, not, ◌&&◌, cond, Option}
+use Rattle.std.proofs.Common.{◌≡◌, ℕ, zero, suc, ◌+◌, ◌-◌, ◌≤◌, ◌<◌, ◌^◌, Bool, true, false, not, cond, Option}
 use Rattle.std.proofs.Common.{Some, None}
-use Rattle.std.proofs.Common.{List, [], ◌∷◌, ◌++◌, map, refl, sym, ap, ◌∙◌, arith}
+use Rattle.std.proofs.Common.{List, [], ◌∷◌, ◌++◌, map, refl, ap, ◌∙◌, arith}
 use Rattle.std.proofs.lemmas.Bool.{and_parts, false≢true}
 use Rattle.std.specs.Option.{option_map}
 use Rattle.block_store.specs.Block.{Block, Free, Nonrelocatable, Masters, Relocatable, size, sizes, total, free_of}
 use Rattle.block_store.specs.Block.{free_sum}
 use Rattle.block_store.specs.Block.{count, is_purgeable, is_room, fresh, tidy}
-use Rattle.block_store.specs.Grow.{freed, growth, grow_up}
+use Rattle.block_store.specs.Grow.{freed, grow_up}
 use Rattle.block_store.specs.Room.{Spot, spot, raised, filled, may_be_purged, lowest_purged}
 use Rattle.block_store.specs.Sparing.{most_purges, purged, spared}
 use Rattle.block_store.specs.declared.sparing.Sparing.TheVariants as sparing
@@ -16,7 +16,6 @@ use Rattle.block_store.proofs.Content.Sized.{total-sized}
 use Rattle.block_store.proofs.Zone.Keeping.{SeesNoFree, unless, unless-none, freely, freed-is, tidied}
 use Rattle.block_store.proofs.Zone.Tidy.{total-tidy}
 use Rattle.block_store.proofs.Zone.Totals.{total-append, total-le}
-use Rattle.block_store.proofs.Zone.Views.{map-some, taken-some}
 use Rattle.zone_summary.specs.Emptied.{emptied}
 use Rattle.zone_summary.proofs.Purges.{all-purged}
 use Rattle.zone_bytes.specs.Decode.{zone_in}

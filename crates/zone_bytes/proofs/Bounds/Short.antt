@@ -1,13 +1,10 @@
 -- A zone that has too few bytes, and one that has nothing to give.
-use Rattle.std.proofs.Common.{◌≡◌, ℕ, ◌+◌, ◌≤◌, ◌<◌, Bool, true, false, not, ◌&&◌, cond, None, List}
-use Rattle.std.proofs.Common.{length, ap, arith}
-use Rattle.std.proofs.lemmas.Bool.Decides.{nat_tests}
-use Rattle.mac_words.specs.Size.{padded}
+use Rattle.std.proofs.Common.{◌≡◌, ℕ, ◌+◌, ◌≤◌, ◌<◌, Bool, true, false, cond, None, List}
+use Rattle.std.proofs.Common.{ap, arith}
 use Rattle.block_store.specs.Block.{Block, Free, Nonrelocatable, Masters, Relocatable, count, free_of, free_sum}
 use Rattle.block_store.specs.Block.{is_room}
-use Rattle.block_store.specs.Block.{is_relocatable}
 use Rattle.block_store.specs.Run.{run_spot}
-use Rattle.block_store.specs.Room.{spot, may_be_purged, lowest_purged}
+use Rattle.block_store.specs.Room.{spot, may_be_purged}
 use Rattle.block_store.specs.Sparing.{spared, opened, purged, most_purges}
 use Rattle.block_store.specs.declared.sparing.Sparing.{Sparing}
 use Rattle.block_store.specs.declared.sparing.Sparing.TheVariants as sparing

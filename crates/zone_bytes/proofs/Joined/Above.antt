@@ -2,15 +2,13 @@
 use Rattle.std.proofs.Common.{◌≡◌, ℕ, false, ◌+◌, ◌-◌, ◌<◌, ◌≤◌, List, [], ◌∷◌, ◌++◌, length, sym, refl, ap, ◌∙◌}
 use Rattle.std.proofs.Common.{subst, arith, append_assoc}
 use Rattle.block_store.specs.Block.{Block, Free, Nonrelocatable, Masters, Relocatable, size, sizes, free, free_of, add}
-use Rattle.block_store.specs.Block.{is_masters}
 use Rattle.block_store.specs.Inner.Stretch.{is_free}
-use Rattle.block_store.proofs.Zone.Joining.{add-alone, add-free, add-other}
+use Rattle.block_store.proofs.Zone.Joining.{add-alone, add-free}
 use Rattle.zone_bytes.specs.Layout.{kind}
 use Rattle.zone_bytes.specs.Table.{Lays}
 use Rattle.zone_bytes.specs.Joining.{Freeing, MayFree, Joining, MayJoin}
 use Rattle.zone_bytes.proofs.Tiles.Tiling.{span-append}
 use Rattle.zone_bytes.proofs.Tiles.Keeping.{span-free}
-use Rattle.block_store.proofs.Zone.Spots.{free-some}
 use Rattle.zone_bytes.proofs.Joined.Ways.{inside, Read, read}
 
 pub free-is : (b : Block) → kind b ≡ 0 → b ≡ Free (size b)

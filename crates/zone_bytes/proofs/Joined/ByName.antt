@@ -1,5 +1,5 @@
 -- The block that a handle's slot leads to.
-use Rattle.std.proofs.Common.{◌≡◌, ℕ, Bool, true, false, cond, ◌+◌, ◌%◌, ◌≤◌, ◌⊎◌, inl, inr, List, [], ◌∷◌, IsTrue}
+use Rattle.std.proofs.Common.{◌≡◌, ℕ, Bool, true, false, ◌+◌, ◌%◌, ◌≤◌, ◌⊎◌, inl, inr, List, [], ◌∷◌, IsTrue}
 use Rattle.std.proofs.Common.{◌++◌, length, sym, refl, ap, ◌∙◌, subst, arith}
 use Rattle.std.proofs.lemmas.List.{map-append}
 use Rattle.heap_words.specs.Words.{word_at}
@@ -12,7 +12,7 @@ use Rattle.block_store.proofs.Zone.Totals.{total-append}
 use Rattle.zone_bytes.specs.Layout.{names, Apart, Pairs}
 use Rattle.zone_bytes.specs.Changes.{Replaced}
 use Rattle.zone_bytes.specs.Joining.{Freeing, MayRelease, HasHandle}
-use Rattle.zone_bytes.specs.Table.{Table, Lays, empty_word}
+use Rattle.zone_bytes.specs.Table.{Table, empty_word}
 use Rattle.zone_bytes.proofs.Tiles.Leading.{names-append, pairs-before, pairs-after}
 use Rattle.zone_bytes.proofs.SlotTable.Tables.{none-apart}
 use Rattle.zone_bytes.proofs.SlotTable.Handles.{IsEmptyHandle, HasBlock, handle-in, block-here, flag, state}

@@ -6,31 +6,28 @@ use Rattle.windows.proofs.Pieces.{length-written, piece-written}
 use Rattle.heap_words.specs.Words.{word, word_at}
 use Rattle.heap_words.proofs.Words.{length-word}
 use Rattle.block_store.specs.declared.flags.Flags.{Flags}
-use Rattle.block_store.specs.Block.{Block, Free, Nonrelocatable, Masters, Relocatable, size, sizes, free}
-use Rattle.block_store.specs.Slot.{Slot, NoSlot, Unused, Used, is_resource}
+use Rattle.block_store.specs.Block.{Block, Free, Relocatable, size, sizes, free}
+use Rattle.block_store.specs.Slot.{Slot, Used, is_resource}
 use Rattle.zone_bytes.specs.Layout.{kind, flag_word, head_of, Tile, IsSlot, names, names_of, Apart, Each, Pairs}
 use Rattle.zone_bytes.specs.Layout.{ArePlaced}
 use Rattle.zone_bytes.specs.Settling.{Lies, HasSlots}
 use Rattle.zone_bytes.specs.Splicing.{Splice, SameOutside, IsSplice}
 use Rattle.zone_bytes.specs.Joining.{Freeing, MayFree}
 use Rattle.zone_bytes.specs.Table.{Has, IsUsed, Lays, empty_word}
-use Rattle.zone_bytes.proofs.Tiles.Tiling.{span-append, length-tiles, slot-inside, slot-split, tiles-slot, slot-swap}
+use Rattle.zone_bytes.proofs.Tiles.Tiling.{span-append, length-tiles, slot-inside, tiles-slot, slot-swap}
 use Rattle.zone_bytes.proofs.Tiles.Leading.{each-right, each-map, each-append, names-append, pairs-before}
 use Rattle.zone_bytes.proofs.Tiles.Leading.{pairs-after, piece-clear, leads-written}
-use Rattle.zone_bytes.proofs.Tiles.Keeping.{lays-kept, names-free, span-free, each-free, slot-run, placed-swap}
+use Rattle.zone_bytes.proofs.Tiles.Keeping.{lays-kept, span-free, slot-run, placed-swap}
 use Rattle.zone_bytes.proofs.Tiles.Changing.{lays-removed}
 use Rattle.zone_bytes.proofs.Tiles.Replaced.{zone, is-splice}
 use Rattle.zone_bytes.proofs.Tiles.Splices.{piece-outside}
-use Rattle.zone_bytes.proofs.Tiles.Spelling.{resource-bit}
 use Rattle.zone_bytes.proofs.Tiles.Decoding.{flag_word-small}
 use Rattle.zone_bytes.proofs.Places.Stepped.{header-told}
 use Rattle.zone_bytes.proofs.SlotTable.Tables.{apart-clear}
 use Rattle.zone_bytes.proofs.Tiles.Heads.{length-masters}
-use Rattle.zone_bytes.proofs.Tiles.Keeping.{run-no_slot}
 use Rattle.zone_bytes.proofs.Tiles.Tiling.{slot-even}
 use Rattle.block_store.proofs.Zone.Spots.{free-some}
 use Rattle.zone_bytes.proofs.Blocks.Carves.{outside}
-use Rattle.zone_bytes.proofs.Blocks.InPlace.{no-slots}
 use Rattle.zone_bytes.proofs.Joined.Ways.{Read, read, tile-at}
 
 -- one of a list is left out

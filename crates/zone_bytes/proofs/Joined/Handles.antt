@@ -12,9 +12,8 @@ use Rattle.zone_bytes.specs.Decode.{zone_in}
 use Rattle.zone_bytes.specs.Joining.{HasHandle}
 use Rattle.zone_bytes.specs.Lawful.{IsSound, IsKept}
 use Rattle.zone_bytes.specs.Table.{Table, Lays, slot_in}
-use Rattle.zone_bytes.proofs.Laws.Lawful.{Made, made, sizes-length, rest-made, kept-made}
+use Rattle.zone_bytes.proofs.Laws.Lawful.{Made, made, sizes-length, kept-made}
 use Rattle.zone_bytes.proofs.Places.Walks.{free_span-le}
-use Rattle.zone_bytes.proofs.SlotTable.Handles.{used-is}
 
 -- the Free bytes are no more than a zone may have
 pub free-fits : (xs : List ℕ) (blocks : List Block) (slots : ℕ → Slot) (unused : List ℕ)

@@ -1,12 +1,12 @@
 -- A zone that bytes lay keeps the laws of a store.
-use Rattle.std.proofs.Common.{◌≡◌, ℕ, false, cond, eqb, ◌+◌, ◌*◌, ◌≤◌, inl, inr, List, [], ◌∷◌, length, drop}
+use Rattle.std.proofs.Common.{◌≡◌, ℕ, false, cond, eqb, ◌+◌, ◌≤◌, inl, inr, List, [], ◌∷◌, length, drop}
 use Rattle.std.proofs.Common.{sym, refl, ap, ◌∙◌, subst, arith}
 use Rattle.std.proofs.lemmas.Bool.{false≢true}
 use Rattle.std.proofs.lemmas.Bool.Decides.{eqb_tells}
 use Rattle.mac_words.specs.Size.{padded}
-use Rattle.block_store.specs.Block.{Block, Free, Nonrelocatable, Masters, Relocatable, size, sizes, free_sum, count}
+use Rattle.block_store.specs.Block.{Block, Free, Nonrelocatable, Masters, Relocatable, sizes, free_sum, count}
 use Rattle.block_store.specs.Block.{is_masters, is_relocatable, tidy}
-use Rattle.block_store.specs.Slot.{Slot, NoSlot, Unused, Used, is_used}
+use Rattle.block_store.specs.Slot.{Slot, Used, is_used}
 use Rattle.block_store.specs.Compact.{Aligned, Placed}
 use Rattle.zone_bytes.specs.Layout.{head_of, Tiles, names, Apart, Each, Pairs, ArePlaced}
 use Rattle.zone_bytes.specs.Decode.{zone_in}

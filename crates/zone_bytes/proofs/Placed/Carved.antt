@@ -4,7 +4,6 @@ use Rattle.std.proofs.Common.{Bool, true, ◌==◌, rules}
 use Rattle.std.proofs.Common.{refl, sym, ap, ◌∙◌, subst, arith}
 use Rattle.std.proofs.lemmas.Bool.{false≢true}
 use Rattle.std.proofs.lemmas.List.{length-replicate}
-use Rattle.std.proofs.Math.Seq.{take-nil}
 use Rattle.std.specs.Option.{IsSomeAnd}
 use Rattle.mac_words.specs.Size.{padded}
 use Rattle.heap_words.specs.Words.{header, word, word_at}

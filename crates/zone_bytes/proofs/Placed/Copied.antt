@@ -9,7 +9,7 @@ use Rattle.zone_bytes.specs.Table.{slot_in}
 use Rattle.zone_bytes.specs.Lawful.{IsSound, IsKept}
 use Rattle.zone_bytes.proofs.Blocks.Writes.{content-room, written-in, masters-kept, free-kept}
 use Rattle.zone_bytes.proofs.Laws.Lawful.{Made, kept-made}
-use Rattle.zone_bytes.proofs.Placed.Standing.{Standing, standing, held-piece, resource_in}
+use Rattle.zone_bytes.proofs.Placed.Standing.{Standing, standing, held-piece}
 
 -- a block at a place that holds so many bytes
 pub holds-inside : (xs : List ℕ) (place n : ℕ) (s : Spot) → Standing xs place s → n ≤ length (content_of s.here)

@@ -3,14 +3,13 @@ use Rattle.std.proofs.Common.{◌≡◌, ℕ, ◌+◌, ◌%◌, ◌<◌, ◌≤�
 use Rattle.heap_words.specs.declared.header.Tag.{Tag}
 use Rattle.heap_words.specs.Headers.{tag_number}
 use Rattle.heap_words.specs.Words.{word_at}
-use Rattle.block_store.specs.Block.{free_of}
 use Rattle.zone_bytes.specs.Stepping.{left_in, IsOnWay}
 use Rattle.zone_bytes.specs.Laying.{free_first}
 use Rattle.zone_bytes.proofs.Tiles.Tags.{tag-small}
 use Rattle.zone_bytes.proofs.Places.HeaderTells.{size-at}
 use Rattle.zone_bytes.proofs.Places.Stepped.{stepped}
 use Rattle.zone_bytes.proofs.Places.Stepped.{left-none}
-use Rattle.zone_bytes.proofs.Joined.Above.{free-is, free-other}
+use Rattle.zone_bytes.proofs.Joined.Above.{free-other}
 
 module _ (at : ℕ) (xs : List ℕ) (w : IsOnWay at xs) where
   -- at the end of the bytes there is none

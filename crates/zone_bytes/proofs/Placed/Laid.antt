@@ -1,7 +1,6 @@
 -- What the bytes are where a block was laid.
-use Rattle.std.proofs.Common.{◌≡◌, ℕ, Bool, true, false, cond, nat_lt, ◌+◌, ◌-◌, ◌<◌, ◌≤◌, ◌⊎◌, inl, inr, List, ◌++◌}
-use Rattle.std.proofs.Common.{length, take, drop, replicate, sym, refl, ap, ◌∙◌, arith, length-append}
-use Rattle.std.proofs.lemmas.Bool.Decides.{nat_tests}
+use Rattle.std.proofs.Common.{◌≡◌, ℕ, true, false, nat_lt, ◌+◌, ◌-◌, ◌<◌, ◌≤◌, ◌⊎◌, inl, inr, List, ◌++◌}
+use Rattle.std.proofs.Common.{length, take, drop, replicate, sym, ap, ◌∙◌, arith, length-append}
 use Rattle.std.proofs.lemmas.List.{length-drop, length-take-le, length-replicate, take-take, drop-drop, take_all}
 use Rattle.std.proofs.lemmas.List.{append-nil}
 use Rattle.std.proofs.Math.Seq.{take-add}
@@ -17,7 +16,7 @@ use Rattle.block_store.proofs.Content.Resizing.{less_or_more, length-resized}
 use Rattle.zone_bytes.specs.Layout.{Tile}
 use Rattle.zone_bytes.specs.Splicing.{SameOutside}
 use Rattle.zone_bytes.specs.Laying.{headed, laid, MayLay}
-use Rattle.zone_bytes.proofs.Tiles.Splices.{outside-same, outside-written}
+use Rattle.zone_bytes.proofs.Tiles.Splices.{outside-written}
 
 pub below-top : (m n : ℕ) → nat_lt m n ≡ true → m < n
 below-top m n e = grind arith

@@ -6,15 +6,13 @@ use Rattle.block_store.specs.Room.{filled}
 use Rattle.block_store.specs.Slot.{is_used}
 use Rattle.block_store.proofs.Zone.Apart.{tidy-tidy}
 use Rattle.zone_bytes.specs.Fresh.{slots_from}
-use Rattle.zone_bytes.specs.Decode.{zone_in}
-use Rattle.zone_bytes.specs.Table.{Lays, Says, slot_in, first_of}
+use Rattle.zone_bytes.specs.Table.{Lays, slot_in, first_of}
 use Rattle.zone_bytes.specs.Lawful.{IsSound}
 use Rattle.zone_bytes.specs.Mastering.{slots_at, with_slots, HasMasters}
 use Rattle.zone_bytes.proofs.SlotTable.Taking.{first-small}
 use Rattle.zone_bytes.proofs.Laws.Lawful.{Made, made}
 use Rattle.zone_bytes.proofs.Placed.Carved.{Roomy, filled-is}
 use Rattle.zone_bytes.proofs.Placed.MoreSlots.{lays-masters, kept-slot}
-use Rattle.zone_bytes.proofs.SlotTable.Handles.{used-is}
 
 pub first-fits : (xs : List ℕ) (first unused : ℕ) (i : IsSound xs first unused) → first < 134217728
 first-fits xs first unused i = grind (arith, first-small)

@@ -1,8 +1,7 @@
 -- A Masters block more in the bytes of a zone.
-use Rattle.std.proofs.Common.{◌≡◌, ℕ, Bool, true, false, cond, ◌+◌, ◌-◌, ◌*◌, ◌%◌, ◌<◌, ◌≤◌, ◌⊎◌, inl, inr, rules}
+use Rattle.std.proofs.Common.{◌≡◌, ℕ, Bool, true, false, cond, ◌+◌, ◌-◌, ◌*◌, ◌%◌, ◌<◌, ◌≤◌, ◌⊎◌, inl, inr}
 use Rattle.std.proofs.Common.{zero, suc, List, [], ◌∷◌, ◌++◌, take, drop, sym, refl, ap, ◌∙◌, subst, arith}
 use Rattle.std.proofs.lemmas.Bool.{false≢true}
-use Rattle.std.proofs.lemmas.Bool.Decides.{nat_tests}
 use Rattle.std.proofs.lemmas.List.{take-take, drop-drop, drop-take, length-drop}
 use Rattle.windows.specs.Writes.{piece}
 use Rattle.heap_words.specs.Words.{word}
@@ -202,35 +201,35 @@ module _ (xs : List ℕ) (below above : List Block) (n : ℕ) (slots : ℕ → S
 
     pub lays-masters : Lays new with_masters now (slots_at place ++ unused)
     lays-masters = record {
-          lies = lies-agree resource (λ s. is_resource (now s)) _ _
-              (each-named (λ s. resource s ≡ is_resource (now s)) (each-map (λ s. IsSlot s all)
-              (λ s. resource s ≡ is_resource (now s)) (λ s i. sym (ap is_resource (kept-slot s i)))
-              _ h.has_slots.slots)) lies;
-          has_slots = record {
-            slots = each-named (λ s. IsSlot s with_masters)
-                (each-map (λ s. IsSlot s all) (λ s. IsSlot s with_masters) forth (names all) h.has_slots.slots);
-            apart = subst (Pairs Apart) (sym names-now) h.has_slots.apart;
-          };
-          placed = placed-swap 0 below (Free n ∷ []) put above span
-              (tt, placed-run _ (free left) (each-free left)) h.placed;
-          small = (let o = m.outside.kept in omega arith);
-          used = each-named (λ s. IsUsed (now s)) (each-both (λ s. IsSlot s all) (λ s. IsUsed (slots s))
-              (λ s. IsUsed (now s))
-              (λ s i u. subst IsUsed (sym (kept-slot s i)) u) (names all) h.has_slots.slots h.used);
-          says = says;
-          chain = thread-chain (first_of unused) new (slots_at place) _ refl m.thread
-              (chain-kept _ _ unused (each-map (λ s. IsSlot s all × (slots s ≡ Unused))
-              (λ s. piece s 4 new ≡ piece s 4 xs) (λ s u. kept-piece s u.0) unused h.unused_slots) h.chain);
-          unused_slots = each-append (λ s. IsSlot s with_masters × (now s ≡ Unused)) (slots_at place) _
-              (each-at (λ s. IsSlot s with_masters × (now s ≡ Unused)) _ (omega (arith, evens))
-              (λ s a b c. (new-slot s a b c, ap (λ v. cond v Unused (slots s)) (at-slot place s a b c))))
-              (each-map (λ s. IsSlot s all × (slots s ≡ Unused)) (λ s. IsSlot s with_masters × (now s ≡ Unused))
-              (λ s u. (forth s u.0, kept-slot s u.0 ∙ u.1)) _ h.unused_slots);
-          once = pairs-append (slots_at place) unused (once-from (place + 16) 64) h.once
-              (each-at (λ s. Each (Apart s) unused) place (omega (arith, evens)) (λ s a b c.
-              each-map (λ u. IsSlot u all × (slots u ≡ Unused)) (Apart s) (λ u v. apart-from s u a b
-              (outside z place top xs st u v.0)) unused h.unused_slots));
-        }
+      lies = lies-agree resource (λ s. is_resource (now s)) _ _
+          (each-named (λ s. resource s ≡ is_resource (now s)) (each-map (λ s. IsSlot s all)
+          (λ s. resource s ≡ is_resource (now s)) (λ s i. sym (ap is_resource (kept-slot s i)))
+          _ h.has_slots.slots)) lies;
+      has_slots = record {
+        slots = each-named (λ s. IsSlot s with_masters)
+            (each-map (λ s. IsSlot s all) (λ s. IsSlot s with_masters) forth (names all) h.has_slots.slots);
+        apart = subst (Pairs Apart) (sym names-now) h.has_slots.apart;
+      };
+      placed = placed-swap 0 below (Free n ∷ []) put above span
+          (tt, placed-run _ (free left) (each-free left)) h.placed;
+      small = (let o = m.outside.kept in omega arith);
+      used = each-named (λ s. IsUsed (now s)) (each-both (λ s. IsSlot s all) (λ s. IsUsed (slots s))
+          (λ s. IsUsed (now s))
+          (λ s i u. subst IsUsed (sym (kept-slot s i)) u) (names all) h.has_slots.slots h.used);
+      says = says;
+      chain = thread-chain (first_of unused) new (slots_at place) _ refl m.thread
+          (chain-kept _ _ unused (each-map (λ s. IsSlot s all × (slots s ≡ Unused))
+          (λ s. piece s 4 new ≡ piece s 4 xs) (λ s u. kept-piece s u.0) unused h.unused_slots) h.chain);
+      unused_slots = each-append (λ s. IsSlot s with_masters × (now s ≡ Unused)) (slots_at place) _
+          (each-at (λ s. IsSlot s with_masters × (now s ≡ Unused)) _ (omega (arith, evens))
+          (λ s a b c. (new-slot s a b c, ap (λ v. cond v Unused (slots s)) (at-slot place s a b c))))
+          (each-map (λ s. IsSlot s all × (slots s ≡ Unused)) (λ s. IsSlot s with_masters × (now s ≡ Unused))
+          (λ s u. (forth s u.0, kept-slot s u.0 ∙ u.1)) _ h.unused_slots);
+      once = pairs-append (slots_at place) unused (once-from (place + 16) 64) h.once
+          (each-at (λ s. Each (Apart s) unused) place (omega (arith, evens)) (λ s a b c.
+          each-map (λ u. IsSlot u all × (slots u ≡ Unused)) (Apart s) (λ u v. apart-from s u a b
+          (outside z place top xs st u v.0)) unused h.unused_slots));
+    }
       where
         apart-from : (s u : ℕ) → place + 16 ≤ s → s + 4 ≤ place + 272 → Clear place (top - place) u → Apart s u
         apart-from s u a b (inl c) = inr (omega arith)

@@ -19,7 +19,7 @@ use Rattle.zone_bytes.specs.Lawful.{IsSound}
 use Rattle.zone_bytes.proofs.Tiles.Tiling.{slot-swap, slot-inside, length-tiles, tiles-slot}
 use Rattle.zone_bytes.proofs.Tiles.Leading.{Clear, piece-clear, each-map, each-left, each-right, names-append}
 use Rattle.zone_bytes.proofs.Tiles.Leading.{leads-append, leads-left, leads-right, leads-written}
-use Rattle.zone_bytes.proofs.Tiles.Keeping.{each-free, names-free, placed-run, placed-swap}
+use Rattle.zone_bytes.proofs.Tiles.Keeping.{each-free, placed-run, placed-swap}
 use Rattle.zone_bytes.proofs.Tiles.Splices.{piece-outside, tiles-splice, leads-outside}
 use Rattle.zone_bytes.proofs.Tiles.Replaced.{zone, is-splice}
 use Rattle.zone_bytes.proofs.Tiles.Changing.{lays-added}

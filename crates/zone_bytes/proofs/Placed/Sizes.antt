@@ -14,16 +14,15 @@ use Rattle.heap_words.specs.declared.header.Header.{Header}
 use Rattle.block_store.specs.Block.{Block, Free, Nonrelocatable, Masters, Relocatable, size, sizes, free, free_of}
 use Rattle.block_store.specs.Block.{free_sum}
 use Rattle.block_store.specs.Block.{is_masters}
-use Rattle.block_store.specs.Block.{content_of, resized, resized_content, tidy}
+use Rattle.block_store.specs.Block.{content_of, resized, resized_content}
 use Rattle.block_store.specs.Room.{Spot, spot_at, filled}
 use Rattle.block_store.specs.Grow.{grow_up}
 use Rattle.block_store.specs.Inner.Stretch.{is_free}
 use Rattle.block_store.proofs.Zone.Apart.{Apart, longer, apart-above}
-use Rattle.block_store.proofs.Content.Resizing.{length-resized, grown-is}
-use Rattle.block_store.proofs.Content.Sized.{Heading, unjoined-above, cut-sized, grown-sized, free_sum-sized}
+use Rattle.block_store.proofs.Content.Resizing.{length-resized}
+use Rattle.block_store.proofs.Content.Sized.{Heading, unjoined-above, cut-sized, free_sum-sized}
 use Rattle.block_store.proofs.Regroup.Packed.{tidy-below}
 use Rattle.block_store.proofs.Zone.Totals.{total-append, total-le}
-use Rattle.block_store.proofs.Zone.Views.{map-some, taken-some}
 use Rattle.zone_bytes.proofs.Laws.Lawful.{sizes-length}
 use Rattle.zone_bytes.specs.Layout.{kind, flag_word, head_of, Tile, names_of, Each, IsPlaced}
 use Rattle.zone_bytes.specs.Walking.{Walk}
@@ -40,13 +39,11 @@ use Rattle.zone_bytes.proofs.Places.Stepped.{left-is}
 use Rattle.zone_bytes.proofs.Places.HeaderTells.{size-at, same-here}
 use Rattle.zone_bytes.proofs.Places.Stepped.{stepped}
 use Rattle.zone_bytes.proofs.Places.Stepped.{header-told}
-use Rattle.zone_bytes.proofs.Places.Options.{the-spot, a-spot, if-spot}
+use Rattle.zone_bytes.proofs.Places.Options.{the-spot}
 use Rattle.zone_bytes.proofs.Blocks.InPlace.{leads-each, no-slots-two}
-use Rattle.zone_bytes.proofs.Blocks.Writes.{content-room}
 use Rattle.zone_bytes.proofs.Placed.Standing.{Standing, standing, held-piece, resource_in}
 use Rattle.zone_bytes.proofs.Placed.Stretched.{laid-lays}
 use Rattle.block_store.proofs.Zone.Listing.{free_of-le}
-use Rattle.block_store.proofs.Zone.Spots.{room-size}
 
 -- blocks that stand apart, parted into the Free one that comes first and the others
 pub headed-above : (above : List Block) → Apart above → Heading above (free_first above) (past_free above)
@@ -211,7 +208,7 @@ module _ (xs : List ℕ) (place n : ℕ) (s : Spot) (at : Standing xs place s) (
           subst (λ bs. Lays now bs (slot_in xs) i.unused) (ap (λ j. s.below ++ new ∷ (free j ++ rest)) k)
           (laid-lays _ _ _ i _ (s.here ∷ free m) _ (at.whole ∙ ap (λ l. s.below
           ++ s.here ∷ l) heads.is) _ _ at.low (omega (arith, span-free)) (omega (
-            arith)) (no-slots-two s.here m same.no_masters) _ _ may-size _ same.still_none (same.size ∙ sym pz)
+          arith)) (no-slots-two s.here m same.no_masters) _ _ may-size _ same.still_none (same.size ∙ sym pz)
           (same.names ∙ sym (ap (λ l. names_of s.here ++ l) (names-free m) ∙ append-nil (names_of s.here)))
           (same.placed at.placed) head-is
           (subst (Each (λ k. piece k 4 xs ≡ word place)) (sym same.names) (leads-each place s.here xs at.leads)))

@@ -4,7 +4,7 @@ use Rattle.std.proofs.Common.{append_assoc}
 use Rattle.std.proofs.Common.{sym, ap, ◌∙◌}
 use Rattle.std.proofs.Common.{subst, arith}
 use Rattle.windows.specs.Writes.{piece}
-use Rattle.block_store.specs.Block.{Block, Free, Nonrelocatable, Masters, Relocatable, size, sizes, content_of, tidy}
+use Rattle.block_store.specs.Block.{Block, Nonrelocatable, Relocatable, size, sizes, content_of, tidy}
 use Rattle.block_store.specs.Room.{Spot, spot_at}
 use Rattle.block_store.specs.Slot.{is_resource}
 use Rattle.block_store.proofs.Zone.Apart.{Apart, apart-tidied}

@@ -8,7 +8,7 @@ use Rattle.heap_words.proofs.Words.{length-word}
 use Rattle.zone_bytes.specs.Fresh.{slots_from}
 use Rattle.zone_bytes.specs.Table.{Chain, first_of, Has}
 use Rattle.zone_bytes.specs.Mastering.{slots_at, Thread, Threading}
-use Rattle.zone_bytes.proofs.Tiles.Splices.{outside-same, outside-written}
+use Rattle.zone_bytes.proofs.Tiles.Splices.{outside-written}
 use Rattle.std.proofs.lemmas.Bool.{cases_eq, cases_lt}
 use Rattle.zone_bytes.specs.Layout.{Apart, Each, Pairs}
 

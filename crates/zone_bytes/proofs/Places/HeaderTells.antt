@@ -5,7 +5,7 @@ use Rattle.std.proofs.lemmas.Bool.{false≢true}
 use Rattle.windows.specs.Writes.{piece}
 use Rattle.heap_words.specs.Words.{word_at}
 use Rattle.block_store.specs.Block.{Block, Free, Nonrelocatable, Masters, Relocatable, size, content_of}
-use Rattle.zone_bytes.specs.Layout.{kind, flag_word, head_of, Tile}
+use Rattle.zone_bytes.specs.Layout.{kind, head_of, Tile}
 use Rattle.zone_bytes.specs.Stepping.{left_in, IsOnWay}
 use Rattle.zone_bytes.proofs.Places.Stepped.{Stepped, stepped}
 use Rattle.zone_bytes.proofs.Places.Stepped.{header-told}

@@ -6,7 +6,7 @@ use Rattle.std.proofs.lemmas.Bool.Decides.{eqb_tells}
 use Rattle.heap_words.specs.Words.{word, word_at}
 use Rattle.heap_words.proofs.Words.{read_back}
 use Rattle.block_store.specs.declared.flags.Flags.{Flags}
-use Rattle.block_store.specs.Block.{Block, Free, Nonrelocatable, Masters, Relocatable, sizes, is_relocatable}
+use Rattle.block_store.specs.Block.{Block, Relocatable, sizes, is_relocatable}
 use Rattle.block_store.specs.Room.{Spot, spot, spot_at}
 use Rattle.block_store.specs.Find.{FindsLowest}
 use Rattle.block_store.specs.Seen.{seen}
@@ -14,9 +14,9 @@ use Rattle.block_store.specs.declared.sparing.Seen.TheVariants as see
 use Rattle.block_store.proofs.Zone.Tidy.{spot-is, spot-passes}
 use Rattle.block_store.proofs.Zone.Apart.{apart-tidied}
 use Rattle.block_store.proofs.Zone.Spots.{spot_at-spot}
-use Rattle.zone_bytes.specs.Layout.{IsSlot, names, Leads, Each}
+use Rattle.zone_bytes.specs.Layout.{IsSlot, Leads}
 use Rattle.zone_bytes.specs.Decode.{zone_in}
-use Rattle.zone_bytes.specs.Stepping.{left_in, IsOnWay}
+use Rattle.zone_bytes.specs.Stepping.{left_in}
 use Rattle.zone_bytes.specs.Table.{slot_in}
 use Rattle.zone_bytes.specs.Lawful.{IsSound}
 use Rattle.zone_bytes.specs.Adopting.{LeadsHere}

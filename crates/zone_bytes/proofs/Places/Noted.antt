@@ -1,8 +1,6 @@
 -- Edges that are noted while blocks are moved.
 use Rattle.std.proofs.Common.{◌≡◌, ℕ, ◌+◌, ◌<◌, inl, inr, List, [], rules}
-use Rattle.std.proofs.Common.{◌∷◌, ◌++◌, length, get_or, set, sym, ap, ◌∙◌, subst, arith}
-use Rattle.std.proofs.lemmas.Bool.Decides.{eqb_tells}
-use Rattle.std.proofs.lemmas.List.{get_or-set_same, get_or-set_other}
+use Rattle.std.proofs.Common.{◌∷◌, ◌++◌, length, get_or, set, arith}
 use Rattle.block_store.specs.Block.{Block, size, sizes}
 use Rattle.zone_bytes.specs.Edges.{Starts, AreEdges}
 use Rattle.zone_bytes.specs.declared.edges.Edges.{Edges}

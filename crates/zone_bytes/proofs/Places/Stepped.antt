@@ -11,14 +11,13 @@ use Rattle.block_store.specs.declared.sparing.Seen.TheVariants as see
 use Rattle.block_store.specs.Block.{Block, Free, Nonrelocatable, Masters, Relocatable, size}
 use Rattle.block_store.specs.Seen.{seen}
 use Rattle.block_store.specs.Walk.{Tells}
-use Rattle.zone_bytes.specs.Layout.{kind, flag_word, head_of, Tile, Tiles, names, names_of, Each, ArePlaced}
-use Rattle.zone_bytes.specs.Decode.{flags_of}
+use Rattle.zone_bytes.specs.Layout.{kind, head_of, Tile, names, names_of, Each, ArePlaced}
 use Rattle.zone_bytes.specs.Walking.{Walk}
 use Rattle.zone_bytes.specs.Stepping.{header_seen, left_in, IsOnWay}
-use Rattle.zone_bytes.proofs.Tiles.Leading.{each-left, each-right}
+use Rattle.zone_bytes.proofs.Tiles.Leading.{each-left}
 use Rattle.zone_bytes.proofs.Tiles.Heads.{next-may, Next, next-there, header-tells}
 use Rattle.zone_bytes.proofs.Tiles.Heads.{MayRead, length-head}
-use Rattle.zone_bytes.proofs.Tiles.Decoding.{says, flag_word-small, flags_of-word, blocks-back}
+use Rattle.zone_bytes.proofs.Tiles.Decoding.{says, blocks-back}
 
 -- a word of a tile, by its place in all the bytes
 pub word-at : (at k : ℕ) (xs : List ℕ) → piece (at + k) 4 xs ≡ piece k 4 (drop at xs)

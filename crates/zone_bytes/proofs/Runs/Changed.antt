@@ -2,7 +2,7 @@
 use Rattle.std.proofs.Common.{◌≡◌, ℕ, ◌+◌, Option, Some, cond, List, ◌++◌, refl, sym, ap, ◌∙◌, subst, arith}
 use Rattle.std.proofs.Common.{append_assoc}
 use Rattle.std.specs.Option.{IfSome}
-use Rattle.block_store.specs.Block.{Block, size, total, count, is_masters, free_of, free_sum, sizes, tidy}
+use Rattle.block_store.specs.Block.{Block, total, count, is_masters, free_sum, sizes, tidy}
 use Rattle.block_store.specs.Run.{RunSpot, run_at, with_run, settle}
 use Rattle.block_store.specs.Rest.{lowered_in_run}
 use Rattle.block_store.specs.Slot.{Slot, is_resource}
@@ -18,7 +18,7 @@ use Rattle.zone_bytes.specs.Table.{Lays, slot_in}
 use Rattle.zone_bytes.specs.Lawful.{IsSound}
 use Rattle.zone_bytes.specs.Placing.{lay_at}
 use Rattle.zone_bytes.specs.Changes.{Replaced}
-use Rattle.zone_bytes.specs.PurgeableBytes.{purgeable_of, purgeable_sum}
+use Rattle.zone_bytes.specs.PurgeableBytes.{purgeable_sum}
 use Rattle.block_store.proofs.Regroup.RunsAbove.{run_at-bottom}
 use Rattle.zone_bytes.specs.Layout.{head_of, Tiles}
 use Rattle.zone_bytes.proofs.Tiles.Splices.{tiles-parts}

@@ -1,6 +1,6 @@
 -- Edges that were noted while a run was packed or raised.
 use Rattle.std.proofs.Common.{◌≡◌, ℕ, ◌+◌, ◌-◌, ◌<◌, inl, inr, Bool, true, false, Some, cond, List, [], ◌∷◌, ◌++◌}
-use Rattle.std.proofs.Common.{append_assoc, refl, ap, ◌∙◌, subst, arith}
+use Rattle.std.proofs.Common.{append_assoc, refl, ◌∙◌, subst, arith}
 use Rattle.block_store.specs.Block.{Block, Free, free, free_sum, is_mover}
 use Rattle.block_store.specs.Run.{RunSpot, run_at, movers, settle}
 use Rattle.block_store.specs.Slot.{Slot}

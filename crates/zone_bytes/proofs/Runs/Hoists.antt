@@ -1,20 +1,19 @@
 -- A block that is moved to the top of its run.
-use Rattle.std.proofs.Common.{◌≡◌, ℕ, ◌+◌, ◌-◌, ◌%◌, ◌≤◌, List, [], ◌∷◌, ◌++◌, length, take, drop, sym, ◌∙◌, rules}
+use Rattle.std.proofs.Common.{◌≡◌, ℕ, ◌+◌, ◌-◌, ◌%◌, ◌≤◌, List, ◌∷◌, ◌++◌, length, take, drop, sym, ◌∙◌, rules}
 use Rattle.std.proofs.Common.{arith, length-append}
-use Rattle.std.proofs.lemmas.List.{append-nil, length-take-le, length-drop}
+use Rattle.std.proofs.lemmas.List.{length-take-le, length-drop}
 use Rattle.windows.specs.Writes.{written, piece}
 use Rattle.windows.proofs.Pieces.{piece-written}
 use Rattle.heap_words.specs.Words.{word_at}
 use Rattle.block_store.specs.Block.{Block, size}
-use Rattle.zone_bytes.specs.Layout.{head_of, Tiles, names, names_of}
-use Rattle.zone_bytes.specs.Settling.{InRun}
+use Rattle.zone_bytes.specs.Layout.{head_of, Tiles}
 use Rattle.zone_bytes.specs.Splicing.{SameOutside}
 use Rattle.zone_bytes.specs.Pointing.{IsMoved, Pointed}
 use Rattle.zone_bytes.specs.Hoisting.{Hoist, unhoisted, hoisted_run, MayHoist, Hoisted}
 use Rattle.zone_bytes.proofs.Tiles.Heads.{Next, header-there, header-tells}
 use Rattle.zone_bytes.proofs.Tiles.Tiling.{span-append, span-whole, tile-take, tiles-append, tiles-one}
 use Rattle.zone_bytes.proofs.Tiles.Leading.{each-append, names-append}
-use Rattle.zone_bytes.proofs.Tiles.Splices.{tiles-parts, outside-same, outside-written}
+use Rattle.zone_bytes.proofs.Tiles.Splices.{tiles-parts, outside-written}
 use Rattle.zone_bytes.proofs.Tiles.Keeping.{Instead, others-now}
 use Rattle.zone_bytes.proofs.Tiles.Permuted.{turned}
 use Rattle.zone_bytes.proofs.Runs.Packed.{run-bounds, run-moved}

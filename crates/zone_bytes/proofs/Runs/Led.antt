@@ -1,11 +1,11 @@
 -- A packed run whose slots lead to its blocks.
-use Rattle.std.proofs.Common.{◌≡◌, ℕ, ◌+◌, List, refl, subst, arith}
+use Rattle.std.proofs.Common.{ℕ, List, subst, arith}
 use Rattle.block_store.specs.Block.{sizes}
-use Rattle.block_store.specs.Run.{movers, settle}
+use Rattle.block_store.specs.Run.{movers}
 use Rattle.zone_bytes.specs.Layout.{Leads}
 use Rattle.zone_bytes.specs.Settling.{Lay, IsRunFrom, Packed, Settled}
-use Rattle.zone_bytes.proofs.Tiles.Leading.{leads-append, leads-joined}
-use Rattle.zone_bytes.proofs.Tiles.Keeping.{leads-free, span-settle}
+use Rattle.zone_bytes.proofs.Tiles.Leading.{leads-append}
+use Rattle.zone_bytes.proofs.Tiles.Keeping.{span-settle}
 
 -- a packed run whose slots lead to its blocks
 pub settled-of : (lay : Lay) (place stop gap moves : ℕ) (xs : List ℕ) → IsRunFrom lay place stop → Packed lay gap moves

@@ -8,11 +8,10 @@ use Rattle.block_store.proofs.Zone.Apart.{tidy-apart}
 use Rattle.block_store.proofs.Zone.Totals.{total-append}
 use Rattle.block_store.proofs.Regroup.Lifted.{apart-low, no-movers}
 use Rattle.zone_bytes.specs.Layout.{Leads, Each}
-use Rattle.zone_bytes.specs.Settling.{Lay, InRun, EndsRun, Lies, HasSlots, IsRunFrom, SameOthers, Packed, cut, UntilAt}
+use Rattle.zone_bytes.specs.Settling.{Lay, InRun, EndsRun, Lies, HasSlots, IsRunFrom, Packed, cut, UntilAt}
 use Rattle.zone_bytes.specs.Settling.{Settled}
 use Rattle.zone_bytes.specs.Edges.{AreEdges}
 use Rattle.zone_bytes.specs.declared.edges.Edges.{Edges}
-use Rattle.zone_bytes.specs.Pointing.{IsMoved}
 use Rattle.zone_bytes.specs.Raising.{Raise, MayRaise, Raised, lifted, MayLift, Lifted}
 use Rattle.zone_bytes.proofs.Tiles.Tiling.{span-append}
 use Rattle.zone_bytes.proofs.Tiles.Leading.{each-append, each-right}
@@ -22,7 +21,7 @@ use Rattle.zone_bytes.proofs.Tiles.Keeping.{instead, names-left}
 use Rattle.zone_bytes.proofs.Runs.Packed.{run-bounds, run-moved}
 use Rattle.block_store.proofs.Zone.Spots.{free-some}
 use Rattle.zone_bytes.proofs.Runs.Led.{settled-of}
-use Rattle.zone_bytes.proofs.Runs.Until.{all-of, cut-same, cut-movers, cut-free, cut-span, cut-run, whole}
+use Rattle.zone_bytes.proofs.Runs.Until.{cut-same, cut-movers, cut-free, cut-span, cut-run, whole}
 
 -- a Free block has no relocatable one, and its bytes
 movers-above : (n : ℕ) (blocks : List Block) → movers (free n ++ blocks) ≡ movers blocks

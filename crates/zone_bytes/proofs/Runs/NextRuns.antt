@@ -5,7 +5,7 @@ use Rattle.block_store.specs.Block.{Block, sizes}
 use Rattle.block_store.specs.Compact.{beyond, place_behind, next_run}
 use Rattle.block_store.specs.Run.{RunSpot, run_at, segments}
 use Rattle.block_store.proofs.Regroup.Behind.{beyond-first}
-use Rattle.block_store.proofs.Regroup.RunsAbove.{behind-more, behind-within}
+use Rattle.block_store.proofs.Regroup.RunsAbove.{behind-within}
 use Rattle.block_store.proofs.Regroup.Ends.{first-run, run_at-ended}
 use Rattle.zone_bytes.specs.Decode.{zone_in}
 use Rattle.zone_bytes.specs.Lawful.{IsSound}

@@ -20,7 +20,7 @@ use Rattle.zone_bytes.proofs.Tiles.Tiling.{length-tiles, tile-take, tiles-append
 use Rattle.zone_bytes.proofs.Tiles.Leading.{Clear, each-left, each-right, each-names, pairs-before, pairs-after}
 use Rattle.zone_bytes.proofs.Tiles.Leading.{apart-turned}
 use Rattle.zone_bytes.proofs.Tiles.Leading.{names-append, piece-clear, leads-append, leads-parts, leads-same}
-use Rattle.zone_bytes.proofs.Tiles.Splices.{tiles-parts, outside-same, outside-written, piece-outside}
+use Rattle.zone_bytes.proofs.Tiles.Splices.{tiles-parts, outside-written, piece-outside}
 use Rattle.zone_bytes.proofs.Tiles.Keeping.{run-no_slot, span-movers}
 use Rattle.zone_bytes.proofs.SlotTable.Tables.{apart-clear, each-both}
 

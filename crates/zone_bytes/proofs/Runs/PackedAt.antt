@@ -3,7 +3,7 @@ use Rattle.std.proofs.Common.{◌≡◌, ℕ, ◌+◌, Option, Some, None, List,
 use Rattle.std.proofs.Common.{append_assoc}
 use Rattle.std.specs.Option.{IfSome, IsSomeAnd}
 use Rattle.raw_region.specs.Memory.{Bytes}
-use Rattle.block_store.specs.Block.{Block, is_masters, free_of, free_sum, size, sizes, tidy, total}
+use Rattle.block_store.specs.Block.{Block, is_masters, free_sum, sizes, tidy, total}
 use Rattle.block_store.specs.Run.{RunSpot, run_at, movers, settle, with_run}
 use Rattle.block_store.specs.Rest.{Rest, IsRest}
 use Rattle.block_store.specs.Slot.{Slot}
@@ -21,7 +21,7 @@ use Rattle.zone_bytes.specs.PurgeableBytes.{purgeable_of, purgeable_sum}
 use Rattle.zone_bytes.specs.Table.{slot_in}
 use Rattle.zone_bytes.specs.Lawful.{IsSound, IsKept}
 use Rattle.zone_bytes.specs.Beside.{KeepsPlace, rest_in}
-use Rattle.zone_bytes.proofs.Laws.Lawful.{rest-made, kept-made}
+use Rattle.zone_bytes.proofs.Laws.Lawful.{rest-made}
 use Rattle.block_store.proofs.Regroup.RunsAbove.{run_at-bottom}
 use Rattle.zone_bytes.proofs.Runs.RunsAt.{each-loose}
 use Rattle.zone_bytes.proofs.Runs.Changed.{ChangedRun}

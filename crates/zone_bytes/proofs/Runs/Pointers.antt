@@ -6,7 +6,7 @@ use Rattle.windows.specs.Writes.{written, piece}
 use Rattle.windows.proofs.Pieces.{written-same}
 use Rattle.heap_words.specs.Words.{word, word_at}
 use Rattle.block_store.specs.Block.{Block, Free, Relocatable, size, sizes}
-use Rattle.zone_bytes.specs.Layout.{head_of, Leads}
+use Rattle.zone_bytes.specs.Layout.{head_of}
 use Rattle.zone_bytes.specs.Settling.{Lay, Passing}
 use Rattle.zone_bytes.specs.Pointing.{IsMoved, Pointing, Pointed}
 use Rattle.zone_bytes.proofs.Tiles.Tiling.{slot-even, tiles-append, tiles-none}

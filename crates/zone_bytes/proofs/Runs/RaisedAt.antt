@@ -1,5 +1,5 @@
 -- The run at a place of a zone in bytes is raised.
-use Rattle.std.proofs.Common.{◌≡◌, ℕ, ◌+◌, ◌%◌, ◌<◌, ◌≤◌, IsTrue, inl, inr, Some, List, ◌++◌, sym, ap, arith}
+use Rattle.std.proofs.Common.{◌≡◌, ℕ, ◌+◌, ◌%◌, ◌<◌, ◌≤◌, IsTrue, Some, List, sym, ap, arith}
 use Rattle.std.proofs.Common.{◌∙◌, subst, append_assoc}
 use Rattle.std.specs.Option.{IsSomeAnd}
 use Rattle.block_store.specs.Block.{Block, Free, free_sum, sizes, tidy}
@@ -7,7 +7,7 @@ use Rattle.block_store.specs.Run.{RunSpot, run_at, has_free, low, with_run}
 use Rattle.block_store.proofs.Zone.Apart.{apart-tidy}
 use Rattle.block_store.proofs.Zone.Tidy.{total-tidy}
 use Rattle.block_store.proofs.Regroup.Lifted.{low-none}
-use Rattle.block_store.proofs.Regroup.Packed.{free-enough, low-total}
+use Rattle.block_store.proofs.Regroup.Packed.{low-total}
 use Rattle.block_store.proofs.Regroup.Regrouping.{tidy-change}
 use Rattle.zone_bytes.specs.Raising.{lifted, MayLift, Lifted}
 use Rattle.zone_bytes.specs.Decode.{zone_in}
@@ -15,9 +15,8 @@ use Rattle.zone_bytes.specs.Table.{slot_in}
 use Rattle.zone_bytes.specs.Lawful.{IsSound}
 use Rattle.zone_bytes.specs.Placing.{lay_at}
 use Rattle.zone_bytes.proofs.Runs.Changed.{ChangedRun, relaid-run}
-use Rattle.zone_bytes.proofs.Places.Options.{the-spot}
 use Rattle.zone_bytes.proofs.Runs.RunsAt.{whole, in-run, lay-is, may-settle}
-use Rattle.zone_bytes.proofs.Runs.Lifts.{lifted-none, lifted-some, any-movers, lifted-instead}
+use Rattle.zone_bytes.proofs.Runs.Lifts.{lifted-some, any-movers, lifted-instead}
 
 -- the run at a place, which has so many Free bytes
 pub room-run : (zone : List Block) (place gap : ℕ) → IsSomeAnd (run_at place zone) (λ r. IsTrue (has_free gap r.run))

@@ -1,7 +1,7 @@
 -- The run at a place of a RawZone, and how it is settled.
 use Rattle.std.proofs.Common.{◌≡◌, ℕ, Bool, true, false, not, cond, nat_lt, zero, suc, ◌+◌, ◌<◌, ◌≤◌, Some}
 use Rattle.std.proofs.Common.{List, [], ◌∷◌, ◌++◌, drop, sym, refl, ap, ◌∙◌, subst, arith}
-use Rattle.std.proofs.lemmas.Bool.{false≢true, lt-ltb}
+use Rattle.std.proofs.lemmas.Bool.{false≢true}
 use Rattle.block_store.specs.Block.{Block, Free, Nonrelocatable, Masters, Relocatable, size, sizes, count, is_mover}
 use Rattle.block_store.specs.Block.{free_of}
 use Rattle.block_store.specs.Run.{RunSpot, run_at}
@@ -12,7 +12,7 @@ use Rattle.block_store.proofs.Regroup.RunLists.{run_at-is, run_at-parts}
 use Rattle.zone_bytes.specs.Layout.{Tiles, Each}
 use Rattle.zone_bytes.specs.Settling.{InRun, EndsRun, IsRunFrom, lowered_in_run_from}
 use Rattle.zone_bytes.specs.Decode.{zone_in}
-use Rattle.zone_bytes.specs.Table.{Lays, slot_in}
+use Rattle.zone_bytes.specs.Table.{slot_in}
 use Rattle.zone_bytes.specs.Lawful.{IsSound}
 use Rattle.zone_bytes.specs.Placing.{lay_from, lay_at}
 use Rattle.zone_bytes.specs.Stepping.{left_in, IsOnWay}

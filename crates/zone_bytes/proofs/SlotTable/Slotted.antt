@@ -11,15 +11,14 @@ use Rattle.block_store.specs.Run.{has}
 use Rattle.block_store.specs.Slot.{Unused, Used, set_slot, is_used, is_resource}
 use Rattle.zone_bytes.specs.Decode.{zone_in}
 use Rattle.zone_bytes.specs.Lawful.{IsSound}
-use Rattle.zone_bytes.specs.Table.{Table, Says, Lays, MayGive, slot_in, first_of, empty_word}
+use Rattle.zone_bytes.specs.Table.{Table, Says, Lays, MayGive, slot_in, first_of}
 use Rattle.zone_bytes.specs.Layout.{IsSlot, names, Apart, Each, Pairs}
-use Rattle.zone_bytes.proofs.SlotTable.Tables.{each-both, apart-other, apart-of, slot-in, each-has}
+use Rattle.zone_bytes.proofs.SlotTable.Tables.{each-both, apart-of, slot-in, each-has}
 use Rattle.zone_bytes.proofs.Tiles.Zones.{SomeUnused, some-unused}
 use Rattle.zone_bytes.proofs.Laws.Lawful.{Made, made}
-use Rattle.zone_bytes.proofs.SlotTable.Handles.{used-is, emptied-tells}
+use Rattle.zone_bytes.proofs.SlotTable.Handles.{used-is}
 use Rattle.heap_words.specs.Words.{word_at}
 use Rattle.heap_words.proofs.Words.{read_back}
-use Rattle.zone_bytes.proofs.Tiles.Spelling.{small-emptied}
 
 module _ (xs : List ℕ) (first count : ℕ) (i : IsSound xs first count) where
   module _ (some : 0 < count) where

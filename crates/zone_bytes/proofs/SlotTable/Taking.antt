@@ -1,5 +1,5 @@
 -- A slot is taken from the list of unused ones, and given back.
-use Rattle.std.proofs.Common.{◌≡◌, ℕ, Bool, false, ◌+◌, ◌*◌, ◌/◌, ◌<◌, inl, inr, List, [], ◌∷◌, sym, refl, ◌∙◌}
+use Rattle.std.proofs.Common.{◌≡◌, ℕ, Bool, false, ◌+◌, ◌*◌, ◌/◌, ◌<◌, inl, inr, List, [], ◌∷◌, sym, refl}
 use Rattle.std.proofs.Common.{subst, arith}
 use Rattle.windows.specs.Writes.{written}
 use Rattle.heap_words.specs.Words.{word, word_at}
@@ -9,7 +9,7 @@ use Rattle.block_store.specs.Block.{Block}
 use Rattle.block_store.specs.Slot.{Slot, Unused, Used, set_slot}
 use Rattle.zone_bytes.specs.Layout.{IsSlot, names, Apart, Each}
 use Rattle.zone_bytes.specs.Table.{first_of, Says, Lays}
-use Rattle.zone_bytes.proofs.SlotTable.Tables.{each-both, apart-other, set-other, set-same, slot-in, used-apart}
+use Rattle.zone_bytes.proofs.SlotTable.Tables.{each-both, set-other, slot-in, used-apart}
 use Rattle.zone_bytes.proofs.SlotTable.Tables.{unused-apart, chain-written, lays-written}
 
 module _ (xs : List ℕ) (blocks : List Block) (slots : ℕ → Slot) (first : ℕ) (unused : List ℕ)

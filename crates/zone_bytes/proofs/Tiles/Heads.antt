@@ -2,16 +2,15 @@
 use Rattle.std.proofs.Common.{◌≡◌, ℕ, Bool, ◌+◌, ◌<◌, ◌≤◌, ◌^◌, inl, inr, List, [], ◌∷◌, ◌++◌, length, take, drop, sym}
 use Rattle.std.proofs.Common.{refl, ap, ◌∙◌}
 use Rattle.std.proofs.Common.{arith, length-append, ◌%◌, ◌⊎◌, ◌∷◌, inl, subst, inr}
-use Rattle.std.proofs.lemmas.List.{length-drop, drop-drop, drop-take, take-take, take_all}
+use Rattle.std.proofs.lemmas.List.{length-drop, drop-drop, drop-take, take-take}
 use Rattle.windows.specs.Writes.{piece}
-use Rattle.block_store.proofs.Zone.Spots.{free-some}
 use Rattle.zone_bytes.proofs.Tiles.Tiling.{tiles-one}
 use Rattle.heap_words.specs.Words.{word, word_at, header}
 use Rattle.heap_words.proofs.Words.{length-word, read_back}
 use Rattle.heap_words.proofs.Headers.{length-header}
 use Rattle.block_store.specs.declared.flags.Flags.{Flags}
 use Rattle.block_store.specs.Block.{Block, Free, Nonrelocatable, Masters, Relocatable, size, free}
-use Rattle.zone_bytes.specs.Layout.{kind, flag_word, head_of, Tile, Tiles}
+use Rattle.zone_bytes.specs.Layout.{kind, head_of, Tile, Tiles}
 
 -- the pieces of what a block begins with
 pub tile-piece : (h : List ℕ) (n : ℕ) (ys : List ℕ) → Tile h n ys → (i k : ℕ) → i + k ≤ length h

@@ -1,5 +1,5 @@
 -- The zone that bytes spell, after a call.
-use Rattle.std.proofs.Common.{◌≡◌, ℕ, ◌<◌, List, [], ◌∷◌, length, sym, ap, subst, arith}
+use Rattle.std.proofs.Common.{◌≡◌, ℕ, ◌<◌, List, [], ◌∷◌, length, sym, ap, arith}
 use Rattle.block_store.specs.Block.{Block}
 use Rattle.block_store.specs.Slot.{Slot}
 use Rattle.zone_bytes.specs.Decode.{zone_in}

@@ -1,7 +1,6 @@
-use Rattle.std.proofs.Common.{◌≡◌, ◌+◌, ◌==◌, ◌∙◌, ap, cond, arith, ℕ}
-use Rattle.heap_words.specs.Words.{word, word_at, header}
+use Rattle.std.proofs.Common.{◌∙◌, ap, arith}
+use Rattle.heap_words.specs.Words.{word}
 use Rattle.windows.specs.Writes.{written}
-use Rattle.zone_bytes.specs.Layout.{flag_word}
 use Rattle.zone_bytes.proofs.Tiles.Tags.{tag-small}
 use Rattle.zone_bytes.proofs.Places.Stepped.{may-read}
 use Rattle.zone_bytes.proofs.Places.HeaderTells.{size-at}

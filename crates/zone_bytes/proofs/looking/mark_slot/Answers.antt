@@ -1,10 +1,8 @@
-use Rattle.std.proofs.Common.{◌*◌, ◌/◌, ◌+◌, ◌∙◌, cond, ℕ, ap, sym, subst, arith}
-use Rattle.windows.specs.Writes.{written}
-use Rattle.heap_words.specs.Words.{word}
+use Rattle.std.proofs.Common.{sym, subst, arith}
 use Rattle.block_store.specs.Slot.{Used, set_slot}
 use Rattle.zone_bytes.specs.Table.{Lays}
 use Rattle.zone_bytes.proofs.SlotTable.Handles.{handle-in, flag, here-of, gone-of, leads-read}
-use Rattle.zone_bytes.proofs.SlotTable.Resources.{flags-set, lays-emptied, lays-marked}
+use Rattle.zone_bytes.proofs.SlotTable.Resources.{lays-emptied, lays-marked}
 use Rattle.zone_bytes.proofs.looking.mark_slot.Goals as goal
 
 pub read_word-requires : goal.read_word-requires

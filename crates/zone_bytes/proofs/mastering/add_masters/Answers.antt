@@ -1,5 +1,4 @@
-use Rattle.std.proofs.Common.{arith, subst, ap}
-use Rattle.block_store.specs.Block.{size}
+use Rattle.std.proofs.Common.{arith, subst}
 use Rattle.zone_bytes.specs.Mastering.{HasMasters}
 use Rattle.zone_bytes.proofs.Placed.Carved.{Roomy, roomy}
 use Rattle.zone_bytes.proofs.Placed.MastersCarved.{first-fits, masters-lays}

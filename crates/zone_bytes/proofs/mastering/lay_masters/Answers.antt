@@ -1,4 +1,4 @@
-use Rattle.std.proofs.Common.{◌+◌, subst, arith, refl}
+use Rattle.std.proofs.Common.{◌+◌, subst, arith}
 use Rattle.zone_bytes.specs.Laying.{MayLay}
 use Rattle.zone_bytes.specs.Splicing.{SameOutside}
 use Rattle.zone_bytes.proofs.Placed.MoreSlots.{masters_header, has-masters}

@@ -1,5 +1,4 @@
-use Rattle.std.proofs.Common.{◌+◌, ◌-◌, sym, subst, ◌∙◌, arith}
-use Rattle.zone_bytes.specs.Mastering.{Threading}
+use Rattle.std.proofs.Common.{arith}
 use Rattle.zone_bytes.proofs.Placed.Threads.{threading-start, threading-step, threaded}
 use Rattle.zone_bytes.proofs.mastering.thread_slots.Goals as goal
 

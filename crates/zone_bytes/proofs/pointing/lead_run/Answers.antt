@@ -1,4 +1,4 @@
-use Rattle.std.proofs.Common.{◌+◌, ◌<◌, refl, ◌∙◌, arith, true, false, ◌≡◌, rules}
+use Rattle.std.proofs.Common.{◌+◌, ◌<◌, refl, arith, true, false, ◌≡◌, rules}
 use denote.Enum.Bare.{sameb}
 use Rattle.heap_words.specs.contracts.header.Tag.{the_type}
 use Rattle.heap_words.specs.declared.header.Tag.TheVariants.{Relocatable}

@@ -1,6 +1,4 @@
-use Rattle.std.proofs.Common.{◌∙◌, arith}
-use Rattle.heap_words.specs.Headers.{tag_number}
-use Rattle.zone_bytes.specs.Stepping.{header_seen}
+use Rattle.std.proofs.Common.{arith}
 use Rattle.zone_bytes.proofs.Tiles.Tags.{tag-small}
 use Rattle.zone_bytes.proofs.Places.Stepped.{stepped, may-read}
 use Rattle.zone_bytes.proofs.Places.Steps.{steps}

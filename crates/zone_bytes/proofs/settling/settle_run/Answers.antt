@@ -1,9 +1,7 @@
-use Rattle.std.proofs.Common.{◌≡◌, ◌++◌, [], subst, arith, rules}
-use Rattle.block_store.specs.Run.{movers}
-use Rattle.zone_bytes.specs.Edges.{AreEdges}
+use Rattle.std.proofs.Common.{◌≡◌, [], arith, rules}
 use Rattle.zone_bytes.specs.Settling.{UntilAt, rest_from}
 use Rattle.zone_bytes.proofs.Runs.Led.{settled-led}
-use Rattle.zone_bytes.proofs.Runs.Until.{all-gone, all-of, whole}
+use Rattle.zone_bytes.proofs.Runs.Until.{all-gone, whole}
 use Rattle.zone_bytes.proofs.settling.settle_run.Goals.{After-pack_until}
 use Rattle.zone_bytes.proofs.settling.settle_run.Given.{Over}
 use Rattle.zone_bytes.proofs.settling.settle_run.Goals as goal

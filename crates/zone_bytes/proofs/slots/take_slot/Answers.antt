@@ -15,6 +15,6 @@ write_word-requires c =
 
 pub returns-clause-lays : goal.returns-clause-lays
 returns-clause-lays c = λ t h. (
-      rw c.write_word.ensures.bytes (search (rules, taken)),
-      rw c.read_word-next.ensures (next-of c.args.part.now.bytes t.blocks t.slots c.args.first t.unused h),
-    )
+  rw c.write_word.ensures.bytes (search (rules, taken)),
+  rw c.read_word-next.ensures (next-of c.args.part.now.bytes t.blocks t.slots c.args.first t.unused h),
+)

@@ -1,4 +1,4 @@
-use Rattle.std.proofs.Common.{◌∷◌, [], ◌<◌, length, rules, arith}
+use Rattle.std.proofs.Common.{◌∷◌, [], arith}
 use Rattle.zone_bytes.proofs.Places.Noted.{edges-more, edges-next, starts-last}
 use Rattle.zone_bytes.proofs.edges.Edges.pass.Goals as goal
 

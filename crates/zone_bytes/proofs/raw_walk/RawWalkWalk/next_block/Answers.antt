@@ -1,4 +1,4 @@
-use Rattle.std.proofs.Common.{◌+◌, Some, None, ◌∙◌, subst, arith}
+use Rattle.std.proofs.Common.{◌+◌, Some, ◌∙◌, subst, arith}
 use Rattle.heap_words.specs.Headers.{tag_number}
 use Rattle.block_store.specs.Walk.{Tells}
 use Rattle.zone_bytes.specs.Stepping.{header_seen, left_in}

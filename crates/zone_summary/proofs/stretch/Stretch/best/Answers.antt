@@ -1,4 +1,4 @@
-use Rattle.std.proofs.Common.{◌∙◌, sym, ap, max, arith}
+use Rattle.std.proofs.Common.{◌∙◌, sym, arith}
 use Rattle.zone_summary.proofs.Runs.{best-largest}
 use Rattle.zone_summary.proofs.Spaces.{best-space}
 use Rattle.zone_summary.proofs.stretch.Stretch.best.Goals as goal

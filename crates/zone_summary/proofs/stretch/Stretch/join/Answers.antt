@@ -1,5 +1,4 @@
-use Rattle.std.proofs.Common.{◌+◌, ◌∙◌, refl, sym, ap, max, arith}
-use Rattle.zone_summary.specs.declared.stretch.Stretch.TheVariants.{Ended}
+use Rattle.std.proofs.Common.{◌∙◌, refl, sym, arith}
 use Rattle.zone_summary.proofs.Monoid.{joined-is}
 use Rattle.zone_summary.proofs.stretch.Stretch.join.Goals as goal
 
