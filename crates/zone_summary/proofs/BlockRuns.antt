@@ -1,13 +1,12 @@
 -- The run of the block of a master pointer, after purges: it stays where it is, and as few purges serve as are below it,
 -- and as few of its own as free what it lacks.
-use Rattle.std.proofs.Common.{rules}
-use Rattle.std.proofs.Common.{◌≡◌, ℕ, ◌+◌, ◌-◌, ◌≤◌, ◌<◌, ◌⊎◌, zero, suc, Bool, true, false, not, ◌&&◌, ◌||◌, Option, Some, None}
-use Rattle.std.proofs.Common.{nat_le, List, [], ◌∷◌, ◌++◌, is_some, refl, sym, ◌∙◌, ap, arith, cond, inl, inr, subst}
+use Rattle.std.proofs.Common.{rules, ◌≡◌, ℕ, ◌+◌, ◌-◌, ◌≤◌, ◌<◌, ◌⊎◌, zero, suc, Bool, true, false, not, ◌&&◌, ◌||◌}
+use Rattle.std.proofs.Common.{Option, Some, None, nat_le, List, [], ◌∷◌, ◌++◌, is_some, refl, sym, ◌∙◌, ap, arith, cond}
+use Rattle.std.proofs.Common.{inl, inr, subst}
 use Rattle.std.proofs.lemmas.Bool.{and_parts, cases_lt, cond-true, cond-false, le-leb, lt-leb, true≢false}
 use Rattle.std.proofs.lemmas.Option.{none-some, same_Some}
 use Rattle.std.specs.Option.{option_map}
-use Rattle.block_store.specs.Block.{Block, Free, Relocatable, size, sizes, free_of, count, is_relocatable}
-use Rattle.block_store.specs.Block.{is_purgeable}
+use Rattle.block_store.specs.Block.{Block, Free, Relocatable, size, sizes, free_of, count, is_relocatable, is_purgeable}
 use Rattle.block_store.specs.Fewest.{serves_block, IsFewest}
 use Rattle.block_store.specs.Find.{FindsLowestRun}
 use Rattle.block_store.specs.Inner.RunScan.{met_after, scan_runs}

@@ -1,7 +1,7 @@
 -- The least number of purges after which a run has enough free bytes: all blocks below the run that is the first to have
 -- them, and as few of its own as serve.
-use Rattle.std.proofs.Common.{◌≡◌, ℕ, ◌+◌, ◌-◌, ◌≤◌, ◌<◌, ◌⊎◌, zero, suc, Bool, true, false, Some, None, nat_le}
-use Rattle.std.proofs.Common.{List, [], ◌∷◌, ◌++◌, map, is_some, refl, sym, ◌∙◌, ap, arith, cond, inl, inr}
+use Rattle.std.proofs.Common.{◌≡◌, ℕ, ◌+◌, ◌-◌, ◌≤◌, ◌<◌, ◌⊎◌, zero, suc, Bool, true, false, Some, None, nat_le, List}
+use Rattle.std.proofs.Common.{[], ◌∷◌, ◌++◌, map, is_some, refl, sym, ◌∙◌, ap, arith, cond, inl, inr}
 use Rattle.std.proofs.lemmas.Bool.{cases_lt, cond-true, cond-false, le-leb, leb-false, leb-true, lt-leb, true≢false}
 use Rattle.std.proofs.lemmas.Simd.{map-map}
 use Rattle.std.specs.Option.{option_map}

@@ -1,6 +1,6 @@
 -- Stretches are a monoid, to which lists of blocks go by a homomorphism.
-use Rattle.std.proofs.Common.{◌≡◌, ℕ, ◌+◌, ◌≤◌, max, List, [], ◌∷◌, ◌++◌, refl, sym, ◌∙◌, ap, arith}
-use Rattle.std.proofs.Common.{add-zero, zero-add, add_assoc}
+use Rattle.std.proofs.Common.{◌≡◌, ℕ, ◌+◌, ◌≤◌, max, List, [], ◌∷◌, ◌++◌, refl, sym, ◌∙◌, ap, arith, add-zero, zero-add}
+use Rattle.std.proofs.Common.{add_assoc}
 use Rattle.block_store.specs.Block.{Block}
 use Rattle.zone_summary.specs.Stretches.{join, suffix, best, one, space, spaces_of, stretch_by, stretch_of}
 use Rattle.zone_summary.specs.declared.stretch.Counting.{Counting}

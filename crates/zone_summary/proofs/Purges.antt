@@ -1,6 +1,6 @@
 -- What blocks come to after purges: all those below a place, and some of those above it.
-use Rattle.std.proofs.Common.{◌≡◌, ℕ, ◌+◌, zero, suc, Bool, true, false, List, [], ◌∷◌, ◌++◌, map, nat_le}
-use Rattle.std.proofs.Common.{refl, sym, ◌∙◌, ap, arith, cond, append-nil}
+use Rattle.std.proofs.Common.{◌≡◌, ℕ, ◌+◌, zero, suc, Bool, true, false, List, [], ◌∷◌, ◌++◌, map, nat_le, refl, sym}
+use Rattle.std.proofs.Common.{◌∙◌, ap, arith, cond, append-nil}
 use Rattle.block_store.specs.Block.{Block, Free, size, add, tidy}
 use Rattle.block_store.specs.Compact.{largest_run}
 use Rattle.block_store.specs.Room.{may_be_purged, lowest_purged, purge, count_of}

@@ -1,6 +1,5 @@
 -- The most of a stretch is that of the runs of its blocks.
-use Rattle.std.proofs.Common.{◌≡◌, ℕ, ◌+◌, Bool, true, false, List, [], ◌∷◌, map}
-use Rattle.std.proofs.Common.{refl, arith}
+use Rattle.std.proofs.Common.{◌≡◌, ℕ, ◌+◌, Bool, true, false, List, [], ◌∷◌, map, refl, arith}
 use Rattle.block_store.specs.Block.{Block, free_sum}
 use Rattle.block_store.specs.Compact.{largest, largest_run}
 use Rattle.block_store.specs.Run.{in_run, Segments, segments, put_below}

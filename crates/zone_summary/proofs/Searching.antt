@@ -1,6 +1,6 @@
 -- The search for a run passes blocks by what they come to.
-use Rattle.std.proofs.Common.{◌≡◌, ℕ, ◌+◌, ◌<◌, ◌≤◌, zero, suc, Bool, true, false, not, None, List, [], ◌∷◌, ◌++◌, nat_le}
-use Rattle.std.proofs.Common.{refl, sym, ◌∙◌, ap, arith, append-nil, cond, map, rules}
+use Rattle.std.proofs.Common.{◌≡◌, ℕ, ◌+◌, ◌<◌, ◌≤◌, zero, suc, Bool, true, false, not, None, List, [], ◌∷◌, ◌++◌}
+use Rattle.std.proofs.Common.{nat_le, refl, sym, ◌∙◌, ap, arith, append-nil, cond, map, rules}
 use Rattle.std.proofs.lemmas.Bool.{lt-leb, cond-false}
 use Rattle.block_store.specs.Block.{Block, Free, size, sizes, free_of, free_sum}
 use Rattle.block_store.specs.Inner.RunScan.{met_after, scan_runs}

@@ -1,7 +1,7 @@
 -- The most of the spaces of blocks is the largest free block of the zone once all that may be purged were.
-use Rattle.std.proofs.Common.{◌≡◌, ℕ, max, zero, suc, Bool, true, false, List, [], ◌∷◌, map}
-use Rattle.std.proofs.Common.{refl, arith}
-use Rattle.block_store.specs.Block.{Block, Free, Nonrelocatable, Masters, Relocatable, add, free_of, is_purgeable, size, tidy}
+use Rattle.std.proofs.Common.{◌≡◌, ℕ, max, zero, suc, Bool, true, false, List, [], ◌∷◌, map, refl, arith}
+use Rattle.block_store.specs.Block.{Block, Free, Nonrelocatable, Masters, Relocatable, add, free_of, is_purgeable, size}
+use Rattle.block_store.specs.Block.{tidy}
 use Rattle.block_store.specs.Compact.{largest_free}
 use Rattle.block_store.specs.declared.sparing.Sparing.TheVariants.{Nothing}
 use Rattle.zone_summary.specs.Emptied.{all_purged, emptied}

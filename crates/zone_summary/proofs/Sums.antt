@@ -1,8 +1,7 @@
 -- What stretches hold in sum.
 use Rattle.std.proofs.Common.{◌+◌, ◌≤◌, List, [], ◌∷◌, arith}
 use Rattle.block_store.specs.Block.{Block, Relocatable, size, sizes}
-use Rattle.zone_summary.specs.Stretches.{join, load, prefix, suffix, one, space, spaces_of, stretch_by}
-use Rattle.zone_summary.specs.Stretches.{stretch_of}
+use Rattle.zone_summary.specs.Stretches.{join, load, prefix, suffix, one, space, spaces_of, stretch_by, stretch_of}
 use Rattle.zone_summary.specs.declared.stretch.Counting.{Counting}
 use Rattle.zone_summary.specs.declared.stretch.Counting.TheVariants as counting
 use Rattle.zone_summary.specs.declared.stretch.Stretch.{Stretch}

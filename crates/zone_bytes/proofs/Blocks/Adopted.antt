@@ -1,14 +1,12 @@
 -- A nonrelocatable block that becomes the block of a slot.
-use Rattle.std.proofs.Common.{◌≡◌, ℕ, true, false, IsTrue, ◌==◌, ◌+◌, ◌-◌, ◌%◌, ◌≤◌}
-use Rattle.std.proofs.Common.{Some, List, [], ◌∷◌, ◌++◌, length, drop, sym, refl}
-use Rattle.std.proofs.Common.{ap, ◌∙◌, subst, arith}
+use Rattle.std.proofs.Common.{◌≡◌, ℕ, true, false, IsTrue, ◌==◌, ◌+◌, ◌-◌, ◌%◌, ◌≤◌, Some, List, [], ◌∷◌, ◌++◌, length}
+use Rattle.std.proofs.Common.{drop, sym, refl, ap, ◌∙◌, subst, arith}
 use Rattle.windows.specs.Writes.{written, piece}
 use Rattle.heap_words.specs.Words.{word, word_at, header}
 use Rattle.heap_words.proofs.Headers.{length-header}
 use Rattle.block_store.specs.declared.flags.Flags.{Flags}
 use Rattle.block_store.specs.declared.sparing.Seen.TheVariants as see
-use Rattle.block_store.specs.Block.{Block, Nonrelocatable, Relocatable, size, sizes, count}
-use Rattle.block_store.specs.Block.{is_relocatable}
+use Rattle.block_store.specs.Block.{Block, Nonrelocatable, Relocatable, size, sizes, count, is_relocatable}
 use Rattle.block_store.specs.Block.{is_nonrelocatable, is_masters, tidy, free_sum}
 use Rattle.block_store.specs.Run.{has}
 use Rattle.block_store.specs.Slot.{is_used}

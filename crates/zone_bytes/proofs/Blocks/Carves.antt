@@ -1,6 +1,5 @@
 -- A stretch of a zone without slots, and a Free block in its place.
-use Rattle.std.proofs.Common.{◌≡◌, ℕ, ◌+◌, ◌-◌, ◌%◌, ◌≤◌, inl, inr, List, [], ◌∷◌, ◌++◌}
-use Rattle.std.proofs.Common.{length, drop, sym, ◌∙◌, arith}
+use Rattle.std.proofs.Common.{◌≡◌, ℕ, ◌+◌, ◌-◌, ◌%◌, ◌≤◌, inl, inr, List, [], ◌∷◌, ◌++◌, length, drop, sym, ◌∙◌, arith}
 use Rattle.std.proofs.lemmas.List.{length-take-le, length-drop, take-take}
 use Rattle.windows.specs.Writes.{written, piece}
 use Rattle.heap_words.specs.Words.{word}
@@ -10,13 +9,10 @@ use Rattle.block_store.specs.Block.{Block, Free, sizes}
 use Rattle.zone_bytes.specs.Layout.{head_of, names, IsSlot, Each, Tiles, Leads}
 use Rattle.zone_bytes.specs.Settling.{Lies}
 use Rattle.zone_bytes.specs.Splicing.{SameOutside, Splice, IsSplice}
-use Rattle.zone_bytes.proofs.Tiles.Tiling.{span-append, length-tiles, slot-beside}
-use Rattle.zone_bytes.proofs.Tiles.Tiling.{tiles-one, tiles-split}
+use Rattle.zone_bytes.proofs.Tiles.Tiling.{span-append, length-tiles, slot-beside, tiles-one, tiles-split, span-whole}
 use Rattle.zone_bytes.proofs.Tiles.Leading.{Clear, each-map}
-use Rattle.zone_bytes.proofs.Tiles.Tiling.{span-whole}
 use Rattle.zone_bytes.proofs.Tiles.Heads.{free-tile}
-use Rattle.zone_bytes.proofs.Tiles.Splices.{outside-same, outside-written, tiles-splice}
-use Rattle.zone_bytes.proofs.Tiles.Splices.{leads-splice}
+use Rattle.zone_bytes.proofs.Tiles.Splices.{outside-same, outside-written, tiles-splice, leads-splice}
 
 module _ (zone : Splice) (bottom top : ℕ) (xs : List ℕ) (h : IsSplice zone bottom top xs) where
   abbrev all : List Block

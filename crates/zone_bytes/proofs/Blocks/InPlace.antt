@@ -1,14 +1,11 @@
 -- A block of a RawZone that is written anew where it stands.
-use Rattle.std.proofs.Common.{◌≡◌, ℕ, false, ◌+◌, ◌-◌, ◌<◌, inl, inr, List, [], ◌∷◌, ◌++◌, take, drop}
-use Rattle.std.proofs.Common.{◌≤◌, length}
-use Rattle.std.proofs.Common.{sym, ap, ◌∙◌, subst, arith}
+use Rattle.std.proofs.Common.{◌≡◌, ℕ, false, ◌+◌, ◌-◌, ◌<◌, inl, inr, List, [], ◌∷◌, ◌++◌, take, drop, ◌≤◌, length, sym}
+use Rattle.std.proofs.Common.{ap, ◌∙◌, subst, arith}
 use Rattle.std.proofs.lemmas.Bool.{false≢true}
 use Rattle.std.proofs.lemmas.List.{length-take-le, length-drop, append-nil}
 use Rattle.windows.specs.Writes.{piece, written}
 use Rattle.heap_words.specs.Words.{word}
-use Rattle.block_store.specs.Block.{Block, Masters, Relocatable, size, sizes, tidy, count}
-use Rattle.block_store.specs.Block.{is_masters, free}
-use Rattle.block_store.specs.Block.{total}
+use Rattle.block_store.specs.Block.{Block, Masters, Relocatable, size, sizes, tidy, count, is_masters, free, total}
 use Rattle.block_store.proofs.Zone.Totals.{total-append}
 use Rattle.zone_bytes.specs.Layout.{head_of, Tile, Tiles, IsSlot, names_of, LeadsTo, Each, IsPlaced, names, Leads}
 use Rattle.zone_bytes.specs.Layout.{ArePlaced}
@@ -25,8 +22,7 @@ use Rattle.zone_bytes.proofs.Tiles.Replaced.{zone, is-splice, replaced}
 use Rattle.zone_bytes.proofs.Laws.Lawful.{Made, made}
 use Rattle.block_store.specs.Slot.{is_resource}
 use Rattle.windows.proofs.Pieces.{length-written, take-written_above, drop-written_below}
-use Rattle.zone_bytes.proofs.Tiles.Keeping.{each-free, placed-right, placed-run}
-use Rattle.zone_bytes.proofs.Tiles.Keeping.{run-no_slot, leads-free}
+use Rattle.zone_bytes.proofs.Tiles.Keeping.{each-free, placed-right, placed-run, run-no_slot, leads-free}
 use Rattle.zone_bytes.proofs.Joined.Ways.{tile-at}
 
 -- where a slot leads hangs on the block's names alone

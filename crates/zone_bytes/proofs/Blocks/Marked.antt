@@ -1,13 +1,12 @@
 -- A block whose flags are set.
-use Rattle.std.proofs.Common.{◌≡◌, ℕ, Bool, false, cond, ◌==◌, ◌+◌, ◌%◌, List, ◌∷◌, ◌++◌}
-use Rattle.std.proofs.Common.{sym, refl, ap, ◌∙◌, subst, arith}
+use Rattle.std.proofs.Common.{◌≡◌, ℕ, Bool, false, cond, ◌==◌, ◌+◌, ◌%◌, List, ◌∷◌, ◌++◌, sym, refl, ap, ◌∙◌, subst}
+use Rattle.std.proofs.Common.{arith}
 use Rattle.windows.specs.Writes.{written}
 use Rattle.heap_words.specs.Words.{word, word_at, header}
 use Rattle.heap_words.proofs.Words.{length-word}
 use Rattle.block_store.specs.declared.flags.Flags.{Flags}
 use Rattle.block_store.specs.Block.{Block, Free, Nonrelocatable, Masters, Relocatable, size, sizes, tidy, count}
-use Rattle.block_store.specs.Block.{is_masters}
-use Rattle.block_store.specs.Block.{free_of, free_sum}
+use Rattle.block_store.specs.Block.{is_masters, free_of, free_sum}
 use Rattle.block_store.specs.Seen.{with_flags}
 use Rattle.block_store.proofs.Purged.Purges.{tidy-flags}
 use Rattle.zone_bytes.specs.Layout.{kind, flag_word, head_of}

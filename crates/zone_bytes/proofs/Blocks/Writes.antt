@@ -1,6 +1,6 @@
 -- Bytes that are written into a block.
-use Rattle.std.proofs.Common.{◌≡◌, ℕ, ◌+◌, ◌≤◌, List, [], ◌∷◌, ◌++◌, length, take, drop, sym, refl, ap}
-use Rattle.std.proofs.Common.{◌∙◌, subst, arith, append_assoc}
+use Rattle.std.proofs.Common.{◌≡◌, ℕ, ◌+◌, ◌≤◌, List, [], ◌∷◌, ◌++◌, length, take, drop, sym, refl, ap, ◌∙◌, subst}
+use Rattle.std.proofs.Common.{arith, append_assoc}
 use Rattle.std.proofs.lemmas.List.{drop-drop}
 use Rattle.std.proofs.Math.Seq.{take-append-add}
 use Rattle.windows.specs.Writes.{written}
@@ -8,8 +8,7 @@ use Rattle.windows.proofs.Pieces.{written-same, length-written}
 use Rattle.heap_words.proofs.Headers.{length-header}
 use Rattle.mac_words.specs.Size.{padded}
 use Rattle.block_store.specs.Block.{Block, Free, Nonrelocatable, Masters, Relocatable, size, sizes, tidy, count}
-use Rattle.block_store.specs.Block.{is_masters}
-use Rattle.block_store.specs.Block.{content_of, with_content, free_of, free_sum}
+use Rattle.block_store.specs.Block.{is_masters, content_of, with_content, free_of, free_sum}
 use Rattle.block_store.proofs.Zone.Apart.{tidy-content}
 use Rattle.zone_bytes.specs.Layout.{head_of}
 use Rattle.zone_bytes.specs.Decode.{zone_in}

@@ -1,12 +1,10 @@
 -- What blocks would give if they were emptied, through each change of a zone.
-use Rattle.std.proofs.Common.{◌≡◌, ℕ, zero, suc, ◌+◌, ◌-◌, ◌≤◌, ◌<◌, ◌^◌, Bool, true, false, not, cond, Option}
-use Rattle.std.proofs.Common.{Some, None}
-use Rattle.std.proofs.Common.{List, [], ◌∷◌, ◌++◌, map, refl, ap, ◌∙◌, arith}
+use Rattle.std.proofs.Common.{◌≡◌, ℕ, zero, suc, ◌+◌, ◌-◌, ◌≤◌, ◌<◌, ◌^◌, Bool, true, false, not, cond, Option, Some}
+use Rattle.std.proofs.Common.{None, List, [], ◌∷◌, ◌++◌, map, refl, ap, ◌∙◌, arith}
 use Rattle.std.proofs.lemmas.Bool.{and_parts, false≢true}
 use Rattle.std.specs.Option.{option_map}
 use Rattle.block_store.specs.Block.{Block, Free, Nonrelocatable, Masters, Relocatable, size, sizes, total, free_of}
-use Rattle.block_store.specs.Block.{free_sum}
-use Rattle.block_store.specs.Block.{count, is_purgeable, is_room, fresh, tidy}
+use Rattle.block_store.specs.Block.{free_sum, count, is_purgeable, is_room, fresh, tidy}
 use Rattle.block_store.specs.Grow.{freed, grow_up}
 use Rattle.block_store.specs.Room.{Spot, spot, raised, filled, may_be_purged, lowest_purged}
 use Rattle.block_store.specs.Sparing.{most_purges, purged, spared}

@@ -1,6 +1,6 @@
 -- Free bytes that are made one with a Free block above them.
-use Rattle.std.proofs.Common.{◌≡◌, ℕ, false, ◌+◌, ◌-◌, ◌<◌, ◌≤◌, List, [], ◌∷◌, ◌++◌, length, sym, refl, ap, ◌∙◌}
-use Rattle.std.proofs.Common.{subst, arith, append_assoc}
+use Rattle.std.proofs.Common.{◌≡◌, ℕ, false, ◌+◌, ◌-◌, ◌<◌, ◌≤◌, List, [], ◌∷◌, ◌++◌, length, sym, refl, ap, ◌∙◌, subst}
+use Rattle.std.proofs.Common.{arith, append_assoc}
 use Rattle.block_store.specs.Block.{Block, Free, Nonrelocatable, Masters, Relocatable, size, sizes, free, free_of, add}
 use Rattle.block_store.specs.Inner.Stretch.{is_free}
 use Rattle.block_store.proofs.Zone.Joining.{add-alone, add-free}

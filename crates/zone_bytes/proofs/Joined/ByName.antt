@@ -1,10 +1,9 @@
 -- The block that a handle's slot leads to.
-use Rattle.std.proofs.Common.{◌≡◌, ℕ, Bool, true, false, ◌+◌, ◌%◌, ◌≤◌, ◌⊎◌, inl, inr, List, [], ◌∷◌, IsTrue}
-use Rattle.std.proofs.Common.{◌++◌, length, sym, refl, ap, ◌∙◌, subst, arith}
+use Rattle.std.proofs.Common.{◌≡◌, ℕ, Bool, true, false, ◌+◌, ◌%◌, ◌≤◌, ◌⊎◌, inl, inr, List, [], ◌∷◌, IsTrue, ◌++◌}
+use Rattle.std.proofs.Common.{length, sym, refl, ap, ◌∙◌, subst, arith}
 use Rattle.std.proofs.lemmas.List.{map-append}
 use Rattle.heap_words.specs.Words.{word_at}
-use Rattle.block_store.specs.Block.{Block, Free, Relocatable, size, sizes, tidy, free_of, free_sum}
-use Rattle.block_store.specs.Block.{is_relocatable}
+use Rattle.block_store.specs.Block.{Block, Free, Relocatable, size, sizes, tidy, free_of, free_sum, is_relocatable}
 use Rattle.block_store.specs.Grow.{freed}
 use Rattle.block_store.specs.Slot.{is_used}
 use Rattle.block_store.proofs.Zone.Tidy.{total-tidy}

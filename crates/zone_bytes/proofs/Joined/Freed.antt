@@ -1,6 +1,6 @@
 -- A block that is made one with the Free bytes below it.
-use Rattle.std.proofs.Common.{◌≡◌, ℕ, Bool, ◌+◌, ◌-◌, ◌%◌, ◌<◌, ◌≤◌, ◌⊎◌, inl, inr, nat_le, List, [], ◌∷◌}
-use Rattle.std.proofs.Common.{◌++◌, length, drop, sym, refl, ap, ◌∙◌, subst, arith, append_assoc}
+use Rattle.std.proofs.Common.{◌≡◌, ℕ, Bool, ◌+◌, ◌-◌, ◌%◌, ◌<◌, ◌≤◌, ◌⊎◌, inl, inr, nat_le, List, [], ◌∷◌, ◌++◌, length}
+use Rattle.std.proofs.Common.{drop, sym, refl, ap, ◌∙◌, subst, arith, append_assoc}
 use Rattle.windows.specs.Writes.{written, piece}
 use Rattle.windows.proofs.Pieces.{length-written, piece-written}
 use Rattle.heap_words.specs.Words.{word, word_at}
@@ -14,9 +14,9 @@ use Rattle.zone_bytes.specs.Settling.{Lies, HasSlots}
 use Rattle.zone_bytes.specs.Splicing.{Splice, SameOutside, IsSplice}
 use Rattle.zone_bytes.specs.Joining.{Freeing, MayFree}
 use Rattle.zone_bytes.specs.Table.{Has, IsUsed, Lays, empty_word}
-use Rattle.zone_bytes.proofs.Tiles.Tiling.{span-append, length-tiles, slot-inside, tiles-slot, slot-swap}
-use Rattle.zone_bytes.proofs.Tiles.Leading.{each-right, each-map, each-append, names-append, pairs-before}
-use Rattle.zone_bytes.proofs.Tiles.Leading.{pairs-after, piece-clear, leads-written}
+use Rattle.zone_bytes.proofs.Tiles.Tiling.{span-append, length-tiles, slot-inside, tiles-slot, slot-swap, slot-even}
+use Rattle.zone_bytes.proofs.Tiles.Leading.{each-right, each-map, each-append, names-append, pairs-before, pairs-after}
+use Rattle.zone_bytes.proofs.Tiles.Leading.{piece-clear, leads-written}
 use Rattle.zone_bytes.proofs.Tiles.Keeping.{lays-kept, span-free, slot-run, placed-swap}
 use Rattle.zone_bytes.proofs.Tiles.Changing.{lays-removed}
 use Rattle.zone_bytes.proofs.Tiles.Replaced.{zone, is-splice}
@@ -25,7 +25,6 @@ use Rattle.zone_bytes.proofs.Tiles.Decoding.{flag_word-small}
 use Rattle.zone_bytes.proofs.Places.Stepped.{header-told}
 use Rattle.zone_bytes.proofs.SlotTable.Tables.{apart-clear}
 use Rattle.zone_bytes.proofs.Tiles.Heads.{length-masters}
-use Rattle.zone_bytes.proofs.Tiles.Tiling.{slot-even}
 use Rattle.block_store.proofs.Zone.Spots.{free-some}
 use Rattle.zone_bytes.proofs.Blocks.Carves.{outside}
 use Rattle.zone_bytes.proofs.Joined.Ways.{Read, read, tile-at}

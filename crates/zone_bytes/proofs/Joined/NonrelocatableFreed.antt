@@ -1,10 +1,9 @@
 -- The nonrelocatable block at a place is made Free.
-use Rattle.std.proofs.Common.{◌≡◌, ℕ, true, false, ◌+◌, ◌<◌, ◌≤◌, inl, inr, Some, List, [], ◌⊎◌}
-use Rattle.std.proofs.Common.{◌∷◌, ◌++◌, sym, refl, ap, ◌∙◌, subst, arith}
+use Rattle.std.proofs.Common.{◌≡◌, ℕ, true, false, ◌+◌, ◌<◌, ◌≤◌, inl, inr, Some, List, [], ◌⊎◌, ◌∷◌, ◌++◌, sym, refl}
+use Rattle.std.proofs.Common.{ap, ◌∙◌, subst, arith}
 use Rattle.std.proofs.lemmas.Bool.{false≢true, ne_eqb}
 use Rattle.block_store.specs.Block.{Block, Free, Nonrelocatable, Masters, Relocatable, size, sizes, tidy, count}
-use Rattle.block_store.specs.Block.{free_of}
-use Rattle.block_store.specs.Block.{free_sum, is_nonrelocatable, is_masters}
+use Rattle.block_store.specs.Block.{free_of, free_sum, is_nonrelocatable, is_masters}
 use Rattle.block_store.specs.Room.{Spot, spot_at}
 use Rattle.block_store.specs.Grow.{freed}
 use Rattle.block_store.proofs.Zone.Tidy.{total-tidy}

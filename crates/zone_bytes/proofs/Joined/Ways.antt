@@ -1,19 +1,16 @@
 -- A walk that begins at a block of a zone that bytes lay.
-use Rattle.std.proofs.Common.{◌≡◌, ℕ, ◌+◌, ◌<◌, ◌≤◌, ◌^◌, ◌%◌, List, ◌∷◌, ◌++◌, length, drop, refl, ◌∙◌}
-use Rattle.std.proofs.Common.{subst, arith}
+use Rattle.std.proofs.Common.{◌≡◌, ℕ, ◌+◌, ◌<◌, ◌≤◌, ◌^◌, ◌%◌, List, ◌∷◌, ◌++◌, length, drop, refl, ◌∙◌, subst, arith}
 use Rattle.heap_words.specs.Words.{word_at}
 use Rattle.block_store.specs.Block.{Block, size, sizes}
 use Rattle.block_store.specs.Slot.{Slot, is_resource}
 use Rattle.zone_bytes.specs.Layout.{kind, head_of, Tile, IsSlot, names, Each, ArePlaced}
 use Rattle.zone_bytes.specs.Stepping.{left_in, IsOnWay}
 use Rattle.zone_bytes.specs.Table.{Lays}
-use Rattle.zone_bytes.proofs.Tiles.Tiling.{span-append, length-tiles, slot-inside, tiles-split}
+use Rattle.zone_bytes.proofs.Tiles.Tiling.{span-append, length-tiles, slot-inside, tiles-split, span-whole}
 use Rattle.zone_bytes.proofs.Tiles.Leading.{each-names, each-map}
 use Rattle.zone_bytes.proofs.Tiles.Keeping.{placed-right}
-use Rattle.zone_bytes.proofs.Tiles.Heads.{first-reads}
-use Rattle.zone_bytes.proofs.Tiles.Tiling.{span-whole}
+use Rattle.zone_bytes.proofs.Tiles.Heads.{first-reads, MayRead}
 use Rattle.zone_bytes.proofs.Places.Stepped.{left-is}
-use Rattle.zone_bytes.proofs.Tiles.Heads.{MayRead}
 
 module _ (xs : List ℕ) (below above : List Block) (slots : ℕ
     → Slot) (unused : List ℕ) (h : Lays xs (below ++ above) slots unused)

@@ -1,6 +1,6 @@
 -- A zone that bytes lay keeps the laws of a store.
-use Rattle.std.proofs.Common.{◌≡◌, ℕ, false, cond, eqb, ◌+◌, ◌≤◌, inl, inr, List, [], ◌∷◌, length, drop}
-use Rattle.std.proofs.Common.{sym, refl, ap, ◌∙◌, subst, arith}
+use Rattle.std.proofs.Common.{◌≡◌, ℕ, false, cond, eqb, ◌+◌, ◌≤◌, inl, inr, List, [], ◌∷◌, length, drop, sym, refl, ap}
+use Rattle.std.proofs.Common.{◌∙◌, subst, arith}
 use Rattle.std.proofs.lemmas.Bool.{false≢true}
 use Rattle.std.proofs.lemmas.Bool.Decides.{eqb_tells}
 use Rattle.mac_words.specs.Size.{padded}

@@ -1,7 +1,6 @@
 -- A new block at the lower end of a Free one.
 use Rattle.std.proofs.Common.{◌≡◌, ℕ, ◌+◌, ◌-◌, ◌≤◌, IsTrue, Some, List, [], ◌∷◌, ◌++◌, length, replicate, cond, false}
-use Rattle.std.proofs.Common.{Bool, true, ◌==◌, rules}
-use Rattle.std.proofs.Common.{refl, sym, ap, ◌∙◌, subst, arith}
+use Rattle.std.proofs.Common.{Bool, true, ◌==◌, rules, refl, sym, ap, ◌∙◌, subst, arith}
 use Rattle.std.proofs.lemmas.Bool.{false≢true}
 use Rattle.std.proofs.lemmas.List.{length-replicate}
 use Rattle.std.specs.Option.{IsSomeAnd}
@@ -11,13 +10,10 @@ use Rattle.heap_words.specs.Headers.{header_bytes}
 use Rattle.heap_words.specs.declared.header.Header.{Header}
 use Rattle.heap_words.specs.declared.header.Tag.TheVariants as tag
 use Rattle.block_store.specs.Block.{Block, Free, Nonrelocatable, Masters, Relocatable, size, free, free_sum}
-use Rattle.block_store.specs.Block.{is_relocatable, no_flags}
-use Rattle.block_store.specs.Block.{count, is_masters}
-use Rattle.block_store.specs.Block.{is_room, resized_content, tidy}
+use Rattle.block_store.specs.Block.{is_relocatable, no_flags, count, is_masters, is_room, resized_content, tidy}
 use Rattle.block_store.specs.Room.{Spot, spot_at, filled}
 use Rattle.block_store.proofs.Zone.Totals.{total-append}
-use Rattle.block_store.proofs.Zone.Apart.{Apart, apart-above}
-use Rattle.block_store.proofs.Zone.Apart.{tidy-tidy}
+use Rattle.block_store.proofs.Zone.Apart.{Apart, apart-above, tidy-tidy}
 use Rattle.block_store.proofs.Content.Sized.{Heading, unjoined-above, cut-sized, filled-free, filled-count}
 use Rattle.zone_bytes.proofs.Laws.Lawful.{Made, made}
 use Rattle.zone_bytes.specs.Layout.{head_of, names_of, flag_word}

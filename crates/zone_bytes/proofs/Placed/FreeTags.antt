@@ -7,8 +7,7 @@ use Rattle.zone_bytes.specs.Stepping.{left_in, IsOnWay}
 use Rattle.zone_bytes.specs.Laying.{free_first}
 use Rattle.zone_bytes.proofs.Tiles.Tags.{tag-small}
 use Rattle.zone_bytes.proofs.Places.HeaderTells.{size-at}
-use Rattle.zone_bytes.proofs.Places.Stepped.{stepped}
-use Rattle.zone_bytes.proofs.Places.Stepped.{left-none}
+use Rattle.zone_bytes.proofs.Places.Stepped.{stepped, left-none}
 use Rattle.zone_bytes.proofs.Joined.Above.{free-other}
 
 module _ (at : ℕ) (xs : List ℕ) (w : IsOnWay at xs) where

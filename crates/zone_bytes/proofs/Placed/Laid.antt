@@ -1,6 +1,6 @@
 -- What the bytes are where a block was laid.
-use Rattle.std.proofs.Common.{◌≡◌, ℕ, true, false, nat_lt, ◌+◌, ◌-◌, ◌<◌, ◌≤◌, ◌⊎◌, inl, inr, List, ◌++◌}
-use Rattle.std.proofs.Common.{length, take, drop, replicate, sym, ap, ◌∙◌, arith, length-append}
+use Rattle.std.proofs.Common.{◌≡◌, ℕ, true, false, nat_lt, ◌+◌, ◌-◌, ◌<◌, ◌≤◌, ◌⊎◌, inl, inr, List, ◌++◌, length, take}
+use Rattle.std.proofs.Common.{drop, replicate, sym, ap, ◌∙◌, arith, length-append}
 use Rattle.std.proofs.lemmas.List.{length-drop, length-take-le, length-replicate, take-take, drop-drop, take_all}
 use Rattle.std.proofs.lemmas.List.{append-nil}
 use Rattle.std.proofs.Math.Seq.{take-add}

@@ -1,6 +1,6 @@
 -- A Masters block more in the bytes of a zone.
-use Rattle.std.proofs.Common.{◌≡◌, ℕ, Bool, true, false, cond, ◌+◌, ◌-◌, ◌*◌, ◌%◌, ◌<◌, ◌≤◌, ◌⊎◌, inl, inr}
-use Rattle.std.proofs.Common.{zero, suc, List, [], ◌∷◌, ◌++◌, take, drop, sym, refl, ap, ◌∙◌, subst, arith}
+use Rattle.std.proofs.Common.{◌≡◌, ℕ, Bool, true, false, cond, ◌+◌, ◌-◌, ◌*◌, ◌%◌, ◌<◌, ◌≤◌, ◌⊎◌, inl, inr, zero, suc}
+use Rattle.std.proofs.Common.{List, [], ◌∷◌, ◌++◌, take, drop, sym, refl, ap, ◌∙◌, subst, arith}
 use Rattle.std.proofs.lemmas.Bool.{false≢true}
 use Rattle.std.proofs.lemmas.List.{take-take, drop-drop, drop-take, length-drop}
 use Rattle.windows.specs.Writes.{piece}
@@ -21,16 +21,14 @@ use Rattle.zone_bytes.proofs.Placed.Laid.{laid-outside, laid-left, laid-first}
 use Rattle.zone_bytes.proofs.Tiles.Tiling.{slot-swap, slot-append_right}
 use Rattle.zone_bytes.proofs.Tiles.Leading.{Clear, each-append, each-map}
 use Rattle.zone_bytes.proofs.Tiles.Keeping.{chain-kept, names-free, span-free, each-free, placed-run, placed-swap}
-use Rattle.zone_bytes.proofs.Tiles.Keeping.{names-swap}
+use Rattle.zone_bytes.proofs.Tiles.Keeping.{names-swap, leads-free, run-no_slot}
 use Rattle.zone_bytes.proofs.Tiles.Splices.{piece-outside}
 use Rattle.zone_bytes.proofs.Tiles.Replaced.{zone, is-splice}
 use Rattle.zone_bytes.proofs.SlotTable.Tables.{each-both, lies-agree}
 use Rattle.zone_bytes.proofs.Blocks.InPlace.{no-slots}
-use Rattle.zone_bytes.proofs.Tiles.Keeping.{leads-free}
 use Rattle.zone_bytes.proofs.Blocks.Carves.{outside, even, lies-put}
 use Rattle.zone_bytes.proofs.Placed.Stretched.{tiles-two}
 use Rattle.zone_bytes.proofs.Placed.Threads.{has-slot, once-from, thread-chain}
-use Rattle.zone_bytes.proofs.Tiles.Keeping.{run-no_slot}
 
 -- a part of a stretch that was written anew
 pub outside-within : (lo hi a b : ℕ) (xs mid new : List ℕ) → lo ≤ a → b ≤ hi → SameOutside lo hi xs mid

@@ -1,7 +1,6 @@
 -- A block in the place of some that have no names and no slots, to which a slot is made to lead.
 use Rattle.std.proofs.Common.{◌≡◌, ℕ, false, IsTrue, ◌+◌, ◌-◌, ◌<◌, inl, inr, List, [], ◌∷◌, ◌++◌, length, sym, ap, ◌∙◌}
-use Rattle.std.proofs.Common.{subst, refl, ◌≤◌, rules}
-use Rattle.std.proofs.Common.{arith}
+use Rattle.std.proofs.Common.{subst, refl, ◌≤◌, rules, arith}
 use Rattle.windows.specs.Writes.{written, piece}
 use Rattle.windows.proofs.Pieces.{length-written, piece-written}
 use Rattle.heap_words.specs.Words.{word}
@@ -19,17 +18,15 @@ use Rattle.zone_bytes.specs.Lawful.{IsSound}
 use Rattle.zone_bytes.proofs.Tiles.Tiling.{slot-swap, slot-inside, length-tiles, tiles-slot}
 use Rattle.zone_bytes.proofs.Tiles.Leading.{Clear, piece-clear, each-map, each-left, each-right, names-append}
 use Rattle.zone_bytes.proofs.Tiles.Leading.{leads-append, leads-left, leads-right, leads-written}
-use Rattle.zone_bytes.proofs.Tiles.Keeping.{each-free, placed-run, placed-swap}
+use Rattle.zone_bytes.proofs.Tiles.Keeping.{each-free, placed-run, placed-swap, run-no_slot, leads-free}
 use Rattle.zone_bytes.proofs.Tiles.Splices.{piece-outside, tiles-splice, leads-outside}
 use Rattle.zone_bytes.proofs.Tiles.Replaced.{zone, is-splice}
 use Rattle.zone_bytes.proofs.Tiles.Changing.{lays-added}
 use Rattle.zone_bytes.proofs.Tiles.Heads.{length-masters}
-use Rattle.zone_bytes.proofs.Tiles.Keeping.{run-no_slot}
 use Rattle.zone_bytes.proofs.SlotTable.Slotted.{flag, slot-is, name-apart, slot-reads-in}
 use Rattle.zone_bytes.proofs.SlotTable.Tables.{apart-clear}
 use Rattle.zone_bytes.proofs.Blocks.Carves.{clear, outside}
 use Rattle.zone_bytes.proofs.Placed.Standing.{resource_in}
-use Rattle.zone_bytes.proofs.Tiles.Keeping.{leads-free}
 
 -- one name more
 each-put : (P : ℕ → Type 0) (s : ℕ) (xs ys : List ℕ) → P s → Each P (xs ++ ys) → Each P (xs ++ s ∷ ys)

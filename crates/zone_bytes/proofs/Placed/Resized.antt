@@ -1,14 +1,13 @@
 -- The zone in bytes after a block was given another size.
-use Rattle.std.proofs.Common.{◌≡◌, ℕ, ◌-◌, ◌<◌, ◌≤◌, ◌⊎◌, ◌+◌, inl, inr, false, Some, List, [], ◌∷◌, ◌++◌}
-use Rattle.std.proofs.Common.{refl, sym, ap, ◌∙◌, subst, arith}
+use Rattle.std.proofs.Common.{◌≡◌, ℕ, ◌-◌, ◌<◌, ◌≤◌, ◌⊎◌, ◌+◌, inl, inr, false, Some, List, [], ◌∷◌, ◌++◌, refl, sym}
+use Rattle.std.proofs.Common.{ap, ◌∙◌, subst, arith}
 use Rattle.std.specs.Option.{IfSome}
 use Rattle.block_store.specs.Block.{Block, Free, free, size, count, is_masters, resized}
 use Rattle.block_store.specs.Inner.Stretch.{is_free}
-use Rattle.block_store.proofs.Zone.Apart.{apart-above}
+use Rattle.block_store.proofs.Zone.Apart.{apart-above, tidy-tidy}
 use Rattle.block_store.proofs.Content.Sized.{Heading, cut-sized, grown-sized}
 use Rattle.block_store.specs.Room.{Spot, spot_at, filled}
 use Rattle.block_store.specs.Grow.{grow_up}
-use Rattle.block_store.proofs.Zone.Apart.{tidy-tidy}
 use Rattle.block_store.proofs.Zone.Tidy.{total-tidy}
 use Rattle.block_store.proofs.Zone.Totals.{total-append}
 use Rattle.block_store.proofs.Content.Resizing.{less_or_more, tidy-grown, count-grown, is_masters-resized}

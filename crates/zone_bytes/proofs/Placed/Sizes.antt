@@ -1,8 +1,6 @@
 -- A block at another size, where it stands.
 use Rattle.std.proofs.Common.{◌≡◌, ℕ, Bool, true, false, ◌==◌, ◌+◌, ◌-◌, ◌%◌, ◌<◌, ◌≤◌, ◌^◌, ◌⊎◌, inl, inr, zero, suc}
-use Rattle.std.proofs.Common.{rules}
-use Rattle.std.proofs.Common.{Some}
-use Rattle.std.proofs.Common.{List, [], ◌∷◌, ◌++◌, length, drop, refl, sym, ap, ◌∙◌, subst, arith}
+use Rattle.std.proofs.Common.{rules, Some, List, [], ◌∷◌, ◌++◌, length, drop, refl, sym, ap, ◌∙◌, subst, arith}
 use Rattle.std.proofs.lemmas.Bool.{false≢true}
 use Rattle.std.proofs.lemmas.List.{append-nil}
 use Rattle.std.specs.Option.{IfSome, IsSome, IsSomeAnd}
@@ -12,9 +10,7 @@ use Rattle.heap_words.specs.Words.{word, word_at, header}
 use Rattle.heap_words.specs.Headers.{header_bytes, tag_number}
 use Rattle.heap_words.specs.declared.header.Header.{Header}
 use Rattle.block_store.specs.Block.{Block, Free, Nonrelocatable, Masters, Relocatable, size, sizes, free, free_of}
-use Rattle.block_store.specs.Block.{free_sum}
-use Rattle.block_store.specs.Block.{is_masters}
-use Rattle.block_store.specs.Block.{content_of, resized, resized_content}
+use Rattle.block_store.specs.Block.{free_sum, is_masters, content_of, resized, resized_content}
 use Rattle.block_store.specs.Room.{Spot, spot_at, filled}
 use Rattle.block_store.specs.Grow.{grow_up}
 use Rattle.block_store.specs.Inner.Stretch.{is_free}
@@ -35,10 +31,8 @@ use Rattle.zone_bytes.proofs.Tiles.Tags.{tag-small}
 use Rattle.zone_bytes.proofs.Tiles.Decoding.{flag_word-small}
 use Rattle.zone_bytes.proofs.Tiles.Keeping.{names-free, span-free}
 use Rattle.zone_bytes.proofs.Tiles.Spelling.{zone-of}
-use Rattle.zone_bytes.proofs.Places.Stepped.{left-is}
+use Rattle.zone_bytes.proofs.Places.Stepped.{left-is, stepped, header-told}
 use Rattle.zone_bytes.proofs.Places.HeaderTells.{size-at, same-here}
-use Rattle.zone_bytes.proofs.Places.Stepped.{stepped}
-use Rattle.zone_bytes.proofs.Places.Stepped.{header-told}
 use Rattle.zone_bytes.proofs.Places.Options.{the-spot}
 use Rattle.zone_bytes.proofs.Blocks.InPlace.{leads-each, no-slots-two}
 use Rattle.zone_bytes.proofs.Placed.Standing.{Standing, standing, held-piece, resource_in}

@@ -1,15 +1,12 @@
 -- What is known of the block at a place.
 use Rattle.std.proofs.Common.{◌≡◌, ℕ, ◌+◌, ◌<◌, ◌≤◌, ◌^◌, Bool, Some, List, [], ◌∷◌, ◌++◌, length, drop, refl}
-use Rattle.std.proofs.Common.{append_assoc}
-use Rattle.std.proofs.Common.{sym, ap, ◌∙◌}
-use Rattle.std.proofs.Common.{subst, arith}
+use Rattle.std.proofs.Common.{append_assoc, sym, ap, ◌∙◌, subst, arith}
 use Rattle.windows.specs.Writes.{piece}
 use Rattle.block_store.specs.Block.{Block, Nonrelocatable, Relocatable, size, sizes, content_of, tidy}
 use Rattle.block_store.specs.Room.{Spot, spot_at}
 use Rattle.block_store.specs.Slot.{is_resource}
 use Rattle.block_store.proofs.Zone.Apart.{Apart, apart-tidied}
-use Rattle.zone_bytes.specs.Layout.{head_of, Tile, IsPlaced, ArePlaced, LeadsTo, Leads, IsSlot, names}
-use Rattle.zone_bytes.specs.Layout.{names_of, Each}
+use Rattle.zone_bytes.specs.Layout.{head_of, Tile, IsPlaced, ArePlaced, LeadsTo, Leads, IsSlot, names, names_of, Each}
 use Rattle.zone_bytes.proofs.SlotTable.Tables.{slot-in}
 use Rattle.zone_bytes.specs.Decode.{zone_in}
 use Rattle.zone_bytes.specs.Table.{slot_in}

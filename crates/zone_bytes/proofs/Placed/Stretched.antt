@@ -6,8 +6,7 @@ use Rattle.windows.specs.Writes.{piece}
 use Rattle.heap_words.specs.Words.{word}
 use Rattle.heap_words.specs.Headers.{header_bytes}
 use Rattle.heap_words.specs.declared.header.Header.{Header}
-use Rattle.block_store.specs.Block.{Block, size, sizes, free, is_masters}
-use Rattle.block_store.specs.Block.{resized_content}
+use Rattle.block_store.specs.Block.{Block, size, sizes, free, is_masters, resized_content}
 use Rattle.zone_bytes.specs.Layout.{head_of, Tile, Tiles, IsSlot, names, names_of, Each, IsPlaced}
 use Rattle.zone_bytes.specs.Decode.{zone_in}
 use Rattle.zone_bytes.specs.Table.{Lays, slot_in}

@@ -1,6 +1,6 @@
 -- The block at a place of a RawZone.
-use Rattle.std.proofs.Common.{◌≡◌, ℕ, ◌+◌, ◌<◌, ◌≤◌, ◌^◌, Some, List, [], ◌∷◌, ◌++◌, length, sym}
-use Rattle.std.proofs.Common.{refl, ap, subst, arith}
+use Rattle.std.proofs.Common.{◌≡◌, ℕ, ◌+◌, ◌<◌, ◌≤◌, ◌^◌, Some, List, [], ◌∷◌, ◌++◌, length, sym, refl, ap, subst}
+use Rattle.std.proofs.Common.{arith}
 use Rattle.block_store.specs.Block.{Block, size, sizes}
 use Rattle.block_store.specs.Room.{Spot, spot_at}
 use Rattle.block_store.proofs.Zone.Aligned.{spot_at-is}

@@ -1,6 +1,6 @@
 -- The block that a slot leads to.
-use Rattle.std.proofs.Common.{◌≡◌, ℕ, true, inl, inr, ◌+◌, ◌%◌, ◌≤◌, Some, List, ◌∷◌, ◌++◌, rules}
-use Rattle.std.proofs.Common.{length, sym, ap, ◌∙◌, subst, arith}
+use Rattle.std.proofs.Common.{◌≡◌, ℕ, true, inl, inr, ◌+◌, ◌%◌, ◌≤◌, Some, List, ◌∷◌, ◌++◌, rules, length, sym, ap, ◌∙◌}
+use Rattle.std.proofs.Common.{subst, arith}
 use Rattle.std.proofs.lemmas.Bool.{false≢true}
 use Rattle.std.proofs.lemmas.Bool.Decides.{eqb_tells}
 use Rattle.heap_words.specs.Words.{word, word_at}

@@ -1,6 +1,5 @@
 -- Edges that are noted while blocks are moved.
-use Rattle.std.proofs.Common.{◌≡◌, ℕ, ◌+◌, ◌<◌, inl, inr, List, [], rules}
-use Rattle.std.proofs.Common.{◌∷◌, ◌++◌, length, get_or, set, arith}
+use Rattle.std.proofs.Common.{◌≡◌, ℕ, ◌+◌, ◌<◌, inl, inr, List, [], rules, ◌∷◌, ◌++◌, length, get_or, set, arith}
 use Rattle.block_store.specs.Block.{Block, size, sizes}
 use Rattle.zone_bytes.specs.Edges.{Starts, AreEdges}
 use Rattle.zone_bytes.specs.declared.edges.Edges.{Edges}

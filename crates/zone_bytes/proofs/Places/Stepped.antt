@@ -1,7 +1,6 @@
 -- One step of a walk over the blocks that bytes spell.
 use Rattle.std.proofs.Common.{◌≡◌, ℕ, Bool, ◌+◌, ◌%◌, ◌<◌, ◌≤◌, ◌^◌, Some, None, List, [], ◌∷◌, length, take, drop}
-use Rattle.std.proofs.Common.{◌++◌}
-use Rattle.std.proofs.Common.{sym, refl, ap, ◌∙◌, subst, arith}
+use Rattle.std.proofs.Common.{◌++◌, sym, refl, ap, ◌∙◌, subst, arith}
 use Rattle.std.proofs.lemmas.List.{length-drop, drop-drop}
 use Rattle.windows.specs.Writes.{piece}
 use Rattle.heap_words.specs.Words.{word_at, header}
@@ -15,8 +14,7 @@ use Rattle.zone_bytes.specs.Layout.{kind, head_of, Tile, names, names_of, Each, 
 use Rattle.zone_bytes.specs.Walking.{Walk}
 use Rattle.zone_bytes.specs.Stepping.{header_seen, left_in, IsOnWay}
 use Rattle.zone_bytes.proofs.Tiles.Leading.{each-left}
-use Rattle.zone_bytes.proofs.Tiles.Heads.{next-may, Next, next-there, header-tells}
-use Rattle.zone_bytes.proofs.Tiles.Heads.{MayRead, length-head}
+use Rattle.zone_bytes.proofs.Tiles.Heads.{next-may, Next, next-there, header-tells, MayRead, length-head}
 use Rattle.zone_bytes.proofs.Tiles.Decoding.{says, blocks-back}
 
 -- a word of a tile, by its place in all the bytes

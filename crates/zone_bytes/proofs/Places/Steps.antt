@@ -1,6 +1,5 @@
 -- What a block's header tells of where it ends.
-use Rattle.std.proofs.Common.{◌≡◌, ℕ, ◌+◌, ◌%◌, ◌<◌, ◌≤◌, List, length}
-use Rattle.std.proofs.Common.{arith}
+use Rattle.std.proofs.Common.{◌≡◌, ℕ, ◌+◌, ◌%◌, ◌<◌, ◌≤◌, List, length, arith}
 use Rattle.heap_words.specs.Words.{word_at}
 use Rattle.block_store.specs.declared.sparing.Seen.{Seen}
 use Rattle.zone_bytes.specs.Stepping.{header_seen, IsOnWay, Steps}

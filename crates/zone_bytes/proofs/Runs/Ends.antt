@@ -1,6 +1,5 @@
 -- Whether a header's block belongs to a run.
-use Rattle.std.proofs.Common.{◌≡◌, ℕ, Bool, true, false, not, nat_lt, ◌+◌, ◌%◌, ◌≤◌, List, length, take, drop}
-use Rattle.std.proofs.Common.{sym}
+use Rattle.std.proofs.Common.{◌≡◌, ℕ, Bool, true, false, not, nat_lt, ◌+◌, ◌%◌, ◌≤◌, List, length, take, drop, sym}
 use Rattle.std.proofs.Common.{refl, ap, ◌∙◌, arith, ◌∷◌, ◌++◌, ◌<◌, [], length-drop}
 use Rattle.std.proofs.lemmas.List.{drop-drop, length-drop}
 use Rattle.std.proofs.lemmas.Bool.{false≢true}

@@ -1,6 +1,6 @@
 -- The block of a slot is moved to the top of its run, of a zone in bytes.
-use Rattle.std.proofs.Common.{◌≡◌, ℕ, true, cond, ◌+◌, ◌%◌, ◌≤◌, Some, List, [], ◌∷◌, ◌++◌, length, drop}
-use Rattle.std.proofs.Common.{refl, sym, ap, ◌∙◌, subst, arith, append_assoc}
+use Rattle.std.proofs.Common.{◌≡◌, ℕ, true, cond, ◌+◌, ◌%◌, ◌≤◌, Some, List, [], ◌∷◌, ◌++◌, length, drop, refl, sym, ap}
+use Rattle.std.proofs.Common.{◌∙◌, subst, arith, append_assoc}
 use Rattle.std.proofs.Math.Seq.{drop-append_seam}
 use Rattle.heap_words.specs.Words.{word_at}
 use Rattle.heap_words.proofs.Words.{read_back}

@@ -1,23 +1,20 @@
 -- A run that is packed and raised.
 use Rattle.std.proofs.Common.{◌≡◌, ℕ, ◌+◌, ◌-◌, ◌<◌, ◌≤◌, ◌⊎◌, inl, inr, zero, suc, List, [], ◌∷◌, ◌++◌, length, refl}
-use Rattle.std.proofs.Common.{sym, ap, ◌∙◌, subst, arith, rules}
-use Rattle.std.proofs.Common.{append_assoc}
+use Rattle.std.proofs.Common.{sym, ap, ◌∙◌, subst, arith, rules, append_assoc}
 use Rattle.block_store.specs.Block.{Block, Free, free, free_sum, sizes, tidy}
 use Rattle.block_store.specs.Run.{movers, settle, low}
 use Rattle.block_store.proofs.Zone.Apart.{tidy-apart}
 use Rattle.block_store.proofs.Zone.Totals.{total-append}
 use Rattle.block_store.proofs.Regroup.Lifted.{apart-low, no-movers}
 use Rattle.zone_bytes.specs.Layout.{Leads, Each}
-use Rattle.zone_bytes.specs.Settling.{Lay, InRun, EndsRun, Lies, HasSlots, IsRunFrom, Packed, cut, UntilAt}
-use Rattle.zone_bytes.specs.Settling.{Settled}
+use Rattle.zone_bytes.specs.Settling.{Lay, InRun, EndsRun, Lies, HasSlots, IsRunFrom, Packed, cut, UntilAt, Settled}
 use Rattle.zone_bytes.specs.Edges.{AreEdges}
 use Rattle.zone_bytes.specs.declared.edges.Edges.{Edges}
 use Rattle.zone_bytes.specs.Raising.{Raise, MayRaise, Raised, lifted, MayLift, Lifted}
 use Rattle.zone_bytes.proofs.Tiles.Tiling.{span-append}
 use Rattle.zone_bytes.proofs.Tiles.Leading.{each-append, each-right}
-use Rattle.zone_bytes.proofs.Tiles.Keeping.{each-free, each-movers, names-movers}
-use Rattle.zone_bytes.proofs.Tiles.Keeping.{span-free, span-movers, Instead, others-now, slots-now, instead-settle}
-use Rattle.zone_bytes.proofs.Tiles.Keeping.{instead, names-left}
+use Rattle.zone_bytes.proofs.Tiles.Keeping.{each-free, each-movers, names-movers, span-free, span-movers, Instead}
+use Rattle.zone_bytes.proofs.Tiles.Keeping.{others-now, slots-now, instead-settle, instead, names-left}
 use Rattle.zone_bytes.proofs.Runs.Packed.{run-bounds, run-moved}
 use Rattle.block_store.proofs.Zone.Spots.{free-some}
 use Rattle.zone_bytes.proofs.Runs.Led.{settled-of}

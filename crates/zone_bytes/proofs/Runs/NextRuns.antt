@@ -5,13 +5,12 @@ use Rattle.block_store.specs.Block.{Block, sizes}
 use Rattle.block_store.specs.Compact.{beyond, place_behind, next_run}
 use Rattle.block_store.specs.Run.{RunSpot, run_at, segments}
 use Rattle.block_store.proofs.Regroup.Behind.{beyond-first}
-use Rattle.block_store.proofs.Regroup.RunsAbove.{behind-within}
+use Rattle.block_store.proofs.Regroup.RunsAbove.{behind-within, run_at-bottom}
 use Rattle.block_store.proofs.Regroup.Ends.{first-run, run_at-ended}
 use Rattle.zone_bytes.specs.Decode.{zone_in}
 use Rattle.zone_bytes.specs.Lawful.{IsSound}
 use Rattle.zone_bytes.specs.Stepping.{left_in}
 use Rattle.zone_bytes.proofs.Places.AtPlace.{left-above}
-use Rattle.block_store.proofs.Regroup.RunsAbove.{run_at-bottom}
 use Rattle.zone_bytes.proofs.Runs.RunsAt.{whole, in-run, left-fits, loose-each}
 use Rattle.zone_bytes.proofs.Tiles.Tiling.{span-append}
 

@@ -1,6 +1,6 @@
 -- The blocks of a run are passed one after another, and moved down or left in their places.
-use Rattle.std.proofs.Common.{◌≡◌, ℕ, ◌+◌, ◌-◌, ◌%◌, ◌≤◌, ◌⊎◌, inl, inr, List, [], ◌∷◌, ◌++◌, rules}
-use Rattle.std.proofs.Common.{length, take, drop, sym, refl, ap, ◌∙◌, subst, arith, append_assoc, ◌<◌}
+use Rattle.std.proofs.Common.{◌≡◌, ℕ, ◌+◌, ◌-◌, ◌%◌, ◌≤◌, ◌⊎◌, inl, inr, List, [], ◌∷◌, ◌++◌, rules, length, take, drop}
+use Rattle.std.proofs.Common.{sym, refl, ap, ◌∙◌, subst, arith, append_assoc, ◌<◌}
 use Rattle.std.proofs.lemmas.List.{append-nil, length-take-le, drop-drop}
 use Rattle.windows.specs.Writes.{written, piece}
 use Rattle.heap_words.specs.Words.{word}
@@ -15,11 +15,11 @@ use Rattle.zone_bytes.specs.Splicing.{SameOutside}
 use Rattle.zone_bytes.specs.Pointing.{IsMoved}
 use Rattle.zone_bytes.proofs.Tiles.Heads.{Next, next-there, length-masters}
 use Rattle.zone_bytes.proofs.Tiles.Tiling.{span-append, slot-inside, slot-append_left, slot-append_right, slot-beside}
-use Rattle.zone_bytes.proofs.Tiles.Tiling.{span-whole}
-use Rattle.zone_bytes.proofs.Tiles.Tiling.{length-tiles, tile-take, tiles-append, tiles-one, tiles-slot-beside}
+use Rattle.zone_bytes.proofs.Tiles.Tiling.{span-whole, length-tiles, tile-take, tiles-append, tiles-one}
+use Rattle.zone_bytes.proofs.Tiles.Tiling.{tiles-slot-beside}
 use Rattle.zone_bytes.proofs.Tiles.Leading.{Clear, each-left, each-right, each-names, pairs-before, pairs-after}
-use Rattle.zone_bytes.proofs.Tiles.Leading.{apart-turned}
-use Rattle.zone_bytes.proofs.Tiles.Leading.{names-append, piece-clear, leads-append, leads-parts, leads-same}
+use Rattle.zone_bytes.proofs.Tiles.Leading.{apart-turned, names-append, piece-clear, leads-append, leads-parts}
+use Rattle.zone_bytes.proofs.Tiles.Leading.{leads-same}
 use Rattle.zone_bytes.proofs.Tiles.Splices.{tiles-parts, outside-written, piece-outside}
 use Rattle.zone_bytes.proofs.Tiles.Keeping.{run-no_slot, span-movers}
 use Rattle.zone_bytes.proofs.SlotTable.Tables.{apart-clear, each-both}

@@ -1,6 +1,5 @@
 -- The run at a place of a zone in bytes is raised.
-use Rattle.std.proofs.Common.{◌≡◌, ℕ, ◌+◌, ◌%◌, ◌<◌, ◌≤◌, IsTrue, Some, List, sym, ap, arith}
-use Rattle.std.proofs.Common.{◌∙◌, subst, append_assoc}
+use Rattle.std.proofs.Common.{◌≡◌, ℕ, ◌+◌, ◌%◌, ◌<◌, ◌≤◌, IsTrue, Some, List, sym, ap, arith, ◌∙◌, subst, append_assoc}
 use Rattle.std.specs.Option.{IsSomeAnd}
 use Rattle.block_store.specs.Block.{Block, Free, free_sum, sizes, tidy}
 use Rattle.block_store.specs.Run.{RunSpot, run_at, has_free, low, with_run}

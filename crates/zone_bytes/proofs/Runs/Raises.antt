@@ -16,8 +16,7 @@ use Rattle.zone_bytes.proofs.Tiles.Heads.{free-tiles}
 use Rattle.zone_bytes.proofs.Tiles.Tiling.{span-append, span-whole, tiles-append}
 use Rattle.zone_bytes.proofs.Tiles.Leading.{each-append, each-left, each-names, Clear, leads-append, leads-joined}
 use Rattle.zone_bytes.proofs.Tiles.Splices.{tiles-parts, outside-same, outside-written, leads-outside}
-use Rattle.zone_bytes.proofs.Tiles.Keeping.{Instead, instead, names-left, span-free, each-free}
-use Rattle.zone_bytes.proofs.Tiles.Keeping.{leads-free}
+use Rattle.zone_bytes.proofs.Tiles.Keeping.{Instead, instead, names-left, span-free, each-free, leads-free}
 use Rattle.zone_bytes.proofs.Runs.Packed.{run-bounds}
 use Rattle.zone_bytes.proofs.Runs.Moved.{is-moved, clears, others-moved}
 

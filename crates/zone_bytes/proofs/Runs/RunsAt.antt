@@ -1,6 +1,6 @@
 -- The run at a place of a RawZone, and how it is settled.
-use Rattle.std.proofs.Common.{◌≡◌, ℕ, Bool, true, false, not, cond, nat_lt, zero, suc, ◌+◌, ◌<◌, ◌≤◌, Some}
-use Rattle.std.proofs.Common.{List, [], ◌∷◌, ◌++◌, drop, sym, refl, ap, ◌∙◌, subst, arith}
+use Rattle.std.proofs.Common.{◌≡◌, ℕ, Bool, true, false, not, cond, nat_lt, zero, suc, ◌+◌, ◌<◌, ◌≤◌, Some, List, []}
+use Rattle.std.proofs.Common.{◌∷◌, ◌++◌, drop, sym, refl, ap, ◌∙◌, subst, arith}
 use Rattle.std.proofs.lemmas.Bool.{false≢true}
 use Rattle.block_store.specs.Block.{Block, Free, Nonrelocatable, Masters, Relocatable, size, sizes, count, is_mover}
 use Rattle.block_store.specs.Block.{free_of}

@@ -2,8 +2,7 @@
 use Rattle.std.proofs.Common.{◌≡◌, ℕ, ◌+◌, true, false, not, Some, List, [], ◌∷◌, ◌++◌, refl, sym, ap, ◌∙◌, arith}
 use Rattle.std.proofs.Common.{append_assoc}
 use Rattle.std.proofs.lemmas.Bool.{cond-true}
-use Rattle.block_store.specs.Block.{Block, Free, Relocatable, add, count, free, free_sum}
-use Rattle.block_store.specs.Block.{is_mover, tidy}
+use Rattle.block_store.specs.Block.{Block, Free, Relocatable, add, count, free, free_sum, is_mover, tidy}
 use Rattle.block_store.specs.Rest.{lowered_in_run}
 use Rattle.block_store.specs.Run.{RunSpot, movers, run_at, settle, with_run}
 use Rattle.block_store.specs.Inner.Packing.{Loose}

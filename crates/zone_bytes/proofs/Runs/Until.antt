@@ -1,6 +1,6 @@
 -- The first blocks of a run are packed.
-use Rattle.std.proofs.Common.{◌≡◌, ℕ, ◌+◌, ◌-◌, ◌<◌, ◌≤◌, ◌⊎◌, inl, inr, true, cond, nat_le, List, rules}
-use Rattle.std.proofs.Common.{[], ◌∷◌, ◌++◌, length, drop, sym, refl, ap, ◌∙◌, subst, arith, append_assoc}
+use Rattle.std.proofs.Common.{◌≡◌, ℕ, ◌+◌, ◌-◌, ◌<◌, ◌≤◌, ◌⊎◌, inl, inr, true, cond, nat_le, List, rules, [], ◌∷◌, ◌++◌}
+use Rattle.std.proofs.Common.{length, drop, sym, refl, ap, ◌∙◌, subst, arith, append_assoc}
 use Rattle.std.proofs.lemmas.List.{append-nil, length-take-le, length-drop, take-take}
 use Rattle.std.proofs.lemmas.List.Elements.{filter-append}
 use Rattle.heap_words.specs.Words.{word}
@@ -11,8 +11,8 @@ use Rattle.block_store.specs.Block.{Block, free, free_of, free_sum, is_mover, si
 use Rattle.block_store.specs.Run.{movers, settle}
 use Rattle.block_store.proofs.Zone.Totals.{total-append}
 use Rattle.zone_bytes.specs.Layout.{head_of, Tiles, IsSlot, names, Each}
-use Rattle.zone_bytes.specs.Settling.{Lay, IsRunFrom, Packing}
-use Rattle.zone_bytes.specs.Settling.{Packed, cut, first_in, left_behind, gone_to, UntilAt, PackedUntil}
+use Rattle.zone_bytes.specs.Settling.{Lay, IsRunFrom, Packing, Packed, cut, first_in, left_behind, gone_to, UntilAt}
+use Rattle.zone_bytes.specs.Settling.{PackedUntil}
 use Rattle.zone_bytes.specs.Splicing.{SameOutside}
 use Rattle.zone_bytes.specs.Pointing.{IsMoved}
 use Rattle.zone_bytes.proofs.Tiles.Heads.{free-tiles}

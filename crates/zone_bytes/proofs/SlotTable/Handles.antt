@@ -1,7 +1,7 @@
 -- What the slot of a handle says: the place of its block, or that the handle is emptied.
-use Rattle.std.proofs.Common.{◌≡◌, ℕ, Bool, true, false, IsTrue, cond, ◌+◌, ◌%◌, ◌==◌, ◌≤◌, nat_le}
-use Rattle.std.proofs.Common.{◌⊎◌, inl, inr, Option, Some, None, List, [], ◌∷◌, ◌++◌, length, take, drop, sym, refl}
-use Rattle.std.proofs.Common.{ap, ◌∙◌, subst, arith}
+use Rattle.std.proofs.Common.{◌≡◌, ℕ, Bool, true, false, IsTrue, cond, ◌+◌, ◌%◌, ◌==◌, ◌≤◌, nat_le, ◌⊎◌, inl, inr}
+use Rattle.std.proofs.Common.{Option, Some, None, List, [], ◌∷◌, ◌++◌, length, take, drop, sym, refl, ap, ◌∙◌, subst}
+use Rattle.std.proofs.Common.{arith}
 use Rattle.std.proofs.lemmas.Bool.{false≢true, or_parts, eq-eqb}
 use Rattle.std.proofs.lemmas.Bool.Decides.{eqb_tells}
 use Rattle.std.proofs.lemmas.List.{length-drop}
@@ -17,13 +17,11 @@ use Rattle.block_store.specs.Slot.{Slot, Used, is_used, is_resource}
 use Rattle.zone_bytes.specs.Layout.{flag_word, head_of, Tile, Tiles, names, Leads, Apart, Each}
 use Rattle.zone_bytes.specs.Looking.{place_of_word}
 use Rattle.zone_bytes.specs.Table.{Has, empty_word, Says, Lays}
-use Rattle.zone_bytes.proofs.Tiles.Tiling.{span-whole}
+use Rattle.zone_bytes.proofs.Tiles.Tiling.{span-whole, tiles-split}
 use Rattle.zone_bytes.proofs.Places.Stepped.{header-told}
-use Rattle.zone_bytes.proofs.Tiles.Tiling.{span-whole}
 use Rattle.zone_bytes.proofs.SlotTable.Tables.{slot-in, none-apart}
 use Rattle.zone_bytes.proofs.Tiles.Decoding.{flag_word-small}
 use Rattle.zone_bytes.proofs.Tiles.Spelling.{resource-bit, small-emptied}
-use Rattle.zone_bytes.proofs.Tiles.Tiling.{tiles-split}
 use Rattle.block_store.specs.Run.{has}
 
 pub used-is : (st : Slot) → IsTrue (is_used st) → (r : Bool) × (st ≡ Used r)

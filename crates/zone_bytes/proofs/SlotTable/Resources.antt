@@ -1,6 +1,6 @@
 -- A handle's resource flag is set or cleared.
-use Rattle.std.proofs.Common.{◌≡◌, ℕ, Bool, cond, ◌+◌, ◌-◌, ◌*◌, ◌/◌, ◌≤◌, inl, inr, List, [], ◌∷◌}
-use Rattle.std.proofs.Common.{◌++◌, length, take, drop, sym, refl, ap, ◌∙◌, subst, arith}
+use Rattle.std.proofs.Common.{◌≡◌, ℕ, Bool, cond, ◌+◌, ◌-◌, ◌*◌, ◌/◌, ◌≤◌, inl, inr, List, [], ◌∷◌, ◌++◌, length, take}
+use Rattle.std.proofs.Common.{drop, sym, refl, ap, ◌∙◌, subst, arith}
 use Rattle.std.proofs.lemmas.List.{length-drop, drop-drop}
 use Rattle.windows.specs.Writes.{written, piece}
 use Rattle.windows.proofs.Pieces.{piece-written}
@@ -17,8 +17,7 @@ use Rattle.zone_bytes.proofs.Blocks.Carves.{clear, outside}
 use Rattle.zone_bytes.proofs.Blocks.InPlace.{no-slots, tile-inside, tiles-piece}
 use Rattle.zone_bytes.proofs.Blocks.Marked.{flagged-header}
 use Rattle.zone_bytes.proofs.SlotTable.Handles.{BlockHere}
-use Rattle.zone_bytes.proofs.SlotTable.Tables.{tiles-agree, set-other, set-same, slot-in, used-apart}
-use Rattle.zone_bytes.proofs.SlotTable.Tables.{lays-set}
+use Rattle.zone_bytes.proofs.SlotTable.Tables.{tiles-agree, set-other, set-same, slot-in, used-apart, lays-set}
 use Rattle.zone_bytes.proofs.SlotTable.Tables.{chain-written, lays-written}
 use Rattle.zone_bytes.proofs.Tiles.Keeping.{chain-kept}
 use Rattle.zone_bytes.proofs.Tiles.Leading.{each-map, names-append, pairs-before, pairs-after}

@@ -1,6 +1,6 @@
 -- A slot's word is written.
-use Rattle.std.proofs.Common.{◌≡◌, ℕ, Bool, ◌+◌, ◌%◌, ◌≤◌, inl, inr, List, [], ◌∷◌, length, drop, sym, false}
-use Rattle.std.proofs.Common.{refl, ap, ◌∙◌, subst, arith}
+use Rattle.std.proofs.Common.{◌≡◌, ℕ, Bool, ◌+◌, ◌%◌, ◌≤◌, inl, inr, List, [], ◌∷◌, length, drop, sym, false, refl, ap}
+use Rattle.std.proofs.Common.{◌∙◌, subst, arith}
 use Rattle.std.proofs.lemmas.Bool.{ne_eqb, eq-eqb}
 use Rattle.windows.specs.Writes.{written, piece}
 use Rattle.heap_words.specs.Words.{word}
@@ -11,10 +11,9 @@ use Rattle.block_store.specs.Slot.{Slot, NoSlot, Unused, Used, set_slot, is_reso
 use Rattle.zone_bytes.specs.Layout.{head_of, Tile, Tiles, IsSlot, names, names_of, Apart, Each, Pairs}
 use Rattle.zone_bytes.specs.Settling.{Lies}
 use Rattle.zone_bytes.specs.Table.{Has, Chain, Says, IsUsed, Lays}
-use Rattle.zone_bytes.proofs.Tiles.Tiling.{length-tiles, slot-inside, tiles-slot}
+use Rattle.zone_bytes.proofs.Tiles.Tiling.{length-tiles, slot-inside, tiles-slot, slot-even}
 use Rattle.zone_bytes.proofs.Tiles.Leading.{Clear, piece-clear, each-map, each-left, each-right, leads-written}
 use Rattle.zone_bytes.proofs.Tiles.Heads.{length-masters}
-use Rattle.zone_bytes.proofs.Tiles.Tiling.{slot-even}
 use Rattle.block_store.specs.Run.{has}
 
 pub each-both : {A : Type 0} (P Q R : A → Type 0) → ((x : A) → P x → Q x → R x) → (xs : List A) → Each P xs

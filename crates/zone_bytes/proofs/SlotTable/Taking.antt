@@ -1,6 +1,5 @@
 -- A slot is taken from the list of unused ones, and given back.
-use Rattle.std.proofs.Common.{◌≡◌, ℕ, Bool, false, ◌+◌, ◌*◌, ◌/◌, ◌<◌, inl, inr, List, [], ◌∷◌, sym, refl}
-use Rattle.std.proofs.Common.{subst, arith}
+use Rattle.std.proofs.Common.{◌≡◌, ℕ, Bool, false, ◌+◌, ◌*◌, ◌/◌, ◌<◌, inl, inr, List, [], ◌∷◌, sym, refl, subst, arith}
 use Rattle.windows.specs.Writes.{written}
 use Rattle.heap_words.specs.Words.{word, word_at}
 use Rattle.heap_words.proofs.Words.{length-word, read_back}
@@ -9,8 +8,8 @@ use Rattle.block_store.specs.Block.{Block}
 use Rattle.block_store.specs.Slot.{Slot, Unused, Used, set_slot}
 use Rattle.zone_bytes.specs.Layout.{IsSlot, names, Apart, Each}
 use Rattle.zone_bytes.specs.Table.{first_of, Says, Lays}
-use Rattle.zone_bytes.proofs.SlotTable.Tables.{each-both, set-other, slot-in, used-apart}
-use Rattle.zone_bytes.proofs.SlotTable.Tables.{unused-apart, chain-written, lays-written}
+use Rattle.zone_bytes.proofs.SlotTable.Tables.{each-both, set-other, slot-in, used-apart, unused-apart, chain-written}
+use Rattle.zone_bytes.proofs.SlotTable.Tables.{lays-written}
 
 module _ (xs : List ℕ) (blocks : List Block) (slots : ℕ → Slot) (first : ℕ) (unused : List ℕ)
     (h : Lays xs blocks slots (first ∷ unused)) where

@@ -1,7 +1,6 @@
 -- What the words of a block's header say.
 use Rattle.std.proofs.Common.{◌≡◌, ℕ, Bool, ◌+◌, ◌<◌, ◌≤◌, ◌^◌, inl, inr, List, [], ◌∷◌, ◌++◌, length, take, drop, sym}
-use Rattle.std.proofs.Common.{refl, ap, ◌∙◌}
-use Rattle.std.proofs.Common.{arith, length-append, ◌%◌, ◌⊎◌, ◌∷◌, inl, subst, inr}
+use Rattle.std.proofs.Common.{refl, ap, ◌∙◌, arith, length-append, ◌%◌, ◌⊎◌, subst}
 use Rattle.std.proofs.lemmas.List.{length-drop, drop-drop, drop-take, take-take}
 use Rattle.windows.specs.Writes.{piece}
 use Rattle.zone_bytes.proofs.Tiles.Tiling.{tiles-one}

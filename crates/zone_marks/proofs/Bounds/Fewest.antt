@@ -1,10 +1,9 @@
 -- The blocks that may be purged below a run, counted from an edge of a zone below which none may be.
 use Rattle.zone_summary.specs.declared.stretch.Counting.{Counting}
-use Rattle.zone_summary.specs.Stretches.{stretch_by}
+use Rattle.zone_summary.specs.Stretches.{stretch_by, load, is_ended, join, prefix}
 use Rattle.zone_summary.proofs.Monoid.{stretch_by-append}
 use Rattle.zone_summary.proofs.Sums.{load-counted}
-use Rattle.std.proofs.Common.{◌≡◌, ℕ, ◌+◌, ◌-◌, ◌≤◌, true, List, ◌++◌}
-use Rattle.std.proofs.Common.{inl, refl, sym, ap, ◌∙◌, subst, arith}
+use Rattle.std.proofs.Common.{◌≡◌, ℕ, ◌+◌, ◌-◌, ◌≤◌, true, List, ◌++◌, inl, refl, sym, ap, ◌∙◌, subst, arith}
 use Rattle.block_store.specs.Block.{Block, sizes}
 use Rattle.block_store.specs.Room.{count_of}
 use Rattle.block_store.specs.Sparing.{most_purges, opened, spared}
@@ -22,8 +21,6 @@ use Rattle.zone_marks.specs.Purgeable.{NoneGoes, Stays}
 use Rattle.zone_marks.specs.Searching.{IsStretch}
 use Rattle.zone_bytes.specs.Stepping.{left_in}
 use Rattle.zone_marks.specs.declared.landmark.Tally.TheVariants as tally
-use Rattle.zone_summary.specs.Stretches.{load}
-use Rattle.zone_summary.specs.Stretches.{is_ended, join, prefix}
 use Rattle.zone_summary.specs.declared.stretch.Stretch.{Stretch}
 use Rattle.zone_summary.specs.declared.stretch.Stretch.TheVariants.{Whole, Ended}
 use Rattle.std.proofs.lemmas.Bool.{false≢true}

@@ -1,11 +1,10 @@
 -- A place below which no block may be purged, through each change of a zone.
 use Rattle.std.proofs.Common.{◌≡◌, ℕ, ◌+◌, ◌-◌, ◌≤◌, ◌<◌, zero, suc, Bool, true, false, not, ◌&&◌, List, [], ◌∷◌, ◌++◌}
-use Rattle.std.proofs.Common.{refl, sym, ap, ◌∙◌, subst, cond, arith, inl, inr, Some, rules}
-use Rattle.std.proofs.Common.{None, length}
+use Rattle.std.proofs.Common.{refl, sym, ap, ◌∙◌, subst, cond, arith, inl, inr, Some, rules, None, length}
 use Rattle.std.proofs.lemmas.Bool.{cases_lt, false≢true}
 use Rattle.std.specs.Option.{option_map}
 use Rattle.block_store.specs.Block.{Block, Free, Nonrelocatable, Masters, Relocatable, size, sizes, free, free_sum}
-use Rattle.block_store.specs.Block.{is_mover, is_purgeable, is_relocatable}
+use Rattle.block_store.specs.Block.{is_mover, is_purgeable}
 use Rattle.block_store.specs.Inner.Stretch.{opened_block}
 use Rattle.block_store.proofs.Purged.Stretches.{opened-more}
 use Rattle.block_store.specs.Find.{FindsLowest}

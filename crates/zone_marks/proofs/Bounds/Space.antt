@@ -1,8 +1,8 @@
 -- The largest Free block of a zone, as it stands and after purges.
-use Rattle.std.proofs.Common.{◌≡◌, ◌⊎◌, ℕ, ◌+◌, ◌≤◌, ◌<◌, zero, suc, inl, inr, Bool, true, false, max, cond, List}
-use Rattle.std.proofs.Common.{[], ◌∷◌, ◌++◌, refl, sym, ap, ◌∙◌, subst, arith}
-use Rattle.block_store.specs.Block.{Block, Free, Nonrelocatable, Masters, Relocatable, add, free_of}
-use Rattle.block_store.specs.Block.{is_room, size, sizes, tidy}
+use Rattle.std.proofs.Common.{◌≡◌, ◌⊎◌, ℕ, ◌+◌, ◌≤◌, ◌<◌, zero, suc, inl, inr, Bool, true, false, max, cond, List, []}
+use Rattle.std.proofs.Common.{◌∷◌, ◌++◌, refl, ap, ◌∙◌, subst, arith}
+use Rattle.block_store.specs.Block.{Block, Free, Nonrelocatable, Masters, Relocatable, add, free_of, is_room, size}
+use Rattle.block_store.specs.Block.{sizes, tidy}
 use Rattle.block_store.specs.Compact.{largest_free}
 use Rattle.block_store.specs.Room.{lowest_purged, may_be_purged}
 use Rattle.block_store.specs.Sparing.{purged, spared}
@@ -18,12 +18,9 @@ use Rattle.zone_marks.specs.Marks.{NoRoom, Spans}
 use Rattle.zone_marks.specs.Purgeable.{MayStart, NoneGoes, Stays}
 use Rattle.zone_bytes.specs.PurgeableBytes.{purgeable_of, purgeable_sum}
 use Rattle.zone_bytes.specs.Stepping.{left_in, IsOnWay}
-use Rattle.zone_marks.proofs.Bounds.Going.{none-passes, stays-here}
-use Rattle.zone_bytes.proofs.Bounds.Short.{one-gives}
 use Rattle.zone_bytes.proofs.Laws.Lawful.{sizes-length}
 use Rattle.zone_marks.proofs.Marks.Lowering.{seen-from}
-use Rattle.zone_marks.proofs.Marks.Passing.{Passed, at-left, at-map, at-right, passed-on, passed-start}
-use Rattle.zone_marks.proofs.Marks.Spanned.{no-room}
+use Rattle.zone_marks.proofs.Marks.Passing.{Passed, at-left, at-map, at-right, passed-on}
 use Rattle.zone_bytes.proofs.Places.AtPlace.{left-zone}
 
 abbrev spares : Block → Bool

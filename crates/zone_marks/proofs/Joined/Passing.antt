@@ -1,11 +1,9 @@
 -- One step of a pass that empties blocks, and its end.
-use Rattle.std.proofs.Common.{◌≡◌, ℕ, Bool, false, cond, ◌==◌, ◌+◌, ◌-◌, ◌%◌, ◌<◌, ◌≤◌, zero, suc, Some}
-use Rattle.std.proofs.Common.{None, List, [], ◌∷◌, ◌++◌, length, sym, refl, ap, ◌∙◌, subst, arith, append_assoc}
-use Rattle.std.proofs.lemmas.List.{append-nil}
-use Rattle.std.proofs.lemmas.Option.{none-some}
+use Rattle.std.proofs.Common.{◌≡◌, ℕ, Bool, false, cond, ◌==◌, ◌+◌, ◌-◌, ◌%◌, ◌<◌, ◌≤◌, zero, suc, Some, None, List, []}
+use Rattle.std.proofs.Common.{◌∷◌, ◌++◌, length, sym, refl, ap, ◌∙◌, subst, arith, append_assoc}
 use Rattle.heap_words.specs.Words.{word_at}
-use Rattle.block_store.specs.Block.{Block, Free, Nonrelocatable, Masters, Relocatable, size, sizes, free, free_of, free_sum}
-use Rattle.block_store.specs.Block.{tidy, is_masters}
+use Rattle.block_store.specs.Block.{Block, Free, Nonrelocatable, Masters, Relocatable, size, sizes, free, free_of}
+use Rattle.block_store.specs.Block.{free_sum, tidy, is_masters}
 use Rattle.block_store.specs.Room.{lowest_purged}
 use Rattle.block_store.specs.Seen.{seen}
 use Rattle.block_store.specs.Sparing.{spared, opened}
@@ -17,10 +15,9 @@ use Rattle.block_store.specs.declared.sparing.Sparing.TheVariants as sparing
 use Rattle.block_store.proofs.Zone.Totals.{total-append}
 use Rattle.block_store.proofs.Zone.Apart.{Apart, apart-tidied, tidy-apart}
 use Rattle.block_store.proofs.Zone.Joining.{joined-below, closed-apart, closed-tidy, closed-free}
-use Rattle.block_store.proofs.Purged.Looks.{opened-none}
 use Rattle.block_store.proofs.Purged.Rising.{lowest_purged-none}
 use Rattle.block_store.proofs.Purged.Purges.{lowest_purged-free, lowest_purged-kept, kept-not_free, opened-same}
-use Rattle.block_store.proofs.Purged.Stretches.{opened-more, size-opened}
+use Rattle.block_store.proofs.Purged.Stretches.{size-opened}
 use Rattle.zone_bytes.specs.Layout.{kind}
 use Rattle.zone_bytes.specs.Stepping.{header_seen}
 use Rattle.zone_bytes.specs.Table.{Lays}

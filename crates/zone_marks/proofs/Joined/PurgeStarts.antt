@@ -1,11 +1,11 @@
 -- Where a pass that empties blocks begins, and what it makes of the zone that bytes spell.
 use Rattle.std.proofs.Common.{◌≡◌, ℕ, zero, suc, Bool, true, false, cond, if◌then◌else◌, ◌+◌, ◌-◌, ◌<◌, ◌≤◌, rules}
 use Rattle.std.proofs.Common.{Option, Some, None, List, [], ◌∷◌, ◌++◌, sym, refl, ap, ◌∙◌, subst, arith, append_assoc}
-use Rattle.std.proofs.lemmas.Bool.{cond-false, false≢true}
+use Rattle.std.proofs.lemmas.Bool.{false≢true}
 use Rattle.std.proofs.lemmas.List.{append-nil}
 use Rattle.std.proofs.lemmas.Option.{none-some, same_Some}
 use Rattle.std.specs.Option.{option_map}
-use Rattle.block_store.specs.Block.{Block, Free, Nonrelocatable, Masters, Relocatable, size, sizes, free, free_sum, tidy, count, is_masters}
+use Rattle.block_store.specs.Block.{Block, Masters, size, sizes, free, free_sum, tidy, count, is_masters}
 use Rattle.block_store.specs.Inner.Joining.{Closed, last_free}
 use Rattle.block_store.specs.Room.{Spot, raised, spot, spot_at, may_be_purged, lowest_purged}
 use Rattle.block_store.specs.Sparing.{spared, opened, purged}
@@ -23,7 +23,6 @@ use Rattle.zone_marks.specs.Purging.{Purge, Purging, Purged, MayPurge, purge_abo
 use Rattle.zone_bytes.specs.Stepping.{left_in}
 use Rattle.zone_bytes.specs.Table.{Lays, slot_in}
 use Rattle.zone_bytes.proofs.Tiles.Tiling.{span-append}
-use Rattle.zone_bytes.proofs.Tiles.Keeping.{span-free}
 use Rattle.zone_bytes.proofs.Places.AtPlace.{whole, low, left-zone}
 use Rattle.zone_marks.proofs.Joined.Released.{end, below-is, lower-low}
 use Rattle.block_store.proofs.Zone.Spots.{free-some}

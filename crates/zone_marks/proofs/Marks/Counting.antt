@@ -1,13 +1,11 @@
 -- A walk that counts what it passes.
-use Rattle.std.proofs.Common.{◌≡◌, ℕ, ◌+◌, ◌≤◌, ◌<◌, ◌⊎◌, Bool, true, false, List, [], ◌∷◌, ◌++◌, length, rules}
-use Rattle.std.proofs.Common.{sym, refl, ap, ◌∙◌, arith, inl, inr}
-use Rattle.std.proofs.lemmas.List.{append-nil}
+use Rattle.std.proofs.Common.{◌≡◌, ℕ, ◌+◌, ◌≤◌, ◌<◌, ◌⊎◌, Bool, true, false, List, [], ◌∷◌, length, rules, sym, refl}
+use Rattle.std.proofs.Common.{ap, arith, inl}
 use Rattle.block_store.specs.Block.{Block, size, free_of}
 use Rattle.zone_bytes.specs.Changes.{AtEach}
 use Rattle.zone_marks.specs.Marks.{AtMost, Measures, between}
 use Rattle.zone_bytes.specs.Stepping.{left_in, IsOnWay}
-use Rattle.zone_marks.proofs.Marks.Between.{CountAlike, alike-same, alike-more, all-begin, all-within, between-append}
-use Rattle.zone_marks.proofs.Marks.Between.{none-above}
+use Rattle.zone_marks.proofs.Marks.Between.{CountAlike, all-begin, all-within, between-append, none-above}
 use Rattle.zone_marks.proofs.Marks.Passing.{Passed, at-map, passed-all, passed-more, passed-on}
 use Rattle.zone_bytes.proofs.Places.Stepped.{left-none}
 use Rattle.zone_summary.specs.Stretches.{counted, join, load, prefix, stretch_by, suffix}

@@ -3,7 +3,7 @@ use Rattle.std.proofs.Common.{◌≡◌, ℕ, ◌+◌, ◌≤◌, ◌⊎◌, inl
 use Rattle.std.proofs.Common.{◌∷◌, ◌++◌, length, take, drop, refl, sym, ap, ◌∙◌, subst, arith}
 use Rattle.std.proofs.lemmas.Bool.{leb-true, le-ltb, false≢true}
 use Rattle.std.proofs.lemmas.List.{drop_more}
-use Rattle.block_store.specs.Block.{Block, Free, Nonrelocatable, Masters, Relocatable, size, sizes, free_of}
+use Rattle.block_store.specs.Block.{Block, Free, Relocatable, size, sizes, free_of}
 use Rattle.zone_bytes.specs.Layout.{Each}
 use Rattle.zone_bytes.specs.Edges.{Starts, AreEdges, IsMover, ByEdges}
 use Rattle.zone_marks.specs.LaidMarks.{IsBare, AreLaid}
@@ -15,11 +15,9 @@ use Rattle.zone_summary.specs.Stretches.{counted, join, one, stretch_of}
 use Rattle.zone_summary.specs.declared.stretch.Counting.TheVariants.{Runs}
 use Rattle.zone_summary.specs.declared.stretch.Stretch.TheVariants.{Whole}
 use Rattle.zone_summary.proofs.Monoid.{join-unit_left, stretch_of-append}
-use Rattle.zone_marks.proofs.Marks.Between.{between-append}
-use Rattle.zone_marks.proofs.Marks.Between.{none-below, none-above}
+use Rattle.zone_marks.proofs.Marks.Between.{between-append, none-below, none-above}
 use Rattle.zone_marks.proofs.Marks.Lowering.{at-each, drop-all, mark-first, marks-parted}
 use Rattle.zone_marks.proofs.Marks.Passing.{at-append, at-all, begins-left, begins-right, begins-within}
-use Rattle.zone_marks.proofs.Marks.Spanned.{free-size}
 
 starts-begins : (p x : ℕ) (blocks : List Block) → Starts p x blocks → Begins p x blocks
 starts-begins p x [] s = absurd s

@@ -1,10 +1,9 @@
 -- The groups of landmarks.
-use Rattle.std.proofs.Common.{◌≡◌, ◌⊎◌, ℕ, ◌+◌, ◌-◌, ◌*◌, ◌≤◌, ◌<◌, inl, inr, List, length, take, drop, get_or, set, sym, ap}
-use Rattle.std.proofs.Common.{◌∙◌, subst, arith, length-set, replicate, rules}
-use Rattle.std.proofs.lemmas.Bool.{cases_lt}
+use Rattle.std.proofs.Common.{◌≡◌, ◌⊎◌, ℕ, ◌+◌, ◌-◌, ◌*◌, ◌≤◌, ◌<◌, inl, inr, List, length, take, drop, get_or, set}
+use Rattle.std.proofs.Common.{sym, ap, ◌∙◌, subst, arith, length-set, replicate, rules}
 use Rattle.std.proofs.lemmas.Bool.Decides.{eqb_tells}
-use Rattle.std.proofs.lemmas.List.{get_or-take, get_or-drop, get_or-set_same, get_or-set_other, length-take-le, length-drop}
-use Rattle.std.proofs.lemmas.List.{get_or-replicate, length-replicate, drop-take, drop-set-lt, take-set-le}
+use Rattle.std.proofs.lemmas.List.{get_or-take, get_or-drop, get_or-set_same, get_or-set_other, length-take-le}
+use Rattle.std.proofs.lemmas.List.{length-drop, get_or-replicate, length-replicate, drop-take, drop-set-lt, take-set-le}
 use Rattle.zone_marks.specs.Marks.{AreGroups, marks_in, no_group, no_mark, tally_of, told}
 use Rattle.zone_marks.specs.declared.landmark.Group.{Group}
 use Rattle.zone_marks.specs.declared.landmark.Landmark.{Landmark}

@@ -6,7 +6,7 @@ use Rattle.zone_bytes.specs.Laying.{free_first}
 use Rattle.zone_bytes.specs.Changes.{AtEach, Became, Begins, Replaced}
 use Rattle.zone_marks.specs.Marks.{AtMost, AreMarks, between, next_of}
 use Rattle.zone_marks.specs.declared.landmark.Landmark.{Landmark}
-use Rattle.zone_marks.proofs.Marks.Between.{CountAlike, alike-as, alike-more, alike-same, alike-first, alike-other}
+use Rattle.zone_marks.proofs.Marks.Between.{CountAlike, alike-as, alike-first}
 use Rattle.zone_summary.specs.Stretches.{one, space}
 use Rattle.zone_bytes.proofs.Tiles.Tiling.{span-append}
 use Rattle.zone_bytes.proofs.Tiles.Keeping.{span-free}
@@ -80,31 +80,31 @@ joined-replaced lower g here above start top (suc n) old new was is e some low u
     alone : (rest : List Block) → old ≡ lower ++ (free g ++ here ∷ rest) → new ≡ lower ++ (Free (suc n) ∷ rest)
         → top ≡ start + suc n → Replaced start top old new
     alone rest was is up = record {
-          below = lower;
-          here = free g ++ here ∷ [];
-          there = Free (suc n) ∷ [];
-          above = rest;
-          was = was ∙ ap (λ k. lower ++ k) (sym (append_assoc (free g) (here ∷ []) rest));
-          is = is;
-          low = low;
-          high = omega (arith, span-append, span-free);
-          span = omega (arith, span-append, span-free);
-        }
+      below = lower;
+      here = free g ++ here ∷ [];
+      there = Free (suc n) ∷ [];
+      above = rest;
+      was = was ∙ ap (λ k. lower ++ k) (sym (append_assoc (free g) (here ∷ []) rest));
+      is = is;
+      low = low;
+      high = omega (arith, span-append, span-free);
+      span = omega (arith, span-append, span-free);
+    }
 
     joined : (above : List Block) → old ≡ lower ++ (free g ++ here ∷ above) → new ≡ lower ++ add (Free (suc n)) above
         → top ≡ start + suc n + free_first above → Replaced start top old new
     joined [] was is up = alone [] was is (omega arith)
     joined (Free m ∷ rest) was is up = record {
-          below = lower;
-          here = free g ++ here ∷ Free m ∷ [];
-          there = Free (suc n + m) ∷ [];
-          above = rest;
-          was = was ∙ ap (λ k. lower ++ k) (sym (append_assoc (free g) (here ∷ Free m ∷ []) rest));
-          is = is;
-          low = low;
-          high = omega (arith, span-append, span-free);
-          span = omega (arith, span-append, span-free);
-        }
+      below = lower;
+      here = free g ++ here ∷ Free m ∷ [];
+      there = Free (suc n + m) ∷ [];
+      above = rest;
+      was = was ∙ ap (λ k. lower ++ k) (sym (append_assoc (free g) (here ∷ Free m ∷ []) rest));
+      is = is;
+      low = low;
+      high = omega (arith, span-append, span-free);
+      span = omega (arith, span-append, span-free);
+    }
     joined (Nonrelocatable id content ∷ rest) was is up = alone (Nonrelocatable id content ∷ rest) was is (omega arith)
     joined (Masters ∷ rest) was is up = alone (Masters ∷ rest) was is (omega arith)
     joined (Relocatable id flags content ∷ rest) was is up =

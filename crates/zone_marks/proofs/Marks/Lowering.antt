@@ -1,6 +1,7 @@
 -- Landmarks once a stretch of the zone became another.
-use Rattle.std.proofs.Common.{◌≡◌, ℕ, ◌+◌, ◌-◌, ◌≤◌, ◌<◌, ◌⊎◌, inl, inr, List, [], ◌∷◌, ◌++◌, sym, refl, ap, ◌∙◌, subst, arith, length, take, drop, take-append-drop, get_or, set, replicate, zero, suc, true, false, ◌==◌}
-use Rattle.std.proofs.lemmas.Bool.Decides.{eqb_tells}
+use Rattle.std.proofs.Common.{◌≡◌, ℕ, ◌+◌, ◌-◌, ◌≤◌, ◌<◌, ◌⊎◌, inl, inr, List, [], ◌∷◌, ◌++◌, sym, refl, ap, ◌∙◌, subst}
+use Rattle.std.proofs.Common.{arith, length, take, drop, take-append-drop, get_or, set, replicate, zero, suc, true}
+use Rattle.std.proofs.Common.{false, ◌==◌}
 use Rattle.std.proofs.lemmas.List.{take_more, take-set, drop-set, take_more_set, drop_more, drop-drop}
 use Rattle.block_store.specs.Block.{Block, size, sizes}
 use Rattle.zone_bytes.specs.Decode.{zone_in}
@@ -18,8 +19,8 @@ use Rattle.zone_bytes.proofs.Places.AtPlace.{way-above, left-above}
 use Rattle.zone_marks.proofs.Marks.Passing.{at-map, at-all, at-append, at-left, at-right, begins-here, begins-left}
 use Rattle.zone_marks.proofs.Marks.Passing.{begins-right, begins-either, begins-within, parts}
 use Rattle.zone_marks.proofs.Marks.Spanned.{free-size}
-use Rattle.zone_marks.proofs.Marks.Between.{CountAlike, alike-as, tally-as, alike-same, alike-back, alike-more, alike-append}
-use Rattle.zone_marks.proofs.Marks.Between.{between-append, none-below, none-above}
+use Rattle.zone_marks.proofs.Marks.Between.{CountAlike, alike-as, tally-as, alike-same, alike-back, alike-more}
+use Rattle.zone_marks.proofs.Marks.Between.{alike-append, between-append, none-below, none-above}
 
 -- what holds of each block by its place alone
 pub at-each : (S : ℕ → Block → Type 0) (x : ℕ) (blocks : List Block)
@@ -112,13 +113,13 @@ module _ (lo hi : ℕ) (old new : List Block) (z : Replaced lo hi old new) (o : 
       → AreMarks end new marks
   marks-over end [] e u a = tt
   marks-over end (m ∷ marks) e u a = let v : hi ≤ next_of end marks = omega arith in (
-        begins-lowered m.at m.at (inr (refl, inr u)) a.0,
-        bound-lowered m.most m.most m.at (next_of end marks) m.at (next_of end marks) (inr (refl, inr u))
-            (inr (refl, inr v)) (omega arith) (λ l _. omega arith) a.1,
-        alike-as m.tally _ _ (grind (arith, apart-alike)) a.2,
-        a.3,
-        marks-over end marks e v a.4,
-      )
+    begins-lowered m.at m.at (inr (refl, inr u)) a.0,
+    bound-lowered m.most m.most m.at (next_of end marks) m.at (next_of end marks) (inr (refl, inr u))
+        (inr (refl, inr v)) (omega arith) (λ l _. omega arith) a.1,
+    alike-as m.tally _ _ (grind (arith, apart-alike)) a.2,
+    a.3,
+    marks-over end marks e v a.4,
+  )
 
   -- and so do those below it
   pub marks-under : (end : ℕ) (marks : List Landmark) → end ≤ lo → AreMarks end old marks → AreMarks end new marks

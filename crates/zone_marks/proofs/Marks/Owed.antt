@@ -1,13 +1,11 @@
 -- What each change of a zone owes of its landmarks.
-use Rattle.std.proofs.Common.{◌≡◌, ℕ, ◌+◌, ◌-◌, ◌≤◌, false, cond, List, ◌∷◌, ◌++◌, length, refl, sym, ap, ◌∙◌, subst}
-use Rattle.std.proofs.Common.{[]}
+use Rattle.std.proofs.Common.{◌≡◌, ℕ, ◌+◌, ◌-◌, ◌≤◌, false, List, ◌∷◌, ◌++◌, length, refl, sym, ap, ◌∙◌, subst, []}
 use Rattle.std.proofs.Common.{arith}
-use Rattle.mac_words.specs.Size.{padded}
 use Rattle.windows.specs.Writes.{written}
 use Rattle.windows.proofs.Pieces.{length-written}
 use Rattle.block_store.specs.declared.flags.Flags.{Flags}
-use Rattle.block_store.specs.Block.{Block, Free, Nonrelocatable, Masters, Relocatable, size, free, free_of}
-use Rattle.block_store.specs.Block.{content_of, is_purgeable, with_content}
+use Rattle.block_store.specs.Block.{Block, Free, Relocatable, size, free, free_of, content_of, is_purgeable}
+use Rattle.block_store.specs.Block.{with_content}
 use Rattle.block_store.specs.Inner.Stretch.{is_free}
 use Rattle.block_store.specs.Room.{filled}
 use Rattle.block_store.specs.Seen.{with_flags}
@@ -23,7 +21,7 @@ use Rattle.zone_marks.specs.declared.keeping.Landmarks.{Landmarks}
 use Rattle.zone_marks.proofs.Bounds.Going.{stays-same}
 use Rattle.zone_marks.proofs.Marks.Between.{one-same}
 use Rattle.zone_marks.proofs.Marks.Keeping.{marks-same}
-use Rattle.zone_summary.specs.Stretches.{counted, one, space}
+use Rattle.zone_summary.specs.Stretches.{one, space}
 use Rattle.zone_bytes.proofs.Placed.Carved.{Roomy, filled-is}
 use Rattle.zone_bytes.proofs.Blocks.Writes.{free-content}
 use Rattle.zone_bytes.proofs.Tiles.Keeping.{span-free}

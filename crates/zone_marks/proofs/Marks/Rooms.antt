@@ -1,10 +1,9 @@
 -- Room that is found stretch by stretch.
-use Rattle.std.proofs.Common.{◌≡◌, ℕ, true, false, ◌+◌, ◌≤◌, ◌<◌, Option, Some, None, inl, inr, List, [], ◌∷◌, ◌++◌, sym, refl, ap, ◌∙◌}
-use Rattle.std.proofs.Common.{subst, arith, cond, zero, suc, ◌*◌, length, drop, get_or, rules}
+use Rattle.std.proofs.Common.{◌≡◌, ℕ, true, false, ◌+◌, ◌≤◌, ◌<◌, Option, Some, None, List, [], ◌∷◌, ◌++◌, sym, refl}
+use Rattle.std.proofs.Common.{ap, ◌∙◌, subst, arith, cond, zero, suc, ◌*◌, length, drop, get_or, rules}
 use Rattle.std.proofs.lemmas.List.{drop_more, drop_all}
 use Rattle.std.specs.Option.{option_map, IfSome, MatchOption}
-use Rattle.std.proofs.lemmas.Bool.Decides.{leb_tells}
-use Rattle.block_store.specs.Block.{Block, Free, Nonrelocatable, Masters, Relocatable, size, sizes, is_room, free_of}
+use Rattle.block_store.specs.Block.{Block, size, sizes, is_room}
 use Rattle.block_store.specs.Room.{Spot, spot, spot_at, raised}
 use Rattle.block_store.specs.Find.{FindsLowest}
 use Rattle.block_store.proofs.Zone.Apart.{Apart, apart-tidied, apart-size}

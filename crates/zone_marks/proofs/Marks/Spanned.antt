@@ -1,15 +1,13 @@
 -- What a block's header tells of where it ends, and its Free bytes.
-use Rattle.std.proofs.Common.{◌≡◌, ℕ, Bool, true, false, not, cond, ◌==◌, ◌+◌, ◌%◌, ◌<◌, ◌≤◌, List, length, drop}
-use Rattle.std.proofs.Common.{sym, refl, ap, ◌∙◌, subst, arith, nat_le}
+use Rattle.std.proofs.Common.{◌≡◌, ℕ, Bool, true, false, not, cond, ◌==◌, ◌+◌, ◌%◌, ◌<◌, ◌≤◌, List, length, refl, arith}
 use Rattle.heap_words.specs.Words.{word_at}
-use Rattle.block_store.specs.Block.{Block, Free, Nonrelocatable, Masters, Relocatable, size, free_of, is_room}
-use Rattle.zone_bytes.specs.Layout.{kind, head_of, Tile}
+use Rattle.block_store.specs.Block.{Block, Free, size, free_of, is_room}
+use Rattle.zone_bytes.specs.Layout.{kind}
 use Rattle.zone_bytes.specs.Settling.{runs_on}
 use Rattle.zone_bytes.specs.Stepping.{left_in, IsOnWay}
 use Rattle.zone_marks.specs.Marks.{Spans, RoomAt}
-use Rattle.zone_bytes.proofs.Runs.Ends.{runs-told}
 use Rattle.zone_bytes.proofs.Places.Stepped.{stepped}
-use Rattle.zone_bytes.proofs.Places.HeaderTells.{size-at, same-here}
+use Rattle.zone_bytes.proofs.Places.HeaderTells.{same-here}
 
 -- the Free bytes of a block by its kind and size
 free-told : (b : Block) (n t : ℕ) → t ≡ kind b → n ≡ size b → cond (t == 0) n 0 ≡ free_of b

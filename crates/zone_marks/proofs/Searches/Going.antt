@@ -1,6 +1,5 @@
 -- A search that goes from block to block.
-use Rattle.std.proofs.Common.{◌≡◌, ℕ, ◌<◌, inl, inr, None, List, [], ◌∷◌, ◌++◌, append_assoc, refl, sym, ap, ◌∙◌}
-use Rattle.std.proofs.Common.{subst, arith}
+use Rattle.std.proofs.Common.{◌≡◌, ℕ, ◌<◌, None, List, [], ◌∷◌, ◌++◌, append_assoc, refl, sym, ap, ◌∙◌, arith}
 use Rattle.block_store.specs.Block.{Block, size}
 use Rattle.block_store.specs.Inner.RunScan.{scan_from}
 use Rattle.block_store.specs.Sparing.{opened, spared}

@@ -1,6 +1,6 @@
 -- How far a search for a run is known, where blocks are passed.
-use Rattle.std.proofs.Common.{◌≡◌, ℕ, ◌+◌, ◌≤◌, ◌<◌, ◌⊎◌, ◌&&◌, inl, inr, Bool, true, false, nat_le, Some, None}
-use Rattle.std.proofs.Common.{List, [], ◌++◌, length, append_assoc, refl, sym, ap, ◌∙◌, arith}
+use Rattle.std.proofs.Common.{◌≡◌, ℕ, ◌+◌, ◌≤◌, ◌<◌, ◌⊎◌, ◌&&◌, inl, inr, Bool, true, false, nat_le, Some, None, List}
+use Rattle.std.proofs.Common.{[], ◌++◌, length, append_assoc, refl, sym, ap, ◌∙◌, arith}
 use Rattle.std.proofs.lemmas.Bool.{leb-false}
 use Rattle.std.proofs.lemmas.List.{append_cancel_right}
 use Rattle.block_store.specs.Block.{Block, sizes, free_sum}

@@ -1,11 +1,10 @@
 -- A search for a run that passes blocks by what they come to in runs.
 use Rattle.zone_summary.specs.declared.stretch.Counting.TheVariants.{Runs}
-use Rattle.std.proofs.Common.{◌≡◌, ℕ, ◌+◌, ◌≤◌, ◌<◌, ◌^◌, ◌&&◌, ◌⊎◌, inl, inr, Bool, true, false, nat_le, None, List}
-use Rattle.std.proofs.Common.{[], ◌++◌, length, rules}
-use Rattle.std.proofs.Common.{append_assoc, append-nil, refl, sym, ap, ◌∙◌, subst, arith}
+use Rattle.std.proofs.Common.{◌≡◌, ℕ, ◌+◌, ◌≤◌, ◌<◌, ◌^◌, ◌&&◌, ◌⊎◌, Bool, true, false, nat_le, None, List, [], ◌++◌}
+use Rattle.std.proofs.Common.{length, rules, append_assoc, append-nil, refl, sym, ap, ◌∙◌, subst, arith}
 use Rattle.std.proofs.lemmas.Bool.{cond-false}
 use Rattle.std.proofs.lemmas.List.{append_cancel_right}
-use Rattle.block_store.specs.Block.{Block, sizes}
+use Rattle.block_store.specs.Block.{Block}
 use Rattle.block_store.specs.Inner.RunScan.{scan_runs}
 use Rattle.block_store.specs.Sparing.{opened, spared}
 use Rattle.block_store.specs.declared.run_search.RunScan.{RunScan}
@@ -23,16 +22,14 @@ use Rattle.zone_marks.specs.declared.beginning.Passed.{Passed}
 use Rattle.zone_marks.specs.declared.landmark.Tally.TheVariants as tally
 use Rattle.zone_marks.proofs.Marks.Passing.{begins-here}
 use Rattle.zone_bytes.proofs.Places.Stepped.{left-none}
-use Rattle.zone_bytes.proofs.Tiles.Tiling.{span-append}
 use Rattle.zone_marks.proofs.Searches.Going.{goes-finds}
 use Rattle.zone_marks.proofs.Searches.Knowing.{known-through}
-use Rattle.zone_marks.proofs.Searches.Pieces.{edge-within, left-long, piece-more, piece-none}
-use Rattle.zone_summary.specs.Stretches.{load}
+use Rattle.zone_marks.proofs.Searches.Pieces.{edge-within, piece-more, piece-none}
+use Rattle.zone_summary.specs.Stretches.{load, best, is_ended, join, prefix, stretch_of, suffix}
 use Rattle.zone_summary.specs.Searches.{found_from}
-use Rattle.zone_summary.specs.Stretches.{best, is_ended, join, prefix, stretch_of, suffix}
 use Rattle.zone_summary.specs.declared.stretch.Stretch.{Stretch}
 use Rattle.zone_summary.specs.declared.stretch.Stretch.TheVariants.{Whole, Ended}
-use Rattle.zone_summary.proofs.Monoid.{best-low, join-assoc, stretch_of-append}
+use Rattle.zone_summary.proofs.Monoid.{stretch_of-append}
 use Rattle.zone_summary.proofs.Searching.{scan-begun, scan-never, whole-open, whole-rest}
 use Rattle.zone_summary.proofs.Sums.{ends-load, load-blocks, load-join}
 

@@ -1,8 +1,6 @@
 -- The blocks from one place of a zone up to another.
 use Rattle.std.proofs.Common.{◌≡◌, ℕ, ◌+◌, ◌≤◌, ◌<◌, ◌⊎◌, inl, inr, List, [], ◌++◌, length, take, drop, get_or}
-use Rattle.std.proofs.Common.{append_assoc}
-use Rattle.std.proofs.Common.{refl, sym, ap, ◌∙◌, subst, arith}
-use Rattle.std.proofs.lemmas.Bool.{cases_lt}
+use Rattle.std.proofs.Common.{append_assoc, refl, sym, ap, ◌∙◌, subst, arith}
 use Rattle.std.proofs.lemmas.List.{drop-drop, drop_more, drop_all}
 use Rattle.block_store.specs.Block.{Block, sizes}
 use Rattle.zone_bytes.specs.Decode.{zone_in}
@@ -19,8 +17,7 @@ use Rattle.zone_marks.specs.declared.landmark.TheConstants.{GROUP}
 use Rattle.zone_bytes.proofs.Laws.Lawful.{sizes-length}
 use Rattle.zone_marks.proofs.Marks.Between.{CountAlike, tally-as, alike-back, alike-more, alike-same, between-parts}
 use Rattle.zone_marks.proofs.Marks.Lowering.{Seen, begins-way, mark-begins, seen-from, marks-below, marks-parted}
-use Rattle.zone_marks.proofs.Marks.Lowering.{mark-first}
-use Rattle.zone_marks.proofs.Marks.Lowering.{begins-end}
+use Rattle.zone_marks.proofs.Marks.Lowering.{mark-first, begins-end}
 use Rattle.zone_marks.proofs.Marks.Passing.{PartsAt, begins-either, begins-here, begins-right, begins-within, parts}
 use Rattle.zone_marks.proofs.Marks.Tallies.{group-tally}
 use Rattle.zone_bytes.proofs.Places.AtPlace.{left-above}

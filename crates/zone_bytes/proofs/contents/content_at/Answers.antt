@@ -2,9 +2,8 @@ use Rattle.std.proofs.Common.{◌+◌, sym, ap, ◌∙◌, arith, rules}
 use Rattle.block_store.specs.Block.{content_of}
 use Rattle.windows.specs.Writes.{piece}
 use Rattle.zone_bytes.proofs.Tiles.Tags.{tag-small}
-use Rattle.zone_bytes.proofs.Places.Stepped.{may-read}
+use Rattle.zone_bytes.proofs.Places.Stepped.{may-read, stepped}
 use Rattle.zone_bytes.proofs.Places.HeaderTells.{holds, holds-none, same-here}
-use Rattle.zone_bytes.proofs.Places.Stepped.{stepped}
 use Rattle.zone_bytes.proofs.contents.content_at.Goals as goal
 
 pub read_header-header-requires : goal.read_header-header-requires

@@ -3,14 +3,13 @@ use denote.Enum.Bare.{sameb}
 use Rattle.heap_words.specs.contracts.header.Tag.{the_type}
 use Rattle.heap_words.specs.declared.header.Tag.TheVariants.{Relocatable}
 use Rattle.zone_bytes.specs.Pointing.{Pointing}
-use Rattle.zone_bytes.proofs.Runs.Pointers.{start-pointing, pointing-bounds, point-next, point-free}
-use Rattle.zone_bytes.proofs.Runs.Pointers.{NextSlot, point-slot, pointed}
+use Rattle.zone_bytes.proofs.Runs.Pointers.{start-pointing, pointing-bounds, point-next, point-free, NextSlot}
+use Rattle.zone_bytes.proofs.Runs.Pointers.{point-slot, pointed}
 use Rattle.zone_bytes.proofs.Tiles.Tags.{tag-true, tag-false, tag-small}
 use Rattle.zone_bytes.proofs.Tiles.Heads.{next-may, Next}
 use Rattle.zone_bytes.proofs.pointing.lead_run.Given.{Over}
-use Rattle.zone_bytes.proofs.pointing.lead_run.Goals.{In-loop-from, After-eq}
+use Rattle.zone_bytes.proofs.pointing.lead_run.Goals.{In-loop-from, After-eq, then-eq, else-eq}
 use Rattle.zone_bytes.proofs.pointing.lead_run.Goals as goal
-use Rattle.zone_bytes.proofs.pointing.lead_run.Goals.{then-eq, else-eq}
 
 pub loop-from-init : goal.loop-from-init
 loop-from-init g c = (rw c.requires.0 (start-pointing _ _ _ c.requires.1), refl, refl, refl)

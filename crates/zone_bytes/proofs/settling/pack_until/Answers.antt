@@ -17,11 +17,11 @@ use Rattle.zone_bytes.proofs.Tiles.Heads.{next-may, Next}
 use Rattle.zone_bytes.proofs.Tiles.Tiling.{span-append, tiles-none}
 use Rattle.zone_bytes.proofs.Tiles.Tags.{tag-true, tag-false, tag-small}
 use Rattle.zone_bytes.proofs.settling.pack_until.Given.{Over}
-use Rattle.zone_bytes.proofs.settling.pack_until.Goals.{In-loop-from, After-eq, Joined-eq, Left-loop-from}
-use Rattle.zone_bytes.proofs.settling.pack_until.Goals as goal
-use Rattle.zone_bytes.proofs.settling.pack_until.Goals.{then-eq, else-eq, else-loop-from-test}
+use Rattle.zone_bytes.proofs.settling.pack_until.Goals.{In-loop-from, After-eq, Joined-eq, Left-loop-from, then-eq}
+use Rattle.zone_bytes.proofs.settling.pack_until.Goals.{else-eq, else-loop-from-test}
 use Rattle.zone_bytes.proofs.settling.pack_until.Goals.{then-loop-from-test+then-is_enough}
 use Rattle.zone_bytes.proofs.settling.pack_until.Goals.{then-loop-from-test+else-is_enough+then-not-is_in_run}
+use Rattle.zone_bytes.proofs.settling.pack_until.Goals as goal
 
 pub loop-from-init : goal.loop-from-init
 loop-from-init g c = (

@@ -1,5 +1,4 @@
-use Rattle.std.proofs.Common.{ap, ◌∙◌, arith}
-use Rattle.zone_summary.specs.Stretches.{is_ended, join}
+use Rattle.std.proofs.Common.{arith}
 use Rattle.zone_marks.proofs.Searches.Passed.{passed-ended, passed-open}
 use Rattle.zone_marks.proofs.beginning.pass_known.Goals as goal
 

@@ -1,5 +1,5 @@
-use Rattle.std.proofs.Common.{sym, ◌∙◌, arith}
-use Rattle.zone_marks.proofs.Searches.Knowing.{known-found, known-through, not-found}
+use Rattle.std.proofs.Common.{arith}
+use Rattle.zone_marks.proofs.Searches.Knowing.{known-found, known-through}
 use Rattle.zone_marks.proofs.beginning.past_open.Goals as goal
 
 pub returns-then-is_found : goal.returns-then-is_found

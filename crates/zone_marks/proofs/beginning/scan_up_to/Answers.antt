@@ -1,4 +1,4 @@
-use Rattle.std.proofs.Common.{◌≡◌, refl, sym, ◌∙◌, subst, arith, rules}
+use Rattle.std.proofs.Common.{refl, sym, subst, arith, rules}
 use Rattle.zone_bytes.specs.Stepping.{Steps}
 use Rattle.zone_marks.proofs.Marks.Lowering.{begins-way}
 use Rattle.zone_marks.proofs.Marks.Passing.{begins-within}

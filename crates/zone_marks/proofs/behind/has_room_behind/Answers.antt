@@ -1,6 +1,4 @@
-use Rattle.std.proofs.Common.{◌≡◌, is_some}
 use Rattle.block_store.specs.Block.{is_relocatable}
-use Rattle.block_store.specs.Grow.{taken}
 use Rattle.zone_marks.proofs.Marks.Sought.{sought}
 use Rattle.zone_marks.proofs.behind.has_room_behind.Goals as goal
 

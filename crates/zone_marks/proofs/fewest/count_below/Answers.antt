@@ -1,4 +1,4 @@
-use Rattle.std.proofs.Common.{◌≡◌, ◌∙◌, ◌-◌, ◌++◌, List, ap, arith, inl, inr}
+use Rattle.std.proofs.Common.{◌≡◌, ◌∙◌, ◌-◌, ◌++◌, List, ap, arith}
 use Rattle.block_store.specs.Block.{Block, sizes}
 use Rattle.block_store.specs.Room.{count_of}
 use Rattle.block_store.specs.Sparing.{opened, spared}

@@ -1,7 +1,6 @@
 use Rattle.std.proofs.Common.{◌∙◌, ◌-◌, ap, arith}
 use Rattle.block_store.specs.Sparing.{opened, spared}
 use Rattle.zone_summary.specs.Fewest.{purges_for}
-use Rattle.zone_summary.specs.Stretches.{prefix, stretch_of}
 use Rattle.zone_summary.proofs.Fewest.{IsFirst, first-is}
 use Rattle.zone_bytes.specs.Decode.{zone_in}
 use Rattle.zone_bytes.specs.Changes.{Begins}

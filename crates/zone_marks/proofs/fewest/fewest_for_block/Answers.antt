@@ -1,4 +1,4 @@
-use Rattle.std.proofs.Common.{◌≡◌, ◌∙◌, ◌-◌, ap, arith, sym, List}
+use Rattle.std.proofs.Common.{◌≡◌, ◌∙◌, ◌-◌, ap, arith, List}
 use Rattle.block_store.specs.Block.{Block}
 use Rattle.block_store.specs.Room.{count_of}
 use Rattle.block_store.specs.Sparing.{spared}

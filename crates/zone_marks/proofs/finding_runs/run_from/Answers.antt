@@ -1,7 +1,7 @@
 use Rattle.std.proofs.Common.{sym, ◌∙◌, arith}
 use Rattle.zone_marks.specs.Searching.{IsKnown}
 use Rattle.zone_marks.proofs.Searches.Going.{goes-finds}
-use Rattle.zone_marks.proofs.Searches.Knowing.{found-kept, not-found, scanned, short-of}
+use Rattle.zone_marks.proofs.Searches.Knowing.{found-kept, not-found, scanned}
 use Rattle.zone_marks.proofs.Searches.Pieces.{piece-of}
 use Rattle.zone_marks.proofs.finding_runs.run_from.Goals as goal
 use Rattle.zone_marks.proofs.finding_runs.run_from.Goals.{After-scan_up_to-scan}

@@ -1,7 +1,5 @@
-use Rattle.std.proofs.Common.{None, sym, ◌∙◌, arith, rules}
-use Rattle.block_store.specs.Sparing.{spared}
+use Rattle.std.proofs.Common.{sym, arith}
 use Rattle.block_store.proofs.Regroup.RunScans.{scan_kept}
-use Rattle.zone_marks.proofs.Searches.Going.{goes-finds}
 use Rattle.zone_marks.proofs.Searches.Passed.{walked-out}
 use Rattle.zone_marks.proofs.finding_runs.walk_on.Goals as goal
 

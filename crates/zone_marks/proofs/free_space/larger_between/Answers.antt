@@ -1,7 +1,7 @@
 use Rattle.std.proofs.Common.{◌≡◌, ◌+◌, false, arith, rules}
 use Rattle.block_store.specs.Block.{is_room}
 use Rattle.zone_marks.proofs.Bounds.Space.{growing-start, growing-step}
-use Rattle.zone_marks.proofs.Marks.Passing.{passed-all, past}
+use Rattle.zone_marks.proofs.Marks.Passing.{passed-all}
 use Rattle.zone_marks.proofs.free_space.larger_between.Goals as goal
 
 pub loop-at-init : goal.loop-at-init

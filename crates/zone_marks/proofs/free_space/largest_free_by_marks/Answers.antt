@@ -1,6 +1,4 @@
-use Rattle.std.proofs.Common.{◌*◌, ap, arith}
-use Rattle.block_store.specs.Compact.{largest_free}
-use Rattle.zone_marks.specs.declared.landmark.TheConstants.{GROUP}
+use Rattle.std.proofs.Common.{arith}
 use Rattle.zone_marks.proofs.Bounds.Space.{zone-largest}
 use Rattle.zone_marks.proofs.Marks.Rooms.{none-past}
 use Rattle.zone_bytes.proofs.Places.AtPlace.{left-zone, on-way}

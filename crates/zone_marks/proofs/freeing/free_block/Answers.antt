@@ -1,7 +1,8 @@
 use Rattle.std.proofs.Common.{◌≡◌, ◌+◌, arith, rules}
 use Rattle.block_store.specs.Block.{size}
 use Rattle.zone_bytes.specs.Joining.{Freeing, MayRelease}
-use Rattle.zone_marks.proofs.Joined.Released.{leads-up, stop-way, stop-more, freed-replaced, here-read, lower, may-free, freed, may-join, released}
+use Rattle.zone_marks.proofs.Joined.Released.{leads-up, stop-way, stop-more, freed-replaced, here-read, lower, may-free}
+use Rattle.zone_marks.proofs.Joined.Released.{freed, may-join, released}
 use Rattle.zone_marks.proofs.freeing.free_block.Goals.{After-free_up-end}
 use Rattle.zone_marks.proofs.freeing.free_block.Goals as goal
 
@@ -24,9 +25,9 @@ end c f m = let e = c.last_free_below-start.ensures in
 
 pub join_above-requires : goal.join_above-requires
 join_above-requires c = let e = c.last_free_below-start.ensures in (
-      freed _ _ _ c.requires.1 _ e,
-      may-join _ _ _ c.requires.1 _ e _ (grind (arith, end)) _ c.free_up-end.ensures.lays,
-    )
+  freed _ _ _ c.requires.1 _ e,
+  may-join _ _ _ c.requires.1 _ e _ (grind (arith, end)) _ c.free_up-end.ensures.lays,
+)
 
 pub overflow_sub-result : goal.overflow_sub-result
 overflow_sub-result c = omega (arith, end (goal.at.overflow_sub-result c).After-free_up-end _ c.requires.1)

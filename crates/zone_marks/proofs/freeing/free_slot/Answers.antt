@@ -1,4 +1,4 @@
-use Rattle.std.proofs.Common.{◌≡◌, ◌+◌, sym, ap, ◌∙◌, subst, arith, rules}
+use Rattle.std.proofs.Common.{sym, ap, ◌∙◌, subst, arith, rules}
 use Rattle.block_store.specs.Block.{free_sum}
 use Rattle.zone_marks.specs.Marked.{AreOf}
 use Rattle.zone_marks.proofs.Marks.Keeping.{same-replaced}

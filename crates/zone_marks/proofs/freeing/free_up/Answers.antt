@@ -4,8 +4,8 @@ use Rattle.block_store.specs.Block.{size}
 use Rattle.zone_bytes.specs.Joining.{Freeing, MayFree}
 use Rattle.zone_bytes.specs.Layout.{kind}
 use Rattle.zone_bytes.specs.Table.{empty_word}
-use Rattle.zone_bytes.proofs.Tiles.Tags.{tag-true, tag-false, tag-small}
-use Rattle.zone_bytes.proofs.Joined.Freed.{here-read, may-make, other-lays, slot-fits, slot-lays, led, none-led}
+use Rattle.zone_bytes.proofs.Tiles.Tags.{tag-true, tag-small}
+use Rattle.zone_bytes.proofs.Joined.Freed.{here-read, may-make, other-lays, slot-fits, slot-lays, led}
 use Rattle.zone_marks.proofs.freeing.free_up.Goals.{After-read_header-header}
 use Rattle.zone_marks.proofs.freeing.free_up.Goals as goal
 

@@ -1,6 +1,6 @@
-use Rattle.std.proofs.Common.{◌≡◌, ◌<◌, length, sym, ◌∙◌, subst, arith}
+use Rattle.std.proofs.Common.{◌≡◌, ◌<◌, length, sym, ◌∙◌, arith}
 use Rattle.heap_words.specs.Headers.{tag_number}
-use Rattle.zone_bytes.proofs.Tiles.Tags.{tag-small, free-true, free-false}
+use Rattle.zone_bytes.proofs.Tiles.Tags.{tag-small, free-true}
 use Rattle.zone_bytes.specs.Joining.{Joining, MayJoin}
 use Rattle.zone_bytes.specs.Layout.{kind}
 use Rattle.zone_bytes.proofs.Joined.Above.{next, joined-none, joined-other, one, may-free, joined-two}

@@ -1,4 +1,4 @@
-use Rattle.std.proofs.Common.{◌++◌, List, arith, rules}
+use Rattle.std.proofs.Common.{List, arith, rules}
 use Rattle.block_store.specs.Block.{Block}
 use Rattle.zone_bytes.specs.Decode.{zone_in}
 use Rattle.zone_bytes.specs.Changes.{AtEach, Replaced}

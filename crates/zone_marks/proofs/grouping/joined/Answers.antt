@@ -1,6 +1,5 @@
 use Rattle.std.proofs.Common.{ap, sym, ◌∙◌, arith}
-use Rattle.zone_marks.specs.Marks.{join_tallies, known_load}
-use Rattle.zone_marks.specs.declared.landmark.Tally.TheVariants as tally
+use Rattle.zone_marks.specs.Marks.{known_load}
 use Rattle.zone_summary.proofs.Sums.{ends-load}
 use Rattle.zone_marks.proofs.Marks.Tallies.{loads-more, tally_of-more, tally_of-unknown}
 use Rattle.zone_marks.proofs.grouping.joined.Goals as goal

@@ -1,4 +1,4 @@
-use Rattle.std.proofs.Common.{refl, arith, length-set, ◌∙◌, rules}
+use Rattle.std.proofs.Common.{arith, rules}
 use Rattle.zone_marks.proofs.Marks.Groups.{group-renewed}
 use Rattle.zone_marks.proofs.Marks.Tallies.{loads-part}
 use Rattle.zone_marks.proofs.grouping.renew_groups.Goals as goal

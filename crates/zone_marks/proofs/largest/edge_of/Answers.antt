@@ -1,5 +1,4 @@
-use Rattle.std.proofs.Common.{arith, refl, rules}
-use Rattle.zone_marks.specs.Marks.{above_all, no_mark}
+use Rattle.std.proofs.Common.{arith, rules}
 use Rattle.zone_marks.proofs.Marks.Lowering.{mark-begins, mark-first}
 use Rattle.zone_marks.proofs.Searches.Pieces.{edge-within, end-begins}
 use Rattle.zone_marks.proofs.largest.edge_of.Goals as goal

@@ -1,6 +1,4 @@
-use Rattle.std.proofs.Common.{refl, ◌∙◌, ap, arith}
-use Rattle.zone_summary.specs.Stretches.{spaces_of}
-use Rattle.zone_bytes.specs.Decode.{zone_in}
+use Rattle.std.proofs.Common.{arith}
 use Rattle.zone_marks.proofs.Marks.Passing.{begins-here}
 use Rattle.zone_bytes.proofs.Places.AtPlace.{left-zone}
 use Rattle.zone_marks.proofs.largest.largest_space_by_marks.Goals as goal

@@ -4,9 +4,8 @@ use Rattle.zone_summary.proofs.Monoid.{counted-none, join-assoc, join-unit_right
 use Rattle.zone_summary.proofs.Sums.{ends-load, load-join}
 use Rattle.zone_marks.specs.Searching.{IsStretch}
 use Rattle.zone_bytes.specs.Stepping.{left_in}
-use Rattle.zone_marks.proofs.Bounds.Fewest.{ended-lowest, known-fits, known-past}
+use Rattle.zone_marks.proofs.Bounds.Fewest.{known-fits, known-past}
 use Rattle.zone_marks.proofs.Marks.Lowering.{begins-way}
-use Rattle.zone_marks.proofs.Searches.Pieces.{edge-within}
 use Rattle.zone_bytes.proofs.Places.Stepped.{left-none}
 use Rattle.zone_marks.proofs.largest.stretch_above.Goals.{After-edge_of-next, After-loop-index}
 use Rattle.zone_marks.proofs.largest.stretch_above.Goals as goal

@@ -1,7 +1,4 @@
-use Rattle.std.proofs.Common.{◌≡◌, ◌*◌, ◌/◌, take, drop, sym, ◌∙◌, subst, arith}
-use Rattle.zone_marks.specs.Marks.{tally_of}
-use Rattle.zone_marks.specs.declared.landmark.TheConstants.{GROUP}
-use Rattle.zone_marks.specs.declared.landmark.Tally.TheVariants as tally
+use Rattle.std.proofs.Common.{arith}
 use Rattle.zone_marks.proofs.Searches.Pieces.{group-stretch, next-stretch}
 use Rattle.zone_marks.proofs.largest.told_from.Goals as goal
 

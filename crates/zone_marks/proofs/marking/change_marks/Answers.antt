@@ -1,7 +1,7 @@
 use Rattle.std.proofs.Common.{◌-◌, length-set, arith}
 use Rattle.zone_bytes.specs.Decode.{zone_in}
-use Rattle.zone_marks.proofs.Marks.Lowering.{begins-lowered, changing-start, changing-step, changing-done, changing-below}
-use Rattle.zone_marks.proofs.Marks.Lowering.{last-mark, replaced-order}
+use Rattle.zone_marks.proofs.Marks.Lowering.{begins-lowered, changing-start, changing-step, changing-done}
+use Rattle.zone_marks.proofs.Marks.Lowering.{changing-below, last-mark, replaced-order}
 use Rattle.zone_marks.proofs.Marks.Tallies.{loads-small}
 use Rattle.zone_marks.proofs.marking.change_marks.Goals as goal
 use Rattle.zone_marks.proofs.marking.change_marks.Goals.{then-loop-first-test+else-lo-above, else-loop-first-test}

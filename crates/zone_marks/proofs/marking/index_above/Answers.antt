@@ -1,6 +1,6 @@
-use Rattle.std.proofs.Common.{◌≡◌, ◌+◌, ◌-◌, ◌≤◌, ◌<◌, ℕ, List, sym, subst, get_or, arith}
+use Rattle.std.proofs.Common.{◌+◌, ◌-◌, ◌<◌, ℕ, List, get_or, arith}
 use Rattle.zone_marks.specs.declared.landmark.Landmark.{Landmark}
-use Rattle.zone_marks.specs.Marks.{next_of, no_mark}
+use Rattle.zone_marks.specs.Marks.{no_mark}
 use Rattle.zone_marks.proofs.Marks.Lowering.{drop-all, mark-first}
 use Rattle.zone_marks.proofs.marking.index_above.Goals as goal
 

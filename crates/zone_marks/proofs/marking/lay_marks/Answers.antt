@@ -1,11 +1,10 @@
-use Rattle.std.proofs.Common.{◌+◌, length, length-set, refl, sym, ◌∙◌, arith, rules}
+use Rattle.std.proofs.Common.{◌+◌, length, length-set, ◌∙◌, arith, rules}
 use Rattle.zone_bytes.specs.Decode.{zone_in}
-use Rattle.zone_marks.specs.Marks.{no_mark}
 use Rattle.zone_marks.specs.declared.landmark.Tallies.{Tallies}
 use Rattle.zone_marks.specs.declared.landmark.Tally.TheVariants as tally
 use Rattle.zone_marks.proofs.Marks.Between.{told-both}
-use Rattle.zone_marks.proofs.Marks.Lowering.{begins-way, begins-further, bound-here, tally-here, marks-whole, marks-next}
-use Rattle.zone_marks.proofs.Marks.Lowering.{marks-left, mark-first, equal-yes, equal-no}
+use Rattle.zone_marks.proofs.Marks.Lowering.{begins-way, begins-further, bound-here, tally-here, marks-whole}
+use Rattle.zone_marks.proofs.Marks.Lowering.{marks-next, marks-left, mark-first, equal-yes, equal-no}
 use Rattle.zone_marks.proofs.marking.lay_marks.Goals as goal
 
 pub loop-index-init : goal.loop-index-init

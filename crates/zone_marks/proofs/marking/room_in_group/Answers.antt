@@ -1,7 +1,4 @@
-use Rattle.std.proofs.Common.{get_or, subst, sym, arith}
-use Rattle.zone_bytes.specs.Decode.{zone_in}
-use Rattle.zone_bytes.specs.Changes.{AtEach}
-use Rattle.zone_marks.specs.Marks.{NoRoom, no_mark}
+use Rattle.std.proofs.Common.{arith}
 use Rattle.zone_marks.proofs.Marks.Lowering.{mark-begins}
 use Rattle.zone_marks.proofs.Marks.Rooms.{stretch-room}
 use Rattle.zone_marks.proofs.marking.room_in_group.Goals as goal

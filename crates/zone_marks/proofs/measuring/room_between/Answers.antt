@@ -1,9 +1,9 @@
 use Rattle.std.proofs.Common.{◌≡◌, false, inl, arith, rules}
 use Rattle.block_store.specs.Block.{is_room}
-use Rattle.zone_marks.proofs.Marks.Passing.{passed-begins, passed-on, passed-all, past}
-use Rattle.zone_marks.proofs.Marks.Spanned.{no-room, room-here}
+use Rattle.zone_marks.proofs.Marks.Passing.{passed-begins, passed-on, passed-all}
 use Rattle.zone_marks.proofs.measuring.room_between.Goals as goal
-use Rattle.zone_marks.proofs.measuring.room_between.Goals.{else-span-gt0-via-then-span-gt0+else-bytes-span, else-span-gt0-via-else-span-gt0}
+use Rattle.zone_marks.proofs.measuring.room_between.Goals.{else-span-gt0-via-then-span-gt0+else-bytes-span}
+use Rattle.zone_marks.proofs.measuring.room_between.Goals.{else-span-gt0-via-else-span-gt0}
 
 pub returns-then-bytes-span-clause-begins : goal.returns-then-bytes-span-clause-begins
 returns-then-bytes-span-clause-begins c = search (rules, passed-begins)

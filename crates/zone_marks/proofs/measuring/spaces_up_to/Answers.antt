@@ -3,7 +3,6 @@ use Rattle.zone_summary.specs.Stretches.{prefix}
 use Rattle.zone_summary.specs.declared.stretch.Counting.TheVariants.{Spaces}
 use Rattle.zone_summary.proofs.Monoid.{join-unit_right}
 use Rattle.zone_marks.proofs.Marks.Counting.{prefix-counted, walked-below, walked-few, walked-start, walked-step}
-use Rattle.zone_marks.proofs.Marks.Passing.{past}
 use Rattle.zone_marks.proofs.measuring.spaces_up_to.Goals as goal
 
 pub loop-at-init : goal.loop-at-init

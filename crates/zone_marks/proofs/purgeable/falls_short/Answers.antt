@@ -1,5 +1,4 @@
 use Rattle.std.proofs.Common.{arith}
-use Rattle.std.proofs.lemmas.Bool.{ltb-true}
 use Rattle.zone_bytes.proofs.Bounds.Short.{free-given}
 use Rattle.zone_marks.proofs.purgeable.falls_short.Goals as goal
 

@@ -1,6 +1,4 @@
-use Rattle.std.proofs.Common.{◌∙◌, ap, arith}
-use Rattle.block_store.specs.Block.{free_sum}
-use Rattle.zone_bytes.specs.PurgeableBytes.{purgeable_sum}
+use Rattle.std.proofs.Common.{arith}
 use Rattle.zone_bytes.proofs.Bounds.Short.{free-given}
 use Rattle.zone_bytes.proofs.Places.AtPlace.{left-zone}
 use Rattle.zone_marks.proofs.Marks.Passing.{begins-here}

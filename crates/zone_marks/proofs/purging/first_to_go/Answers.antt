@@ -1,8 +1,6 @@
-use Rattle.std.proofs.Common.{◌≡◌, ℕ, Bool, Option, Some, None, List, IfSome, ap, ◌∙◌, rules, arith}
-use Rattle.block_store.specs.Block.{Block, tidy}
+use Rattle.std.proofs.Common.{ℕ, Bool, Option, Some, None, List, IfSome, arith}
+use Rattle.block_store.specs.Block.{Block}
 use Rattle.block_store.specs.Find.{FindsLowest}
-use Rattle.block_store.specs.Sparing.{purged}
-use Rattle.zone_bytes.specs.Decode.{zone_in}
 use Rattle.zone_marks.proofs.purging.first_to_go.Goals as goal
 
 found : (test : Block → Bool) (zone : List Block) (r : Option ℕ) → FindsLowest test zone r

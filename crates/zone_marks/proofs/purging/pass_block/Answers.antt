@@ -1,11 +1,10 @@
-use Rattle.std.proofs.Common.{◌≡◌, ◌+◌, ◌==◌, cond, sym, ap, ◌∙◌, arith}
+use Rattle.std.proofs.Common.{◌≡◌, ◌+◌, sym, ◌∙◌, arith}
 use Rattle.heap_words.specs.Headers.{tag_number}
 use Rattle.block_store.specs.Block.{size}
 use Rattle.block_store.specs.Inner.Purging.{left_past}
 use Rattle.block_store.specs.Inner.Stretch.{opened_block}
 use Rattle.block_store.specs.Sparing.{spared}
 use Rattle.zone_bytes.specs.Layout.{kind}
-use Rattle.zone_bytes.specs.Stepping.{header_seen}
 use Rattle.zone_bytes.proofs.Tiles.Tags.{tag-small}
 use Rattle.zone_marks.specs.Purging.{Purge, Purging}
 use Rattle.zone_marks.proofs.Joined.Passing.{Next, next, freed-fits, freeing, may-free, freed-next, kept-next}

@@ -1,14 +1,13 @@
-use Rattle.std.proofs.Common.{◌≡◌, ◌<◌, ◌+◌, sym, ap, ◌∙◌, subst, arith, rules}
+use Rattle.std.proofs.Common.{◌≡◌, ◌+◌, arith, rules}
 use Rattle.heap_words.specs.Headers.{tag_number}
 use Rattle.block_store.specs.Block.{size}
 use Rattle.zone_bytes.specs.Joining.{Freeing}
-use Rattle.zone_marks.specs.Purging.{Purging, Purged, MayPurge, purge_above}
-use Rattle.zone_bytes.proofs.Tiles.Tags.{tag-small, free-true, free-false}
+use Rattle.zone_marks.specs.Purging.{Purging, MayPurge, purge_above}
+use Rattle.zone_bytes.proofs.Tiles.Tags.{tag-small}
 use Rattle.zone_bytes.specs.Layout.{kind}
 use Rattle.zone_marks.proofs.Joined.PurgeStarts.{place-read, above-other, above-free}
-use Rattle.zone_marks.proofs.purging.purge_above.Goals.{After-read_header-header, After-without_freed}
+use Rattle.zone_marks.proofs.purging.purge_above.Goals.{After-read_header-header, After-without_freed, then-eq, else-eq}
 use Rattle.zone_marks.proofs.purging.purge_above.Goals as goal
-use Rattle.zone_marks.proofs.purging.purge_above.Goals.{then-eq, else-eq}
 
 pub read_header-header-requires : goal.read_header-header-requires
 read_header-header-requires c = (place-read _ _ _ c.requires.1).may

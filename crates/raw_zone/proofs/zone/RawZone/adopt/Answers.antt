@@ -1,6 +1,7 @@
 use Rattle.std.proofs.Common.{◌≡◌, ◌∙◌, ◌++◌, ◌∷◌, true, false, ℕ, IsTrue, refl, ap, sym, subst, arith}
 use Rattle.std.specs.Option.{IfSome, IsSomeAnd}
-use Rattle.block_store.specs.Block.{Nonrelocatable, Relocatable, is_nonrelocatable, is_relocatable, is_masters, content_of, count, free_sum}
+use Rattle.block_store.specs.Block.{Nonrelocatable, Relocatable, is_nonrelocatable, is_relocatable, is_masters}
+use Rattle.block_store.specs.Block.{content_of, count, free_sum}
 use Rattle.block_store.specs.Run.{has}
 use Rattle.block_store.specs.Room.{spot_at}
 use Rattle.block_store.specs.Slot.{is_used}
@@ -14,8 +15,8 @@ use Rattle.raw_zone.specs.Parted.{zone_of, rest_of}
 use Rattle.zone_bytes.proofs.Places.AtPlace.{low, way-at, inside, some-here}
 use Rattle.zone_bytes.proofs.Places.Options.{if-spot, one-spot}
 use Rattle.zone_bytes.proofs.Laws.Lawful.{Made, rest-made, kept-made}
-use Rattle.zone_bytes.proofs.Blocks.Adopted.{NonrelocatableAt, nonrelocatable-at, adopt-reads-in, adopted-at, masters-adopted}
-use Rattle.zone_bytes.proofs.Blocks.Adopted.{free-adopted}
+use Rattle.zone_bytes.proofs.Blocks.Adopted.{NonrelocatableAt, nonrelocatable-at, adopt-reads-in, adopted-at}
+use Rattle.zone_bytes.proofs.Blocks.Adopted.{masters-adopted, free-adopted}
 use Rattle.zone_marks.proofs.Marks.Owed.{with-marks}
 use Rattle.zone_bytes.specs.Changes.{Became}
 use Rattle.raw_zone.proofs.zone.RawZone.adopt.Goals as goal

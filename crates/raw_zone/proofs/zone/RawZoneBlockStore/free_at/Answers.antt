@@ -9,7 +9,8 @@ use Rattle.zone_bytes.specs.Beside.{rest_in}
 use Rattle.zone_bytes.specs.Decode.{zone_in}
 use Rattle.zone_bytes.proofs.Places.Options.{the-spot}
 use Rattle.zone_bytes.proofs.Joined.Handles.{Gained, gained-fits, gained-kept, gained-rest}
-use Rattle.zone_bytes.proofs.Joined.NonrelocatableFreed.{standing, may-free_nonrelocatable, nonrelocatable-gained, freed-is}
+use Rattle.zone_bytes.proofs.Joined.NonrelocatableFreed.{standing, may-free_nonrelocatable, nonrelocatable-gained}
+use Rattle.zone_bytes.proofs.Joined.NonrelocatableFreed.{freed-is}
 use Rattle.zone_marks.specs.Marked.{AreOf}
 use Rattle.zone_bytes.proofs.Places.AtPlace.{whole}
 use Rattle.raw_zone.specs.Parted.{zone_of, rest_of}

@@ -6,8 +6,8 @@ use Rattle.block_store.specs.Rest.{IsRest}
 use Rattle.zone_bytes.specs.Decode.{zone_in}
 use Rattle.zone_bytes.specs.Table.{slot_in}
 use Rattle.zone_bytes.proofs.Runs.Changed.{ChangedRun, if-one}
-use Rattle.zone_bytes.proofs.Runs.PackedAt.{IsPacked, is-packed, kept-changed, rest-changed}
-use Rattle.zone_bytes.proofs.Runs.PackedAt.{purgeable-changed, replaced-changed}
+use Rattle.zone_bytes.proofs.Runs.PackedAt.{IsPacked, is-packed, kept-changed, rest-changed, purgeable-changed}
+use Rattle.zone_bytes.proofs.Runs.PackedAt.{replaced-changed}
 use Rattle.zone_bytes.proofs.Runs.HoistedAt.{slot-inside, hoist-bytes, may-hoist, hoist-changed}
 use Rattle.raw_zone.specs.Parted.{zone_of, rest_of, zone-tidied, zone-once}
 use Rattle.zone_marks.proofs.Marks.Owed.{with-marks}

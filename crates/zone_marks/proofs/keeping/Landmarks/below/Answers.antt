@@ -1,5 +1,4 @@
-use Rattle.std.proofs.Common.{subst, sym, arith}
-use Rattle.zone_marks.specs.Marks.{AreMarks}
+use Rattle.std.proofs.Common.{arith}
 use Rattle.zone_marks.proofs.keeping.Landmarks.below.Goals as goal
 
 pub returns-clause-begins : goal.returns-clause-begins

@@ -1,6 +1,4 @@
-use Rattle.std.proofs.Common.{[], arith, sym, subst, refl}
-use Rattle.zone_bytes.specs.Decode.{zone_in}
-use Rattle.zone_marks.specs.Marks.{AreMarks, AreGroups}
+use Rattle.std.proofs.Common.{arith}
 use Rattle.zone_marks.proofs.Bounds.Going.{stays-above}
 use Rattle.zone_bytes.proofs.Places.AtPlace.{on-way}
 use Rattle.zone_marks.proofs.keeping.Landmarks.none.Goals as goal

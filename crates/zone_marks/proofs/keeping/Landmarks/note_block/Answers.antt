@@ -1,5 +1,4 @@
 use Rattle.std.proofs.Common.{arith, rules}
-use Rattle.zone_bytes.specs.Decode.{zone_in}
 use Rattle.zone_marks.proofs.Marks.Keeping.{became-replaced}
 use Rattle.zone_bytes.proofs.Places.Became.{became-fits, became-inside, became-left, became-way}
 use Rattle.zone_marks.proofs.keeping.Landmarks.note_block.Goals as goal

@@ -1,5 +1,5 @@
-use Rattle.std.proofs.Common.{inl, inr, arith}
-use Rattle.zone_marks.proofs.Bounds.Going.{stays-above, stays-lower}
+use Rattle.std.proofs.Common.{arith}
+use Rattle.zone_marks.proofs.Bounds.Going.{stays-lower}
 use Rattle.zone_marks.proofs.keeping.Landmarks.start.Goals as goal
 
 pub returns-clause-none : goal.returns-clause-none
