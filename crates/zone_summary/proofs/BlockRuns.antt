@@ -154,8 +154,24 @@ module _ (sp : Block → Bool) where
           sym (cond-true (may_be_purged sp b) _ _ e) ∙ h in
           elim (cases_lt (size b) (suc m)) [
             | inl less ↦ elim (look k b above) [
-              | inl w ↦ omega (arith, goes-prefix k b above w, here, none, less, more (suc done) (suc m - size b) there w.0)
-              | inr w ↦ omega (arith, keeps-prefix k b above w g.0, here, none, less, more (suc done) (suc m - size b) there k)
+              | inl w ↦ omega (
+                arith,
+                goes-prefix k b above w,
+                here,
+                none,
+                less,
+                more (suc done) (suc m - size b)
+                    there w.0,
+              )
+              | inr w ↦ omega (
+                arith,
+                keeps-prefix k b above w g.0,
+                here,
+                none,
+                less,
+                more (suc done) (suc m - size b)
+                    there k,
+              )
             ]
             | inr most ↦
                 let z : suc m - size b ≡ 0 = omega (arith, most) in
@@ -165,7 +181,13 @@ module _ (sp : Block → Bool) where
           let here = prefix-on b above i in
           let all = ap (λ t. prefix (stretch_of t)) (lowest_purged-stays k sp b above e)
           ∙ prefix-on b (lowest_purged k sp above) i in
-          omega (arith, all, here, more done (suc m) (sym (cond-true (in_run b) _ _ i) ∙ sym (cond-false (may_be_purged sp b) _ _ e) ∙ h) k)
+          omega (
+            arith,
+            all,
+            here,
+            more done (suc m) (sym (cond-true (in_run b) _ _ i) ∙ sym
+                (cond-false (may_be_purged sp b) _ _ e) ∙ h) k,
+          )
       step false e false i more = grind (arith, lowest_purged-stays, prefix-off)
 
   -- a walk that counts them looks at one block
@@ -204,7 +226,8 @@ module _ (number p : ℕ) where
       (scan-serves sp (place + size b) 0 false (place + size b) above)
     where
       cases : (t e : Bool)
-          → is_some (scan_runs (Some number) p sp 0 start (free + free_of b) (met_after (Some number) met b) (place + size b) above)
+          → is_some (scan_runs (Some number) p sp 0 start (free + free_of b) (met_after (Some number) met b)
+          (place + size b) above)
           ≡ serves_from (free + free_of b) (met || wanted b) above
           → is_some (scan_runs (Some number) p sp 0 (place + size b) 0 false (place + size b) above)
           ≡ serves_from 0 false above
@@ -379,7 +402,8 @@ module _ (number p : ℕ) where
                 here = r.1;
                 past = λ k free. past-off k free b above i
                     ∙ ap (λ j. serves_from 0 false (lowest_purged j sp above))
-                    (let c = count-here sp false b [] (off-stays b i) in let z : k ≡ k - count_of sp (b ∷ []) = omega (arith, c) in z);
+                    (let c = count-here sp false b [] (off-stays b i) in let z : k ≡ k - count_of sp (b ∷ []) = omega
+                    (arith, c) in z);
               })
               | inr c ↦ inr (record {
                 low = b ∷ c.low;
@@ -388,7 +412,8 @@ module _ (number p : ℕ) where
                 at = let e = c.at in omega (arith, e);
                 here = c.here;
                 past = λ k free. past-off k free b above i ∙ c.past k 0
-                    ∙ ap (λ j. serves_from 0 false (lowest_purged j sp c.rest)) (keeps-left sp k b c.low (inr (off-stays b i)));
+                    ∙ ap (λ j. serves_from 0 false (lowest_purged j sp c.rest))
+                    (keeps-left sp k b c.low (inr (off-stays b i)));
               })
             ]
 

@@ -109,7 +109,8 @@ module _ (p : ℕ) (sp : Block → Bool) (each : Block → Block) (same : (b : B
               rest = c.rest;
               is = ap (λ t. b ∷ t) c.is;
               at = omega (arith, c.at, s);
-              few = rw (stretch-off (each b) (map each c.low) i) (over-few p had (stretch_of (map each c.low)) less c.few);
+              few = rw (stretch-off (each b) (map each c.low) i)
+                  (over-few p had (stretch_of (map each c.low)) less c.few);
               apart = ap (λ t. suffix (join (Whole had) t)) (stretch-off (each b) (map each c.low) i)
                   ∙ suffix-over p sp had (stretch_of (map each c.low)) ∙ c.apart;
               enough = c.enough;
@@ -158,7 +159,8 @@ module _ (sp : Block → Bool) where
   gone _ e = absurd (true≢false (sym e))
 
   abbrev CanFree : ℕ → List Block → Type 0
-  CanFree bytes blocks = (bytes ≡ 0) ⊎ (prefix (stretch_of blocks) + bytes ≤ prefix (stretch_of (map (emptied sp) blocks)))
+  CanFree bytes blocks = (bytes ≡ 0) ⊎ (prefix (stretch_of blocks) + bytes ≤ prefix
+      (stretch_of (map (emptied sp) blocks)))
 
   goes-freed : (n : ℕ) (b : Block) (above : List Block) → may_be_purged sp b ≡ true
       → prefix (stretch_of (b ∷ above)) + suc n ≤ prefix (stretch_of (map (emptied sp) (b ∷ above)))
@@ -191,7 +193,15 @@ module _ (sp : Block → Bool) where
   stays-freed : (n : ℕ) (b : Block) (above : List Block) → may_be_purged sp b ≡ false → (t : Bool) → in_run b ≡ t
       → prefix (stretch_of (b ∷ above)) + suc n ≤ prefix (stretch_of (map (emptied sp) (b ∷ above)))
       → (CanFree (suc n) above → IsFreed sp (suc n) above) → IsFreed sp (suc n) (b ∷ above)
-  stays-freed n b above e t i h more = grind (arith, cond-false, stretch-off, prefix-ended, prefix-on, lowest_purged-stays, beyond-on)
+  stays-freed n b above e t i h more = grind (
+    arith,
+    cond-false,
+    stretch-off,
+    prefix-ended,
+    prefix-on,
+    lowest_purged-stays,
+    beyond-on,
+  )
 
   freed-by : (bytes : ℕ) (blocks : List Block) → CanFree bytes blocks → IsFreed sp bytes blocks
   freed-by zero blocks h = (grind arith)
@@ -215,7 +225,8 @@ module _ (p : ℕ) (n : Sparing) (zone low rest : List Block) (o : opened n zone
   short : best (stretch_of rest) < p
   short = omega (
     arith,
-    (leb-false p (best (join (Whole 0) (stretch_of (low ++ rest)))) (sym (serves-is p n zone [] (low ++ rest) 0 o) ∙ none)),
+    (leb-false p (best (join (Whole 0) (stretch_of (low ++ rest))))
+        (sym (serves-is p n zone [] (low ++ rest) 0 o) ∙ none)),
     ap best (join-unit_left (stretch_of (low ++ rest)) ∙ stretch_of-append low rest),
     best-high (stretch_of low) (stretch_of rest),
   )
@@ -277,7 +288,8 @@ module _ (p run : ℕ) (n : Sparing) (zone : List Block) (f : FindsLowestRun (ha
   same b = grind arith
 
   each-is : (blocks : List Block) → map (emptied (spared n)) (opened n blocks) ≡ map each blocks
-  each-is blocks = ap (map (emptied (spared n))) (opened-map n blocks) ∙ map-map (emptied (spared n)) (opened_block n) blocks
+  each-is blocks = ap (map (emptied (spared n))) (opened-map n blocks) ∙ map-map (emptied (spared n)) (opened_block n)
+      blocks
 
   found : found_from p (spared sparing.Nothing) 0 0 0 (map each zone) ≡ Some run
   found = scan-is None p sparing.Nothing 0 (map each zone)

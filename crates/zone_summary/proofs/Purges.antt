@@ -41,7 +41,8 @@ module _ (sp : Block → Bool) where
           → lowest_purged (count_of sp (b ∷ low) + j) sp (b ∷ (low ++ rest))
           ≡ cond t (Free (size b)) b ∷ (map (emptied sp) low ++ lowest_purged j sp rest)
       step true e more = ap (λ k. lowest_purged k sp (b ∷ (low ++ rest)))
-          (let c = count-here true b low e in let z : count_of sp (b ∷ low) + j ≡ suc (count_of sp low + j) = omega (arith, c) in z)
+          (let c = count-here true b low e in let z : count_of sp (b ∷ low) + j ≡ suc (count_of sp low + j) = omega
+          (arith, c) in z)
           ∙ lowest_purged-goes (count_of sp low + j) sp b (low ++ rest) e ∙ ap (λ t. Free (size b) ∷ t) more
       step false e more = grind (arith, count-here, lowest_purged-stays)
 

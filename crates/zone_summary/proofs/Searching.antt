@@ -57,7 +57,8 @@ module _ (p : ℕ) (sp : Block → Bool) where
           → ((start had place : ℕ) → best (join (Whole had) (stretch_of low)) < p
           → Past start had place low high (join (Whole had) (stretch_of low)))
           → Past start had place (b ∷ low) high (join (Whole had) (join (counted t (free_of b)) (stretch_of low)))
-      step true e h more = let r = more start (had + free_of b) (place + size b) (rw (join-assoc (Whole had) (Whole (free_of b)) (stretch_of low)) h) in
+      step true e h more = let r = more start (had + free_of b) (place + size b)
+          (rw (join-assoc (Whole had) (Whole (free_of b)) (stretch_of low)) h) in
           let at : place + size b + sizes low ≡ place + (size b + sizes low) = omega arith in (search rules)
       step false e h more = let r = more (place + size b) 0 (place + size b) (had-short had (stretch_of low) h).1 in
           let at : place + size b + sizes low ≡ place + (size b + sizes low) = omega arith in grind arith

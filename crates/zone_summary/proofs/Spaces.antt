@@ -43,7 +43,8 @@ led_of [] = record { lowest = refl; others = refl }
 led_of (Free n ∷ above) = led_free n (spaces_of above) (tidy (map (emptied (λ _. false)) above)) (led_of above)
 led_of (Nonrelocatable id content ∷ above) = led_ended (Nonrelocatable id content) (spaces_of above)
     (tidy (map (emptied (λ _. false)) above)) refl (led_of above)
-led_of (Masters ∷ above) = led_ended Masters (spaces_of above) (tidy (map (emptied (λ _. false)) above)) refl (led_of above)
+led_of (Masters ∷ above) = led_ended Masters (spaces_of above) (tidy (map (emptied (λ _. false)) above)) refl
+    (led_of above)
 led_of (Relocatable id flags content ∷ above) = goes (is_purgeable (Relocatable id flags content)) refl (led_of above)
   where
     b : Block

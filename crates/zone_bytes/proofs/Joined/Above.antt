@@ -88,4 +88,6 @@ module _ (j : Joining) (start at : ℕ) (xs : List ℕ) (m : MayJoin j start at 
     joined-two new made =
         let n = next l in
         let f : free (at + size n.here - start) ≡ Free (at - start + size n.here) ∷ [] = grind arith in
-        subst (λ q. Lays new (j.below ++ q) j.slots j.unused) (ap (λ q. q ++ n.above) f ∙ sym (ap (add (Free (at - start))) (n.is ∙ ap (λ b. b ∷ n.above) (free-is _ k)) ∙ add-free _ _ _ some)) (made one may-free)
+        subst (λ q. Lays new (j.below ++ q) j.slots j.unused)
+        (ap (λ q. q ++ n.above) f ∙ sym (ap (add (Free (at - start))) (n.is ∙ ap (λ b. b ∷ n.above) (free-is _ k)) ∙
+        add-free _ _ _ some)) (made one may-free)

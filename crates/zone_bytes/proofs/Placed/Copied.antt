@@ -43,7 +43,8 @@ module _ (xs : List ℕ) (first unused source n place from : ℕ) (i : IsSound x
 
   pub copied-kept : (free : ℕ) → free ≡ free_sum (zone_in xs) → IsKept new first unused free
   copied-kept free f =
-      kept-made _ _ _ _ _ (slot_in xs) copied (f ∙ ap free_sum (standing xs first unused place i s to).whole ∙ sym (free-kept _ _ _ _))
+      kept-made _ _ _ _ _ (slot_in xs) copied (f ∙ ap free_sum (standing xs first unused place i s to).whole ∙ sym
+      (free-kept _ _ _ _))
 
   pub copied-masters : count is_masters (zone_in new) ≡ count is_masters (zone_in xs)
   copied-masters =

@@ -72,7 +72,8 @@ module _ (xs now : List ℕ) (first unused place n : ℕ) (i : IsSound xs first 
           subst (λ o. IfSome o (λ after. Lays now after (slot_in xs) i.unused)) g.1 h in
           record {
             blocks = g.0;
-            made = made _ _ (slot_in xs) _ (subst (λ o. IfSome o (λ after. Lays now after (slot_in xs) i.unused)) g.1 h) _ _ (tidy-grown n s g.0 more at.tidied g.1) i.begins i.counted;
+            made = made _ _ (slot_in xs) _ (subst (λ o. IfSome o (λ after. Lays now after (slot_in xs) i.unused)) g.1
+                h) _ _ (tidy-grown n s g.0 more at.tidied g.1) i.begins i.counted;
             masters = count-grown is_masters (λ m. refl) new s g.0 (is_masters-resized n s.here) g.1
                 ∙ ap (count is_masters) (sym at.whole);
             given = omega (arith, given-grown, given-whole);

@@ -30,7 +30,8 @@ module _ (xs : List ℕ) (first count : ℕ) (i : IsSound xs first count) (place
   pub edge-tells : IsEdge place (zone_in xs) → (told : Option Seen) (after : List _)
       → Tells (left_in place xs) told after → told ≡ option_map (λ (s : Spot). seen s.here) (spot_at place (zone_in xs))
   edge-tells (inl s) told after t =
-      (subst (λ l. Tells l told after) (left-at _ _ _ i _ _ (a-spot (spot_at place (zone_in xs)) s).1) t).0 ∙ sym (grind arith)
+      (subst (λ l. Tells l told after) (left-at _ _ _ i _ _ (a-spot (spot_at place (zone_in xs)) s).1) t).0 ∙ sym
+      (grind arith)
   edge-tells (inr e) told after t =
       let l = left-above xs first count i (zone_in xs) [] place (sym (append-nil (zone_in xs))) (sym e) in
       (subst (λ l. Tells l told after) l t).0 ∙ sym (ap (option_map (λ (s : Spot). seen s.here)) (none-there e _ refl))

@@ -55,7 +55,9 @@ module _ (xs : List ℕ) (first count : ℕ) (i : IsSound xs first count) (numbe
 
   pub led-place : word_at number xs ≡ sizes s.below
   led-place =
-      read_back number (sizes s.below) xs (omega (arith, (inside xs first count i (sizes s.below) s led-at))) ((leads-right xs 0 s.below (block ∷ s.above) (subst (λ z. Leads 0 z xs) whole i.lays.lies.leads)).0 ∙ ap word (omega arith))
+      read_back number (sizes s.below) xs (omega (arith, (inside xs first count i (sizes s.below) s led-at)))
+      ((leads-right xs 0 s.below (block ∷ s.above) (subst (λ z. Leads 0 z xs) whole i.lays.lies.leads)).0 ∙ ap word
+      (omega arith))
 
   led-left : left_in (word_at number xs) xs ≡ block ∷ s.above
   led-left = ap (λ p. left_in p xs) led-place ∙ left-at _ _ _ i _ s led-at ∙ ap (λ b. b ∷ s.above) here.2

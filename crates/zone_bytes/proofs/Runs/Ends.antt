@@ -32,7 +32,9 @@ module _ (resource : ℕ → Bool) (xs : List ℕ) (from : ℕ) (small : length 
   unfolding head_of
   flags-read slot flags content t =
       let n = size (Relocatable slot flags content) in
-      read_back _ _ _ (omega (arith, (flag_word-small flags (resource slot)))) (ap (take 4) (sym (drop-drop 12 from xs)) ∙ (says n (n + 3) (length content) slot (flag_word flags (resource slot)) content (drop from xs) t).2)
+      read_back _ _ _ (omega (arith, (flag_word-small flags (resource slot))))
+      (ap (take 4) (sym (drop-drop 12 from xs)) ∙ (says n (n + 3) (length content) slot
+      (flag_word flags (resource slot)) content (drop from xs) t).2)
 
   -- the words of a header tell it
   pub runs-told : (b : Block) → Tile (head_of resource b) (size b) (drop from xs) → (n t f : ℕ)

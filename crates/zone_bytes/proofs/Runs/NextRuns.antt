@@ -40,4 +40,10 @@ module _ (xs : List ℕ) (first count : ℕ) (i : IsSound xs first count) (place
 
   pub next-fits : (d : ℕ) → Some d ≡ BehindFirst walk → place + d ≤ 134217728
   next-fits d n =
-      omega (arith, (behind-within (sizes r.run) r.above d (sym (n ∙ behind))), left-fits xs first count i place r e, ap sizes (sym w ∙ walk-is), span-append)
+      omega (
+        arith,
+        (behind-within (sizes r.run) r.above d (sym (n ∙ behind))),
+        left-fits xs first count i place r e,
+        ap sizes (sym w ∙ walk-is),
+        span-append,
+      )

@@ -17,7 +17,8 @@ frees : (n : ℕ) (run above : List Block) → Loose run → count is_mover run 
     → tidy (Free n ∷ (run ++ above)) ≡ tidy (free (n + free_sum run) ++ above)
 frees n [] above l e = tidy-free n _ ∙ (let z : n ≡ n + 0 = omega arith in ap (λ k. tidy (free k ++ above)) z)
 frees n (Free m ∷ run) above l e = tidy-free n _ ∙ joined-free n m _ ∙ sym (tidy-free _ (run ++ above))
-    ∙ frees (n + m) run above l.1 ((let d : 0 + count is_mover run ≡ 0 = e in omega arith)) ∙ ap (λ k. tidy (free k ++ above)) (omega arith)
+    ∙ frees (n + m) run above l.1 ((let d : 0 + count is_mover run ≡ 0 = e in omega arith)) ∙ ap
+    (λ k. tidy (free k ++ above)) (omega arith)
 frees n (Relocatable id flags content ∷ run) above l e = grind arith
 frees n _ above l e = let f : false ≡ true = l.0 in cc
 

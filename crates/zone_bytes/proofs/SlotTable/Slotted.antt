@@ -65,7 +65,11 @@ pub count-small : (xs : List ℕ) (first count : ℕ) → IsSound xs first count
 count-small xs first count i =
     let h = i.lays in
     let l = length-le_from_distinct_below i.unused (length xs) (distinct-apart i.unused h.once) (λ q k.
-    omega (arith, slot-in xs (zone_in xs) (slot_in xs) i.unused h q (any-has (λ s. IsSlot s (zone_in xs) × (slot_in xs s ≡ Unused)) i.unused q h.unused_slots k).0)) in
+    omega (
+      arith,
+      slot-in xs (zone_in xs) (slot_in xs) i.unused h q
+          (any-has (λ s. IsSlot s (zone_in xs) × (slot_in xs s ≡ Unused)) i.unused q h.unused_slots k).0,
+    )) in
     omega arith
 
 -- a slot that no block has is apart from those that blocks have

@@ -34,7 +34,11 @@ first-small blocks slots (s ∷ unused) xs k h u = let b = slot-in _ _ slots k h
 pub next-of : (xs : List ℕ) (blocks : List Block) (slots : ℕ → Slot) (first : ℕ) (unused : List ℕ)
     → Lays xs blocks slots (first ∷ unused) → word_at first xs / 16 ≡ first_of unused
 next-of xs blocks slots first unused h =
-    omega (arith, read_back first (16 * first_of unused + 1) xs (omega (arith, (first-small blocks slots unused xs (first ∷ unused) h h.unused_slots.1))) h.chain.0)
+    omega (
+      arith,
+      read_back first (16 * first_of unused + 1) xs
+          (omega (arith, (first-small blocks slots unused xs (first ∷ unused) h h.unused_slots.1))) h.chain.0,
+    )
 
 module _ (xs : List ℕ) (blocks : List Block) (slots : ℕ → Slot) (unused : List ℕ) (h : Lays xs blocks slots unused)
     (s : ℕ) (r : Bool) (u : slots s ≡ Used r) (a : Each (Apart s) (names blocks)) where

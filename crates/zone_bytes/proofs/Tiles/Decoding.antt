@@ -111,7 +111,8 @@ module _ (resource : ℕ → Bool) where
       let P : ℕ → Type 0 = λ q. q < 2 ^ 32 in
       let e = block-back o b ys s p.0 (each-left P (names_of b) (names blocks) n) t.0 in
       let d = length-drop (size b) ys in
-      (λ i. e i ∷ blocks_in k (o + size (e i)) (drop (size (e i)) ys)) ∙ ap (λ q. b ∷ q) (blocks-back k _ _ _ (omega arith) (omega arith) p.1 (each-right P _ _ n) t.1)
+      (λ i. e i ∷ blocks_in k (o + size (e i)) (drop (size (e i)) ys)) ∙ ap (λ q. b ∷ q)
+      (blocks-back k _ _ _ (omega arith) (omega arith) p.1 (each-right P _ _ n) t.1)
 
   -- the zone in the bytes
   pub zone-back : (blocks : List Block) (xs : List ℕ) → length xs ≤ 134217728 → ArePlaced 0 blocks

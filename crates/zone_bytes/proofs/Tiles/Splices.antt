@@ -40,7 +40,8 @@ module _ (head : Block → List ℕ) where
       → Tiles head (piece lo (hi - lo) new) here → Tiles head (drop hi new) ns → Tiles head new (ls ++ (here ++ ns))
   tiles-joined new ls here ns lo hi o low h high =
       let mid : piece lo (hi - lo) new ++ drop hi new ≡ drop lo new = ap (λ k. piece lo (hi - lo) new ++ k)
-      (sym (drop-drop (hi - lo) lo new ∙ ap (λ k. drop k new) (omega arith))) ∙ take-append-drop (hi - lo) (drop lo new) in
+      (sym (drop-drop (hi - lo) lo new ∙ ap (λ k. drop k new) (omega arith))) ∙ take-append-drop (hi - lo)
+      (drop lo new) in
       let all : take lo new ++ (piece lo (hi - lo) new ++ drop hi new) ≡ new = ap (λ k. take lo new ++ k) mid
       ∙ take-append-drop lo new in
       subst (λ k. Tiles head k (ls ++ (here ++ ns))) all (grind (arith, tiles-append))

@@ -47,7 +47,8 @@ count-below xs first unused i from edge run n low rest b under none less is at =
       arith,
       past,
       all,
-      ap (count_within sp run) (sym (opened-append n e.below (left_in edge xs)) ∙ ap (opened n) (sym e.is ∙ is) ∙ opened-append n low rest),
+      ap (count_within sp run) (sym (opened-append n e.below (left_in edge xs)) ∙ ap (opened n) (sym e.is ∙ is) ∙
+          opened-append n low rest),
       none_below,
       ap (λ k. count_within sp k (opened n (left_in edge xs))) p,
       ap (λ k. count_within sp k (opened n rest)) z,

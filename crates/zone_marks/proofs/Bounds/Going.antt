@@ -54,7 +54,8 @@ pub stays-whole : (bound other x : ℕ) (blocks : List Block) → x + sizes bloc
 stays-whole bound other x blocks l = grind (arith, at-map)
 
 -- a block became one of as many bytes, which may be purged if it might
-pub stays-same : (bound x : ℕ) (below above : List Block) (b c : Block) → size c ≡ size b → is_purgeable c ≡ is_purgeable b
+pub stays-same : (bound x : ℕ) (below above : List Block) (b c : Block) → size c ≡ size b → is_purgeable c ≡
+    is_purgeable b
     → AtEach (Stays bound) x (below ++ b ∷ above) → AtEach (Stays bound) x (below ++ c ∷ above)
 stays-same bound x [] above b c s g e = grind arith
 stays-same bound x (d ∷ below) above b c s g e = (e.0, stays-same _ (x + size d) below above b c s g e.1)

@@ -177,26 +177,27 @@ same-first (suc k) bound x [] l s = tt
 same-first k bound x (b ∷ bs) l s = grind (arith, lowest_purged-stays)
 
 -- the largest Free block from a place on, and of the zone as it stands, after purges from there on
-module _ (xs : List ℕ) (first unused : ℕ) (i : IsSound xs first unused) (k from : ℕ) (m : MayStart from (zone_in xs)) where
-  after-is : (zone : List Block) → largest_free (purged k sparing.Nothing zone)
-      ≡ largest_stretch 0 (lowest_purged k spares zone)
-  after-is zone = largest-purged sparing.Nothing k _
+module _ (xs : List ℕ) (first unused : ℕ) (i : IsSound xs first unused) (k from : ℕ) (m : MayStart from (zone_in xs))
+  where
+    after-is : (zone : List Block) → largest_free (purged k sparing.Nothing zone)
+        ≡ largest_stretch 0 (lowest_purged k spares zone)
+    after-is zone = largest-purged sparing.Nothing k _
 
-  rises : largest_free (zone_in xs) ≤ largest_free (purged k sparing.Nothing (zone_in xs))
-  rises = omega (arith, purged-rises, after-is)
+    rises : largest_free (zone_in xs) ≤ largest_free (purged k sparing.Nothing (zone_in xs))
+    rises = omega (arith, purged-rises, after-is)
 
-  parted : from < m.bound → largest_free (purged k sparing.Nothing (zone_in xs))
-      ≡ max (largest_free (zone_in xs)) (largest_free (purged k sparing.Nothing (left_in from xs)))
-  parted l =
-      let s = seen-from xs first unused i from m.begins in
-      let rest = left_in from xs in
-      let stays = subst (NoneGoes m.bound) s.is m.none in
-      let e = after-is _ ∙ ap (λ z. largest_stretch 0 (lowest_purged k spares z)) s.is
-      ∙ ap (largest_stretch 0) (purged-above k _ 0 _ _ (at-left (Stays m.bound) 0 _ rest stays) (omega arith)) in
-      let up = stretch-parts 0 s.below rest (lowest_purged k spares rest)
-      (subst Apart s.is (apart-tidied (zone_in xs) i.tidied)) (inl refl) (grind (arith, same-first, at-right)) in
-      omega (arith, stretch-above, after-is, largest-append, ap largest_free s.is, rises)
+    parted : from < m.bound → largest_free (purged k sparing.Nothing (zone_in xs))
+        ≡ max (largest_free (zone_in xs)) (largest_free (purged k sparing.Nothing (left_in from xs)))
+    parted l =
+        let s = seen-from xs first unused i from m.begins in
+        let rest = left_in from xs in
+        let stays = subst (NoneGoes m.bound) s.is m.none in
+        let e = after-is _ ∙ ap (λ z. largest_stretch 0 (lowest_purged k spares z)) s.is
+        ∙ ap (largest_stretch 0) (purged-above k _ 0 _ _ (at-left (Stays m.bound) 0 _ rest stays) (omega arith)) in
+        let up = stretch-parts 0 s.below rest (lowest_purged k spares rest)
+        (subst Apart s.is (apart-tidied (zone_in xs) i.tidied)) (inl refl) (grind (arith, same-first, at-right)) in
+        omega (arith, stretch-above, after-is, largest-append, ap largest_free s.is, rises)
 
-  pub largest-from : largest_free (purged k sparing.Nothing (zone_in xs))
-      ≡ max (largest_free (zone_in xs)) (largest_free (purged k sparing.Nothing (left_in from xs)))
-  largest-from = grind (arith, parted, left-zone, rises)
+    pub largest-from : largest_free (purged k sparing.Nothing (zone_in xs))
+        ≡ max (largest_free (zone_in xs)) (largest_free (purged k sparing.Nothing (left_in from xs)))
+    largest-from = grind (arith, parted, left-zone, rises)

@@ -122,7 +122,8 @@ module _ (p : Purge) (n : Sparing) (start at k freed : ℕ) (xs : List ℕ) (u :
       of : (rest : List Block) → u.rest ≡ rest → Purged p at freed xs
       of [] e = grind (arith, lowest_purged-none, closed-free, replaced-as)
       of (b ∷ above) e =
-          let r = read xs (u.done ++ gap) b above p.slots p.unused (subst (λ q. Lays xs ((u.done ++ gap) ++ q) p.slots p.unused) e here-laid) at here-low in
+          let r = read xs (u.done ++ gap) b above p.slots p.unused
+          (subst (λ q. Lays xs ((u.done ++ gap) ++ q) p.slots p.unused) e here-laid) at here-low in
           absurd (omega arith)
 
   module _ (v : Next) where

@@ -85,7 +85,8 @@ lowest_purged-spot (suc k) sp (b ∷ zone) s e = cases (may_be_purged sp b) refl
     (lowest_purged-spot (suc k) sp zone) e
   where
     cases : (t : Bool) → may_be_purged sp b ≡ t → (o : Option Spot)
-        → ((s : Spot) → o ≡ Some s → lowest_purged (suc k) sp zone ≡ s.below ++ lowest_purged (suc k) sp (s.here ∷ s.above))
+        → ((s : Spot) → o ≡ Some s → lowest_purged (suc k) sp zone ≡ s.below ++ lowest_purged (suc k) sp
+        (s.here ∷ s.above))
         → cond t (Some (record { below = []; here = b; above = zone })) (option_map (raised b) o) ≡ Some s
         → lowest_purged (suc k) sp (b ∷ zone) ≡ s.below ++ lowest_purged (suc k) sp (s.here ∷ s.above)
     cases true is o more e = ap (λ (s : Spot). s.below ++ lowest_purged (suc k) sp (s.here ∷ s.above)) (same_Some _ _ e)
@@ -101,7 +102,8 @@ module _ (xs : List ℕ) (first number : ℕ) (i : IsSound xs first number) (pur
   all-start = starts _ n _ _ _ _ [] (zone_in xs) i.lays i.tidied refl refl refl refl refl (omega arith) tt
 
   -- from the lowest block on that goes
-  module _ (s : Spot) (e : spot (may_be_purged (spared n)) (zone_in xs) ≡ Some s) (place : ℕ) (low : sizes s.below ≡ place)
+  module _ (s : Spot) (e : spot (may_be_purged (spared n)) (zone_in xs) ≡ Some s) (place : ℕ)
+      (low : sizes s.below ≡ place)
       (none : (blocks : List Block) → opened n blocks ≡ blocks) where
     abbrev pub going : Freeing
     going = record { below = s.below; here = s.here; above = s.above; slots = slot_in xs; unused = i.unused }
@@ -165,4 +167,5 @@ module _ (xs : List ℕ) (first number : ℕ) (i : IsSound xs first number) (pur
         → Gained xs new first number more (tidy (s.below ++ s.here ∷ lowest_purged purges (spared n) s.above))
     above-gained from stop new more after =
         let d = after spot-at may-purge in
-        gained _ _ _ number more i left d.lays (d.count ∙ ap (λ z. free_sum z + more) (sym is)) (grind (arith, masters-tidy, total-append, masters-lowest_purged, is))
+        gained _ _ _ number more i left d.lays (d.count ∙ ap (λ z. free_sum z + more) (sym is))
+        (grind (arith, masters-tidy, total-append, masters-lowest_purged, is))

@@ -105,7 +105,8 @@ module _ (f : Freeing) (place : ℕ) (xs : List ℕ) (m : MayRelease f place xs)
           let k = here-read.some in
           joined-replaced _ _ _ _ _ _ _ _ _
           (ap (λ k. k ++ f.here ∷ f.above) below-is ∙ append_assoc end.lower (free (place - start)) (f.here ∷ f.above))
-          (released-tidy _ _ _ _ _ (omega arith) below-is end.apart end.closed above-tidy) refl (omega arith) lower-low (omega (arith, e ∙ ap free_first stop-left, starts))
+          (released-tidy _ _ _ _ _ (omega arith) below-is end.apart end.closed above-tidy) refl (omega arith)
+          lower-low (omega (arith, e ∙ ap free_first stop-left, starts))
 
       -- and with the one above it
       pub released : (new : List ℕ) → ((j : Joining) → MayJoin j start stop mid

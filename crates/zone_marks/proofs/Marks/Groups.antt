@@ -27,7 +27,8 @@ marks-apart : (marks : List Landmark) (m : Landmark) (index low n : ℕ) → (in
     → take n (drop low (set marks index m)) ≡ take n (drop low marks)
 marks-apart marks m index low n (inl l) = ap (take n) (drop-set-lt low marks index m l)
 marks-apart marks m index low n (inr l) =
-    sym (drop-take low n (set marks index m)) ∙ ap (drop low) (take-set-le (low + n) marks index m l) ∙ drop-take low n marks
+    sym (drop-take low n (set marks index m)) ∙ ap (drop low) (take-set-le (low + n) marks index m l) ∙ drop-take low
+    n marks
 
 -- a landmark becomes another, of which its group knows no more than a bound
 pub group-raised : (groups : List Group) (marks : List Landmark) (group index : ℕ) (g : Group) (m : Landmark)
@@ -41,7 +42,8 @@ group-raised groups marks group index g m a l low high was is none = record {
       );
   each = λ other j u v h. (search rules);
   known = λ w other runs h e. elim (eqb_tells other group) [
-    | inl t ↦ absurd (unknown-known w runs (sym (ap (told w) none) ∙ sym (ap (λ k. told w k.tally) (same-group other t.1)) ∙ e))
+    | inl t ↦ absurd (unknown-known w runs (sym (ap (told w) none) ∙ sym
+        (ap (λ k. told w k.tally) (same-group other t.1)) ∙ e))
     | inr t ↦ ap (tally_of w) (marks-apart _ m _ (GROUP * other) GROUP (elim (apart other t.1) [
       | inl z ↦ inl (omega arith)
       | inr z ↦ inr (omega arith)

@@ -28,7 +28,8 @@ pub at-each : (S : ℕ → Block → Type 0) (x : ℕ) (blocks : List Block)
 at-each S x blocks f = at-map (λ _ _. Unit {0}) S x _ (λ p b l u _. f p b l u) (grind (arith, at-all))
 
 -- the first of some landmarks is no higher than where they end
-pub marks-below : (end : ℕ) (zone : List Block) (marks : List Landmark) → AreMarks end zone marks → next_of end marks ≤ end
+pub marks-below : (end : ℕ) (zone : List Block) (marks : List Landmark) → AreMarks end zone marks → next_of end marks
+    ≤ end
 marks-below end zone [] a = omega arith
 marks-below end zone (m ∷ marks) a = let n = marks-below _ _ marks a.4 in omega arith
 

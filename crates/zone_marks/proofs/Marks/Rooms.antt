@@ -82,7 +82,8 @@ module _ (xs : List ℕ) (first unused : ℕ) (i : IsSound xs first unused) (byt
   lowest-found p place b n e f r =
       let s = seen-from xs first unused i place (begins-further xs first unused i p place b e) in
       let t : Spot = record { below = s.below; here = r.here; above = r.above } in
-      let found = ap (spot (is_room bytes)) (s.is ∙ ap (λ k. s.below ++ k) r.is) ∙ spot-past bytes 0 s.below r.here r.above (none-below s.below (left_in place xs) place s.is s.low (none-further p place b n f)) r.room in (
+      let found = ap (spot (is_room bytes)) (s.is ∙ ap (λ k. s.below ++ k) r.is) ∙ spot-past bytes 0 s.below r.here
+      r.above (none-below s.below (left_in place xs) place s.is s.low (none-further p place b n f)) r.room in (
         t,
         found,
         subst (λ q. spot_at q (zone_in xs) ≡ Some t) s.low (spot_at-spot (is_room bytes) _ t apart found),
@@ -112,7 +113,8 @@ pub stretch-room : (bytes : ℕ) (zone : List Block) (marks : List Landmark) (in
     → AreMarks 4294967295 zone marks → (get_or marks index no_mark).most < bytes
     → AtEach (NoRoom bytes (get_or marks index no_mark).at (next_of 4294967295 (drop (index + 1) marks))) 0 zone
 stretch-room bytes zone marks index u a l =
-    bound-room _ _ _ _ 0 _ l (subst (AreMarks 4294967295 zone) (drop_more marks index no_mark u) (marks-parted _ _ _ _ a).1).1
+    bound-room _ _ _ _ 0 _ l (subst (AreMarks 4294967295 zone) (drop_more marks index no_mark u)
+    (marks-parted _ _ _ _ a).1).1
 
 -- no room lies in the zone, once none lies below any landmark
 pub none-past : (bytes : ℕ) (zone : List Block) (marks : List Landmark) (index : ℕ) → length marks ≤ index

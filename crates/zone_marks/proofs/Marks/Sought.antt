@@ -46,5 +46,9 @@ module _ (xs : List ℕ) (first unused : ℕ) (i : IsSound xs first unused) (p :
       → IfSome (spot test (zone_in xs)) (λ (s : Spot). P s.above)
   sought test P low found = if-spot _ (λ s. P s.above) (λ s e. let f = seen-from xs first unused i p b in
       let r = seen-past test _ (left_in p xs) s (subst Apart f.is (apart-tidied (zone_in xs) i.tidied))
-      (sym (ap (spot test) f.is) ∙ e) (omega (arith, (the-if (spot test (zone_in xs)) (λ s. p ≤ sizes s.below) s e low))) in
+      (sym (ap (spot test) f.is) ∙ e) (omega (
+        arith,
+        (the-if (spot test (zone_in xs)) (λ s. p ≤ sizes s.below) s e
+            low),
+      )) in
       subst P r.same (the-if (spot test (left_in p xs)) (λ s. P s.above) r.there r.found found))

@@ -80,7 +80,13 @@ loads-parted w marks n = sym (loads-append w _ _) ∙ ap (known_loads w) (take-a
 pub loads-more : (w : Counting) (marks : List Landmark) (i : ℕ) → i < length marks
     → known_load (tally_of w (take i marks)) + known_load (told w (get_or marks i no_mark).tally) ≤ known_loads w marks
 loads-more w marks i l =
-    omega (arith, loads-all, loads-parted, (ap (known_loads w) (take_more marks i no_mark l) ∙ loads-append w _ (get_or marks i no_mark ∷ [])))
+    omega (
+      arith,
+      loads-all,
+      loads-parted,
+      (ap (known_loads w) (take_more marks i no_mark l) ∙ loads-append w _
+          (get_or marks i no_mark ∷ [])),
+    )
 
 pub loads-part : (w : Counting) (marks : List Landmark) (low n : ℕ)
     → known_loads w (take n (drop low marks)) ≤ known_loads w marks
@@ -145,7 +151,13 @@ loads-within : (w : Counting) (end : ℕ) (zone : List Block) (marks : List Land
 loads-within w end zone [] a = omega arith
 loads-within w end zone (m ∷ marks) a =
     let n = next_of end marks in
-    omega (arith, tally-load w (told w m.tally) (between m.at n 0 zone) (a.2 w), (loads-within w end zone marks a.4), (ap sizes (between-join m.at n end 0 zone a.3 (marks-below end zone marks a.4))), span-append)
+    omega (
+      arith,
+      tally-load w (told w m.tally) (between m.at n 0 zone) (a.2 w),
+      (loads-within w end zone marks a.4),
+      (ap sizes (between-join m.at n end 0 zone a.3 (marks-below end zone marks a.4))),
+      span-append,
+    )
 
 loads-fit : (w : Counting) (end : ℕ) (zone : List Block) (marks : List Landmark) → AreMarks end zone marks
     → known_loads w marks ≤ sizes zone

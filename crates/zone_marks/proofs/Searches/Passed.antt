@@ -88,7 +88,8 @@ module _ (xs : List ℕ) (s : RunScan) (at next : ℕ) (p : Passed) (q : IsPasse
     high = q.high ++ here;
     high_piece = piece-more xs p.end at next q.high here q.high_piece piece;
     goes_on = open-more q.high here p.free free q.goes_on t;
-    barred = λ d. let b = q.barred (open-ended p.runs free (subst (λ r. is_ended r ≡ true) e d)) in grind (arith, append_assoc);
+    barred = λ d. let b = q.barred (open-ended p.runs free (subst (λ r. is_ended r ≡ true) e d)) in grind
+        (arith, append_assoc);
   }
 
   pub passed-ended : (runs : Stretch) → stretch_of here ≡ runs → is_ended runs ≡ true → all ≡ join p.runs runs

@@ -27,7 +27,8 @@ use Rattle.zone_summary.specs.declared.stretch.Counting.{Counting}
 use Rattle.zone_summary.specs.declared.stretch.Stretch.{Stretch}
 
 -- an edge is one of those behind a piece that ends there
-pub piece-begins : (xs : List ℕ) (from to : ℕ) (here : List Block) → IsPiece from to xs here → Begins to from (left_in from xs)
+pub piece-begins : (xs : List ℕ) (from to : ℕ) (here : List Block) → IsPiece from to xs here → Begins to from
+    (left_in from xs)
 piece-begins xs from to here p = grind (arith, begins-right, begins-here)
 
 -- a piece of no blocks

@@ -18,6 +18,7 @@ pub returns-clause-bytes : goal.returns-clause-bytes
 returns-clause-bytes c id content above e =
     let a = c.args in
     let t = c.read_header-nonrelocatable.ensures in
-    let size = size-at _ _ c.requires.way c.requires.some _ _ t.first t.size (tag-small c.read_header-nonrelocatable.result.tag) _ _ e in
+    let size = size-at _ _ c.requires.way c.requires.some _ _ t.first t.size
+    (tag-small c.read_header-nonrelocatable.result.tag) _ _ e in
     let long = t.logical ∙ length-at a.place a.part.now.bytes c.requires.way id content above e in
     c.write_word.ensures.bytes ∙ ap (written a.slot (word a.place)) (grind arith)

@@ -44,5 +44,7 @@ returns-in-Some-clause-lays c = λ t h. let xs = c.args.part.now.bytes in
     (lays-marked _ _ t.slots _ h.lays _ _ r u.1 _ b)
 
 pub returns-in-None-clause-lays : goal.returns-in-None-clause-lays
-returns-in-None-clause-lays c = λ t h. subst (λ ys. Lays ys t.blocks (set_slot t.slots c.args.slot (Used c.args.resource)) t.unused) (sym (grind arith))
-    (lays-emptied _ _ t.slots _ h.lays _ _ _ (flag c.args.part.now.bytes t.blocks t.slots t.unused h.lays c.args.slot h.used).1 (gone-of _ _ t.slots _ h.lays _ h.used (leads-read _ _ _ _ c.read_word.ensures c.in-None.ensures)).apart)
+returns-in-None-clause-lays c = λ t h. subst (λ ys. Lays ys t.blocks
+    (set_slot t.slots c.args.slot (Used c.args.resource)) t.unused) (sym (grind arith))
+    (lays-emptied _ _ t.slots _ h.lays _ _ _ (flag c.args.part.now.bytes t.blocks t.slots t.unused h.lays c.args.slot
+    h.used).1 (gone-of _ _ t.slots _ h.lays _ h.used (leads-read _ _ _ _ c.read_word.ensures c.in-None.ensures)).apart)

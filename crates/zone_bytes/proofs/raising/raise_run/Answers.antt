@@ -40,5 +40,6 @@ returns-then-packed-place-clause-edges g c = λ a.
 pub returns-clause-edges : goal.returns-clause-edges
 returns-clause-edges g c = λ a.
     both-edges _ _ _ c.requires.1 c.requires.2 _ _ _ _ _ _ c.pack_until-packed.ensures.packed
-    c.settle_above.new.edges (c.settle_above.ensures.edges (c.args.place + c.args.gap) (movers (gone_to g.lay c.pack_until-packed.result.stop)) (omega arith)
+    c.settle_above.new.edges (c.settle_above.ensures.edges (c.args.place + c.args.gap)
+    (movers (gone_to g.lay c.pack_until-packed.result.stop)) (omega arith)
     (c.pack_until-packed.ensures.edges (c.args.place + c.args.gap) [] (omega arith) a))

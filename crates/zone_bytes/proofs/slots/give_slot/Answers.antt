@@ -7,13 +7,21 @@ pub overflow_mul-first : goal.overflow_mul-first
 overflow_mul-first c =
     let t = c.requires.0 in
     let q = c.requires.1 in
-    omega (arith, (first-fits c.args.part.now.bytes t.blocks t.slots t.unused q.lays c.args.slot q.resource q.used q.apart))
+    omega (
+      arith,
+      (first-fits c.args.part.now.bytes t.blocks t.slots t.unused q.lays c.args.slot q.resource q.used
+          q.apart),
+    )
 
 pub overflow_add-first : goal.overflow_add-first
 overflow_add-first c =
     let t = c.requires.0 in
     let q = c.requires.1 in
-    omega (arith, (first-fits c.args.part.now.bytes t.blocks t.slots t.unused q.lays c.args.slot q.resource q.used q.apart))
+    omega (
+      arith,
+      (first-fits c.args.part.now.bytes t.blocks t.slots t.unused q.lays c.args.slot q.resource q.used
+          q.apart),
+    )
 
 pub write_word-requires : goal.write_word-requires
 write_word-requires c =

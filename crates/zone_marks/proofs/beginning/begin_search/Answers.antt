@@ -28,7 +28,8 @@ pub returns-then-frees_one-clause-begins : goal.returns-then-frees_one-clause-be
 returns-then-frees_one-clause-begins c = rw c.begun_at.ensures (begins-here 0 _)
 
 pub returns-then-frees_one-clause-finds : goal.returns-then-frees_one-clause-finds
-returns-then-frees_one-clause-finds c = rw c.begun_at.ensures (bottom (goal.at.returns-then-frees_one-clause-finds c).Start)
+returns-then-frees_one-clause-finds c = rw c.begun_at.ensures
+    (bottom (goal.at.returns-then-frees_one-clause-finds c).Start)
 
 pub returns-in-Some-clause-finds : goal.returns-in-Some-clause-finds
 returns-in-Some-clause-finds c = let d = (goal.at.returns-in-Some-clause-finds c).Start in

@@ -14,7 +14,8 @@ loop-left-preserved-then-may_purge_now g c =
     let goes = sym (c.may_purge_now.ensures t.block t.is) ∙ c.if-may_purge_now.true in
     record {
       few = omega (arith, told-sizes t, told-size t, goes-size sp t.block goes);
-      is = ap (λ k. run_purges_for sp (c.loop-left.total + 1) k after) (c.saturating_sub-left.ensures ∙ ap (λ k. c.loop-left.left - k) (c.size_of_seen.ensures ∙ told-size t))
+      is = ap (λ k. run_purges_for sp (c.loop-left.total + 1) k after)
+          (c.saturating_sub-left.ensures ∙ ap (λ k. c.loop-left.left - k) (c.size_of_seen.ensures ∙ told-size t))
           ∙ sym (run-goes sp _ _ t.block after (omega arith) goes)
           ∙ sym (ap (run_purges_for sp c.loop-left.total c.loop-left.left) t.before_is) ∙ c.loop-left.invariant.is;
     }

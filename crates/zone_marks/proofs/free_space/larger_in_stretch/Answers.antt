@@ -13,7 +13,8 @@ returns-then-mark-most-clause-none c =
 
 pub returns-else-mark-most-clause-none : goal.returns-else-mark-most-clause-none
 returns-else-mark-most-clause-none c =
-    none-further _ _ _ c.requires.sound.2 _ _ _ c.requires.begins (grind (arith, no-more-room)) c.larger_between.ensures.none
+    none-further _ _ _ c.requires.sound.2 _ _ _ c.requires.begins (grind (arith, no-more-room))
+    c.larger_between.ensures.none
 
 pub returns-else-mark-most-clause-reached : goal.returns-else-mark-most-clause-reached
 returns-else-mark-most-clause-reached c =

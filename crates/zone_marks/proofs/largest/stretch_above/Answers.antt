@@ -57,7 +57,8 @@ loop-index-preserved c =
     }
 
 -- no block is left behind the last landmark
-whole : (c : After-loop-index) → stretch_by c.args.counting (left_in c.args.from c.args.part.now.bytes) ≡ c.loop-index.stretch
+whole : (c : After-loop-index) → stretch_by c.args.counting (left_in c.args.from c.args.part.now.bytes) ≡
+    c.loop-index.stretch
 whole c =
     let v = c.loop-index.invariant in
     v.same ∙ ap (λ l. join c.loop-index.stretch (stretch_by c.args.counting l)) (left-none _ _

@@ -11,7 +11,12 @@ loop-at-init c = walked-start Spaces _ _ (λ p _. p < c.within-stop.result) c.re
 pub join-spaces-requires : goal.join-spaces-requires
 join-spaces-requires c =
     let s = c.step_at-step.ensures in
-    omega (arith, (walked-few _ _ _ _ (λ p _. p < c.within-stop.result) _ c.loop-at.invariant), (ap prefix (c.space_of_seen.ensures s.here s.told (omega arith))), prefix-counted)
+    omega (
+      arith,
+      (walked-few _ _ _ _ (λ p _. p < c.within-stop.result) _ c.loop-at.invariant),
+      (ap prefix (c.space_of_seen.ensures s.here s.told (omega arith))),
+      prefix-counted,
+    )
 
 pub loop-at-preserved : goal.loop-at-preserved
 loop-at-preserved c =

@@ -26,5 +26,7 @@ pub returns : goal.returns
 returns c =
     let h = c.read_header-header.result in
     let e = c.read_header-header.ensures in
-    subst (λ v. Tells v (Some c.seen_of.result) (left_in (c.self.inside.at + h.size) c.self.inside.part.now.bytes)) c.self.view_is
-    (tells-step _ _ _ _ (stepped _ _ c.self.invariant (omega arith) _ _ e.first e.size (tag-small h.tag)) _ (c.seen_of.ensures ∙ (λ i. header_seen (tag_number h.tag) h.size (e.logical i) (e.slot i) (e.flags i))))
+    subst (λ v. Tells v (Some c.seen_of.result) (left_in (c.self.inside.at + h.size) c.self.inside.part.now.bytes))
+    c.self.view_is
+    (tells-step _ _ _ _ (stepped _ _ c.self.invariant (omega arith) _ _ e.first e.size (tag-small h.tag)) _
+    (c.seen_of.ensures ∙ (λ i. header_seen (tag_number h.tag) h.size (e.logical i) (e.slot i) (e.flags i))))
