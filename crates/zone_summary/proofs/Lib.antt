@@ -1,6 +1,4 @@
 pub mod Monoid
-pub mod Runs
-pub mod Spaces
 pub mod Sums
 pub mod Searching
 pub mod Purges

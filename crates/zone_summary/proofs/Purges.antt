@@ -1,65 +1,104 @@
--- What blocks come to after purges: all those below a place, and some of those above it.
-use Rattle.std.proofs.Common.{◌≡◌, ℕ, ◌+◌, zero, suc, Bool, true, false, List, [], ◌∷◌, ◌++◌, map, nat_le, refl, sym}
-use Rattle.std.proofs.Common.{◌∙◌, ap, arith, cond, append-nil}
-use Rattle.block_store.specs.Block.{Block, Free, size, add, tidy}
-use Rattle.block_store.specs.Compact.{largest_run}
-use Rattle.block_store.specs.Room.{may_be_purged, lowest_purged, purge, count_of}
+-- The most of a stretch is that of its runs, or of its spaces. What blocks come to after purges: all those below a
+-- place, and some of those above it; what purges of the lowest run of blocks free.
+use Rattle.std.proofs.Common.{◌≡◌, ℕ, ◌+◌, zero, suc, Bool, List, [], ◌∷◌, ◌++◌, map, nat_le, refl, arith, append-nil}
+use Rattle.std.proofs.Common.{add-zero, ◌-◌, ◌≤◌, ◌&&◌, ◌⊎◌, true, false, Some, inl, inr, is_some, cond}
+use Rattle.block_store.specs.Block.{free_sum, Block, size, tidy}
+use Rattle.block_store.specs.Compact.{largest, largest_run, largest_free}
+use Rattle.block_store.specs.Run.{segments, in_run}
+use Rattle.block_store.specs.declared.sparing.Sparing.TheVariants.{Nothing}
+use Rattle.block_store.specs.Room.{lowest_purged, may_be_purged, count_of}
+use Rattle.block_store.specs.Fewest.{serves}
 use Rattle.block_store.specs.Sparing.{opened, spared}
 use Rattle.block_store.specs.declared.sparing.Sparing.{Sparing}
-use Rattle.block_store.proofs.Purged.Rising.{lowest_purged-goes, lowest_purged-stays}
+use Rattle.block_store.proofs.Purged.PurgedSums.{largest_stretch, largest-purged}
+use Rattle.block_store.proofs.Purged.Rising.{lowest_purged-none}
 use Rattle.block_store.proofs.Regroup.MostRoom.{run-there}
-use Rattle.zone_summary.specs.Emptied.{emptied}
-use Rattle.zone_summary.specs.Stretches.{join, best, one, stretch_of}
-use Rattle.block_store.specs.Fewest.{serves}
+use Rattle.zone_summary.specs.Emptied.{emptied, all_purged}
+use Rattle.zone_summary.specs.Stretches.{spaces_of, prefix, beyond, stretch_of, join, best}
 use Rattle.zone_summary.specs.declared.stretch.Stretch.TheVariants.{Whole}
+use Rattle.zone_summary.specs.Fewest.{purges_for, run_purges_for}
 use Rattle.zone_summary.proofs.Monoid.{join-assoc, join-unit_left, stretch_of-append}
-use Rattle.zone_summary.proofs.Runs.{best-runs}
+
+-- the most of a stretch is that of the runs of its blocks
+cut_of : (zone : List Block) → (prefix (stretch_of zone) ≡ free_sum (segments zone).first)
+    × (beyond (stretch_of zone) ≡ largest free_sum (map (λ p. p.run) (segments zone).rest))
+cut_of [] = grind arith
+cut_of (b ∷ above) = grind (arith, cut_of above)
+
+pub largest_run_is : (zone : List Block) → largest_run zone ≡ best (stretch_of zone)
+largest_run_is zone = grind (arith, cut_of)
 
 -- a stretch does not see whether neighbouring Free blocks are one
-stretch_of-add : (b : Block) (bs : List Block) → stretch_of (add b bs) ≡ join (one b) (stretch_of bs)
-stretch_of-add (Free zero) bs = sym (join-unit_left (stretch_of bs))
-stretch_of-add (Free (suc n)) (Free m ∷ bs) = join-assoc (Whole (suc n)) (Whole m) (stretch_of bs)
-stretch_of-add _ _ = refl
-
 stretch_of-tidy : (bs : List Block) → stretch_of (tidy bs) ≡ stretch_of bs
 stretch_of-tidy [] = refl
-stretch_of-tidy (b ∷ bs) = stretch_of-add b (tidy bs) ∙ ap (join (one b)) (stretch_of-tidy bs)
+stretch_of-tidy (b ∷ bs) = grind (arith, join-unit_left, join-assoc, stretch_of-tidy bs)
 
 module _ (sp : Block → Bool) where
-  pub count-here : (t : Bool) (b : Block) (bs : List Block) → may_be_purged sp b ≡ t
-      → count_of sp (b ∷ bs) ≡ cond {A = ℕ} t 1 0 + count_of sp bs
-  count-here t b bs e = ap {B = ℕ} (λ (t : Bool). cond {A = ℕ} t 1 0 + count_of sp bs) e
-
   -- the lowest purges are those below a place
-  pub purged-below : (j : ℕ) (low rest : List Block)
-      → lowest_purged (count_of sp low + j) sp (low ++ rest) ≡ map (emptied sp) low ++ lowest_purged j sp rest
-  purged-below j [] rest = ap (λ k. lowest_purged k sp rest) (let z : 0 + j ≡ j = omega arith in z)
-  purged-below j (b ∷ low) rest = step (may_be_purged sp b) refl (purged-below j low rest)
-    where
-      step : (t : Bool) → may_be_purged sp b ≡ t
-          → lowest_purged (count_of sp low + j) sp (low ++ rest) ≡ map (emptied sp) low ++ lowest_purged j sp rest
-          → lowest_purged (count_of sp (b ∷ low) + j) sp (b ∷ (low ++ rest))
-          ≡ cond t (Free (size b)) b ∷ (map (emptied sp) low ++ lowest_purged j sp rest)
-      step true e more = ap (λ k. lowest_purged k sp (b ∷ (low ++ rest)))
-          (let c = count-here true b low e in let z : count_of sp (b ∷ low) + j ≡ suc (count_of sp low + j) = omega
-          (arith, c) in z)
-          ∙ lowest_purged-goes (count_of sp low + j) sp b (low ++ rest) e ∙ ap (λ t. Free (size b) ∷ t) more
-      step false e more = grind (arith, count-here, lowest_purged-stays)
+  purged-below : (low rest : List Block) (j k : ℕ) → k ≡ count_of sp low + j
+      → lowest_purged k sp (low ++ rest) ≡ map (emptied sp) low ++ lowest_purged j sp rest
+  purged-below [] rest j k e = grind arith
+  purged-below (b ∷ low) rest j zero e = grind (arith, purged-below low rest j 0)
+  purged-below (b ∷ low) rest j (suc k) e = grind (arith, purged-below low rest j k, purged-below low rest j (suc k))
 
   pub all-purged : (blocks : List Block) → lowest_purged (count_of sp blocks) sp blocks ≡ map (emptied sp) blocks
-  all-purged blocks = ap (λ k. lowest_purged k sp blocks) (omega arith)
-      ∙ ap (lowest_purged (count_of sp blocks + 0) sp) (sym (append-nil blocks)) ∙ purged-below 0 blocks []
-      ∙ append-nil (map (emptied sp) blocks)
+  all-purged blocks = simp (append-nil, add-zero) at (purged-below blocks [] 0 (count_of sp blocks + 0) refl)
 
-  -- the most of a run after the purges below a place, and some of those above it
-  largest-purged : (j : ℕ) (low rest : List Block) → largest_run (purge (count_of sp low + j) sp (low ++ rest))
-      ≡ best (join (stretch_of (map (emptied sp) low)) (stretch_of (lowest_purged j sp rest)))
-  largest-purged j low rest = let k = count_of sp low + j in
-      sym (best-runs (purge k sp (low ++ rest)))
-      ∙ ap best (stretch_of-tidy (lowest_purged k sp (low ++ rest)) ∙ ap stretch_of (purged-below j low rest)
-      ∙ stretch_of-append (map (emptied sp) low) (lowest_purged j sp rest))
+-- the most of the spaces of blocks is the largest free block of the zone once all that may be purged were
+spaces_from : (zone : List Block) (free : ℕ)
+    → largest_stretch free (map (emptied (spared Nothing)) zone) ≡ best (join (Whole free) (spaces_of zone))
+spaces_from [] free = grind arith
+spaces_from (b ∷ above) free = grind (arith, spaces_from above)
 
+pub largest_free_is : (zone : List Block) → largest_free (all_purged Nothing zone) ≡ best (spaces_of zone)
+largest_free_is zone = let s = rw all-purged at (largest-purged Nothing (count_of (spared Nothing) zone) zone) in
+    grind (arith, spaces_from, join-unit_left)
+
+module _ (sp : Block → Bool) where
+  -- a block is purged, or it stays, in its run or at its end
+  kind : (b : Block) → (may_be_purged sp b ≡ true)
+      ⊎ (((may_be_purged sp b ≡ false) × (in_run b ≡ true)) ⊎ ((may_be_purged sp b ≡ false) × (in_run b ≡ false)))
+  kind b = grind arith
+
+  -- the bytes that so many purges free in the lowest run
+  abbrev pub gain : ℕ → List Block → ℕ
+  gain k [] = 0
+  gain zero (b ∷ above) = 0
+  gain (suc k) (b ∷ above) = cond (may_be_purged sp b) (size b + gain k above) (cond (in_run b) (gain (suc k) above) 0)
+
+  pub gains : (blocks : List Block) (k : ℕ)
+      → prefix (stretch_of (lowest_purged k sp blocks)) ≡ prefix (stretch_of blocks) + gain k blocks
+  gains [] k = grind (arith, lowest_purged-none)
+  gains (b ∷ above) k = grind (arith, gains above)
+
+  -- they are enough from the least number on that the count gives, if it gives one
+  pub freed : (blocks : List Block) (k done bytes : ℕ) → nat_le bytes (gain k blocks)
+      ≡ (is_some (run_purges_for sp done bytes blocks) && nat_le (purges_for sp bytes blocks) k)
+  freed (b ∷ above) zero done (suc m) = grind (arith, kind, freed above zero done (suc m))
+  freed (b ∷ above) (suc k) done (suc m) = elim (kind b) [
+    | inl e ↦ rw e (grind (arith, freed above k (suc done) (suc m - size b)))
+    | inr e ↦ grind (arith, freed above (suc k) done (suc m))
+  ]
+  freed _ k done bytes = grind arith
+
+  pub own-is : (blocks : List Block) (done bytes n : ℕ) → run_purges_for sp done bytes blocks ≡ Some n
+      → n ≡ done + purges_for sp bytes blocks
+  own-is (b ∷ above) done (suc m) n h =
+      grind (arith, kind, own-is above (suc done) (suc m - size b), own-is above done (suc m))
+  own-is _ done bytes n h = grind arith
+
+  -- and the runs above stay as they are
+  pub others : (blocks : List Block) (k done bytes : ℕ) → is_some (run_purges_for sp done bytes blocks) ≡ true
+      → k ≤ purges_for sp bytes blocks → beyond (stretch_of (lowest_purged k sp blocks)) ≡ beyond (stretch_of blocks)
+  others (b ∷ above) (suc k) done (suc m) h l = elim (kind b) [
+    | inl e ↦ rw e (grind (arith, others above k (suc done) (suc m - size b)))
+    | inr e ↦ grind (arith, others above (suc k) done (suc m))
+  ]
+  others _ k done bytes h l = grind (arith, lowest_purged-none)
+
+-- the most of a run after the purges below a place, and some of those above it
 pub serves-is : (p : ℕ) (n : Sparing) (zone low rest : List Block) (j : ℕ) → opened n zone ≡ low ++ rest
     → serves p n zone (count_of (spared n) low + j)
     ≡ nat_le p (best (join (stretch_of (map (emptied (spared n)) low)) (stretch_of (lowest_purged j (spared n) rest))))
-serves-is p n zone low rest j e = grind (arith, run-there, nat_le, largest-purged)
+serves-is p n zone low rest j e =
+    rw (run-there, largest_run_is, stretch_of-tidy, e, purged-below (spared n) low rest j _ refl, stretch_of-append)

@@ -1,6 +1,6 @@
 //! What a stretch of blocks comes to in runs or in spaces, and how two that are neighbours come to one.
 
-ghost use Rattle.std.specs.Prelude.{◌≡◌, ◌+◌, ◌^◌, ◌<◌, ◌++◌, List, max};
+ghost use Rattle.std.specs.Prelude.{◌≡◌, ◌+◌, ◌^◌, ◌<◌, ◌++◌, List};
 ghost use Rattle.block_store.specs.Block.{Block};
 ghost use Rattle.block_store.specs.Compact.{largest_free, largest_run};
 ghost use Rattle.block_store.specs.declared.sparing.Sparing.TheVariants.{Nothing};
@@ -28,13 +28,6 @@ pub enum Stretch {
     Ended(u32, u32, u32),
 }
 
-/// Returns the greater of two numbers.
-fn greater(a: u32, b: u32) -> u32
-    ensures { result ≡ max a b }
-{
-    if a < b { b } else { a }
-}
-
 impl Stretch {
     /// The stretch of no blocks.
     pub const NONE: Stretch = Stretch::Whole(0);
@@ -43,25 +36,25 @@ impl Stretch {
     pub const END: Stretch = Stretch::Ended(0, 0, 0);
 
     /// Returns what this stretch comes to with the one that follows it.
+    #[tactic(auto, using(crate::proofs::Monoid::joins))]
     pub fn join(self, high: Stretch) -> Stretch
         requires { suffix self + prefix high < 2 ^ 32 }
         ensures is { result ≡ stretches.join self high }
         ensures blocks { (counting : CountingOf) (lower upper : List Block) → self ≡ stretch_by counting lower
             → high ≡ stretch_by counting upper → result ≡ stretch_by counting (lower ++ upper) }
     {
-        match self {
-            Stretch::Whole(a) => match high {
-                Stretch::Whole(b) => Stretch::Whole(a + b),
-                Stretch::Ended(p, i, s) => Stretch::Ended(a + p, i, s),
-            },
-            Stretch::Ended(p, i, s) => match high {
-                Stretch::Whole(b) => Stretch::Ended(p, i, s + b),
-                Stretch::Ended(q, j, t) => { Stretch::Ended(p, greater(greater(i, j), s + q), t) }
-            },
+        match (self, high) {
+            (Stretch::Whole(a), Stretch::Whole(b)) => Stretch::Whole(a + b),
+            (Stretch::Whole(a), Stretch::Ended(p, i, s)) => Stretch::Ended(a + p, i, s),
+            (Stretch::Ended(p, i, s), Stretch::Whole(b)) => Stretch::Ended(p, i, s + b),
+            (Stretch::Ended(p, i, s), Stretch::Ended(q, j, t)) => {
+                Stretch::Ended(p, i.max(j).max(s + q), t)
+            }
         }
     }
 
     /// Returns the greatest number of free bytes of a run.
+    #[tactic(auto, using(crate::proofs::Purges::largest_run_is, crate::proofs::Purges::largest_free_is))]
     pub fn best(self) -> u32
         ensures is { result ≡ stretches.best self }
         ensures largest { (blocks : List Block) → self ≡ stretch_of blocks → result ≡ largest_run blocks }
@@ -70,7 +63,7 @@ impl Stretch {
     {
         match self {
             Stretch::Whole(a) => a,
-            Stretch::Ended(p, i, s) => greater(p, greater(i, s)),
+            Stretch::Ended(p, i, s) => p.max(i.max(s)),
         }
     }
 
@@ -79,8 +72,7 @@ impl Stretch {
         ensures { result ≡ prefix self }
     {
         match self {
-            Stretch::Whole(a) => a,
-            Stretch::Ended(p, _, _) => p,
+            Stretch::Whole(a) | Stretch::Ended(a, _, _) => a,
         }
     }
 }
