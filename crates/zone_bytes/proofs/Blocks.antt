@@ -1,4 +1,3 @@
-pub mod Carves
 pub mod InPlace
 pub mod Writes
 pub mod Marked

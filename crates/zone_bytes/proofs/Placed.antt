@@ -1,12 +1,7 @@
 pub mod Laid
 pub mod Standing
-pub mod Stretched
 pub mod Carved
 pub mod Copied
 pub mod Sizes
-pub mod FreeTags
 pub mod Resized
-pub mod Threads
-pub mod MoreSlots
 pub mod MastersCarved
-pub mod Named

@@ -6,5 +6,3 @@ pub mod Options
 pub mod Edges
 pub mod LedTo
 pub mod Became
-pub mod Noted
-pub mod Steps

@@ -1,15 +1,10 @@
 pub mod Packed
-pub mod Ends
 pub mod Settled
-pub mod Until
 pub mod Edged
-pub mod Led
 pub mod RunsAt
 pub mod Pointers
 pub mod Raises
-pub mod Lifts
 pub mod NextRuns
-pub mod Moved
 pub mod Hoists
 pub mod Changed
 pub mod Still

@@ -7,6 +7,5 @@ pub mod Spelling
 pub mod Zones
 pub mod Keeping
 pub mod Changing
-pub mod Replaced
 pub mod Splices
 pub mod Permuted

@@ -14,6 +14,11 @@ Starts place at (b ∷ above) = (place ≡ at) ⊎ Starts place (at + size b) ab
 abbrev pub AreEdges : Edges → ℕ → List Block → Type 0
 AreEdges edges at blocks = (number : ℕ) → number < edges.count → Starts (get_or edges.places.items number 0) at blocks
 
+-- Where blocks that end at `place` had the edges `old`, these and `blocks` above them have the edges `new`.
+abbrev pub Noted : Edges → Edges → ℕ → List Block → Type 0
+Noted old new place blocks = (base : ℕ) (before : List Block) → base + sizes before ≡ place →
+    AreEdges old base before → AreEdges new base (before ++ blocks)
+
 abbrev pub IsMover : Block → Type 0
 IsMover b = is_mover b ≡ true
 

@@ -5,6 +5,7 @@ use Rattle.std.specs.Prelude.{◌∷◌, ◌++◌, length, take, drop}
 use Rattle.windows.specs.Writes.{piece}
 use Rattle.block_store.specs.Block.{Block, free_of, free_sum, is_mover, size, sizes}
 use Rattle.block_store.specs.Run.{in_run, movers, settle}
+use Rattle.block_store.specs.Inner.Packing.{Loose}
 use Rattle.zone_bytes.specs.Layout.{head_of, Tiles, IsSlot, names, Leads, Apart, Each, Pairs}
 use Rattle.block_store.specs.declared.measures.TheConstants.{GREATEST_ZONE}
 
@@ -24,9 +25,6 @@ pub record Lay : Type 0 where
 
 abbrev pub all : Lay → List Block
 all lay = lay.below ++ (lay.run ++ lay.above)
-
-abbrev pub InRun : Block → Type 0
-InRun b = in_run b ≡ true
 
 -- The blocks lie in `xs`, and the slot of each relocatable block leads to the block.
 pub record Lies (resource : ℕ → Bool) (blocks : List Block) (xs : List ℕ) : Type 0 where
@@ -56,7 +54,7 @@ pub record IsRunFrom (lay : Lay) (place stop : ℕ) : Type 0 where
   pub slots : HasSlots (all lay)
   pub bottom : sizes lay.below ≡ place
   pub top : place + sizes lay.run ≡ stop
-  pub in_run : Each InRun lay.run
+  pub in_run : Loose lay.run
   pub small : length lay.bytes ≤ GREATEST_ZONE
 
 -- The slots that lead to none of the blocks hold the words that they held before.
@@ -81,13 +79,14 @@ pub record Passing (lay : Lay) (gap from to : ℕ) (xs : List ℕ) (gone moved r
   pub kept : length xs ≡ length lay.bytes
   pub lead_low : Leads 0 lay.below xs
   pub lead_moved : Leads (sizes lay.below + gap) moved xs
+  pub lead_high : Leads (sizes lay.below + sizes lay.run) lay.above xs
   pub others : SameOthers (all lay) lay.bytes xs
 
 -- The blocks `gone` of the run were packed below `to`, and `moves` of them moved down.
 pub record Packing (lay : Lay) (gap from to moves : ℕ) (xs : List ℕ) (gone : List Block) : Type 0 where
   pub rest : List Block
   pub state : Passing lay gap from to xs gone (movers gone) rest
-  pub leads : Leads from (rest ++ lay.above) xs
+  pub leads : Leads from rest xs
   pub count : moves ≡ lowered_in_run_from 0 gone
 
 -- The run's relocatable blocks lie one after another from its bottom on, with one free block above them, and their

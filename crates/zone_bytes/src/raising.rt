@@ -1,11 +1,11 @@
 //! The relocatable blocks of a run are raised.
 
-ghost use Rattle.std.specs.Prelude.{◌≡◌, ◌+◌, ◌++◌, ℕ, List, [], length};
-ghost use Rattle.block_store.specs.Block.{Block, sizes};
+ghost use Rattle.std.specs.Prelude.{◌≡◌, ◌+◌, [], length};
+ghost use Rattle.block_store.specs.Block.{sizes};
 ghost use Rattle.block_store.specs.Run.{movers};
-ghost use Rattle.zone_bytes.specs.Edges.{AreEdges};
+ghost use Rattle.zone_bytes.specs.Edges.{AreEdges, Noted};
 ghost use Rattle.zone_bytes.specs.Settling.{Lay, IsRunFrom, EndsRun, Settled};
-ghost use Rattle.zone_bytes.specs.Raising.{Raise, MayRaise, Raised, MayLift, Lifted};
+ghost use Rattle.zone_bytes.specs.Raising.{MayRaise, MayLift, Lifted};
 ghost use Rattle.zone_bytes.specs.Beside.{KeepsPlace};
 
 use crate::edges::Edges;
@@ -16,10 +16,10 @@ use raw_region::Part;
 /// Moves the blocks of a packed run up by `gap`; their slots lead to their new places already. The run's free block
 /// was from `top` to `stop`: `gap` of its bytes are below the blocks after the move.
 fn lift_blocks(part: &mut Part, place: u32, top: u32, stop: u32, gap: u32)
-    ghost raise: { Raise }
-    requires { (part.old.bytes ≡ raise.bytes) × MayRaise raise place top stop gap }
+    ghost lay: { Lay }
+    requires { MayRaise lay place top stop gap part.old.bytes }
     ensures same { KeepsPlace part.old part.new }
-    ensures raised { Raised raise part.new.bytes }
+    ensures lifted { Lifted lay gap part.new.bytes }
 {
     part.slide(
         place as usize,
@@ -41,8 +41,7 @@ fn settle_above(part: &mut Part, edges: &mut Edges, packed: PackedRun, gap: u32)
     ensures same { KeepsPlace part.old part.new }
     ensures settled { Settled lay result.lowered part.new.bytes }
     ensures stop { result.stop ≡ packed.top + gap + sizes lay.run }
-    ensures edges { (base : ℕ) (before : List Block) → base + sizes before ≡ packed.top + gap →
-        AreEdges edges.old base before → AreEdges edges.new base (before ++ movers lay.run) }
+    ensures edges { Noted edges.old edges.new (packed.top + gap) (movers lay.run) }
 {
     settle_run(part, edges, packed.top + gap)
 }

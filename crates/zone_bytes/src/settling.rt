@@ -1,12 +1,12 @@
 //! The relocatable blocks of a run are moved down.
 
-ghost use Rattle.std.specs.Prelude.{◌≡◌, ◌+◌, ◌-◌, ◌%◌, ◌≤◌, ◌<◌, ◌^◌, ◌++◌, ℕ, List, length, nat_lt, if◌then◌else◌, true};
+ghost use Rattle.std.specs.Prelude.{◌≡◌, ◌+◌, ◌-◌, ◌%◌, ◌≤◌, ◌<◌, ◌^◌, length, nat_lt, if◌then◌else◌, true};
 ghost use Rattle.windows.specs.Writes.{written, piece};
 ghost use Rattle.heap_words.specs.Headers.{tag_number};
 ghost use Rattle.heap_words.specs.Words.{word};
-ghost use Rattle.block_store.specs.Block.{Block, sizes};
+ghost use Rattle.block_store.specs.Block.{sizes};
 ghost use Rattle.block_store.specs.Run.{movers};
-ghost use Rattle.zone_bytes.specs.Edges.{AreEdges};
+ghost use Rattle.zone_bytes.specs.Edges.{Noted};
 ghost use Rattle.zone_bytes.specs.Settling.{Lay, IsRunFrom, EndsRun, runs_on, PackedUntil, Settled, gone_to};
 ghost use Rattle.zone_bytes.specs.Beside.{KeepsPlace};
 
@@ -88,8 +88,7 @@ pub(crate) fn pack_until(
     requires gap { gap ≤ length lay.bytes }
     ensures same { KeepsPlace part.old part.new }
     ensures packed { PackedUntil lay place gap enough result.lowered result.top result.stop part.new.bytes }
-    ensures edges { (base : ℕ) (before : List Block) → base + sizes before ≡ place + gap →
-        AreEdges edges.old base before → AreEdges edges.new base (before ++ movers (gone_to lay result.stop)) }
+    ensures edges { Noted edges.old edges.new (place + gap) (movers (gone_to lay result.stop)) }
 {
     let end = part.len() as u32;
     let mut from = place;
@@ -131,8 +130,7 @@ pub fn settle_run(part: &mut Part, edges: &mut Edges, place: u32) -> PackedRun
     ensures settled { Settled lay result.lowered part.new.bytes }
     ensures top { result.top ≡ place + sizes (movers lay.run) }
     ensures stop { result.stop ≡ place + sizes lay.run }
-    ensures edges { (base : ℕ) (before : List Block) → base + sizes before ≡ place → AreEdges edges.old base before →
-        AreEdges edges.new base (before ++ movers lay.run) }
+    ensures edges { Noted edges.old edges.new place (movers lay.run) }
 {
     pack_until(part, edges, place, 0, u32::MAX)
 }

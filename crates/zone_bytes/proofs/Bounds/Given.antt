@@ -1,10 +1,10 @@
 -- What blocks would give if they were emptied, through each change of a zone.
-use Rattle.std.proofs.Common.{◌≡◌, ℕ, zero, suc, ◌+◌, ◌-◌, ◌≤◌, ◌<◌, ◌^◌, Bool, true, false, not, cond, Option, Some}
-use Rattle.std.proofs.Common.{None, List, [], ◌∷◌, ◌++◌, map, refl, ap, ◌∙◌, arith}
-use Rattle.std.proofs.lemmas.Bool.{and_parts, false≢true}
+use Rattle.std.proofs.Common.{◌≡◌, ℕ, zero, suc, ◌+◌, ◌-◌, ◌≤◌, ◌<◌, ◌^◌, Bool, true, false, cond, Option, Some}
+use Rattle.std.proofs.Common.{List, [], ◌∷◌, ◌++◌, map, refl, ap, ◌∙◌, arith}
+use Rattle.std.proofs.lemmas.Bool.{and_parts}
 use Rattle.std.specs.Option.{option_map}
-use Rattle.block_store.specs.Block.{Block, Free, Nonrelocatable, Masters, Relocatable, size, sizes, total, free_of}
-use Rattle.block_store.specs.Block.{free_sum, count, is_purgeable, is_room, fresh, tidy}
+use Rattle.block_store.specs.Block.{Block, Free, Relocatable, size, sizes, total, free_of}
+use Rattle.block_store.specs.Block.{free_sum, count, is_purgeable, fresh, tidy}
 use Rattle.block_store.specs.Grow.{freed, grow_up}
 use Rattle.block_store.specs.Room.{Spot, spot, raised, filled, may_be_purged, lowest_purged}
 use Rattle.block_store.specs.Sparing.{most_purges, purged, spared}
@@ -63,9 +63,7 @@ given-released test zone once =
             → cond {A = ℕ} t 0 (purgeable_of b) + total (unless test purgeable_of) zone
             + purgeable_at (cond t (Some (record { below = []; here = b; above = zone })) (option_map (raised b) o))
             ≡ purgeable_of b + purgeable_sum zone
-        cases true o more none once = omega (arith, none (omega arith))
-        cases false None more none once = omega (arith, more (omega arith))
-        cases false (Some s) more none once = omega (arith, more (omega arith))
+        cases t o more none once = grind arith
 
 -- what is emptied becomes Free
 pub given-lowest_purged : (k : ℕ) (sp : Block → Bool) (zone : List Block)
@@ -76,10 +74,8 @@ given-lowest_purged (suc k) sp (b ∷ zone) = cases (may_be_purged sp b) refl (g
     (given-lowest_purged (suc k) sp zone)
   where
     gives : (b : Block) → is_purgeable b ≡ true → (free_of b ≡ 0) × (purgeable_of b ≡ size b)
-    gives (Free n) p = let f : false ≡ true = p in cc
-    gives (Nonrelocatable id content) p = let f : false ≡ true = p in cc
-    gives Masters p = let f : false ≡ true = p in cc
     gives (Relocatable id flags content) p = (refl, ap (λ t. cond t (size (Relocatable id flags content)) 0) p)
+    gives _ p = let f : false ≡ true = p in cc
 
     cases : (t : Bool) → may_be_purged sp b ≡ t
         → free_sum (lowest_purged k sp zone) + purgeable_sum (lowest_purged k sp zone) ≡ free_sum zone + purgeable_sum
@@ -88,8 +84,7 @@ given-lowest_purged (suc k) sp (b ∷ zone) = cases (may_be_purged sp b) refl (g
         → free_sum (cond t (Free (size b) ∷ lowest_purged k sp zone) (b ∷ lowest_purged (suc k) sp zone))
         + purgeable_sum (cond t (Free (size b) ∷ lowest_purged k sp zone) (b ∷ lowest_purged (suc k) sp zone))
         ≡ free_sum (b ∷ zone) + purgeable_sum (b ∷ zone)
-    cases true e r r' = let g = gives b (and_parts (is_purgeable b) (not (sp b)) e).0 in omega arith
-    cases false e r r' = omega arith
+    cases t e r r' = grind (arith, gives, and_parts)
 
 -- no blocks would give more bytes than they take
 pub given-sizes : (zone : List Block) → purgeable_sum zone ≤ sizes zone
@@ -102,10 +97,8 @@ all-given zone = free-purged sparing.Nothing (most_purges sparing.Nothing zone) 
     ∙ ap free_sum (all-purged (spared sparing.Nothing) zone) ∙ sum zone
   where
     one : (b : Block) → free_of (emptied (spared sparing.Nothing) b) ≡ free_of b + purgeable_of b
-    one (Free n) = omega arith
-    one (Nonrelocatable id content) = refl
-    one Masters = refl
     one (Relocatable id flags content) = grind arith
+    one _ = omega arith
 
     sum : (zone : List Block) → free_sum (map (emptied (spared sparing.Nothing)) zone) ≡ free_sum zone + purgeable_sum
         zone
@@ -116,11 +109,6 @@ all-given zone = free-purged sparing.Nothing (most_purges sparing.Nothing zone) 
 pub given-fits : (xs : List ℕ) (first unused : ℕ) → IsSound xs first unused
     → free_sum (zone_in xs) + purgeable_sum (zone_in xs) < 2 ^ 32
 given-fits xs first unused i = omega (arith, given-sizes, free_span-le, sizes-length)
-
--- a Free block that has room would give nothing
-given-room : (p : ℕ) (b : Block) → is_room p b ≡ true → purgeable_of b ≡ 0
-given-room p (Relocatable id flags content) e = absurd (false≢true e)
-given-room p _ e = refl
 
 -- a block that grew into the Free block above it
 pub given-grown : (new : Block) (s : Spot) (z : List Block) → grow_up new s ≡ Some z

@@ -1,12 +1,10 @@
 -- A zone that has too few bytes, and one that has nothing to give.
 use Rattle.std.proofs.Common.{◌≡◌, ℕ, ◌+◌, ◌≤◌, ◌<◌, Bool, true, false, cond, None, List, ap, arith}
-use Rattle.block_store.specs.Block.{Block, Free, Nonrelocatable, Masters, Relocatable, count, free_of, free_sum}
-use Rattle.block_store.specs.Block.{is_room}
+use Rattle.block_store.specs.Block.{Block, Free, count, free_of, free_sum, is_room}
 use Rattle.block_store.specs.Run.{run_spot}
 use Rattle.block_store.specs.Room.{spot, may_be_purged}
 use Rattle.block_store.specs.Sparing.{spared, opened, purged, most_purges}
 use Rattle.block_store.specs.declared.sparing.Sparing.{Sparing}
-use Rattle.block_store.specs.declared.sparing.Sparing.TheVariants as sparing
 use Rattle.block_store.proofs.Purged.PurgedSums.{free-purged}
 use Rattle.block_store.proofs.Zone.Keeping.{unless-le, freed-is, purged-le, tidied}
 use Rattle.block_store.proofs.Zone.Tidy.{spot-is, spot-passes}
@@ -30,9 +28,7 @@ no-room p zone short = no-spot (spot (is_room p) zone) (λ s e.
   where
     means : (b : Block) → is_room p b ≡ true → p ≤ free_of b
     means (Free n) r = grind arith
-    means (Nonrelocatable id content) r = let f : false ≡ true = r in cc
-    means Masters r = let f : false ≡ true = r in cc
-    means (Relocatable id flags content) r = let f : false ≡ true = r in cc
+    means _ r = let f : false ≡ true = r in cc
 
 -- nothing counts as Free that isn't
 abbrev pub FreesNone : Sparing → Type 0
@@ -45,13 +41,11 @@ free-given s none k zone = grind (arith, tidied, free-purged, given-lowest_purge
 
 -- what counts as Free would give nothing more
 given-opened : (s : Sparing) (zone : List Block) → purgeable_sum (opened s zone) ≤ purgeable_sum zone
-given-opened (sparing.Freed slot) zone = grind (arith, freed-is, unless-le)
-given-opened _ zone = omega arith
+given-opened s zone = grind (arith, freed-is, unless-le)
 
 -- each block that may go would give something
 pub one-gives : (sp : Block → Bool) (b : Block) → cond {A = ℕ} (may_be_purged sp b) 1 0 ≤ purgeable_of b
-one-gives sp (Relocatable id flags content) = grind arith
-one-gives sp _ = omega arith
+one-gives sp b = grind arith
 
 count-given : (sp : Block → Bool) (zone : List Block) → count (may_be_purged sp) zone ≤ purgeable_sum zone
 count-given sp zone = total-le (λ b. cond {A = ℕ} (may_be_purged sp b) 1 0) purgeable_of (one-gives sp) _

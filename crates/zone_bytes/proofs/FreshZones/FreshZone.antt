@@ -1,5 +1,5 @@
 -- A fresh RawZone.
-use Rattle.std.proofs.Common.{◌≡◌, ℕ, ◌+◌, ◌-◌, ◌%◌, ◌≤◌, List, [], ◌∷◌, ◌++◌, length, drop, sym, refl, ◌∙◌, subst}
+use Rattle.std.proofs.Common.{◌≡◌, ℕ, ◌-◌, ◌%◌, ◌≤◌, List, [], ◌∷◌, ◌++◌, length, sym, refl, ◌∙◌, subst}
 use Rattle.std.proofs.Common.{arith, false, ◌*◌, ap}
 use Rattle.std.proofs.lemmas.List.{append-nil, drop_all}
 use Rattle.windows.specs.Writes.{written}
@@ -15,8 +15,7 @@ use Rattle.zone_bytes.specs.Mastering.{slots_at, HasMasters}
 use Rattle.zone_bytes.proofs.Tiles.Tiling.{tiles-one}
 use Rattle.zone_bytes.proofs.Tiles.Heads.{free-tile}
 use Rattle.zone_bytes.proofs.Blocks.InPlace.{no-slots}
-use Rattle.zone_bytes.proofs.Placed.MoreSlots.{lays-masters}
-use Rattle.zone_bytes.specs.Splicing.{SameOutside}
+use Rattle.zone_bytes.proofs.Placed.MastersCarved.{lays-masters}
 use Rattle.zone_bytes.specs.Decode.{zone_in}
 use Rattle.zone_bytes.proofs.Laws.Lawful.{Made, made}
 
@@ -28,55 +27,36 @@ module _ (end : ℕ) (old : List ℕ) (l : length old ≡ end) (e : end % 16 ≡
   one-length : length one ≡ end
   one-length = length-written 0 (word end) old (omega (arith, length-word)) ∙ l
 
-  one-lays : Lays one (Free end ∷ []) (λ s. NoSlot) []
-  one-lays = record {
-    lies = record {
-      tiles = tiles-one (head_of (λ s. is_resource NoSlot)) (Free end) one one-length
-          (free-tile (λ s. is_resource NoSlot) end one one-length e (omega arith)
-          (piece-written 0 (word end) old 4 (sym (length-word end)) (omega arith)));
-      leads = (tt, tt);
-    };
-    has_slots = record { slots = tt; apart = tt };
-    placed = (tt, tt);
-    small = omega (arith, one-length);
-    used = tt;
-    says = no-slots (Free end) refl;
-    chain = tt;
-    unused_slots = tt;
-    once = tt;
-  }
-
   -- in which a Masters block was laid
   pub fresh-lays : (new : List ℕ) → HasMasters 0 end 0 old new → Lays new (fresh end) fresh_slots all_slots
   unfolding all_slots
   fresh-lays new q =
-      let o = q.outside in
-      let k = q.outside.kept in
-      let up : drop (0 + end) new ≡ drop (0 + end) one =
-      drop_all (0 + end) new (omega arith) ∙ sym (drop_all (0 + end) one (omega (arith, one-length))) in
-      let same : SameOutside 0 (0 + end) one new = record {
-        kept = k ∙ l ∙ sym one-length;
-        ordered = (omega arith, omega (arith, one-length));
-        low = refl;
-        high = up;
-      } in
-      let all = lays-masters one [] [] end (λ s. NoSlot) [] one-lays 0 refl (omega arith) new
-      (record { outside = same; begins = q.begins; rest = q.rest; thread = q.thread }) in
+      let all = lays-masters one [] [] end (λ s. NoSlot) [] (record {
+        lies = record {
+          tiles = tiles-one (head_of (λ s. is_resource NoSlot)) (Free end) one one-length
+              (free-tile (λ s. is_resource NoSlot) end one one-length e (omega arith)
+              (piece-written 0 (word end) old 4 (sym (length-word end)) (omega arith)));
+          leads = (tt, tt);
+        };
+        has_slots = record { slots = tt; apart = tt };
+        placed = (tt, tt);
+        small = omega (arith, one-length);
+        used = tt;
+        says = no-slots (Free end) refl;
+        chain = tt;
+        unused_slots = tt;
+        once = tt;
+      }) 0 refl (omega arith) new
+      (record { outside = grind (arith, drop_all, one-length); begins = q.begins; rest = q.rest; thread = q.thread }) in
       subst (λ bs. Lays new (Masters ∷ bs) fresh_slots (slots_at 0)) (append-nil (free (end - 272)))
       (subst (Lays new (Masters ∷ (free (end - 272) ++ [])) fresh_slots) (append-nil (slots_at 0)) all)
 
 tidy-fresh : (n : ℕ) → tidy (fresh n) ≡ fresh n
 tidy-fresh n = grind arith
 
-masters-fresh : (n : ℕ) → 64 * count is_masters (fresh n) ≡ 64
-masters-fresh n = grind arith
-
 -- what isn't the block of master pointers is Free
 pub free-fresh : (n : ℕ) → free_sum (fresh n) ≡ n - 272
 free-fresh n = grind arith
-
-none-used : (s : ℕ) → is_used (fresh_slots s) ≡ false
-none-used s = grind arith
 
 module _ (new : List ℕ) (end : ℕ) (h : Lays new (fresh end) fresh_slots all_slots) where
   pub fresh-made : Made new 16 64 (fresh end) fresh_slots
@@ -84,7 +64,7 @@ module _ (new : List ℕ) (end : ℕ) (h : Lays new (fresh end) fresh_slots all_
   fresh-made = made new (fresh end) fresh_slots all_slots h 16 64 (tidy-fresh end) refl refl
 
   pub fresh-all : 64 * count is_masters (zone_in new) ≡ 64
-  fresh-all = ap (λ z. 64 * count is_masters z) fresh-made.zone ∙ masters-fresh end
+  fresh-all = ap (λ z. 64 * count is_masters z) fresh-made.zone ∙ (grind arith)
 
   pub fresh-unused : (s : ℕ) → is_used (slot_in new s) ≡ false
-  fresh-unused s = ap is_used (fresh-made.slots s) ∙ none-used s
+  fresh-unused s = ap is_used (fresh-made.slots s) ∙ (grind arith)

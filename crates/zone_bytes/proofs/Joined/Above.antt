@@ -1,7 +1,7 @@
 -- Free bytes that are made one with a Free block above them.
 use Rattle.std.proofs.Common.{◌≡◌, ℕ, false, ◌+◌, ◌-◌, ◌<◌, ◌≤◌, List, [], ◌∷◌, ◌++◌, length, sym, refl, ap, ◌∙◌, subst}
 use Rattle.std.proofs.Common.{arith, append_assoc}
-use Rattle.block_store.specs.Block.{Block, Free, Nonrelocatable, Masters, Relocatable, size, sizes, free, free_of, add}
+use Rattle.block_store.specs.Block.{Block, Free, size, sizes, free, free_of, add}
 use Rattle.block_store.specs.Inner.Stretch.{is_free}
 use Rattle.block_store.proofs.Zone.Joining.{add-alone, add-free}
 use Rattle.zone_bytes.specs.Layout.{kind}
@@ -12,18 +12,10 @@ use Rattle.zone_bytes.proofs.Tiles.Keeping.{span-free}
 use Rattle.zone_bytes.proofs.Joined.Ways.{inside, Read, read}
 
 pub free-is : (b : Block) → kind b ≡ 0 → b ≡ Free (size b)
-free-is (Free n) k = refl
-free-is (Nonrelocatable id content) k = absurd (let z : 1 ≡ 0 = k in omega arith)
-free-is Masters k = absurd (let z : 2 ≡ 0 = k in omega arith)
-free-is (Relocatable slot flags content) k = absurd (let z : 3 ≡ 0 = k in omega arith)
-
-pub not_free-is : (b : Block) → 0 < kind b → is_free b ≡ false
-not_free-is (Free n) k = absurd (let z : 0 < 0 = k in omega arith)
-not_free-is _ k = refl
+free-is b k = grind arith
 
 pub free-other : (b : Block) → 0 < kind b → free_of b ≡ 0
-free-other (Free n) k = absurd (let z : 0 < 0 = k in omega arith)
-free-other _ k = refl
+free-other b k = grind arith
 
 module _ (j : Joining) (start at : ℕ) (xs : List ℕ) (m : MayJoin j start at xs) where
   here-laid : Lays xs ((j.below ++ free (at - start)) ++ j.above) j.slots j.unused
@@ -31,9 +23,6 @@ module _ (j : Joining) (start at : ℕ) (xs : List ℕ) (m : MayJoin j start at 
 
   here-low : sizes (j.below ++ free (at - start)) ≡ at
   here-low = omega (arith, span-append, span-free)
-
-  some : 0 < at - start
-  some = omega arith
 
   -- the block above
   pub record Next : Type 0 where
@@ -64,7 +53,7 @@ module _ (j : Joining) (start at : ℕ) (xs : List ℕ) (m : MayJoin j start at 
   joined-none l = alone (of j.above refl)
     where
       of : (above : List Block) → j.above ≡ above → add (Free (at - start)) above ≡ Free (at - start) ∷ above
-      of [] e = add-alone _ some
+      of [] e = add-alone _ (omega arith)
       of (b ∷ above) e = let r = read _ _ b _ j.slots _
           (subst (λ k. Lays xs ((j.below ++ free (at - start)) ++ k) j.slots j.unused) e here-laid) _ here-low in
           absurd (omega arith)
@@ -90,4 +79,4 @@ module _ (j : Joining) (start at : ℕ) (xs : List ℕ) (m : MayJoin j start at 
         let f : free (at + size n.here - start) ≡ Free (at - start + size n.here) ∷ [] = grind arith in
         subst (λ q. Lays new (j.below ++ q) j.slots j.unused)
         (ap (λ q. q ++ n.above) f ∙ sym (ap (add (Free (at - start))) (n.is ∙ ap (λ b. b ∷ n.above) (free-is _ k)) ∙
-        add-free _ _ _ some)) (made one may-free)
+        add-free _ _ _ (omega arith))) (made one may-free)

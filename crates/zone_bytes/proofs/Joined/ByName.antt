@@ -3,9 +3,9 @@ use Rattle.std.proofs.Common.{◌≡◌, ℕ, Bool, true, false, ◌+◌, ◌%�
 use Rattle.std.proofs.Common.{length, sym, refl, ap, ◌∙◌, subst, arith}
 use Rattle.std.proofs.lemmas.List.{map-append}
 use Rattle.heap_words.specs.Words.{word_at}
-use Rattle.block_store.specs.Block.{Block, Free, Relocatable, size, sizes, tidy, free_of, free_sum, is_relocatable}
+use Rattle.block_store.specs.Block.{Block, Free, Relocatable, size, sizes, tidy, free_sum, is_relocatable}
 use Rattle.block_store.specs.Grow.{freed}
-use Rattle.block_store.specs.Slot.{is_used}
+use Rattle.block_store.specs.Slot.{is_used, is_resource}
 use Rattle.block_store.proofs.Zone.Tidy.{total-tidy}
 use Rattle.block_store.proofs.Zone.Totals.{total-append}
 use Rattle.zone_bytes.specs.Layout.{names, Apart, Pairs}
@@ -14,8 +14,7 @@ use Rattle.zone_bytes.specs.Joining.{Freeing, MayRelease, HasHandle}
 use Rattle.zone_bytes.specs.Table.{Table, empty_word}
 use Rattle.zone_bytes.proofs.Tiles.Leading.{names-append, pairs-before, pairs-after}
 use Rattle.zone_bytes.proofs.SlotTable.Tables.{none-apart}
-use Rattle.zone_bytes.proofs.SlotTable.Handles.{IsEmptyHandle, HasBlock, handle-in, block-here, flag, state}
-use Rattle.zone_bytes.proofs.SlotTable.Handles.{emptied-reads, block-reads}
+use Rattle.zone_bytes.proofs.SlotTable.Handles.{IsEmptyHandle, HasBlock, handle-in, flag, state}
 use Rattle.block_store.specs.Run.{has}
 use Rattle.std.proofs.lemmas.Bool.{or_parts, eq-eqb}
 
@@ -30,14 +29,8 @@ pub freed-one : (t : Block → Bool) (below : List Block) (b : Block) (above : L
     → t b ≡ true → has t above ≡ false → freed t (below ++ b ∷ above) ≡ below ++ Free (size b) ∷ above
 freed-one t below b above l h u = grind (arith, map-append, freed-none)
 
--- a block that held bytes becomes Free
-pub free-more : (below : List Block) (b : Block) (above : List Block) → free_of b ≡ 0
-    → free_sum (tidy (below ++ Free (size b) ∷ above)) ≡ free_sum (below ++ b ∷ above) + size b
-free-more below b above e = grind (arith, total-tidy, total-append)
-
 emptied-odd : (r : Bool) → empty_word r % 16 ≡ 2
-emptied-odd true = refl
-emptied-odd false = refl
+emptied-odd r = grind arith
 
 module _ (t : Table) (slot : ℕ) (xs : List ℕ) (h : HasHandle t slot xs) where
   is : IsTrue (is_used (t.slots slot))
@@ -48,25 +41,22 @@ module _ (t : Table) (slot : ℕ) (xs : List ℕ) (h : HasHandle t slot xs) wher
 
   -- the handle has a block
   pub record Found : Type 0 where
-    pub block : HasBlock xs 0 t.blocks slot
+    pub block : HasBlock xs t.blocks (λ s. is_resource (t.slots s)) slot (word_at slot xs)
     pub place : word_at slot xs ≡ sizes block.below
     pub whole : word_at slot xs % 16 ≡ 0
 
-  found : HasBlock xs 0 t.blocks slot → Found
-  found b =
-      let r = block-reads xs t.blocks t.slots t.unused h.lays slot is b in
-      let e = (block-here xs t.blocks t.slots t.unused h.lays slot b).even in
-      record { block = b; place = r; whole = omega arith }
+  found : HasBlock xs t.blocks (λ s. is_resource (t.slots s)) slot (word_at slot xs) → Found
+  found b = record { block = b; place = sym b.low; whole = b.even }
 
   either : IsEmptyHandle xs t.blocks slot (flag xs t.blocks t.slots t.unused h.lays slot is).0
-      ⊎ HasBlock xs 0 t.blocks slot
+      ⊎ HasBlock xs t.blocks (λ s. is_resource (t.slots s)) slot (word_at slot xs)
   either = state xs t.blocks t.slots t.unused h.lays slot is
 
   pub leads : word_at slot xs % 16 ≡ 0 → Found
   leads e = elim either [
     | inl k ↦
         let o = emptied-odd (flag xs t.blocks t.slots t.unused h.lays slot is).0 in
-        absurd (omega (arith, emptied-reads xs t.blocks t.slots t.unused h.lays slot is k))
+        absurd (omega (arith, k.reads))
     | inr b ↦ found b
   ]
 
@@ -105,4 +95,5 @@ module _ (t : Table) (slot : ℕ) (xs : List ℕ) (h : HasHandle t slot xs) wher
 
     pub leading-free : (n : ℕ) → n ≡ size (Relocatable slot f.block.flags f.block.content)
         → free_sum (tidy (freed (is_relocatable slot) t.blocks)) ≡ free_sum t.blocks + n
-    leading-free n e = ap free_sum leading-is ∙ free-more _ _ _ refl ∙ (λ i. free_sum (sym f.block.whole i) + sym e i)
+    leading-free n e = ap free_sum leading-is ∙ (grind (arith, total-tidy, total-append)) ∙ (λ i. free_sum (sym
+        f.block.whole i) + sym e i)

@@ -1,8 +1,9 @@
 -- The nonrelocatable block at a place is made Free.
+use Rattle.block_store.proofs.Zone.Totals.{total-append}
 use Rattle.std.proofs.Common.{◌≡◌, ℕ, true, false, ◌+◌, ◌<◌, ◌≤◌, inl, inr, Some, List, [], ◌⊎◌, ◌∷◌, ◌++◌, sym, refl}
 use Rattle.std.proofs.Common.{ap, ◌∙◌, subst, arith}
-use Rattle.std.proofs.lemmas.Bool.{false≢true, ne_eqb}
-use Rattle.block_store.specs.Block.{Block, Free, Nonrelocatable, Masters, Relocatable, size, sizes, tidy, count}
+use Rattle.std.proofs.lemmas.Bool.{ne_eqb}
+use Rattle.block_store.specs.Block.{Block, Free, Nonrelocatable, size, sizes, tidy, count}
 use Rattle.block_store.specs.Block.{free_of, free_sum, is_nonrelocatable, is_masters}
 use Rattle.block_store.specs.Room.{Spot, spot_at}
 use Rattle.block_store.specs.Grow.{freed}
@@ -15,7 +16,7 @@ use Rattle.zone_bytes.specs.Table.{Lays, slot_in}
 use Rattle.zone_bytes.proofs.Tiles.Keeping.{placed-left, placed-right}
 use Rattle.zone_bytes.proofs.Blocks.InPlace.{masters-same}
 use Rattle.zone_bytes.proofs.Places.AtPlace.{whole, low}
-use Rattle.zone_bytes.proofs.Joined.ByName.{free-more, freed-one}
+use Rattle.zone_bytes.proofs.Joined.ByName.{freed-one}
 use Rattle.zone_bytes.proofs.Joined.Handles.{Gained, gained}
 use Rattle.block_store.specs.Run.{has}
 
@@ -25,20 +26,8 @@ none-placed : (place o : ℕ) (blocks : List Block) → ArePlaced o blocks → (
 none-placed place o [] p l = refl
 none-placed place o (Nonrelocatable id content ∷ blocks) p l =
     let z = size (Nonrelocatable id content) in
-    rw (ne_eqb id place (λ e. elim l [ inl a ↦ omega arith | inr b ↦ omega arith ]))
-    (none-placed place (o + z) blocks p.1 (elim l [ inl a ↦ inl (omega arith) | inr b ↦ inr (omega arith) ]))
-none-placed place o (Free n ∷ blocks) p l =
-    none-placed place (o + n) blocks p.1 (elim l [ inl a ↦ inl (omega arith) | inr b ↦ inr (omega arith) ])
-none-placed place o (Masters ∷ blocks) p l =
-    none-placed place (o + 272) blocks p.1 (elim l [ inl a ↦ inl (omega arith) | inr b ↦ inr (omega arith) ])
-none-placed place o (Relocatable slot flags content ∷ blocks) p l =
-    none-placed place (o + size (Relocatable slot flags content)) blocks p.1
-    (elim l [ inl a ↦ inl (omega arith) | inr b ↦ inr (omega arith) ])
-
-nonrelocatable-plain : (place : ℕ) (b : Block) → is_nonrelocatable place b ≡ true
-    → (is_masters b ≡ false) × (free_of b ≡ 0) × (0 < size b)
-nonrelocatable-plain place (Nonrelocatable id content) e = (refl, refl, omega arith)
-nonrelocatable-plain place _ e = absurd (false≢true e)
+    rw (ne_eqb id place (λ e. omega arith)) (none-placed place (o + z) blocks p.1 (grind arith))
+none-placed place o (b ∷ blocks) p l = none-placed place (o + size b) blocks p.1 (grind arith)
 
 -- a block that becomes Free isn't a Masters block
 pub masters-freed : (below : List Block) (b : Block) (n : ℕ) (above : List Block) → is_masters b ≡ false
@@ -54,7 +43,7 @@ module _ (xs : List ℕ) (first number : ℕ) (i : IsSound xs first number) (pla
   is = whole xs first number i place s e
 
   plain : (is_masters s.here ≡ false) × (free_of s.here ≡ 0) × (0 < size s.here)
-  plain = nonrelocatable-plain place s.here f
+  plain = grind arith
 
   pub may-free_nonrelocatable : MayRelease standing place xs
   may-free_nonrelocatable = record {
@@ -79,6 +68,6 @@ module _ (xs : List ℕ) (first number : ℕ) (i : IsSound xs first number) (pla
       → Gained xs new first number more (tidy (freed (is_nonrelocatable place) (zone_in xs)))
   nonrelocatable-gained new more lays bytes = gained _ _ _ _ _ i (freed (is_nonrelocatable place) (zone_in xs))
       (subst (λ z. Lays new (tidy z) (slot_in xs) i.unused) (sym freed-is) (lays standing may-free_nonrelocatable))
-      (ap (λ z. free_sum (tidy z)) freed-is ∙ free-more s.below s.here s.above plain.1
+      (ap (λ z. free_sum (tidy z)) freed-is ∙ (grind (arith, total-tidy, total-append))
       ∙ (λ j. free_sum (sym is j) + sym (bytes standing may-free_nonrelocatable) j))
       (grind (arith, freed-is, masters-freed, is))

@@ -1,9 +1,9 @@
 -- A walk that begins at a block of a zone that bytes lay.
-use Rattle.std.proofs.Common.{◌≡◌, ℕ, ◌+◌, ◌<◌, ◌≤◌, ◌^◌, ◌%◌, List, ◌∷◌, ◌++◌, length, drop, refl, ◌∙◌, subst, arith}
+use Rattle.std.proofs.Common.{◌≡◌, ℕ, ◌+◌, ◌<◌, ◌≤◌, ◌^◌, ◌%◌, List, ◌∷◌, ◌++◌, length, drop, arith}
 use Rattle.heap_words.specs.Words.{word_at}
 use Rattle.block_store.specs.Block.{Block, size, sizes}
 use Rattle.block_store.specs.Slot.{Slot, is_resource}
-use Rattle.zone_bytes.specs.Layout.{kind, head_of, Tile, IsSlot, names, Each, ArePlaced}
+use Rattle.zone_bytes.specs.Layout.{kind, head_of, Tile, IsSlot, names, Each}
 use Rattle.zone_bytes.specs.Stepping.{left_in, IsOnWay}
 use Rattle.zone_bytes.specs.Table.{Lays}
 use Rattle.zone_bytes.proofs.Tiles.Tiling.{span-append, length-tiles, slot-inside, tiles-split, span-whole}
@@ -30,26 +30,12 @@ module _ (xs : List ℕ) (below above : List Block) (slots : ℕ
   pub inside : place + sizes above ≡ length xs
   inside = omega (arith, span-append, whole)
 
-  parted : (w : IsOnWay place xs) × (w.rest ≡ above)
-  parted =
-      let t = tiles-split head xs below above h.lies.tiles in
-      let o : 0 + sizes below ≡ place = omega arith in (
-        record {
-          resource = λ s. is_resource (slots s);
-          rest = above;
-          walk = grind (arith, inside, span-whole);
-          placed = subst (λ j. ArePlaced j above) o (placed-right 0 below above h.placed);
-          words = words above (each-names (λ s. IsSlot s all) below above h.has_slots.slots).1;
-          small = h.small;
-        },
-        refl,
-      )
-
   pub way : IsOnWay place xs
-  way = parted.0
+  way = grind (arith, tiles-split, inside, span-whole, placed-right, words, each-names)
 
   pub left : left_in place xs ≡ above
-  left = left-is place xs parted.0 ∙ parted.1
+  unfolding way
+  left = left-is place xs way
 
 -- the block at a place, by its header
 pub record Read (xs : List ℕ) (b : Block) (place : ℕ) : Type 0 where

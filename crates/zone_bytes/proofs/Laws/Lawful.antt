@@ -1,16 +1,15 @@
 -- A zone that bytes lay keeps the laws of a store.
-use Rattle.std.proofs.Common.{◌≡◌, ℕ, false, cond, eqb, ◌+◌, ◌≤◌, inl, inr, List, [], ◌∷◌, length, drop, sym, refl, ap}
+use Rattle.std.proofs.Common.{◌≡◌, ℕ, cond, eqb, ◌+◌, ◌≤◌, inl, inr, List, [], ◌∷◌, length, drop, sym, refl, ap}
 use Rattle.std.proofs.Common.{◌∙◌, subst, arith}
-use Rattle.std.proofs.lemmas.Bool.{false≢true}
 use Rattle.std.proofs.lemmas.Bool.Decides.{eqb_tells}
 use Rattle.mac_words.specs.Size.{padded}
-use Rattle.block_store.specs.Block.{Block, Free, Nonrelocatable, Masters, Relocatable, sizes, free_sum, count}
+use Rattle.block_store.specs.Block.{Block, Free, Nonrelocatable, Relocatable, size, sizes, free_sum, count}
 use Rattle.block_store.specs.Block.{is_masters, is_relocatable, tidy}
-use Rattle.block_store.specs.Slot.{Slot, Used, is_used}
+use Rattle.block_store.specs.Slot.{Slot}
 use Rattle.block_store.specs.Compact.{Aligned, Placed}
 use Rattle.zone_bytes.specs.Layout.{head_of, Tiles, names, Apart, Each, Pairs, ArePlaced}
 use Rattle.zone_bytes.specs.Decode.{zone_in}
-use Rattle.zone_bytes.specs.Table.{Lays, IsUsed, slot_in, first_of}
+use Rattle.zone_bytes.specs.Table.{Lays, slot_in, first_of}
 use Rattle.zone_bytes.specs.Lawful.{IsLawful, IsSound, IsKept}
 use Rattle.block_store.specs.Rest.{IsRest}
 use Rattle.raw_region.specs.Memory.{Bytes}
@@ -22,40 +21,28 @@ use Rattle.zone_bytes.proofs.SlotTable.Tables.{none-other, none-apart}
 use Rattle.zone_bytes.proofs.Tiles.Leading.{each-map}
 use Rattle.block_store.proofs.Zone.Leading.{count-none}
 
--- a name that is not used is that of no block
-not-used : (st : Slot) → IsUsed st → is_used st ≡ false → ⊥
-not-used (Used r) u e = false≢true (sym e)
-not-used _ u e = u
-
 -- no two blocks have one name
 pub counted-once : (number : ℕ) (blocks : List Block) → Pairs Apart (names blocks)
     → count (is_relocatable number) blocks ≤ 1
 counted-once number [] p = omega arith
-counted-once number (Free n ∷ blocks) p = let z = counted-once number blocks p in omega arith
-counted-once number (Nonrelocatable id content ∷ blocks) p = let z = counted-once number blocks p in omega arith
-counted-once number (Masters ∷ blocks) p = let z = counted-once number blocks p in omega arith
 counted-once number (Relocatable slot flags content ∷ blocks) p = elim (eqb_tells slot number) [
   | inl t ↦
       let e : cond {A = ℕ} (eqb slot number) 1 0 ≡ 1 = ap (λ v. cond {A = ℕ} v 1 0) t.0 in
       let a = none-apart number blocks (subst (λ k. Each (Apart k) (names blocks)) t.1 p.0) in
       omega (arith, e, count-none (is_relocatable number) blocks a)
-  | inr t ↦
-      omega (arith, (ap (λ v. cond {A = ℕ} v 1 0) t.0), counted-once number blocks p.1)
+  | inr t ↦ omega (arith, (ap (λ v. cond {A = ℕ} v 1 0) t.0), counted-once number blocks p.1)
 ]
+counted-once number (_ ∷ blocks) p = omega (arith, counted-once number blocks p)
 
 pub aligned-tiles : (head : Block → List ℕ) (xs : List ℕ) (blocks : List Block) → Tiles head xs blocks → Aligned blocks
 aligned-tiles head xs [] t = tt
 aligned-tiles head xs (Free n ∷ blocks) t = (t.0.whole, aligned-tiles head _ blocks t.1)
-aligned-tiles head xs (Nonrelocatable id content ∷ blocks) t = (refl, aligned-tiles head _ blocks t.1)
-aligned-tiles head xs (Masters ∷ blocks) t = (refl, aligned-tiles head (drop 272 xs) blocks t.1)
-aligned-tiles head xs (Relocatable slot flags content ∷ blocks) t = (refl, aligned-tiles head _ blocks t.1)
+aligned-tiles head xs (b ∷ blocks) t = (refl, aligned-tiles head (drop (size b) xs) blocks t.1)
 
 pub placed-of : (o : ℕ) (blocks : List Block) → ArePlaced o blocks → Placed o blocks
 placed-of o [] p = tt
-placed-of o (Free n ∷ blocks) p = placed-of _ blocks p.1
 placed-of o (Nonrelocatable id content ∷ blocks) p = (p.0, placed-of (o + padded (length content)) blocks p.1)
-placed-of o (Masters ∷ blocks) p = placed-of (o + 272) blocks p.1
-placed-of o (Relocatable slot flags content ∷ blocks) p = placed-of (o + padded (length content)) blocks p.1
+placed-of o (b ∷ blocks) p = placed-of (o + size b) blocks p.1
 
 -- the bytes are those of a RawZone, with these blocks and slots
 pub record Made (xs : List ℕ) (first count : ℕ) (blocks : List Block) (table : ℕ → Slot) : Type 0 where
@@ -69,21 +56,6 @@ module _ (xs : List ℕ) (blocks : List Block) (slots : ℕ → Slot) (unused : 
   pub sizes-length : sizes blocks ≡ length xs
   sizes-length = sym (length-tiles (head_of _) xs blocks h.lies.tiles)
 
-  pub is-lawful : tidy blocks ≡ blocks → IsLawful xs
-  is-lawful t =
-      let z = zone-of xs blocks slots unused h in
-      let g = respelled xs blocks slots unused h in
-      record {
-        small = omega (arith, length-tiles);
-        no_block = λ number e. none-other number (zone_in xs) (each-map (λ s. IsUsed (slot_in xs s)) (λ s. s ≡ number
-            → ⊥)
-            (λ s u q. not-used (slot_in xs s) u (ap (λ k. is_used (slot_in xs k)) q ∙ e)) (names (zone_in xs)) g.used);
-        once = λ number. counted-once number (zone_in xs) g.has_slots.apart;
-        tidied = ap tidy z ∙ t ∙ sym z;
-        aligned = aligned-tiles (head_of _) xs (zone_in xs) g.lies.tiles;
-        placed = placed-of 0 (zone_in xs) g.placed;
-      }
-
   pub made : (first count : ℕ) → tidy blocks ≡ blocks → first ≡ first_of unused → count ≡ length unused
       → Made xs first count blocks slots
   made first count t f k =
@@ -96,16 +68,18 @@ module _ (xs : List ℕ) (blocks : List Block) (slots : ℕ → Slot) (unused : 
           counted = k;
           tidied = ap tidy z ∙ t ∙ sym z;
         };
-        lawful = ∣ is-lawful t ∣₁;
+        lawful = ∣ (let g = respelled xs blocks slots unused h in
+            record {
+              small = omega (arith, length-tiles);
+              no_block = λ number e. none-other number (zone_in xs) (grind (arith, each-map, g));
+              once = λ number. counted-once number (zone_in xs) g.has_slots.apart;
+              tidied = ap tidy z ∙ t ∙ sym z;
+              aligned = aligned-tiles (head_of _) xs (zone_in xs) g.lies.tiles;
+              placed = placed-of 0 (zone_in xs) g.placed;
+            }) ∣₁;
         zone = z;
         slots = slots-of xs blocks slots unused h;
       }
-
--- where nothing was changed
-pub made-same : (xs : List ℕ) (first count : ℕ) (i : IsSound xs first count) (blocks : List Block)
-    → zone_in xs ≡ blocks → Made xs first count blocks (slot_in xs)
-made-same xs first count i blocks e = made xs blocks (slot_in xs) i.unused
-    (grind arith) first count (grind arith) i.begins i.counted
 
 -- what a RawZone has beside its blocks, after a call
 pub rest-made : (old new : Bytes) (table : ℕ → Slot) (unused moves : ℕ) → ((s : ℕ) → slot_in new.bytes s ≡ table s)
@@ -117,4 +91,4 @@ rest-made old new table unused moves s k w = grind arith
 -- the invariant of a zone in bytes, whose Free bytes are counted beside it
 pub kept-made : (xs : List ℕ) (first unused free : ℕ) (blocks : List Block) (table : ℕ → Slot)
     → Made xs first unused blocks table → free ≡ free_sum blocks → IsKept xs first unused free
-kept-made xs first unused free blocks table m e = record { sound = m.sound; free_is = e ∙ sym (ap free_sum m.zone) }
+kept-made xs first unused free blocks table m e = grind arith

@@ -1,39 +1,36 @@
 -- A new block at the lower end of a Free one.
-use Rattle.std.proofs.Common.{◌≡◌, ℕ, ◌+◌, ◌-◌, ◌≤◌, IsTrue, Some, List, [], ◌∷◌, ◌++◌, length, replicate, cond, false}
-use Rattle.std.proofs.Common.{Bool, true, ◌==◌, rules, refl, sym, ap, ◌∙◌, subst, arith}
+use Rattle.std.proofs.Common.{◌≡◌, ℕ, ◌+◌, ◌-◌, ◌≤◌, IsTrue, Some, List, [], ◌∷◌, ◌++◌, replicate, cond, false}
+use Rattle.std.proofs.Common.{◌==◌, rules, refl, sym, ap, ◌∙◌, subst, arith}
 use Rattle.std.proofs.lemmas.Bool.{false≢true}
 use Rattle.std.proofs.lemmas.List.{length-replicate}
 use Rattle.std.specs.Option.{IsSomeAnd}
 use Rattle.mac_words.specs.Size.{padded}
-use Rattle.heap_words.specs.Words.{header, word, word_at}
+use Rattle.heap_words.specs.Words.{word, word_at}
 use Rattle.heap_words.specs.Headers.{header_bytes}
 use Rattle.heap_words.specs.declared.header.Header.{Header}
 use Rattle.heap_words.specs.declared.header.Tag.TheVariants as tag
-use Rattle.block_store.specs.Block.{Block, Free, Nonrelocatable, Masters, Relocatable, size, free, free_sum}
+use Rattle.block_store.specs.Block.{Block, Free, Nonrelocatable, Relocatable, size, free, free_sum}
 use Rattle.block_store.specs.Block.{is_relocatable, no_flags, count, is_masters, is_room, resized_content, tidy}
 use Rattle.block_store.specs.Room.{Spot, spot_at, filled}
 use Rattle.block_store.proofs.Zone.Totals.{total-append}
-use Rattle.block_store.proofs.Zone.Apart.{Apart, apart-above, tidy-tidy}
+use Rattle.block_store.proofs.Zone.Apart.{apart-above, tidy-tidy}
 use Rattle.block_store.proofs.Content.Sized.{Heading, unjoined-above, cut-sized, filled-free, filled-count}
 use Rattle.zone_bytes.proofs.Laws.Lawful.{Made, made}
-use Rattle.zone_bytes.specs.Layout.{head_of, names_of, flag_word}
+use Rattle.zone_bytes.specs.Layout.{head_of, names_of}
 use Rattle.zone_bytes.specs.Decode.{zone_in}
 use Rattle.zone_bytes.specs.Table.{Lays, slot_in}
 use Rattle.zone_bytes.specs.Lawful.{IsSound}
 use Rattle.zone_bytes.specs.Laying.{laid, MayLay, new_header}
 use Rattle.zone_bytes.proofs.Tiles.Spelling.{le-back}
-use Rattle.zone_bytes.proofs.Blocks.InPlace.{no-slots}
+use Rattle.zone_bytes.proofs.Blocks.InPlace.{alone, laid-lays, named-lays}
 use Rattle.zone_bytes.proofs.Places.Options.{the-spot}
 use Rattle.zone_bytes.proofs.Placed.Standing.{Standing, standing, resource_in}
-use Rattle.zone_bytes.proofs.Placed.Stretched.{laid-lays, laid-tiles}
+use Rattle.zone_bytes.proofs.Placed.Laid.{laid-tiles, laid-outside}
 use Rattle.block_store.specs.Inner.Stretch.{is_free}
 use Rattle.windows.specs.Writes.{written}
 use Rattle.block_store.specs.Run.{has}
-use Rattle.block_store.specs.Slot.{is_used, is_resource}
+use Rattle.block_store.specs.Slot.{is_used}
 use Rattle.zone_bytes.proofs.SlotTable.Slotted.{flag-kept}
-use Rattle.zone_bytes.proofs.Placed.Laid.{laid-outside}
-use Rattle.zone_bytes.proofs.Placed.Named.{named-lays}
-use Rattle.zone_bytes.proofs.Tiles.Keeping.{span-free}
 
 -- a Free block with room, at a place
 pub record Roomy (xs : List ℕ) (place need : ℕ) : Type 0 where
@@ -58,18 +55,12 @@ roomy xs first count place need i h =
       bytes = f.0;
       here = f.1;
       room = f.2;
-      head = record {
-        is = refl;
-        unjoined = unjoined-above _ _ (subst (λ b. Apart (b ∷ a.0.above)) f.1
-            (apart-above _ (a.0.here ∷ a.0.above) st.apart));
-      };
+      head = grind (arith, unjoined-above, apart-above);
     }
   where
     free-of : (b : Block) → IsTrue (is_room need b) → (n : ℕ) × (b ≡ Free n) × (need ≤ n)
     free-of (Free n) h = (n, refl, le-back need n h)
-    free-of (Nonrelocatable id content) h = absurd (false≢true h)
-    free-of Masters h = absurd (false≢true h)
-    free-of (Relocatable id flags content) h = absurd (false≢true h)
+    free-of _ h = absurd (false≢true h)
 
 -- its bytes are among the Free ones
 pub free-roomy : (xs : List ℕ) (place need : ℕ) → Roomy xs place need → need ≤ free_sum (zone_in xs)
@@ -79,15 +70,13 @@ module _ (xs : List ℕ) (place need : ℕ) (r : Roomy xs place need) where
   -- a block that isn't Free, and the rest of the bytes
   pub filled-is : (new : Block) → is_free new ≡ false → (k : ℕ) → k + size new ≡ size r.s.here
       → r.s.below ++ new ∷ (free k ++ r.s.above) ≡ filled new r.s
-  filled-is new solid k e = ap (λ m. r.s.below ++ new ∷ (free m ++ r.s.above)) (omega arith)
-      ∙ sym (cut-sized new solid r.s r.at.apart 0 r.s.above r.head (omega arith))
+  filled-is new solid k e = grind (arith, cut-sized new solid r.s r.at.apart 0 r.s.above r.head)
 
   module _ (now : List ℕ) (new : Block) (solid : is_free new ≡ false) (fits : size new ≤ need)
       (is : zone_in now ≡ filled new r.s) where
     pub carved-free : free_sum (zone_in now) + size new ≡ free_sum (zone_in xs)
-    carved-free =
-        let a = filled-free new solid r.s r.bytes r.here (omega arith) in
-        omega (arith, ap free_sum is, ap free_sum r.at.whole)
+    carved-free = omega
+        (arith, filled-free new solid r.s r.bytes r.here (omega arith), ap free_sum is, ap free_sum r.at.whole)
 
     pub carved-masters : count is_masters (zone_in now) ≡ count is_masters (zone_in xs) + cond (is_masters new) 1 0
     carved-masters =
@@ -99,11 +88,6 @@ pub may-carve : (xs : List ℕ) (place n top : ℕ) (r : Roomy xs place (padded 
     → (h : Header) → h.size ≡ padded n → h.logical ≡ n → MayLay h place top 0 xs
 may-carve xs place n top r t h z l = grind arith
 
--- its header, and its bytes
-pub zeros-head : (n z k slot flags : ℕ) → z ≡ padded n → header (z + k) n slot flags ++ resized_content n []
-    ≡ header (padded (length (replicate {A = ℕ} n 0)) + k) (length (replicate {A = ℕ} n 0)) slot flags ++ replicate n 0
-zeros-head n z k slot flags e = grind (arith, length-replicate)
-
 module _ (xs : List ℕ) (place n top z : ℕ) (r : Roomy xs place (padded n)) (t : top ≡ place + size r.s.here)
     (pz : z ≡ padded n) where
   abbrev head : Header
@@ -112,12 +96,9 @@ module _ (xs : List ℕ) (place n top z : ℕ) (r : Roomy xs place (padded n)) (
   abbrev new : Block
   new = Nonrelocatable place (replicate n 0)
 
-  pub may-lay : MayLay head place top 0 xs
-  may-lay = may-carve xs place n top r t head pz refl
-
   head-is : header_bytes head ++ resized_content n [] ≡ head_of (resource_in xs) new
   unfolding head_of
-  head-is = zeros-head n z 1 0 0 pz
+  head-is = grind (arith, length-replicate)
 
   pub nonrelocatable-lays : (first count : ℕ) (i : IsSound xs first count)
       → Lays (laid head place top 0 xs) (filled new r.s) (slot_in xs) i.unused
@@ -125,9 +106,8 @@ module _ (xs : List ℕ) (place n top z : ℕ) (r : Roomy xs place (padded n)) (
       let l : size new ≡ padded n = ap padded (length-replicate {A = ℕ} n 0) in
       subst (λ bs. Lays (laid head place top 0 xs) bs (slot_in xs) i.unused)
       (filled-is xs place (padded n) r new refl (top - place - z) (omega (arith, ap size r.here)))
-      (laid-lays _ _ _ i _ (r.s.here ∷ []) _ r.at.whole _ _ r.at.low (omega arith) (omega arith)
-      (no-slots r.s.here (ap is_masters r.here)) _ 0 may-lay new refl (l ∙ sym pz)
-      (sym (ap (λ b. names_of b ++ []) r.here)) refl head-is tt)
+      (laid-lays (alone top r.at (ap is_masters r.here) t) i head 0 (may-carve xs place n top r t head pz refl) new
+      (record { plain = refl; named = sym (ap names_of r.here); placed = λ p. refl }) (l ∙ sym pz) head-is)
 
 -- a tidy list of blocks that was laid
 pub tidy-made : (xs now : List ℕ) (first unused : ℕ) (i : IsSound xs first unused) (blocks : List Block)
@@ -142,33 +122,20 @@ module _ (xs : List ℕ) (first unused : ℕ) (i : IsSound xs first unused) (num
   abbrev pub block : Block
   block = Relocatable number no_flags (replicate n 0)
 
-  flags-are : flags ≡ flag_word no_flags (is_resource (slot_in xs number))
-  flags-are = f ∙ ap (λ v. cond v 32 0) (flag-kept xs first unused i number used none)
-      ∙ plain (is_resource (slot_in xs number))
-    where
-      plain : (r : Bool) → cond {A = ℕ} r 32 0 ≡ flag_word no_flags r
-      plain true = refl
-      plain false = refl
-
   relocatable-head : header_bytes (new_header number n flags) ++ resized_content n [] ≡ head_of (resource_in xs) block
   unfolding head_of
-  relocatable-head = grind (arith, zeros-head, flags-are)
+  relocatable-head = grind (arith, length-replicate, flag-kept xs first unused i number used none)
 
-  pub relocatable-made : Made (written number (word place)
-      (laid (new_header number n flags) place top 0 xs)) first unused
-      (filled block r.s) (slot_in xs)
+  pub relocatable-made : Made (written number (word place) (laid (new_header number n flags) place top 0 xs)) first
+      unused (filled block r.s) (slot_in xs)
   relocatable-made =
       let h = new_header number n flags in
-      let now = written number (word place) (laid h place top 0 xs) in
       let may = may-carve xs place n top r t h refl refl in
       let l : size block ≡ padded n = ap padded (length-replicate {A = ℕ} n 0) in
-      let e : top - place - padded n + size block ≡ size r.s.here = omega arith in
-      tidy-made xs now first unused i (r.s.below ++ block ∷ Free (size r.s.here - size block) ∷ r.s.above)
-      (subst (λ bs. Lays now bs (slot_in xs) i.unused) (filled-is xs place (padded n) r block refl
-      (top - place - padded n) e)
-      (named-lays xs first unused i number used none r.s.below (r.s.here ∷ []) r.s.above r.at.whole place top r.at.low
-      (omega arith) (omega arith) (no-slots r.s.here (ap is_masters r.here))
-      (ap (λ b. names_of b ++ []) r.here) no_flags (replicate n 0) (top - place - padded n) (omega
-      (arith, e, span-free))
-      (laid h place top 0 xs) (laid-outside h place top 0 xs may) (laid-tiles h place top 0 xs may
-      (resource_in xs) block l relocatable-head)))
+      let e : top - place - padded n + size block ≡ size r.s.here = omega (arith, ap size r.here) in
+      tidy-made xs _ first unused i (r.s.below ++ block ∷ Free (size r.s.here - size block) ∷ r.s.above)
+      (subst (λ bs. Lays (written number (word place) (laid h place top 0 xs)) bs (slot_in xs) i.unused)
+      (filled-is xs place (padded n) r block refl (top - place - padded n) e)
+      (named-lays (alone top r.at (ap is_masters r.here) t) (ap names_of r.here) i number used none no_flags
+      (replicate n 0) (top - place - padded n) (omega (arith, e)) (laid h place top 0 xs)
+      (laid-outside h place top 0 xs may) (laid-tiles h place top 0 xs may (resource_in xs) block l relocatable-head)))

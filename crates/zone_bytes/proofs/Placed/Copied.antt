@@ -1,5 +1,5 @@
 -- The first bytes of one block written into another.
-use Rattle.std.proofs.Common.{◌≡◌, ℕ, ◌+◌, ◌≤◌, Some, List, ◌∷◌, ◌++◌, length, take, drop, sym, ap, ◌∙◌, subst, arith}
+use Rattle.std.proofs.Common.{◌≡◌, ℕ, ◌+◌, ◌≤◌, Some, List, ◌∷◌, ◌++◌, length, take, drop, sym, ap, ◌∙◌, arith}
 use Rattle.std.proofs.lemmas.List.{length-take-le, take-take}
 use Rattle.windows.specs.Writes.{written}
 use Rattle.block_store.specs.Block.{free_sum, count, is_masters, content_of, with_content}
@@ -25,21 +25,13 @@ module _ (xs : List ℕ) (first unused source n place from : ℕ) (i : IsSound x
   abbrev new : List ℕ
   new = written (place + 16 + from) (take n (drop (source + 16) xs)) xs
 
-  length-x : length x ≡ n
-  length-x = length-take-le n (content_of t.here) l
-
-  same : new ≡ written (place + 16 + from) x xs
-  same =
-      let a = standing xs first unused source i t at in
-      ap (λ q. written (place + 16 + from) q xs) (grind (arith, take-take, held-piece))
-
   pub copied : Made new first unused (s.below
       ++ with_content (written from x (content_of s.here)) s.here ∷ s.above) (slot_in xs)
   copied =
       let a = standing xs first unused place i s to in
-      subst (λ ys. Made ys first unused (s.below
-      ++ with_content (written from x (content_of s.here)) s.here ∷ s.above) (slot_in xs))
-      (sym same) (written-in _ _ _ i _ _ x _ _ _ a.whole a.low (omega (arith, length-x)))
+      let b = standing xs first unused source i t at in
+      let e : take n (drop (source + 16) xs) ≡ x = grind (arith, take-take, held-piece) in
+      rw e (written-in _ _ _ i _ _ x _ _ _ a.whole a.low (omega (arith, length-take-le n (content_of t.here) l)))
 
   pub copied-kept : (free : ℕ) → free ≡ free_sum (zone_in xs) → IsKept new first unused free
   copied-kept free f =

@@ -18,17 +18,15 @@ unfolding zone_in
 left-zone xs = refl
 
 module _ (xs : List ℕ) (first count : ℕ) (i : IsSound xs first count) where
-  -- the blocks above some lie on from where those end
-  parted : (below above : List Block) → zone_in xs ≡ below ++ above → Lays xs (below ++ above) (slot_in xs) i.unused
-  parted below above z = subst (λ bs. Lays xs bs (slot_in xs) i.unused) z i.lays
-
   pub way-above : (below above : List Block) (place : ℕ) → zone_in xs ≡ below ++ above → sizes below ≡ place
       → IsOnWay place xs
-  way-above below above place z b = way xs below above (slot_in xs) i.unused (parted below above z) place b
+  way-above below above place z b = way xs below above (slot_in xs) i.unused
+      (subst (λ bs. Lays xs bs (slot_in xs) i.unused) z i.lays) place b
 
   pub left-above : (below above : List Block) (place : ℕ) → zone_in xs ≡ below ++ above → sizes below ≡ place
       → left_in place xs ≡ above
-  left-above below above place z b = left xs below above (slot_in xs) i.unused (parted below above z) place b
+  left-above below above place z b = left xs below above (slot_in xs) i.unused
+      (subst (λ bs. Lays xs bs (slot_in xs) i.unused) z i.lays) place b
 
   pub on-way : IsOnWay 0 xs
   on-way = way-above [] (zone_in xs) 0 refl refl
@@ -54,7 +52,7 @@ module _ (xs : List ℕ) (first count : ℕ) (i : IsSound xs first count) where
 
     pub some-here : 16 ≤ size s.here
     some-here =
-        let h = parted s.below (s.here ∷ s.above) whole in
+        let h = subst (λ bs. Lays xs bs (slot_in xs) i.unused) whole i.lays in
         (tile-at xs s.below s.here s.above (slot_in xs) i.unused h place low).some
 
     pub above-fit : sizes s.above < 2 ^ 32

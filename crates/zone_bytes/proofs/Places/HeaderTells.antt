@@ -1,10 +1,10 @@
 -- What a block holds, in its bytes.
 use Rattle.std.proofs.Common.{◌≡◌, ℕ, Bool, true, false, ◌==◌, ◌+◌, ◌%◌, ◌<◌, ◌≤◌, List, [], ◌∷◌, length, drop, sym}
-use Rattle.std.proofs.Common.{refl, ap, ◌∙◌, arith}
+use Rattle.std.proofs.Common.{ap, ◌∙◌, arith}
 use Rattle.std.proofs.lemmas.Bool.{false≢true}
 use Rattle.windows.specs.Writes.{piece}
 use Rattle.heap_words.specs.Words.{word_at}
-use Rattle.block_store.specs.Block.{Block, Free, Nonrelocatable, Masters, Relocatable, size, content_of}
+use Rattle.block_store.specs.Block.{Block, Nonrelocatable, Relocatable, size, content_of}
 use Rattle.zone_bytes.specs.Layout.{kind, head_of, Tile}
 use Rattle.zone_bytes.specs.Stepping.{left_in, IsOnWay}
 use Rattle.zone_bytes.proofs.Places.Stepped.{Stepped, stepped, header-told}
@@ -18,28 +18,19 @@ module _ (resource : ℕ → Bool) (at : ℕ) (xs : List ℕ) (small : length xs
   pub contained : (b : Block) → Tile (head_of resource b) (size b) (drop at xs) → (kind b % 2 == 1) ≡ true
       → Contained at xs b
   unfolding head_of
-  contained (Free n) t k = absurd (false≢true k)
   contained (Nonrelocatable id content) t k = grind (arith, header-told)
-  contained Masters t k = absurd (false≢true k)
   contained (Relocatable slot flags content) t k = grind (arith, header-told)
-
-pub empty : (b : Block) → (kind b % 2 == 1) ≡ false → content_of b ≡ []
-empty (Free n) k = refl
-empty Masters k = refl
-empty _ k = absurd (false≢true (sym k))
-
-same-head : (b c : Block) (bs cs : List Block) → b ∷ bs ≡ c ∷ cs → b ≡ c
-same-head b c bs cs e = cc
+  contained _ t k = absurd (false≢true k)
 
 module _ (at : ℕ) (xs : List ℕ) (t : ℕ) {n : ℕ} (o : Stepped at xs n t) where
   pub holds : (t % 2 == 1) ≡ true → Contained at xs o.here
   holds k = contained o.resource at xs o.way.small o.here o.tile (ap (λ m. m % 2 == 1) (sym o.tag) ∙ k)
 
   pub holds-none : (t % 2 == 1) ≡ false → content_of o.here ≡ []
-  holds-none k = empty _ (ap (λ m. m % 2 == 1) (sym o.tag) ∙ k)
+  holds-none k = grind arith
 
   pub same-here : (b : Block) (above : List Block) → left_in at xs ≡ b ∷ above → o.here ≡ b
-  same-here b above e = same-head _ b _ _ (sym o.is ∙ e)
+  same-here b above e = cc
 
 pub size-at : (at : ℕ) (xs : List ℕ) (w : IsOnWay at xs) → at < length xs → (n t : ℕ) → n + t ≡ word_at at xs
     → n % 16 ≡ 0 → t ≤ 3 → (b : Block) (above : List Block) → left_in at xs ≡ b ∷ above → n ≡ size b

@@ -14,7 +14,7 @@ use Rattle.block_store.specs.declared.sparing.Seen.TheVariants as see
 use Rattle.block_store.proofs.Zone.Tidy.{spot-is, spot-passes}
 use Rattle.block_store.proofs.Zone.Apart.{apart-tidied}
 use Rattle.block_store.proofs.Zone.Spots.{spot_at-spot}
-use Rattle.zone_bytes.specs.Layout.{IsSlot, Leads}
+use Rattle.zone_bytes.specs.Layout.{Leads}
 use Rattle.zone_bytes.specs.Decode.{zone_in}
 use Rattle.zone_bytes.specs.Stepping.{left_in}
 use Rattle.zone_bytes.specs.Table.{slot_in}
@@ -47,11 +47,8 @@ module _ (xs : List ℕ) (first count : ℕ) (i : IsSound xs first count) (numbe
   pub led-at : spot_at (sizes s.below) (zone_in xs) ≡ Some s
   led-at = spot_at-spot (is_relocatable number) (zone_in xs) s (apart-tidied (zone_in xs) i.tidied) e
 
-  is-slot : IsSlot number (zone_in xs)
-  is-slot = grind (arith, each-names, whole)
-
   pub led-slot : (number % 4 ≡ 0) × (number + 4 ≤ length xs)
-  led-slot = slot-in xs (zone_in xs) (slot_in xs) i.unused i.lays number is-slot
+  led-slot = slot-in xs (zone_in xs) (slot_in xs) i.unused i.lays number (grind (arith, each-names, whole))
 
   pub led-place : word_at number xs ≡ sizes s.below
   led-place =

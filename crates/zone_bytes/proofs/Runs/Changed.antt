@@ -1,5 +1,5 @@
 -- A run of a zone is changed.
-use Rattle.std.proofs.Common.{◌≡◌, ℕ, ◌+◌, Option, Some, cond, List, ◌++◌, refl, sym, ap, ◌∙◌, subst, arith}
+use Rattle.std.proofs.Common.{◌≡◌, ℕ, ◌+◌, Option, Some, List, ◌++◌, refl, sym, ap, ◌∙◌, subst, arith}
 use Rattle.std.proofs.Common.{append_assoc}
 use Rattle.std.specs.Option.{IfSome}
 use Rattle.block_store.specs.Block.{Block, total, count, is_masters, free_sum, sizes, tidy}
@@ -52,7 +52,6 @@ pub relaid-run : (change : List Block → List Block) (place : ℕ) (zone : List
     → ChangedRun change zone r new first unused (slot_in xs)
 relaid-run change place zone r e keeps t xs first unused i k is shape new d =
     let l = (run_at-parts place zone r e).loose in
-    let masters : Block → ℕ = λ b. cond (is_masters b) 1 0 in
     let laid = subst (λ z. Lays xs z (slot_in xs) i.unused) is i.lays in
     let lays = subst (λ z. Lays new z (slot_in xs) i.unused) shape (lays-run k xs new (slot_in xs) i.unused laid d) in
     let m = subst (λ z. Made new first unused z (slot_in xs)) (sym t)

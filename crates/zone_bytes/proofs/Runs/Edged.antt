@@ -1,5 +1,5 @@
 -- Edges that were noted while a run was packed or raised.
-use Rattle.std.proofs.Common.{◌≡◌, ℕ, ◌+◌, ◌-◌, ◌<◌, inl, inr, Bool, true, false, Some, cond, List, [], ◌∷◌, ◌++◌}
+use Rattle.std.proofs.Common.{◌≡◌, ℕ, ◌+◌, ◌-◌, ◌<◌, inl, inr, Bool, Some, cond, List, [], ◌∷◌, ◌++◌}
 use Rattle.std.proofs.Common.{append_assoc, refl, ◌∙◌, subst, arith}
 use Rattle.block_store.specs.Block.{Block, Free, free, free_sum, is_mover}
 use Rattle.block_store.specs.Run.{RunSpot, run_at, movers, settle}
@@ -10,7 +10,7 @@ use Rattle.zone_bytes.specs.Layout.{Each}
 use Rattle.zone_bytes.specs.Raising.{lifted}
 use Rattle.zone_bytes.specs.declared.edges.Edges.{Edges}
 use Rattle.zone_bytes.proofs.Runs.Changed.{ChangedRun}
-use Rattle.zone_bytes.proofs.Runs.Lifts.{any-movers, lifted-some}
+use Rattle.zone_bytes.proofs.Runs.Raises.{any-movers, lifted-some}
 use Rattle.block_store.proofs.Regroup.RunsAbove.{run_at-bottom}
 use Rattle.zone_bytes.proofs.Tiles.Tiling.{span-append}
 
@@ -21,8 +21,7 @@ movers-solid (b ∷ run) = cases (is_mover b) refl (movers-solid run)
   where
     cases : (t : Bool) → is_mover b ≡ t → Each IsMover (movers run) → Each IsMover
         (cond t (b ∷ movers run) (movers run))
-    cases true e s = (e, s)
-    cases false e s = s
+    cases t e s = grind arith
 
 module _ {zone : List Block} {r : RunSpot} {new : List ℕ} {first unused : ℕ} {table : ℕ → Slot} (place : ℕ)
     (edges : Edges) (e : run_at place zone ≡ Some r) where

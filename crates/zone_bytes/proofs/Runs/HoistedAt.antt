@@ -8,21 +8,19 @@ use Rattle.block_store.specs.Block.{Block, sizes, count, is_relocatable, tidy}
 use Rattle.block_store.specs.Run.{RunSpot, has, movers, high, segments, with_run}
 use Rattle.block_store.specs.Room.{spot_at}
 use Rattle.block_store.specs.Slot.{is_resource}
-use Rattle.block_store.specs.Inner.Packing.{Loose}
 use Rattle.block_store.proofs.Zone.Apart.{apart-tidied}
-use Rattle.block_store.proofs.Zone.Totals.{total-append}
+use Rattle.block_store.proofs.Zone.Keeping.{three}
 use Rattle.block_store.proofs.Regroup.Ends.{first-run, run_at-ended}
 use Rattle.block_store.proofs.Regroup.Packed.{high-total}
 use Rattle.block_store.proofs.Regroup.Regrouping.{apart-high, tidy-change}
 use Rattle.block_store.proofs.Regroup.RunLists.{run_at-is}
-use Rattle.zone_bytes.specs.Layout.{IsSlot}
 use Rattle.zone_bytes.specs.Hoisting.{Hoist, MayHoist, Hoisted}
 use Rattle.zone_bytes.specs.Decode.{zone_in}
 use Rattle.zone_bytes.specs.Table.{Lays, slot_in}
 use Rattle.zone_bytes.specs.Placing.{hoist_from, hoist_at}
 use Rattle.zone_bytes.proofs.Tiles.Tiling.{span-append}
 use Rattle.zone_bytes.proofs.Tiles.Leading.{each-names, leads-from}
-use Rattle.zone_bytes.proofs.Tiles.Keeping.{span-settle}
+use Rattle.block_store.proofs.Nonrelocatable.Placing.{sizes-settle}
 use Rattle.zone_bytes.proofs.SlotTable.Tables.{slot-in}
 use Rattle.zone_bytes.proofs.Runs.Hoists.{hoisted-instead}
 use Rattle.zone_bytes.proofs.Laws.Lawful.{sizes-length}
@@ -30,8 +28,7 @@ use Rattle.block_store.proofs.Regroup.Lifted.{RunOf, run-of, spot_at-parts, sett
 use Rattle.block_store.proofs.Regroup.Lifted.{loose-over}
 use Rattle.block_store.proofs.Regroup.Lifted as lifted
 use Rattle.zone_bytes.proofs.Runs.Changed.{ChangedRun, relaid-run}
-use Rattle.zone_bytes.proofs.Runs.RunsAt.{each-loose}
-use Rattle.zone_bytes.proofs.Runs.PackedAt.{IsPacked, packed-zone, bottom, in-run, loose}
+use Rattle.zone_bytes.proofs.Runs.PackedAt.{IsPacked, packed-zone, bottom, loose}
 
 module _ {xs : List ℕ} {first unused place top stop : ℕ} {old : List Block}
     (k : IsPacked xs first unused place top stop old) (number : ℕ)
@@ -54,29 +51,20 @@ module _ {xs : List ℕ} {first unused place top stop : ℕ} {old : List Block}
   abbrev here : ℕ
   here = sizes beneath
 
-  loose-run : Loose r.run
-  loose-run = loose k
-
   packed-parts : zone_in xs ≡ beneath ++ block ∷ (over ++ r.above)
-  packed-parts =
-      packed-zone k ∙ rw (settle-parts _ r.run cut loose-run) (simp append_assoc)
+  packed-parts = packed-zone k ∙ rw (settle-parts _ r.run cut (loose k)) (simp append_assoc)
 
   laid-was : Lays xs (beneath ++ block ∷ (over ++ r.above)) (slot_in xs) k.sound.unused
   laid-was = subst (λ l. Lays xs l (slot_in xs) k.sound.unused) packed-parts k.sound.lays
 
-  slot-here : IsSlot number (beneath ++ block ∷ (over ++ r.above))
-  slot-here = grind (arith, each-names, laid-was)
-
   -- the slot's word may be read
   pub slot-inside : (number % 4 ≡ 0) × (number + 4 ≤ length xs)
-  slot-inside = slot-in xs (beneath ++ block ∷ (over ++ r.above)) (slot_in xs) k.sound.unused laid-was number slot-here
-
-  small-here : here ≤ 134217728
-  small-here = omega (arith, sizes-length, laid-was, span-append)
+  slot-inside = slot-in xs (beneath ++ block ∷ (over ++ r.above)) (slot_in xs) k.sound.unused laid-was number (grind
+      (arith, each-names, laid-was))
 
   -- and tells where the block is
   slot-tells : word_at number xs ≡ here
-  slot-tells = read_back number here xs (omega (arith, small-here))
+  slot-tells = read_back number here xs (omega (arith, sizes-length, laid-was, span-append))
       (leads-from xs beneath (block ∷ (over ++ r.above)) here refl laid-was.lies.leads).0
 
   abbrev raw : Hoist
@@ -89,37 +77,34 @@ module _ {xs : List ℕ} {first unused place top stop : ℕ} {old : List Block}
     bytes = xs;
   }
 
-  hoist-is : hoist_at xs here ≡ raw
-  hoist-is = let s : spot_at here (zone_in xs) ≡ Some _ = ap (spot_at here) packed-parts ∙ spot_at-parts _ _ _
-      (apart-tidied _ (sym (ap tidy packed-parts) ∙ k.sound.tidied ∙ packed-parts)) in
-      let f = first-run over r.above (loose-over number r.run cut loose-run) (run_at-ended place old r k.is).stops in
-      let g : drop (length (segments (over ++ r.above)).first) (over ++ r.above) ≡ r.above =
-      ap (λ l. drop (length l) (over ++ r.above)) f ∙ drop-append_seam over r.above in
-      ap (hoist_from xs) s ∙ (λ j. record raw { over = f j; above = g j })
-
   module _ (at : ℕ) (w : at ≡ word_at number xs) where
     hoist-at : hoist_at xs at ≡ raw
-    hoist-at = ap (hoist_at xs) (w ∙ slot-tells) ∙ hoist-is
+    hoist-at = ap (hoist_at xs) (w ∙ slot-tells) ∙ (let s : spot_at here (zone_in xs) ≡ Some _ = ap (spot_at here)
+        packed-parts ∙ spot_at-parts _ _ _
+        (apart-tidied _ (sym (ap tidy packed-parts) ∙ k.sound.tidied ∙ packed-parts)) in
+        let f = first-run over r.above (loose-over number r.run cut (loose k)) (run_at-ended place old r k.is).stops in
+        let g : drop (length (segments (over ++ r.above)).first) (over ++ r.above) ≡ r.above =
+        ap (λ l. drop (length l) (over ++ r.above)) f ∙ drop-append_seam over r.above in
+        ap (hoist_from xs) s ∙ (λ j. record raw { over = f j; above = g j }))
 
     pub hoist-bytes : xs ≡ (hoist_at xs at).bytes
     hoist-bytes = sym (ap (λ z. z.bytes) hoist-at)
 
     may-move : MayHoist raw here stop
-    may-move =
-        record {
-          run = record {
-            lies = laid-was.lies;
-            slots = laid-was.has_slots;
-            bottom = refl;
-            top = (let c = ap sizes (settle-parts number r.run cut loose-run) in
-                omega (arith, span-append, c, span-settle r.run (in-run k), bottom k));
-            in_run = each-loose (block ∷ over) (
-              loose-block number r.run cut loose-run,
-              loose-over number r.run cut loose-run,
-            );
-            small = laid-was.small;
-          };
-        }
+    may-move = record {
+      run = record {
+        lies = laid-was.lies;
+        slots = laid-was.has_slots;
+        bottom = refl;
+        top = (let c = ap sizes (settle-parts number r.run cut (loose k)) in
+            omega (arith, span-append, c, sizes-settle r.run (loose k), bottom k));
+        in_run = (
+          loose-block number r.run cut (loose k),
+          loose-over number r.run cut (loose k),
+        );
+        small = laid-was.small;
+      };
+    }
 
     pub may-hoist : MayHoist (hoist_at xs at) at stop
     may-hoist = grind (arith, hoist-at, slot-tells, may-move)
@@ -131,10 +116,7 @@ module _ {xs : List ℕ} {first unused place top stop : ℕ} {old : List Block}
         let ones : Block → ℕ = λ b. cond {A = ℕ} (test b) 1 0 in
         let all : count test (r.below ++ (r.run ++ r.above)) ≡ count test old =
         ap (count test) (run_at-is place old r k.is) in
-        let a : count test (r.below ++ (r.run ++ r.above)) ≡ count test r.below + count test (r.run ++ r.above) =
-        total-append ones r.below (r.run ++ r.above) in
-        let b : count test (r.run ++ r.above) ≡ count test r.run + count test r.above =
-        total-append ones r.run r.above in
+        let a = three ones (λ n. refl) r.below r.run r.above in
         let shape : beneath ++ ((over ++ block ∷ []) ++ r.above) ≡ with_run (high test) r =
         rw (high-parts number r.run cut (omega arith)) (simp append_assoc) in
         relaid-run (high test) place old r k.is (λ of adds l. high-total of adds number r.run l)

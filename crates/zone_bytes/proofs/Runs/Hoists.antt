@@ -4,20 +4,21 @@ use Rattle.std.proofs.Common.{length-append}
 use Rattle.std.proofs.lemmas.List.{length-take-le, length-drop}
 use Rattle.windows.specs.Writes.{written, piece}
 use Rattle.windows.proofs.Pieces.{piece-written}
-use Rattle.heap_words.specs.Words.{word_at}
+use Rattle.heap_words.specs.declared.header.Header.{Header}
 use Rattle.block_store.specs.Block.{Block, size}
 use Rattle.zone_bytes.specs.Layout.{head_of, Tiles}
 use Rattle.zone_bytes.specs.Splicing.{SameOutside}
 use Rattle.zone_bytes.specs.Pointing.{IsMoved, Pointed}
 use Rattle.zone_bytes.specs.Hoisting.{Hoist, unhoisted, hoisted_run, MayHoist, Hoisted}
-use Rattle.zone_bytes.proofs.Tiles.Heads.{Next, header-there, header-tells}
+use Rattle.zone_bytes.proofs.Tiles.Heads.{Next, IsRead, read-tells, first-reads}
 use Rattle.zone_bytes.proofs.Tiles.Tiling.{span-append, span-whole, tile-take, tiles-append, tiles-one}
-use Rattle.zone_bytes.proofs.Tiles.Leading.{each-append, names-append}
+use Rattle.block_store.proofs.Regroup.Packed.{loose-append}
+use Rattle.zone_bytes.proofs.Tiles.Leading.{names-append}
 use Rattle.zone_bytes.proofs.Tiles.Splices.{tiles-parts, outside-written}
 use Rattle.zone_bytes.proofs.Tiles.Keeping.{Instead, others-now}
 use Rattle.zone_bytes.proofs.Tiles.Permuted.{turned}
-use Rattle.zone_bytes.proofs.Runs.Packed.{run-bounds, run-moved}
-use Rattle.zone_bytes.proofs.Runs.Moved as moved
+use Rattle.zone_bytes.proofs.Runs.Packed.{run-bounds, run-moved, others-moved}
+use Rattle.zone_bytes.proofs.Runs.Packed as packed
 
 module _ (z : Hoist) (place stop : ℕ) (h : MayHoist z place stop) where
   abbrev was : List Block
@@ -37,7 +38,7 @@ module _ (z : Hoist) (place stop : ℕ) (h : MayHoist z place stop) where
   turned-bytes = drop (size z.block) run-bytes ++ take (size z.block) run-bytes
 
   pub hoisted-instead : Instead z.below was (hoisted_run z) z.above
-  hoisted-instead = search (rules, each-append, span-append, names-append, turned)
+  hoisted-instead = search (rules, loose-append, span-append, names-append, turned)
 
   parts : Tiles head (take place z.bytes) z.below × Tiles head (drop place z.bytes) (was ++ z.above)
       × Tiles head run-bytes was × Tiles head (drop stop z.bytes) z.above
@@ -48,20 +49,14 @@ module _ (z : Hoist) (place stop : ℕ) (h : MayHoist z place stop) where
 
   -- the block's header may be read
   pub next : Next z.bytes place
-  next = header-there z.resource z.bytes place h.run.small z.block parts.1.0 wide.2
+  next = grind (arith, first-reads, length-drop, parts, wide)
 
   -- and tells its size
-  pub size-read : (n t : ℕ) → n + t ≡ word_at place z.bytes → n % 16 ≡ 0 → t ≤ 3 → n ≡ size z.block
-  size-read n t e w l = (header-tells z.resource z.bytes place h.run.small z.block parts.1.0 n t e w l).0
-
-  length-run : length run-bytes ≡ stop - place
-  length-run = length-take-le (stop - place) (drop place z.bytes) (omega (arith, wide, length-drop place z.bytes))
+  pub size-read : (r : Header) → IsRead place z.bytes r → r.size ≡ size z.block
+  size-read r e = (read-tells z.resource z.bytes place h.run.small r e z.block parts.1.0).0
 
   length-turned : length turned-bytes ≡ stop - place
   length-turned = grind (arith, length-append, length-take-le, wide, length-drop)
-
-  turned-tiles : Tiles head turned-bytes (hoisted_run z)
-  turned-tiles = grind (arith, parts, tiles-append, tiles-one, length-take-le, tile-take)
 
   -- the bytes before the slots are rewritten
   abbrev mid : List ℕ
@@ -74,17 +69,17 @@ module _ (z : Hoist) (place stop : ℕ) (h : MayHoist z place stop) where
       outside-written place stop _ _ place turned-bytes (omega arith) (omega arith) (grind arith)
 
   new-tiles : Tiles head (piece place (stop - place) mid) (hoisted_run z)
-  new-tiles = rw (piece-written place turned-bytes z.bytes _ (sym length-turned) (omega (arith, wide))) turned-tiles
+  new-tiles = rw (piece-written place turned-bytes z.bytes _ (sym length-turned) (omega (arith, wide)))
+      (grind (arith, parts, tiles-append, tiles-one, length-take-le, tile-take))
 
   pub is-moved : IsMoved (record (unhoisted z) { run = hoisted_run z; bytes = mid }) place stop
-  is-moved = moved.is-moved (unhoisted z) place stop run (hoisted_run z) hoisted-instead mid outside new-tiles
+  is-moved = packed.is-moved (unhoisted z) place stop run (hoisted_run z) hoisted-instead mid outside new-tiles
 
   pub is-hoisted : (new : List ℕ) → Pointed (record (unhoisted z) { run = hoisted_run z; bytes = mid }) new → Hoisted
       z new
   is-hoisted new p = record {
     lies = p.lies;
     others = others-now hoisted-instead z.bytes mid new
-        (moved.others-moved (unhoisted z) place stop run (hoisted_run z) hoisted-instead mid outside new-tiles)
-        p.others;
+        (others-moved (unhoisted z) place stop run (hoisted_run z) hoisted-instead mid outside new-tiles) p.others;
     kept = p.kept ∙ outside.kept;
   }

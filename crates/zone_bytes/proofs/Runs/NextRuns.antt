@@ -1,5 +1,5 @@
 -- The run above a run of a RawZone.
-use Rattle.std.proofs.Common.{◌≡◌, ℕ, ◌+◌, ◌≤◌, Option, Some, None, List, ◌++◌, sym, ap, ◌∙◌, arith}
+use Rattle.std.proofs.Common.{◌++◌, ◌≡◌, ℕ, ◌+◌, ◌≤◌, Option, Some, None, List, sym, ap, ◌∙◌, arith}
 use Rattle.std.specs.Option.{option_map}
 use Rattle.block_store.specs.Block.{Block, sizes}
 use Rattle.block_store.specs.Compact.{beyond, place_behind, next_run}
@@ -11,7 +11,7 @@ use Rattle.zone_bytes.specs.Decode.{zone_in}
 use Rattle.zone_bytes.specs.Lawful.{IsSound}
 use Rattle.zone_bytes.specs.Stepping.{left_in}
 use Rattle.zone_bytes.proofs.Places.AtPlace.{left-above}
-use Rattle.zone_bytes.proofs.Runs.RunsAt.{whole, in-run, left-fits, loose-each}
+use Rattle.zone_bytes.proofs.Runs.RunsAt.{whole, in-run, left-fits}
 use Rattle.zone_bytes.proofs.Tiles.Tiling.{span-append}
 
 -- the place behind the run that comes first, as a walk finds it
@@ -25,25 +25,24 @@ module _ (xs : List ℕ) (first count : ℕ) (i : IsSound xs first count) (place
 
   behind : BehindFirst walk ≡ place_behind (sizes r.run) r.above
   behind =
-      let l = loose-each r.run (in-run xs first count i place r e) in
+      let l = in-run xs first count i place r e in
       let s = (run_at-ended place (zone_in xs) r e).stops in
       ap BehindFirst walk-is ∙ (λ j. place_behind (sizes (first-run _ _ l s j)) (beyond-first _ _ l s j))
 
-  next-is : next_run r ≡ option_map (λ (d : ℕ). place + d) (BehindFirst walk)
-  next-is = grind (arith, run_at-bottom, behind)
+  next-is : (o : Option ℕ) → o ≡ BehindFirst walk → option_map (λ (d : ℕ). place + d) o ≡ next_run r
+  next-is o n = grind (arith, run_at-bottom, behind)
 
   pub next-none : None ≡ BehindFirst walk → None ≡ next_run r
-  next-none n = ap (option_map (λ (d : ℕ). place + d)) n ∙ sym next-is
+  next-none = next-is None
 
   pub next-some : (d : ℕ) → Some d ≡ BehindFirst walk → Some (place + d) ≡ next_run r
-  next-some d n = ap (option_map (λ (d : ℕ). place + d)) n ∙ sym next-is
+  next-some d = next-is (Some d)
 
   pub next-fits : (d : ℕ) → Some d ≡ BehindFirst walk → place + d ≤ 134217728
-  next-fits d n =
-      omega (
-        arith,
-        (behind-within (sizes r.run) r.above d (sym (n ∙ behind))),
-        left-fits xs first count i place r e,
-        ap sizes (sym w ∙ walk-is),
-        span-append,
-      )
+  next-fits d n = omega (
+    arith,
+    behind-within (sizes r.run) r.above d (sym (n ∙ behind)),
+    left-fits xs first count i place r e,
+    ap sizes (sym w ∙ walk-is),
+    span-append,
+  )

@@ -1,33 +1,39 @@
 -- The blocks of a run are passed one after another, and moved down or left in their places.
-use Rattle.std.proofs.Common.{◌≡◌, ℕ, ◌+◌, ◌-◌, ◌%◌, ◌≤◌, ◌⊎◌, inl, inr, List, [], ◌∷◌, ◌++◌, rules, length, take, drop}
-use Rattle.std.proofs.Common.{sym, refl, ap, ◌∙◌, subst, arith, append_assoc, ◌<◌}
-use Rattle.std.proofs.lemmas.List.{append-nil, length-take-le, drop-drop}
+use Rattle.std.proofs.Common.{◌≡◌, ℕ, ◌+◌, ◌-◌, ◌%◌, ◌≤◌, ◌<◌, ◌⊎◌, inl, inr, true, false, List, [], ◌∷◌}
+use Rattle.std.proofs.Common.{◌++◌, rules, length, take, drop, sym, refl, ap, ◌∙◌, subst, arith, append_assoc}
+use Rattle.std.proofs.lemmas.List.{append-nil, length-take-le, length-drop, drop-drop}
+use Rattle.std.proofs.lemmas.Bool.{false≢true}
 use Rattle.windows.specs.Writes.{written, piece}
+use Rattle.heap_words.specs.Headers.{tag_number}
 use Rattle.heap_words.specs.Words.{word}
+use Rattle.heap_words.specs.declared.header.Header.{Header}
 use Rattle.heap_words.proofs.Words.{length-word}
-use Rattle.windows.proofs.Pieces.{length-written, take-written_at, drop-written_above, piece-written, written-same}
+use Rattle.windows.proofs.Pieces.{length-written, take-written_at, take-written_below, take-written_above}
+use Rattle.windows.proofs.Pieces.{drop-written_below, drop-written_above, piece-written, written-same}
 use Rattle.block_store.specs.declared.flags.Flags.{Flags}
-use Rattle.block_store.specs.Block.{Block, Free, Relocatable, size, sizes, free_sum}
-use Rattle.block_store.specs.Run.{movers}
-use Rattle.zone_bytes.specs.Layout.{head_of, Tiles, IsSlot, names, Apart, Each, Pairs}
-use Rattle.zone_bytes.specs.Settling.{Lay, InRun, IsRunFrom, Passing}
+use Rattle.block_store.specs.Block.{Block, Free, Relocatable, size, sizes, free_sum, is_mover}
+use Rattle.block_store.specs.Run.{in_run, movers}
+use Rattle.block_store.specs.Inner.Packing.{Loose}
+use Rattle.block_store.proofs.Regroup.Packed.{loose-parts}
+use Rattle.zone_bytes.specs.Layout.{head_of, kind, Tile, Tiles, IsSlot, names, Apart, Each, Leads}
+use Rattle.zone_bytes.specs.Settling.{Lay, IsRunFrom, EndsRun, Passing, SameOthers, runs_on}
 use Rattle.zone_bytes.specs.Splicing.{SameOutside}
 use Rattle.zone_bytes.specs.Pointing.{IsMoved}
-use Rattle.zone_bytes.proofs.Tiles.Heads.{Next, next-there, length-masters}
+use Rattle.zone_bytes.proofs.Tiles.Heads.{Next, next-there, length-masters, IsRead, read-tells, relocatable-told}
+use Rattle.zone_bytes.proofs.Tiles.Decoding.{flag_word-small}
 use Rattle.zone_bytes.proofs.Tiles.Tiling.{span-append, slot-inside, slot-append_left, slot-append_right, slot-beside}
-use Rattle.zone_bytes.proofs.Tiles.Tiling.{span-whole, length-tiles, tile-take, tiles-append, tiles-one}
-use Rattle.zone_bytes.proofs.Tiles.Tiling.{tiles-slot-beside}
-use Rattle.zone_bytes.proofs.Tiles.Leading.{Clear, each-left, each-right, each-names, pairs-before, pairs-after}
-use Rattle.zone_bytes.proofs.Tiles.Leading.{apart-turned, names-append, piece-clear, leads-append, leads-parts}
-use Rattle.zone_bytes.proofs.Tiles.Leading.{leads-same}
-use Rattle.zone_bytes.proofs.Tiles.Splices.{tiles-parts, outside-written, piece-outside}
-use Rattle.zone_bytes.proofs.Tiles.Keeping.{run-no_slot, span-movers}
+use Rattle.zone_bytes.proofs.Tiles.Tiling.{span-whole, length-tiles, tile-take, tiles-append, tiles-one, slot-even}
+use Rattle.zone_bytes.proofs.Tiles.Tiling.{tiles-slot}
+use Rattle.zone_bytes.proofs.Tiles.Leading.{Clear, each-left, each-map, each-right, each-names, apart-turned}
+use Rattle.zone_bytes.proofs.Tiles.Leading.{names-append, piece-clear, leads-append, leads-same, leads-left}
+use Rattle.zone_bytes.proofs.Tiles.Leading.{leads-right}
+use Rattle.zone_bytes.proofs.Tiles.Permuted.{SameNames, each-front, front}
+use Rattle.zone_bytes.proofs.Tiles.Splices.{tiles-parts, tiles-splice, outside-written, piece-outside, leads-outside}
+use Rattle.zone_bytes.proofs.Tiles.Keeping.{run-no_slot, span-movers, Instead, slots-now}
 use Rattle.zone_bytes.proofs.SlotTable.Tables.{apart-clear, each-both}
 
 pub run-moved : (lay : Lay) (place stop : ℕ) → IsRunFrom lay place stop → IsMoved lay place stop
-run-moved lay place stop r =
-    let l = leads-parts lay.bytes lay.below lay.run lay.above place stop r.bottom r.top r.lies.leads in
-    grind arith
+run-moved lay place stop r = grind (arith, leads-right, leads-left)
 
 -- where the blocks lie that were passed, and those that were not
 pub record Bounds (lay : Lay) (place stop from to : ℕ) (xs : List ℕ) (gone moved rest : List Block) : Type 0 where
@@ -37,8 +43,21 @@ pub record Bounds (lay : Lay) (place stop from to : ℕ) (xs : List ℕ) (gone m
   pub inside : stop ≤ length xs
   pub small : length xs ≤ 134217728
   pub evens : (to % 16 ≡ 0) × (from % 16 ≡ 0)
-  pub gone_in : Each InRun gone
-  pub rest_in : Each InRun rest
+  pub gone_in : Loose gone
+  pub rest_in : Loose rest
+
+-- the next block of a run, of n bytes, is relocatable, and comes down
+pub record NextMover (lay : Lay) (gap stop from to : ℕ) (xs : List ℕ) (gone moved rest : List Block) (n slot : ℕ)
+    : Type 0 where
+  pub inside : from + n ≤ stop
+  pub slot_in : (slot % 4 ≡ 0) × (slot + 4 ≤ length xs)
+  pub block : Block
+  pub others : List Block
+  pub mover : is_mover block ≡ true
+  pub led : Leads from rest xs → (piece slot 4 xs ≡ word from) × Leads (from + n) others
+      (written slot (word (to + gap)) (written to (piece from n xs) xs))
+  pub state : Passing lay gap (from + n) (to + n) (written slot (word (to + gap)) (written to (piece from n xs) xs))
+      (gone ++ block ∷ []) (moved ++ block ∷ []) others
 
 module _ (lay : Lay) (place stop : ℕ) (r : IsMoved lay place stop) where
   abbrev all : List Block
@@ -50,37 +69,24 @@ module _ (lay : Lay) (place stop : ℕ) (r : IsMoved lay place stop) where
   pub run-bounds : (place ≤ stop) × (stop + sizes lay.above ≡ length lay.bytes)
   run-bounds = grind (arith, length-tiles, span-append)
 
-  -- a slot is below the run or above it
-  pub slot-spot : (s : ℕ) → IsSlot s all
-      → ((s + 4 ≤ place) × IsSlot s lay.below) ⊎ ((stop ≤ s) × IsSlot (s - stop) lay.above)
-  slot-spot s = slot-beside s _ _ _ _ _ (run-no_slot _ lay.run r.in_run) r.bottom r.top
-
   -- so it is clear of a write inside the run
   pub slot-clear : (at n : ℕ) → place ≤ at → at + n ≤ stop → (s : ℕ) → IsSlot s all → Clear at n s
-  slot-clear at n l h s i = elim (slot-spot s i) [ inl j ↦ inl (omega arith) | inr j ↦ inr (omega arith) ]
+  slot-clear at n l h s i = elim (slot-beside s _ _ _ _ _ (run-no_slot _ lay.run r.in_run) r.bottom r.top i) [
+    | inl j ↦ inl (omega arith)
+    | inr j ↦ inr (omega arith)
+  ]
 
   pub start : (gap : ℕ) → Passing lay gap place place lay.bytes [] [] lay.run
   start gap =
       let t = tiles-parts head lay.bytes lay.below lay.run lay.above place stop r.bottom r.top r.tiles in
+      let h : Leads (sizes lay.below + sizes lay.run) lay.above lay.bytes =
+      subst (λ k. Leads k lay.above lay.bytes) (omega arith) r.high in
       search rules
 
   module _ {gap from to : ℕ} {xs : List ℕ} {gone moved : List Block} where
     pub bounds : {rest : List Block} → Passing lay gap from to xs gone moved rest
         → Bounds lay place stop from to xs gone moved rest
-    bounds {rest} q =
-        let s = ap sizes q.split in
-        let n = span-append gone rest in
-        let b = run-bounds in
-        let a = span-append lay.below (lay.run ++ lay.above) in
-        let c = span-append lay.run lay.above in
-        let e : from + sizes rest ≡ stop = omega arith in
-        let inside : stop ≤ length xs = omega arith in
-        let t = length-take-le to xs (omega arith) in
-        let m : sizes (lay.below ++ moved) ≡ to = omega (arith, length-tiles head _ _ q.low) in
-        let w = span-whole head lay.bytes all r.tiles in
-        let v = span-whole head _ _ q.high in
-        let in-run = subst (Each InRun) (sym q.split) r.in_run in
-        grind (arith, span-append, span-whole, each-left, each-right)
+    bounds {rest} q = grind (arith, run-bounds, span-append, length-take-le, length-tiles, loose-parts, span-whole)
 
     -- a block's header may be read
     pub passing-next : {rest : List Block} → Passing lay gap from to xs gone moved rest → from < length xs → Next xs
@@ -92,18 +98,7 @@ module _ (lay : Lay) (place stop : ℕ) (r : IsMoved lay place stop) where
     -- a Free block is left out
     pub step-free : {rest : List Block} (n : ℕ) → Passing lay gap from to xs gone moved (Free n ∷ rest)
         → Passing lay gap (from + n) to xs (gone ++ Free n ∷ []) moved rest
-    step-free {rest} n q = record {
-      split = append_assoc gone (Free n ∷ []) rest ∙ q.split;
-      named = q.named ∙ sym (append-nil (names gone)) ∙ sym (names-append gone (Free n ∷ []));
-      low = q.low;
-      high = subst (λ k. Tiles head k (rest ++ lay.above)) (drop-drop n from xs) q.high.1;
-      up = omega (arith, span-append gone (Free n ∷ []));
-      down = omega arith;
-      kept = q.kept;
-      lead_low = q.lead_low;
-      lead_moved = q.lead_moved;
-      others = q.others;
-    }
+    step-free {rest} n q = grind (arith, append_assoc, append-nil, names-append, drop-drop, span-append)
 
     module _ (b : Block) {rest : List Block} (q : Passing lay gap from to xs gone moved (b ∷ rest)) where
       -- a block comes down
@@ -129,13 +124,6 @@ module _ (lay : Lay) (place stop : ℕ) (r : IsMoved lay place stop) where
           rw (take-written_at to (piece from (size b) xs) xs (to + size b) (omega arith) (omega arith))
           (rw (← append_assoc lay.below moved (b ∷ [])) (tiles-append head _ _ _ _ q.low one))
 
-      slid-high : Tiles head (drop (from + size b) slid) (rest ++ lay.above)
-      slid-high =
-          let p = bounds q in
-          let l = length-piece in
-          rw (drop-written_above to (piece from (size b) xs) xs (from + size b) (omega arith) (omega arith))
-          (subst (λ k. Tiles head k (rest ++ lay.above)) (drop-drop (size b) from xs) q.high.1)
-
   -- a Free block stays where it is
   pub step-stay : {from : ℕ} {xs : List ℕ} {gone rest : List Block} (n : ℕ)
       → Passing lay 0 from from xs gone gone (Free n ∷ rest)
@@ -154,6 +142,7 @@ module _ (lay : Lay) (place stop : ℕ) (r : IsMoved lay place stop) where
         kept = f.kept;
         lead_low = f.lead_low;
         lead_moved = leads-append xs _ gone (Free n ∷ []) q.lead_moved (tt, tt);
+        lead_high = f.lead_high;
         others = f.others;
       }
 
@@ -163,12 +152,15 @@ module _ (lay : Lay) (place stop : ℕ) (r : IsMoved lay place stop) where
     abbrev block : Block
     block = Relocatable slot flags content
 
-    abbrev pub done : List ℕ
+    abbrev done : List ℕ
     done = written slot (word (to + gap)) (slid block q)
 
-    -- the names with this block's slot in their middle
-    named : names (lay.below ++ moved) ++ slot ∷ names (rest ++ lay.above) ≡ names all
-    named = rw (← q.split) (simp (names-append, append_assoc, q.named))
+    -- the names with this block's slot first
+    named : SameNames (names all) (slot ∷ (names (lay.below ++ moved) ++ names (rest ++ lay.above)))
+    named =
+        let e : names all ≡ names (lay.below ++ moved) ++ slot ∷ names (rest ++ lay.above) =
+        rw (← q.split) (simp (names-append, append_assoc, q.named)) in
+        rw e (front (names (lay.below ++ moved)) slot (names (rest ++ lay.above)))
 
     abbrev P : ℕ → Type 0
     P s = IsSlot s all
@@ -176,14 +168,11 @@ module _ (lay : Lay) (place stop : ℕ) (r : IsMoved lay place stop) where
     abbrev Kept : ℕ → Type 0
     Kept s = piece s 4 done ≡ piece s 4 xs
 
-    are-slots : Each P (names (lay.below ++ moved) ++ slot ∷ names (rest ++ lay.above))
-    are-slots = subst (Each P) (sym named) r.slots.slots
+    are-slots : P slot × Each P (names (lay.below ++ moved) ++ names (rest ++ lay.above))
+    are-slots = each-front P named r.slots.slots
 
-    pub is-slot : IsSlot slot all
-    is-slot = (each-right P _ (slot ∷ names (rest ++ lay.above)) are-slots).0
-
-    pub slot-fits : slot + 4 ≤ length xs
-    slot-fits = omega (arith, slot-inside slot all is-slot, length-tiles head lay.bytes all r.tiles)
+    slot-fits : slot + 4 ≤ length xs
+    slot-fits = omega (arith, slot-inside slot all are-slots.0, length-tiles head lay.bytes all r.tiles)
 
     -- the other slots hold what they held
     others-kept : (s : ℕ) → IsSlot s all → Apart slot s → Kept s
@@ -191,35 +180,48 @@ module _ (lay : Lay) (place stop : ℕ) (r : IsMoved lay place stop) where
         (apart-clear slot (to + gap) s a) ∙ piece-outside place stop xs (slid block q) s (slid-outside block q)
         (slot-clear place (stop - place) (omega arith) (omega arith) s i)
 
-    kept-low : Each Kept (names (lay.below ++ moved))
-    kept-low = each-both P (Apart slot) Kept others-kept _ (each-left P _ _ are-slots)
-        (pairs-before slot _ (names (rest ++ lay.above)) (subst (Pairs Apart) (sym named) r.slots.apart))
+    kept : Each Kept (names (lay.below ++ moved) ++ names (rest ++ lay.above))
+    kept = each-both P (Apart slot) Kept others-kept _ are-slots.1 (named.apart r.slots.apart).0
 
-    pub kept-high : Each Kept (names (rest ++ lay.above))
-    kept-high = each-both P (Apart slot) Kept others-kept _
-        (each-right P _ (slot ∷ names (rest ++ lay.above)) are-slots).1 (grind (arith, pairs-after, named))
+    kept-high : Each Kept (names rest) × Each Kept (names lay.above)
+    kept-high = each-names Kept rest lay.above (each-right Kept (names (lay.below ++ moved)) _ kept)
 
     done-tiles : Tiles head (take (to + size block) done) (lay.below ++ (moved ++ block ∷ []))
         × Tiles head (drop (from + size block) done) (rest ++ lay.above)
     done-tiles =
         let p = bounds q in
-        tiles-slot-beside head (length-masters lay.resource) (slid block q) (word (to + gap)) slot (to + size block)
-        (from + size block) _ _ (length-word (to + gap)) (omega arith) (omega (arith, length-slid block q))
-        (elim (slot-spot slot is-slot) [
-          | inl j ↦ inl (slot-append_left slot lay.below _ j.1)
+        let f = slot-fits in
+        let l = length-slid block q in
+        let m = length-masters lay.resource in
+        let ys = word (to + gap) in
+        let w = length-word (to + gap) in
+        let zs = slid block q in
+        let low = slid-low block q in
+        let high : Tiles head (drop (from + size block) zs) (rest ++ lay.above) =
+        search (rules, bounds, length-piece, drop-written_above, drop-drop) in
+        elim (slot-beside slot _ _ _ _ _ (run-no_slot _ lay.run r.in_run) r.bottom r.top are-slots.0) [
+          | inl j ↦ (
+            rw (take-written_above slot ys zs (to + size block) (omega arith) (omega arith))
+                (tiles-slot head m _ ys slot _ w (slot-append_left slot lay.below _ j.1) low),
+            rw (drop-written_above slot ys zs (from + size block) (omega arith) (omega arith)) high,
+          )
           | inr j ↦
-              let e : slot - stop ≡ slot - (from + size block) - sizes rest = omega arith in
-              inr (omega arith, slot-append_right _ rest _ (omega arith) (subst (λ k. IsSlot k lay.above) e j.1))
-        ]) (slid-low block q) (slid-high block q)
+              let e : slot - stop ≡ slot - (from + size block) - sizes rest = omega arith in (
+                rw (take-written_below slot ys zs (to + size block) (omega arith) (omega arith)) low,
+                rw (drop-written_below slot ys zs (from + size block) (omega arith) (omega arith))
+                    (tiles-slot head m _ ys _ _ w (slot-append_right _ rest _ (omega arith)
+                    (subst (λ k. IsSlot k lay.above) e j.1)) high),
+              )
+        ]
 
-    pub step-move : Passing lay gap (from + size block) (to + size block) done (gone ++ block ∷ [])
-        (moved ++ block ∷ []) rest
+    step-move : Passing lay gap (from + size block) (to + size block) done (gone ++ block ∷ []) (moved ++ block ∷ [])
+        rest
     step-move =
         let p = bounds q in
         let f = slot-fits in
         let l = length-slid block q in
         let w = length-word (to + gap) in
-        let low = each-names Kept lay.below moved kept-low in
+        let low = each-names Kept lay.below moved (each-left Kept _ (names (rest ++ lay.above)) kept) in
         let e : to + gap ≡ sizes lay.below + gap + sizes moved = omega (arith, span-append lay.below moved) in
         record {
           split = append_assoc gone (block ∷ []) rest ∙ q.split;
@@ -233,10 +235,94 @@ module _ (lay : Lay) (place stop : ℕ) (r : IsMoved lay place stop) where
           lead_low = leads-same xs done 0 lay.below low.0 q.lead_low;
           lead_moved = leads-append done _ moved (block ∷ []) (leads-same xs done _ moved low.1 q.lead_moved)
               (piece-written slot _ (slid block q) 4 (sym w) (omega arith) ∙ ap word e, tt);
-          others = λ s i a. others-kept s i (apart-turned s slot
-              (each-right (Apart s) _ (slot ∷ names (rest ++ lay.above))
-              (subst (Each (Apart s)) (sym named) a)).0) ∙ q.others s i a;
+          lead_high = leads-same xs done _ lay.above kept-high.1 q.lead_high;
+          others = λ s i a. others-kept s i (apart-turned s slot (each-front (Apart s) named a).0)
+              ∙ q.others s i a;
         }
+
+  -- whether the next block belongs to a run, as its header tells
+  module _ (from : ℕ) (xs : List ℕ) (h : Header) (e : IsRead from xs h) where
+    runs-told : (b : Block) → length xs ≤ 134217728 → Tile (head b) (size b) (drop from xs)
+        → runs_on (tag_number h.tag) h.flags ≡ in_run b
+    runs-told b small t =
+        ap (λ j. runs_on j h.flags) (read-tells lay.resource xs from small h e b t).1 ∙ of-kind b t
+      where
+        of-kind : (b : Block) → Tile (head b) (size b) (drop from xs) → runs_on (kind b) h.flags ≡ in_run b
+        of-kind (Relocatable slot flags content) t =
+            let m = (relocatable-told lay.resource from xs slot flags content t).marked
+            (omega (arith, flag_word-small flags (lay.resource slot))) in
+            grind arith
+        of-kind _ t = refl
+
+  -- and what it is
+  module _ {gap from to : ℕ} {xs : List ℕ} {gone moved : List Block} (h : Header) (e : IsRead from xs h) where
+    pub next-mover : (rest : List Block) → Passing lay gap from to xs gone moved rest → (rest ≡ [] → ⊥)
+        → tag_number h.tag ≡ 3 → NextMover lay gap stop from to xs gone moved rest h.size h.slot
+    next-mover [] q some k = absurd (some refl)
+    next-mover (Relocatable slot flags content ∷ rest) q some k =
+        let b = bounds q in
+        let t = read-tells lay.resource xs from b.small h e _ q.high.0 in
+        let fits = slot-fits slot flags content q in
+        let mine : h.slot ≡ slot =
+        e.slot ∙ (relocatable-told lay.resource from xs slot flags content q.high.0).named (omega arith) in
+        let is-slot = (are-slots slot flags content q).0 in
+        rw (t.0, mine) (record {
+          inside = omega arith;
+          slot_in = (slot-even head _ slot all r.tiles is-slot, fits);
+          block = Relocatable slot flags content;
+          others = rest;
+          mover = b.rest_in.0;
+          led = λ l. (l.0, leads-same xs _ _ rest (kept-high slot flags content q).0 l.1);
+          state = step-move slot flags content q;
+        })
+    next-mover (b ∷ rest) q some k =
+        absurd (omega (arith, read-tells lay.resource xs from (bounds q).small h e _ q.high.0))
+
+    pub next-free : (rest : List Block) → Passing lay gap from to xs gone moved rest → (rest ≡ [] → ⊥)
+        → tag_number h.tag < 3 → (others : List Block) × (rest ≡ Free h.size ∷ others)
+    next-free [] q some k = absurd (some refl)
+    next-free (Free m ∷ rest) q some k =
+        (rest, ap (λ j. Free j ∷ rest) (sym (read-tells lay.resource xs from (bounds q).small h e _ q.high.0).0))
+    next-free (b ∷ rest) q some k =
+        let t = read-tells lay.resource xs from (bounds q).small h e _ q.high.0 in
+        let r = (bounds q).rest_in in
+        absurd (grind arith)
+
+    -- no block of the run is left if it does not
+    pub beyond : (rest : List Block) → Passing lay gap from to xs gone moved rest
+        → false ≡ runs_on (tag_number h.tag) h.flags → rest ≡ []
+    beyond [] q b = refl
+    beyond (c ∷ rest) q b =
+        let p = bounds q in absurd (false≢true (b ∙ runs-told from xs h e c p.small q.high.0 ∙ p.rest_in.0))
+
+    -- and some block is left if it does
+    pub within : Passing lay gap from to xs gone moved [] → EndsRun lay.above → from < length xs
+        → true ≡ runs_on (tag_number h.tag) h.flags → ⊥
+    within q o l b = outside lay.above (bounds q).small q.high o
+      where
+        outside : (above : List Block) → length xs ≤ 134217728 → Tiles head (drop from xs) above → EndsRun above → ⊥
+        outside [] small t o = omega (arith, length-drop from xs, ap length t)
+        outside (c ∷ above) small t o = false≢true (sym o ∙ sym (runs-told from xs h e c small t.0) ∙ sym b)
+
+  -- other blocks lie in the run's place, and their slots are still to be rewritten
+  module _ (now : List Block) (k : Instead lay.below lay.run now lay.above) (mid : List ℕ)
+      (s : SameOutside place stop lay.bytes mid) (t : Tiles head (piece place (stop - place) mid) now) where
+    abbrev Out : ℕ → Type 0
+    Out = Clear place (stop - place)
+
+    clear-of : (j : ℕ) → IsSlot j all → Out j
+    clear-of = slot-clear place (stop - place) (omega arith) (omega arith)
+
+    -- the slots of the blocks lie outside the run
+    pub clears : Each Out (names lay.below) × Each Out (names lay.run) × Each Out (names lay.above)
+    clears = grind (arith, each-names, each-map, clear-of)
+
+    pub is-moved : IsMoved (record lay { run = now; bytes = mid }) place stop
+    is-moved = grind (arith, tiles-splice, slots-now, leads-outside, clears)
+
+    -- the other slots stay
+    pub others-moved : SameOthers all lay.bytes mid
+    others-moved j i a = piece-outside place stop lay.bytes mid j s (clear-of j i)
 
 -- blocks that were packed leave their Free bytes behind
 pub gap-left : (lay : Lay) (place stop : ℕ) (r : IsMoved lay place stop) {gap from to : ℕ} {xs : List ℕ}

@@ -1,5 +1,5 @@
 -- A zone in bytes, one of whose runs was packed.
-use Rattle.std.proofs.Common.{◌≡◌, ℕ, ◌+◌, Option, Some, None, List, ◌++◌, cond, refl, sym, ap, ◌∙◌, arith}
+use Rattle.std.proofs.Common.{◌≡◌, ℕ, ◌+◌, Some, List, ◌++◌, cond, refl, sym, ap, ◌∙◌, arith}
 use Rattle.std.proofs.Common.{append_assoc}
 use Rattle.std.specs.Option.{IfSome, IsSomeAnd}
 use Rattle.raw_region.specs.Memory.{Bytes}
@@ -13,8 +13,6 @@ use Rattle.block_store.proofs.Regroup.Packed.{settle-total}
 use Rattle.block_store.proofs.Zone.Tidy.{Adds}
 use Rattle.block_store.proofs.Regroup.Lifted.{total-changed}
 use Rattle.block_store.proofs.Regroup.RunLists.{run_at-parts}
-use Rattle.zone_bytes.specs.Layout.{Each}
-use Rattle.zone_bytes.specs.Settling.{InRun}
 use Rattle.zone_bytes.specs.Decode.{zone_in}
 use Rattle.zone_bytes.specs.Changes.{Replaced}
 use Rattle.zone_bytes.specs.PurgeableBytes.{purgeable_of, purgeable_sum}
@@ -22,8 +20,8 @@ use Rattle.zone_bytes.specs.Table.{slot_in}
 use Rattle.zone_bytes.specs.Lawful.{IsSound, IsKept}
 use Rattle.zone_bytes.specs.Beside.{KeepsPlace, rest_in}
 use Rattle.zone_bytes.proofs.Laws.Lawful.{rest-made}
+use Rattle.zone_bytes.proofs.Places.Options.{the-spot, the-if}
 use Rattle.block_store.proofs.Regroup.RunsAbove.{run_at-bottom}
-use Rattle.zone_bytes.proofs.Runs.RunsAt.{each-loose}
 use Rattle.zone_bytes.proofs.Runs.Changed.{ChangedRun}
 
 -- the zone that the bytes spell is `old` with its run from place to stop packed, whose Free block begins at top
@@ -42,13 +40,12 @@ pub is-packed : (xs : List ℕ) (first unused place top stop : ℕ) (old : List 
     → IfSome (run_at place old) (λ r. top ≡ place + sizes (movers r.run))
     → IfSome (run_at place old) (λ r. stop ≡ place + sizes r.run)
     → (k : IsPacked xs first unused place top stop old) × A k.spot
-is-packed xs first unused place top stop old A i t a z m n = cases (run_at place old) refl a z m n
-  where
-    cases : (o : Option RunSpot) → run_at place old ≡ o → IsSomeAnd o A
-        → IfSome o (λ r. zone_in xs ≡ tidy (with_run settle r)) → IfSome o (λ r. top ≡ place + sizes (movers r.run))
-        → IfSome o (λ r. stop ≡ place + sizes r.run) → (k : IsPacked xs first unused place top stop old) × A k.spot
-    cases None e a z m n = absurd a
-    cases (Some r) e a z m n = ((grind arith), a)
+is-packed xs first unused place top stop old A i t a z m n =
+    let s = the-spot (run_at place old) A a in
+    let zone = the-if (run_at place old) (λ r. zone_in xs ≡ tidy (with_run settle r)) s.0 s.1 z in
+    let top_is = the-if (run_at place old) (λ r. top ≡ place + sizes (movers r.run)) s.0 s.1 m in
+    let stop_is = the-if (run_at place old) (λ r. stop ≡ place + sizes r.run) s.0 s.1 n in
+    (record { sound = i; tidied = t; spot = s.0; is = s.1; zone = zone; top_is = top_is; stop_is = stop_is }, s.2)
 
 -- what stays, of what stayed
 rest-again : (a b c : Rest) → IsRest a b → IsRest b c → IsRest a c
@@ -67,9 +64,6 @@ module _ {xs : List ℕ} {first unused place top stop : ℕ} {old : List Block}
 
   pub loose : Loose r.run
   loose = (run_at-parts place old r k.is).loose
-
-  pub in-run : Each InRun r.run
-  in-run = each-loose r.run loose
 
   pub total-packed : (of : Block → ℕ) → Adds of → total of (zone_in xs) ≡ total of old
   total-packed of adds = ap (total of) k.zone ∙ total-changed of adds settle place old r k.is

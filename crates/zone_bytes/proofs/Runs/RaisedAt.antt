@@ -15,7 +15,7 @@ use Rattle.zone_bytes.specs.Lawful.{IsSound}
 use Rattle.zone_bytes.specs.Placing.{lay_at}
 use Rattle.zone_bytes.proofs.Runs.Changed.{ChangedRun, relaid-run}
 use Rattle.zone_bytes.proofs.Runs.RunsAt.{whole, in-run, lay-is, may-settle}
-use Rattle.zone_bytes.proofs.Runs.Lifts.{lifted-some, any-movers, lifted-instead}
+use Rattle.zone_bytes.proofs.Runs.Raises.{lifted-some, any-movers, lifted-instead}
 
 -- the run at a place, which has so many Free bytes
 pub room-run : (zone : List Block) (place gap : ℕ) → IsSomeAnd (run_at place zone) (λ r. IsTrue (has_free gap r.run))

@@ -1,40 +1,44 @@
 -- What the slot of a handle says: the place of its block, or that the handle is emptied.
-use Rattle.std.proofs.Common.{◌≡◌, ℕ, Bool, true, false, IsTrue, cond, ◌+◌, ◌%◌, ◌==◌, ◌≤◌, nat_le, ◌⊎◌, inl, inr}
-use Rattle.std.proofs.Common.{Option, Some, None, List, [], ◌∷◌, ◌++◌, length, take, drop, sym, refl, ap, ◌∙◌, subst}
-use Rattle.std.proofs.Common.{arith}
-use Rattle.std.proofs.lemmas.Bool.{false≢true, or_parts, eq-eqb}
+use Rattle.std.proofs.Common.{◌≡◌, ℕ, Bool, true, IsTrue, ◌+◌, ◌%◌, ◌==◌, ◌≤◌, nat_le, ◌⊎◌, inl, inr, Option}
+use Rattle.std.proofs.Common.{Some, None, List, [], ◌∷◌, ◌++◌, length, drop, sym, refl, ap, ◌∙◌, subst, arith, is_some}
+use Rattle.std.proofs.Common.{◌-◌}
+use Rattle.std.proofs.lemmas.Bool.{false≢true}
 use Rattle.std.proofs.lemmas.Bool.Decides.{eqb_tells}
 use Rattle.std.proofs.lemmas.List.{length-drop}
-use Rattle.std.proofs.lemmas.Option.{none-some}
 use Rattle.std.specs.Option.{option_map}
-use Rattle.windows.specs.Writes.{piece}
-use Rattle.heap_words.specs.Words.{word, word_at}
-use Rattle.heap_words.proofs.Words.{read_back}
+use Rattle.heap_words.specs.Words.{word_at, word, header}
+use Rattle.heap_words.proofs.Words.{read_back, length-word}
 use Rattle.block_store.specs.declared.flags.Flags.{Flags}
-use Rattle.block_store.specs.Block.{Block, Free, Nonrelocatable, Masters, Relocatable, size, sizes, is_relocatable}
-use Rattle.block_store.specs.Room.{Spot, spot, raised}
-use Rattle.block_store.specs.Slot.{Slot, Used, is_used, is_resource}
-use Rattle.zone_bytes.specs.Layout.{flag_word, head_of, Tile, Tiles, names, Leads, Apart, Each}
-use Rattle.zone_bytes.specs.Looking.{place_of_word}
-use Rattle.zone_bytes.specs.Table.{Has, empty_word, Says, Lays}
+use Rattle.block_store.specs.Block.{Block, Relocatable, size, sizes, is_relocatable}
+use Rattle.block_store.specs.Room.{Spot, spot}
+use Rattle.block_store.specs.Slot.{Slot, Used, is_used, is_resource, Unused, set_slot}
+use Rattle.zone_bytes.specs.Layout.{flag_word, head_of, Tile, Tiles, names, Leads, Apart, Each, IsSlot, Pairs}
+use Rattle.zone_bytes.specs.Looking.{place_of_word, IsHandle}
+use Rattle.zone_bytes.specs.Table.{Has, empty_word, Says, Lays, Table}
 use Rattle.zone_bytes.proofs.Tiles.Tiling.{span-whole, tiles-split}
 use Rattle.zone_bytes.proofs.Places.Stepped.{header-told}
-use Rattle.zone_bytes.proofs.SlotTable.Tables.{slot-in, none-apart}
+use Rattle.zone_bytes.proofs.SlotTable.Tables.{slot-in, none-apart, each-has, no-name, used-is, tiles-agree, set-other}
+use Rattle.zone_bytes.proofs.SlotTable.Tables.{set-same, used-apart, lays-set, chain-written, lays-written}
 use Rattle.zone_bytes.proofs.Tiles.Decoding.{flag_word-small}
-use Rattle.zone_bytes.proofs.Tiles.Spelling.{resource-bit, small-emptied}
-use Rattle.block_store.specs.Run.{has}
-
-pub used-is : (st : Slot) → IsTrue (is_used st) → (r : Bool) × (st ≡ Used r)
-used-is (Used r) u = (r, refl)
-used-is _ u = absurd (false≢true u)
+use Rattle.block_store.proofs.Zone.Tidy.{spot-passes, spot-is}
+use Rattle.block_store.proofs.Regroup.Settling.{has-spot}
+use Rattle.zone_bytes.proofs.Tiles.Leading.{leads-from, each-map, names-append, pairs-before, pairs-after, leads-same}
+use Rattle.windows.specs.Writes.{written, piece}
+use Rattle.windows.proofs.Pieces.{piece-written}
+use Rattle.zone_bytes.specs.Splicing.{SameOutside}
+use Rattle.zone_bytes.proofs.Blocks.InPlace.{Stretch, word-outside, no-slots, tile-inside, tiles-piece}
+use Rattle.zone_bytes.proofs.Blocks.Marked.{flagged-header}
+use Rattle.zone_bytes.proofs.Tiles.Keeping.{chain-kept}
+use Rattle.zone_bytes.proofs.Tiles.Splices.{outside-written, tiles-joined, outside-same, tiles-parts}
+use Rattle.zone_bytes.proofs.Tiles.Heads.{length-head}
 
 -- the handle of s is emptied
 pub record IsEmptyHandle (xs : List ℕ) (blocks : List Block) (s : ℕ) (r : Bool) : Type 0 where
   pub apart : Each (Apart s) (names blocks)
-  pub leads : piece s 4 xs ≡ word (empty_word r)
+  pub reads : word_at s xs ≡ empty_word r
 
--- the slot s leads to its block, one of blocks from o on
-pub record HasBlock (xs : List ℕ) (o : ℕ) (blocks : List Block) (s : ℕ) : Type 0 where
+-- the block of s is at a place
+pub record HasBlock (xs : List ℕ) (blocks : List Block) (resource : ℕ → Bool) (s place : ℕ) : Type 0 where
   pub below : List Block
   pub flags : Flags
   pub content : List ℕ
@@ -42,152 +46,178 @@ pub record HasBlock (xs : List ℕ) (o : ℕ) (blocks : List Block) (s : ℕ) : 
   pub whole : blocks ≡ below ++ Relocatable s flags content ∷ above
   pub found : spot (is_relocatable s) blocks ≡ Some
       (record { below = below; here = Relocatable s flags content; above = above })
-  pub leads : piece s 4 xs ≡ word (o + sizes below)
-
--- the same, seen with one block more at the bottom
-behind : (xs : List ℕ) (o : ℕ) (b : Block) (blocks : List Block) (s : ℕ) → is_relocatable s b ≡ false
-    → HasBlock xs (o + size b) blocks s → HasBlock xs o (b ∷ blocks) s
-behind xs o b blocks s e k = record {
-  below = b ∷ k.below;
-  flags = k.flags;
-  content = k.content;
-  above = k.above;
-  whole = ap (λ l. b ∷ l) k.whole;
-  found = ap (λ v. cond v (Some (record { below = []; here = b; above = blocks }))
-      (option_map (raised b) (spot (is_relocatable s) blocks))) e ∙ ap (option_map (raised b)) k.found;
-  leads = k.leads ∙ ap word (let z : o + size b + sizes k.below ≡ o + (size b + sizes k.below) = omega arith in z);
-}
-
-pub has-block : (xs : List ℕ) (o : ℕ) (blocks : List Block) (s : ℕ) → Leads o blocks xs → Has (names blocks) s
-    → HasBlock xs o blocks s
-has-block xs o [] s l h = absurd h
-has-block xs o (Free n ∷ blocks) s l h = behind _ o _ _ s refl (has-block _ (o + n) blocks s l.1 h)
-has-block xs o (Nonrelocatable id content ∷ blocks) s l h =
-    behind xs o (Nonrelocatable id content) blocks s refl
-    (has-block xs (o + size (Nonrelocatable id content)) blocks s l.1 h)
-has-block xs o (Masters ∷ blocks) s l h = behind xs o Masters blocks s refl (has-block xs (o + 272) blocks s l.1 h)
-has-block xs o (Relocatable id flags content ∷ blocks) s l h = elim (eqb_tells id s) [
-  | inl t ↦ subst (λ k. HasBlock xs o (Relocatable k flags content ∷ blocks) s) (sym t.1) (record {
-    below = [];
-    flags = flags;
-    content = content;
-    above = blocks;
-    whole = refl;
-    found = ap (λ v. cond v (Some (record { below = []; here = Relocatable s flags content; above = blocks }))
-        (option_map (raised (Relocatable s flags content)) (spot (is_relocatable s) blocks))) (eq-eqb s s refl);
-    leads = ap (λ k. piece k 4 xs) (sym t.1) ∙ l.0 ∙ ap word (let z : o ≡ o + 0 = omega arith in z);
-  })
-  | inr t ↦ behind _ o _ _ s t.0 (has-block _ _ blocks s l.1 (elim h [ inl e ↦ absurd (t.1 e) | inr k ↦ k ]))
-]
-
--- no block is the first that passes where none does
-spot-none : (t : Block → Bool) (blocks : List Block) → has t blocks ≡ false → spot t blocks ≡ None
-spot-none t [] e = refl
-spot-none t (b ∷ blocks) e = let p = or_parts (t b) (has t blocks) e in rw (p.0, spot-none t blocks p.1) refl
-
--- the words of slots
-word-emptied : (r : Bool) → place_of_word (empty_word r) ≡ None
-word-emptied true = refl
-word-emptied false = refl
-
-pub emptied-tells : (r : Bool) → (empty_word r == 18) ≡ r
-emptied-tells true = refl
-emptied-tells false = refl
-
-word-place : (w : ℕ) → w % 16 ≡ 0 → place_of_word w ≡ Some w
-word-place w e = grind arith
-
--- a block and its place
-pub record BlockHere (xs : List ℕ) (blocks : List Block) (resource : ℕ → Bool) (s place : ℕ) : Type 0 where
-  pub block : HasBlock xs 0 blocks s
-  pub low : sizes block.below ≡ place
+  pub named : Has (names blocks) s
+  pub low : sizes below ≡ place
   pub even : place % 16 ≡ 0
-  pub tile : Tile (head_of resource (Relocatable s block.flags block.content))
-      (size (Relocatable s block.flags block.content)) (drop place xs)
+  pub tile : Tile (head_of resource (Relocatable s flags content)) (size (Relocatable s flags content)) (drop place xs)
   pub fits : place + 16 ≤ length xs
-  pub flags_are : word_at (place + 12) xs ≡ flag_word block.flags (resource s)
+  pub flags_are : word_at (place + 12) xs ≡ flag_word flags (resource s)
+
+-- the block that passes for s
+relocatable-is : (s : ℕ) (b : Block) → is_relocatable s b ≡ true → (flags : Flags) × (content : List ℕ)
+    × (b ≡ Relocatable s flags content)
+relocatable-is s (Relocatable id flags content) e = (flags, content, grind (arith, eqb_tells))
+relocatable-is s _ e = absurd (false≢true e)
 
 module _ (xs : List ℕ) (blocks : List Block) (slots : ℕ → Slot) (unused : List ℕ)
-    (h : Lays xs blocks slots unused) where
+    (h : Lays xs blocks slots unused) (s : ℕ) (used : IsTrue (is_used (slots s))) where
   abbrev resource : ℕ → Bool
   resource = λ t. is_resource (slots t)
 
-  pub block-here : (s : ℕ) (b : HasBlock xs 0 blocks s) → BlockHere xs blocks resource s (sizes b.below)
+  pub flag : (r : Bool) × (slots s ≡ Used r)
+  flag = used-is (slots s) used
+
+  pub handle-in : (s % 4 ≡ 0) × (s + 4 ≤ length xs)
+  handle-in = slot-in xs blocks slots unused h s (rw flag.1 at (h.says s)).0
+
+  pub state : IsEmptyHandle xs blocks s flag.0 ⊎ HasBlock xs blocks resource s (word_at s xs)
   unfolding head_of
-  block-here s b =
-      let z = size (Relocatable s b.flags b.content) in
-      let place = sizes b.below in
-      let t = tiles-split (head_of resource) _ _ _ (subst (Tiles (head_of resource) xs) b.whole h.lies.tiles) in
-      let g = flag_word-small b.flags (resource s) in
-      record {
-        block = b;
-        low = refl;
-        even = (span-whole (head_of resource) (take place xs) b.below t.0);
-        tile = t.1.0;
-        fits = omega (arith, length-drop place xs);
-        flags_are = (header-told _ _ s (flag_word b.flags (resource s)) place b.content xs t.1.0).marked (omega
-            (arith, g));
-      }
+  state = elim (rw flag.1 at (h.says s)).1 [
+    | inl n ↦ inr (found (spot (is_relocatable s) blocks) refl n)
+    | inr e ↦ inl (record { apart = e.0; reads = read_back s _ _ (grind arith) e.1 })
+  ]
+    where
+      found : (o : Option Spot) → spot (is_relocatable s) blocks ≡ o → Has (names blocks) s
+          → HasBlock xs blocks resource s (word_at s xs)
+      found (Some q) e n =
+          let w = relocatable-is s q.here (spot-passes (is_relocatable s) blocks q e) in
+          let b : Block = Relocatable s w.0 w.1 in
+          let all = spot-is (is_relocatable s) blocks q e ∙ ap (λ c. q.below ++ c ∷ q.above) w.2 in
+          let t = tiles-split (head_of resource) xs q.below (b ∷ q.above)
+          (subst (Tiles (head_of resource) xs) all h.lies.tiles) in
+          let l = (leads-from xs q.below (b ∷ q.above) _ refl (subst (λ z. Leads 0 z xs) all h.lies.leads)).0 in
+          let d = length-drop (sizes q.below) xs in
+          let r : word_at s xs ≡ sizes q.below = read_back s _ xs (omega (arith, d, t.1.0.fits, t.1.0.some)) l in
+          subst (HasBlock xs blocks resource s) (sym r) (record {
+            below = q.below;
+            flags = w.0;
+            content = w.1;
+            above = q.above;
+            whole = all;
+            found = e ∙ ap (λ c. Some (record { below = q.below; here = c; above = q.above })) w.2;
+            named = n;
+            low = refl;
+            even = span-whole (head_of resource) _ q.below t.0;
+            tile = t.1.0;
+            fits = grind (arith, t);
+            flags_are = (header-told _ _ s (flag_word w.0 (resource s)) _ w.1 xs t.1.0).marked
+                (let g = flag_word-small w.0 (resource s) in omega arith);
+          })
+      found None e n = absurd (each-has (λ t. s ≡ t → ⊥) (names blocks) s
+          (no-name s blocks (has-spot (is_relocatable s) blocks ∙ ap is_some e)) n refl)
 
-  module _ (s : ℕ) (used : IsTrue (is_used (slots s))) where
-    pub flag : (r : Bool) × (slots s ≡ Used r)
-    flag = used-is (slots s) used
+-- the slot of a handle in a table
+module _ {xs : List ℕ} {t : Table} {s : ℕ} (k : IsHandle xs t s) where
+  abbrev pub resource_of : ℕ → Bool
+  resource_of = λ u. is_resource (t.slots u)
 
-    told : Says blocks xs unused s (Used flag.0)
-    told = subst (Says blocks xs unused s) flag.1 (h.says s)
+  abbrev pub its_flag : (r : Bool) × (t.slots s ≡ Used r)
+  its_flag = flag xs t.blocks t.slots t.unused k.lays s k.used
 
-    pub handle-in : (s % 4 ≡ 0) × (s + 4 ≤ length xs)
-    handle-in = slot-in xs blocks slots unused h s told.0
+  either : IsEmptyHandle xs t.blocks s its_flag.0 ⊎ HasBlock xs t.blocks resource_of s (word_at s xs)
+  either = state xs t.blocks t.slots t.unused k.lays s k.used
 
-    pub state : IsEmptyHandle xs blocks s flag.0 ⊎ HasBlock xs 0 blocks s
-    state = grind (arith, has-block)
+  pub may-look : (s % 4 ≡ 0) × (s + 4 ≤ length xs)
+  may-look = handle-in xs t.blocks t.slots t.unused k.lays s k.used
 
-    pub emptied-reads : IsEmptyHandle xs blocks s flag.0 → word_at s xs ≡ empty_word flag.0
-    emptied-reads e = read_back s _ _ (small-emptied _) e.leads
+  -- its word is the place of its block
+  pub leads-is : place_of_word (word_at s xs) ≡ option_map (λ (q : Spot). sizes q.below)
+      (spot (is_relocatable s) t.blocks)
+  leads-is = grind (arith, either, has-spot, none-apart)
 
-    pub block-reads : (b : HasBlock xs 0 blocks s) → word_at s xs ≡ sizes b.below
-    block-reads b =
-        read_back s (sizes b.below) xs (omega (arith, (block-here s b).fits)) (b.leads ∙ ap word (omega arith))
+  pub here-of : (place : ℕ) → place_of_word (word_at s xs) ≡ Some place → HasBlock xs t.blocks resource_of s place
+  here-of place w = grind (arith, either)
 
-    emptied-word : IsEmptyHandle xs blocks s flag.0 → place_of_word (word_at s xs) ≡ None
-    emptied-word e = ap place_of_word (emptied-reads e) ∙ word-emptied flag.0
+  pub gone-of : place_of_word (word_at s xs) ≡ None → IsEmptyHandle xs t.blocks s its_flag.0
+  gone-of w = grind (arith, either)
 
-    block-word : (b : HasBlock xs 0 blocks s) → place_of_word (word_at s xs) ≡ Some (sizes b.below)
-    block-word b = ap place_of_word (block-reads b) ∙ word-place _ (block-here s b).even
+  -- the resource flag, in the header and in the word of an empty handle
+  pub resource-here : (place : ℕ) → place_of_word (word_at s xs) ≡ Some place
+      → nat_le 32 (word_at (place + 12) xs % 64) ≡ is_resource (t.slots s)
+  resource-here place w = (λ i. nat_le 32 ((here-of place w).flags_are i % 64)) ∙ (grind arith)
 
-    -- the slot's word is the place of its block
-    pub leads-is : place_of_word (word_at s xs) ≡ option_map (λ (q : Spot). sizes q.below)
-        (spot (is_relocatable s) blocks)
-    leads-is = elim state [
-      | inl e ↦ emptied-word e ∙ sym (ap (option_map (λ (q : Spot). sizes q.below)) (spot-none (is_relocatable s) blocks
-          (none-apart s blocks e.apart)))
-      | inr b ↦ block-word b ∙ sym (ap (option_map (λ (q : Spot). sizes q.below)) b.found)
-    ]
-
-    pub here-of : (place : ℕ) → place_of_word (word_at s xs) ≡ Some place → BlockHere xs blocks resource s place
-    here-of place w = elim state [
-      | inl e ↦ absurd (none-some place (sym (emptied-word e) ∙ w))
-      | inr b ↦ subst (BlockHere xs blocks resource s) (grind (arith, block-word)) (block-here s b)
-    ]
-
-    pub gone-of : place_of_word (word_at s xs) ≡ None → IsEmptyHandle xs blocks s flag.0
-    gone-of w = elim state [
-      | inl e ↦ e
-      | inr b ↦ absurd (none-some (sizes b.below) (sym w ∙ block-word b))
-    ]
-
-    flag-is : is_resource (slots s) ≡ flag.0
-    flag-is = ap is_resource flag.1
-
-    -- the resource flag, in the header and in the word of an empty handle
-    pub resource-here : (place : ℕ) → place_of_word (word_at s xs) ≡ Some place
-        → nat_le 32 (word_at (place + 12) xs % 64) ≡ is_resource (slots s)
-    resource-here place w = ap (λ n. nat_le 32 (n % 64)) (here-of _ w).flags_are ∙ resource-bit _ _
-
-    pub resource-gone : place_of_word (word_at s xs) ≡ None → (word_at s xs == 18) ≡ is_resource (slots s)
-    resource-gone w = ap (λ n. n == 18) (emptied-reads (gone-of w)) ∙ emptied-tells _ ∙ sym flag-is
+  pub resource-gone : place_of_word (word_at s xs) ≡ None → (word_at s xs == 18) ≡ is_resource (t.slots s)
+  resource-gone w = grind (arith, gone-of)
 
 -- a slot's word, and where it leads, as they were read
-pub leads-read : (xs : List ℕ) (s w : ℕ) (place : Option ℕ) → w ≡ word_at s xs → place ≡ place_of_word w
-    → place_of_word (word_at s xs) ≡ place
-leads-read xs s w place e f = ap place_of_word (sym e) ∙ sym f
+pub leads-read : (v : ℕ) {w : ℕ} {place : Option ℕ} → w ≡ v → place ≡ place_of_word w → place_of_word v ≡ place
+leads-read v e f = grind arith
+
+module _ {xs : List ℕ} {blocks : List Block} {slots : ℕ → Slot} {unused : List ℕ} (h : Lays xs blocks slots unused)
+    (s : ℕ) (was r : Bool) (u : slots s ≡ Used was) where
+  abbrev now : ℕ → Slot
+  now = set_slot slots s (Used r)
+
+  is-slot : IsSlot s blocks
+  is-slot = grind (arith, h)
+
+  -- the flag in the word of an empty handle
+  pub lays-emptied : Each (Apart s) (names blocks) → Lays (written s (word (empty_word r)) xs) blocks now unused
+  lays-emptied a =
+      let n = empty_word r in
+      let b = slot-in xs blocks slots unused h s is-slot in
+      lays-written _ _ slots _ h s n _ _ is-slot a (λ t d e k. k)
+      (is-slot, inr (a, piece-written s _ _ 4 (sym (length-word n)) (omega arith)))
+      (chain-written _ _ slots _ h s n _ (omega arith) (used-apart xs blocks slots unused h s was is-slot u)
+      h.chain) (grind (arith, each-map)) h.once
+
+  -- the flag in the header of a handle's block
+  module _ (place : ℕ) (b : HasBlock xs blocks (λ t. is_resource (slots t)) s place) where
+    abbrev here : Block
+    here = Relocatable s b.flags b.content
+
+    abbrev top : ℕ
+    top = place + size here
+
+    abbrev head : Block → List ℕ
+    head = head_of (λ t. is_resource (now t))
+
+    abbrev new : List ℕ
+    new = written (place + 12) (word (flag_word b.flags r)) xs
+
+    stretch : Stretch place top b.below (here ∷ []) b.above
+    stretch = record { low = b.low; high = omega arith; plain = no-slots here refl }
+
+    same : SameOutside place top xs new
+    same = outside-written _ _ _ _ _ (word (flag_word b.flags r)) (omega arith) (omega (arith, length-word))
+        (outside-same place top xs (omega arith) (omega (arith, b.tile.fits, length-drop place xs)))
+
+    pieces : (t : ℕ) → IsSlot t blocks → piece t 4 new ≡ piece t 4 xs
+    pieces t i = word-outside stretch same t (subst (IsSlot t) b.whole i)
+
+    -- the resource flags of the other blocks stay
+    agree : (ns : List ℕ) → Each (Apart s) ns → Each (λ t. is_resource (slots t) ≡ is_resource (now t)) ns
+    agree ns a = grind (arith, each-map, set-other)
+
+    apart-all : Pairs Apart (names b.below ++ s ∷ names b.above)
+    apart-all = grind (arith, names-append, h)
+
+    tile-now : Tile (head here) (size here) (drop place new)
+    unfolding head_of
+    tile-now =
+        let z = size here in
+        let e : is_resource (now s) ≡ r = ap is_resource (set-same slots s s (Used r) refl) in
+        subst (λ q. Tile (header (z + 3) (length b.content) s (flag_word b.flags q) ++ b.content) z (drop place new))
+        (sym e) (tile-inside _ _ (word (flag_word b.flags r)) 12 z place (place + 12) xs refl
+        (omega (arith, length-head, length-word)) (flagged-header _ _ _ _ _ b.content) b.tile)
+
+    tiles : Tiles head new (b.below ++ (here ∷ [] ++ b.above))
+    tiles =
+        let p = tiles-parts (head_of (λ t. is_resource (slots t))) xs b.below (here ∷ []) b.above place top b.low
+        (omega arith) (rw b.whole at h.lies.tiles) in
+        tiles-joined head new b.below (here ∷ []) b.above place top (omega arith)
+        (rw same.low (tiles-agree _ _ _ b.below (agree _ (pairs-before s _ _ apart-all)) p.0))
+        (tiles-piece head here place (top - place) new (omega arith) tile-now)
+        (rw same.high (tiles-agree _ _ _ b.above (agree _ (pairs-after s (names b.below) _ apart-all)) p.3))
+
+    pub lays-marked : Lays new blocks now unused
+    lays-marked = lays-set xs blocks slots unused h s (Used r) new unused
+        (record {
+          tiles = subst (Tiles head new) (sym b.whole) tiles;
+          leads = leads-same xs new 0 blocks (each-map (λ t. IsSlot t blocks) (λ t. piece t 4 new ≡ piece t 4 xs) pieces
+              (names blocks) h.has_slots.slots) h.lies.leads;
+        })
+        (grind (arith, each-map)) same.kept
+        (λ t d. pieces t) (λ t d e k. k) (is-slot, inl b.named) (chain-kept _ _ _
+        (each-map (λ t. IsSlot t blocks × (slots t ≡ Unused)) (λ t. piece t 4 new ≡ piece t 4 xs)
+        (λ t q. pieces t q.0) _ h.unused_slots) h.chain) (grind (arith, each-map)) h.once

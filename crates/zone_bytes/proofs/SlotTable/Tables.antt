@@ -1,20 +1,21 @@
 -- A slot's word is written.
-use Rattle.std.proofs.Common.{◌≡◌, ℕ, Bool, ◌+◌, ◌%◌, ◌≤◌, inl, inr, List, [], ◌∷◌, length, drop, sym, false, refl, ap}
-use Rattle.std.proofs.Common.{◌∙◌, subst, arith}
+use Rattle.std.proofs.Common.{◌≡◌, ℕ, Bool, ◌+◌, ◌%◌, ◌≤◌, inl, inr, List, [], ◌∷◌, length, drop, sym, false, refl, ◌∙◌}
+use Rattle.std.proofs.Common.{subst, arith, IsTrue}
 use Rattle.std.proofs.lemmas.Bool.{ne_eqb, eq-eqb}
 use Rattle.windows.specs.Writes.{written, piece}
 use Rattle.heap_words.specs.Words.{word}
 use Rattle.heap_words.proofs.Words.{length-word}
 use Rattle.windows.proofs.Pieces.{length-written}
-use Rattle.block_store.specs.Block.{Block, Free, Nonrelocatable, Masters, Relocatable, size, is_relocatable}
-use Rattle.block_store.specs.Slot.{Slot, NoSlot, Unused, Used, set_slot, is_resource}
-use Rattle.zone_bytes.specs.Layout.{head_of, Tile, Tiles, IsSlot, names, names_of, Apart, Each, Pairs}
+use Rattle.block_store.specs.Block.{Block, Relocatable, size, is_relocatable}
+use Rattle.block_store.specs.Slot.{Slot, Unused, Used, set_slot, is_resource, is_used}
+use Rattle.zone_bytes.specs.Layout.{head_of, Tiles, IsSlot, names, names_of, Apart, Each, Pairs}
 use Rattle.zone_bytes.specs.Settling.{Lies}
 use Rattle.zone_bytes.specs.Table.{Has, Chain, Says, IsUsed, Lays}
 use Rattle.zone_bytes.proofs.Tiles.Tiling.{length-tiles, slot-inside, tiles-slot, slot-even}
 use Rattle.zone_bytes.proofs.Tiles.Leading.{Clear, piece-clear, each-map, each-left, each-right, leads-written}
 use Rattle.zone_bytes.proofs.Tiles.Heads.{length-masters}
 use Rattle.block_store.specs.Run.{has}
+use Rattle.std.proofs.lemmas.Bool.Decides.{eqb_tells}
 
 pub each-both : {A : Type 0} (P Q R : A → Type 0) → ((x : A) → P x → Q x → R x) → (xs : List A) → Each P xs
     → Each Q xs → Each R xs
@@ -27,45 +28,43 @@ each-has P [] s h k = absurd k
 each-has P (x ∷ xs) s h (inl e) = subst P e h.0
 each-has P (x ∷ xs) s h (inr k) = each-has P xs s h.1 k
 
--- what is apart is another
-pub apart-other : (s t : ℕ) → Apart s t → s ≡ t → ⊥
-apart-other s t (inl h) e = omega arith
-apart-other s t (inr h) e = omega arith
-
 -- no block has a name that none of them has
 pub none-other : (s : ℕ) (blocks : List Block) → Each (λ t. t ≡ s → ⊥) (names blocks)
     → has (is_relocatable s) blocks ≡ false
 none-other s [] e = refl
-none-other s (Free n ∷ blocks) e = none-other s blocks e
-none-other s (Nonrelocatable id content ∷ blocks) e = none-other s blocks e
-none-other s (Masters ∷ blocks) e = none-other s blocks e
 none-other s (Relocatable id flags content ∷ blocks) e = rw (ne_eqb id s e.0) (none-other s blocks e.1)
+none-other s (_ ∷ blocks) e = none-other s blocks e
 
 pub none-apart : (s : ℕ) (blocks : List Block) → Each (Apart s) (names blocks) → has (is_relocatable s) blocks ≡ false
 none-apart s blocks a = none-other s blocks (grind (arith, each-map))
 
+-- and each has another where none has it
+pub no-name : (s : ℕ) (blocks : List Block) → has (is_relocatable s) blocks ≡ false
+    → Each (λ t. s ≡ t → ⊥) (names blocks)
+no-name s [] e = tt
+no-name s (Relocatable id flags content ∷ blocks) e = grind (arith, eqb_tells, no-name s blocks)
+no-name s (_ ∷ blocks) e = no-name s blocks e
+
 -- a slot's word is clear of another's
 pub apart-clear : (s n t : ℕ) → Apart s t → Clear s (length (word n)) t
-apart-clear s n t (inl h) = inr (omega (arith, length-word))
-apart-clear s n t (inr h) = inl h
+apart-clear s n t h = grind (arith, length-word)
 
 -- resource flags that agree at the blocks' slots
 head-agree : (f g : ℕ → Bool) (b : Block) → Each (λ s. f s ≡ g s) (names_of b) → head_of f b ≡ head_of g b
 unfolding head_of
-head-agree f g (Relocatable slot flags content) e = grind arith
-head-agree f g _ e = refl
+head-agree f g b e = grind arith
 
 pub tiles-agree : (f g : ℕ → Bool) (xs : List ℕ) (blocks : List Block) → Each (λ s. f s ≡ g s) (names blocks)
     → Tiles (head_of f) xs blocks → Tiles (head_of g) xs blocks
-tiles-agree f g xs [] e t = t
+tiles-agree f g xs [] e t = grind (arith)
 tiles-agree f g xs (b ∷ blocks) e t = (
-  subst (λ h. Tile h (size b) xs) (head-agree f g b (each-left (λ s. f s ≡ g s) (names_of b) (names blocks) e)) t.0,
+  let q = head-agree f g b (each-left (λ s. f s ≡ g s) (names_of b) (names blocks) e) in rw (← q) t.0,
   tiles-agree f g (drop (size b) xs) blocks (each-right (λ s. f s ≡ g s) (names_of b) (names blocks) e) t.1,
 )
 
 pub lies-agree : (f g : ℕ → Bool) (xs : List ℕ) (blocks : List Block) → Each (λ s. f s ≡ g s) (names blocks)
     → Lies f blocks xs → Lies g blocks xs
-lies-agree f g xs blocks e l = record { tiles = tiles-agree f g _ _ e l.tiles; leads = l.leads }
+lies-agree f g xs blocks e l = grind (arith, tiles-agree)
 
 -- the state of another slot
 pub set-other : (slots : ℕ → Slot) (s t : ℕ) (state : Slot) → (t ≡ s → ⊥) → set_slot slots s state t ≡ slots t
@@ -74,11 +73,12 @@ set-other slots s t state h = rw (ne_eqb t s h) refl
 pub set-same : (slots : ℕ → Slot) (s t : ℕ) (state : Slot) → t ≡ s → set_slot slots s state t ≡ state
 set-same slots s t state h = rw (eq-eqb t s h) refl
 
+pub used-is : (st : Slot) → IsTrue (is_used st) → (r : Bool) × (st ≡ Used r)
+used-is (Used r) u = (r, refl)
+used-is _ u = grind arith
+
 module _ (xs : List ℕ) (blocks : List Block) (slots : ℕ → Slot) (unused : List ℕ)
     (h : Lays xs blocks slots unused) where
-  abbrev head : Block → List ℕ
-  head = head_of (λ s. is_resource (slots s))
-
   -- two slots are apart
   pub apart-of : (s t : ℕ) → IsSlot s blocks → IsSlot t blocks → (s ≡ t → ⊥) → Apart s t
   apart-of s t i j n = grind (arith, slot-even)
@@ -88,16 +88,11 @@ module _ (xs : List ℕ) (blocks : List Block) (slots : ℕ → Slot) (unused : 
   used-apart s r i u = grind (arith, each-map, apart-of)
 
   pub slot-in : (s : ℕ) → IsSlot s blocks → (s % 4 ≡ 0) × (s + 4 ≤ length xs)
-  slot-in s i = ((slot-even head _ s _ h.lies.tiles i), omega (arith, slot-inside, length-tiles))
+  slot-in s i = ((slot-even (head_of _) _ s _ h.lies.tiles i), omega (arith, slot-inside, length-tiles))
 
   -- a slot that leads to no handle is not that of a block
   pub unused-apart : (s : ℕ) → IsSlot s blocks → slots s ≡ Unused → Each (Apart s) (names blocks)
   unused-apart s i u = grind (arith, each-both, apart-of)
-
-  -- the blocks, where the word of another slot is written
-  pub lies-written : (s n : ℕ) → IsSlot s blocks → Each (Apart s) (names blocks)
-      → Lies (λ t. is_resource (slots t)) blocks (written s (word n) xs)
-  lies-written s n i a = grind (arith, tiles-slot, length-masters, length-word, leads-written, slot-in, each-map)
 
   pub chain-written : (s n : ℕ) (us : List ℕ) → s ≤ length xs → Each (Apart s) us → Chain xs us
       → Chain (written s (word n) xs) us
@@ -115,12 +110,6 @@ module _ (xs : List ℕ) (blocks : List Block) (slots : ℕ → Slot) (unused : 
       (kept : (t : ℕ) → (t ≡ s → ⊥) → slots t ≡ Unused → Has unused t → Has now t) (mine : Says blocks new now s state)
       (chain : Chain new now) (ok : Each (λ u. IsSlot u blocks × (set_slot slots s state u ≡ Unused)) now)
       (once : Pairs Apart now) where
-    says-other : (t : ℕ) (st : Slot) → (t ≡ s → ⊥) → slots t ≡ st → Says blocks xs unused t st
-        → Says blocks new now t st
-    says-other t NoSlot d e q = q
-    says-other t Unused d e q = (q.0, kept t d e q.1)
-    says-other t (Used r) d e q = (q.0, elim q.1 [ inl k ↦ inl k | inr k ↦ inr (k.0, same t d q.0 ∙ k.1) ])
-
     pub lays-set : Lays new blocks (set_slot slots s state) now
     lays-set = grind arith
 
@@ -132,14 +121,10 @@ module _ (xs : List ℕ) (blocks : List Block) (slots : ℕ → Slot) (unused : 
       → Lays (written s (word n) xs) blocks (set_slot slots s state) now
   lays-written s n state now i a kept mine chain ok once =
       let b = slot-in s i in
-      let other : (t : ℕ) → Apart s t → set_slot slots s state t ≡ slots t =
-      λ t p. set-other slots s t state (λ e. apart-other s t p (sym e)) in
+      let other : (t : ℕ) → Apart s t → set_slot slots s state t ≡ slots t = grind arith in
       lays-set s state (written s (word n) xs) now
-      (lies-agree (λ t. is_resource (slots t)) (λ t. is_resource (set_slot slots s state t)) _ blocks
-      (each-map (Apart s) (λ t. is_resource (slots t) ≡ is_resource (set_slot slots s state t))
-      (λ t p. sym (ap is_resource (other t p))) (names blocks) a) (lies-written s n i a))
-      (each-both (Apart s) (λ t. IsUsed (slots t)) (λ t. IsUsed (set_slot slots s state t))
-      (λ t p u. subst IsUsed (sym (other t p)) u) (names blocks) a h.used)
+      (grind (arith, lies-agree, each-map, other, tiles-slot, length-masters, length-word, leads-written, slot-in))
+      (grind (arith, each-both, other))
       (length-written s (word n) xs (omega (arith, length-word)))
       (λ t d j. piece-clear s (word n) xs t (omega arith) (apart-clear s n t (apart-of s t i j (λ m. d (sym m)))))
       kept mine chain ok once

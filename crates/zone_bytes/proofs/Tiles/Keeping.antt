@@ -1,20 +1,23 @@
 -- A change that keeps the names and the slots keeps the table.
-use Rattle.std.proofs.Common.{◌≡◌, ℕ, ◌+◌, ◌-◌, inl, inr, zero, suc, List, [], ◌∷◌, ◌++◌, length, sym, refl, ap, ◌∙◌}
-use Rattle.std.proofs.Common.{subst, arith, true, cond, Bool, ◌⊎◌}
+use Rattle.std.proofs.Common.{◌≡◌, ℕ, ◌+◌, ◌-◌, inl, inr, List, [], ◌∷◌, ◌++◌, length, sym, refl, ap, ◌∙◌}
+use Rattle.std.proofs.Common.{subst, arith, cond, Bool, ◌⊎◌}
 use Rattle.std.proofs.lemmas.List.{append-nil}
 use Rattle.std.proofs.lemmas.Bool.{false≢true}
 use Rattle.windows.specs.Writes.{piece}
 use Rattle.heap_words.specs.Words.{word}
 use Rattle.block_store.specs.Block.{Block, Free, Nonrelocatable, Masters, Relocatable, size, free, free_sum, sizes}
-use Rattle.block_store.specs.Block.{is_mover}
 use Rattle.block_store.specs.Run.{movers, settle}
 use Rattle.block_store.specs.Slot.{Slot, NoSlot, Unused, Used, is_resource}
+use Rattle.block_store.specs.Inner.Packing.{Loose}
+use Rattle.block_store.proofs.Nonrelocatable.Placing.{sizes-settle}
+use Rattle.block_store.proofs.Regroup.Parts.{in-settle}
+pub use Rattle.block_store.proofs.Regroup.Parts.{in-free as each-free}
 use Rattle.zone_bytes.specs.Layout.{IsSlot, names, Apart, Each, ArePlaced, Leads}
-use Rattle.zone_bytes.specs.Settling.{InRun, Lies, HasSlots, SameOthers, Relaid}
+use Rattle.zone_bytes.specs.Settling.{Lies, HasSlots, SameOthers, Relaid}
 use Rattle.zone_bytes.specs.Table.{IsUsed, Chain, Says, Lays, Has, empty_word}
 use Rattle.zone_bytes.proofs.Tiles.Tiling.{span-append, slot-swap}
-use Rattle.zone_bytes.proofs.Tiles.Leading.{names-append, each-map, each-append}
-use Rattle.zone_bytes.proofs.Tiles.Permuted.{SameNames, each-moved, same-names}
+use Rattle.zone_bytes.proofs.Tiles.Leading.{names-append, each-map}
+use Rattle.zone_bytes.proofs.Tiles.Permuted.{SameNames, each-moved}
 use Rattle.zone_bytes.proofs.SlotTable.Tables.{unused-apart}
 
 pub chain-kept : (xs new : List ℕ) (us : List ℕ) → Each (λ u. piece u 4 new ≡ piece u 4 xs) us → Chain xs us
@@ -42,14 +45,13 @@ module _ (xs new : List ℕ) (blocks now : List Block) (slots : ℕ → Slot) (u
       → ((s : ℕ) (r : Bool) → slots s ≡ Used r → IsSlot s blocks → Stands blocks xs s r → Stands now new s r)
       → ((s : ℕ) → IsSlot s blocks → slots s ≡ Unused → piece s 4 new ≡ piece s 4 xs) → Lays new now slots unused
   lays-changed lies has i j placed l used stands kept =
-      let says-now : (s : ℕ) (st : Slot) → slots s ≡ st → Says blocks xs unused s st → Says now new unused s st = says
-      in record {
+      record {
         lies = lies;
         has_slots = has;
         placed = placed;
         small = omega arith;
         used = used;
-        says = λ s. says-now s (slots s) refl (h.says s);
+        says = λ s. of s (slots s) refl (h.says s);
         chain = chain-kept _ _ _ (each-map (λ u. IsSlot u blocks × (slots u ≡ Unused))
             (λ u. piece u 4 new ≡ piece u 4 xs) (λ u q. kept u q.0 q.1) _ h.unused_slots) h.chain;
         unused_slots = each-map (λ u. IsSlot u blocks × (slots u ≡ Unused)) (λ u. IsSlot u now × (slots u ≡ Unused))
@@ -57,10 +59,10 @@ module _ (xs new : List ℕ) (blocks now : List Block) (slots : ℕ → Slot) (u
         once = h.once;
       }
     where
-      says : (s : ℕ) (st : Slot) → slots s ≡ st → Says blocks xs unused s st → Says now new unused s st
-      says s NoSlot e q = λ k. q (j s k)
-      says s Unused e q = (i s q.0, q.1)
-      says s (Used r) e q = (i s q.0, stands s r e q.0 q.1)
+      of : (s : ℕ) (st : Slot) → slots s ≡ st → Says blocks xs unused s st → Says now new unused s st
+      of s NoSlot e q = λ k. q (j s k)
+      of s Unused e q = (i s q.0, q.1)
+      of s (Used r) e q = (i s q.0, stands s r e q.0 q.1)
 
   -- where the names may stand in another order
   pub lays-permuted : Lies (λ s. is_resource (slots s)) now new → SameNames (names blocks) (names now)
@@ -68,75 +70,35 @@ module _ (xs new : List ℕ) (blocks now : List Block) (slots : ℕ → Slot) (u
       → ArePlaced 0 now → SameOthers blocks xs new → length new ≡ length xs → Lays new now slots unused
   lays-permuted lies n i j p o l = grind (arith, lays-changed, slots-moved, each-moved, unused-apart)
 
-  pub lays-kept : Lies (λ s. is_resource (slots s)) now new → names now ≡ names blocks
-      → ((s : ℕ) → IsSlot s blocks → IsSlot s now) → ((s : ℕ) → IsSlot s now → IsSlot s blocks)
-      → ArePlaced 0 now → SameOthers blocks xs new → length new ≡ length xs → Lays new now slots unused
-  lays-kept lies n i j p o l = lays-permuted lies (same-names _ _ (sym n)) i j p o l
-
 -- a run has no Masters block
-pub run-no_slot : (s : ℕ) (run : List Block) → Each InRun run → IsSlot s run → ⊥
+pub run-no_slot : (s : ℕ) (run : List Block) → Loose run → IsSlot s run → ⊥
 run-no_slot s [] h i = i
-run-no_slot s (Free n ∷ run) h (inl i) = i
-run-no_slot s (Nonrelocatable id content ∷ run) h (inl i) = i
 run-no_slot s (Masters ∷ run) h (inl i) = false≢true h.0
-run-no_slot s (Relocatable slot flags content ∷ run) h (inl i) = i
 run-no_slot s (b ∷ run) h (inr i) = run-no_slot (s - size b) run h.1 i.1
+run-no_slot s (_ ∷ run) h (inl i) = i
 
--- a run as it is settled
-pub movers-more : (b : Block) (rest : List Block) → is_mover b ≡ true → movers (b ∷ rest) ≡ b ∷ movers rest
-movers-more b rest h = ap (λ v. cond v (b ∷ movers rest) (movers rest)) h
-
-pub names-movers : (run : List Block) → Each InRun run → names (movers run) ≡ names run
+pub names-movers : (run : List Block) → Loose run → names (movers run) ≡ names run
 names-movers [] h = refl
 names-movers (Free n ∷ run) h = names-movers run h.1
-names-movers (Relocatable slot flags content ∷ run) h = ap names (movers-more (Relocatable slot flags content) run h.0)
+names-movers (Relocatable slot flags content ∷ run) h =
+    ap (λ v. names (cond v (Relocatable slot flags content ∷ movers run) (movers run))) h.0
     ∙ ap (λ k. slot ∷ k) (names-movers run h.1)
 names-movers _ h = absurd (false≢true h.0)
-
-pub names-free : (n : ℕ) → names (free n) ≡ []
-names-free zero = refl
-names-free (suc n) = refl
 
 pub names-left : (blocks : List Block) (n : ℕ) → names (blocks ++ free n) ≡ names blocks
 names-left blocks n = grind (arith, names-append, append-nil)
 
 pub span-free : (n : ℕ) → sizes (free n) ≡ n
-span-free zero = refl
-span-free (suc n) = omega arith
+span-free n = grind arith
 
 pub leads-free : (o n : ℕ) (xs : List ℕ) → Leads o (free n) xs
-leads-free o zero xs = tt
-leads-free o (suc n) xs = (tt, tt)
+leads-free o n xs = grind arith
 
-pub span-movers : (run : List Block) → Each InRun run → sizes (movers run) + free_sum run ≡ sizes run
-span-movers [] h = refl
-span-movers (Free n ∷ run) h = omega (arith, span-movers run h.1)
-span-movers (Relocatable slot flags content ∷ run) h =
-    omega (arith, ap sizes (movers-more (Relocatable slot flags content) run h.0), span-movers run h.1)
-span-movers _ h = absurd (false≢true h.0)
-
-pub names-settle : (run : List Block) → Each InRun run → names (settle run) ≡ names run
-names-settle run h = names-left (movers run) (free_sum run) ∙ names-movers run h
-
-pub span-settle : (run : List Block) → Each InRun run → sizes (settle run) ≡ sizes run
-span-settle run h = omega (arith, span-append, span-free, span-movers _ h)
-
-pub each-movers : (run : List Block) → Each InRun run → Each InRun (movers run)
-each-movers [] h = tt
-each-movers (Free n ∷ run) h = each-movers run h.1
-each-movers (Relocatable slot flags content ∷ run) h = subst (λ k. Each InRun k)
-    (sym (movers-more (Relocatable slot flags content) run h.0)) (h.0, each-movers run h.1)
-each-movers _ h = absurd (false≢true h.0)
-
-pub each-free : (n : ℕ) → Each InRun (free n)
-each-free zero = tt
-each-free (suc n) = (refl, tt)
-
-pub each-settle : (run : List Block) → Each InRun run → Each InRun (settle run)
-each-settle run h = each-append InRun _ _ (each-movers _ h) (each-free _)
+pub span-movers : (run : List Block) → Loose run → sizes (movers run) + free_sum run ≡ sizes run
+span-movers run h = grind (arith, sizes-settle, span-append, span-free)
 
 -- one run in the place of another
-pub slot-run : (s : ℕ) (below run now above : List Block) → Each InRun run → sizes now ≡ sizes run
+pub slot-run : (s : ℕ) (below run now above : List Block) → Loose run → sizes now ≡ sizes run
     → IsSlot s (below ++ (run ++ above)) → IsSlot s (below ++ (now ++ above))
 slot-run s below run now above r e i = slot-swap s _ _ _ _ (run-no_slot _ run r) e i
 
@@ -157,36 +119,24 @@ pub placed-swap : (o : ℕ) (below was now above : List Block) → sizes now ≡
     → ArePlaced o (below ++ (was ++ above)) → ArePlaced o (below ++ (now ++ above))
 placed-swap o below was now above e n h = grind (arith, placed-right, placed-append, placed-left)
 
--- and of the same names
-pub names-swap : (below was now above : List Block) → names now ≡ names was
-    → names (below ++ (now ++ above)) ≡ names (below ++ (was ++ above))
-names-swap below was now above n = grind (arith, names-append)
-
-pub placed-run : (o : ℕ) (run : List Block) → Each InRun run → ArePlaced o run
+pub placed-run : (o : ℕ) (run : List Block) → Loose run → ArePlaced o run
 placed-run o [] h = tt
-placed-run o (Free n ∷ run) h = (tt, placed-run _ run h.1)
-placed-run o (Relocatable slot flags content ∷ run) h =
-    (tt, placed-run (o + size (Relocatable slot flags content)) run h.1)
-placed-run o _ h = absurd (false≢true h.0)
-
--- with the same names
-pub run-names : (below was now above : List Block) → names now ≡ names was
-    → SameNames (names (below ++ (was ++ above))) (names (below ++ (now ++ above)))
-run-names below was now above n = same-names _ _ (sym (names-swap below was now above n))
+placed-run o (Nonrelocatable id content ∷ run) h = absurd (false≢true h.0)
+placed-run o (b ∷ run) h = (tt, placed-run (o + size b) run h.1)
 
 -- another run may stand in the place of one: it has as many bytes, and the same names
 pub record Instead (below was now above : List Block) : Type 0 where
-  pub in_was : Each InRun was
-  pub in_now : Each InRun now
+  pub in_was : Loose was
+  pub in_now : Loose now
   pub span : sizes now ≡ sizes was
   pub names_are : SameNames (names (below ++ (was ++ above))) (names (below ++ (now ++ above)))
 
-pub instead : (below was now above : List Block) → Each InRun was → Each InRun now → sizes now ≡ sizes was
+pub instead : (below was now above : List Block) → Loose was → Loose now → sizes now ≡ sizes was
     → names now ≡ names was → Instead below was now above
-instead below was now above w r e n = grind (arith, run-names)
+instead below was now above w r e n = grind (arith, names-append)
 
-pub instead-settle : (below run above : List Block) → Each InRun run → Instead below run (settle run) above
-instead-settle below run above r = grind (arith, instead, each-settle, span-settle, names-settle)
+pub instead-settle : (below run above : List Block) → Loose run → Instead below run (settle run) above
+instead-settle below run above r = grind (arith, instead, in-settle, sizes-settle, names-left, names-movers)
 
 module _ {below was now above : List Block} (k : Instead below was now above) where
   abbrev old : List Block

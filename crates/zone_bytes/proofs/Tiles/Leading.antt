@@ -3,7 +3,7 @@ use Rattle.std.proofs.Common.{◌≡◌, ℕ, ◌+◌, ◌≤◌, ◌⊎◌, inl
 use Rattle.std.proofs.Common.{arith}
 use Rattle.windows.specs.Writes.{written, piece}
 use Rattle.windows.proofs.Pieces.{piece-written_below, piece-written_above}
-use Rattle.block_store.specs.Block.{Block, Free, Nonrelocatable, Masters, Relocatable, size, sizes}
+use Rattle.block_store.specs.Block.{Block, Relocatable, size, sizes}
 use Rattle.zone_bytes.specs.Layout.{names, names_of, Leads, Apart, Each, Pairs}
 
 module _ {A : Type 0} (P : A → Type 0) where
@@ -24,8 +24,7 @@ module _ {A : Type 0} (P : A → Type 0) where
   each-map Q f (x ∷ xs) h = (f x h.0, each-map Q f xs h.1)
 
 pub apart-turned : (s t : ℕ) → Apart s t → Apart t s
-apart-turned s t (inl h) = inr h
-apart-turned s t (inr h) = inl h
+apart-turned s t h = grind arith
 
 -- an element against those before it
 pub pairs-before : (s : ℕ) (xs ys : List ℕ) → Pairs Apart (xs ++ s ∷ ys) → Each (Apart s) xs
@@ -71,27 +70,17 @@ module _ (xs : List ℕ) where
 pub leads-from : (xs : List ℕ) (ls ms : List Block) (lo : ℕ) → sizes ls ≡ lo → Leads 0 (ls ++ ms) xs → Leads lo ms xs
 leads-from xs ls ms lo a h = grind (arith, leads-right)
 
--- three stretches of blocks
-pub leads-parts : (xs : List ℕ) (ls ms ns : List Block) (lo hi : ℕ) → sizes ls ≡ lo → lo + sizes ms ≡ hi
-    → Leads 0 (ls ++ (ms ++ ns)) xs → Leads 0 ls xs × Leads lo ms xs × Leads hi ns xs
-leads-parts xs ls ms ns lo hi a b h = grind (arith, leads-right, leads-left)
-
-pub leads-joined : (xs : List ℕ) (ls ms ns : List Block) (lo hi : ℕ) → sizes ls ≡ lo → lo + sizes ms ≡ hi → Leads 0 ls
-    xs
-    → Leads lo ms xs → Leads hi ns xs → Leads 0 (ls ++ (ms ++ ns)) xs
+pub leads-joined : (xs : List ℕ) (ls ms ns : List Block) (lo hi : ℕ) → sizes ls ≡ lo → lo + sizes ms ≡ hi
+    → Leads 0 ls xs → Leads lo ms xs → Leads hi ns xs → Leads 0 (ls ++ (ms ++ ns)) xs
 leads-joined xs ls ms ns lo hi a b h k m = grind (arith, leads-append)
 
 -- the words of the slots are the same
-pub leads-same : (old new : List ℕ) (o : ℕ) (blocks : List Block) → Each (λ s. piece s 4 new ≡ piece s 4 old)
-    (names blocks)
-    → Leads o blocks old → Leads o blocks new
+pub leads-same : (old new : List ℕ) (o : ℕ) (blocks : List Block)
+    → Each (λ s. piece s 4 new ≡ piece s 4 old) (names blocks) → Leads o blocks old → Leads o blocks new
 leads-same old new o [] e h = tt
-leads-same old new o (Free n ∷ blocks) e h = (tt, leads-same old new (o + n) blocks e h.1)
-leads-same old new o (Nonrelocatable id content ∷ blocks) e h =
-    (tt, leads-same old new (o + size (Nonrelocatable id content)) blocks e h.1)
-leads-same old new o (Masters ∷ blocks) e h = (tt, leads-same old new (o + 272) blocks e h.1)
 leads-same old new o (Relocatable slot flags content ∷ blocks) e h =
     (e.0 ∙ h.0, leads-same old new (o + size (Relocatable slot flags content)) blocks e.1 h.1)
+leads-same old new o (b ∷ blocks) e h = (tt, leads-same old new (o + size b) blocks e h.1)
 
 -- a write that is clear of the blocks' slots
 pub leads-written : (at : ℕ) (ys xs : List ℕ) (o : ℕ) (blocks : List Block) → at ≤ length xs

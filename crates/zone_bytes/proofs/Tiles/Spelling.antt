@@ -1,5 +1,5 @@
 -- Bytes spell one table of slots.
-use Rattle.std.proofs.Common.{◌≡◌, ℕ, Bool, true, false, cond, nat_le, ◌&&◌, ◌==◌, ◌+◌, ◌-◌, ◌*◌, ◌%◌, ◌<◌, ◌≤◌, ◌^◌}
+use Rattle.std.proofs.Common.{◌≡◌, ℕ, Bool, true, cond, nat_le, ◌&&◌, ◌==◌, ◌+◌, ◌-◌, ◌*◌, ◌%◌, ◌<◌, ◌≤◌, ◌^◌}
 use Rattle.std.proofs.Common.{inl, inr, List, [], ◌∷◌, length, take, drop, sym, refl, ap, ◌∙◌, subst, arith}
 use Rattle.std.proofs.lemmas.List.{length-drop, drop-drop}
 use Rattle.std.proofs.lemmas.Bool.{false≢true, or_left, or_right, or_cases, and_from, and_parts}
@@ -7,37 +7,22 @@ use Rattle.windows.specs.Writes.{piece}
 use Rattle.heap_words.specs.Words.{word, word_at}
 use Rattle.heap_words.proofs.Words.{read_back}
 use Rattle.block_store.specs.declared.flags.Flags.{Flags}
-use Rattle.block_store.specs.Block.{Block, Free, Nonrelocatable, Masters, Relocatable, size, is_masters}
+use Rattle.block_store.specs.Block.{Block, Masters, Relocatable, size, is_masters}
 use Rattle.block_store.specs.Slot.{Slot, NoSlot, Unused, Used, is_resource}
 use Rattle.zone_bytes.specs.Layout.{flag_word, head_of, Tiles, IsSlot, IsSlotOf, names, Leads, Each}
 use Rattle.zone_bytes.specs.Decode.{zone_in}
 use Rattle.zone_bytes.specs.Table.{Has, empty_word, Chain, Says, Lays, is_slot, slot_of_word, slot_in}
 use Rattle.zone_bytes.proofs.Tiles.Tiling.{length-tiles, slot-inside}
 use Rattle.zone_bytes.proofs.Tiles.Leading.{each-map}
-use Rattle.zone_bytes.proofs.Tiles.Decoding.{says, flag_word-small, zone-back, high-flags}
-
-pub test-true : (s : ℕ) → 16 ≤ s → s + 4 ≤ 272 → s % 4 ≡ 0
-    → (nat_le 16 s && (nat_le (s + 4) 272 && (s % 4 == 0))) ≡ true
-test-true s a b c = grind arith
-
-le-true : (m n : ℕ) → m ≤ n → nat_le m n ≡ true
-le-true m n h = grind arith
-
-le-false : (m n : ℕ) → n < m → nat_le m n ≡ false
-le-false m n h = grind arith
+use Rattle.zone_bytes.proofs.Tiles.Heads.{relocatable-told}
+use Rattle.zone_bytes.proofs.Tiles.Decoding.{flag_word-small, zone-back}
 
 pub is_slot-true : (s : ℕ) (blocks : List Block) → IsSlot s blocks → is_slot s blocks ≡ true
 is_slot-true s [] i = absurd i
-is_slot-true s (Free n ∷ blocks) (inl i) = absurd i
-is_slot-true s (Nonrelocatable id content ∷ blocks) (inl i) = absurd i
-is_slot-true s (Relocatable slot flags content ∷ blocks) (inl i) = absurd i
-is_slot-true s (Masters ∷ blocks) (inl i) = or_left _ _ (test-true s i.0 i.1 i.2)
-is_slot-true s (b ∷ blocks) (inr i) =
-    or_right _ _ (and_from _ _ (le-true (size b) s i.0) (is_slot-true (s - size b) blocks i.1))
-
-pub test-back : (s : ℕ) → (nat_le 16 s && (nat_le (s + 4) 272 && (s % 4 == 0))) ≡ true
-    → (16 ≤ s) × (s + 4 ≤ 272) × (s % 4 ≡ 0)
-test-back s h = (grind arith, grind arith, grind arith)
+is_slot-true s (Masters ∷ blocks) (inl i) =
+    let t : (nat_le 16 s && (nat_le (s + 4) 272 && (s % 4 == 0))) ≡ true = grind arith in or_left _ _ t
+is_slot-true s (_ ∷ blocks) (inl i) = absurd i
+is_slot-true s (b ∷ blocks) (inr i) = or_right _ _ (and_from _ _ (grind arith) (is_slot-true (s - size b) blocks i.1))
 
 pub le-back : (m n : ℕ) → nat_le m n ≡ true → m ≤ n
 le-back m n h = grind arith
@@ -52,54 +37,27 @@ is_slot-back s (b ∷ blocks) e = elim (or_cases _ (nat_le (size b) s && is_slot
 ]
   where
     own : (b : Block) → (is_masters b && (nat_le 16 s && (nat_le (s + 4) 272 && (s % 4 == 0)))) ≡ true → IsSlotOf b s
-    own (Free n) p = absurd (false≢true p)
-    own (Nonrelocatable id content) p = absurd (false≢true p)
-    own Masters p = test-back s p
-    own (Relocatable slot flags content) p = absurd (false≢true p)
-
-pub resource-bit : (flags : Flags) (r : Bool) → nat_le 32 (flag_word flags r % 64) ≡ r
-resource-bit flags true = let h = high-flags flags in le-true 32 (flag_word flags true % 64) (omega arith)
-resource-bit flags false = let h = high-flags flags in le-false 32 (flag_word flags false % 64) (omega arith)
-
--- what a word says
-word-unused : (xs : List ℕ) (w k : ℕ) → w ≡ 16 * k + 1 → slot_of_word xs w ≡ Unused
-word-unused xs w k e = grind arith
+    own Masters p = (grind arith, grind arith, grind arith)
+    own _ p = absurd (false≢true p)
 
 word-emptied : (xs : List ℕ) (w : ℕ) (r : Bool) → w ≡ empty_word r → slot_of_word xs w ≡ Used r
-word-emptied xs w true e = ap (slot_of_word xs) e
-word-emptied xs w false e = ap (slot_of_word xs) e
-
-word-leads : (xs : List ℕ) (w : ℕ) (r : Bool) → w % 16 ≡ 0 → nat_le 32 (word_at (w + 12) xs % 64) ≡ r
-    → slot_of_word xs w ≡ Used r
-word-leads xs w r e f = grind arith
-
-pub small-emptied : (r : Bool) → empty_word r < 2 ^ 32
-small-emptied true = omega arith
-small-emptied false = omega arith
+word-emptied xs w r e = grind arith
 
 module _ (resource : ℕ → Bool) (xs : List ℕ) (small : length xs ≤ 134217728) (s : ℕ) where
   named-word : (o : ℕ) (blocks : List Block) → o % 16 ≡ 0 → Tiles (head_of resource) (drop o xs) blocks
       → Leads o blocks xs → Has (names blocks) s → slot_of_word xs (word_at s xs) ≡ Used (resource s)
   unfolding head_of
   named-word o [] e t l h = absurd h
-  named-word o (Free n ∷ blocks) e t l h = named-word _ blocks (omega arith)
-      (subst (λ k. Tiles (head_of resource) k blocks) (drop-drop n o xs) t.1) l.1 h
-  named-word o (Nonrelocatable id content ∷ blocks) e t l h = named-word _ blocks (omega arith)
-      (subst (λ k. Tiles (head_of resource) k blocks) (drop-drop (size (Nonrelocatable id content)) o xs) t.1) l.1 h
-  named-word o (Masters ∷ blocks) e t l h = named-word (o + 272) blocks (omega arith)
-      (subst (λ k. Tiles (head_of resource) k blocks) (drop-drop 272 o xs) t.1) l.1 h
+  named-word o (Relocatable slot flags content ∷ blocks) e t l (inl h) =
+      let q = relocatable-told resource o xs slot flags content t.0 in
+      let g = flag_word-small flags (resource slot) in
+      let w = read_back s o xs (omega (arith, length-drop o xs)) (ap (λ k. take 4 (drop k xs)) (sym h) ∙ l.0) in
+      (grind arith)
   named-word o (Relocatable slot flags content ∷ blocks) e t l (inr h) =
       named-word (o + size (Relocatable slot flags content)) blocks (omega arith) (grind (arith, drop-drop)) l.1 h
-  named-word o (Relocatable slot flags content ∷ blocks) e t l (inl h) =
-      let z = size (Relocatable slot flags content) in
-      let q = says z (z + 3) (length content) slot (flag_word flags (resource slot)) content (drop o xs) t.0 in
-      let d = length-drop o xs in
-      let w = read_back s o xs (omega arith) (ap (λ k. take 4 (drop k xs)) (sym h) ∙ l.0) in
-      let g = flag_word-small flags (resource slot) in
-      let v = read_back (o + 12) (flag_word flags (resource slot)) xs (omega arith)
-      (ap (take 4) (sym (drop-drop 12 o xs)) ∙ q.2) in
-      let bit : nat_le 32 (word_at (word_at s xs + 12) xs % 64) ≡ resource s = grind arith in
-      word-leads xs (word_at s xs) (resource s) (omega arith) bit
+  named-word o (b ∷ blocks) e t l h =
+      named-word (o + size b) blocks (omega arith)
+      (subst (λ k. Tiles (head_of resource) k blocks) (drop-drop (size b) o xs) t.1) l.1 h
 
 module _ (xs : List ℕ) (blocks : List Block) (slots : ℕ → Slot) (unused : List ℕ)
     (h : Lays xs blocks slots unused) where
@@ -121,7 +79,7 @@ module _ (xs : List ℕ) (blocks : List Block) (slots : ℕ → Slot) (unused : 
       ap (λ v. cond v (slot_of_word xs (word_at s xs)) NoSlot) (is_slot-true s blocks q.0) ∙ elim q.1 [
         | inl k ↦ named-word (λ t. is_resource (slots t)) _ h.small s 0 _ refl h.lies.tiles h.lies.leads k
             ∙ ap (λ t. Used (is_resource t)) e
-        | inr k ↦ word-emptied xs (word_at s xs) r (read_back s (empty_word r) xs (small-emptied r) k.1)
+        | inr k ↦ word-emptied xs (word_at s xs) r (read_back s (empty_word r) xs (grind arith) k.1)
       ]
 
   pub slots-of : (s : ℕ) → slot_in xs s ≡ slots s

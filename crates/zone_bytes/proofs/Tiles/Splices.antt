@@ -2,13 +2,14 @@
 use Rattle.std.proofs.Common.{◌≡◌, ℕ, ◌+◌, ◌-◌, ◌≤◌, inl, inr, List, ◌++◌, length, take, drop, sym, refl, ap, ◌∙◌}
 use Rattle.std.proofs.Common.{subst, arith}
 use Rattle.std.proofs.lemmas.List.{take-take, drop-drop, drop-take, take-append-drop}
+use Rattle.std.proofs.Math.Seq.{take-add}
 use Rattle.windows.specs.Writes.{written, piece}
 use Rattle.windows.proofs.Pieces.{length-written, take-written_below, drop-written_above}
 use Rattle.block_store.specs.Block.{Block, sizes}
 use Rattle.zone_bytes.specs.Layout.{Tiles, names, Leads, Each}
 use Rattle.zone_bytes.specs.Splicing.{SameOutside}
 use Rattle.zone_bytes.proofs.Tiles.Tiling.{tiles-append, tiles-split}
-use Rattle.zone_bytes.proofs.Tiles.Leading.{Clear, leads-same, leads-parts, each-map, leads-joined}
+use Rattle.zone_bytes.proofs.Tiles.Leading.{Clear, leads-same, each-map, leads-joined, leads-left, leads-right}
 
 pub outside-same : (lo hi : ℕ) (xs : List ℕ) → lo ≤ hi → hi ≤ length xs → SameOutside lo hi xs xs
 outside-same lo hi xs l h = record { kept = refl; ordered = (l, h); low = refl; high = refl }
@@ -39,12 +40,15 @@ module _ (head : Block → List ℕ) where
   pub tiles-joined : (new : List ℕ) (ls here ns : List Block) (lo hi : ℕ) → lo ≤ hi → Tiles head (take lo new) ls
       → Tiles head (piece lo (hi - lo) new) here → Tiles head (drop hi new) ns → Tiles head new (ls ++ (here ++ ns))
   tiles-joined new ls here ns lo hi o low h high =
-      let mid : piece lo (hi - lo) new ++ drop hi new ≡ drop lo new = ap (λ k. piece lo (hi - lo) new ++ k)
-      (sym (drop-drop (hi - lo) lo new ∙ ap (λ k. drop k new) (omega arith))) ∙ take-append-drop (hi - lo)
-      (drop lo new) in
-      let all : take lo new ++ (piece lo (hi - lo) new ++ drop hi new) ≡ new = ap (λ k. take lo new ++ k) mid
-      ∙ take-append-drop lo new in
-      subst (λ k. Tiles head k (ls ++ (here ++ ns))) all (grind (arith, tiles-append))
+      let e : lo + (hi - lo) ≡ hi = omega arith in
+      subst (λ k. Tiles head k (ls ++ (here ++ ns))) (take-append-drop lo new) (tiles-append _ _ _ ls (here ++ ns) low
+      (subst (λ k. Tiles head k (here ++ ns)) (take-append-drop (hi - lo) (drop lo new))
+      (tiles-append _ _ _ here ns h (rw (drop-drop (hi - lo) lo new, e) high))))
+
+  -- two stretches, one after the other
+  pub tiles-next : (xs : List ℕ) (at m n : ℕ) (ls ms : List Block) → Tiles head (piece at m xs) ls
+      → Tiles head (piece (at + m) n xs) ms → Tiles head (piece at (m + n) xs) (ls ++ ms)
+  tiles-next xs at m n ls ms t u = rw (take-add m n (drop at xs), drop-drop m at xs) (tiles-append _ _ _ ls ms t u)
 
   pub tiles-parts : (xs : List ℕ) (ls ms ns : List Block) (lo hi : ℕ) → sizes ls ≡ lo → lo + sizes ms ≡ hi
       → Tiles head xs (ls ++ (ms ++ ns)) → Tiles head (take lo xs) ls × Tiles head (drop lo xs) (ms ++ ns)
@@ -65,6 +69,4 @@ pub leads-splice : (old new : List ℕ) (ls ms ns here : List Block) (lo hi : �
     → Each (Clear lo (hi - lo)) (names ls) → Each (Clear lo (hi - lo)) (names ns) → Leads lo here new
     → Leads 0 (ls ++ (here ++ ns)) new
 leads-splice old new ls ms ns here lo hi a b e t s c d h =
-    let p = leads-parts old ls ms ns lo hi a b t in
-    leads-joined new ls here ns lo hi a (omega arith) (leads-outside lo hi old new 0 ls s c p.0) h
-    (leads-outside lo hi old new hi ns s d p.2)
+    grind (arith, leads-right, leads-left, leads-joined, leads-outside)

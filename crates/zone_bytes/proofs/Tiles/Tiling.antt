@@ -1,26 +1,23 @@
 -- Blocks that lie one after another.
 use Rattle.std.proofs.Common.{◌≡◌, ℕ, ◌+◌, ◌-◌, ◌%◌, ◌≤◌, ◌⊎◌, inl, inr, List, [], ◌∷◌, ◌++◌, length, take, drop, refl}
-use Rattle.std.proofs.Common.{ap, ◌∙◌, subst, arith, length-append}
+use Rattle.std.proofs.Common.{ap, subst, arith, length-append}
 use Rattle.std.proofs.lemmas.List.{length-take-le, length-drop, take-append-le, drop-append-le, drop-drop, take-take}
 use Rattle.std.proofs.lemmas.List.{drop-take, drop_all}
 use Rattle.windows.specs.Writes.{written}
-use Rattle.windows.proofs.Pieces.{length-written, take-written_below, take-written_above, drop-written_above}
-use Rattle.windows.proofs.Pieces.{drop-written_below}
-use Rattle.block_store.specs.Block.{Block, Free, Nonrelocatable, Masters, Relocatable, size, sizes}
+use Rattle.windows.proofs.Pieces.{length-written, take-written_below, drop-written_above, drop-written_below}
+use Rattle.block_store.specs.Block.{Block, Masters, size, sizes}
+use Rattle.block_store.proofs.Zone.Totals.{total-append}
 use Rattle.zone_bytes.specs.Layout.{Tile, Tiles, IsSlot}
 
 pub span-append : (ls ms : List Block) → sizes (ls ++ ms) ≡ sizes ls + sizes ms
-span-append [] ms = omega arith
-span-append (b ∷ ls) ms = omega (arith, span-append ls ms)
+span-append ls ms = total-append size ls ms
 
 -- a slot's word is among the bytes of the blocks
 pub slot-inside : (s : ℕ) (blocks : List Block) → IsSlot s blocks → s + 4 ≤ sizes blocks
 slot-inside s [] i = absurd i
-slot-inside s (Free n ∷ blocks) (inl i) = absurd i
-slot-inside s (Nonrelocatable id content ∷ blocks) (inl i) = absurd i
-slot-inside s (Relocatable slot flags content ∷ blocks) (inl i) = absurd i
 slot-inside s (Masters ∷ blocks) (inl i) = omega arith
 slot-inside s (b ∷ blocks) (inr i) = omega (arith, i.0, slot-inside (s - size b) blocks i.1)
+slot-inside s (_ ∷ blocks) (inl i) = absurd i
 
 pub slot-append_left : (s : ℕ) (ls ms : List Block) → IsSlot s ls → IsSlot s (ls ++ ms)
 slot-append_left s [] ms i = absurd i
@@ -65,10 +62,6 @@ module _ (head : Block → List ℕ) where
   length-tiles xs [] t = ap length t
   length-tiles xs (b ∷ blocks) t = omega (arith, length-tiles (drop (size b) xs) blocks t.1, length-drop (size b) xs)
 
-  -- a block's bytes followed by others
-  pub tile-append : (h : List ℕ) (n : ℕ) (xs ys : List ℕ) → Tile h n xs → Tile h n (xs ++ ys)
-  tile-append h n xs ys t = grind (arith, length-append, take-append-le)
-
   -- a block's bytes without the others
   pub tile-take : (h : List ℕ) (n k : ℕ) (xs : List ℕ) → n ≤ k → k ≤ length xs → Tile h n xs → Tile h n (take k xs)
   tile-take h n k xs l m t = grind (arith, length-take-le, take-take)
@@ -77,7 +70,7 @@ module _ (head : Block → List ℕ) where
       → Tiles head (xs ++ ys) (ls ++ ms)
   tiles-append xs ys [] ms t u = rw t u
   tiles-append xs ys (b ∷ ls) ms t u = (
-    tile-append (head b) (size b) xs ys t.0,
+    (grind (arith, length-append, take-append-le)),
     rw (drop-append-le (size b) xs ys t.0.fits) (tiles-append (drop (size b) xs) ys ls ms t.1 u),
   )
 
@@ -90,7 +83,6 @@ module _ (head : Block → List ℕ) where
   tiles-split xs [] ms t = (refl, t)
   tiles-split xs (b ∷ ls) ms t =
       let r = tiles-split (drop (size b) xs) ls ms t.1 in
-      let a = length-drop (size b) xs in
       let enough : size b + sizes ls ≤ length xs = omega (arith, length-tiles, span-append ls ms) in (
         (
           tile-take (head b) (size b) (size b + sizes ls) xs (omega arith) enough t.0,
@@ -103,49 +95,18 @@ module _ (head : Block → List ℕ) where
   pub tiles-slot : length (head Masters) ≡ 16 → (xs w : List ℕ) (s : ℕ) (blocks : List Block) → length w ≡ 4
       → IsSlot s blocks → Tiles head xs blocks → Tiles head (written s w xs) blocks
   tiles-slot m xs w s [] e i t = absurd i
-  tiles-slot m xs w s (Free n ∷ blocks) e (inl i) t = absurd i
-  tiles-slot m xs w s (Nonrelocatable id content ∷ blocks) e (inl i) t = absurd i
-  tiles-slot m xs w s (Relocatable slot flags content ∷ blocks) e (inl i) t = absurd i
   tiles-slot m xs w s (Masters ∷ blocks) e (inl i) t = (
-    record {
-      fits = omega (arith, length-written);
-      whole = t.0.whole;
-      some = t.0.some;
-      room = t.0.room;
-      begins = take-written_below s w _ _ (omega arith) (omega arith) ∙ t.0.begins;
-    },
+    (grind (arith, length-written, take-written_below)),
     rw (drop-written_above s w xs 272 (omega arith) (omega arith)) t.1,
   )
   tiles-slot m xs w s (b ∷ blocks) e (inr i) t =
       let a = slot-inside (s - size b) blocks i.1 in
       let inside : s + 4 ≤ length xs = omega (arith, i.0, a, length-tiles, length-drop (size b) xs) in (
-        record {
-          fits = omega (arith, length-written s w xs (omega arith));
-          whole = t.0.whole;
-          some = t.0.some;
-          room = t.0.room;
-          begins = take-written_below s w _ _ (omega arith) (omega arith) ∙ t.0.begins;
-        },
+        (grind (arith, length-written, take-written_below)),
         rw (drop-written_below s w xs (size b) i.0 (omega arith))
             (tiles-slot m (drop (size b) xs) w (s - size b) blocks e i.1 t.1),
       )
-
-  -- as it leaves those below a stretch and those above it
-  pub tiles-slot-beside : length (head Masters) ≡ 16 → (xs w : List ℕ) (s lo hi : ℕ) (ls ns : List Block) → length w ≡ 4
-      → lo ≤ hi → hi ≤ length xs → IsSlot s ls ⊎ ((hi ≤ s) × IsSlot (s - hi) ns) → Tiles head (take lo xs) ls
-      → Tiles head (drop hi xs) ns
-      → Tiles head (take lo (written s w xs)) ls × Tiles head (drop hi (written s w xs)) ns
-  tiles-slot-beside m xs w s lo hi ls ns e l h (inl i) t u =
-      let inside : s + 4 ≤ lo = omega (arith, slot-inside, length-tiles, length-take-le lo xs) in (
-        rw (take-written_above s w xs lo (omega arith) (omega arith)) (tiles-slot m _ w s ls e i t),
-        rw (drop-written_above s w xs hi (omega arith) (omega arith)) u,
-      )
-  tiles-slot-beside m xs w s lo hi ls ns e l h (inr i) t u =
-      let n = length-tiles _ ns u in
-      let inside : s + 4 ≤ length xs = omega (arith, slot-inside _ ns i.1, length-drop hi xs) in (
-        rw (take-written_below s w xs lo (omega arith) (omega arith)) t,
-        rw (drop-written_below s w xs hi i.0 (omega arith)) (tiles-slot m _ w (s - hi) ns e i.1 u),
-      )
+  tiles-slot m xs w s (_ ∷ blocks) e (inl i) t = absurd i
 
 -- blocks of no bytes are none
 pub tiles-none : (head : Block → List ℕ) (xs : List ℕ) (blocks above : List Block) → Tiles head xs (blocks ++ above)
@@ -162,9 +123,7 @@ span-whole head xs (b ∷ blocks) t = omega (arith, span-whole head (drop (size 
 pub slot-even : (head : Block → List ℕ) (xs : List ℕ) (s : ℕ) (blocks : List Block) → Tiles head xs blocks
     → IsSlot s blocks → s % 4 ≡ 0
 slot-even head xs s [] t i = absurd i
-slot-even head xs s (Free n ∷ blocks) t (inl i) = absurd i
-slot-even head xs s (Nonrelocatable id content ∷ blocks) t (inl i) = absurd i
-slot-even head xs s (Relocatable slot flags content ∷ blocks) t (inl i) = absurd i
 slot-even head xs s (Masters ∷ blocks) t (inl i) = i.2
+slot-even head xs s (_ ∷ blocks) t (inl i) = absurd i
 slot-even head xs s (b ∷ blocks) t (inr i) =
     omega (arith, slot-even head (drop (size b) xs) (s - size b) blocks t.1 i.1)

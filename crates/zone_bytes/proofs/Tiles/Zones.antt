@@ -1,5 +1,5 @@
 -- The zone that bytes spell, after a call.
-use Rattle.std.proofs.Common.{◌≡◌, ℕ, ◌<◌, List, [], ◌∷◌, length, sym, ap, arith}
+use Rattle.std.proofs.Common.{◌≡◌, ℕ, ◌<◌, List, ◌∷◌, length, arith}
 use Rattle.block_store.specs.Block.{Block}
 use Rattle.block_store.specs.Slot.{Slot}
 use Rattle.zone_bytes.specs.Decode.{zone_in}
@@ -15,8 +15,3 @@ respelled xs blocks slots unused h = grind (arith, zone-of, slots-of)
 pub record SomeUnused (first : ℕ) (unused : List ℕ) : Type 0 where
   pub rest : List ℕ
   pub is : unused ≡ first ∷ rest
-
-pub some-unused : (first count : ℕ) (unused : List ℕ) → first ≡ first_of unused → count ≡ length unused → 0 < count
-    → SomeUnused first unused
-some-unused first count [] f c l = absurd (omega arith)
-some-unused first count (s ∷ unused) f c l = record { rest = unused; is = ap (λ k. k ∷ unused) (sym f) }

@@ -1,5 +1,5 @@
 use Rattle.std.proofs.Common.{arith}
-use Rattle.zone_bytes.proofs.Blocks.Carves.{bounds, even, freed}
+use Rattle.zone_bytes.proofs.Blocks.InPlace.{bounds, even, freed}
 use Rattle.zone_bytes.proofs.carving.make_free.Goals as goal
 
 pub write_word-requires : goal.write_word-requires

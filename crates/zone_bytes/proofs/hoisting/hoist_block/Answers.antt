@@ -1,6 +1,5 @@
 use Rattle.std.proofs.Common.{◌≡◌, length, ap, arith, rules}
 use Rattle.windows.specs.Writes.{written}
-use Rattle.zone_bytes.proofs.Tiles.Tags.{tag-small}
 use Rattle.zone_bytes.proofs.Tiles.Heads.{next-may}
 use Rattle.zone_bytes.proofs.Runs.Hoists.{wide, next, size-read, turned-bytes, is-moved, is-hoisted}
 use Rattle.zone_bytes.proofs.hoisting.hoist_block.Given.{Over}
@@ -12,8 +11,7 @@ read_header-size-requires g c = rw c.requires.0 (next-may (next g.hoist _ _ c.re
 
 pub rotate-requires-clause-turn : goal.rotate-requires-clause-turn
 rotate-requires-clause-turn g c =
-    let e = c.read_header-size.ensures in
-    omega (arith, wide, size-read g.hoist _ _ c.requires.1 _ _ (rw c.requires.0 at e.first) e.size (tag-small _))
+    omega (arith, wide, size-read g.hoist _ _ c.requires.1 _ (rw c.requires.0 at c.read_header-size.ensures))
 
 pub rotate-requires-clause-inside : goal.rotate-requires-clause-inside
 rotate-requires-clause-inside g c = omega (arith, wide, ap length c.requires.0)
@@ -21,8 +19,7 @@ rotate-requires-clause-inside g c = omega (arith, wide, ap length c.requires.0)
 made : (g : Over) (c : After-rotate g) → c.rotate.new.self.bytes
     ≡ written c.args.place (turned-bytes g.hoist c.args.place c.args.stop c.requires.1) g.hoist.bytes
 made g c =
-    let e = c.read_header-size.ensures in
-    let s = size-read g.hoist _ _ c.requires.1 _ _ (rw c.requires.0 at e.first) e.size (tag-small _) in
+    let s = size-read g.hoist _ _ c.requires.1 _ (rw c.requires.0 at c.read_header-size.ensures) in
     rw (c.rotate.ensures.bytes, s, c.requires.0)
 
 pub lead_run-requires : goal.lead_run-requires

@@ -1,20 +1,17 @@
 use Rattle.std.proofs.Common.{arith}
-use Rattle.zone_bytes.proofs.SlotTable.Handles.{handle-in, here-of, resource-here, resource-gone, leads-read}
+use Rattle.zone_bytes.proofs.SlotTable.Handles.{may-look, here-of, resource-here, resource-gone, leads-read}
 use Rattle.zone_bytes.proofs.looking.slot_resource.Goals as goal
 
 pub read_word-word-requires : goal.read_word-word-requires
-read_word-word-requires c = handle-in _ _ _ _ c.requires.1.lays _ c.requires.1.used
+read_word-word-requires c = may-look c.requires.1
 
 pub overflow_add-place : goal.overflow_add-place
 overflow_add-place c =
-    let b = here-of _ _ _ _ c.requires.1.lays _ c.requires.1.used _
-    (leads-read _ _ _ _ c.read_word-word.ensures c.in-Some.ensures) in
-    omega arith
+    let b = here-of c.requires.1 _ (leads-read _ c.read_word-word.ensures c.in-Some.ensures) in omega arith
 
 pub read_word-requires : goal.read_word-requires
 read_word-requires c =
-    let b = here-of _ _ _ _ c.requires.1.lays _ c.requires.1.used _
-    (leads-read _ _ _ _ c.read_word-word.ensures c.in-Some.ensures) in
+    let b = here-of c.requires.1 _ (leads-read _ c.read_word-word.ensures c.in-Some.ensures) in
     (omega arith, omega arith)
 
 pub returns-in-Some : goal.returns-in-Some

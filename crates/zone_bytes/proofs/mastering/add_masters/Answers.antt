@@ -1,7 +1,8 @@
 use Rattle.std.proofs.Common.{arith, subst}
 use Rattle.zone_bytes.specs.Mastering.{HasMasters}
 use Rattle.zone_bytes.proofs.Placed.Carved.{Roomy, roomy}
-use Rattle.zone_bytes.proofs.Placed.MastersCarved.{first-fits, masters-lays}
+use Rattle.zone_bytes.proofs.Placed.MastersCarved.{masters-lays}
+use Rattle.zone_bytes.proofs.SlotTable.Slotted.{first-small}
 use Rattle.zone_bytes.proofs.mastering.add_masters.Goals as goal
 use Rattle.zone_bytes.proofs.mastering.add_masters.Goals.{Start}
 
@@ -17,7 +18,8 @@ pub lay_masters-requires : goal.lay_masters-requires
 lay_masters-requires c =
     let r = here (goal.at.lay_masters-requires c).Start in
     let n = c.size_at-size.ensures r.s.here r.s.above r.at.left in
-    let f = first-fits c.args.part.now.bytes c.args.first c.requires.sound.0 c.requires.sound.1 in
+    let i = c.requires.sound.1 in
+    let f = first-small i.lays i.unused i.lays.unused_slots in
     grind arith
 
 pub returns-clause-lays : goal.returns-clause-lays

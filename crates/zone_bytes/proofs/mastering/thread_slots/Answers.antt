@@ -1,5 +1,5 @@
 use Rattle.std.proofs.Common.{arith}
-use Rattle.zone_bytes.proofs.Placed.Threads.{threading-start, threading-step, threaded}
+use Rattle.zone_bytes.proofs.Placed.MastersCarved.{threading-start, threading-step, threaded}
 use Rattle.zone_bytes.proofs.mastering.thread_slots.Goals as goal
 
 pub loop-slot-init : goal.loop-slot-init

@@ -1,7 +1,7 @@
-use Rattle.std.proofs.Common.{◌+◌, ap, arith}
+use Rattle.std.proofs.Common.{◌+◌, ap, arith, refl}
 use Rattle.mac_words.specs.Size.{padded}
 use Rattle.block_store.specs.Block.{size}
-use Rattle.zone_bytes.proofs.Placed.Carved.{Roomy, roomy, may-lay, nonrelocatable-lays}
+use Rattle.zone_bytes.proofs.Placed.Carved.{Roomy, roomy, may-carve, nonrelocatable-lays}
 use Rattle.zone_bytes.proofs.placing.carve_nonrelocatable.Goals as goal
 use Rattle.zone_bytes.proofs.placing.carve_nonrelocatable.Goals.{Start}
 
@@ -22,7 +22,7 @@ padded_size-requires c = let r = here (goal.at.padded_size-requires c).Start in 
 pub lay_block-requires : goal.lay_block-requires
 lay_block-requires c =
     let r = here (goal.at.lay_block-requires c).Start in
-    may-lay _ _ _ _ _ r (grind arith) c.padded_size.ensures
+    may-carve _ _ _ _ r (grind arith) _ c.padded_size.ensures refl
 
 pub returns-clause-lays : goal.returns-clause-lays
 returns-clause-lays c = λ first unused i.

@@ -1,10 +1,10 @@
-use Rattle.std.proofs.Common.{◌-◌, ◌≡◌, length}
+use Rattle.std.proofs.Common.{◌-◌}
+use Rattle.zone_bytes.specs.Beside.{KeepsPlace}
 use Rattle.zone_bytes.specs.Pointing.{Pointing}
 use Rattle.zone_bytes.proofs.pointing.lead_run.Given as goal
 
 abbrev pub invariant-loop-from : goal.invariant-loop-from
-invariant-loop-from g l = Pointing g.lay l.stop l.from l.part.bytes × (l.part.home ≡ l.initial.part.home)
-    × (l.part.at ≡ l.initial.part.at) × (length l.part.bytes ≡ length l.initial.part.bytes)
+invariant-loop-from g l = Pointing g.lay l.from l.part.bytes × KeepsPlace l.initial.part l.part
 
 abbrev pub decreases-loop-from : goal.decreases-loop-from
 decreases-loop-from g l = l.stop - l.from

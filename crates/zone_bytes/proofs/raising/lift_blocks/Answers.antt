@@ -1,22 +1,27 @@
-use Rattle.std.proofs.Common.{length, ap, arith}
+use Rattle.std.proofs.Common.{arith}
 use Rattle.zone_bytes.proofs.Runs.Raises.{wide, evens, raised-none, raised-rest}
 use Rattle.zone_bytes.proofs.raising.lift_blocks.Goals as goal
 
 pub slide-requires : goal.slide-requires
-slide-requires g c = grind (arith, wide)
+slide-requires g c = let w = wide _ _ _ _ _ _ c.requires in grind arith
 
 pub write_word-requires : goal.write_word-requires
-write_word-requires g c = (omega (arith, evens), omega (arith, wide, ap length c.requires.0))
+write_word-requires g c = (omega (arith, evens), omega (arith, wide))
 
 pub write_word-requires-then-gap-stop : goal.write_word-requires-then-gap-stop
-write_word-requires-then-gap-stop g c = (omega (arith, evens), omega (arith, wide, evens, ap length c.requires.0))
+write_word-requires-then-gap-stop g c = (omega (arith, evens), omega (arith, wide, evens))
 
-pub returns-then-gap-stop-clause-raised : goal.returns-then-gap-stop-clause-raised
-returns-then-gap-stop-clause-raised g c =
-    rw (c.write_word-then-gap-stop.ensures.bytes, c.write_word.ensures.bytes, c.slide.ensures.bytes, c.requires.0)
-    (raised-rest _ _ _ _ _ c.requires.1 c.if-gap-stop.true)
+pub returns-then-gap-stop-clause-lifted : goal.returns-then-gap-stop-clause-lifted
+returns-then-gap-stop-clause-lifted g c =
+    rw (c.write_word-then-gap-stop.ensures.bytes, c.write_word.ensures.bytes, c.slide.ensures.bytes)
+    (raised-rest _ _ _ _ _ _ c.requires c.if-gap-stop.true)
 
-pub returns-else-gap-stop-clause-raised : goal.returns-else-gap-stop-clause-raised
-returns-else-gap-stop-clause-raised g c =
-    rw (c.write_word.ensures.bytes, c.slide.ensures.bytes, c.requires.0)
-    (raised-none _ _ _ _ _ c.requires.1 c.if-gap-stop.false)
+pub returns-else-gap-stop-clause-lifted : goal.returns-else-gap-stop-clause-lifted
+returns-else-gap-stop-clause-lifted g c =
+    rw (c.write_word.ensures.bytes, c.slide.ensures.bytes) (raised-none _ _ _ _ _ _ c.requires c.if-gap-stop.false)
+
+pub overflow_add-place : goal.overflow_add-place
+overflow_add-place g c = omega (arith, wide)
+
+pub overflow_sub-stop : goal.overflow_sub-stop
+overflow_sub-stop g c = omega (arith, wide)

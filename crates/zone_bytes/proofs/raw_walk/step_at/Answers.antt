@@ -1,7 +1,5 @@
 use Rattle.std.proofs.Common.{arith}
-use Rattle.zone_bytes.proofs.Tiles.Tags.{tag-small}
-use Rattle.zone_bytes.proofs.Places.Stepped.{stepped, may-read}
-use Rattle.zone_bytes.proofs.Places.Steps.{steps}
+use Rattle.zone_bytes.proofs.Places.Stepped.{stepped-read, may-read, steps}
 use Rattle.zone_bytes.proofs.raw_walk.step_at.Goals as goal
 
 pub read_header-header-requires : goal.read_header-header-requires
@@ -9,9 +7,8 @@ read_header-header-requires c = may-read _ _ c.requires.way c.requires.some
 
 pub overflow_add-result : goal.overflow_add-result
 overflow_add-result c =
-    let e = c.read_header-header.ensures in
-    let s = stepped _ _ c.requires.way c.requires.some _ _ e.first e.size (tag-small c.read_header-header.result.tag) in
+    let s = stepped-read _ _ c.requires.way c.requires.some _ c.read_header-header.ensures in
     omega arith
 
 pub returns : goal.returns
-returns c = grind (arith, steps)
+returns c = steps _ _ c.requires.way c.requires.some _ c.read_header-header.ensures _ c.seen_of.ensures

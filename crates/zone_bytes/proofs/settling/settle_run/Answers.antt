@@ -1,7 +1,6 @@
 use Rattle.std.proofs.Common.{◌≡◌, [], arith, rules}
 use Rattle.zone_bytes.specs.Settling.{UntilAt, rest_from}
-use Rattle.zone_bytes.proofs.Runs.Led.{settled-led}
-use Rattle.zone_bytes.proofs.Runs.Until.{all-gone, whole}
+use Rattle.zone_bytes.proofs.Runs.Settled.{all-gone, settled-led, whole}
 use Rattle.zone_bytes.proofs.settling.settle_run.Goals.{After-pack_until}
 use Rattle.zone_bytes.proofs.settling.settle_run.Given.{Over}
 use Rattle.zone_bytes.proofs.settling.settle_run.Goals as goal

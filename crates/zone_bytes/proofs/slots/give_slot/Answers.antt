@@ -1,33 +1,15 @@
-use Rattle.std.proofs.Common.{arith, rules}
-use Rattle.zone_bytes.proofs.SlotTable.Tables.{slot-in}
-use Rattle.zone_bytes.proofs.SlotTable.Taking.{used-slot, first-fits, given}
+use Rattle.std.proofs.Common.{arith}
+use Rattle.zone_bytes.proofs.SlotTable.Slotted.{slot-fits, first-fits, given}
 use Rattle.zone_bytes.proofs.slots.give_slot.Goals as goal
 
 pub overflow_mul-first : goal.overflow_mul-first
-overflow_mul-first c =
-    let t = c.requires.0 in
-    let q = c.requires.1 in
-    omega (
-      arith,
-      (first-fits c.args.part.now.bytes t.blocks t.slots t.unused q.lays c.args.slot q.resource q.used
-          q.apart),
-    )
+overflow_mul-first c = omega (arith, first-fits c.requires.1)
 
 pub overflow_add-first : goal.overflow_add-first
-overflow_add-first c =
-    let t = c.requires.0 in
-    let q = c.requires.1 in
-    omega (
-      arith,
-      (first-fits c.args.part.now.bytes t.blocks t.slots t.unused q.lays c.args.slot q.resource q.used
-          q.apart),
-    )
+overflow_add-first c = omega (arith, first-fits c.requires.1)
 
 pub write_word-requires : goal.write_word-requires
-write_word-requires c =
-    let t = c.requires.0 in
-    let q = c.requires.1 in
-    slot-in _ _ t.slots _ q.lays _ (used-slot _ _ t.slots _ q.lays _ _ q.used q.apart)
+write_word-requires c = slot-fits c.requires.1
 
 pub returns-clause-lays : goal.returns-clause-lays
-returns-clause-lays c = λ t q. rw (c.write_word.ensures.bytes, q.begins) (search (rules, given))
+returns-clause-lays c = λ t q. rw c.write_word.ensures.bytes (given q)
