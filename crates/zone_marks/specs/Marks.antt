@@ -1,8 +1,7 @@
 -- Landmarks of a zone: places at which blocks begin, each with a bound on the free blocks up to the next.
-use Rattle.std.specs.Prelude.{◌≡◌, ℕ, ◌+◌, ◌*◌, ◌≤◌, ◌<◌, ◌⊎◌, Bool, true, false, not, ◌&&◌, if◌then◌else◌, nat_le}
-use Rattle.std.specs.Prelude.{nat_lt}
-use Rattle.std.specs.Prelude.{List, [], ◌∷◌, length, take, drop, get_or}
-use Rattle.block_store.specs.Block.{Block, size, free_of, is_room}
+use Rattle.std.specs.Prelude.{◌≡◌, ℕ, ◌+◌, ◌*◌, ◌^◌, ◌≤◌, ◌<◌, ◌⊎◌, Bool, true, false, not, ◌&&◌, if◌then◌else◌, nat_le}
+use Rattle.std.specs.Prelude.{nat_lt, List, [], ◌∷◌, length, take, drop, get_or}
+use Rattle.block_store.specs.Block.{Block, size, sizes, free_of, is_room}
 use Rattle.block_store.specs.Run.{in_run}
 use Rattle.zone_bytes.specs.Stepping.{left_in, IsOnWay}
 use Rattle.zone_marks.specs.declared.landmark.Group.{Group}
@@ -75,13 +74,19 @@ abbrev pub next_of : ℕ → List Landmark → ℕ
 next_of end [] = end
 next_of end (m ∷ marks) = m.at
 
--- A block begins at each landmark, no free block from a landmark up to the next is larger than the landmark notes, the
--- landmark's tallies are of the blocks there, and the landmarks are in order of place.
+-- A block begins at the landmark, no free block from there up to the place `to`, which is no lower, is larger than the
+-- landmark notes, and the landmark's tallies are of the blocks there.
+pub record IsMark (to : ℕ) (zone : List Block) (m : Landmark) : Type 0 where
+  pub begins : Begins m.at 0 zone
+  pub most : AtEach (AtMost m.most m.at to) 0 zone
+  pub tells : AreTold m.tally (between m.at to 0 zone)
+  pub order : m.at ≤ to
+
+-- Each landmark is one of the zone, up to the next.
 -- See decision 147 (landmarks rise; that they stand in their pages is no invariant).
 abbrev pub AreMarks : ℕ → List Block → List Landmark → Type 0
 AreMarks end zone [] = Unit {0}
-AreMarks end zone (m ∷ marks) = Begins m.at 0 zone × AtEach (AtMost m.most m.at (next_of end marks)) 0 zone
-    × AreTold m.tally (between m.at (next_of end marks) 0 zone) × (m.at ≤ next_of end marks) × AreMarks end zone marks
+AreMarks end zone (m ∷ marks) = IsMark (next_of end marks) zone m × AreMarks end zone marks
 
 -- What two tallies tell of the blocks of both, those of `low` first; nothing where one of them tells nothing.
 abbrev pub join_tallies : Tally → Tally → Tally
@@ -99,9 +104,9 @@ abbrev pub known_load : Tally → ℕ
 known_load (tally.Known stretch) = load stretch
 known_load tally.Unknown = 0
 
-abbrev pub known_loads : Counting → List Landmark → ℕ
-known_loads c [] = 0
-known_loads c (m ∷ marks) = known_load (told c m.tally) + known_loads c marks
+-- Landmarks of a zone.
+abbrev pub AreOfZone : List Landmark → Type 0
+AreOfZone marks = (end : ℕ) × (zone : List Block) × (sizes zone < 2 ^ 32) × AreMarks end zone marks
 
 -- A group that stands for none.
 abbrev pub no_group : Group
@@ -111,14 +116,16 @@ no_group = record { most = 0; tally = nothing }
 abbrev pub marks_in : ℕ → List Landmark → List Landmark
 marks_in group marks = take GROUP (drop (GROUP * group) marks)
 
--- The landmarks are in groups, no landmark of a group notes more than the group does, and where a group knows what its
--- blocks come to, its landmarks do.
+-- No landmark of a group notes more than the group does, and where the group knows what its blocks come to, its
+-- landmarks do.
+pub record IsGroup (g : Group) (marks : List Landmark) : Type 0 where
+  pub most : (index : ℕ) → index < length marks → (get_or marks index no_mark).most ≤ g.most
+  pub known : (c : Counting) (s : Stretch) → told c g.tally ≡ tally.Known s → tally_of c marks ≡ tally.Known s
+
+-- The landmarks are in groups.
 pub record AreGroups (groups : List Group) (marks : List Landmark) : Type 0 where
   pub whole : length marks ≡ GROUP * length groups
-  pub each : (group index : ℕ) → GROUP * group ≤ index → index < GROUP * group + GROUP → index < length marks
-      → (get_or marks index no_mark).most ≤ (get_or groups group no_group).most
-  pub known : (c : Counting) (group : ℕ) (s : Stretch) → group < length groups
-      → told c (get_or groups group no_group).tally ≡ tally.Known s → tally_of c (marks_in group marks) ≡ tally.Known s
+  pub each : (group : ℕ) → group < length groups → IsGroup (get_or groups group no_group) (marks_in group marks)
 
 -- No free block of `bytes` bytes or more lies below the landmark at `index`; if there is no such landmark, none lies
 -- in the zone.

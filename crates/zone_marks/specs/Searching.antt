@@ -1,6 +1,6 @@
 -- Searches for a run that use the landmarks of a zone.
-use Rattle.std.specs.Prelude.{◌≡◌, ℕ, ◌+◌, ◌≤◌, ◌<◌, ◌⊎◌, ◌&&◌, nat_le, true, Option, None, List, ◌++◌, length}
-use Rattle.std.specs.Prelude.{get_or}
+use Rattle.std.specs.Prelude.{◌≡◌, ℕ, ◌+◌, ◌≤◌, ◌<◌, ◌⊎◌, true, Option, None, List, [], ◌++◌, length}
+use Rattle.std.specs.Prelude.{drop}
 use Rattle.std.specs.Option.{option_map}
 use Rattle.block_store.specs.Block.{Block, sizes}
 use Rattle.block_store.specs.Inner.RunScan.{scan_from, suits}
@@ -10,31 +10,40 @@ use Rattle.block_store.specs.declared.run_search.RunScan.{RunScan}
 use Rattle.block_store.specs.declared.sparing.Sparing.{Sparing}
 use Rattle.block_store.specs.declared.sparing.Sparing.TheVariants as sparing
 use Rattle.zone_bytes.specs.Decode.{zone_in}
+use Rattle.zone_bytes.specs.Lawful.{IsSound}
 use Rattle.zone_bytes.specs.Changes.{Begins}
-use Rattle.zone_marks.specs.Marks.{IsTally, no_mark}
-use Rattle.zone_bytes.specs.Stepping.{left_in, IsOnWay}
+use Rattle.zone_marks.specs.Marks.{AreGroups, AreMarks, IsTally, above_all, next_of}
+use Rattle.zone_bytes.specs.Stepping.{left_in}
 use Rattle.zone_marks.specs.declared.beginning.Passed.{Passed}
-use Rattle.zone_marks.specs.declared.finding_runs.Reached.{Reached}
+use Rattle.zone_marks.specs.declared.landmark.Group.{Group}
 use Rattle.zone_marks.specs.declared.landmark.Landmark.{Landmark}
 use Rattle.zone_marks.specs.declared.landmark.Tally.{Tally}
-use Rattle.zone_summary.specs.Stretches.{is_ended, join, stretch_of}
+use Rattle.zone_marks.specs.declared.landmark.Tally.TheVariants as tally
+use Rattle.zone_summary.specs.Stretches.{best, is_ended, join, stretch_of}
 use Rattle.zone_summary.specs.declared.stretch.Counting.{Counting}
+use Rattle.zone_summary.specs.declared.stretch.Counting.TheVariants as counting
 use Rattle.zone_summary.specs.declared.stretch.Stretch.TheVariants.{Whole}
 
--- The run so far has at least `bytes` free bytes, and the block that it must have.
-abbrev pub IsFound : ℕ → RunScan → Type 0
-IsFound bytes s = (s.met && nat_le bytes s.free) ≡ true
+-- Bytes spell a sound zone, and the landmarks and their groups are those of the zone.
+pub record HasMarks (xs : List ℕ) (all : List Landmark) (in_groups : List Group) : Type 0 where
+  pub sound : (first : ℕ) × (unused : ℕ) × IsSound xs first unused
+  pub marks : AreMarks above_all (zone_in xs) all
+  pub groups : AreGroups in_groups all
 
 -- A search that begins at the place `at` with the given number of purges.
 abbrev pub begun : ℕ → ℕ → RunScan
 begun at purges = record { left = purges; start = at; free = 0; met = true; place = at }
 
--- The place of the run that a search finds, by the blocks from where it is on.
-abbrev pub finds_in : ℕ → RunScan → List Block → Option ℕ
-finds_in bytes s above = scan_from None bytes (spared sparing.Nothing) s above
+-- The place of the run that a search with purges finds, by the blocks from where it is on.
+abbrev pub finds_in : ℕ → Sparing → RunScan → List Block → Option ℕ
+finds_in bytes n s above = scan_from None bytes (spared n) s (opened n above)
 
-abbrev pub finds_from : ℕ → RunScan → List ℕ → Option ℕ
-finds_from bytes s xs = finds_in bytes s (left_in s.place xs)
+abbrev pub finds_purging : ℕ → Sparing → RunScan → List ℕ → Option ℕ
+finds_purging bytes n s xs = finds_in bytes n s (left_in s.place xs)
+
+-- The place of the lowest run of a zone with `bytes` free bytes or more.
+abbrev pub lowest_place : ℕ → List Block → Option ℕ
+lowest_place bytes zone = option_map (λ (r : RunSpot). sizes r.below) (run_spot (suits None bytes) zone)
 
 -- The blocks `here` are those from the place `from` up to the place `to`.
 pub record IsPiece (from to : ℕ) (xs : List ℕ) (here : List Block) : Type 0 where
@@ -46,68 +55,41 @@ pub record IsPiece (from to : ℕ) (xs : List ℕ) (here : List Block) : Type 0 
 abbrev pub IsStretch : Counting → Tally → ℕ → ℕ → List ℕ → Type 0
 IsStretch c t from to xs = (here : List Block) × IsPiece from to xs here × IsTally c t here
 
--- A search with no purges left.
+-- A search is at a place at which a block begins, or at the zone's end, and its run need have no block.
 pub record IsReady (xs : List ℕ) (s : RunScan) : Type 0 where
   pub begins : Begins s.place 0 (zone_in xs)
-  pub left : s.left ≡ 0
   pub met : s.met ≡ true
   pub free : s.free ≤ s.place
-
--- A search from the state `s` on is at the place `at`, or has found a run, whatever blocks are from there on.
-pub record IsKnown (bytes : ℕ) (s : RunScan) (at : ℕ) (xs : List ℕ) (r : RunScan) : Type 0 where
-  pub ready : IsReady xs r
-  pub here : List Block
-  pub piece : IsPiece s.place at xs here
-  pub finds : (above : List Block) → finds_in bytes s (here ++ above) ≡ finds_in bytes r above
-  pub came : IsFound bytes r ⊎ (r.place ≡ at)
 
 -- A search went past blocks from one state to another, whatever blocks are above them.
 pub record Goes (bytes : ℕ) (n : Sparing) (xs : List ℕ) (s r : RunScan) : Type 0 where
   pub done : List Block
-  pub is : left_in s.place xs ≡ done ++ left_in r.place xs
-  pub up : s.place + sizes done ≡ r.place
-  pub way : IsOnWay r.place xs
-  pub same : (above : List Block) → scan_from None bytes (spared n) s (opened n (done ++ above))
-      ≡ scan_from None bytes (spared n) r (opened n above)
+  pub piece : IsPiece s.place r.place xs done
+  pub ready : IsReady xs r
+  pub left : r.left ≤ s.left
+  pub same : (above : List Block) → finds_in bytes n s (done ++ above) ≡ finds_in bytes n r above
 
--- One of the blocks that were passed ends a run: one of those from `barred` up to `end`. Those above are `high`.
-pub record IsBarred (from : ℕ) (xs : List ℕ) (here high : List Block) (p : Passed) : Type 0 where
+-- A search from the bottom on, with no purges, is at the place `to`.
+abbrev pub IsKnown : ℕ → ℕ → List ℕ → RunScan → Type 0
+IsKnown bytes to xs r = Goes bytes sparing.Nothing xs (begun 0 0) r × (r.place ≡ to)
+
+-- The blocks below the place `p.at` were passed: `mid` are those from `p.barred` up to `p.end`, of which one ends a run
+-- unless there are no blocks below them.
+pub record IsPassed (xs : List ℕ) (p : Passed) : Type 0 where
   pub low : List Block
   pub mid : List Block
-  pub is : here ≡ low ++ (mid ++ high)
-  pub up : from + sizes low ≡ p.barred
-  pub edge : Begins p.barred 0 (zone_in xs)
+  pub below : IsPiece 0 p.barred xs low
   pub piece : IsPiece p.barred p.end xs mid
-  pub ended : is_ended (stretch_of mid) ≡ true
+  pub above : IsStretch counting.Runs (tally.Known (Whole p.free)) p.end p.at xs
+  pub sums : p.runs ≡ join (stretch_of (low ++ mid)) (Whole p.free)
+  pub ended : (is_ended (stretch_of mid) ≡ true) ⊎ (low ≡ [])
 
--- A search passed blocks from where it is up to the place `at`.
-pub record IsPassed (s : RunScan) (at : ℕ) (xs : List ℕ) (p : Passed) : Type 0 where
-  pub here : List Block
-  pub piece : IsPiece s.place at xs here
-  pub sums : join (Whole s.free) (stretch_of here) ≡ p.runs
-  pub high : List Block
-  pub high_piece : IsPiece p.end at xs high
-  pub goes_on : stretch_of high ≡ Whole p.free
-  pub barred : is_ended p.runs ≡ true → IsBarred s.place xs here high p
+-- The place of the landmark at an index, or the zone's end if there is none.
+abbrev pub place_at : ℕ → List Landmark → List ℕ → ℕ
+place_at index marks xs = next_of (length xs) (drop index marks)
 
--- The place to which a search by landmarks goes below the landmark at an index: that of the landmark, or the zone's end if
--- there is none.
-pub record IsBefore (index : ℕ) (marks : List Landmark) (xs : List ℕ) (next : ℕ) : Type 0 where
-  pub edge : Begins next 0 (zone_in xs)
-  pub here : index < length marks → next ≡ (get_or marks index no_mark).at
-  pub end : length marks ≤ index → length xs ≤ next
-
--- A search has come, by landmarks, to the landmark at an index, or to the zone's end.
-pub record HasCome (s : RunScan) (marks : List Landmark) (xs : List ℕ) (r : Reached) : Type 0 where
-  pub ready : IsReady xs s
-  pub passed : IsPassed s r.at xs r.passed
-  pub before : IsBefore r.index marks xs r.at
-  pub inside : r.index ≤ length marks
-
--- The place of the lowest run of a zone with `bytes` free bytes or more.
-abbrev pub lowest_place : ℕ → List Block → Option ℕ
-lowest_place bytes zone = option_map (λ (r : RunSpot). sizes r.below) (run_spot (suits None bytes) zone)
-
--- The place of the run that a search with purges finds from where it is.
-abbrev pub finds_purging : ℕ → Sparing → RunScan → List ℕ → Option ℕ
-finds_purging bytes n s xs = scan_from None bytes (spared n) s (opened n (left_in s.place xs))
+-- The blocks below a landmark, or below the zone's end, were passed, and none of their runs has `bytes` free bytes.
+pub record HasCome (bytes : ℕ) (marks : List Landmark) (xs : List ℕ) (p : Passed) : Type 0 where
+  pub passed : IsPassed xs p
+  pub at : p.at ≡ place_at p.index marks xs
+  pub short : best p.runs < bytes

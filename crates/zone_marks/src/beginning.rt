@@ -1,88 +1,92 @@
 //! The state of a search for a run behind blocks that it passed by what landmarks know of them, and so where the search
 //! for a run after all purges begins: the blocks below the lowest one that may be purged are not walked over.
 
-ghost use Rattle.std.specs.Prelude.{◌≡◌, ◌+◌, ◌≤◌, ◌<◌, ◌⊎◌, ◌&&◌, ◌^◌, ℕ, true, false, nat_le, List};
-ghost use Rattle.std.specs.Prelude.{get_or, length, IfSome};
-ghost use Rattle.block_store.specs.Block.{Block, free_sum};
-ghost use Rattle.block_store.specs.Run.{has};
-ghost use Rattle.block_store.specs.declared.run_search.RunScan.{RunScan as RunOf};
+ghost use Rattle.std.specs.Prelude.{◌≡◌, ◌+◌, ◌≤◌, ◌<◌, ◌⊎◌, ℕ};
+ghost use Rattle.std.specs.Prelude.{length, IfSome};
 ghost use Rattle.zone_bytes.specs.Decode.{zone_in};
 ghost use Rattle.zone_bytes.specs.Lawful.{IsSound};
-ghost use Rattle.zone_marks.specs.Marks.{AreMarks, above_all, ends_run, no_mark};
+ghost use Rattle.zone_marks.specs.Marks.{AreMarks, above_all};
 ghost use Rattle.zone_bytes.specs.Changes.{Begins};
-ghost use Rattle.zone_marks.specs.Purgeable.{MayStart};
-ghost use Rattle.zone_marks.specs.Searching.{Goes, IsFound, IsKnown, IsPassed, IsPiece, IsReady};
-ghost use Rattle.zone_marks.specs.Searching.{begun, finds_purging, lowest_place};
+ghost use Rattle.zone_marks.specs.Searching.{Goes, HasCome, IsKnown, IsPassed, IsReady};
+ghost use Rattle.zone_marks.specs.Searching.{IsStretch, begun, place_at};
 ghost use Rattle.zone_bytes.specs.Stepping.{left_in};
-ghost use Rattle.zone_summary.specs.Emptied.{all_purged};
-ghost use Rattle.zone_summary.specs.Stretches.{best, load, prefix, stretch_of, suffix};
+ghost use Rattle.zone_summary.specs.Stretches.{best};
+ghost use Rattle.zone_summary.specs.declared.stretch.Counting.TheVariants as counting;
 
 use crate::landmark::{Landmark, Tally};
+use crate::largest::edge_of;
 use crate::marking::index_above;
-use crate::measuring::within;
-use crate::purgeable::frees_one;
-use block_store::{GREATEST_ZONE, RunScan, Sparing, scan_run};
+use block_store::{RunScan, Sparing, scan_run};
 use raw_region::Part;
 use zone_bytes::step_at;
 use zone_summary::Stretch;
 
-/// What is known of blocks that were passed: what they come to in runs, with the free bytes so far of the run in which
-/// they begin. From the place `end` on none of them ends a run, and `free` bytes are free; if one ends a run, the last one
-/// that does is between the places `barred` and `end`.
+/// What is known of the blocks below the place `at`, which were passed: what they come to in runs. From the place `end`
+/// on none of them ends a run, and `free` bytes are free; if one ends a run, the last one that does is between the
+/// places `barred` and `end`. The landmark at `index` stands at the place; where there is none, it is the zone's end.
 #[derive(Clone, Copy, Drop)]
 pub struct Passed {
     pub runs: Stretch,
     pub barred: u32,
     pub end: u32,
     pub free: u32,
+    pub at: u32,
+    pub index: usize,
 }
 
-/// Returns what is known of the blocks that were passed up to the place `at`, and of those from there up to `next`, which
-/// come to `runs`.
-pub fn pass_known(passed: Passed, at: u32, runs: Stretch, next: u32) -> Passed
-    requires joins { suffix passed.runs + prefix runs < 2 ^ 32 }
-    requires sums { passed.free + load runs < 2 ^ 32 }
-    ensures { (xs : List ℕ) (scan : RunOf) (here : List Block) → IsPassed scan at xs passed
-        → Begins at 0 (zone_in xs) → IsPiece at next xs here → stretch_of here ≡ runs → IsPassed scan next xs result }
+/// No blocks were passed.
+pub const NOTHING: Passed = Passed {
+    runs: Stretch::NONE,
+    barred: 0,
+    end: 0,
+    free: 0,
+    at: 0,
+    index: 0,
+};
+
+/// Takes a search past the stretches of the landmarks below the index `behind`, whose blocks `tally` is of; `None`
+/// where it isn't known what they come to in runs, or where a run has `bytes` free bytes with them.
+pub fn pass_up_to(
+    marks: &[Landmark],
+    part: &Part,
+    passed: Passed,
+    tally: Tally,
+    behind: usize,
+    bytes: u32,
+) -> Option<Passed>
+    requires sound { (first : ℕ) × (unused : ℕ) × IsSound part.now.bytes first unused }
+    requires inside { behind ≤ length marks.now }
+    requires come { HasCome bytes marks.now part.now.bytes passed }
+    requires stretch { IsStretch counting.Runs tally passed.at (place_at behind marks.now part.now.bytes)
+        part.now.bytes }
+    ensures behind { IfSome result (λ p. p.index ≡ behind) }
+    ensures come { IfSome result (λ p. HasCome bytes marks.now part.now.bytes p) }
 {
-    let all = passed.runs.join(runs);
-    match runs {
-        Stretch::Whole(free) => Passed {
-            runs: all,
-            barred: passed.barred,
-            end: passed.end,
+    let next = edge_of(marks, part, behind);
+    let Tally::Known(stretch) = tally else {
+        return None;
+    };
+    let runs = passed.runs.join(stretch);
+    if bytes <= runs.best() {
+        return None;
+    }
+    match stretch {
+        Stretch::Whole(free) => Some(Passed {
+            runs,
             free: passed.free + free,
-        },
-        Stretch::Ended(_, _, _) => Passed {
-            runs: all,
-            barred: at,
+            at: next,
+            index: behind,
+            ..passed
+        }),
+        Stretch::Ended(_, _, _) => Some(Passed {
+            runs,
+            barred: passed.at,
             end: next,
             free: 0,
-        },
+            at: next,
+            index: behind,
+        }),
     }
-}
-
-/// Returns what is known of the blocks below a landmark, where each lower landmark knows what its blocks come to in runs.
-fn below_mark(marks: &[Landmark], part: &Part, last: usize) -> Option<Passed>
-    requires sound { (first : ℕ) × (unused : ℕ) × IsSound part.now.bytes first unused }
-    requires marks { AreMarks above_all (zone_in part.now.bytes) marks.now }
-    requires inside { last < length marks.now }
-    requires bottom { (get_or marks.now 0 no_mark).at ≡ 0 }
-    ensures { IfSome result (λ below. IsPassed (begun 0 0) (get_or marks.now last no_mark).at part.now.bytes below) }
-{
-    let mut below = Passed {
-        runs: Stretch::NONE,
-        barred: 0,
-        end: 0,
-        free: 0,
-    };
-    for index in 0..last {
-        let Tally::Known(runs) = marks[index].tally.runs else {
-            return None;
-        };
-        below = pass_known(below, marks[index].at, runs, marks[index + 1].at);
-    }
-    Some(below)
 }
 
 /// Returns a search that begins at `place` with the given number of purges.
@@ -98,125 +102,54 @@ pub fn begun_at(place: u32, purges: u32) -> RunScan
     }
 }
 
-/// Reports whether the run so far is the one that is sought.
-pub fn is_found(scan: RunScan, bytes: u32) -> bool
-    ensures { result ≡ (scan.met && nat_le bytes scan.free) }
-{
-    scan.met && bytes <= scan.free
-}
-
-/// Searches up to the first block at or above `to`, or until the run is found.
-pub fn scan_up_to(part: &Part, scan: RunScan, to: u32, bytes: u32, sparing: Sparing) -> RunScan
+/// Searches up to the place `stop`, or until the run is found.
+pub fn scan_up_to(part: &Part, scan: RunScan, stop: u32, bytes: u32, sparing: Sparing) -> RunScan
     requires sound { (first : ℕ) × (unused : ℕ) × IsSound part.now.bytes first unused }
-    requires begins { Begins scan.place 0 (zone_in part.now.bytes) }
-    requires free { scan.free ≤ scan.place }
-    requires met { scan.met ≡ true }
+    requires ready { IsReady part.now.bytes scan }
+    requires stop { Begins stop scan.place (left_in scan.place part.now.bytes) }
     ensures goes { Goes bytes sparing part.now.bytes scan result }
-    ensures free { result.free ≤ result.place }
-    ensures met { result.met ≡ true }
-    ensures left { result.left ≤ scan.left }
-    ensures came { IsFound bytes result ⊎ ((length part.now.bytes ≤ result.place) ⊎ (to ≤ result.place)) }
-    ensures up_to { Begins to scan.place (left_in scan.place part.now.bytes) → result.place ≤ to }
+    ensures up_to { result.place ≤ stop }
+    ensures came { (bytes ≤ result.free) ⊎ (result.place ≡ stop) }
 {
-    let stop = within(to, part.len() as u32);
     let mut scan = scan;
-    while scan.place < stop && !is_found(scan, bytes) {
+    while scan.place < stop && scan.free < bytes {
         let step = step_at(part, scan.place);
         scan = scan_run(step.block, None, scan, sparing);
     }
     scan
 }
 
-/// Takes a search up to the place `next` past blocks among which no run ends and of which `free` bytes are free.
-fn past_open(scan: RunScan, free: u32, next: u32, bytes: u32) -> RunScan
-    requires { (scan.met && nat_le bytes scan.free) ≡ false → scan.free + free < 2 ^ 32 }
-    ensures { (from : RunOf) (at : ℕ) (xs : List ℕ) (here : List Block) → IsKnown bytes from at xs scan
-        → IsPiece at next xs here → has ends_run here ≡ false → free_sum here ≡ free
-        → IsKnown bytes from next xs result }
-{
-    if is_found(scan, bytes) {
-        return scan;
-    }
-    RunScan {
-        left: scan.left,
-        start: scan.start,
-        free: scan.free + free,
-        met: scan.met,
-        place: next,
-    }
-}
-
-/// Returns the state at the place `at` of a search that passed blocks up to there.
-pub fn behind_passed(part: &Part, scan: RunScan, passed: Passed, at: u32, bytes: u32) -> RunScan
+/// Returns the state of a search from the bottom on, with no purges, behind the blocks that it passed.
+pub fn behind_passed(part: &Part, passed: Passed, bytes: u32) -> RunScan
     requires sound { (first : ℕ) × (unused : ℕ) × IsSound part.now.bytes first unused }
-    requires ready { IsReady part.now.bytes scan }
-    requires passed { IsPassed scan at part.now.bytes passed }
+    requires passed { IsPassed part.now.bytes passed }
     requires short { best passed.runs < bytes }
-    ensures { IsKnown bytes scan at part.now.bytes result }
+    ensures { IsKnown bytes passed.at part.now.bytes result }
 {
-    match passed.runs {
-        Stretch::Whole(free) => RunScan {
-            left: scan.left,
-            start: scan.start,
-            free,
-            met: scan.met,
-            place: at,
-        },
-        Stretch::Ended(_, _, _) => {
-            let begun = begun_at(passed.barred, 0);
-            let walked = scan_up_to(part, begun, passed.end, bytes, Sparing::Nothing);
-            past_open(walked, passed.free, at, bytes)
-        }
+    let begun = begun_at(passed.barred, 0);
+    let walked = scan_up_to(part, begun, passed.end, bytes, Sparing::Nothing);
+    RunScan {
+        free: walked.free + passed.free,
+        place: passed.at,
+        ..walked
     }
 }
 
-/// Returns the state at the place `from` of a search from the bottom on; `None` where it isn't known that no run
-/// below the place has `bytes` free bytes.
-fn run_below(marks: &[Landmark], part: &Part, from: u32, bytes: u32) -> Option<RunScan>
+/// Returns the state of a search from the bottom on, with no purges, at the place `from`; `None` where it isn't known
+/// that no run below the place has `bytes` free bytes.
+pub fn run_below(marks: &[Landmark], part: &Part, from: u32, bytes: u32) -> Option<RunScan>
     requires sound { (first : ℕ) × (unused : ℕ) × IsSound part.now.bytes first unused }
     requires marks { AreMarks above_all (zone_in part.now.bytes) marks.now }
-    ensures { IfSome result (λ scan. IsKnown bytes (begun 0 0) from part.now.bytes scan) }
+    ensures { IfSome result (λ scan. IsKnown bytes from part.now.bytes scan) }
 {
     let last = index_above(marks, from, 0);
-    if last == marks.len() || marks[last].at != from || marks[0].at != 0 {
+    if last == marks.len() || marks[last].at != from || edge_of(marks, part, 0) != 0 || bytes == 0 {
         return None;
     }
-    let below = below_mark(marks, part, last)?;
-    if bytes <= below.runs.best() {
-        return None;
+    let mut passed = NOTHING;
+    while passed.index < last {
+        let tally = marks[passed.index].tally.runs;
+        passed = pass_up_to(marks, part, passed, tally, passed.index + 1, bytes)?;
     }
-    Some(behind_passed(part, begun_at(0, 0), below, from, bytes))
-}
-
-/// Returns where the search for a run with `bytes` free bytes once all blocks that may be purged were begins: at the
-/// place `from`, up to which no block may be purged, or at the bottom. It has more purges than a zone has blocks.
-pub fn begin_search(
-    marks: &[Landmark],
-    part: &Part,
-    from: u32,
-    bytes: u32,
-    sparing: Sparing,
-) -> RunScan
-    requires sound { (first : ℕ) × (unused : ℕ) × IsSound part.now.bytes first unused }
-    requires marks { AreMarks above_all (zone_in part.now.bytes) marks.now }
-    requires from { MayStart from (zone_in part.now.bytes) }
-    ensures begins { Begins result.place 0 (zone_in part.now.bytes) }
-    ensures free { result.free ≤ result.place }
-    ensures met { result.met ≡ true }
-    ensures finds { lowest_place bytes (all_purged sparing (zone_in part.now.bytes))
-        ≡ finds_purging bytes sparing result part.now.bytes }
-{
-    if frees_one(sparing) {
-        return begun_at(0, GREATEST_ZONE);
-    }
-    match run_below(marks, part, from, bytes) {
-        Some(scan) => RunScan {
-            left: GREATEST_ZONE,
-            start: scan.start,
-            free: scan.free,
-            met: true,
-            place: scan.place,
-        },
-        None => begun_at(0, GREATEST_ZONE),
-    }
+    Some(behind_passed(part, passed, bytes))
 }

@@ -2,13 +2,12 @@
 
 ghost use Rattle.std.specs.Prelude.{◌≡◌, ◌+◌, ◌%◌, ◌≤◌, ℕ, IfSome, is_some, length};
 ghost use Rattle.heap_words.specs.Words.{word_at};
-ghost use Rattle.block_store.specs.Block.{is_relocatable, sizes};
+ghost use Rattle.block_store.specs.Block.{is_relocatable};
 ghost use Rattle.block_store.specs.Grow.{taken};
 ghost use Rattle.block_store.specs.Room.{spot};
 ghost use Rattle.zone_bytes.specs.Decode.{zone_in};
 ghost use Rattle.zone_bytes.specs.Lawful.{IsSound};
 ghost use Rattle.zone_marks.specs.Marked.{AreOf};
-ghost use Rattle.zone_bytes.specs.Changes.{Begins};
 
 use crate::keeping::Landmarks;
 use crate::measuring::walk_at;
@@ -26,17 +25,6 @@ fn word_of_slot(part: &Part, slot: u32) -> u32
     read_word(part, slot)
 }
 
-/// Returns the place of a block at or below the block of a slot: that of the landmark there, sought by the place that
-/// the slot's word holds.
-fn edge_below(part: &Part, marks: &Landmarks, slot: u32) -> u32
-    requires sound { (first : ℕ) × (unused : ℕ) × IsSound part.now.bytes first unused }
-    requires marks { AreOf marks.now (zone_in part.now.bytes) }
-    ensures begins { Begins result 0 (zone_in part.now.bytes) }
-    ensures low { IfSome (spot (is_relocatable slot) (zone_in part.now.bytes)) (λ s. result ≤ sizes s.below) }
-{
-    marks.below(word_of_slot(part, slot).saturating_add(1))
-}
-
 /// Reports whether a free block of at least `bytes` bytes follows the block of a slot in the zone as it stands, by a
 /// walk from the landmark at or below that block. Any number may be asked for as a slot: if it leads to no block, the
 /// walk goes on to the zone's end.
@@ -46,6 +34,6 @@ pub fn has_room_behind(part: &Part, marks: &Landmarks, slot: u32, bytes: u32) ->
     ensures { IfSome (spot (is_relocatable slot) (zone_in part.now.bytes)) (λ s.
         result ≡ is_some (taken bytes s.above)) }
 {
-    let from = edge_below(part, marks, slot);
+    let from = marks.below(word_of_slot(part, slot).saturating_add(1));
     room_above_in(&mut walk_at(part, from), slot, bytes)
 }

@@ -10,7 +10,6 @@ ghost use Rattle.block_store.specs.Room.{count_of};
 ghost use Rattle.block_store.specs.Sparing.{opened, spared};
 ghost use Rattle.zone_bytes.specs.Decode.{zone_in};
 ghost use Rattle.zone_bytes.specs.Lawful.{IsSound};
-ghost use Rattle.zone_marks.specs.Marks.{AreGroups, AreMarks, above_all};
 ghost use Rattle.zone_bytes.specs.Changes.{Begins};
 ghost use Rattle.zone_marks.specs.Purgeable.{NoneGoes};
 ghost use Rattle.zone_bytes.specs.Stepping.{left_in};
@@ -18,6 +17,7 @@ ghost use Rattle.zone_summary.specs.Emptied.{all_purged};
 ghost use Rattle.zone_summary.specs.Fewest.{count_within, purges_for, run_purges_for};
 ghost use Rattle.zone_summary.specs.Stretches.{prefix, stretch_of};
 ghost use Rattle.block_store.specs.Fewest.{serves, serves_block, IsFewest};
+ghost use Rattle.zone_marks.specs.Searching.{HasMarks};
 
 use crate::landmark::{Group, Landmark};
 use crate::largest::stretch_above;
@@ -33,7 +33,7 @@ use zone_summary::Counting;
 fn count_in<W: Walk>(walk: &mut W, bytes: u32, sparing: Sparing) -> u32
     requires { sizes (W.rest walk.old) < 2 ^ 32 }
     ensures is { result ≡ count_within (spared sparing) bytes (opened sparing (W.rest walk.old)) }
-    ensures few { result ≤ sizes (W.rest walk.old) }
+    ensures few { result ≤ bytes }
 {
     let mut left = bytes;
     let mut total = 0;
@@ -110,9 +110,7 @@ fn free_of_run<W: Walk>(walk: &mut W, sparing: Sparing) -> u32
 
 /// Returns the free bytes of the run at `run`, as a search sees it first.
 fn free_at(marks: &[Landmark], groups: &[Group], part: &Part, run: u32, sparing: Sparing) -> u32
-    requires sound { (first : ℕ) × (unused : ℕ) × IsSound part.now.bytes first unused }
-    requires marks { AreMarks above_all (zone_in part.now.bytes) marks.now }
-    requires groups { AreGroups groups.now marks.now }
+    requires marked { HasMarks part.now.bytes marks.now groups.now }
     requires begins { Begins run 0 (zone_in part.now.bytes) }
     ensures { result ≡ prefix (stretch_of (opened sparing (left_in run part.now.bytes))) }
 {
@@ -139,6 +137,7 @@ fn count_below(part: &Part, from: u32, run: u32, sparing: Sparing) -> u32
 
 /// Returns the least number of purges after which a run has at least `bytes` free bytes, where no run has them before
 /// any purge. The run at `run` is the lowest that has them after all purges, and no block below `from` may be purged.
+#[tactic(auto, using(crate::proofs::Searches::RunStarting::first_begins))]
 pub fn fewest_by_marks(
     marks: &[Landmark],
     groups: &[Group],
@@ -148,9 +147,7 @@ pub fn fewest_by_marks(
     bytes: u32,
     sparing: Sparing,
 ) -> u32
-    requires sound { (first : ℕ) × (unused : ℕ) × IsSound part.now.bytes first unused }
-    requires marks { AreMarks above_all (zone_in part.now.bytes) marks.now }
-    requires groups { AreGroups groups.now marks.now }
+    requires marked { HasMarks part.now.bytes marks.now groups.now }
     requires begins { Begins from 0 (zone_in part.now.bytes) }
     requires none { NoneGoes from (zone_in part.now.bytes) }
     requires run { FindsLowestRun (has_free bytes) (all_purged sparing (zone_in part.now.bytes)) (Some run) }
@@ -175,9 +172,7 @@ pub fn fewest_for_block(
     bytes: u32,
     sparing: Sparing,
 ) -> Option<u32>
-    requires sound { (first : ℕ) × (unused : ℕ) × IsSound part.now.bytes first unused }
-    requires marks { AreMarks above_all (zone_in part.now.bytes) marks.now }
-    requires groups { AreGroups groups.now marks.now }
+    requires marked { HasMarks part.now.bytes marks.now groups.now }
     requires begins { Begins from 0 (zone_in part.now.bytes) }
     requires none { NoneGoes from (zone_in part.now.bytes) }
     requires once { count (is_relocatable number) (zone_in part.now.bytes) ≤ 1 }

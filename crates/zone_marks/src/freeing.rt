@@ -1,9 +1,9 @@
 //! Blocks are made free, and joined with free blocks beside them.
 
 ghost use Rattle.std.specs.Prelude.{◌≡◌, ◌+◌, ◌-◌, ◌%◌, ◌∷◌, ◌++◌, nat_le, length};
-ghost use Rattle.block_store.specs.Block.{Free, size, free, add, tidy, free_sum, is_relocatable};
+ghost use Rattle.block_store.specs.Block.{Free, size, free, tidy, free_sum, is_relocatable};
 ghost use Rattle.block_store.specs.Grow.{freed};
-ghost use Rattle.zone_bytes.specs.Joining.{Freeing, MayFree, MayRelease, Joining, MayJoin, HasHandle};
+ghost use Rattle.zone_bytes.specs.Joining.{Freeing, MayFree, MayRelease, HasHandle};
 ghost use Rattle.zone_marks.specs.Marked.{AreOf};
 ghost use Rattle.zone_bytes.specs.Changes.{Replaced};
 ghost use Rattle.zone_bytes.specs.Table.{Table, Lays, empty_word};
@@ -40,21 +40,6 @@ pub fn free_up(part: &mut Part, start: u32, at: u32) -> u32
     end
 }
 
-/// Joins the free bytes from `start` to `at` with a free block that begins at `at`, if there is one.
-fn join_above(part: &mut Part, start: u32, at: u32)
-    requires { (j : Joining) × MayJoin j start at part.old.bytes }
-    ensures same { KeepsPlace part.old part.new }
-    ensures lays { (j : Joining) → MayJoin j start at part.old.bytes →
-        Lays part.new.bytes (j.below ++ add (Free (at - start)) j.above) j.slots j.unused }
-{
-    if at >= part.len() as u32 {
-        return;
-    }
-    if read_header(part, at).tag == Tag::Free {
-        free_up(part, start, at);
-    }
-}
-
 /// The number of bytes that became free, and the places from and to which blocks became others.
 #[derive(Clone, Copy, Drop)]
 pub struct Freed {
@@ -78,7 +63,9 @@ pub fn free_block(part: &mut Part, marks: &Landmarks, place: u32) -> Freed
     let start = last_free_below(part, from, place);
     let end = free_up(part, start, place);
     let more = free_behind(part, end);
-    join_above(part, start, end);
+    if more > 0 {
+        free_up(part, start, end);
+    }
     Freed {
         bytes: end - place,
         from: start,

@@ -1,7 +1,7 @@
 //! The lowest blocks that may be purged. A zone keeps a place below which no block may be purged, from which they are
 //! sought.
 
-ghost use Rattle.std.specs.Prelude.{◌≡◌, ◌≤◌, ◌<◌, ◌-◌, ℕ, List};
+ghost use Rattle.std.specs.Prelude.{◌≡◌, ◌≤◌, ◌<◌, ℕ, List};
 ghost use Rattle.block_store.specs.Block.{Block};
 ghost use Rattle.block_store.specs.Find.{FindsLowest};
 ghost use Rattle.block_store.specs.Room.{may_be_purged};
@@ -51,19 +51,6 @@ pub fn lowest_after(part: &Part, lowest: u32, lo: u32, hi: u32) -> u32
         return lowest;
     }
     within(lowest, found)
-}
-
-/// Returns a place below which no block may be purged after the run at `run` was packed, in a zone with `free` free
-/// bytes, where before that none below `lowest` might be.
-pub fn lowest_packed(lowest: u32, run: u32, free: u32) -> u32
-    ensures same { lowest ≤ run → result ≡ lowest }
-    ensures moved { run < lowest → result ≡ lowest - free }
-{
-    if lowest <= run {
-        lowest
-    } else {
-        lowest.saturating_sub(free)
-    }
 }
 
 /// Returns the place of the block that is purged next after `purges` purges, where no block below `from` may be purged.

@@ -1,10 +1,9 @@
 //! Landmarks in groups. Of each group it is kept how large its free blocks are at most, and what its blocks come to.
 
-ghost use Rattle.std.specs.Prelude.{◌≡◌, ◌≤◌, ◌<◌, ◌*◌, ◌+◌, ◌^◌, ℕ, List, length, get_or, set};
-ghost use Rattle.zone_marks.specs.Marks.{AreGroups, known_loads, no_mark, tally_of, told};
+ghost use Rattle.std.specs.Prelude.{◌≡◌, ◌≤◌, ◌<◌, ◌*◌, ◌+◌, ℕ, List, length, get_or, set};
+ghost use Rattle.zone_marks.specs.Marks.{AreGroups, AreOfZone, IsGroup, no_mark, tally_of};
 ghost use Rattle.zone_marks.specs.declared.landmark.Landmark.{Landmark};
 ghost use Rattle.zone_marks.specs.declared.landmark.TheConstants.{GROUP};
-ghost use Rattle.zone_summary.specs.declared.stretch.Counting.{Counting as CountingOf};
 
 use crate::landmark::{GROUP, Group, Landmark, Tallies, Tally};
 use crate::measuring::greater;
@@ -26,7 +25,7 @@ pub fn raise_group(groups: &mut [Group], index: usize, most: u32)
 
 /// Returns what the blocks of all these landmarks come to, counted in one way, where it is known of each.
 fn joined(marks: &[Landmark], counting: Counting) -> Tally
-    requires { known_loads counting marks.now < 2 ^ 32 }
+    requires { AreOfZone marks.now }
     ensures { result ≡ tally_of counting marks.now }
 {
     let mut all = Stretch::NONE;
@@ -52,9 +51,8 @@ fn highest(marks: &[Landmark]) -> u32
 
 /// Returns what is known of a group with these landmarks.
 fn group_of(marks: &[Landmark]) -> Group
-    requires { (c : CountingOf) → known_loads c marks.now < 2 ^ 32 }
-    ensures most { (index : ℕ) → index < length marks.now → (get_or marks.now index no_mark).most ≤ result.most }
-    ensures tally { (c : CountingOf) → told c result.tally ≡ tally_of c marks.now }
+    requires { AreOfZone marks.now }
+    ensures { IsGroup result marks.now }
 {
     let runs = joined(marks, Counting::Runs);
     let spaces = joined(marks, Counting::Spaces);
@@ -67,7 +65,7 @@ fn group_of(marks: &[Landmark]) -> Group
 /// Computes anew what is known of the groups that have landmarks from the index `from` up to the index `to`.
 pub fn renew_groups(marks: &[Landmark], groups: &mut [Group], from: usize, to: usize)
     requires groups { AreGroups groups.old marks.now }
-    requires fits { (c : CountingOf) → known_loads c marks.now < 2 ^ 32 }
+    requires marks { AreOfZone marks.now }
     ensures { AreGroups groups.new marks.now }
 {
     for group in from / GROUP..groups.len() {

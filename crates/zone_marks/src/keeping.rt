@@ -20,11 +20,12 @@ ghost use Rattle.zone_marks.specs.Purgeable.{MayStart, NoneGoes};
 use crate::fewest::{fewest_by_marks, fewest_for_block};
 use crate::finding_runs::{find_run_by_marks, find_run_purged};
 use crate::free_space::{largest_after_by_marks, largest_free_by_marks};
-use crate::going::{first_going, lowest_after, lowest_packed};
+use crate::going::{first_going, lowest_after};
+use crate::grouping::renew_groups;
 use crate::landmark::{GROUP, Group, Kept, Landmark, UNKNOWN, UNKNOWN_GROUP};
 use crate::largest::largest_run_by_marks;
 use crate::marking::{
-    NextMark, change_marks, find_by_marks, lay_anew, lay_edges, mark_below, place_of_mark,
+    NextMark, change_marks, find_by_marks, lay_edges, lay_marks, mark_below, place_of_mark,
 };
 use crate::measuring::within;
 use crate::paging::{groups_of, page_bytes, page_end};
@@ -50,31 +51,24 @@ pub struct Landmarks {
 impl Landmarks {
     /// Makes the landmarks of a zone, by walks over the zone. All room that they ever take is asked of the host here.
     /// Where the host refuses it, there are none: each search then begins at the bottom, and finds the same.
+    #[tactic(auto, using(crate::proofs::Bounds::Going::lowest_places))]
     pub fn of(alloc: Global, part: &Part) -> Landmarks
         requires sound { (first : ℕ) × (unused : ℕ) × IsSound part.now.bytes first unused }
         ensures { AreOf result (zone_in part.now.bytes) }
     {
         let mut landmarks = match Landmarks::unlaid(alloc, part) {
             Ok(landmarks) => landmarks,
-            Err(_) => Landmarks::none(alloc, part),
+            Err(_) => Landmarks {
+                marks: Vec::new(alloc),
+                groups: Vec::new(alloc),
+                page: page_bytes(part),
+                lowest: 0,
+                kept: Kept::Runs,
+            },
         };
         landmarks.renew(part, 0, part.len() as u32);
         landmarks.seek(part);
         landmarks
-    }
-
-    /// Makes no landmarks.
-    fn none(alloc: Global, part: &Part) -> Landmarks
-        requires sound { (first : ℕ) × (unused : ℕ) × IsSound part.now.bytes first unused }
-        ensures { AreOf result (zone_in part.now.bytes) }
-    {
-        Landmarks {
-            marks: Vec::new(alloc),
-            groups: Vec::new(alloc),
-            page: page_bytes(part),
-            lowest: 0,
-            kept: Kept::Runs,
-        }
     }
 
     /// Makes landmarks that all stand at the bottom, with nothing known of the blocks.
@@ -100,10 +94,7 @@ impl Landmarks {
 
     /// Returns the page of a place, near whose landmark a search by place begins.
     fn page_of(&self, place: u32) -> usize {
-        match place.checked_div(self.page) {
-            Some(page) => page as usize,
-            None => 0,
-        }
+        place.checked_div(self.page).unwrap_or(0) as usize
     }
 
     /// Returns the place of a landmark below `place`, or 0 if there is none.
@@ -115,6 +106,7 @@ impl Landmarks {
     }
 
     /// Returns the place of a block below which no block may be purged, from which those that may be are sought.
+    #[tactic(auto, using(crate::proofs::Bounds::Going::lowest_places))]
     pub fn start(&self) -> u32
         ensures begins { (zone : List Block) → AreOf self.now zone → Begins result 0 zone }
         ensures none { (zone : List Block) → AreOf self.now zone → NoneGoes result zone }
@@ -138,25 +130,17 @@ impl Landmarks {
         self.lowest = first_going(part, self.start(), u32::MAX);
     }
 
-    /// Makes the landmarks know what blocks come to in spaces, from now on, by a walk over the zone the first time.
-    fn keep_spaces(&mut self, part: &Part)
-        requires sound { (first : ℕ) × (unused : ℕ) × IsSound part.now.bytes first unused }
-        requires marks { AreOf self.old (zone_in part.now.bytes) }
-        ensures { AreOf self.new (zone_in part.now.bytes) }
-    {
-        if let Kept::Both = self.kept {
-            return;
-        }
-        self.kept = Kept::Both;
-        self.renew(part, 0, u32::MAX);
-    }
-
     /// Returns a place below which no block may be purged after the run at `run` is packed.
+    #[tactic(auto, using(crate::proofs::Bounds::Going::lowest_places))]
     pub fn lowest_packed(&self, run: u32, free: u32) -> u32
         ensures { (zone : List Block) (r : RunSpot) → AreOf self.now zone → run_at run zone ≡ Some r →
             free ≡ free_sum zone → NoneGoes result (r.below ++ (settle r.run ++ r.above)) }
     {
-        lowest_packed(self.lowest, run, free)
+        if self.lowest <= run {
+            self.lowest
+        } else {
+            self.lowest.saturating_sub(free)
+        }
     }
 
     /// Returns a place below which no block may be purged after blocks from `place` on become others.
@@ -197,15 +181,8 @@ impl Landmarks {
         let Some(run) = find_run_purged(&self.marks, part, self.under(), bytes, sparing) else {
             return None;
         };
-        Some(fewest_by_marks(
-            &self.marks,
-            &self.groups,
-            part,
-            self.start(),
-            run,
-            bytes,
-            sparing,
-        ))
+        let (marks, groups) = (&self.marks, &self.groups);
+        Some(fewest_by_marks(marks, groups, part, self.start(), run, bytes, sparing))
     }
 
     /// Returns the least number of purges after which the run of a master pointer's block has at least `bytes` free
@@ -226,15 +203,8 @@ impl Landmarks {
             ((purges : ℕ) → serves_block number bytes sparing (zone_in part.now.bytes) purges ≡ false)
             (λ fewest. IsFewest (serves_block number bytes sparing (zone_in part.now.bytes)) fewest) }
     {
-        fewest_for_block(
-            &self.marks,
-            &self.groups,
-            part,
-            self.start(),
-            number,
-            bytes,
-            sparing,
-        )
+        let (marks, groups) = (&self.marks, &self.groups);
+        fewest_for_block(marks, groups, part, self.start(), number, bytes, sparing)
     }
 
     /// Returns the greatest number of free bytes in one run.
@@ -267,39 +237,30 @@ impl Landmarks {
     /// Renews the landmarks after the blocks from `lo` to `hi` became others.
     pub fn note(&mut self, part: &Part, lo: u32, hi: u32)
         requires sound { (first : ℕ) × (unused : ℕ) × IsSound part.now.bytes first unused }
-        requires marks { (old : List Block) × Replaced lo hi old (zone_in part.now.bytes)
-            × AreOf self.old old }
+        requires marks { (old : List Block) × Replaced lo hi old (zone_in part.now.bytes) × AreOf self.old old }
         ensures { AreOf self.new (zone_in part.now.bytes) }
     {
         self.lowest = lowest_after(part, self.lowest, lo, hi);
-        self.change(part, lo, hi);
+        if self.page_of(lo) == self.page_of(hi) {
+            self.change(part, lo, hi, self.kept);
+        } else {
+            self.change(part, lo, hi, Kept::Nothing);
+            self.renew(part, lo, hi);
+        }
     }
 
     /// Changes the landmarks, and not the place that is kept with them, after the blocks from `lo` to `hi` became
-    /// others.
-    fn change(&mut self, part: &Part, lo: u32, hi: u32)
+    /// others. If nothing is to be known of these blocks, they are not walked over, and no landmark stands strictly
+    /// between `lo` and `hi` until `renew` is called.
+    fn change(&mut self, part: &Part, lo: u32, hi: u32, kept: Kept)
         requires sound { (first : ℕ) × (unused : ℕ) × IsSound part.now.bytes first unused }
-        requires marks { (old : List Block) × Replaced lo hi old (zone_in part.now.bytes)
-            × AreMarked self.old old }
+        requires marks { (old : List Block) × Replaced lo hi old (zone_in part.now.bytes) × AreMarked self.old old }
         ensures marks { AreMarked self.new (zone_in part.now.bytes) }
         ensures lowest { self.new.lowest ≡ self.old.lowest }
     {
-        let page = page_bytes(part);
-        if lo / page == hi / page {
-            let likely = self.page_of(hi);
-            change_marks(
-                &mut self.marks,
-                &mut self.groups,
-                part,
-                lo,
-                hi,
-                self.kept,
-                likely,
-            );
-        } else {
-            self.forget(part, lo, hi);
-            self.renew(part, lo, hi);
-        }
+        let likely = self.page_of(hi);
+        let (marks, groups) = (&mut self.marks, &mut self.groups);
+        change_marks(marks, groups, part, lo, hi, kept, likely);
     }
 
     /// Renews the landmarks after the block at `place` became another of the same size.
@@ -320,30 +281,14 @@ impl Landmarks {
         ensures { AreOf self.new (zone_in part.now.bytes) }
     {
         self.note_block(part, place);
-        if flags.purgeable {
-            self.keep_spaces(part);
+        if !flags.purgeable {
+            return;
         }
-    }
-
-    /// Changes the landmarks after the blocks from `lo` to `hi` became others, without a walk over these blocks: no
-    /// landmark stands strictly between `lo` and `hi` until `renew` is called.
-    fn forget(&mut self, part: &Part, lo: u32, hi: u32)
-        requires sound { (first : ℕ) × (unused : ℕ) × IsSound part.now.bytes first unused }
-        requires marks { (old : List Block) × Replaced lo hi old (zone_in part.now.bytes)
-            × AreMarked self.old old }
-        ensures marks { AreMarked self.new (zone_in part.now.bytes) }
-        ensures lowest { self.new.lowest ≡ self.old.lowest }
-    {
-        let likely = self.page_of(hi);
-        change_marks(
-            &mut self.marks,
-            &mut self.groups,
-            part,
-            lo,
-            hi,
-            Kept::Nothing,
-            likely,
-        );
+        if let Kept::Both = self.kept {
+            return;
+        }
+        self.kept = Kept::Both;
+        self.renew(part, 0, u32::MAX);
     }
 
     /// Moves the landmarks of the pages from `lo` to `hi` to where their blocks are, by one walk over these blocks.
@@ -353,9 +298,8 @@ impl Landmarks {
         ensures marks { AreMarked self.new (zone_in part.now.bytes) }
         ensures lowest { self.new.lowest ≡ self.old.lowest }
     {
-        let page = page_bytes(part);
-        let next = self.next_at((lo / page) as usize);
-        self.lay(part, next, next.index, page, hi);
+        let next = self.next_at(self.page_of(lo));
+        self.lay(part, next, next.index, hi);
     }
 
     /// Returns the next landmark to be laid anew, which is to stand where it stands.
@@ -371,23 +315,16 @@ impl Landmarks {
 
     /// Lays the landmarks from the next one on anew, up to the first one at or above `hi` that stands where it is to
     /// stand. The landmarks from the index `first` up to the next one were laid before.
-    fn lay(&mut self, part: &Part, next: NextMark, first: usize, page: u32, hi: u32)
+    fn lay(&mut self, part: &Part, next: NextMark, first: usize, hi: u32)
         requires sound { (first : ℕ) × (unused : ℕ) × IsSound part.now.bytes first unused }
         requires laid { AreLaid next.index next.at (zone_in part.now.bytes) self.old.marks.items }
         requires groups { AreGroups self.old.groups.items self.old.marks.items }
         ensures marks { AreMarked self.new (zone_in part.now.bytes) }
         ensures lowest { self.new.lowest ≡ self.old.lowest }
     {
-        lay_anew(
-            &mut self.marks,
-            &mut self.groups,
-            part,
-            next,
-            first,
-            page,
-            hi,
-            self.kept,
-        );
+        let (marks, groups) = (&mut self.marks, &mut self.groups);
+        let end = lay_marks(marks, groups, part, next, self.page, hi, self.kept);
+        renew_groups(&self.marks, &mut self.groups, first, end);
     }
 
     /// Makes `edges` ready to note the edges of blocks that are to be packed from `lo` on: those of the pages above
@@ -420,19 +357,11 @@ impl Landmarks {
         ensures { AreOf self.new (zone_in part.now.bytes) }
     {
         self.lowest = lowest;
-        self.forget(part, lo, hi);
-        let page = page_bytes(part);
-        let from = self.next_at((lo / page) as usize);
-        let next = lay_edges(
-            &mut self.marks,
-            &mut self.groups,
-            part,
-            edges,
-            base,
-            from,
-            self.kept,
-        );
-        self.lay(part, next, from.index, page, hi);
+        self.change(part, lo, hi, Kept::Nothing);
+        let from = self.next_at(self.page_of(lo));
+        let (marks, groups) = (&mut self.marks, &mut self.groups);
+        let next = lay_edges(marks, groups, part, edges, base, from, self.kept);
+        self.lay(part, next, from.index, hi);
     }
 
     /// Renews the landmarks after the run at `run` was packed. Where no block moved down, the zone is as it was, and so

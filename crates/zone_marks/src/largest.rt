@@ -2,18 +2,15 @@
 //! walked over if it is known what they come to. So the greatest number of free bytes in one run is found, and the largest
 //! free block once all blocks that may be purged were.
 
-ghost use Rattle.std.specs.Prelude.{◌≡◌, ◌≤◌, ◌<◌, ℕ, true, false, get_or, drop, length};
-ghost use Rattle.block_store.specs.Compact.{largest_free, largest_run};
-ghost use Rattle.block_store.specs.declared.sparing.Sparing.TheVariants.{Nothing};
+ghost use Rattle.std.specs.Prelude.{◌≡◌, ◌≤◌, ◌<◌, ℕ, false, length};
+ghost use Rattle.block_store.specs.Compact.{largest_run};
 ghost use Rattle.zone_bytes.specs.Decode.{zone_in};
 ghost use Rattle.zone_bytes.specs.Lawful.{IsSound};
-ghost use Rattle.zone_marks.specs.Marks.{AreGroups, AreMarks, above_all, next_of, no_mark};
 ghost use Rattle.zone_bytes.specs.Changes.{Begins};
-ghost use Rattle.zone_marks.specs.Searching.{IsBefore, IsStretch};
+ghost use Rattle.zone_marks.specs.Searching.{HasMarks, IsStretch, place_at};
 ghost use Rattle.zone_bytes.specs.Stepping.{left_in};
 ghost use Rattle.zone_marks.specs.declared.landmark.Tally.TheVariants as tally;
-ghost use Rattle.zone_summary.specs.Emptied.{all_purged};
-ghost use Rattle.zone_summary.specs.Stretches.{is_ended, prefix, stretch_by};
+ghost use Rattle.zone_summary.specs.Stretches.{prefix, stretch_by};
 
 use crate::landmark::{GROUP, Group, Landmark, Tally};
 use crate::marking::index_above;
@@ -21,43 +18,27 @@ use crate::measuring::{measure_up_to, spaces_up_to};
 use raw_region::Part;
 use zone_summary::{Counting, Stretch};
 
-/// Returns what the blocks from one place up to another come to.
-fn walked_between(part: &Part, from: u32, to: u32, counting: Counting) -> Stretch
+/// Returns what the blocks from one place up to another come to. They are walked over where `told` doesn't tell it.
+fn stretch_between(part: &Part, told: Tally, from: u32, to: u32, counting: Counting) -> Stretch
     requires sound { (first : ℕ) × (unused : ℕ) × IsSound part.now.bytes first unused }
     requires begins { Begins from 0 (zone_in part.now.bytes) }
-    requires ends { Begins to 0 (zone_in part.now.bytes) }
-    requires order { from ≤ to }
+    requires stretch { IsStretch counting told from to part.now.bytes }
     ensures { IsStretch counting (tally.Known result) from to part.now.bytes }
-{
-    match counting {
-        Counting::Runs => measure_up_to(part, from, to).runs,
-        Counting::Spaces => spaces_up_to(part, from, to),
-    }
-}
-
-/// Returns what the blocks of a landmark come to; the landmark stands at `at`, and its blocks reach up to `next`.
-fn stretch_of_mark(part: &Part, told: Tally, at: u32, next: u32, counting: Counting) -> Stretch
-    requires sound { (first : ℕ) × (unused : ℕ) × IsSound part.now.bytes first unused }
-    requires begins { Begins at 0 (zone_in part.now.bytes) }
-    requires ends { Begins next 0 (zone_in part.now.bytes) }
-    requires order { at ≤ next }
-    requires stretch { IsStretch counting told at next part.now.bytes }
-    ensures { IsStretch counting (tally.Known result) at next part.now.bytes }
 {
     match told {
         Tally::Known(stretch) => stretch,
-        Tally::Unknown => walked_between(part, at, next, counting),
+        Tally::Unknown => match counting {
+            Counting::Runs => measure_up_to(part, from, to).runs,
+            Counting::Spaces => spaces_up_to(part, from, to),
+        },
     }
 }
 
 /// Returns the place of the landmark at an index, or the zone's end if there is none.
 pub fn edge_of(marks: &[Landmark], part: &Part, index: usize) -> u32
     requires sound { (first : ℕ) × (unused : ℕ) × IsSound part.now.bytes first unused }
-    requires marks { AreMarks above_all (zone_in part.now.bytes) marks.now }
     requires index { index ≤ length marks.now }
-    ensures before { IsBefore index marks.now part.now.bytes result }
-    ensures low { (p : ℕ) → Begins p 0 (zone_in part.now.bytes) → p ≤ next_of above_all (drop index marks.now)
-        → p ≤ result }
+    ensures { result ≡ place_at index marks.now part.now.bytes }
 {
     if index == marks.len() {
         return part.len() as u32;
@@ -81,40 +62,25 @@ pub fn told_from(
     index: usize,
     counting: Counting,
 ) -> Told
-    requires sound { (first : ℕ) × (unused : ℕ) × IsSound part.now.bytes first unused }
-    requires marks { AreMarks above_all (zone_in part.now.bytes) marks.now }
-    requires groups { AreGroups groups.now marks.now }
+    requires marked { HasMarks part.now.bytes marks.now groups.now }
     requires inside { index < length marks.now }
     ensures further { index < result.behind }
     ensures inside { result.behind ≤ length marks.now }
-    ensures stretch { (next : ℕ) → IsBefore result.behind marks.now part.now.bytes next →
-        IsStretch counting result.tally (get_or marks.now index no_mark).at next part.now.bytes }
+    ensures stretch { IsStretch counting result.tally (place_at index marks.now part.now.bytes)
+        (place_at result.behind marks.now part.now.bytes) part.now.bytes }
 {
     if index % GROUP == 0 {
         let tally = groups[index / GROUP].tally.told(counting);
-        match tally {
-            Tally::Known(_) => {
-                return Told {
-                    tally,
-                    behind: index + GROUP,
-                };
-            }
-            Tally::Unknown => {}
+        if let Tally::Known(_) = tally {
+            return Told {
+                tally,
+                behind: index + GROUP,
+            };
         }
     }
     Told {
         tally: marks[index].tally.told(counting),
         behind: index + 1,
-    }
-}
-
-/// Reports whether the lowest run of a stretch is asked for and ends in the stretch, so that blocks above it don't count.
-fn suffices(stretch: Stretch, lowest: bool) -> bool
-    ensures { result ≡ true → (lowest ≡ true) × (is_ended stretch ≡ true) }
-{
-    match stretch {
-        Stretch::Whole(_) => false,
-        Stretch::Ended(_, _, _) => lowest,
     }
 }
 
@@ -128,23 +94,21 @@ pub fn stretch_above(
     counting: Counting,
     lowest: bool,
 ) -> Stretch
-    requires sound { (first : ℕ) × (unused : ℕ) × IsSound part.now.bytes first unused }
-    requires marks { AreMarks above_all (zone_in part.now.bytes) marks.now }
-    requires groups { AreGroups groups.now marks.now }
+    requires marked { HasMarks part.now.bytes marks.now groups.now }
     requires begins { Begins from 0 (zone_in part.now.bytes) }
     ensures low { prefix result ≡ prefix (stretch_by counting (left_in from part.now.bytes)) }
     ensures all { lowest ≡ false → result ≡ stretch_by counting (left_in from part.now.bytes) }
 {
     let mut index = index_above(marks, from, 0);
     let mut at = edge_of(marks, part, index);
-    let mut stretch = walked_between(part, from, at, counting);
+    let mut stretch = stretch_between(part, Tally::Unknown, from, at, counting);
     while index < marks.len() {
-        if suffices(stretch, lowest) {
+        if lowest && matches!(stretch, Stretch::Ended(_, _, _)) {
             return stretch;
         }
         let told = told_from(marks, groups, part, index, counting);
         let next = edge_of(marks, part, told.behind);
-        stretch = stretch.join(stretch_of_mark(part, told.tally, at, next, counting));
+        stretch = stretch.join(stretch_between(part, told.tally, at, next, counting));
         at = next;
         index = told.behind;
     }
@@ -153,20 +117,8 @@ pub fn stretch_above(
 
 /// Returns the greatest number of free bytes in one run.
 pub fn largest_run_by_marks(marks: &[Landmark], groups: &[Group], part: &Part) -> u32
-    requires sound { (first : ℕ) × (unused : ℕ) × IsSound part.now.bytes first unused }
-    requires marks { AreMarks above_all (zone_in part.now.bytes) marks.now }
-    requires groups { AreGroups groups.now marks.now }
+    requires marked { HasMarks part.now.bytes marks.now groups.now }
     ensures { result ≡ largest_run (zone_in part.now.bytes) }
 {
     stretch_above(marks, groups, part, 0, Counting::Runs, false).best()
-}
-
-/// Returns the size of the largest free block once all blocks that may be purged were.
-pub fn largest_space_by_marks(marks: &[Landmark], groups: &[Group], part: &Part) -> u32
-    requires sound { (first : ℕ) × (unused : ℕ) × IsSound part.now.bytes first unused }
-    requires marks { AreMarks above_all (zone_in part.now.bytes) marks.now }
-    requires groups { AreGroups groups.now marks.now }
-    ensures { result ≡ largest_free (all_purged Nothing (zone_in part.now.bytes)) }
-{
-    stretch_above(marks, groups, part, 0, Counting::Spaces, false).best()
 }

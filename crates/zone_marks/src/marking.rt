@@ -9,9 +9,9 @@ ghost use Rattle.zone_marks.specs.LaidMarks.{AreLaid, IsBare};
 ghost use Rattle.zone_bytes.specs.Edges.{ByEdges};
 ghost use Rattle.zone_bytes.specs.Lawful.{IsSound};
 ghost use Rattle.zone_bytes.specs.Changes.{AtEach, Begins, Replaced};
-ghost use Rattle.zone_marks.specs.Marks.{AtMost, NoRoom, NoneBelow, AreMarks, AreGroups, no_mark};
+ghost use Rattle.zone_marks.specs.Marks.{NoRoom, NoneBelow, IsMark, AreMarks, AreGroups, no_mark};
 ghost use Rattle.zone_summary.specs.declared.stretch.Counting.TheVariants.{Spaces};
-ghost use Rattle.zone_marks.specs.Marks.{AreTold, IsTally, Lowered, Measures, above_all, between, next_of};
+ghost use Rattle.zone_marks.specs.Marks.{IsTally, Lowered, Measures, above_all, between, next_of};
 ghost use Rattle.zone_bytes.specs.Stepping.{left_in, IsOnWay};
 ghost use Rattle.zone_marks.specs.declared.landmark.TheConstants.{GROUP};
 
@@ -42,6 +42,7 @@ fn next_look(low: usize, high: usize, likely: usize) -> usize
 
 /// Returns the index of the first landmark at or above `place`, or the number of landmarks if there is none; the
 /// landmarks are in order of place. The search begins at the index `likely`.
+#[tactic(auto, using(crate::proofs::Marks::Lowering::mark_places))]
 pub fn index_above(marks: &[Landmark], place: u32, likely: usize) -> usize
     ensures index { result ≤ length marks.now }
     ensures above { place ≤ next_of above_all (drop result marks.now) }
@@ -62,9 +63,10 @@ pub fn index_above(marks: &[Landmark], place: u32, likely: usize) -> usize
 
 /// Returns the place of the last landmark below `place`, or 0 if there is none. The search begins at the index
 /// `likely`.
+#[tactic(auto, using(crate::proofs::Marks::Lowering::mark_places))]
 pub fn mark_below(marks: &[Landmark], place: u32, likely: usize) -> u32
     ensures below { (result < place) ⊎ (result ≡ 0) }
-    ensures begins { (end : ℕ) (zone : List Block) → AreMarks end zone marks.now → Begins result 0 zone }
+    ensures begins { (zone : List Block) → AreMarks above_all zone marks.now → Begins result 0 zone }
 {
     let above = index_above(marks, place, likely);
     if above == 0 {
@@ -103,6 +105,7 @@ fn room_in_stretch(part: &Part, mark: Landmark, to: u32, bytes: u32) -> Option<u
 
 /// Returns the place of the lowest free block of at least `bytes` bytes in the stretches of a group's landmarks, below
 /// which there is none.
+#[tactic(auto, using(crate::proofs::Marks::Rooms::room_steps))]
 fn room_in_group(marks: &[Landmark], part: &Part, group: usize, bytes: u32) -> Option<u32>
     requires sound { (first : ℕ) × (unused : ℕ) × IsSound part.now.bytes first unused }
     requires marks { AreMarks above_all (zone_in part.now.bytes) marks.now }
@@ -162,10 +165,11 @@ fn spaces_told(part: &Part, at: u32, above: u32, kept: Kept) -> Tally
 
 /// Makes a landmark at `at`, with what is to be known of the blocks up to `above`, by walks over them.
 fn measured_mark(part: &Part, at: u32, above: u32, kept: Kept) -> Landmark
-    requires { IsOnWay at part.now.bytes }
+    requires sound { (first : ℕ) × (unused : ℕ) × IsSound part.now.bytes first unused }
+    requires begins { Begins at 0 (zone_in part.now.bytes) }
+    requires order { at ≤ above }
     ensures at { result.at ≡ at }
-    ensures bound { AtEach (AtMost result.most at above) at (left_in at part.now.bytes) }
-    ensures tally { AreTold result.tally (between at above at (left_in at part.now.bytes)) }
+    ensures mark { IsMark above (zone_in part.now.bytes) result }
 {
     let stretch = measure_up_to(part, at, above);
     Landmark {
@@ -190,17 +194,11 @@ fn changed_mark(
     kept: Kept,
 )
     requires sound { (first : ℕ) × (unused : ℕ) × IsSound part.now.bytes first unused }
-    requires ordered { lo ≤ hi }
-    requires rising { mark.old.at ≤ next }
+    requires mark { (old : List Block) × Replaced lo hi old (zone_in part.now.bytes) × IsMark next old mark.old }
     requires lowered { Lowered lo hi next above }
-    requires begins { (at : ℕ) → Lowered lo hi mark.old.at at → Begins at 0 (zone_in part.now.bytes) }
     ensures at { Lowered lo hi mark.old.at mark.new.at }
-    ensures bound { (old : List Block) → Replaced lo hi old (zone_in part.now.bytes) →
-        AtEach (AtMost mark.old.most mark.old.at next) 0 old →
-        AtEach (AtMost mark.new.most mark.new.at above) 0 (zone_in part.now.bytes) }
-    ensures tally { (old : List Block) → Replaced lo hi old (zone_in part.now.bytes) →
-        AreTold mark.old.tally (between mark.old.at next 0 old) →
-        AreTold mark.new.tally (between mark.new.at above 0 (zone_in part.now.bytes)) }
+    ensures mark { (old : List Block) → Replaced lo hi old (zone_in part.now.bytes) → IsMark next old mark.old
+        → IsMark above (zone_in part.now.bytes) mark.new }
 {
     if hi <= mark.at || next <= lo {
         return;
@@ -258,15 +256,12 @@ fn stretch_from(part: &Part, at: u32, place: u32, last: bool) -> Measured
     ensures order { at ≤ result.edge }
     ensures measured { Measures at result.edge at (left_in at part.now.bytes) result }
 {
-    if last {
-        let whole = measure_up_to(part, at, u32::MAX);
-        Measured {
-            edge: u32::MAX,
-            most: whole.most,
-            runs: whole.runs,
-        }
-    } else {
-        measure_up_to(part, at, place)
+    if !last {
+        return measure_up_to(part, at, place);
+    }
+    Measured {
+        edge: u32::MAX,
+        ..measure_up_to(part, at, u32::MAX)
     }
 }
 
@@ -283,10 +278,10 @@ pub struct NextMark {
 fn packed_mark(mark: &mut Landmark, part: &Part, at: u32, edge: u32, base: u32, kept: Kept)
     requires sound { (first : ℕ) × (unused : ℕ) × IsSound part.now.bytes first unused }
     requires begins { Begins at 0 (zone_in part.now.bytes) }
+    requires order { at ≤ edge }
     requires bare { base ≤ at → IsBare at edge (zone_in part.now.bytes) }
     ensures at { mark.new.at ≡ at }
-    ensures bound { AtEach (AtMost mark.new.most at edge) 0 (zone_in part.now.bytes) }
-    ensures tally { AreTold mark.new.tally (between at edge 0 (zone_in part.now.bytes)) }
+    ensures mark { IsMark edge (zone_in part.now.bytes) mark.new }
 {
     if at < base {
         *mark = measured_mark(part, at, edge, kept);
@@ -338,7 +333,7 @@ pub fn lay_edges(
 
 /// Lays the landmarks from the next one on anew, each at the first edge in its page or above it, up to the first
 /// landmark at or above `hi` that stands there already. Returns the index of that landmark.
-fn lay_marks(
+pub fn lay_marks(
     marks: &mut [Landmark],
     groups: &mut [Group],
     part: &Part,
@@ -374,27 +369,4 @@ fn lay_marks(
         end = end.saturating_add(page);
     }
     marks.len()
-}
-
-/// Lays the landmarks from the next one on anew, up to the first one at or above `hi` that stands where it is to stand,
-/// and computes anew what is known of the groups of these landmarks and of those from the index `first` on.
-pub fn lay_anew(
-    marks: &mut [Landmark],
-    groups: &mut [Group],
-    part: &Part,
-    next: NextMark,
-    first: usize,
-    page: u32,
-    hi: u32,
-    kept: Kept,
-)
-    requires sound { (first : ℕ) × (unused : ℕ) × IsSound part.now.bytes first unused }
-    requires laid { AreLaid next.index next.at (zone_in part.now.bytes) marks.old }
-    requires groups { AreGroups groups.old marks.old }
-    ensures marks { AreMarks above_all (zone_in part.now.bytes) marks.new }
-    ensures groups { AreGroups groups.new marks.new }
-    ensures long { length marks.new ≡ length marks.old }
-{
-    let end = lay_marks(marks, groups, part, next, page, hi, kept);
-    renew_groups(marks, groups, first, end);
 }

@@ -1,8 +1,9 @@
 //! Walks over a stretch of a zone.
 
-ghost use Rattle.std.specs.Prelude.{◌≡◌, ◌+◌, ◌%◌, ◌==◌, ◌<◌, ◌≤◌, ◌^◌, ◌⊎◌, ◌∷◌, not, if◌then◌else◌, ℕ, List, length};
+ghost use Rattle.std.specs.Prelude.{◌≡◌, ◌+◌, ◌%◌, ◌==◌, ◌<◌, ◌≤◌, ◌^◌, ◌⊎◌, not, if◌then◌else◌, ℕ, length};
 ghost use Rattle.std.specs.Prelude.{MatchOption, IfSome};
 ghost use Rattle.block_store.specs.Block.{Block, size, sizes};
+ghost use Rattle.block_store.specs.Compact.{largest_free};
 ghost use Rattle.block_store.specs.Seen.{seen};
 ghost use Rattle.heap_words.specs.Words.{word_at};
 ghost use Rattle.zone_bytes.specs.Decode.{zone_in};
@@ -154,6 +155,7 @@ pub fn measure_up_to(part: &Part, from: u32, place: u32) -> Measured
     ensures order { from ≤ result.edge }
     ensures passed { Measures from result.edge from (left_in from part.now.bytes) result }
     ensures below { Measures from place from (left_in from part.now.bytes) result }
+    ensures reached { result.most ≤ largest_free (left_in from part.now.bytes) }
 {
     let stop = within(place, part.len() as u32);
     let mut most = 0;

@@ -1,7 +1,7 @@
 //! The pages of a zone. A zone has a landmark for each of its pages.
 
-ghost use Rattle.std.specs.Prelude.{◌≡◌, ◌≤◌, ◌<◌};
-ghost use Rattle.zone_bytes.specs.Stepping.{IsOnWay};
+ghost use Rattle.std.specs.Prelude.{◌≡◌, ◌≤◌, ◌<◌, ℕ};
+ghost use Rattle.zone_bytes.specs.Lawful.{IsSound};
 
 use crate::landmark::GROUP;
 use crate::measuring::greater;
@@ -18,7 +18,7 @@ pub const LEAST_PAGE: u32 = 256;
 
 /// Returns the size of a page in bytes. A zone has no more pages than landmarks.
 pub fn page_bytes(part: &Part) -> u32
-    requires { IsOnWay 0 part.now.bytes }
+    requires sound { (first : ℕ) × (unused : ℕ) × IsSound part.now.bytes first unused }
     ensures { 0 < result }
 {
     greater(LEAST_PAGE, (part.len() as u32) / LANDMARKS as u32 + 1)

@@ -27,6 +27,7 @@ fn purgeable_of_seen(block: Seen, bytes: u32) -> u32
 }
 
 /// Returns the bytes that the block at `place` would free if it were purged.
+#[tactic(auto, using(crate::proofs::Marks::Owed::given_steps))]
 pub fn purgeable_at(part: &Part, place: u32) -> u32
     requires way { IsOnWay place part.now.bytes }
     requires some { place < length part.now.bytes }
@@ -80,6 +81,7 @@ pub fn frees_one(sparing: Sparing) -> bool
 
 /// Returns the bytes that the blocks of a zone would free, where purges made `freed` bytes free and the blocks would have
 /// freed `before` bytes.
+#[tactic(auto, using(crate::proofs::Marks::Owed::given_steps))]
 pub fn purgeable_left(part: &Part, before: u32, freed: u32, sparing: Sparing) -> u32
     requires { (first : ℕ) × (unused : ℕ) × IsSound part.now.bytes first unused }
     ensures { (k : ℕ) (zone : List Block) → zone_in part.now.bytes ≡ purged k sparing zone
@@ -96,6 +98,7 @@ pub fn purgeable_left(part: &Part, before: u32, freed: u32, sparing: Sparing) ->
 /// Reports whether a whole zone has fewer than `bytes` bytes, where `most` bytes are free in it once all blocks that may
 /// be purged were: then no run of the zone has as many as `bytes`, after however many purges. If `sparing` counts a block
 /// as free that is not free, nothing is known and the answer is `false`.
+#[tactic(auto, using(crate::proofs::Marks::Owed::given_steps))]
 pub fn falls_short(most: u32, bytes: u32, sparing: Sparing) -> bool
     ensures { result ≡ true → (zone : List Block) (purges : ℕ) → most ≡ free_sum zone + purgeable_sum zone
         → free_sum (purged purges sparing zone) < bytes }

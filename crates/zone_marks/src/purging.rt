@@ -1,7 +1,6 @@
 //! The lowest purgeable blocks are purged.
 
-ghost use Rattle.std.specs.Prelude.{◌≡◌, ◌<◌, ◌≤◌, ◌==◌, ℕ, List, Some, IsSome, IfSome, length, false, if◌then◌else◌};
-ghost use Rattle.heap_words.specs.Headers.{tag_number};
+ghost use Rattle.std.specs.Prelude.{◌≡◌, ◌<◌, ◌≤◌, ℕ, List, Some, IsSome, IfSome, length, false};
 ghost use Rattle.block_store.specs.Block.{Block};
 ghost use Rattle.block_store.specs.Find.{FindsLowest};
 ghost use Rattle.block_store.specs.Room.{may_be_purged};
@@ -20,10 +19,9 @@ use crate::freeing::{Freed, free_up};
 use crate::going::next_purgeable;
 use crate::keeping::Landmarks;
 use crate::purgeable::frees_one;
-use block_store::{Seen, Sparing, is_counted_free, may_purge};
-use heap_words::{Header, Tag};
+use block_store::{Seen, Sparing, free_of_seen, is_counted_free, may_purge};
 use raw_region::Part;
-use zone_bytes::{last_free_below, read_header, seen_of};
+use zone_bytes::{last_free_below, step_at};
 
 /// The state of a pass over a zone: the free bytes from `start` to `at` are one block, `left` purges are left, and
 /// `freed` bytes became free.
@@ -49,16 +47,6 @@ fn left_after(block: Seen, left: u32, sparing: Sparing) -> Option<u32>
     }
 }
 
-/// Returns the number of bytes that become free with a block.
-fn new_free(header: Header) -> u32
-    ensures { result ≡ (if tag_number header.tag == 0 then 0 else header.size) }
-{
-    match header.tag {
-        Tag::Free => 0,
-        _ => header.size,
-    }
-}
-
 /// Passes one block: frees it if it is to be purged or counts as free, and joins it with the free bytes below.
 fn pass_block(part: &mut Part, pass: Pass, sparing: Sparing) -> Pass
     requires pass { (p : Purge) × Purging p sparing pass.start pass.at pass.left pass.freed part.old.bytes }
@@ -68,23 +56,20 @@ fn pass_block(part: &mut Part, pass: Pass, sparing: Sparing) -> Pass
         Purging p sparing result.start result.at result.left result.freed part.new.bytes }
     ensures further { pass.at < result.at }
 {
-    let header = read_header(part, pass.at);
-    match left_after(seen_of(header), pass.left, sparing) {
-        Some(left) => Pass {
-            start: pass.start,
-            at: free_up(part, pass.start, pass.at),
-            left,
-            freed: pass.freed + new_free(header),
-        },
-        None => {
-            let end = pass.at + header.size;
-            Pass {
-                start: end,
-                at: end,
-                left: pass.left,
-                freed: pass.freed,
-            }
-        }
+    let step = step_at(part, pass.at);
+    let Some(left) = left_after(step.block, pass.left, sparing) else {
+        return Pass {
+            start: step.end,
+            at: step.end,
+            ..pass
+        };
+    };
+    free_up(part, pass.start, pass.at);
+    Pass {
+        at: step.end,
+        left,
+        freed: pass.freed + (step.end - pass.at - free_of_seen(step.block)),
+        ..pass
     }
 }
 
@@ -174,8 +159,7 @@ pub fn purge_above(part: &mut Part, place: u32, purges: u32, sparing: Sparing) -
     ensures purged { (f : Freeing) → MayPurge f place part.old.bytes →
         Purged (purge_above result.from f purges sparing) result.to result.bytes part.new.bytes }
 {
-    let header = read_header(part, place);
-    let end = place + header.size;
-    let start = if header.tag == Tag::Free { place } else { end };
-    purge_from(part, start, end, purges, without_freed(sparing))
+    let step = step_at(part, place);
+    let start = step.end - free_of_seen(step.block);
+    purge_from(part, start, step.end, purges, without_freed(sparing))
 }

@@ -1,9 +1,9 @@
 -- The blocks that may be purged below a run, counted from an edge of a zone below which none may be.
 use Rattle.zone_summary.specs.declared.stretch.Counting.{Counting}
-use Rattle.zone_summary.specs.Stretches.{stretch_by, load, is_ended, join, prefix}
+use Rattle.zone_summary.specs.Stretches.{stretch_by, load, join}
 use Rattle.zone_summary.proofs.Monoid.{stretch_by-append}
 use Rattle.zone_summary.proofs.Sums.{load-counted}
-use Rattle.std.proofs.Common.{◌≡◌, ℕ, ◌+◌, ◌-◌, ◌≤◌, true, List, ◌++◌, inl, refl, sym, ap, ◌∙◌, subst, arith}
+use Rattle.std.proofs.Common.{◌≡◌, ℕ, ◌+◌, ◌-◌, ◌≤◌, List, ◌++◌, inl, refl, sym, ap, ◌∙◌, subst, arith}
 use Rattle.block_store.specs.Block.{Block, sizes}
 use Rattle.block_store.specs.Room.{count_of}
 use Rattle.block_store.specs.Sparing.{most_purges, opened, spared}
@@ -22,8 +22,6 @@ use Rattle.zone_marks.specs.Searching.{IsStretch}
 use Rattle.zone_bytes.specs.Stepping.{left_in}
 use Rattle.zone_marks.specs.declared.landmark.Tally.TheVariants as tally
 use Rattle.zone_summary.specs.declared.stretch.Stretch.{Stretch}
-use Rattle.zone_summary.specs.declared.stretch.Stretch.TheVariants.{Whole, Ended}
-use Rattle.std.proofs.lemmas.Bool.{false≢true}
 use Rattle.zone_marks.proofs.Bounds.Going.{count-none}
 use Rattle.zone_marks.proofs.Marks.Lowering.{begins-end, seen-from, one-here}
 use Rattle.zone_marks.proofs.Marks.Passing.{at-left, begins-left}
@@ -59,12 +57,6 @@ pub most-fits : (xs : List ℕ) (first unused : ℕ) → IsSound xs first unused
     → most_purges n (zone_in xs) ≤ GREATEST_ZONE
 most-fits xs first unused i n = omega (arith, count-few, sizes-opened, zone-long)
 
--- a block begins at the run
-pub run-begins : (xs : List ℕ) (run : ℕ) (low rest : List Block) → zone_in xs ≡ low ++ rest → sizes low ≡ run
-    → Begins run 0 (zone_in xs)
-run-begins xs run low rest is at = subst (Begins run 0) (sym is) (begins-left _ 0 _ _
-    (subst (λ k. Begins k 0 low) (grind arith) (begins-end 0 _)))
-
 -- what blocks that are known come to, below others
 module _ (xs : List ℕ) (first unused : ℕ) (i : IsSound xs first unused) where
   pub stretch-from : (w : Counting) (t : Tally) (from to : ℕ) → Begins from 0 (zone_in xs) → Begins to 0 (zone_in xs)
@@ -79,9 +71,3 @@ module _ (w : Counting) (xs : List ℕ) (from to : ℕ) (runs : Stretch) (s : Is
 
   pub known-fits : from + load runs ≤ to
   known-fits = omega (arith, load-counted w s.0, ap load s.2)
-
--- the run at the lower end, once it has ended
-pub ended-lowest : (s t : Stretch) → is_ended s ≡ true → prefix s ≡ prefix (join s t)
-ended-lowest (Whole a) t e = absurd (false≢true e)
-ended-lowest (Ended p i q) (Whole b) e = refl
-ended-lowest (Ended p i q) (Ended r j u) e = refl

@@ -1,10 +1,9 @@
 -- A place below which no block may be purged, through each change of a zone.
-use Rattle.std.proofs.Common.{◌≡◌, ℕ, ◌+◌, ◌-◌, ◌≤◌, ◌<◌, zero, suc, Bool, true, false, not, ◌&&◌, List, [], ◌∷◌, ◌++◌}
-use Rattle.std.proofs.Common.{refl, sym, ap, ◌∙◌, subst, cond, arith, inl, inr, Some, rules, None, length}
-use Rattle.std.proofs.lemmas.Bool.{cases_lt, false≢true}
+use Rattle.std.proofs.Common.{◌≡◌, ℕ, ◌+◌, ◌-◌, ◌≤◌, zero, suc, Bool, true, false, not, ◌&&◌, List, [], ◌∷◌, ◌++◌}
+use Rattle.std.proofs.Common.{refl, sym, ap, ◌∙◌, subst, cond, arith, Some, rules, None, length}
+use Rattle.std.proofs.lemmas.Bool.{false≢true}
 use Rattle.std.specs.Option.{option_map}
-use Rattle.block_store.specs.Block.{Block, Free, Nonrelocatable, Masters, Relocatable, size, sizes, free, free_sum}
-use Rattle.block_store.specs.Block.{is_mover, is_purgeable}
+use Rattle.block_store.specs.Block.{Block, Free, Relocatable, size, sizes, free, free_sum, is_mover, is_purgeable}
 use Rattle.block_store.specs.Inner.Stretch.{opened_block}
 use Rattle.block_store.proofs.Purged.Stretches.{opened-more}
 use Rattle.block_store.specs.Find.{FindsLowest}
@@ -53,18 +52,8 @@ pub stays-whole : (bound other x : ℕ) (blocks : List Block) → x + sizes bloc
     → AtEach (Stays other) x blocks
 stays-whole bound other x blocks l = grind (arith, at-map)
 
--- a block became one of as many bytes, which may be purged if it might
-pub stays-same : (bound x : ℕ) (below above : List Block) (b c : Block) → size c ≡ size b → is_purgeable c ≡
-    is_purgeable b
-    → AtEach (Stays bound) x (below ++ b ∷ above) → AtEach (Stays bound) x (below ++ c ∷ above)
-stays-same bound x [] above b c s g e = grind arith
-stays-same bound x (d ∷ below) above b c s g e = (e.0, stays-same _ (x + size d) below above b c s g e.1)
-
 -- some blocks became others
 module _ (lo hi : ℕ) (old new : List Block) (r : Replaced lo hi old new) (bound : ℕ) (n : NoneGoes bound old) where
-  old-parts : NoneGoes bound (r.below ++ (r.here ++ r.above))
-  old-parts = subst (NoneGoes bound) r.was n
-
   pub stays-replaced : (lower : ℕ) → lower ≤ bound → AtEach (Stays lower) lo r.there → NoneGoes lower new
   stays-replaced lower l there = grind (arith, at-right, at-append, stays-lower, at-left)
 
@@ -78,8 +67,6 @@ pub stays-packed : (bound free x y used : ℕ) (run : List Block) → Loose run 
 stays-packed bound free x y used [] l e f s = tt
 stays-packed bound free x y used (Free n ∷ run) l e f s =
     stays-packed bound free (x + n) y (used + n) run l.1 (omega arith) (omega arith) s.1
-stays-packed bound free x y used (Nonrelocatable id content ∷ run) l e f s = absurd (let z : false ≡ true = l.0 in cc)
-stays-packed bound free x y used (Masters ∷ run) l e f s = absurd (let z : false ≡ true = l.0 in cc)
 stays-packed bound free x y used (Relocatable id flags content ∷ run) l e f s = cases (is_mover b) l.0
     (λ q. s.0 (omega arith)) (stays-packed _ _ _ _ used run l.1 (omega arith) (omega arith) s.1)
   where
@@ -90,25 +77,19 @@ stays-packed bound free x y used (Relocatable id flags content ∷ run) l e f s 
         → AtEach (Stays (bound - free)) y (cond t (b ∷ movers run) (movers run))
     cases true m here above = (here, above)
     cases false m here above = absurd (false≢true m)
+stays-packed bound free x y used (_ ∷ run) l e f s = absurd (false≢true l.0)
 
 stays-free : (bound x n : ℕ) → AtEach (Stays bound) x (free n)
 stays-free bound x zero = tt
 stays-free bound x (suc n) = (λ _. refl, tt)
 
 -- a run was packed
-pub stays-settled : (bound lower run all : ℕ) (zone : List Block) (r : RunSpot) → run_at run zone ≡ Some r
-    → all ≡ free_sum zone → NoneGoes bound zone → (bound ≤ run → lower ≡ bound) → (run < bound → lower ≡ bound - all)
-    → NoneGoes lower (r.below ++ (settle r.run ++ r.above))
-stays-settled bound lower run all zone r e f n same moved = elim (cases_lt run bound) [
-  | inl l ↦ subst (λ k. NoneGoes k (r.below ++ (settle r.run ++ r.above))) (sym (moved l)) (shifted l)
-  | inr l ↦ subst (λ k. NoneGoes k (r.below ++ (settle r.run ++ r.above))) (sym (same l))
-      (stays-under _ _ _ _ changed _ n _ (omega arith) l)
-]
+module _ (bound run : ℕ) (zone : List Block) (r : RunSpot) (e : run_at run zone ≡ Some r) (n : NoneGoes bound zone)
   where
     loose : Loose r.run
     loose = (run_at-parts run zone r e).loose
 
-    changed : Replaced run (run + sizes r.run) zone (r.below ++ (settle r.run ++ r.above))
+    abbrev changed : Replaced run (run + sizes r.run) zone (r.below ++ (settle r.run ++ r.above))
     changed = record {
       below = r.below;
       here = r.run;
@@ -121,24 +102,20 @@ stays-settled bound lower run all zone r e f n same moved = elim (cases_lt run b
       span = settle-total size (λ n m. refl) r.run loose;
     }
 
-    few : free_sum r.run ≤ all
-    few = omega (arith, ap free_sum (sym (run_at-is run zone r e)), total-append, f)
-
     there : AtEach (Stays bound) run r.run
     there =
         let q : 0 + sizes r.below ≡ run = omega (arith, run_at-bottom run zone r e) in
         at-left (Stays bound) _ _ _ (subst (λ x. AtEach (Stays bound) x (r.run ++ r.above)) q
         (at-right (Stays bound) 0 _ _ (subst (NoneGoes bound) (sym (run_at-is _ _ r e)) n)))
 
-    shifted : run < bound → NoneGoes (bound - all) (r.below ++ (settle r.run ++ r.above))
-    shifted l = stays-replaced run (run + sizes r.run) zone (r.below ++ (settle r.run ++ r.above)) changed bound n
-        (bound - all) (omega arith) (at-append (Stays (bound - all)) _ _ _
-        (stays-packed _ _ run run 0 r.run loose (omega arith) (omega (arith, few)) there)
-        (stays-free (bound - all) (run + sizes (movers r.run)) (free_sum r.run)))
+    pub stays-over : bound ≤ run → NoneGoes bound (r.below ++ (settle r.run ++ r.above))
+    stays-over l = stays-under _ _ _ _ changed _ n _ (omega arith) l
 
--- the walk over blocks of which none may be purged
-pub goes-not : (b : Block) → may_be_purged (spared sparing.Nothing) b ≡ false → is_purgeable b ≡ false
-goes-not b e = grind arith
+    pub stays-settled : (all : ℕ) → all ≡ free_sum zone → NoneGoes (bound - all) (r.below ++ (settle r.run ++ r.above))
+    stays-settled all f = stays-replaced _ _ _ _ changed bound n (bound - all) (omega arith)
+        (at-append (Stays (bound - all)) _ _ _ (stays-packed _ _ run run 0 r.run loose (omega arith)
+        (omega (arith, ap free_sum (sym (run_at-is run zone r e)), total-append, f)) there)
+        (stays-free (bound - all) (run + sizes (movers r.run)) (free_sum r.run)))
 
 module _ (xs : List ℕ) (from at : ℕ) (p : Passed xs from at (λ _ b. is_purgeable b ≡ false)) where
   pub passed-stays : (block : Seen) (end : ℕ) (s : Steps at block end xs)
@@ -147,10 +124,6 @@ module _ (xs : List ℕ) (from at : ℕ) (p : Passed xs from at (λ _ b. is_purg
 
   pub all-stay : AtEach (Stays at) from (left_in from xs)
   all-stay = grind (arith, at-append, at-map, stays-above)
-
--- blocks of which none may be purged, below others
-pub none-passes : (n : Sparing) (b : Block) → is_purgeable b ≡ false → may_be_purged (spared n) b ≡ false
-none-passes n b e = ap (λ t. t && not (spared n b)) e
 
 next-above : (n : Sparing) (k bound x : ℕ) (below above : List Block) → AtEach (Stays bound) x below
     → x + sizes below ≤ bound
@@ -161,10 +134,8 @@ next-above n k bound x (b ∷ below) above s l = next-stays x (spared n) k b _ (
 
 -- a block that may not be purged may not be as a search sees it first
 opened-stays : (n : Sparing) (b : Block) → is_purgeable b ≡ false → may_be_purged (spared n) (opened_block n b) ≡ false
-opened-stays sparing.Nothing b e = none-passes sparing.Nothing b e
-opened-stays (sparing.One slot) b e = none-passes (sparing.One slot) b e
-opened-stays (sparing.Two slot other) b e = none-passes (sparing.Two slot other) b e
 opened-stays (sparing.Freed slot) b e = grind arith
+opened-stays n b e = ap (λ t. t && not (spared n b)) e
 
 pub count-none : (n : Sparing) (bound x : ℕ) (below : List Block) → AtEach (Stays bound) x below
     → x + sizes below ≤ bound
@@ -174,13 +145,6 @@ count-none n bound x (b ∷ below) s l =
     let t = ap (λ t. cond {A = ℕ} t 1 0) (opened-stays n b (stays-here bound x b s.0 (omega arith))) in
     let r = count-none n bound (x + size b) below s.1 (omega arith) in
     omega (arith, ap (count_of (spared n)) (opened-more n b below), t, r)
-
--- what a walk from an edge of a zone finds
-pub stays-from : (xs : List ℕ) (first unused : ℕ) (i : IsSound xs first unused) (from : ℕ) → Begins from 0 (zone_in xs)
-    → NoneGoes from (zone_in xs) → (bound : ℕ) → AtEach (Stays bound) from (left_in from xs)
-    → NoneGoes bound (zone_in xs)
-stays-from xs first unused i from b g bound s =
-    subst (NoneGoes bound) (sym (seen-from xs first unused i from b).is) (grind (arith, at-append, stays-whole, at-left))
 
 -- from an edge of a zone on
 module _ (xs : List ℕ) (first unused : ℕ) (i : IsSound xs first unused) (from : ℕ) (b : Begins from 0 (zone_in xs))
@@ -210,10 +174,12 @@ module _ (xs : List ℕ) (first unused : ℕ) (i : IsSound xs first unused) (fro
 
     next-is-there : option_map (λ (s : Spot). sizes s.below) (spot goes (purged k n (zone_in xs)))
         ≡ place_from from goes (purged k n (left_in from xs))
-    next-is-there = sym (next-is n k _) ∙ ap (next_from 0 (spared n) k) (plain (zone_in xs) ∙ edge.is)
-        ∙ next-above n k _ 0 _ _ below-stays (omega (arith, edge.low))
-        ∙ ap (λ y. next_from y (spared n) k (left_in from xs)) (omega (arith, edge.low))
-        ∙ ap (λ z. next_from from (spared n) k z) (sym (plain (left_in from xs))) ∙ sym (grind (arith, place-tidy))
+    next-is-there =
+        let a = next-above n k _ 0 edge.below (left_in from xs) below-stays (omega (arith, edge.low)) in
+        let z = plain (zone_in xs) in
+        let l = plain (left_in from xs) in
+        let d = edge.low in
+        grind (arith, next-is, place-tidy)
 
     pub next-none : FindsLowest goes (purged k n (left_in from xs)) None → FindsLowest goes (purged k n (zone_in xs)) None
     next-none f = grind (arith, next-is-there)
@@ -230,3 +196,6 @@ module _ (xs : List ℕ) (first unused : ℕ) (i : IsSound xs first unused) (fro
         let t = total-tidy size (λ n m. refl) (lowest_purged k (spared n) (opened n (left_in from xs))) in
         let l = left-long xs first unused i from b in
         omega (arith, w, f.3, span-append, t, sizes-lowest_purged, ap sizes (plain (left_in from xs)), l)
+
+-- what a place owes below which no block may be purged
+pub ruleset lowest_places = (stays-lower, stays-above, stays-over, stays-settled)

@@ -1,8 +1,7 @@
 -- The largest Free block of a zone, as it stands and after purges.
 use Rattle.std.proofs.Common.{◌≡◌, ◌⊎◌, ℕ, ◌+◌, ◌≤◌, ◌<◌, zero, suc, inl, inr, Bool, true, false, max, cond, List, []}
 use Rattle.std.proofs.Common.{◌∷◌, ◌++◌, refl, ap, ◌∙◌, subst, arith}
-use Rattle.block_store.specs.Block.{Block, Free, Nonrelocatable, Masters, Relocatable, add, free_of, is_room, size}
-use Rattle.block_store.specs.Block.{sizes, tidy}
+use Rattle.block_store.specs.Block.{Block, Free, Relocatable, add, free_of, is_room, size, sizes, tidy}
 use Rattle.block_store.specs.Compact.{largest_free}
 use Rattle.block_store.specs.Room.{lowest_purged, may_be_purged}
 use Rattle.block_store.specs.Sparing.{purged, spared}
@@ -14,22 +13,17 @@ use Rattle.block_store.proofs.Zone.Apart.{Apart, apart-size, apart-tidied, two}
 use Rattle.zone_bytes.specs.Decode.{zone_in}
 use Rattle.zone_bytes.specs.Lawful.{IsSound}
 use Rattle.zone_bytes.specs.Changes.{AtEach, Begins}
-use Rattle.zone_marks.specs.Marks.{NoRoom, Spans}
+use Rattle.zone_marks.specs.Marks.{NoRoom}
 use Rattle.zone_marks.specs.Purgeable.{MayStart, NoneGoes, Stays}
-use Rattle.zone_bytes.specs.PurgeableBytes.{purgeable_of, purgeable_sum}
-use Rattle.zone_bytes.specs.Stepping.{left_in, IsOnWay}
+use Rattle.zone_bytes.specs.PurgeableBytes.{purgeable_sum}
+use Rattle.zone_bytes.specs.Stepping.{left_in}
 use Rattle.zone_bytes.proofs.Laws.Lawful.{sizes-length}
 use Rattle.zone_marks.proofs.Marks.Lowering.{seen-from}
-use Rattle.zone_marks.proofs.Marks.Passing.{Passed, at-left, at-map, at-right, passed-on}
+use Rattle.zone_marks.proofs.Marks.Passing.{at-left, at-map, at-right}
 use Rattle.zone_bytes.proofs.Places.AtPlace.{left-zone}
 
 abbrev spares : Block → Bool
 spares = spared sparing.Nothing
-
--- no room for so many bytes is none for more
-room-more : (p q : ℕ) (b : Block) → p ≤ q → is_room p b ≡ false → is_room q b ≡ false
-room-more p q (Free n) l e = grind arith
-room-more p q _ l e = refl
 
 room-less : (m : ℕ) (b : Block) → is_room (m + 1) b ≡ false → free_of b ≤ m
 room-less m (Free n) e = grind arith
@@ -53,21 +47,6 @@ largest-append : (below above : List Block)
 largest-append [] above = omega arith
 largest-append (b ∷ below) above = omega (arith, largest-append below above)
 
--- a walk that keeps the size of the largest Free block that it passed
-pub record Growing (xs : List ℕ) (from at most largest : ℕ) : Type 0 where
-  pub passed : Passed xs from at (λ _ b. is_room (largest + 1) b ≡ false)
-  pub no_less : most ≤ largest
-  pub reached : max largest (largest_free (left_in at xs)) ≤ max most (largest_free (left_in from xs))
-
-module _ (xs : List ℕ) (from most : ℕ) where
-  pub growing-start : IsOnWay from xs → Growing xs from from most most
-  growing-start w = grind arith
-
-  pub growing-step : (at end free largest next : ℕ) (barrier : Bool) → Growing xs from at most largest
-      → Spans at end free barrier xs → largest ≤ next → free ≤ next → (next ≡ largest) ⊎ (next ≡ free)
-      → Growing xs from end most next
-  growing-step at end free largest next barrier g s l m o = grind (arith, passed-on)
-
 module _ (xs : List ℕ) (first unused : ℕ) (i : IsSound xs first unused) where
   pub zone-largest : (m : ℕ) → AtEach (NoRoom (m + 1) 0 4294967295) 0 (zone_in xs) → m ≤ largest_free (zone_in xs)
       → m ≡ largest_free (zone_in xs)
@@ -83,13 +62,9 @@ purged-above k bound x [] above s l = refl
 purged-above k bound x (b ∷ below) above s l = lowest_purged-stays k spares b _ (grind arith)
     ∙ ap (λ q. b ∷ q) (purged-above k _ (x + size b) below above s.1 (omega arith))
 
--- where nothing would be given, nothing is purged
-none-given : (sp : Block → Bool) (b : Block) → purgeable_of b ≤ 0 → may_be_purged sp b ≡ false
-none-given sp b l = grind arith
-
 none-purged : (k : ℕ) (sp : Block → Bool) (bs : List Block) → purgeable_sum bs ≤ 0 → lowest_purged k sp bs ≡ bs
 none-purged k sp [] l = lowest_purged-none k sp
-none-purged k sp (b ∷ bs) l = lowest_purged-stays k sp b bs (none-given sp b (omega arith))
+none-purged k sp (b ∷ bs) l = lowest_purged-stays k sp b bs (grind arith)
     ∙ ap (λ q. b ∷ q) (none-purged k sp bs (omega arith))
 
 pub stands-still : (k : ℕ) (zone : List Block) → tidy zone ≡ zone → purgeable_sum zone ≤ 0
@@ -105,21 +80,13 @@ stretch-rises f g _ l = omega arith
 stretch-above : (f : ℕ) (below above : List Block) → largest_stretch 0 above ≤ largest_stretch f (below ++ above)
 stretch-above f [] above = stretch-rises 0 f above (omega arith)
 stretch-above f (Free n ∷ below) above = stretch-above _ below above
-stretch-above f (Nonrelocatable id content ∷ below) above = let r = stretch-above 0 below above in omega arith
-stretch-above f (Masters ∷ below) above = let r = stretch-above 0 below above in omega arith
-stretch-above f (Relocatable id flags content ∷ below) above = let r = stretch-above 0 below above in omega arith
+stretch-above f (_ ∷ below) above = let r = stretch-above 0 below above in omega arith
 
 purged-rises : (f k : ℕ) (sp : Block → Bool) (bs : List Block)
     → max f (largest_free bs) ≤ largest_stretch f (lowest_purged k sp bs)
 purged-rises f k sp [] = omega (arith, ap (largest_stretch f) (lowest_purged-none k sp))
 purged-rises f k sp (Free n ∷ bs) =
     omega (arith, purged-rises (f + n) k sp bs, ap (largest_stretch f) (lowest_purged-stays k sp (Free n) bs refl))
-purged-rises f k sp (Nonrelocatable id content ∷ bs) =
-    let e = ap (largest_stretch f) (lowest_purged-stays k sp (Nonrelocatable id content) bs refl) in
-    omega (arith, purged-rises 0 k sp bs)
-purged-rises f k sp (Masters ∷ bs) =
-    let e = ap (largest_stretch f) (lowest_purged-stays k sp Masters bs refl) in
-    omega (arith, purged-rises 0 k sp bs)
 purged-rises f zero sp (Relocatable id flags content ∷ bs) = let r = purged-rises 0 0 sp bs in omega arith
 purged-rises f (suc k) sp (Relocatable id flags content ∷ bs) =
     cases (may_be_purged sp b) (purged-rises (f + size b) k sp bs) (purged-rises 0 (suc k) sp bs)
@@ -132,6 +99,8 @@ purged-rises f (suc k) sp (Relocatable id flags content ∷ bs) =
         ≤ largest_stretch f (cond t (Free (size b) ∷ lowest_purged k sp bs) (b ∷ lowest_purged (suc k) sp bs))
     cases true e g = omega arith
     cases false e g = omega arith
+purged-rises f k sp (b ∷ bs) =
+    let e = ap (largest_stretch f) (lowest_purged-stays k sp b bs refl) in omega (arith, purged-rises 0 k sp bs)
 
 -- two lists end, or begin with one and the same block
 abbrev SameFirst : List Block → List Block → Type 0
@@ -146,9 +115,7 @@ stretch-ends : (f : ℕ) (old new : List Block) → Apart old → (f ≡ 0) ⊎ 
 stretch-ends f [] [] a e s = omega arith
 stretch-ends f (b ∷ old) (c ∷ new) a (inl e) s = omega (arith, ap (λ g. largest_stretch g (c ∷ new)) e)
 stretch-ends f (b ∷ old) (Free n ∷ new) a (inr e) s = grind (arith, apart-size)
-stretch-ends f (b ∷ old) (Nonrelocatable id content ∷ new) a (inr e) s = omega arith
-stretch-ends f (b ∷ old) (Masters ∷ new) a (inr e) s = omega arith
-stretch-ends f (b ∷ old) (Relocatable id flags content ∷ new) a (inr e) s = omega arith
+stretch-ends f (b ∷ old) (_ ∷ new) a (inr e) s = omega arith
 stretch-ends f _ _ a e s = absurd s
 
 top-apart : (n : ℕ) (bs : List Block) → add (Free n) bs ≡ Free n ∷ bs → top_free bs ≡ 0
@@ -162,12 +129,7 @@ stretch-parts f [] old new a e s = let r = stretch-ends f _ _ a e s in omega ari
 stretch-parts f (Free n ∷ below) old new a (inl e) s =
     let r = stretch-parts (f + n) below old new a.1 (inr (top-apart n (below ++ old) a.0)) s in omega arith
 stretch-parts f (Free n ∷ below) old new a (inr e) s = omega (arith, apart-size)
-stretch-parts f (Nonrelocatable id content ∷ below) old new a e s =
-    let r = stretch-parts 0 below old new a.1 (inl refl) s in omega arith
-stretch-parts f (Masters ∷ below) old new a e s =
-    let r = stretch-parts 0 below old new a.1 (inl refl) s in omega arith
-stretch-parts f (Relocatable id flags content ∷ below) old new a e s =
-    let r = stretch-parts 0 below old new a.1 (inl refl) s in omega arith
+stretch-parts f (_ ∷ below) old new a e s = let r = stretch-parts 0 below old new a.1 (inl refl) s in omega arith
 
 -- where the first block stays, the lists begin alike
 same-first : (k bound x : ℕ) (bs : List Block) → x < bound → AtEach (Stays bound) x bs

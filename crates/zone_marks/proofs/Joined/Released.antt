@@ -1,6 +1,9 @@
 -- A block that is made Free, and its Free neighbours one with it.
-use Rattle.std.proofs.Common.{◌≤◌, ◌≡◌, ℕ, ◌+◌, ◌-◌, ◌<◌, ◌⊎◌, length, List, [], ◌∷◌, ◌++◌, sym, refl, ap, ◌∙◌, subst}
-use Rattle.std.proofs.Common.{arith, append_assoc}
+use Rattle.zone_bytes.proofs.Joined.Above.{next, joined-none, joined-other, joined-two, one, may-free as free-one}
+use Rattle.zone_bytes.specs.Layout.{kind}
+use Rattle.std.proofs.lemmas.Bool.{cases_lt}
+use Rattle.std.proofs.Common.{inl, inr, ◌≤◌, ◌≡◌, ℕ, ◌+◌, ◌-◌, ◌<◌, ◌⊎◌, length, List, [], ◌∷◌, ◌++◌, sym, refl, ap}
+use Rattle.std.proofs.Common.{◌∙◌, subst, arith, append_assoc}
 use Rattle.block_store.specs.Block.{Block, Free, size, sizes, free, add, tidy}
 use Rattle.block_store.specs.Inner.Joining.{last_free}
 use Rattle.block_store.proofs.Zone.Apart.{apart-tidied, apart-above, tidy-apart}
@@ -16,6 +19,15 @@ use Rattle.zone_bytes.proofs.Tiles.Tiling.{span-append}
 use Rattle.zone_bytes.proofs.Tiles.Keeping.{span-free}
 use Rattle.zone_bytes.proofs.Joined.Ways.{way, left, inside, Read, read}
 
+-- the Free bytes at the lower end tell whether the first block is Free
+first-free : (b : Block) (above : List Block) → 0 < free_first (b ∷ above) → kind b ≡ 0
+first-free (Free n) above s = refl
+first-free _ above s = absurd (omega arith)
+
+first-other : (b : Block) (above : List Block) → 16 ≤ size b → free_first (b ∷ above) ≤ 0 → 0 < kind b
+first-other (Free n) above s z = absurd (omega arith)
+first-other _ above s z = omega arith
+
 module _ (f : Freeing) (place : ℕ) (xs : List ℕ) (m : MayRelease f place xs) where
   abbrev all : List Block
   all = f.below ++ f.here ∷ f.above
@@ -26,14 +38,10 @@ module _ (f : Freeing) (place : ℕ) (xs : List ℕ) (m : MayRelease f place xs)
       let r = parts from 0 all b in
       let k : sizes r.below ≡ from = omega arith in
       let h = subst (λ z. Lays xs z f.slots f.unused) r.is m.lays in
-      record {
-        below = r.below;
-        is = left _ [] all f.slots f.unused m.lays 0 refl ∙ r.is
-            ∙ ap (λ z. r.below ++ z) (sym (left _ _ _ f.slots _ h _ k));
-        low = k;
-        under = u;
-        way = way xs r.below r.above f.slots f.unused h from k;
-      }
+      let l = left _ [] all f.slots f.unused m.lays 0 refl in
+      let a = left _ _ _ f.slots _ h _ k in
+      let w = way xs r.below r.above f.slots f.unused h from k in
+      grind arith
 
   pub here-read : Read xs f.here place
   here-read = read xs f.below f.here f.above f.slots f.unused m.lays place m.low
@@ -50,11 +58,8 @@ module _ (f : Freeing) (place : ℕ) (xs : List ℕ) (m : MayRelease f place xs)
     starts : start + last_free 0 f.below ≡ place
     starts = found f.below (f.here ∷ f.above) (left xs [] all f.slots f.unused m.lays 0 refl) m.low
 
-    gap : last_free 0 f.below ≡ place - start
-    gap = omega (arith, starts)
-
     pub below-is : f.below ≡ end.lower ++ free (place - start)
-    below-is = end.is ∙ ap (λ n. end.lower ++ free n) gap
+    below-is = end.is ∙ ap (λ n. end.lower ++ free n) (omega (arith, starts))
 
     abbrev pub lower : Freeing
     lower = record { below = end.lower; here = f.here; above = f.above; slots = f.slots; unused = f.unused }
@@ -73,12 +78,7 @@ module _ (f : Freeing) (place : ℕ) (xs : List ℕ) (m : MayRelease f place xs)
         (made : (g : Freeing) → MayFree g start place xs
         → Lays mid (g.below ++ (free (place + size g.here - start) ++ g.above)) g.slots g.unused) where
       pub may-join : MayJoin freed start stop mid
-      may-join = record {
-        lays = subst (λ n. Lays mid (end.lower ++ (free (n - start) ++ f.above)) f.slots f.unused) (sym t)
-            (made lower may-free);
-        low = lower-low;
-        some = omega (arith, starts, here-read.some);
-      }
+      may-join = let z = made lower may-free in grind (arith, lower-low, starts, here-read)
 
       low-stop : sizes (end.lower ++ free (stop - start)) ≡ stop
       low-stop = omega (arith, span-append, span-free, lower-low, starts)
@@ -96,23 +96,54 @@ module _ (f : Freeing) (place : ℕ) (xs : List ℕ) (m : MayRelease f place xs)
       pub stop-fits : stop + sizes f.above ≡ length mid
       stop-fits = inside mid (end.lower ++ free (stop - start)) f.above f.slots f.unused lays-stop stop low-stop
 
-      pub stop-more : (more : ℕ) → more ≡ free_first (left_in stop mid) → stop + more ≤ 134217728
-      stop-more more e = omega (arith, e ∙ ap free_first stop-left, first-small, stop-fits, lays-stop.small)
-
-      pub freed-replaced : (more : ℕ) → more ≡ free_first (left_in stop mid)
-          → Replaced start (stop + more) all (tidy (f.below ++ Free (size f.here) ∷ f.above))
-      freed-replaced more e =
-          let k = here-read.some in
-          joined-replaced _ _ _ _ _ _ _ _ _
-          (ap (λ k. k ++ f.here ∷ f.above) below-is ∙ append_assoc end.lower (free (place - start)) (f.here ∷ f.above))
-          (released-tidy _ _ _ _ _ (omega arith) below-is end.apart end.closed above-tidy) refl (omega arith)
-          lower-low (omega (arith, e ∙ ap free_first stop-left, starts))
-
-      -- and with the one above it
-      pub released : (new : List ℕ) → ((j : Joining) → MayJoin j start stop mid
-          → Lays new (j.below ++ add (Free (stop - start)) j.above) j.slots j.unused)
+      -- and with the Free block above it, if there is one
+      released : (new : List ℕ) → Lays new (end.lower ++ add (Free (stop - start)) f.above) f.slots f.unused
           → Lays new (tidy (f.below ++ Free (size f.here) ∷ f.above)) f.slots f.unused
       released new joined =
           let z = released-tidy _ _ _ _ _ (omega (arith, here-read.some)) below-is end.apart end.closed above-tidy in
           subst (λ q. Lays new q f.slots f.unused) (ap (λ n. end.lower ++ add (Free n) f.above) (omega (arith, starts))
-          ∙ sym z) (joined freed may-join)
+          ∙ sym z) joined
+
+      module _ (more : ℕ) (e : more ≡ free_first (left_in stop mid)) where
+        first : more ≡ free_first f.above
+        first = e ∙ ap free_first stop-left
+
+        pub stop-more : stop + more ≤ 134217728
+        stop-more = omega (arith, first, first-small, stop-fits, lays-stop.small)
+
+        pub freed-replaced : Replaced start (stop + more) all (tidy (f.below ++ Free (size f.here) ∷ f.above))
+        freed-replaced =
+            let k = here-read.some in
+            joined-replaced _ _ _ _ _ _ _ _ _
+            (ap (λ k. k ++ f.here ∷ f.above) below-is
+            ∙ append_assoc end.lower (free (place - start)) (f.here ∷ f.above))
+            (released-tidy _ _ _ _ _ (omega arith) below-is end.apart end.closed above-tidy) refl (omega arith)
+            lower-low (omega (arith, first, starts))
+
+        pub released-one : more ≤ 0 → Lays mid (tidy (f.below ++ Free (size f.here) ∷ f.above)) f.slots f.unused
+        released-one z = released mid (elim (cases_lt stop (length mid)) [
+          | inl l ↦ let n = next freed start stop mid may-join l in
+              joined-other freed start stop mid may-join l
+              (first-other n.here n.above n.tells.some (omega (arith, first ∙ ap free_first n.is)))
+          | inr l ↦ joined-none freed start stop mid may-join l
+        ])
+
+        module _ (s : 0 < more) where
+          some-there : stop < length mid
+          some-there = omega (arith, first, first-small, stop-fits)
+
+          free-there : kind (next freed start stop mid may-join some-there).here ≡ 0
+          free-there = let n = next freed start stop mid may-join some-there in
+              first-free n.here n.above (omega (arith, first ∙ ap free_first n.is))
+
+          pub may-free-two : (g : Freeing) × MayFree g start stop mid
+          may-free-two = (
+            one freed start stop mid may-join some-there free-there,
+            free-one freed start stop mid may-join some-there free-there,
+          )
+
+          pub released-two : (new : List ℕ) → ((g : Freeing) → MayFree g start stop mid
+              → Lays new (g.below ++ (free (stop + size g.here - start) ++ g.above)) g.slots g.unused)
+              → Lays new (tidy (f.below ++ Free (size f.here) ∷ f.above)) f.slots f.unused
+          released-two new joined =
+              released new (joined-two freed start stop mid may-join some-there free-there new joined)

@@ -1,13 +1,13 @@
--- Landmarks that are laid by edges which were noted while blocks were moved.
-use Rattle.std.proofs.Common.{◌≡◌, ℕ, ◌+◌, ◌≤◌, ◌⊎◌, inl, inr, Bool, true, false, ◌&&◌, cond, nat_le, nat_lt, List, []}
-use Rattle.std.proofs.Common.{◌∷◌, ◌++◌, length, take, drop, refl, sym, ap, ◌∙◌, subst, arith}
-use Rattle.std.proofs.lemmas.Bool.{leb-true, le-ltb, false≢true}
-use Rattle.std.proofs.lemmas.List.{drop_more}
+-- Landmarks that are laid anew, one after another, and by edges which were noted while blocks were moved.
+use Rattle.zone_marks.specs.Marks.{IsMark, AreMarks, AtMost, between, next_of, no_mark}
+use Rattle.std.proofs.Common.{◌<◌, set, length-set, ◌≡◌, ℕ, ◌+◌, ◌≤◌, ◌⊎◌, inl, inr, List, [], ◌∷◌, ◌++◌, length, take}
+use Rattle.std.proofs.Common.{drop, refl, sym, ap, ◌∙◌, subst, arith}
+use Rattle.std.proofs.lemmas.Bool.{false≢true}
+use Rattle.std.proofs.lemmas.List.{drop_all, drop_more, drop-drop, drop-set, take_more_set}
 use Rattle.block_store.specs.Block.{Block, Free, Relocatable, size, sizes, free_of}
 use Rattle.zone_bytes.specs.Layout.{Each}
 use Rattle.zone_bytes.specs.Edges.{Starts, AreEdges, IsMover, ByEdges}
 use Rattle.zone_marks.specs.LaidMarks.{IsBare, AreLaid}
-use Rattle.zone_marks.specs.Marks.{AreMarks, AtMost, between, next_of, no_mark}
 use Rattle.zone_bytes.specs.Changes.{AtEach, Begins}
 use Rattle.zone_marks.specs.declared.landmark.Landmark.{Landmark}
 use Rattle.zone_bytes.specs.declared.edges.Edges.{Edges}
@@ -15,9 +15,9 @@ use Rattle.zone_summary.specs.Stretches.{counted, join, one, stretch_of}
 use Rattle.zone_summary.specs.declared.stretch.Counting.TheVariants.{Runs}
 use Rattle.zone_summary.specs.declared.stretch.Stretch.TheVariants.{Whole}
 use Rattle.zone_summary.proofs.Monoid.{join-unit_left, stretch_of-append}
-use Rattle.zone_marks.proofs.Marks.Between.{between-append, none-below, none-above}
-use Rattle.zone_marks.proofs.Marks.Lowering.{at-each, drop-all, mark-first, marks-parted}
-use Rattle.zone_marks.proofs.Marks.Passing.{at-append, at-all, begins-left, begins-right, begins-within}
+use Rattle.zone_marks.proofs.Marks.Between.{between-append, between-each, between-none, none-below, none-above}
+use Rattle.zone_marks.proofs.Marks.Lowering.{mark-begins, mark-first, marks-join, marks-parted}
+use Rattle.zone_marks.proofs.Marks.Passing.{at-each, at-append, at-all, begins-left, begins-right, begins-within}
 
 starts-begins : (p x : ℕ) (blocks : List Block) → Starts p x blocks → Begins p x blocks
 starts-begins p x [] s = absurd s
@@ -38,31 +38,13 @@ movers-bare lo hi x [] m = tt
 movers-bare lo hi x (b ∷ movers) m = (λ l h. (omega (arith, mover-free)), movers-bare lo hi (x + size b) movers m.1)
 
 movers-runs : (lo hi x : ℕ) (movers : List Block) → Each IsMover movers → stretch_of (between lo hi x movers) ≡ Whole 0
-movers-runs lo hi x [] m = refl
-movers-runs lo hi x (b ∷ movers) m = cases (nat_le lo x && nat_lt x hi) (movers-runs lo hi (x + size b) movers m.1)
-  where
-    rest : List Block
-    rest = between lo hi (x + size b) movers
-
-    cases : (t : Bool) → stretch_of rest ≡ Whole 0 → stretch_of (cond t (b ∷ rest) rest) ≡ Whole 0
-    cases true a = ap (λ s. join s (stretch_of rest)) (mover-one b m.0) ∙ join-unit_left _ ∙ a
-    cases false a = a
+movers-runs lo hi = between-each lo hi (λ x bs k. Each IsMover bs → stretch_of k ≡ Whole 0) (λ x m. refl)
+    (λ x b bs k l h r m. ap (λ s. join s (stretch_of k)) (mover-one b m.0) ∙ join-unit_left _ ∙ r m.1)
+    (λ x b bs k o r m. r m.1)
 
 -- blocks that come to nothing in runs, beside others that do
 bare-both : (a b : List Block) → stretch_of a ≡ Whole 0 → stretch_of b ≡ Whole 0 → stretch_of (a ++ b) ≡ Whole 0
 bare-both a b e f = stretch_of-append a b ∙ ap (λ s. join s (stretch_of b)) e ∙ ap (join (Whole 0)) f
-
--- nothing lies between two places of which the first is no lower
-between-none : (lo hi x : ℕ) (blocks : List Block) → hi ≤ lo → between lo hi x blocks ≡ []
-between-none lo hi x [] l = refl
-between-none lo hi x (b ∷ blocks) l = cases (nat_le lo x) refl (between-none _ _ (x + size b) blocks l)
-  where
-    rest : List Block
-    rest = between lo hi (x + size b) blocks
-
-    cases : (t : Bool) → nat_le lo x ≡ t → rest ≡ [] → cond (t && nat_lt x hi) (b ∷ rest) rest ≡ []
-    cases true e r = rw (le-ltb x hi (omega (arith, leb-true))) r
-    cases false e r = r
 
 module _ (base : ℕ) (below movers above : List Block) (low : sizes below ≡ base) (solid : Each IsMover movers) where
   abbrev zone : List Block
@@ -108,7 +90,21 @@ laid-there zone marks index at l e a =
       below = subst (λ n. AreMarks n zone (take index marks)) (sym e) p.0;
       above = p.1;
       inside = l;
-      begins = λ m. subst (λ n. Begins n 0 zone) (sym (e ∙ mark-first _ _ _ _ m))
-          (subst (AreMarks 4294967295 zone) (drop_more marks index no_mark m) p.1).0;
-      last = λ k. e ∙ ap (λ n. next_of 4294967295 (drop n marks)) k ∙ ap (next_of 4294967295) (drop-all marks);
+      begins = λ m. subst (λ n. Begins n 0 zone) (sym (e ∙ mark-first _ _ _ no_mark m))
+          (mark-begins _ _ _ _ no_mark m a);
+      last = λ k. e ∙ ap (next_of 4294967295) (drop_all index marks (omega arith));
     }
+
+-- one more is laid
+pub laid-next : (zone : List Block) (marks : List Landmark) (index at to : ℕ) (m : Landmark)
+    → AreLaid index at zone marks → index < length marks → m.at ≡ at → IsMark to zone m
+    → (index + 1 < length marks → Begins to 0 zone) → (index + 1 ≡ length marks → to ≡ 4294967295)
+    → AreLaid (index + 1) to zone (set marks index m)
+laid-next zone marks index at to m a l e i begins last =
+    let n = length-set marks index m in
+    let b = marks-join to zone (take index marks) (m ∷ [])
+    (subst (λ k. AreMarks k zone (take index marks)) (sym e) a.below) (i, tt) in
+    let t = take_more_set marks index m l in
+    let d = sym (drop-drop 1 index (set marks index m)) ∙ ap (drop 1) (drop-set marks index m l) in
+    let u = (subst (AreMarks 4294967295 zone) (drop_more marks index no_mark l) a.above).1 in
+    grind arith

@@ -1,26 +1,26 @@
 -- The groups of landmarks.
-use Rattle.std.proofs.Common.{◌≡◌, ◌⊎◌, ℕ, ◌+◌, ◌-◌, ◌*◌, ◌≤◌, ◌<◌, inl, inr, List, length, take, drop, get_or, set}
-use Rattle.std.proofs.Common.{sym, ap, ◌∙◌, subst, arith, length-set, replicate, rules}
+use Rattle.std.proofs.Common.{length-take, ◌≡◌, ◌⊎◌, ℕ, ◌+◌, ◌*◌, ◌≤◌, ◌<◌, inl, inr, List, length, take}
+use Rattle.std.proofs.Common.{drop, get_or, set, sym, ap, ◌∙◌, subst, arith, length-set, replicate}
+use Rattle.zone_marks.specs.Marks.{IsGroup, AreGroups, marks_in, no_group, no_mark, told}
+use Rattle.zone_summary.specs.declared.stretch.Counting.TheVariants as counting
+use Rattle.zone_summary.specs.declared.stretch.Stretch.{Stretch}
 use Rattle.std.proofs.lemmas.Bool.Decides.{eqb_tells}
-use Rattle.std.proofs.lemmas.List.{get_or-take, get_or-drop, get_or-set_same, get_or-set_other, length-take-le}
+use Rattle.std.proofs.lemmas.List.{get_or-take, get_or-drop, get_or-set_same, get_or-set_other}
 use Rattle.std.proofs.lemmas.List.{length-drop, get_or-replicate, length-replicate, drop-take, drop-set-lt, take-set-le}
-use Rattle.zone_marks.specs.Marks.{AreGroups, marks_in, no_group, no_mark, tally_of, told}
 use Rattle.zone_marks.specs.declared.landmark.Group.{Group}
 use Rattle.zone_marks.specs.declared.landmark.Landmark.{Landmark}
 use Rattle.zone_marks.specs.declared.landmark.Tallies.{Tallies}
 use Rattle.zone_marks.specs.declared.landmark.Tally.TheVariants as tally
 use Rattle.zone_marks.specs.declared.landmark.TheConstants.{GROUP}
 use Rattle.zone_summary.specs.declared.stretch.Counting.{Counting}
-use Rattle.zone_summary.specs.declared.stretch.Counting.TheVariants as counting
-use Rattle.zone_summary.specs.declared.stretch.Stretch.{Stretch}
 
 -- nothing known is nothing that is known, in either way
 abbrev pub unknown : Tallies
 unknown = record { runs = tally.Unknown; spaces = tally.Unknown }
 
-pub unknown-known : (w : Counting) (s : Stretch) → told w unknown ≡ tally.Known s → ⊥
-unknown-known counting.Runs s e = cc
-unknown-known counting.Spaces s e = cc
+never : (c : Counting) (s : Stretch) → told c unknown ≡ tally.Known s → ⊥
+never counting.Runs s e = cc
+never counting.Spaces s e = cc
 
 -- the landmarks of a group that has not the one that becomes another
 marks-apart : (marks : List Landmark) (m : Landmark) (index low n : ℕ) → (index < low) ⊎ (low + n ≤ index)
@@ -30,84 +30,74 @@ marks-apart marks m index low n (inr l) =
     sym (drop-take low n (set marks index m)) ∙ ap (drop low) (take-set-le (low + n) marks index m l) ∙ drop-take low
     n marks
 
+-- a landmark of a group, by its index among all
+member : (group : ℕ) (marks : List Landmark) (j : ℕ) → j < GROUP
+    → get_or (marks_in group marks) j no_mark ≡ get_or marks (GROUP * group + j) no_mark
+member group marks j l = get_or-take GROUP (drop (GROUP * group) marks) j no_mark l
+    ∙ get_or-drop (GROUP * group) marks j no_mark
+
 -- a landmark becomes another, of which its group knows no more than a bound
 pub group-raised : (groups : List Group) (marks : List Landmark) (group index : ℕ) (g : Group) (m : Landmark)
     → AreGroups groups marks → group < length groups → GROUP * group ≤ index → index < GROUP * group + GROUP
     → (get_or groups group no_group).most ≤ g.most → m.most ≤ g.most → g.tally ≡ unknown
     → AreGroups (set groups group g) (set marks index m)
-group-raised groups marks group index g m a l low high was is none = record {
-  whole = (
-      let w = a.whole in
-      omega (arith, length-set groups group g, length-set marks index m)
-      );
-  each = λ other j u v h. (search rules);
-  known = λ w other runs h e. elim (eqb_tells other group) [
-    | inl t ↦ absurd (unknown-known w runs (sym (ap (told w) none) ∙ sym
-        (ap (λ k. told w k.tally) (same-group other t.1)) ∙ e))
-    | inr t ↦ ap (tally_of w) (marks-apart _ m _ (GROUP * other) GROUP (elim (apart other t.1) [
-      | inl z ↦ inl (omega arith)
-      | inr z ↦ inr (omega arith)
-    ])) ∙ a.known w other runs (omega (arith, length-set groups group g))
-        (sym (ap (λ k. told w k.tally) (get_or-set_other groups group other g no_group t.1)) ∙ e)
-  ];
-}
+group-raised groups marks group index g m a l low high was is none =
+    let w = a.whole in
+    let n = length-set marks index m in
+    let k = length-set groups group g in
+    record {
+      whole = omega arith;
+      each = λ other j. elim (eqb_tells other group) [
+        | inl t ↦ subst (λ o. IsGroup (get_or (set groups group g) o no_group) (marks_in o (set marks index m)))
+            (sym t.1) (rw (get_or-set_same groups group g no_group l) here)
+        | inr t ↦ rw (
+          get_or-set_other groups group other g no_group t.1,
+          marks-apart marks m index (GROUP * other) GROUP (grind arith),
+        ) (a.each other (omega arith))
+      ];
+    }
   where
-    same-group : (other : ℕ) → other ≡ group → get_or (set groups group g) other no_group ≡ g
-    same-group other e = ap (λ k. get_or (set groups group g) k no_group) e ∙ get_or-set_same groups group g no_group l
-
-    here : (j : ℕ) → GROUP * group ≤ j → j < GROUP * group + GROUP → j < length marks
-        → (get_or (set marks index m) j no_mark).most ≤ g.most
-    here j u v h = elim (eqb_tells j index) [
-      | inl t ↦ subst (λ z. z.most ≤ g.most) (sym (ap (λ k. get_or (set marks index m) k no_mark) t.1
-          ∙ get_or-set_same marks index m no_mark (omega arith))) is
-      | inr t ↦ subst (λ z. z.most ≤ g.most) (sym (get_or-set_other marks index j m no_mark t.1))
-          (omega (arith, a.each group j u v h))
-    ]
-
-    apart : (other : ℕ) → (other ≡ group → ⊥) → (group < other) ⊎ (other < group)
-    apart other n = grind arith
-
--- what is known of a group is computed anew
-pub group-renewed : (groups : List Group) (marks : List Landmark) (group low n : ℕ) (g : Group) → AreGroups groups marks
-    → group < length groups → low ≡ group * 16 → n ≡ 16 → ((index : ℕ) → index < length (take n (drop low marks))
-    → (get_or (take n (drop low marks)) index no_mark).most ≤ g.most)
-    → ((w : Counting) → told w g.tally ≡ tally_of w (take n (drop low marks))) → AreGroups (set groups group g) marks
-group-renewed groups marks group low n g a l e k f s = record {
-  whole = (let w = a.whole in let s = length-set groups group g in omega arith);
-  each = λ other index u v m. elim (eqb_tells other group) [
-    | inl t ↦ subst (λ z. (get_or marks index no_mark).most ≤ z) (sym (ap (λ k. k.most) (same-group other t.1)))
-        (here index (omega arith) (let g = t.1 in omega arith) m)
-    | inr t ↦ subst (λ z. (get_or marks index no_mark).most ≤ z)
-        (sym (ap (λ k. k.most) (get_or-set_other groups group other g no_group t.1))) (a.each other index u v m)
-  ];
-  known = λ w other runs h d. elim (eqb_tells other group) [
-    | inl t ↦ ap (λ o. tally_of w (marks_in o marks)) t.1 ∙ ap (tally_of w) part ∙ sym (s w)
-        ∙ sym (ap (λ k. told w k.tally) (same-group other t.1)) ∙ d
-    | inr t ↦ a.known w other runs (let q = length-set groups group g in omega arith)
-        (sym (ap (λ k. told w k.tally) (get_or-set_other groups group other g no_group t.1)) ∙ d)
-  ];
-}
-  where
-    same-group : (other : ℕ) → other ≡ group → get_or (set groups group g) other no_group ≡ g
-    same-group other q = ap (λ k. get_or (set groups group g) k no_group) q ∙ get_or-set_same groups group g no_group l
-
-    part : marks_in group marks ≡ take n (drop low marks)
-    part = ap (λ z. take z (drop (GROUP * group) marks)) (sym k)
-        ∙ ap (λ z. take n (drop z marks)) (let z : GROUP * group ≡ low = omega arith in z)
-
-    here : (index : ℕ) → low ≤ index → index < low + n → index < length marks
-        → (get_or marks index no_mark).most ≤ g.most
-    here index u v m =
-        let d : Landmark = no_mark in
-        let j = index - low in
-        let t : length (take n (drop low marks)) ≡ n = length-take-le n (drop low marks)
-        (omega (arith, length-drop low marks)) in
-        let s : get_or (take n (drop low marks)) j d ≡ get_or marks index d =
-        get_or-take n (drop low marks) j d (omega arith) ∙ get_or-drop low marks j d
-        ∙ ap (λ i. get_or marks i d) (let q : low + (index - low) ≡ index = omega arith in q) in
-        subst (λ b. b.most ≤ g.most) s (f j (omega arith))
+    here : IsGroup g (marks_in group (set marks index m))
+    here =
+        let w = a.whole in
+        let n = length-set marks index m in
+        record {
+          most = λ j v.
+              let k : j < GROUP = omega (arith, v, length-take GROUP (drop (GROUP * group) (set marks index m))) in
+              elim (eqb_tells (GROUP * group + j) index) [
+                | inl t ↦ subst (λ z. z.most ≤ g.most) (sym (member group (set marks index m) j k
+                    ∙ ap (λ q. get_or (set marks index m) q no_mark) t.1
+                    ∙ get_or-set_same marks index m no_mark (omega arith))) is
+                | inr t ↦ subst (λ z. z.most ≤ g.most) (sym (member group (set marks index m) j k
+                    ∙ get_or-set_other marks index (GROUP * group + j) m no_mark t.1 ∙ sym (member group marks j k)))
+                    (omega (
+                      arith,
+                      (a.each group l).most j (omega (
+                        arith,
+                        length-take GROUP (drop (GROUP * group) marks),
+                        length-drop (GROUP * group) marks,
+                      )),
+                      was,
+                    ))
+              ];
+          known = λ c s e. absurd (never c s (sym (ap (told c) none) ∙ e));
+        }
 
 -- landmarks that all note the same, and of which groups know no more
 pub same-groups : (count groups : ℕ) (m : Landmark) → count ≡ GROUP * groups
     → AreGroups (replicate groups (record { most = m.most; tally = unknown })) (replicate count m)
-same-groups count groups m e = grind (arith, length-replicate, get_or-replicate)
+same-groups count groups m e =
+    let g : Group = record { most = m.most; tally = unknown } in
+    record {
+      whole = omega (arith, length-replicate count m, length-replicate groups g);
+      each = λ group l. rw (get_or-replicate groups group g no_group (omega (arith, length-replicate groups g)))
+          (record {
+            most = λ j v.
+                let n = length-replicate count m in
+                let k = length-take GROUP (drop (GROUP * group) (replicate count m)) in
+                let d = length-drop (GROUP * group) (replicate count m) in
+                rw (member group (replicate count m) j (omega arith))
+                (rw (get_or-replicate count (GROUP * group + j) m no_mark (omega arith)) (omega arith));
+            known = λ c s q. absurd (never c s q);
+          });
+    }

@@ -1,4 +1,7 @@
 -- What each change of a zone owes of its landmarks.
+use Rattle.zone_marks.proofs.Marks.Passing.{begins-here, at-other}
+use Rattle.zone_bytes.proofs.Places.AtPlace.{left-zone}
+use Rattle.zone_bytes.proofs.Bounds.Short.{free-given}
 use Rattle.std.proofs.Common.{◌≡◌, ℕ, ◌+◌, ◌-◌, ◌≤◌, false, List, ◌∷◌, ◌++◌, length, refl, sym, ap, ◌∙◌, subst, []}
 use Rattle.std.proofs.Common.{arith}
 use Rattle.windows.specs.Writes.{written}
@@ -18,8 +21,7 @@ use Rattle.zone_bytes.specs.Changes.{Replaced}
 use Rattle.zone_marks.specs.Marks.{ends_run}
 use Rattle.zone_bytes.specs.PurgeableBytes.{purgeable_of, purgeable_sum}
 use Rattle.zone_marks.specs.declared.keeping.Landmarks.{Landmarks}
-use Rattle.zone_marks.proofs.Bounds.Going.{stays-same}
-use Rattle.zone_marks.proofs.Marks.Between.{one-same}
+use Rattle.zone_marks.specs.Purgeable.{Stays}
 use Rattle.zone_marks.proofs.Marks.Keeping.{marks-same}
 use Rattle.zone_summary.specs.Stretches.{one, space}
 use Rattle.zone_bytes.proofs.Placed.Carved.{Roomy, filled-is}
@@ -27,27 +29,17 @@ use Rattle.zone_bytes.proofs.Blocks.Writes.{free-content}
 use Rattle.zone_bytes.proofs.Tiles.Keeping.{span-free}
 
 -- a block whose content is another of as many bytes
-ends-content : (x : List ℕ) (b : Block) → ends_run (with_content x b) ≡ ends_run b
-ends-content x (Free n) = refl
-ends-content x _ = refl
-
-space-content : (x : List ℕ) (b : Block) → length x ≡ length (content_of b) → space (with_content x b) ≡ space b
-space-content x (Relocatable id flags content) e = grind arith
-space-content x _ e = refl
-
-goes-content : (x : List ℕ) (b : Block) → is_purgeable (with_content x b) ≡ is_purgeable b
-goes-content x (Free n) = refl
-goes-content x _ = refl
+content-same : (x : List ℕ) (b : Block) → length x ≡ length (content_of b)
+    → (ends_run (with_content x b) ≡ ends_run b) × (space (with_content x b) ≡ space b)
+    × (is_purgeable (with_content x b) ≡ is_purgeable b) × (purgeable_of (with_content x b) ≡ purgeable_of b)
+content-same x (Relocatable id flags content) e = grind arith
+content-same x (Free n) e = (refl, refl, refl, refl)
+content-same x _ e = (refl, refl, refl, refl)
 
 -- a block with other flags
 pub size-flags : (flags : Flags) (b : Block) → size (with_flags flags b) ≡ size b
 size-flags flags (Free n) = refl
 size-flags flags _ = refl
-
-purgeable-content : (x : List ℕ) (b : Block) → length x ≡ length (content_of b)
-    → purgeable_of (with_content x b) ≡ purgeable_of b
-purgeable-content x (Relocatable id flags content) e = grind arith
-purgeable-content x _ e = refl
 
 module _ (xs : List ℕ) (first unused free purgeable : ℕ) (l : Landmarks) where
   pub with-marks : IsKept xs first unused free → AreOf l (zone_in xs) → purgeable ≡ purgeable_sum (zone_in xs)
@@ -65,7 +57,10 @@ module _ (xs : List ℕ) (first unused free purgeable : ℕ) (l : Landmarks) whe
       → zone_in xs ≡ below ++ c ∷ above → zone ≡ below ++ b ∷ above → size c ≡ size b → free_of c ≡ free_of b
       → one c ≡ one b → space c ≡ space b → is_purgeable c ≡ is_purgeable b → AreOf l zone
       → purgeable ≡ purgeable_sum (below ++ c ∷ above) → IsMarked xs first unused free purgeable l
-  with-block below above b c zone k e was s f r h g a m = grind (arith, marks-same, stays-same)
+  with-block below above b c zone k e was s f r h g a m =
+      let w = subst (AreOf l) was a in
+      let n = at-other (Stays l.lowest) 0 below above b c s (λ p t q. g ∙ t q) w.1 in
+      grind (arith, marks-same)
 
   -- bytes were written over some of a block's content
   pub with-written : (below above : List Block) (b : Block) (from : ℕ) (x : List ℕ) (zone : List Block)
@@ -74,9 +69,9 @@ module _ (xs : List ℕ) (first unused free purgeable : ℕ) (l : Landmarks) whe
       → purgeable ≡ purgeable_sum zone → IsMarked xs first unused free purgeable l
   with-written below above b from x zone k e was w a m =
       let long = length-written from x (content_of b) w in
-      with-block _ _ b _ _ k e was (size-content _ b long) (free-content _ b)
-      (one-same b _ (free-content _ b) (ends-content _ b)) (space-content _ b long) (goes-content _ b) a
-      (omega (arith, purgeable-content, ap purgeable_sum was, total-append))
+      let same = content-same (written from x (content_of b)) b long in
+      with-block _ _ b _ _ k e was (size-content _ b long) (free-content _ b) (grind arith) same.1 same.2 a
+      (omega (arith, same.3, ap purgeable_sum was, total-append))
 
 -- a block that isn't Free was put at the lower end of a Free one
 pub filled-replaced : (xs : List ℕ) (place need : ℕ) (r : Roomy xs place need) (new : Block) → is_free new ≡ false
@@ -101,3 +96,6 @@ filled-replaced xs place need r new solid fits bytes e zone is =
 pub replaced-as : (lo hi : ℕ) (old new was is : List Block) → was ≡ old → is ≡ new → Replaced lo hi old new
     → Replaced lo hi was is
 replaced-as lo hi old new was is e f r = subst (λ z. Replaced lo hi z is) (sym e) (subst (Replaced lo hi old) (sym f) r)
+
+-- what the bytes owe that purges would free
+pub ruleset given_steps = (begins-here, left-zone, free-given)

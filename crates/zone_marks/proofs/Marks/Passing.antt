@@ -8,24 +8,27 @@ use Rattle.zone_bytes.proofs.Tiles.Tiling.{span-append}
 use Rattle.zone_bytes.proofs.Places.Stepped.{left-none}
 
 -- what holds of each block, from where it stands and where it ends
-pub at-map : (R S : ℕ → Block → Type 0) (x : ℕ) (blocks : List Block)
-    → ((p : ℕ) (b : Block) → x ≤ p → p + size b ≤ x + sizes blocks → R p b → S p b)
-    → AtEach R x blocks → AtEach S x blocks
-at-map R S x [] f e = tt
-at-map R S x (b ∷ blocks) f e = (
-  f x b (omega arith) (omega arith) e.0,
-  at-map R S (x + size b) blocks (λ p c l u r. f p c (omega arith) (omega arith) r) e.1,
+pub at-each : (S : ℕ → Block → Type 0) (x : ℕ) (blocks : List Block)
+    → ((p : ℕ) (b : Block) → x ≤ p → p + size b ≤ x + sizes blocks → S p b) → AtEach S x blocks
+at-each S x [] f = tt
+at-each S x (b ∷ blocks) f = (
+  f x b (omega arith) (omega arith),
+  at-each S (x + size b) blocks (λ p c l u. f p c (omega arith) (omega arith)),
 )
 
 pub at-all : (R : ℕ → Block → Type 0) (x : ℕ) (blocks : List Block) → ((p : ℕ) (b : Block) → x ≤ p → R p b)
     → AtEach R x blocks
-at-all R x [] f = tt
-at-all R x (b ∷ blocks) f = (f x b (omega arith), at-all R (x + size b) blocks (λ p c l. f p c (omega arith)))
+at-all R x blocks f = at-each R x blocks (λ p b l _. f p b l)
 
 pub at-both : (R S T : ℕ → Block → Type 0) (x : ℕ) (blocks : List Block)
     → ((p : ℕ) (b : Block) → R p b → S p b → T p b) → AtEach R x blocks → AtEach S x blocks → AtEach T x blocks
 at-both R S T x [] f r s = tt
 at-both R S T x (b ∷ blocks) f r s = (f x b r.0 s.0, at-both R S T (x + size b) blocks f r.1 s.1)
+
+pub at-map : (R S : ℕ → Block → Type 0) (x : ℕ) (blocks : List Block)
+    → ((p : ℕ) (b : Block) → x ≤ p → p + size b ≤ x + sizes blocks → R p b → S p b)
+    → AtEach R x blocks → AtEach S x blocks
+at-map R S x blocks f = at-both (λ p b. R p b → S p b) R S x blocks (λ p b g r. g r) (at-each _ x blocks f)
 
 pub at-append : (R : ℕ → Block → Type 0) (x : ℕ) (below above : List Block) → AtEach R x below
     → AtEach R (x + sizes below) above → AtEach R x (below ++ above)
@@ -44,6 +47,12 @@ pub at-right : (R : ℕ → Block → Type 0) (x : ℕ) (below above : List Bloc
     → AtEach R (x + sizes below) above
 at-right R x [] above r = subst (λ y. AtEach R y above) (let e : x ≡ x + 0 = omega arith in e) r
 at-right R x (b ∷ below) above r = subst (λ y. AtEach R y above) (grind arith) (at-right R (x + size b) below above r.1)
+
+-- one of the blocks became another of as many bytes
+pub at-other : (R : ℕ → Block → Type 0) (x : ℕ) (below above : List Block) (b c : Block) → size c ≡ size b
+    → ((p : ℕ) → R p b → R p c) → AtEach R x (below ++ b ∷ above) → AtEach R x (below ++ c ∷ above)
+at-other R x [] above b c s f e = (f x e.0, subst (λ n. AtEach R (x + n) above) (sym s) e.1)
+at-other R x (d ∷ below) above b c s f e = (e.0, at-other R (x + size d) below above b c s f e.1)
 
 -- where blocks begin
 pub begins-here : (x : ℕ) (blocks : List Block) → Begins x x blocks
@@ -119,12 +128,6 @@ passed-on xs from at end R S f p here is up way s = record {
 }
 
 module _ (xs : List ℕ) (from : ℕ) (R : ℕ → Block → Type 0) where
-  pub passed-start : IsOnWay from xs → Passed xs from from R
-  passed-start w = record { done = []; is = refl; up = omega arith; each = tt; way = w }
-
-  pub passed-begins : (at : ℕ) → Passed xs from at R → Begins at from (left_in from xs)
-  passed-begins at p = grind (arith, begins-right, begins-here)
-
   -- so it is of each block that begins below a bound which the walk came to
   pub passed-all : (S : ℕ → Block → Type 0) (lo hi at : ℕ) → Passed xs from at R
       → ((p : ℕ) (b : Block) → R p b → S p b) → (hi ≤ at) ⊎ (length xs ≤ at)

@@ -1,7 +1,11 @@
 -- Room that is found stretch by stretch.
+use Rattle.zone_marks.proofs.Marks.Lowering.{mark-begins, marks-in, next-in, mark-at, seen-from, begins-further}
+use Rattle.zone_marks.proofs.Marks.Lowering.{mark-first}
+use Rattle.zone_marks.specs.Marks.{marks_in, AtMost, NoRoom, NoneBelow, AreMarks, AreGroups, RoomAt, next_of, no_group}
+use Rattle.zone_marks.specs.Marks.{no_mark}
 use Rattle.std.proofs.Common.{◌≡◌, ℕ, true, false, ◌+◌, ◌≤◌, ◌<◌, Option, Some, None, List, [], ◌∷◌, ◌++◌, sym, refl}
-use Rattle.std.proofs.Common.{ap, ◌∙◌, subst, arith, cond, zero, suc, ◌*◌, length, drop, get_or, rules}
-use Rattle.std.proofs.lemmas.List.{drop_more, drop_all}
+use Rattle.std.proofs.Common.{ap, ◌∙◌, subst, arith, cond, suc, ◌*◌, length, drop, get_or, rules}
+use Rattle.std.proofs.lemmas.List.{drop_all}
 use Rattle.std.specs.Option.{option_map, IfSome, MatchOption}
 use Rattle.block_store.specs.Block.{Block, size, sizes, is_room}
 use Rattle.block_store.specs.Room.{Spot, spot, spot_at, raised}
@@ -12,13 +16,11 @@ use Rattle.zone_bytes.specs.Decode.{zone_in}
 use Rattle.zone_bytes.specs.Lawful.{IsSound}
 use Rattle.zone_bytes.specs.Stepping.{left_in}
 use Rattle.zone_bytes.specs.Changes.{AtEach, Begins}
-use Rattle.zone_marks.specs.Marks.{AtMost, NoRoom, NoneBelow, AreMarks, AreGroups, RoomAt, next_of, no_group, no_mark}
 use Rattle.zone_marks.specs.declared.landmark.Group.{Group}
 use Rattle.zone_marks.specs.declared.landmark.Landmark.{Landmark}
 use Rattle.zone_marks.specs.declared.landmark.TheConstants.{GROUP}
 use Rattle.zone_bytes.proofs.Laws.Lawful.{sizes-length}
 use Rattle.zone_marks.proofs.Marks.Passing.{at-map, at-all, at-append, at-both, at-left}
-use Rattle.zone_marks.proofs.Marks.Lowering.{seen-from, begins-further, marks-parted, mark-first}
 
 filled : (x : ℕ) (blocks : List Block) → Apart blocks → AtEach (λ _ b. 0 < size b) x blocks
 filled x [] a = tt
@@ -42,14 +44,9 @@ spot-past bytes x (c ∷ below) b above n r =
 spot-none : (bytes x : ℕ) (blocks : List Block) → AtEach (λ _ c. is_room bytes c ≡ false) x blocks
     → spot (is_room bytes) blocks ≡ None
 spot-none bytes x [] n = refl
-spot-none bytes x (c ∷ blocks) n =
-    ap (λ v. cond v (Some (record { below = []; here = c; above = blocks })) (option_map (raised c)
-    (spot (is_room bytes) blocks))) n.0 ∙ ap (option_map (raised c)) (spot-none _ (x + size c) blocks n.1)
+spot-none bytes x (c ∷ blocks) n = let z = n.0 in let e = spot-none _ (x + size c) blocks n.1 in grind arith
 
 module _ (xs : List ℕ) (first unused : ℕ) (i : IsSound xs first unused) (bytes : ℕ) where
-  apart : Apart (zone_in xs)
-  apart = apart-tidied (zone_in xs) i.tidied
-
   -- blocks that end where the search begins
   none-below : (below above : List Block) (p : ℕ) → zone_in xs ≡ below ++ above → sizes below ≡ p
       → AtEach (NoRoom bytes 0 p) 0 (zone_in xs) → AtEach (λ _ c. is_room bytes c ≡ false) 0 below
@@ -59,7 +56,7 @@ module _ (xs : List ℕ) (first unused : ℕ) (i : IsSound xs first unused) (byt
       (at-left (λ q c. (0 < size c) × NoRoom bytes 0 p q c) 0 _ _
       (subst (AtEach (λ q c. (0 < size c) × NoRoom bytes 0 p q c) 0) z
       (at-both (λ _ c. 0 < size c) (NoRoom bytes 0 p) (λ q c. (0 < size c) × NoRoom bytes 0 p q c) 0 _
-      (λ q c s r. (s, r)) (filled 0 _ apart) n)))
+      (λ q c s r. (s, r)) (filled 0 _ (apart-tidied (zone_in xs) i.tidied)) n)))
 
   -- one stretch more
   pub none-further : (p to : ℕ) → Begins p 0 (zone_in xs) → AtEach (NoRoom bytes 0 p) 0 (zone_in xs)
@@ -86,7 +83,8 @@ module _ (xs : List ℕ) (first unused : ℕ) (i : IsSound xs first unused) (byt
       r.above (none-below s.below (left_in place xs) place s.is s.low (none-further p place b n f)) r.room in (
         t,
         found,
-        subst (λ q. spot_at q (zone_in xs) ≡ Some t) s.low (spot_at-spot (is_room bytes) _ t apart found),
+        subst (λ q. spot_at q (zone_in xs) ≡ Some t) s.low (spot_at-spot (is_room bytes) _ t (apart-tidied (zone_in xs)
+            i.tidied) found),
         s.low,
       )
 
@@ -113,34 +111,36 @@ pub stretch-room : (bytes : ℕ) (zone : List Block) (marks : List Landmark) (in
     → AreMarks 4294967295 zone marks → (get_or marks index no_mark).most < bytes
     → AtEach (NoRoom bytes (get_or marks index no_mark).at (next_of 4294967295 (drop (index + 1) marks))) 0 zone
 stretch-room bytes zone marks index u a l =
-    bound-room _ _ _ _ 0 _ l (subst (AreMarks 4294967295 zone) (drop_more marks index no_mark u)
-    (marks-parted _ _ _ _ a).1).1
+    bound-room _ _ _ _ 0 _ l (mark-at _ _ marks index no_mark u a).most
 
 -- no room lies in the zone, once none lies below any landmark
 pub none-past : (bytes : ℕ) (zone : List Block) (marks : List Landmark) (index : ℕ) → length marks ≤ index
     → NoneBelow bytes zone marks index → AtEach (NoRoom bytes 0 4294967295) 0 zone
 none-past bytes zone marks index l n = grind (arith, drop_all)
 
-module _ (xs : List ℕ) (first unused : ℕ) (i : IsSound xs first unused) (bytes : ℕ) (marks : List Landmark)
-    (a : AreMarks 4294967295 (zone_in xs) marks) where
-  -- over one landmark that notes less
-  none-next : (index : ℕ) → index < length marks → (get_or marks index no_mark).most < bytes
-      → NoneBelow bytes (zone_in xs) marks index → NoneBelow bytes (zone_in xs) marks (index + 1)
-  none-next index u l n = none-whole _ _ _ i _ _ _ (grind (arith, mark-first)) (stretch-room _ _ _ _ u a l)
+module _ (xs : List ℕ) (first unused : ℕ) (i : IsSound xs first unused) (bytes : ℕ) where
+  -- over landmarks that note less
+  none-along : (end : ℕ) (marks : List Landmark) → AreMarks end (zone_in xs) marks
+      → ((j : ℕ) → j < length marks → (get_or marks j no_mark).most < bytes)
+      → AtEach (NoRoom bytes 0 (next_of end marks)) 0 (zone_in xs) → AtEach (NoRoom bytes 0 end) 0 (zone_in xs)
+  none-along end [] a f n = n
+  none-along end (m ∷ marks) a f n = none-along end marks a.1 (λ j l. f (suc j) (omega arith))
+      (none-whole _ _ _ i bytes _ _ n (bound-room _ _ _ _ 0 _ (f 0 (omega arith)) a.0.most))
 
-  -- over so many of them
-  none-along : (count index : ℕ) → index + count ≤ length marks
-      → ((j : ℕ) → index ≤ j → j < index + count → (get_or marks j no_mark).most < bytes)
-      → NoneBelow bytes (zone_in xs) marks index → NoneBelow bytes (zone_in xs) marks (index + count)
-  none-along zero index u f n = grind arith
-  none-along (suc count) index u f n =
-      subst (NoneBelow bytes (zone_in xs) marks) (let e : index + 1 + count ≡ index + suc count = omega arith in e)
-      (none-along _ (index + 1) (omega arith) (λ j l h. f j (omega arith) (omega arith))
-      (none-next index (omega arith) (f index (omega arith) (omega arith)) n))
+  -- over one landmark that notes less
+  pub none-next : (marks : List Landmark) → AreMarks 4294967295 (zone_in xs) marks → (index : ℕ)
+      → index < length marks → (get_or marks index no_mark).most < bytes
+      → NoneBelow bytes (zone_in xs) marks index → NoneBelow bytes (zone_in xs) marks (index + 1)
+  none-next marks a index u l n = none-whole _ _ _ i _ _ _ (grind (arith, mark-first)) (stretch-room _ _ _ _ u a l)
 
   -- over a group whose top is less
-  pub none-group : (groups : List Group) → AreGroups groups marks → (group : ℕ) → group < length groups
-      → (get_or groups group no_group).most < bytes
+  pub none-group : (marks : List Landmark) → AreMarks 4294967295 (zone_in xs) marks → (groups : List Group)
+      → AreGroups groups marks → (group : ℕ) → group < length groups → (get_or groups group no_group).most < bytes
       → NoneBelow bytes (zone_in xs) marks (GROUP * group) → NoneBelow bytes (zone_in xs) marks (GROUP * (group + 1))
-  none-group groups t group u l n = subst (NoneBelow bytes (zone_in xs) marks) (search rules)
-      (none-along _ _ (omega arith) (λ j b h. omega (arith, (t.each group j b h (omega arith)), l)) n)
+  none-group marks a groups t group u l n = subst (NoneBelow bytes (zone_in xs) marks) (search rules)
+      (none-along _ (marks_in group marks) (marks-in 4294967295 (zone_in xs) marks (GROUP * group) GROUP a)
+      (λ j k. omega (arith, (t.each group u).most j k, l)) (subst (λ k. AtEach (NoRoom bytes 0 k) 0 (zone_in xs))
+      (sym (next-in 4294967295 marks (GROUP * group) GROUP)) n))
+
+-- what a search stretch by stretch owes
+pub ruleset room_steps = (stretch-room, mark-begins)

@@ -1,17 +1,12 @@
 -- What a block's header tells of where it ends, and its Free bytes.
-use Rattle.std.proofs.Common.{◌≡◌, ℕ, Bool, true, false, not, cond, ◌==◌, ◌+◌, ◌%◌, ◌<◌, ◌≤◌, List, length, refl, arith}
+use Rattle.std.proofs.Common.{◌≡◌, ℕ, Bool, false, not, cond, ◌==◌, ◌+◌, ◌%◌, ◌<◌, ◌≤◌, List, length, refl, arith}
 use Rattle.heap_words.specs.Words.{word_at}
 use Rattle.block_store.specs.Block.{Block, Free, size, free_of, is_room}
-use Rattle.zone_bytes.specs.Layout.{kind}
 use Rattle.zone_bytes.specs.Settling.{runs_on}
 use Rattle.zone_bytes.specs.Stepping.{left_in, IsOnWay}
-use Rattle.zone_marks.specs.Marks.{Spans, RoomAt}
+use Rattle.zone_marks.specs.Marks.{Spans}
 use Rattle.zone_bytes.proofs.Places.Stepped.{stepped}
 use Rattle.zone_bytes.proofs.Places.HeaderTells.{same-here}
-
--- the Free bytes of a block by its kind and size
-free-told : (b : Block) (n t : ℕ) → t ≡ kind b → n ≡ size b → cond (t == 0) n 0 ≡ free_of b
-free-told b n t k z = grind arith
 
 -- two words of a header tell where its block ends, its Free bytes, and whether it ends a run
 pub span-made : (at : ℕ) (xs : List ℕ) (w : IsOnWay at xs) → at < length xs → (n t : ℕ) → n + t ≡ word_at at xs
@@ -22,15 +17,6 @@ span-made at xs w l n t e h k free f barrier b =
     let o = stepped at xs w l n t e h k in
     let same = same-here at xs t o s.here (left_in (at + n) xs) s.is in
     grind arith
-
--- a block that isn't room by its Free bytes
-pub room-free : (p : ℕ) (b : Block) → 0 < free_of b → p ≤ free_of b → is_room p b ≡ true
-room-free p (Free n) s l = grind arith
-room-free p _ s l = absurd (omega arith)
-
-pub room-here : (p at end free : ℕ) (barrier : Bool) (xs : List ℕ) → Spans at end free barrier xs → 0 < free → p ≤ free
-    → RoomAt p at xs
-room-here p at end free barrier xs s some fits = grind arith
 
 pub no-room : (p : ℕ) (b : Block) → 0 < size b → (0 < free_of b → p ≤ free_of b → ⊥) → is_room p b ≡ false
 no-room p (Free n) s f = grind arith

@@ -1,27 +1,26 @@
 -- What landmarks know of the blocks of all of them.
-use Rattle.std.proofs.Common.{◌≡◌, ℕ, ◌+◌, ◌≤◌, ◌<◌, ◌^◌, inl, inr, Bool, true, false, ◌&&◌, cond, nat_le, nat_lt, List}
-use Rattle.std.proofs.Common.{[], ◌∷◌, ◌++◌, length, take, drop, get_or, take-append-drop, refl, sym, ap, ◌∙◌, subst}
-use Rattle.std.proofs.Common.{arith}
+use Rattle.zone_marks.specs.Marks.{AreOfZone, AreMarks, IsTally, between, join_tallies, known_load, next_of, no_mark}
+use Rattle.zone_marks.specs.Marks.{tally_of, told}
+use Rattle.std.proofs.Common.{◌≡◌, ℕ, ◌+◌, ◌≤◌, ◌<◌, inl, inr, Bool, true, false, ◌&&◌, cond, nat_le, nat_lt, List, []}
+use Rattle.std.proofs.Common.{◌∷◌, ◌++◌, length, take, drop, get_or, take-append-drop, refl, sym, ap, ◌∙◌, subst, arith}
 use Rattle.std.proofs.lemmas.Bool.{cases_lt, le-leb, lt-leb, lt-ltb}
 use Rattle.std.proofs.lemmas.List.{take_more}
 use Rattle.block_store.specs.Block.{Block, size, sizes}
 use Rattle.zone_bytes.specs.Decode.{zone_in}
 use Rattle.zone_bytes.specs.Lawful.{IsSound}
-use Rattle.zone_marks.specs.Marks.{AreMarks, IsTally, between, join_tallies, known_load, known_loads, next_of, no_mark}
-use Rattle.zone_marks.specs.Marks.{tally_of, told}
 use Rattle.zone_marks.specs.declared.landmark.Landmark.{Landmark}
 use Rattle.zone_marks.specs.declared.landmark.Tally.{Tally}
 use Rattle.zone_marks.specs.declared.landmark.Tally.TheVariants as tally
 use Rattle.zone_bytes.proofs.Laws.Lawful.{sizes-length}
-use Rattle.zone_marks.proofs.Marks.Between.{none-above}
-use Rattle.zone_marks.proofs.Marks.Lowering.{marks-below}
+use Rattle.zone_marks.proofs.Marks.Between.{between-few, between-none, none-above}
+use Rattle.zone_marks.proofs.Marks.Lowering.{mark-at, mark-first, marks-below, marks-parted}
 use Rattle.zone_bytes.proofs.Tiles.Tiling.{span-append}
 use Rattle.zone_summary.specs.Stretches.{stretch_by, load}
 use Rattle.zone_summary.specs.declared.stretch.Counting.{Counting}
 use Rattle.zone_summary.specs.declared.stretch.Stretch.{Stretch}
 use Rattle.zone_summary.specs.declared.stretch.Stretch.TheVariants.{Whole}
 use Rattle.zone_summary.proofs.Monoid.{counted-none, join-assoc, join-unit_left, join-unit_right, stretch_by-append}
-use Rattle.zone_summary.proofs.Sums.{load-counted, load-join}
+use Rattle.zone_summary.proofs.Sums.{load-counted}
 
 -- tallies are joined as what they tell
 tallies-left : (t : Tally) → join_tallies (tally.Known (Whole 0)) t ≡ t
@@ -46,8 +45,7 @@ tally_of-append w (m ∷ xs) ys = ap (join_tallies (told w m.tally)) (tally_of-a
 
 pub tally_of-more : (w : Counting) (marks : List Landmark) (i : ℕ) → i < length marks
     → tally_of w (take (i + 1) marks) ≡ join_tallies (tally_of w (take i marks)) (told w (get_or marks i no_mark).tally)
-tally_of-more w marks i l =
-    ap (tally_of w) (take_more marks i no_mark l) ∙ tally_of-append w _ _
+tally_of-more w marks i l = ap (tally_of w) (take_more marks i no_mark l) ∙ tally_of-append w _ _
     ∙ ap (join_tallies (tally_of w (take i marks))) (tallies-right _)
 
 -- where one landmark tells nothing, all of them tell nothing
@@ -59,38 +57,6 @@ tally_of-unknown w marks i s l k u =
     ∙ ap (λ t. join_tallies t (tally_of w (drop (i + 1) marks)))
     (tally_of-more w _ i l ∙ ap (λ t. join_tallies t (told w (get_or marks i no_mark).tally)) k
     ∙ ap (join_tallies (tally.Known s)) u)
-
--- what they hold in sum
-known_load-join : (s t : Tally) → known_load (join_tallies s t) ≤ known_load s + known_load t
-known_load-join (tally.Known a) (tally.Known b) = load-join a b
-known_load-join _ _ = omega arith
-
-pub loads-all : (w : Counting) (marks : List Landmark) → known_load (tally_of w marks) ≤ known_loads w marks
-loads-all w [] = omega arith
-loads-all w (m ∷ marks) = omega (arith, known_load-join (told w m.tally) (tally_of w marks), loads-all w marks)
-
-pub loads-append : (w : Counting) (xs ys : List Landmark) → known_loads w (xs ++ ys) ≡ known_loads w xs + known_loads w ys
-loads-append w [] ys = omega arith
-loads-append w (m ∷ xs) ys = omega (arith, loads-append w xs ys)
-
-loads-parted : (w : Counting) (marks : List Landmark) (n : ℕ)
-    → known_loads w (take n marks) + known_loads w (drop n marks) ≡ known_loads w marks
-loads-parted w marks n = sym (loads-append w _ _) ∙ ap (known_loads w) (take-append-drop n marks)
-
-pub loads-more : (w : Counting) (marks : List Landmark) (i : ℕ) → i < length marks
-    → known_load (tally_of w (take i marks)) + known_load (told w (get_or marks i no_mark).tally) ≤ known_loads w marks
-loads-more w marks i l =
-    omega (
-      arith,
-      loads-all,
-      loads-parted,
-      (ap (known_loads w) (take_more marks i no_mark l) ∙ loads-append w _
-          (get_or marks i no_mark ∷ [])),
-    )
-
-pub loads-part : (w : Counting) (marks : List Landmark) (low n : ℕ)
-    → known_loads w (take n (drop low marks)) ≤ known_loads w marks
-loads-part w marks low n = omega (arith, loads-parted w marks low, loads-parted w (drop low marks) n)
 
 -- two stretches, of which one begins where the other ends
 between-low : (a b c x : ℕ) (bs : List Block) → a ≤ x → b ≤ x → between a c x bs ≡ between b c x bs
@@ -114,15 +80,6 @@ between-join a b c x (k ∷ bs) l m = elim (cases_lt x b) [
     either true e = ap (λ q. k ∷ q) e
     either false e = e
 
-between-few : (lo hi x : ℕ) (bs : List Block) → sizes (between lo hi x bs) ≤ sizes bs
-between-few lo hi x [] = omega arith
-between-few lo hi x (b ∷ bs) = either (nat_le lo x && nat_lt x hi) (between-few _ _ (x + size b) bs)
-  where
-    either : (t : Bool) → sizes (between lo hi (x + size b) bs) ≤ sizes bs
-        → sizes (cond t (b ∷ between lo hi (x + size b) bs) (between lo hi (x + size b) bs)) ≤ size b + sizes bs
-    either true e = omega arith
-    either false e = omega arith
-
 tally-join : (w : Counting) (s t : Tally) (xs ys : List Block) → IsTally w s xs → IsTally w t ys
     → IsTally w (join_tallies s t) (xs ++ ys)
 tally-join w (tally.Known a) (tally.Known b) xs ys e f = grind (arith, stretch_by-append)
@@ -132,38 +89,35 @@ tally-load : (w : Counting) (t : Tally) (xs : List Block) → IsTally w t xs →
 tally-load w (tally.Known stretch) xs e = omega (arith, load-counted, ap load e)
 tally-load w tally.Unknown xs e = omega arith
 
-between-none : (end x : ℕ) (bs : List Block) → between end end x bs ≡ []
-between-none end x [] = refl
-between-none end x (b ∷ bs) = elim (cases_lt x end) [
-  | inl h ↦ rw (lt-leb end x h) (between-none end (x + size b) bs)
-  | inr h ↦ none-above end end x (b ∷ bs) h
-]
-
 -- what landmarks know together is of the blocks from the first of them to where they end
 pub group-tally : (w : Counting) (end : ℕ) (zone : List Block) (marks : List Landmark) → AreMarks end zone marks
     → IsTally w (tally_of w marks) (between (next_of end marks) end 0 zone)
-group-tally w end zone [] a = ap (stretch_by w) (between-none _ 0 zone) ∙ counted-none w
-group-tally w end zone (m ∷ marks) a = subst (IsTally w _) (grind (arith, between-join, marks-below))
-    (tally-join w (told w m.tally) (tally_of w marks) _ _ (a.2 w) (group-tally w end zone marks a.4))
+group-tally w end zone [] a = ap (stretch_by w) (between-none _ _ (omega arith) 0 zone) ∙ counted-none w
+group-tally w end zone (m ∷ marks) a =
+    let o = a.0.order in
+    subst (IsTally w _) (grind (arith, between-join, marks-below))
+    (tally-join w (told w m.tally) (tally_of w marks) _ _ (a.0.tells w) (group-tally w end zone marks a.1))
 
-loads-within : (w : Counting) (end : ℕ) (zone : List Block) (marks : List Landmark) → AreMarks end zone marks
-    → known_loads w marks ≤ sizes (between (next_of end marks) end 0 zone)
-loads-within w end zone [] a = omega arith
-loads-within w end zone (m ∷ marks) a =
-    let n = next_of end marks in
+-- they hold no more in sum than the zone
+pub loads-fit : (w : Counting) (end : ℕ) (zone : List Block) (marks : List Landmark) (i : ℕ) → i < length marks
+    → AreMarks end zone marks
+    → known_load (tally_of w (take i marks)) + known_load (told w (get_or marks i no_mark).tally) ≤ sizes zone
+loads-fit w end zone marks i l a =
+    let m = get_or marks i no_mark in
+    let at = mark-at end zone marks i no_mark l a in
+    let low = subst (λ k. AreMarks k zone (take i marks)) (mark-first end marks i no_mark l)
+    (marks-parted _ _ _ i a).0 in
+    let from = next_of m.at (take i marks) in
+    let to = next_of end (drop (i + 1) marks) in
     omega (
       arith,
-      tally-load w (told w m.tally) (between m.at n 0 zone) (a.2 w),
-      (loads-within w end zone marks a.4),
-      (ap sizes (between-join m.at n end 0 zone a.3 (marks-below end zone marks a.4))),
-      span-append,
+      tally-load w _ (between from m.at 0 zone) (group-tally w m.at zone _ low),
+      tally-load w _ (between m.at to 0 zone) (at.tells w),
+      ap sizes (between-join from m.at to 0 zone (marks-below m.at zone _ low) at.order),
+      span-append (between from m.at 0 zone),
+      between-few from to 0 zone,
     )
 
-loads-fit : (w : Counting) (end : ℕ) (zone : List Block) (marks : List Landmark) → AreMarks end zone marks
-    → known_loads w marks ≤ sizes zone
-loads-fit w end zone marks a =
-    omega (arith, loads-within w end zone marks a, between-few (next_of end marks) end 0 zone)
-
-pub loads-small : (xs : List ℕ) (first unused : ℕ) → IsSound xs first unused → (end : ℕ) (marks : List Landmark)
-    → AreMarks end (zone_in xs) marks → (w : Counting) → known_loads w marks < 2 ^ 32
-loads-small xs first unused i end marks a w = omega (arith, loads-fit w end (zone_in xs) marks a, sizes-length)
+pub marks-of : (xs : List ℕ) (first unused : ℕ) → IsSound xs first unused → (marks : List Landmark)
+    → AreMarks 4294967295 (zone_in xs) marks → AreOfZone marks
+marks-of xs first unused i marks a = (4294967295, zone_in xs, omega (arith, sizes-length), a)

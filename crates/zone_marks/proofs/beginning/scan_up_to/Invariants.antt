@@ -1,4 +1,4 @@
-use Rattle.std.proofs.Common.{◌≡◌, ◌-◌, ◌≤◌, true, length}
+use Rattle.std.proofs.Common.{◌-◌}
 use Rattle.zone_bytes.specs.Changes.{Begins}
 use Rattle.zone_marks.specs.Searching.{Goes}
 use Rattle.zone_bytes.specs.Stepping.{left_in}
@@ -7,12 +7,8 @@ use Rattle.zone_marks.proofs.beginning.scan_up_to.Given as goal
 abbrev pub invariant-loop-scan : goal.invariant-loop-scan
 invariant-loop-scan l = record {
   goes : Goes l.bytes l.sparing l.part.bytes l.fn.scan l.scan;
-  free : l.scan.free ≤ l.scan.place;
-  met : l.scan.met ≡ true;
-  left : l.scan.left ≤ l.fn.scan.left;
-  up_to : Begins l.to l.fn.scan.place (left_in l.fn.scan.place l.part.bytes)
-      → Begins l.to l.scan.place (left_in l.scan.place l.part.bytes);
+  stop : Begins l.stop l.scan.place (left_in l.scan.place l.part.bytes);
 }
 
 abbrev pub decreases-loop-scan : goal.decreases-loop-scan
-decreases-loop-scan l = length l.part.bytes - l.scan.place
+decreases-loop-scan l = l.stop - l.scan.place

@@ -7,7 +7,8 @@ use Rattle.zone_marks.proofs.fewest.count_in.Given as goal
 -- those so far, and those of what is still to come
 abbrev pub invariant-loop-left : goal.invariant-loop-left
 invariant-loop-left g l = record {
-  few : l.total + sizes (g.W.Walk.rest l.walk) ≤ sizes (g.W.Walk.rest l.initial.walk);
+  few : l.total + l.left ≤ l.bytes;
+  fits : sizes (g.W.Walk.rest l.walk) ≤ sizes (g.W.Walk.rest l.initial.walk);
   is : l.total + count_within (spared l.sparing) l.left (opened l.sparing (g.W.Walk.rest l.walk))
       ≡ count_within (spared l.sparing) l.bytes (opened l.sparing (g.W.Walk.rest l.initial.walk));
 }

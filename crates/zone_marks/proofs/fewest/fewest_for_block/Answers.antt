@@ -1,16 +1,14 @@
-use Rattle.std.proofs.Common.{◌≡◌, ◌∙◌, ◌-◌, ap, arith, List}
-use Rattle.block_store.specs.Block.{Block}
+use Rattle.zone_marks.proofs.Marks.Lowering.{begins-end}
+use Rattle.std.proofs.Common.{◌≡◌, ◌∙◌, ap, arith}
 use Rattle.block_store.specs.Room.{count_of}
 use Rattle.block_store.specs.Sparing.{spared}
-use Rattle.zone_summary.specs.Fewest.{run_purges_for}
 use Rattle.zone_summary.specs.Stretches.{prefix, stretch_of}
 use Rattle.zone_summary.proofs.BlockRuns.{IsRunOf, enough-now, fewest-of, never-enough, no-run-of, run-of}
 use Rattle.zone_bytes.specs.Changes.{Begins}
 use Rattle.zone_bytes.specs.Decode.{zone_in}
 use Rattle.zone_bytes.specs.Stepping.{left_in}
 use Rattle.zone_bytes.proofs.Places.AtPlace.{left-above, left-zone}
-use Rattle.zone_marks.proofs.Bounds.Fewest.{run-begins}
-use Rattle.zone_marks.proofs.Marks.Passing.{begins-here}
+use Rattle.zone_marks.proofs.Marks.Passing.{begins-here, begins-left}
 use Rattle.zone_marks.proofs.fewest.fewest_for_block.Goals.{In-Some, After-free_at-free}
 use Rattle.zone_marks.proofs.fewest.fewest_for_block.Goals as goal
 
@@ -25,10 +23,11 @@ found : (c : In-Some) → IsRunOf c.args.number c.args.bytes c.args.sparing (zon
 found c = grind (arith, run-of, left-zone)
 
 begins : (c : In-Some) → Begins c.in-Some.run' 0 (zone_in c.args.part.now.bytes)
-begins c = let r = found c in run-begins _ _ r.low r.rest r.is r.at
+begins c = let r = found c in
+    let e = begins-end 0 r.low in grind (arith, begins-left)
 
 left : (c : In-Some) → left_in c.in-Some.run' c.args.part.now.bytes ≡ (found c).rest
-left c = let r = found c in left-above _ _ _ c.requires.sound.2 r.low r.rest _ r.is r.at
+left c = let r = found c in left-above _ _ _ c.requires.marked.sound.2 r.low r.rest _ r.is r.at
 
 pub free_at-free-requires-clause-begins : goal.free_at-free-requires-clause-begins
 free_at-free-requires-clause-begins c = begins (goal.at.free_at-free-requires-clause-begins c).In-Some
@@ -45,16 +44,10 @@ returns-then-bytes-free c =
 pub walk_at-requires-2-clause-begins : goal.walk_at-requires-2-clause-begins
 walk_at-requires-2-clause-begins c = begins (goal.at.walk_at-requires-2-clause-begins c).In-Some
 
--- those of its own that are purged
-own : (c : After-free_at-free) (walk : List Block) → walk ≡ left_in c.in-Some.run' c.args.part.now.bytes
-    → run_purges_for (spared c.args.sparing) 0 (c.args.bytes - c.free_at-free.result) walk ≡ run_purges_for
-    (spared c.args.sparing) 0 (c.args.bytes - prefix (stretch_of (found c.before).rest)) (found c.before).rest
-own c walk e = grind (arith, left)
-
 pub returns-in_default-count_in_run : goal.returns-in_default-count_in_run
 returns-in_default-count_in_run c =
     let d = (goal.at.returns-in_default-count_in_run c).After-free_at-free in
-    never-enough _ _ _ _ _ (found d.before) (omega (arith, now d)) (grind (arith, own))
+    never-enough _ _ _ _ _ (found d.before) (omega (arith, now d)) (let n = now d in let l = left d.before in cc)
 
 pub count_below-requires-clause-run : goal.count_below-requires-clause-run
 count_below-requires-clause-run c = begins (goal.at.count_below-requires-clause-run c).In-Some
@@ -65,4 +58,4 @@ returns c =
     let r = found d.before in
     let below = c.count_below.ensures.is r.low r.rest r.is r.at
     ∙ ap (count_of (spared c.args.sparing)) (c.requires.whole r.low) in
-    rw below (fewest-of _ _ _ _ _ r _ (omega (arith, now d)) (grind (arith, own)))
+    rw below (fewest-of _ _ _ _ _ r _ (omega (arith, now d)) (let n = now d in let l = left d.before in grind arith))

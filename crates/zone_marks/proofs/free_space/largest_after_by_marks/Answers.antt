@@ -1,20 +1,28 @@
-use Rattle.std.proofs.Common.{sym, ap, ◌∙◌, arith}
+use Rattle.std.proofs.Common.{refl, sym, ap, ◌∙◌, arith}
 use Rattle.block_store.specs.Compact.{largest_free}
 use Rattle.block_store.specs.declared.sparing.Sparing.TheVariants as sparing
 use Rattle.zone_bytes.specs.Decode.{zone_in}
 use Rattle.zone_summary.proofs.Fewest.{purged-most}
 use Rattle.zone_marks.proofs.Bounds.Fewest.{most-fits}
+use Rattle.zone_bytes.proofs.Places.AtPlace.{left-zone}
+use Rattle.zone_summary.specs.Stretches.{spaces_of}
+use Rattle.zone_marks.proofs.Marks.Passing.{begins-here}
 use Rattle.zone_marks.proofs.Bounds.Space.{largest-from}
 use Rattle.zone_marks.proofs.free_space.largest_after_by_marks.Goals as goal
 
 pub returns : goal.returns
 returns c =
-    let i = c.requires.sound in
+    let i = c.requires.marked.sound in
     let f = largest-from c.args.part.now.bytes i.0 i.1 i.2 c.args.purges c.args.from c.requires.from in
     grind arith
+
+pub stretch_above-requires-clause-begins : goal.stretch_above-requires-clause-begins
+stretch_above-requires-clause-begins c = begins-here 0 _
 
 -- as many purges as a zone can have blocks
 pub returns-then-purges-ge-GREATEST_ZONE : goal.returns-then-purges-ge-GREATEST_ZONE
 returns-then-purges-ge-GREATEST_ZONE c =
-    c.largest_space_by_marks.ensures ∙ sym (ap largest_free (purged-most _ sparing.Nothing (zone_in c.args.part.now.bytes)
-    (omega (arith, most-fits _ _ c.requires.sound.1 c.requires.sound.2 sparing.Nothing))))
+    let zone = zone_in c.args.part.now.bytes in
+    c.best.ensures.space zone (c.stretch_above.ensures.all refl ∙ ap spaces_of (left-zone _))
+    ∙ sym (ap largest_free (purged-most _ sparing.Nothing zone
+    (omega (arith, most-fits _ _ c.requires.marked.sound.1 c.requires.marked.sound.2 sparing.Nothing))))

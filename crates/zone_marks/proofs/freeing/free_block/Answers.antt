@@ -2,8 +2,8 @@ use Rattle.std.proofs.Common.{◌≡◌, ◌+◌, arith, rules}
 use Rattle.block_store.specs.Block.{size}
 use Rattle.zone_bytes.specs.Joining.{Freeing, MayRelease}
 use Rattle.zone_marks.proofs.Joined.Released.{leads-up, stop-way, stop-more, freed-replaced, here-read, lower, may-free}
-use Rattle.zone_marks.proofs.Joined.Released.{freed, may-join, released}
-use Rattle.zone_marks.proofs.freeing.free_block.Goals.{After-free_up-end}
+use Rattle.zone_marks.proofs.Joined.Released.{may-free-two, released-one, released-two}
+use Rattle.zone_marks.proofs.freeing.free_block.Goals.{After-free_up-end, then-more-gt0, else-more-gt0}
 use Rattle.zone_marks.proofs.freeing.free_block.Goals as goal
 
 pub last_free_below-start-requires-clause-up : goal.last_free_below-start-requires-clause-up
@@ -23,11 +23,9 @@ end : (c : After-free_up-end) (f : Freeing) → MayRelease f c.args.place c.args
 end c f m = let e = c.last_free_below-start.ensures in
     c.free_up-end.ensures.end (lower _ _ _ m _ e) (may-free _ _ _ m _ e)
 
-pub join_above-requires : goal.join_above-requires
-join_above-requires c = let e = c.last_free_below-start.ensures in (
-  freed _ _ _ c.requires.1 _ e,
-  may-join _ _ _ c.requires.1 _ e _ (grind (arith, end)) _ c.free_up-end.ensures.lays,
-)
+pub free_up-requires : goal.free_up-requires
+free_up-requires c = may-free-two _ _ _ c.requires.1 _ c.last_free_below-start.ensures _ (grind (arith, end)) _
+    c.free_up-end.ensures.lays _ c.free_behind-more.ensures c.if-more-gt0.true
 
 pub overflow_sub-result : goal.overflow_sub-result
 overflow_sub-result c = omega (arith, end (goal.at.overflow_sub-result c).After-free_up-end _ c.requires.1)
@@ -36,8 +34,16 @@ pub returns-clause-bytes : goal.returns-clause-bytes
 returns-clause-bytes c = λ f m. omega (arith, end (goal.at.returns-clause-bytes c).After-free_up-end f m)
 
 pub returns-clause-lays : goal.returns-clause-lays
-returns-clause-lays c = λ f m. released _ _ _ m _ c.last_free_below-start.ensures _
-    (end (goal.at.returns-clause-lays c).After-free_up-end f m) _ c.free_up-end.ensures.lays _ c.join_above.ensures.lays
+returns-clause-lays c = λ f m.
+    let e = c.last_free_below-start.ensures in
+    let t = end (goal.at.returns-clause-lays c).After-free_up-end f m in
+    let l = c.free_up-end.ensures.lays in
+    let r = c.free_behind-more.ensures in
+    elim c.if-more-gt0.branch [
+      | then-more-gt0 w ↦ rw w.part-is
+          (released-two _ _ _ m _ e _ t _ l _ r w.if-more-gt0.true _ w.free_up.ensures.lays)
+      | else-more-gt0 w ↦ rw w.part-is (released-one _ _ _ m _ e _ t _ l _ r w.if-more-gt0.false)
+    ]
 
 pub returns-clause-replaced : goal.returns-clause-replaced
 returns-clause-replaced c = search (rules, freed-replaced, end)

@@ -1,7 +1,7 @@
 use Rattle.std.proofs.Common.{ap, sym, ◌∙◌, arith}
 use Rattle.zone_marks.specs.Marks.{known_load}
 use Rattle.zone_summary.proofs.Sums.{ends-load}
-use Rattle.zone_marks.proofs.Marks.Tallies.{loads-more, tally_of-more, tally_of-unknown}
+use Rattle.zone_marks.proofs.Marks.Tallies.{loads-fit, tally_of-more, tally_of-unknown}
 use Rattle.zone_marks.proofs.grouping.joined.Goals as goal
 
 -- one landmark of which nothing is known
@@ -12,7 +12,7 @@ pub join-all-requires : goal.join-all-requires
 join-all-requires c =
     omega (
       arith,
-      loads-more,
+      loads-fit c.args.counting _ _ c.args.marks.now c.loop-mark.mark-index (omega arith) c.requires.3,
       ap known_load c.loop-mark.invariant,
       ap known_load (sym c.in-Known.is ∙ c.told.ensures),
       ends-load c.loop-mark.all c.in-Known.stretch,

@@ -1,8 +1,12 @@
-use Rattle.zone_marks.proofs.Marks.Between.{told-both}
+use Rattle.zone_marks.proofs.Marks.Lowering.{begins-way, mark-measured}
 use Rattle.zone_marks.proofs.marking.measured_mark.Goals as goal
 
-pub returns-clause-bound : goal.returns-clause-bound
-returns-clause-bound c = c.measure_up_to-stretch.ensures.below.most
+pub measure_up_to-stretch-requires : goal.measure_up_to-stretch-requires
+measure_up_to-stretch-requires c = begins-way _ _ _ c.requires.sound.2 _ c.requires.begins
 
-pub returns-clause-tally : goal.returns-clause-tally
-returns-clause-tally c = told-both _ _ _ c.measure_up_to-stretch.ensures.below.runs c.spaces_told.ensures
+pub spaces_told-requires : goal.spaces_told-requires
+spaces_told-requires c = begins-way _ _ _ c.requires.sound.2 _ c.requires.begins
+
+pub returns-clause-mark : goal.returns-clause-mark
+returns-clause-mark c = mark-measured _ _ _ c.requires.sound.2 _ _ _ _ c.requires.begins c.requires.order
+    c.measure_up_to-stretch.ensures.below c.spaces_told.ensures

@@ -1,39 +1,45 @@
 use Rattle.std.proofs.Common.{◌≤◌, ◌<◌, ◌∙◌, ap, sym, arith, rules}
 use Rattle.block_store.specs.Block.{free_of}
+use Rattle.block_store.specs.Compact.{largest_free}
 use Rattle.zone_summary.specs.Stretches.{prefix}
 use Rattle.zone_summary.specs.declared.stretch.Counting.TheVariants.{Runs}
 use Rattle.zone_summary.proofs.Monoid.{join-unit_right}
-use Rattle.zone_marks.proofs.Marks.Between.{one-spanned}
 use Rattle.zone_marks.proofs.Marks.Counting.{measured-below, measured-edge, prefix-counted, walked-few, walked-start}
 use Rattle.zone_marks.proofs.Marks.Counting.{walked-step}
-use Rattle.zone_marks.proofs.Marks.Passing.{passed-begins, past}
+use Rattle.zone_marks.proofs.Marks.Passing.{past, begins-here, begins-right}
 use Rattle.zone_marks.proofs.Marks.Spanned.{free-size}
 use Rattle.zone_marks.proofs.measuring.measure_up_to.Goals as goal
 
 pub loop-at-init : goal.loop-at-init
-loop-at-init c = walked-start Runs _ _ (λ p b. (free_of b ≤ 0) × (p < c.within-stop.result)) c.requires
+loop-at-init c = record {
+  walked = walked-start Runs _ _ (λ p b. (free_of b ≤ 0) × (p < c.within-stop.result)) c.requires;
+  reached = omega arith;
+}
 
 pub join-runs-requires : goal.join-runs-requires
 join-runs-requires c =
-    let f = walked-few _ _ _ _ _ _ c.loop-at.invariant in
+    let f = walked-few _ _ _ _ _ _ c.loop-at.invariant.walked in
     omega (arith, prefix-counted, ap prefix c.runs.ensures, free-size c.span_at-span.ensures.here)
 
 pub loop-at-preserved : goal.loop-at-preserved
 loop-at-preserved c =
     let m = c.greater-most.ensures in
     let s = c.span_at-span.ensures in
-    walked-step Runs _ _ _ _ _ c.loop-at.invariant _ (λ p b r. (omega arith, r.1))
-    _ s.here s.is s.up s.way (omega arith, c.loop-at-test.true) _ _
-    (c.runs.ensures ∙ one-spanned s.here _ _ s.bytes s.ends ∙ sym (join-unit_right _)) c.join-runs.ensures.is
+    record {
+      walked = walked-step Runs _ _ _ _ _ c.loop-at.invariant.walked _ (λ p b r. (omega arith, r.1))
+          _ s.here s.is s.up s.way (omega arith, c.loop-at-test.true) _ _
+          (c.runs.ensures ∙ (grind arith) ∙ sym (join-unit_right _)) c.join-runs.ensures.is;
+      reached = omega (arith, ap largest_free s.is);
+    }
 
 pub returns-clause-edge : goal.returns-clause-edge
-returns-clause-edge c = search (rules, passed-begins)
+returns-clause-edge c = search (rules, begins-right, begins-here)
 
 pub returns-clause-order : goal.returns-clause-order
-returns-clause-order c = let p = c.loop-at.invariant.passed in omega arith
+returns-clause-order c = let p = c.loop-at.invariant.walked.passed in omega arith
 
 pub returns-clause-passed : goal.returns-clause-passed
-returns-clause-passed c = measured-edge _ _ _ _ _ _ c.loop-at.invariant _
+returns-clause-passed c = measured-edge _ _ _ _ _ _ c.loop-at.invariant.walked _
 
 pub returns-clause-below : goal.returns-clause-below
 returns-clause-below c = search (rules, measured-below, past)

@@ -1,12 +1,12 @@
 use Rattle.std.proofs.Common.{◌≡◌, false, inl, arith, rules}
 use Rattle.block_store.specs.Block.{is_room}
-use Rattle.zone_marks.proofs.Marks.Passing.{passed-begins, passed-on, passed-all}
+use Rattle.zone_marks.proofs.Marks.Passing.{passed-on, passed-all, begins-here, begins-right}
 use Rattle.zone_marks.proofs.measuring.room_between.Goals as goal
 use Rattle.zone_marks.proofs.measuring.room_between.Goals.{else-span-gt0-via-then-span-gt0+else-bytes-span}
 use Rattle.zone_marks.proofs.measuring.room_between.Goals.{else-span-gt0-via-else-span-gt0}
 
 pub returns-then-bytes-span-clause-begins : goal.returns-then-bytes-span-clause-begins
-returns-then-bytes-span-clause-begins c = search (rules, passed-begins)
+returns-then-bytes-span-clause-begins c = search (rules, begins-right, begins-here)
 
 pub returns-then-bytes-span-clause-lowest : goal.returns-then-bytes-span-clause-lowest
 returns-then-bytes-span-clause-lowest c = passed-all _ _

@@ -1,5 +1,4 @@
-use Rattle.std.proofs.Common.{◌<◌, ◌∙◌, ap, sym, arith}
-use Rattle.zone_summary.specs.Stretches.{prefix}
+use Rattle.std.proofs.Common.{◌<◌, ◌∙◌, sym, arith}
 use Rattle.zone_summary.specs.declared.stretch.Counting.TheVariants.{Spaces}
 use Rattle.zone_summary.proofs.Monoid.{join-unit_right}
 use Rattle.zone_marks.proofs.Marks.Counting.{prefix-counted, walked-below, walked-few, walked-start, walked-step}
@@ -10,13 +9,9 @@ loop-at-init c = walked-start Spaces _ _ (λ p _. p < c.within-stop.result) c.re
 
 pub join-spaces-requires : goal.join-spaces-requires
 join-spaces-requires c =
-    let s = c.step_at-step.ensures in
-    omega (
-      arith,
-      (walked-few _ _ _ _ (λ p _. p < c.within-stop.result) _ c.loop-at.invariant),
-      (ap prefix (c.space_of_seen.ensures s.here s.told (omega arith))),
-      prefix-counted,
-    )
+    let w = walked-few _ _ _ _ _ _ c.loop-at.invariant in
+    let s = c.space_of_seen.ensures c.step_at-step.ensures.here c.step_at-step.ensures.told (omega arith) in
+    grind (arith, prefix-counted)
 
 pub loop-at-preserved : goal.loop-at-preserved
 loop-at-preserved c =

@@ -1,14 +1,10 @@
 use Rattle.std.proofs.Common.{subst, sym}
 use Rattle.zone_bytes.specs.Decode.{zone_in}
 use Rattle.zone_marks.specs.LaidMarks.{AreLaid}
-use Rattle.zone_bytes.proofs.Places.AtPlace.{on-way}
 use Rattle.zone_marks.proofs.keeping.Landmarks.note_packed.Goals as goal
-
-pub page_bytes-page-requires : goal.page_bytes-page-requires
-page_bytes-page-requires c = on-way _ _ _ c.requires.sound.2
 
 pub lay_edges-next-requires-clause-laid : goal.lay_edges-next-requires-clause-laid
 lay_edges-next-requires-clause-laid c =
     let zone = zone_in c.args.part.now.bytes in
     subst (AreLaid c.next_at-from.result.index c.next_at-from.result.at zone) (sym c.deref_mut.ensures.value)
-    (c.next_at-from.ensures.laid zone c.forget.ensures.marks)
+    (c.next_at-from.ensures.laid zone c.change.ensures.marks)

@@ -1,9 +1,5 @@
 use Rattle.zone_bytes.specs.Decode.{zone_in}
-use Rattle.zone_bytes.proofs.Places.AtPlace.{on-way}
 use Rattle.zone_marks.proofs.keeping.Landmarks.renew.Goals as goal
-
-pub page_bytes-page-requires : goal.page_bytes-page-requires
-page_bytes-page-requires c = on-way _ _ _ c.requires.sound.2
 
 pub lay-requires-clause-laid : goal.lay-requires-clause-laid
 lay-requires-clause-laid c = c.next_at-next.ensures.laid (zone_in c.args.part.now.bytes) c.requires.marks

@@ -1,7 +1,9 @@
-use Rattle.std.proofs.Common.{arith}
+use Rattle.zone_marks.specs.Purgeable.{NoneGoes}
+use Rattle.zone_marks.proofs.Marks.Passing.{at-append, at-left}
+use Rattle.zone_marks.proofs.Bounds.Going.{stays-whole}
+use Rattle.std.proofs.Common.{arith, subst, sym}
 use Rattle.zone_bytes.specs.Decode.{zone_in}
-use Rattle.zone_marks.proofs.Bounds.Going.{stays-from}
-use Rattle.zone_marks.proofs.Marks.Lowering.{begins-way}
+use Rattle.zone_marks.proofs.Marks.Lowering.{begins-way, seen-from}
 use Rattle.zone_marks.proofs.keeping.Landmarks.seek.Goals as goal
 
 pub first_going-self-requires : goal.first_going-self-requires
@@ -12,6 +14,6 @@ returns c =
     let xs = c.args.part.now.bytes in
     let m = c.requires.marks in (
       m.0,
-      stays-from _ _ _ c.requires.sound.2 _ (c.start.ensures.begins (zone_in xs) m) (c.start.ensures.none (zone_in xs) m)
-          _ c.first_going-self.ensures,
+      (subst (NoneGoes _) (sym (seen-from _ _ _ c.requires.sound.2 _ (c.start.ensures.begins (zone_in xs) m)).is) (grind
+          (arith, at-append, stays-whole, at-left))),
     )

@@ -5,13 +5,9 @@ use Rattle.zone_marks.specs.declared.landmark.Group.{Group}
 use Rattle.zone_marks.specs.declared.landmark.Landmark.{Landmark}
 use Rattle.zone_marks.proofs.Bounds.Going.{stays-above}
 use Rattle.zone_bytes.proofs.Laws.Lawful.{sizes-length}
-use Rattle.zone_bytes.proofs.Places.AtPlace.{on-way}
 use Rattle.zone_marks.proofs.Marks.Lowering.{unlaid-marks}
 use Rattle.zone_marks.proofs.Marks.Groups.{same-groups, unknown}
 use Rattle.zone_marks.proofs.keeping.Landmarks.unlaid.Goals as goal
-
-pub page_bytes-requires : goal.page_bytes-requires
-page_bytes-requires c = on-way _ _ _ c.requires.sound.2
 
 pub returns : goal.returns
 returns c =

@@ -1,0 +1,12 @@
+use Rattle.std.proofs.Common.{◌-◌, ◌≤◌}
+use Rattle.zone_marks.specs.Searching.{HasCome}
+use Rattle.zone_marks.proofs.beginning.run_below.Given as goal
+
+abbrev pub invariant-loop-passed : goal.invariant-loop-passed
+invariant-loop-passed l = record {
+  come : HasCome l.bytes l.marks l.part.bytes l.passed;
+  low : l.passed.index ≤ l.last;
+}
+
+abbrev pub decreases-loop-passed : goal.decreases-loop-passed
+decreases-loop-passed l = l.last - l.passed.index
