@@ -1,25 +1,23 @@
 //! The state of a search for a run behind blocks that it passed by what landmarks know of them, and so where the search
 //! for a run after all purges begins: the blocks below the lowest one that may be purged are not walked over.
 
-ghost use Rattle.std.specs.Prelude.{◌≡◌, ◌+◌, ◌≤◌, ◌<◌, ◌⊎◌, ℕ};
-ghost use Rattle.std.specs.Prelude.{length, IfSome};
+ghost use Rattle.std.specs.Prelude.{◌≡◌, ◌+◌, ◌≤◌, ◌<◌, ◌⊎◌, ℕ, length, IfSome};
 ghost use Rattle.zone_bytes.specs.Decode.{zone_in};
 ghost use Rattle.zone_bytes.specs.Lawful.{IsSound};
-ghost use Rattle.zone_marks.specs.Marks.{AreMarks, above_all};
 ghost use Rattle.zone_bytes.specs.Changes.{Begins};
-ghost use Rattle.zone_marks.specs.Searching.{Goes, HasCome, IsKnown, IsPassed, IsReady};
+ghost use Rattle.zone_marks.specs.Searching.{Goes, HasCome, HasMarks, IsKnown, IsPassed, IsReady};
 ghost use Rattle.zone_marks.specs.Searching.{IsStretch, begun, place_at};
 ghost use Rattle.zone_bytes.specs.Stepping.{left_in};
 ghost use Rattle.zone_summary.specs.Stretches.{best};
 ghost use Rattle.zone_summary.specs.declared.stretch.Counting.TheVariants as counting;
 
-use crate::landmark::{Landmark, Tally};
-use crate::largest::edge_of;
+use crate::landmark::{Group, Landmark, Tally};
+use crate::largest::{edge_of, told_from};
 use crate::marking::index_above;
 use block_store::{RunScan, Sparing, scan_run};
 use raw_region::Part;
 use zone_bytes::step_at;
-use zone_summary::Stretch;
+use zone_summary::{Counting, Stretch};
 
 /// What is known of the blocks below the place `at`, which were passed: what they come to in runs. From the place `end`
 /// on none of them ends a run, and `free` bytes are free; if one ends a run, the last one that does is between the
@@ -35,7 +33,7 @@ pub struct Passed {
 }
 
 /// No blocks were passed.
-pub const NOTHING: Passed = Passed {
+const NOTHING: Passed = Passed {
     runs: Stretch::NONE,
     barred: 0,
     end: 0,
@@ -102,6 +100,61 @@ pub fn begun_at(place: u32, purges: u32) -> RunScan
     }
 }
 
+/// Takes a search past the stretches of a group, if it has come to the first of the group's landmarks and none of them
+/// stands at an index of `last` or above, or past the stretch of one landmark; `None` where neither can be passed.
+fn pass_far(
+    marks: &[Landmark],
+    groups: &[Group],
+    part: &Part,
+    passed: Passed,
+    last: usize,
+    bytes: u32,
+) -> Option<Passed>
+    requires marked { HasMarks part.now.bytes marks.now groups.now }
+    requires last { last ≤ length marks.now }
+    requires inside { passed.index < last }
+    requires come { HasCome bytes marks.now part.now.bytes passed }
+    ensures further { IfSome result (λ p. passed.index < p.index) }
+    ensures within { IfSome result (λ p. p.index ≤ last) }
+    ensures come { IfSome result (λ p. HasCome bytes marks.now part.now.bytes p) }
+{
+    let told = told_from(marks, groups, part, passed.index, Counting::Runs);
+    if told.behind <= last {
+        let farther = pass_up_to(marks, part, passed, told.tally, told.behind, bytes);
+        if farther.is_some() {
+            return farther;
+        }
+    }
+    let tally = marks[passed.index].tally.runs;
+    pass_up_to(marks, part, passed, tally, passed.index + 1, bytes)
+}
+
+/// Returns what is known of the blocks from the bottom on, as far as no run of them has `bytes` free bytes, up to the
+/// landmark at the index `last`, or to the zone's end.
+pub fn passed_below(
+    marks: &[Landmark],
+    groups: &[Group],
+    part: &Part,
+    last: usize,
+    bytes: u32,
+) -> Passed
+    requires marked { HasMarks part.now.bytes marks.now groups.now }
+    requires last { last ≤ length marks.now }
+    requires bottom { place_at 0 marks.now part.now.bytes ≡ 0 }
+    requires some { 0 < bytes }
+    ensures within { result.index ≤ last }
+    ensures come { HasCome bytes marks.now part.now.bytes result }
+{
+    let mut passed = NOTHING;
+    while passed.index < last {
+        let Some(farther) = pass_far(marks, groups, part, passed, last, bytes) else {
+            return passed;
+        };
+        passed = farther;
+    }
+    passed
+}
+
 /// Searches up to the place `stop`, or until the run is found.
 pub fn scan_up_to(part: &Part, scan: RunScan, stop: u32, bytes: u32, sparing: Sparing) -> RunScan
     requires sound { (first : ℕ) × (unused : ℕ) × IsSound part.now.bytes first unused }
@@ -137,19 +190,23 @@ pub fn behind_passed(part: &Part, passed: Passed, bytes: u32) -> RunScan
 
 /// Returns the state of a search from the bottom on, with no purges, at the place `from`; `None` where it isn't known
 /// that no run below the place has `bytes` free bytes.
-pub fn run_below(marks: &[Landmark], part: &Part, from: u32, bytes: u32) -> Option<RunScan>
-    requires sound { (first : ℕ) × (unused : ℕ) × IsSound part.now.bytes first unused }
-    requires marks { AreMarks above_all (zone_in part.now.bytes) marks.now }
+pub fn run_below(
+    marks: &[Landmark],
+    groups: &[Group],
+    part: &Part,
+    from: u32,
+    bytes: u32,
+) -> Option<RunScan>
+    requires marked { HasMarks part.now.bytes marks.now groups.now }
     ensures { IfSome result (λ scan. IsKnown bytes from part.now.bytes scan) }
 {
     let last = index_above(marks, from, 0);
     if last == marks.len() || marks[last].at != from || edge_of(marks, part, 0) != 0 || bytes == 0 {
         return None;
     }
-    let mut passed = NOTHING;
-    while passed.index < last {
-        let tally = marks[passed.index].tally.runs;
-        passed = pass_up_to(marks, part, passed, tally, passed.index + 1, bytes)?;
+    let passed = passed_below(marks, groups, part, last, bytes);
+    if passed.index < last {
+        return None;
     }
     Some(behind_passed(part, passed, bytes))
 }

@@ -1,25 +1,21 @@
 //! The search for a run by landmarks: stretches with which no run comes to enough free bytes are passed without a walk
 //! over their blocks.
 
-ghost use Rattle.std.specs.Prelude.{◌≡◌, ◌<◌, ℕ, length, IfSome};
+ghost use Rattle.std.specs.Prelude.{◌≡◌, ℕ};
 ghost use Rattle.block_store.specs.Find.{FindsLowestRun};
 ghost use Rattle.block_store.specs.Run.{has_free};
 ghost use Rattle.zone_bytes.specs.Decode.{zone_in};
 ghost use Rattle.zone_bytes.specs.Lawful.{IsSound};
-ghost use Rattle.zone_marks.specs.Marks.{AreMarks, above_all};
 ghost use Rattle.zone_marks.specs.Purgeable.{MayStart};
-ghost use Rattle.zone_marks.specs.Searching.{HasMarks, HasCome, IsReady, finds_purging};
+ghost use Rattle.zone_marks.specs.Searching.{HasMarks, IsReady, finds_purging};
 ghost use Rattle.zone_summary.specs.Emptied.{all_purged};
 
-use crate::beginning::{
-    NOTHING, Passed, begun_at, behind_passed, pass_up_to, run_below, scan_up_to,
-};
+use crate::beginning::{begun_at, behind_passed, passed_below, run_below, scan_up_to};
 use crate::landmark::{Group, Landmark};
-use crate::largest::{edge_of, told_from};
+use crate::largest::edge_of;
 use crate::purgeable::frees_one;
 use block_store::{GREATEST_ZONE, RunScan, Sparing};
 use raw_region::Part;
-use zone_summary::Counting;
 
 /// Returns the place of the run that a search finds, by a walk from where it is.
 fn walk_on(part: &Part, scan: RunScan, bytes: u32, sparing: Sparing) -> Option<u32>
@@ -32,30 +28,6 @@ fn walk_on(part: &Part, scan: RunScan, bytes: u32, sparing: Sparing) -> Option<u
         return Some(last.start);
     }
     None
-}
-
-/// Takes a search past the stretches of a group, if it has come to the first of the group's landmarks, or past the
-/// stretch of one landmark; `None` where neither can be passed.
-fn pass_far(
-    marks: &[Landmark],
-    groups: &[Group],
-    part: &Part,
-    passed: Passed,
-    bytes: u32,
-) -> Option<Passed>
-    requires marked { HasMarks part.now.bytes marks.now groups.now }
-    requires inside { passed.index < length marks.now }
-    requires come { HasCome bytes marks.now part.now.bytes passed }
-    ensures behind { IfSome result (λ p. passed.index < p.index) }
-    ensures come { IfSome result (λ p. HasCome bytes marks.now part.now.bytes p) }
-{
-    let told = told_from(marks, groups, part, passed.index, Counting::Runs);
-    let farther = pass_up_to(marks, part, passed, told.tally, told.behind, bytes);
-    if farther.is_some() {
-        return farther;
-    }
-    let tally = marks[passed.index].tally.runs;
-    pass_up_to(marks, part, passed, tally, passed.index + 1, bytes)
 }
 
 /// Returns the place of the lowest run with at least `bytes` free bytes. Where a landmark stands at the bottom, blocks
@@ -72,15 +44,12 @@ pub fn find_run_by_marks(
     if edge_of(marks, part, 0) != 0 || bytes == 0 {
         return walk_on(part, begun_at(0, 0), bytes, Sparing::Nothing);
     }
-    let mut passed = NOTHING;
-    while passed.index < marks.len() {
-        let Some(farther) = pass_far(marks, groups, part, passed, bytes) else {
-            let behind = behind_passed(part, passed, bytes);
-            return walk_on(part, behind, bytes, Sparing::Nothing);
-        };
-        passed = farther;
+    let passed = passed_below(marks, groups, part, marks.len(), bytes);
+    if passed.index == marks.len() {
+        return None;
     }
-    None
+    let behind = behind_passed(part, passed, bytes);
+    walk_on(part, behind, bytes, Sparing::Nothing)
 }
 
 /// Returns the place of the lowest run with at least `bytes` free bytes once all blocks that may be purged were. The
@@ -88,18 +57,18 @@ pub fn find_run_by_marks(
 /// the bottom.
 pub fn find_run_purged(
     marks: &[Landmark],
+    groups: &[Group],
     part: &Part,
     from: u32,
     bytes: u32,
     sparing: Sparing,
 ) -> Option<u32>
-    requires sound { (first : ℕ) × (unused : ℕ) × IsSound part.now.bytes first unused }
-    requires marks { AreMarks above_all (zone_in part.now.bytes) marks.now }
+    requires marked { HasMarks part.now.bytes marks.now groups.now }
     requires from { MayStart from (zone_in part.now.bytes) }
     ensures { FindsLowestRun (has_free bytes) (all_purged sparing (zone_in part.now.bytes)) result }
 {
     if !frees_one(sparing) {
-        if let Some(scan) = run_below(marks, part, from, bytes) {
+        if let Some(scan) = run_below(marks, groups, part, from, bytes) {
             let begun = RunScan {
                 left: GREATEST_ZONE,
                 ..scan

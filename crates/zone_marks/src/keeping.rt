@@ -178,10 +178,10 @@ impl Landmarks {
         ensures { MatchOption result ((purges : ℕ) → serves bytes sparing (zone_in part.now.bytes) purges ≡ false)
             (λ fewest. IsFewest (serves bytes sparing (zone_in part.now.bytes)) fewest) }
     {
-        let Some(run) = find_run_purged(&self.marks, part, self.under(), bytes, sparing) else {
+        let (marks, groups) = (&self.marks, &self.groups);
+        let Some(run) = find_run_purged(marks, groups, part, self.under(), bytes, sparing) else {
             return None;
         };
-        let (marks, groups) = (&self.marks, &self.groups);
         Some(fewest_by_marks(marks, groups, part, self.start(), run, bytes, sparing))
     }
 

@@ -23,8 +23,8 @@ use Rattle.zone_bytes.specs.Stepping.{left_in}
 use Rattle.zone_marks.specs.declared.landmark.Tally.TheVariants as tally
 use Rattle.zone_summary.specs.declared.stretch.Stretch.{Stretch}
 use Rattle.zone_marks.proofs.Bounds.Going.{count-none}
-use Rattle.zone_marks.proofs.Marks.Lowering.{begins-end, seen-from, one-here}
-use Rattle.zone_marks.proofs.Marks.Passing.{at-left, begins-left}
+use Rattle.zone_marks.proofs.Marks.Lowering.{seen-from, one-here}
+use Rattle.zone_marks.proofs.Marks.Passing.{at-left}
 use Rattle.zone_marks.proofs.Searches.Pieces.{stretch-at, zone-long}
 
 pub count-below : (xs : List ℕ) (first unused : ℕ) (i : IsSound xs first unused) (from edge run : ℕ) (n : Sparing)

@@ -1,15 +1,15 @@
 -- The blocks that begin between two places, and what tallies say of them.
 use Rattle.std.proofs.Common.{◌≡◌, ℕ, ◌+◌, ◌≤◌, ◌<◌, ◌⊎◌, Bool, true, false, ◌&&◌, cond, List, [], ◌∷◌, ◌++◌}
-use Rattle.std.proofs.Common.{inl, inr, nat_le, nat_lt, refl, sym, ap, ◌∙◌, arith}
+use Rattle.std.proofs.Common.{inl, inr, nat_le, nat_lt, refl, ap, ◌∙◌, arith}
 use Rattle.std.proofs.lemmas.Bool.{le-leb, lt-ltb, leb-true, leb-false, ltb-true, ltb-false}
 use Rattle.std.proofs.lemmas.List.{append-nil}
-use Rattle.block_store.specs.Block.{Block, size, sizes, free_of}
+use Rattle.block_store.specs.Block.{Block, size, sizes}
 use Rattle.zone_bytes.specs.Changes.{AtEach}
-use Rattle.zone_marks.specs.Marks.{AreTold, IsTally, between, ends_run}
+use Rattle.zone_marks.specs.Marks.{AreTold, IsTally, between}
 use Rattle.zone_marks.specs.declared.landmark.Tallies.{Tallies}
 use Rattle.zone_marks.specs.declared.landmark.Tally.{Tally}
 use Rattle.zone_marks.specs.declared.landmark.Tally.TheVariants as tally
-use Rattle.zone_summary.specs.Stretches.{one, stretch_by, stretch_of}
+use Rattle.zone_summary.specs.Stretches.{stretch_by, stretch_of}
 use Rattle.zone_summary.specs.declared.stretch.Counting.{Counting}
 use Rattle.zone_summary.specs.declared.stretch.Counting.TheVariants as counting
 use Rattle.zone_summary.specs.declared.stretch.Stretch.{Stretch}

@@ -6,7 +6,7 @@ use Rattle.std.proofs.Common.{◌≡◌, ℕ, ◌+◌, ◌≤◌, ◌<◌, List,
 use Rattle.std.proofs.Common.{zero, suc, append_assoc}
 use Rattle.block_store.specs.Block.{Block, Free, size, sizes, free, free_of, add}
 use Rattle.zone_bytes.specs.Laying.{free_first}
-use Rattle.zone_bytes.specs.Changes.{Became, Begins, Replaced}
+use Rattle.zone_bytes.specs.Changes.{Became, Replaced}
 use Rattle.zone_marks.specs.Marks.{AreMarks, between, next_of}
 use Rattle.zone_marks.specs.declared.landmark.Landmark.{Landmark}
 use Rattle.zone_summary.specs.Stretches.{one, space}

@@ -9,7 +9,7 @@ use Rattle.zone_marks.proofs.finding_runs.find_run_purged.Goals as goal
 
 pub returns-in-Some : goal.returns-in-Some
 returns-in-Some c = reached-lowest c.args.part.now.bytes c.args.from c.requires.from c.args.bytes GREATEST_ZONE
-    c.args.sparing (most-fits _ _ _ c.requires.sound.2 _) (c.if-not-frees_one.ensures refl) _ c.in-Some.ensures _
+    c.args.sparing (most-fits _ _ _ c.requires.marked.sound.2 _) (c.if-not-frees_one.ensures refl) _ c.in-Some.ensures _
     c.walk_on.ensures
 
 pub walk_on-requires-2-clause-ready : goal.walk_on-requires-2-clause-ready
@@ -19,5 +19,5 @@ pub returns : goal.returns
 returns c =
     let n = c.args.sparing in
     found-lowest c.args.bytes GREATEST_ZONE n _ _ _
-    (purged-most _ n (zone_in c.args.part.now.bytes) (most-fits _ _ _ c.requires.sound.2 n))
+    (purged-most _ n (zone_in c.args.part.now.bytes) (most-fits _ _ _ c.requires.marked.sound.2 n))
     (rw c.begun_at.ensures at c.walk_on-2.ensures)

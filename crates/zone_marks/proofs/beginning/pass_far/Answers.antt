@@ -1,10 +1,11 @@
+use Rattle.std.proofs.Common.{arith}
 use Rattle.zone_summary.specs.declared.stretch.Counting.TheVariants.{Runs}
 use Rattle.zone_marks.proofs.Searches.Pieces.{next-stretch}
-use Rattle.zone_marks.proofs.finding_runs.pass_far.Goals as goal
+use Rattle.zone_marks.proofs.beginning.pass_far.Goals as goal
 
 pub pass_up_to-farther-requires-clause-stretch : goal.pass_up_to-farther-requires-clause-stretch
 pass_up_to-farther-requires-clause-stretch c = rw c.requires.come.at c.told_from-told.ensures.stretch
 
 pub pass_up_to-requires-clause-stretch : goal.pass_up_to-requires-clause-stretch
 pass_up_to-requires-clause-stretch c = let m = c.requires.marked in
-    rw c.requires.come.at (next-stretch _ _ _ m.sound.2 Runs _ m.marks _ c.requires.inside)
+    rw c.requires.come.at (next-stretch _ _ _ m.sound.2 Runs _ m.marks _ (omega arith))

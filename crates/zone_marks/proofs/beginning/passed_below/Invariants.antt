@@ -1,6 +1,6 @@
 use Rattle.std.proofs.Common.{◌-◌, ◌≤◌}
 use Rattle.zone_marks.specs.Searching.{HasCome}
-use Rattle.zone_marks.proofs.beginning.run_below.Given as goal
+use Rattle.zone_marks.proofs.beginning.passed_below.Given as goal
 
 abbrev pub invariant-loop-passed : goal.invariant-loop-passed
 invariant-loop-passed l = record {
