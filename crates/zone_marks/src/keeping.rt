@@ -23,7 +23,7 @@ use crate::free_space::{largest_after_by_marks, largest_free_by_marks};
 use crate::going::{first_going, lowest_after};
 use crate::grouping::renew_groups;
 use crate::landmark::{GROUP, Group, Kept, Landmark, UNKNOWN, UNKNOWN_GROUP};
-use crate::largest::largest_run_by_marks;
+use crate::largest::stretch_above;
 use crate::marking::{
     NextMark, change_marks, find_by_marks, lay_edges, lay_marks, mark_below, place_of_mark,
 };
@@ -33,6 +33,7 @@ use block_store::{Flags, Sparing};
 use raw_region::Part;
 use std::alloc::{AllocError, Global};
 use zone_bytes::{Edges, PackedRun, size_at};
+use zone_summary::Counting;
 
 /// Landmarks of a zone: places at which blocks begin, one for each page of the zone's bytes. Each has a bound on the
 /// size of each free block up to the next landmark, and tallies of the blocks there: what they come to in runs, and, from
@@ -213,7 +214,7 @@ impl Landmarks {
         requires marks { AreOf self.now (zone_in part.now.bytes) }
         ensures { result ≡ largest_run (zone_in part.now.bytes) }
     {
-        largest_run_by_marks(&self.marks, &self.groups, part)
+        stretch_above(&self.marks, &self.groups, part, 0, Counting::Runs, false).best()
     }
 
     /// Returns the size of the largest free block.

@@ -3,7 +3,6 @@
 //! free block once all blocks that may be purged were.
 
 ghost use Rattle.std.specs.Prelude.{◌≡◌, ◌≤◌, ◌<◌, ℕ, false, length};
-ghost use Rattle.block_store.specs.Compact.{largest_run};
 ghost use Rattle.zone_bytes.specs.Decode.{zone_in};
 ghost use Rattle.zone_bytes.specs.Lawful.{IsSound};
 ghost use Rattle.zone_bytes.specs.Changes.{Begins};
@@ -18,19 +17,16 @@ use crate::measuring::{measure_up_to, spaces_up_to};
 use raw_region::Part;
 use zone_summary::{Counting, Stretch};
 
-/// Returns what the blocks from one place up to another come to. They are walked over where `told` doesn't tell it.
-fn stretch_between(part: &Part, told: Tally, from: u32, to: u32, counting: Counting) -> Stretch
+/// Returns what the blocks from one place up to another come to, by a walk over them.
+fn walked_between(part: &Part, from: u32, to: u32, counting: Counting) -> Stretch
     requires sound { (first : ℕ) × (unused : ℕ) × IsSound part.now.bytes first unused }
     requires begins { Begins from 0 (zone_in part.now.bytes) }
-    requires stretch { IsStretch counting told from to part.now.bytes }
+    requires stretch { IsStretch counting tally.Unknown from to part.now.bytes }
     ensures { IsStretch counting (tally.Known result) from to part.now.bytes }
 {
-    match told {
-        Tally::Known(stretch) => stretch,
-        Tally::Unknown => match counting {
-            Counting::Runs => measure_up_to(part, from, to).runs,
-            Counting::Spaces => spaces_up_to(part, from, to),
-        },
+    match counting {
+        Counting::Runs => measure_up_to(part, from, to).runs,
+        Counting::Spaces => spaces_up_to(part, from, to),
     }
 }
 
@@ -100,25 +96,22 @@ pub fn stretch_above(
     ensures all { lowest ≡ false → result ≡ stretch_by counting (left_in from part.now.bytes) }
 {
     let mut index = index_above(marks, from, 0);
-    let mut at = edge_of(marks, part, index);
-    let mut stretch = stretch_between(part, Tally::Unknown, from, at, counting);
+    let mut stretch = walked_between(part, from, edge_of(marks, part, index), counting);
     while index < marks.len() {
         if lowest && matches!(stretch, Stretch::Ended(_, _, _)) {
             return stretch;
         }
         let told = told_from(marks, groups, part, index, counting);
-        let next = edge_of(marks, part, told.behind);
-        stretch = stretch.join(stretch_between(part, told.tally, at, next, counting));
-        at = next;
+        let next = match told.tally {
+            Tally::Known(next) => next,
+            Tally::Unknown => {
+                let at = edge_of(marks, part, index);
+                let to = edge_of(marks, part, told.behind);
+                walked_between(part, at, to, counting)
+            }
+        };
+        stretch = stretch.join(next);
         index = told.behind;
     }
     stretch
-}
-
-/// Returns the greatest number of free bytes in one run.
-pub fn largest_run_by_marks(marks: &[Landmark], groups: &[Group], part: &Part) -> u32
-    requires marked { HasMarks part.now.bytes marks.now groups.now }
-    ensures { result ≡ largest_run (zone_in part.now.bytes) }
-{
-    stretch_above(marks, groups, part, 0, Counting::Runs, false).best()
 }

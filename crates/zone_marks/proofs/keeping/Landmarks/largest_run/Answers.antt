@@ -1,7 +1,7 @@
 use Rattle.std.proofs.Common.{arith}
 use Rattle.zone_marks.proofs.Marks.Passing.{begins-here}
 use Rattle.zone_bytes.proofs.Places.AtPlace.{left-zone}
-use Rattle.zone_marks.proofs.largest.largest_run_by_marks.Goals as goal
+use Rattle.zone_marks.proofs.keeping.Landmarks.largest_run.Goals as goal
 
 pub stretch_above-requires-clause-begins : goal.stretch_above-requires-clause-begins
 stretch_above-requires-clause-begins c = begins-here 0 _

@@ -3,7 +3,7 @@ use Rattle.zone_marks.proofs.Bounds.Fewest.{stretch-from}
 use Rattle.zone_marks.proofs.Marks.Lowering.{begins-way}
 use Rattle.zone_marks.specs.declared.landmark.Tally.TheVariants as tally
 use Rattle.zone_summary.specs.declared.stretch.Counting.TheVariants.{Runs, Spaces}
-use Rattle.zone_marks.proofs.largest.stretch_between.Goals as goal
+use Rattle.zone_marks.proofs.largest.walked_between.Goals as goal
 
 pub measure_up_to-requires : goal.measure_up_to-requires
 measure_up_to-requires c = search (rules, begins-way)
