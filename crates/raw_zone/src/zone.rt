@@ -8,7 +8,7 @@ ghost use Rattle.block_store.specs.Sparing.{purged};
 use block_store::{
     BlockStore, Flags, GREATEST_ZONE, HEADER_SIZE, LEAST_ZONE, MASTERS_SIZE, SLOTS_A_BLOCK, Seen,
     Sparing, UNIT, Walk, find_run_in, next_purgeable_in, next_run_in, purgeable_in,
-    purgeable_in_run_in, run_has_free_in, run_of_in,
+    purgeable_in_run_in, run_has_free_in,
 };
 use raw_region::Part;
 use std::alloc::{AllocError, Global};
@@ -320,7 +320,7 @@ impl BlockStore for RawZone {
         if self.free < bytes {
             return None;
         }
-        run_of_in(&mut walk_from(&self.part, 0), number, bytes)
+        self.marks.run_of(&self.part, number, bytes)
     }
 
     fn fewest_for_block(&self, number: u32, bytes: u32, sparing: Sparing) -> Option<u32> {

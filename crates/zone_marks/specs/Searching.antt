@@ -1,5 +1,5 @@
 -- Searches for a run that use the landmarks of a zone.
-use Rattle.std.specs.Prelude.{◌≡◌, ℕ, ◌+◌, ◌≤◌, ◌<◌, ◌⊎◌, true, Option, None, List, [], ◌++◌, length}
+use Rattle.std.specs.Prelude.{◌≡◌, ℕ, ◌+◌, ◌≤◌, ◌<◌, ◌⊎◌, true, Option, None, List, [], ◌++◌, length, false}
 use Rattle.std.specs.Prelude.{drop}
 use Rattle.std.specs.Option.{option_map}
 use Rattle.block_store.specs.Block.{Block, sizes}
@@ -8,7 +8,6 @@ use Rattle.block_store.specs.Run.{RunSpot, run_spot}
 use Rattle.block_store.specs.Sparing.{opened, spared}
 use Rattle.block_store.specs.declared.run_search.RunScan.{RunScan}
 use Rattle.block_store.specs.declared.sparing.Sparing.{Sparing}
-use Rattle.block_store.specs.declared.sparing.Sparing.TheVariants as sparing
 use Rattle.zone_bytes.specs.Decode.{zone_in}
 use Rattle.zone_bytes.specs.Lawful.{IsSound}
 use Rattle.zone_bytes.specs.Changes.{Begins}
@@ -18,11 +17,9 @@ use Rattle.zone_marks.specs.declared.beginning.Passed.{Passed}
 use Rattle.zone_marks.specs.declared.landmark.Group.{Group}
 use Rattle.zone_marks.specs.declared.landmark.Landmark.{Landmark}
 use Rattle.zone_marks.specs.declared.landmark.Tally.{Tally}
-use Rattle.zone_marks.specs.declared.landmark.Tally.TheVariants as tally
-use Rattle.zone_summary.specs.Stretches.{best, is_ended, join, stretch_of}
+use Rattle.zone_summary.specs.Searches.{begun_in}
+use Rattle.zone_summary.specs.Stretches.{best, is_ended, stretch_of, suffix}
 use Rattle.zone_summary.specs.declared.stretch.Counting.{Counting}
-use Rattle.zone_summary.specs.declared.stretch.Counting.TheVariants as counting
-use Rattle.zone_summary.specs.declared.stretch.Stretch.TheVariants.{Whole}
 
 -- Bytes spell a sound zone, and the landmarks and their groups are those of the zone.
 pub record HasMarks (xs : List ℕ) (all : List Landmark) (in_groups : List Group) : Type 0 where
@@ -55,34 +52,28 @@ pub record IsPiece (from to : ℕ) (xs : List ℕ) (here : List Block) : Type 0 
 abbrev pub IsStretch : Counting → Tally → ℕ → ℕ → List ℕ → Type 0
 IsStretch c t from to xs = (here : List Block) × IsPiece from to xs here × IsTally c t here
 
--- A search is at a place at which a block begins, or at the zone's end, and its run need have no block.
-pub record IsReady (xs : List ℕ) (s : RunScan) : Type 0 where
-  pub begins : Begins s.place 0 (zone_in xs)
-  pub met : s.met ≡ true
-  pub free : s.free ≤ s.place
-
--- A search went past blocks from one state to another, whatever blocks are above them.
-pub record Goes (bytes : ℕ) (n : Sparing) (xs : List ℕ) (s r : RunScan) : Type 0 where
+-- A search for any run, from the bottom on and with no purges, is at the place `to` or below it, where it is known what the
+-- blocks below come to: no run of them has `bytes` free bytes.
+pub record IsKnown (bytes to : ℕ) (xs : List ℕ) (r : RunScan) : Type 0 where
   pub done : List Block
-  pub piece : IsPiece s.place r.place xs done
-  pub ready : IsReady xs r
-  pub left : r.left ≤ s.left
-  pub same : (above : List Block) → finds_in bytes n s (done ++ above) ≡ finds_in bytes n r above
-
--- A search from the bottom on, with no purges, is at the place `to`.
-abbrev pub IsKnown : ℕ → ℕ → List ℕ → RunScan → Type 0
-IsKnown bytes to xs r = Goes bytes sparing.Nothing xs (begun 0 0) r × (r.place ≡ to)
+  pub piece : IsPiece 0 r.place xs done
+  pub low : r.place ≤ to
+  pub fits : r.free ≤ r.place
+  pub is : r ≡ record { left = 0; start = begun_in 0 0 done; free = suffix (stretch_of done); met = true; place = r.place }
+  pub short : (best (stretch_of done) < bytes) ⊎ (done ≡ [])
 
 -- The blocks below the place `p.at` were passed: `mid` are those from `p.barred` up to `p.end`, of which one ends a run
--- unless there are no blocks below them.
+-- unless there are no blocks below them; those above end none.
 pub record IsPassed (xs : List ℕ) (p : Passed) : Type 0 where
   pub low : List Block
   pub mid : List Block
+  pub above : List Block
   pub below : IsPiece 0 p.barred xs low
   pub piece : IsPiece p.barred p.end xs mid
-  pub above : IsStretch counting.Runs (tally.Known (Whole p.free)) p.end p.at xs
-  pub sums : p.runs ≡ join (stretch_of (low ++ mid)) (Whole p.free)
+  pub rest : IsPiece p.end p.at xs above
+  pub sums : p.runs ≡ stretch_of (low ++ (mid ++ above))
   pub ended : (is_ended (stretch_of mid) ≡ true) ⊎ (low ≡ [])
+  pub whole : is_ended (stretch_of above) ≡ false
 
 -- The place of the landmark at an index, or the zone's end if there is none.
 abbrev pub place_at : ℕ → List Landmark → List ℕ → ℕ

@@ -1,33 +1,33 @@
 //! The state of a search for a run behind blocks that it passed by what landmarks know of them, and so where the search
 //! for a run after all purges begins: the blocks below the lowest one that may be purged are not walked over.
 
-ghost use Rattle.std.specs.Prelude.{◌≡◌, ◌+◌, ◌≤◌, ◌<◌, ◌⊎◌, ℕ, length, IfSome};
+ghost use Rattle.std.specs.Prelude.{◌≡◌, ◌≤◌, ◌<◌, ℕ, List, length, IfSome};
+ghost use Rattle.block_store.specs.Block.{Block};
 ghost use Rattle.zone_bytes.specs.Decode.{zone_in};
 ghost use Rattle.zone_bytes.specs.Lawful.{IsSound};
 ghost use Rattle.zone_bytes.specs.Changes.{Begins};
-ghost use Rattle.zone_marks.specs.Searching.{Goes, HasCome, HasMarks, IsKnown, IsPassed, IsReady};
-ghost use Rattle.zone_marks.specs.Searching.{IsStretch, begun, place_at};
+ghost use Rattle.zone_marks.specs.Searching.{HasCome, HasMarks, IsKnown, IsPassed, IsPiece, IsStretch, begun, place_at};
 ghost use Rattle.zone_bytes.specs.Stepping.{left_in};
+ghost use Rattle.zone_summary.specs.Searches.{begun_in};
 ghost use Rattle.zone_summary.specs.Stretches.{best};
 ghost use Rattle.zone_summary.specs.declared.stretch.Counting.TheVariants as counting;
 
 use crate::landmark::{Group, Landmark, Tally};
 use crate::largest::{edge_of, told_from};
 use crate::marking::index_above;
-use block_store::{RunScan, Sparing, scan_run};
+use block_store::{RunScan, is_in_run};
 use raw_region::Part;
 use zone_bytes::step_at;
 use zone_summary::{Counting, Stretch};
 
 /// What is known of the blocks below the place `at`, which were passed: what they come to in runs. From the place `end`
-/// on none of them ends a run, and `free` bytes are free; if one ends a run, the last one that does is between the
-/// places `barred` and `end`. The landmark at `index` stands at the place; where there is none, it is the zone's end.
+/// on none of them ends a run; if one ends a run, the last one that does is between the places `barred` and `end`. The
+/// landmark at `index` stands at the place; where there is none, it is the zone's end.
 #[derive(Clone, Copy, Drop)]
 pub struct Passed {
     pub runs: Stretch,
     pub barred: u32,
     pub end: u32,
-    pub free: u32,
     pub at: u32,
     pub index: usize,
 }
@@ -37,7 +37,6 @@ const NOTHING: Passed = Passed {
     runs: Stretch::NONE,
     barred: 0,
     end: 0,
-    free: 0,
     at: 0,
     index: 0,
 };
@@ -69,9 +68,8 @@ pub fn pass_up_to(
         return None;
     }
     match stretch {
-        Stretch::Whole(free) => Some(Passed {
+        Stretch::Whole(_) => Some(Passed {
             runs,
-            free: passed.free + free,
             at: next,
             index: behind,
             ..passed
@@ -80,7 +78,6 @@ pub fn pass_up_to(
             runs,
             barred: passed.at,
             end: next,
-            free: 0,
             at: next,
             index: behind,
         }),
@@ -155,58 +152,56 @@ pub fn passed_below(
     passed
 }
 
-/// Searches up to the place `stop`, or until the run is found.
-pub fn scan_up_to(part: &Part, scan: RunScan, stop: u32, bytes: u32, sparing: Sparing) -> RunScan
+/// Returns where the run began that goes on at the place `to`: where it has blocks below the place `from`, `from`.
+fn run_start(part: &Part, from: u32, to: u32) -> u32
     requires sound { (first : ℕ) × (unused : ℕ) × IsSound part.now.bytes first unused }
-    requires ready { IsReady part.now.bytes scan }
-    requires stop { Begins stop scan.place (left_in scan.place part.now.bytes) }
-    ensures goes { Goes bytes sparing part.now.bytes scan result }
-    ensures up_to { result.place ≤ stop }
-    ensures came { (bytes ≤ result.free) ⊎ (result.place ≡ stop) }
+    requires begins { Begins from 0 (zone_in part.now.bytes) }
+    requires to { Begins to from (left_in from part.now.bytes) }
+    ensures { (here : List Block) → IsPiece from to part.now.bytes here → result ≡ begun_in from from here }
 {
-    let mut scan = scan;
-    while scan.place < stop && scan.free < bytes {
-        let step = step_at(part, scan.place);
-        scan = scan_run(step.block, None, scan, sparing);
+    let mut place = from;
+    let mut start = from;
+    while place < to {
+        let step = step_at(part, place);
+        place = step.end;
+        if !is_in_run(step.block) {
+            start = place;
+        }
     }
-    scan
+    start
 }
 
 /// Returns the state of a search from the bottom on, with no purges, behind the blocks that it passed.
-pub fn behind_passed(part: &Part, passed: Passed, bytes: u32) -> RunScan
+fn behind_passed(part: &Part, passed: Passed) -> RunScan
     requires sound { (first : ℕ) × (unused : ℕ) × IsSound part.now.bytes first unused }
     requires passed { IsPassed part.now.bytes passed }
-    requires short { best passed.runs < bytes }
-    ensures { IsKnown bytes passed.at part.now.bytes result }
+    ensures { (bytes to : ℕ) → best passed.runs < bytes → passed.at ≤ to → IsKnown bytes to part.now.bytes result }
 {
-    let begun = begun_at(passed.barred, 0);
-    let walked = scan_up_to(part, begun, passed.end, bytes, Sparing::Nothing);
     RunScan {
-        free: walked.free + passed.free,
+        left: 0,
+        start: run_start(part, passed.barred, passed.end),
+        free: passed.runs.highest(),
+        met: true,
         place: passed.at,
-        ..walked
     }
 }
 
-/// Returns the state of a search from the bottom on, with no purges, at the place `from`; `None` where it isn't known
-/// that no run below the place has `bytes` free bytes.
+/// Returns the state of a search from the bottom on, with no purges, at the last landmark up to the place `from` up to which
+/// it is known that no run has `bytes` free bytes.
 pub fn run_below(
     marks: &[Landmark],
     groups: &[Group],
     part: &Part,
     from: u32,
     bytes: u32,
-) -> Option<RunScan>
+) -> RunScan
     requires marked { HasMarks part.now.bytes marks.now groups.now }
-    ensures { IfSome result (λ scan. IsKnown bytes from part.now.bytes scan) }
+    ensures { IsKnown bytes from part.now.bytes result }
 {
-    let last = index_above(marks, from, 0);
-    if last == marks.len() || marks[last].at != from || edge_of(marks, part, 0) != 0 || bytes == 0 {
-        return None;
+    let above = index_above(marks, from.saturating_add(1), 0);
+    if above == 0 || edge_of(marks, part, 0) != 0 || bytes == 0 {
+        return begun_at(0, 0);
     }
-    let passed = passed_below(marks, groups, part, last, bytes);
-    if passed.index < last {
-        return None;
-    }
-    Some(behind_passed(part, passed, bytes))
+    let passed = passed_below(marks, groups, part, above - 1, bytes);
+    behind_passed(part, passed)
 }

@@ -11,6 +11,7 @@ ghost use Rattle.block_store.specs.Sparing.{opened, spared};
 ghost use Rattle.zone_bytes.specs.Decode.{zone_in};
 ghost use Rattle.zone_bytes.specs.Lawful.{IsSound};
 ghost use Rattle.zone_bytes.specs.Changes.{Begins};
+ghost use Rattle.zone_marks.specs.Marked.{AreOf};
 ghost use Rattle.zone_marks.specs.Purgeable.{NoneGoes};
 ghost use Rattle.zone_bytes.specs.Stepping.{left_in};
 ghost use Rattle.zone_summary.specs.Emptied.{all_purged};
@@ -19,12 +20,14 @@ ghost use Rattle.zone_summary.specs.Stretches.{prefix, stretch_of};
 ghost use Rattle.block_store.specs.Fewest.{serves, serves_block, IsFewest};
 ghost use Rattle.zone_marks.specs.Searching.{HasMarks};
 
+use crate::finding_runs::find_run_purged;
+use crate::keeping::Landmarks;
 use crate::landmark::{Group, Landmark};
 use crate::largest::stretch_above;
 use crate::measuring::{walk_at, within};
 use crate::purgeable::frees_one;
 use block_store::{
-    Sparing, Walk, is_counted_free, is_in_run, may_purge, may_purge_now, run_of_in, size_of_seen,
+    Sparing, Walk, is_counted_free, is_in_run, may_purge, may_purge_now, size_of_seen,
 };
 use raw_region::Part;
 use zone_summary::Counting;
@@ -135,62 +138,48 @@ fn count_below(part: &Part, from: u32, run: u32, sparing: Sparing) -> u32
     count_in(&mut walk_at(part, first), run - first, sparing)
 }
 
-/// Returns the least number of purges after which a run has at least `bytes` free bytes, where no run has them before
-/// any purge. The run at `run` is the lowest that has them after all purges, and no block below `from` may be purged.
-#[tactic(auto, using(crate::proofs::Searches::RunStarting::first_begins))]
-pub fn fewest_by_marks(
-    marks: &[Landmark],
-    groups: &[Group],
-    part: &Part,
-    from: u32,
-    run: u32,
-    bytes: u32,
-    sparing: Sparing,
-) -> u32
-    requires marked { HasMarks part.now.bytes marks.now groups.now }
-    requires begins { Begins from 0 (zone_in part.now.bytes) }
-    requires none { NoneGoes from (zone_in part.now.bytes) }
-    requires run { FindsLowestRun (has_free bytes) (all_purged sparing (zone_in part.now.bytes)) (Some run) }
-    requires unserved { serves bytes sparing (zone_in part.now.bytes) 0 ≡ false }
-    ensures { IsFewest (serves bytes sparing (zone_in part.now.bytes)) result }
-{
-    let below = count_below(part, from, run, sparing);
-    let free = free_at(marks, groups, part, run, sparing);
-    let lacks = bytes.saturating_sub(free);
-    below + count_for(&mut walk_at(part, run), lacks, sparing)
-}
-
-/// Returns the least number of purges after which the run of a master pointer's block has at least `bytes` free bytes: 0
-/// where it has them without any; `None` where no purges serve. The block itself may not be purged, and no block below
-/// `from` may be.
-pub fn fewest_for_block(
-    marks: &[Landmark],
-    groups: &[Group],
-    part: &Part,
-    from: u32,
-    number: u32,
-    bytes: u32,
-    sparing: Sparing,
-) -> Option<u32>
-    requires marked { HasMarks part.now.bytes marks.now groups.now }
-    requires begins { Begins from 0 (zone_in part.now.bytes) }
-    requires none { NoneGoes from (zone_in part.now.bytes) }
-    requires once { count (is_relocatable number) (zone_in part.now.bytes) ≤ 1 }
-    requires spared { (b : Block) → is_relocatable number b ≡ true → spared sparing b ≡ true }
-    requires whole { (blocks : List Block) → opened sparing blocks ≡ blocks }
-    ensures { MatchOption result
-        ((purges : ℕ) → serves_block number bytes sparing (zone_in part.now.bytes) purges ≡ false)
-        (λ fewest. IsFewest (serves_block number bytes sparing (zone_in part.now.bytes)) fewest) }
-{
-    let Some(run) = run_of_in(&mut walk_at(part, 0), number, 0) else {
-        return None;
-    };
-    let free = free_at(marks, groups, part, run, sparing);
-    if bytes <= free {
-        return Some(0);
+impl Landmarks {
+    /// Returns the least number of purges after which a run has at least `bytes` free bytes, where no run has them
+    /// before any purge; `None` where no purges serve.
+    #[tactic(auto, using(crate::proofs::Searches::RunStarting::first_begins))]
+    pub fn fewest_purges(&self, part: &Part, bytes: u32, sparing: Sparing) -> Option<u32>
+        requires sound { (first : ℕ) × (unused : ℕ) × IsSound part.now.bytes first unused }
+        requires marks { AreOf self.now (zone_in part.now.bytes) }
+        requires unserved { serves bytes sparing (zone_in part.now.bytes) 0 ≡ false }
+        ensures { MatchOption result ((purges : ℕ) → serves bytes sparing (zone_in part.now.bytes) purges ≡ false)
+            (λ fewest. IsFewest (serves bytes sparing (zone_in part.now.bytes)) fewest) }
+    {
+        let (marks, groups) = (&self.marks, &self.groups);
+        let run = find_run_purged(marks, groups, part, self.under(), bytes, sparing)?;
+        let below = count_below(part, self.start(), run, sparing);
+        let lacks = bytes.saturating_sub(free_at(marks, groups, part, run, sparing));
+        Some(below + count_for(&mut walk_at(part, run), lacks, sparing))
     }
-    let Some(own) = count_in_run(&mut walk_at(part, run), bytes - free, sparing) else {
-        return None;
-    };
-    Some(count_below(part, from, run, sparing) + own)
+
+    /// Returns the least number of purges after which the run of a master pointer's block has at least `bytes` free
+    /// bytes: 0 where it has them without any; `None` where no purges serve. The block itself may not be purged.
+    pub fn fewest_for_block(
+        &self,
+        part: &Part,
+        number: u32,
+        bytes: u32,
+        sparing: Sparing,
+    ) -> Option<u32>
+        requires sound { (first : ℕ) × (unused : ℕ) × IsSound part.now.bytes first unused }
+        requires marks { AreOf self.now (zone_in part.now.bytes) }
+        requires once { count (is_relocatable number) (zone_in part.now.bytes) ≤ 1 }
+        requires spared { (b : Block) → is_relocatable number b ≡ true → spared sparing b ≡ true }
+        requires whole { (blocks : List Block) → opened sparing blocks ≡ blocks }
+        ensures { MatchOption result
+            ((purges : ℕ) → serves_block number bytes sparing (zone_in part.now.bytes) purges ≡ false)
+            (λ fewest. IsFewest (serves_block number bytes sparing (zone_in part.now.bytes)) fewest) }
+    {
+        let run = self.run_of(part, number, 0)?;
+        let free = free_at(&self.marks, &self.groups, part, run, sparing);
+        if bytes <= free {
+            return Some(0);
+        }
+        let own = count_in_run(&mut walk_at(part, run), bytes - free, sparing)?;
+        Some(count_below(part, self.start(), run, sparing) + own)
+    }
 }

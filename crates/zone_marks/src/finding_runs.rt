@@ -1,60 +1,68 @@
 //! The search for a run by landmarks: stretches with which no run comes to enough free bytes are passed without a walk
 //! over their blocks.
 
-ghost use Rattle.std.specs.Prelude.{◌≡◌, ℕ};
+ghost use Rattle.std.specs.Prelude.{◌≡◌, ◌≤◌, ℕ};
 ghost use Rattle.block_store.specs.Find.{FindsLowestRun};
+ghost use Rattle.block_store.specs.Inner.RunScan.{scan_from};
 ghost use Rattle.block_store.specs.Run.{has_free};
+ghost use Rattle.block_store.specs.Sparing.{opened, spared};
+ghost use Rattle.zone_bytes.specs.Changes.{Begins};
 ghost use Rattle.zone_bytes.specs.Decode.{zone_in};
 ghost use Rattle.zone_bytes.specs.Lawful.{IsSound};
+ghost use Rattle.zone_marks.specs.Marked.{AreOf};
 ghost use Rattle.zone_marks.specs.Purgeable.{MayStart};
-ghost use Rattle.zone_marks.specs.Searching.{HasMarks, IsReady, finds_purging};
+ghost use Rattle.zone_bytes.specs.Stepping.{left_in};
+ghost use Rattle.zone_marks.specs.Searching.{HasMarks};
 ghost use Rattle.zone_summary.specs.Emptied.{all_purged};
 
-use crate::beginning::{begun_at, behind_passed, passed_below, run_below, scan_up_to};
+use crate::beginning::{begun_at, run_below};
+use crate::keeping::Landmarks;
 use crate::landmark::{Group, Landmark};
-use crate::largest::edge_of;
+use crate::measuring::walk_at;
 use crate::purgeable::frees_one;
-use block_store::{GREATEST_ZONE, RunScan, Sparing};
+use block_store::{GREATEST_ZONE, RunScan, Sparing, Walk, scan_run};
 use raw_region::Part;
 
-/// Returns the place of the run that a search finds, by a walk from where it is.
-fn walk_on(part: &Part, scan: RunScan, bytes: u32, sparing: Sparing) -> Option<u32>
+/// Goes on with a search for a run that has `bytes` free bytes and, where `number` is given, that slot's block: by a walk
+/// from where the search is.
+#[tactic(auto, using(block_store::proofs::Regroup::RunScans::scan_kept))]
+pub fn search_on(
+    part: &Part,
+    scan: RunScan,
+    number: Option<u32>,
+    bytes: u32,
+    sparing: Sparing,
+) -> Option<u32>
     requires sound { (first : ℕ) × (unused : ℕ) × IsSound part.now.bytes first unused }
-    requires ready { IsReady part.now.bytes scan }
-    ensures { result ≡ finds_purging bytes sparing scan part.now.bytes }
+    requires begins { Begins scan.place 0 (zone_in part.now.bytes) }
+    requires free { scan.free ≤ scan.place }
+    ensures { result
+        ≡ scan_from number bytes (spared sparing) scan (opened sparing (left_in scan.place part.now.bytes)) }
 {
-    let last = scan_up_to(part, scan, part.len() as u32, bytes, sparing);
-    if bytes <= last.free {
-        return Some(last.start);
+    let mut walk = walk_at(part, scan.place);
+    let mut scan = scan;
+    while !scan.met || scan.free < bytes {
+        let block = walk.next_block()?;
+        scan = scan_run(block, number, scan, sparing);
     }
-    None
+    Some(scan.start)
 }
 
-/// Returns the place of the lowest run with at least `bytes` free bytes. Where a landmark stands at the bottom, blocks
-/// are walked over only if a run has them.
-pub fn find_run_by_marks(
-    marks: &[Landmark],
-    groups: &[Group],
-    part: &Part,
-    bytes: u32,
-) -> Option<u32>
-    requires marked { HasMarks part.now.bytes marks.now groups.now }
-    ensures { FindsLowestRun (has_free bytes) (zone_in part.now.bytes) result }
-{
-    if edge_of(marks, part, 0) != 0 || bytes == 0 {
-        return walk_on(part, begun_at(0, 0), bytes, Sparing::Nothing);
+impl Landmarks {
+    /// Returns the place of the lowest run with at least `bytes` free bytes. Where a landmark stands at the bottom, only
+    /// blocks of stretches with which a run has them are walked over, and those of two more.
+    pub fn find_run(&self, part: &Part, bytes: u32) -> Option<u32>
+        requires sound { (first : ℕ) × (unused : ℕ) × IsSound part.now.bytes first unused }
+        requires marks { AreOf self.now (zone_in part.now.bytes) }
+        ensures { FindsLowestRun (has_free bytes) (zone_in part.now.bytes) result }
+    {
+        let scan = run_below(&self.marks, &self.groups, part, u32::MAX, bytes);
+        search_on(part, scan, None, bytes, Sparing::Nothing)
     }
-    let passed = passed_below(marks, groups, part, marks.len(), bytes);
-    if passed.index == marks.len() {
-        return None;
-    }
-    let behind = behind_passed(part, passed, bytes);
-    walk_on(part, behind, bytes, Sparing::Nothing)
 }
 
 /// Returns the place of the lowest run with at least `bytes` free bytes once all blocks that may be purged were. The
-/// blocks below `from` are those of the zone as it stands; where the blocks below it tell nothing, the search begins at
-/// the bottom.
+/// blocks below `from` are those of the zone as it stands.
 pub fn find_run_purged(
     marks: &[Landmark],
     groups: &[Group],
@@ -67,14 +75,12 @@ pub fn find_run_purged(
     requires from { MayStart from (zone_in part.now.bytes) }
     ensures { FindsLowestRun (has_free bytes) (all_purged sparing (zone_in part.now.bytes)) result }
 {
-    if !frees_one(sparing) {
-        if let Some(scan) = run_below(marks, groups, part, from, bytes) {
-            let begun = RunScan {
-                left: GREATEST_ZONE,
-                ..scan
-            };
-            return walk_on(part, begun, bytes, sparing);
-        }
+    if frees_one(sparing) {
+        return search_on(part, begun_at(0, GREATEST_ZONE), None, bytes, sparing);
     }
-    walk_on(part, begun_at(0, GREATEST_ZONE), bytes, sparing)
+    let scan = RunScan {
+        left: GREATEST_ZONE,
+        ..run_below(marks, groups, part, from, bytes)
+    };
+    search_on(part, scan, None, bytes, sparing)
 }

@@ -1,15 +1,17 @@
 //! The largest free block of a zone, as the zone stands and after purges.
 
-ghost use Rattle.std.specs.Prelude.{◌≡◌, ◌+◌, ◌*◌, ◌≤◌, ◌<◌, length};
+ghost use Rattle.std.specs.Prelude.{◌≡◌, ◌+◌, ◌*◌, ◌≤◌, ◌<◌, ℕ, length};
 ghost use Rattle.block_store.specs.Compact.{largest_free};
 ghost use Rattle.block_store.specs.Sparing.{purged};
 ghost use Rattle.block_store.specs.declared.sparing.Sparing.TheVariants.{Nothing};
 ghost use Rattle.zone_bytes.specs.Decode.{zone_in};
+ghost use Rattle.zone_bytes.specs.Lawful.{IsSound};
+ghost use Rattle.zone_marks.specs.Marked.{AreOf};
 ghost use Rattle.zone_marks.specs.Marks.{NoneBelow};
-ghost use Rattle.zone_marks.specs.Purgeable.{MayStart};
 ghost use Rattle.zone_marks.specs.declared.landmark.TheConstants.{GROUP};
 ghost use Rattle.zone_marks.specs.Searching.{HasMarks};
 
+use crate::keeping::Landmarks;
 use crate::landmark::{GROUP, Group, Landmark};
 use crate::largest::stretch_above;
 use crate::marking::place_of_mark;
@@ -63,23 +65,21 @@ pub fn largest_free_by_marks(marks: &[Landmark], groups: &[Group], part: &Part) 
     largest
 }
 
-/// Returns the size of the largest free block after the given number of purges. Where all blocks that may be purged are,
-/// landmarks tell it; else the blocks below `from` are those of the zone as it stands, and those above are walked over.
-pub fn largest_after_by_marks(
-    marks: &[Landmark],
-    groups: &[Group],
-    part: &Part,
-    from: u32,
-    purges: u32,
-) -> u32
-    requires marked { HasMarks part.now.bytes marks.now groups.now }
-    requires from { MayStart from (zone_in part.now.bytes) }
-    ensures { result ≡ largest_free (purged purges Nothing (zone_in part.now.bytes)) }
-{
-    if GREATEST_ZONE <= purges {
-        return stretch_above(marks, groups, part, 0, Counting::Spaces, false).best();
+impl Landmarks {
+    /// Returns the size of the largest free block after the given number of purges. Where all blocks that may be purged
+    /// are, landmarks tell it; else the blocks below the first of them are those of the zone as it stands, and those above
+    /// are walked over.
+    pub fn largest_after(&self, part: &Part, purges: u32) -> u32
+        requires sound { (first : ℕ) × (unused : ℕ) × IsSound part.now.bytes first unused }
+        requires marks { AreOf self.now (zone_in part.now.bytes) }
+        ensures { result ≡ largest_free (purged purges Nothing (zone_in part.now.bytes)) }
+    {
+        let (marks, groups) = (&self.marks, &self.groups);
+        if GREATEST_ZONE <= purges {
+            return stretch_above(marks, groups, part, 0, Counting::Spaces, false).best();
+        }
+        let stands = largest_free_by_marks(marks, groups, part);
+        let above = largest_after_in(&mut walk_at(part, self.under()), purges, Sparing::Nothing);
+        greater(stands, above)
     }
-    let stands = largest_free_by_marks(marks, groups, part);
-    let above = largest_after_in(&mut walk_at(part, from), purges, Sparing::Nothing);
-    greater(stands, above)
 }

@@ -17,13 +17,10 @@ ghost use Rattle.zone_marks.specs.Marks.{AreGroups};
 ghost use Rattle.zone_bytes.specs.Changes.{Became, Begins, Replaced};
 ghost use Rattle.zone_marks.specs.Purgeable.{MayStart, NoneGoes};
 
-use crate::fewest::{fewest_by_marks, fewest_for_block};
-use crate::finding_runs::{find_run_by_marks, find_run_purged};
-use crate::free_space::{largest_after_by_marks, largest_free_by_marks};
+use crate::free_space::largest_free_by_marks;
 use crate::going::{first_going, lowest_after};
 use crate::grouping::renew_groups;
 use crate::landmark::{GROUP, Group, Kept, Landmark, UNKNOWN, UNKNOWN_GROUP};
-use crate::largest::stretch_above;
 use crate::marking::{
     NextMark, change_marks, find_by_marks, lay_edges, lay_marks, mark_below, place_of_mark,
 };
@@ -33,7 +30,6 @@ use block_store::{Flags, Sparing};
 use raw_region::Part;
 use std::alloc::{AllocError, Global};
 use zone_bytes::{Edges, PackedRun, size_at};
-use zone_summary::Counting;
 
 /// Landmarks of a zone: places at which blocks begin, one for each page of the zone's bytes. Each has a bound on the
 /// size of each free block up to the next landmark, and tallies of the blocks there: what they come to in runs, and, from
@@ -42,8 +38,8 @@ use zone_summary::Counting;
 /// made anew at any time.
 #[derive(Drop)]
 pub struct Landmarks {
-    marks: Vec<Landmark>,
-    groups: Vec<Group>,
+    pub(crate) marks: Vec<Landmark>,
+    pub(crate) groups: Vec<Group>,
     page: u32,
     lowest: u32,
     kept: Kept,
@@ -116,7 +112,7 @@ impl Landmarks {
     }
 
     /// Returns the place of a block up to which no block may be purged, or the zone's bottom.
-    fn under(&self) -> u32
+    pub(crate) fn under(&self) -> u32
         ensures { (zone : List Block) → AreOf self.now zone → MayStart result zone }
     {
         self.below(self.lowest)
@@ -161,62 +157,6 @@ impl Landmarks {
         find_by_marks(&self.marks, &self.groups, part, bytes)
     }
 
-    /// Returns the place of the lowest run with at least `bytes` free bytes.
-    pub fn find_run(&self, part: &Part, bytes: u32) -> Option<u32>
-        requires sound { (first : ℕ) × (unused : ℕ) × IsSound part.now.bytes first unused }
-        requires marks { AreOf self.now (zone_in part.now.bytes) }
-        ensures { FindsLowestRun (has_free bytes) (zone_in part.now.bytes) result }
-    {
-        find_run_by_marks(&self.marks, &self.groups, part, bytes)
-    }
-
-    /// Returns the least number of purges after which a run has at least `bytes` free bytes, where no run has them
-    /// before any purge; `None` where no purges serve.
-    pub fn fewest_purges(&self, part: &Part, bytes: u32, sparing: Sparing) -> Option<u32>
-        requires sound { (first : ℕ) × (unused : ℕ) × IsSound part.now.bytes first unused }
-        requires marks { AreOf self.now (zone_in part.now.bytes) }
-        requires unserved { serves bytes sparing (zone_in part.now.bytes) 0 ≡ false }
-        ensures { MatchOption result ((purges : ℕ) → serves bytes sparing (zone_in part.now.bytes) purges ≡ false)
-            (λ fewest. IsFewest (serves bytes sparing (zone_in part.now.bytes)) fewest) }
-    {
-        let (marks, groups) = (&self.marks, &self.groups);
-        let Some(run) = find_run_purged(marks, groups, part, self.under(), bytes, sparing) else {
-            return None;
-        };
-        Some(fewest_by_marks(marks, groups, part, self.start(), run, bytes, sparing))
-    }
-
-    /// Returns the least number of purges after which the run of a master pointer's block has at least `bytes` free
-    /// bytes: 0 where it has them without any; `None` where no purges serve. The block itself may not be purged.
-    pub fn fewest_for_block(
-        &self,
-        part: &Part,
-        number: u32,
-        bytes: u32,
-        sparing: Sparing,
-    ) -> Option<u32>
-        requires sound { (first : ℕ) × (unused : ℕ) × IsSound part.now.bytes first unused }
-        requires marks { AreOf self.now (zone_in part.now.bytes) }
-        requires once { count (is_relocatable number) (zone_in part.now.bytes) ≤ 1 }
-        requires spared { (b : Block) → is_relocatable number b ≡ true → spared sparing b ≡ true }
-        requires whole { (blocks : List Block) → opened sparing blocks ≡ blocks }
-        ensures { MatchOption result
-            ((purges : ℕ) → serves_block number bytes sparing (zone_in part.now.bytes) purges ≡ false)
-            (λ fewest. IsFewest (serves_block number bytes sparing (zone_in part.now.bytes)) fewest) }
-    {
-        let (marks, groups) = (&self.marks, &self.groups);
-        fewest_for_block(marks, groups, part, self.start(), number, bytes, sparing)
-    }
-
-    /// Returns the greatest number of free bytes in one run.
-    pub fn largest_run(&self, part: &Part) -> u32
-        requires sound { (first : ℕ) × (unused : ℕ) × IsSound part.now.bytes first unused }
-        requires marks { AreOf self.now (zone_in part.now.bytes) }
-        ensures { result ≡ largest_run (zone_in part.now.bytes) }
-    {
-        stretch_above(&self.marks, &self.groups, part, 0, Counting::Runs, false).best()
-    }
-
     /// Returns the size of the largest free block.
     pub fn largest_free(&self, part: &Part) -> u32
         requires sound { (first : ℕ) × (unused : ℕ) × IsSound part.now.bytes first unused }
@@ -224,15 +164,6 @@ impl Landmarks {
         ensures { result ≡ largest_free (zone_in part.now.bytes) }
     {
         largest_free_by_marks(&self.marks, &self.groups, part)
-    }
-
-    /// Returns the size of the largest free block after the given number of purges.
-    pub fn largest_after(&self, part: &Part, purges: u32) -> u32
-        requires sound { (first : ℕ) × (unused : ℕ) × IsSound part.now.bytes first unused }
-        requires marks { AreOf self.now (zone_in part.now.bytes) }
-        ensures { result ≡ largest_free (purged purges Nothing (zone_in part.now.bytes)) }
-    {
-        largest_after_by_marks(&self.marks, &self.groups, part, self.under(), purges)
     }
 
     /// Renews the landmarks after the blocks from `lo` to `hi` became others.

@@ -3,14 +3,17 @@
 //! free block once all blocks that may be purged were.
 
 ghost use Rattle.std.specs.Prelude.{◌≡◌, ◌≤◌, ◌<◌, ℕ, false, length};
+ghost use Rattle.block_store.specs.Compact.{largest_run};
 ghost use Rattle.zone_bytes.specs.Decode.{zone_in};
 ghost use Rattle.zone_bytes.specs.Lawful.{IsSound};
 ghost use Rattle.zone_bytes.specs.Changes.{Begins};
+ghost use Rattle.zone_marks.specs.Marked.{AreOf};
 ghost use Rattle.zone_marks.specs.Searching.{HasMarks, IsStretch, place_at};
 ghost use Rattle.zone_bytes.specs.Stepping.{left_in};
 ghost use Rattle.zone_marks.specs.declared.landmark.Tally.TheVariants as tally;
 ghost use Rattle.zone_summary.specs.Stretches.{prefix, stretch_by};
 
+use crate::keeping::Landmarks;
 use crate::landmark::{GROUP, Group, Landmark, Tally};
 use crate::marking::index_above;
 use crate::measuring::{measure_up_to, spaces_up_to};
@@ -114,4 +117,15 @@ pub fn stretch_above(
         index = told.behind;
     }
     stretch
+}
+
+impl Landmarks {
+    /// Returns the greatest number of free bytes in one run.
+    pub fn largest_run(&self, part: &Part) -> u32
+        requires sound { (first : ℕ) × (unused : ℕ) × IsSound part.now.bytes first unused }
+        requires marks { AreOf self.now (zone_in part.now.bytes) }
+        ensures { result ≡ largest_run (zone_in part.now.bytes) }
+    {
+        stretch_above(&self.marks, &self.groups, part, 0, Counting::Runs, false).best()
+    }
 }

@@ -1,6 +1,6 @@
 -- The least number of purges after which a run has enough free bytes: all blocks below the run that is the first to
 -- have them, and as few of its own as serve.
-use Rattle.std.proofs.Common.{◌≡◌, ℕ, ◌+◌, ◌-◌, ◌≤◌, ◌<◌, ◌⊎◌, zero, Bool, true, false, Some, None, nat_le, List, []}
+use Rattle.std.proofs.Common.{◌≡◌, ℕ, ◌+◌, ◌-◌, ◌≤◌, ◌<◌, ◌⊎◌, zero, Bool, true, false, Some, None, List, []}
 use Rattle.std.proofs.Common.{◌∷◌, ◌++◌, map, is_some, ◌∙◌, arith, inl, inr}
 use Rattle.std.proofs.lemmas.Bool.{cases_Bool, cases_lt, le-leb, leb-false, lt-leb}
 use Rattle.std.proofs.lemmas.List.{map-append}
@@ -23,7 +23,7 @@ use Rattle.zone_summary.specs.Stretches.{best, join, prefix, stretch_of}
 use Rattle.zone_summary.specs.declared.stretch.Stretch.{Stretch}
 use Rattle.zone_summary.specs.declared.stretch.Stretch.TheVariants.{Whole}
 use Rattle.zone_summary.proofs.Monoid.{join-unit_left, stretch_of-append}
-use Rattle.zone_summary.proofs.Purges.{all-purged, serves-is, freed, gain, gains, others}
+use Rattle.zone_summary.proofs.Purges.{all-purged, serves-is, freed, gains, others}
 
 module _ (p : ℕ) (sp : Block → Bool) (each : Block → Block) where
   -- Blocks that a search finds a run among, where `each` makes others of the same size of them: those below the run,

@@ -1,7 +1,7 @@
 -- Stretches are a monoid, to which lists of blocks go by a homomorphism.
-use Rattle.std.proofs.Common.{◌≡◌, ◌≤◌, List, [], ◌∷◌, ◌++◌, arith}
+use Rattle.std.proofs.Common.{◌≡◌, List, [], ◌∷◌, ◌++◌, arith}
 use Rattle.block_store.specs.Block.{Block}
-use Rattle.zone_summary.specs.Stretches.{best, join, stretch_by, stretch_of}
+use Rattle.zone_summary.specs.Stretches.{join, stretch_by, stretch_of}
 use Rattle.zone_summary.specs.declared.stretch.Counting.{Counting}
 use Rattle.zone_summary.specs.declared.stretch.Counting.TheVariants as counting
 use Rattle.zone_summary.specs.declared.stretch.Stretch.{Stretch}
@@ -36,10 +36,3 @@ joined-is c lower upper s t r j e d = grind (arith, stretch_by-append)
 
 -- what the code of a join names
 pub ruleset joins = stretch_by-append
-
--- both parts together have no less than each
-pub best-low : (s t : Stretch) → best s ≤ best (join s t)
-best-low s t = grind arith
-
-pub best-high : (s t : Stretch) → best t ≤ best (join s t)
-best-high s t = grind arith

@@ -1,39 +1,45 @@
 -- The search for a run passes blocks by what they come to.
-use Rattle.std.proofs.Common.{◌≡◌, ℕ, ◌+◌, ◌<◌, ◌≤◌, Bool, true, false, not, None, List, [], ◌∷◌, ◌++◌, map, refl}
-use Rattle.std.proofs.Common.{arith, add-zero}
-use Rattle.block_store.specs.Block.{Block, sizes, free_sum}
+use Rattle.std.proofs.Common.{◌≡◌, ℕ, ◌+◌, ◌<◌, ◌≤◌, Bool, true, false, None, Some, List, [], ◌∷◌, ◌++◌, map, refl, arith}
+use Rattle.block_store.specs.Block.{Block, is_relocatable, sizes}
 use Rattle.block_store.specs.Inner.RunScan.{scan_runs}
 use Rattle.block_store.specs.Room.{count_of}
-use Rattle.block_store.specs.Run.{in_run, has}
+use Rattle.block_store.specs.Run.{has}
 use Rattle.zone_summary.specs.Emptied.{emptied}
-use Rattle.zone_summary.specs.Searches.{found_from}
-use Rattle.zone_summary.specs.Stretches.{join, best, is_ended, stretch_of}
-use Rattle.zone_summary.specs.declared.stretch.Stretch.{Stretch}
+use Rattle.zone_summary.specs.Searches.{begun_in, found_from}
+use Rattle.zone_summary.specs.Stretches.{join, best, is_ended, stretch_of, suffix}
 use Rattle.zone_summary.specs.declared.stretch.Stretch.TheVariants.{Whole}
 
+-- where a run began
+pub begun-append : (start place : ℕ) (low high : List Block) → begun_in start place (low ++ high)
+    ≡ begun_in (begun_in start place low) (place + sizes low) high
+begun-append start place [] high = grind arith
+begun-append start place (b ∷ low) high = let more = λ (s q : ℕ). begun-append s q low high in grind arith
+
+pub begun-ended : (some other place : ℕ) (blocks : List Block) → is_ended (stretch_of blocks) ≡ true
+    → begun_in some place blocks ≡ begun_in other place blocks
+begun-ended some other place [] e = grind arith
+begun-ended some other place (b ∷ above) e = let more = λ (q : ℕ). begun-ended some other q above in grind arith
+
+pub begun-open : (start place : ℕ) (blocks : List Block) → is_ended (stretch_of blocks) ≡ false
+    → begun_in start place blocks ≡ start
+begun-open start place [] e = refl
+begun-open start place (b ∷ above) e = let more = λ (s q : ℕ). begun-open s q above in grind arith
+
 module _ (p : ℕ) (sp : Block → Bool) where
-  -- blocks with too few bytes have no run
-  pub scan-never : (start had place : ℕ) (blocks : List Block) → best (join (Whole had) (stretch_of blocks)) < p
-      → found_from p sp start had place blocks ≡ None
-  scan-never start had place [] h = grind arith
-  scan-never start had place (b ∷ above) h = let more = λ (s h q : ℕ). scan-never s h q above in grind arith
+  -- a search goes so past blocks of which no run has enough bytes, and one for the run of a slot's block past all others
+  pub past-short : (start had place : ℕ) (done above : List Block) → best (join (Whole had) (stretch_of done)) < p
+      → found_from p sp start had place (done ++ above) ≡ found_from p sp (begun_in start place done)
+      (suffix (join (Whole had) (stretch_of done))) (place + sizes done) above
+  past-short start had place [] above h = grind arith
+  past-short start had place (b ∷ done) above h = let more = λ (s h q : ℕ). past-short s h q done above in grind arith
 
-  -- where a run ends among the blocks, it doesn't matter what the search was in
-  scan-forget : (mid rest : List Block) (s h s' h' place : ℕ) → is_ended (stretch_of mid) ≡ true
-      → best (join (Whole h) (stretch_of mid)) < p → best (join (Whole h') (stretch_of mid)) < p
-      → found_from p sp s h place (mid ++ rest) ≡ found_from p sp s' h' place (mid ++ rest)
-  scan-forget [] rest s h s' h' place e l l' = cc
-  scan-forget (b ∷ mid) rest s h s' h' place e l l' = grind (arith, scan-forget mid rest)
-
-  -- so it may begin at blocks among which a run ends
-  pub scan-begun : (start had place : ℕ) (low mid rest : List Block) → is_ended (stretch_of mid) ≡ true
-      → best (join (Whole had) (stretch_of (low ++ mid))) < p
-      → found_from p sp start had place (low ++ (mid ++ rest))
-      ≡ found_from p sp (place + sizes low) 0 (place + sizes low) (mid ++ rest)
-  scan-begun start had place [] mid rest e l =
-      rw add-zero (scan-forget mid rest start had place 0 place e l (grind arith))
-  scan-begun start had place (b ∷ low) mid rest e l =
-      let more = λ (s h q : ℕ). scan-begun s h q low mid rest e in grind arith
+  pub past-others : (number start had place : ℕ) (done above : List Block) → has (is_relocatable number) done ≡ false
+      → scan_runs (Some number) p sp 0 start had false place (done ++ above)
+      ≡ scan_runs (Some number) p sp 0 (begun_in start place done) (suffix (join (Whole had) (stretch_of done))) false
+      (place + sizes done) above
+  past-others number start had place [] above n = grind arith
+  past-others number start had place (b ∷ done) above n =
+      let more = λ (s h q : ℕ). past-others number s h q done above in grind arith
 
 -- blocks of which none may be purged
 pub emptied-none : (sp : Block → Bool) (blocks : List Block) → count_of sp blocks ≤ 0 → map (emptied sp) blocks ≡ blocks
@@ -46,9 +52,3 @@ pub scan-emptied : (p : ℕ) (sp : Block → Bool) (k start free place : ℕ) (b
 scan-emptied p sp k start free place [] few = grind arith
 scan-emptied p sp k start free place (b ∷ above) few =
     let more = λ (k s f q : ℕ). scan-emptied p sp k s f q above in grind (arith, emptied-none)
-
--- blocks of which none ends a run
-pub whole-open : (blocks : List Block) (w : ℕ) → stretch_of blocks ≡ Whole w
-    → (has (λ b. not (in_run b)) blocks ≡ false) × (free_sum blocks ≡ w)
-whole-open [] w e = (refl, cc)
-whole-open (b ∷ above) w e = grind (arith, whole-open above)

@@ -75,4 +75,13 @@ impl Stretch {
             Stretch::Whole(a) | Stretch::Ended(a, _, _) => a,
         }
     }
+
+    /// Returns the free bytes of the run at the upper end.
+    pub fn highest(self) -> u32
+        ensures { result ≡ suffix self }
+    {
+        match self {
+            Stretch::Whole(a) | Stretch::Ended(_, _, a) => a,
+        }
+    }
 }

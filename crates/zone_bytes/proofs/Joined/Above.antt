@@ -1,8 +1,7 @@
 -- Free bytes that are made one with a Free block above them.
-use Rattle.std.proofs.Common.{◌≡◌, ℕ, false, ◌+◌, ◌-◌, ◌<◌, ◌≤◌, List, [], ◌∷◌, ◌++◌, length, sym, refl, ap, ◌∙◌, subst}
+use Rattle.std.proofs.Common.{◌≡◌, ℕ, ◌+◌, ◌-◌, ◌<◌, ◌≤◌, List, [], ◌∷◌, ◌++◌, length, sym, refl, ap, ◌∙◌, subst}
 use Rattle.std.proofs.Common.{arith, append_assoc}
 use Rattle.block_store.specs.Block.{Block, Free, size, sizes, free, free_of, add}
-use Rattle.block_store.specs.Inner.Stretch.{is_free}
 use Rattle.block_store.proofs.Zone.Joining.{add-alone, add-free}
 use Rattle.zone_bytes.specs.Layout.{kind}
 use Rattle.zone_bytes.specs.Table.{Lays}

@@ -1,5 +1,5 @@
 -- The blocks of a run are passed one after another, and moved down or left in their places.
-use Rattle.std.proofs.Common.{◌≡◌, ℕ, ◌+◌, ◌-◌, ◌%◌, ◌≤◌, ◌<◌, ◌⊎◌, inl, inr, true, false, List, [], ◌∷◌}
+use Rattle.std.proofs.Common.{◌≡◌, ℕ, ◌+◌, ◌-◌, ◌%◌, ◌≤◌, ◌<◌, inl, inr, true, false, List, [], ◌∷◌}
 use Rattle.std.proofs.Common.{◌++◌, rules, length, take, drop, sym, refl, ap, ◌∙◌, subst, arith, append_assoc}
 use Rattle.std.proofs.lemmas.List.{append-nil, length-take-le, length-drop, drop-drop}
 use Rattle.std.proofs.lemmas.Bool.{false≢true}

@@ -14,7 +14,7 @@ use Rattle.block_store.specs.Room.{Spot, spot}
 use Rattle.block_store.specs.Slot.{Slot, Used, is_used, is_resource, Unused, set_slot}
 use Rattle.zone_bytes.specs.Layout.{flag_word, head_of, Tile, Tiles, names, Leads, Apart, Each, IsSlot, Pairs}
 use Rattle.zone_bytes.specs.Looking.{place_of_word, IsHandle}
-use Rattle.zone_bytes.specs.Table.{Has, empty_word, Says, Lays, Table}
+use Rattle.zone_bytes.specs.Table.{Has, empty_word, Lays, Table}
 use Rattle.zone_bytes.proofs.Tiles.Tiling.{span-whole, tiles-split}
 use Rattle.zone_bytes.proofs.Places.Stepped.{header-told}
 use Rattle.zone_bytes.proofs.SlotTable.Tables.{slot-in, none-apart, each-has, no-name, used-is, tiles-agree, set-other}

@@ -179,6 +179,16 @@ pub mark-begins : (end : ℕ) (zone : List Block) (marks : List Landmark) (i : �
     → AreMarks end zone marks → Begins (get_or marks i d).at 0 zone
 mark-begins end zone marks i d l a = (mark-at end zone marks i d l a).begins
 
+-- landmarks stand in order of place
+pub mark-order : (end : ℕ) (zone : List Block) (marks : List Landmark) (i j : ℕ) (d : Landmark) → i ≤ j → j < length marks
+    → AreMarks end zone marks → (get_or marks i d).at ≤ (get_or marks j d).at
+mark-order end zone [] i j d l k a = absurd (omega (arith, k))
+mark-order end zone (m ∷ marks) zero zero d l k a = omega arith
+mark-order end zone (m ∷ []) i (suc j) d l k a = absurd (omega (arith, k))
+mark-order end zone (m ∷ n ∷ marks) zero (suc j) d l k a = grind (arith, mark-order end zone (n ∷ marks) 0 j d)
+mark-order end zone (m ∷ marks) (suc i) (suc j) d l k a = mark-order end zone marks i j d (omega arith) (omega arith) a.1
+mark-order end zone (m ∷ marks) (suc i) zero d l k a = absurd (omega (arith, l))
+
 -- so many landmarks from an index on
 pub marks-in : (end : ℕ) (zone : List Block) (marks : List Landmark) (low n : ℕ) → AreMarks end zone marks
     → AreMarks (next_of end (drop (low + n) marks)) zone (take n (drop low marks))

@@ -26,7 +26,8 @@ use Rattle.zone_marks.proofs.Bounds.Going.{count-none}
 use Rattle.zone_marks.proofs.Marks.Passing.{at-left, begins-left}
 use Rattle.zone_bytes.proofs.Places.AtPlace.{left-zone}
 use Rattle.zone_summary.specs.Emptied.{all_purged, emptied}
-use Rattle.zone_summary.proofs.Searching.{emptied-none, scan-emptied}
+use Rattle.zone_summary.proofs.Searching.{emptied-none, past-short, scan-emptied}
+use Rattle.zone_summary.proofs.Monoid.{join-unit_left}
 
 -- what a search from the bottom finds
 pub found-lowest : (bytes purges : ℕ) (n : Sparing) (xs : List ℕ) (zone : List Block) (found : Option ℕ)
@@ -44,6 +45,20 @@ found-any bytes sp sq start free met place (b ∷ above) = cc (
   found-any bytes sp sq (place + size b) 0 true (place + size b) above,
 )
 
+-- a search that is known goes on as one from the bottom does
+pub known-same : (bytes to : ℕ) (xs : List ℕ) (r : RunScan) (k : IsKnown bytes to xs r) (above : List Block)
+    → finds_in bytes sparing.Nothing (begun 0 0) (k.done ++ above) ≡ finds_in bytes sparing.Nothing r above
+known-same bytes to xs r k above =
+    let s = past-short bytes (spared sparing.Nothing) 0 0 0 k.done above in
+    let up = k.piece.up in
+    let is = k.is in
+    let short = k.short in
+    grind (arith, join-unit_left)
+
+pub known-finds : (bytes to : ℕ) (xs : List ℕ) (r : RunScan) → IsKnown bytes to xs r
+    → finds_purging bytes sparing.Nothing (begun 0 0) xs ≡ finds_purging bytes sparing.Nothing r xs
+known-finds bytes to xs r k = let s = known-same bytes to xs r k (left_in r.place xs) in let p = k.piece.is in grind arith
+
 module _ (xs : List ℕ) (from : ℕ) (m : MayStart from (zone_in xs)) (bytes purges : ℕ) (n : Sparing)
     (all : most_purges n (zone_in xs) ≤ purges) (plain : (zone : List Block) → opened n zone ≡ zone) (r : RunScan)
     (k : IsKnown bytes from xs r) where
@@ -53,13 +68,13 @@ module _ (xs : List ℕ) (from : ℕ) (m : MayStart from (zone_in xs)) (bytes pu
   abbrev each : Block → Block
   each = emptied (spared n)
 
-  parts : zone_in xs ≡ k.0.done ++ above
-  parts = sym (left-zone xs) ∙ k.0.piece.is
+  parts : zone_in xs ≡ k.done ++ above
+  parts = sym (left-zone xs) ∙ k.piece.is
 
   -- none of the blocks below may be purged
-  none-below : count_of (spared n) k.0.done ≤ 0
+  none-below : count_of (spared n) k.done ≤ 0
   none-below =
-      let e = ap (count_of (spared n)) (sym (plain k.0.done)) ∙ count-none n _ 0 _
+      let e = ap (count_of (spared n)) (sym (plain k.done)) ∙ count-none n _ 0 _
       (at-left (Stays m.bound) 0 _ _ (subst (NoneGoes m.bound) parts m.none)) (grind arith) in
       omega arith
 
@@ -68,12 +83,12 @@ module _ (xs : List ℕ) (from : ℕ) (m : MayStart from (zone_in xs)) (bytes pu
       (record { left = purges; start = r.start; free = r.free; met = r.met; place = r.place }) xs
       → FindsLowestRun (has_free bytes) (all_purged n (zone_in xs)) found
   reached-lowest found e =
-      let z : map each (opened n (zone_in xs)) ≡ k.0.done ++ map each above
+      let z : map each (opened n (zone_in xs)) ≡ k.done ++ map each above
       = grind (arith, map-append, parts, emptied-none, none-below) in
       finds_run (has_free bytes) (all_purged n (zone_in xs)) found
       (e ∙ sym (let few : count_of (spared n) above ≤ purges
       = omega (arith, all, ap (count_of (spared n)) (plain (zone_in xs) ∙ parts), total-append) in
-      grind (arith, found-any, scan-emptied)) ∙ sym (k.0.same (map each above))
+      grind (arith, found-any, scan-emptied)) ∙ sym (known-same bytes from xs r k (map each above))
       ∙ ap (finds_in bytes sparing.Nothing (begun 0 0)) (sym z)
       ∙ scan-is None bytes sparing.Nothing 0 (map each (opened n (zone_in xs))))
 

@@ -1,25 +1,16 @@
 use Rattle.std.proofs.Common.{ap, arith}
-use Rattle.zone_summary.specs.Stretches.{load}
+use Rattle.zone_summary.specs.Stretches.{is_ended}
 use Rattle.zone_marks.proofs.Searches.Passed.{passed-ended, passed-fits, passed-open}
 use Rattle.zone_marks.proofs.beginning.pass_up_to.Goals as goal
-use Rattle.zone_marks.proofs.beginning.pass_up_to.Goals.{In-Known}
 
 pub join-runs-requires : goal.join-runs-requires
 join-runs-requires c =
-    let s = rw c.in-Known.is at c.requires.stretch in
-    let f = passed-fits _ _ c.requires.come.passed _ _ c.requires.sound.2 _ _ s in
-    omega arith
-
-pub overflow_add-result : goal.overflow_add-result
-overflow_add-result c =
-    let s = rw c.in-Known.is at c.requires.stretch in
-    let f = passed-fits _ _ c.requires.come.passed _ _ c.requires.sound.2 _ _ s in
-    omega (arith, ap load c.in-Whole.is)
+    passed-fits _ _ c.requires.come.passed _ _ _ _ c.requires.sound.2 (rw c.in-Known.is at c.requires.stretch)
 
 pub returns-in-Whole-clause-come : goal.returns-in-Whole-clause-come
 returns-in-Whole-clause-come c =
     let p = passed-open _ _ c.requires.come.passed _ c.args.behind _ _ (rw c.in-Known.is at c.requires.stretch)
-    c.join-runs.ensures.is _ c.in-Whole.is in
+    c.join-runs.ensures.is (ap is_ended c.in-Whole.is) in
     grind arith
 
 pub returns-in-Ended-clause-come : goal.returns-in-Ended-clause-come

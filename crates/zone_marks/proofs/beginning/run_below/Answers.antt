@@ -1,6 +1,23 @@
-use Rattle.std.proofs.Common.{arith}
-use Rattle.zone_marks.proofs.Marks.Lowering.{mark-first}
+use Rattle.std.proofs.Common.{◌-◌, arith, length}
+use Rattle.zone_marks.specs.Marks.{no_mark}
+use Rattle.zone_marks.proofs.Marks.Lowering.{mark-first, mark-order}
+use Rattle.zone_marks.proofs.Searches.Passed.{known-bottom}
 use Rattle.zone_marks.proofs.beginning.run_below.Goals as goal
 
+pub returns-then-above-eq0 : goal.returns-then-above-eq0
+returns-then-above-eq0 c = rw c.begun_at.ensures (known-bottom _ _ _)
+
 pub returns : goal.returns
-returns c = let v = c.passed_below-passed.ensures.come in grind (arith, mark-first)
+returns c =
+    let a = c.index_above-above in
+    let p = c.passed_below-passed in
+    let i = p.result.index in
+    let marks = c.args.marks.now in
+    c.behind_passed.ensures _ _ p.ensures.come.short (omega (
+      arith,
+      c.saturating_add.ensures,
+      p.ensures.come.at,
+      mark-first (length c.args.part.now.bytes) marks i no_mark (omega (arith, a.ensures.index, p.ensures.within)),
+      mark-order _ _ marks i (a.result - 1) no_mark p.ensures.within (omega (arith, a.ensures.index)) c.requires.marked.marks,
+      a.ensures.below (omega arith),
+    ))

@@ -1,5 +1,22 @@
-use Rattle.zone_summary.proofs.Fewest.{never-serves}
+use Rattle.std.proofs.Common.{◌∙◌, ◌-◌, ap, arith}
+use Rattle.block_store.specs.Sparing.{opened, spared}
+use Rattle.zone_summary.specs.Fewest.{purges_for}
+use Rattle.zone_summary.proofs.Fewest.{first-is, never-serves}
+use Rattle.zone_bytes.specs.Decode.{zone_in}
+use Rattle.zone_bytes.proofs.Places.AtPlace.{left-above}
 use Rattle.zone_marks.proofs.keeping.Landmarks.fewest_purges.Goals as goal
 
-pub returns-in_default : goal.returns-in_default
-returns-in_default c = never-serves _ _ _ c.in_default.ensures
+pub returns-in_err-run : goal.returns-in_err-run
+returns-in_err-run c = rw c.from_residual.ensures (never-serves _ _ _ (rw c.in_err-run.was at c.find_run_purged.ensures))
+
+pub returns : goal.returns
+returns c =
+    let i = c.requires.sound in
+    let n = c.args.sparing in
+    let f = first-is c.args.bytes c.in_ok-run.run' n (zone_in c.args.part.now.bytes) (rw c.in_ok-run.was at c.find_run_purged.ensures) c.requires.unserved in
+    let left = left-above c.args.part.now.bytes i.0 i.1 i.2 f.low f.rest c.in_ok-run.run' f.is f.at in
+    let lacks = c.saturating_sub-lacks.ensures ∙ ap (λ k. c.args.bytes - k) (grind arith) in
+    let own = c.count_for.ensures.is
+    ∙ ap (λ l. purges_for (spared n) c.saturating_sub-lacks.result (opened n l)) (c.walk_at.ensures.is ∙ left)
+    ∙ ap (λ k. purges_for (spared n) k (opened n f.rest)) lacks in
+    rw ((c.count_below-below.ensures.is f.low f.rest f.is f.at), own) f.least

@@ -8,12 +8,12 @@ use Rattle.zone_bytes.proofs.Places.AtPlace.{left-zone}
 use Rattle.zone_summary.specs.Stretches.{spaces_of}
 use Rattle.zone_marks.proofs.Marks.Passing.{begins-here}
 use Rattle.zone_marks.proofs.Bounds.Space.{largest-from}
-use Rattle.zone_marks.proofs.free_space.largest_after_by_marks.Goals as goal
+use Rattle.zone_marks.proofs.keeping.Landmarks.largest_after.Goals as goal
 
 pub returns : goal.returns
 returns c =
-    let i = c.requires.marked.sound in
-    let f = largest-from c.args.part.now.bytes i.0 i.1 i.2 c.args.purges c.args.from c.requires.from in
+    let i = c.requires.sound in
+    let f = largest-from c.args.part.now.bytes i.0 i.1 i.2 c.args.purges c.under.result (c.under.ensures _ c.requires.marks) in
     grind arith
 
 pub stretch_above-requires-clause-begins : goal.stretch_above-requires-clause-begins
@@ -25,4 +25,4 @@ returns-then-purges-ge-GREATEST_ZONE c =
     let zone = zone_in c.args.part.now.bytes in
     c.best.ensures.space zone (c.stretch_above.ensures.all refl ∙ ap spaces_of (left-zone _))
     ∙ sym (ap largest_free (purged-most _ sparing.Nothing zone
-    (omega (arith, most-fits _ _ c.requires.marked.sound.1 c.requires.marked.sound.2 sparing.Nothing))))
+    (omega (arith, most-fits _ _ c.requires.sound.1 c.requires.sound.2 sparing.Nothing))))
