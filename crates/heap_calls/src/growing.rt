@@ -66,8 +66,8 @@ fn growth_now<S: BlockStore>(
     Some(Growth::Last(run))
 }
 
-/// Returns the smaller of two numbers, of those that are given.
-fn smaller(one: Option<u32>, other: Option<u32>) -> Option<u32>
+/// Returns the fewer of two numbers of purges that serve, where each is `None` where no number serves.
+fn fewer_purges(one: Option<u32>, other: Option<u32>) -> Option<u32>
     ensures { result ≡ smaller one other }
 {
     let Some(first) = one else {
@@ -111,7 +111,7 @@ fn count_for_growth<S: BlockStore>(
 {
     let for_place = store.fewest_purges(bytes, sparing);
     let in_run = store.fewest_for_block(number, more, sparing);
-    match smaller(for_place, in_run) {
+    match fewer_purges(for_place, in_run) {
         Some(purges) => Searched {
             there: true,
             purges,
@@ -282,8 +282,8 @@ pub fn grow_movable<S: BlockStore>(
     })
 }
 
-/// Tells a sink of the blocks that are purged where the unlocked block of `slot` grows to `bytes` bytes of content, if
-/// there is room. If the sink finds the host out of memory, it is told of none.
+/// Reports to a sink the blocks that are purged where the unlocked block of `slot` grows to `bytes` bytes of content,
+/// if there is room. If the sink finds the host out of memory, none is reported.
 pub fn tell_growth<S: BlockStore, K: PurgeSink>(
     store: &S,
     names: &[Anchor],

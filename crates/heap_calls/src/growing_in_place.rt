@@ -89,8 +89,8 @@ pub fn grow_in_place<S: BlockStore>(
     })
 }
 
-/// Tells a sink of the blocks that are purged where the nonrelocatable or locked block at `place` grows to `bytes` bytes
-/// of content, if there is room. If the sink finds the host out of memory, it is told of none.
+/// Reports to a sink the blocks that are purged where the nonrelocatable or locked block at `place` grows to `bytes`
+/// bytes of content, if there is room. If the sink finds the host out of memory, none is reported.
 pub fn tell_in_place<S: BlockStore, K: PurgeSink>(
     store: &S,
     names: &[Anchor],
