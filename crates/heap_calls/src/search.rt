@@ -128,11 +128,11 @@ pub fn tell_placement<S: BlockStore, K: PurgeSink>(
     ensures listens { K.listens sink.new ≡ K.listens sink.old }
     ensures host { IsErr result → K.listens sink.old ≡ true }
 {
-    let counted = count_for_placement(store, bytes, sparing);
-    if !counted.there {
+    let found = count_for_placement(store, bytes, sparing);
+    if !found.there {
         return Ok(());
     }
-    tell(store, names, 0, counted.purges, sparing, sink)
+    tell(store, names, 0, found.purges, sparing, sink)
 }
 
 /// Makes room for a relocatable block of `bytes` bytes, where there is any, and returns its place; nothing changes
