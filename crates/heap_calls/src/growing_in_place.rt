@@ -41,9 +41,9 @@ struct Fewest {
     searches: u32,
 }
 
-/// Lets a nonrelocatable or locked block at `place` grow to `bytes` bytes of content where the block stands; nothing
-/// changes where there is no room. The block grows into the free block right above it where that is large enough;
-/// else the run above the block is packed upward, after as few purges as serve.
+/// Grows a nonrelocatable or locked block at `place` to `bytes` bytes of content where the block stands; nothing
+/// changes where there is no room. The block grows into the free block right above it where that is large enough; else
+/// the run above the block is packed upward, after as few purges as serve.
 ///
 /// *Inside Macintosh: Memory*, chapter 2, "Changing the Sizes of Relocatable and Nonrelocatable Blocks".
 pub fn grow_in_place<S: BlockStore>(
