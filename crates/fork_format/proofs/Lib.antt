@@ -16,3 +16,5 @@ pub mod Putting
 pub mod Apart
 pub mod Sized
 pub mod Spelled
+pub mod Codes
+pub mod Clear
