@@ -16,3 +16,4 @@ pub mod Putting
 pub mod Apart
 pub mod Sized
 pub mod Spelled
+pub mod Codes

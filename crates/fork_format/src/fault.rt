@@ -7,15 +7,19 @@ ghost use Rattle.fork_format.specs.Code.{read_code, write_code};
 
 use mac_words::OsErr;
 use std::alloc::{AllocError, AllocFailed};
+use thiserror::Error;
 
 /// The reason why bytes could not be read as a resource fork.
-#[derive(Clone, Copy, Debug, PartialEq, Eq)]
+#[derive(Clone, Copy, Debug, PartialEq, Eq, Error)]
 pub enum ForkFault {
     /// There are no bytes.
+    #[error("the resource fork has no bytes")]
     Empty,
     /// The bytes are damaged: they spell no content.
+    #[error("the resource fork is damaged")]
     BadMap,
     /// The host is out of memory.
+    #[error("the host is out of memory")]
     HostMemory,
 }
 
@@ -44,11 +48,13 @@ impl From<AllocError> for ForkFault {
 }
 
 /// The reason why a content could not be written as a resource fork.
-#[derive(Clone, Copy, Debug, PartialEq, Eq)]
+#[derive(Clone, Copy, Debug, PartialEq, Eq, Error)]
 pub enum WriteFault {
     /// The content does not fit the format.
+    #[error("the content does not fit the format of a resource fork")]
     TooLarge,
     /// The host is out of memory.
+    #[error("the host is out of memory")]
     HostMemory,
 }
 

@@ -1,0 +1,36 @@
+use Rattle.std.proofs.Common.{◌≡◌, ◌≢◌, ◌↔◌, ℕ, Bool, true, false, Some, Result, Ok, Err, List, [], ◌∷◌, length, refl, ap, sym}
+use Rattle.std.proofs.Common.{◌∙◌, arith}
+use Rattle.std.proofs.lemmas.Bool.{ne_eqb}
+use Rattle.mac_words.specs.declared.code.OsErr.{OsErr}
+use Rattle.mac_words.specs.declared.code.TheConstants.OsErr.{MAP_READ}
+use Rattle.fork_format.specs.declared.fault.ForkFault.{ForkFault}
+use Rattle.fork_format.specs.declared.fault.ForkFault.TheVariants.{Empty, BadMap, HostMemory}
+use Rattle.fork_format.specs.Code.{read_code, content_or_code}
+use Rattle.fork_format.specs.Content.{Content}
+use Rattle.fork_format.specs.Fork.{is_fork, content_of, Spells, IsUnspelled}
+
+-- The content of a fork, or the result code for which it can't be read.
+
+-- bytes that spell a content have it
+pub spelled : (bytes : List ℕ) (c : Content) → Spells bytes c → content_or_code bytes ≡ Ok c
+spelled [] c spells = absurd (let no : is_fork [] ≡ true = spells.fork in cc)
+spelled (b ∷ bytes) c spells =
+    rw (ne_eqb (length (b ∷ bytes)) 0 (λ e. omega (arith, e)), spells.fork) (ap Ok spells.content)
+
+-- bytes that spell nothing have no content
+pub unspelled : (bytes : List ℕ) → bytes ≢ [] → IsUnspelled bytes → content_or_code bytes ≡ Err MAP_READ
+unspelled [] some none = absurd (some refl)
+unspelled (b ∷ bytes) some none = cases (is_fork (b ∷ bytes)) refl
+  where
+    cases : (t : Bool) → is_fork (b ∷ bytes) ≡ t → content_or_code (b ∷ bytes) ≡ Err MAP_READ
+    cases true is = absurd (none (content_of (b ∷ bytes)) (record { fork = is; content = refl }))
+    cases false is = rw (ne_eqb (length (b ∷ bytes)) 0 (λ e. omega (arith, e)), is) refl
+
+-- the code of the fault with which a reader refuses bytes
+pub refused : {A : Type 0} (bytes : List ℕ) (result : Result A ForkFault) (fault : ForkFault) (code : OsErr)
+    → ((result ≡ Err Empty) ↔ (bytes ≡ [])) → ((result ≡ Err BadMap) ↔ ((bytes ≢ []) × IsUnspelled bytes))
+    → result ≡ Err fault → read_code fault ≡ Some code → content_or_code bytes ≡ Err code
+refused bytes result Empty code empty bad is its = rw (empty.0 is) cc
+refused bytes result BadMap code empty bad is its =
+    let none = bad.0 is in unspelled bytes none.0 none.1 ∙ cc
+refused bytes result HostMemory code empty bad is its = cc
