@@ -6,7 +6,7 @@ use Rattle.fork_commands.specs.declared.extracting.ResourceFile.{ResourceFile}
 use Rattle.fork_commands.specs.Extracting.{ToWrite, extracted}
 use Rattle.fork_commands.specs.View.{view_file}
 use Rattle.commands.specs.declared.extracting.Extraction.{Extraction}
-use Rattle.commands.specs.Accesses.{Access, Read, Folder, Fails, WritesFront, StopsAmong, and_then, path_of, IsTold}
+use Rattle.commands.specs.Accesses.{Access, Read, Folder, Fails, WritesFront, StopsAmong, and_then, path_of, IsReported}
 use Rattle.commands.specs.Extracting.{write_in, writes_in, Extracts, IsUnextracted, Faulty, Unwritten}
 use Rattle.commands.specs.Fault.{Message, CannotWrite}
 use Rattle.commands.specs.Tasks.{IsForkFault}
@@ -15,7 +15,7 @@ use Rattle.commands.proofs.Writes.{Made, further, begun}
 
 -- the first of these accesses failed
 pub stops_first : (next : Access) (rest : List Access) (old new : Option (List Access)) (told : Message)
-    → Fails next old new → IsTold (CannotWrite (path_of next)) told → StopsAmong (next ∷ rest) old new told
+    → Fails next old new → IsReported (CannotWrite (path_of next)) told → StopsAmong (next ∷ rest) old new told
 stops_first next rest old new told fails fault = record {
   first = [];
   next = next;
@@ -100,9 +100,9 @@ extracts e bytes read files sent old then new is same all made written = (
 
 -- a file was not written to its end
 pub not_written : (file : ToWrite) (p b q : List ℕ) (old new : Option (List Access)) (told : Message)
-    → WritesFront p b old new → p ≡ file.path → b ≡ file.bytes → q ≡ file.path → IsTold (CannotWrite q) told
+    → WritesFront p b old new → p ≡ file.path → b ≡ file.bytes → q ≡ file.path → IsReported (CannotWrite q) told
     → StopsAmong (write_in file ∷ []) old new told
 not_written file p b q old new told front same equal named fault =
     stops_first (write_in file) [] old new told
     (subst (λ x. WritesFront file.path x old new) equal (subst (λ x. WritesFront x b old new) same front))
-    (subst (λ x. IsTold (CannotWrite x) told) named fault)
+    (subst (λ x. IsReported (CannotWrite x) told) named fault)

@@ -4,7 +4,7 @@ use Rattle.fork_commands.specs.declared.fault.WorkFault.{WorkFault}
 use Rattle.fork_commands.specs.declared.fault.WorkFault.TheVariants.{File, HostMemory as NoMemory}
 use Rattle.fork_commands.specs.Faults.{Stops}
 use Rattle.commands.specs.Fault.{Message, Usage, CannotRead, Script, Fork, CannotWrite, HostMemory, NotLaunched}
-use Rattle.commands.specs.Accesses.{IsTold}
+use Rattle.commands.specs.Accesses.{IsReported}
 use Rattle.commands.specs.Tasks.{fork_message, IsForkFault, IsQuiet}
 
 -- What a fault says stays so as it is passed on.
@@ -16,7 +16,7 @@ fork_stopped path NoMemory wanted told stops is = subst (λ m. IsForkFault path 
 fork_stopped path (File fault) wanted told stops is = subst (λ m. IsForkFault path wanted m) (sym is) (refl, stops)
 
 -- nothing is said of what was printed where something can't be written
-pub loud_write : (path : List ℕ) (p q : Option (List ℕ)) (told : Message) → IsTold (CannotWrite path) told → IsQuiet p q told
+pub loud_write : (path : List ℕ) (p q : Option (List ℕ)) (told : Message) → IsReported (CannotWrite path) told → IsQuiet p q told
 loud_write path p q HostMemory is = tt
 loud_write path p q (CannotWrite named) is = tt
 loud_write path p q (Fork named fault) is = absurd (let no : Fork named fault ≡ CannotWrite path = is in cc)

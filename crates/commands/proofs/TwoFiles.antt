@@ -7,7 +7,7 @@ use Rattle.fork_commands.specs.declared.pair.PairFault.TheVariants as pair_fault
 use Rattle.fork_commands.specs.Pairs.{combined, StopsPair}
 use Rattle.commands.specs.declared.combining.Combination.{Combination}
 use Rattle.commands.specs.declared.ending.Ending.{Ending}
-use Rattle.commands.specs.Accesses.{Access, Read, and_then, IsTold}
+use Rattle.commands.specs.Accesses.{Access, Read, and_then, IsReported}
 use Rattle.commands.specs.Combining.{IsPairFault, pair_message, reads_both, Combines, IsUncombined}
 use Rattle.commands.specs.Combining.{SecondUnread, Unmade, Undelivered}
 use Rattle.commands.specs.Delivering.{Delivers, IsUndelivered}
@@ -35,7 +35,7 @@ both c first second old mid new one two =
 -- the second file can't be read
 pub second_unread : (c : Combination) (first : List ℕ) (p mid q : Option (List ℕ)) (old then new : Option (List Access))
     (told : Message) → mid ≡ p → q ≡ mid → then ≡ and_then old (Read c.first.now first ∷ []) → new ≡ then
-    → IsTold (CannotRead c.second.now) told → IsUncombined c p q old new told
+    → IsReported (CannotRead c.second.now) told → IsUncombined c p q old new told
 second_unread c first p mid q old then new told silent quiet is stays fault =
     SecondUnread first (quiet ∙ silent) (stays ∙ is) fault
 

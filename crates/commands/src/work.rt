@@ -76,16 +76,16 @@ pub fn transcript_of<W: Watch>(
     }
 }
 
-/// Behind which lines of its script a zone is shown.
+/// The lines of its script after which a zone is shown.
 #[derive(Clone, Copy)]
 pub enum Lines {
-    /// Behind this line, or where none is given behind the last step, in a form.
+    /// After this line, or after the last step where no line is given, in a form.
     One(Option<usize>, ZoneForm),
-    /// Behind the first line, and behind each further step up to the second line, as a picture.
+    /// After the first line, and after each further step up to the second line, as a picture.
     Each(usize, usize),
 }
 
-/// A zone that is asked for: that of a script in a partition of this size.
+/// A request for the zone of a script in a partition of this size.
 #[derive(Clone, Copy)]
 pub struct ZoneView {
     pub size: PartitionSize,
@@ -107,7 +107,7 @@ fn sight_of(behind: Lines, script: &Script) -> Sight
 /// Runs a script up to a line in a fresh partition, which is a region of its own, and returns the zone as it then lies, or
 /// a picture of its moments.
 pub fn zone_of(alloc: Global, asked: ZoneView, text: &[u8]) -> Result<Vec<u8>, ScriptFault>
-    // The zone is that of the script's application behind the steps up to the lines.
+    // The zone is that of the script's application after the steps up to the lines.
     ensures zone { IfOk result (λ out. IsZoneOf asked text.now out.items) }
 
     // The fault is the first faulty line, or that the host is out of memory.
