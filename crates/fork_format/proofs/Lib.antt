@@ -17,3 +17,4 @@ pub mod Apart
 pub mod Sized
 pub mod Spelled
 pub mod Codes
+pub mod Clear

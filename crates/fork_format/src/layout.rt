@@ -15,7 +15,7 @@ use byteorder::{BigEndian, ByteOrder};
 const MAX_REFS: usize = 65_536;
 /// The greatest total size of the stored data in bytes, with its lengths, with which a fork is read or written.
 pub(crate) const MAX_DATA: usize = 134_217_728;
-/// The greatest number of entries in a type list, which tells the number less one in two bytes; FFFF stands for none.
+/// The greatest number of entries in a type list, which gives the number less one in two bytes; FFFF stands for none.
 const MAX_ENTRIES: usize = 65_535;
 
 /// Where resource data, map, type list and name list begin or end.

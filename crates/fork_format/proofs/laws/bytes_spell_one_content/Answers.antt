@@ -1,5 +1,6 @@
 use Rattle.fork_format.proofs.OneContent.{one_content}
 use Rattle.fork_format.proofs.Spelled.{spelled_types, spelled_references}
+use Rattle.fork_format.proofs.Clear.{spelled_clear}
 use Rattle.fork_format.proofs.laws.bytes_spell_one_content.Goals as goal
 
 pub returns-clause-one : goal.returns-clause-one
@@ -10,3 +11,6 @@ returns-clause-distinct c = spelled_types
 
 pub returns-clause-references : goal.returns-clause-references
 returns-clause-references c = spelled_references
+
+pub returns-clause-clear : goal.returns-clause-clear
+returns-clause-clear c = spelled_clear
