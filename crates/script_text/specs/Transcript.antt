@@ -3,7 +3,7 @@ use Rattle.std.specs.Prelude.{Box, decimal, if◌then◌else◌}
 use Rattle.std.specs.Fmt.{signed_decimal}
 use Rattle.std.specs.Global.{Global}
 use Rattle.std.specs.Ordering.{int_eq}
-use Rattle.hex_digits.specs.Digits.{lower_digit}
+use Rattle.mac_words.specs.Digits.{lower_digit}
 use Rattle.mac_words.specs.declared.name.Name.{Name}
 use Rattle.mac_words.specs.declared.name.OsType.{OsType}
 use Rattle.mac_words.specs.declared.reply.Reply.{Reply}

@@ -10,9 +10,8 @@ ghost use Rattle.script_text.specs.Transcript.{name_shown, values_of, launch_lin
 ghost use Rattle.script_text.specs.Transcript.{reply_line, grow_line};
 
 use crate::word::CallWord;
-use hex_digits::lower_digit;
 use itoa::Buffer;
-use mac_words::{Name, OsErr, OsType, Reply};
+use mac_words::{Name, OsErr, OsType, Reply, lower_digit};
 use std::alloc::AllocError;
 
 /// The room, in bytes, that is enough for the first line of a transcript.

@@ -1,8 +1,7 @@
 //! Hexadecimal digits of numbers below 16, as bytes of ASCII.
-#![tactic(auto)]
 
 ghost use Rattle.std.specs.Prelude.{◌≡◌, ◌<◌};
-ghost use Rattle.hex_digits.specs.Digits.{lower_digit, upper_digit};
+ghost use Rattle.mac_words.specs.Digits.{lower_digit, upper_digit};
 
 /// Returns the hexadecimal digit of a number, in lower case.
 pub fn lower_digit(value: u8) -> u8

@@ -1,5 +1,5 @@
 #!/usr/bin/env python3
-"""Times built programs on made inputs: docs/figures.py PROGRAM [EARLIER ..], or docs/figures.py --malice PROGRAM [WORD ..]
+"""Times built programs on made inputs: tools/figures.py PROGRAM [EARLIER ..], or tools/figures.py --malice PROGRAM [WORD ..]
 
 PROGRAM is crates/macmem/out/macmem, each EARLIER one another build of it, to be timed beside it in the same run. Prints
 tables: the best of some runs, with the most memory that was taken; and, of forks, as a multiple of `cat FILE >/dev/null`.

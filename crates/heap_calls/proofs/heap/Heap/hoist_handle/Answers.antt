@@ -10,9 +10,9 @@ use Rattle.heap_calls.proofs.Numbering.Hoisting.{seen-at, seen_mover-is, rest-sa
 use Rattle.heap_calls.proofs.Numbering.Hoisting.{hoisted-done, hoisted-none, move_h_hi-emptied, move_h_hi-locked}
 use Rattle.heap_calls.proofs.Numbering.Hoisting.{move_h_hi-done}
 use Rattle.heap_calls.proofs.NewBlocks.CopiedHandles.{slot-in}
-use Rattle.heap_calls.proofs.heap.Heap.move_high.Given.{Over}
-use Rattle.heap_calls.proofs.heap.Heap.move_high.Goals.{In_ok-found, After-can_move}
-use Rattle.heap_calls.proofs.heap.Heap.move_high.Goals as goal
+use Rattle.heap_calls.proofs.heap.Heap.hoist_handle.Given.{Over}
+use Rattle.heap_calls.proofs.heap.Heap.hoist_handle.Goals.{In_ok-found, After-can_move}
+use Rattle.heap_calls.proofs.heap.Heap.hoist_handle.Goals as goal
 
 entry : (g : Over) (c : In_ok-found g) → (c.args.handle ≡ Some c.in_ok-found.found.number)
     × (slice_get c.self.inside.names.items c.in_ok-found.found.number
