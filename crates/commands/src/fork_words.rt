@@ -309,7 +309,8 @@ fn name_in<'a>(alloc: Global, matches: &ArgMatches<'a>) -> Result<Option<RefName
     Ok(Some(RefName { bytes }))
 }
 
-/// Reads attributes: a decimal number as an ID is read, or any other of their forms.
+/// Reads attributes: a decimal number, or another of their forms. See decision 198 (a number of the command line may
+/// have zeros and a sign).
 fn attrs_of(text: &str) -> Option<Attrs> {
     match text.parse::<u8>() {
         Ok(value) => Some(Attrs(value)),

@@ -154,7 +154,7 @@ fn form_in(matches: &ArgMatches<'_>) -> Form {
     }
 }
 
-/// Reads the number of a line, in decimal digits with a sign or none.
+/// Reads the number of a line. See decision 198 (a number of the command line may have zeros and a sign).
 fn line_number(text: &str) -> Option<usize> {
     text.parse::<usize>().ok()
 }
