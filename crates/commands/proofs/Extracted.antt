@@ -47,7 +47,7 @@ folder_stopped folder files old new told s =
     let all : List Access = writes_in folder files in
     stopped_among all all (Folder folder ∷ []) (map write_in files) old old new told refl (begun all old) s
 
--- one of the files failed, behind the folder
+-- one of the files failed, after the folder
 pub files_stopped : (folder : List ℕ) (files : List ToWrite) (old mid new : Option (List Access)) (told : Message)
     → mid ≡ and_then old (Folder folder ∷ []) → StopsAmong (map write_in files) mid new told
     → StopsAmong (writes_in folder files) old new told
@@ -64,7 +64,7 @@ pub all_written : (folder : List ℕ) (files : List ToWrite) (old mid new : Opti
 all_written folder files old mid new made written =
     written ∙ ap (λ a. and_then a (map write_in files)) made ∙ one_more old (Folder folder ∷ []) (map write_in files)
 
--- a file is written before those that come behind it
+-- a file is written before those that come after it
 pub of_item : (files : List ResourceFile) (i : ℕ) (file : ResourceFile) → i < length files → file ≡ get_or files i file
     → map write_in (map view_file (drop i files))
     ≡ (write_in (view_file file) ∷ []) ++ map write_in (map view_file (drop (i + 1) files))

@@ -32,7 +32,7 @@ fork_stop path file (Script named line kind) is = absurd is
 fork_stop path file (CannotWrite named) is = absurd is
 fork_stop path file (NotLaunched named app) is = absurd is
 
--- an application's script stops it, behind its fork
+-- an application's script stops it, after its fork
 pub app_stop : (name fork script file bytes : List ℕ) (texts : List (List ℕ)) (told : Message) → fork_in file ≡ Ok bytes
     → IsStop (script_at script texts) told → IsStop (app_at name fork script (file ∷ texts)) told
 app_stop name fork script file bytes texts told found stops =

@@ -22,10 +22,10 @@ pub owner_above : (above more : List Input) (i : Input) → all_follow above (i 
 owner_above above more i order =
     owner_of above i (and_parts (may_follow above i) (all_follow (above ++ i ∷ []) more) order).0
 
--- those behind it may follow it
-pub order_behind : (above more : List Input) (i : Input) → all_follow above (i ∷ more) ≡ true
+-- those after it may follow it
+pub order_after : (above more : List Input) (i : Input) → all_follow above (i ∷ more) ≡ true
     → all_follow (above ++ i ∷ []) more ≡ true
-order_behind above more i order =
+order_after above more i order =
     (and_parts (may_follow above i) (all_follow (above ++ i ∷ []) more) order).1
 
 -- the names with that of one line more
