@@ -9,7 +9,7 @@ use Rattle.commands.specs.Tasks.{fork_message, IsForkFault, IsQuiet}
 
 -- What a fault says stays so as it is passed on.
 
--- the fault of a file's bytes is told with the file's path
+-- the fault of a file's bytes is reported with the file's path
 pub fork_stopped : {A : Type 0} (path : List ℕ) (fault : WorkFault) (wanted : Result A FileFault) (told : Message)
     → Stops fault wanted → told ≡ fork_message path fault → IsForkFault path wanted told
 fork_stopped path NoMemory wanted told stops is = subst (λ m. IsForkFault path wanted m) (sym is) tt

@@ -32,7 +32,7 @@ order_after above more i order =
 pub names_more : (above : List Input) (i : Input) → app_names (above ++ i ∷ []) ≡ app_names above ++ app_names (i ∷ [])
 names_more above i = filter_map-append app_name above (i ∷ [])
 
--- what is told of each stays where one is put anew of which the same is told
+-- what is said of each stays where one is put anew of which the same is said
 pub map_kept : {X Y : Type 0} (f : X → Y) (xs : List X) (i : ℕ) (x y : X) → x ≡ get_or xs i x → f y ≡ f x
     → map f (slice_set xs i y) ≡ map f xs
 map_kept f [] i x y is same = refl

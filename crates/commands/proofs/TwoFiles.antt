@@ -15,7 +15,7 @@ use Rattle.commands.specs.Ending.{ending_of}
 use Rattle.commands.specs.Fault.{Message, CannotRead}
 use Rattle.commands.proofs.Accesses.{one_more}
 
--- the fault of the bytes is told with the path of the file
+-- the fault of the bytes is reported with the path of the file
 pub pair_stopped : {A : Type 0} (first second : List ℕ) (fault : PairFault) (wanted : Result A (Place × FileFault))
     (told : Message) → StopsPair fault wanted → told ≡ pair_message first second fault
     → IsPairFault first second wanted told
