@@ -55,8 +55,8 @@ fn an_application_is_launched(rt: HostRuntime) -> Result<(), Fail> {
     let mut lines = Vec::new(alloc);
     let exit = application.run(&script, script.steps(), &mut lines, &mut Unwatched)?;
     assert!(rt; exit.is_none());
-    let expected = b"1 NewHandle 0\n2 Put 0\n3 Show 0 $616263\n";
-    assert_eq!(rt; lines.as_slice(), expected.as_slice());
+    let wanted = b"1 NewHandle 0\n2 Put 0\n3 Show 0 $616263\n";
+    assert_eq!(rt; lines.as_slice(), wanted.as_slice());
     Ok(())
 }
 
@@ -68,8 +68,8 @@ fn a_script_runs_in_a_region(rt: HostRuntime) -> Result<(), Fail> {
     let region = Region::new(alloc, 512)?;
     let (transcript, region) = run_script(alloc, region, &script, &mut Unwatched);
     region.close();
-    let expected = b"launch 0 512\n1 NewHandle 0\nend 0\n";
-    assert_eq!(rt; transcript?.as_slice(), expected.as_slice());
+    let wanted = b"launch 0 512\n1 NewHandle 0\nend 0\n";
+    assert_eq!(rt; transcript?.as_slice(), wanted.as_slice());
     Ok(())
 }
 
@@ -84,7 +84,7 @@ fn a_command_is_done(rt: HostRuntime) -> Result<(), Fail> {
     };
     let words = &["macmem", "script", "512", "file"];
     tool(alloc, words, &mut host, &mut Unwatched)?;
-    let expected = b"launch 0 512\n1 NewHandle 0\nend 0\n";
-    assert_eq!(rt; host.printed.as_slice(), expected.as_slice());
+    let wanted = b"launch 0 512\n1 NewHandle 0\nend 0\n";
+    assert_eq!(rt; host.printed.as_slice(), wanted.as_slice());
     Ok(())
 }

@@ -34,7 +34,7 @@ sight_of (lines.Each from to) steps = sight.Moments (steps_at (Some from) steps)
 -- What is shown of a script's application, by the steps of the script's text.
 abbrev pub IsZoneOf : ZoneView → List ℕ → List ℕ → Type 0
 IsZoneOf asked text out = (script : ScriptParts) × (script_of text ≡ Ok (spelled script))
-    × (out ≡ sight_text (sight_of asked.behind script.steps) own_resources asked.size.bytes script)
+    × (out ≡ sight_text (sight_of asked.lines script.steps) own_resources asked.size.bytes script)
 
 -- The listing of the resource fork in the bytes of a file: that of the content which the fork's bytes spell.
 abbrev pub IsListingOf : MapStyle → List ℕ → List ℕ → Type 0

@@ -133,7 +133,7 @@ const REZ_EXAMPLES: &str = "Example:
 The source has statements 'data' as 'macmem derez' prints them, and the fork is
 the canonical one, as of 'macmem rewrite'. A source that cannot be read is
 reported by its first line that is wrong, as
-'macmem: SOURCE: line 3: a semicolon is expected'; one whose resources fit no
+'macmem: SOURCE: line 3: a semicolon is needed'; one whose resources fit no
 fork as 'macmem: SOURCE: fork -34' (dskFulErr). A file that exists already is
 reported as 'macmem: OUT: cannot write'.";
 
@@ -309,15 +309,6 @@ fn name_in<'a>(alloc: Global, matches: &ArgMatches<'a>) -> Result<Option<RefName
     Ok(Some(RefName { bytes }))
 }
 
-/// Reads attributes: a decimal number, or another of their forms. See decision 198 (a number of the command line may
-/// have zeros and a sign).
-fn attrs_of(text: &str) -> Option<Attrs> {
-    match text.parse::<u8>() {
-        Ok(value) => Some(Attrs(value)),
-        Err(_) => read_attrs(text.as_bytes()),
-    }
-}
-
 /// Returns the attributes in an option, if they are given.
 fn attrs_in(alloc: Global, matches: &ArgMatches<'_>) -> Result<Option<Attrs>, ToolFault>
     ensures { IfErr result (λ fault. IsUsage (message_of fault)) }
@@ -325,7 +316,7 @@ fn attrs_in(alloc: Global, matches: &ArgMatches<'_>) -> Result<Option<Attrs>, To
     let Some(text) = matches.get_str(ATTRS) else {
         return Ok(None);
     };
-    let Some(attrs) = attrs_of(text) else {
+    let Some(attrs) = read_attrs(text.as_bytes()) else {
         let command = set_named(alloc)?;
         return Err(bad_value(alloc, command, "ATTRS", text, ATTRS_RULE)?);
     };

@@ -89,14 +89,14 @@ pub enum Lines {
 #[derive(Clone, Copy)]
 pub struct ZoneView {
     pub size: PartitionSize,
-    pub behind: Lines,
+    pub lines: Lines,
 }
 
 /// Returns what is shown of a script's application.
-fn sight_of(behind: Lines, script: &Script) -> Sight
-    ensures { result ≡ sight_of behind script.now.steps }
+fn sight_of(lines: Lines, script: &Script) -> Sight
+    ensures { result ≡ sight_of lines script.now.steps }
 {
-    match behind {
+    match lines {
         Lines::One(line, form) => Sight::Zone(steps_at(line, script), form),
         Lines::Each(from, to) => {
             Sight::Moments(steps_at(Some(from), script), steps_at(Some(to), script))
@@ -117,7 +117,7 @@ pub fn zone_of(alloc: Global, asked: ZoneView, text: &[u8]) -> Result<Vec<u8>, S
     let Ok(region) = Region::new(alloc, asked.size.bytes as usize) else {
         return Err(NO_MEMORY);
     };
-    let sight = sight_of(asked.behind, &script);
+    let sight = sight_of(asked.lines, &script);
     let (shown, region) = show_script(alloc, region, &script, sight);
     region.close();
     match shown {

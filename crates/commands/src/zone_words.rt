@@ -196,11 +196,11 @@ fn lines_in(alloc: Global, matches: &ArgMatches<'_>) -> Result<Lines, ToolFault>
 fn script_zone<'a>(alloc: Global, matches: &ArgMatches<'a>) -> Result<Task<'a>, ToolFault>
     ensures { IfErr result (λ fault. IsUsage (message_of fault)) }
 {
-    let behind = lines_in(alloc, matches)?;
+    let lines = lines_in(alloc, matches)?;
     let text = value(matches, "SIZE");
     match PartitionSize::read(text) {
         Some(size) => Ok(Task {
-            work: Work::Heap(ZoneView { size, behind }),
+            work: Work::Heap(ZoneView { size, lines }),
             path: value(matches, "SCRIPT"),
             watched: false,
         }),
