@@ -23,6 +23,13 @@ pub unused_number : (next : Option ℕ) → slot_number (Unused next) ≡ 16 * u
 unused_number None = refl
 unused_number (Some next) = refl
 
+-- a number that leaves 1 is that of an unused slot
+pub unused_only : (s : SlotWord) → IsSlotWord s → slot_number s % 16 ≡ 1
+    → ((next : Option ℕ) → s ≡ Unused next → ⊥) → ⊥
+unused_only (Block at) h e n = omega (arith, h.0, e)
+unused_only (Empty resource) h e n = omega (arith, empty_number resource, e)
+unused_only (Unused next) h e n = n next refl
+
 -- a slot is told by its number
 pub same_slot : (s t : SlotWord) → IsSlotWord s → IsSlotWord t → slot_number s ≡ slot_number t → s ≡ t
 same_slot (Block m) (Block n) h k e = ap Block e

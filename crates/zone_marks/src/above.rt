@@ -19,7 +19,7 @@ use block_store::{RunScan, Sparing, room_above_in};
 use raw_region::Part;
 use zone_bytes::read_word;
 
-/// Reads the word of a slot. Returns 0 for a number at which no word lies.
+/// Reads the word of a slot. Returns 0 for a number that is the place of no word.
 fn word_of_slot(part: &Part, slot: u32) -> u32
     ensures { slot % 4 ≡ 0 → slot + 4 ≤ length part.now.bytes → result ≡ word_at slot part.now.bytes }
 {
@@ -32,7 +32,7 @@ fn word_of_slot(part: &Part, slot: u32) -> u32
 /// Reports whether a free block of at least `bytes` bytes follows the block of a slot in the zone as it stands, by a
 /// walk from the landmark at or below that block. Any number may be asked for as a slot: if it leads to no block, the
 /// walk goes on to the zone's end.
-pub fn has_room_behind(part: &Part, marks: &Landmarks, slot: u32, bytes: u32) -> bool
+pub fn has_room_above(part: &Part, marks: &Landmarks, slot: u32, bytes: u32) -> bool
     requires sound { (first : ℕ) × (unused : ℕ) × IsSound part.now.bytes first unused }
     requires marks { AreOf marks.now (zone_in part.now.bytes) }
     ensures { IfSome (spot (is_relocatable slot) (zone_in part.now.bytes)) (λ s.
@@ -44,7 +44,7 @@ pub fn has_room_behind(part: &Part, marks: &Landmarks, slot: u32, bytes: u32) ->
 
 impl Landmarks {
     /// Returns the place of the run of a slot's block, where the run has `bytes` free bytes. The search begins at the
-    /// landmark at or below that block where what is known of the blocks below tells which run goes on there.
+    /// landmark at or below that block, if the tallies of the blocks below the landmark say which run goes on there.
     pub fn run_of(&self, part: &Part, slot: u32, bytes: u32) -> Option<u32>
         requires sound { (first : ℕ) × (unused : ℕ) × IsSound part.now.bytes first unused }
         requires marks { AreOf self.now (zone_in part.now.bytes) }

@@ -5,8 +5,8 @@ use Rattle.zone_bytes.specs.Laying.{free_first}
 use Rattle.zone_bytes.proofs.Places.Stepped.{Stepped, may-read, stepped, left-none}
 use Rattle.zone_bytes.proofs.Joined.Above.{free-is, free-other}
 use Rattle.zone_bytes.proofs.Tiles.Tags.{tag-small, free-true, free-false}
-use Rattle.zone_bytes.proofs.resizing.free_behind.Goals as goal
-use Rattle.zone_bytes.proofs.resizing.free_behind.Goals.{After-read_header-header}
+use Rattle.zone_bytes.proofs.resizing.free_above.Goals as goal
+use Rattle.zone_bytes.proofs.resizing.free_above.Goals.{After-read_header-header}
 
 -- the block that begins there
 step : (c : After-read_header-header) → Stepped c.args.at c.args.part.now.bytes c.read_header-header.result.size

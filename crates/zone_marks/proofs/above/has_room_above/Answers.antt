@@ -3,7 +3,7 @@ use Rattle.block_store.specs.Block.{is_relocatable, sizes}
 use Rattle.zone_bytes.proofs.Places.LedTo.{led-slot, led-place}
 use Rattle.zone_bytes.proofs.Places.Options.{if-spot}
 use Rattle.zone_marks.proofs.Marks.Sought.{sought}
-use Rattle.zone_marks.proofs.behind.has_room_behind.Goals as goal
+use Rattle.zone_marks.proofs.above.has_room_above.Goals as goal
 
 pub returns : goal.returns
 returns c =

@@ -1,7 +1,7 @@
 use Rattle.std.proofs.Common.{arith}
 use Rattle.zone_marks.proofs.Marks.Passing.{begins-here, begins-right}
 use Rattle.zone_marks.proofs.Searches.Passed.{passed-known}
-use Rattle.zone_marks.proofs.beginning.behind_passed.Goals as goal
+use Rattle.zone_marks.proofs.beginning.after_passed.Goals as goal
 
 pub run_start-requires-clause-to : goal.run_start-requires-clause-to
 run_start-requires-clause-to c = grind (arith, begins-right, begins-here)
