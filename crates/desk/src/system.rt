@@ -17,6 +17,7 @@ use std::alloc::Global;
 /// # Errors
 ///
 /// The fork can't be read, or the host is out of memory.
+#[tactic(auto, using(fork_format::proofs::Codes::spelled))]
 pub(crate) fn read_system<'b>(
     alloc: Global,
     system: &'b Option<Vec<u8>>,
