@@ -1,4 +1,4 @@
-//! What a sink is told of the blocks that calls purge for room.
+//! The blocks that calls purge for room are reported to a sink.
 //!
 //! A block of `n` bytes takes 16 bytes for its header, and `n` rounded up to a multiple of 16. The zone of 1024 bytes
 //! begins with a master pointer block of 272 bytes, which has 64 master pointers; 752 bytes are free.
