@@ -114,9 +114,9 @@ fn heap_after(
 fn assert_reported(rt: &impl Abort, sink: &Recorder, expected: &[Block]) {
     assert!(rt; sink.is_idle());
     assert!(rt; sink.reported().len() == expected.len());
-    for ((handle, bytes), wanted) in sink.reported().iter().zip(expected) {
-        assert!(rt; *handle == wanted.0, "handle {handle}");
-        assert!(rt; bytes.as_slice() == wanted.1, "handle {handle}");
+    for ((handle, bytes), block) in sink.reported().iter().zip(expected) {
+        assert!(rt; *handle == block.0, "handle {handle}");
+        assert!(rt; bytes.as_slice() == block.1, "handle {handle}");
     }
 }
 
@@ -138,7 +138,7 @@ fn is_same(heap: &Heap<ListStore>, other: &Heap<ListStore>, number: usize) -> bo
 }
 
 /// Reports whether the block of a handle was reported to a sink.
-fn is_told(sink: &Recorder, number: usize) -> bool {
+fn is_reported(sink: &Recorder, number: usize) -> bool {
     sink.reported().iter().any(|(handle, _)| *handle == number)
 }
 
@@ -151,7 +151,7 @@ fn assert_purged(
     sink: &Recorder,
 ) {
     for number in 0..NUMBERS {
-        if is_told(sink, number) {
+        if is_reported(sink, number) {
             assert!(rt; !heap.has_block(number), "handle {number}");
         } else {
             assert!(rt; is_same(heap, unpurged, number), "handle {number}");
