@@ -47,6 +47,10 @@ pub fn flag_at(part: &mut Part, place: u32, flags: Flags)
 {
     let header = read_header(part, place);
     if moves(header.tag) {
-        write_word(part, place + 12, flag_bits(flags) + header.flags % PURGEABLE);
+        write_word(
+            part,
+            place + 12,
+            flag_bits(flags) + header.flags % PURGEABLE,
+        );
     }
 }

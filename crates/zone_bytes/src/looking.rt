@@ -11,8 +11,8 @@ ghost use Rattle.zone_bytes.specs.Looking.{place_of_word, IsHandle};
 ghost use Rattle.zone_bytes.specs.Stepping.{left_in, IsOnWay};
 ghost use Rattle.zone_bytes.specs.Table.{Table, Lays};
 
-use crate::raw_walk::{RawWalk, walk_from};
 use crate::flagging::has_resource_flag;
+use crate::raw_walk::{RawWalk, walk_from};
 use crate::words::{read_word, write_slot, write_word};
 use block_store::Walk;
 use heap_words::{EMPTY, EMPTY_RESOURCE, PURGEABLE, RESOURCE, SlotWord};

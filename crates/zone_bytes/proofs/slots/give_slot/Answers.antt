@@ -1,4 +1,3 @@
-use Rattle.std.proofs.Common.{arith}
 use Rattle.zone_bytes.proofs.SlotTable.Slotted.{slot-fits, first-fits, given}
 use Rattle.zone_bytes.proofs.slots.give_slot.Goals as goal
 

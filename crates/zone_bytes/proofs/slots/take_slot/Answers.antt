@@ -1,7 +1,7 @@
 use Rattle.std.proofs.Common.{ap, inr, arith}
 use Rattle.heap_words.specs.Slots.{slot_number}
 use Rattle.heap_words.proofs.Slots.{unused_number, unused_only}
-use Rattle.zone_bytes.proofs.SlotTable.Slotted.{first-in, taken, first-small, first-reads}
+use Rattle.zone_bytes.proofs.SlotTable.Slotted.{first-in, taken, first-reads}
 use Rattle.zone_bytes.proofs.slots.take_slot.Goals as goal
 
 pub read_slot-requires-clause-within : goal.read_slot-requires-clause-within
@@ -20,13 +20,13 @@ write_slot-requires-clause-within c = first-in c.requires.1
 
 pub returns-clause-lays : goal.returns-clause-lays
 returns-clause-lays c = λ t h. (
-      rw c.write_slot.ensures.bytes (taken h),
-      omega (
-        arith,
-        first-reads h,
-        c.read_slot.ensures.number,
-        ap slot_number c.in-Unused.is,
-        unused_number c.in-Unused.next,
-        c.unwrap_or.ensures,
-      ),
-    )
+  rw c.write_slot.ensures.bytes (taken h),
+  omega (
+    arith,
+    first-reads h,
+    c.read_slot.ensures.number,
+    ap slot_number c.in-Unused.is,
+    unused_number c.in-Unused.next,
+    c.unwrap_or.ensures,
+  ),
+)
