@@ -2,7 +2,7 @@ use Rattle.std.specs.Prelude.{ℕ, ◌/◌, ◌%◌, Bool, ◌&&◌, ◌||◌, �
 use Rattle.std.specs.Prelude.{if◌then◌else◌, codes}
 use Rattle.std.specs.List.{flat_map, list_all}
 use Rattle.byteorder.specs.Endian.{big_bytes}
-use Rattle.hex_digits.specs.Digits.{upper_digit}
+use Rattle.mac_words.specs.Digits.{upper_digit}
 use Rattle.fork_edits.specs.Types.{is_between}
 
 -- Types and names as a person reads them.

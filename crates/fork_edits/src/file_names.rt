@@ -13,9 +13,8 @@ ghost use Rattle.fork_edits.specs.View.{view_row};
 use crate::resources::Row;
 use byteorder::{BigEndian, ByteOrder};
 use fork_format::{RefName, kind_of};
-use hex_digits::upper_digit;
 use itoa::Buffer;
-use mac_words::OsType;
+use mac_words::{OsType, upper_digit};
 use std::alloc::AllocError;
 
 /// The greatest number of bytes of a name that are shown in the name of a file.

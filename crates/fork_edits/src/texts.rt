@@ -11,9 +11,8 @@ ghost use Rattle.fork_edits.specs.Texts.{name_text};
 
 use byteorder::{BigEndian, ByteOrder};
 use fork_format::{RefName, kind_of};
-use hex_digits::upper_digit;
 use itoa::Buffer;
-use mac_words::OsType;
+use mac_words::{OsType, upper_digit};
 use std::alloc::AllocError;
 
 /// Appends the two hexadecimal digits of a byte.

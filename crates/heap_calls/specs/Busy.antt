@@ -123,7 +123,7 @@ abbrev pub either_barred : Option ℕ → Memory → Option OsErr
 either_barred None m = None
 either_barred (Some n) m = either_bars m.log.busy n (slice_get m.heap.names n)
 
--- The code of a second handle, which is asked for only where the first has a block.
+-- The code of a second handle, which is looked up only where the first has a block.
 abbrev pub next_barred : Result Held OsErr → Option OsErr → Option OsErr
 next_barred (Err code) other = None
 next_barred (Ok held) other = other

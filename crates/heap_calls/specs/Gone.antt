@@ -48,7 +48,7 @@ abbrev pub slot_gone : (Block → Bool) → State → List Gone
 slot_gone spared s = if nat_lt (used_slots s) (all_slots s) then []
     else room_gone (length s.names) (put_at_base Masters) spared s.zone
 
--- The blocks that are purged behind that, where there is one.
+-- The blocks that are purged after that, where there is one.
 abbrev pub ready_gone : Option State → (State → List Gone) → List Gone
 ready_gone None answer = []
 ready_gone (Some ready) answer = answer ready
@@ -177,11 +177,12 @@ abbrev pub all_gone : List (Flags × List ℕ) → Memory → List Gone
 all_gone [] m = []
 all_gone (w ∷ wanted) m = made_gone nothing w.1 m.heap ++ all_gone wanted (new_inside Resource w.0 w.1 m).1
 
--- A sink is told of these blocks behind those that it was told of; `told` says what a sink was told of.
+-- These blocks are reported to a sink after those that were reported to it; `told` says which blocks were reported to a
+-- sink.
 abbrev pub Tells : {A : Type 0} → (A → List Gone → Type 0) → List Gone → A → A → Type 0
 Tells told more old new = (before : List Gone) → told old before → told new (before ++ more)
 
--- A sink is told of no more.
+-- No more is reported to a sink.
 abbrev pub TellsNothing : {A : Type 0} → (A → List Gone → Type 0) → A → A → Type 0
 TellsNothing told old new = (before : List Gone) → told old before → told new before
 

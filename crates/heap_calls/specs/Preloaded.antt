@@ -6,18 +6,19 @@ use Rattle.heap_calls.specs.Gone.{Gone, Tells, TellsNothing, slot_gone, all_gone
 use Rattle.heap_calls.specs.Inside.{new_all}
 use Rattle.heap_calls.specs.Refused.{LeavesMasters}
 
--- What new handles, made one after another, leave where the host is out of memory over a store that takes none.
+-- What stands after new handles were made one after another, over a store that takes no host memory, until a sink found
+-- the host out of memory.
 
--- What one new handle leaves of a memory and a sink: all as it was; or the zone has an unused master pointer, and the
--- sink was told of what was purged for that.
+-- What one new handle leaves of a memory and a sink where the host is out of memory: all as it was; or the zone has an
+-- unused master pointer, and what was purged for that was reported to the sink.
 abbrev pub LeavesUnmade : {A : Type 0} → (A → List Gone → Type 0) → Memory → Memory → A → A → Type 0
 LeavesUnmade told old new before after =
     ((new ≡ old) × TellsNothing told before after)
     ⊎ (LeavesMasters nothing old new × Tells told (slot_gone nothing old.heap) before after)
 
--- The first k of the wanted resources were made, and no more: these are their numbers; the memory is the one that they
--- leave, and the sink was told of what was purged for them, or the zone has an unused master pointer besides, and the
--- sink was then told of what was purged for that.
+-- The first k of the resources were made, and no more: these are their numbers; the memory is the one that they leave,
+-- and what was purged for them was reported to the sink, or the zone has an unused master pointer besides, and what was
+-- purged for that was then reported to the sink.
 pub record StopsAfter {A : Type 0} (told : A → List Gone → Type 0) (k : ℕ) (wanted : List (Flags × List ℕ))
     (old : Memory) (numbers : List (Option ℕ)) (new : Memory) (before after : A) : Type 0 where
   pub some : k < length wanted
@@ -27,7 +28,7 @@ pub record StopsAfter {A : Type 0} (told : A → List Gone → Type 0) (k : ℕ)
       ⊎ (LeavesMasters nothing (new_all (take k wanted) old).1 new
       × Tells told (all_gone (take k wanted) old ++ slot_gone nothing (new_all (take k wanted) old).1.heap) before after)
 
--- Some of the wanted resources were made, but not all.
+-- Some of the resources were made, but not all.
 abbrev pub Stops : {A : Type 0} → (A → List Gone → Type 0) → List (Flags × List ℕ) → Memory → List (Option ℕ) → Memory
     → A → A → Type 0
 Stops told wanted old numbers new before after = (k : ℕ) × StopsAfter told k wanted old numbers new before after

@@ -9,10 +9,10 @@ use Rattle.heap_calls.specs.GoneBy.{gone_in}
 use Rattle.heap_calls.specs.Inside.{has_block}
 use Rattle.heap_calls.specs.Path.{Step, stepped, gone_at, step_disposes}
 
--- A sink is told of just the blocks that a call purges. Inside Macintosh: Memory, chapter 1, "Purging and Reallocating
--- Memory Blocks".
+-- Just the blocks that a call purges are reported to a sink. Inside Macintosh: Memory, chapter 1, "Purging and
+-- Reallocating Memory Blocks".
 
--- The bytes with which a list tells of the handle h, in the list's order.
+-- The bytes with which a list reports the handle h, in the list's order.
 abbrev pub told_of : ℕ → List Gone → List (List ℕ)
 told_of h [] = []
 told_of h (g ∷ more) = if g.0 == h then g.1 ∷ told_of h more else told_of h more
@@ -22,20 +22,20 @@ abbrev pub bytes_in : ℕ → List Block → List (List ℕ)
 bytes_in h [] = []
 bytes_in h (b ∷ above) = if is_relocatable h b then content_of b ∷ bytes_in h above else bytes_in h above
 
--- What one try of a call tells of a handle is what the handle loses: once, with its bytes, where the handle has a block
--- before the call and none after it; else nothing. Nothing either of a handle that the call itself disposes of, empties
--- or gives another block.
+-- What one try of a call reports of a handle is what the handle loses: once, with its bytes, where the handle has a
+-- block before the call and none after it; else nothing. Nothing either of a handle that the call itself disposes of,
+-- empties or gives another block.
 abbrev pub TellsWhatGoes : Asked → Memory → Type 0
 TellsWhatGoes asked m =
     (h : ℕ) → h < length m.heap.names → told_of h (gone_in asked m)
     ≡ (if takes_block h asked || has_block h (served asked m).1.heap then [] else bytes_in h m.heap.zone)
 
--- Each block that one try of a call tells of is of a handle, and was unlocked and purgeable before the call.
+-- Each block that one try of a call reports is of a handle, and was unlocked and purgeable before the call.
 abbrev pub TellsOfPurgeable : Asked → Memory → Type 0
 TellsOfPurgeable asked m = (h : ℕ) → 0 < length (told_of h (gone_in asked m))
     → (h < length m.heap.names) × (has_purgeable h m.heap.zone ≡ true)
 
--- So it is for each step that the Resource Manager takes on a heap: what the step tells of a handle that it does not
+-- So it is for each step that the Resource Manager takes on a heap: what the step reports of a handle that it does not
 -- dispose of is what the handle loses.
 abbrev pub StepTellsWhatGoes : Step → Memory → Type 0
 StepTellsWhatGoes step m =

@@ -35,10 +35,10 @@ use std::alloc::AllocError;
 
 impl<S: BlockStore> Heap<S> {
     /// `HandAndHand`: appends the bytes of the block of `from` to the block of `to`, which may be the same handle.
-    /// Neither block is purged for it. Returns -108 (memFullErr) where there is no room, and -30001 (profileErr)
-    /// where `to` is a System resource's. The sink is told of the blocks that are purged for it, if it is to be told.
-    /// Where the host is out of memory, all but the zone and the count of moves stays as it was; over a store that takes
-    /// no host memory that can be only where the sink is to be told, and the whole heap stays as it was.
+    /// Neither block is purged for it. Returns -108 (memFullErr) where there is no room, and -30001 (profileErr) where
+    /// `to` is a System resource's. The blocks that are purged for it are reported to the sink, if it listens. Where
+    /// the host is out of memory, all but the zone and the count of moves stays as it was; over a store that takes no
+    /// host memory that can be only where the sink listens, and the whole heap stays as it was.
     ///
     /// *Inside Macintosh: Memory*, chapter 2, "Manipulating Blocks of Memory".
     pub fn hand_and_hand<K: PurgeSink>(
@@ -70,9 +70,9 @@ impl<S: BlockStore> Heap<S> {
     }
 
     /// `PtrAndHand`: appends bytes to the block of a handle. Returns -108 (memFullErr) where there is no room, and
-    /// -30001 (profileErr) where the handle is a System resource's. The sink is told of the blocks that are purged for
-    /// it, if it is to be told. Where the host is out of memory, all but the zone and the count of moves stays as it was;
-    /// over a store that takes no host memory that can be only where the sink is to be told, and the whole heap stays as
+    /// -30001 (profileErr) where the handle is a System resource's. The blocks that are purged for it are reported to
+    /// the sink, if it listens. Where the host is out of memory, all but the zone and the count of moves stays as it
+    /// was; over a store that takes no host memory that can be only where the sink listens, and the whole heap stays as
     /// it was.
     ///
     /// *Inside Macintosh: Memory*, chapter 2, "Manipulating Blocks of Memory".
@@ -105,7 +105,7 @@ impl<S: BlockStore> Heap<S> {
         self.note(answer)
     }
 
-    /// Tells a sink, if it is to be told, of the blocks that `HandAndHand` is to purge.
+    /// Reports to a sink, if it listens, the blocks that `HandAndHand` is to purge.
     fn tell_append_handle<K: PurgeSink>(
         &self,
         from: Option<usize>,
@@ -142,7 +142,7 @@ impl<S: BlockStore> Heap<S> {
         )
     }
 
-    /// Tells a sink, if it is to be told, of the blocks that `PtrAndHand` is to purge.
+    /// Reports to a sink, if it listens, the blocks that `PtrAndHand` is to purge.
     fn tell_append_slice<K: PurgeSink>(
         &self,
         handle: Option<usize>,
@@ -262,8 +262,8 @@ fn lengthen<S: BlockStore>(
     fit_block(store, slot, place, size, sparing)
 }
 
-/// Tells a sink of the blocks that are purged where the block of `slot`, which stands at `place`, gets `more` bytes more,
-/// if a block can have that size and there is room. If the sink finds the host out of memory, it is told of none.
+/// Reports to a sink the blocks that are purged where the block of `slot`, which stands at `place`, gets `more` bytes
+/// more, if a block can have that size and there is room. If the sink finds the host out of memory, none is reported.
 fn tell_longer<S: BlockStore, K: PurgeSink>(
     store: &S,
     names: &[Anchor],

@@ -48,7 +48,7 @@ pub fn make_base<S: BlockStore>(
         r.place) }
     ensures none { IfOk result (λ r. MatchOption r.place (S.zone store.new ≡ S.zone store.old) (λ _. Unit {0})) }
     ensures searches { IfOk result (λ r. r.searches ≡ base_searches bytes sparing (S.zone store.old)) }
-    ensures few { IfOk result (λ r. r.searches ≤ 134217729) }
+    ensures few { IfOk result (λ r. r.searches ≤ GREATEST_ZONE + 1) }
     ensures nonrelocatable { KeepsNonrelocatable (S.zone store.old) (S.zone store.new) }
     ensures rest { IsRest (S.rest store.old) (S.rest store.new) }
     ensures host { IsErr result → IsTrue S.TAKES_HOST }
@@ -72,8 +72,8 @@ pub fn make_base<S: BlockStore>(
     })
 }
 
-/// Tells a sink of the blocks that are purged for room of `bytes` bytes at the base of a run, if there is such room. If
-/// the sink finds the host out of memory, it is told of none.
+/// Reports to a sink the blocks that are purged for room of `bytes` bytes at the base of a run, if there is such room.
+/// If the sink finds the host out of memory, none is reported.
 pub fn tell_base<S: BlockStore, K: PurgeSink>(
     store: &S,
     names: &[Anchor],
@@ -104,7 +104,7 @@ pub fn make_masters<S: BlockStore>(store: &mut S, sparing: Sparing) -> Result<Ro
     ensures nonrelocatable { KeepsNonrelocatable (S.zone store.old) (S.zone store.new) }
     ensures kept { OnErr result (HasMore (S.rest store.old) (S.rest store.new)) }
     ensures searches { IfOk result (λ r. r.searches ≡ base_searches MASTERS_SIZE sparing (S.zone store.old)) }
-    ensures few { IfOk result (λ r. r.searches ≤ 134217729) }
+    ensures few { IfOk result (λ r. r.searches ≤ GREATEST_ZONE + 1) }
     ensures moves { PacksNone (S.rest store.old) (S.rest store.new) }
     ensures host { IsErr result → IsTrue S.TAKES_HOST }
 {
@@ -122,8 +122,8 @@ pub struct Taken {
     pub searches: u32,
 }
 
-/// Tells a sink, if it is to be told, of the blocks that are purged for a master pointer block. If the sink finds the
-/// host out of memory, it is told of none.
+/// Reports to a sink, if it listens, the blocks that are purged for a master pointer block. If the sink finds the host
+/// out of memory, none is reported.
 pub fn tell_masters<S: BlockStore, K: PurgeSink>(
     store: &S,
     names: &[Anchor],
@@ -144,8 +144,8 @@ pub fn tell_masters<S: BlockStore, K: PurgeSink>(
     tell_base(store, names, MASTERS_SIZE, sparing, sink)
 }
 
-/// Takes an unused slot for a new handle; where all slots are used, a master pointer block with 64 more is made
-/// first, and a sink is told of the blocks that are purged for it, if it is to be told.
+/// Takes an unused slot for a new handle; where all slots are used, a master pointer block with 64 more is made first,
+/// and the blocks that are purged for it are reported to a sink, if it listens.
 pub fn make_slot<S: BlockStore, K: PurgeSink>(
     store: &mut S,
     names: &[Anchor],
@@ -166,7 +166,7 @@ pub fn make_slot<S: BlockStore, K: PurgeSink>(
     ensures kept { OnErr result (HasMore (S.rest store.old) (S.rest store.new)) }
     ensures searches { IfOk result (λ r. r.searches ≡ zone_searches sparing (S.rest store.old).unused
         (S.zone store.old)) }
-    ensures few { IfOk result (λ r. r.searches ≤ 134217729) }
+    ensures few { IfOk result (λ r. r.searches ≤ GREATEST_ZONE + 1) }
     ensures moves { PacksNone (S.rest store.old) (S.rest store.new) }
     ensures host { IsErr result → IsTrue S.TAKES_HOST ⊎ (K.listens sink.old ≡ true) }
 {

@@ -84,8 +84,8 @@ impl<S: BlockStore> Heap<S> {
         }
     }
 
-    /// Returns the code with which one of two handles bars a call that appends the bytes of `from` to `to`. The
-    /// handle `to`, whose block is changed, is asked for only where `from` has a block.
+    /// Returns the code with which one of two handles bars a call that appends the bytes of `from` to `to`. The handle
+    /// `to`, whose block is changed, is looked up only where `from` has a block.
     pub(crate) fn both_barred(&self, from: Option<usize>, to: Option<usize>) -> Option<OsErr>
         ensures { result ≡ both_barred from to self.now }
     {

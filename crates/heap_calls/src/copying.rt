@@ -34,11 +34,11 @@ use std::alloc::AllocError;
 impl<S: BlockStore> Heap<S> {
     /// `HandToHand`: allocates a relocatable block with a copy of the bytes of another handle's block, and returns a
     /// handle to the copy. The block that is copied is not purged for the copy. Returns -108 (memFullErr) where the
-    /// zone has no room for the block, or where all master pointers are used and there is no room for a block of
-    /// more. The sink is told of the blocks that are purged for that, and then of those for the copy, if it is to be told.
-    /// Where the host is out of memory, all but the zone and the count of moves stays as it was; over a store that takes
-    /// no host memory the whole heap and the sink do, but where the sink found the host out of memory behind a new master
-    /// pointer block, which then stays.
+    /// zone has no room for the block, or where all master pointers are used and there is no room for a block of more.
+    /// The blocks that are purged for that, and then those for the copy, are reported to the sink, if it listens. Where
+    /// the host is out of memory, all but the zone and the count of moves stays as it was; over a store that takes no
+    /// host memory the whole heap and the sink stay so too, except where the sink found the host out of memory after a
+    /// new master pointer block was made, which then stays.
     pub fn hand_to_hand<K: PurgeSink>(
         &mut self,
         handle: Option<usize>,
@@ -69,8 +69,8 @@ impl<S: BlockStore> Heap<S> {
         self.note(answer)
     }
 
-    /// Makes a new handle with a copy of the bytes of another handle's block, counts the searches for room, and tells a
-    /// sink of the blocks that are purged, if it is to be told.
+    /// Makes a new handle with a copy of the bytes of another handle's block, counts the searches for room, and reports
+    /// the blocks that are purged to a sink, if it listens.
     fn copy_handle<K: PurgeSink>(
         &mut self,
         handle: Option<usize>,
@@ -107,9 +107,9 @@ impl<S: BlockStore> Heap<S> {
     }
 }
 
-/// Puts a copy of the block of `source`, which has `size` bytes of content, where there is room, under a new slot,
-/// and returns that slot; `None` where there is no unused slot and no room for more, or no room for the block. A sink is
-/// told of the blocks that are purged for it, if it is to be told.
+/// Puts a copy of the block of `source`, which has `size` bytes of content, where there is room, under a new slot, and
+/// returns that slot; `None` where there is no unused slot and no room for more, or no room for the block. The blocks
+/// that are purged for it are reported to a sink, if it listens.
 fn copy_block<S: BlockStore, K: PurgeSink>(
     store: &mut S,
     names: &[Anchor],

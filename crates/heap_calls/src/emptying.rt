@@ -42,12 +42,12 @@ impl<S: BlockStore> Heap<S> {
         self.note(answer)
     }
 
-    /// `ReallocateHandle`: allocates a new block of `size` bytes, all 0, for a handle, whose old block, if it has
-    /// one, becomes free first. Returns -112 (memPurErr) where the old block is locked, -108 (memFullErr) where there
-    /// is no room for the new block, and -30001 (profileErr) where the handle is a System resource's. The sink is told
-    /// of the blocks that are purged for the new one, if it is to be told. Where the host is out of memory, all but the
+    /// `ReallocateHandle`: allocates a new block of `size` bytes, all 0, for a handle, whose old block, if it has one,
+    /// becomes free first. Returns -112 (memPurErr) where the old block is locked, -108 (memFullErr) where there is no
+    /// room for the new block, and -30001 (profileErr) where the handle is a System resource's. The blocks that are
+    /// purged for the new one are reported to the sink, if it listens. Where the host is out of memory, all but the
     /// zone and the count of moves stays as it was; over a store that takes no host memory that can be only where the
-    /// sink is to be told, and the whole heap and the sink stay as they were.
+    /// sink listens, and the whole heap and the sink stay as they were.
     pub fn reallocate_handle<K: PurgeSink>(
         &mut self,
         handle: Option<usize>,
@@ -86,8 +86,8 @@ impl<S: BlockStore> Heap<S> {
         Ok(())
     }
 
-    /// Allocates a new block for a handle, counts the searches for room, and tells a sink of the blocks that are purged,
-    /// if it is to be told.
+    /// Allocates a new block for a handle, counts the searches for room, and reports the blocks that are purged to a
+    /// sink, if it listens.
     fn reallocate<K: PurgeSink>(
         &mut self,
         handle: Option<usize>,
@@ -137,8 +137,8 @@ fn loose_slot<S: BlockStore>(
     Ok(found.slot)
 }
 
-/// Tells a sink, if it is to be told, of the blocks that are purged for a new block of `size` bytes for `slot`, whose old
-/// block, if there is one, counts as free. If the sink finds the host out of memory, it is told of none.
+/// Reports to a sink, if it listens, the blocks that are purged for a new block of `size` bytes for `slot`, whose old
+/// block, if there is one, counts as free. If the sink finds the host out of memory, none is reported.
 pub fn tell_renewal<S: BlockStore, K: PurgeSink>(
     store: &S,
     names: &[Anchor],

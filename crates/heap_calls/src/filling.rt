@@ -48,10 +48,10 @@ pub struct Filling<'a> {
 impl<S: BlockStore> Heap<S> {
     /// Makes a new handle of a resource, with a block of these bytes and properties, and returns the handle's number.
     /// Returns -108 (memFullErr) where the zone has no room for the block, or where all master pointers are used and
-    /// there is no room for a block of more. The sink is told of the blocks that are purged for that, and then of those
-    /// for the block, if it is to be told. Where the host is out of memory, all but the zone and the count of moves stays
-    /// as it was; over a store that takes no host memory the whole heap and the sink do, but where the sink found the
-    /// host out of memory behind a new master pointer block, which then stays.
+    /// there is no room for a block of more. The blocks that are purged for that, and then those for the block, are
+    /// reported to the sink, if it listens. Where the host is out of memory, all but the zone and the count of moves
+    /// stays as it was; over a store that takes no host memory the whole heap and the sink stay so too, except where
+    /// the sink found the host out of memory after a new master pointer block was made, which then stays.
     ///
     /// *More Macintosh Toolbox*, chapter 1, "Using the Resource Manager".
     pub fn new_resource<K: PurgeSink>(
@@ -82,9 +82,9 @@ impl<S: BlockStore> Heap<S> {
     }
 
     /// Makes a new handle of a resource, with no block, and returns the handle's number. Returns -108 (memFullErr)
-    /// where all master pointers are used and there is no room for a block of more. The sink is told of the blocks that
-    /// are purged for it, if it is to be told. Where the host is out of memory, all but the zone stays as it was, and the
-    /// whole heap and the sink do over a store that takes no host memory.
+    /// where all master pointers are used and there is no room for a block of more. The blocks that are purged for it
+    /// are reported to the sink, if it listens. Where the host is out of memory, all but the zone stays as it was, and
+    /// the whole heap and the sink stay so over a store that takes no host memory.
     pub fn new_empty_resource<K: PurgeSink>(
         &mut self,
         guarded: bool,
@@ -109,11 +109,11 @@ impl<S: BlockStore> Heap<S> {
     }
 
     /// Makes new handles of resources, one after another and none of them guarded, and puts the number of each into
-    /// `numbers`, in place of what was there: `None` for each whose block finds no room. The sink is told of the blocks
-    /// that are purged for each in turn, if it is to be told. Host memory for the numbers and for the answer is allocated
-    /// before the first handle is made; the answer takes some also where the numbers are reserved. Over a store that takes
-    /// no host memory, nothing changes where it cannot be had; and where the sink finds the host out of memory, the
-    /// handles that were made stay, and `numbers` has the number of each.
+    /// `numbers`, in place of what was there: `None` for each whose block finds no room. The blocks that are purged for
+    /// each in turn are reported to the sink, if it listens. Host memory for the numbers and for the answer is
+    /// allocated before the first handle is made; the answer takes some also where the numbers are reserved. Over a
+    /// store that takes no host memory, nothing changes where it cannot be had; and where the sink finds the host out
+    /// of memory, the handles that were made stay, and `numbers` has the number of each.
     pub fn new_resources<K: PurgeSink>(
         &mut self,
         wanted: &[Filling<'_>],
@@ -134,7 +134,10 @@ impl<S: BlockStore> Heap<S> {
     {
         numbers.clear();
         numbers.reserve(wanted.len())?;
-        self.names.reserve(wanted.len())?;
+        let reserved = self.log.reserved;
+        self.reserve(wanted.len())?;
+        // The numbers are reserved for these handles alone.
+        self.log.reserved = reserved;
         add_resources(
             &mut self.store,
             &mut self.names,
@@ -146,9 +149,9 @@ impl<S: BlockStore> Heap<S> {
     }
 
     /// Gives an empty handle a block of these bytes and properties. Returns -108 (memFullErr) where there is no room
-    /// for the block. The sink is told of the blocks that are purged for it, if it is to be told. Where the host is out
+    /// for the block. The blocks that are purged for it are reported to the sink, if it listens. Where the host is out
     /// of memory, all but the zone and the count of moves stays as it was; over a store that takes no host memory that
-    /// can be only where the sink is to be told, and the whole heap and the sink stay as they were.
+    /// can be only where the sink listens, and the whole heap and the sink stay as they were.
     pub fn refill<K: PurgeSink>(
         &mut self,
         number: usize,
@@ -179,7 +182,7 @@ impl<S: BlockStore> Heap<S> {
     }
 
     /// Makes a new handle, an application's own, with a block of these bytes and properties, counts the searches for
-    /// room, and tells a sink of the blocks that are purged, if it is to be told.
+    /// room, and reports the blocks that are purged to a sink, if it listens.
     fn fill_handle<K: PurgeSink>(
         &mut self,
         bytes: &[u8],
@@ -244,9 +247,9 @@ fn fill_new<S: BlockStore>(store: &mut S, slot: u32, bytes: &[u8], flags: Flags)
 }
 
 /// Puts a new block of as many bytes as `bytes` has, all 0, where there is room, under a new slot, and returns that
-/// slot; `None` where there is no unused slot and no room for more, where the block would be too large, or where
-/// there is no room for the block. A sink is told of the blocks that are purged for the slot, and then for the block,
-/// if it is to be told.
+/// slot; `None` where there is no unused slot and no room for more, where the block would be too large, or where there
+/// is no room for the block. The blocks that are purged for the slot, and then those for the block, are reported to a
+/// sink, if it listens.
 fn new_block_for<S: BlockStore, K: PurgeSink>(
     store: &mut S,
     names: &[Anchor],
@@ -274,10 +277,10 @@ fn new_block_for<S: BlockStore, K: PurgeSink>(
     new_block(store, names, size, Sparing::Nothing, sink)
 }
 
-/// Puts a new block of these bytes and properties where there is room, under a new slot, and returns that slot;
-/// `None` where there is no unused slot and no room for more, where the block would be too large, or where there is
-/// no room for the block. A sink is told of the blocks that are purged for the slot, and then for the block, if it is
-/// to be told.
+/// Puts a new block of these bytes and properties where there is room, under a new slot, and returns that slot; `None`
+/// where there is no unused slot and no room for more, where the block would be too large, or where there is no room
+/// for the block. The blocks that are purged for the slot, and then those for the block, are reported to a sink, if it
+/// listens.
 pub fn fill_block<S: BlockStore, K: PurgeSink>(
     store: &mut S,
     names: &[Anchor],
@@ -329,8 +332,8 @@ fn renew_block_for<S: BlockStore>(
     renew_block(store, slot, size)
 }
 
-/// Tells a sink, if it is to be told, of the blocks that are purged for a new block of these bytes for `slot`. If the
-/// sink finds the host out of memory, it is told of none.
+/// Reports to a sink, if it listens, the blocks that are purged for a new block of these bytes for `slot`. If the sink
+/// finds the host out of memory, none is reported.
 fn tell_refilling<S: BlockStore, K: PurgeSink>(
     store: &S,
     names: &[Anchor],
@@ -376,8 +379,8 @@ fn refill_block<S: BlockStore>(
 }
 
 /// Makes a new handle of a resource, unguarded, under the next number, for which `names` has room, and returns the
-/// number; `None` where the block finds no room. A sink is told of the blocks that are purged for it, if it is to be
-/// told.
+/// number; `None` where the block finds no room. The blocks that are purged for it are reported to a sink, if it
+/// listens.
 fn add_resource<S: BlockStore, K: PurgeSink>(
     store: &mut S,
     names: &mut Vec<Anchor>,
@@ -420,8 +423,8 @@ fn add_resource<S: BlockStore, K: PurgeSink>(
     Ok(Some(number))
 }
 
-/// Makes new handles of resources in order, and adds the number of each, or `None`, to `numbers`; `names` and
-/// `numbers` have room for all. A sink is told of the blocks that are purged for each in turn, if it is to be told.
+/// Makes new handles of resources in order, and adds the number of each, or `None`, to `numbers`; `names` and `numbers`
+/// have room for all. The blocks that are purged for each in turn are reported to a sink, if it listens.
 fn add_resources<S: BlockStore, K: PurgeSink>(
     store: &mut S,
     names: &mut Vec<Anchor>,

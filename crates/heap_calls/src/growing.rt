@@ -66,8 +66,8 @@ fn growth_now<S: BlockStore>(
     Some(Growth::Last(run))
 }
 
-/// Returns the smaller of two numbers, of those that are given.
-fn smaller(one: Option<u32>, other: Option<u32>) -> Option<u32>
+/// Returns the fewer of two numbers of purges that serve, where each is `None` where no number serves.
+fn fewer_purges(one: Option<u32>, other: Option<u32>) -> Option<u32>
     ensures { result ≡ smaller one other }
 {
     let Some(first) = one else {
@@ -111,7 +111,7 @@ fn count_for_growth<S: BlockStore>(
 {
     let for_place = store.fewest_purges(bytes, sparing);
     let in_run = store.fewest_for_block(number, more, sparing);
-    match smaller(for_place, in_run) {
+    match fewer_purges(for_place, in_run) {
         Some(purges) => Searched {
             there: true,
             purges,
@@ -123,7 +123,7 @@ fn count_for_growth<S: BlockStore>(
     }
 }
 
-/// Lets the block of the slot `number` grow into the free block above it.
+/// Grows the block of the slot `number` into the free block above it.
 fn grow_up<S: BlockStore>(store: &mut S, number: u32, size: u32) -> Result<(), AllocError>
     requires { CanGrowUp (is_relocatable number) size (S.zone store.old) }
     ensures ok { OnOk result (GrewUp (is_relocatable number) size (S.zone store.old) (S.zone store.new)) }
@@ -161,7 +161,7 @@ fn grow_away<S: BlockStore>(
     store.move_to(place, number, size)
 }
 
-/// Makes the block of the slot `number` the last of its run, and lets the block grow into the free block above it.
+/// Makes the block of the slot `number` the last of its run, and grows the block into the free block above it.
 fn grow_as_last<S: BlockStore>(
     store: &mut S,
     number: u32,
@@ -184,8 +184,7 @@ fn grow_as_last<S: BlockStore>(
     grow_up(store, number, size)
 }
 
-/// Lets the block of the slot `number`, whose physical size at its new size is `bytes`, grow in the way that was
-/// found.
+/// Grows the block of the slot `number`, whose physical size at its new size is `bytes`, in the way that was found.
 fn carry_out<S: BlockStore>(
     store: &mut S,
     number: u32,
@@ -224,8 +223,8 @@ pub fn bytes_of<S: BlockStore>(store: &S, number: u32) -> u32
     bytes_at(store, place)
 }
 
-/// Lets the unlocked block of `slot` grow to `bytes` bytes of content, new bytes 0, after as few purges as serve:
-/// into the free block above it, else at a place of its own, else as the last of its run.
+/// Grows the unlocked block of `slot` to `bytes` bytes of content, new bytes 0, after as few purges as serve: into the
+/// free block above it, else at a place of its own, else as the last of its run.
 pub fn grow_movable<S: BlockStore>(
     store: &mut S,
     slot: u32,
@@ -282,8 +281,8 @@ pub fn grow_movable<S: BlockStore>(
     })
 }
 
-/// Tells a sink of the blocks that are purged where the unlocked block of `slot` grows to `bytes` bytes of content, if
-/// there is room. If the sink finds the host out of memory, it is told of none.
+/// Reports to a sink the blocks that are purged where the unlocked block of `slot` grows to `bytes` bytes of content,
+/// if there is room. If the sink finds the host out of memory, none is reported.
 pub fn tell_growth<S: BlockStore, K: PurgeSink>(
     store: &S,
     names: &[Anchor],

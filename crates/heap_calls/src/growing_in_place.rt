@@ -41,9 +41,9 @@ struct Fewest {
     searches: u32,
 }
 
-/// Lets a nonrelocatable or locked block at `place` grow to `bytes` bytes of content where the block stands; nothing
-/// changes where there is no room. The block grows into the free block right above it where that is large enough;
-/// else the run above the block is packed upward, after as few purges as serve.
+/// Grows a nonrelocatable or locked block at `place` to `bytes` bytes of content where the block stands; nothing
+/// changes where there is no room. The block grows into the free block right above it where that is large enough; else
+/// the run above the block is packed upward, after as few purges as serve.
 ///
 /// *Inside Macintosh: Memory*, chapter 2, "Changing the Sizes of Relocatable and Nonrelocatable Blocks".
 pub fn grow_in_place<S: BlockStore>(
@@ -89,8 +89,8 @@ pub fn grow_in_place<S: BlockStore>(
     })
 }
 
-/// Tells a sink of the blocks that are purged where the nonrelocatable or locked block at `place` grows to `bytes` bytes
-/// of content, if there is room. If the sink finds the host out of memory, it is told of none.
+/// Reports to a sink the blocks that are purged where the nonrelocatable or locked block at `place` grows to `bytes`
+/// bytes of content, if there is room. If the sink finds the host out of memory, none is reported.
 pub fn tell_in_place<S: BlockStore, K: PurgeSink>(
     store: &S,
     names: &[Anchor],

@@ -88,7 +88,7 @@ impl<S: BlockStore> Heap<S> {
     /// Takes the host memory for the numbers of the next `n` handles and pointers: over a store that takes no host
     /// memory, no call that makes one of them then finds the host out of memory. What was reserved before stays
     /// reserved, and nothing else changes. Returns an error where the host is out of memory, which can be only where
-    /// fewer are reserved as yet; nothing changes then.
+    /// `n` is not 0 and fewer are reserved as yet; nothing changes then.
     pub fn reserve(&mut self, n: usize) -> Result<(), AllocError>
         ensures kept { OnOk result (self.new ≡ record self.old {
           log = record self.old.log
@@ -96,6 +96,7 @@ impl<S: BlockStore> Heap<S> {
         }) }
         ensures unchanged { OnErr result (self.new ≡ self.old) }
         ensures full { OnErr result (self.old.log.reserved < length self.old.heap.names + n) }
+        ensures some { OnErr result (0 < n) }
         ensures lies { self.new.window ≡ self.old.window }
     {
         self.names.reserve(n)?;
@@ -108,10 +109,10 @@ impl<S: BlockStore> Heap<S> {
 
     /// `NewHandle`: allocates a relocatable block of `size` bytes, all 0, and returns a handle to the block. Returns
     /// -108 (memFullErr) where the zone has no room for the block, or where all master pointers are used and there is
-    /// no room for a block of more. The sink is told of the blocks that are purged for that, and then of those for the
-    /// block, if it is to be told. Where the host is out of memory, all but the zone and the count of moves stays as it
-    /// was; over a store that takes no host memory the whole heap and the sink do, but where the sink found the host out
-    /// of memory behind a new master pointer block, which then stays.
+    /// no room for a block of more. The blocks that are purged for that, and then those for the block, are reported to
+    /// the sink, if it listens. Where the host is out of memory, all but the zone and the count of moves stays as it
+    /// was; over a store that takes no host memory the whole heap and the sink stay so too, except where the sink found
+    /// the host out of memory after a new master pointer block was made, which then stays.
     pub fn new_handle<K: PurgeSink>(&mut self, size: u32, sink: &mut K) -> Result<usize, Refusal>
         requires idle { IsIdle K.told K.waits sink.old }
         ensures told { result ≢ Err Refusal.HostMemory → K.listens sink.old ≡ true
@@ -145,7 +146,7 @@ impl<S: BlockStore> Heap<S> {
         if let Some(code) = self.barred(handle) {
             return self.refuse(code);
         }
-        let answer = self.let_go(handle);
+        let answer = self.dispose(handle);
         self.note(answer)
     }
 
@@ -243,8 +244,8 @@ impl<S: BlockStore> Heap<S> {
         self.bytes_place(name)
     }
 
-    /// Makes a new handle with a block of `size` bytes, all 0, and counts the searches for room, and tells a sink of
-    /// the blocks that are purged, if it is to be told.
+    /// Makes a new handle with a block of `size` bytes, all 0, and counts the searches for room, and reports the blocks
+    /// that are purged to a sink, if it listens.
     fn make_handle<K: PurgeSink>(&mut self, size: u32, sink: &mut K) -> Result<usize, Refusal>
         requires idle { IsIdle K.told K.waits sink.old }
         ensures told { result ≢ Err Refusal.HostMemory → K.listens sink.old ≡ true
@@ -270,7 +271,7 @@ impl<S: BlockStore> Heap<S> {
     }
 
     /// Disposes of a handle and its block; returns -30001 (profileErr) where the handle is a resource's.
-    fn let_go(&mut self, handle: Option<usize>) -> Result<(), Refusal>
+    fn dispose(&mut self, handle: Option<usize>) -> Result<(), Refusal>
         ensures answer { IsAnswer (silent (dispose_handle handle) self.old) result self.new }
         ensures host { result ≢ Err Refusal.HostMemory }
         ensures lies { self.new.window ≡ self.old.window }

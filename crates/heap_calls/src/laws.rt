@@ -72,8 +72,8 @@ pub fn a_refused_call_leaves_the_heap()
 
 /// A refused try leaves no more bytes that stay: the bytes of blocks that are not free, may not be purged and hold no
 /// master pointers. Where later more can be allocated, in a zone of the same number of bytes and with no fewer master
-/// pointer blocks, fewer bytes stay than before the try. So a call that is tried again only where more can be
-/// allocated comes to an end.
+/// pointer blocks, fewer bytes stay than before the try. So a call that is tried again only where more can be allocated
+/// ends.
 #[tactic(auto, using(crate::proofs::Tries::Keeping::served_no_more, crate::proofs::Tries::Keeping::served_less_later))]
 pub fn a_refused_call_keeps_no_more()
     ensures refused { (asked : Asked) (m : Memory) → RefusedKeepsNoMore asked m }
@@ -127,10 +127,10 @@ pub fn compaction_moves_each_block_at_most_once()
     ensures max_mem { (heap : State) → max_mem_moves heap ≤ count is_mover heap.zone }
 {}
 
-/// What a call tells a sink of is just what it purges. Where no handle has two blocks, one try of a call tells of a
-/// handle where the handle has a block before the call and none after it, and the call was not itself to take the
-/// block away: once, with the bytes that the block had. Each block that is told of was unlocked and purgeable. So it is
-/// of each step that the Resource Manager takes. (A zone of more bytes than a zone can have is left out: it could hold a
+/// A call reports to a sink just what it purges. Where no handle has two blocks, one try of a call reports a handle
+/// where the handle has a block before the call and none after it, and the call was not itself to take the block away:
+/// once, with the bytes that the block had. Each block that is reported was unlocked and purgeable. The same holds of
+/// each step that the Resource Manager takes. (A zone of more bytes than a zone can have is left out: it could hold a
 /// block whose copy has no size.)
 pub fn a_sink_is_told_of_what_goes()
     ensures goes { (asked : Asked) (m : Memory) → OneBlockEach m.heap.zone → sizes m.heap.zone ≤ GREATEST_ZONE
@@ -140,8 +140,8 @@ pub fn a_sink_is_told_of_what_goes()
         → StepTellsWhatGoes step m }
 {}
 
-/// What each call on a heap tells a sink of is just what it purges, with no condition: no handle of a heap has two
-/// blocks, and its zone is no larger than a zone can be.
+/// Each call on a heap reports to a sink just what it purges, with no condition: no handle of a heap has two blocks,
+/// and its zone is no larger than a zone can be.
 pub fn a_heap_tells_what_goes<S: BlockStore>(heap: &Heap<S>)
     ensures once { (h : ℕ) → h < length heap.now.heap.names → count (is_relocatable h) heap.now.heap.zone ≤ 1 }
     ensures small { sizes heap.now.heap.zone ≤ GREATEST_ZONE }

@@ -50,7 +50,7 @@ impl<S: BlockStore> Heap<S> {
         if let Some(code) = self.barred(handle) {
             return self.refuse(code);
         }
-        let answer = self.move_high(handle);
+        let answer = self.hoist_handle(handle);
         self.note(answer)
     }
 
@@ -65,12 +65,12 @@ impl<S: BlockStore> Heap<S> {
         if let Some(code) = self.barred(handle) {
             return self.refuse(code);
         }
-        let answer = self.lock_high(handle);
+        let answer = self.hoist_and_lock(handle);
         self.note(answer)
     }
 
-    /// Moves the block of a handle to the top of its run.
-    fn move_high(&mut self, handle: Option<usize>) -> Result<(), Refusal>
+    /// Hoists the block of a handle: moves the block to the top of its run.
+    fn hoist_handle(&mut self, handle: Option<usize>) -> Result<(), Refusal>
         ensures answer { IsAnswer (silent (move_h_hi handle) self.old) result self.new }
         ensures host { result ≢ Err Refusal.HostMemory }
         ensures lies { self.new.window ≡ self.old.window }
@@ -89,13 +89,13 @@ impl<S: BlockStore> Heap<S> {
         Ok(())
     }
 
-    /// Moves the block of a handle to the top of its run, and locks the block there.
-    pub(crate) fn lock_high(&mut self, handle: Option<usize>) -> Result<(), Refusal>
+    /// Hoists the block of a handle, and locks the block there.
+    pub(crate) fn hoist_and_lock(&mut self, handle: Option<usize>) -> Result<(), Refusal>
         ensures answer { IsAnswer (silent (h_lock_hi handle) self.old) result self.new }
         ensures host { result ≢ Err Refusal.HostMemory }
         ensures lies { self.new.window ≡ self.old.window }
     {
-        self.move_high(handle)?;
+        self.hoist_handle(handle)?;
         self.set_flags(handle, Some(true), None)?;
         Ok(())
     }

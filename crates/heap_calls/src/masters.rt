@@ -21,9 +21,9 @@ use std::alloc::AllocError;
 
 impl<S: BlockStore> Heap<S> {
     /// `NewEmptyHandle`: returns a new handle with no block. Returns -108 (memFullErr) where all master pointers are
-    /// used and there is no room for a block of more. The sink is told of the blocks that are purged for it, if it is to
-    /// be told. Where the host is out of memory, all but the zone stays as it was, and the whole heap and the sink do over
-    /// a store that takes no host memory.
+    /// used and there is no room for a block of more. The blocks that are purged for it are reported to the sink, if it
+    /// listens. Where the host is out of memory, all but the zone stays as it was, and the whole heap and the sink stay
+    /// so over a store that takes no host memory.
     pub fn new_empty_handle<K: PurgeSink>(&mut self, sink: &mut K) -> Result<usize, Refusal>
         requires idle { IsIdle K.told K.waits sink.old }
         ensures answer { IsAnswer (searching (new_empty_handle_searches self.old.heap)
@@ -45,9 +45,9 @@ impl<S: BlockStore> Heap<S> {
     }
 
     /// `MoreMasters`: allocates a block of 64 master pointers at the base of a run. Returns -108 (memFullErr) where
-    /// there is no room for the block. The sink is told of the blocks that are purged for it, if it is to be told. Where
+    /// there is no room for the block. The blocks that are purged for it are reported to the sink, if it listens. Where
     /// the host is out of memory, all but the zone stays as it was; over a store that takes no host memory that can be
-    /// only where the sink is to be told, and the whole heap stays as it was.
+    /// only where the sink listens, and the whole heap stays as it was.
     pub fn more_masters<K: PurgeSink>(&mut self, sink: &mut K) -> Result<(), Refusal>
         requires idle { IsIdle K.told K.waits sink.old }
         ensures answer { IsAnswer (searching (more_masters_searches self.old.heap) (noting add_masters self.old)) result
@@ -68,9 +68,9 @@ impl<S: BlockStore> Heap<S> {
     }
 
     /// `ReserveMem`: makes room for a block of `size` bytes of content as low in the zone as can be, at the base of a
-    /// run. Returns -108 (memFullErr) where there is no room. The sink is told of the blocks that are purged for it, if
-    /// it is to be told. Where the host is out of memory, all but the zone stays as it was; over a store that takes no
-    /// host memory that can be only where the sink is to be told, and the whole heap stays as it was.
+    /// run. Returns -108 (memFullErr) where there is no room. The blocks that are purged for it are reported to the
+    /// sink, if it listens. Where the host is out of memory, all but the zone stays as it was; over a store that takes
+    /// no host memory that can be only where the sink listens, and the whole heap stays as it was.
     pub fn reserve_mem<K: PurgeSink>(&mut self, size: u32, sink: &mut K) -> Result<(), Refusal>
         requires idle { IsIdle K.told K.waits sink.old }
         ensures answer { IsAnswer (searching (reserve_searches (physical_size size) self.old.heap)
@@ -90,8 +90,8 @@ impl<S: BlockStore> Heap<S> {
         self.note(answer)
     }
 
-    /// Makes a new handle with no block, counts the searches for room, and tells a sink of the blocks that are purged, if
-    /// it is to be told.
+    /// Makes a new handle with no block, counts the searches for room, and reports the blocks that are purged to a
+    /// sink, if it listens.
     pub(crate) fn make_empty_handle<K: PurgeSink>(&mut self, sink: &mut K) -> Result<usize, Refusal>
         requires idle { IsIdle K.told K.waits sink.old }
         ensures told { result ≢ Err Refusal.HostMemory → K.listens sink.old ≡ true
@@ -114,7 +114,7 @@ impl<S: BlockStore> Heap<S> {
         name_handle(&mut self.names, taken.slot)
     }
 
-    /// Tells a sink, if it is to be told, of the blocks that `MoreMasters` is to purge.
+    /// Reports to a sink, if it listens, the blocks that `MoreMasters` is to purge.
     fn tell_masters<K: PurgeSink>(&self, sink: &mut K) -> Result<(), AllocError>
         requires idle { IsIdle K.told K.waits sink.old }
         ensures told { OnOk result (K.listens sink.old ≡ true
@@ -127,7 +127,7 @@ impl<S: BlockStore> Heap<S> {
         tell_masters(&self.store, &self.names, Sparing::Nothing, sink)
     }
 
-    /// Tells a sink, if it is to be told, of the blocks that `ReserveMem` is to purge.
+    /// Reports to a sink, if it listens, the blocks that `ReserveMem` is to purge.
     fn tell_reserve<K: PurgeSink>(&self, size: u32, sink: &mut K) -> Result<(), AllocError>
         requires idle { IsIdle K.told K.waits sink.old }
         ensures told { OnOk result (K.listens sink.old ≡ true

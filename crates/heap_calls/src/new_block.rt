@@ -1,13 +1,14 @@
 //! New relocatable blocks.
 
 ghost use Rattle.heap_calls.specs.Inner.Numbered.{KeepsNonrelocatable};
-ghost use Rattle.std.specs.Prelude.{◌≡◌, ◌⊎◌, ◌≤◌, true, false, IfOk, OnOk, OnErr, IsErr, IsTrue};
+ghost use Rattle.std.specs.Prelude.{◌≡◌, ◌⊎◌, ◌≤◌, ◌+◌, true, false, IfOk, OnOk, OnErr, IsErr, IsTrue};
 ghost use Rattle.heap_calls.specs.Gone.{Tells, TellsNothing, IsIdle};
 ghost use Rattle.heap_calls.specs.Inner.Telling.{fresh_gone, new_gone, LeavesSlot};
 ghost use Rattle.block_store.specs.Block.{is_relocatable};
 ghost use Rattle.block_store.specs.Rest.{KeepsSlots};
 ghost use Rattle.block_store.specs.Run.{has};
 ghost use Rattle.block_store.specs.Slot.{is_used};
+ghost use Rattle.block_store.specs.declared.measures.TheConstants.{GREATEST_ZONE};
 ghost use Rattle.heap_calls.specs.Inner.NewBlock.{IsAdded, IsNewBlock, given_back, new_searches, place_searches};
 ghost use Rattle.heap_calls.specs.Inner.NewSlot.{HasMore};
 ghost use Rattle.heap_calls.specs.Inner.Packed.{Packs, content_moves, new_moves};
@@ -37,7 +38,7 @@ fn add_block<S: BlockStore>(
     ensures kept { OnErr result (KeepsSlots (given_back slot (S.rest store.old)) (S.rest store.new)) }
     ensures searches { IfOk result (λ r. r.searches ≡ place_searches sparing size (S.zone store.old)) }
     ensures nonrelocatable { KeepsNonrelocatable (S.zone store.old) (S.zone store.new) }
-    ensures few { IfOk result (λ r. r.searches ≤ 134217729) }
+    ensures few { IfOk result (λ r. r.searches ≤ GREATEST_ZONE + 1) }
     ensures moves { Packs (content_moves sparing size (S.zone store.old)) (S.rest store.old) (S.rest store.new) }
     ensures host { IsErr result → IsTrue S.TAKES_HOST }
 {
@@ -62,8 +63,8 @@ fn add_block<S: BlockStore>(
     }
 }
 
-/// Tells a sink, if it is to be told, of the blocks that are purged for the place of a new block of `size` bytes. If the
-/// sink finds the host out of memory, it is told of none.
+/// Reports to a sink, if it listens, the blocks that are purged for the place of a new block of `size` bytes. If the
+/// sink finds the host out of memory, none is reported.
 fn tell_block<S: BlockStore, K: PurgeSink>(
     store: &S,
     names: &[Anchor],
@@ -88,9 +89,9 @@ fn tell_block<S: BlockStore, K: PurgeSink>(
     }
 }
 
-/// Puts a new block of `size` bytes, all 0, where there is room, under a new slot, and returns that slot; `None`
-/// where there is no unused slot and no room for more, where the block would be too large, or where there is no room
-/// for the block. A sink is told of the blocks that are purged for the slot, and then for the block, if it is to be told.
+/// Puts a new block of `size` bytes, all 0, where there is room, under a new slot, and returns that slot; `None` where
+/// there is no unused slot and no room for more, where the block would be too large, or where there is no room for the
+/// block. The blocks that are purged for the slot, and then those for the block, are reported to a sink, if it listens.
 pub fn new_block<S: BlockStore, K: PurgeSink>(
     store: &mut S,
     names: &[Anchor],

@@ -26,10 +26,10 @@ use mac_words::phys;
 use std::alloc::AllocError;
 
 impl<S: BlockStore> Heap<S> {
-    /// `SetPtrSize`: changes the logical size of a pointer's block to `size` bytes; new bytes are 0, and the block
-    /// does not move. Returns -108 (memFullErr) where there is no room. The sink is told of the blocks that are purged
-    /// for it, if it is to be told. Where the host is out of memory, all but the zone stays as it was; over a store that
-    /// takes no host memory that can be only where the sink is to be told, and the whole heap stays as it was.
+    /// `SetPtrSize`: changes the logical size of a pointer's block to `size` bytes; new bytes are 0, and the block does
+    /// not move. Returns -108 (memFullErr) where there is no room. The blocks that are purged for it are reported to
+    /// the sink, if it listens. Where the host is out of memory, all but the zone stays as it was; over a store that
+    /// takes no host memory that can be only where the sink listens, and the whole heap stays as it was.
     ///
     /// *Inside Macintosh: Memory*, chapter 2, "Changing the Sizes of Relocatable and Nonrelocatable Blocks".
     pub fn set_pointer_size<K: PurgeSink>(
@@ -61,7 +61,7 @@ impl<S: BlockStore> Heap<S> {
         self.note(answer)
     }
 
-    /// Tells a sink, if it is to be told, of the blocks that `SetPtrSize` is to purge.
+    /// Reports to a sink, if it listens, the blocks that `SetPtrSize` is to purge.
     fn tell_fit_pointer<K: PurgeSink>(
         &self,
         pointer: Option<usize>,
@@ -132,8 +132,8 @@ fn fit_nonrelocatable<S: BlockStore>(
     grow_in_place(store, place, size, Sparing::Nothing)
 }
 
-/// Tells a sink of the blocks that are purged where the nonrelocatable block at `place` gets `size` bytes, if there is
-/// room. If the sink finds the host out of memory, it is told of none.
+/// Reports to a sink the blocks that are purged where the nonrelocatable block at `place` gets `size` bytes, if there
+/// is room. If the sink finds the host out of memory, none is reported.
 fn tell_nonrelocatable<S: BlockStore, K: PurgeSink>(
     store: &S,
     names: &[Anchor],

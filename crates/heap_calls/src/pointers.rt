@@ -26,9 +26,9 @@ use std::alloc::AllocError;
 
 impl<S: BlockStore> Heap<S> {
     /// `NewPtr`: allocates a nonrelocatable block of `size` bytes, all 0, at the base of a run, and returns a pointer
-    /// to the block. Returns -108 (memFullErr) where the zone has no room for the block. The sink is told of the blocks
-    /// that are purged for it, if it is to be told. Where the host is out of memory, all but the zone stays as it was,
-    /// and the whole heap and the sink do over a store that takes no host memory.
+    /// to the block. Returns -108 (memFullErr) where the zone has no room for the block. The blocks that are purged for
+    /// it are reported to the sink, if it listens. Where the host is out of memory, all but the zone stays as it was,
+    /// and the whole heap and the sink stay so over a store that takes no host memory.
     pub fn new_pointer<K: PurgeSink>(&mut self, size: u32, sink: &mut K) -> Result<usize, Refusal>
         requires idle { IsIdle K.told K.waits sink.old }
         ensures answer { IsAnswer (searching (new_pointer_searches size self.old.heap)
@@ -109,8 +109,8 @@ impl<S: BlockStore> Heap<S> {
         self.pointer_bytes(pointer)
     }
 
-    /// Makes a new pointer to a block of `size` bytes, all 0, counts the searches for room, and tells a sink of the
-    /// blocks that are purged, if it is to be told.
+    /// Makes a new pointer to a block of `size` bytes, all 0, counts the searches for room, and reports the blocks that
+    /// are purged to a sink, if it listens.
     fn make_pointer<K: PurgeSink>(&mut self, size: u32, sink: &mut K) -> Result<usize, Refusal>
         requires idle { IsIdle K.told K.waits sink.old }
         ensures answer { IsAnswer (searching (new_pointer_searches size self.old.heap)
@@ -230,8 +230,8 @@ fn add_nonrelocatable<S: BlockStore>(store: &mut S, size: u32) -> Result<Room, A
     Ok(room)
 }
 
-/// Tells a sink, if it is to be told, of the blocks that are purged for a new nonrelocatable block of `size` bytes. If the
-/// sink finds the host out of memory, it is told of none.
+/// Reports to a sink, if it listens, the blocks that are purged for a new nonrelocatable block of `size` bytes. If the
+/// sink finds the host out of memory, none is reported.
 fn tell_nonrelocatable<S: BlockStore, K: PurgeSink>(
     store: &S,
     names: &[Anchor],

@@ -37,8 +37,8 @@ pub struct Space {
 impl<S: BlockStore> Heap<S> {
     /// `PurgeMem`: purges blocks, lowest first, until a block of `size` bytes of content has room. Nothing is moved.
     /// Returns -108 (memFullErr) where every block that may be purged is purged and there is still no room; what was
-    /// purged stays purged. The sink is told of the blocks, if it is to be told, before they are purged; where it finds
-    /// the host out of memory nothing is purged.
+    /// purged stays purged. The blocks are reported to the sink, if it listens, before they are purged; where it finds
+    /// the host out of memory, nothing is purged.
     pub fn purge_mem<K: PurgeSink>(&mut self, size: u32, sink: &mut K) -> Result<(), Refusal>
         requires idle { IsIdle K.told K.waits sink.old }
         ensures answer { IsAnswer (searching (purge_mem_searches size self.old.heap) (noting (purge_mem size) self.old))
@@ -80,8 +80,8 @@ impl<S: BlockStore> Heap<S> {
     }
 
     /// `MaxMem`: purges every block that may be purged, compacts all runs of movable blocks, and returns the logical
-    /// size in bytes of the largest block that can then be allocated. The sink is told of the blocks, if it is to be
-    /// told, before they are purged; where it finds the host out of memory nothing happens.
+    /// size in bytes of the largest block that can then be allocated. The blocks are reported to the sink, if it
+    /// listens, before they are purged; where it finds the host out of memory, nothing happens.
     pub fn max_mem<K: PurgeSink>(&mut self, sink: &mut K) -> Result<u32, Refusal>
         requires idle { IsIdle K.told K.waits sink.old }
         ensures answer { IsAnswer (moving (max_mem_moves self.old.heap) (noting max_mem self.old)) result self.new }
@@ -98,7 +98,7 @@ impl<S: BlockStore> Heap<S> {
         Ok(self.purge_and_compact())
     }
 
-    /// Tells a sink, if it is to be told, of the blocks that `PurgeMem` is to purge.
+    /// Reports to a sink, if it listens, the blocks that `PurgeMem` is to purge.
     fn tell_purge_mem<K: PurgeSink>(&self, size: u32, sink: &mut K) -> Result<(), AllocError>
         requires idle { IsIdle K.told K.waits sink.old }
         ensures told { OnOk result (K.listens sink.old ≡ true
@@ -115,7 +115,7 @@ impl<S: BlockStore> Heap<S> {
         tell(&self.store, &self.names, 0, purges, Sparing::Nothing, sink)
     }
 
-    /// Tells a sink, if it is to be told, of the blocks that `MaxMem` is to purge.
+    /// Reports to a sink, if it listens, the blocks that `MaxMem` is to purge.
     fn tell_max_mem<K: PurgeSink>(&self, sink: &mut K) -> Result<(), AllocError>
         requires idle { IsIdle K.told K.waits sink.old }
         ensures told { OnOk result (K.listens sink.old ≡ true

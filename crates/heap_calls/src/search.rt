@@ -110,8 +110,8 @@ fn count_for_placement<S: BlockStore>(store: &S, bytes: u32, sparing: Sparing) -
     count_for_run(store, bytes, sparing)
 }
 
-/// Tells a sink of the blocks that are purged for the place of a relocatable block of `bytes` bytes, if there is such a
-/// place. If the sink finds the host out of memory, it is told of none.
+/// Reports to a sink the blocks that are purged for the place of a relocatable block of `bytes` bytes, if there is such
+/// a place. If the sink finds the host out of memory, none is reported.
 pub fn tell_placement<S: BlockStore, K: PurgeSink>(
     store: &S,
     names: &[Anchor],
@@ -128,11 +128,11 @@ pub fn tell_placement<S: BlockStore, K: PurgeSink>(
     ensures listens { K.listens sink.new ≡ K.listens sink.old }
     ensures host { IsErr result → K.listens sink.old ≡ true }
 {
-    let counted = count_for_placement(store, bytes, sparing);
-    if !counted.there {
+    let found = count_for_placement(store, bytes, sparing);
+    if !found.there {
         return Ok(());
     }
-    tell(store, names, 0, counted.purges, sparing, sink)
+    tell(store, names, 0, found.purges, sparing, sink)
 }
 
 /// Makes room for a relocatable block of `bytes` bytes, where there is any, and returns its place; nothing changes
@@ -145,7 +145,7 @@ pub fn make_room<S: BlockStore>(store: &mut S, bytes: u32, sparing: Sparing) -> 
         → has (is_relocatable number) (S.zone store.new) ≡ false }
     ensures nonrelocatable { KeepsNonrelocatable (S.zone store.old) (S.zone store.new) }
     ensures searches { result.searches ≡ placement_searches bytes sparing (S.zone store.old) }
-    ensures few { result.searches ≤ 134217729 }
+    ensures few { result.searches ≤ GREATEST_ZONE + 1 }
     ensures rest { KeepsSlots (S.rest store.old) (S.rest store.new) }
     ensures moves { Packs (placement_moves bytes sparing (S.zone store.old)) (S.rest store.old) (S.rest store.new) }
 {

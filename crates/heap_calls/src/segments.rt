@@ -19,7 +19,7 @@ impl<S: BlockStore> Heap<S> {
     pub fn hold_high(&mut self, handle: usize)
         ensures { self.new ≡ inside (held_high handle) self.old }
     {
-        match self.lock_high(Some(handle)) {
+        match self.hoist_and_lock(Some(handle)) {
             Ok(()) | Err(_) => {}
         }
     }

@@ -35,10 +35,10 @@ use std::alloc::AllocError;
 
 impl<S: BlockStore> Heap<S> {
     /// `SetHandleSize`: changes the logical size of a handle's block to `size` bytes; new bytes are 0. Returns -108
-    /// (memFullErr) where there is no room, and -30001 (profileErr) where the handle is a System resource's. The sink is
-    /// told of the blocks that are purged for it, if it is to be told. Where the host is out of memory, all but the zone
-    /// and the count of moves stays as it was; over a store that takes no host memory that can be only where the sink is
-    /// to be told, and the whole heap stays as it was.
+    /// (memFullErr) where there is no room, and -30001 (profileErr) where the handle is a System resource's. The blocks
+    /// that are purged for it are reported to the sink, if it listens. Where the host is out of memory, all but the
+    /// zone and the count of moves stays as it was; over a store that takes no host memory that can be only where the
+    /// sink listens, and the whole heap stays as it was.
     ///
     /// *Inside Macintosh: Memory*, chapter 2, "Changing the Sizes of Relocatable and Nonrelocatable Blocks".
     pub fn set_handle_size<K: PurgeSink>(
@@ -69,7 +69,7 @@ impl<S: BlockStore> Heap<S> {
         self.note(answer)
     }
 
-    /// Tells a sink, if it is to be told, of the blocks that `SetHandleSize` is to purge.
+    /// Reports to a sink, if it listens, the blocks that `SetHandleSize` is to purge.
     fn tell_give_size<K: PurgeSink>(
         &self,
         handle: Option<usize>,
@@ -206,8 +206,8 @@ fn resize_block<S: BlockStore>(
     grow_in_place(store, place, size, sparing)
 }
 
-/// Tells a sink of the blocks that are purged where the block of `slot`, which stands at `place`, gets `size` bytes, if
-/// a block can have that size and there is room. If the sink finds the host out of memory, it is told of none.
+/// Reports to a sink the blocks that are purged where the block of `slot`, which stands at `place`, gets `size` bytes,
+/// if a block can have that size and there is room. If the sink finds the host out of memory, none is reported.
 pub fn tell_fit<S: BlockStore, K: PurgeSink>(
     store: &S,
     names: &[Anchor],

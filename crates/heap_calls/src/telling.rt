@@ -1,4 +1,4 @@
-//! A sink is told of the blocks that are purged for room.
+//! The reports to a sink of the blocks that are purged for room.
 
 ghost use Rattle.std.specs.Prelude.{◌≡◌, ◌++◌, true, List, OnOk, OnErr, IsErr, IfSome, IsSome};
 ghost use Rattle.block_store.specs.Find.{IsEdge};
@@ -90,8 +90,8 @@ fn offer_blocks<S: BlockStore, K: PurgeSink>(
     Ok(())
 }
 
-/// Tells a sink of the lowest blocks from a place on that so many purges purge, the lowest first. If the sink finds the
-/// host out of memory, it is told of none.
+/// Reports to a sink the lowest blocks from a place on that so many purges purge, the lowest first. If the sink finds
+/// the host out of memory, none is reported.
 pub fn tell<S: BlockStore, K: PurgeSink>(
     store: &S,
     names: &[Anchor],

@@ -1,6 +1,6 @@
 //! A fork, and the resource map of an open file, report that the host is out of memory.
 
-ghost use Rattle.std.specs.Prelude.{◌≡◌, ◌≤◌, length};
+ghost use Rattle.std.specs.Prelude.{◌≡◌, ◌≤◌};
 
 use crate::forks::{NOTE, joined};
 use arrayvec::ArrayVec;

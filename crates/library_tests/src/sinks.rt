@@ -1,4 +1,4 @@
-//! What a sink is told of the blocks that calls purge for room.
+//! The blocks that calls purge for room are reported to a sink.
 //!
 //! A block of `n` bytes takes 16 bytes for its header, and `n` rounded up to a multiple of 16. The zone of 1024 bytes
 //! begins with a master pointer block of 272 bytes, which has 64 master pointers; 752 bytes are free.
@@ -34,7 +34,7 @@ const FULL_ZONE: Rows = &[
 ];
 
 #[test]
-fn the_lowest_blocks_that_serve_are_told(rt: HostRuntime) -> Result<(), Fail> {
+fn the_lowest_blocks_that_serve_are_reported(rt: HostRuntime) -> Result<(), Fail> {
     const CASES: &[Case] = &[
         // 32 bytes: C alone.
         (
@@ -122,7 +122,7 @@ const NO_MASTERS: Rows = &[
 ];
 
 #[test]
-fn what_a_master_pointer_block_purges_is_told(rt: HostRuntime) -> Result<(), Fail> {
+fn what_a_master_pointer_block_purges_is_reported(rt: HostRuntime) -> Result<(), Fail> {
     const CASES: &[Case] = &[
         // C is purged for the master pointers; then A and B, which have the 64 bytes of the new block.
         (

@@ -1,13 +1,13 @@
 use Rattle.std.proofs.Common.{◌≡◌, ◌≢◌, ℕ, Bool, true, false, Some, None, Result, Ok, Err, refl, sym, ◌∙◌, ap, List, [], ◌∷◌}
-use Rattle.std.proofs.Common.{◌<◌, ◌≤◌, arith, get_or, length, map, subst}
-use Rattle.std.proofs.lemmas.Bool.{le-ltb, ne_eqb}
+use Rattle.std.proofs.Common.{◌<◌, ◌≤◌, ◌==◌, arith, cond, get_or, length, map, subst}
+use Rattle.std.proofs.lemmas.Bool.{le-ltb}
 use Rattle.std.proofs.lemmas.List.{length-map}
 use Rattle.std.specs.Prelude.{option_map, slice_get, IfSome, nat_lt, bytes_eq}
-use Rattle.mac_words.specs.declared.code.TheConstants.OsErr.{MAP_READ}
+use Rattle.mac_words.specs.declared.code.TheConstants.OsErr.{END_OF_FILE, MAP_READ}
 use Rattle.heap_calls.specs.State.{Memory}
 use Rattle.heap_calls.specs.declared.refusal.Refusal.{Refusal}
 use Rattle.heap_calls.specs.declared.refusal.Refusal.TheVariants.{Code, HostMemory}
-use Rattle.fork_format.specs.Fork.{is_fork, content_of, IsUnspelled}
+use Rattle.fork_format.specs.Fork.{is_fork, content_of}
 use Rattle.res_map.specs.Split.{Split, split, place}
 use Rattle.fork_format.specs.Content.{Content}
 use Rattle.res_map.specs.Map.{Map, map_of}
@@ -15,20 +15,22 @@ use Rattle.res_map.proofs.Splitting.{found-place, found-none, split-get}
 use Rattle.res_calls.specs.Files.{File, OpenFile, Resources, is_at, opened, fresh_resources}
 use Rattle.res_calls.specs.Fetch.{Managers, Answer, done}
 use Rattle.res_calls.specs.Given.{IsAnswered, IsReply, managers}
-use Rattle.res_calls.specs.Rows.{open_res_file, open_fork, open_as, map_in, greatest_number, launched_resources}
+use Rattle.res_calls.specs.Rows.{open_res_file, open_fork, open_as, map_in, map_read, greatest_number, launched_resources}
 use Rattle.res_calls.specs.declared.files.File.{File as StoredFile}
 use Rattle.res_calls.specs.declared.files.OpenFile.{OpenFile as StoredOpenFile}
 use Rattle.res_calls.specs.View.{view_file, view_open}
 use Rattle.res_calls.proofs.Lookups.{item_seen, found_seen}
 
--- bytes that spell nothing give no map
-pub unspelled : (bytes : List ℕ) → bytes ≢ [] → IsUnspelled bytes → map_in bytes ≡ Err MAP_READ
-unspelled [] some none = absurd (some refl)
-unspelled (b ∷ bytes) some none = cases (is_fork (b ∷ bytes)) refl
+-- the map that was read is that of the content
+pub read_is : (fork : List ℕ) (read : Map) → map_in fork ≡ Ok read → map_of (content_of fork) ≡ read
+read_is fork read = by_tests (length fork == 0) (is_fork fork)
   where
-    cases : (t : Bool) → is_fork (b ∷ bytes) ≡ t → map_in (b ∷ bytes) ≡ Err MAP_READ
-    cases true is = absurd (none (content_of (b ∷ bytes)) (record { fork = is; content = refl }))
-    cases false is = rw (ne_eqb (length (b ∷ bytes)) 0 (λ e. omega (arith, e)), is) refl
+    by_tests : (empty good : Bool)
+        → map_read (cond empty (Err END_OF_FILE) (cond good (Ok (content_of fork)) (Err MAP_READ))) ≡ Ok read
+        → map_of (content_of fork) ≡ read
+    by_tests true good e = cc
+    by_tests false true e = cc
+    by_tests false false e = cc
 
 -- a fork that can't be read, and one that is opened
 pub fork_refused : (i : ℕ) (fork : List ℕ) (r : Resources) (m : Memory) (refusal : Refusal)

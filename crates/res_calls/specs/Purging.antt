@@ -24,7 +24,7 @@ stored_gone (g ∷ gone) r = stored_gone gone (stored_found (find_open (has_hand
 abbrev pub heard : Bool → List Gone → List Gone
 heard on gone = if on then gone else []
 
--- What a sink of resources was told, and what it was offered since; and whether it is to be told.
+-- What was reported to a sink of resources, and what it was offered since; and whether it listens.
 pub record PurgesValue : Type 0 where
   pub on : Bool
   pub told : List Gone

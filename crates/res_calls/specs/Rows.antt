@@ -1,7 +1,7 @@
 use Rattle.std.specs.Prelude.{ℕ, ℤ, ◌+◌, Bool, true, false, ◌==◌, nat_lt, Option, Some, None, Result, Ok, Err, List, [], ◌∷◌}
 use Rattle.std.specs.Prelude.{length, if◌then◌else◌, option_map, unwrap_or, filter_map}
 use Rattle.mac_words.specs.declared.code.OsErr.{OsErr}
-use Rattle.mac_words.specs.declared.code.TheConstants.OsErr.{END_OF_FILE, FILE_NOT_FOUND, LOCKED, MAP_READ, PROFILE}
+use Rattle.mac_words.specs.declared.code.TheConstants.OsErr.{FILE_NOT_FOUND, LOCKED, PROFILE}
 use Rattle.mac_words.specs.declared.code.TheConstants.OsErr.{DISK_FULL}
 use Rattle.mac_words.specs.declared.code.TheConstants.OsErr.{RES_ATTR, RES_FILE_NOT_FOUND, RES_NOT_FOUND}
 use Rattle.heap_calls.specs.State.{Memory}
@@ -9,7 +9,7 @@ use Rattle.heap_calls.specs.Answer.{code_of}
 use Rattle.heap_calls.specs.Busy.{is_busy}
 use Rattle.heap_calls.specs.Inside.{inside, released, cast, owned_as}
 use Rattle.fork_format.specs.Content.{Content}
-use Rattle.fork_format.specs.Fork.{is_fork, content_of}
+use Rattle.fork_format.specs.Code.{content_or_code}
 use Rattle.res_map.specs.Split.{Split, removed, place}
 use Rattle.res_map.specs.Map.{Reference, Map, has_handle, is_changed, is_named, is_of, is_resource, map_of, nth, of_type}
 use Rattle.res_map.specs.Map.{split_nth, types}
@@ -86,13 +86,15 @@ open_as f s = opened_with (loaded f s) f s
 abbrev pub greatest_number : ℕ
 greatest_number = 2147483647
 
+-- The resource map of a content that was read, or the code for which none could be read.
+abbrev pub map_read : Result Content OsErr → Result Map OsErr
+map_read (Ok c) = Ok (map_of c)
+map_read (Err code) = Err code
+
 -- The resource map of a fork; -39 (eofErr) where the fork has no bytes, and -199 (mapReadErr) where the bytes are not a
 -- resource fork.
 abbrev pub map_in : List ℕ → Result Map OsErr
-map_in fork =
-    if length fork == 0 then Err END_OF_FILE
-    else if is_fork fork then Ok (map_of (content_of fork))
-    else Err MAP_READ
+map_in fork = map_read (content_or_code fork)
 
 -- The answer of opening a file that is not open yet. -30001 (profileErr) where the greatest number was already given to
 -- a file.

@@ -12,8 +12,8 @@ use Rattle.res_calls.specs.Files.{File, OpenFile, Resources, file_named, open_at
 use Rattle.res_calls.specs.Preloading.{wanted_of, with_handles}
 use Rattle.res_calls.specs.Rows.{greatest_number, map_in}
 
--- What OpenResFile leaves where the host is out of memory, over a store that takes none: all as it was; or, where a sink
--- is told of the purged blocks and the handles of preloaded resources are being made, the file open and current.
+-- What OpenResFile leaves where the host is out of memory, over a store that takes none: all as it was; or, where the
+-- purged blocks are reported to a sink and the handles of preloaded resources are being made, the file open and current.
 
 -- The resources where the file is open, with these handles, and current. All else is as it was, and so is the code that
 -- ResError returns.
@@ -30,7 +30,7 @@ first_handles k references m = (new_all (take k (wanted_of references)) m).0
 
 -- The file was opened, and its preloading was stopped: the first k of its references that have resPreload have the
 -- handles that were made for them; the others are as they were read, without a handle. The heap is the one that these k
--- leave, or has an unused master pointer besides, and the sink was told of what was purged for that and of no more.
+-- leave, or has an unused master pointer besides, and what was purged for that, and no more, was reported to the sink.
 pub record StopsOpening {A : Type 0} (told : A → List Gone → Type 0) (f : OpenFile) (k : ℕ) (old new : Managers)
     (before after : A) : Type 0 where
   pub loading : old.resources.loading ≡ true
@@ -39,7 +39,8 @@ pub record StopsOpening {A : Type 0} (told : A → List Gone → Type 0) (f : Op
   pub stops : StopsAfter told k (wanted_of f.map.references) old.memory
       (first_handles k f.map.references old.memory) new.memory before after
 
--- Nothing changed, and the sink was told nothing; or, for some k, the given file was opened and its preloading stopped.
+-- Nothing changed, and nothing was reported to the sink; or, for some k, the given file was opened and its preloading
+-- stopped.
 abbrev pub LeavesOpened : {A : Type 0} → (A → List Gone → Type 0) → Option OpenFile → Managers → Managers → A → A
     → Type 0
 LeavesOpened told file old new before after =

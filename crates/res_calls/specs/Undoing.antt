@@ -4,8 +4,7 @@ use Rattle.res_calls.specs.Files.{File}
 
 -- What updates replaced of the files of an application, and the files as they were before the updates.
 
--- The files where the file at place `i` has the given fork and the given mark, which tells whether the fork was
--- written.
+-- The files where the file at place `i` has the given fork and the given mark: whether the fork was written.
 abbrev pub given_back : ℕ → List ℕ → Bool → List File → List File
 given_back i fork mark [] = []
 given_back zero fork mark (f ∷ files) = record f { fork = fork; written = mark } ∷ files

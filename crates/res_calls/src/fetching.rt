@@ -40,8 +40,8 @@ pub(crate) fn flags_of(entry: &LentReference<'_>) -> Flags
 }
 
 /// Makes a new handle for a resource: a handle to a block that holds the stored data where `loading` is on, and an
-/// empty handle otherwise. `guarded` says that the resource is the System file's. The sink is told of the blocks that
-/// are purged for it, if it is to be told.
+/// empty handle otherwise. `guarded` says that the resource is the System file's. The blocks that are purged for it are
+/// reported to the sink, if it listens.
 fn make_handle<S: BlockStore, K: PurgeSink>(
     heap: &mut Heap<S>,
     entry: &LentReference<'_>,
@@ -71,8 +71,8 @@ fn make_handle<S: BlockStore, K: PurgeSink>(
     }
 }
 
-/// Fetches the reference at `at`, which has no handle. The sink is told of the blocks that are purged for it, if it is
-/// to be told.
+/// Fetches the reference at `at`, which has no handle. The blocks that are purged for it are reported to the sink, if
+/// it listens.
 fn fetch_new<S: BlockStore, K: PurgeSink>(
     files: &mut Vec<OpenFile>,
     heap: &mut Heap<S>,
@@ -118,7 +118,7 @@ fn fetch_new<S: BlockStore, K: PurgeSink>(
 }
 
 /// Fetches a reference whose handle is `handle`: where `loading` is on and the handle is empty, reads the stored data
-/// into a new block of the handle. The sink is told of the blocks that are purged for it, if it is to be told.
+/// into a new block of the handle. The blocks that are purged for it are reported to the sink, if it listens.
 fn fetch_again<S: BlockStore, K: PurgeSink>(
     heap: &mut Heap<S>,
     entry: &LentReference<'_>,
@@ -158,7 +158,7 @@ fn fetch_again<S: BlockStore, K: PurgeSink>(
     }
 }
 
-/// Fetches the reference at `at`. The sink is told of the blocks that are purged for it, if it is to be told.
+/// Fetches the reference at `at`. The blocks that are purged for it are reported to the sink, if it listens.
 fn fetch_in<S: BlockStore, K: PurgeSink>(
     files: &mut Vec<OpenFile>,
     heap: &mut Heap<S>,
@@ -196,10 +196,10 @@ fn fetch_in<S: BlockStore, K: PurgeSink>(
 
 impl Resources {
     /// Fetches the reference at `found`. Returns -192 (resNotFound) where `found` is `None`, and -108 (memFullErr)
-    /// where the zone has no room. The sink is told of the blocks that are purged for it, if it is to be told. Where
-    /// the host is out of memory, the resources stay as they were, and so do the heap and the sink over a store that
-    /// uses no host memory, but where the sink found the host out of memory behind a new master pointer block, which
-    /// then stays.
+    /// where the zone has no room. The blocks that are purged for it are reported to the sink, if it listens. Where the
+    /// host is out of memory, the resources stay as they were, and so do the heap and the sink over a store that uses
+    /// no host memory, except where the sink found the host out of memory after a new master pointer block was made,
+    /// which then stays.
     pub(crate) fn fetch_found<S: BlockStore, K: PurgeSink>(
         &mut self,
         heap: &mut Heap<S>,

@@ -47,8 +47,8 @@ impl Resources {
         nth_spot(&self.chain, self.current, ty, n)
     }
 
-    /// Finds a reference, fetches the reference, and sets the code that `ResError` returns. The sink is told of the
-    /// blocks that are purged for it, if it is to be told.
+    /// Finds a reference, fetches the reference, and sets the code that `ResError` returns. The blocks that are purged
+    /// for it are reported to the sink, if it listens.
     fn fetch_wanted<S: BlockStore, K: PurgeSink>(
         &mut self,
         heap: &mut Heap<S>,
@@ -83,7 +83,7 @@ impl Resources {
     /// `GetResource`: finds the first resource of the given type and ID on the search path, fetches the resource, and
     /// returns its handle; where loading is off, nothing is read, and a resource without a handle gets an empty handle.
     /// Returns -192 (resNotFound) where no file on the search path has the resource, and -108 (memFullErr) where the
-    /// zone has no room. The sink is told of the blocks that are purged for it, if it is to be told.
+    /// zone has no room. The blocks that are purged for it are reported to the sink, if it listens.
     pub fn get_resource<S: BlockStore, K: PurgeSink>(
         &mut self,
         heap: &mut Heap<S>,
@@ -114,8 +114,8 @@ impl Resources {
 
     /// `Get1Resource`: finds the first resource of the given type and ID in the current file, fetches the resource, and
     /// returns its handle. Returns -192 (resNotFound) where the current file has no such resource, and -108
-    /// (memFullErr) where the zone has no room. The sink is told of the blocks that are purged for it, if it is to be
-    /// told.
+    /// (memFullErr) where the zone has no room. The blocks that are purged for it are reported to the sink, if it
+    /// listens.
     pub fn get1_resource<S: BlockStore, K: PurgeSink>(
         &mut self,
         heap: &mut Heap<S>,
@@ -147,7 +147,7 @@ impl Resources {
     /// `GetNamedResource`: finds the first resource of the given type and name on the search path, fetches the
     /// resource, and returns its handle. Uppercase and lowercase ASCII letters match each other. Returns -192
     /// (resNotFound) where no file on the search path has the resource, and -108 (memFullErr) where the zone has no
-    /// room. The sink is told of the blocks that are purged for it, if it is to be told.
+    /// room. The blocks that are purged for it are reported to the sink, if it listens.
     pub fn get_named_resource<S: BlockStore, K: PurgeSink>(
         &mut self,
         heap: &mut Heap<S>,
@@ -184,8 +184,8 @@ impl Resources {
 
     /// `Get1NamedResource`: finds the first resource of the given type and name in the current file, fetches the
     /// resource, and returns its handle. Names are compared as by `GetNamedResource`. Returns -192 (resNotFound) where
-    /// the current file has no such resource, and -108 (memFullErr) where the zone has no room. The sink is told of the
-    /// blocks that are purged for it, if it is to be told.
+    /// the current file has no such resource, and -108 (memFullErr) where the zone has no room. The blocks that are
+    /// purged for it are reported to the sink, if it listens.
     pub fn get1_named_resource<S: BlockStore, K: PurgeSink>(
         &mut self,
         heap: &mut Heap<S>,
@@ -222,8 +222,8 @@ impl Resources {
 
     /// `Get1IndResource`: finds the `n`-th resource of a type in the current file, counted from 1, fetches the
     /// resource, and returns its handle. Returns -192 (resNotFound) where the current file has no `n`-th resource of
-    /// the type, and -108 (memFullErr) where the zone has no room. The sink is told of the blocks that are purged for
-    /// it, if it is to be told.
+    /// the type, and -108 (memFullErr) where the zone has no room. The blocks that are purged for it are reported to
+    /// the sink, if it listens.
     #[tactic(auto, using(crate::proofs::Fetches::ind_noted))]
     pub fn get1_ind_resource<S: BlockStore, K: PurgeSink>(
         &mut self,
@@ -257,8 +257,8 @@ impl Resources {
 
     /// `LoadResource`: reads the stored data of a resource into a new block of its handle where the handle is empty,
     /// whether loading is on or off. Returns -192 (resNotFound) where the handle is not a resource's, and -108
-    /// (memFullErr) where the zone has no room. The sink is told of the blocks that are purged for it, if it is to be
-    /// told.
+    /// (memFullErr) where the zone has no room. The blocks that are purged for it are reported to the sink, if it
+    /// listens.
     pub fn load_resource<S: BlockStore, K: PurgeSink>(
         &mut self,
         heap: &mut Heap<S>,

@@ -11,7 +11,7 @@ ghost use Rattle.res_calls.specs.Rows.{map_in, launched_resources};
 ghost use Rattle.res_calls.specs.View.{view_file, view_open};
 
 use crate::files::{File, OWN_PLACE, OpenFile, Resources};
-use fork_format::{Content, ForkFault, read_fork};
+use fork_format::{Content, read_fork};
 use heap_calls::Refusal;
 use mac_words::OsErr;
 use res_map::ResFile;
@@ -24,9 +24,10 @@ pub fn open_map(alloc: Global, bytes: &[u8]) -> Result<ResFile, Refusal>
 {
     match read_fork(alloc, bytes) {
         Ok(content) => Ok(ResFile::open(alloc, &content)?),
-        Err(ForkFault::Empty) => Err(Refusal::Code(OsErr::END_OF_FILE)),
-        Err(ForkFault::BadMap) => Err(Refusal::Code(OsErr::MAP_READ)),
-        Err(ForkFault::HostMemory) => Err(Refusal::HostMemory),
+        Err(fault) => match fault.code() {
+            Some(code) => Err(Refusal::Code(code)),
+            None => Err(Refusal::HostMemory),
+        },
     }
 }
 

@@ -114,9 +114,9 @@ pub fn a_purge_stores_only_what_was_changed()
     ensures off { (gone : List Gone) (r : Resources) → stored_gone (heard false gone) r ≡ r }
 {}
 
-/// States that of the calls only those purge that fetch, and the one that opens a file: after any other call each handle
-/// that had a block has one, unless the call disposed of the handle. What is stored of purged blocks is stored behind
-/// the call, and only while SetResPurge is on.
+/// States that of the calls only those purge that fetch, and the one that opens a file: after any other call each
+/// handle that had a block has one, unless the call disposed of the handle. What is stored of purged blocks is stored
+/// after the call, and only while SetResPurge is on.
 pub fn only_a_fetch_or_an_opening_purges()
     ensures { (asked : ResourceAsked) (s : Managers) (h : ℕ) → fetches asked ≡ false → opens_file asked ≡ false
         → disposes_of h asked s ≡ false → has (is_relocatable h) s.memory.heap.zone ≡ true

@@ -48,9 +48,9 @@ fn load_into<S: BlockStore>(
 }
 
 /// Preloads the resources of a file that have resPreload, where `loading` is on, and returns whether all was preloaded.
-/// The sink is told of the blocks that are purged for it, if it is to be told. Where the host is out of memory as the
-/// handles are made, and the sink is to be told, the resources that were preloaded so far have their handles, and the
-/// others have none; where the host is out of memory otherwise, the file stays as it was.
+/// The blocks that are purged for it are reported to the sink, if it listens. Where the host is out of memory as the
+/// handles are made, and the sink listens, the resources that were preloaded so far have their handles, and the others
+/// have none; where the host is out of memory otherwise, the file stays as it was.
 fn load_told<S: BlockStore, K: PurgeSink>(
     alloc: Global,
     heap: &mut Heap<S>,
@@ -87,9 +87,9 @@ fn load_told<S: BlockStore, K: PurgeSink>(
 }
 
 /// Puts `file` before the other open files, preloads its resources where `loading` is on, and returns whether all was
-/// preloaded. The sink is told of the blocks that are purged for it, if it is to be told. Where the host is out of
-/// memory as the handles are made, and the sink is to be told, the file is put there with those that were made so far;
-/// where the host is out of memory otherwise, the open files stay as they were.
+/// preloaded. The blocks that are purged for it are reported to the sink, if it listens. Where the host is out of
+/// memory as the handles are made, and the sink listens, the file is put there with those that were made so far; where
+/// the host is out of memory otherwise, the open files stay as they were.
 fn put_first<S: BlockStore, K: PurgeSink>(
     alloc: Global,
     heap: &mut Heap<S>,
@@ -164,11 +164,11 @@ impl Resources {
     /// loading is on, and returns the number of the open file. Where the file is already open, the call returns the
     /// file's number and changes neither the file nor the current file. Returns -43 (fnfErr) where the application has
     /// no such file, -30001 (profileErr) where the number 2,147,483,647 was already given to a file, -39 (eofErr) where
-    /// the fork has no bytes, and -199 (mapReadErr) where the bytes are not a resource fork. The sink is told of the
-    /// blocks that are purged for it, if it is to be told. Where the host is out of memory as the handles of preloaded
-    /// resources are made, and the sink is to be told, the file stays open and current: the resources that were
-    /// preloaded so far have their handles, and the others have none. Where the host is out of memory otherwise, the
-    /// resources stay as they were.
+    /// the fork has no bytes, and -199 (mapReadErr) where the bytes are not a resource fork. The blocks that are purged
+    /// for it are reported to the sink, if it listens. Where the host is out of memory as the handles of preloaded
+    /// resources are made, and the sink listens, the file stays open and current: the resources that were preloaded so
+    /// far have their handles, and the others have none. Where the host is out of memory otherwise, the resources stay
+    /// as they were.
     ///
     /// *More Macintosh Toolbox*, chapter 1, "Opening Resource Forks".
     pub fn open_res_file<S: BlockStore, K: PurgeSink>(

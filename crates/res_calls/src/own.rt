@@ -70,8 +70,8 @@ impl Resources {
     /// Fetches the first resource of a type and ID in the application's own fork, under whatever number the fork is
     /// open and whichever file is current. The stored data is read whether loading is on or off, and the code that
     /// `ResError` returns stays as it was. Returns -192 (resNotFound) where the fork is not open or has no such
-    /// resource, and -108 (memFullErr) where the zone has no room. The sink is told of the blocks that are purged for
-    /// it, if it is to be told.
+    /// resource, and -108 (memFullErr) where the zone has no room. The blocks that are purged for it are reported to
+    /// the sink, if it listens.
     pub fn fetch_own<S: BlockStore, K: PurgeSink>(
         &mut self,
         heap: &mut Heap<S>,

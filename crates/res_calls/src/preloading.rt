@@ -71,8 +71,8 @@ fn make_all<S: BlockStore>(
 }
 
 /// Makes a new handle for each reference that has resPreload, in order, puts the number of each into `numbers`, and
-/// returns whether all were made; a number is `None` where the zone had no room. The sink is told of the blocks that
-/// are purged for it, if it is to be told. Where the host is out of memory as the handles are made, `numbers` has the
+/// returns whether all were made; a number is `None` where the zone had no room. The blocks that are purged for it are
+/// reported to the sink, if it listens. Where the host is out of memory as the handles are made, `numbers` has the
 /// numbers of those that were made so far.
 fn make_told<S: BlockStore, K: PurgeSink>(
     alloc: Global,
@@ -145,9 +145,9 @@ pub fn preload<S: BlockStore>(
 }
 
 /// Preloads the resources of a file that have resPreload, in order, and returns whether all were preloaded. A resource
-/// for which the zone has no room gets no handle. The sink is told of the blocks that are purged for it, if it is to be
-/// told. Where the host is out of memory as the handles are made, the resources that were preloaded so far have their
-/// handles, and the others have none.
+/// for which the zone has no room gets no handle. The blocks that are purged for it are reported to the sink, if it
+/// listens. Where the host is out of memory as the handles are made, the resources that were preloaded so far have
+/// their handles, and the others have none.
 pub fn preload_told<S: BlockStore, K: PurgeSink>(
     alloc: Global,
     heap: &mut Heap<S>,

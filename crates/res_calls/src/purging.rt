@@ -24,7 +24,7 @@ pub struct Purged {
     pub bytes: Vec<u8>,
 }
 
-/// The sink that a call of either manager is given: it keeps a copy of each block that it is told of, until
+/// The sink that a call of either manager is given: it keeps a copy of each block that is reported to it, until
 /// `Resources::store_purged` stores what is to be stored of it.
 #[derive(Drop)]
 pub struct Purges {
@@ -48,7 +48,7 @@ impl Model for Purges {
 }
 
 impl Purges {
-    /// Makes a sink that was told nothing. It is to be told only where `on` is set.
+    /// Makes a sink to which nothing was reported. It listens only where `on` is set.
     pub fn new(alloc: Global, on: bool) -> Purges
         ensures { result ≡ record { on = on; told = []; offered = [] } }
     {
@@ -60,7 +60,7 @@ impl Purges {
         }
     }
 
-    /// Returns the blocks of which the sink was told, in order; none where it was not to be told.
+    /// Returns the blocks that were reported to the sink, in order; none where it did not listen.
     pub fn into_told(self) -> Vec<Purged>
         ensures { map view_purged result.items ≡ heard self.on self.told }
     {

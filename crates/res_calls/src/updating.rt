@@ -218,7 +218,7 @@ pub(crate) fn renew_at<S: BlockStore>(
     Ok(carry_out(files, &mut chain[at], anew))
 }
 
-/// Updates the open file at the place `at` as `renew_at` does, and lets go of what is replaced.
+/// Updates the open file at the place `at` as `renew_at` does, and releases what is replaced.
 pub(crate) fn update_at<S: BlockStore>(
     alloc: Global,
     heap: &Heap<S>,

@@ -101,21 +101,3 @@ count_on view test xs i n all x inside is fails e =
     let found : filter test (map view (drop i xs)) ≡ rest =
     ap (filter test) (rest-map view xs i x inside is) ∙ ap (λ (t : Bool). cond t (view x ∷ rest) rest) fails in
     ap (λ l. n + length l) (sym found) ∙ e
-
--- those of items that have one
-pub gathered_some : {X A B : Type 0} (view : X → A) (h : A → Option B) (xs : List X) (front front' all : List B) (i : ℕ)
-    (x : X) (b : B) → i < length xs → x ≡ get_or xs i x → h (view x) ≡ Some b → front' ≡ front ++ b ∷ []
-    → front ++ filter_map h (map view (drop i xs)) ≡ all → front' ++ filter_map h (map view (drop (i + 1) xs)) ≡ all
-gathered_some view h xs front front' all i x b inside is has pushed e =
-    let rest = filter_map h (map view (drop (i + 1) xs)) in
-    ap (λ l. l ++ rest) pushed ∙ append_assoc front (b ∷ []) rest
-    ∙ ap (λ l. front ++ l) (sym (ap (filter_map h) (rest-map view xs i x inside is) ∙ ap (λ o. cons_option o rest) has))
-    ∙ e
-
-pub gathered_none : {X A B : Type 0} (view : X → A) (h : A → Option B) (xs : List X) (front all : List B) (i : ℕ)
-    (x : X) → i < length xs → x ≡ get_or xs i x → h (view x) ≡ None
-    → front ++ filter_map h (map view (drop i xs)) ≡ all → front ++ filter_map h (map view (drop (i + 1) xs)) ≡ all
-gathered_none view h xs front all i x inside is has e =
-    let rest = filter_map h (map view (drop (i + 1) xs)) in
-    ap (λ l. front ++ l) (sym (ap (filter_map h) (rest-map view xs i x inside is) ∙ ap (λ o. cons_option o rest) has))
-    ∙ e

@@ -37,7 +37,8 @@ first_place test xs = option_map place (split test xs)
 abbrev pub IsRising : List Row → Type 0
 IsRising rows = IsNonDecreasingBy rank_of rows
 
--- The rows are in order, and tell of each type and key the place of the first reference that passes the test for them.
+-- The rows are in order, and record for each type and key the place of the first reference that passes the test for
+-- them.
 pub record IsIndex (test : ℕ → ℤ → Reference → Bool) (rows : List Row) (references : List Reference) : Type 0 where
   pub rising : IsRising rows
   pub tells : (kind : ℕ) (key : ℤ) → place_in kind key rows ≡ first_place (test kind key) references
@@ -114,12 +115,12 @@ abbrev pub rows_in : Option Row → List Row
 rows_in None = []
 rows_in (Some row) = row ∷ []
 
--- The new rows tell this place, or none, of the type and key, and of all others what the old ones tell.
+-- The new rows record this place, or none, for the type and key, and for all others what the old ones record.
 abbrev pub IsToldAs : ℕ → ℤ → Option ℕ → List Row → List Row → Type 0
 IsToldAs kind key place old new = (k : ℕ) (i : ℤ) → place_in k i new
     ≡ (if kind == k && int_eq key i then place else place_in k i old)
 
--- Each place that the rows tell is below n.
+-- Each place that the rows record is below n.
 abbrev pub IsWithin : ℕ → List Row → Type 0
 IsWithin n rows = (kind : ℕ) (key : ℤ) → IfSome (place_in kind key rows) (λ p. p < n)
 
@@ -138,7 +139,7 @@ raised_within from p = if nat_le from p then min (p + 1) (2 ^ 64 - 1) else p
 abbrev pub lowered : ℕ → ℕ → ℕ
 lowered from p = if nat_lt from p then p - 1 else p
 
--- The sooner of a place and one that may be told.
+-- The sooner of a place and of the one that is recorded, if one is.
 abbrev pub sooner : ℕ → Option ℕ → Option ℕ
 sooner at None = Some at
 sooner at (Some p) = if nat_lt p at then Some p else Some at

@@ -116,7 +116,7 @@ fn row_placed(row: Option<Row>, place: usize) -> Option<Row>
     }
 }
 
-/// Adds a reference as `put_in` does, and tells the indexes of it.
+/// Adds a reference as `put_in` does, and records it in the indexes.
 pub fn put_in_file(
     kinds: &mut Vec<u32>,
     refs: &mut Vec<StoredReference>,
@@ -171,7 +171,7 @@ fn take_out(kinds: &mut Vec<u32>, refs: &mut Vec<StoredReference>, index: usize)
     }
 }
 
-/// Removes the reference at a place as `take_out` does, and tells the indexes of it.
+/// Removes the reference at a place as `take_out` does, and removes it from the indexes.
 pub fn take_out_of_file(
     kinds: &mut Vec<u32>,
     refs: &mut Vec<StoredReference>,

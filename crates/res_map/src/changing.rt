@@ -194,7 +194,7 @@ pub fn put_name(
     call(&mut refs[index], id, text, name);
 }
 
-/// Sets the ID of the reference at a place, and its name where a name is given, and tells the index of it, which has
+/// Sets the ID of the reference at a place, and its name where a name is given, and records it in the index, which has
 /// room for a row.
 fn put_name_told(
     refs: &mut Vec<StoredReference>,
@@ -240,7 +240,7 @@ fn tell_name(names: &mut Vec<Row>, refs: &[StoredReference], old: Option<Row>, i
     }
 }
 
-/// Sets the ID of the reference at a place, and its name where a name is given, and tells the indexes of it.
+/// Sets the ID of the reference at a place, and its name where a name is given, and records it in the indexes.
 pub fn put_name_in_file(
     refs: &mut Vec<StoredReference>,
     rows: &mut Vec<Row>,

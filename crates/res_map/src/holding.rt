@@ -104,8 +104,8 @@ pub fn enter_held(rows: &mut Vec<Row>, row: Option<Row>, place: usize, len: usiz
     }
 }
 
-/// Tells of a reference that has no handle any more: it had that of the row. `refs` are the references without it, or
-/// with it as it is now. They are searched where another of them has the handle.
+/// Removes from the index a reference that has no handle any more: it had that of the row. `refs` are the references
+/// without it, or with it as it is now. They are searched where another of them has the handle.
 fn let_go(rows: &mut Vec<Row>, refs: &[StoredReference], row: Row)
     ensures rising { IsRising rows.old.items → IsRising rows.new.items }
     ensures tells { IsRising rows.old.items → IsEachAnd row rows.old.items (map view_reference refs.now)
@@ -124,7 +124,7 @@ fn let_go(rows: &mut Vec<Row>, refs: &[StoredReference], row: Row)
     }
 }
 
-/// Tells of a reference that was taken out at a place, with its row, if it had a handle; `refs` are left.
+/// Removes from the index a reference that was taken out at a place, with its row, if it had a handle; `refs` are left.
 pub fn leave_held(rows: &mut Vec<Row>, refs: &[StoredReference], row: Option<Row>, place: usize)
     requires { IfSome row (λ r. r.place ≡ place) }
     ensures held { (capacity : ℕ) (references : List Reference) (old : Reference) → slice_get references place ≡ Some old
@@ -139,7 +139,7 @@ pub fn leave_held(rows: &mut Vec<Row>, refs: &[StoredReference], row: Option<Row
     }
 }
 
-/// Takes the handle of the reference at a place away, if it has one, and tells the index by handle.
+/// Takes the handle of the reference at a place away, if it has one, and records that in the index by handle.
 fn take_handle(refs: &mut Vec<StoredReference>, rows: &mut Vec<Row>, index: usize)
     requires { index < length refs.old.items }
     ensures taken { IfSome (slice_get (map view_reference refs.old.items) index) (λ r. map view_reference refs.new.items
@@ -154,7 +154,7 @@ fn take_handle(refs: &mut Vec<StoredReference>, rows: &mut Vec<Row>, index: usiz
     }
 }
 
-/// Gives a handle to the reference at a place, which has none, and tells the index by handle.
+/// Gives a handle to the reference at a place, which has none, and records that in the index by handle.
 fn give_handle(refs: &mut Vec<StoredReference>, rows: &mut Vec<Row>, index: usize, handle: usize)
     requires { index < length refs.old.items }
     ensures given { IfSome (slice_get (map view_reference refs.old.items) index) (λ r. map view_reference refs.new.items
@@ -167,7 +167,7 @@ fn give_handle(refs: &mut Vec<StoredReference>, rows: &mut Vec<Row>, index: usiz
     put_sooner(rows, handle_row(handle, index));
 }
 
-/// Sets the handle of the reference at a place, or takes it away, and tells the index by handle.
+/// Sets the handle of the reference at a place, or takes it away, and records that in the index by handle.
 pub fn put_handle_in_file(
     refs: &mut Vec<StoredReference>,
     rows: &mut Vec<Row>,

@@ -61,7 +61,7 @@ fn rows_below(rows: &[Row], kind: u32, key: i32) -> usize
     rows.partition_point(|row| is_below(row, kind, key))
 }
 
-/// Returns the place that the first row of a type and key tells.
+/// Returns the place that the first row of a type and key records.
 pub fn place_told(rows: &[Row], kind: u32, key: i32) -> Option<usize>
     ensures { IsRising rows.now → result ≡ place_in kind key rows.now }
 {
@@ -199,7 +199,7 @@ fn raise_all(rows: &mut Vec<Row>, from: usize)
     raise(rows.as_mut_slice(), from);
 }
 
-/// Makes the places in rows one higher that are `from` or higher. All that are told are below `len`.
+/// Makes the places in rows one higher that are `from` or higher. All places that are recorded are below `len`.
 pub fn open_gap(rows: &mut Vec<Row>, from: usize, len: usize)
     ensures room { vec_len rows.old < vec_capacity rows.old → vec_len rows.new < vec_capacity rows.new }
     ensures rising { IsRising rows.old.items → IsRising rows.new.items }
@@ -267,7 +267,7 @@ pub fn set_row(rows: &mut Vec<Row>, row: Row)
     }
 }
 
-/// Tells the place of a row: sets it in the first row of its type and key, or puts in the row. There is room for it.
+/// Records the place of a row: sets it in the first row of its type and key, or puts in the row. There is room for it.
 fn tell(rows: &mut Vec<Row>, row: Row)
     ensures rising { IsRising rows.old.items → IsRising rows.new.items }
     ensures tells { vec_len rows.old < vec_capacity rows.old → IsRising rows.old.items
@@ -279,7 +279,7 @@ fn tell(rows: &mut Vec<Row>, row: Row)
     }
 }
 
-/// Reports whether a place that may be told is sooner than another.
+/// Reports whether a place is recorded that is sooner than another.
 fn is_sooner(first: Option<usize>, place: usize) -> bool
     ensures sooner { result ≡ true → sooner place first ≡ first }
     ensures later { result ≡ false → sooner place first ≡ Some place }
@@ -290,7 +290,7 @@ fn is_sooner(first: Option<usize>, place: usize) -> bool
     }
 }
 
-/// Returns the sooner of a place and one that may be told.
+/// Returns the sooner of a place and of the one that is recorded, if one is.
 fn sooner(first: Option<usize>, place: usize) -> usize
     ensures { Some result ≡ sooner place first }
 {
@@ -300,8 +300,8 @@ fn sooner(first: Option<usize>, place: usize) -> usize
     }
 }
 
-/// Puts in a row before all others of its type and key; where a sooner place is told of them, the row tells that place.
-/// There is room for it.
+/// Puts in a row before all others of its type and key; where a sooner place is recorded for them, the row records that
+/// place. There is room for it.
 pub fn put_sooner(rows: &mut Vec<Row>, row: Row)
     ensures rising { IsRising rows.old.items → IsRising rows.new.items }
     ensures tells { vec_len rows.old < vec_capacity rows.old → IsRising rows.old.items
@@ -331,7 +331,7 @@ pub fn take_row(rows: &mut Vec<Row>, row: Row)
     }
 }
 
-/// Tells the place of a row, unless a sooner one is told of its type and key. There is room for a row.
+/// Records the place of a row, unless a sooner one is recorded for its type and key. There is room for a row.
 fn tell_sooner(rows: &mut Vec<Row>, row: Row)
     ensures rising { IsRising rows.old.items → IsRising rows.new.items }
     ensures tells { vec_len rows.old < vec_capacity rows.old → IsRising rows.old.items

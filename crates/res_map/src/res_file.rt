@@ -1,7 +1,7 @@
 //! The resource map of one open file.
 
 ghost use Rattle.std.specs.Prelude.{◌≡◌, ◌<◌, ◌≤◌, ◌^◌, ℕ, IsTrue, Some, length, map, slice_get, slice_set, option_map};
-ghost use Rattle.std.specs.Prelude.{IfOk, IfSome, OnOk, OnErr, filter_map};
+ghost use Rattle.std.specs.Prelude.{IfOk, IfSome, OnOk, OnErr};
 ghost use Rattle.std.specs.List.{list_all, remove};
 ghost use Rattle.byteorder.specs.Endian.{big_number};
 ghost use Rattle.fork_format.specs.Content.{Group as GroupValue};
@@ -22,7 +22,7 @@ use crate::holding::{place_held, put_handle_in_file};
 use crate::index::{Row, index_of, named_index_of, place_told};
 use crate::lent::{LentReference, entry_of, type_of};
 use crate::reading::{read_groups, read_types};
-use crate::search::{count_of, handles_of, nth_place, place_called};
+use crate::search::{count_of, nth_place, place_called};
 use crate::stored::StoredReference;
 use fork_format::{Content, kind_of};
 use mac_words::{Attrs, Name, OsType};
@@ -52,8 +52,8 @@ impl Model for ResFile {
     ghost view = { λ f. record { area = f.area; attrs = f.attrs; references = map view_reference f.refs.items } };
 
     // Each type stands once, in the order of the first references; the references of one type stand together; and the
-    // indexes tell the place of the first reference of each type and ID, of each type and print of a name, and of each
-    // handle.
+    // indexes record the place of the first reference of each type and ID, of each type and print of a name, and of
+    // each handle.
     ghost invariant = { λ f. IsOrdered f.kinds.items (map view_reference f.refs.items)
         × IsIndex is_resource f.index.items (map view_reference f.refs.items)
         × IsIndex is_printed f.names.items (map view_reference f.refs.items)
@@ -156,13 +156,6 @@ impl ResFile {
         ensures { option_map (λ (t : OsType). big_number 4 t.0) result ≡ nth n (types self.now.references) }
     {
         nth_kind(self.kinds.as_slice(), n)
-    }
-
-    /// Returns the handles of the references, in order.
-    pub fn handles(&self, alloc: Global) -> Result<Vec<usize>, AllocError>
-        ensures { IfOk result (λ v. v.items ≡ filter_map (λ (r : Reference). r.handle) self.now.references) }
-    {
-        handles_of(alloc, self.refs.as_slice())
     }
 
     /// Sets the handle of a reference, or takes it away.

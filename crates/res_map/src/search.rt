@@ -1,6 +1,6 @@
 //! Searches among the references of a file.
 
-ghost use Rattle.std.specs.Prelude.{◌≡◌, ◌≤◌, map, length, option_map, filter_map, OnOk, IfOk, IfSome, ℕ};
+ghost use Rattle.std.specs.Prelude.{◌≡◌, ◌≤◌, map, length, option_map, OnOk, IfSome, ℕ};
 ghost use Rattle.res_map.specs.Split.{split, place};
 ghost use Rattle.res_map.specs.Map.{Reference, is_of, is_resource, same_name, is_named, of_type};
 ghost use Rattle.res_map.specs.Map.{split_nth};
@@ -14,7 +14,6 @@ ghost use Rattle.res_map.specs.View.{view_name, view_reference};
 use crate::index::{Row, place_told};
 use crate::prints::print_of;
 use crate::stored::{StoredName, StoredReference};
-use std::alloc::{AllocError, Global};
 
 /// Reports whether a reference has a type and ID.
 fn is_at(r: &StoredReference, kind: u32, id: i32) -> bool
@@ -168,18 +167,4 @@ pub fn end_of(refs: &[StoredReference], kind: u32) -> Option<usize>
         end -= 1;
     }
     None
-}
-
-/// Returns the handles of the references, in order.
-#[tactic(auto, using(crate::proofs::Steps::gathered_some, crate::proofs::Steps::gathered_none))]
-pub fn handles_of(alloc: Global, refs: &[StoredReference]) -> Result<Vec<usize>, AllocError>
-    ensures { IfOk result (λ v. v.items ≡ filter_map (λ (r : Reference). r.handle) (map view_reference refs.now)) }
-{
-    let mut handles = Vec::new(alloc);
-    for r in refs {
-        if let Some(handle) = r.rest.handle {
-            handles.push(handle)?;
-        }
-    }
-    Ok(handles)
 }

@@ -4,7 +4,7 @@ use Rattle.std.proofs.Common.{nat_lt, bit_and, bit_or, codes, Ok, Some, List, []
 use Rattle.std.proofs.Common.{eqb-true, le-ltb}
 use Rattle.std.proofs.lemmas.Bool.{agree_below_at}
 use Rattle.fork_format.specs.Content.{Ref, Content}
-use Rattle.hex_digits.specs.Digits.{upper_digit}
+use Rattle.mac_words.specs.Digits.{upper_digit}
 use Rattle.rez_text.specs.declared.mode.Mode.TheVariants as mode
 use Rattle.rez_text.specs.declared.mode.Place.{Place}
 use Rattle.rez_text.specs.declared.mode.Place.TheVariants as place

@@ -3,7 +3,7 @@ use Rattle.std.proofs.Common.{◌≡◌, ◌<◌, ◌==◌, ℕ, ◌+◌, ◌/�
 use Rattle.std.proofs.Common.{Ok, List, [], ◌∷◌, ◌++◌, refl, ap, ◌∙◌, sym, arith, eqb-true, append_assoc, append-nil}
 use Rattle.std.proofs.lemmas.Bool.{agree_below_at}
 use Rattle.fork_format.specs.Content.{Ref, Content}
-use Rattle.hex_digits.specs.Digits.{upper_digit}
+use Rattle.mac_words.specs.Digits.{upper_digit}
 use Rattle.rez_text.specs.declared.mode.Mode.TheVariants as mode
 use Rattle.rez_text.specs.declared.mode.Place.TheVariants as place
 use Rattle.rez_text.specs.Bytes.{AreBytes}

@@ -7,7 +7,7 @@ use Rattle.std.proofs.lemmas.Bool.{and_right, and_parts}
 use Rattle.std.specs.List.{list_all}
 use Rattle.byteorder.specs.Endian.{big_number}
 use Rattle.fork_format.specs.Content.{Group, Content}
-use Rattle.hex_digits.specs.Digits.{upper_digit}
+use Rattle.mac_words.specs.Digits.{upper_digit}
 use Rattle.rez_text.specs.declared.mode.Mode.TheVariants as mode
 use Rattle.rez_text.specs.declared.mode.Place.TheVariants as place
 use Rattle.rez_text.specs.State.{State, no_ref}

@@ -4,7 +4,7 @@ use Rattle.std.specs.Prelude.{bit_and, if◌then◌else◌}
 use Rattle.std.specs.List.{flat_map, list_all}
 use Rattle.std.specs.Fmt.{signed_decimal}
 use Rattle.byteorder.specs.Endian.{big_bytes}
-use Rattle.hex_digits.specs.Digits.{upper_digit}
+use Rattle.mac_words.specs.Digits.{upper_digit}
 use Rattle.fork_format.specs.Content.{Ref, Group, Content}
 
 -- The content of a resource fork as source of Rez, in the form that DeRez prints.

@@ -13,9 +13,8 @@ ghost use Rattle.rez_text.specs.Printing.{area_remark, source_of};
 
 use byteorder::{BigEndian, ByteOrder};
 use fork_format::{Content, Group, Ref, RefName, kind_of};
-use hex_digits::upper_digit;
 use itoa::Buffer;
-use mac_words::Attrs;
+use mac_words::{Attrs, upper_digit};
 use std::alloc::{AllocError, Global};
 
 /// The most bytes of a line of data.

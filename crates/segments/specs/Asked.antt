@@ -9,7 +9,7 @@ use Rattle.res_calls.specs.Own.{own_handle}
 use Rattle.segments.specs.Calls.{Program, Answer, Called, Shown, load_seg, unload_seg, call_entry, show_entry}
 use Rattle.segments.specs.Calls.{code_type}
 
--- What a try of a call comes to: its reply as a transcript prints it, what it read, the empty handle into whose block
+-- The outcome of a try of a call: its reply as a transcript prints it, what it read, the empty handle into whose block
 -- it reads again, whether it is refused because there is no room, and the program after it.
 pub record Served : Type 0 where
   pub told : Told

@@ -96,7 +96,7 @@ abbrev pub let_loose : Option ℕ → Managers → Managers
 let_loose None s = s
 let_loose (Some h) s = with_memory (inside (loosened h) s.memory) s
 
--- UnloadSeg: unloads all entries of a segment, whatever its resource names, and lets its block move and be purged;
+-- UnloadSeg: unloads all entries of a segment, whatever its resource names, and makes its block unlocked and purgeable;
 -- -117 (memLockedErr) where the segment's handle is busy.
 abbrev pub unload_handle : ℤ → Option ℕ → Program → Answer (Unit {0})
 unload_handle n handle p = if bars handle p.managers.memory then refused LOCKED p

@@ -59,11 +59,11 @@ impl JumpTable {
     ///
     /// Returns system error 15 where the fork is not open, the segment is 0, there is no such resource or no room for
     /// its block, the resource has fewer than 4 bytes or is of the far model, the offset of its first entry is no
-    /// multiple of 8, or not all entries that it names are in the table and belong to the segment. The sink is told of
-    /// the blocks that are purged for the segment, if it is to be told. Where the host is out of memory, the table and
-    /// the resources stay as they were, and all of the heap but the zone and the count of moves; over a store that takes
-    /// no host memory the whole heap and the sink do, but where the sink found the host out of memory behind a new
-    /// master pointer block, which then stays.
+    /// multiple of 8, or not all entries that it names are in the table and belong to the segment. The blocks that are
+    /// purged for the segment are reported to the sink, if it listens. Where the host is out of memory, the table and
+    /// the resources stay as they were, and all of the heap but the zone and the count of moves; over a store that
+    /// takes no host memory the whole heap and the sink stay so too, except where the sink found the host out of memory
+    /// after a new master pointer block was made, which then stays.
     pub fn load<S: BlockStore, K: PurgeSink>(
         &mut self,
         heap: &mut Heap<S>,
@@ -131,7 +131,7 @@ impl JumpTable {
     /// `CallEntry`: calls the routine of an entry, counted from 0; where the entry is unloaded, its segment is loaded
     /// first, as `load` does. Returns -30001 (profileErr) where there is no such entry, or where the entry is loaded
     /// although its segment has no block; system error 15 where the entry belongs to no segment, or where its segment
-    /// cannot be loaded. The sink is told of the blocks that are purged for the segment, if it is to be told.
+    /// cannot be loaded. The blocks that are purged for the segment are reported to the sink, if it listens.
     pub fn call<S: BlockStore, K: PurgeSink>(
         &mut self,
         heap: &mut Heap<S>,
@@ -170,8 +170,8 @@ impl JumpTable {
         }
     }
 
-    /// Calls a routine whose segment is loaded for the call. The sink is told of the blocks that are purged for it, if
-    /// it is to be told.
+    /// Calls a routine whose segment is loaded for the call. The blocks that are purged for it are reported to the
+    /// sink, if it listens.
     fn call_loading<S: BlockStore, K: PurgeSink>(
         &mut self,
         heap: &mut Heap<S>,

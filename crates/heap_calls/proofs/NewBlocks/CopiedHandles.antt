@@ -13,6 +13,7 @@ use Rattle.block_store.specs.Block.{rename_block}
 use Rattle.block_store.specs.Room.{Spot, spot, rename_spot, filled, place, least, purge, count_of, room, put_in_place}
 use Rattle.block_store.specs.Rest.{Rest}
 use Rattle.block_store.specs.declared.sparing.Sparing.TheVariants as sparing
+use Rattle.block_store.specs.declared.measures.TheConstants.{GREATEST_ZONE}
 use Rattle.heap_calls.specs.State.{State, Memory}
 use Rattle.heap_calls.specs.declared.log.Log.{Log}
 use Rattle.heap_calls.specs.declared.anchor.Anchor.{Anchor}
@@ -53,12 +54,12 @@ use Rattle.heap_calls.proofs.Room.MoveCounts.{not-moved}
 -- HandToHand.
 
 -- a size that has room
-phys-fits : (n : ℕ) → n ≤ 134217728 → is_some (phys n) ≡ true
+phys-fits : (n : ℕ) → n ≤ GREATEST_ZONE → is_some (phys n) ≡ true
 phys-fits n small = ap (λ t. is_some (cond t (Some (padded n)) None)) (le-leb n 2147483616 (omega (arith, small)))
 
 -- the bytes of a block are no more than the zone's
 pub source-few : (zone : List Block) (slot : ℕ) (s : Spot) → spot (is_relocatable slot) zone ≡ Some s
-    → sizes zone ≤ 134217728 → length (content_of s.here) ≤ 134217728
+    → sizes zone ≤ GREATEST_ZONE → length (content_of s.here) ≤ GREATEST_ZONE
 source-few zone slot s is small =
     let high = place-small zone slot s is in
     let header = header-fits slot s.here (spot-passes (is_relocatable slot) zone s is) in
@@ -166,7 +167,7 @@ module _ (zone : List Block) (rest : Rest) (es : List Anchor) (masters : rest.al
     (at : slice_get es h ≡ Some (Handle source guarded))
     (small : h < no_number)
     (a : Spot) (block : spot (is_relocatable source) zone ≡ Some a) (long : length (content_of a.here) ≡ n)
-    (few : n ≤ 134217728)
+    (few : n ≤ GREATEST_ZONE)
   where
     abbrev old : State
     old = state_of zone rest.slots es

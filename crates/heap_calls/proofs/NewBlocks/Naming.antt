@@ -7,6 +7,7 @@ use Rattle.block_store.specs.Block.{Block, is_masters, count, is_relocatable, co
 use Rattle.block_store.specs.Rest.{Rest, IsRest, counted}
 use Rattle.block_store.specs.Room.{Spot, spot}
 use Rattle.block_store.specs.declared.sparing.Sparing.TheVariants as sparing
+use Rattle.block_store.specs.declared.measures.TheConstants.{GREATEST_ZONE}
 use Rattle.heap_calls.specs.declared.anchor.Anchor.{Anchor}
 use Rattle.heap_calls.specs.declared.log.Log.{Log}
 use Rattle.heap_calls.specs.State.{State, Memory}
@@ -146,7 +147,7 @@ pub record Copied (zone : List Block) (es : List Anchor) (handle : Option ℕ) (
   pub a : Spot
   pub block : spot (is_relocatable f.slot) zone ≡ Some a
   pub long : length (content_of a.here) ≡ n
-  pub few : n ≤ 134217728
+  pub few : n ≤ GREATEST_ZONE
 
 module _ (zone : List Block) (rest : Rest) (es : List Anchor) (masters : rest.all ≡ 64 * count is_masters zone)
     (agrees : Agrees zone rest es) (handle : Option ℕ) (f : Found) (n : ℕ) (k : Copied zone es handle f n)

@@ -17,6 +17,7 @@ use Rattle.block_store.specs.Slot.{Slot}
 use Rattle.block_store.specs.Rest.{Rest, KeepsSlots}
 use Rattle.block_store.specs.Room.{Spot, spot, spot_at, raised, rename_spot}
 use Rattle.block_store.specs.Grow.{freed}
+use Rattle.block_store.specs.declared.measures.TheConstants.{GREATEST_ZONE}
 use Rattle.block_store.proofs.Zone.Apart.{Apart, apart-tidied, apart-size}
 use Rattle.block_store.proofs.Renamed.Renaming.{spot-rename, freed-rename, tidy-rename}
 use Rattle.block_store.proofs.Zone.Tidy.{has-tidy, has-freed, spot-passes, spot-is}
@@ -260,7 +261,7 @@ finds-same looked looked' zone es r same found = let P : Result Held OsErr → T
 
 -- a pointer's block is found by its place
 pub finds-pointer : (zone : List Block) (slots : ℕ → Slot) (es : List Anchor) (pointer : Option ℕ) (t : Target)
-    → sizes zone ≤ 134217728 → IsHeld zone slots es pointer t → FindsHeld (pointed_at pointer (state_of zone slots es))
+    → sizes zone ≤ GREATEST_ZONE → IsHeld zone slots es pointer t → FindsHeld (pointed_at pointer (state_of zone slots es))
     zone es (Ok t.place)
 finds-pointer zone slots es pointer t fits there = (
   t.number,

@@ -19,6 +19,7 @@ use Rattle.heap_calls.specs.Purging.{purgeable, blocks_purged, purged_all, purge
 use Rattle.heap_calls.specs.Searches.{purge_mem_searches}
 use Rattle.heap_calls.specs.Inner.Numbered.{state_of, memory_of, handle_number, pointer_number}
 use Rattle.block_store.specs.declared.sparing.Sparing.TheVariants as sparing
+use Rattle.block_store.specs.declared.measures.TheConstants.{GREATEST_ZONE}
 use Rattle.heap_calls.proofs.Room.Searching.{most-le}
 use Rattle.block_store.proofs.Regroup.Settling.{runs-few}
 use Rattle.heap_calls.proofs.Numbering.Largest.{has_room-rename, largest_free-rename, runs-rename, settled-rename}
@@ -68,7 +69,7 @@ purged_all-rename f g zone = ap (λ k. purge k nothing (rename f g zone)) (purge
     ∙ purge-rename f g nothing nothing (λ b. refl) (purgeable zone) zone
 
 -- all that may be purged is, where no fewer purges are asked for than there can be; no zone has more blocks than bytes
-pub all-gone : (zone : List Block) → sizes zone ≤ 134217728 → purgeable zone ≤ 134217728
+pub all-gone : (zone : List Block) → sizes zone ≤ GREATEST_ZONE → purgeable zone ≤ GREATEST_ZONE
 all-gone zone small = omega (arith, most-le sparing.Nothing zone, small)
 
 pub purged_all-is : (zone zone' : List Block) (k : ℕ) → purgeable zone ≤ k → zone' ≡ purge k nothing zone

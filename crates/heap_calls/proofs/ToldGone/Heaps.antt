@@ -6,6 +6,7 @@ use Rattle.std.proofs.lemmas.Option.{slice_get_cases, same_Some}
 use Rattle.block_store.specs.Block.{Block, Free, Nonrelocatable, Masters, Relocatable, sizes, count, is_relocatable}
 use Rattle.block_store.specs.Block.{rename, rename_block}
 use Rattle.block_store.specs.Rest.{Rest}
+use Rattle.block_store.specs.declared.measures.TheConstants.{GREATEST_ZONE}
 use Rattle.block_store.proofs.Renamed.Renaming.{total-rename}
 use Rattle.heap_calls.specs.declared.anchor.Anchor.{Anchor}
 use Rattle.heap_calls.specs.declared.anchor.Anchor.TheVariants.{Handle, Pointer, Disposed}
@@ -83,7 +84,7 @@ heap-once value zone rest es log is agrees few once =
     (let l : length (map (name_of rest.slots) es) ≡ length es = length-map es (name_of rest.slots) in omega arith))
 
 pub heap-small : (value : Memory) (zone : List Block) (rest : Rest) (es : List Anchor) (log : Log)
-    → memory_of zone rest es log ≡ value → sizes zone ≤ 134217728 → sizes value.heap.zone ≤ 134217728
+    → memory_of zone rest es log ≡ value → sizes zone ≤ GREATEST_ZONE → sizes value.heap.zone ≤ GREATEST_ZONE
 heap-small value zone rest es log is small =
-    subst (λ (m : Memory). sizes m.heap.zone ≤ 134217728) is
+    subst (λ (m : Memory). sizes m.heap.zone ≤ GREATEST_ZONE) is
     (omega (arith, small, sizes-rename (handle_number es) (pointer_number es) zone))

@@ -14,6 +14,7 @@ use Rattle.block_store.specs.Block.{is_relocatable, is_nonrelocatable, content_o
 use Rattle.block_store.specs.Run.{has}
 use Rattle.block_store.specs.Room.{spot, put_in_place}
 use Rattle.block_store.specs.Grow.{freed}
+use Rattle.block_store.specs.declared.measures.TheConstants.{GREATEST_ZONE}
 use Rattle.block_store.proofs.Zone.Leading.{count-none}
 use Rattle.block_store.proofs.Zone.Passing.{has-count}
 use Rattle.block_store.proofs.Zone.Keeping.{unless, freed-is}
@@ -199,7 +200,7 @@ gone-gated a m = sym (unless-none (gate a m))
 
 module _ (h : ℕ) (m : Memory) (within : h < length m.heap.names)
     (once : (k : ℕ) → k < length m.heap.names → count (is_relocatable k) m.heap.zone ≤ 1)
-    (small : sizes m.heap.zone ≤ 134217728)
+    (small : sizes m.heap.zone ≤ GREATEST_ZONE)
   where
     fresh : (flags : Flags) (content : List ℕ) → is_of h (Relocatable (length m.heap.names) flags content) ≡ 0
     fresh flags content = cond-false (length m.heap.names == h) 1 0 (grind (arith, nat_tests, within))
@@ -425,7 +426,7 @@ module _ (h : ℕ) (m : Memory) (within : h < length m.heap.names)
 -- what a try of a call tells of a handle is what the handle loses
 pub tells-what-goes : (a : Asked) (m : Memory)
     → ((k : ℕ) → k < length m.heap.names → count (is_relocatable k) m.heap.zone ≤ 1)
-    → sizes m.heap.zone ≤ 134217728 → TellsWhatGoes a m
+    → sizes m.heap.zone ≤ GREATEST_ZONE → TellsWhatGoes a m
 tells-what-goes a m once small h within =
     ap (told_of h) (gone-gated a m)
     ∙ by_gate (gate a m) (λ f. subst (λ (l : List Gone). weigh f (told_of h l) ≤ weigh f (bytes_in h m.heap.zone))
@@ -522,5 +523,5 @@ tells-of-purgeable a m h some = (
 -- what a step of the Resource Manager tells of a handle is what the handle loses
 pub step-tells-what-goes : (step : Step) (m : Memory)
     → ((k : ℕ) → k < length m.heap.names → count (is_relocatable k) m.heap.zone ≤ 1)
-    → sizes m.heap.zone ≤ 134217728 → StepTellsWhatGoes step m
+    → sizes m.heap.zone ≤ GREATEST_ZONE → StepTellsWhatGoes step m
 step-tells-what-goes step m once small h within = step-tells h m within once small step

@@ -16,6 +16,7 @@ use Rattle.block_store.specs.Block.{is_purgeable, is_relocatable, is_nonrelocata
 use Rattle.block_store.specs.Run.{runs, has_free}
 use Rattle.block_store.specs.Room.{Spot, spot, may_be_purged, put_in_place, put_at_base, room}
 use Rattle.block_store.specs.Grow.{freed, grow}
+use Rattle.block_store.specs.declared.measures.TheConstants.{GREATEST_ZONE}
 use Rattle.windows.specs.Writes.{written}
 use Rattle.block_store.proofs.Zone.Tidy.{spot-is, spot-passes}
 use Rattle.block_store.proofs.Zone.Totals.{total-append}
@@ -101,7 +102,7 @@ module _ (m : Memory) (of : Block → ℕ) (none : (k : ℕ) → of (Free k) ≡
     (sized : (k : ℕ) (b : Block) → of b ≡ of (resized k b))
     (filled : (x : List ℕ) (b : Block) → of b ≡ of (with_content x b))
     (once : (h : ℕ) → h < length m.heap.names → count (is_relocatable h) m.heap.zone ≤ 1)
-    (small : sizes m.heap.zone ≤ 134217728)
+    (small : sizes m.heap.zone ≤ GREATEST_ZONE)
   where
     n : ℕ
     n = length m.heap.names

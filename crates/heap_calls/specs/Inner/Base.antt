@@ -24,7 +24,7 @@ pub record IsBase (p : ℕ) (r : RunSpot) (zone : List Block) (place : ℕ) : Ty
   pub distance : sizes s.below ≡ place
   pub fills : (new : Block) → size new ≡ p → free_of new ≡ 0 → filled new s ≡ tidy (with_run (low new) r)
 
--- The bottom of the wanted run, with p free bytes, is at this place in the zone; `None` where no run is wanted.
+-- The bottom of the run that is sought, with p free bytes, is at this place in the zone; `None` where no run is sought.
 abbrev pub IsBaseAt : ℕ → Option RunSpot → List Block → Option ℕ → Type 0
 IsBaseAt p wanted zone None = wanted ≡ None
 IsBaseAt p wanted zone (Some place) = (r : RunSpot) × (wanted ≡ Some r) × (zone ≡ tidy (with_run (low (Free p)) r))

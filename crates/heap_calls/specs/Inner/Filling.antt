@@ -19,7 +19,7 @@ use Rattle.heap_calls.specs.Inner.NewBlock.{fresh_block, IsPut, IsNewBlock}
 
 -- Blocks with given flags and bytes.
 
--- n is the wanted number of bytes; or no block can have the wanted number, nor n.
+-- n is the number of bytes that the block is to have; or no block can have that number, nor n.
 abbrev pub IsSizeOf : ℕ → ℕ → Type 0
 IsSizeOf wanted n = (n ≡ wanted) ⊎ ((phys n ≡ None) × (phys wanted ≡ None))
 
@@ -82,7 +82,7 @@ abbrev pub owned_by : Bool → Result ℕ Refusal → State → State
 owned_by guarded (Ok number) s = cast (λ _. resource_role guarded) number s
 owned_by guarded (Err refusal) s = s
 
--- The flags and the bytes of a wanted resource.
+-- The flags and the bytes of a resource that is to be made.
 abbrev pub wanted_as : Filling → Flags × List ℕ
 wanted_as w = (w.flags, w.bytes.now)
 

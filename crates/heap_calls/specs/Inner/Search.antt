@@ -29,7 +29,7 @@ FindsPlacement p zone (Some (see.Free at)) = FindsLowest (is_room p) zone (Some 
 FindsPlacement p zone (Some (see.Run run)) = (spot (is_room p) zone ≡ None) × FindsLowestRun (has_free p) zone
     (Some run)
 
--- The wanted spot stands at this place in the zone; `None` where no spot is wanted.
+-- The spot that is sought stands at this place in the zone; `None` where no spot is sought.
 abbrev pub IsAt : Option Spot → List Block → Option ℕ → Type 0
 IsAt wanted zone None = wanted ≡ None
 IsAt wanted zone (Some place) = (s : Spot) × (wanted ≡ Some s) × (spot_at place zone ≡ Some s)

@@ -20,7 +20,7 @@ use Rattle.block_store.specs.Rest.{Rest, IsRest}
 use Rattle.heap_calls.specs.Inner.Search.{placement, placement_searches}
 use Rattle.heap_calls.specs.declared.anchor.Anchor.{Anchor}
 
--- How a sink is told of a store's blocks, which the store names by slot.
+-- How a store's blocks, which the store names by slot, are reported to a sink.
 
 -- The number of the first entry of a slot's handle; `None` where the slot has no handle.
 abbrev pub IsNumberOf : ℕ → List Anchor → Option ℕ → Type 0
@@ -113,9 +113,9 @@ new_gone entries sparing n unused zone = zone_slot_gone entries sparing unused z
 abbrev pub renewed_gone : List Anchor → ℕ → ℕ → List Block → List Gone
 renewed_gone entries slot n zone = if is_some (phys n) then placement_gone entries (padded n) (Freed slot) zone else []
 
--- What is left of a store and a sink where the sink finds the host out of memory as a slot is taken for a new block, and
--- the block's place is sought: all as it was; or the slot is unused again, and the master pointer block that was made
--- for it stays, of whose purges the sink was told.
+-- What is left of a store and a sink where the sink finds the host out of memory as a slot is taken for a new block,
+-- and the block's place is sought: all as it was; or the slot is unused again, and the master pointer block that was
+-- made for it stays, whose purges were reported to the sink.
 abbrev pub LeavesSlot : {A : Type 0} → (A → List Gone → Type 0) → List Anchor → Sparing → List Block → Rest → List Block
     → Rest → A → A → Type 0
 LeavesSlot told entries sparing zone rest zone' rest' old new =

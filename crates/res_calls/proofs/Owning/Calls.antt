@@ -5,7 +5,7 @@ use Rattle.std.proofs.lemmas.Bool.{false_from_ne_true, or_parts}
 use Rattle.std.proofs.lemmas.Bool.Decides.{Decides-eqb}
 use Rattle.std.specs.Prelude.{option_to_list}
 use Rattle.mac_words.specs.declared.code.OsErr.{OsErr}
-use Rattle.mac_words.specs.declared.code.TheConstants.OsErr.{END_OF_FILE, LOCKED, MAP_READ, PROFILE, RES_ATTR}
+use Rattle.mac_words.specs.declared.code.TheConstants.OsErr.{LOCKED, PROFILE, RES_ATTR}
 use Rattle.mac_words.specs.declared.code.TheConstants.OsErr.{ADD_RES_FAILED, REMOVE_RES_FAILED, WRITE_PERMISSION}
 use Rattle.mac_words.specs.declared.code.TheConstants.OsErr.{DISK_FULL, DUPLICATE_FILE, IN_MEMORY, OFFSET}
 use Rattle.mac_words.specs.Attributes.{set}
@@ -168,16 +168,8 @@ detach-owns handle s owns =
 
 -- a fork's map, as its file is opened
 pub map-bare : (fork : List ℕ) (read : Map) → map_in fork ≡ Ok read → Bare read.references
-map-bare fork read e = by_tests (length fork == 0) (is_fork fork) e
-  where
-    by_tests : (empty good : Bool)
-        → cond {A = Result Map OsErr} empty (Err END_OF_FILE) (cond good (Ok (map_of (content_of fork))) (Err MAP_READ))
-        ≡ Ok read → Bare read.references
-    by_tests true good e = cc
-    by_tests false true e =
-        let same : map_of (content_of fork) ≡ read = cc in
-        subst (λ (m : Map). Bare m.references) same (bare-groups (content_of fork).groups)
-    by_tests false false e = cc
+map-bare fork read e =
+    subst (λ (m : Map). Bare m.references) (read_is fork read e) (bare-groups (content_of fork).groups)
 
 -- a file is opened
 opened-owns : (i : ℕ) (read : Map) (s : Managers) → Bare read.references → OneOwner s

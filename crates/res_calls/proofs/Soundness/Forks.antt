@@ -6,14 +6,13 @@ use Rattle.std.specs.Prelude.{filter}
 use Rattle.std.specs.List.{list_all}
 use Rattle.mac_words.specs.Attributes.{has_bit}
 use Rattle.mac_words.specs.declared.attributes.TheConstants.Attrs.{CHANGED}
-use Rattle.mac_words.specs.declared.code.OsErr.{OsErr}
-use Rattle.mac_words.specs.declared.code.TheConstants.OsErr.{END_OF_FILE, MAP_READ}
 use Rattle.fork_format.specs.Content.{Ref, Group, is_of, distinct, joined}
 use Rattle.fork_format.specs.Fork.{number, ref_places, ref_at, group_at, type_places, map_kept, map_start, is_fork}
 use Rattle.fork_format.specs.Fork.{content_of}
 use Rattle.res_map.specs.Map.{Map, map_of, of_group, of_groups, read_reference}
 use Rattle.res_calls.specs.Rows.{map_in}
 use Rattle.res_calls.specs.Sound.{keeps_handle}
+use Rattle.res_calls.proofs.OpeningForks.{read_is}
 use Rattle.res_calls.proofs.Soundness.Lists.{all-filter, all-flat, all-implied, all-made, all-mapped}
 use Rattle.res_calls.proofs.Soundness.References.{changed-clear}
 
@@ -60,11 +59,4 @@ read-fresh fork = record {
 
 -- as its file is opened
 pub map-fresh : (fork : List ℕ) (read : Map) → map_in fork ≡ Ok read → Fresh read
-map-fresh fork read e = by_tests (length fork == 0) (is_fork fork) e
-  where
-    by_tests : (empty good : Bool)
-        → cond {A = Result Map OsErr} empty (Err END_OF_FILE) (cond good (Ok (map_of (content_of fork))) (Err MAP_READ))
-        ≡ Ok read → Fresh read
-    by_tests true good e = cc
-    by_tests false true e = let same : map_of (content_of fork) ≡ read = cc in subst Fresh same (read-fresh fork)
-    by_tests false false e = cc
+map-fresh fork read e = subst Fresh (read_is fork read e) (read-fresh fork)

@@ -7,12 +7,12 @@ use Rattle.std.proofs.lemmas.Nat.{and-not, and_comm}
 use Rattle.std.proofs.lemmas.Grind.{and-not_self}
 use Rattle.mac_words.specs.Attributes.{has_bit, unchanged}
 use Rattle.mac_words.specs.declared.code.TheConstants.OsErr.{NO_ERR, DISK_FULL, DUPLICATE_FILE, PROFILE}
-use Rattle.mac_words.specs.declared.code.TheConstants.OsErr.{END_OF_FILE, MAP_READ}
 use Rattle.mac_words.specs.Told.{Done}
 use Rattle.fork_format.specs.Content.{Content, IsContent}
 use Rattle.fork_format.specs.Canonical.{canon, clear, fits}
-use Rattle.fork_format.specs.Fork.{Spells, is_fork, content_of}
+use Rattle.fork_format.specs.Fork.{Spells}
 use Rattle.fork_format.proofs.CanSpell.{canon_spells}
+use Rattle.fork_format.proofs.Codes.{spelled}
 use Rattle.heap_calls.specs.State.{State}
 use Rattle.heap_calls.specs.Answer.{code_of}
 use Rattle.res_map.specs.Split.{Split, place, replaced}
@@ -22,7 +22,7 @@ use Rattle.res_calls.specs.Fetch.{Managers, Answer, done, refused}
 use Rattle.res_calls.specs.Update.{bytes_held, updated_reference, updated_map, written, written_at, fork_of, rewritten}
 use Rattle.res_calls.specs.Update.{update}
 use Rattle.res_calls.specs.Rows.{if_updated, on_updated, on_open, closed_file, with_resources, keep_error}
-use Rattle.res_calls.specs.Rows.{map_in, noting}
+use Rattle.res_calls.specs.Rows.{map_in, map_read, noting}
 use Rattle.res_map.proofs.Splitting.{split-whole}
 use Rattle.res_calls.specs.Changing.{most_files, new_fork, new_file, with_files, create_named}
 use Rattle.res_calls.specs.Asked.{ResourceAsked, Served, telling, served}
@@ -235,15 +235,7 @@ updated_reference_unchanged heap r = unchanged_unset r.stored.attrs
 
 -- the canonical fork of what a map holds is read again
 pub spelled_is_read : (fork : List ℕ) (c : Content) → Spells fork c → map_in fork ≡ Ok (map_of c)
-spelled_is_read fork c spelled =
-    ap (λ (t : Bool). cond t (Err END_OF_FILE) (cond (is_fork fork) (Ok (map_of (content_of fork))) (Err MAP_READ)))
-    (some_bytes fork spelled.fork)
-    ∙ ap (λ (t : Bool). cond t (Ok (map_of (content_of fork))) (Err MAP_READ)) spelled.fork
-    ∙ ap (λ (x : Content). Ok (map_of x)) spelled.content
-  where
-    some_bytes : (bytes : List ℕ) → is_fork bytes ≡ true → (length bytes == 0) ≡ false
-    some_bytes [] e = cc
-    some_bytes (b ∷ bytes) e = eqb-suc-zero (length bytes)
+spelled_is_read fork c spells = ap map_read (spelled fork c spells)
 
 pub canon_is_read : (m : Map) → IsContent (content m) → fits (content m) ≡ true
     → map_in (canon (content m)) ≡ Ok (map_of (clear (content m)))

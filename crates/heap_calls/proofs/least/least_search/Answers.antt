@@ -1,4 +1,5 @@
 use Rattle.std.proofs.Common.{arith, sym, ◌∙◌}
+use Rattle.block_store.specs.declared.measures.TheConstants.{GREATEST_ZONE}
 use Rattle.block_store.proofs.Plain.Trials.{least_or_last-fails, least_or_last-le, fewest-last}
 use Rattle.heap_calls.proofs.Room.LeastSearches.{first-is}
 use Rattle.heap_calls.proofs.least.least_search.Goals as goal
@@ -17,7 +18,7 @@ returns-then-not-there-clause-least g c =
     let zone = g.S.BlockStore.zone c.args.store.now in
     c.most_purges-most.ensures
     ∙ sym (least_or_last-fails (g.L.Sought.is_there sought zone)
-    (λ k m le is. g.met.L.Sought.rises sought zone k m c.requires le is) (g.L.Sought.most sought zone) 134217728
+    (λ k m le is. g.met.L.Sought.rises sought zone k m c.requires le is) (g.L.Sought.most sought zone) GREATEST_ZONE
     c.goes_on.ensures.few (sym c.is_there_after-there.ensures ∙ c.if-not-there.true))
 
 pub returns-clause-least : goal.returns-clause-least

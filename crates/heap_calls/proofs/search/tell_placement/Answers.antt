@@ -11,10 +11,10 @@ tell-requires-clause-edge g c = edge-bottom (g.S.BlockStore.zone c.args.store.no
 
 pub returns-clause-told : goal.returns-clause-told
 returns-clause-told g c =
-    let counted = c.count_for_placement-counted in
-    let same = placement-told c.args.names.now c.args.bytes counted.result.purges c.args.sparing
-    (g.S.BlockStore.zone c.args.store.now) counted.ensures.least counted.ensures.searches
-    (sym counted.ensures.there ∙ not-false counted.result.there c.if-not-counted.false) in
+    let found = c.count_for_placement-found in
+    let same = placement-told c.args.names.now c.args.bytes found.result.purges c.args.sparing
+    (g.S.BlockStore.zone c.args.store.now) found.ensures.least found.ensures.searches
+    (sym found.ensures.there ∙ not-false found.result.there c.if-not-found.false) in
     on_ok_weaker c.tell.result
     (λ told. subst (λ (l : List Gone). Tells g.K.PurgeSink.told l c.args.sink.now c.tell.new.sink) same told)
     c.tell.ensures.told

@@ -1,6 +1,7 @@
 use Rattle.std.proofs.Common.{refl, ◌∙◌, ap}
 use Rattle.block_store.specs.Room.{purge}
 use Rattle.block_store.specs.Compact.{largest_free}
+use Rattle.block_store.specs.declared.measures.TheConstants.{GREATEST_ZONE}
 use Rattle.heap_calls.specs.Answer.{nothing}
 use Rattle.heap_calls.specs.Purging.{purged_all}
 use Rattle.heap_calls.proofs.Numbering.PurgeTrials.{all-gone, purged_all-is, purge_space-done}
@@ -10,7 +11,7 @@ pub returns : goal.returns
 returns g c =
     let a = c.self.inside in
     let zone = g.S.BlockStore.zone a.store in
-    let all = purged_all-is zone (purge 134217728 nothing zone) 134217728 (all-gone zone (g.met.S.BlockStore.small a.store))
+    let all = purged_all-is zone (purge GREATEST_ZONE nothing zone) GREATEST_ZONE (all-gone zone (g.met.S.BlockStore.small a.store))
     refl in
     purge_space-done c.args.self.now zone (purged_all zone) (g.S.BlockStore.rest a.store) a.names.items a.log
     c.free_if_purged.result c.largest_after.result c.saturating_sub.result c.self.view_is refl c.free_if_purged.ensures
