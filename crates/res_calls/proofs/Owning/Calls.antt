@@ -32,6 +32,7 @@ use Rattle.res_calls.specs.Partial.{is_in_memory, read_part_found, restored, res
 use Rattle.windows.specs.Writes.{piece, written}
 use Rattle.res_calls.proofs.Keeping.{either-keeps, found-keeps, open-keeps, known-keeps, removable-keeps}
 use Rattle.res_calls.proofs.Keeping.{changeable-keeps, updated-keeps, update-comes}
+use Rattle.res_calls.proofs.OpeningForks.{read_is}
 use Rattle.res_calls.proofs.Owning.Casts.{known-name, own-role, added-roles}
 use Rattle.res_calls.proofs.Owning.Updates.{with_references, one-alike, updated-handles, one-changed, one-removed}
 use Rattle.res_calls.proofs.Owning.Updates.{one-added}

@@ -1,8 +1,9 @@
-use Rattle.std.proofs.Common.{refl}
-use Rattle.res_calls.proofs.OpeningForks.{unspelled}
+use Rattle.std.proofs.Common.{Err, ap, refl, sym}
+use Rattle.fork_format.proofs.Codes.{refused}
+use Rattle.res_calls.specs.Rows.{map_read}
 use Rattle.res_calls.proofs.launching.open_map.Goals as goal
 
-pub returns-in-Err-BadMap : goal.returns-in-Err-BadMap
-returns-in-Err-BadMap c =
-    let bad = (rw c.in-Err-BadMap.field-0-is at c.in-Err-BadMap.ensures.bad_map).0 refl in
-    unspelled c.args.bytes.now bad.0 bad.1
+pub returns-in-Some : goal.returns-in-Some
+returns-in-Some c =
+    ap map_read (refused c.args.bytes.now (Err c.in-Err.fault) c.in-Err.fault c.in-Some.code c.in-Err.ensures.empty
+    c.in-Err.ensures.bad_map refl (sym c.in-Some.ensures))
