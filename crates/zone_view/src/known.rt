@@ -58,7 +58,7 @@ fn enter_name<'a>(
 ) -> Result<(), AllocError>
     ensures entered { OnOk result ((n : ℕ) → named_by (get nat_cmp names.new n)
         ≡ (if number == n && is_before_found name.now.0.items (named_by (get nat_cmp names.old n))
-           then Some name.now.0.items else named_by (get nat_cmp names.old n))) }
+        then Some name.now.0.items else named_by (get nat_cmp names.old n))) }
     ensures given { OnOk result (get nat_cmp names.old no_number ≡ None → get nat_cmp names.new no_number ≡ None) }
 {
     if is_before(names, number, name) {
