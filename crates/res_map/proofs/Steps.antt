@@ -1,7 +1,6 @@
-use Rattle.std.proofs.Common.{◌≡◌, ℕ, ◌+◌, ◌<◌, Bool, true, false, cond, List, [], ◌∷◌, ◌++◌, length, map, drop}
-use Rattle.std.proofs.Common.{Option, Some, None, refl, sym, ◌∙◌, ap, arith, get_or, append_assoc}
-use Rattle.std.specs.Prelude.{option_map, filter, filter_map, ◌&&◌, ◌==◌, ◌-◌}
-use Rattle.std.specs.List.{cons_option}
+use Rattle.std.proofs.Common.{◌≡◌, ℕ, ◌+◌, ◌<◌, Bool, true, false, cond, List, [], ◌∷◌, length, map, drop}
+use Rattle.std.proofs.Common.{Option, Some, None, refl, sym, ◌∙◌, ap, arith, get_or}
+use Rattle.std.specs.Prelude.{option_map, filter, ◌&&◌, ◌==◌, ◌-◌}
 use Rattle.fork_format.proofs.Rest.{rest-map}
 use Rattle.res_map.specs.Split.{Split, split, behind, place}
 use Rattle.res_map.specs.Map.{split_nth}

@@ -14,7 +14,7 @@ use Rattle.heap_calls.specs.Purging.{is_resource}
 use Rattle.heap_calls.specs.Inside.{resource_role, new_inside, new_empty_inside, refill_inside, has_block, released}
 use Rattle.heap_calls.specs.Inside.{cast, owned_as}
 use Rattle.res_map.specs.Split.{replaced, Split, place}
-use Rattle.res_map.specs.Map.{is_protected, with_attrs, renamed, stored_anew, Reference, Map, map_of, has_handle}
+use Rattle.res_map.specs.Map.{is_protected, with_attrs, renamed, stored_anew, Reference, Map, has_handle}
 use Rattle.res_map.specs.Map.{resized_datum, with_datum, is_handle, is_changed, is_resource as is_wanted, is_named, nth, types}
 use Rattle.res_map.proofs.Splitting.{split-passes, split-whole}
 use Rattle.res_calls.specs.Files.{Resources, File, OpenFile, Found, find, opened, file_of, file_named, open_at}
@@ -36,7 +36,7 @@ use Rattle.res_calls.proofs.OpeningForks.{read_is}
 use Rattle.res_calls.proofs.Owning.Casts.{known-name, own-role, added-roles}
 use Rattle.res_calls.proofs.Owning.Updates.{with_references, one-alike, updated-handles, one-changed, one-removed}
 use Rattle.res_calls.proofs.Owning.Updates.{one-added}
-use Rattle.fork_format.specs.Fork.{is_fork, content_of}
+use Rattle.fork_format.specs.Fork.{content_of}
 use Rattle.heap_calls.specs.State.{Memory, Role}
 use Rattle.heap_calls.specs.Owned.{resource_role_at}
 use Rattle.heap_calls.proofs.Steps.Roles.{MakesHandle, filled-makes, emptied-makes, refilled-roles, released-roles}

@@ -1,5 +1,5 @@
-use Rattle.std.proofs.Common.{◌≡◌, ℕ, ◌+◌, Bool, true, false, not, ◌==◌, List, ap, cond, map, subst, length, Result}
-use Rattle.std.proofs.Common.{Ok, Err}
+use Rattle.std.proofs.Common.{◌≡◌, ℕ, ◌+◌, Bool, true, false, not, ◌==◌, List, ap, map, subst}
+use Rattle.std.proofs.Common.{Ok}
 use Rattle.std.proofs.lemmas.Bool.{or_left, eq-eqb}
 use Rattle.std.proofs.lemmas.Nat.{and_assoc}
 use Rattle.std.specs.Prelude.{filter}
@@ -7,7 +7,7 @@ use Rattle.std.specs.List.{list_all}
 use Rattle.mac_words.specs.Attributes.{has_bit}
 use Rattle.mac_words.specs.declared.attributes.TheConstants.Attrs.{CHANGED}
 use Rattle.fork_format.specs.Content.{Ref, Group, is_of, distinct, joined}
-use Rattle.fork_format.specs.Fork.{number, ref_places, ref_at, group_at, type_places, map_kept, map_start, is_fork}
+use Rattle.fork_format.specs.Fork.{number, ref_places, ref_at, group_at, type_places, map_kept, map_start}
 use Rattle.fork_format.specs.Fork.{content_of}
 use Rattle.res_map.specs.Map.{Map, map_of, of_group, of_groups, read_reference}
 use Rattle.res_calls.specs.Rows.{map_in}

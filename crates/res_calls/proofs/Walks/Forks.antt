@@ -1,5 +1,5 @@
 use Rattle.std.proofs.Common.{◌≡◌, ◌≢◌, ◌⊎◌, inl, inr, ◌<◌, ◌+◌, ℕ, Bool, true, false, true≢false, Option, Some, None}
-use Rattle.std.proofs.Common.{zero, suc, not, Err}
+use Rattle.std.proofs.Common.{zero, suc, not}
 use Rattle.std.proofs.Common.{Ok, List, [], ◌∷◌, ◌++◌, refl, sym, ◌∙◌, ap, cond, length, ◌==◌, nat_le, arith}
 use Rattle.std.proofs.Common.{◌-◌, bit_and, bytes_eq, if◌then◌else◌}
 use Rattle.std.proofs.Math.Dec.{eqb-suc-zero}
