@@ -19,8 +19,7 @@ use clap::{ArgMatches, Command};
 use script_text::CALLS;
 use std::alloc::{AllocError, Global};
 
-const ABOUT: &str =
-    "Replays what a classic Mac OS heap did, and reads and writes resource forks";
+const ABOUT: &str = "Replays what a classic Mac OS heap did, and reads and writes resource forks";
 
 /// The crate's version.
 const VERSION: &str = "0.1.0";
@@ -43,7 +42,8 @@ that two forks differ; 2 usage, help or version.";
 
 const SCRIPT_ABOUT: &str = "Runs a script of toolbox calls and prints its transcript";
 
-const SCRIPT_LONG_ABOUT: &str = "Runs a script in a fresh partition and prints its transcript: a line for the
+const SCRIPT_LONG_ABOUT: &str =
+    "Runs a script in a fresh partition and prints its transcript: a line for the
 launch, one for each call with its line number, its result code and its values,
 and one for the end.
 
@@ -69,7 +69,8 @@ result codes.";
 
 const RUN_ABOUT: &str = "Runs the applications of a job and writes what they leave";
 
-const RUN_LONG_ABOUT: &str = "Runs a job: several applications in one memory, each in a partition of its own.
+const RUN_LONG_ABOUT: &str =
+    "Runs a job: several applications in one memory, each in a partition of its own.
 Makes the folder OUT and writes into it what the applications leave.
 
 Example:
@@ -115,8 +116,7 @@ const OUT_HELP: &str = "Folder that is made; it must not exist yet";
 /// The name of the flag, without its two hyphens.
 const PROGRESS: &str = "progress";
 
-const PROGRESS_HELP: &str =
-    "Print 'macmem: 41 of 4080 done' at most 100 times: lines or events";
+const PROGRESS_HELP: &str = "Print 'macmem: 41 of 4080 done' at most 100 times: lines or events";
 
 /// The name of the flag for types and names that a person reads, without its two hyphens.
 const TEXT: &str = "text";

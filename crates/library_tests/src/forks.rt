@@ -189,7 +189,10 @@ fn one_type_has_5458_references_at_most(rt: HostRuntime) -> Result<(), Fail> {
     let most = content_of(rt.alloc(), 5_458)?;
     assert!(rt; fits(&most));
     let fork = write_fork(rt.alloc(), &most)?;
-    assert_eq!(rt; fork.get(NAME_LIST..NAME_LIST + 2), Some(b"\xff\xfe".as_slice()));
+    assert_eq!(rt;
+        fork.get(NAME_LIST..NAME_LIST + 2),
+        Some(b"\xff\xfe".as_slice())
+    );
     let more = content_of(rt.alloc(), 5_459)?;
     assert!(rt; !fits(&more));
     assert!(rt; write_fork(rt.alloc(), &more) == Err(WriteFault::TooLarge));
