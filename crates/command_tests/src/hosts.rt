@@ -69,7 +69,7 @@ fn done(
 }
 
 #[test]
-fn a_host_that_refuses_memory_is_told(rt: HostRuntime) -> Result<(), Fail> {
+fn a_host_that_refuses_memory_is_reported(rt: HostRuntime) -> Result<(), Fail> {
     const CASES: &[&[&str]] = &[
         &["macmem", "check", "large"],
         &["macmem", "script", "1024", "large"],

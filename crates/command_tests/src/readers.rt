@@ -21,7 +21,7 @@ impl<'a> Read for Failing<'a> {
 }
 
 #[test]
-fn an_input_that_fails_is_told(rt: HostRuntime) -> Result<(), Fail> {
+fn an_input_that_fails_is_reported(rt: HostRuntime) -> Result<(), Fail> {
     const CASES: &[(ErrorKind, usize, ReadError)] = &[
         (ErrorKind::Other, 100, ReadError::CannotRead),
         (ErrorKind::UnexpectedEof, 100, ReadError::CannotRead),

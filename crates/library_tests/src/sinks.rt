@@ -181,7 +181,7 @@ fn what_a_master_pointer_block_purges_is_reported(rt: HostRuntime) -> Result<(),
 }
 
 #[test]
-fn blocks_that_are_purged_for_no_block_are_told(rt: HostRuntime) -> Result<(), Fail> {
+fn blocks_that_are_purged_for_no_block_are_reported(rt: HostRuntime) -> Result<(), Fail> {
     const CASES: &[Case] = &[
         // 48 bytes: C and A, which make one free block of 64 bytes.
         (
@@ -232,7 +232,7 @@ fn blocks_that_are_purged_for_no_block_are_told(rt: HostRuntime) -> Result<(), F
 }
 
 #[test]
-fn the_blocks_that_a_call_names_are_not_told(rt: HostRuntime) -> Result<(), Fail> {
+fn the_blocks_that_a_call_names_are_not_reported(rt: HostRuntime) -> Result<(), Fail> {
     const CASES: &[Case] = &[
         // 16 bytes more: C, the lowest, grows into the place of A, the next.
         (
@@ -318,7 +318,7 @@ fn the_blocks_that_a_call_names_are_not_told(rt: HostRuntime) -> Result<(), Fail
 }
 
 #[test]
-fn a_block_that_stays_tells_the_run_above_it(rt: HostRuntime) -> Result<(), Fail> {
+fn the_run_above_a_block_that_stays_is_purged(rt: HostRuntime) -> Result<(), Fail> {
     const CASES: &[Case] = &[
         // 16 bytes more: not from C, which is the lowest, but from B above A.
         (

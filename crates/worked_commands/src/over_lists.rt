@@ -1,6 +1,9 @@
 //! A job is run once more with its zones kept in lists, and once with its zones in the bytes of a region. Both runs are to
 //! leave the same outcome, and the files that the command is to write.
 
+ghost use Rattle.std.specs.Prelude.{◌≡◌, ◌%◌, ◌≤◌, [], IfOk, length};
+ghost use Rattle.block_store.specs.declared.measures.TheConstants.{GREATEST_ZONE, LEAST_ZONE};
+
 use crate::archive::{Archive, Command};
 use crate::comparing::{compare, compare_files};
 use crate::disk::Disk;
@@ -22,6 +25,21 @@ fn job_at(alloc: Global, archive: &Archive, path: &str) -> Option<Job> {
     }
 }
 
+/// Returns a region of `len` bytes, none of which is 0.
+fn used_region(alloc: Global, len: u32) -> Result<Region, AllocError>
+    requires even { len % 16 ≡ 0 }
+    requires low { LEAST_ZONE ≤ len }
+    requires high { len ≤ GREATEST_ZONE }
+    ensures home { IfOk result (λ r. r.out ≡ []) }
+    ensures length { IfOk result (λ r. length r.bytes ≡ len) }
+{
+    let mut region = Region::new(alloc, len as usize)?;
+    let mut part = region.cut(0, len as usize);
+    part.fill(0, len as usize, 0xa5);
+    region.join(part);
+    Ok(region)
+}
+
 /// The outcomes of a job over both makers of zones, or the faults.
 #[derive(Drop)]
 struct Ends {
@@ -40,7 +58,7 @@ fn ends_of(alloc: Global, job: &Job) -> Option<Ends> {
     };
     let (in_lists, zones) = run_with(alloc, job, zones, &mut Unwatched);
     drop(zones);
-    let Ok(region) = Region::new(alloc, memory as usize) else {
+    let Ok(region) = used_region(alloc, memory) else {
         return None;
     };
     let (in_region, region) = run(alloc, region, job, &mut Unwatched);
