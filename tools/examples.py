@@ -3,13 +3,15 @@
 
 usage: tools/examples.py PROGRAM PAGE..
 
-An example is a block of a page (indented by four spaces, or between fences) of one of two forms:
+An example is a block of a page (indented by four spaces, or between fences) of one of three forms:
 
 - Its first line begins with `$ `. Such a line is a command, and the lines after it, up to the next one or to the end of the block,
   are what it prints. Commands are run by bash, one block after another in a folder of the page's own that has `examples/`, with
   PROGRAM as `macmem` on the path.
 - Its fence is followed by `script SIZE`. The left column is then a script, and the column beside it, two spaces or more away, has the
   lines of its transcript without the first and the last; a third column is a remark.
+- Its fence is followed by `script SIZE`, and the fence of the next block by `transcript`: the first is a script, and the second its
+  transcript.
 
 The last line is 'N passed, M failed', of blocks.
 """
@@ -63,10 +65,15 @@ def columns(size, lines):
     return f"macmem script {size} /dev/stdin <<'END' | sed '1d;$d'\n{script}\nEND", told
 
 
-def examples(words, lines):
+def run(size, lines, transcript):
+    """The command that runs the lines of a block as a script, and what it is to print."""
+    return "macmem script %s /dev/stdin <<'END'\n%s\nEND" % (size, "\n".join(lines)), "".join(it + "\n" for it in transcript)
+
+
+def examples(words, lines, next_words, next_lines):
     """The commands of a block, with what each is to print; none where the block is no example."""
     if words[:1] == ["script"]:
-        return [columns(words[1], lines)]
+        return [run(words[1], lines, next_lines) if next_words == ["transcript"] else columns(words[1], lines)]
     return commands(lines) if lines[0].startswith("$ ") else []
 
 
@@ -95,8 +102,9 @@ def main(program, pages):
             shutil.copytree(f"{top}/examples", f"{folder}/examples")
             with open(page, encoding="utf-8") as it:
                 text = it.read()
-            for line, words, lines in blocks(text):
-                known = examples(words, lines)
+            found = blocks(text)
+            for (line, words, lines), (_, *after) in zip(found, found[1:] + [(0, [], [])]):
+                known = examples(words, lines, *after)
                 if not known:
                     continue
                 wrong = [it for it in (fails(command, told, folder, path) for command, told in known) if it]

@@ -1,4 +1,3 @@
-mod Heads
 mod Binding
 mod Rounds
 mod Saying

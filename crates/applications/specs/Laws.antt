@@ -143,8 +143,8 @@ PurgesOnlyPurgeable bytes e =
     → has (is_relocatable h) e.after.memory.heap.zone ≡ false
     → (has_purgeable h e.before.memory.heap.zone ≡ true) ⊎ (let_go_by h e ≡ true)
 
--- The try is one of the line's call, and the line tells the reply of the try. A line without a try of its own tells a
--- refusal.
+-- The try is one of the line's call, and the line reports the reply of the try. A line without a try of its own
+-- reports a refusal.
 abbrev pub IsTryOf : Shown → Option Event → Type 0
 IsTryOf x None = is_answered x.told ≡ false
 IsTryOf x (Some e) = (e.deed ≡ deed_of x.line.call e.before.names) × (e.told ≡ x.told)

@@ -1,6 +1,4 @@
-pub mod Heads
 pub mod Names
-pub mod Latest
 pub mod Trying
 pub mod Step
 pub mod Application

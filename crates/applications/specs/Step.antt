@@ -54,7 +54,7 @@ pub record Shown : Type 0 where
   pub line : Line
   pub told : Told
 
--- The end of a line of a transcript: the try whose reply the line tells, and the heap after the line. A call whose
+-- The end of a line of a transcript: the try whose reply the line reports, and the heap after the line. A call whose
 -- answer stands after its grow-zone script has a line without a try of its own.
 pub record LineEnd : Type 0 where
   pub try : Option Event

@@ -39,8 +39,8 @@ impl<'s, S: BlockStore> Application<'s, S> {
         tried
     }
 
-    /// Tries a call of the Resource Manager over the heap and the resources of the application. The sink is told of the
-    /// blocks that the call purges, if it is to be told.
+    /// Tries a call of the Resource Manager over the heap and the resources of the application. The blocks that the
+    /// call purges are offered to the sink, if it listens.
     fn answer_resource<K: PurgeSink>(
         &mut self,
         call: &ResourceCall,
@@ -90,7 +90,7 @@ pub(crate) fn shown_in<'a, S: BlockStore>(
 }
 
 /// Answers a call of the Resource Manager in `resources` and `heap`; the names of the call are bound as `names` says. The
-/// sink is told of the blocks that the call purges, if it is to be told.
+/// blocks that the call purges are offered to the sink, if it listens.
 #[tactic(auto, using(crate::proofs::Hearing::told_nothing))]
 fn answered<S: BlockStore, K: PurgeSink>(
     alloc: Global,

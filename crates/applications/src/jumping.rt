@@ -132,8 +132,8 @@ impl<'s, S: BlockStore> Application<'s, S> {
         tried
     }
 
-    /// Tries a call of the Segment Manager, or a call through the jump table. The sink is told of the blocks that the
-    /// call purges, if it is to be told.
+    /// Tries a call of the Segment Manager, or a call through the jump table. The blocks that the call purges are
+    /// offered to the sink, if it listens.
     #[tactic(auto, using(crate::proofs::Hearing::told_nothing))]
     fn answer_segment<K: PurgeSink>(
         &mut self,

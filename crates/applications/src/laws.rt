@@ -23,7 +23,7 @@ pub fn an_application_with_any_resources_keeps_the_laws()
 {}
 
 /// States what the next line of a script adds to the script's first steps, and that the place of an application's
-/// partition has no part in what a step or an end of the application comes to: a step at any place is the step at any
+/// partition has no part in the outcome of a step or an end of the application: a step at any place is the step at any
 /// other place, with the place put back.
 pub fn steps_follow_one_another()
     ensures begins { (resources : Resources) (size : ℕ) (script : ScriptParts)

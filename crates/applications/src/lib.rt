@@ -6,7 +6,7 @@ mod application;
 mod finding;
 mod giving;
 mod jumping;
-mod key;
+mod keyed;
 mod laws;
 mod names;
 mod naming;

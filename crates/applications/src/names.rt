@@ -1,29 +1,21 @@
 //! The names of a script.
 
 ghost use Rattle.std.specs.Prelude.{◌≡◌, [], map, IfOk, OnOk};
-ghost use Rattle.std.specs.Option.{option_map};
 ghost use Rattle.applications.specs.Names.{Bindings, bound_to, bind, binding, lent_binding};
-ghost use Rattle.applications.specs.Latest.{IsLatest, if_last, known};
 
-use crate::key::{Key, copy_of};
+use crate::keyed::Keyed;
+use arrayvec::ArrayVec;
+use indexmap::IndexMap;
 use mac_words::Label;
 use std::alloc::{AllocError, Global};
-use std::collections::BTreeMap;
 use std::marker::Model;
 
-/// The names that a script has bound so far, and the numbers of their handles and pointers. Names are compared, not
-/// hashed: no choice of names makes a look-up slow.
+/// The names that a script has bound so far, and the numbers of their handles and pointers. Names are hashed by a key
+/// that depends on the script's whole text, so no choice of names makes a look-up slow.
 #[derive(Drop)]
 pub struct Names {
-    bound: BTreeMap<Key, usize>,
-    latest: Option<Latest>,
-}
-
-/// The name that was bound last, which is often the next that is looked up, with its number.
-#[derive(Drop)]
-struct Latest {
-    name: Label,
-    number: usize,
+    alloc: Global,
+    bound: IndexMap<Label, usize, Keyed>,
 }
 
 /// A name that is bound, with the number of its handle or pointer.
@@ -37,34 +29,30 @@ impl Model for Names {
     ghost Value = { Bindings };
 
     ghost view = { λ n. map binding n.bound.entries };
-
-    ghost invariant = { λ n. IsLatest (option_map known n.latest) (map binding n.bound.entries) };
 }
 
-/// Returns the number of the name that was bound last, if this is the name.
-fn number_of(latest: &Option<Latest>, name: &Label) -> Option<usize>
-    ensures { result ≡ if_last name.now.0.items (option_map known latest.now) }
+/// Returns a copy of a name.
+fn copy_of(name: &Label) -> Label
+    ensures { result.0.items ≡ name.now.0.items }
 {
-    match latest {
-        Some(latest) => {
-            if latest.name == *name {
-                Some(latest.number)
-            } else {
-                None
-            }
-        }
-        None => None,
+    let mut bytes = ArrayVec::new();
+    match bytes.try_extend_from_slice(name.0.as_slice()) {
+        Ok(()) => Label(bytes),
+        Err(_) => unreachable!(),
     }
 }
 
 /// Returns the names of a map, in their order, each with its number.
-fn listed(alloc: Global, bound: &BTreeMap<Key, usize>) -> Result<Vec<Bound<'_>>, AllocError>
+fn listed(
+    alloc: Global,
+    bound: &IndexMap<Label, usize, Keyed>,
+) -> Result<Vec<Bound<'_>>, AllocError>
     ensures { IfOk result (λ listed. map lent_binding listed.items ≡ map binding bound.now.entries) }
 {
     let mut listed = Vec::new(alloc);
-    for (key, number) in bound {
+    for (name, number) in bound {
         listed.push(Bound {
-            name: &key.label,
+            name,
             number: *number,
         })?;
     }
@@ -77,8 +65,17 @@ impl Names {
         ensures { result ≡ [] }
     {
         Names {
-            bound: BTreeMap::new(alloc),
-            latest: None,
+            alloc,
+            bound: IndexMap::with_hasher(alloc, Keyed::by(0)),
+        }
+    }
+
+    /// Has names hashed by a key from now on, if no name is bound yet.
+    pub(crate) fn hash_by(&mut self, key: u64)
+        ensures { self.new ≡ self.old }
+    {
+        if self.bound.is_empty() {
+            self.bound = IndexMap::with_hasher(self.alloc, Keyed::by(key));
         }
     }
 
@@ -86,10 +83,7 @@ impl Names {
     pub fn number(&self, name: &Label) -> Option<usize>
         ensures { result ≡ bound_to name.now.0.items self.now }
     {
-        match number_of(&self.latest, name) {
-            Some(number) => Some(number),
-            None => self.bound.get(&Key::of(name)).copied(),
-        }
+        self.bound.get(name).copied()
     }
 
     /// Returns the names that are bound, in their order, each with its number.
@@ -103,11 +97,7 @@ impl Names {
     pub fn bind(&mut self, name: &Label, number: usize) -> Result<(), AllocError>
         ensures { OnOk result (self.new ≡ bind name.now.0.items number self.old) }
     {
-        self.bound.insert(Key::of(name), number)?;
-        self.latest = Some(Latest {
-            name: copy_of(name),
-            number,
-        });
+        self.bound.insert(copy_of(name), number)?;
         Ok(())
     }
 }

@@ -211,7 +211,7 @@ impl<'s, S: BlockStore> Application<'s, S> {
     }
 
     /// Tries a call, and runs the grow-zone script where the call found no room. `text` has room for the line of a call
-    /// whose reply has no values, so that nothing is wanted of the host after a file was written.
+    /// whose reply has no values, so that no host memory is needed after a file was written.
     fn try_call(
         &mut self,
         script: &'s Script,
@@ -295,6 +295,13 @@ impl<'s, S: BlockStore> Application<'s, S> {
         Ok(None)
     }
 
+    /// Has the application's names hashed by its script, if no name is bound yet.
+    fn hash_names(&mut self, script: &Script)
+        ensures { self.new ≡ self.old }
+    {
+        self.names.hash_by(script.digest());
+    }
+
     /// Takes a step, which is the call of a line. The call is tried; where the call finds no room, the grow-zone script
     /// is run, and where the script makes room the call is tried again, and otherwise the answer of the call stands.
     /// Appends the lines of the transcript to `text`. Returns how the application ends with the step, or `None` where
@@ -317,6 +324,7 @@ impl<'s, S: BlockStore> Application<'s, S> {
         ensures over { IfOk result (λ exit. is_some exit ≡ true → self.new.resources.files ≡ self.old.resources.files) }
         ensures lies { self.new.memory.window ≡ self.old.memory.window }
     {
+        self.hash_names(script);
         let length = text.len();
         let exit = self.take_rounds(script, line, text);
         if exit.is_err() {

@@ -100,8 +100,8 @@ fn shown_in<'a, S: BlockStore>(
     }
 }
 
-/// Answers a call of the Memory Manager in `heap`; the names of the call are bound as `names` says. The sink is told of
-/// the blocks that the call purges, if it is to be told.
+/// Answers a call of the Memory Manager in `heap`; the names of the call are bound as `names` says. The blocks
+/// that the call purges are offered to the sink, if it listens.
 #[tactic(auto, using(crate::proofs::Hearing::told_nothing))]
 fn answered<S: BlockStore, K: PurgeSink>(
     heap: &mut Heap<S>,

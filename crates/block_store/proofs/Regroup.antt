@@ -1,7 +1,6 @@
 pub mod HavingRoom
 pub mod Parts
 pub mod RunScans
-pub mod RunSkips
 pub mod RunSpots
 pub mod RunLooks
 pub mod RunsAbove

@@ -41,13 +41,6 @@ impl ListZones {
             windows,
         })
     }
-
-    /// Returns the open windows, in the order of their places.
-    pub fn open_windows(&self) -> &[Window]
-        ensures { result.now ≡ ⟦<ListZones as ZoneMaker>⟧.windows self.now }
-    {
-        &self.windows
-    }
 }
 
 impl ZoneMaker for ListZones {

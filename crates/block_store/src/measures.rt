@@ -1,5 +1,7 @@
 //! The sizes of a zone, of a block's header and of a master pointer block.
 
+use windows::GREATEST_MEMORY;
+
 /// The size of a block's header in bytes.
 pub const HEADER_SIZE: u32 = 16;
 
@@ -15,5 +17,5 @@ pub const MASTERS_SIZE: u32 = 272;
 /// The least size of a zone in bytes.
 pub const LEAST_ZONE: u32 = 512;
 
-/// The greatest size of a zone in bytes: 2^27.
-pub const GREATEST_ZONE: u32 = 134_217_728;
+/// The greatest size of a zone in bytes: that of a memory, 2^27.
+pub const GREATEST_ZONE: u32 = GREATEST_MEMORY;

@@ -6,7 +6,6 @@ ghost use Rattle.block_store.specs.Sparing.{purged};
 ghost use Rattle.block_store.specs.Compact.{largest_free};
 
 use crate::looking::left_after;
-use crate::runs::larger;
 use crate::sparing::Sparing;
 use crate::walk::{Walk, size_of_seen};
 
@@ -40,9 +39,9 @@ pub fn largest_after_in<W: Walk>(walk: &mut W, purges: u32, sparing: Sparing) ->
             left = next;
             stretch += size_of_seen(block);
         } else {
-            most = larger(most, stretch);
+            most = most.max(stretch);
             stretch = 0;
         }
     }
-    larger(most, stretch)
+    most.max(stretch)
 }

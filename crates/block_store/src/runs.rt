@@ -1,6 +1,6 @@
 //! What is found out about runs of movable blocks by a walk over a zone.
 
-ghost use Rattle.std.specs.Prelude.{◌≡◌, ◌<◌, ◌^◌, ◌&&◌, max, nat_lt};
+ghost use Rattle.std.specs.Prelude.{◌≡◌, ◌<◌, ◌^◌, ◌&&◌, nat_lt};
 ghost use Rattle.block_store.specs.Block.{Block, sizes, free_sum};
 ghost use Rattle.block_store.specs.Run.{segments, has_free};
 ghost use Rattle.block_store.specs.Room.{may_be_purged, lowest_purged, count_of};
@@ -11,13 +11,6 @@ ghost use Rattle.block_store.specs.Seen.{seen};
 use crate::sparing::{Seen, Sparing};
 use crate::walk::{Walk, free_of_seen, is_in_run, may_purge_now, size_of_seen};
 
-/// Returns the larger of two numbers.
-pub fn larger(a: u32, b: u32) -> u32
-    ensures { result ≡ max a b }
-{
-    if a < b { b } else { a }
-}
-
 /// Returns the size in bytes of the largest free block; 0 where there is no free block.
 pub fn largest_free_in<W: Walk>(walk: &mut W) -> u32
     requires { sizes (W.rest walk.old) < 2 ^ 32 }
@@ -25,7 +18,7 @@ pub fn largest_free_in<W: Walk>(walk: &mut W) -> u32
 {
     let mut most = 0;
     while let Some(block) = walk.next_block() {
-        most = larger(most, free_of_seen(block));
+        most = most.max(free_of_seen(block));
     }
     most
 }
@@ -41,11 +34,11 @@ pub fn largest_run_in<W: Walk>(walk: &mut W) -> u32
         if is_in_run(block) {
             free += free_of_seen(block);
         } else {
-            most = larger(most, free);
+            most = most.max(free);
             free = 0;
         }
     }
-    larger(most, free)
+    most.max(free)
 }
 
 /// Returns the distance from the walk's first block to the bottom of the run after the first one; `None` where there is

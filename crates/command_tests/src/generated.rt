@@ -31,14 +31,14 @@ fn leaves_alike(rt: &impl Abort, alloc: Global, size: u32, script: &Script) -> R
     requires low { LEAST_ZONE ≤ size }
     requires high { size ≤ GREATEST_ZONE }
 {
-    let told = run_in_lists(alloc, size, script)?;
+    let said = run_in_lists(alloc, size, script)?;
     let region = used_region(alloc, size)?;
     let (transcript, region) = run_script(alloc, region, script, &mut Unwatched);
     let image = image_of(alloc, region)?;
-    assert!(rt; transcript? == told);
+    assert!(rt; transcript? == said);
     let free = read_zone(rt, &image)?;
     let last = format!(in alloc; " FreeMem 0 {free}\nend 0\n")?;
-    assert!(rt; told.ends_with(last.as_bytes()));
+    assert!(rt; said.ends_with(last.as_bytes()));
     Ok(())
 }
 

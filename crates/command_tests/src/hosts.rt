@@ -61,23 +61,23 @@ fn done(
         prints,
         printed: Vec::new(alloc),
     };
-    let told = match tool(alloc, words, &mut host, &mut Unwatched) {
+    let said = match tool(alloc, words, &mut host, &mut Unwatched) {
         Ok(_) => String::new(alloc),
         Err(fault) => fault.to_string(alloc)?,
     };
-    Ok((host.printed, told))
+    Ok((host.printed, said))
 }
 
 #[test]
-fn a_host_that_refuses_memory_is_told(rt: HostRuntime) -> Result<(), Fail> {
+fn a_host_that_refuses_memory_is_reported(rt: HostRuntime) -> Result<(), Fail> {
     const CASES: &[&[&str]] = &[
         &["macmem", "check", "large"],
         &["macmem", "script", "1024", "large"],
         &["macmem", "run", "large", "out"],
     ];
     for words in CASES {
-        let (printed, told) = done(rt.alloc(), *words, b"", 1)?;
-        assert_eq!(rt; told.as_str(), "macmem: no host memory");
+        let (printed, said) = done(rt.alloc(), *words, b"", 1)?;
+        assert_eq!(rt; said.as_str(), "macmem: no host memory");
         assert!(rt; printed.is_empty());
     }
     Ok(())
@@ -124,8 +124,8 @@ fn a_large_listing_is_printed_piece_by_piece(rt: HostRuntime) -> Result<(), Fail
     let listing = named_listing(alloc, 195)?;
     assert_eq!(rt; listing.len(), 103_252);
     for (prints, length, line) in CASES {
-        let (printed, told) = done(alloc, &["macmem", "map", "file"], &fork, *prints)?;
-        assert_eq!(rt; (printed.len(), told.as_str()), (*length, *line));
+        let (printed, said) = done(alloc, &["macmem", "map", "file"], &fork, *prints)?;
+        assert_eq!(rt; (printed.len(), said.as_str()), (*length, *line));
         assert!(rt; listing.as_bytes().starts_with(&printed));
     }
     Ok(())

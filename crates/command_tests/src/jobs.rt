@@ -6,10 +6,9 @@ use crate::zones::used_region;
 use applications::Unwatched;
 use arrayvec::ArrayVec;
 use block_store::{GREATEST_ZONE, LEAST_ZONE, ListZones};
-use desk::{App, AppOutcome, Job, Launched, Outcome, RunFault, run, run_with};
+use desk::{App, Job, Outcome, RunFault, run, run_with};
 use fork_format::{Content, Group, Ref, write_fork};
 use mac_words::{Attrs, Label, OsType};
-use res_calls::File;
 use script_text::{Event, read_script};
 use std::alloc::{AllocError, Global};
 use std::test::Fail;
@@ -75,50 +74,17 @@ pub fn add(
     Ok(())
 }
 
-/// Reports whether two applications leave the same files.
-fn are_same_files(some: &[File], others: &[File]) -> bool {
-    for (one, other) in some.iter().zip(others) {
-        if one.name != other.name || one.fork != other.fork || one.written != other.written {
-            return false;
-        }
-    }
-    some.len() == others.len()
-}
-
-/// Reports whether two applications that were launched have the same size, number of steps, request for a quit,
-/// transcript and files.
-fn is_same_launched(one: &Launched, other: &Launched) -> bool {
-    (one.size, one.steps, one.asked) == (other.size, other.steps, other.asked)
-        && one.transcript == other.transcript
-        && are_same_files(&one.files, &other.files)
-}
-
-/// Reports whether two applications leave the same outcome.
-fn is_same_app(one: &AppOutcome, other: &AppOutcome) -> bool {
-    match (&one.launched, &other.launched) {
-        (Some(launched), Some(again)) => {
-            one.name == other.name && is_same_launched(launched, again)
-        }
-        (None, None) => one.name == other.name,
-        _ => false,
-    }
-}
-
-/// Reports whether two runs leave the same outcome.
-fn is_same_outcome(one: &Outcome, other: &Outcome) -> bool {
-    for (app, again) in one.apps.iter().zip(&other.apps) {
-        if !is_same_app(app, again) {
-            return false;
-        }
-    }
-    one.apps.len() == other.apps.len() && one.desk == other.desk && one.stopped == other.stopped
-}
-
-/// Reports whether two runs both have an outcome, and leave the same outcome.
-fn is_same_end(one: &Result<Outcome, RunFault>, other: &Result<Outcome, RunFault>) -> bool {
+/// Reports whether two runs both have an outcome, and leave the same one, in each of its parts.
+fn is_same_end(
+    alloc: Global,
+    one: &Result<Outcome, RunFault>,
+    other: &Result<Outcome, RunFault>,
+) -> Result<bool, AllocError> {
     match (one, other) {
-        (Ok(outcome), Ok(again)) => is_same_outcome(outcome, again),
-        _ => false,
+        (Ok(outcome), Ok(again)) => {
+            Ok(format!(in alloc; "{outcome:?}")? == format!(in alloc; "{again:?}")?)
+        }
+        _ => Ok(false),
     }
 }
 
@@ -134,5 +100,5 @@ pub fn is_run_alike(alloc: Global, job: &Job) -> Result<bool, Fail> {
     let region = used_region(alloc, memory)?;
     let (outcome, region) = run(alloc, region, job, &mut Unwatched);
     region.close();
-    Ok(is_same_end(&listed, &outcome))
+    Ok(is_same_end(alloc, &listed, &outcome)?)
 }

@@ -21,7 +21,7 @@ impl<'a> Read for Failing<'a> {
 }
 
 #[test]
-fn an_input_that_fails_is_told(rt: HostRuntime) -> Result<(), Fail> {
+fn an_input_that_fails_is_reported(rt: HostRuntime) -> Result<(), Fail> {
     const CASES: &[(ErrorKind, usize, ReadError)] = &[
         (ErrorKind::Other, 100, ReadError::CannotRead),
         (ErrorKind::UnexpectedEof, 100, ReadError::CannotRead),
@@ -29,13 +29,13 @@ fn an_input_that_fails_is_told(rt: HostRuntime) -> Result<(), Fail> {
         // No host has that much memory.
         (ErrorKind::Other, usize::MAX, ReadError::HostMemory),
     ];
-    for (kind, room, want) in CASES {
+    for (kind, room, expected) in CASES {
         let mut failing = Failing {
             bytes: b"NewHandle a 100\n",
             kind: *kind,
         };
         let found = read_all(rt.alloc(), &mut failing, *room, 1000).err();
-        assert_eq!(rt; found, Some(*want));
+        assert_eq!(rt; found, Some(*expected));
     }
     Ok(())
 }

@@ -11,11 +11,11 @@ use std::test::Fail;
 
 /// Asserts that these bytes stand at these places.
 fn lies_there(rt: &impl Abort, image: &[u8], laid: &[(usize, &[u8])]) -> Result<(), Fail> {
-    for (place, wanted) in laid {
-        let end = place.wrapping_add(wanted.len());
+    for (place, expected) in laid {
+        let end = place.wrapping_add(expected.len());
         match image.get(*place..end) {
-            Some(found) => assert_eq!(rt; found, *wanted),
-            None => return Err(Fail::new("a place behind the region")),
+            Some(found) => assert_eq!(rt; found, *expected),
+            None => return Err(Fail::new("a place past the region")),
         }
     }
     Ok(())

@@ -51,7 +51,7 @@ struct BlockHeader {
 fn word(image: &[u8], at: u32) -> Result<u32, Fail> {
     match image.get(at as usize..at.wrapping_add(4) as usize) {
         Some([a, b, c, d]) => Ok(u32::from_be_bytes([*a, *b, *c, *d])),
-        _ => Err(Fail::new("a word behind the zone's end")),
+        _ => Err(Fail::new("a word past the zone's end")),
     }
 }
 
@@ -82,10 +82,10 @@ fn read_masters(rt: &impl Abort, image: &[u8], at: u32) -> Result<(), Fail> {
 }
 
 /// Reads the block at a place, and asserts that a free block does not follow a free block.
-fn read_block(rt: &impl Abort, image: &[u8], at: u32, behind_free: bool) -> Result<(), Fail> {
+fn read_block(rt: &impl Abort, image: &[u8], at: u32, after_free: bool) -> Result<(), Fail> {
     let here = header_at(image, at)?;
     match here.kind {
-        0 => assert!(rt; !behind_free),
+        0 => assert!(rt; !after_free),
         1 => {}
         2 => return read_masters(rt, image, at),
         3 => assert_eq!(rt; word(image, here.slot)?, at),
@@ -99,16 +99,16 @@ fn read_block(rt: &impl Abort, image: &[u8], at: u32, behind_free: bool) -> Resu
 pub fn read_zone(rt: &impl Abort, image: &[u8]) -> Result<u32, Fail> {
     let mut free: u32 = 0;
     let mut at: u32 = 0;
-    let mut behind_free = false;
+    let mut after_free = false;
     for _block in 0..image.len() {
         if at as usize >= image.len() {
             break;
         }
-        read_block(rt, image, at, behind_free)?;
+        read_block(rt, image, at, after_free)?;
         let here = header_at(image, at)?;
         assert!(rt; here.size >= 16);
-        behind_free = here.kind == 0;
-        free = free.wrapping_add(if behind_free { here.size } else { 0 });
+        after_free = here.kind == 0;
+        free = free.wrapping_add(if after_free { here.size } else { 0 });
         at = at.wrapping_add(here.size);
     }
     assert_eq!(rt; at as usize, image.len());

@@ -20,22 +20,22 @@ one_more None xs ys = refl
 one_more (Some zs) xs ys = ap Some (append_assoc zs xs ys)
 
 -- a script's fault stops the reading
-pub script_stop : (path : List ℕ) (read : Result Spelled (ℕ × FaultKind)) (line : ℕ) (kind : FaultKind) (told : Message)
-    → FailsAt line kind read → told ≡ script_message path line kind → IsStop (script_told path read) told
-script_stop path read line kinds.HostMemory told fails is =
+pub script_stop : (path : List ℕ) (read : Result Spelled (ℕ × FaultKind)) (line : ℕ) (kind : FaultKind) (message : Message)
+    → FailsAt line kind read → message ≡ script_message path line kind → IsStop (script_told path read) message
+script_stop path read line kinds.HostMemory message fails is =
     subst (λ m. IsStop (script_told path read) m) (sym is) tt
-script_stop path read line kinds.UnknownCall told fails is =
+script_stop path read line kinds.UnknownCall message fails is =
     subst (λ m. IsStop (script_told path read) m) (sym is) (ap (script_told path) fails)
-script_stop path read line kinds.BadArgument told fails is =
+script_stop path read line kinds.BadArgument message fails is =
     subst (λ m. IsStop (script_told path read) m) (sym is) (ap (script_told path) fails)
-script_stop path read line kinds.NotAllowed told fails is =
+script_stop path read line kinds.NotAllowed message fails is =
     subst (λ m. IsStop (script_told path read) m) (sym is) (ap (script_told path) fails)
-script_stop path read line kinds.LongLine told fails is =
+script_stop path read line kinds.LongLine message fails is =
     subst (λ m. IsStop (script_told path read) m) (sym is) (ap (script_told path) fails)
 
 -- what stops the first stops what follows
-pub stop_then : {A B : Type 0} (r : Result A Message) (next : A → Result B Message) (told : Message) → IsStop r told
-    → IsStop (given_then r next) told
+pub stop_then : {A B : Type 0} (r : Result A Message) (next : A → Result B Message) (message : Message) → IsStop r message
+    → IsStop (given_then r next) message
 stop_then r next HostMemory stops = tt
 stop_then r next (Usage text) stops = ap (λ x. given_then x next) stops
 stop_then r next (CannotRead path) stops = ap (λ x. given_then x next) stops

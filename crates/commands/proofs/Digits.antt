@@ -3,13 +3,14 @@ use Rattle.std.proofs.Common.{sym, ◌∙◌, ap, arith, add-one, append_assoc}
 use Rattle.std.proofs.Math.Seq.{take-suc}
 use Rattle.std.proofs.lemmas.Grind.{take-set_at}
 use Rattle.std.proofs.lemmas.List.{length-set}
-use Rattle.script_text.specs.Transcript.{hex_digit, hex}
+use Rattle.mac_words.specs.Digits.{lower_digit}
+use Rattle.script_text.specs.Transcript.{hex}
 
 -- Digits that are put two by two.
 
-hex-push : (xs : List ℕ) (x : ℕ) → hex (xs ++ x ∷ []) ≡ hex xs ++ hex_digit (x / 16) ∷ hex_digit (x % 16) ∷ []
+hex-push : (xs : List ℕ) (x : ℕ) → hex (xs ++ x ∷ []) ≡ hex xs ++ lower_digit (x / 16) ∷ lower_digit (x % 16) ∷ []
 hex-push [] x = refl
-hex-push (y ∷ xs) x = ap (λ l. hex_digit (y / 16) ∷ hex_digit (y % 16) ∷ l) (hex-push xs x)
+hex-push (y ∷ xs) x = ap (λ l. lower_digit (y / 16) ∷ lower_digit (y % 16) ∷ l) (hex-push xs x)
 
 same_two : (l : List ℕ) (a b d e : ℕ) → a ≡ d → b ≡ e → l ++ a ∷ b ∷ [] ≡ l ++ d ∷ e ∷ []
 same_two l a b d e p q = ap (λ n. l ++ n ∷ b ∷ []) p ∙ ap (λ n. l ++ d ∷ n ∷ []) q
@@ -17,7 +18,7 @@ same_two l a b d e p q = ap (λ n. l ++ n ∷ b ∷ []) p ∙ ap (λ n. l ++ d �
 -- the digits of one byte more
 pub two_more : (digits bytes : List ℕ) (i a b : ℕ) → i < length bytes → 2 * i + 1 < length digits
     → take (2 * i) digits ≡ hex (take i bytes)
-    → a ≡ hex_digit (get_or bytes i 0 / 16) → b ≡ hex_digit (get_or bytes i 0 % 16)
+    → a ≡ lower_digit (get_or bytes i 0 / 16) → b ≡ lower_digit (get_or bytes i 0 % 16)
     → take (2 * (i + 1)) (set (set digits (2 * i) a) (2 * i + 1) b) ≡ hex (take (i + 1) bytes)
 two_more digits bytes i a b inside room so first second =
     let x : ℕ = get_or bytes i 0 in
@@ -31,6 +32,6 @@ two_more digits bytes i a b inside room so first second =
     let grown : take (i + 1) bytes ≡ take i bytes ++ x ∷ [] =
     ap (λ n. take n bytes) (add-one i) ∙ take-suc bytes i 0 inside in
     outer ∙ ap (λ l. l ++ b ∷ []) inner ∙ append_assoc front (a ∷ []) (b ∷ [])
-    ∙ ap (λ l. l ++ a ∷ b ∷ []) so ∙ same_two (hex (take i bytes)) a b (hex_digit (x / 16)) (hex_digit (x % 16)) first
+    ∙ ap (λ l. l ++ a ∷ b ∷ []) so ∙ same_two (hex (take i bytes)) a b (lower_digit (x / 16)) (lower_digit (x % 16)) first
     second
     ∙ sym (ap hex grown ∙ hex-push (take i bytes) x)

@@ -6,7 +6,7 @@ use Rattle.fork_commands.specs.declared.extracting.ResourceFile.{ResourceFile}
 use Rattle.fork_commands.specs.Extracting.{ToWrite, extracted}
 use Rattle.fork_commands.specs.View.{view_file}
 use Rattle.commands.specs.declared.extracting.Extraction.{Extraction}
-use Rattle.commands.specs.Accesses.{Access, Read, Folder, Fails, WritesFront, StopsAmong, and_then, path_of, IsTold}
+use Rattle.commands.specs.Accesses.{Access, Read, Folder, Fails, WritesFront, StopsAmong, and_then, path_of, IsReported}
 use Rattle.commands.specs.Extracting.{write_in, writes_in, Extracts, IsUnextracted, Faulty, Unwritten}
 use Rattle.commands.specs.Fault.{Message, CannotWrite}
 use Rattle.commands.specs.Tasks.{IsForkFault}
@@ -14,9 +14,9 @@ use Rattle.commands.proofs.Accesses.{none, one_more}
 use Rattle.commands.proofs.Writes.{Made, further, begun}
 
 -- the first of these accesses failed
-pub stops_first : (next : Access) (rest : List Access) (old new : Option (List Access)) (told : Message)
-    → Fails next old new → IsTold (CannotWrite (path_of next)) told → StopsAmong (next ∷ rest) old new told
-stops_first next rest old new told fails fault = record {
+pub stops_first : (next : Access) (rest : List Access) (old new : Option (List Access)) (message : Message)
+    → Fails next old new → IsReported (CannotWrite (path_of next)) message → StopsAmong (next ∷ rest) old new message
+stops_first next rest old new message fails fault = record {
   first = [];
   next = next;
   rest = rest;
@@ -26,9 +26,9 @@ stops_first next rest old new told fails fault = record {
 }
 
 -- one of those that come next failed
-pub stopped_among : (all left xs rest : List Access) (old mid new : Option (List Access)) (told : Message)
-    → left ≡ xs ++ rest → Made all left old mid → StopsAmong xs mid new told → StopsAmong all old new told
-stopped_among all left xs rest old mid new told come so s = record {
+pub stopped_among : (all left xs rest : List Access) (old mid new : Option (List Access)) (message : Message)
+    → left ≡ xs ++ rest → Made all left old mid → StopsAmong xs mid new message → StopsAmong all old new message
+stopped_among all left xs rest old mid new message come so s = record {
   first = so.first ++ s.first;
   next = s.next;
   rest = s.rest ++ rest;
@@ -41,21 +41,21 @@ stopped_among all left xs rest old mid new told come so s = record {
 }
 
 -- the folder was not made
-pub folder_stopped : (folder : List ℕ) (files : List ToWrite) (old new : Option (List Access)) (told : Message)
-    → StopsAmong (Folder folder ∷ []) old new told → StopsAmong (writes_in folder files) old new told
-folder_stopped folder files old new told s =
+pub folder_stopped : (folder : List ℕ) (files : List ToWrite) (old new : Option (List Access)) (message : Message)
+    → StopsAmong (Folder folder ∷ []) old new message → StopsAmong (writes_in folder files) old new message
+folder_stopped folder files old new message s =
     let all : List Access = writes_in folder files in
-    stopped_among all all (Folder folder ∷ []) (map write_in files) old old new told refl (begun all old) s
+    stopped_among all all (Folder folder ∷ []) (map write_in files) old old new message refl (begun all old) s
 
--- one of the files failed, behind the folder
-pub files_stopped : (folder : List ℕ) (files : List ToWrite) (old mid new : Option (List Access)) (told : Message)
-    → mid ≡ and_then old (Folder folder ∷ []) → StopsAmong (map write_in files) mid new told
-    → StopsAmong (writes_in folder files) old new told
-files_stopped folder files old mid new told made s =
+-- one of the files failed, after the folder
+pub files_stopped : (folder : List ℕ) (files : List ToWrite) (old mid new : Option (List Access)) (message : Message)
+    → mid ≡ and_then old (Folder folder ∷ []) → StopsAmong (map write_in files) mid new message
+    → StopsAmong (writes_in folder files) old new message
+files_stopped folder files old mid new message made s =
     let all : List Access = writes_in folder files in
     let so : Made all (map write_in files) old mid =
     further all all (Folder folder ∷ []) (map write_in files) old old mid refl (begun all old) made in
-    stopped_among all (map write_in files) (map write_in files) [] old mid new told (sym (append-nil (map write_in files))) so s
+    stopped_among all (map write_in files) (map write_in files) [] old mid new message (sym (append-nil (map write_in files))) so s
 
 -- the folder was made, and then the files were written
 pub all_written : (folder : List ℕ) (files : List ToWrite) (old mid new : Option (List Access))
@@ -64,27 +64,27 @@ pub all_written : (folder : List ℕ) (files : List ToWrite) (old mid new : Opti
 all_written folder files old mid new made written =
     written ∙ ap (λ a. and_then a (map write_in files)) made ∙ one_more old (Folder folder ∷ []) (map write_in files)
 
--- a file is written before those that come behind it
+-- a file is written before those that come after it
 pub of_item : (files : List ResourceFile) (i : ℕ) (file : ResourceFile) → i < length files → file ≡ get_or files i file
     → map write_in (map view_file (drop i files))
     ≡ (write_in (view_file file) ∷ []) ++ map write_in (map view_file (drop (i + 1) files))
 of_item files i file inside is = grind (arith, common_steps)
 
 -- the bytes of the file are at fault
-pub faulty : (e : Extraction) (bytes read : List ℕ) (old new : Option (List Access)) (told : Message)
+pub faulty : (e : Extraction) (bytes read : List ℕ) (old new : Option (List Access)) (message : Message)
     → new ≡ and_then old (Read e.fork.now read ∷ []) → bytes ≡ read
-    → IsForkFault e.fork.now (extracted e.out.now bytes) told → IsUnextracted e old new told
-faulty e bytes read old new told is same fault =
-    Faulty read is (subst (λ b. IsForkFault e.fork.now (extracted e.out.now b) told) same fault)
+    → IsForkFault e.fork.now (extracted e.out.now bytes) message → IsUnextracted e old new message
+faulty e bytes read old new message is same fault =
+    Faulty read is (subst (λ b. IsForkFault e.fork.now (extracted e.out.now b) message) same fault)
 
 -- what there was to be written was not written to its end
 pub unwritten : (e : Extraction) (bytes read : List ℕ) (files sent : List ToWrite) (old then new : Option (List Access))
-    (told : Message) → then ≡ and_then old (Read e.fork.now read ∷ []) → bytes ≡ read → sent ≡ files
-    → extracted e.out.now bytes ≡ Ok files → StopsAmong (writes_in e.out.now sent) then new told → IsUnextracted e old new told
-unwritten e bytes read files sent old then new told is same all made stops =
+    (message : Message) → then ≡ and_then old (Read e.fork.now read ∷ []) → bytes ≡ read → sent ≡ files
+    → extracted e.out.now bytes ≡ Ok files → StopsAmong (writes_in e.out.now sent) then new message → IsUnextracted e old new message
+unwritten e bytes read files sent old then new message is same all made stops =
     Unwritten read files (subst (λ b. extracted e.out.now b ≡ Ok files) same made)
-    (subst (λ x. StopsAmong (writes_in e.out.now x) (and_then old (Read e.fork.now read ∷ [])) new told) all
-    (subst (λ a. StopsAmong (writes_in e.out.now sent) a new told) is stops))
+    (subst (λ x. StopsAmong (writes_in e.out.now x) (and_then old (Read e.fork.now read ∷ [])) new message) all
+    (subst (λ a. StopsAmong (writes_in e.out.now sent) a new message) is stops))
 
 -- all was written
 pub extracts : (e : Extraction) (bytes read : List ℕ) (files sent : List ToWrite) (old then new : Option (List Access))
@@ -99,10 +99,10 @@ extracts e bytes read files sent old then new is same all made written = (
 )
 
 -- a file was not written to its end
-pub not_written : (file : ToWrite) (p b q : List ℕ) (old new : Option (List Access)) (told : Message)
-    → WritesFront p b old new → p ≡ file.path → b ≡ file.bytes → q ≡ file.path → IsTold (CannotWrite q) told
-    → StopsAmong (write_in file ∷ []) old new told
-not_written file p b q old new told front same equal named fault =
-    stops_first (write_in file) [] old new told
+pub not_written : (file : ToWrite) (p b q : List ℕ) (old new : Option (List Access)) (message : Message)
+    → WritesFront p b old new → p ≡ file.path → b ≡ file.bytes → q ≡ file.path → IsReported (CannotWrite q) message
+    → StopsAmong (write_in file ∷ []) old new message
+not_written file p b q old new message front same equal named fault =
+    stops_first (write_in file) [] old new message
     (subst (λ x. WritesFront file.path x old new) equal (subst (λ x. WritesFront x b old new) same front))
-    (subst (λ x. IsTold (CannotWrite x) told) named fault)
+    (subst (λ x. IsReported (CannotWrite x) message) named fault)

@@ -4,19 +4,19 @@ use Rattle.fork_commands.specs.declared.fault.WorkFault.{WorkFault}
 use Rattle.fork_commands.specs.declared.fault.WorkFault.TheVariants.{File, HostMemory as NoMemory}
 use Rattle.fork_commands.specs.Faults.{Stops}
 use Rattle.commands.specs.Fault.{Message, Usage, CannotRead, Script, Fork, CannotWrite, HostMemory, NotLaunched}
-use Rattle.commands.specs.Accesses.{IsTold}
+use Rattle.commands.specs.Accesses.{IsReported}
 use Rattle.commands.specs.Tasks.{fork_message, IsForkFault, IsQuiet}
 
 -- What a fault says stays so as it is passed on.
 
--- the fault of a file's bytes is told with the file's path
-pub fork_stopped : {A : Type 0} (path : List ℕ) (fault : WorkFault) (wanted : Result A FileFault) (told : Message)
-    → Stops fault wanted → told ≡ fork_message path fault → IsForkFault path wanted told
-fork_stopped path NoMemory wanted told stops is = subst (λ m. IsForkFault path wanted m) (sym is) tt
-fork_stopped path (File fault) wanted told stops is = subst (λ m. IsForkFault path wanted m) (sym is) (refl, stops)
+-- the fault of a file's bytes is reported with the file's path
+pub fork_stopped : {A : Type 0} (path : List ℕ) (fault : WorkFault) (wanted : Result A FileFault) (message : Message)
+    → Stops fault wanted → message ≡ fork_message path fault → IsForkFault path wanted message
+fork_stopped path NoMemory wanted message stops is = subst (λ m. IsForkFault path wanted m) (sym is) tt
+fork_stopped path (File fault) wanted message stops is = subst (λ m. IsForkFault path wanted m) (sym is) (refl, stops)
 
 -- nothing is said of what was printed where something can't be written
-pub loud_write : (path : List ℕ) (p q : Option (List ℕ)) (told : Message) → IsTold (CannotWrite path) told → IsQuiet p q told
+pub loud_write : (path : List ℕ) (p q : Option (List ℕ)) (message : Message) → IsReported (CannotWrite path) message → IsQuiet p q message
 loud_write path p q HostMemory is = tt
 loud_write path p q (CannotWrite named) is = tt
 loud_write path p q (Fork named fault) is = absurd (let no : Fork named fault ≡ CannotWrite path = is in cc)
@@ -26,7 +26,7 @@ loud_write path p q (Script named line kind) is = absurd (let no : Script named 
 loud_write path p q (NotLaunched named app) is = absurd (let no : NotLaunched named app ≡ CannotWrite path = is in cc)
 
 -- nothing was printed
-pub quiet_silent : (p q : Option (List ℕ)) (told : Message) → q ≡ p → IsQuiet p q told
+pub quiet_silent : (p q : Option (List ℕ)) (message : Message) → q ≡ p → IsQuiet p q message
 quiet_silent p q HostMemory same = tt
 quiet_silent p q (CannotWrite named) same = tt
 quiet_silent p q (Fork named fault) same = same

@@ -21,8 +21,8 @@ pub fork_there : (path file fork : List ℕ) (texts : List (List ℕ)) → fork_
 fork_there path file fork texts found = ap (fork_told path) found
 
 -- a wrapper that is damaged
-pub fork_stop : (path file : List ℕ) (told : Message) → IsForkFault path (fork_in file) told
-    → IsStop (fork_at path (file ∷ [])) told
+pub fork_stop : (path file : List ℕ) (message : Message) → IsForkFault path (fork_in file) message
+    → IsStop (fork_at path (file ∷ [])) message
 fork_stop path file HostMemory is = tt
 fork_stop path file (Fork named fault) is =
     ap (fork_told path) is.1 ∙ ap (λ p. Err (Fork p fault)) (sym is.0)
@@ -32,12 +32,12 @@ fork_stop path file (Script named line kind) is = absurd is
 fork_stop path file (CannotWrite named) is = absurd is
 fork_stop path file (NotLaunched named app) is = absurd is
 
--- an application's script stops it, behind its fork
-pub app_stop : (name fork script file bytes : List ℕ) (texts : List (List ℕ)) (told : Message) → fork_in file ≡ Ok bytes
-    → IsStop (script_at script texts) told → IsStop (app_at name fork script (file ∷ texts)) told
-app_stop name fork script file bytes texts told found stops =
-    subst (λ r. IsStop (app_of name r (script_at script texts)) told) (sym (fork_there fork file bytes texts found))
-    (stop_then (script_at script texts) _ told stops)
+-- an application's script stops it, after its fork
+pub app_stop : (name fork script file bytes : List ℕ) (texts : List (List ℕ)) (message : Message) → fork_in file ≡ Ok bytes
+    → IsStop (script_at script texts) message → IsStop (app_at name fork script (file ∷ texts)) message
+app_stop name fork script file bytes texts message found stops =
+    subst (λ r. IsStop (app_of name r (script_at script texts)) message) (sym (fork_there fork file bytes texts found))
+    (stop_then (script_at script texts) _ message stops)
 
 -- an application, with the fork and the script that were read
 pub app_there : (name fork script file bytes : List ℕ) (texts : List (List ℕ)) (spelled : Spelled) (app : GivenApp)
@@ -48,13 +48,13 @@ app_there name fork script file bytes texts spelled app found reads is =
     ∙ ap (λ r. app_of name (Ok bytes) r) reads ∙ is
 
 -- an application's fork stops it
-pub app_unread : (name fork script : List ℕ) (old new : Option (List Access)) (told : Message)
-    → Reads (fork ∷ []) old new (λ texts. IsStop (fork_at fork texts) told)
-    → Reads (fork ∷ script ∷ []) old new (λ texts. IsStop (app_at name fork script texts) told)
-app_unread name fork script old new told ([], reads, stops) =
-    ([], reads, stop_then (fork_at fork []) (λ bytes. app_of name (Ok bytes) (script_at script [])) told stops)
-app_unread name fork script old new told (file ∷ texts, reads, stops) = (
+pub app_unread : (name fork script : List ℕ) (old new : Option (List Access)) (message : Message)
+    → Reads (fork ∷ []) old new (λ texts. IsStop (fork_at fork texts) message)
+    → Reads (fork ∷ script ∷ []) old new (λ texts. IsStop (app_at name fork script texts) message)
+app_unread name fork script old new message ([], reads, stops) =
+    ([], reads, stop_then (fork_at fork []) (λ bytes. app_of name (Ok bytes) (script_at script [])) message stops)
+app_unread name fork script old new message (file ∷ texts, reads, stops) = (
   file ∷ [],
   reads,
-  stop_then (fork_at fork (file ∷ [])) (λ bytes. app_of name (Ok bytes) (script_at script [])) told stops,
+  stop_then (fork_at fork (file ∷ [])) (λ bytes. app_of name (Ok bytes) (script_at script [])) message stops,
 )

@@ -30,22 +30,22 @@ use Rattle.commands.specs.JobZones.{IsZoneFault, Sees, IsUnseen, Ungathered, Not
 use Rattle.commands.proofs.Jobs.{all_read}
 
 -- an application that was launched had resources with which it was launched
-pub is_started : (P : Law) (system : Result Content OsErr) (apps : List App) (told : List AppResult) (i : ℕ) (app : App)
-    (l : Launched) → slice_get apps i ≡ Some app → launched_at i told ≡ Some l → OfEachApp P system apps told
+pub is_started : (P : Law) (system : Result Content OsErr) (apps : List App) (message : List AppResult) (i : ℕ) (app : App)
+    (l : Launched) → slice_get apps i ≡ Some app → launched_at i message ≡ Some l → OfEachApp P system apps message
     → is_ok (start_with system app) ≡ true
-is_started P system apps told i app l given is so = by_result (slice_get told i) refl is
+is_started P system apps message i app l given is so = by_result (slice_get message i) refl is
   where
-    by_result : (o : Option AppResult) → slice_get told i ≡ o → launched_of o ≡ Some l
+    by_result : (o : Option AppResult) → slice_get message i ≡ o → launched_of o ≡ Some l
         → is_ok (start_with system app) ≡ true
     by_result None here is = cc
     by_result (Some t) here is =
-        let started = has_started P system apps told i app t l given here is so in
+        let started = has_started P system apps message i app t l given here is so in
         ap (λ (r : Result Resources OsErr). is_ok r) started.1
 
 -- what an application of a run left, by its number
-told-some : (ys : List AppOutcome) (i : ℕ) (x : AppOutcome) → i < length ys → x ≡ slice_index_or ys i x
+launched-some : (ys : List AppOutcome) (i : ℕ) (x : AppOutcome) → i < length ys → x ≡ slice_index_or ys i x
     → launched_at i (map told_seen ys) ≡ option_map leaves_seen x.launched
-told-some ys i x lt is = ap launched_of
+launched-some ys i x lt is = ap launched_of
     (slice_get-map told_seen ys i ∙ ap (option_map told_seen) (slice_get_read ys (length ys) i x refl lt is))
 
 lent : (o : Option (Bor leaving.Launched))
@@ -57,7 +57,7 @@ lent (Some l) = refl
 pub left_some : (ys zs : List AppOutcome) (i : ℕ) (x : AppOutcome) (o : Option (Bor leaving.Launched)) → zs ≡ ys
     → i < length zs → x ≡ slice_index_or zs i x → option_map (λ (l : Bor leaving.Launched). l.now) o ≡ x.launched
     → option_map (λ (l : Bor leaving.Launched). leaves_seen l.now) o ≡ launched_at i (map told_seen ys)
-left_some ys zs i x o all lt is same = lent o ∙ ap (option_map leaves_seen) same ∙ sym (told-some zs i x lt is)
+left_some ys zs i x o all lt is same = lent o ∙ ap (option_map leaves_seen) same ∙ sym (launched-some zs i x lt is)
     ∙ ap (λ (xs : List AppOutcome). launched_at i (map told_seen xs)) all
 
 pub left_none : (ys zs : List AppOutcome) (i : ℕ) (r : Option (Bor AppOutcome)) → zs ≡ ys → IsItemAt zs i r → r ≡ None
@@ -73,38 +73,38 @@ pub app_there : (apps : List App) (i : ℕ) (app : App) → i < length apps → 
 app_there apps i app lt is = slice_get_read apps (length apps) i app refl lt is
 
 -- the application of that name, and what it left
-pub named_so : (name : List ℕ) (apps : List App) (told : List AppResult) (i : ℕ) (l : Launched)
-    → Some i ≡ number_of name apps → Some l ≡ launched_at i told → launched_as name apps told ≡ Some (i, l)
-named_so name apps told i l number is =
-    subst (λ (o : Option ℕ). launched_with o told ≡ Some (i, l)) number
+pub named_so : (name : List ℕ) (apps : List App) (message : List AppResult) (i : ℕ) (l : Launched)
+    → Some i ≡ number_of name apps → Some l ≡ launched_at i message → launched_as name apps message ≡ Some (i, l)
+named_so name apps message i l number is =
+    subst (λ (o : Option ℕ). launched_with o message ≡ Some (i, l)) number
     (ap (λ (o : Option Launched). option_map (λ (l : Launched). (i, l)) o) (sym is))
 
 -- there is none of that name, or it was not launched
-pub unnamed_so : (name : List ℕ) (apps : List App) (told : List AppResult)
-    → (let none : Option ℕ = None in none) ≡ number_of name apps → launched_as name apps told ≡ None
-unnamed_so name apps told none = subst (λ (o : Option ℕ). launched_with o told ≡ None) none refl
+pub unnamed_so : (name : List ℕ) (apps : List App) (message : List AppResult)
+    → (let none : Option ℕ = None in none) ≡ number_of name apps → launched_as name apps message ≡ None
+unnamed_so name apps message none = subst (λ (o : Option ℕ). launched_with o message ≡ None) none refl
 
-pub unlaunched_so : (name : List ℕ) (apps : List App) (told : List AppResult) (i : ℕ) → Some i ≡ number_of name apps
-    → (let none : Option Launched = None in none) ≡ launched_at i told → launched_as name apps told ≡ None
-unlaunched_so name apps told i number none =
-    subst (λ (o : Option ℕ). launched_with o told ≡ None) number
+pub unlaunched_so : (name : List ℕ) (apps : List App) (message : List AppResult) (i : ℕ) → Some i ≡ number_of name apps
+    → (let none : Option Launched = None in none) ≡ launched_at i message → launched_as name apps message ≡ None
+unlaunched_so name apps message i number none =
+    subst (λ (o : Option ℕ). launched_with o message ≡ None) number
     (ap (λ (o : Option Launched). option_map (λ (l : Launched). (i, l)) o) (sym none))
 
 -- the job's text was read, and then what its lines name
 pub ungathered_zone : (asked : JobZone) (stated : Stated) (texts : List (List (List ℕ))) (a b d : Option (List Access))
-    (told : Message) → b ≡ and_then a (Read asked.job.now stated.text ∷ [])
+    (message : Message) → b ≡ and_then a (Read asked.job.now stated.text ∷ [])
     → d ≡ and_then b (reads_of stated.lines.inputs texts)
-    → IsStop (with_inputs nothing_given stated.lines.inputs texts) told → IsUnseen asked a d told
-ungathered_zone asked stated texts a b d told first second stops =
+    → IsStop (with_inputs nothing_given stated.lines.inputs texts) message → IsUnseen asked a d message
+ungathered_zone asked stated texts a b d message first second stops =
     Ungathered stated texts (all_read asked.job.now stated texts a b d first second) stops
 
-pub not_there : (asked : JobZone) (system : List ℕ) (t : Taken) (a b d : Option (List Access)) (told : Message)
+pub not_there : (asked : JobZone) (system : List ℕ) (t : Taken) (a b d : Option (List Access)) (message : Message)
     → system ≡ system_path t.stated.lines.inputs → b ≡ and_then a (Read asked.job.now t.stated.text ∷ [])
-    → d ≡ and_then b (reads_of t.stated.lines.inputs t.texts) → IsZoneFault system asked t.job told
-    → IsUnseen asked a d told
-not_there asked system t a b d told is first second fault =
+    → d ≡ and_then b (reads_of t.stated.lines.inputs t.texts) → IsZoneFault system asked t.job message
+    → IsUnseen asked a d message
+not_there asked system t a b d message is first second fault =
     NotThere t (all_read asked.job.now t.stated t.texts a b d first second)
-    (subst (λ s. IsZoneFault s asked t.job told) is fault)
+    (subst (λ s. IsZoneFault s asked t.job message) is fault)
 
 pub sees : (asked : JobZone) (out : List ℕ) (t : Taken) (a b d : Option (List Access))
     → b ≡ and_then a (Read asked.job.now t.stated.text ∷ [])
@@ -124,8 +124,8 @@ shows asked out sent p mid q old then new silent all seen h = (
 )
 
 pub unprinted : (asked : JobZone) (out sent : List ℕ) (p mid q : Option (List ℕ)) (old then new : Option (List Access))
-    (told : Message) → mid ≡ p → sent ≡ out → Sees asked out old then
-    → IsUndelivered Printed sent mid q then new told → IsUnshown asked p q old new told
-unprinted asked out sent p mid q old then new told silent all seen h =
-    Unprinted out then seen (subst (λ x. IsUndelivered Printed x p q then new told) all
-    (subst (λ x. IsUndelivered Printed sent x q then new told) silent h))
+    (message : Message) → mid ≡ p → sent ≡ out → Sees asked out old then
+    → IsUndelivered Printed sent mid q then new message → IsUnshown asked p q old new message
+unprinted asked out sent p mid q old then new message silent all seen h =
+    Unprinted out then seen (subst (λ x. IsUndelivered Printed x p q then new message) all
+    (subst (λ x. IsUndelivered Printed sent x q then new message) silent h))

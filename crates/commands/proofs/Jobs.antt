@@ -15,20 +15,20 @@ all_read path stated texts a b d first second =
     ∙ one_more a (Read path stated.text ∷ []) (reads_of stated.lines.inputs texts)
 
 pub ungathered : (path folder : List ℕ) (stated : Stated) (texts : List (List (List ℕ))) (a b d : Option (List Access))
-    (told : Message) → b ≡ and_then a (Read path stated.text ∷ [])
+    (message : Message) → b ≡ and_then a (Read path stated.text ∷ [])
     → d ≡ and_then b (reads_of stated.lines.inputs texts)
-    → IsStop (with_inputs nothing_given stated.lines.inputs texts) told → IsStopped path folder a d told
-ungathered path folder stated texts a b d told first second stops =
+    → IsStop (with_inputs nothing_given stated.lines.inputs texts) message → IsStopped path folder a d message
+ungathered path folder stated texts a b d message first second stops =
     Ungathered stated texts (all_read path stated texts a b d first second) stops
 
-pub unleft : (path folder system : List ℕ) (t : Taken) (a b d e : Option (List Access)) (told : Message)
+pub unleft : (path folder system : List ℕ) (t : Taken) (a b d e : Option (List Access)) (message : Message)
     → system ≡ system_path t.stated.lines.inputs → b ≡ and_then a (Read path t.stated.text ∷ [])
-    → d ≡ and_then b (reads_of t.stated.lines.inputs t.texts) → IsUnleft system folder t.job d e told
-    → IsStopped path folder a e told
-unleft path folder system t a b d e told is first second u =
+    → d ≡ and_then b (reads_of t.stated.lines.inputs t.texts) → IsUnleft system folder t.job d e message
+    → IsStopped path folder a e message
+unleft path folder system t a b d e message is first second u =
     let before : Option (List Access) = and_then a (reads_for path t.stated t.texts) in
-    Unleft t (subst (λ s. IsUnleft s folder t.job before e told) is
-    (subst (λ x. IsUnleft system folder t.job x e told) (all_read path t.stated t.texts a b d first second) u))
+    Unleft t (subst (λ s. IsUnleft s folder t.job before e message) is
+    (subst (λ x. IsUnleft system folder t.job x e message) (all_read path t.stated t.texts a b d first second) u))
 
 pub runs : (path folder : List ℕ) (t : Taken) (a b d e : Option (List Access))
     → b ≡ and_then a (Read path t.stated.text ∷ []) → d ≡ and_then b (reads_of t.stated.lines.inputs t.texts)

@@ -5,6 +5,7 @@ use Rattle.std.specs.Char.{is_ascii_digit}
 use Rattle.std.specs.Str.Parse.{ParsesUnsigned}
 use Rattle.std.proofs.lemmas.Str.Parse.{IsNumeralModel, numerals_by_fold, parse_digits}
 use Rattle.script_text.specs.Argument.{number_from}
+use Rattle.script_text.specs.Job.{greatest_memory}
 use Rattle.commands.specs.Size.{within_limits, partition_size}
 
 -- Texts of digits, as they are parsed.
@@ -13,7 +14,7 @@ numerals : IsNumeralModel (λ ds. list_all is_ascii_digit ds ≡ true) (number_f
 numerals = numerals_by_fold _ (search rules) number_from (search rules)
 
 -- a number that is no size
-outside : (n : ℕ) → (512 ≤ n → n ≤ 134217728 → ⊥) → None ≡ within_limits n
+outside : (n : ℕ) → (512 ≤ n → n ≤ greatest_memory → ⊥) → None ≡ within_limits n
 outside n never = search (rules, arith)
 
 -- a text that writes no number of 32 bits

@@ -13,27 +13,27 @@ use Rattle.commands.proofs.Faults.{loud_write}
 
 -- nothing is said of what was printed where bytes were not delivered
 pub quiet_undelivered : (target : Target) (bytes : List ℕ) (p mid q : Option (List ℕ)) (old new : Option (List Access))
-    (told : Message) → IsUndelivered target bytes mid q old new told → IsQuiet p q told
-quiet_undelivered Printed bytes p mid q old new told h = loud_write _ p q told h.2
-quiet_undelivered (NewFile path) bytes p mid q old new told h = loud_write _ p q told h.2
+    (message : Message) → IsUndelivered target bytes mid q old new message → IsQuiet p q message
+quiet_undelivered Printed bytes p mid q old new message h = loud_write _ p q message h.2
+quiet_undelivered (NewFile path) bytes p mid q old new message h = loud_write _ p q message h.2
 
 -- nothing was made of the file's bytes
-pub unmade : (c : Conversion) (bytes read : List ℕ) (p q : Option (List ℕ)) (old new : Option (List Access)) (told : Message)
+pub unmade : (c : Conversion) (bytes read : List ℕ) (p q : Option (List ℕ)) (old new : Option (List Access)) (message : Message)
     → q ≡ p → new ≡ and_then old (Read c.path.now read ∷ []) → bytes ≡ read
-    → IsForkFault c.path.now (made c.work bytes) told → IsUnconverted c p q old new told
-unmade c bytes read p q old new told silent is same fault =
-    Unmade read silent is (subst (λ b. IsForkFault c.path.now (made c.work b) told) same fault)
+    → IsForkFault c.path.now (made c.work bytes) message → IsUnconverted c p q old new message
+unmade c bytes read p q old new message silent is same fault =
+    Unmade read silent is (subst (λ b. IsForkFault c.path.now (made c.work b) message) same fault)
 
 -- what was made of them was not delivered
 pub undelivered : (c : Conversion) (bytes read out sent : List ℕ) (p mid q : Option (List ℕ))
-    (old then new : Option (List Access)) (told : Message) → mid ≡ p → then ≡ and_then old (Read c.path.now read ∷ [])
-    → bytes ≡ read → sent ≡ out → made c.work bytes ≡ Ok out → IsUndelivered c.target sent mid q then new told
-    → IsUnconverted c p q old new told
-undelivered c bytes read out sent p mid q old then new told silent is same all made_so h =
+    (old then new : Option (List Access)) (message : Message) → mid ≡ p → then ≡ and_then old (Read c.path.now read ∷ [])
+    → bytes ≡ read → sent ≡ out → made c.work bytes ≡ Ok out → IsUndelivered c.target sent mid q then new message
+    → IsUnconverted c p q old new message
+undelivered c bytes read out sent p mid q old then new message silent is same all made_so h =
     Undelivered read out (subst (λ b. made c.work b ≡ Ok out) same made_so)
-    (subst (λ x. IsUndelivered c.target x p q (and_then old (Read c.path.now read ∷ [])) new told) all
-    (subst (λ a. IsUndelivered c.target sent p q a new told) is
-    (subst (λ x. IsUndelivered c.target sent x q then new told) silent h)))
+    (subst (λ x. IsUndelivered c.target x p q (and_then old (Read c.path.now read ∷ [])) new message) all
+    (subst (λ a. IsUndelivered c.target sent p q a new message) is
+    (subst (λ x. IsUndelivered c.target sent x q then new message) silent h)))
 
 -- what was made of them was delivered
 pub converts : (c : Conversion) (bytes read out sent : List ℕ) (p mid q : Option (List ℕ))

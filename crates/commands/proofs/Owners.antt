@@ -22,17 +22,17 @@ pub owner_above : (above more : List Input) (i : Input) → all_follow above (i 
 owner_above above more i order =
     owner_of above i (and_parts (may_follow above i) (all_follow (above ++ i ∷ []) more) order).0
 
--- those behind it may follow it
-pub order_behind : (above more : List Input) (i : Input) → all_follow above (i ∷ more) ≡ true
+-- those after it may follow it
+pub order_after : (above more : List Input) (i : Input) → all_follow above (i ∷ more) ≡ true
     → all_follow (above ++ i ∷ []) more ≡ true
-order_behind above more i order =
+order_after above more i order =
     (and_parts (may_follow above i) (all_follow (above ++ i ∷ []) more) order).1
 
 -- the names with that of one line more
 pub names_more : (above : List Input) (i : Input) → app_names (above ++ i ∷ []) ≡ app_names above ++ app_names (i ∷ [])
 names_more above i = filter_map-append app_name above (i ∷ [])
 
--- what is told of each stays where one is put anew of which the same is told
+-- what is said of each stays where one is put anew of which the same is said
 pub map_kept : {X Y : Type 0} (f : X → Y) (xs : List X) (i : ℕ) (x y : X) → x ≡ get_or xs i x → f y ≡ f x
     → map f (slice_set xs i y) ≡ map f xs
 map_kept f [] i x y is same = refl

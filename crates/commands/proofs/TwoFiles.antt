@@ -7,7 +7,7 @@ use Rattle.fork_commands.specs.declared.pair.PairFault.TheVariants as pair_fault
 use Rattle.fork_commands.specs.Pairs.{combined, StopsPair}
 use Rattle.commands.specs.declared.combining.Combination.{Combination}
 use Rattle.commands.specs.declared.ending.Ending.{Ending}
-use Rattle.commands.specs.Accesses.{Access, Read, and_then, IsTold}
+use Rattle.commands.specs.Accesses.{Access, Read, and_then, IsReported}
 use Rattle.commands.specs.Combining.{IsPairFault, pair_message, reads_both, Combines, IsUncombined}
 use Rattle.commands.specs.Combining.{SecondUnread, Unmade, Undelivered}
 use Rattle.commands.specs.Delivering.{Delivers, IsUndelivered}
@@ -15,13 +15,13 @@ use Rattle.commands.specs.Ending.{ending_of}
 use Rattle.commands.specs.Fault.{Message, CannotRead}
 use Rattle.commands.proofs.Accesses.{one_more}
 
--- the fault of the bytes is told with the path of the file
+-- the fault of the bytes is reported with the path of the file
 pub pair_stopped : {A : Type 0} (first second : List ℕ) (fault : PairFault) (wanted : Result A (Place × FileFault))
-    (told : Message) → StopsPair fault wanted → told ≡ pair_message first second fault
-    → IsPairFault first second wanted told
-pair_stopped first second pair_fault.HostMemory wanted told stops is =
+    (message : Message) → StopsPair fault wanted → message ≡ pair_message first second fault
+    → IsPairFault first second wanted message
+pair_stopped first second pair_fault.HostMemory wanted message stops is =
     subst (λ m. IsPairFault first second wanted m) (sym is) tt
-pair_stopped first second (pair_fault.File place fault) wanted told stops is =
+pair_stopped first second (pair_fault.File place fault) wanted message stops is =
     subst (λ m. IsPairFault first second wanted m) (sym is) (place, refl, stops)
 
 -- one file was read, and then the other
@@ -34,19 +34,19 @@ both c first second old mid new one two =
 
 -- the second file can't be read
 pub second_unread : (c : Combination) (first : List ℕ) (p mid q : Option (List ℕ)) (old then new : Option (List Access))
-    (told : Message) → mid ≡ p → q ≡ mid → then ≡ and_then old (Read c.first.now first ∷ []) → new ≡ then
-    → IsTold (CannotRead c.second.now) told → IsUncombined c p q old new told
-second_unread c first p mid q old then new told silent quiet is stays fault =
+    (message : Message) → mid ≡ p → q ≡ mid → then ≡ and_then old (Read c.first.now first ∷ []) → new ≡ then
+    → IsReported (CannotRead c.second.now) message → IsUncombined c p q old new message
+second_unread c first p mid q old then new message silent quiet is stays fault =
     SecondUnread first (quiet ∙ silent) (stays ∙ is) fault
 
 -- nothing was made of the bytes
 pub unmade : (c : Combination) (a b first second : List ℕ) (p q : Option (List ℕ)) (old new : Option (List Access))
-    (told : Message) → q ≡ p → new ≡ and_then old (reads_both c first second) → a ≡ first → b ≡ second
-    → IsPairFault c.first.now c.second.now (combined c.work a b) told → IsUncombined c p q old new told
-unmade c a b first second p q old new told silent is one two fault =
+    (message : Message) → q ≡ p → new ≡ and_then old (reads_both c first second) → a ≡ first → b ≡ second
+    → IsPairFault c.first.now c.second.now (combined c.work a b) message → IsUncombined c p q old new message
+unmade c a b first second p q old new message silent is one two fault =
     Unmade first second silent is
-    (subst (λ x. IsPairFault c.first.now c.second.now (combined c.work first x) told) two
-    (subst (λ x. IsPairFault c.first.now c.second.now (combined c.work x b) told) one fault))
+    (subst (λ x. IsPairFault c.first.now c.second.now (combined c.work first x) message) two
+    (subst (λ x. IsPairFault c.first.now c.second.now (combined c.work x b) message) one fault))
 
 -- what was made is made of the bytes that were read
 made_of : (c : Combination) (a b first second out : List ℕ) (differs : Bool) → a ≡ first → b ≡ second
@@ -57,15 +57,15 @@ made_of c a b first second out differs one two is =
 
 -- what was made of them was not delivered
 pub undelivered : (c : Combination) (a b first second out sent : List ℕ) (differs : Bool) (p mid q : Option (List ℕ))
-    (old then new : Option (List Access)) (told : Message) → mid ≡ p
+    (old then new : Option (List Access)) (message : Message) → mid ≡ p
     → then ≡ and_then old (reads_both c first second) → a ≡ first → b ≡ second → sent ≡ out
-    → combined c.work a b ≡ Ok (out, differs) → IsUndelivered c.target sent mid q then new told
-    → IsUncombined c p q old new told
-undelivered c a b first second out sent differs p mid q old then new told silent is one two all made_so h =
+    → combined c.work a b ≡ Ok (out, differs) → IsUndelivered c.target sent mid q then new message
+    → IsUncombined c p q old new message
+undelivered c a b first second out sent differs p mid q old then new message silent is one two all made_so h =
     Undelivered first second out differs (made_of c a b first second out differs one two made_so)
-    (subst (λ x. IsUndelivered c.target x p q (and_then old (reads_both c first second)) new told) all
-    (subst (λ x. IsUndelivered c.target sent p q x new told) is
-    (subst (λ x. IsUndelivered c.target sent x q then new told) silent h)))
+    (subst (λ x. IsUndelivered c.target x p q (and_then old (reads_both c first second)) new message) all
+    (subst (λ x. IsUndelivered c.target sent p q x new message) is
+    (subst (λ x. IsUndelivered c.target sent x q then new message) silent h)))
 
 -- what was made of them was delivered
 pub combines : (c : Combination) (ending : Ending) (a b first second out sent : List ℕ) (differs : Bool)

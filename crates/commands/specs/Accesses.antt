@@ -21,9 +21,9 @@ reads_at (path ∷ paths) [] = []
 reads_at (path ∷ paths) (bytes ∷ texts) = Read path bytes ∷ reads_at paths texts
 
 -- The fault is this one, unless the host is out of memory.
-abbrev pub IsTold : Message → Message → Type 0
-IsTold fault HostMemory = Unit {0}
-IsTold fault told = told ≡ fault
+abbrev pub IsReported : Message → Message → Type 0
+IsReported fault HostMemory = Unit {0}
+IsReported fault message = message ≡ fault
 
 -- Nothing of a file was written, or a front of its bytes.
 abbrev pub WritesFront : List ℕ → List ℕ → Option (List Access) → Option (List Access) → Type 0
@@ -53,10 +53,10 @@ pub record StopsAt (all : List Access) (old new : Option (List Access)) (path : 
   pub named : path ≡ path_of next
 
 -- Of these accesses the first were made, one failed, which is the fault, and none was made after it.
-pub record StopsAmong (all : List Access) (old new : Option (List Access)) (told : Message) : Type 0 where
+pub record StopsAmong (all : List Access) (old new : Option (List Access)) (message : Message) : Type 0 where
   pub first : List Access
   pub next : Access
   pub rest : List Access
   pub split : all ≡ first ++ next ∷ rest
   pub fails : Fails next (and_then old first) new
-  pub fault : IsTold (CannotWrite (path_of next)) told
+  pub fault : IsReported (CannotWrite (path_of next)) message

@@ -6,7 +6,7 @@ use Rattle.fork_commands.specs.declared.pair.PairFault.{PairFault}
 use Rattle.fork_commands.specs.declared.pair.PairFault.TheVariants as pair_fault
 use Rattle.fork_commands.specs.Pairs.{combined}
 use Rattle.commands.specs.declared.combining.Combination.{Combination}
-use Rattle.commands.specs.Accesses.{Access, Read, and_then, IsTold}
+use Rattle.commands.specs.Accesses.{Access, Read, and_then, IsReported}
 use Rattle.commands.specs.declared.ending.Ending.{Ending}
 use Rattle.commands.specs.Delivering.{Delivers, IsUndelivered}
 use Rattle.commands.specs.Ending.{ending_of}
@@ -25,16 +25,16 @@ abbrev pub pair_message : List ℕ → List ℕ → PairFault → Message
 pair_message first second pair_fault.HostMemory = HostMemory
 pair_message first second (pair_fault.File place fault) = Fork (path_at place first second) fault
 
--- The fault of the bytes of two files of which something is wanted; if the host is out of memory nothing is said of them.
+-- The fault of the bytes of two files on which a work is done; if the host is out of memory nothing is said of them.
 abbrev pub IsPairFault : {A : Type 0} → List ℕ → List ℕ → Result A (Place × FileFault) → Message → Type 0
-IsPairFault first second wanted HostMemory = Unit {0}
-IsPairFault first second wanted (Fork named fault) =
-    (place : Place) × (named ≡ path_at place first second) × (wanted ≡ Err (place, fault))
-IsPairFault first second wanted (Usage message) = ⊥
-IsPairFault first second wanted (CannotRead named) = ⊥
-IsPairFault first second wanted (Script named line kind) = ⊥
-IsPairFault first second wanted (CannotWrite named) = ⊥
-IsPairFault first second wanted (NotLaunched named app) = ⊥
+IsPairFault first second made HostMemory = Unit {0}
+IsPairFault first second made (Fork named fault) =
+    (place : Place) × (named ≡ path_at place first second) × (made ≡ Err (place, fault))
+IsPairFault first second made (Usage message) = ⊥
+IsPairFault first second made (CannotRead named) = ⊥
+IsPairFault first second made (Script named line kind) = ⊥
+IsPairFault first second made (CannotWrite named) = ⊥
+IsPairFault first second made (NotLaunched named app) = ⊥
 
 -- The files were read, one after the other.
 abbrev pub reads_both : Combination → List ℕ → List ℕ → List Access
@@ -51,12 +51,12 @@ Combines c ending p q old new =
 
 -- A file can't be read, nothing is made of the bytes, or what was made of them was not delivered to its end.
 pub data IsUncombined
-    (c : Combination) (p q : Option (List ℕ)) (old new : Option (List Access)) (told : Message) : Type 0 where
-  FirstUnread : q ≡ p → new ≡ old → IsTold (CannotRead c.first.now) told → IsUncombined c p q old new told
+    (c : Combination) (p q : Option (List ℕ)) (old new : Option (List Access)) (message : Message) : Type 0 where
+  FirstUnread : q ≡ p → new ≡ old → IsReported (CannotRead c.first.now) message → IsUncombined c p q old new message
   SecondUnread : (first : List ℕ) → q ≡ p → new ≡ and_then old (Read c.first.now first ∷ [])
-      → IsTold (CannotRead c.second.now) told → IsUncombined c p q old new told
+      → IsReported (CannotRead c.second.now) message → IsUncombined c p q old new message
   Unmade : (first second : List ℕ) → q ≡ p → new ≡ and_then old (reads_both c first second)
-      → IsPairFault c.first.now c.second.now (combined c.work first second) told → IsUncombined c p q old new told
+      → IsPairFault c.first.now c.second.now (combined c.work first second) message → IsUncombined c p q old new message
   Undelivered : (first second out : List ℕ) (differs : Bool) → combined c.work first second ≡ Ok (out, differs)
-      → IsUndelivered c.target out p q (and_then old (reads_both c first second)) new told
-      → IsUncombined c p q old new told
+      → IsUndelivered c.target out p q (and_then old (reads_both c first second)) new message
+      → IsUncombined c p q old new message

@@ -5,7 +5,7 @@ use Rattle.commands.specs.declared.tasks.Task.{Task}
 use Rattle.commands.specs.declared.request.Request.{Request}
 use Rattle.commands.specs.declared.request.Request.TheVariants.{Look, Run, Show, Convert, Combine, Extract}
 use Rattle.commands.specs.Fault.{Message, CannotRead, IsUsage}
-use Rattle.commands.specs.Accesses.{Access, Read, and_then, IsTold}
+use Rattle.commands.specs.Accesses.{Access, Read, and_then, IsReported}
 use Rattle.commands.specs.Tasks.{Prints, IsRefusal}
 use Rattle.commands.specs.Running.{Runs, IsStopped}
 use Rattle.commands.specs.JobZones.{Shows, IsUnshown}
@@ -13,7 +13,7 @@ use Rattle.commands.specs.Converting.{Converts, IsUnconverted}
 use Rattle.commands.specs.Combining.{Combines, IsUncombined}
 use Rattle.commands.specs.Extracting.{Extracts, IsUnextracted}
 
--- What the words of a command line ask for is done. `p` and `q` are the bytes that have been printed before and after,
+-- A request of the command line is done. `p` and `q` are the bytes that have been printed before and after,
 -- `old` and `new` the accesses to files.
 
 -- A task was done: its file was read, and all that the task prints of the file's bytes was printed.
@@ -22,12 +22,12 @@ Looks task p q old new =
     (bytes : List ℕ) × (new ≡ and_then old (Read task.path.now bytes ∷ [])) × Prints task.work bytes p q
 
 -- A task was not done, or not to its end: its file can't be read, the bytes are faulty, or printing failed.
-pub data IsUnseen (task : Task) (p q : Option (List ℕ)) (old new : Option (List Access)) (told : Message) : Type 0 where
-  Unread : q ≡ p → new ≡ old → IsTold (CannotRead task.path.now) told → IsUnseen task p q old new told
+pub data IsUnseen (task : Task) (p q : Option (List ℕ)) (old new : Option (List Access)) (message : Message) : Type 0 where
+  Unread : q ≡ p → new ≡ old → IsReported (CannotRead task.path.now) message → IsUnseen task p q old new message
   Refused : (bytes : List ℕ) → new ≡ and_then old (Read task.path.now bytes ∷ [])
-      → IsRefusal task.work task.path.now bytes p q told → IsUnseen task p q old new told
+      → IsRefusal task.work task.path.now bytes p q message → IsUnseen task p q old new message
 
--- What was asked for was done: a task, a job was run to its end, the zone of one of its applications was printed, what was
+-- What the request asks for was done: a task, a job was run to its end, the zone of one of its applications was printed, what was
 -- made of one file or of two was delivered, or the resources of a fork were written.
 abbrev pub IsDone
     : Request → Ending → Option (List ℕ) → Option (List ℕ) → Option (List Access) → Option (List Access) → Type 0
@@ -38,17 +38,17 @@ IsDone (Convert conversion) ending p q old new = (ending ≡ Done) × Converts c
 IsDone (Combine combination) ending p q old new = Combines combination ending p q old new
 IsDone (Extract extraction) ending p q old new = (ending ≡ Done) × (q ≡ p) × Extracts extraction old new
 
--- What was asked for was not done, or not to its end.
+-- What the request asks for was not done, or not to its end.
 abbrev pub IsUndone
     : Request → Option (List ℕ) → Option (List ℕ) → Option (List Access) → Option (List Access) → Message → Type 0
-IsUndone (Look task) p q old new told = IsUnseen task p q old new told
-IsUndone (Run errand) p q old new told = (q ≡ p) × IsStopped errand.job.now errand.out.now old new told
-IsUndone (Show zone) p q old new told = IsUnshown zone p q old new told
-IsUndone (Convert conversion) p q old new told = IsUnconverted conversion p q old new told
-IsUndone (Combine combination) p q old new told = IsUncombined combination p q old new told
-IsUndone (Extract extraction) p q old new told = (q ≡ p) × IsUnextracted extraction old new told
+IsUndone (Look task) p q old new message = IsUnseen task p q old new message
+IsUndone (Run errand) p q old new message = (q ≡ p) × IsStopped errand.job.now errand.out.now old new message
+IsUndone (Show zone) p q old new message = IsUnshown zone p q old new message
+IsUndone (Convert conversion) p q old new message = IsUnconverted conversion p q old new message
+IsUndone (Combine combination) p q old new message = IsUncombined combination p q old new message
+IsUndone (Extract extraction) p q old new message = (q ≡ p) × IsUnextracted extraction old new message
 
 -- Nothing was done, or not all that some request asks for.
-pub data IsNotDone (p q : Option (List ℕ)) (old new : Option (List Access)) (told : Message) : Type 0 where
-  AsksNothing : q ≡ p → new ≡ old → IsUsage told → IsNotDone p q old new told
-  Asks : (request : Request) → IsUndone request p q old new told → IsNotDone p q old new told
+pub data IsNotDone (p q : Option (List ℕ)) (old new : Option (List Access)) (message : Message) : Type 0 where
+  AsksNothing : q ≡ p → new ≡ old → IsUsage message → IsNotDone p q old new message
+  Asks : (request : Request) → IsUndone request p q old new message → IsNotDone p q old new message

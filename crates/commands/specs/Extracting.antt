@@ -1,7 +1,7 @@
 use Rattle.std.specs.Prelude.{◌≡◌, ℕ, Option, Ok, List, [], ◌∷◌, map}
 use Rattle.fork_commands.specs.Extracting.{ToWrite, extracted}
 use Rattle.commands.specs.declared.extracting.Extraction.{Extraction}
-use Rattle.commands.specs.Accesses.{Access, Read, Folder, Write, and_then, IsTold, StopsAmong}
+use Rattle.commands.specs.Accesses.{Access, Read, Folder, Write, and_then, IsReported, StopsAmong}
 use Rattle.commands.specs.Fault.{Message, CannotRead}
 use Rattle.commands.specs.Tasks.{IsForkFault}
 
@@ -22,10 +22,10 @@ Extracts e old new =
     × (new ≡ and_then (and_then old (Read e.fork.now bytes ∷ [])) (writes_in e.out.now files))
 
 -- The file can't be read, its bytes are at fault, or what there is to be written was not written to its end.
-pub data IsUnextracted (e : Extraction) (old new : Option (List Access)) (told : Message) : Type 0 where
-  Unread : new ≡ old → IsTold (CannotRead e.fork.now) told → IsUnextracted e old new told
+pub data IsUnextracted (e : Extraction) (old new : Option (List Access)) (message : Message) : Type 0 where
+  Unread : new ≡ old → IsReported (CannotRead e.fork.now) message → IsUnextracted e old new message
   Faulty : (bytes : List ℕ) → new ≡ and_then old (Read e.fork.now bytes ∷ [])
-      → IsForkFault e.fork.now (extracted e.out.now bytes) told → IsUnextracted e old new told
+      → IsForkFault e.fork.now (extracted e.out.now bytes) message → IsUnextracted e old new message
   Unwritten : (bytes : List ℕ) (files : List ToWrite) → extracted e.out.now bytes ≡ Ok files
-      → StopsAmong (writes_in e.out.now files) (and_then old (Read e.fork.now bytes ∷ [])) new told
-      → IsUnextracted e old new told
+      → StopsAmong (writes_in e.out.now files) (and_then old (Read e.fork.now bytes ∷ [])) new message
+      → IsUnextracted e old new message

@@ -27,7 +27,7 @@ message_of (fault.CannotWrite path) = CannotWrite (string_bytes path)
 message_of fault.HostMemory = HostMemory
 message_of (fault.NotLaunched path app) = NotLaunched (string_bytes path) (string_bytes app)
 
--- The fault of words that ask for nothing.
+-- The fault of words that make no request.
 abbrev pub IsUsage : Message → Type 0
 IsUsage (Usage text) = Unit {0}
 IsUsage (CannotRead path) = ⊥

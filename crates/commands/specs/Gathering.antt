@@ -141,7 +141,7 @@ ReadsOf inputs old new P = (texts : List (List (List ℕ))) × (new ≡ and_then
 -- The result of a function, seen by `view`, is what is given, or what stops it, unless the host is out of memory.
 abbrev pub IsStop : {Y : Type 0} → Result Y Message → Message → Type 0
 IsStop given HostMemory = Unit {0}
-IsStop given told = given ≡ Err told
+IsStop given message = given ≡ Err message
 
 abbrev pub IsGiven : {X Y : Type 0} → (X → Y) → Result Y Message → Result X ToolFault → Type 0
 IsGiven view given (Ok x) = given ≡ Ok (view x)

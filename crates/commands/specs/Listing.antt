@@ -57,7 +57,7 @@ wrapper_word wrapping.MacBinaryI = codes "MacBinary I"
 wrapper_word wrapping.MacBinaryII = codes "MacBinary II"
 wrapper_word wrapping.MacBinaryIII = codes "MacBinary III"
 
--- The line above the listing that says how the file wraps its fork, if it is asked for.
+-- The line above the listing that says how the file wraps its fork, if the style has it.
 abbrev pub wrapper_line : MapStyle → Wrapping → List ℕ
 wrapper_line style how = if style.verbose then codes "wrapper " ++ wrapper_word how ++ codes "\n" else []
 

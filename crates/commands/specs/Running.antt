@@ -5,7 +5,7 @@ use Rattle.desk.specs.Outcome.{Outcome}
 use Rattle.fork_commands.specs.declared.fault.FileFault.TheVariants.{Code}
 use Rattle.desk.specs.Whole.{system_of, LeftByRun}
 use Rattle.commands.specs.Fault.{Message, CannotRead, Script, Fork, HostMemory}
-use Rattle.commands.specs.Accesses.{Access, Read, Folder, Write, and_then, IsTold, StopsAmong}
+use Rattle.commands.specs.Accesses.{Access, Read, Folder, Write, and_then, IsReported, StopsAmong}
 use Rattle.commands.specs.Gathering.{nothing_given, with_inputs, reads_of, system_path, job_given, IsStop}
 use Rattle.commands.specs.Outputs.{Written, left_by}
 
@@ -41,13 +41,13 @@ writes_for folder outcome = Folder folder ∷ map write_of (left_by folder outco
 abbrev pub IsJobFault : List ℕ → List ℕ → Message → Type 0
 IsJobFault path text HostMemory = Unit {0}
 IsJobFault path text (Script named line kind) = (named ≡ path) × (job_of text ≡ Err (line, kind))
-IsJobFault path text told = ⊥
+IsJobFault path text message = ⊥
 
 -- The fault of a run that leaves nothing is that the fork of the System file, which was read at this path, is no fork.
 abbrev pub IsRunFault : List ℕ → Job → Message → Type 0
 IsRunFault system job HostMemory = Unit {0}
 IsRunFault system job (Fork named (Code code)) = (named ≡ system) × (system_of job ≡ Err code)
-IsRunFault system job told = ⊥
+IsRunFault system job message = ⊥
 
 -- What a run leaves that did not stop was written into a folder.
 abbrev pub Leaves : List ℕ → Job → Option (List Access) → Option (List Access) → Type 0
@@ -56,12 +56,12 @@ Leaves folder job old new =
 
 -- A run did not begin; or it stopped, and what it leaves was written all the same; or what it leaves was not written to
 -- its end.
-pub data IsUnleft (system folder : List ℕ) (job : Job) (old new : Option (List Access)) (told : Message) : Type 0 where
-  NotRun : new ≡ old → IsRunFault system job told → IsUnleft system folder job old new told
+pub data IsUnleft (system folder : List ℕ) (job : Job) (old new : Option (List Access)) (message : Message) : Type 0 where
+  NotRun : new ≡ old → IsRunFault system job message → IsUnleft system folder job old new message
   Halted : (outcome : Outcome) → outcome.stopped ≡ true → LeftByRun job outcome
-      → new ≡ and_then old (writes_for folder outcome) → told ≡ HostMemory → IsUnleft system folder job old new told
-  NotWritten : (outcome : Outcome) → LeftByRun job outcome → StopsAmong (writes_for folder outcome) old new told
-      → IsUnleft system folder job old new told
+      → new ≡ and_then old (writes_for folder outcome) → message ≡ HostMemory → IsUnleft system folder job old new message
+  NotWritten : (outcome : Outcome) → LeftByRun job outcome → StopsAmong (writes_for folder outcome) old new message
+      → IsUnleft system folder job old new message
 
 -- A job was run to its end: all input was read, then all that it leaves was written, and no other file was read or
 -- written.
@@ -70,17 +70,17 @@ Runs path folder old new = (t : Taken) × Leaves folder t.job (and_then old (rea
 
 -- Why a job was not run to its end, and what was read and written before. If the host is out of memory, the job may
 -- stop anywhere; a run that stops within its events leaves what was completed, and that is written.
-pub data IsStopped (path folder : List ℕ) (old new : Option (List Access)) (told : Message) : Type 0 where
+pub data IsStopped (path folder : List ℕ) (old new : Option (List Access)) (message : Message) : Type 0 where
   -- the job can't be read
-  Unread : new ≡ old → IsTold (CannotRead path) told → IsStopped path folder old new told
+  Unread : new ≡ old → IsReported (CannotRead path) message → IsStopped path folder old new message
   -- its text is faulty
-  Misstated : (text : List ℕ) → new ≡ and_then old (Read path text ∷ []) → IsJobFault path text told
-      → IsStopped path folder old new told
+  Misstated : (text : List ℕ) → new ≡ and_then old (Read path text ∷ []) → IsJobFault path text message
+      → IsStopped path folder old new message
   -- a file that a line names can't be read, or the text of a script is faulty
   Ungathered : (stated : Stated) (texts : List (List (List ℕ))) → new ≡ and_then old (reads_for path stated texts)
-      → IsStop (with_inputs nothing_given stated.lines.inputs texts) told → IsStopped path folder old new told
+      → IsStop (with_inputs nothing_given stated.lines.inputs texts) message → IsStopped path folder old new message
   -- all input was read, and the System file's fork is no fork, or the run stopped and all that it leaves was written, or
   -- the folder can't be made, or a file can't be written
   Unleft : (t : Taken)
-      → IsUnleft (system_path t.stated.lines.inputs) folder t.job (and_then old (reads_for path t.stated t.texts)) new told
-      → IsStopped path folder old new told
+      → IsUnleft (system_path t.stated.lines.inputs) folder t.job (and_then old (reads_for path t.stated t.texts)) new message
+      → IsStopped path folder old new message

@@ -44,15 +44,15 @@ IsScriptFault path text (Fork named fault) = ⊥
 IsScriptFault path text (CannotWrite named) = ⊥
 IsScriptFault path text (NotLaunched named app) = ⊥
 
--- The fault of the bytes of a file of which something is wanted; if the host is out of memory nothing is said of them.
+-- The fault of the bytes of a file on which a work is done; if the host is out of memory nothing is said of them.
 abbrev pub IsForkFault : {A : Type 0} → List ℕ → Result A FileFault → Message → Type 0
-IsForkFault path wanted HostMemory = Unit {0}
-IsForkFault path wanted (Fork named fault) = (named ≡ path) × (wanted ≡ Err fault)
-IsForkFault path wanted (Usage message) = ⊥
-IsForkFault path wanted (CannotRead named) = ⊥
-IsForkFault path wanted (Script named line kind) = ⊥
-IsForkFault path wanted (CannotWrite named) = ⊥
-IsForkFault path wanted (NotLaunched named app) = ⊥
+IsForkFault path made HostMemory = Unit {0}
+IsForkFault path made (Fork named fault) = (named ≡ path) × (made ≡ Err fault)
+IsForkFault path made (Usage message) = ⊥
+IsForkFault path made (CannotRead named) = ⊥
+IsForkFault path made (Script named line kind) = ⊥
+IsForkFault path made (CannotWrite named) = ⊥
+IsForkFault path made (NotLaunched named app) = ⊥
 
 -- What is printed of a file's bytes.
 abbrev pub IsPrinted : Work → List ℕ → List ℕ → Type 0

@@ -25,8 +25,8 @@ abbrev pub IsTranscriptOf : ℕ → List ℕ → List ℕ → Type 0
 IsTranscriptOf n text out =
     (script : ScriptParts) × (script_of text ≡ Ok (spelled script)) × (out ≡ (script_alone n script).transcript)
 
--- What is shown of an application with these steps: its zone behind the steps up to a line, in a form; or behind those up
--- to one line and behind each further step up to another line, as a picture.
+-- What is shown of an application with these steps: its zone after the steps up to a line, in a form; or after those up
+-- to one line and after each further step up to another line, as a picture.
 abbrev pub sight_of : Lines → List Line → Sight
 sight_of (lines.One line form) steps = sight.Zone (steps_at line steps) form
 sight_of (lines.Each from to) steps = sight.Moments (steps_at (Some from) steps) (steps_at (Some to) steps)
@@ -34,7 +34,7 @@ sight_of (lines.Each from to) steps = sight.Moments (steps_at (Some from) steps)
 -- What is shown of a script's application, by the steps of the script's text.
 abbrev pub IsZoneOf : ZoneView → List ℕ → List ℕ → Type 0
 IsZoneOf asked text out = (script : ScriptParts) × (script_of text ≡ Ok (spelled script))
-    × (out ≡ sight_text (sight_of asked.behind script.steps) own_resources asked.size.bytes script)
+    × (out ≡ sight_text (sight_of asked.lines script.steps) own_resources asked.size.bytes script)
 
 -- The listing of the resource fork in the bytes of a file: that of the content which the fork's bytes spell.
 abbrev pub IsListingOf : MapStyle → List ℕ → List ℕ → Type 0

@@ -1,4 +1,4 @@
-//! What is asked for of two files: what a work makes of their bytes is printed, or written into a new file.
+//! Requests for two files: what a work makes of their bytes is printed, or written into a new file.
 
 ghost use Rattle.std.specs.Prelude.{◌≡◌, Ok, IfOk, IfErr};
 ghost use Rattle.fork_commands.specs.Pairs.{combined};
@@ -14,7 +14,7 @@ use crate::input::read_input;
 use fork_commands::{PairFault, PairOutput, PairWork, Place, combined};
 use std::alloc::{AllocError, Global};
 
-/// What is asked for of two files.
+/// A request for two files.
 #[derive(Clone, Copy)]
 pub struct Combination<'a> {
     /// What is made of the files' bytes.
@@ -34,7 +34,7 @@ fn pair_fault(
     second: &str,
     fault: PairFault,
 ) -> Result<ToolFault, AllocError>
-    ensures { IfOk result (λ told. message_of told ≡ pair_message first.now second.now fault) }
+    ensures { IfOk result (λ made. message_of made ≡ pair_message first.now second.now fault) }
 {
     match fault {
         PairFault::File(Place::First, fault) => Ok(ToolFault::Fork {
@@ -68,7 +68,7 @@ fn combined_at(
     }
 }
 
-/// Reads two files, makes of their bytes what is asked for, and delivers that.
+/// Reads two files, does the work on their bytes, and delivers what the work makes.
 ///
 /// # Errors
 ///

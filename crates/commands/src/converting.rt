@@ -1,4 +1,4 @@
-//! What is asked for of one file: what a work makes of its bytes is printed, or written into a new file.
+//! Requests for one file: what a work makes of its bytes is printed, or written into a new file.
 
 ghost use Rattle.std.specs.Prelude.{◌≡◌, Ok, IfOk, IfErr};
 ghost use Rattle.fork_commands.specs.Works.{made};
@@ -16,7 +16,7 @@ use crate::tasks::fork_fault;
 use fork_commands::{ForkWork, made};
 use std::alloc::Global;
 
-/// What is asked for of one file.
+/// A request for one file.
 #[derive(Clone, Copy)]
 pub struct Conversion<'a> {
     /// What is made of the file's bytes.
@@ -39,7 +39,7 @@ fn made_at(alloc: Global, work: ForkWork, path: &str, bytes: &[u8]) -> Result<Ve
     }
 }
 
-/// Reads a file, makes of its bytes what is asked for, and delivers that.
+/// Reads a file, does the work on its bytes, and delivers what the work makes.
 ///
 /// # Errors
 ///

@@ -2,7 +2,7 @@
 
 ghost use Rattle.std.specs.Prelude.{OnOk, IfOk, IfErr};
 ghost use Rattle.commands.specs.declared.delivering.Target.TheVariants.{Printed, NewFile};
-ghost use Rattle.commands.specs.Accesses.{IsTold};
+ghost use Rattle.commands.specs.Accesses.{IsReported};
 ghost use Rattle.commands.specs.Delivering.{Delivers, IsUndelivered};
 ghost use Rattle.commands.specs.Fault.{message_of, CannotWrite};
 
@@ -28,7 +28,7 @@ pub(crate) fn unwritten(
     path: &str,
     error: WriteError,
 ) -> Result<ToolFault, AllocError>
-    ensures { IfOk result (λ fault. IsTold (CannotWrite path.now) (message_of fault)) }
+    ensures { IfOk result (λ fault. IsReported (CannotWrite path.now) (message_of fault)) }
 {
     match error {
         WriteError::CannotWrite => Ok(ToolFault::CannotWrite {

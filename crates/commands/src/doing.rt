@@ -1,4 +1,4 @@
-//! From the words of the command line to what is printed or written: the words ask for a task, whose file is read and
+//! From the words of the command line to what is printed or written: the words name a task, whose file is read and
 //! whose bytes are worked on, for a job to be run or shown, for something to be made of one file or of two, or for the
 //! resources of a fork to be written. Between the words and the host stand only `tasks::do_task`, `running::run_job`,
 //! `job_zones::show_in_job`, `converting::convert`, `combining::combine` and `extracting::extract`.
@@ -79,7 +79,7 @@ fn write_resources<H: Host>(
     Ok(Ending::Done)
 }
 
-/// Does what is asked for.
+/// Does what a request asks for.
 fn perform<H: Host, W: Watch>(
     alloc: Global,
     host: &mut H,
@@ -102,9 +102,9 @@ fn perform<H: Host, W: Watch>(
     }
 }
 
-/// Does what the words of the command line ask for; the first word is the program's name. All input is read before
+/// Performs the request that the words of the command line make; the first word is the program's name. All input is read before
 /// anything is printed or written, and existing files are only read. The progress of a script or of a job is reported to
-/// the watch if the words ask for that.
+/// the watch if the words say so.
 pub fn tool<H: Host, W: Watch>(
     alloc: Global,
     words: &[&str],
@@ -116,11 +116,11 @@ pub fn tool<H: Host, W: Watch>(
     ensures done { IfOk result (λ ending. (request : Request) × IsDone request ending (H.printed host.old) (H.printed host.new)
         (H.accesses host.old) (H.accesses host.new)) }
 
-    // The words ask for nothing, and nothing is done; or a request is done up to the first fault.
+    // The words make no request, and nothing is done; or a request is done up to the first fault.
     ensures undone { IfErr result (λ fault. IsNotDone (H.printed host.old) (H.printed host.new)
         (H.accesses host.old) (H.accesses host.new) (message_of fault)) }
 
-    // Nothing is printed if the words ask for nothing, the file can't be read, or its bytes are faulty.
+    // Nothing is printed if the words make no request, the file can't be read, or its bytes are faulty.
     ensures quiet { IfErr result (λ fault. IsQuiet (H.printed host.old) (H.printed host.new) (message_of fault)) }
 {
     let request = read_words(alloc, words)?;

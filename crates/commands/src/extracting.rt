@@ -16,7 +16,7 @@ use crate::tasks::fork_fault;
 use fork_commands::{ResourceFile, extracted};
 use std::alloc::Global;
 
-/// What is asked for of a fork: its path and the folder for its resources, as they were given.
+/// A request to extract the resources of a fork: its path and the folder for the resources, as they were given.
 #[derive(Clone, Copy)]
 pub struct Extraction<'a> {
     pub fork: &'a str,
@@ -108,7 +108,7 @@ fn write_all<H: Host>(
 }
 
 /// Reads a fork, and writes each of its resources into a file of its own in a new folder. The paths of the files are made
-/// before the folder, so that no memory is wanted for them later.
+/// before the folder, so that they need no memory later.
 ///
 /// # Errors
 ///

@@ -13,7 +13,7 @@ use thiserror::Error;
 /// text of the command line's parser.
 #[derive(Debug, Drop, Error)]
 pub enum ToolFault {
-    /// The words ask for nothing that the program does, or for help.
+    /// The words make no request that the program knows, or ask for help.
     #[error("{text}")]
     Usage {
         /// The text of the parser, with the ends of its lines.

@@ -17,44 +17,43 @@ use fork_format::RefName;
 use mac_words::Attrs;
 use std::alloc::{AllocError, Global};
 
-pub const FORK_HELP: &str =
-    "File with the bytes of a resource fork. It is only read. /dev/stdin is the standard input";
+pub const FORK_HELP: &str = "File with a resource fork, or /dev/stdin; it is only read";
 
-const TYPE_HELP: &str =
-    "Type of the resource: STR or 'STR ', with blanks up to four characters, or its bytes as $53545220";
+const TYPE_HELP: &str = "Type of the resource, as STR, 'STR ' or $53545220";
 
-/// What is asked for in place of a type that is none.
-const TYPE_WANTED: &str = "a type is asked for, as STR, 'STR ' or $53545220";
+/// The rule for a type, which is printed where the word is no type.
+const TYPE_RULE: &str = "a type is written as STR, 'STR ' or $53545220";
 
-const ID_HELP: &str = "ID of the resource: -32768 to 32767";
+const ID_HELP: &str = "ID of the resource, -32768 to 32767";
 
-/// What is asked for in place of an ID that is none.
-const ID_WANTED: &str = "-32768 to 32767 is asked for";
+/// The rule for an ID, which is printed where the word is no ID.
+const ID_RULE: &str = "the ID must be -32768 to 32767";
 
-const NEW_FORK_HELP: &str = "File that is made for the fork. It must not exist yet";
+const NEW_FORK_HELP: &str = "File that is made for the fork; it must not exist yet";
 
-const REWRITE_ABOUT: &str =
-    "Writes the canonical fork of what a fork holds: the one for which 'macmem check' prints 'canonical'";
+const REWRITE_ABOUT: &str = "Writes the canonical fork of what a fork holds";
 
 const REWRITE_EXAMPLES: &str = "Example:
   macmem rewrite examples/OtherForm.rsrc OUT
 
-A fork that cannot be read is reported as 'macmem: FORK: fork CODE': -39 (eofErr) no bytes, -199 (mapReadErr) damaged;
-so is one whose content fits no fork, as -34 (dskFulErr). A file that exists already is reported as
+The canonical fork is the one for which 'macmem check' prints 'canonical'.
+A fork that cannot be read is reported as 'macmem: FORK: fork CODE': -39
+(eofErr) no bytes, -199 (mapReadErr) damaged; so is one whose content fits no
+fork, as -34 (dskFulErr). A file that exists already is reported as
 'macmem: OUT: cannot write'.";
 
-const GET_ABOUT: &str =
-    "Prints the bytes of a resource, as they are stored, on the standard output";
+const GET_ABOUT: &str = "Prints the bytes of a resource as they are stored";
 
 const GET_EXAMPLES: &str = "Examples:
   macmem get examples/Document.rsrc STR 128
   macmem get examples/Document.rsrc SIZE -1
 
-Where two resources have the type and the ID, the first is printed. A fork without such a resource is reported as
-'macmem: FORK: fork -192' (resNotFound), and one that cannot be read with -39 (eofErr) or -199 (mapReadErr).";
+A type of fewer than four characters is filled with blanks. Where two resources
+have the type and the ID, the first is printed. A fork without such a resource
+is reported as 'macmem: FORK: fork -192' (resNotFound), and one that cannot be
+read with -39 (eofErr) or -199 (mapReadErr).";
 
-const EXTRACT_ABOUT: &str =
-    "Writes the bytes of each resource, as they are stored, into a file of its own, in a folder that is made";
+const EXTRACT_ABOUT: &str = "Writes the bytes of each resource into a file of its own";
 
 const EXTRACT_EXAMPLES: &str = "Example:
   macmem extract examples/Document.rsrc OUT
@@ -65,51 +64,52 @@ makes the folder OUT with these files:
   0003-TEXT-128-Read_20me_20first.bin
   0004-SIZE--1.bin
 
-A name has the number of the resource in the fork, its type, its ID and, if it has a name, at most 48 bytes of that. A byte
-that is no letter and no digit is '_' and two hexadecimal digits.
-A fork that cannot be read is reported as 'macmem: FORK: fork CODE': -39 (eofErr) no bytes, -199 (mapReadErr) damaged. A
-folder that exists already is reported as 'macmem: OUT: cannot write', and nothing is written then.";
+A name has the number of the resource in the fork, its type, its ID and, if it
+has a name, at most 48 bytes of that. A byte that is no letter and no digit is
+'_' and two hexadecimal digits.
+A fork that cannot be read is reported as 'macmem: FORK: fork CODE': -39
+(eofErr) no bytes, -199 (mapReadErr) damaged. A folder that exists already is
+reported as 'macmem: OUT: cannot write', and nothing is written then.";
 
-const FILES_HELP: &str = "Folder that is made for the files. It must not exist yet";
+const FILES_HELP: &str = "Folder that is made for the files; it must not exist yet";
 
-const SET_ABOUT: &str =
-    "Writes a fork in which a resource is replaced by the bytes of a file, or added where there is none of its type and ID";
+const SET_ABOUT: &str = "Writes a fork in which a resource is replaced or added";
 
 const SET_EXAMPLES: &str = "Example:
   macmem set examples/Document.rsrc STR 128 FILE OUT --name Greeting --attrs 32
 
-The fork is the canonical one, as of 'macmem rewrite'; FORK stays as it is. A resource that is there keeps its place, and
-its name and its attributes where none are given; where two have the type and the ID, the first is replaced. A new
-resource stands behind those of its type.
-A fork that cannot be read is reported as 'macmem: FORK: fork CODE': -39 (eofErr) no bytes, -199 (mapReadErr) damaged;
-so is one that would be too large, as -34 (dskFulErr). A file that exists already is reported as
+The resource of the type and the ID gets the bytes of FILE, or is added if the
+fork has none. The fork is the canonical one, as of 'macmem rewrite'; FORK stays
+as it is. A resource that is there keeps its place, and its name and attributes
+if none are given; where two have the type and the ID, the first is replaced. A
+new resource comes after those of its type.
+Attributes are words with commas between them (sysheap, purgeable, locked,
+protected, preload), a number from 0 to 255, or $ and two hexadecimal digits; 2
+(changed) is not stored.
+A fork that cannot be read is reported as 'macmem: FORK: fork CODE': -39
+(eofErr) no bytes, -199 (mapReadErr) damaged; so is one that would be too large,
+as -34 (dskFulErr). A file that exists already is reported as
 'macmem: OUT: cannot write'.";
 
-const FILE_HELP: &str =
-    "File with the resource's bytes. It is only read. /dev/stdin is the standard input";
+const FILE_HELP: &str = "File with the resource's bytes, or /dev/stdin; it is only read";
 
 /// The name of the option for a name, without its two hyphens.
 const NAME: &str = "name";
 
-const NAME_HELP: &str = "Name of the resource, of at most 255 bytes";
+const NAME_HELP: &str = "Name, of at most 255 bytes";
 
-/// What is asked for in place of a name that is too long.
-const NAME_WANTED: &str = "at most 255 bytes are asked for";
+/// The rule for a name, which is printed where the word is too long.
+const NAME_RULE: &str = "a name has at most 255 bytes";
 
 /// The name of the option for attributes, without its two hyphens.
 const ATTRS: &str = "attrs";
 
-const ATTRS_HELP: &str = concat!(
-    "Attributes of the resource: words with commas between them (sysheap, purgeable, locked, protected, preload), ",
-    "a number from 0 to 255, or $ and two hexadecimal digits. 2 (changed) is not stored"
-);
+const ATTRS_HELP: &str = "Attributes, as purgeable,preload or 36 or $24";
 
-/// What is asked for in place of attributes that are none.
-const ATTRS_WANTED: &str =
-    "words as purgeable,preload, a number from 0 to 255, or $ and two digits is asked for";
+/// The rule for attributes, which is printed where the word is none.
+const ATTRS_RULE: &str = "attributes are written as purgeable,preload or 36 or $24";
 
-const DEREZ_ABOUT: &str =
-    "Prints what a fork holds as source of Rez: a statement 'data' for each resource";
+const DEREZ_ABOUT: &str = "Prints what a fork holds as source of Rez";
 
 const DEREZ_EXAMPLES: &str = "Example:
   macmem derez examples/Document.rsrc
@@ -119,27 +119,27 @@ prints, for the first resource:
   \t$\"0548 656C 6C6F\"                                      /* .Hello */
   };
 
-'macmem rez' reads it again. The attributes of the map and the 240 bytes behind the header stand above the statements,
-as comments of a form that 'macmem rez' reads too, where they aren't 0.
-A fork that cannot be read is reported as 'macmem: FORK: fork CODE': -39 (eofErr) no bytes, -199 (mapReadErr) damaged.";
+'macmem rez' reads it again. The attributes of the map and the 240 bytes after
+the header stand above the statements, as comments of a form that 'macmem rez'
+reads too, where they aren't 0.
+A fork that cannot be read is reported as 'macmem: FORK: fork CODE': -39
+(eofErr) no bytes, -199 (mapReadErr) damaged.";
 
-const REZ_ABOUT: &str =
-    "Writes the fork that a source of Rez states, in statements 'data' as 'macmem derez' prints them";
+const REZ_ABOUT: &str = "Writes the fork that a source of Rez states";
 
 const REZ_EXAMPLES: &str = "Example:
   macmem rez SOURCE OUT
 
-The fork is the canonical one, as of 'macmem rewrite'. A source that cannot be read is reported by its first line that is
-wrong, as 'macmem: SOURCE: line 3: a semicolon is wanted'; one whose resources fit no fork as 'macmem: SOURCE: fork -34'
-(dskFulErr). A file that exists already is reported as 'macmem: OUT: cannot write'.";
+The source has statements 'data' as 'macmem derez' prints them, and the fork is
+the canonical one, as of 'macmem rewrite'. A source that cannot be read is
+reported by its first line that is wrong, as
+'macmem: SOURCE: line 3: a semicolon is needed'; one whose resources fit no
+fork as 'macmem: SOURCE: fork -34' (dskFulErr). A file that exists already is
+reported as 'macmem: OUT: cannot write'.";
 
-const SOURCE_HELP: &str =
-    "File with source of Rez. It is only read. /dev/stdin is the standard input";
+const SOURCE_HELP: &str = "File with source of Rez, or /dev/stdin; it is only read";
 
-const DIFF_ABOUT: &str = concat!(
-    "Says how the contents of two forks differ, in a line for each difference. The status is 0 where they are alike, ",
-    "and 1 where they differ"
-);
+const DIFF_ABOUT: &str = "Prints how the contents of two forks differ, a line each";
 
 const DIFF_EXAMPLES: &str = "Example:
   macmem diff examples/Document.rsrc examples/OtherForm.rsrc
@@ -148,15 +148,18 @@ prints nothing: both hold the same, in two forms.
 
   - 'STR ' 128 32 6 \"Greeting\"    only the first fork has the resource
   + 'STR ' 130 0 4 -               only the second fork has it
-  ~ 'STR ' 129 name bytes          these parts of it differ: name, attributes, bytes
-  ~ area, ~ map attributes         the bytes behind the header differ, or the attributes of the map
-  ~ order                          nothing else differs, but the resources stand in another order
+  ~ 'STR ' 129 name bytes          its name and bytes differ (or: attributes)
+  ~ area                           the bytes after the header differ
+  ~ map attributes                 the attributes of the map differ
+  ~ order                          only the order of the resources differs
 
-A fork that cannot be read is reported as 'macmem: FORK: fork CODE', with status 1 and no line on the standard output.";
+The status is 0 if the contents are alike, and 1 if they differ.
+A fork that cannot be read is reported as 'macmem: FORK: fork CODE', with status
+1 and no line on the standard output.";
 
-const FIRST_HELP: &str = "File with the bytes of the first fork. It is only read";
+const FIRST_HELP: &str = "File with the first fork; it is only read";
 
-const SECOND_HELP: &str = "File with the bytes of the second fork. It is only read";
+const SECOND_HELP: &str = "File with the second fork; it is only read";
 
 fn derez_command<'a>(alloc: Global) -> Result<Command<'a>, AllocError> {
     Command::new(alloc, "derez")
@@ -230,11 +233,11 @@ fn key_in(
     let ty_text = value(matches, "TYPE");
     let id_text = value(matches, "ID");
     let Some(ty) = read_type(ty_text.as_bytes()) else {
-        return Err(bad_value(alloc, command, "TYPE", ty_text, TYPE_WANTED)?);
+        return Err(bad_value(alloc, command, "TYPE", ty_text, TYPE_RULE)?);
     };
     match id_text.parse::<i16>() {
         Ok(id) => Ok(ResourceKey { ty, id }),
-        Err(_) => Err(bad_value(alloc, command, "ID", id_text, ID_WANTED)?),
+        Err(_) => Err(bad_value(alloc, command, "ID", id_text, ID_RULE)?),
     }
 }
 
@@ -247,7 +250,7 @@ fn into_file<'a>(work: ForkWork, name: &str, matches: &ArgMatches<'a>) -> Conver
     }
 }
 
-/// Returns what the words after `derez` ask for.
+/// Returns the request that the words after `derez` make.
 fn printing<'a>(matches: &ArgMatches<'a>) -> Conversion<'a> {
     Conversion {
         work: ForkWork::Derez,
@@ -256,7 +259,7 @@ fn printing<'a>(matches: &ArgMatches<'a>) -> Conversion<'a> {
     }
 }
 
-/// Returns what the words after `diff` ask for.
+/// Returns the request that the words after `diff` make.
 fn comparing<'a>(matches: &ArgMatches<'a>) -> Combination<'a> {
     Combination {
         work: PairWork::Diff,
@@ -266,15 +269,15 @@ fn comparing<'a>(matches: &ArgMatches<'a>) -> Combination<'a> {
     }
 }
 
-/// Returns what the words after `extract` ask for.
-fn extract_asked<'a>(matches: &ArgMatches<'a>) -> Extraction<'a> {
+/// Returns the request that the words after `extract` make.
+fn extraction<'a>(matches: &ArgMatches<'a>) -> Extraction<'a> {
     Extraction {
         fork: value(matches, "FORK"),
         out: value(matches, "OUT"),
     }
 }
 
-/// Returns what the words after `get` ask for.
+/// Returns the request that the words after `get` make.
 fn getting<'a>(alloc: Global, matches: &ArgMatches<'a>) -> Result<Conversion<'a>, ToolFault>
     ensures { IfErr result (λ fault. IsUsage (message_of fault)) }
 {
@@ -301,7 +304,7 @@ fn name_in<'a>(alloc: Global, matches: &ArgMatches<'a>) -> Result<Option<RefName
     let bytes = text.as_bytes();
     if bytes.len() > 255 {
         let command = set_named(alloc)?;
-        return Err(bad_value(alloc, command, "NAME", text, NAME_WANTED)?);
+        return Err(bad_value(alloc, command, "NAME", text, NAME_RULE)?);
     }
     Ok(Some(RefName { bytes }))
 }
@@ -315,12 +318,12 @@ fn attrs_in(alloc: Global, matches: &ArgMatches<'_>) -> Result<Option<Attrs>, To
     };
     let Some(attrs) = read_attrs(text.as_bytes()) else {
         let command = set_named(alloc)?;
-        return Err(bad_value(alloc, command, "ATTRS", text, ATTRS_WANTED)?);
+        return Err(bad_value(alloc, command, "ATTRS", text, ATTRS_RULE)?);
     };
     Ok(Some(attrs.unchanged()))
 }
 
-/// Returns what the words after `set` ask for.
+/// Returns the request that the words after `set` make.
 fn setting<'a>(alloc: Global, matches: &ArgMatches<'a>) -> Result<Combination<'a>, ToolFault>
     ensures { IfErr result (λ fault. IsUsage (message_of fault)) }
 {
@@ -350,7 +353,7 @@ pub fn with_fork_commands<'a>(
         .subcommand(rez_command(alloc)?)
 }
 
-/// Returns what the words after the name of one of these commands ask for.
+/// Returns the request that the words after the name of one of these commands make.
 pub fn fork_request<'a>(
     alloc: Global,
     name: &str,
@@ -360,7 +363,7 @@ pub fn fork_request<'a>(
 {
     let request = match name {
         "get" => Request::Convert(getting(alloc, matches)?),
-        "extract" => Request::Extract(extract_asked(matches)),
+        "extract" => Request::Extract(extraction(matches)),
         "set" => Request::Combine(setting(alloc, matches)?),
         "diff" => Request::Combine(comparing(matches)),
         "rewrite" => Request::Convert(into_file(ForkWork::Rewrite, "FORK", matches)),

@@ -1,6 +1,6 @@
 //! The inputs that the lines of a job name are read, in the order of the lines.
 
-ghost use Rattle.std.specs.Prelude.{◌≡◌, ◌<◌, ◌++◌, ◌∷◌, [], ℕ, List, Ok, map, length, OnOk, OnErr, IfOk, IfErr, IsTrue};
+ghost use Rattle.std.specs.Prelude.{◌≡◌, ◌<◌, ◌++◌, ◌∷◌, [], ℕ, List, Ok, map, length, OnOk, IfOk, IfErr, IsTrue};
 ghost use Rattle.script_text.specs.Job.{System, App as AppLine, File, input_seen, app_names};
 ghost use Rattle.script_text.specs.JobFacts.{AreInOrder};
 ghost use Rattle.script_text.specs.Script.{spelled};

@@ -2,7 +2,7 @@
 
 ghost use Rattle.std.specs.Prelude.{◌≡◌, ◌∷◌, [], IfOk, IfErr, OnErr};
 ghost use Rattle.commands.specs.Fault.{message_of, CannotRead};
-ghost use Rattle.commands.specs.Accesses.{Read, and_then, IsTold};
+ghost use Rattle.commands.specs.Accesses.{Read, and_then, IsReported};
 
 use crate::fault::ToolFault;
 use crate::host::{Host, ReadError};
@@ -18,7 +18,7 @@ pub fn read_input<H: Host>(alloc: Global, host: &mut H, path: &str) -> Result<Ve
     ensures read { IfOk result (λ bytes. H.accesses host.new
         ≡ and_then (H.accesses host.old) (Read path.now bytes.items ∷ [])) }
     ensures unread { OnErr result (H.accesses host.new ≡ H.accesses host.old) }
-    ensures fault { IfErr result (λ fault. IsTold (CannotRead path.now) (message_of fault)) }
+    ensures fault { IfErr result (λ fault. IsReported (CannotRead path.now) (message_of fault)) }
 {
     match host.read(alloc, path) {
         Ok(bytes) => Ok(bytes),

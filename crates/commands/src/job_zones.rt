@@ -1,4 +1,4 @@
-//! The zone of an application of a job, as it lies behind a line of the application's script.
+//! The zone of an application of a job, as it lies after a line of the application's script.
 
 ghost use Rattle.std.specs.Prelude.{◌≡◌, ◌<◌, ◌≤◌, Ok, length, option_map, is_ok, true, bytes_eq, IfOk, IfErr, IfSome};
 ghost use Rattle.script_text.specs.JobFacts.{IsMemory};
@@ -31,14 +31,14 @@ use script_text::Script;
 use std::alloc::{AllocError, Global};
 use zone_view::{Form, Sight, steps_at};
 
-/// A zone that is asked for: that of an application of a job.
+/// A request for the zone of an application of a job.
 #[derive(Clone, Copy)]
 pub struct JobZone<'a> {
     /// The job's path as it was given.
     pub job: &'a str,
     /// The application's name.
     pub app: &'a str,
-    /// The line of the application's script behind which the zone lies; `None` for the last step that it took.
+    /// The line of the application's script after which the zone is shown; `None` for the last step that it took.
     pub line: Option<usize>,
     pub form: Form,
 }
@@ -158,7 +158,7 @@ fn not_launched(alloc: Global, asked: JobZone<'_>) -> Result<ToolFault, AllocErr
     })
 }
 
-/// Returns the zone that is asked for, by what a run of the job leaves.
+/// Returns the zone of the request, by what a run of the job leaves.
 fn zone_left(
     alloc: Global,
     job: &Job,
@@ -179,7 +179,7 @@ fn zone_left(
     Ok(show_app(alloc, job, &job.apps[number], launched, asked)?)
 }
 
-/// Runs a job whose System file is read at the path `system`, and returns the zone that is asked for.
+/// Runs a job whose System file is read at the path `system`, and returns the zone of the request.
 fn zone_of_job(
     alloc: Global,
     job: &Job,
@@ -201,7 +201,7 @@ fn zone_of_job(
     }
 }
 
-/// Reads a job, and what its lines name, in their order; performs its events; and returns the zone that is asked for.
+/// Reads a job, and what its lines name, in their order; performs its events; and returns the zone of the request.
 fn see<H: Host>(alloc: Global, host: &mut H, asked: JobZone<'_>) -> Result<Vec<u8>, ToolFault>
     ensures silent { H.printed host.new ≡ H.printed host.old }
     ensures sees { IfOk result (λ text. Sees asked.entry text.items (H.accesses host.old) (H.accesses host.new)) }
@@ -218,7 +218,7 @@ fn see<H: Host>(alloc: Global, host: &mut H, asked: JobZone<'_>) -> Result<Vec<u
     }
 }
 
-/// Prints the zone of an application of a job, as it lies behind a line of the application's script, or behind the last
+/// Prints the zone of an application of a job, as it lies after a line of the application's script, or after the last
 /// step that it took in the job. No file is written.
 ///
 /// # Errors

@@ -1,10 +1,10 @@
 //! The listing of the content of a resource fork.
 
-ghost use Rattle.std.specs.Prelude.{◌≡◌, ◌<◌, ◌≤◌, ◌*◌, ◌++◌, OnOk, length, take};
+ghost use Rattle.std.specs.Prelude.{◌≡◌, ◌≤◌, ◌*◌, ◌++◌, OnOk, length, take};
 ghost use Rattle.std.specs.List.{flat_map};
 ghost use Rattle.std.specs.Io.KnownBytes.{append_known};
 ghost use Rattle.byteorder.specs.Endian.{big_bytes, big_number};
-ghost use Rattle.script_text.specs.Transcript.{hex_digit, hex};
+ghost use Rattle.script_text.specs.Transcript.{hex};
 ghost use Rattle.fork_format.specs.Content.{refs_of};
 ghost use Rattle.fork_format.specs.View.{view_name, view_ref, view_group, view};
 ghost use Rattle.commands.specs.Listing.{type_listed, numbers_listed, name_digits, name_listed, line_of, group_lines};
@@ -18,7 +18,7 @@ use fork_edits::{append_name, append_type};
 use fork_format::{Content, Group, Ref, RefName, kind_of};
 use fork_wrappers::Wrapping;
 use itoa::Buffer;
-use mac_words::OsType;
+use mac_words::{OsType, lower_digit};
 use std::alloc::{AllocError, Global};
 
 /// The number of bytes of lines that are gathered before they are printed.
@@ -53,14 +53,6 @@ pub struct Listing<'b> {
     pub content: Content<'b>,
 }
 
-/// Returns the hexadecimal digit of a number below 16, in lower case.
-fn digit_of(value: u8) -> u8
-    requires { value < 16 }
-    ensures { result ≡ hex_digit value }
-{
-    if value < 10 { b'0' + value } else { 87 + value }
-}
-
 /// Returns the eight hexadecimal digits of a type.
 fn digits_of(kind: u32) -> [u8; 8]
     ensures { result ≡ hex (big_bytes 4 kind) }
@@ -68,14 +60,14 @@ fn digits_of(kind: u32) -> [u8; 8]
     let mut bytes = [0; 4];
     BigEndian::write_u32(&mut bytes, kind);
     [
-        digit_of(bytes[0] / 16),
-        digit_of(bytes[0] % 16),
-        digit_of(bytes[1] / 16),
-        digit_of(bytes[1] % 16),
-        digit_of(bytes[2] / 16),
-        digit_of(bytes[2] % 16),
-        digit_of(bytes[3] / 16),
-        digit_of(bytes[3] % 16),
+        lower_digit(bytes[0] / 16),
+        lower_digit(bytes[0] % 16),
+        lower_digit(bytes[1] / 16),
+        lower_digit(bytes[1] % 16),
+        lower_digit(bytes[2] / 16),
+        lower_digit(bytes[2] % 16),
+        lower_digit(bytes[3] / 16),
+        lower_digit(bytes[3] % 16),
     ]
 }
 
@@ -86,8 +78,8 @@ fn put_digits(digits: &mut [u8; 510], bytes: &[u8])
 {
     for i in 0..bytes.len() {
         let byte = bytes[i];
-        digits[2 * i] = digit_of(byte / 16);
-        digits[2 * i + 1] = digit_of(byte % 16);
+        digits[2 * i] = lower_digit(byte / 16);
+        digits[2 * i + 1] = lower_digit(byte % 16);
     }
 }
 
@@ -200,7 +192,7 @@ fn word_of(wrapping: Wrapping) -> &'static [u8]
     }
 }
 
-/// Appends the line that says how the file wraps its fork, if it is asked for.
+/// Appends the line that says how the file wraps its fork, if the style has it.
 fn push_wrapper(text: &mut Vec<u8>, style: MapStyle, wrapping: Wrapping) -> Result<(), AllocError>
     ensures { OnOk result (text.new.items ≡ text.old.items ++ wrapper_line style wrapping) }
 {
@@ -277,7 +269,7 @@ fn print_groups<H: Host>(
 /// Prints the listing of a content: a line with the map's attributes and the numbers of types and of resources, then a
 /// line for each resource: its type, ID, attributes, length in bytes, and name. Types and names are `$` and
 /// hexadecimal digits in lower case, or as a person reads them; `-` stands for no name. A line above says how the file
-/// wraps the fork, if that is asked for.
+/// wraps the fork, if the style has it.
 ///
 /// The memory in which the lines are gathered is taken before any line is printed, and the lines are printed some
 /// 65,536 bytes at a time.

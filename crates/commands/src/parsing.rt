@@ -8,18 +8,14 @@ use clap::error::ErrorKind;
 use clap::{Arg, ArgAction, ArgMatches, Command, Error};
 use std::alloc::{AllocError, Global};
 
-/// What is told of the size of a partition.
-pub const SIZE_HELP: &str =
-    "Size of the partition in bytes, in decimal digits: 512 to 134217728, rounded down to a multiple of 16";
+/// The help for the size of a partition.
+pub const SIZE_HELP: &str = "Bytes, 512 to 134217728; rounded down to a multiple of 16";
 
-/// What is asked for in place of a size that is none.
-pub const SIZE_WANTED: &str = "512 to 134217728 is asked for, in decimal digits";
+/// The rule for a size, which is printed where the word is no size.
+pub const SIZE_RULE: &str = "the size must be 512 to 134217728, in decimal digits";
 
-/// What is told of the file of a script.
-pub const SCRIPT_HELP: &str = concat!(
-    "File with one toolbox call a line, as 'NewHandle a 100'. Empty lines and lines that begin with '#' are ",
-    "skipped. /dev/stdin is the standard input"
-);
+/// The help for the file of a script.
+pub const SCRIPT_HELP: &str = "File with one toolbox call a line, or /dev/stdin";
 
 /// Returns a required argument.
 pub fn argument<'a>(alloc: Global, name: &'a str, help: &'a str) -> Arg<'a> {
@@ -75,16 +71,16 @@ pub fn mistake(alloc: Global, command: Command<'_>, message: &str) -> ToolFault
     }
 }
 
-/// Returns the fault of an argument's value: what is asked for in its place.
+/// Returns the fault of an argument's value, with the rule that the value breaks.
 pub fn bad_value(
     alloc: Global,
     command: Command<'_>,
     name: &str,
     text: &str,
-    wanted: &str,
+    rule: &str,
 ) -> Result<ToolFault, AllocError>
     ensures { IfOk result (λ fault. IsUsage (message_of fault)) }
 {
-    let message = format!(in alloc; "invalid value '{text}' for '<{name}>': {wanted}")?;
+    let message = format!(in alloc; "invalid value '{text}' for '<{name}>': {rule}")?;
     Ok(mistake(alloc, command, message.as_str()))
 }

@@ -10,10 +10,10 @@ use itoa::Buffer;
 use mac_words::Label;
 use std::alloc::{AllocError, Global};
 
-/// The most bytes of a path behind the name of an application: `-`, the 20 digits of a number, and `.rsrc`.
+/// The most bytes of a path after the name of an application: `-`, the 20 digits of a number, and `.rsrc`.
 pub const LONGEST_ENDING: usize = 1 + 20 + 5;
 
-/// The most bytes of a path behind the folder's: `/app-`, the 63 letters of a name, which have at most two bytes each,
+/// The most bytes of a path after the folder's: `/app-`, the 63 letters of a name, which have at most two bytes each,
 /// and the ending.
 pub const LONGEST_NAME: usize = 5 + 2 * 63 + LONGEST_ENDING;
 

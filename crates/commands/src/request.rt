@@ -1,4 +1,4 @@
-//! What the words of a command line ask for.
+//! Requests: what the words of a command line make.
 
 use crate::combining::Combination;
 use crate::converting::Conversion;
@@ -7,7 +7,7 @@ use crate::job_zones::JobZone;
 use crate::running::Errand;
 use crate::tasks::Task;
 
-/// What the words of a command line ask for.
+/// A request that the words of a command line make.
 #[derive(Clone, Copy)]
 pub enum Request<'a> {
     /// A file is read, and something is printed of its bytes.

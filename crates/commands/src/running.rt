@@ -24,7 +24,7 @@ use raw_region::Region;
 use script_text::{JobText, read_job};
 use std::alloc::Global;
 
-/// What is asked for of a job: its path and the folder for what it leaves, as they were given, and whether the
+/// A request to run a job: its path and the folder for what it leaves, as they were given, and whether the
 /// progress of the job is to be reported.
 #[derive(Clone, Copy)]
 pub struct Errand<'a> {

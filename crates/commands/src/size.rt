@@ -5,25 +5,21 @@ ghost use Rattle.std.specs.List.{list_all};
 ghost use Rattle.std.specs.Option.{option_map};
 ghost use Rattle.std.specs.Char.{is_ascii_digit};
 ghost use Rattle.commands.specs.Size.{partition_size, within_limits};
-ghost use Rattle.commands.specs.declared.size.TheConstants.{SMALLEST, LARGEST};
+ghost use Rattle.block_store.specs.declared.measures.TheConstants.{GREATEST_ZONE, LEAST_ZONE};
 
-/// The least number of bytes of a partition.
-const SMALLEST: u32 = 512;
-
-/// The greatest number of bytes of a partition.
-const LARGEST: u32 = 134_217_728;
+use block_store::{GREATEST_ZONE, LEAST_ZONE};
 
 /// The size of a partition in bytes: a multiple of 16 within the limits.
 #[derive(Clone, Copy)]
 pub struct PartitionSize {
     pub bytes: u32,
     ghost even: { bytes % 16 ≡ 0 },
-    ghost low: { SMALLEST ≤ bytes },
-    ghost high: { bytes ≤ LARGEST },
+    ghost low: { LEAST_ZONE ≤ bytes },
+    ghost high: { bytes ≤ GREATEST_ZONE },
 }
 
 /// Reports whether a text has no other characters than decimal digits.
-pub fn has_digits_only(text: &str) -> bool
+fn has_digits_only(text: &str) -> bool
     ensures { result ≡ list_all is_ascii_digit text.now }
 {
     text.as_bytes().iter().all(|b| b.is_ascii_digit())
@@ -34,7 +30,7 @@ impl PartitionSize {
     fn within_limits(size: u32) -> Option<PartitionSize>
         ensures { option_map (λ s. s.bytes) result ≡ within_limits size }
     {
-        if SMALLEST <= size && size <= LARGEST {
+        if LEAST_ZONE <= size && size <= GREATEST_ZONE {
             Some(PartitionSize {
                 bytes: size - size % 16,
             })

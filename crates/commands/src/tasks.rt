@@ -33,7 +33,7 @@ pub enum Work {
     Check,
 }
 
-/// What the words of a command line ask for.
+/// A request to read a file and to print what a work makes of its bytes.
 #[derive(Clone, Copy)]
 pub struct Task<'a> {
     pub work: Work,
@@ -56,7 +56,7 @@ pub enum Output<'b> {
 
 /// Returns the fault of a script or of a job, with its path.
 pub fn script_fault(alloc: Global, path: &str, fault: ScriptFault) -> Result<ToolFault, AllocError>
-    ensures { IfOk result (λ told. message_of told ≡ script_message path.now fault.line fault.kind) }
+    ensures { IfOk result (λ made. message_of made ≡ script_message path.now fault.line fault.kind) }
 {
     match fault.kind {
         FaultKind::HostMemory => Ok(ToolFault::HostMemory),
@@ -70,7 +70,7 @@ pub fn script_fault(alloc: Global, path: &str, fault: ScriptFault) -> Result<Too
 
 /// Returns the fault of the bytes of a file, with the file's path.
 pub fn fork_fault(alloc: Global, path: &str, fault: WorkFault) -> Result<ToolFault, AllocError>
-    ensures { IfOk result (λ told. message_of told ≡ fork_message path.now fault) }
+    ensures { IfOk result (λ made. message_of made ≡ fork_message path.now fault) }
 {
     match fault {
         WorkFault::File(fault) => Ok(ToolFault::Fork {

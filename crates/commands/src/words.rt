@@ -8,7 +8,7 @@ use crate::fault::ToolFault;
 use crate::fork_words::{FORK_HELP, fork_request, with_fork_commands};
 use crate::listing::{MapStyle, Spelling};
 use crate::parsing::{
-    SCRIPT_HELP, SIZE_HELP, SIZE_WANTED, argument, bad_value, flag, mistake, usage, value,
+    SCRIPT_HELP, SIZE_HELP, SIZE_RULE, argument, bad_value, flag, mistake, usage, value,
 };
 use crate::request::Request;
 use crate::running::Errand;
@@ -19,41 +19,33 @@ use clap::{ArgMatches, Command};
 use script_text::CALLS;
 use std::alloc::{AllocError, Global};
 
-const ABOUT: &str = concat!(
-    "Replays what a classic Mac OS heap did, from scripts of toolbox calls, in a model of the Memory, Resource ",
-    "and Segment Managers, and reads and writes resource forks"
-);
+const ABOUT: &str = "Replays what a classic Mac OS heap did, and reads and writes resource forks";
 
 /// The crate's version.
 const VERSION: &str = "0.1.0";
 
 const PROGRAM_EXAMPLES: &str = "Examples:
-  macmem script 1024 examples/first.script    run a script in a partition of 1024 bytes
-  macmem heap 1024 examples/first.script      show the zone that the script leaves, block by block
-  macmem run examples/job/job OUT             run the applications of a job, and write what they leave into OUT
+  macmem script 1024 examples/first.script    run a script in 1024 bytes
+  macmem heap 1024 examples/first.script      list the blocks that it leaves
+  macmem run examples/job/job OUT             run the applications of a job
   macmem map examples/Document.rsrc           list the resources of a fork
   macmem check examples/Document.rsrc         say whether a fork is canonical
   macmem get examples/Document.rsrc STR 128   print the bytes of a resource
-  macmem derez examples/Document.rsrc         print what a fork holds as source of Rez
+  macmem derez examples/Document.rsrc         print a fork as source of Rez
 
-What else is done with forks:
-  extract                                     write each resource into a file of its own, in a folder
-  set, rewrite, rez                           write a fork into a new file
-  diff                                        say how the contents of two forks differ
-
-'macmem COMMAND --help' says more of a command; 'macmem script --help' lists the calls and the result codes.
+Scripts of toolbox calls run in a model of the Memory, Resource and Segment
+Managers. 'macmem COMMAND --help' says more of a command; 'macmem script --help'
+lists the calls and the result codes.
 A word that begins with '-' is an option; after the word '--' it is an argument.
-Status: 0 done; 1 not done, with one line on the standard error, or 'diff' found that two forks differ; 2 usage, help
-or version.";
+Status: 0 done; 1 not done, with one line on the standard error, or 'diff' found
+that two forks differ; 2 usage, help or version.";
 
-const SCRIPT_ABOUT: &str = concat!(
-    "Runs a script in a fresh partition and prints its transcript: a line for the launch, one for each call with ",
-    "its line number, its result code and its values, and one for the end"
-);
+const SCRIPT_ABOUT: &str = "Runs a script of toolbox calls and prints its transcript";
 
 const SCRIPT_LONG_ABOUT: &str =
-    "Runs a script in a fresh partition and prints its transcript: a line for the launch,
-one for each call with its line number, its result code and its values, and one for the end.
+    "Runs a script in a fresh partition and prints its transcript: a line for the
+launch, one for each call with its line number, its result code and its values,
+and one for the end.
 
 Example:
   macmem script 1024 first.script
@@ -64,84 +56,85 @@ prints, where first.script holds the two lines 'NewHandle a 100' and 'FreeMem':
   2 FreeMem 0 624
   end 0
 
-A name is a letter or '_', then letters, digits and '_'; sizes, offsets and flags are decimal; bytes are written as
-\"Hi\" or $4869.
-A faulty line is reported as 'macmem: SCRIPT: line N: fault K': 1 unknown call, 2 bad argument, 3 call not allowed in a
-grow-zone script, 4 line of more than 65535 bytes.
-The lines of a grow-zone script stand before the line of the call that found no room, and begin with '+'.
+A name is a letter or '_', then letters, digits and '_'; sizes, offsets and
+flags are decimal; bytes are written as \"Hi\" or $4869.
+A faulty line is reported as 'macmem: SCRIPT: line N: fault K': 1 unknown call,
+2 bad argument, 3 call not allowed in a grow-zone script, 4 line of more than
+65535 bytes.
+The lines of a grow-zone script stand before the line of the call that found no
+room, and begin with '+'.
 
-The calls with their arguments are listed below the options, and below them the result codes.";
+The calls with their arguments are listed below the options, and below them the
+result codes.";
 
-const RUN_ABOUT: &str = concat!(
-    "Runs a job: several applications in one memory, each in a partition of its own. Makes the folder OUT and ",
-    "writes into it what the applications leave"
-);
+const RUN_ABOUT: &str = "Runs the applications of a job and writes what they leave";
 
 const RUN_LONG_ABOUT: &str =
-    "Runs a job: several applications in one memory, each in a partition of its own. Makes the folder OUT and
-writes into it what the applications leave.
+    "Runs a job: several applications in one memory, each in a partition of its own.
+Makes the folder OUT and writes into it what the applications leave.
 
 Example:
   macmem run examples/job/job OUT
 
 The lines of a job, in this order (a line that begins with '#' is skipped):
-  memory N                   the memory in bytes: 512 to 134217728, a multiple of 16
-  system \"PATH\"              at most once: the path of the System file's resource fork
-  app NAME \"FORK\" \"SCRIPT\"  an application, one of at most 64: the paths of its resource fork and its script
-  file NAME \"FILE\" \"PATH\"   a file of an application above, one of at most 255: its name, and the path of its fork
+  memory N                   the memory in bytes: 512 to 134217728, a multiple
+                             of 16
+  system \"PATH\"              at most once: the path of the System file's fork
+  app NAME \"FORK\" \"SCRIPT\"  an application, one of at most 64: the paths of
+                             its resource fork and its script
+  file NAME \"FILE\" \"PATH\"   a file of an application above, one of at most
+                             255: its name, and the path of its fork
                              'system', 'app' and 'file' stand in any order
-  launch NAME                launches the application, in a partition of the size that its 'SIZE' -1 asks for
-  step NAME, turn NAME       runs its next call; or its calls up to and including the next WaitNextEvent
+  launch NAME                launches the application, in a partition of the
+                             size that its 'SIZE' -1 asks for
+  step NAME                  runs its next call
+  turn NAME                  runs its calls up to and including the next
+                             WaitNextEvent
   quit NAME                  asks the application to quit
-  rest                       gives the running applications turns, until none runs
+  rest                       gives the running applications turns until none
+                             runs
 
 Paths are taken as they stand, from the current folder.
 
 The folder OUT then holds:
-  desk.log                   the launches and the ends with their result codes, and the forks that were written
-  app-NAME.log               the transcript of each application that was launched
-  app-NAME-K.rsrc            each fork that was written; K is the file's place among the application's files, from 0
+  desk.log                   the launches and the ends with their result codes,
+                             and the forks that were written
+  app-NAME.log               the transcript of each application that was
+                             launched
+  app-NAME-K.rsrc            each fork that was written; K is the file's place
+                             among the application's files, from 0
 
-Nothing is written before all input is read. A faulty line of the job or of a script is reported as
-'macmem: PATH: line N: fault K', as by 'macmem script'; a System file whose fork cannot be read as
-'macmem: PATH: fork CODE'; a folder that exists already as 'macmem: OUT: cannot write'.";
+Nothing is written before all input is read. A faulty line of the job or of a
+script is reported as 'macmem: PATH: line N: fault K', as by 'macmem script'; a
+System file whose fork cannot be read as 'macmem: PATH: fork CODE'; a folder
+that exists already as 'macmem: OUT: cannot write'.";
 
-const JOB_HELP: &str =
-    "File with one line for each application, file and event. /dev/stdin is the standard input";
+const JOB_HELP: &str = "File with the job's lines, or /dev/stdin";
 
-const OUT_HELP: &str = "Folder that is made for what the applications leave. It must not exist yet";
+const OUT_HELP: &str = "Folder that is made; it must not exist yet";
 
 /// The name of the flag, without its two hyphens.
 const PROGRESS: &str = "progress";
 
-const PROGRESS_HELP: &str = concat!(
-    "Report progress on the standard error, as 'macmem: 41 of 4080 done': lines of the script or events of the job, ",
-    "at most a hundred times"
-);
+const PROGRESS_HELP: &str = "Print 'macmem: 41 of 4080 done' at most 100 times: lines or events";
 
 /// The name of the flag for types and names that a person reads, without its two hyphens.
 const TEXT: &str = "text";
 
-const TEXT_HELP: &str =
-    "Print types as 'STR ' and names as \"Greeting\", where they have printable characters";
+const TEXT_HELP: &str = "Print types as 'STR ' and names as \"Greeting\"";
 
 /// The name of the flag for a line above the listing, without its two hyphens.
 const VERBOSE: &str = "verbose";
 
-const VERBOSE_HELP: &str = concat!(
-    "Print a line above the listing that says how the file wraps the fork: 'wrapper none', AppleSingle, ",
-    "AppleDouble, or MacBinary I, II or III"
-);
+const VERBOSE_HELP: &str = "Print a line above the listing that names the wrapper";
 
-const MAP_ABOUT: &str = concat!(
-    "Lists the resources of a fork: a line 'map ATTRIBUTES TYPES RESOURCES', then for each resource its type, ",
-    "ID, attributes, length in bytes, and name"
-);
+const MAP_ABOUT: &str = "Lists the resources of a fork, a line each";
 
 const MAP_EXAMPLES: &str = "Example:
   macmem map examples/Document.rsrc
 
-prints:
+prints a line 'map ATTRIBUTES TYPES RESOURCES', then for each resource its type,
+ID, attributes, length in bytes, and name:
   map 0 3 4
   $53545220 128 32 6 $4772656574696e67
   $53545220 129 0 8 -
@@ -154,20 +147,25 @@ Types and names are in hexadecimal after '$'; '-' stands for no name.
 prints the first resource as:
   'STR ' 128 32 6 \"Greeting\"
 
-A fork may be wrapped as AppleSingle, AppleDouble or MacBinary; so may each that another command reads. A wrapper that is
-damaged is reported as 'macmem: FORK: AppleSingle: the header is cut off', for example.
-A fork that cannot be read is reported as 'macmem: FORK: fork CODE': -39 (eofErr) no bytes, -199 (mapReadErr) damaged.";
+A type or a name with a character that cannot be printed is spelled out.
+A fork may be wrapped as AppleSingle, AppleDouble or MacBinary; so may each that
+another command reads. With --verbose the line above the listing is 'wrapper'
+and one of: none, AppleSingle, AppleDouble, MacBinary I, MacBinary II, MacBinary
+III. A wrapper that is damaged is reported as, for example,
+'macmem: FORK: AppleSingle: the header is cut off'.
+A fork that cannot be read is reported as 'macmem: FORK: fork CODE': -39
+(eofErr) no bytes, -199 (mapReadErr) damaged.";
 
-const CHECK_ABOUT: &str = concat!(
-    "Prints 'canonical' where the bytes are the canonical fork of their content, the one that this program would ",
-    "write, else 'accepted'"
-);
+const CHECK_ABOUT: &str = "Prints 'canonical' if a fork is in canonical form, else 'accepted'";
 
 const CHECK_EXAMPLES: &str = "Examples:
   macmem check examples/Document.rsrc     prints 'canonical'
-  macmem check examples/OtherForm.rsrc    prints 'accepted': the same content, but no header copy in the map
+  macmem check examples/OtherForm.rsrc    prints 'accepted': the content is the
+                                          same, but the map has no header copy
 
-A fork that cannot be read is reported as 'macmem: FORK: fork CODE': -39 (eofErr) no bytes, -199 (mapReadErr) damaged.";
+The canonical fork of a content is the one that this program writes.
+A fork that cannot be read is reported as 'macmem: FORK: fork CODE': -39
+(eofErr) no bytes, -199 (mapReadErr) damaged.";
 
 fn script_command<'a>(alloc: Global) -> Result<Command<'a>, AllocError> {
     Command::new(alloc, "script")
@@ -223,11 +221,11 @@ fn bad_size(alloc: Global, text: &str) -> Result<ToolFault, AllocError>
     ensures { IfOk result (λ fault. IsUsage (message_of fault)) }
 {
     let command = script_command(alloc)?.bin_name("macmem script")?;
-    bad_value(alloc, command, "SIZE", text, SIZE_WANTED)
+    bad_value(alloc, command, "SIZE", text, SIZE_RULE)
 }
 
-/// What is told where no command is asked for.
-const NO_COMMAND: &str = "a command is asked for";
+/// The mistake of words that name no command.
+const NO_COMMAND: &str = "a command is required";
 
 /// Returns the fault of a word that isn't UTF-8.
 pub fn not_utf8(alloc: Global) -> ToolFault
@@ -277,7 +275,7 @@ fn style_in(matches: &ArgMatches<'_>) -> MapStyle {
     }
 }
 
-/// Returns what the words after the program's name ask for.
+/// Returns the request that the words after the program's name make.
 fn asked<'a>(alloc: Global, matches: &ArgMatches<'a>) -> Result<Request<'a>, ToolFault>
     ensures { IfErr result (λ fault. IsUsage (message_of fault)) }
 {

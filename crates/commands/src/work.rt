@@ -76,27 +76,27 @@ pub fn transcript_of<W: Watch>(
     }
 }
 
-/// Behind which lines of its script a zone is shown.
+/// The lines of its script after which a zone is shown.
 #[derive(Clone, Copy)]
 pub enum Lines {
-    /// Behind this line, or where none is given behind the last step, in a form.
+    /// After this line, or after the last step where no line is given, in a form.
     One(Option<usize>, ZoneForm),
-    /// Behind the first line, and behind each further step up to the second line, as a picture.
+    /// After the first line, and after each further step up to the second line, as a picture.
     Each(usize, usize),
 }
 
-/// A zone that is asked for: that of a script in a partition of this size.
+/// A request for the zone of a script in a partition of this size.
 #[derive(Clone, Copy)]
 pub struct ZoneView {
     pub size: PartitionSize,
-    pub behind: Lines,
+    pub lines: Lines,
 }
 
 /// Returns what is shown of a script's application.
-fn sight_of(behind: Lines, script: &Script) -> Sight
-    ensures { result ≡ sight_of behind script.now.steps }
+fn sight_of(lines: Lines, script: &Script) -> Sight
+    ensures { result ≡ sight_of lines script.now.steps }
 {
-    match behind {
+    match lines {
         Lines::One(line, form) => Sight::Zone(steps_at(line, script), form),
         Lines::Each(from, to) => {
             Sight::Moments(steps_at(Some(from), script), steps_at(Some(to), script))
@@ -107,7 +107,7 @@ fn sight_of(behind: Lines, script: &Script) -> Sight
 /// Runs a script up to a line in a fresh partition, which is a region of its own, and returns the zone as it then lies, or
 /// a picture of its moments.
 pub fn zone_of(alloc: Global, asked: ZoneView, text: &[u8]) -> Result<Vec<u8>, ScriptFault>
-    // The zone is that of the script's application behind the steps up to the lines.
+    // The zone is that of the script's application after the steps up to the lines.
     ensures zone { IfOk result (λ out. IsZoneOf asked text.now out.items) }
 
     // The fault is the first faulty line, or that the host is out of memory.
@@ -117,7 +117,7 @@ pub fn zone_of(alloc: Global, asked: ZoneView, text: &[u8]) -> Result<Vec<u8>, S
     let Ok(region) = Region::new(alloc, asked.size.bytes as usize) else {
         return Err(NO_MEMORY);
     };
-    let sight = sight_of(asked.behind, &script);
+    let sight = sight_of(asked.lines, &script);
     let (shown, region) = show_script(alloc, region, &script, sight);
     region.close();
     match shown {

@@ -5,24 +5,22 @@ ghost use Rattle.commands.specs.Fault.{message_of, IsUsage};
 
 use crate::fault::ToolFault;
 use crate::job_zones::JobZone;
-use crate::parsing::{SCRIPT_HELP, SIZE_HELP, SIZE_WANTED, bad_value, flag, option, value};
+use crate::parsing::{SCRIPT_HELP, SIZE_HELP, SIZE_RULE, bad_value, flag, option, value};
 use crate::request::Request;
-use crate::size::{PartitionSize, has_digits_only};
+use crate::size::PartitionSize;
 use crate::tasks::{Task, Work};
 use crate::work::{Lines, ZoneView};
 use clap::{Arg, ArgAction, ArgMatches, Command};
 use std::alloc::{AllocError, Global};
 use zone_view::Form;
 
-const HEAP_ABOUT: &str = concat!(
-    "Runs a script up to a line, alone or as an application of a job, and prints the zone as it then lies: its blocks, ",
-    "lowest first, with the script's names and the resources, and their totals"
-);
+const HEAP_ABOUT: &str = "Runs a script up to a line and prints the blocks of its zone";
 
 const HEAP_EXAMPLES: &str = "Example:
   macmem heap 1024 first.script
 
-prints, where first.script holds the two lines 'NewHandle a 100' and 'FreeMem':
+prints, where first.script holds the two lines 'NewHandle a 100' and 'FreeMem',
+the blocks of the zone, lowest first, and their totals:
      offset      size what              logical name locked purgeable type          ID file
           0       272 master pointers         - -    -      -         -              -    -
         272       128 relocatable           100 a    -      -         -              -    -
@@ -40,19 +38,29 @@ prints, where first.script holds the two lines 'NewHandle a 100' and 'FreeMem':
   compacted                       624
   purged too                      624
 
-  behind 2 FreeMem 0
+  after 2 FreeMem 0
 
-'offset' is the distance from the bottom of the zone, 'size' the physical size with the header, 'logical' the size that
-was asked for; 'name' is the script's name for the handle or pointer, '-' where it has none any more. Of a resource's
-handle 'type', 'ID' and 'file' are those of the resource and the number of its open file.
-The last line is the step behind which the zone lies: the last that was run, before the quit at the script's end.
-Faults are told as by 'macmem script'.
+'offset' is the distance from the bottom of the zone, 'size' the physical size
+with the header, 'logical' the size that the script gave; 'name' is the script's
+name for the handle or pointer, '-' where it has none any more. Of a resource's
+handle 'type', 'ID' and 'file' are those of the resource and the number of its
+open file. The last line names the step after which the zone is shown: the last
+that was run, before the quit at the script's end.
+With --at the script is run up to and including the last call up to that line; 0
+is the launch. With --plain a tab stands between fields, there are no titles,
+and each line begins with 'block', 'total', 'largest' or 'after'. With --steps
+the picture has a strip for the zone after line FROM and one after each further
+call up to line TO, with an arrow for each block that moved from one to the
+next.
+Faults are reported as 'macmem script' reports them.
 
   macmem heap --at 2 --job examples/job/job --app Editor
 
-shows the zone of an application of a job in the same way: in the partition that it is granted there, with its own files,
-behind line 2 of its script, or behind the last step that it took before. Nothing is written. Faults are told as by
-'macmem run', and an application that was not launched as 'macmem: JOB: no application NAME was launched'.";
+shows the zone of an application of a job in the same way: in the partition that
+it is granted there, with its own files, after line 2 of its script, or after
+the last step that it took before. Nothing is written. Faults are reported as
+'macmem run' reports them, and an application that was not launched as
+'macmem: JOB: no application NAME was launched'.";
 
 /// The ways in which the command is used.
 const HEAP_USAGE: &str = "macmem heap [OPTIONS] <SIZE> <SCRIPT>
@@ -61,19 +69,15 @@ const HEAP_USAGE: &str = "macmem heap [OPTIONS] <SIZE> <SCRIPT>
 /// The name of the option for a line of the script, without its two hyphens.
 const AT: &str = "at";
 
-const AT_HELP: &str = concat!(
-    "Show the zone as it lies behind this line of the script: behind the last call up to it; 0 is the launch. Without ",
-    "the option all calls are run"
-);
+const AT_HELP: &str = "Show the zone after this line, not after the last";
 
-/// What is asked for in place of a line that is none.
-const AT_WANTED: &str = "a line number is asked for, in decimal digits";
+/// The rule for a line, which is printed where the word is no line.
+const AT_RULE: &str = "the line must be a decimal number";
 
 /// The name of the flag for fields with tabs between them, without its two hyphens.
 const PLAIN: &str = "plain";
 
-const PLAIN_HELP: &str =
-    "Print a tab between fields, and no titles: each line begins with 'block', 'total', 'largest' or 'behind'";
+const PLAIN_HELP: &str = "Print a tab between fields, and no titles";
 
 /// The name of the flag for a picture, without its two hyphens.
 const SVG: &str = "svg";
@@ -83,13 +87,12 @@ const SVG_HELP: &str = "Print a picture as SVG";
 /// The name of the option for a job, without its two hyphens.
 const JOB: &str = "job";
 
-const JOB_HELP: &str =
-    "Run the events of this job, and show one of its applications, in place of SIZE and SCRIPT";
+const JOB_HELP: &str = "Run this job, in place of SIZE and SCRIPT";
 
 /// The name of the option for an application of a job, without its two hyphens.
 const APP: &str = "app";
 
-const APP_HELP: &str = "Name of the application of the job that is shown";
+const APP_HELP: &str = "Show the zone of this application of the job";
 
 /// Returns an argument that is required unless a job is given, and not allowed with one.
 fn unless_job<'a>(alloc: Global, name: &'a str, help: &'a str) -> Result<Arg<'a>, AllocError> {
@@ -100,16 +103,13 @@ fn unless_job<'a>(alloc: Global, name: &'a str, help: &'a str) -> Result<Arg<'a>
         .conflicts_with(JOB)
 }
 
-/// The name of the option for moments, without its two hyphens.
+/// The name of the option for several moments, without its two hyphens.
 const STEPS: &str = "steps";
 
-const STEPS_HELP: &str = concat!(
-    "Draw the zone behind line FROM of the script and behind each further call up to line TO, each as a strip, with an ",
-    "arrow for each block that moved from one to the next; only with --svg"
-);
+const STEPS_HELP: &str = "Draw a strip for each call of these lines; with --svg";
 
-/// What is asked for in place of two lines that are none.
-const STEPS_WANTED: &str = "FROM..TO is asked for, two line numbers";
+/// The rule for two lines, which is printed where the word is no two lines.
+const STEPS_RULE: &str = "FROM and TO must be decimal numbers, FROM at most TO";
 
 /// Returns the command that shows a zone.
 pub fn heap_command<'a>(alloc: Global) -> Result<Command<'a>, AllocError> {
@@ -127,7 +127,7 @@ pub fn heap_command<'a>(alloc: Global) -> Result<Command<'a>, AllocError> {
         .arg(unless_job(alloc, "SCRIPT", SCRIPT_HELP)?)
 }
 
-/// Returns the option for moments.
+/// Returns the option for several moments.
 fn steps_option<'a>(alloc: Global) -> Result<Arg<'a>, AllocError> {
     option(alloc, STEPS, "FROM..TO", STEPS_HELP)
         .requires_arg(SVG)?
@@ -135,12 +135,12 @@ fn steps_option<'a>(alloc: Global) -> Result<Arg<'a>, AllocError> {
         .conflicts_with(JOB)
 }
 
-/// Returns the fault of a value: what is asked for in its place.
-fn bad(alloc: Global, name: &str, text: &str, wanted: &str) -> Result<ToolFault, AllocError>
+/// Returns the fault of a value, with the rule that the value breaks.
+fn bad(alloc: Global, name: &str, text: &str, rule: &str) -> Result<ToolFault, AllocError>
     ensures { IfOk result (λ fault. IsUsage (message_of fault)) }
 {
     let command = heap_command(alloc)?.bin_name("macmem heap")?;
-    bad_value(alloc, command, name, text, wanted)
+    bad_value(alloc, command, name, text, rule)
 }
 
 /// Returns the form in which the zone is shown.
@@ -154,15 +154,12 @@ fn form_in(matches: &ArgMatches<'_>) -> Form {
     }
 }
 
-/// Reads the number of a line.
+/// Reads the number of a line. See decision 198 (a number of the command line may have zeros and a sign).
 fn line_number(text: &str) -> Option<usize> {
-    if !has_digits_only(text) {
-        return None;
-    }
     text.parse::<usize>().ok()
 }
 
-/// Returns the line behind which the zone is shown, if one is given.
+/// Returns the line after which the zone is shown, if one is given.
 fn line_in(alloc: Global, matches: &ArgMatches<'_>) -> Result<Option<usize>, ToolFault>
     ensures { IfErr result (λ fault. IsUsage (message_of fault)) }
 {
@@ -171,7 +168,7 @@ fn line_in(alloc: Global, matches: &ArgMatches<'_>) -> Result<Option<usize>, Too
     };
     match line_number(text) {
         Some(line) => Ok(Some(line)),
-        None => Err(bad(alloc, "LINE", text, AT_WANTED)?),
+        None => Err(bad(alloc, "LINE", text, AT_RULE)?),
     }
 }
 
@@ -182,7 +179,7 @@ fn two_lines(text: &str) -> Option<(usize, usize)> {
     if from <= to { Some((from, to)) } else { None }
 }
 
-/// Returns behind which lines the zone is shown.
+/// Returns the lines after which the zone is shown.
 fn lines_in(alloc: Global, matches: &ArgMatches<'_>) -> Result<Lines, ToolFault>
     ensures { IfErr result (λ fault. IsUsage (message_of fault)) }
 {
@@ -191,27 +188,27 @@ fn lines_in(alloc: Global, matches: &ArgMatches<'_>) -> Result<Lines, ToolFault>
     };
     match two_lines(text) {
         Some((from, to)) => Ok(Lines::Each(from, to)),
-        None => Err(bad(alloc, "FROM..TO", text, STEPS_WANTED)?),
+        None => Err(bad(alloc, "FROM..TO", text, STEPS_RULE)?),
     }
 }
 
-/// Returns what is asked for of a script alone.
+/// Returns the request for the zone of a script alone.
 fn script_zone<'a>(alloc: Global, matches: &ArgMatches<'a>) -> Result<Task<'a>, ToolFault>
     ensures { IfErr result (λ fault. IsUsage (message_of fault)) }
 {
-    let behind = lines_in(alloc, matches)?;
+    let lines = lines_in(alloc, matches)?;
     let text = value(matches, "SIZE");
     match PartitionSize::read(text) {
         Some(size) => Ok(Task {
-            work: Work::Heap(ZoneView { size, behind }),
+            work: Work::Heap(ZoneView { size, lines }),
             path: value(matches, "SCRIPT"),
             watched: false,
         }),
-        None => Err(bad(alloc, "SIZE", text, SIZE_WANTED)?),
+        None => Err(bad(alloc, "SIZE", text, SIZE_RULE)?),
     }
 }
 
-/// Returns what is asked for of an application of a job.
+/// Returns the request for the zone of an application of a job.
 fn job_zone<'a>(
     alloc: Global,
     matches: &ArgMatches<'a>,
@@ -227,7 +224,7 @@ fn job_zone<'a>(
     })
 }
 
-/// Returns what the words of the command ask for.
+/// Returns the request that the words of the command make.
 pub fn heap_request<'a>(alloc: Global, matches: &ArgMatches<'a>) -> Result<Request<'a>, ToolFault>
     ensures { IfErr result (λ fault. IsUsage (message_of fault)) }
 {

@@ -12,6 +12,5 @@ pub mod Lying
 pub mod Places
 pub mod Resting
 pub mod Rounds
-pub mod Systems
 pub mod WholeRegion
 pub mod Halting

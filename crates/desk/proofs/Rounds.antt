@@ -1,11 +1,11 @@
-use Rattle.std.proofs.Common.{◌≡◌, ℕ, ◌+◌, ◌-◌, ◌<◌, Bool, true, false, List, length, drop, slice_index_or, suc}
+use Rattle.std.proofs.Common.{◌≡◌, ℕ, ◌+◌, ◌-◌, ◌<◌, Bool, true, false, List, length, drop, slice_index_or, suc, max}
 use Rattle.std.proofs.Common.{◌∙◌, ap, cond, arith}
 use Rattle.std.proofs.lemmas.List.{at_drop_more}
 use Rattle.script_text.specs.declared.job.Event.{Event}
 use Rattle.desk.specs.declared.act.Act.TheVariants.{Turn}
 use Rattle.desk.specs.Seated.{Placed}
 use Rattle.desk.specs.View.{seen}
-use Rattle.desk.specs.Desk.{State, acted_at, each_turned, round, rounds, any_runs, larger, longest_or}
+use Rattle.desk.specs.Desk.{State, acted_at, each_turned, round, rounds, any_runs, longest_or}
 use Rattle.desk.specs.Desk.{after_event, after_events}
 
 -- Loops over applications, rounds and events: what is done so far, followed by the rest, is the whole.
@@ -36,6 +36,6 @@ events_next events i e s less = at_drop_more (λ (es : List Event). after_events
 -- one more script
 pub longest_next : {S : Type 0} (seats : List (Placed S)) (i : ℕ) (seat : Placed S) (most : ℕ) → i < length seats
     → longest_or most (seen (drop i seats))
-    ≡ longest_or (larger most (length (slice_index_or seats i seat).app.now.script.steps)) (seen (drop (i + 1) seats))
+    ≡ longest_or (max most (length (slice_index_or seats i seat).app.now.script.steps)) (seen (drop (i + 1) seats))
 longest_next {S} seats i seat most less =
     at_drop_more (λ (xs : List (Placed S)). longest_or most (seen xs)) seats i seat less

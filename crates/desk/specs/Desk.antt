@@ -147,13 +147,10 @@ abbrev pub rounds : ℕ → State → State
 rounds zero s = s
 rounds (suc more) s = if any_runs s then rounds more (round s) else s
 
--- The number of steps of the longest script; the larger of two numbers.
-abbrev pub larger : ℕ → ℕ → ℕ
-larger m n = if nat_lt m n then n else m
-
+-- The number of steps of the longest script, or a number that is no smaller.
 abbrev pub longest_or : ℕ → List Place → ℕ
 longest_or most [] = most
-longest_or most (p ∷ places) = longest_or (larger most (length p.script.steps)) places
+longest_or most (p ∷ places) = longest_or (max most (length p.script.steps)) places
 
 abbrev pub longest : List Place → ℕ
 longest places = longest_or 0 places

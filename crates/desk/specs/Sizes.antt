@@ -1,4 +1,4 @@
-use Rattle.std.specs.Prelude.{ℕ, ◌-◌, ◌%◌, nat_lt, negsuc, Option, Some, None, List, length, if◌then◌else◌}
+use Rattle.std.specs.Prelude.{ℕ, ◌-◌, ◌%◌, min, nat_lt, negsuc, Option, Some, None, List, length, if◌then◌else◌}
 use Rattle.fork_format.specs.Fork.{number}
 use Rattle.res_calls.specs.Files.{Resources}
 use Rattle.res_calls.specs.Own.{own_datum}
@@ -20,7 +20,7 @@ rounded n = if nat_lt n 512 then 512 else n - n % 16
 
 -- The minimum size; one above the preferred size is read as the preferred size.
 abbrev pub capped : ℕ → ℕ → ℕ
-capped preferred minimum = if nat_lt preferred minimum then preferred else minimum
+capped preferred minimum = min preferred minimum
 
 -- The sizes in the stored data of a 'SIZE' resource: flags (2 bytes), the preferred size (4) and the minimum (4). If
 -- there is no such resource, or it is shorter, both sizes are 512 kilobytes.

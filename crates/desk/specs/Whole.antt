@@ -1,9 +1,8 @@
 use Rattle.std.specs.Prelude.{◌≡◌, ℕ, ◌==◌, Option, Some, None, option_map, Result, Ok, Err, List, [], ◌∷◌, length}
 use Rattle.std.specs.Prelude.{IfSome, if◌then◌else◌}
 use Rattle.mac_words.specs.declared.code.OsErr.{OsErr}
-use Rattle.mac_words.specs.declared.code.TheConstants.OsErr.{END_OF_FILE, MAP_READ}
+use Rattle.fork_format.specs.Code.{content_or_code}
 use Rattle.fork_format.specs.Content.{Content}
-use Rattle.fork_format.specs.Fork.{is_fork, content_of}
 use Rattle.fork_format.specs.View.{view}
 use Rattle.fork_format.specs.declared.content.Content.{Content as Stored}
 use Rattle.script_text.specs.Script.{ScriptParts}
@@ -23,18 +22,11 @@ use Rattle.desk.specs.View.{outcome_seen}
 
 -- Whole runs.
 
--- The content of a fork, or the result code for which the fork can't be read: -39 (eofErr) if it has no bytes, -199
--- (mapReadErr) if its bytes spell no content.
-abbrev pub content_in : List ℕ → Result Content OsErr
-content_in fork =
-    if length fork == 0 then Err END_OF_FILE
-    else if is_fork fork then Ok (content_of fork)
-    else Err MAP_READ
-
--- The content of the System file; if there is none, the content has no resources.
+-- The content of the System file, or the result code for which its fork can't be read; if there is no System file, the
+-- content has no resources.
 abbrev pub system_in : Option (List ℕ) → Result Content OsErr
 system_in None = Ok no_content
-system_in (Some fork) = content_in fork
+system_in (Some fork) = content_or_code fork
 
 abbrev pub system_of : Job → Result Content OsErr
 system_of job = system_in (option_map (λ fork. fork.items) job.system)

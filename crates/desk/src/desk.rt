@@ -151,7 +151,7 @@ impl<'j, Z: ZoneMaker> Desk<'j, Z> {
     }
 
     /// Launches application `i`. Returns the size of its partition, or the result code for which the launch is refused.
-    pub(crate) fn try_launch(&mut self, i: usize) -> Result<Result<u32, OsErr>, AllocError>
+    fn try_launch(&mut self, i: usize) -> Result<Result<u32, OsErr>, AllocError>
         ensures answer { IfOk result (λ reply. reply ≡ reply_at i self.old.state) }
         ensures ok { OnOk result (self.new.state ≡ launched_at i self.old.state) }
         ensures host { OnErr result (self.new.state ≡ self.old.state) }

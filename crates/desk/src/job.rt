@@ -28,7 +28,7 @@ pub struct App {
 /// What is given for a run: a memory, a System file, applications, and the events.
 #[derive(Debug, Drop)]
 pub struct Job {
-    /// The number of bytes of the memory: 512 to 134217728, a multiple of 16.
+    /// The number of bytes of the memory: 512 to 134,217,728, a multiple of 16.
     pub memory: u32,
     /// The bytes of the System file's resource fork; `None` stands for a fork without resources.
     pub system: Option<Vec<u8>>,

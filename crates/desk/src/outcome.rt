@@ -5,6 +5,7 @@ ghost use Rattle.block_store.specs.declared.measures.TheConstants.{GREATEST_ZONE
 
 use mac_words::{Label, OsErr};
 use res_calls::File;
+use thiserror::Error;
 
 /// What an application leaves that was launched.
 #[derive(Debug, Drop)]
@@ -47,10 +48,12 @@ pub struct Outcome {
 }
 
 /// The reason why a run has no outcome.
-#[derive(Clone, Copy, Debug, PartialEq, Eq)]
+#[derive(Clone, Copy, Debug, PartialEq, Eq, Error)]
 pub enum RunFault {
     /// The System file's fork can't be read: -39 (eofErr) if it has no bytes, -199 (mapReadErr) if they are damaged.
+    #[error("the System file can't be read: {}", .0.number())]
     System(OsErr),
     /// The host is out of memory before the first event.
+    #[error("the host is out of memory")]
     HostMemory,
 }

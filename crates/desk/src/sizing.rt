@@ -44,7 +44,7 @@ fn read_sizes(datum: &[u8]) -> PartitionSizes
 {
     let preferred = rounded(BigEndian::read_u32(&datum[PREFERRED_AT..]));
     let least = rounded(BigEndian::read_u32(&datum[MINIMUM_AT..]));
-    let minimum = if preferred < least { preferred } else { least };
+    let minimum = preferred.min(least);
     PartitionSizes { preferred, minimum }
 }
 

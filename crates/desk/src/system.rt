@@ -9,8 +9,7 @@ ghost use Rattle.desk.specs.Whole.{system_in, IsSystem};
 
 use crate::outcome::RunFault;
 use applications::empty_content;
-use fork_format::{Content, ForkFault, read_fork};
-use mac_words::OsErr;
+use fork_format::{Content, read_fork};
 use std::alloc::Global;
 
 /// Reads the content of the System file's fork; if there is no such file, the content has no resources.
@@ -18,6 +17,7 @@ use std::alloc::Global;
 /// # Errors
 ///
 /// The fork can't be read, or the host is out of memory.
+#[tactic(auto, using(fork_format::proofs::Codes::spelled))]
 pub(crate) fn read_system<'b>(
     alloc: Global,
     system: &'b Option<Vec<u8>>,
@@ -31,8 +31,9 @@ pub(crate) fn read_system<'b>(
     };
     match read_fork(alloc, fork) {
         Ok(content) => Ok(content),
-        Err(ForkFault::Empty) => Err(RunFault::System(OsErr::END_OF_FILE)),
-        Err(ForkFault::BadMap) => Err(RunFault::System(OsErr::MAP_READ)),
-        Err(ForkFault::HostMemory) => Err(RunFault::HostMemory),
+        Err(fault) => match fault.code() {
+            Some(code) => Err(RunFault::System(code)),
+            None => Err(RunFault::HostMemory),
+        },
     }
 }

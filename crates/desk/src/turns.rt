@@ -4,7 +4,7 @@ ghost use Rattle.std.specs.Prelude.{◌≡◌, ℕ, suc, OnOk, OnErr};
 ghost use Rattle.windows.specs.declared.Window.{Window as Stretch};
 ghost use Rattle.block_store.specs.Rest.{Site};
 ghost use Rattle.desk.specs.declared.act.Act.TheVariants.{Step, Turn, Quit};
-ghost use Rattle.desk.specs.Desk.{acted_at, round, rested, after_event, after_events, larger, longest, longest_or};
+ghost use Rattle.desk.specs.Desk.{acted_at, round, rested, after_event, after_events, longest, longest_or};
 ghost use Rattle.desk.specs.Free.{IsFree, StaysFree};
 ghost use Rattle.desk.specs.Halting.{After, WithinEvent, WithinRound, WithinRounds, halted};
 ghost use Rattle.desk.specs.View.{seen};
@@ -14,15 +14,9 @@ use crate::desk::Desk;
 use crate::seat::Seat;
 use applications::{Watch, tell};
 use block_store::{BlockStore, ZoneMaker};
+use heap_calls::Refusal;
 use script_text::Event;
 use std::alloc::AllocError;
-
-/// Returns the larger of two numbers.
-fn larger(most: usize, other: usize) -> usize
-    ensures { result ≡ larger most other }
-{
-    if most < other { other } else { most }
-}
 
 /// Returns the number of steps of the longest script.
 #[tactic(auto, using(crate::proofs::Rounds::longest_next))]
@@ -31,7 +25,7 @@ pub(crate) fn longest_script<S: BlockStore>(seats: &[Seat<'_, S>]) -> usize
 {
     let mut most = 0;
     for seat in seats {
-        most = larger(most, seat.app.script.steps().len());
+        most = most.max(seat.app.script.steps().len());
     }
     most
 }
@@ -98,10 +92,10 @@ impl<'j, Z: ZoneMaker> Desk<'j, Z> {
             → Z.byte self.new.zones place ≡ Z.byte self.old.zones place) }
     {
         match event {
-            Event::Launch(i) => {
-                let _reply = self.try_launch(i)?;
-                Ok(())
-            }
+            Event::Launch(i) => match self.launch(i) {
+                Ok(_) | Err(Refusal::Code(_)) => Ok(()),
+                Err(Refusal::HostMemory) => Err(AllocError),
+            },
             Event::Step(i) => self.step(i),
             Event::Turn(i) => self.turn(i),
             Event::Quit(i) => self.quit(i),

@@ -1,33 +1,39 @@
-use Rattle.std.proofs.Common.{◌≡◌, ◌≢◌, ℕ, Bool, IsTrue, true, false, Ok, Err, List, [], ◌∷◌, length, refl, sym, ap, arith}
-use Rattle.std.proofs.lemmas.Bool.{ne_eqb}
-use Rattle.mac_words.specs.declared.code.TheConstants.OsErr.{MAP_READ}
+use Rattle.std.proofs.Common.{◌≡◌, ◌≢◌, ◌↔◌, ℕ, IsTrue, Result, Ok, Err, List, [], refl, sym, ap, subst, ◌∙◌}
+use Rattle.mac_words.specs.declared.code.TheConstants.OsErr.{END_OF_FILE, MAP_READ}
+use Rattle.fork_format.specs.declared.fault.ForkFault.{ForkFault}
+use Rattle.fork_format.specs.declared.fault.ForkFault.TheVariants as fork_fault
+use Rattle.fork_format.specs.Code.{read_code}
 use Rattle.fork_format.specs.Content.{Content}
-use Rattle.fork_format.specs.Fork.{is_fork, content_of, Spells, IsUnspelled}
+use Rattle.fork_format.specs.Fork.{Spells, IsUnspelled}
+use Rattle.fork_format.proofs.Codes.{spelled as has_content, refused as has_code}
 use Rattle.fork_commands.specs.declared.fault.WorkFault.{WorkFault}
-use Rattle.fork_commands.specs.Faults.{told, Stops}
-use Rattle.fork_format.specs.Canonical.{canon, fits}
-use Rattle.fork_commands.specs.Reading.{content_of_fork, fork_in, content_in}
+use Rattle.fork_commands.specs.Faults.{of_code, Stops}
+use Rattle.fork_format.specs.Canonical.{canon, clear, fits}
+use Rattle.fork_format.proofs.Clear.{clear_clear}
+use Rattle.fork_commands.specs.Reading.{content_or_fault, content_of_fork, fork_in, content_in}
 use Rattle.rez_text.specs.Printing.{source_of}
 use Rattle.rez_text.specs.Reading.{read}
 use Rattle.fork_commands.specs.declared.work.ForkWork.TheVariants.{Derez, Rez}
-use Rattle.fork_commands.specs.Works.{canonical, made}
+use Rattle.fork_commands.specs.Works.{canonical, made, HoldsStated}
 
 -- The content of a fork.
 
--- bytes that spell nothing have no content
-pub unspelled : (bytes : List ℕ) → bytes ≢ [] → IsUnspelled bytes → content_of_fork bytes ≡ Err (told MAP_READ)
-unspelled [] some none = absurd (some refl)
-unspelled (b ∷ bytes) some none = cases (is_fork (b ∷ bytes)) refl
-  where
-    cases : (t : Bool) → is_fork (b ∷ bytes) ≡ t → content_of_fork (b ∷ bytes) ≡ Err (told MAP_READ)
-    cases true is = absurd (none (content_of (b ∷ bytes)) (record { fork = is; content = refl }))
-    cases false is = rw (ne_eqb (length (b ∷ bytes)) 0 (λ e. omega (arith, e)), is) refl
-
 -- bytes that spell a content have it
 pub spelled : (bytes : List ℕ) (c : Content) → Spells bytes c → content_of_fork bytes ≡ Ok c
-spelled [] c spells = absurd (let no : is_fork [] ≡ true = spells.fork in cc)
-spelled (b ∷ bytes) c spells =
-    rw (ne_eqb (length (b ∷ bytes)) 0 (λ e. omega (arith, e)), spells.fork) (ap Ok spells.content)
+unfolding content_of_fork
+spelled bytes c spells = ap content_or_fault (has_content bytes c spells)
+
+-- why bytes that a reader refuses have none
+pub refused : {A : Type 0} (bytes : List ℕ) (result : Result A ForkFault) (fault : ForkFault)
+    → ((result ≡ Err fork_fault.Empty) ↔ (bytes ≡ []))
+    → ((result ≡ Err fork_fault.BadMap) ↔ ((bytes ≢ []) × IsUnspelled bytes)) → result ≡ Err fault
+    → Stops (of_code (read_code fault)) (content_of_fork bytes)
+unfolding content_of_fork
+refused bytes result fork_fault.Empty empty bad is =
+    ap content_or_fault (has_code bytes result fork_fault.Empty END_OF_FILE empty bad is refl)
+refused bytes result fork_fault.BadMap empty bad is =
+    ap content_or_fault (has_code bytes result fork_fault.BadMap MAP_READ empty bad is refl)
+refused bytes result fork_fault.HostMemory empty bad is = tt
 
 -- a content that fits is written as its canonical fork
 pub fitting : (c : Content) (fork : List ℕ) → IsTrue (fits c) → fork ≡ canon c → canonical c ≡ Ok fork
@@ -47,6 +53,14 @@ stopped_there bytes fork fault found stops = rw found stops
 pub assembled_of : (source fork : List ℕ) (c : Content) → read source ≡ Ok c → canonical c ≡ Ok fork
     → made Rez source ≡ Ok fork
 assembled_of source fork c stated has = rw stated has
+
+-- what a source states is clear, and so is read again from its fork
+pub stated_again : (source fork : List ℕ) (said d : Content) → read source ≡ Ok (clear said) → d ≡ clear said
+    → Spells fork (clear d) → HoldsStated source fork
+stated_again source fork said d stated has again = λ c is.
+    let both : Ok (clear said) ≡ Ok c = sym stated ∙ is in
+    let same : clear said ≡ c = cc in
+    subst (Spells fork) (ap clear has ∙ clear_clear said ∙ same) again
 
 -- why there is no fork of what a source states
 pub stopped_of : (source : List ℕ) (c : Content) (fault : WorkFault) → read source ≡ Ok c → Stops fault (canonical c)

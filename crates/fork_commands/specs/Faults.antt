@@ -1,4 +1,4 @@
-use Rattle.std.specs.Prelude.{◌≡◌, ℕ, ℤ, pos, Result, Ok, Err}
+use Rattle.std.specs.Prelude.{◌≡◌, ℕ, ℤ, pos, Option, Some, None, Result, Ok, Err}
 use Rattle.mac_words.specs.declared.code.OsErr.{OsErr}
 use Rattle.fork_commands.specs.declared.fault.FileFault.{FileFault}
 use Rattle.fork_commands.specs.declared.fault.FileFault.TheVariants.{Code, Wrapper, Source}
@@ -7,9 +7,10 @@ use Rattle.fork_commands.specs.declared.fault.WorkFault.TheVariants.{File, HostM
 
 -- Faults of the bytes of files.
 
--- The fault for a result code.
-abbrev pub told : OsErr → FileFault
-told code = Code code
+-- The fault for a result code; with no code, that the host is out of memory.
+abbrev pub of_code : Option OsErr → WorkFault
+of_code None = HostMemory
+of_code (Some code) = File (Code code)
 
 -- The number of a fault: the result code, if it has one.
 abbrev pub number_of : FileFault → ℤ
@@ -28,7 +29,7 @@ abbrev pub made_then : {A B F : Type 0} → Result A F → (A → Result B F) �
 made_then (Ok made) next = next made
 made_then (Err fault) next = Err fault
 
--- The fault is what comes in place of a result; nothing is said if the host is out of memory.
+-- The fault is what stands in place of a result; nothing is said if the host is out of memory.
 abbrev pub Stops : {A : Type 0} → WorkFault → Result A FileFault → Type 0
-Stops HostMemory wanted = Unit {0}
-Stops (File fault) wanted = wanted ≡ Err fault
+Stops HostMemory made = Unit {0}
+Stops (File fault) made = made ≡ Err fault

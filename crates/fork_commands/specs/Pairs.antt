@@ -59,10 +59,10 @@ combined (Set s) first second = of_bytes (at First (fork_set s first second))
 combined Diff first second =
     made_then (at First (content_in first)) (λ c. made_then (at Second (content_in second)) (λ d. Ok (compared c d)))
 
--- The fault is what comes in place of a result; nothing is said if the host is out of memory.
+-- The fault is what stands in place of a result; nothing is said if the host is out of memory.
 abbrev pub StopsPair : {A : Type 0} → PairFault → Result A (Place × FileFault) → Type 0
-StopsPair pair_fault.HostMemory wanted = Unit {0}
-StopsPair (pair_fault.File place fault) wanted = wanted ≡ Err (place, fault)
+StopsPair pair_fault.HostMemory made = Unit {0}
+StopsPair (pair_fault.File place fault) made = made ≡ Err (place, fault)
 
 -- A fault as one of a file among two.
 abbrev pub stopped_at : Place → WorkFault → PairFault

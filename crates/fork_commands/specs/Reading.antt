@@ -1,22 +1,23 @@
-use Rattle.std.specs.Prelude.{ℕ, ◌==◌, Result, Ok, Err, List, length, if◌then◌else◌}
-use Rattle.mac_words.specs.declared.code.TheConstants.OsErr.{END_OF_FILE, MAP_READ}
+use Rattle.std.specs.Prelude.{ℕ, Result, Ok, Err, List}
+use Rattle.mac_words.specs.declared.code.OsErr.{OsErr}
+use Rattle.fork_format.specs.Code.{content_or_code}
 use Rattle.fork_format.specs.Content.{Content}
-use Rattle.fork_format.specs.Fork.{is_fork, content_of}
 use Rattle.fork_wrappers.specs.declared.fault.WrapFault.{WrapFault}
 use Rattle.fork_wrappers.specs.Unwrapped.{unwrapped}
 use Rattle.fork_commands.specs.declared.fault.FileFault.{FileFault}
-use Rattle.fork_commands.specs.declared.fault.FileFault.TheVariants.{Wrapper}
-use Rattle.fork_commands.specs.Faults.{told, made_then}
+use Rattle.fork_commands.specs.declared.fault.FileFault.TheVariants.{Code, Wrapper}
+use Rattle.fork_commands.specs.Faults.{made_then}
 
 -- What a resource fork in the bytes of a file holds.
 
--- The content of a fork, or why there is none: -39 (eofErr) if it has no bytes, -199 (mapReadErr) if they spell no content.
--- More Macintosh Toolbox, chapter 1, "Resource File Format" and "Result Codes".
-abbrev pub content_of_fork : List ℕ → Result Content FileFault
-content_of_fork fork =
-    if length fork == 0 then Err (told END_OF_FILE)
-    else if is_fork fork then Ok (content_of fork)
-    else Err (told MAP_READ)
+-- A content, or the result code as a fault.
+abbrev pub content_or_fault : Result Content OsErr → Result Content FileFault
+content_or_fault (Ok c) = Ok c
+content_or_fault (Err code) = Err (Code code)
+
+-- The content of a fork, or the result code for which it can't be read.
+unfoldable pub content_of_fork : List ℕ → Result Content FileFault
+content_of_fork fork = content_or_fault (content_or_code fork)
 
 -- A fork that was found in the bytes of a file, or how their wrapper is damaged.
 abbrev pub fork_found : Result (List ℕ) WrapFault → Result (List ℕ) FileFault

@@ -1,29 +1,30 @@
-use Rattle.std.specs.Prelude.{ℕ, Option, Some, None, Result, Ok, Err, List, if◌then◌else◌}
+use Rattle.std.specs.Prelude.{◌≡◌, ℕ, Option, Some, None, Result, Ok, Err, List, if◌then◌else◌}
 use Rattle.byteorder.specs.Endian.{big_number}
 use Rattle.mac_words.specs.declared.code.TheConstants.OsErr.{DISK_FULL, RES_NOT_FOUND}
 use Rattle.fork_format.specs.Content.{Ref, Content}
 use Rattle.fork_format.specs.Canonical.{canon, fits}
+use Rattle.fork_format.specs.Fork.{Spells}
 use Rattle.fork_edits.specs.Resources.{found}
 use Rattle.rez_text.specs.declared.fault.FaultKind.{FaultKind}
 use Rattle.rez_text.specs.Printing.{source_of}
 use Rattle.rez_text.specs.Reading.{read}
 use Rattle.fork_commands.specs.declared.fault.FileFault.{FileFault}
-use Rattle.fork_commands.specs.declared.fault.FileFault.TheVariants.{Source}
+use Rattle.fork_commands.specs.declared.fault.FileFault.TheVariants.{Code, Source}
 use Rattle.fork_commands.specs.declared.work.ForkWork.{ForkWork}
 use Rattle.fork_commands.specs.declared.work.ForkWork.TheVariants.{Rewrite, Get, Derez, Rez}
 use Rattle.fork_commands.specs.declared.work.ResourceKey.{ResourceKey}
-use Rattle.fork_commands.specs.Faults.{told, made_then}
+use Rattle.fork_commands.specs.Faults.{made_then}
 use Rattle.fork_commands.specs.Reading.{content_in}
 
 -- What the works make of the bytes of one file.
 
 -- The canonical fork of a content, or -34 (dskFulErr) where the content doesn't fit the format of a fork.
 abbrev pub canonical : Content → Result (List ℕ) FileFault
-canonical c = if fits c then Ok (canon c) else Err (told DISK_FULL)
+canonical c = if fits c then Ok (canon c) else Err (Code DISK_FULL)
 
 -- The stored data of a resource that was found, or -192 (resNotFound).
 abbrev pub datum_of : Option Ref → Result (List ℕ) FileFault
-datum_of None = Err (told RES_NOT_FOUND)
+datum_of None = Err (Code RES_NOT_FOUND)
 datum_of (Some r) = Ok r.datum
 
 -- The stored data of the first resource of a type and an ID.
@@ -41,3 +42,7 @@ made Rewrite bytes = made_then (content_in bytes) canonical
 made (Get key) bytes = made_then (content_in bytes) (datum_at key)
 made Derez bytes = made_then (content_in bytes) (λ c. Ok (source_of c))
 made Rez bytes = made_then (content_stated (read bytes)) canonical
+
+-- The bytes are a resource fork that holds what a source of Rez states.
+abbrev pub HoldsStated : List ℕ → List ℕ → Type 0
+HoldsStated source fork = (c : Content) → read source ≡ Ok c → Spells fork c

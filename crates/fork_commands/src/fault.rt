@@ -1,8 +1,8 @@
 //! Faults: why nothing is made of the bytes of a file.
 
 ghost use Rattle.std.specs.Prelude.{◌≡◌};
-ghost use Rattle.fork_commands.specs.Faults.{told, number_of, line_of};
-ghost use Rattle.fork_commands.specs.declared.fault.WorkFault.TheVariants.{File, HostMemory};
+ghost use Rattle.fork_commands.specs.Faults.{of_code, number_of, line_of};
+ghost use Rattle.fork_commands.specs.declared.fault.WorkFault.TheVariants.{HostMemory};
 
 use fork_wrappers::WrapFault;
 use mac_words::OsErr;
@@ -27,7 +27,7 @@ pub enum FileFault {
         fault: WrapFault,
     },
     /// The bytes are no source of Rez.
-    #[error("line {}: {}", .fault.line, .fault.kind)]
+    #[error("{fault}")]
     Source {
         /// The line that can't be read, and why.
         fault: TextFault,
@@ -57,20 +57,25 @@ impl FileFault {
 }
 
 /// The reason why nothing is made of the bytes of a file.
-#[derive(Clone, Copy)]
+#[derive(Clone, Copy, Debug, Error)]
 pub enum WorkFault {
     /// The file's bytes are at fault.
+    #[error("{0}")]
     File(FileFault),
     /// The host is out of memory.
+    #[error("the host is out of memory")]
     HostMemory,
 }
 
 impl WorkFault {
-    /// Returns the fault for a result code.
-    pub(crate) fn code(code: OsErr) -> WorkFault
-        ensures { result ≡ File (told code) }
+    /// Returns the fault for a result code; with no code, that the host is out of memory.
+    pub(crate) fn of(code: Option<OsErr>) -> WorkFault
+        ensures { result ≡ of_code code }
     {
-        WorkFault::File(FileFault::Code { code })
+        match code {
+            Some(code) => WorkFault::File(FileFault::Code { code }),
+            None => WorkFault::HostMemory,
+        }
     }
 }
 

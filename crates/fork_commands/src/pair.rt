@@ -17,6 +17,7 @@ use fork_edits::{Change, Difference, append_difference, diff, set_resource};
 use fork_format::{Content, RefName};
 use mac_words::Attrs;
 use std::alloc::{AllocError, Global};
+use thiserror::Error;
 
 /// The resource that is set in a fork.
 #[derive(Clone, Copy)]
@@ -48,18 +49,20 @@ pub struct PairOutput {
 }
 
 /// One of two files.
-#[derive(Clone, Copy)]
+#[derive(Clone, Copy, Debug)]
 pub enum Place {
     First,
     Second,
 }
 
 /// The reason why nothing is made of the bytes of two files.
-#[derive(Clone, Copy)]
+#[derive(Clone, Copy, Debug, Error)]
 pub enum PairFault {
     /// The bytes of a file are at fault.
+    #[error("{1}")]
     File(Place, FileFault),
     /// The host is out of memory.
+    #[error("the host is out of memory")]
     HostMemory,
 }
 

@@ -7,9 +7,8 @@ ghost use Rattle.fork_commands.specs.Faults.{Stops};
 ghost use Rattle.fork_commands.specs.Reading.{content_of_fork, fork_in, content_in};
 
 use crate::fault::{FileFault, WorkFault};
-use fork_format::{Content, ForkFault, read_fork};
+use fork_format::{Content, read_fork};
 use fork_wrappers::{Unwrapped, unwrap};
-use mac_words::OsErr;
 use std::alloc::Global;
 
 /// Reads the content of a resource fork.
@@ -23,9 +22,7 @@ pub fn content_of_fork<'b>(alloc: Global, fork: &'b [u8]) -> Result<Content<'b>,
 {
     match read_fork(alloc, fork) {
         Ok(content) => Ok(content),
-        Err(ForkFault::Empty) => Err(WorkFault::code(OsErr::END_OF_FILE)),
-        Err(ForkFault::BadMap) => Err(WorkFault::code(OsErr::MAP_READ)),
-        Err(ForkFault::HostMemory) => Err(WorkFault::HostMemory),
+        Err(fault) => Err(WorkFault::of(fault.code())),
     }
 }
 

@@ -1,15 +1,17 @@
 //! The works on one file: from its bytes to what is printed or written of them.
 
 ghost use Rattle.std.specs.Prelude.{◌≡◌, Ok, IfOk, IfErr};
+ghost use Rattle.fork_format.specs.Canonical.{clear};
+ghost use Rattle.fork_format.specs.Fork.{Spells};
 ghost use Rattle.fork_format.specs.View.{view};
 ghost use Rattle.fork_commands.specs.Faults.{Stops};
-ghost use Rattle.fork_commands.specs.Works.{canonical, datum_at, made};
+ghost use Rattle.fork_commands.specs.Works.{canonical, datum_at, made, HoldsStated};
 ghost use Rattle.fork_commands.specs.declared.work.ForkWork.TheVariants.{Rewrite, Get, Derez, Rez};
 
 use crate::fault::{FileFault, WorkFault};
 use crate::reading::content_in;
 use fork_edits::find_resource;
-use fork_format::{Content, WriteFault, write_fork};
+use fork_format::{Content, write_fork};
 use mac_words::{OsErr, OsType};
 use rez_text::{SourceFault, read_source, write_source};
 use std::alloc::{AllocError, Global};
@@ -38,11 +40,13 @@ pub enum ForkWork {
 pub fn canonical(alloc: Global, content: &Content<'_>) -> Result<Vec<u8>, WorkFault>
     ensures made { IfOk result (λ fork. canonical (view content.now) ≡ Ok fork.items) }
     ensures fault { IfErr result (λ fault. Stops fault (canonical (view content.now))) }
+
+    // A reader reads the content from the fork again, without the bits that a reader clears.
+    ensures read_again { IfOk result (λ fork. Spells fork.items (clear (view content.now))) }
 {
     match write_fork(alloc, content) {
         Ok(fork) => Ok(fork),
-        Err(WriteFault::TooLarge) => Err(WorkFault::code(OsErr::DISK_FULL)),
-        Err(WriteFault::HostMemory) => Err(WorkFault::HostMemory),
+        Err(fault) => Err(WorkFault::of(fault.code())),
     }
 }
 
@@ -71,7 +75,7 @@ fn datum_at(alloc: Global, key: ResourceKey, content: &Content<'_>) -> Result<Ve
 {
     match find_resource(content, key.ty, key.id) {
         Some(resource) => Ok(copied(alloc, resource.datum)?),
-        None => Err(WorkFault::code(OsErr::RES_NOT_FOUND)),
+        None => Err(WorkFault::of(Some(OsErr::RES_NOT_FOUND))),
     }
 }
 
@@ -100,6 +104,7 @@ fn printed(alloc: Global, bytes: &[u8]) -> Result<Vec<u8>, WorkFault>
 fn assembled(alloc: Global, source: &[u8]) -> Result<Vec<u8>, WorkFault>
     ensures made { IfOk result (λ out. made Rez source.now ≡ Ok out.items) }
     ensures fault { IfErr result (λ fault. Stops fault (made Rez source.now)) }
+    ensures read_again { IfOk result (λ out. HoldsStated source.now out.items) }
 {
     match read_source(alloc, source) {
         Ok(stated) => {
@@ -119,6 +124,9 @@ fn assembled(alloc: Global, source: &[u8]) -> Result<Vec<u8>, WorkFault>
 pub fn made(alloc: Global, work: ForkWork, bytes: &[u8]) -> Result<Vec<u8>, WorkFault>
     ensures made { IfOk result (λ out. made work bytes.now ≡ Ok out.items) }
     ensures fault { IfErr result (λ fault. Stops fault (made work bytes.now)) }
+
+    // A fork that is made of source is read again as exactly the content that the source states.
+    ensures read_again { IfOk result (λ out. work ≡ Rez → HoldsStated bytes.now out.items) }
 {
     match work {
         ForkWork::Rewrite => rewritten(alloc, bytes),

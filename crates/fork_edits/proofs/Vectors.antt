@@ -47,6 +47,11 @@ in_hexadecimal = refl
 too_great : attrs_read (codes "256") ≡ None
 too_great = refl
 
+-- zeros and a plus before other digits, and a plus alone
+zeros_before : (attrs_read (codes "0032") ≡ Some 32) × (attrs_read (codes "+32") ≡ Some 32)
+    × (attrs_read (codes "+0128") ≡ Some 128) × (attrs_read (codes "0256") ≡ None) × (attrs_read (codes "+") ≡ None)
+zeros_before = (refl, refl, refl, refl, refl)
+
 -- resources of the type 'STR ', whose number is 0x53545220
 abbrev greeting : Ref
 greeting = record { id = pos 128; name = Some (codes "Greeting"); attrs = 32; datum = 1 ∷ [] }

@@ -16,7 +16,7 @@ numbers_text r = codes " " ++ signed_decimal r.id ++ codes " " ++ decimal r.attr
 abbrev pub row_text : Row → List ℕ
 row_text r = type_text r.kind ++ numbers_text r.resource ++ codes " " ++ name_text r.resource.name
 
--- The line of a resource, behind a sign.
+-- The line of a resource, after a sign.
 abbrev pub row_line : ℕ → Row → List ℕ
 row_line sign r = (sign ∷ codes " ") ++ row_text r ++ codes "\n"
 

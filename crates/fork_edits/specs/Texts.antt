@@ -1,18 +1,15 @@
-use Rattle.std.specs.Prelude.{ℕ, ◌+◌, ◌/◌, ◌%◌, Bool, ◌&&◌, ◌||◌, ◌==◌, not, nat_lt, Option, Some, None, List, [], ◌∷◌, ◌++◌}
+use Rattle.std.specs.Prelude.{ℕ, ◌/◌, ◌%◌, Bool, ◌&&◌, ◌||◌, ◌==◌, not, Option, Some, None, List, [], ◌∷◌, ◌++◌}
 use Rattle.std.specs.Prelude.{if◌then◌else◌, codes}
 use Rattle.std.specs.List.{flat_map, list_all}
 use Rattle.byteorder.specs.Endian.{big_bytes}
+use Rattle.mac_words.specs.Digits.{upper_digit}
 use Rattle.fork_edits.specs.Types.{is_between}
 
 -- Types and names as a person reads them.
 
--- A hexadecimal digit, in upper case.
-abbrev pub hex_digit : ℕ → ℕ
-hex_digit n = if nat_lt n 10 then 48 + n else 55 + n
-
--- The two hexadecimal digits of a byte.
+-- The two hexadecimal digits of a byte, in upper case.
 abbrev pub hex_byte : ℕ → List ℕ
-hex_byte b = hex_digit (b / 16) ∷ hex_digit (b % 16) ∷ []
+hex_byte b = upper_digit (b / 16) ∷ upper_digit (b % 16) ∷ []
 
 -- The byte is a printable character of ASCII; so is a blank.
 abbrev pub is_printable : ℕ → Bool
@@ -31,7 +28,7 @@ four_text bytes = if list_all is_clear bytes then codes "'" ++ bytes ++ codes "'
 abbrev pub type_text : ℕ → List ℕ
 type_text kind = four_text (big_bytes 4 kind)
 
--- A byte of a name: a quote and a backslash stand behind a backslash, and a byte that isn't printable is \0x and two
+-- A byte of a name: a quote and a backslash stand after a backslash, and a byte that isn't printable is \0x and two
 -- digits.
 abbrev pub char_text : ℕ → List ℕ
 char_text b = if b == 34 || b == 92 then 92 ∷ b ∷ []

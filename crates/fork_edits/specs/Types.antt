@@ -38,7 +38,7 @@ bytes_spelled [] = Some []
 bytes_spelled (c ∷ []) = None
 bytes_spelled (c ∷ d ∷ rest) = before (byte_value c d) (bytes_spelled rest)
 
--- A text of one to four bytes stands for itself, with blanks behind it up to four bytes.
+-- A text of one to four bytes stands for itself, with blanks after it up to four bytes.
 abbrev pub is_plain : List ℕ → Bool
 is_plain text = is_between 1 4 (length text)
 

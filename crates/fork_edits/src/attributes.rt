@@ -4,7 +4,7 @@ ghost use Rattle.std.specs.Prelude.{◌≡◌, option_map};
 ghost use Rattle.std.specs.List.{slice_split};
 ghost use Rattle.mac_words.specs.declared.attributes.Attrs.{Attrs as AttrsValue};
 ghost use Rattle.fork_edits.specs.Types.{is_between};
-ghost use Rattle.fork_edits.specs.Attributes.{three_digits, number_read, word_value, words_value, is_comma, attrs_read};
+ghost use Rattle.fork_edits.specs.Attributes.{digits_read, number_read, word_value, words_value, is_comma, attrs_read};
 
 use crate::types::byte_value_of;
 use mac_words::Attrs;
@@ -16,36 +16,31 @@ fn is_digit(byte: u8) -> bool
     b'0' <= byte && byte <= b'9'
 }
 
-/// Returns the number of three decimal digits, if it is below 256.
-fn three(a: u8, b: u8, c: u8) -> Option<u8>
-    ensures { result ≡ three_digits a b c }
+/// Returns the number that decimal digits stand for, if there are any and it is at most 255.
+fn read_digits(text: &[u8]) -> Option<u8>
+    ensures { result ≡ digits_read text.now }
 {
-    if !is_digit(a) || !is_digit(b) || !is_digit(c) {
+    if text.is_empty() {
         return None;
     }
-    let value = 100 * (a - b'0') as u16 + 10 * (b - b'0') as u16 + (c - b'0') as u16;
-    if value <= 255 {
-        Some(value as u8)
-    } else {
-        None
+    let mut number: u8 = 0;
+    for digit in text {
+        if !is_digit(*digit) {
+            return None;
+        }
+        number = number.checked_mul(10)?.checked_add(*digit - b'0')?;
     }
+    Some(number)
 }
 
-/// Returns the number that one to three decimal digits stand for, if it is below 256.
+/// Returns the number that decimal digits stand for, before which a plus may stand.
 fn read_number(text: &[u8]) -> Option<u8>
     ensures { result ≡ number_read text.now }
 {
-    let len = text.len();
-    if len == 1 {
-        return three(b'0', b'0', text[0]);
+    match text {
+        [b'+', digits @ ..] => read_digits(digits),
+        digits => read_digits(digits),
     }
-    if len == 2 {
-        return three(b'0', text[0], text[1]);
-    }
-    if len == 3 {
-        return three(text[0], text[1], text[2]);
-    }
-    None
 }
 
 /// Returns the attribute that a word stands for.
@@ -98,8 +93,8 @@ fn read_value(text: &[u8]) -> Option<u8>
     read_words(text)
 }
 
-/// Returns the attributes that a text stands for: `$40`, two hexadecimal digits in either case; a number from 0 to 255, one
-/// to three decimal digits; or the words `sysheap`, `purgeable`, `locked`, `protected` and `preload`, with commas between
+/// Returns the attributes that a text stands for: `$40`, two hexadecimal digits in either case; a number from 0 to 255 in
+/// decimal digits, before which zeros and a plus may stand; or the words `sysheap`, `purgeable`, `locked`, `protected` and `preload`, with commas between
 /// them.
 ///
 /// *More Macintosh Toolbox*, chapter 1, "Resource Attributes".

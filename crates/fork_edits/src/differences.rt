@@ -157,7 +157,7 @@ fn note_changed<'a, 'b>(
     Ok(())
 }
 
-/// Notes the difference of a resource and its counterpart, which then waits no longer.
+/// Notes the difference of a resource and its counterpart, and takes out the counterpart.
 fn note_compared<'a, 'b>(
     alloc: Global,
     found: &mut Vec<Difference<'a, 'b>>,

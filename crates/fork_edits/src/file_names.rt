@@ -11,11 +11,10 @@ ghost use Rattle.fork_edits.specs.FileNames.{is_plain_byte, safe_byte, place_tex
 ghost use Rattle.fork_edits.specs.View.{view_row};
 
 use crate::resources::Row;
-use crate::texts::digit_of;
 use byteorder::{BigEndian, ByteOrder};
 use fork_format::{RefName, kind_of};
 use itoa::Buffer;
-use mac_words::OsType;
+use mac_words::{OsType, upper_digit};
 use std::alloc::AllocError;
 
 /// The greatest number of bytes of a name that are shown in the name of a file.
@@ -32,8 +31,8 @@ fn is_plain(byte: u8) -> bool
 fn push_digits(text: &mut String, byte: u8) -> Result<(), AllocError>
     ensures { OnOk result (string_bytes text.new ≡ string_bytes text.old ++ hex_byte byte) }
 {
-    text.push(char::from(digit_of(byte / 16)))?;
-    text.push(char::from(digit_of(byte % 16)))?;
+    text.push(char::from(upper_digit(byte / 16)))?;
+    text.push(char::from(upper_digit(byte % 16)))?;
     Ok(())
 }
 

@@ -158,7 +158,7 @@ fn open<'b>(
     Ok(())
 }
 
-/// Adds a resource: behind those of its type, or in a group at the end where its type is new.
+/// Adds a resource: after those of its type, or in a group at the end where its type is new.
 fn add<'b>(
     alloc: Global,
     groups: &mut Vec<Group<'b>>,
@@ -199,7 +199,7 @@ fn set_in<'b>(
 }
 
 /// Sets the resource of a type and an ID: the first one is replaced in its place, and where there is none, the resource
-/// is added behind those of its type, or in a group at the end where its type is new.
+/// is added after those of its type, or in a group at the end where its type is new.
 ///
 /// *More Macintosh Toolbox*, chapter 1, "Resource Files".
 pub fn set_resource<'b>(

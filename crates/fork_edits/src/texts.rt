@@ -6,28 +6,20 @@ ghost use Rattle.std.specs.List.{flat_map, list_all};
 ghost use Rattle.std.specs.Fmt.{signed_decimal};
 ghost use Rattle.byteorder.specs.Endian.{big_number, big_bytes};
 ghost use Rattle.fork_format.specs.View.{view_name};
-ghost use Rattle.fork_edits.specs.Texts.{hex_digit, hex_byte, is_printable, is_clear, four_text, type_text, char_text};
+ghost use Rattle.fork_edits.specs.Texts.{hex_byte, is_printable, is_clear, four_text, type_text, char_text};
 ghost use Rattle.fork_edits.specs.Texts.{name_text};
 
 use byteorder::{BigEndian, ByteOrder};
 use fork_format::{RefName, kind_of};
 use itoa::Buffer;
-use mac_words::OsType;
+use mac_words::{OsType, upper_digit};
 use std::alloc::AllocError;
-
-/// Returns the hexadecimal digit of a number below 16, in upper case.
-pub(crate) fn digit_of(value: u8) -> u8
-    requires { value < 16 }
-    ensures { result ≡ hex_digit value }
-{
-    if value < 10 { b'0' + value } else { 55 + value }
-}
 
 /// Appends the two hexadecimal digits of a byte.
 pub(crate) fn push_hex(text: &mut Vec<u8>, byte: u8) -> Result<(), AllocError>
     ensures { OnOk result (text.new.items ≡ text.old.items ++ hex_byte byte) }
 {
-    text.extend_from_slice(&[digit_of(byte / 16), digit_of(byte % 16)])
+    text.extend_from_slice(&[upper_digit(byte / 16), upper_digit(byte % 16)])
 }
 
 /// Appends the hexadecimal digits of bytes.

@@ -52,7 +52,7 @@ fn spelled(digits: &[u8]) -> Option<[u8; 4]>
     Some([a, b, c, d])
 }
 
-/// Returns a text of no more than four bytes, with blanks behind it.
+/// Returns a text of no more than four bytes, with blanks after it.
 fn padded_text(text: &[u8]) -> [u8; 4]
     requires { length text.now ≤ 4 }
     ensures { result ≡ padded text.now }

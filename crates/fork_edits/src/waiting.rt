@@ -68,7 +68,7 @@ fn join<'b>(queue: &mut Queue<'b>, row: &Row<'b>) -> Result<(), AllocError>
     Ok(())
 }
 
-/// Lets a resource wait behind those of its type and ID.
+/// Puts a resource after those of its type and ID that wait.
 fn wait<'b>(alloc: Global, waiting: &mut Waiting<'b>, row: &Row<'b>) -> Result<(), AllocError>
     ensures { (rows : List RowValue) → AreWaiting waiting.old rows
         → OnOk result (AreWaiting waiting.new (rows ++ view_row row.now ∷ [])) }
@@ -80,7 +80,7 @@ fn wait<'b>(alloc: Global, waiting: &mut Waiting<'b>, row: &Row<'b>) -> Result<(
     Ok(())
 }
 
-/// Lets resources wait, in their order.
+/// Returns resources that wait, in their order.
 pub fn waiting_of<'b>(alloc: Global, rows: &[Row<'b>]) -> Result<Waiting<'b>, AllocError>
     ensures { IfOk result (λ waiting. AreWaiting waiting (map view_row rows.now)) }
 {

@@ -15,6 +15,7 @@ use Rattle.fork_format.proofs.Lying.{spells_again}
 use Rattle.fork_format.specs.Fork.{Spells}
 use Rattle.fork_format.specs.Canonical.{canon, clear}
 use Rattle.fork_format.proofs.Extending.{FitsByParts, fits-tells}
+use Rattle.fork_format.specs.Limits.{most_data}
 
 all_two : (xs ys : List Ref) → AllByRecursion IsRef xs → AllByRecursion IsRef ys → AllByRecursion IsRef (xs ++ ys)
 all_two [] ys p q = q
@@ -35,7 +36,7 @@ low_name n (Some text) others h = let both : (nat_le n 65534 ≡ true) × (all_w
 low_refs : (refs : List Ref) (d n : ℕ) → AllByRecursion IsRef refs
     → all_within 16777215 (starts d (map (λ r. length (datum r)) refs)) ≡ true
     → all_within 65534 (name_starts n refs) ≡ true
-    → length (flat_map datum refs) ≤ 134217728 → AreLow d n refs
+    → length (flat_map datum refs) ≤ most_data → AreLow d n refs
 low_refs [] d n all low names small = tt
 low_refs (r ∷ refs) d n all low names small =
     let first : IsRef r = all.0 in
@@ -118,7 +119,7 @@ can_spell c is h =
     let gs : List Group = c.groups in
     let p : FitsByParts gs = fits-tells c h in
     let names : names_offset gs ≤ 65535 = p.names_at in
-    let small : length (data_of gs) ≤ 134217728 = p.small in
+    let small : length (data_of gs) ≤ most_data = p.small in
     let refs : AllByRecursion IsRef (refs_of gs) = all_refs gs is.groups in
     let low : AreLow 0 0 (refs_of gs) = low_refs (refs_of gs) 0 0 refs p.data_starts p.names small in
     let n2 : length (types (refs_offset gs) gs) ≡ 8 * length gs = length-types (refs_offset gs) gs in

@@ -70,3 +70,25 @@ content_clear bytes =
 
 pub spelled_clear : (bytes : List ℕ) (c : Content) → Spells bytes c → clear c ≡ c
 spelled_clear bytes c spells = subst (λ d. clear d ≡ d) spells.content (content_clear bytes)
+
+-- what is clear once is clear
+
+ref_twice : (r : Ref) → clear_ref (clear_ref r) ≡ clear_ref r
+ref_twice r = ap (λ attrs. record r { attrs = attrs }) (kept_kept r.attrs)
+
+refs_twice : (refs : List Ref) → map clear_ref (map clear_ref refs) ≡ map clear_ref refs
+refs_twice [] = refl
+refs_twice (r ∷ refs) = ap (λ s. s ∷ map clear_ref (map clear_ref refs)) (ref_twice r)
+    ∙ ap (λ l. clear_ref r ∷ l) (refs_twice refs)
+
+groups_twice : (groups : List Group) → map clear_group (map clear_group groups) ≡ map clear_group groups
+groups_twice [] = refl
+groups_twice (g ∷ groups) =
+    ap (λ refs. record g { refs = refs } ∷ map clear_group (map clear_group groups)) (refs_twice g.refs)
+    ∙ ap (λ l. clear_group g ∷ l) (groups_twice groups)
+
+pub clear_clear : (c : Content) → clear (clear c) ≡ clear c
+clear_clear c =
+    ap (λ attrs. record { area = c.area; attrs = attrs; groups = map clear_group (map clear_group c.groups) })
+    (map_kept_kept c.attrs)
+    ∙ ap (λ groups. record { area = c.area; attrs = map_kept c.attrs; groups = groups }) (groups_twice c.groups)

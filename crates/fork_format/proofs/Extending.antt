@@ -13,6 +13,7 @@ use Rattle.fork_format.proofs.Groups.{flat_map-two}
 use Rattle.fork_format.specs.declared.fit.Extents.{Extents}
 use Rattle.fork_format.specs.declared.fit.Starts.{Starts}
 use Rattle.fork_format.proofs.Bools.{and_both}
+use Rattle.fork_format.specs.Limits.{most_data}
 
 -- what is behind a group has no end, so the whole has none
 refs_end-behind : (at : ℕ) (g : Group) (groups : List Group) → refs_end (at + 12 * length g.refs) groups ≡ None
@@ -120,14 +121,14 @@ pub record DataFit (s t : Starts) (refs : List Ref) : Type 0 where
   pub names_low : all_within 65534 (name_starts s.name refs) ≡ true
   pub datum : t.datum ≡ s.datum + length (flat_map datum refs)
   pub name : t.name ≡ s.name + length (flat_map name refs)
-  pub small : t.datum ≤ 134217728
+  pub small : t.datum ≤ most_data
 
 name_start-low : (n : ℕ) (o : Option (List ℕ)) (others : List ℕ)
     → all_within 65534 (name_start n o others) ≡ (is_name_low n o && all_within 65534 others)
 name_start-low n None others = refl
 name_start-low n (Some text) others = refl
 
-pub behind-tells : (s t : Starts) (refs : List Ref) → s.datum ≤ 134217728 → behind s refs ≡ Some t → DataFit s t refs
+pub behind-tells : (s t : Starts) (refs : List Ref) → s.datum ≤ most_data → behind s refs ≡ Some t → DataFit s t refs
 behind-tells s t [] small h = let same : s ≡ t = cc in
     let d : s.datum ≡ t.datum = ap (λ (u : Starts). u.datum) same in
     let n : s.name ≡ t.name = ap (λ (u : Starts). u.name) same in
@@ -135,11 +136,11 @@ behind-tells s t [] small h = let same : s ≡ t = cc in
 behind-tells s t (r ∷ refs) small h = cases (is_low s r) refl h (behind-tells (next s r) t refs)
   where
     cases : (b : Bool) → is_low s r ≡ b → cond b (behind (next s r) refs) None ≡ Some t
-        → ((next s r).datum ≤ 134217728 → behind (next s r) refs ≡ Some t → DataFit (next s r) t refs)
+        → ((next s r).datum ≤ most_data → behind (next s r) refs ≡ Some t → DataFit (next s r) t refs)
         → DataFit s t (r ∷ refs)
     cases true low h again =
         let both : ((nat_le s.datum 16777215 && is_name_low s.name r.name) ≡ true)
-        × (nat_le (s.datum + length (datum r)) 134217728 ≡ true) = and_parts _ _ low in
+        × (nat_le (s.datum + length (datum r)) most_data ≡ true) = and_parts _ _ low in
         let two : (nat_le s.datum 16777215 ≡ true) × (is_name_low s.name r.name ≡ true) = and_parts _ _ both.0 in
         let rest : DataFit (next s r) t refs = again (leb-true _ _ both.1) h in
         let d : length (flat_map datum (r ∷ refs)) ≡ length (datum r) + length (flat_map datum refs) =
@@ -159,7 +160,7 @@ behind-tells s t (r ∷ refs) small h = cases (is_low s r) refl h (behind-tells 
 
 pub behind-is : (s : Starts) (refs : List Ref) → all_within 16777215
     (starts s.datum (map (λ r. length (datum r)) refs)) ≡ true → all_within 65534 (name_starts s.name refs) ≡ true
-    → s.datum + length (flat_map datum refs) ≤ 134217728
+    → s.datum + length (flat_map datum refs) ≤ most_data
     → behind s refs ≡ Some (record {
       datum = s.datum + length (flat_map datum refs);
       name =
@@ -181,7 +182,7 @@ behind-is s (r ∷ refs) datas names small =
     let named : (is_name_low s.name r.name ≡ true) × (all_within 65534 (name_starts (s.name + length (name r)) refs)
     ≡ true) = and_parts _ _ (sym (name_start-low s.name r.name _) ∙ names) in
     let low : is_low s r ≡ true = and_both _ _ (and_both (nat_le s.datum 16777215) (is_name_low s.name r.name) both.0
-    named.0) (le-leb (s.datum + length (datum r)) 134217728 (omega arith)) in
+    named.0) (le-leb (s.datum + length (datum r)) most_data (omega arith)) in
     rw low (behind-is (next s r) refs both.1 named.1 (omega arith) ∙ same _ _ _ _ (omega arith) (omega arith))
   where
     same : (d d' n n' : ℕ) → d ≡ d' → n ≡ n' → Some (let x : Starts = record { datum = d; name = n } in
@@ -197,12 +198,12 @@ pub record FitsByParts (groups : List Group) : Type 0 where
   pub names_at : names_offset groups ≤ 65535
   pub names : all_within 65534 (name_starts 0 (refs_of groups)) ≡ true
   pub data_starts : all_within 16777215 (starts 0 (map (λ (r : Ref). length (datum r)) (refs_of groups))) ≡ true
-  pub small : length (data_of groups) ≤ 134217728
+  pub small : length (data_of groups) ≤ most_data
 
 pub fits-tells : (c : Content) → fits c ≡ true → FitsByParts c.groups
 fits-tells c h =
     let gs : List Group = c.groups in
-    let h7 : (_ ≡ true) × (nat_le (length (data_of gs)) 134217728 ≡ true) = and_parts _ _ h in
+    let h7 : (_ ≡ true) × (nat_le (length (data_of gs)) most_data ≡ true) = and_parts _ _ h in
     let h6 : (_ ≡ true) × (all_within 16777215 (data_starts (refs_of gs)) ≡ true) = and_parts _ _ h7.0 in
     let h5 : (_ ≡ true) × (all_within 65534 (name_starts 0 (refs_of gs)) ≡ true) = and_parts _ _ h6.0 in
     let h4 : (_ ≡ true) × (nat_le (names_offset gs) 65535 ≡ true) = and_parts _ _ h5.0 in
@@ -228,7 +229,7 @@ parts-fit c p =
     (and_both _ _ (and_both _ _ (and_both (list_all has_refs gs) (are_distinct (map (λ (g : Group). g.kind) gs))
     p.some p.different)
     (le-leb (length gs) 65535 p.few)) p.lists) (le-leb (names_offset gs) 65535 p.names_at)) p.names) p.data_starts)
-    (le-leb (length (data_of gs)) 134217728 p.small)
+    (le-leb (length (data_of gs)) most_data p.small)
 
 -- ends that are found tell what the parts take, and that the content fits
 pub fits-found : (c : Content) (end : ℕ) (t : Starts) → refs_end (refs_offset c.groups) c.groups ≡ Some end
@@ -239,7 +240,7 @@ fits-found c end t ends begins different =
     let d : DataFit no_starts t (refs_of c.groups) = behind-tells no_starts t (refs_of c.groups) (omega arith) begins in
     let e : end ≡ refs_offset c.groups + 12 * length (refs_of c.groups) = l.end in
     let low : end ≤ 65507 = l.low in
-    let small : t.datum ≤ 134217728 = d.small in
+    let small : t.datum ≤ most_data = d.small in
     let size : t.datum ≡ 0 + length (data_of c.groups) = d.datum in
     record {
       some = l.some;
@@ -262,7 +263,7 @@ extents-found e groups t ends begins data_len names_len short =
     let d : DataFit no_starts t (refs_of groups) = behind-tells no_starts t (refs_of groups) (omega arith) begins in
     let at : e.refs_end ≡ refs_offset groups + 12 * length (refs_of groups) = l.end in
     let low : e.refs_end ≤ 65507 = l.low in
-    let small : t.datum ≤ 134217728 = d.small in
+    let small : t.datum ≤ most_data = d.small in
     let size : t.datum ≡ 0 + length (data_of groups) = d.datum in
     let names : t.name ≡ 0 + length (names_of groups) = d.name in
     record {
@@ -309,19 +310,19 @@ refs_end-some c h =
 pub behind-some : (c : Content) → fits c ≡ true → IsSome (behind no_starts (refs_of c.groups))
 behind-some c h =
     let p : FitsByParts c.groups = fits-tells c h in
-    let small : length (data_of c.groups) ≤ 134217728 = p.small in
+    let small : length (data_of c.groups) ≤ most_data = p.small in
     ap is_some (behind-is no_starts (refs_of c.groups) p.data_starts p.names (omega arith))
 
 -- data that are small in all are short
-short_refs : (refs : List Ref) → length (flat_map datum refs) ≤ 134217728 → list_all is_short refs ≡ true
+short_refs : (refs : List Ref) → length (flat_map datum refs) ≤ most_data → list_all is_short refs ≡ true
 short_refs [] small = refl
 short_refs (r ∷ refs) small =
     let size : length (flat_map datum (r ∷ refs)) ≡ length (datum r) + length (flat_map datum refs) =
     length-append (datum r) (flat_map datum refs) in
-    and_both (is_short r) (list_all is_short refs) (le-leb (length r.datum) 134217728 (omega arith))
+    and_both (is_short r) (list_all is_short refs) (le-leb (length r.datum) most_data (omega arith))
     (short_refs refs (omega arith))
 
-short_groups : (groups : List Group) → length (flat_map datum (refs_of groups)) ≤ 134217728
+short_groups : (groups : List Group) → length (flat_map datum (refs_of groups)) ≤ most_data
     → list_all are_short groups ≡ true
 short_groups [] small = refl
 short_groups (g ∷ groups) small =

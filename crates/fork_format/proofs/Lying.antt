@@ -20,6 +20,7 @@ use Rattle.fork_format.proofs.Groups.{AreLowGroups, GroupStands, group_stands, f
 use Rattle.fork_format.proofs.Whole.{CanSpell, CanonStands, canon_stands, ListsStand, lists_stand, content_again}
 use Rattle.fork_format.specs.Canonical.{canon, refs_offset, names_offset, data_of, clear}
 use Rattle.fork_format.proofs.Bools.{and_both}
+use Rattle.fork_format.specs.Limits.{most_data}
 
 and_three : (a b d : Bool) → a ≡ true → b ≡ true → d ≡ true → (a && b && d) ≡ true
 and_three a b d p q r = and_both (a && b) d (and_both a b p q) r
@@ -165,7 +166,7 @@ fork_again c can =
     let refs : all_refs bytes ≡ length (refs_of gs) = lie.refs in
     let size : all_data bytes ≡ length (data_of gs) = lie.size in
     let names : names_offset gs ≤ 65535 = can.names in
-    let small : length (data_of gs) ≤ 134217728 = can.small in
+    let small : length (data_of gs) ≤ most_data = can.small in
     and_five (parts_fit bytes) (types_fit bytes) _ _ _
     (and_four (nat_le 16 (length bytes)) (nat_le (data_end bytes) (length bytes))
     (nat_le (map_end bytes) (length bytes)) (nat_le (map_start bytes + 30) (map_end bytes))

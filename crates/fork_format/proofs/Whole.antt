@@ -14,6 +14,7 @@ use Rattle.fork_format.proofs.Standing.{StandsAt, stands_whole, stands_first, st
 use Rattle.fork_format.proofs.Standing.{part-stands, stands_inside}
 use Rattle.fork_format.proofs.Groups.{AreLowGroups, groups_again, length-references}
 use Rattle.fork_format.proofs.Bools.{same_self, not_same}
+use Rattle.fork_format.specs.Limits.{most_data}
 
 pub filter-all : {A : Type 0} (p : A → Bool) (xs : List A) → list_all p xs ≡ true → filter p xs ≡ xs
 filter-all p [] h = refl
@@ -92,7 +93,7 @@ pub record CanSpell (c : Content) : Type 0 where
   pub different : are_distinct (map (λ (g : Group). g.kind) c.groups) ≡ true
   pub few : length c.groups ≤ 65535
   pub names : names_offset c.groups ≤ 65535
-  pub small : length (data_of c.groups) ≤ 134217728
+  pub small : length (data_of c.groups) ≤ most_data
   pub short : 28 + length (lists c.groups) < 2 ^ 32
 
 -- where the parts of the canonical fork stand
@@ -126,7 +127,7 @@ canon_stands c can =
     let h3 : StandsAt (x1 ++ x2 ++ x3) 0 bytes = stands_first (x1 ++ x2 ++ x3) x4 0 bytes s1 in
     let h2 : StandsAt (x1 ++ x2) 0 bytes = stands_first (x1 ++ x2) x3 0 bytes h3 in
     let start : data_start bytes ≡ 256 = number-stands 4 256 0 bytes (lit< tt) (stands_first x1 x2 0 bytes h2) in
-    let small : length d ≤ 134217728 = can.small in
+    let small : length d ≤ most_data = can.small in
     let middle : map_start bytes ≡ 256 + length d = number-stands 4 (256 + length d) 4 bytes (omega arith)
     (stands_second x1 x2 0 bytes h2) in
     let area_size : length c.area ≡ 240 = can.area in

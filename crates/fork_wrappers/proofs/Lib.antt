@@ -3,3 +3,4 @@ pub mod MadeHeaders
 pub mod Tests
 pub mod Walking
 pub mod Worked
+pub mod Damaged

@@ -1,4 +1,4 @@
-use Rattle.std.proofs.Common.{◌≡◌, ℕ, List, [], ◌∷◌, ◌++◌, replicate, take, drop, refl}
+use Rattle.std.proofs.Common.{◌≡◌, ℕ, List, [], ◌∷◌, ◌++◌, replicate, take, drop, set, refl}
 use Rattle.std.specs.Prelude.{Ok, Err}
 use Rattle.fork_format.proofs.Vectors.{hi_fork}
 use Rattle.fork_wrappers.specs.Checksum.{with_bits, checksum}
@@ -119,3 +119,20 @@ later : unwrapped (header ((109 ∷ 66 ∷ 73 ∷ 78 ∷ []) ++ replicate 16 0 +
     ≡ Err (wrap_fault.MacBinary mac_binary_fault.LaterVersion)
 unfolding with_bits
 later = refl
+
+-- what is none of MacBinary I: a control character in the name, no fork with bytes, and bytes after the padded forks; with a
+-- comment of 3 bytes these are the comment
+abbrev padded_first : List ℕ
+padded_first = first ++ replicate 125 0
+
+no_first : (wrapping_of (take 2 first ++ 13 ∷ drop 3 first) ≡ wrapping.Plain)
+    × (wrapping_of ((0 ∷ 1 ∷ 65 ∷ []) ++ replicate 125 0) ≡ wrapping.Plain)
+    × (wrapping_of padded_first ≡ wrapping.MacBinaryI)
+    × (wrapping_of (padded_first ++ 33 ∷ []) ≡ wrapping.Plain)
+    × (wrapping_of (take 100 first ++ 3 ∷ drop 101 padded_first ++ 72 ∷ 105 ∷ 33 ∷ []) ≡ wrapping.MacBinaryI)
+    × (wrapping_of (take 2 first ++ 128 ∷ drop 3 first) ≡ wrapping.MacBinaryI)
+no_first = (refl, refl, refl, refl, refl, refl)
+
+-- a fork with one byte changed, which is then no fork, is plain
+damaged : (wrapping_of (0 ∷ 1 ∷ drop 2 hi_fork) ≡ wrapping.Plain) × (wrapping_of (set hi_fork 1 32) ≡ wrapping.Plain)
+damaged = (refl, refl)

@@ -32,7 +32,7 @@ abbrev pub mac_binary : List ℕ → List ℕ → List ℕ → List ℕ
 mac_binary header contents fork =
     header ++ (contents ++ (replicate (padded (length contents) - length contents) 0 ++ fork))
 
--- A MacBinary header of 128 bytes tells the lengths of a data fork and of a resource fork, and no secondary header.
+-- A MacBinary header of 128 bytes gives the lengths of a data fork and of a resource fork, and no secondary header.
 pub record TellsForks (header contents fork : List ℕ) : Type 0 where
   pub size : length header ≡ 128
   pub data_told : data_length header ≡ length contents

@@ -7,8 +7,8 @@ use Rattle.fork_wrappers.specs.declared.wrapping.Wrapping.TheVariants as wrappin
 use Rattle.fork_wrappers.specs.declared.fault.WrapFault.{WrapFault}
 use Rattle.fork_wrappers.specs.declared.fault.WrapFault.TheVariants as fault
 
--- How a file wraps its resource fork, by how its bytes begin. Bytes that are a resource fork are plain, whatever else
--- they look like; so are bytes that begin as no wrapper does.
+-- How a file wraps its resource fork, by how its bytes begin, and for MacBinary I by how many they are too. Bytes that are
+-- a resource fork are plain, whatever else they look like; so are bytes that are of no wrapper, as a damaged fork.
 abbrev pub wrapping_of : List ℕ → Wrapping
 wrapping_of bytes =
     if is_fork bytes then wrapping.Plain

@@ -1,72 +1,51 @@
 //! How a wrapper is damaged.
 
-use std::fmt;
+use thiserror::Error;
 
 /// How an AppleSingle file, or the header file of AppleDouble, is damaged.
-#[derive(Clone, Copy, Debug, PartialEq, Eq)]
+#[derive(Clone, Copy, Debug, PartialEq, Eq, Error)]
 pub enum EntriesFault {
     /// There are fewer than 26 bytes.
+    #[error("the header is cut off")]
     HeaderCutOff,
     /// The version is neither 1 nor 2.
+    #[error("the version is unknown")]
     UnknownVersion,
     /// The list of entries goes past the end of the file.
+    #[error("the list of entries is cut off")]
     EntriesCutOff,
     /// What an entry names goes past the end of the file.
+    #[error("an entry lies outside the file")]
     EntryOutside,
     /// More than one entry is of the resource fork.
+    #[error("there is more than one resource fork")]
     SeveralForks,
 }
 
-impl fmt::Display for EntriesFault {
-    fn fmt<W: fmt::Write>(&self, f: &mut fmt::Formatter<W>) -> fmt::Result {
-        f.write_str(match self {
-            EntriesFault::HeaderCutOff => "the header is cut off",
-            EntriesFault::UnknownVersion => "the version is unknown",
-            EntriesFault::EntriesCutOff => "the list of entries is cut off",
-            EntriesFault::EntryOutside => "an entry lies outside the file",
-            EntriesFault::SeveralForks => "there is more than one resource fork",
-        })
-    }
-}
-
 /// How a MacBinary file is damaged.
-#[derive(Clone, Copy, Debug, PartialEq, Eq)]
+#[derive(Clone, Copy, Debug, PartialEq, Eq, Error)]
 pub enum MacBinaryFault {
     /// The checksum in the header is not that of the header.
+    #[error("the checksum is wrong")]
     WrongChecksum,
-    /// A reader of a later version than MacBinary III is asked for.
+    /// The header says that a reader of a later version than MacBinary III is needed.
+    #[error("a later version is needed")]
     LaterVersion,
     /// The data fork goes past the end of the file.
+    #[error("the data fork is cut off")]
     DataForkOutside,
     /// The resource fork goes past the end of the file.
+    #[error("the resource fork is cut off")]
     ResourceForkOutside,
 }
 
-impl fmt::Display for MacBinaryFault {
-    fn fmt<W: fmt::Write>(&self, f: &mut fmt::Formatter<W>) -> fmt::Result {
-        f.write_str(match self {
-            MacBinaryFault::WrongChecksum => "the checksum is wrong",
-            MacBinaryFault::LaterVersion => "a later version is needed",
-            MacBinaryFault::DataForkOutside => "the data fork is cut off",
-            MacBinaryFault::ResourceForkOutside => "the resource fork is cut off",
-        })
-    }
-}
-
 /// Which wrapper is damaged, and how.
-#[derive(Clone, Copy, Debug, PartialEq, Eq)]
+#[derive(Clone, Copy, Debug, PartialEq, Eq, Error)]
 pub enum WrapFault {
+    #[error("AppleSingle: {0}")]
     AppleSingle(EntriesFault),
+    #[error("AppleDouble: {0}")]
     AppleDouble(EntriesFault),
+    #[error("MacBinary: {0}")]
     MacBinary(MacBinaryFault),
-}
-
-impl fmt::Display for WrapFault {
-    fn fmt<W: fmt::Write>(&self, f: &mut fmt::Formatter<W>) -> fmt::Result {
-        match self {
-            WrapFault::AppleSingle(why) => write!(f, "AppleSingle: {why}"),
-            WrapFault::AppleDouble(why) => write!(f, "AppleDouble: {why}"),
-            WrapFault::MacBinary(why) => write!(f, "MacBinary: {why}"),
-        }
-    }
 }

@@ -12,7 +12,7 @@ use crate::mac_binary::{
 use crate::wrapping::{Unwrapped, Wrapping};
 use fork_format::is_resource_fork;
 
-/// Returns how a file wraps its resource fork, by how its bytes begin.
+/// Returns how a file wraps its resource fork.
 pub fn wrapping(bytes: &[u8]) -> Wrapping
     ensures wrapping { result ≡ wrapping_of bytes.now }
     ensures header { IsTrue (is_mac_binary result) → 128 ≤ length bytes.now }

@@ -12,5 +12,8 @@ mod wrapping;
 
 pub use fault::{EntriesFault, MacBinaryFault, WrapFault};
 pub use finding::unwrap;
-pub use laws::{a_fork_among_entries_is_found, a_fork_behind_a_header_is_found};
+pub use laws::{
+    a_damaged_fork_is_no_old_mac_binary, a_fork_among_entries_is_found,
+    a_fork_behind_a_header_is_found,
+};
 pub use wrapping::{Unwrapped, Wrapping};

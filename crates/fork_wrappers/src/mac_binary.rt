@@ -3,7 +3,8 @@
 ghost use Rattle.std.specs.Prelude.{◌≡◌, ◌+◌, ◌*◌, ◌≤◌, ◌<◌, ◌^◌, ◌==◌, length, IfOk, IfErr, Ok, Err, IsTrue};
 ghost use Rattle.std.specs.List.{list_all};
 ghost use Rattle.fork_wrappers.specs.MacBinary.{is_header, is_first, is_second, is_third, padded, data_place};
-ghost use Rattle.fork_wrappers.specs.MacBinary.{fork_place, fork_behind, checked_fork};
+ghost use Rattle.fork_wrappers.specs.MacBinary.{fork_place, fork_behind, checked_fork, is_old_header, is_printable, name};
+ghost use Rattle.fork_wrappers.specs.MacBinary.{greatest_length};
 
 use crate::checksum::checksum_of;
 use crate::fault::MacBinaryFault;
@@ -42,14 +43,32 @@ fn are_zero(bytes: &[u8]) -> bool
     bytes.iter().all(|byte| *byte == 0)
 }
 
-/// Returns whether bytes begin with a header of MacBinary I.
-pub fn is_first_file(bytes: &[u8]) -> bool
-    ensures { result ≡ is_first bytes.now }
+/// Returns whether bytes begin with a header that may be one of MacBinary I.
+fn has_old_header(bytes: &[u8]) -> bool
+    ensures old { result ≡ is_old_header bytes.now }
+    ensures header { IsTrue result → IsTrue (is_header bytes.now) }
 {
     begins_a_header(bytes)
         && are_zero(part_of(bytes, 101, 25))
         && word(bytes, 83) <= 0x7FFFFF
         && word(bytes, 87) <= 0x7FFFFF
+}
+
+/// Returns whether a character can be printed.
+fn can_print(character: u8) -> bool
+    ensures { result ≡ is_printable character }
+{
+    32 <= character && character != 127
+}
+
+/// Returns whether the name in a header can be printed.
+fn has_printable_name(bytes: &[u8]) -> bool
+    requires { IsTrue (is_header bytes.now) }
+    ensures { result ≡ list_all is_printable (name bytes.now) }
+{
+    part_of(bytes, 2, byte(bytes, 1))
+        .iter()
+        .all(|character| can_print(*character))
 }
 
 /// Returns a length rounded up to a multiple of 128.
@@ -61,7 +80,29 @@ fn padded_of(len: usize) -> usize
     (len + 127) / 128 * 128
 }
 
-/// Returns the resource fork behind a MacBinary header.
+/// Returns the greatest length of a file with a MacBinary header.
+fn greatest_length_of(bytes: &[u8]) -> usize
+    requires { IsTrue (is_header bytes.now) }
+    ensures { result ≡ greatest_length bytes.now }
+{
+    128 + padded_of(half(bytes, 120))
+        + padded_of(word(bytes, 83))
+        + padded_of(word(bytes, 87))
+        + padded_of(half(bytes, 99))
+}
+
+/// Returns whether bytes are a file of MacBinary I.
+pub fn is_first_file(bytes: &[u8]) -> bool
+    ensures first { result ≡ is_first bytes.now }
+    ensures header { IsTrue result → 128 ≤ length bytes.now }
+{
+    has_old_header(bytes)
+        && has_printable_name(bytes)
+        && 0 < word(bytes, 83) + word(bytes, 87)
+        && bytes.len() <= greatest_length_of(bytes)
+}
+
+/// Returns the resource fork after a MacBinary header.
 pub fn fork_behind_of<'b>(bytes: &'b [u8]) -> Result<&'b [u8], MacBinaryFault>
     requires { 128 ≤ length bytes.now }
     ensures fork { IfOk result (λ fork. fork_behind bytes.now ≡ Ok fork.now) }
@@ -83,7 +124,7 @@ pub fn fork_behind_of<'b>(bytes: &'b [u8]) -> Result<&'b [u8], MacBinaryFault>
     Ok(part_of(bytes, fork_place, fork_len))
 }
 
-/// Returns the resource fork behind a header of MacBinary II or III.
+/// Returns the resource fork after a header of MacBinary II or III.
 pub fn checked_fork_of<'b>(bytes: &'b [u8]) -> Result<&'b [u8], MacBinaryFault>
     requires { 128 ≤ length bytes.now }
     ensures fork { IfOk result (λ fork. checked_fork bytes.now ≡ Ok fork.now) }

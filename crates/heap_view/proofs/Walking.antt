@@ -57,7 +57,7 @@ spot-end (c ∷ above) a =
     (let z : sizes (c ∷ above) - size c ≡ sizes above = omega arith in z)
     ∙ ap (option_map (raised c)) (spot-end above a.1)
 
--- What is told at a place is the lowest block that is still to be read, and the walk goes on behind it.
+-- What is reported at a place is the lowest block that is still to be read, and the walk goes on above it.
 pub record Stepped (zone : List Block) (place : ℕ) (read : List Seen) (b : Seen) : Type 0 where
   pub fits : place + seen_size b ≤ sizes zone
   pub more : 0 < seen_size b

@@ -123,10 +123,10 @@ svg_style = codes "<style>text{fill:#222}.b{fill:#fff}.f{fill:#f4f4f4}.n{fill:#f
 unfoldable pub svg_legend : List ℕ
 svg_legend = codes "<rect class=\"c f\" x=\"12\" y=\"118\" width=\"16\" height=\"12\"/><text x=\"34\" y=\"128\">free</text><rect class=\"c n\" x=\"120\" y=\"118\" width=\"16\" height=\"12\"/><text x=\"142\" y=\"128\">nonrelocatable</text><rect class=\"c m\" x=\"290\" y=\"118\" width=\"16\" height=\"12\"/><text x=\"312\" y=\"128\">master pointers</text><rect class=\"c r\" x=\"470\" y=\"118\" width=\"16\" height=\"12\"/><text x=\"492\" y=\"128\">relocatable</text><rect class=\"c r l\" x=\"630\" y=\"118\" width=\"16\" height=\"12\"/><text x=\"652\" y=\"128\">locked</text><rect class=\"c r p\" x=\"760\" y=\"118\" width=\"16\" height=\"12\"/><text x=\"782\" y=\"128\">purgeable</text>\n"
 
--- The title: how large the zone is, and the line of the transcript that it stands behind.
+-- The title: how large the zone is, and the step after which it is shown.
 abbrev pub svg_title : ℕ → List ℕ → List ℕ
-svg_title size behind = codes "<text x=\"12\" y=\"18\" font-size=\"13\">zone of " ++ decimal size ++ codes " bytes behind "
-    ++ escaped behind ++ codes "</text>\n"
+svg_title size step = codes "<text x=\"12\" y=\"18\" font-size=\"13\">zone of " ++ decimal size ++ codes " bytes after "
+    ++ escaped step ++ codes "</text>\n"
 
 -- The height of a picture with this many blocks.
 abbrev pub svg_height : ℕ → ℕ
@@ -137,11 +137,11 @@ abbrev pub line_sizes : List Line → ℕ
 line_sizes [] = 0
 line_sizes (l ∷ lines) = l.size + line_sizes lines
 
--- The picture of a zone behind a line of its transcript, of this height and of this many bytes.
+-- The picture of a zone after a step, of this height and of this many bytes.
 unfoldable pub zone_svg_by : ℕ → ℕ → List Line → List ℕ → List ℕ
-zone_svg_by height size lines behind = svg_opened 972 height ++ svg_style ++ svg_title size behind ++ strip size lines
+zone_svg_by height size lines step = svg_opened 972 height ++ svg_style ++ svg_title size step ++ strip size lines
     ++ scale size ++ svg_legend ++ cells 0 lines ++ codes "</svg>\n"
 
--- The picture of a zone behind a line of its transcript.
+-- The picture of a zone after a step.
 abbrev pub zone_svg : List Line → List ℕ → List ℕ
-zone_svg lines behind = zone_svg_by (svg_height (length lines)) (line_sizes lines) lines behind
+zone_svg lines step = zone_svg_by (svg_height (length lines)) (line_sizes lines) lines step

@@ -18,7 +18,7 @@ abbrev pub between : Style → List ℕ
 between style.Tabs = codes "\t"
 between (style.Columns names) = codes " "
 
--- A field with blanks behind it, and with blanks before it, so that columns of this many bytes line up.
+-- A field with blanks after it, and with blanks before it, so that columns of this many bytes line up.
 abbrev pub left : Style → ℕ → List ℕ → List ℕ
 left style.Tabs width field = field
 left (style.Columns names) width field = field ++ replicate (width - length field) 32
@@ -117,16 +117,16 @@ line_text s l = opened s (codes "block") ++ place_fields s l ++ between s ++ sta
 abbrev pub lines_text : Style → List Line → List ℕ
 lines_text s lines = flat_map (line_text s) lines
 
--- The line above columns: what stands before the title of the column of names, and behind it.
+-- The line above columns: what stands before the title of the column of names, and after it.
 unfoldable pub head_before : List ℕ
 head_before = codes "   offset      size what              logical "
 
-unfoldable pub head_behind : List ℕ
-head_behind = codes " locked purgeable type          ID file\n"
+unfoldable pub head_after : List ℕ
+head_after = codes " locked purgeable type          ID file\n"
 
 abbrev pub head_text : Style → List ℕ
 head_text style.Tabs = []
-head_text (style.Columns names) = head_before ++ left (style.Columns names) names (codes "name") ++ head_behind
+head_text (style.Columns names) = head_before ++ left (style.Columns names) names (codes "name") ++ head_after
 
 -- The greatest length of the names of these blocks, and the width of a column that has the title `name` as well.
 abbrev pub longest : List Line → ℕ

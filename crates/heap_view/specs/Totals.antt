@@ -111,16 +111,16 @@ abbrev pub totals_end : Style → List ℕ
 totals_end style.Tabs = []
 totals_end (style.Columns names) = codes "\n"
 
--- The blocks of a zone, with titles; its totals; and the line of the transcript that it stands behind.
+-- The blocks of a zone, with titles; its totals; and the line that says after which step it is shown.
 abbrev pub blocks_text : Style → List Line → List ℕ
 blocks_text s lines = head_text s ++ lines_text s lines
 
 abbrev pub totals_text : Style → List Line → Largest → List ℕ
 totals_text s lines l = totals_head s ++ kinds_text s lines ++ marks_text s lines ++ largest_text s l ++ totals_end s
 
-abbrev pub behind_text : Style → List ℕ → List ℕ
-behind_text s behind = codes "behind" ++ between s ++ behind ++ codes "\n"
+abbrev pub after_text : Style → List ℕ → List ℕ
+after_text s step = codes "after" ++ between s ++ step ++ codes "\n"
 
 -- A zone as it is written.
 abbrev pub zone_text : Style → List Line → Largest → List ℕ → List ℕ
-zone_text s lines l behind = blocks_text s lines ++ totals_text s lines l ++ behind_text s behind
+zone_text s lines l step = blocks_text s lines ++ totals_text s lines l ++ after_text s step

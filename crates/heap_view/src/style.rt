@@ -68,7 +68,7 @@ pub fn push_opened(text: &mut Vec<u8>, style: Style, word: &[u8]) -> Result<(), 
     }
 }
 
-/// Appends a field, and in a column the blanks behind it.
+/// Appends a field, and in a column the blanks after it.
 pub fn push_left(
     text: &mut Vec<u8>,
     style: Style,

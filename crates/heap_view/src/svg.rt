@@ -182,13 +182,13 @@ fn push_cells(alloc: Global, text: &mut Vec<u8>, lines: &[BlockLine<'_>]) -> Res
 }
 
 /// Appends the title of a picture.
-fn push_title(text: &mut Vec<u8>, size: u128, behind: &[u8]) -> Result<(), AllocError>
-    ensures { OnOk result (text.new.items ≡ text.old.items ++ svg_title size behind.now) }
+fn push_title(text: &mut Vec<u8>, size: u128, step: &[u8]) -> Result<(), AllocError>
+    ensures { OnOk result (text.new.items ≡ text.old.items ++ svg_title size step.now) }
 {
     put(text, b"<text x=\"12\" y=\"18\" font-size=\"13\">zone of ")?;
     push_decimal(text, size)?;
-    put(text, b" bytes behind ")?;
-    push_escaped(text, behind)?;
+    put(text, b" bytes after ")?;
+    push_escaped(text, step)?;
     put(text, b"</text>\n")?;
     Ok(())
 }
@@ -200,22 +200,22 @@ fn height_of(lines: &[BlockLine<'_>]) -> u128
     162 + 76 * ((lines.len() as u128 + 5) / 6)
 }
 
-/// Appends the picture of a zone behind a line of its transcript, of this height and of `size` bytes.
+/// Appends the picture of a zone after a step, of this height and of `size` bytes.
 fn write_svg_by(
     alloc: Global,
     text: &mut Vec<u8>,
     height: u128,
     size: u128,
     lines: &[BlockLine<'_>],
-    behind: &[u8],
+    step: &[u8],
 ) -> Result<(), AllocError>
     requires { size < 2 ^ 96 }
     ensures { OnOk result (text.new.items
-        ≡ text.old.items ++ zone_svg_by height size (map view_line lines.now) behind.now) }
+        ≡ text.old.items ++ zone_svg_by height size (map view_line lines.now) step.now) }
 {
     push_svg_opened(text, 972, height)?;
     put(text, svg_style())?;
-    push_title(text, size, behind)?;
+    push_title(text, size, step)?;
     push_strip(text, size, lines)?;
     push_scale(text, size)?;
     put(text, svg_legend())?;
@@ -224,16 +224,16 @@ fn write_svg_by(
     Ok(())
 }
 
-/// Appends the picture of a zone behind a line of its transcript.
+/// Appends the picture of a zone after a step.
 pub fn write_svg(
     alloc: Global,
     text: &mut Vec<u8>,
     lines: &[BlockLine<'_>],
-    behind: &[u8],
+    step: &[u8],
 ) -> Result<(), AllocError>
-    ensures { OnOk result (text.new.items ≡ text.old.items ++ zone_svg (map view_line lines.now) behind.now) }
+    ensures { OnOk result (text.new.items ≡ text.old.items ++ zone_svg (map view_line lines.now) step.now) }
 {
     let height = height_of(lines);
     let size = line_sizes(lines);
-    write_svg_by(alloc, text, height, size, lines, behind)
+    write_svg_by(alloc, text, height, size, lines, step)
 }

@@ -7,7 +7,7 @@ ghost use Rattle.byteorder.specs.Endian.{big_bytes};
 ghost use Rattle.heap_view.specs.Text.{shape_text, logical_text, is_locked, is_purgeable, marked, name_text};
 ghost use Rattle.heap_view.specs.Text.{is_plain, type_text, left, right};
 ghost use Rattle.heap_view.specs.Text.{place_fields, state_fields, owner_fields, line_text, lines_text, head_text};
-ghost use Rattle.heap_view.specs.Text.{head_before, head_behind, widest};
+ghost use Rattle.heap_view.specs.Text.{head_before, head_after, widest};
 ghost use Rattle.heap_view.specs.View.{view_line};
 
 use crate::line::{BlockLine, Owner, Shape};
@@ -250,9 +250,9 @@ fn head_before() -> &'static [u8]
     b"   offset      size what              logical "
 }
 
-/// Returns the titles of the columns behind that of names.
-fn head_behind() -> &'static [u8]
-    ensures { result.now ≡ head_behind }
+/// Returns the titles of the columns after that of names.
+fn head_after() -> &'static [u8]
+    ensures { result.now ≡ head_after }
 {
     b" locked purgeable type          ID file\n"
 }
@@ -266,13 +266,13 @@ pub fn push_head(text: &mut Vec<u8>, style: Style) -> Result<(), AllocError>
         Style::Columns(names) => {
             put(text, head_before())?;
             push_left(text, style, names, b"name")?;
-            put(text, head_behind())?;
+            put(text, head_after())?;
             Ok(())
         }
     }
 }
 
-/// Returns the width in bytes that the column of names wants.
+/// Returns the width in bytes that the column of names needs.
 pub fn widest(lines: &[BlockLine<'_>]) -> usize
     ensures { result ≡ widest (map view_line lines.now) }
 {

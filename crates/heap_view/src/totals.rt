@@ -9,7 +9,7 @@ ghost use Rattle.heap_view.specs.Inner.{in_run, could_be_free};
 ghost use Rattle.heap_view.specs.Line.{seen_sizes};
 ghost use Rattle.heap_view.specs.Totals.{in_class, counted, sized, largest_purged, largest_of, class_text, total_text};
 ghost use Rattle.heap_view.specs.Totals.{kinds_text, marks_text, largest_line, largest_text, totals_head, totals_end};
-ghost use Rattle.heap_view.specs.Totals.{blocks_text, totals_text, behind_text, zone_text};
+ghost use Rattle.heap_view.specs.Totals.{blocks_text, totals_text, after_text, zone_text};
 ghost use Rattle.heap_view.specs.View.{view_line};
 
 use crate::line::{BlockLine, Shape};
@@ -18,7 +18,7 @@ use crate::text::{is_locked, is_purgeable, push_head, push_lines};
 use block_store::{BlockStore, Seen, size_of_seen};
 use std::alloc::{AllocError, Global};
 
-/// A class of blocks, of which a total is told.
+/// A class of blocks that has a total of its own.
 #[derive(Clone, Copy, Debug, PartialEq, Eq)]
 pub enum Class {
     Free,
@@ -274,31 +274,31 @@ fn push_totals(
     Ok(())
 }
 
-/// Appends the line of the transcript that a zone stands behind.
-fn push_behind(text: &mut Vec<u8>, style: Style, behind: &[u8]) -> Result<(), AllocError>
-    ensures { OnOk result (text.new.items ≡ text.old.items ++ behind_text style behind.now) }
+/// Appends the line that says after which step a zone is shown.
+fn push_after(text: &mut Vec<u8>, style: Style, step: &[u8]) -> Result<(), AllocError>
+    ensures { OnOk result (text.new.items ≡ text.old.items ++ after_text style step.now) }
 {
-    put(text, b"behind")?;
+    put(text, b"after")?;
     push_between(text, style)?;
-    put(text, behind)?;
+    put(text, step)?;
     put(text, b"\n")?;
     Ok(())
 }
 
-/// Appends a zone: its blocks, its totals, and the line of the transcript that it stands behind.
+/// Appends a zone: its blocks, its totals, and the line that says after which step it is shown.
 pub fn write_zone(
     alloc: Global,
     text: &mut Vec<u8>,
     style: Style,
     lines: &[BlockLine<'_>],
     largest: Largest,
-    behind: &[u8],
+    step: &[u8],
 ) -> Result<(), AllocError>
     ensures { OnOk result (text.new.items
-        ≡ text.old.items ++ zone_text style (map view_line lines.now) largest behind.now) }
+        ≡ text.old.items ++ zone_text style (map view_line lines.now) largest step.now) }
 {
     push_blocks(alloc, text, style, lines)?;
     push_totals(text, style, lines, largest)?;
-    push_behind(text, style, behind)?;
+    push_after(text, style, step)?;
     Ok(())
 }

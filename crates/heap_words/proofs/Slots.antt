@@ -1,5 +1,6 @@
 -- A slot and its number. For callers.
-use Rattle.std.proofs.Common.{◌≡◌, inl, inr, refl, ap, arith, true, false, None, Some}
+use Rattle.std.proofs.Common.{◌≡◌, ℕ, ◌+◌, ◌*◌, ◌%◌, inl, inr, refl, ap, arith, Bool, true, false, Option, None, Some}
+use Rattle.std.specs.Prelude.{unwrap_or}
 use Rattle.heap_words.specs.Slots.{slot_number, IsSlotWord, IsSlotNumber}
 use Rattle.heap_words.specs.declared.slot.SlotWord.{SlotWord}
 use Rattle.heap_words.specs.declared.slot.SlotWord.TheVariants.{Block, Empty, Unused}
@@ -11,6 +12,23 @@ slot_reads_as (Empty true) h = inr (inr (inl refl))
 slot_reads_as (Empty false) h = inr (inl refl)
 slot_reads_as (Unused None) h = inr (inr (inr refl))
 slot_reads_as (Unused (Some next)) h = inr (inr (inr (omega arith)))
+
+-- the number of the slot of an empty handle
+pub empty_number : (resource : Bool) → slot_number (Empty resource) % 16 ≡ 2
+empty_number true = refl
+empty_number false = refl
+
+-- the number of an unused slot, 0 for no next one
+pub unused_number : (next : Option ℕ) → slot_number (Unused next) ≡ 16 * unwrap_or next 0 + 1
+unused_number None = refl
+unused_number (Some next) = refl
+
+-- a number that leaves 1 is that of an unused slot
+pub unused_only : (s : SlotWord) → IsSlotWord s → slot_number s % 16 ≡ 1
+    → ((next : Option ℕ) → s ≡ Unused next → ⊥) → ⊥
+unused_only (Block at) h e n = omega (arith, h.0, e)
+unused_only (Empty resource) h e n = omega (arith, empty_number resource, e)
+unused_only (Unused next) h e n = n next refl
 
 -- a slot is told by its number
 pub same_slot : (s t : SlotWord) → IsSlotWord s → IsSlotWord t → slot_number s ≡ slot_number t → s ≡ t

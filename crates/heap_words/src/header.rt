@@ -11,6 +11,15 @@ use raw_region::Part;
 /// The number of bytes of a header.
 pub const HEADER: u32 = 16;
 
+/// The flag of a locked block in a header.
+pub const LOCKED: u32 = 128;
+
+/// The flag of a purgeable block in a header.
+pub const PURGEABLE: u32 = 64;
+
+/// The flag of a resource's block in a header.
+pub const RESOURCE: u32 = 32;
+
 /// The kind of a block, as its header says.
 #[derive(Clone, Copy, Debug, PartialEq, Eq, Drop)]
 pub enum Tag {
@@ -35,6 +44,7 @@ pub struct Header {
     pub logical: u32,
     /// The place of the slot of a relocatable block, or 0.
     pub slot: u32,
+    /// The sum of the flags of a relocatable block (`LOCKED`, `PURGEABLE`, `RESOURCE`), or 0.
     pub flags: u32,
 }
 

@@ -8,7 +8,7 @@ mod laws;
 mod slot;
 mod word;
 
-pub use header::{HEADER, Header, Tag, read_header, write_header};
+pub use header::{HEADER, Header, LOCKED, PURGEABLE, RESOURCE, Tag, read_header, write_header};
 pub use laws::{header_read_again, slot_read_again};
-pub use slot::{SlotWord, read_slot, write_slot};
+pub use slot::{EMPTY, EMPTY_RESOURCE, SlotWord, read_slot, write_slot};
 pub use word::{UNIT, read_word, write_word};

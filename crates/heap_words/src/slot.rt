@@ -7,11 +7,11 @@ ghost use Rattle.heap_words.specs.Words.{word, word_at};
 use crate::word::{UNIT, read_word, write_word};
 use raw_region::Part;
 
-// The word of the slot of an empty handle.
-const EMPTY: u32 = 2;
+/// The word of the slot of an empty handle.
+pub const EMPTY: u32 = 2;
 
-// The word of the slot of a resource's empty handle.
-const EMPTY_RESOURCE: u32 = 18;
+/// The word of the slot of a resource's empty handle.
+pub const EMPTY_RESOURCE: u32 = 18;
 
 // The word of an unused slot that no other unused slot follows.
 const LAST_UNUSED: u32 = 1;

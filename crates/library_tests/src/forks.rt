@@ -1,9 +1,9 @@
-//! Forks that are truncated or damaged, and forks of many types.
+//! Forks that are truncated or damaged, forks of many types, and contents of many references.
 
 ghost use Rattle.std.specs.Prelude.{◌<◌};
 
-use fork_format::{ForkFault, Group, read_fork, write_fork};
-use mac_words::OsType;
+use fork_format::{Content, ForkFault, Group, Ref, WriteFault, fits, read_fork, write_fork};
+use mac_words::{Attrs, OsType};
 use std::alloc::{AllocError, Global};
 use std::process::Abort;
 use std::test::Fail;
@@ -156,5 +156,45 @@ fn types_read(alloc: Global, kinds: u32) -> Result<(usize, bool), Fail>
 fn types_are_read_in_order_however_many(rt: HostRuntime) -> Result<(), Fail> {
     assert_eq!(rt; types_read(rt.alloc(), 65_535)?, (65_535, true));
     assert_eq!(rt; types_read(rt.alloc(), 2)?, (2, true));
+    Ok(())
+}
+
+/// Returns a content of one type with `count` references, whose data have no bytes, and which have no names.
+fn content_of(alloc: Global, count: i16) -> Result<Content<'static>, AllocError> {
+    let mut refs = Vec::new(alloc);
+    for id in 0..count {
+        refs.push(Ref {
+            id,
+            name: None,
+            attrs: Attrs(0),
+            datum: b"",
+        })?;
+    }
+    let group = Group {
+        ty: OsType(*b"TEXT"),
+        refs,
+    };
+    Ok(Content {
+        area: [0; 240],
+        attrs: 0,
+        groups: vec![in alloc; group]?,
+    })
+}
+
+#[test]
+fn one_type_has_5458_references_at_most(rt: HostRuntime) -> Result<(), Fail> {
+    // The map begins past the header, the area and the data, which have a length word each; its bytes 26 and 27 are the
+    // offset of the name list.
+    const NAME_LIST: usize = 256 + 4 * 5_458 + 26;
+    let most = content_of(rt.alloc(), 5_458)?;
+    assert!(rt; fits(&most));
+    let fork = write_fork(rt.alloc(), &most)?;
+    assert_eq!(rt;
+        fork.get(NAME_LIST..NAME_LIST + 2),
+        Some(b"\xff\xfe".as_slice())
+    );
+    let more = content_of(rt.alloc(), 5_459)?;
+    assert!(rt; !fits(&more));
+    assert!(rt; write_fork(rt.alloc(), &more) == Err(WriteFault::TooLarge));
     Ok(())
 }

@@ -88,7 +88,7 @@ fn what_is_not_there_goes_before_what_is_busy(rt: HostRuntime) -> Result<(), Fai
         (Call::SetBusy(0, true), Answer::Done),
         (Call::SetBusy(1, true), Answer::Done),
         (Call::SetBusy(2, true), Answer::Done),
-        // The name is unbound, and the name is bound to a pointer where a handle is wanted.
+        // The name is unbound, and the name is bound to a pointer where the call takes a handle.
         (Call::GetHandleSize(None), NIL),
         (Call::GetHandleSize(C), WRONG),
         // B is an empty handle and A is locked, but the error of a busy handle comes first.

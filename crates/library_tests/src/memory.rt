@@ -1,6 +1,6 @@
 //! A fork, and the resource map of an open file, report that the host is out of memory.
 
-ghost use Rattle.std.specs.Prelude.{◌≡◌, ◌≤◌, length};
+ghost use Rattle.std.specs.Prelude.{◌≡◌, ◌≤◌};
 
 use crate::forks::{NOTE, joined};
 use arrayvec::ArrayVec;
@@ -12,7 +12,7 @@ use std::process::Abort;
 
 /// This test is run with each allocation refused in turn.
 #[test]
-fn a_fork_tells_a_want_of_memory(rt: HostRuntime) {
+fn a_fork_reports_that_memory_is_full(rt: HostRuntime) {
     let alloc = rt.alloc();
     let Ok(bytes) = joined(alloc, NOTE) else {
         return;
@@ -48,7 +48,7 @@ fn stored(rt: &impl Abort, alloc: Global, file: &ResFile) -> Result<usize, Alloc
 
 /// This test is run with each allocation refused in turn.
 #[test]
-fn a_map_tells_a_want_of_memory(rt: HostRuntime) {
+fn a_map_reports_that_memory_is_full(rt: HostRuntime) {
     let alloc = rt.alloc();
     let Ok(mut file) = opened(&rt, alloc) else {
         return;

@@ -1,4 +1,4 @@
-//! A sink that keeps what it is told, and can refuse an offer.
+//! A sink that keeps the blocks that are reported to it, and can refuse an offer.
 
 ghost use Rattle.std.specs.Prelude.{◌≡◌, ◌≤◌, length};
 ghost use Rattle.heap_calls.specs.Gone.{IsIdle};
@@ -32,8 +32,8 @@ impl Recorder {
         }
     }
 
-    /// Returns the blocks of which the sink was told, in order.
-    pub fn told(&self) -> &[(usize, Vec<u8>)] {
+    /// Returns the blocks that were reported to the sink, in order.
+    pub fn reported(&self) -> &[(usize, Vec<u8>)] {
         &self.kept[..self.committed]
     }
 

@@ -1,4 +1,4 @@
-//! Calls that purge blocks for room, made with a sink that is told of the blocks, and with a sink that is not.
+//! Calls that purge blocks for room, made with a sink to which the blocks are reported, and with one that does not listen.
 
 ghost use Rattle.heap_calls.specs.Gone.{IsIdle};
 
@@ -37,8 +37,8 @@ pub type Rows = &'static [(Call, Answer)];
 /// The number of a handle, and the bytes of its block.
 pub type Block = (usize, &'static [u8]);
 
-/// A call in a zone of its own: the calls before it, the call, its expected result, the blocks of which a sink is to be
-/// told, in order, and the numbers of the handles that are to have a block after it.
+/// A call in a zone of its own: the calls before it, the call, its expected result, the blocks that are to be reported to
+/// a sink, in order, and the numbers of the handles that are to have a block after it.
 pub type Case = (Rows, RoomCall, Answer, &'static [Block], &'static [usize]);
 
 /// Cases in zones in which the same calls come first.
@@ -47,7 +47,7 @@ pub struct Scene {
     pub first: &'static [Rows],
     pub cases: &'static [Case],
     /// How many blocks each call purges for a new master pointer block, if it makes one and purges as many: they stay
-    /// purged where the sink refuses a block that is purged behind them.
+    /// purged where the sink refuses a block that is purged after them.
     pub for_masters: usize,
 }
 
@@ -110,13 +110,13 @@ fn heap_after(
     Ok(heap)
 }
 
-/// Asserts that a sink was told of these blocks, in order, and was offered nothing else that it keeps.
-fn assert_told(rt: &impl Abort, sink: &Recorder, expected: &[Block]) {
+/// Asserts that these blocks were reported to a sink, in order, and that it was offered nothing else that it keeps.
+fn assert_reported(rt: &impl Abort, sink: &Recorder, expected: &[Block]) {
     assert!(rt; sink.is_idle());
-    assert!(rt; sink.told().len() == expected.len());
-    for ((handle, bytes), wanted) in sink.told().iter().zip(expected) {
-        assert!(rt; *handle == wanted.0, "handle {handle}");
-        assert!(rt; bytes.as_slice() == wanted.1, "handle {handle}");
+    assert!(rt; sink.reported().len() == expected.len());
+    for ((handle, bytes), block) in sink.reported().iter().zip(expected) {
+        assert!(rt; *handle == block.0, "handle {handle}");
+        assert!(rt; bytes.as_slice() == block.1, "handle {handle}");
     }
 }
 
@@ -137,12 +137,12 @@ fn is_same(heap: &Heap<ListStore>, other: &Heap<ListStore>, number: usize) -> bo
     }
 }
 
-/// Reports whether a sink was told of the block of a handle.
-fn is_told(sink: &Recorder, number: usize) -> bool {
-    sink.told().iter().any(|(handle, _)| *handle == number)
+/// Reports whether the block of a handle was reported to a sink.
+fn is_reported(sink: &Recorder, number: usize) -> bool {
+    sink.reported().iter().any(|(handle, _)| *handle == number)
 }
 
-/// Asserts that the blocks of which a sink was told are purged, and that all others have the bytes that they have in a
+/// Asserts that the blocks that were reported to a sink are purged, and that all others have the bytes that they have in a
 /// heap in which nothing was purged.
 fn assert_purged(
     rt: &impl Abort,
@@ -151,7 +151,7 @@ fn assert_purged(
     sink: &Recorder,
 ) {
     for number in 0..NUMBERS {
-        if is_told(sink, number) {
+        if is_reported(sink, number) {
             assert!(rt; !heap.has_block(number), "handle {number}");
         } else {
             assert!(rt; is_same(heap, unpurged, number), "handle {number}");
@@ -159,18 +159,18 @@ fn assert_purged(
     }
 }
 
-/// Asserts what a case is expected to do, with a sink that is told and with one that is not.
+/// Asserts what a case is expected to do, with a sink that listens and with one that does not.
 fn assert_case(
     rt: &impl Abort,
     alloc: Global,
     first: &[Rows],
     case: Case,
 ) -> Result<(), AllocError> {
-    let (before, call, answer, told, left) = case;
+    let (before, call, answer, reported, left) = case;
     let mut heap = heap_after(rt, alloc, first, before)?;
     let mut sink = Recorder::new(alloc, None);
     assert_eq!(rt; room_answer(&mut heap, call, &mut sink), answer);
-    assert_told(rt, &sink, told);
+    assert_reported(rt, &sink, reported);
     assert_left(rt, &heap, left);
     let mut unheard = heap_after(rt, alloc, first, before)?;
     assert_eq!(rt; room_answer(&mut unheard, call, &mut NoSink), answer);
@@ -178,7 +178,7 @@ fn assert_case(
     Ok(())
 }
 
-/// Asserts that a call fails where the sink refuses an offer, that the sink is told of as many blocks as stay purged all
+/// Asserts that a call fails where the sink refuses an offer, that as many blocks are reported to it as stay purged all
 /// the same and that no others are purged, and that the call does what is expected of it once it is made again.
 fn assert_refusal(
     rt: &impl Abort,
@@ -188,15 +188,15 @@ fn assert_refusal(
     refused: usize,
     stay: usize,
 ) -> Result<(), AllocError> {
-    let (before, call, answer, told, left) = case;
+    let (before, call, answer, reported, left) = case;
     let mut heap = heap_after(rt, alloc, first, before)?;
     let mut sink = Recorder::new(alloc, Some(refused));
     assert_eq!(rt; room_answer(&mut heap, call, &mut sink), Answer::HostMemory);
-    assert!(rt; stay <= told.len());
-    assert_told(rt, &sink, &told[..stay]);
+    assert!(rt; stay <= reported.len());
+    assert_reported(rt, &sink, &reported[..stay]);
     assert_purged(rt, &heap, &heap_after(rt, alloc, first, before)?, &sink);
     assert_eq!(rt; room_answer(&mut heap, call, &mut sink), answer);
-    assert_told(rt, &sink, told);
+    assert_reported(rt, &sink, reported);
     assert_left(rt, &heap, left);
     Ok(())
 }
@@ -208,8 +208,8 @@ fn assert_refusals(
     scene: Scene,
     case: Case,
 ) -> Result<(), AllocError> {
-    let (_, _, _, told, _) = case;
-    for refused in 0..told.len() {
+    let (_, _, _, reported, _) = case;
+    for refused in 0..reported.len() {
         let stay = if refused < scene.for_masters {
             0
         } else {
@@ -221,7 +221,7 @@ fn assert_refusals(
 }
 
 /// Asserts what each case of a scene is expected to do, with a sink that refuses no offer, with each offer refused in
-/// turn, and with a sink that is told nothing.
+/// turn, and with a sink that does not listen.
 pub fn assert_scene(rt: &impl Abort, alloc: Global, scene: Scene) -> Result<(), AllocError> {
     for case in scene.cases {
         assert_case(rt, alloc, scene.first, *case)?;

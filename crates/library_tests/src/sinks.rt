@@ -1,4 +1,4 @@
-//! What a sink is told of the blocks that calls purge for room.
+//! The blocks that calls purge for room are reported to a sink.
 //!
 //! A block of `n` bytes takes 16 bytes for its header, and `n` rounded up to a multiple of 16. The zone of 1024 bytes
 //! begins with a master pointer block of 272 bytes, which has 64 master pointers; 752 bytes are free.
@@ -34,7 +34,7 @@ const FULL_ZONE: Rows = &[
 ];
 
 #[test]
-fn the_lowest_blocks_that_serve_are_told(rt: HostRuntime) -> Result<(), Fail> {
+fn the_lowest_blocks_that_serve_are_reported(rt: HostRuntime) -> Result<(), Fail> {
     const CASES: &[Case] = &[
         // 32 bytes: C alone.
         (
@@ -122,7 +122,7 @@ const NO_MASTERS: Rows = &[
 ];
 
 #[test]
-fn what_a_master_pointer_block_purges_is_told(rt: HostRuntime) -> Result<(), Fail> {
+fn what_a_master_pointer_block_purges_is_reported(rt: HostRuntime) -> Result<(), Fail> {
     const CASES: &[Case] = &[
         // C is purged for the master pointers; then A and B, which have the 64 bytes of the new block.
         (
@@ -181,7 +181,7 @@ fn what_a_master_pointer_block_purges_is_told(rt: HostRuntime) -> Result<(), Fai
 }
 
 #[test]
-fn blocks_that_are_purged_for_no_block_are_told(rt: HostRuntime) -> Result<(), Fail> {
+fn blocks_that_are_purged_for_no_block_are_reported(rt: HostRuntime) -> Result<(), Fail> {
     const CASES: &[Case] = &[
         // 48 bytes: C and A, which make one free block of 64 bytes.
         (
@@ -232,7 +232,7 @@ fn blocks_that_are_purged_for_no_block_are_told(rt: HostRuntime) -> Result<(), F
 }
 
 #[test]
-fn the_blocks_that_a_call_names_are_not_told(rt: HostRuntime) -> Result<(), Fail> {
+fn the_blocks_that_a_call_names_are_not_reported(rt: HostRuntime) -> Result<(), Fail> {
     const CASES: &[Case] = &[
         // 16 bytes more: C, the lowest, grows into the place of A, the next.
         (
@@ -318,7 +318,7 @@ fn the_blocks_that_a_call_names_are_not_told(rt: HostRuntime) -> Result<(), Fail
 }
 
 #[test]
-fn a_block_that_stays_tells_the_run_above_it(rt: HostRuntime) -> Result<(), Fail> {
+fn the_run_above_a_block_that_stays_is_purged(rt: HostRuntime) -> Result<(), Fail> {
     const CASES: &[Case] = &[
         // 16 bytes more: not from C, which is the lowest, but from B above A.
         (

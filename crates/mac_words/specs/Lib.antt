@@ -1,4 +1,5 @@
 pub mod Attributes
 pub mod Codes
+pub mod Digits
 pub mod Size
 pub mod Told

@@ -5,6 +5,7 @@
 mod attributes;
 mod call;
 mod code;
+mod digits;
 mod laws;
 mod name;
 mod reply;
@@ -15,6 +16,7 @@ mod size;
 pub use attributes::Attrs;
 pub use call::{Call, ControlCall, HeapCall};
 pub use code::OsErr;
+pub use digits::{lower_digit, upper_digit};
 pub use laws::{attribute_bits_are_the_manuals, codes_are_the_manuals};
 pub use name::{FileName, Label, Name, OsType};
 pub use reply::Reply;

@@ -8,7 +8,7 @@ use Rattle.std.specs.List.{AllByRecursion, find}
 use Rattle.windows.specs.declared.Window.{Window}
 use Rattle.windows.specs.Windows.{InOrder, IsApart, Misses, window}
 use Rattle.windows.proofs.Ordered.{apart-above, order-ends}
-use Rattle.partitions.specs.Grant.{holes, has_room, larger, largest}
+use Rattle.partitions.specs.Grant.{holes, has_room, larger_hole, largest}
 use Rattle.partitions.specs.Granted.{HoldsZone}
 
 -- bytes of the memory from a place on that are in no window
@@ -90,7 +90,7 @@ greatest P h (g ∷ hs) all = one_of P h (largest (g ∷ hs)) (ltb h.len (larges
 
 -- where no hole has room, the largest has fewer bytes
 none_go : (n : ℕ) (h : Window) (above : Window) (rest : Option Window) (b : Bool) → has_room n h ≡ b
-    → cond b (Some h) rest ≡ None → (rest ≡ None → above.len ≤ n) → (larger h above).len ≤ n
+    → cond b (Some h) rest ≡ None → (rest ≡ None → above.len ≤ n) → (larger_hole h above).len ≤ n
 none_go n h above rest true e none later = cc
 none_go n h above rest false e none later =
     let less = leb-false n h.len e in

@@ -1,47 +1,39 @@
 -- The largest of holes, found one after another.
-use Rattle.std.proofs.Common.{◌≡◌, ℕ, ◌+◌, ◌-◌, ◌<◌, ◌≤◌, Bool, true, false, List, [], ◌∷◌, refl, sym, ap, ◌∙◌, arith}
+use Rattle.std.proofs.Common.{◌≡◌, ℕ, ◌+◌, ◌-◌, ◌<◌, ◌≤◌, List, [], ◌∷◌, refl, sym, ap, ◌∙◌, arith}
 use Rattle.std.proofs.Common.{zero, suc, ◌⊎◌, inl, inr}
-use Rattle.std.proofs.Math.Dec.{ltb}
-use Rattle.std.proofs.lemmas.Bool.{ltb-true, ltb-false, le-ltb, lt-ltb}
+use Rattle.std.proofs.lemmas.Bool.{cases_lt, le-ltb, lt-ltb}
 use Rattle.windows.specs.declared.Window.{Window}
 use Rattle.windows.specs.Windows.{window}
-use Rattle.partitions.specs.Grant.{holes, larger, largest}
+use Rattle.partitions.specs.Grant.{holes, larger_hole, largest}
 
-higher : (low high : Window) → low.len < high.len → larger low high ≡ high
+higher : (low high : Window) → low.len < high.len → larger_hole low high ≡ high
 higher low high h = rw (lt-ltb low.len high.len h) refl
 
-lower : (low high : Window) → high.len ≤ low.len → larger low high ≡ low
+lower : (low high : Window) → high.len ≤ low.len → larger_hole low high ≡ low
 lower low high h = rw (le-ltb low.len high.len h) refl
 
-either : (m n : ℕ) (b : Bool) → ltb m n ≡ b → (m < n) ⊎ (n ≤ m)
-either m n true e = inl (ltb-true m n e)
-either m n false e = inr (ltb-false m n e)
-
-compare : (m n : ℕ) → (m < n) ⊎ (n ≤ m)
-compare m n = either m n (ltb m n) refl
-
 regrouped : (a b c : Window) → (a.len < b.len) ⊎ (b.len ≤ a.len) → (b.len < c.len) ⊎ (c.len ≤ b.len)
-    → larger (larger a b) c ≡ larger a (larger b c)
-regrouped a b c (inl x) (inl y) = ap (λ w. larger w c) (higher a b x) ∙ higher b c y
-    ∙ sym (ap (larger a) (higher b c y) ∙ higher a c (omega (arith, x, y)))
-regrouped a b c (inl x) (inr y) = ap (λ w. larger w c) (higher a b x) ∙ lower b c y
-    ∙ sym (ap (larger a) (lower b c y) ∙ higher a b x)
-regrouped a b c (inr x) (inl y) = ap (λ w. larger w c) (lower a b x) ∙ sym (ap (larger a) (higher b c y))
-regrouped a b c (inr x) (inr y) = ap (λ w. larger w c) (lower a b x) ∙ lower a c (omega (arith, x, y))
-    ∙ sym (ap (larger a) (lower b c y) ∙ lower a b x)
+    → larger_hole (larger_hole a b) c ≡ larger_hole a (larger_hole b c)
+regrouped a b c (inl x) (inl y) = ap (λ w. larger_hole w c) (higher a b x) ∙ higher b c y
+    ∙ sym (ap (larger_hole a) (higher b c y) ∙ higher a c (omega (arith, x, y)))
+regrouped a b c (inl x) (inr y) = ap (λ w. larger_hole w c) (higher a b x) ∙ lower b c y
+    ∙ sym (ap (larger_hole a) (lower b c y) ∙ higher a b x)
+regrouped a b c (inr x) (inl y) = ap (λ w. larger_hole w c) (lower a b x) ∙ sym (ap (larger_hole a) (higher b c y))
+regrouped a b c (inr x) (inr y) = ap (λ w. larger_hole w c) (lower a b x) ∙ lower a c (omega (arith, x, y))
+    ∙ sym (ap (larger_hole a) (lower b c y) ∙ lower a b x)
 
-pub larger-larger : (a b c : Window) → larger (larger a b) c ≡ larger a (larger b c)
-larger-larger a b c = regrouped a b c (compare a.len b.len) (compare b.len c.len)
+pub larger-larger : (a b c : Window) → larger_hole (larger_hole a b) c ≡ larger_hole a (larger_hole b c)
+larger-larger a b c = regrouped a b c (cases_lt a.len b.len) (cases_lt b.len c.len)
 
 -- no hole yet, and one at the bottom of the memory
-none-larger : (n : ℕ) → larger (window 0 0) (window 0 n) ≡ window 0 n
+none-larger : (n : ℕ) → larger_hole (window 0 0) (window 0 n) ≡ window 0 n
 none-larger zero = refl
 none-larger (suc n) = higher (window 0 0) (window 0 (suc n)) (omega arith)
 
 pub larger_holes : (memory : ℕ) (ws : List Window)
-    → larger (window 0 0) (largest (holes memory 0 ws)) ≡ largest (holes memory 0 ws)
+    → larger_hole (window 0 0) (largest (holes memory 0 ws)) ≡ largest (holes memory 0 ws)
 larger_holes memory [] = sym (larger-larger (window 0 0) (window 0 (memory - 0)) (window 0 0))
-    ∙ ap (λ w. larger w (window 0 0)) (none-larger (memory - 0))
+    ∙ ap (λ w. larger_hole w (window 0 0)) (none-larger (memory - 0))
 larger_holes memory (w ∷ ws) =
     let above = largest (holes memory (w.at + w.len) ws) in
-    sym (larger-larger (window 0 0) (window 0 (w.at - 0)) above) ∙ ap (λ v. larger v above) (none-larger (w.at - 0))
+    sym (larger-larger (window 0 0) (window 0 (w.at - 0)) above) ∙ ap (λ v. larger_hole v above) (none-larger (w.at - 0))

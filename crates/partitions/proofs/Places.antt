@@ -9,7 +9,7 @@ use Rattle.std.specs.List.{find}
 use Rattle.std.specs.Option.{option_map, option_or}
 use Rattle.windows.specs.declared.Window.{Window}
 use Rattle.windows.specs.Windows.{IsApart, window}
-use Rattle.partitions.specs.Grant.{holes, has_room, lower_end, larger, largest, at_least}
+use Rattle.partitions.specs.Grant.{holes, has_room, lower_end, larger_hole, largest, at_least}
 use Rattle.partitions.specs.Fitting.{GivesPreferred, GivesLargest}
 
 -- the window ends by these bytes, or begins behind them
@@ -58,7 +58,7 @@ largest_first n at hole above false e low (inr large) =
     let le = ltb-false hole.len above.len e in let fits = large.0 in (omega (arith, le, fits), λ same. low)
 
 largest_go : (n at from : ℕ) (w above : Window) → from ≤ at → Meets at n w
-    → (w.at + w.len ≤ at → IsLarge n at above) → IsLarge n at (larger (window from (w.at - from)) above)
+    → (w.at + w.len ≤ at → IsLarge n at above) → IsLarge n at (larger_hole (window from (w.at - from)) above)
 largest_go n at from w above le (inl below) later =
     let hole = window from (w.at - from) in
     largest_first n at hole above (ltb hole.len above.len) refl le (inr (later below))

@@ -22,13 +22,13 @@ abbrev pub lower_end : ℕ → Window → Window
 lower_end n hole = window hole.at n
 
 -- The larger of two holes; the lower one where they are equally large.
-abbrev pub larger : Window → Window → Window
-larger low high = if nat_lt low.len high.len then high else low
+abbrev pub larger_hole : Window → Window → Window
+larger_hole low high = if nat_lt low.len high.len then high else low
 
 -- The largest of these holes; the lowest one where several are equally large.
 abbrev pub largest : List Window → Window
 largest [] = window 0 0
-largest (hole ∷ above) = larger hole (largest above)
+largest (hole ∷ above) = larger_hole hole (largest above)
 
 -- The hole, where it has at least n bytes.
 abbrev pub at_least : ℕ → Window → Option Window

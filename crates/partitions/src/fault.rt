@@ -6,13 +6,16 @@ ghost use Rattle.partitions.specs.Code.{grant_code};
 
 use mac_words::OsErr;
 use std::alloc::AllocError;
+use thiserror::Error;
 
 /// The reason why an application was granted no partition of the memory.
-#[derive(Clone, Copy, Debug, PartialEq, Eq)]
+#[derive(Clone, Copy, Debug, PartialEq, Eq, Error)]
 pub enum GrantFault {
     /// No hole has the minimum size.
+    #[error("no hole of the memory has the minimum size")]
     NoRoom,
     /// The host is out of memory.
+    #[error("the host is out of memory")]
     HostMemory,
 }
 

@@ -4,14 +4,14 @@ ghost use Rattle.std.specs.Prelude.{◌≡◌, ◌+◌, ◌-◌, ◌%◌, ◌≤
 ghost use Rattle.std.specs.List.{All, find};
 ghost use Rattle.std.specs.Option.{option_map};
 ghost use Rattle.windows.specs.Windows.{window, InOrder, IsApart};
-ghost use Rattle.partitions.specs.Grant.{holes, has_room, lower_end, larger, largest, at_least, grant};
+ghost use Rattle.partitions.specs.Grant.{holes, has_room, lower_end, larger_hole, largest, at_least, grant};
 ghost use Rattle.partitions.specs.Granted.{HoldsZone};
 
 use windows::Window;
 
 // Returns the larger of two holes; the lower one where they are equally large.
-fn larger(low: Window, high: Window) -> Window
-    ensures { result ≡ larger low high }
+fn larger_hole(low: Window, high: Window) -> Window
+    ensures { result ≡ larger_hole low high }
 {
     if low.len < high.len { high } else { low }
 }
@@ -57,14 +57,14 @@ fn largest(memory: u32, windows: &[Window]) -> Window
             at: from,
             len: at - from,
         };
-        best = larger(best, hole);
+        best = larger_hole(best, hole);
         from = at + len;
     }
     let hole = Window {
         at: from,
         len: memory - from,
     };
-    larger(best, hole)
+    larger_hole(best, hole)
 }
 
 // Returns the whole largest hole, where it has at least `size` bytes.

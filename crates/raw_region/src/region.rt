@@ -9,12 +9,13 @@ use crate::part::Part;
 use crate::raw::{Frame, attach, detach, house, vacate};
 use std::alloc::{AllocError, Global};
 use std::marker::Model;
+use windows::GREATEST_MEMORY;
 
 /// The length of a region, and the place and length of a part, are multiples of this.
 pub const UNIT: usize = 16;
 
 /// The greatest number of bytes of a region: 128 MB.
-pub const MOST_BYTES: usize = 134217728;
+pub const MOST_BYTES: usize = GREATEST_MEMORY as usize;
 
 /// The greatest number of windows in use at a time.
 pub const MOST_OUT: usize = 64;
@@ -124,14 +125,6 @@ impl Region {
         let run = vacate(bytes, home, at);
         let i = index_of(self.gaps.as_slice(), at, len);
         shut(&mut self.gaps, i, run);
-    }
-
-    /// Returns the number of windows in use. No byte belongs to two of them.
-    pub fn count_out(&self) -> usize
-        ensures count { result ≡ length self.now.out }
-        ensures in_order { InOrder 0 self.now.out (length self.now.bytes) }
-    {
-        self.gaps.len() - 1
     }
 
     /// Gives the region's memory back to the host.

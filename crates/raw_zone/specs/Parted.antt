@@ -12,6 +12,7 @@ use Rattle.block_store.specs.Compact.{Aligned, Aligned-prop, Placed, Placed-prop
 use Rattle.zone_bytes.specs.Decode.{zone_in}
 use Rattle.zone_bytes.specs.Beside.{rest_in}
 use Rattle.raw_zone.specs.Held.{Held}
+use Rattle.block_store.specs.declared.measures.TheConstants.{GREATEST_ZONE}
 
 abbrev pub zone_of : Held → List Block
 zone_of z = zone_in z.part.bytes
@@ -22,7 +23,7 @@ rest_of z = rest_in z.part z.unused z.moves
 pub blocks_set : (a b : List Block) → IsProp (a ≡ b)
 blocks_set a b = Prim.hlevel props
 
-pub zone-small : (z : Held) → sizes (zone_of z) ≤ 134217728
+pub zone-small : (z : Held) → sizes (zone_of z) ≤ GREATEST_ZONE
 zone-small z = ∥∥₁_elim z.lawful le_prop (λ l. l.small)
 
 pub zone-no_block : (z : Held) (number : ℕ) → is_used ((rest_of z).slots number) ≡ false

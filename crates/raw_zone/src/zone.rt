@@ -21,7 +21,7 @@ use zone_bytes::{
 };
 use zone_marks::{
     Landmarks, count_purgeable, falls_short, free_block, free_slot, frees_one, given_at,
-    has_room_behind, landmarks_of, next_purgeable, purge_above, purge_lowest, purgeable_at,
+    has_room_above, landmarks_of, next_purgeable, purge_above, purge_lowest, purgeable_at,
     purgeable_left, purgeable_with,
 };
 
@@ -114,18 +114,9 @@ impl RawZone {
         }
     }
 
-    /// Returns the zone's bytes as they lie in memory: headers, contents and master pointers.
+    /// Returns the part in which the zone lay, with its bytes as they are: headers, contents and master pointers.
     ///
     /// *Inside Macintosh: Memory*, chapter 2, "Memory Blocks".
-    pub fn image(&self) -> &[u8]
-        ensures bytes { result.now ≡ self.now.part.bytes }
-        ensures laid { LaysOut result.now (⟦<RawZone as BlockStore>⟧.zone self.now)
-            (⟦<RawZone as BlockStore>⟧.rest self.now).slots }
-    {
-        self.part.bytes()
-    }
-
-    /// Returns the part in which the zone lay, with its bytes as they are.
     pub fn into_part(self) -> Part
         ensures part { result ≡ self.part }
         ensures laid { LaysOut result.bytes (⟦<RawZone as BlockStore>⟧.zone self)
@@ -313,7 +304,7 @@ impl BlockStore for RawZone {
     }
 
     fn room_above(&self, number: u32, bytes: u32) -> bool {
-        has_room_behind(&self.part, &self.marks, number, bytes)
+        has_room_above(&self.part, &self.marks, number, bytes)
     }
 
     fn run_of(&self, number: u32, bytes: u32) -> Option<u32> {

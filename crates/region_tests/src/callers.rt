@@ -47,8 +47,9 @@ fn a_zone_is_opened_in_a_part(rt: HostRuntime) -> Result<(), Fail> {
     let mut region = Region::new(rt.alloc(), 1024)?;
     let zone = RawZone::new(rt.alloc(), region.cut(0, 1024));
     assert_eq!(rt; zone.free_bytes(), 752);
-    assert_eq!(rt; zone.image().len(), 1024);
-    region.join(zone.into_part());
+    let part = zone.into_part();
+    assert_eq!(rt; part.len(), 1024);
+    region.join(part);
     region.close();
     Ok(())
 }

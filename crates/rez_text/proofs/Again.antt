@@ -1,12 +1,12 @@
 -- What is printed is read again.
-use Rattle.std.proofs.Common.{◌≡◌, ℕ, false, true, Ok, List, [], ◌++◌, map, replicate, refl, ap, ◌∙◌}
+use Rattle.std.proofs.Common.{◌≡◌, ℕ, true, Ok, List, [], ◌++◌, map, replicate, refl, ap, ◌∙◌}
 use Rattle.std.specs.List.{list_all, flat_map}
 use Rattle.fork_format.specs.Content.{Group, Content, IsContent}
-use Rattle.fork_format.specs.Canonical.{are_distinct, has_refs}
+use Rattle.fork_format.specs.Canonical.{are_distinct, clear, has_refs}
 use Rattle.rez_text.specs.State.{start}
 use Rattle.rez_text.specs.Lexing.{step, between}
 use Rattle.rez_text.specs.Bytes.{IsOfBytes}
-use Rattle.rez_text.specs.Reading.{finish, read}
+use Rattle.rez_text.specs.Reading.{finish, first_line, read}
 use Rattle.rez_text.specs.Printing.{source_of, attributes_remark, area_remark, group_statements}
 use Rattle.rez_text.proofs.Steps.{after, read_run}
 use Rattle.rez_text.proofs.Statements.{outside, groups_run}
@@ -14,12 +14,12 @@ use Rattle.rez_text.proofs.Remarked.{attributes_remark_run, area_remark_run}
 use Rattle.rez_text.proofs.Joined.{groups_again}
 
 finished : (area : List ℕ) (attrs : ℕ) (groups : List Group)
-    → finish (outside area attrs groups) ≡ Ok (record { area = area; attrs = attrs; groups = groups })
+    → finish (outside area attrs groups) ≡ Ok (clear (record { area = area; attrs = attrs; groups = groups }))
 unfolding finish step between
 finished area attrs groups = refl
 
 pub again : (c : Content) → IsContent c → IsOfBytes c → list_all has_refs c.groups ≡ true
-    → are_distinct (map (λ (g : Group). g.kind) c.groups) ≡ true → read (source_of c) ≡ Ok c
+    → are_distinct (map (λ (g : Group). g.kind) c.groups) ≡ true → read (source_of c) ≡ Ok (clear c)
 unfolding read source_of
 again c limits bytes some distinct =
     let s0 = outside (replicate 240 0) 0 [] in
@@ -34,4 +34,9 @@ again c limits bytes some distinct =
     (area_remark_run c.area c.attrs [] bytes.area limits.area))
     (groups_run c.groups c.area c.attrs [] limits.groups bytes.refs
     ∙ ap (λ l. Ok (outside c.area c.attrs l)) (groups_again c.groups some distinct)) in
-    read_run (x1 ++ x2 ++ x3) start s3 c 1 false whole (finished c.area c.attrs c.groups)
+    read_run (x1 ++ x2 ++ x3) start s3 (clear c) first_line whole (finished c.area c.attrs c.groups)
+
+-- of a content as a fork has it nothing is lost
+pub same_again : (c : Content) → IsContent c → IsOfBytes c → list_all has_refs c.groups ≡ true
+    → are_distinct (map (λ (g : Group). g.kind) c.groups) ≡ true → clear c ≡ c → read (source_of c) ≡ Ok c
+same_again c limits bytes some distinct is = again c limits bytes some distinct ∙ ap Ok is

@@ -4,6 +4,7 @@ use Rattle.std.proofs.Common.{nat_lt, bit_and, bit_or, codes, Ok, Some, List, []
 use Rattle.std.proofs.Common.{eqb-true, le-ltb}
 use Rattle.std.proofs.lemmas.Bool.{agree_below_at}
 use Rattle.fork_format.specs.Content.{Ref, Content}
+use Rattle.mac_words.specs.Digits.{upper_digit}
 use Rattle.rez_text.specs.declared.mode.Mode.TheVariants as mode
 use Rattle.rez_text.specs.declared.mode.Place.{Place}
 use Rattle.rez_text.specs.declared.mode.Place.TheVariants as place
@@ -11,7 +12,7 @@ use Rattle.rez_text.specs.State.{State}
 use Rattle.rez_text.specs.Tokens.{attribute, word, number, mark}
 use Rattle.rez_text.specs.Remarks.{hex_value}
 use Rattle.rez_text.specs.Lexing.{step, between, in_word, dollar, hexadecimal}
-use Rattle.rez_text.specs.Printing.{byte_hex, hex_digit, word_for, attribute_words}
+use Rattle.rez_text.specs.Printing.{byte_hex, word_for, attribute_words}
 use Rattle.rez_text.specs.Printing.{attributes_argument}
 use Rattle.rez_text.proofs.Steps.{at, run, after}
 use Rattle.rez_text.proofs.Digits.{digit_value, digit_no_quote}
@@ -177,9 +178,9 @@ number_spelled n p k d c small =
     let t = at mode.Dollar p [] k d c in
     let u = at (mode.Hexadecimal (n / 16)) p [] k d c in
     after s t _ (32 ∷ 36 ∷ []) (byte_hex n) (number_opens p k d c)
-    (after t u _ (hex_digit (n / 16) ∷ []) (hex_digit (n % 16) ∷ [])
-    (high_step (hex_digit (n / 16)) (n / 16) p k d c (digit_no_quote _ high) (digit_value _ high))
-    (low_step (hex_digit (n % 16)) (n / 16) (n % 16) p k d c (digit_value _ low) (le-ltb 65535 _ fits)
+    (after t u _ (upper_digit (n / 16) ∷ []) (upper_digit (n % 16) ∷ [])
+    (high_step (upper_digit (n / 16)) (n / 16) p k d c (digit_no_quote _ high) (digit_value _ high))
+    (low_step (upper_digit (n % 16)) (n / 16) (n % 16) p k d c (digit_value _ low) (le-ltb 65535 _ fits)
     ∙ ap (λ m. Ok (at (mode.Hexadecimal m) p [] k d c)) whole))
 
 number_comma : (n k : ℕ) (d : Ref) (c : Content) → nat_lt 255 n ≡ false

@@ -3,12 +3,13 @@ use Rattle.std.proofs.Common.{◌≡◌, ◌<◌, ◌==◌, ℕ, ◌+◌, ◌/�
 use Rattle.std.proofs.Common.{Ok, List, [], ◌∷◌, ◌++◌, refl, ap, ◌∙◌, sym, arith, eqb-true, append_assoc, append-nil}
 use Rattle.std.proofs.lemmas.Bool.{agree_below_at}
 use Rattle.fork_format.specs.Content.{Ref, Content}
+use Rattle.mac_words.specs.Digits.{upper_digit}
 use Rattle.rez_text.specs.declared.mode.Mode.TheVariants as mode
 use Rattle.rez_text.specs.declared.mode.Place.TheVariants as place
 use Rattle.rez_text.specs.Bytes.{AreBytes}
 use Rattle.rez_text.specs.Remarks.{is_blank, hex_value, byte_of}
 use Rattle.rez_text.specs.Lexing.{step, hex_string, hex_half}
-use Rattle.rez_text.specs.Printing.{hex_digit, byte_hex, gap, grouped}
+use Rattle.rez_text.specs.Printing.{byte_hex, gap, grouped}
 use Rattle.rez_text.proofs.Steps.{at, run, after}
 
 -- the value of an option is a number
@@ -20,17 +21,17 @@ value_is : (o : Option ℕ) (n : ℕ) → has_value o n ≡ true → o ≡ Some 
 value_is None n h = absurd (cc)
 value_is (Some m) n h = ap Some (eqb-true m n h)
 
-pub digit_value : (d : ℕ) → d < 16 → hex_value (hex_digit d) ≡ Some d
-digit_value d h = value_is _ d (agree_below_at (λ n. has_value (hex_value (hex_digit n)) n) (λ _. true) 16 d refl h)
+pub digit_value : (d : ℕ) → d < 16 → hex_value (upper_digit d) ≡ Some d
+digit_value d h = value_is _ d (agree_below_at (λ n. has_value (hex_value (upper_digit n)) n) (λ _. true) 16 d refl h)
 
-pub digit_no_blank : (d : ℕ) → d < 16 → is_blank (hex_digit d) ≡ false
-digit_no_blank d h = agree_below_at (λ n. is_blank (hex_digit n)) (λ _. false) 16 d refl h
+pub digit_no_blank : (d : ℕ) → d < 16 → is_blank (upper_digit d) ≡ false
+digit_no_blank d h = agree_below_at (λ n. is_blank (upper_digit n)) (λ _. false) 16 d refl h
 
-pub digit_no_quote : (d : ℕ) → d < 16 → (hex_digit d == 34) ≡ false
-digit_no_quote d h = agree_below_at (λ n. hex_digit n == 34) (λ _. false) 16 d refl h
+pub digit_no_quote : (d : ℕ) → d < 16 → (upper_digit d == 34) ≡ false
+digit_no_quote d h = agree_below_at (λ n. upper_digit n == 34) (λ _. false) 16 d refl h
 
-pub digit_no_star : (d : ℕ) → d < 16 → (hex_digit d == 42) ≡ false
-digit_no_star d h = agree_below_at (λ n. hex_digit n == 42) (λ _. false) 16 d refl h
+pub digit_no_star : (d : ℕ) → d < 16 → (upper_digit d == 42) ≡ false
+digit_no_star d h = agree_below_at (λ n. upper_digit n == 42) (λ _. false) 16 d refl h
 
 -- two digits of a byte are that byte
 pub halves : (b : ℕ) → b < 256 → byte_of (b / 16) (b % 16) ≡ b
@@ -54,12 +55,12 @@ pub byte_run : (b : ℕ) (g : List ℕ) (k : ℕ) (d : Ref) (c : Content) → b 
 byte_run b g k d c small =
     let high : b / 16 < 16 = omega arith in
     let low : b % 16 < 16 = omega arith in
-    let first = high_step (hex_digit (b / 16)) (b / 16) g k d c (digit_no_quote _ high) (digit_no_blank _ high)
+    let first = high_step (upper_digit (b / 16)) (b / 16) g k d c (digit_no_quote _ high) (digit_no_blank _ high)
     (digit_value _ high) in
-    let second = low_step (hex_digit (b % 16)) (b / 16) (b % 16) g k d c (digit_no_quote _ low) (digit_no_blank _ low)
+    let second = low_step (upper_digit (b % 16)) (b / 16) (b % 16) g k d c (digit_no_quote _ low) (digit_no_blank _ low)
     (digit_value _ low) in
     after (at mode.HexString place.Data g k d c) (at (mode.HexHalf (b / 16)) place.Data g k d c) _
-    (hex_digit (b / 16) ∷ []) (hex_digit (b % 16) ∷ []) first
+    (upper_digit (b / 16) ∷ []) (upper_digit (b % 16) ∷ []) first
     (second ∙ ap (λ n. Ok (at mode.HexString place.Data (g ++ n ∷ []) k d c)) (halves b small))
 
 gap_run : (n : ℕ) (g : List ℕ) (k : ℕ) (d : Ref) (c : Content)

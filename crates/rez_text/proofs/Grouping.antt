@@ -1,5 +1,5 @@
 -- The groups of a source: where a resource is put.
-use Rattle.std.proofs.Common.{◌≡◌, ◌==◌, ℕ, zero, suc, ◌+◌, ◌≤◌, Bool, true, false, cond, Some, None, List, [], ◌∷◌}
+use Rattle.std.proofs.Common.{◌≡◌, ℕ, zero, suc, ◌+◌, ◌≤◌, Bool, true, false, cond, Some, None, List, [], ◌∷◌}
 use Rattle.std.proofs.Common.{◌++◌, map, set, get_or, refl, sym, ap, ◌∙◌, subst, arith}
 use Rattle.std.specs.List.{position, position_from}
 use Rattle.std.proofs.lemmas.List.{map-append}
@@ -7,12 +7,9 @@ use Rattle.std.proofs.lemmas.Iterator.Adapters.{position_from-zero}
 use Rattle.byteorder.specs.Endian.{big_number}
 use Rattle.rez_text.specs.declared.source.SourceGroup.{SourceGroup}
 use Rattle.rez_text.specs.declared.source.SourceRef.{SourceRef}
+use Rattle.rez_text.specs.Groups.{is_of}
 use Rattle.rez_text.specs.View.{ref_said, group_said}
 use Rattle.rez_text.specs.State.{with_ref}
-
--- the group is of the type
-abbrev pub is_of : ℕ → SourceGroup → Bool
-is_of kind g = big_number 4 g.ty.0 == kind
 
 -- where a group is found
 found_above : (p : SourceGroup → Bool) (i n : ℕ) (gs : List SourceGroup) → Some n ≡ position_from p i gs → i ≤ n

@@ -135,12 +135,12 @@ abbrev pub named : ℤ → Option (List ℕ) → Ref
 named id name = record { id = id; name = name; attrs = 0; datum = [] }
 
 behind_comma : (k : ℕ) (d : Ref) (c : Content)
-    → step 44 (at mode.Between place.BehindArgument [] k d c) ≡ Ok (at mode.Between place.Attribute [] k d c)
+    → step 44 (at mode.Between place.AfterArgument [] k d c) ≡ Ok (at mode.Between place.Attribute [] k d c)
 unfolding step between mark
 behind_comma k d c = refl
 
 behind_close : (k : ℕ) (d : Ref) (c : Content)
-    → step 41 (at mode.Between place.BehindArgument [] k d c) ≡ Ok (at mode.Between place.Brace [] k d c)
+    → step 41 (at mode.Between place.AfterArgument [] k d c) ≡ Ok (at mode.Between place.Brace [] k d c)
 unfolding step between mark
 behind_close k d c = refl
 
@@ -156,7 +156,7 @@ pub named_run : (name : Option (List ℕ)) (id : ℤ) (s : State) (k : ℕ) (c :
 named_run None id s k c short small waits = (s, refl, record { comma = inl waits.comma; close = waits.close })
 named_run (Some text) id s k c short small waits =
     let t = at mode.Between place.NameOrAttribute [] k (only_id id) c in
-    let u = at mode.Between place.BehindArgument [] k (named id (Some text)) c in (
+    let u = at mode.Between place.AfterArgument [] k (named id (Some text)) c in (
       u,
       after s t _ (44 ∷ []) (32 ∷ [] ++ in_quotes 34 text) waits.comma
           (after t t _ (32 ∷ []) (in_quotes 34 text) (blank_run k (only_id id) c)

@@ -1,4 +1,5 @@
 pub mod Grouping
+pub mod Placed
 pub mod Appending
 pub mod Steps
 pub mod Digits

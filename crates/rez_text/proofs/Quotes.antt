@@ -6,6 +6,7 @@ use Rattle.std.specs.List.{flat_map}
 use Rattle.byteorder.specs.Endian.{big_number, big_bytes}
 use Rattle.byteorder.specs.Numbers.{big_number-reads_back}
 use Rattle.fork_format.specs.Content.{Ref, Content}
+use Rattle.mac_words.specs.Digits.{upper_digit}
 use Rattle.rez_text.specs.declared.mode.Quote.{Quote}
 use Rattle.rez_text.specs.declared.mode.Quote.TheVariants as quotes
 use Rattle.rez_text.specs.declared.mode.Mode.TheVariants as mode
@@ -16,7 +17,7 @@ use Rattle.rez_text.specs.Tokens.{name, type_token}
 use Rattle.rez_text.specs.Remarks.{hex_value, byte_of}
 use Rattle.rez_text.specs.Lexing.{step, between, quoted, escape, escape_zero, escape_high, escape_low, quote_byte, ends_line}
 use Rattle.rez_text.specs.Bytes.{AreBytes}
-use Rattle.rez_text.specs.Printing.{byte_hex, hex_digit, is_printable, escaped, in_quotes, type_literal}
+use Rattle.rez_text.specs.Printing.{byte_hex, is_printable, escaped, in_quotes, type_literal}
 use Rattle.rez_text.proofs.Steps.{at, run, after}
 use Rattle.rez_text.proofs.Digits.{digit_value, halves}
 
@@ -69,11 +70,11 @@ number_run q b p g k d c small =
     let s = at (mode.Quoted q) p g k d c in
     let t = at (mode.EscapeHigh q) p g k d c in
     let u = at (mode.EscapeLow q (b / 16)) p g k d c in
-    let second = low_step q (hex_digit (b % 16)) (b / 16) (b % 16) p g k d c (digit_value _ low)
+    let second = low_step q (upper_digit (b % 16)) (b / 16) (b % 16) p g k d c (digit_value _ low)
     ∙ ap (λ n. Ok (at (mode.Quoted q) p (g ++ n ∷ []) k d c)) (halves b small) in
     after s t _ (92 ∷ 48 ∷ 120 ∷ []) (byte_hex b) (number_opens q p g k d c)
-    (after t u _ (hex_digit (b / 16) ∷ []) (hex_digit (b % 16) ∷ [])
-    (high_step q (hex_digit (b / 16)) (b / 16) p g k d c (digit_value _ high)) second)
+    (after t u _ (upper_digit (b / 16) ∷ []) (upper_digit (b % 16) ∷ [])
+    (high_step q (upper_digit (b / 16)) (b / 16) p g k d c (digit_value _ high)) second)
 
 printable_no_end : (b : ℕ) → b < 256 → is_printable b ≡ true → ends_line b ≡ false
 printable_no_end b small h =
@@ -137,13 +138,13 @@ name_opens k d c = refl
 
 name_closes : (g : List ℕ) (k : ℕ) (d : Ref) (c : Content) → nat_lt 255 (length g) ≡ false
     → run (Ok (at (mode.Quoted quotes.Name) place.NameOrAttribute g k d c)) (34 ∷ [])
-    ≡ Ok (at mode.Between place.BehindArgument [] k (with_name d g) c)
+    ≡ Ok (at mode.Between place.AfterArgument [] k (with_name d g) c)
 unfolding step quoted name
 name_closes g k d c e = rw e refl
 
 pub name_run : (text : List ℕ) (k : ℕ) (d : Ref) (c : Content) → AreBytes text → length text ≤ 255
     → run (Ok (at mode.Between place.NameOrAttribute [] k d c)) (in_quotes 34 text)
-    ≡ Ok (at mode.Between place.BehindArgument [] k (with_name d text) c)
+    ≡ Ok (at mode.Between place.AfterArgument [] k (with_name d text) c)
 name_run text k d c small short =
     let s = at mode.Between place.NameOrAttribute [] k d c in
     let t = at (mode.Quoted quotes.Name) place.NameOrAttribute [] k d c in

@@ -1,20 +1,21 @@
 -- The comments before the statements: what is printed is read again.
 use Rattle.std.proofs.Common.{◌≡◌, ◌<◌, ◌≤◌, ◌==◌, ◌&&◌, ℕ, zero, suc, ◌+◌, ◌*◌, ◌/◌, ◌%◌, Bool, true, false, cond, nat_lt, nat_le, Ok, Some, None}
-use Rattle.std.proofs.Common.{bytes_eq, codes, List, [], ◌∷◌, ◌++◌, length, take, drop, replicate, refl, ap, ◌∙◌, sym, arith, append_assoc, append-nil}
+use Rattle.std.proofs.Common.{codes, List, [], ◌∷◌, ◌++◌, length, take, drop, replicate, refl, ap, ◌∙◌, sym, arith, append_assoc, append-nil}
 use Rattle.std.proofs.Common.{le-leb, eq-eqb, eqb-true}
 use Rattle.std.proofs.Math.Seq.{take-add}
 use Rattle.std.proofs.lemmas.Bool.{and_right, and_parts}
 use Rattle.std.specs.List.{list_all}
 use Rattle.byteorder.specs.Endian.{big_number}
 use Rattle.fork_format.specs.Content.{Group, Content}
+use Rattle.mac_words.specs.Digits.{upper_digit}
 use Rattle.rez_text.specs.declared.mode.Mode.TheVariants as mode
 use Rattle.rez_text.specs.declared.mode.Place.TheVariants as place
 use Rattle.rez_text.specs.State.{State, no_ref}
 use Rattle.rez_text.specs.Bytes.{AreBytes}
-use Rattle.rez_text.specs.Remarks.{is_blank, hex_value, byte_of, hex_from, of_length, bytes_behind, remarked, comment}
-use Rattle.rez_text.specs.Remarks.{with_area, with_map_attributes}
+use Rattle.rez_text.specs.Remarks.{is_blank, hex_value, byte_of, hex_from, begins, bytes_after, stated}
+use Rattle.rez_text.specs.Remarks.{remarked, comment, with_area, with_map_attributes}
 use Rattle.rez_text.specs.Lexing.{step, between, slash, in_comment, star}
-use Rattle.rez_text.specs.Printing.{byte_hex, hex_digit, gap, grouped, line_count, attributes_comment, attributes_remark}
+use Rattle.rez_text.specs.Printing.{byte_hex, gap, grouped, line_count, attributes_comment, attributes_remark}
 use Rattle.rez_text.specs.Printing.{area_lines, area_remark}
 use Rattle.rez_text.proofs.Steps.{at, run, after}
 use Rattle.rez_text.proofs.Digits.{digit_value, digit_no_blank, digit_no_star, halves}
@@ -33,7 +34,7 @@ byte_from : (b : ℕ) (bytes rest : List ℕ) → b < 256
 byte_from b bytes rest small =
     let high : b / 16 < 16 = omega arith in
     let low : b % 16 < 16 = omega arith in
-    two_digits (hex_digit (b / 16)) (hex_digit (b % 16)) (b / 16) (b % 16) bytes rest (digit_no_blank _ high)
+    two_digits (upper_digit (b / 16)) (upper_digit (b % 16)) (b / 16) (b % 16) bytes rest (digit_no_blank _ high)
     (digit_value _ high) (digit_no_blank _ low) (digit_value _ low)
     ∙ ap (λ n. hex_from None (bytes ++ n ∷ []) rest) (halves b small)
 
@@ -101,50 +102,48 @@ lines_no_star (suc n) xs small = (
 
 -- What the text of a comment states.
 
-other_words : (words text : List ℕ) (n : ℕ) → bytes_eq (take (length words) text) words ≡ false
-    → bytes_behind words n text ≡ None
-unfolding bytes_behind
-other_words words text n e =
-    ap (λ v. cond v (of_length n (hex_from None [] (drop (length words) text))) None) (and_right _ _ e)
-
-these_words : (words text bytes : List ℕ) (n : ℕ) → nat_le (length words) (length text) ≡ true
-    → bytes_eq (take (length words) text) words ≡ true
+these_words : (words text bytes : List ℕ) (n : ℕ) → begins words text ≡ true
     → hex_from None [] (drop (length words) text) ≡ Some bytes → (length bytes == n) ≡ true
-    → bytes_behind words n text ≡ Some bytes
-unfolding bytes_behind
-these_words words text bytes n long same read count = rw (long, same, read, count) refl
+    → bytes_after words n text ≡ Some bytes
+unfolding bytes_after
+these_words words text bytes n begun read count = rw (begun, read, count) refl
+
+-- what a text states that begins with the words of either comment
+stated_attributes : (text : List ℕ) (c : Content) → begins (codes "map attributes") text ≡ true
+    → stated text c ≡ with_map_attributes (bytes_after (codes "map attributes $") 2 text) c
+stated_attributes text c begun = rw begun refl
+
+stated_area : (text : List ℕ) (c : Content) → begins (codes "map attributes") text ≡ false
+    → begins (codes "header bytes") text ≡ true
+    → stated text c ≡ with_area (bytes_after (codes "header bytes") 240 text) c
+stated_area text c other begun = rw (other, begun) refl
 
 attributes_stated : (high low : ℕ) (c : Content) → high < 256 → low < 256
     → remarked (codes " map attributes $" ++ (byte_hex high ++ (byte_hex low ++ 32 ∷ []))) c
-    ≡ record { area = c.area; attrs = 256 * high + low; groups = c.groups }
+    ≡ Ok (record { area = c.area; attrs = 256 * high + low; groups = c.groups })
 unfolding remarked
 attributes_stated high low c first second =
-    let text = codes " map attributes $" ++ (byte_hex high ++ (byte_hex low ++ 32 ∷ [])) in
+    let text = codes "map attributes $" ++ (byte_hex high ++ (byte_hex low ++ 32 ∷ [])) in
     let read : hex_from None [] (byte_hex high ++ (byte_hex low ++ 32 ∷ [])) ≡ Some (high ∷ low ∷ []) =
     byte_from high [] (byte_hex low ++ 32 ∷ []) first ∙ byte_from low (high ∷ []) (32 ∷ []) second in
-    let stated : bytes_behind (codes " map attributes $") 2 text ≡ Some (high ∷ low ∷ []) =
-    these_words (codes " map attributes $") text (high ∷ low ∷ []) 2 refl refl read refl in
-    let no_area : bytes_behind (codes " header bytes") 240 text ≡ None =
-    other_words (codes " header bytes") text 240 refl in
+    let given : bytes_after (codes "map attributes $") 2 text ≡ Some (high ∷ low ∷ []) =
+    these_words (codes "map attributes $") text (high ∷ low ∷ []) 2 refl read refl in
     let number : big_number 2 (high ∷ low ∷ []) ≡ 256 * high + low = omega arith in
-    ap (λ found. with_area found (with_map_attributes (bytes_behind (codes " map attributes $") 2 text) c)) no_area
-    ∙ ap (λ found. with_map_attributes found c) stated
-    ∙ ap (λ n. record { area = c.area; attrs = n; groups = c.groups }) number
+    stated_attributes text c refl ∙ ap (λ found. with_map_attributes found c) given
+    ∙ ap (λ n. Ok (record { area = c.area; attrs = n; groups = c.groups })) number
 
 area_stated : (area rest : List ℕ) (c : Content) → length area ≡ 240
     → hex_from None [] rest ≡ Some area
-    → remarked (codes " header bytes" ++ rest) c ≡ record { area = area; attrs = c.attrs; groups = c.groups }
+    → remarked (codes " header bytes" ++ rest) c ≡ Ok (record { area = area; attrs = c.attrs; groups = c.groups })
 unfolding remarked
 area_stated area rest c count read =
-    let text = codes " header bytes" ++ rest in
-    let long : 13 ≤ length text = omega arith in
-    let stated : bytes_behind (codes " header bytes") 240 text ≡ Some area =
-    these_words (codes " header bytes") text area 240 (le-leb 13 (length text) long) refl read
-    (eq-eqb (length area) 240 count) in
-    let no_attributes : bytes_behind (codes " map attributes $") 2 text ≡ None =
-    other_words (codes " map attributes $") text 2 refl in
-    ap (λ found. with_area found (with_map_attributes (bytes_behind (codes " map attributes $") 2 text) c)) stated
-    ∙ ap (λ found. with_area (Some area) (with_map_attributes found c)) no_attributes
+    let text = codes "header bytes" ++ rest in
+    let long : 12 ≤ length text = omega arith in
+    let begun : begins (codes "header bytes") text ≡ true = ap (λ t. t && true) (le-leb 12 (length text) long) in
+    let given : bytes_after (codes "header bytes") 240 text ≡ Some area =
+    these_words (codes "header bytes") text area 240 begun read (eq-eqb (length area) 240 count) in
+    let other : begins (codes "map attributes") text ≡ false = and_right (nat_le 14 (length text)) _ refl in
+    stated_area text c other begun ∙ ap (λ found. with_area found c) given
 
 -- The comments, as they are read.
 
@@ -160,17 +159,17 @@ area_opens : (c : Content)
 unfolding step between slash in_comment
 area_opens c = refl
 
-attributes_closes : (g : List ℕ) (c : Content)
+attributes_closes : (g : List ℕ) (c d : Content) → remarked (g ++ 32 ∷ []) c ≡ Ok d
     → run (Ok (at mode.Comment place.Outside g 0 no_ref c)) (codes " */\n")
-    ≡ Ok (at mode.Between place.Outside [] 0 no_ref (remarked (g ++ 32 ∷ []) c))
+    ≡ Ok (at mode.Between place.Outside [] 0 no_ref d)
 unfolding step between in_comment star comment
-attributes_closes g c = refl
+attributes_closes g c d stated = rw stated refl
 
-area_closes : (g : List ℕ) (c : Content)
+area_closes : (g : List ℕ) (c d : Content) → remarked (g ++ 10 ∷ []) c ≡ Ok d
     → run (Ok (at mode.Comment place.Outside g 0 no_ref c)) (codes "\n*/\n")
-    ≡ Ok (at mode.Between place.Outside [] 0 no_ref (remarked (g ++ 10 ∷ []) c))
+    ≡ Ok (at mode.Between place.Outside [] 0 no_ref d)
 unfolding step between in_comment star comment
-area_closes g c = refl
+area_closes g c d stated = rw stated refl
 
 -- a state by its content
 abbrev there : Content → State
@@ -193,13 +192,13 @@ attributes_comment_run attrs c small =
     append_assoc (words ++ byte_hex high) (byte_hex low) (32 ∷ [])
     ∙ append_assoc words (byte_hex high) (byte_hex low ++ 32 ∷ []) in
     let stated = ap (λ l. remarked l c) text ∙ attributes_stated high low c first second
-    ∙ ap (λ n. record { area = c.area; attrs = n; groups = c.groups }) whole in
+    ∙ ap (λ n. Ok (record { area = c.area; attrs = n; groups = c.groups })) whole in
     after (there c) t3 _ (codes "/* map attributes $" ++ byte_hex high ++ byte_hex low) (codes " */\n")
     (after (there c) t2 _ (codes "/* map attributes $" ++ byte_hex high) (byte_hex low)
     (after (there c) t1 _ (codes "/* map attributes $") (byte_hex high) (attributes_opens c)
     (comment_run (byte_hex high) place.Outside words 0 no_ref c (byte_no_star high first)))
     (comment_run (byte_hex low) place.Outside (words ++ byte_hex high) 0 no_ref c (byte_no_star low second)))
-    (attributes_closes ((words ++ byte_hex high) ++ byte_hex low) c ∙ ap (λ x. Ok (there x)) stated)
+    (attributes_closes ((words ++ byte_hex high) ++ byte_hex low) c _ stated)
 
 pub attributes_remark_run : (attrs : ℕ) (area : List ℕ) (groups : List Group) → attrs < 65536
     → run (Ok (outside area 0 groups)) (attributes_remark attrs) ≡ Ok (outside area attrs groups)
@@ -229,7 +228,7 @@ area_comment_run area c small count =
     after (there c) t2 _ (codes "/* header bytes" ++ lines) (codes "\n*/\n")
     (after (there c) t1 _ (codes "/* header bytes") lines (area_opens c)
     (comment_run lines place.Outside words 0 no_ref c (lines_no_star (line_count area) area small)))
-    (area_closes (words ++ lines) c ∙ ap (λ x. Ok (there x)) stated)
+    (area_closes (words ++ lines) c _ stated)
 
 all_zero : (area : List ℕ) → list_all (λ b. b == 0) area ≡ true → area ≡ replicate (length area) 0
 all_zero [] h = refl

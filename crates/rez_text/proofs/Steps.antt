@@ -1,5 +1,5 @@
 -- Runs of steps over stretches of a text.
-use Rattle.std.proofs.Common.{◌≡◌, ℕ, Bool, Result, Ok, Err, List, [], ◌∷◌, ◌++◌, replicate, zero, suc, refl, ap, ◌∙◌, ◌==◌}
+use Rattle.std.proofs.Common.{◌≡◌, ℕ, Result, Ok, Err, List, [], ◌∷◌, ◌++◌, replicate, zero, suc, refl, ap, ◌∙◌}
 use Rattle.fork_format.specs.Content.{Ref, Content}
 use Rattle.rez_text.specs.declared.fault.FaultKind.{FaultKind}
 use Rattle.rez_text.specs.declared.mode.Mode.{Mode}
@@ -7,7 +7,8 @@ use Rattle.rez_text.specs.declared.mode.Mode.TheVariants as mode
 use Rattle.rez_text.specs.declared.mode.Place.{Place}
 use Rattle.rez_text.specs.State.{State, ◌>>=◌}
 use Rattle.rez_text.specs.Lexing.{step, between}
-use Rattle.rez_text.specs.Reading.{finish, at_line, line_behind, read_from}
+use Rattle.rez_text.specs.declared.line.Lines.{Lines}
+use Rattle.rez_text.specs.Reading.{finish, at_line, lines_at, read_from}
 
 -- a state by its parts
 abbrev pub at : Mode → Place → List ℕ → ℕ → Ref → Content → State
@@ -32,17 +33,16 @@ run-failed fault [] = refl
 run-failed fault (x ∷ xs) = run-failed fault xs
 
 -- what a run leads to is read, on whatever lines it stands
-pub read_run : (text : List ℕ) (s t : State) (c : Content) (line : ℕ) (returned : Bool) → run (Ok s) text ≡ Ok t
-    → finish t ≡ Ok c → read_from line returned s text ≡ Ok c
-read_run [] s t c line returned e f =
+pub read_run : (text : List ℕ) (s t : State) (c : Content) (lines : Lines) → run (Ok s) text ≡ Ok t
+    → finish t ≡ Ok c → read_from lines s text ≡ Ok c
+read_run [] s t c lines e f =
     let same : s ≡ t = cc in
-    ap (λ r. at_line line r (λ x. Ok x)) (ap finish same ∙ f)
-read_run (b ∷ rest) s t c line returned e f =
-    let go : (r : Result State FaultKind) → run r rest ≡ Ok t
-    → at_line line r (λ u. read_from (line_behind b returned line) (b == 13) u rest) ≡ Ok c =
-    λ r. elim r as (λ v. run v rest ≡ Ok t
-    → at_line line v (λ u. read_from (line_behind b returned line) (b == 13) u rest) ≡ Ok c) [
-      | Ok u ↦ λ k. read_run rest u t c (line_behind b returned line) (b == 13) k f
+    ap (λ r. at_line lines r (λ x. Ok x)) (ap finish same ∙ f)
+read_run (b ∷ rest) s t c lines e f =
+    let now = lines_at s.mode b lines in
+    let go : (r : Result State FaultKind) → run r rest ≡ Ok t → at_line now r (λ u. read_from now u rest) ≡ Ok c =
+    λ r. elim r as (λ v. run v rest ≡ Ok t → at_line now v (λ u. read_from now u rest) ≡ Ok c) [
+      | Ok u ↦ λ k. read_run rest u t c now k f
       | Err fault ↦ λ k. let failed = run-failed fault rest in absurd (cc)
     ] in
     go (step b s) e

@@ -4,7 +4,7 @@ use Rattle.std.specs.Fmt.{digits}
 use Rattle.fork_format.specs.Content.{Ref, Group, Content}
 use Rattle.rez_text.specs.declared.fault.FaultKind.TheVariants as faults
 use Rattle.rez_text.specs.Tokens.{word, type_token, number, name, datum, mark}
-use Rattle.rez_text.specs.Remarks.{bytes_behind, remarked, comment}
+use Rattle.rez_text.specs.Remarks.{bytes_after, remarked, comment}
 use Rattle.rez_text.specs.Lexing.{step, between, slash, in_comment, star, line_comment, in_word, decimal, dollar}
 use Rattle.rez_text.specs.Lexing.{hexadecimal, hex_string, hex_half, quoted, escape, escape_zero, escape_high, escape_low}
 use Rattle.rez_text.specs.Reading.{finish, read}
@@ -60,52 +60,77 @@ written : read (codes "// by hand\r\ndata 'STR ' ($80, \"a\", preload, purgeable
     ))
 unfolding read finish step between slash in_comment star line_comment in_word decimal dollar hexadecimal hex_string
     hex_half quoted escape escape_zero escape_high escape_low word type_token number name datum mark comment remarked
-    bytes_behind
+    bytes_after
 written = refl
 
--- a comment that states the attributes of the map, and one that doesn't
-stated : (read (codes "/* map attributes $0080 */") ≡ Ok (record { area = replicate 240 0; attrs = 128; groups = [] }))
-    × (read (codes "/*map attributes $0080 */") ≡ Ok (of_groups []))
+-- comments that state the attributes of the map, and one that states nothing
+attributes : (read (codes "/* map attributes $0080 */") ≡ Ok (record { area = replicate 240 0; attrs = 128; groups = [] }))
+    × (read (codes "/*map attributes $00 80*/") ≡ Ok (record { area = replicate 240 0; attrs = 128; groups = [] }))
+    × (read (codes "/* attributes $0080 */") ≡ Ok (of_groups []))
 unfolding read finish step between slash in_comment star line_comment in_word decimal dollar hexadecimal hex_string
     hex_half quoted escape escape_zero escape_high escape_low word type_token number name datum mark comment remarked
-    bytes_behind
-stated = (refl, refl)
+    bytes_after
+attributes = (refl, refl, refl)
+
+-- bits that no stored fork has: resChanged of a resource, mapCompact and mapChanged of the map
+cleared : (read (codes "data 'STR ' (1, 2) {};") ≡ Ok (of_groups (record {
+  kind = str;
+  refs = a_ref (pos 1) None 0 [] ∷ [];
+} ∷ [])))
+    × (read (codes "/* map attributes $00E0 */") ≡ Ok (record { area = replicate 240 0; attrs = 128; groups = [] }))
+unfolding read finish step between slash in_comment star line_comment in_word decimal dollar hexadecimal hex_string
+    hex_half quoted escape escape_zero escape_high escape_low word type_token number name datum mark comment remarked
+    bytes_after
+cleared = (refl, refl)
+
+-- comments that begin as those which count, and are not them; within a statement no comment counts
+remarks_refused : (read (codes "\n/* map attributes 0080 */") ≡ Err (2, faults.NotMapAttributes))
+    × (read (codes "/* map attributes $080 */") ≡ Err (1, faults.NotMapAttributes))
+    × (read (codes "/*\nheader bytes\n00\n*/") ≡ Err (1, faults.NotHeaderBytes))
+    × (read (codes "data 'STR ' /* map attributes */ (1) {};") ≡ Ok (of_groups (record {
+      kind = str;
+      refs = a_ref (pos 1) None 0 [] ∷ [];
+    } ∷ [])))
+unfolding read finish step between slash in_comment star line_comment in_word decimal dollar hexadecimal hex_string
+    hex_half quoted escape escape_zero escape_high escape_low word type_token number name datum mark comment remarked
+    bytes_after
+remarks_refused = (refl, refl, refl, refl)
 
 -- each fault, with its line
 statements_refused : (read (codes "data 'STR ' (1) {};\r\nresource") ≡ Err (2, faults.NotAStatement))
-    × (read (codes "data 'STR'") ≡ Err (1, faults.TypeWanted))
-    × (read (codes "data 'STR ' 1") ≡ Err (1, faults.ParenthesisWanted))
-    × (read (codes "data 'STR ' (\"a\"") ≡ Err (1, faults.IdWanted))
+    × (read (codes "data 'STR'") ≡ Err (1, faults.TypeNeeded))
+    × (read (codes "data 'STR ' 1") ≡ Err (1, faults.ParenthesisNeeded))
+    × (read (codes "data 'STR ' (\"a\"") ≡ Err (1, faults.IdNeeded))
     × (read (codes "data 'STR ' (32768)") ≡ Err (1, faults.IdOutOfRange))
     × (read (codes "data 'STR ' (-32769)") ≡ Err (1, faults.IdOutOfRange))
-    × (read (codes "data 'STR ' (1 2)") ≡ Err (1, faults.EndOfArgumentsWanted))
-    × (read (codes "data 'STR ' (1, fixed)") ≡ Err (1, faults.NameOrAttributeWanted))
-    × (read (codes "data 'STR ' (1, locked,\n \"a\")") ≡ Err (2, faults.AttributeWanted))
+    × (read (codes "data 'STR ' (1 2)") ≡ Err (1, faults.EndOfArgumentsNeeded))
+    × (read (codes "data 'STR ' (1, fixed)") ≡ Err (1, faults.NameOrAttributeNeeded))
+    × (read (codes "data 'STR ' (1, locked,\n \"a\")") ≡ Err (2, faults.AttributeNeeded))
     × (read (codes "data 'STR ' (1, $100)") ≡ Err (1, faults.AttributesOutOfRange))
-    × (read (codes "data 'STR ' (1);") ≡ Err (1, faults.BraceWanted))
-    × (read (codes "data 'STR ' (1) {\n1") ≡ Err (2, faults.DataWanted))
-    × (read (codes "data 'STR ' (1) {}") ≡ Err (1, faults.SemicolonWanted))
+    × (read (codes "data 'STR ' (1);") ≡ Err (1, faults.BraceNeeded))
+    × (read (codes "data 'STR ' (1) {\n1") ≡ Err (2, faults.DataNeeded))
+    × (read (codes "data 'STR ' (1) {}\n") ≡ Err (1, faults.SemicolonNeeded))
 unfolding read finish step between slash in_comment star line_comment in_word decimal dollar hexadecimal hex_string
     hex_half quoted escape escape_zero escape_high escape_low word type_token number name datum mark comment remarked
-    bytes_behind
+    bytes_after
 statements_refused = (refl, refl, refl, refl, refl, refl, refl, refl, refl, refl, refl, refl, refl)
 
 tokens_refused : (read (codes "data 'STR ' (65536") ≡ Err (1, faults.NumberOutOfRange))
-    × (read (codes "data 'STR ' ($)") ≡ Err (1, faults.HexadecimalWanted))
+    × (read (codes "data 'STR ' ($)") ≡ Err (1, faults.HexadecimalNeeded))
     × (read (codes "data 'STR ' (1) { $\"0G\"") ≡ Err (1, faults.NotADigit))
     × (read (codes "data 'STR ' (1) { $\"012\"") ≡ Err (1, faults.OddDigits))
     × (read (codes "data 'STR ' (1, \"a\n") ≡ Err (1, faults.OpenString))
-    × (read (codes "data 'STR ' (1) { $\"01") ≡ Err (1, faults.OpenString))
+    × (read (codes "data 'STR ' (1) {\r\n$\"01\r\n\r\n") ≡ Err (2, faults.OpenString))
     × (read (codes "data 'STR ' (1, \"\\n\"") ≡ Err (1, faults.NotAnEscape))
-    × (read (codes "/* a\n\n") ≡ Err (3, faults.OpenComment))
+    × (read (codes "\n/* a\n\n") ≡ Err (2, faults.OpenComment))
 unfolding read finish step between slash in_comment star line_comment in_word decimal dollar hexadecimal hex_string
     hex_half quoted escape escape_zero escape_high escape_low word type_token number name datum mark comment remarked
-    bytes_behind
+    bytes_after
 tokens_refused = (refl, refl, refl, refl, refl, refl, refl, refl)
 
 -- a name of 256 bytes
 long_name : read (codes "data 'STR ' (1, \"" ++ replicate 256 97 ++ codes "\")") ≡ Err (1, faults.LongName)
 unfolding read finish step between slash in_comment star line_comment in_word decimal dollar hexadecimal hex_string
     hex_half quoted escape escape_zero escape_high escape_low word type_token number name datum mark comment remarked
-    bytes_behind
+    bytes_after
 long_name = refl

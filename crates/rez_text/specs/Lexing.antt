@@ -40,7 +40,7 @@ between b s =
     else if is_letter b then Ok (gather b mode.Word s)
     else mark b s
 
--- Behind a `/`.
+-- After a `/`.
 unfoldable pub slash : ℕ → State → Result State FaultKind
 slash b s =
     if b == 42 then Ok (in_mode mode.Comment s)
@@ -51,10 +51,10 @@ slash b s =
 unfoldable pub in_comment : ℕ → State → Result State FaultKind
 in_comment b s = Ok (if b == 42 then in_mode mode.Star s else gather b mode.Comment s)
 
--- In such a comment, behind a `*`.
+-- In such a comment, after a `*`.
 unfoldable pub star : ℕ → State → Result State FaultKind
 star b s =
-    if b == 47 then Ok (comment s)
+    if b == 47 then comment s
     else if b == 42 then Ok (gather 42 mode.Star s)
     else Ok (gather b mode.Comment (gather 42 mode.Star s))
 
@@ -89,11 +89,11 @@ abbrev pub by_digit : FaultKind → Option ℕ → (ℕ → State) → Result St
 by_digit fault None f = Err fault
 by_digit fault (Some d) f = Ok (f d)
 
--- Behind a `$`.
+-- After a `$`.
 unfoldable pub dollar : ℕ → State → Result State FaultKind
 dollar b s =
     if b == 34 then string_opened s.place s
-    else by_digit faults.HexadecimalWanted (hex_value b) (λ d. in_mode (mode.Hexadecimal d) s)
+    else by_digit faults.HexadecimalNeeded (hex_value b) (λ d. in_mode (mode.Hexadecimal d) s)
 
 -- One more byte of a hexadecimal number.
 abbrev pub hexadecimal_on : Option ℕ → ℕ → ℕ → State → Result State FaultKind
@@ -111,7 +111,7 @@ hex_string b s =
     else if is_blank b then Ok s
     else by_digit faults.NotADigit (hex_value b) (λ d. in_mode (mode.HexHalf d) s)
 
--- In a hexadecimal string, behind the high digit of a byte.
+-- In a hexadecimal string, after the high digit of a byte.
 unfoldable pub hex_half : ℕ → ℕ → State → Result State FaultKind
 hex_half high b s =
     if b == 34 then Err faults.OddDigits
@@ -131,22 +131,22 @@ quoted q b s =
     else if ends_line b then Err faults.OpenString
     else Ok (gather b (mode.Quoted q) s)
 
--- There, behind a `\`.
+-- There, after a `\`.
 unfoldable pub escape : Quote → ℕ → State → Result State FaultKind
 escape q b s =
     if b == 48 then Ok (in_mode (mode.EscapeZero q) s)
     else if b == 34 || b == 39 || b == 92 then Ok (gather b (mode.Quoted q) s)
     else Err faults.NotAnEscape
 
--- There, behind `\0`.
+-- There, after `\0`.
 unfoldable pub escape_zero : Quote → ℕ → State → Result State FaultKind
 escape_zero q b s = if b == 120 then Ok (in_mode (mode.EscapeHigh q) s) else Err faults.NotAnEscape
 
--- There, behind `\0x`.
+-- There, after `\0x`.
 unfoldable pub escape_high : Quote → ℕ → State → Result State FaultKind
 escape_high q b s = by_digit faults.NotAnEscape (hex_value b) (λ d. in_mode (mode.EscapeLow q d) s)
 
--- There, behind `\0x` and the high digit.
+-- There, after `\0x` and the high digit.
 unfoldable pub escape_low : Quote → ℕ → ℕ → State → Result State FaultKind
 escape_low q high b s = by_digit faults.NotAnEscape (hex_value b) (λ d. gather (byte_of high d) (mode.Quoted q) s)
 

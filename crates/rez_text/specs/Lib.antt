@@ -6,3 +6,4 @@ pub mod Lexing
 pub mod Reading
 pub mod Printing
 pub mod Bytes
+pub mod Groups

@@ -4,17 +4,14 @@ use Rattle.std.specs.Prelude.{bit_and, if◌then◌else◌}
 use Rattle.std.specs.List.{flat_map, list_all}
 use Rattle.std.specs.Fmt.{signed_decimal}
 use Rattle.byteorder.specs.Endian.{big_bytes}
+use Rattle.mac_words.specs.Digits.{upper_digit}
 use Rattle.fork_format.specs.Content.{Ref, Group, Content}
 
 -- The content of a resource fork as source of Rez, in the form that DeRez prints.
 
--- A hexadecimal digit, in upper case.
-abbrev pub hex_digit : ℕ → ℕ
-hex_digit n = if nat_lt n 10 then 48 + n else 55 + n
-
--- A byte in hexadecimal.
+-- A byte in hexadecimal, in upper case.
 abbrev pub byte_hex : ℕ → List ℕ
-byte_hex b = hex_digit (b / 16) ∷ hex_digit (b % 16) ∷ []
+byte_hex b = upper_digit (b / 16) ∷ upper_digit (b % 16) ∷ []
 
 -- A blank stands before each second byte of a line but the first: before its n-th byte, from 0 on.
 abbrev pub gap : ℕ → List ℕ
@@ -34,11 +31,11 @@ is_printable b = nat_le 32 b && nat_le b 126
 abbrev pub shown : ℕ → ℕ
 shown b = if is_printable b && not (b == 42) then b else 46
 
--- The blanks between the hexadecimal string of n bytes and the comment, which begins at the 54th place behind the tab.
+-- The blanks between the hexadecimal string of n bytes and the comment, which begins at the 54th place after the tab.
 abbrev pub margin : ℕ → List ℕ
 margin n = replicate (54 - (3 + 2 * n + (n - 1) / 2)) 32
 
--- Bytes as a hexadecimal string behind a tab.
+-- Bytes as a hexadecimal string after a tab.
 abbrev pub hex_column : List ℕ → List ℕ
 hex_column bytes = 9 ∷ 36 ∷ 34 ∷ [] ++ grouped 0 bytes ++ 34 ∷ []
 
@@ -59,7 +56,7 @@ data_lines (suc n) bytes = data_line (take 16 bytes) ++ data_lines n (drop 16 by
 abbrev pub line_count : List ℕ → ℕ
 line_count bytes = (length bytes + 15) / 16
 
--- A byte between quotes: a quote of that kind and `\` behind a `\`, and a byte that is not printable ASCII as `\0x` and
+-- A byte between quotes: a quote of that kind and `\` after a `\`, and a byte that is not printable ASCII as `\0x` and
 -- two hexadecimal digits.
 abbrev pub escaped : ℕ → ℕ → List ℕ
 escaped quote b =
@@ -72,12 +69,12 @@ escaped quote b =
 abbrev pub in_quotes : ℕ → List ℕ → List ℕ
 in_quotes quote bytes = quote ∷ [] ++ flat_map (escaped quote) bytes ++ quote ∷ []
 
--- A name behind a comma, where there is one. A name of no bytes differs from no name.
+-- A name after a comma, where there is one. A name of no bytes differs from no name.
 abbrev pub name_argument : Option (List ℕ) → List ℕ
 name_argument None = []
 name_argument (Some name) = codes ", " ++ in_quotes 34 name
 
--- The word of an attribute behind a comma, where the attributes have its bit.
+-- The word of an attribute after a comma, where the attributes have its bit.
 abbrev pub word_for : ℕ → List ℕ → ℕ → List ℕ
 word_for bit word attrs = if bit_and attrs bit == 0 then [] else codes ", " ++ word
 
@@ -130,7 +127,7 @@ abbrev pub area_lines : ℕ → List ℕ → List ℕ
 area_lines zero bytes = []
 area_lines (suc n) bytes = area_line (take 16 bytes) ++ area_lines n (drop 16 bytes)
 
--- The 240 bytes behind the header as a comment.
+-- The 240 bytes after the header as a comment.
 abbrev pub area_comment : List ℕ → List ℕ
 area_comment area = codes "/* header bytes" ++ area_lines (line_count area) area ++ codes "\n*/\n"
 

@@ -1,5 +1,6 @@
-use Rattle.std.specs.Prelude.{◌≡◌, ℕ, ◌+◌, ◌==◌, Bool, false, ◌&&◌, ◌||◌, not, Option, Some, None, Result, Ok, Err, List, [], ◌∷◌, if◌then◌else◌}
+use Rattle.std.specs.Prelude.{◌≡◌, ℕ, ◌+◌, ◌==◌, Bool, true, false, ◌&&◌, ◌||◌, not, Option, Some, None, Result, Ok, Err, List, [], ◌∷◌, if◌then◌else◌}
 use Rattle.fork_format.specs.Content.{Content}
+use Rattle.fork_format.specs.Canonical.{clear}
 use Rattle.rez_text.specs.declared.fault.FaultKind.{FaultKind}
 use Rattle.rez_text.specs.declared.fault.FaultKind.TheVariants as faults
 use Rattle.rez_text.specs.declared.fault.SourceFault.{SourceFault}
@@ -10,18 +11,20 @@ use Rattle.rez_text.specs.declared.mode.Mode.{Mode}
 use Rattle.rez_text.specs.declared.mode.Mode.TheVariants as mode
 use Rattle.rez_text.specs.declared.mode.Place.{Place}
 use Rattle.rez_text.specs.declared.mode.Place.TheVariants as place
+use Rattle.rez_text.specs.declared.line.Lines.{Lines}
 use Rattle.rez_text.specs.State.{State, start, ◌>>=◌}
-use Rattle.rez_text.specs.Tokens.{wanted}
+use Rattle.rez_text.specs.Tokens.{needed}
 use Rattle.rez_text.specs.Lexing.{step}
 
 -- The whole text of a source.
 
--- What is wrong where a text ends within a statement.
+-- What is wrong where a text ends within a statement; else the content that it states: without resChanged, mapCompact and
+-- mapChanged, which no stored fork has.
 abbrev pub ended_in : Place → State → Result Content FaultKind
-ended_in place.Outside s = Ok s.content
-ended_in p s = Err (wanted p)
+ended_in place.Outside s = Ok (clear s.content)
+ended_in p s = Err (needed p)
 
--- What is wrong where a text ends within a token, or within a statement.
+-- The same where a text may end within a token.
 abbrev pub ended : Mode → State → Result Content FaultKind
 ended mode.Between s = ended_in s.place s
 ended mode.Comment s = Err faults.OpenComment
@@ -32,41 +35,70 @@ ended m s = Err faults.OpenString
 unfoldable pub finish : State → Result Content FaultKind
 finish s = step 10 s >>= λ t. ended t.mode t
 
--- The number of the line behind a byte: CR, LF, and CR with LF, each end a line.
-abbrev pub line_behind : ℕ → Bool → ℕ → ℕ
-line_behind b returned line = if b == 13 || (b == 10 && not returned) then line + 1 else line
+-- The number of the line on which a byte stands, from that of the byte before it: CR, LF, and CR with LF, each end a line.
+abbrev pub line_of : ℕ → ℕ → ℕ → ℕ
+line_of line before b = if before == 10 || (before == 13 && not (b == 10)) then line + 1 else line
+
+-- The number of the line on which a token begins. Between tokens, each byte may be the first of one.
+abbrev pub begun_on : Mode → ℕ → ℕ → ℕ
+begun_on mode.Between line begun = line
+begun_on m line begun = begun
+
+-- Where a text stands among its lines once it has gone on by a byte, which it took within a token or between tokens.
+abbrev pub lines_at : Mode → ℕ → Lines → Lines
+lines_at m b at = record {
+  line = line_of at.line at.last b;
+  last = b;
+  begun = begun_on m (line_of at.line at.last b) at.begun;
+}
+
+-- A fault of a string or of a comment as a whole.
+abbrev pub is_whole : FaultKind → Bool
+is_whole faults.OpenString = true
+is_whole faults.OpenComment = true
+is_whole faults.NotMapAttributes = true
+is_whole faults.NotHeaderBytes = true
+is_whole kind = false
+
+-- The number of the line of a fault: the line on which a string or a comment begins that is wrong as a whole, else the line
+-- of the last byte that was taken.
+abbrev pub fault_line : FaultKind → Lines → ℕ
+fault_line kind at = if is_whole kind then at.begun else at.line
 
 -- A fault with the number of its line.
-abbrev pub at_line : {A B : Type 0} → ℕ → Result A FaultKind → (A → Result B (ℕ × FaultKind)) → Result B (ℕ × FaultKind)
-at_line line (Ok x) go_on = go_on x
-at_line line (Err kind) go_on = Err (line, kind)
+abbrev pub at_line : {A B : Type 0} → Lines → Result A FaultKind → (A → Result B (ℕ × FaultKind)) → Result B (ℕ × FaultKind)
+at_line at (Ok x) go_on = go_on x
+at_line at (Err kind) go_on = Err (fault_line kind at, kind)
 
--- What the text from here on states: the number of its first line, and whether a CR stands before it.
-abbrev pub read_from : ℕ → Bool → State → List ℕ → Result Content (ℕ × FaultKind)
-read_from line returned s [] = at_line line (finish s) (λ c. Ok c)
-read_from line returned s (b ∷ rest) =
-    at_line line (step b s) (λ t. read_from (line_behind b returned line) (b == 13) t rest)
+-- What a text states from here on.
+abbrev pub read_from : Lines → State → List ℕ → Result Content (ℕ × FaultKind)
+read_from at s [] = at_line at (finish s) (λ c. Ok c)
+read_from at s (b ∷ rest) = at_line (lines_at s.mode b at) (step b s) (λ t. read_from (lines_at s.mode b at) t rest)
+
+-- Before the first byte of a text, on its first line.
+abbrev pub first_line : Lines
+first_line = record { line = 1; last = 0; begun = 1 }
 
 -- The content that a text states, or the number of the line where it can't go on, and what is wrong there.
 unfoldable pub read : List ℕ → Result Content (ℕ × FaultKind)
-read text = read_from 1 false start text
+read text = read_from first_line start text
 
 -- What a function found to be wrong at the end of a text, if anything is.
 abbrev pub Ends : Option FaultKind → State → Type 0
-Ends None s = ended s.mode s ≡ Ok s.content
+Ends None s = ended s.mode s ≡ Ok (clear s.content)
 Ends (Some kind) s = ended s.mode s ≡ Err kind
 
 -- A function has led to the state whose content is read, or has the fault; where the host is out of memory, nothing is
 -- said about the text.
 abbrev pub Finishes : {A : Type 0} → Result A StepFault → State → Result Content FaultKind → Type 0
-Finishes (Ok x) new finished = finished ≡ Ok new.content
+Finishes (Ok x) new finished = finished ≡ Ok (clear new.content)
 Finishes (Err step_faults.Memory) new finished = Unit {0}
 Finishes (Err (step_faults.Wrong kind)) new finished = finished ≡ Err kind
 
 -- A fault with the number of its line.
-abbrev pub fault_at : ℕ → StepFault → SourceFault
-fault_at line (step_faults.Wrong kind) = fault.Text (record { line = line; kind = kind })
-fault_at line step_faults.Memory = fault.HostMemory
+abbrev pub fault_at : Lines → StepFault → SourceFault
+fault_at at (step_faults.Wrong kind) = fault.Text (record { line = fault_line kind at; kind = kind })
+fault_at at step_faults.Memory = fault.HostMemory
 
 -- A function has the fault of a reading; where the host is out of memory, nothing is said about the text.
 abbrev pub FailsAt : {Y : Type 0} → SourceFault → Result Y (ℕ × FaultKind) → Type 0

@@ -1,10 +1,12 @@
 use Rattle.std.specs.Prelude.{ℕ, ◌+◌, ◌-◌, ◌*◌, ◌%◌, ◌==◌, nat_le, Bool, ◌&&◌, ◌||◌, bytes_eq, codes, length, take, drop}
-use Rattle.std.specs.Prelude.{Option, Some, None, List, [], ◌∷◌, ◌++◌, if◌then◌else◌}
+use Rattle.std.specs.Prelude.{Option, Some, None, Result, Ok, Err, List, [], ◌∷◌, ◌++◌, if◌then◌else◌}
 use Rattle.byteorder.specs.Endian.{big_number}
 use Rattle.fork_format.specs.Content.{Content}
+use Rattle.rez_text.specs.declared.fault.FaultKind.{FaultKind}
+use Rattle.rez_text.specs.declared.fault.FaultKind.TheVariants as faults
 use Rattle.rez_text.specs.declared.mode.Place.{Place}
 use Rattle.rez_text.specs.declared.mode.Place.TheVariants as place
-use Rattle.rez_text.specs.State.{State, come_to}
+use Rattle.rez_text.specs.State.{State, come_to, ◌>>=◌}
 
 -- Hexadecimal digits, and the comments that state what no statement of Rez does.
 
@@ -24,7 +26,7 @@ hex_value c =
 abbrev pub byte_of : ℕ → ℕ → ℕ
 byte_of high low = (16 * high + low) % 256
 
--- The bytes that hexadecimal digits write, two for each byte, with any blanks between digits: behind the bytes so far,
+-- The bytes that hexadecimal digits write, two for each byte, with any blanks between digits: after the bytes so far,
 -- and the high digit that waits for its low one.
 abbrev pub hex_from : Option ℕ → List ℕ → List ℕ → Option (List ℕ)
 hex_from None bytes [] = Some bytes
@@ -41,35 +43,49 @@ abbrev pub of_length : ℕ → Option (List ℕ) → Option (List ℕ)
 of_length n None = None
 of_length n (Some bytes) = if length bytes == n then Some bytes else None
 
--- The n bytes that a text states in hexadecimal behind the words with which it begins.
-unfoldable pub bytes_behind : List ℕ → ℕ → List ℕ → Option (List ℕ)
-bytes_behind words n text =
-    if nat_le (length words) (length text) && bytes_eq (take (length words) text) words
-    then of_length n (hex_from None [] (drop (length words) text))
-    else None
+-- A text without the blanks with which it begins.
+abbrev pub after_blanks : List ℕ → List ℕ
+after_blanks [] = []
+after_blanks (b ∷ bytes) = if is_blank b then after_blanks bytes else b ∷ bytes
+
+-- The text begins with the words.
+abbrev pub begins : List ℕ → List ℕ → Bool
+begins words text = nat_le (length words) (length text) && bytes_eq (take (length words) text) words
+
+-- The n bytes that a text states in hexadecimal after the words with which it begins.
+unfoldable pub bytes_after : List ℕ → ℕ → List ℕ → Option (List ℕ)
+bytes_after words n text =
+    if begins words text then of_length n (hex_from None [] (drop (length words) text)) else None
 
 -- Two bytes as the attributes of the map.
-abbrev pub with_map_attributes : Option (List ℕ) → Content → Content
-with_map_attributes None c = c
-with_map_attributes (Some bytes) c = record { area = c.area; attrs = big_number 2 bytes; groups = c.groups }
+abbrev pub with_map_attributes : Option (List ℕ) → Content → Result Content FaultKind
+with_map_attributes None c = Err faults.NotMapAttributes
+with_map_attributes (Some bytes) c = Ok (record { area = c.area; attrs = big_number 2 bytes; groups = c.groups })
 
--- 240 bytes as those behind the header.
-abbrev pub with_area : Option (List ℕ) → Content → Content
-with_area None c = c
-with_area (Some bytes) c = record { area = bytes; attrs = c.attrs; groups = c.groups }
+-- 240 bytes as those after the header.
+abbrev pub with_area : Option (List ℕ) → Content → Result Content FaultKind
+with_area None c = Err faults.NotHeaderBytes
+with_area (Some bytes) c = Ok (record { area = bytes; attrs = c.attrs; groups = c.groups })
 
--- What a comment between statements adds to the content: ` map attributes $` and four hexadecimal digits are the
--- attributes of the map, ` header bytes` and 480 hexadecimal digits are the 240 bytes behind the header; any other text
--- adds nothing.
-unfoldable pub remarked : List ℕ → Content → Content
-remarked text c =
-    with_area (bytes_behind (codes " header bytes") 240 text)
-    (with_map_attributes (bytes_behind (codes " map attributes $") 2 text) c)
+-- What a comment states, from its first byte on that is no blank: if it begins with `map attributes`, then that and ` $` and
+-- four hexadecimal digits are the attributes of the map; if it begins with `header bytes`, then that and 480 hexadecimal
+-- digits are the 240 bytes after the header; and a comment that begins so and is not that is a fault. Blanks and ends of
+-- lines may stand among the digits. Any other comment states nothing.
+abbrev pub stated : List ℕ → Content → Result Content FaultKind
+stated text c =
+    if begins (codes "map attributes") text then with_map_attributes (bytes_after (codes "map attributes $") 2 text) c
+    else if begins (codes "header bytes") text then with_area (bytes_after (codes "header bytes") 240 text) c
+    else Ok c
 
--- A comment.
-abbrev pub comment_at : Place → State → State
-comment_at place.Outside s = come_to place.Outside (record s { content = remarked s.gathered s.content })
-comment_at p s = come_to p s
+-- The content once a comment between statements is read.
+unfoldable pub remarked : List ℕ → Content → Result Content FaultKind
+remarked text c = stated (after_blanks text) c
 
-unfoldable pub comment : State → State
+-- A comment. Only between statements it may state something.
+abbrev pub comment_at : Place → State → Result State FaultKind
+comment_at place.Outside s =
+    remarked s.gathered s.content >>= λ c. Ok (come_to place.Outside (record s { content = c }))
+comment_at p s = Ok (come_to p s)
+
+unfoldable pub comment : State → Result State FaultKind
 comment s = comment_at s.place s

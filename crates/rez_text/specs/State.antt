@@ -26,7 +26,7 @@ pub record State : Type 0 where
 abbrev pub no_ref : Ref
 no_ref = record { id = pos 0; name = None; attrs = 0; datum = [] }
 
--- Before the first byte: no bytes behind the header but 0, no attributes of the map, no resources.
+-- Before the first byte: no bytes after the header but 0, no attributes of the map, no resources.
 abbrev pub start : State
 start = record {
   mode = mode.Between;
@@ -49,7 +49,7 @@ gather b m s = record s { mode = m; gathered = s.gathered ++ b ∷ [] }
 abbrev pub come_to : Place → State → State
 come_to p s = record s { mode = mode.Between; gathered = []; place = p }
 
--- The resource as the last one of its type: in the group of the type, or in a new group behind all others.
+-- The resource as the last one of its type: in the group of the type, or in a new group after all others.
 abbrev pub with_ref : ℕ → Ref → List Group → List Group
 with_ref kind r [] = record { kind = kind; refs = r ∷ [] } ∷ []
 with_ref kind r (g ∷ groups) =
@@ -72,9 +72,13 @@ state_of r = record {
   content = content_said r.source;
 }
 
--- A function has led to the state that a step defines, or has the step's fault; where the host is out of memory,
--- nothing is said about the text.
+-- A function has led to what a definition gives, or has the fault that it gives; where the host is out of memory, nothing
+-- is said about the text.
+abbrev pub LeadsTo : {A B : Type 0} → Result A StepFault → B → Result B FaultKind → Type 0
+LeadsTo (Ok x) new given = given ≡ Ok new
+LeadsTo (Err Memory) new given = Unit {0}
+LeadsTo (Err (Wrong kind)) new given = given ≡ Err kind
+
+-- A function has led to the state that a step defines.
 abbrev pub Leads : {A : Type 0} → Result A StepFault → State → Result State FaultKind → Type 0
-Leads (Ok x) new stepped = stepped ≡ Ok new
-Leads (Err Memory) new stepped = Unit {0}
-Leads (Err (Wrong kind)) new stepped = stepped ≡ Err kind
+Leads result new stepped = LeadsTo result new stepped

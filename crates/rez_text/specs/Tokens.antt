@@ -11,23 +11,23 @@ use Rattle.rez_text.specs.State.{State, no_ref, come_to, with_ref}
 --   data TYPE ( ID [, NAME] [, ATTRIBUTE]... ) { [HEXADECIMAL STRING]... } ;
 
 -- What is wrong where none of the tokens stands that may stand at a place.
-abbrev pub wanted : Place → FaultKind
-wanted place.Outside = faults.NotAStatement
-wanted place.Type = faults.TypeWanted
-wanted place.Parenthesis = faults.ParenthesisWanted
-wanted place.Id = faults.IdWanted
-wanted place.Negative = faults.IdWanted
-wanted place.BehindId = faults.EndOfArgumentsWanted
-wanted place.NameOrAttribute = faults.NameOrAttributeWanted
-wanted place.BehindArgument = faults.EndOfArgumentsWanted
-wanted place.Attribute = faults.AttributeWanted
-wanted place.Brace = faults.BraceWanted
-wanted place.Data = faults.DataWanted
-wanted place.Semicolon = faults.SemicolonWanted
+abbrev pub needed : Place → FaultKind
+needed place.Outside = faults.NotAStatement
+needed place.Type = faults.TypeNeeded
+needed place.Parenthesis = faults.ParenthesisNeeded
+needed place.Id = faults.IdNeeded
+needed place.Negative = faults.IdNeeded
+needed place.AfterId = faults.EndOfArgumentsNeeded
+needed place.NameOrAttribute = faults.NameOrAttributeNeeded
+needed place.AfterArgument = faults.EndOfArgumentsNeeded
+needed place.Attribute = faults.AttributeNeeded
+needed place.Brace = faults.BraceNeeded
+needed place.Data = faults.DataNeeded
+needed place.Semicolon = faults.SemicolonNeeded
 
 -- The token may not stand here.
 abbrev pub refused : State → Result State FaultKind
-refused s = Err (wanted s.place)
+refused s = Err (needed s.place)
 
 -- The attribute that a word states, by its bit: More Macintosh Toolbox, chapter 1, "Resource Attributes".
 abbrev pub attribute : List ℕ → Option ℕ
@@ -42,7 +42,7 @@ attribute word =
 -- The resource has these attributes too.
 abbrev pub with_attributes : Option ℕ → State → Result State FaultKind
 with_attributes None s = refused s
-with_attributes (Some bits) s = Ok (come_to place.BehindArgument (record s {
+with_attributes (Some bits) s = Ok (come_to place.AfterArgument (record s {
   draft = record {
     id = s.draft.id;
     name = s.draft.name;
@@ -73,7 +73,7 @@ type_token s = type_at s.place s
 
 -- The resource has this ID.
 abbrev pub with_id : ℤ → State → State
-with_id id s = come_to place.BehindId (record s {
+with_id id s = come_to place.AfterId (record s {
   draft = record { id = id; name = s.draft.name; attrs = s.draft.attrs; datum = s.draft.datum };
 })
 
@@ -96,7 +96,7 @@ number n s = number_at s.place n s
 abbrev pub name_at : Place → State → Result State FaultKind
 name_at place.NameOrAttribute s =
     if nat_lt 255 (length s.gathered) then Err faults.LongName
-    else Ok (come_to place.BehindArgument (record s {
+    else Ok (come_to place.AfterArgument (record s {
       draft = record { id = s.draft.id; name = Some s.gathered; attrs = s.draft.attrs; datum = s.draft.datum };
     }))
 name_at p s = refused s
@@ -135,11 +135,11 @@ with_statement s = come_to place.Outside (record s {
 abbrev pub mark_at : Place → ℕ → State → Result State FaultKind
 mark_at place.Parenthesis b s = if b == 40 then Ok (come_to place.Id s) else refused s
 mark_at place.Id b s = if b == 45 then Ok (come_to place.Negative s) else refused s
-mark_at place.BehindId b s =
+mark_at place.AfterId b s =
     if b == 44 then Ok (come_to place.NameOrAttribute s)
     else if b == 41 then Ok (come_to place.Brace s)
     else refused s
-mark_at place.BehindArgument b s =
+mark_at place.AfterArgument b s =
     if b == 44 then Ok (come_to place.Attribute s)
     else if b == 41 then Ok (come_to place.Brace s)
     else refused s

@@ -4,6 +4,7 @@ use Rattle.fork_format.specs.Content.{Ref, Group, Content}
 use Rattle.rez_text.specs.declared.name.SourceName.{SourceName}
 use Rattle.rez_text.specs.declared.source.SourceRef.{SourceRef}
 use Rattle.rez_text.specs.declared.source.SourceGroup.{SourceGroup}
+use Rattle.fork_format.specs.Canonical.{clear}
 use Rattle.rez_text.specs.declared.source.Source.{Source}
 
 -- What a source says, as values.
@@ -18,4 +19,8 @@ abbrev pub group_said : SourceGroup → Group
 group_said g = record { kind = big_number 4 g.ty.0; refs = map ref_said g.refs.items }
 
 abbrev pub content_said : Source → Content
-content_said s = record { area = s.area; attrs = s.attrs; groups = map group_said s.groups.items }
+content_said s = record { area = s.area; attrs = s.attrs; groups = map group_said s.groups.list.items }
+
+-- The content that a source states: what it says without resChanged, mapCompact and mapChanged, which no stored fork has.
+abbrev pub content_stated : Source → Content
+content_stated s = clear (content_said s)

@@ -146,7 +146,7 @@ impl Reader {
         }
     }
 
-    /// Takes a number, and then the byte behind it.
+    /// Takes a number, and then the byte after it.
     fn end_number(&mut self, number: u16, byte: u8) -> Result<(), StepFault>
         ensures { Leads result (state_of self.new) (number_ended number byte (state_of self.old)) }
     {
@@ -194,7 +194,7 @@ impl Reader {
                 self.go_on(Mode::Hexadecimal(digit as u16));
                 Ok(())
             }
-            None => Err(StepFault::Wrong(FaultKind::HexadecimalWanted)),
+            None => Err(StepFault::Wrong(FaultKind::HexadecimalNeeded)),
         }
     }
 

@@ -2,8 +2,10 @@
 #![tactic(auto)]
 
 mod fault;
+mod groups;
 mod laws;
 mod lexing;
+mod line;
 mod mode;
 mod name;
 mod read;

@@ -1,7 +1,7 @@
 //! Where a reader stands: within a token, and within a statement.
 
 ghost use Rattle.std.specs.Prelude.{◌≡◌};
-ghost use Rattle.rez_text.specs.Tokens.{wanted};
+ghost use Rattle.rez_text.specs.Tokens.{needed};
 ghost use Rattle.rez_text.specs.Lexing.{quote_byte};
 
 use crate::fault::FaultKind;
@@ -32,11 +32,11 @@ impl Quote {
 pub(crate) enum Mode {
     /// Between tokens.
     Between,
-    /// Behind a `/`.
+    /// After a `/`.
     Slash,
     /// In a comment that `*/` ends.
     Comment,
-    /// In such a comment, behind a `*`.
+    /// In such a comment, after a `*`.
     Star,
     /// In a comment that the line's end ends.
     LineComment,
@@ -44,23 +44,23 @@ pub(crate) enum Mode {
     Word,
     /// In a decimal number, with what its digits write so far.
     Decimal(u16),
-    /// Behind a `$`.
+    /// After a `$`.
     Dollar,
     /// In a hexadecimal number, with what its digits write so far.
     Hexadecimal(u16),
     /// In a hexadecimal string, between bytes.
     HexString,
-    /// In a hexadecimal string, behind the high digit of a byte.
+    /// In a hexadecimal string, after the high digit of a byte.
     HexHalf(u8),
     /// In a name or a type.
     Quoted(Quote),
-    /// There, behind a `\`.
+    /// There, after a `\`.
     Escape(Quote),
-    /// There, behind `\0`.
+    /// There, after `\0`.
     EscapeZero(Quote),
-    /// There, behind `\0x`.
+    /// There, after `\0x`.
     EscapeHigh(Quote),
-    /// There, behind `\0x` and the high digit.
+    /// There, after `\0x` and the high digit.
     EscapeLow(Quote, u8),
 }
 
@@ -75,14 +75,14 @@ pub(crate) enum Place {
     Parenthesis,
     /// An ID.
     Id,
-    /// A number, behind a minus.
+    /// A number, after a minus.
     Negative,
     /// A comma before a name or an attribute, or a closing parenthesis.
-    BehindId,
+    AfterId,
     /// A name or an attribute.
     NameOrAttribute,
     /// A comma before an attribute, or a closing parenthesis.
-    BehindArgument,
+    AfterArgument,
     /// An attribute.
     Attribute,
     /// An opening brace.
@@ -95,20 +95,20 @@ pub(crate) enum Place {
 
 impl Place {
     /// Returns what is wrong where something else stands.
-    pub fn wanted(self) -> FaultKind
-        ensures { result ≡ wanted self }
+    pub fn needed(self) -> FaultKind
+        ensures { result ≡ needed self }
     {
         match self {
             Place::Outside => FaultKind::NotAStatement,
-            Place::Type => FaultKind::TypeWanted,
-            Place::Parenthesis => FaultKind::ParenthesisWanted,
-            Place::Id | Place::Negative => FaultKind::IdWanted,
-            Place::BehindId | Place::BehindArgument => FaultKind::EndOfArgumentsWanted,
-            Place::NameOrAttribute => FaultKind::NameOrAttributeWanted,
-            Place::Attribute => FaultKind::AttributeWanted,
-            Place::Brace => FaultKind::BraceWanted,
-            Place::Data => FaultKind::DataWanted,
-            Place::Semicolon => FaultKind::SemicolonWanted,
+            Place::Type => FaultKind::TypeNeeded,
+            Place::Parenthesis => FaultKind::ParenthesisNeeded,
+            Place::Id | Place::Negative => FaultKind::IdNeeded,
+            Place::AfterId | Place::AfterArgument => FaultKind::EndOfArgumentsNeeded,
+            Place::NameOrAttribute => FaultKind::NameOrAttributeNeeded,
+            Place::Attribute => FaultKind::AttributeNeeded,
+            Place::Brace => FaultKind::BraceNeeded,
+            Place::Data => FaultKind::DataNeeded,
+            Place::Semicolon => FaultKind::SemicolonNeeded,
         }
     }
 }

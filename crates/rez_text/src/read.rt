@@ -1,27 +1,16 @@
 //! Reading a source.
 
-ghost use Rattle.std.specs.Prelude.{◌≡◌, ◌<◌, ◌-◌, ◌^◌};
+ghost use Rattle.std.specs.Prelude.{◌≡◌};
 ghost use Rattle.rez_text.specs.State.{state_of};
-ghost use Rattle.rez_text.specs.View.{content_said};
-ghost use Rattle.rez_text.specs.Reading.{finish as finished, read, line_behind, GivesAt, Ends, Finishes, fault_at};
+ghost use Rattle.rez_text.specs.View.{content_stated};
+ghost use Rattle.rez_text.specs.Reading.{finish as finished, read, GivesAt, Ends, Finishes};
 
-use crate::fault::{FaultKind, SourceFault, StepFault, TextFault};
+use crate::fault::{FaultKind, SourceFault, StepFault};
+use crate::line::Lines;
 use crate::mode::{Mode, Place};
 use crate::reader::Reader;
 use crate::source::Source;
 use std::alloc::Global;
-
-impl StepFault {
-    /// Returns the fault with the number of its line.
-    fn at(self, line: usize) -> SourceFault
-        ensures { result ≡ fault_at line self }
-    {
-        match self {
-            StepFault::Wrong(kind) => SourceFault::Text(TextFault { line, kind }),
-            StepFault::Memory => SourceFault::HostMemory,
-        }
-    }
-}
 
 impl Reader {
     /// Returns what is wrong where the text ends so, if something is.
@@ -31,7 +20,7 @@ impl Reader {
         match self.mode {
             Mode::Between => match self.place {
                 Place::Outside => None,
-                place => Some(place.wanted()),
+                place => Some(place.needed()),
             },
             Mode::Comment | Mode::Star => Some(FaultKind::OpenComment),
             _ => Some(FaultKind::OpenString),
@@ -51,18 +40,6 @@ impl Reader {
     }
 }
 
-/// Returns the number of the line behind a byte.
-fn line_after(byte: u8, returned: bool, line: usize) -> usize
-    requires { line < 2 ^ 64 - 1 }
-    ensures { result ≡ line_behind byte returned line }
-{
-    if byte == b'\r' || (byte == b'\n' && !returned) {
-        line + 1
-    } else {
-        line
-    }
-}
-
 /// Reads the source of a resource fork's content: statements `data`, as `write_source` prints them or as a person
 /// writes them.
 ///
@@ -72,21 +49,19 @@ fn line_after(byte: u8, returned: bool, line: usize) -> usize
 /// host is out of memory.
 #[tactic(auto, unfolding(crate::specs::Reading::read))]
 pub fn read_source(alloc: Global, source: &[u8]) -> Result<Source, SourceFault>
-    ensures { GivesAt content_said result (read source.now) }
+    ensures { GivesAt content_stated result (read source.now) }
 {
     let mut reader = Reader::new(alloc);
-    let mut line = 1;
-    let mut returned = false;
+    let mut lines = Lines::new();
     for byte in source {
+        lines = lines.at(reader.mode, *byte);
         match reader.step(*byte) {
             Ok(()) => {}
-            Err(fault) => return Err(fault.at(line)),
+            Err(fault) => return Err(fault.at(lines)),
         }
-        line = line_after(*byte, returned, line);
-        returned = *byte == b'\r';
     }
     match reader.finish() {
         Ok(()) => Ok(reader.source),
-        Err(fault) => Err(fault.at(line)),
+        Err(fault) => Err(fault.at(lines)),
     }
 }

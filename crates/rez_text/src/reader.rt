@@ -1,24 +1,27 @@
 //! Reading a source byte by byte.
 
-ghost use Rattle.std.specs.Prelude.{◌≡◌, ◌==◌, length, Some, Ok, Err, OnOk, map, if◌then◌else◌};
+ghost use Rattle.std.specs.Prelude.{◌≡◌, ◌==◌, [], length, Some, None, Ok, Err, OnOk, map, if◌then◌else◌};
 ghost use Rattle.std.specs.List.{position};
 ghost use Rattle.byteorder.specs.Endian.{big_number};
 ghost use Rattle.rez_text.specs.declared.mode.Place.TheVariants as places;
 ghost use Rattle.rez_text.specs.declared.fault.StepFault.TheVariants.{Wrong};
 ghost use Rattle.rez_text.specs.View.{ref_said, group_said};
+ghost use Rattle.rez_text.specs.Groups.{is_of};
 ghost use Rattle.rez_text.specs.State.{start, state_of, no_ref, Leads, with_ref};
 ghost use Rattle.rez_text.specs.State.{in_mode, gather as gathered, come_to as came_to};
-ghost use Rattle.rez_text.specs.Tokens.{refused, attribute, wanted, with_attributes as attributed, word, type_token};
+ghost use Rattle.rez_text.specs.Tokens.{refused, attribute, needed, with_attributes as attributed, word, type_token};
 ghost use Rattle.rez_text.specs.Tokens.{name, datum, mark, number as number_of, with_id as identified, attributes_in};
 ghost use Rattle.rez_text.specs.Tokens.{with_statement};
 
 use crate::fault::{FaultKind, StepFault};
+use crate::groups::SourceGroups;
 use crate::mode::{Mode, Place, Quote};
 use crate::name::SourceName;
 use crate::source::{Source, SourceGroup, SourceRef};
 use fork_format::kind_of;
 use mac_words::{Attrs, OsType};
 use std::alloc::{AllocError, Global};
+use std::collections::BTreeMap;
 use std::mem::replace;
 
 /// A reader within a source.
@@ -49,32 +52,56 @@ fn no_draft(alloc: Global) -> SourceRef
     }
 }
 
-/// Returns the place of the group of a type.
-fn group_of(groups: &[SourceGroup], kind: u32) -> Option<usize>
-    ensures { result ≡ position (λ (g : SourceGroup). big_number 4 g.ty.0 == kind) groups.now }
-{
-    groups.iter().position(|g| kind_of(g.ty) == kind)
-}
-
-/// Adds a resource as the last one of its type.
-fn add_ref(
-    alloc: Global,
-    groups: &mut Vec<SourceGroup>,
-    ty: OsType,
-    resource: SourceRef,
-) -> Result<(), AllocError>
-    ensures { OnOk result (map group_said groups.new.items
-        ≡ with_ref (big_number 4 ty.0) (ref_said resource) (map group_said groups.old.items)) }
-{
-    match group_of(groups.as_slice(), kind_of(ty)) {
-        Some(place) => groups[place].refs.push(resource)?,
-        None => {
-            let mut refs = Vec::new(alloc);
-            refs.push(resource)?;
-            groups.push(SourceGroup { ty, refs })?;
+impl SourceGroups {
+    /// Makes groups of no resources.
+    fn new(alloc: Global) -> SourceGroups
+        ensures { result.list.items ≡ [] }
+    {
+        SourceGroups {
+            list: Vec::new(alloc),
+            places: BTreeMap::new(alloc),
         }
     }
-    Ok(())
+
+    /// Returns the place of the group of a type.
+    fn place_of(&self, kind: u32) -> Option<usize>
+        ensures { result ≡ position (is_of kind) self.now.list.items }
+    {
+        self.places.get(&kind).copied()
+    }
+
+    /// Adds a resource in a group after all others. The type is new.
+    fn open(&mut self, alloc: Global, ty: OsType, resource: SourceRef) -> Result<(), AllocError>
+        requires { position (is_of (big_number 4 ty.0)) self.old.list.items ≡ None }
+        ensures { OnOk result (map group_said self.new.list.items
+            ≡ with_ref (big_number 4 ty.0) (ref_said resource) (map group_said self.old.list.items)) }
+    {
+        let place = self.list.len();
+        let mut refs = Vec::new(alloc);
+        refs.push(resource)?;
+        self.list.push(SourceGroup { ty, refs })?;
+        match self.places.insert(kind_of(ty), place) {
+            Ok(_) => Ok(()),
+            Err(_) => {
+                self.list.truncate(place);
+                Err(AllocError)
+            }
+        }
+    }
+
+    /// Adds a resource as the last one of its type.
+    fn add(&mut self, alloc: Global, ty: OsType, resource: SourceRef) -> Result<(), AllocError>
+        ensures { OnOk result (map group_said self.new.list.items
+            ≡ with_ref (big_number 4 ty.0) (ref_said resource) (map group_said self.old.list.items)) }
+    {
+        match self.place_of(kind_of(ty)) {
+            Some(place) => {
+                self.list[place].refs.push(resource)?;
+                Ok(())
+            }
+            None => self.open(alloc, ty, resource),
+        }
+    }
 }
 
 /// Returns the attribute that a word states, by its bit.
@@ -110,7 +137,7 @@ impl Reader {
             source: Source {
                 area: [0; 240],
                 attrs: 0,
-                groups: Vec::new(alloc),
+                groups: SourceGroups::new(alloc),
             },
             alloc,
         }
@@ -118,9 +145,9 @@ impl Reader {
 
     /// Returns the fault of a token that may not stand here.
     pub fn refuse(&self) -> StepFault
-        ensures { result ≡ Wrong (wanted self.now.place) }
+        ensures { result ≡ Wrong (needed self.now.place) }
     {
-        StepFault::Wrong(self.place.wanted())
+        StepFault::Wrong(self.place.needed())
     }
 
     /// Goes on with another part of a token.
@@ -153,7 +180,7 @@ impl Reader {
         ensures { Ok (state_of self.new) ≡ attributed (Some bits) (state_of self.old) }
     {
         self.draft.attrs |= bits;
-        self.come_to(Place::BehindArgument);
+        self.come_to(Place::AfterArgument);
     }
 
     /// Takes a word as an attribute.
@@ -209,7 +236,7 @@ impl Reader {
         ensures { state_of self.new ≡ identified id (state_of self.old) }
     {
         self.draft.id = id;
-        self.come_to(Place::BehindId);
+        self.come_to(Place::AfterId);
     }
 
     /// Takes a number as attributes.
@@ -261,7 +288,7 @@ impl Reader {
                 }
                 let bytes = replace(&mut self.gathered, Vec::new(self.alloc));
                 self.draft.name = Some(SourceName { bytes });
-                self.come_to(Place::BehindArgument);
+                self.come_to(Place::AfterArgument);
                 Ok(())
             }
             _ => Err(self.refuse()),
@@ -290,13 +317,13 @@ impl Reader {
         ensures { Leads result (state_of self.new) (Ok (with_statement (state_of self.old))) }
     {
         let resource = replace(&mut self.draft, no_draft(self.alloc));
-        add_ref(self.alloc, &mut self.source.groups, self.ty, resource)?;
+        self.source.groups.add(self.alloc, self.ty, resource)?;
         self.ty = OsType([0; 4]);
         self.come_to(Place::Outside);
         Ok(())
     }
 
-    /// Takes a mark where it is the one that is wanted, and comes to a place.
+    /// Takes a mark where it is the one that is needed, and comes to a place.
     pub fn take_one(&mut self, is_it: bool, place: Place) -> Result<(), StepFault>
         ensures { Leads result (state_of self.new)
             (if is_it then Ok (came_to place (state_of self.old)) else refused (state_of self.old)) }
@@ -330,8 +357,8 @@ impl Reader {
         match self.place {
             Place::Parenthesis => self.take_one(byte == b'(', Place::Id),
             Place::Id => self.take_one(byte == b'-', Place::Negative),
-            Place::BehindId => self.take_end(byte, Place::NameOrAttribute),
-            Place::BehindArgument => self.take_end(byte, Place::Attribute),
+            Place::AfterId => self.take_end(byte, Place::NameOrAttribute),
+            Place::AfterArgument => self.take_end(byte, Place::Attribute),
             Place::Brace => self.take_one(byte == b'{', Place::Data),
             Place::Data => self.take_one(byte == b'}', Place::Semicolon),
             Place::Semicolon => {

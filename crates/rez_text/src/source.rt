@@ -2,8 +2,10 @@
 
 ghost use Rattle.std.specs.Prelude.{◌≡◌, IfOk};
 ghost use Rattle.fork_format.specs.View.{view_name, view_ref, view_group, view};
-ghost use Rattle.rez_text.specs.View.{name_said, ref_said, group_said, content_said};
+ghost use Rattle.fork_format.specs.Canonical.{clear_ref, clear_group};
+ghost use Rattle.rez_text.specs.View.{name_said, ref_said, group_said, content_stated};
 
+use crate::groups::SourceGroups;
 use crate::name::SourceName;
 use fork_format::{Content, Group, Ref, RefName};
 use mac_words::{Attrs, OsType};
@@ -25,12 +27,15 @@ pub(crate) struct SourceGroup {
     pub refs: Vec<SourceRef>,
 }
 
+/// The attributes of a map that a stored fork has: all but `mapCompact` and `mapChanged`.
+const STORED: u16 = 0xff9f;
+
 /// The content that a source states.
 #[derive(Drop)]
 pub struct Source {
     pub(crate) area: [u8; 240],
     pub(crate) attrs: u16,
-    pub(crate) groups: Vec<SourceGroup>,
+    pub(crate) groups: SourceGroups,
 }
 
 /// Returns the name of a resource, lent.
@@ -45,21 +50,21 @@ fn lend_name(name: &Option<SourceName>) -> Option<RefName<'_>>
     }
 }
 
-/// Returns a resource, with its name and its data lent.
+/// Returns a resource without `resChanged`, with its name and its data lent.
 fn lend_ref(resource: &SourceRef) -> Ref<'_>
-    ensures { view_ref result ≡ ref_said resource.now }
+    ensures { view_ref result ≡ clear_ref (ref_said resource.now) }
 {
     Ref {
         id: resource.id,
         name: lend_name(&resource.name),
-        attrs: Attrs(resource.attrs),
+        attrs: Attrs(resource.attrs).unchanged(),
         datum: resource.datum.as_slice(),
     }
 }
 
-/// Returns a group of resources, whose names and data are lent.
+/// Returns a group of resources without `resChanged`, whose names and data are lent.
 fn lend_group(alloc: Global, group: &SourceGroup) -> Result<Group<'_>, AllocError>
-    ensures { IfOk result (λ g. view_group g ≡ group_said group.now) }
+    ensures { IfOk result (λ g. view_group g ≡ clear_group (group_said group.now)) }
 {
     let mut refs = Vec::new(alloc);
     for resource in &group.refs {
@@ -69,17 +74,18 @@ fn lend_group(alloc: Global, group: &SourceGroup) -> Result<Group<'_>, AllocErro
 }
 
 impl Source {
-    /// Returns the content that the source states. Names and stored data are lent.
+    /// Returns the content that the source states, without the attributes that no stored fork has: `resChanged` of a
+    /// resource, and `mapCompact` and `mapChanged` of the map. Names and stored data are lent.
     pub fn content(&self, alloc: Global) -> Result<Content<'_>, AllocError>
-        ensures { IfOk result (λ content. view content ≡ content_said self.now) }
+        ensures { IfOk result (λ content. view content ≡ content_stated self.now) }
     {
         let mut groups = Vec::new(alloc);
-        for group in &self.groups {
+        for group in &self.groups.list {
             groups.push(lend_group(alloc, group)?)?;
         }
         Ok(Content {
             area: self.area,
-            attrs: self.attrs,
+            attrs: self.attrs & STORED,
             groups,
         })
     }

@@ -4,7 +4,7 @@ ghost use Rattle.std.specs.Prelude.{◌≡◌, ◌<◌, ◌≤◌, ◌==◌, ◌
 ghost use Rattle.std.specs.List.{flat_map, list_all};
 ghost use Rattle.std.specs.Fmt.{signed_decimal};
 ghost use Rattle.fork_format.specs.View.{view_name, view_ref, view_group, view};
-ghost use Rattle.rez_text.specs.Printing.{hex_digit, byte_hex, gap, grouped, is_printable as is_printable_of, shown};
+ghost use Rattle.rez_text.specs.Printing.{byte_hex, gap, grouped, is_printable as is_printable_of, shown};
 ghost use Rattle.rez_text.specs.Printing.{margin, hex_column, text_column, data_line, data_lines, line_count, escaped};
 ghost use Rattle.rez_text.specs.Printing.{in_quotes, name_argument, word_for, attribute_words, attributes_argument};
 ghost use Rattle.rez_text.specs.Printing.{type_literal, opening, statement_head, statement, group_statements};
@@ -14,7 +14,7 @@ ghost use Rattle.rez_text.specs.Printing.{area_remark, source_of};
 use byteorder::{BigEndian, ByteOrder};
 use fork_format::{Content, Group, Ref, RefName, kind_of};
 use itoa::Buffer;
-use mac_words::Attrs;
+use mac_words::{Attrs, upper_digit};
 use std::alloc::{AllocError, Global};
 
 /// The most bytes of a line of data.
@@ -23,19 +23,11 @@ const LINE_ROOM: usize = 78;
 /// The room for a statement's lines without data.
 const STATEMENT_ROOM: usize = 128;
 
-/// Returns the hexadecimal digit of a value below 16, in upper case.
-fn digit_of(value: u8) -> u8
-    requires { value < 16 }
-    ensures { result ≡ hex_digit value }
-{
-    if value < 10 { b'0' + value } else { 55 + value }
-}
-
 /// Appends a byte in hexadecimal.
 fn push_hex(out: &mut Vec<u8>, byte: u8) -> Result<(), AllocError>
     ensures { OnOk result (out.new.items ≡ out.old.items ++ byte_hex byte) }
 {
-    out.extend_from_slice(&[digit_of(byte / 16), digit_of(byte % 16)])?;
+    out.extend_from_slice(&[upper_digit(byte / 16), upper_digit(byte % 16)])?;
     Ok(())
 }
 
@@ -134,7 +126,7 @@ fn push_data_line(out: &mut Vec<u8>, bytes: &[u8]) -> Result<(), AllocError>
     push_text_column(out, bytes)
 }
 
-/// Returns the first 16 bytes, or all that there are, and the bytes behind them.
+/// Returns the first 16 bytes, or all that there are, and the bytes after them.
 #[tactic(auto, using(crate::proofs::Appending::take_all, crate::proofs::Appending::drop_all))]
 fn first_line(bytes: &[u8]) -> (&[u8], &[u8])
     requires { 0 < length bytes.now }
@@ -175,7 +167,13 @@ fn push_escaped(out: &mut Vec<u8>, quote: u8, byte: u8) -> Result<(), AllocError
     } else if is_printable(byte) {
         out.push(byte)?;
     } else {
-        out.extend_from_slice(&[b'\\', b'0', b'x', digit_of(byte / 16), digit_of(byte % 16)])?;
+        out.extend_from_slice(&[
+            b'\\',
+            b'0',
+            b'x',
+            upper_digit(byte / 16),
+            upper_digit(byte % 16),
+        ])?;
     }
     Ok(())
 }
@@ -200,7 +198,7 @@ fn push_quoted(out: &mut Vec<u8>, quote: u8, bytes: &[u8]) -> Result<(), AllocEr
     Ok(())
 }
 
-/// Appends a name behind a comma, where there is one.
+/// Appends a name after a comma, where there is one.
 fn push_name(out: &mut Vec<u8>, name: &Option<RefName<'_>>) -> Result<(), AllocError>
     ensures { OnOk result (out.new.items ≡ out.old.items ++ name_argument (view_name name.now)) }
 {
@@ -211,7 +209,7 @@ fn push_name(out: &mut Vec<u8>, name: &Option<RefName<'_>>) -> Result<(), AllocE
     Ok(())
 }
 
-/// Appends the word of an attribute behind a comma, where the attributes have its bit.
+/// Appends the word of an attribute after a comma, where the attributes have its bit.
 fn push_word(out: &mut Vec<u8>, bit: u8, word: &[u8], attrs: u8) -> Result<(), AllocError>
     ensures { OnOk result (out.new.items ≡ out.old.items ++ word_for bit word.now attrs) }
 {
@@ -361,7 +359,7 @@ fn push_area_lines(out: &mut Vec<u8>, area: &[u8]) -> Result<(), AllocError>
     Ok(())
 }
 
-/// Appends the bytes behind the header as a comment.
+/// Appends the bytes after the header as a comment.
 fn push_area_comment(out: &mut Vec<u8>, area: &[u8]) -> Result<(), AllocError>
     ensures { OnOk result (out.new.items ≡ out.old.items ++ area_comment area.now) }
 {
@@ -384,7 +382,7 @@ fn are_zero(bytes: &[u8]) -> bool
     bytes.iter().all(|b| is_zero(*b))
 }
 
-/// Appends the bytes behind the header, where they aren't all 0.
+/// Appends the bytes after the header, where they aren't all 0.
 fn push_area(out: &mut Vec<u8>, area: &[u8]) -> Result<(), AllocError>
     ensures { OnOk result (out.new.items ≡ out.old.items ++ area_remark area.now) }
 {
@@ -408,7 +406,7 @@ fn room_for(groups: &[Group<'_>]) -> usize {
 }
 
 /// Prints a content as source of Rez: a statement `data` for each resource, in order of types and resources. The
-/// attributes of the map and the 240 bytes behind the header stand before them as comments, where they aren't 0.
+/// attributes of the map and the 240 bytes after the header stand before them as comments, where they aren't 0.
 #[tactic(auto, unfolding(crate::specs::Printing::source_of))]
 pub fn write_source(alloc: Global, content: &Content<'_>) -> Result<Vec<u8>, AllocError>
     ensures { IfOk result (λ source. source.items ≡ source_of (view content.now)) }

@@ -4,6 +4,7 @@ use Rattle.std.specs.Prelude.{if◌then◌else◌}
 use Rattle.std.specs.List.{list_any, filter_map, position_from}
 use Rattle.std.specs.Option.{ok_or, is_none}
 use Rattle.std.specs.Str.Lines.{lines}
+use Rattle.windows.specs.declared.list.TheConstants.{GREATEST_MEMORY}
 use Rattle.script_text.specs.declared.fault.FaultKind.{FaultKind}
 use Rattle.script_text.specs.declared.fault.FaultKind.TheVariants.{UnknownCall, BadArgument, LongLine}
 use Rattle.script_text.specs.declared.job.Event.{Event}
@@ -89,9 +90,9 @@ abbrev pub least_memory : ℕ
 least_memory = 512
 
 abbrev pub greatest_memory : ℕ
-greatest_memory = 134217728
+greatest_memory = GREATEST_MEMORY
 
--- Whether a job may have a memory of n bytes: 512 to 134217728, a multiple of 16.
+-- Whether a job may have a memory of n bytes: 512 to 2^27, a multiple of 16.
 abbrev pub is_memory : ℕ → Bool
 is_memory n = nat_le least_memory n && nat_le n greatest_memory && n % 16 == 0
 

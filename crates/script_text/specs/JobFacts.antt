@@ -6,7 +6,7 @@ use Rattle.script_text.specs.Job.{Input, app_names, file_names, may_follow, leas
 
 -- What holds of every job that is read.
 
--- A memory has 512 to 134217728 bytes, a multiple of 16.
+-- A memory has 512 to 2^27 bytes, a multiple of 16.
 pub record IsMemory (n : ℕ) : Type 0 where
   pub least : least_memory ≤ n
   pub most : n ≤ greatest_memory

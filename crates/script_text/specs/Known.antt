@@ -1,14 +1,11 @@
 use Rattle.std.specs.Prelude.{ℕ, zero, suc, ◌≡◌, nat_lt, Bool, true, false, ◌&&◌, ◌||◌, not, List, [], ◌∷◌, ◌++◌, map, length}
-use Rattle.std.specs.Prelude.{bytes_eq}
-use Rattle.std.specs.BTreeSet.{insert_key}
-use Rattle.std.specs.Cmp.Lexicographic.{slice_cmp}
+use Rattle.std.specs.Prelude.{bytes_eq, if◌then◌else◌}
 use Rattle.std.specs.List.{list_any}
-use Rattle.std.specs.Ordering.{nat_cmp}
 use Rattle.script_text.specs.Job.{Input, System, App, File, is_system, app_names, given_names, has_name}
 
 -- What is known of the inputs of a job while they are read, so that a new one is not compared with each of them.
 
--- An application: its name, and the names of the files that lines give to it, in the order of their bytes.
+-- An application: its name, and the names of the files that lines give to it, in the order of the lines.
 pub record KnownApp : Type 0 where
   pub name : List ℕ
   pub files : List (List ℕ)
@@ -32,9 +29,9 @@ known_files n [] = []
 known_files zero (a ∷ apps) = a.files
 known_files (suc n) (a ∷ apps) = known_files n apps
 
--- Names in the order of their bytes, with one more.
+-- Names with one more, which stands last if it is new.
 abbrev pub put_name : List ℕ → List (List ℕ) → List (List ℕ)
-put_name name names = insert_key (slice_cmp nat_cmp) names name
+put_name name names = if has_name name names then names else names ++ name ∷ []
 
 -- An application that has one more file.
 abbrev pub with_file : List ℕ → KnownApp → KnownApp
@@ -71,13 +68,8 @@ may_join known (System path) = not known.system
 may_join known (App name fork script) = nat_lt (length known.apps) 64 && not (has_name name (known_names known.apps))
 may_join known (File app name path) = may_have_at app name known.apps
 
--- The same names, and as many.
-pub record AreSameNames (xs : List (List ℕ)) (ys : List (List ℕ)) : Type 0 where
-  pub many : length xs ≡ length ys
-  pub among : (name : List ℕ) → has_name name xs ≡ has_name name ys
-
 -- What is known is so of these inputs.
 pub record IsKnown (known : Known) (inputs : List Input) : Type 0 where
   pub system : known.system ≡ list_any is_system inputs
   pub names : known_names known.apps ≡ app_names inputs
-  pub files : (n : ℕ) → AreSameNames (known_files n known.apps) (given_names n inputs)
+  pub files : (n : ℕ) → known_files n known.apps ≡ given_names n inputs

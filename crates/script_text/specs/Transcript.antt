@@ -1,8 +1,9 @@
-use Rattle.std.specs.Prelude.{ℕ, ℤ, pos, ◌+◌, ◌/◌, ◌%◌, nat_lt, Option, Some, None, List, [], ◌∷◌, ◌++◌, map, codes}
+use Rattle.std.specs.Prelude.{ℕ, ℤ, pos, ◌/◌, ◌%◌, Option, Some, None, List, [], ◌∷◌, ◌++◌, map, codes}
 use Rattle.std.specs.Prelude.{Box, decimal, if◌then◌else◌}
 use Rattle.std.specs.Fmt.{signed_decimal}
 use Rattle.std.specs.Global.{Global}
 use Rattle.std.specs.Ordering.{int_eq}
+use Rattle.mac_words.specs.Digits.{lower_digit}
 use Rattle.mac_words.specs.declared.name.Name.{Name}
 use Rattle.mac_words.specs.declared.name.OsType.{OsType}
 use Rattle.mac_words.specs.declared.reply.Reply.{Reply}
@@ -14,14 +15,10 @@ pub data Shown : Type 0 where
   Number : (number : ℤ) → Shown
   Bytes : (bytes : List ℕ) → Shown
 
--- A hexadecimal digit, in lower case.
-abbrev pub hex_digit : ℕ → ℕ
-hex_digit n = if nat_lt n 10 then 48 + n else 87 + n
-
--- Bytes in hexadecimal, two digits each.
+-- Bytes in hexadecimal, two digits each in lower case.
 abbrev pub hex : List ℕ → List ℕ
 hex [] = []
-hex (b ∷ bytes) = hex_digit (b / 16) ∷ hex_digit (b % 16) ∷ hex bytes
+hex (b ∷ bytes) = lower_digit (b / 16) ∷ lower_digit (b % 16) ∷ hex bytes
 
 -- A value as it is written, after a blank: a number in decimal, or $ and bytes in hexadecimal.
 abbrev pub shown : Shown → List ℕ

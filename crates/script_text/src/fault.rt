@@ -5,21 +5,27 @@ ghost use Rattle.script_text.specs.Fault.{number_of, line_of};
 ghost use Rattle.script_text.specs.declared.fault.FaultKind.TheVariants.{HostMemory};
 
 use std::alloc::{AllocError, AllocFailed};
+use thiserror::Error;
 
 /// What is wrong with a line, or with the host.
-#[derive(Clone, Copy, Debug, PartialEq, Eq)]
+#[derive(Clone, Copy, Debug, PartialEq, Eq, Error)]
 pub enum FaultKind {
     /// The line's first word is no call, or no word of a job. Outside a grow-zone script `end` is no call.
+    #[error("the first word is not known")]
     UnknownCall,
     /// An argument is missing, is one too many, or is not spelled as its kind asks; the name of a new grow-zone
     /// script is used already, or is `none`; a `grow` has no `end`, or `SetGrowZone` names a grow-zone script that is
     /// not there. In a job, a line that may not stand where it does has this fault too.
+    #[error("an argument is missing or wrong, or the line may not stand here")]
     BadArgument,
     /// The call may not stand in a grow-zone script, or is a `grow` in one.
+    #[error("the call may not stand in a grow-zone script")]
     NotAllowed,
     /// The line has more than 65,535 bytes, its end not counted.
+    #[error("the line has more than 65,535 bytes")]
     LongLine,
     /// The host is out of memory. This fault says nothing about the text.
+    #[error("the host is out of memory")]
     HostMemory,
 }
 
@@ -55,7 +61,8 @@ impl<T: Drop> From<AllocFailed<T>> for FaultKind {
 }
 
 /// Why a script or a job could not be read: its first faulty line, and what is wrong with that line.
-#[derive(Clone, Copy, Debug, PartialEq, Eq)]
+#[derive(Clone, Copy, Debug, PartialEq, Eq, Error)]
+#[error("line {line}: {kind}")]
 pub struct ScriptFault {
     /// The number of the line, from 1 on, skipped lines counted; 0 for `HostMemory`.
     pub line: usize,

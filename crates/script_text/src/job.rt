@@ -18,11 +18,10 @@ use crate::token::{first_blank, trim};
 use mac_words::{FileName, Label};
 use std::alloc::Global;
 use std::marker::Model;
+use windows::GREATEST_MEMORY;
 
-/// The least and the greatest memory of a job, in bytes.
+/// The least memory of a job in bytes.
 const LEAST_MEMORY: u32 = 512;
-
-const GREATEST_MEMORY: u32 = 134_217_728;
 
 /// What a job takes from outside. Paths are lent from the job's text, and may be empty.
 #[derive(Debug, Drop)]
@@ -292,7 +291,7 @@ fn read_lines<'t>(alloc: Global, text: &'t [u8]) -> Result<Reader<'t>, ScriptFau
 /// Returns the first faulty line with its fault. In a line, a length over 65,535 bytes comes first, then an unknown
 /// first word, then a bad argument. A line that may not stand where it does is a bad argument: any line but `memory`
 /// as the first, a second `memory` or `system`, and an input after an event. So is a memory that is not a multiple of
-/// 16 from 512 to 134217728, a 65th application, a 256th `file` line of one application, an application's name that
+/// 16 from 512 to 134,217,728, a 65th application, a 256th `file` line of one application, an application's name that
 /// is used already or is not defined, and a file's name that its application has already, the application's own name
 /// among them. A job without a line to read is a bad argument at line 1. The fault is `HostMemory` where the host is
 /// out of memory.

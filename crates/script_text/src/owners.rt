@@ -7,9 +7,9 @@ ghost use Rattle.script_text.specs.Known.{Known, KnownApp, none_known, known_nam
 ghost use Rattle.script_text.specs.Known.{may_have, may_have_at, may_join};
 
 use crate::job::Input;
+use indexmap::IndexSet;
 use mac_words::{FileName, Label};
 use std::alloc::{AllocError, Global};
-use std::collections::BTreeSet;
 use std::marker::Model;
 
 /// Returns a copy of a file's name.
@@ -19,12 +19,12 @@ fn copy_of(name: &FileName) -> Result<FileName, AllocError>
     name.clone()
 }
 
-/// An application's name, and the names of the files that lines give to it. Names are compared, not hashed: no choice
-/// of names makes a look-up slow.
+/// An application's name, and the names of the files that lines give to it, in the order of the lines. There are at most
+/// 255 of them, so no choice of names makes a look-up slow.
 #[derive(Drop)]
 struct Owner {
     name: Label,
-    files: BTreeSet<FileName>,
+    files: IndexSet<FileName>,
 }
 
 impl Model for Owner {
@@ -40,7 +40,7 @@ impl Owner {
     {
         Ok(Owner {
             name: name.clone()?,
-            files: BTreeSet::new(alloc),
+            files: IndexSet::new(alloc),
         })
     }
 

@@ -21,6 +21,7 @@ use crate::token::{first_blank, trim};
 use crate::word::CallWord;
 use mac_words::{Call, ControlCall, Label};
 use std::alloc::{AllocError, Global};
+use std::hash::{DefaultHasher, Hasher};
 use std::marker::Model;
 
 /// A line of a script that holds a call.
@@ -36,6 +37,8 @@ pub struct Line {
 pub struct Script {
     steps: Vec<Line>,
     blocks: Blocks,
+    /// A digest of the script's text.
+    digest: u64,
 }
 
 impl Model for Script {
@@ -69,6 +72,12 @@ impl Script {
         ensures allowed { are_allowed result.now ≡ true }
     {
         self.blocks.lines(name)
+    }
+
+    /// Returns a digest of all bytes of the script's text. A map that hashes by it has no look-up slow, since no names
+    /// can be chosen by a digest that depends on them.
+    pub fn digest(&self) -> u64 {
+        self.digest
     }
 }
 
@@ -281,6 +290,13 @@ fn read_lines(alloc: Global, text: &[u8]) -> Result<Reader, ScriptFault>
     Ok(reader)
 }
 
+/// Returns a digest of all bytes of a text, by SipHash.
+fn digest_of(text: &[u8]) -> u64 {
+    let mut hasher = DefaultHasher::new();
+    hasher.write(text);
+    hasher.finish()
+}
+
 /// Reads a script. A line ends with LF; a CR right before the LF is dropped, and the last LF may be missing. Tokens
 /// are separated by spaces or tabs. A line without tokens, or whose first token begins with `#`, is skipped. Every
 /// other line is the name of a call and its arguments, or belongs to a grow-zone script: a line `grow NAME`, lines of
@@ -309,6 +325,7 @@ pub fn read_script(alloc: Global, text: &[u8]) -> Result<Script, ScriptFault>
         None => Ok(Script {
             steps: reader.steps,
             blocks: reader.blocks,
+            digest: digest_of(text),
         }),
     }
 }

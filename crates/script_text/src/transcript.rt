@@ -5,13 +5,13 @@ ghost use Rattle.std.specs.Prelude.{◌≡◌, ◌+◌, ◌<◌, ◌≤◌, [], 
 ghost use Rattle.std.specs.Prelude.{vec_len, vec_capacity};
 ghost use Rattle.std.specs.Option.{option_map};
 ghost use Rattle.std.specs.Fmt.{signed_decimal};
-ghost use Rattle.script_text.specs.Transcript.{Number, Bytes, hex, hex_digit, shown_all, bytes_shown, type_shown};
+ghost use Rattle.script_text.specs.Transcript.{Number, Bytes, hex, shown_all, bytes_shown, type_shown};
 ghost use Rattle.script_text.specs.Transcript.{name_shown, values_of, launch_line, end_line, call_at, outcome};
 ghost use Rattle.script_text.specs.Transcript.{reply_line, grow_line};
 
 use crate::word::CallWord;
 use itoa::Buffer;
-use mac_words::{Name, OsErr, OsType, Reply};
+use mac_words::{Name, OsErr, OsType, Reply, lower_digit};
 use std::alloc::AllocError;
 
 /// The room, in bytes, that is enough for the first line of a transcript.
@@ -44,18 +44,6 @@ pub(crate) fn cut_if_failed(
     appended
 }
 
-/// Returns the hexadecimal digit of a value below 16, in lower case.
-fn digit_of(value: u8) -> u8
-    requires { value < 16 }
-    ensures { result ≡ hex_digit value }
-{
-    if value < 10 {
-        b'0' + value
-    } else {
-        b'a' - 10 + value
-    }
-}
-
 /// Appends a few bytes in hexadecimal.
 fn push_few_hex(text: &mut Vec<u8>, bytes: &[u8]) -> Result<(), AllocError>
     ensures digits { OnOk result (text.new.items ≡ text.old.items ++ hex bytes.now) }
@@ -63,8 +51,8 @@ fn push_few_hex(text: &mut Vec<u8>, bytes: &[u8]) -> Result<(), AllocError>
     ensures capacity { vec_capacity text.old ≤ vec_capacity text.new }
 {
     for byte in bytes {
-        text.push(digit_of(*byte / 16))?;
-        text.push(digit_of(*byte % 16))?;
+        text.push(lower_digit(*byte / 16))?;
+        text.push(lower_digit(*byte % 16))?;
     }
     Ok(())
 }
@@ -78,14 +66,14 @@ pub(crate) fn push_hex(text: &mut Vec<u8>, bytes: &[u8]) -> Result<(), AllocErro
     let mut rest = bytes;
     while let [a, b, c, d, more @ ..] = rest {
         let digits = [
-            digit_of(*a / 16),
-            digit_of(*a % 16),
-            digit_of(*b / 16),
-            digit_of(*b % 16),
-            digit_of(*c / 16),
-            digit_of(*c % 16),
-            digit_of(*d / 16),
-            digit_of(*d % 16),
+            lower_digit(*a / 16),
+            lower_digit(*a % 16),
+            lower_digit(*b / 16),
+            lower_digit(*b % 16),
+            lower_digit(*c / 16),
+            lower_digit(*c % 16),
+            lower_digit(*d / 16),
+            lower_digit(*d % 16),
         ];
         text.extend_from_slice(&digits)?;
         rest = more;

@@ -1,5 +1,5 @@
 -- A byte outside what is written over is as it was.
-use Rattle.std.proofs.Common.{◌≡◌, ℕ, ◌+◌, ◌≤◌, ◌<◌, inl, inr, zero, suc, List, [], ◌∷◌, Option, Some, None, length}
+use Rattle.std.proofs.Common.{◌≡◌, ℕ, ◌+◌, ◌≤◌, inl, inr, zero, suc, List, [], ◌∷◌, Option, Some, None, length}
 use Rattle.std.proofs.Common.{slice_get, refl, sym, ◌∙◌, ap, arith}
 use Rattle.windows.specs.declared.Window.{Window}
 use Rattle.windows.specs.Outside.{IsOutside}

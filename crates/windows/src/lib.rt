@@ -4,7 +4,7 @@
 
 mod list;
 
-pub use list::{MOST_WINDOWS, put_window, take_window};
+pub use list::{GREATEST_MEMORY, MOST_WINDOWS, put_window, take_window};
 
 /// A window of a memory: the `len` bytes from the place `at` on.
 #[derive(Clone, Copy, Debug, PartialEq, Eq, Drop)]

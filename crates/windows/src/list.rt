@@ -6,6 +6,9 @@ ghost use Rattle.windows.specs.Windows.{ends_by, is_window, with_window, without
 
 use super::Window;
 
+/// The greatest size of a memory in bytes: 2^27.
+pub const GREATEST_MEMORY: u32 = 134_217_728;
+
 /// The greatest number of windows of a memory that are open at a time.
 pub const MOST_WINDOWS: usize = 64;
 

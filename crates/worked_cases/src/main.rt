@@ -21,15 +21,15 @@ use trial::{Count, try_cases};
 fn try_file<R: Files + Print + AllocGlobal>(rt: &R, folder: &str, name: &str) -> Result<Count> {
     let alloc = rt.alloc();
     let text = file_text(rt, folder, name)?;
-    let mut told = String::new(alloc);
+    let mut differences = String::new(alloc);
     let count = match read_cases(alloc, &text) {
-        Ok(cases) => try_cases(alloc, name, &cases, &mut told)?,
+        Ok(cases) => try_cases(alloc, name, &cases, &mut differences)?,
         Err(fault) => {
-            writeln!(told, "{name}: {fault}")?;
+            writeln!(differences, "{name}: {fault}")?;
             Count::unread()
         }
     };
-    rt.print(told.as_str())?;
+    rt.print(differences.as_str())?;
     println!(rt; "{name}: {} of {}", count.well, count.tried)?;
     Ok(count)
 }
@@ -43,7 +43,7 @@ fn run<R: Env + Files + Print + AllocGlobal + Clone + Drop>(rt: &R) -> Result<()
     }
     ensure!(
         all.is_well(),
-        "{} of {} cases are told as they are to be",
+        "{} of {} cases are as expected",
         all.well,
         all.tried
     );

@@ -13,10 +13,10 @@ fn call_at<'s>(script: &'s [&'s str], number: &str, word: &str) -> Option<&'s st
 }
 
 /// Returns a line of a transcript as a row. A line that belongs to no line of the script stays as it is.
-fn row_of(alloc: Global, script: &[&str], told: &str) -> Result<String, AllocError> {
-    let (mark, rest) = match told.strip_prefix('+') {
+fn row_of(alloc: Global, script: &[&str], came: &str) -> Result<String, AllocError> {
+    let (mark, rest) = match came.strip_prefix('+') {
         Some(rest) => ("+ ", rest),
-        None => ("", told),
+        None => ("", came),
     };
     if let Some((number, said)) = rest.split_once(' ') {
         if let Some((word, answer)) = said.split_once(' ') {
@@ -25,7 +25,7 @@ fn row_of(alloc: Global, script: &[&str], told: &str) -> Result<String, AllocErr
             }
         }
     }
-    String::from_str(alloc, told)
+    String::from_str(alloc, came)
 }
 
 /// Returns the rows of a script's transcript.

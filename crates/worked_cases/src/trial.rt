@@ -62,22 +62,22 @@ fn expected(alloc: Global, case: &Case) -> Result<Vec<(usize, String)>, AllocErr
 /// came.
 fn first_difference<'r>(
     expected: &'r [(usize, String)],
-    told: &'r [String],
+    came: &'r [String],
 ) -> Option<(usize, &'r str, &'r str)> {
     for (index, (line, row)) in expected.iter().enumerate() {
-        let told = told.get(index).map_or("nothing", |row| row.as_str());
-        if row.as_str() != told {
-            return Some((*line, row.as_str(), told));
+        let came = came.get(index).map_or("nothing", |row| row.as_str());
+        if row.as_str() != came {
+            return Some((*line, row.as_str(), came));
         }
     }
     let (line, _) = expected.last()?;
-    let more = told.get(expected.len())?;
+    let more = came.get(expected.len())?;
     Some((*line, "nothing more", more.as_str()))
 }
 
 /// Returns the rows of an application: those of its launch, its calls and its end, and those of the files that it
 /// wrote.
-fn told_by(alloc: Global, case: &Case, given: Given) -> Result<Vec<String>> {
+fn rows_by(alloc: Global, case: &Case, given: Given) -> Result<Vec<String>> {
     let written = written_rows(alloc, given.files())?;
     let transcript = String::from_utf8_lossy(alloc, &given.into_transcript())?;
     let mut rows = rows_of(alloc, &case.script, &transcript)?;
@@ -88,20 +88,20 @@ fn told_by(alloc: Global, case: &Case, given: Given) -> Result<Vec<String>> {
 }
 
 /// Appends the first row that differs to `text`, and reports whether no row differs.
-fn is_told(
+fn is_as_expected(
     alloc: Global,
     name: &str,
     case: &Case,
     store: &str,
-    told: &[String],
+    came: &[String],
     text: &mut String,
 ) -> Result<bool, AllocError> {
     let expected = expected(alloc, case)?;
-    match first_difference(&expected, told) {
-        Some((line, row, told)) => {
+    match first_difference(&expected, came) {
+        Some((line, row, came)) => {
             writeln!(text, "{name}:{line}: {}, {store}", case.title)?;
             writeln!(text, "  expected: {row}")?;
-            writeln!(text, "  came:     {told}")?;
+            writeln!(text, "  came:     {came}")?;
             Ok(false)
         }
         None => Ok(true),
@@ -146,10 +146,10 @@ fn try_script(
         in_bytes,
         zone,
     } = run_case(alloc, case, script)?;
-    let in_lists = told_by(alloc, case, in_lists)?;
-    let in_bytes = told_by(alloc, case, in_bytes)?;
-    let lists = is_told(alloc, name, case, "in lists", &in_lists, text)?;
-    let bytes = is_told(alloc, name, case, "in bytes", &in_bytes, text)?;
+    let in_lists = rows_by(alloc, case, in_lists)?;
+    let in_bytes = rows_by(alloc, case, in_bytes)?;
+    let lists = is_as_expected(alloc, name, case, "in lists", &in_lists, text)?;
+    let bytes = is_as_expected(alloc, name, case, "in bytes", &in_bytes, text)?;
     Ok(is_laid(alloc, name, case, &zone, text)? && lists && bytes)
 }
 
@@ -163,13 +163,13 @@ fn read_row(alloc: Global, text: &str, fault: Option<ScriptFault>) -> Result<Str
 
 /// Reads the scripts of a case, and reports whether each is read, or has its fault, as expected.
 fn try_texts(alloc: Global, name: &str, case: &Case, text: &mut String) -> Result<bool> {
-    let mut told = Vec::new(alloc);
+    let mut came = Vec::new(alloc);
     for lines in &case.texts {
         let script = lines.replace(alloc, " / ", "\n")?;
         let fault = read_script(alloc, script.as_bytes()).err();
-        told.push(read_row(alloc, lines, fault)?)?;
+        came.push(read_row(alloc, lines, fault)?)?;
     }
-    Ok(is_told(alloc, name, case, "as it is read", &told, text)?)
+    Ok(is_as_expected(alloc, name, case, "as it is read", &came, text)?)
 }
 
 /// Tries a case, and reports whether all its rows are as expected.

@@ -1,6 +1,6 @@
 //! Reading an archive. A line `$ WORDS` begins a command, and a line `-- NAME --` begins a part. The lines below a
 //! part's line are the text of the part; the lines below no part are for the reader of the archive. A part whose name
-//! is one of `WANTED`, or `> PATH`, says what the command above it is to print or write. A part of any other name is a
+//! is one of `EXPECTED`, or `> PATH`, says what the command above it is to print or write. A part of any other name is a
 //! file of that name, which each command of the archive can read.
 
 use crate::parts::{Part, part_of, spelled};
@@ -8,7 +8,7 @@ use anyhow::Result;
 use std::alloc::{AllocError, Global};
 
 /// The names of the parts that say what a command is to print or do, besides `> PATH` for a file that is written.
-const WANTED: &[&str] = &[
+const EXPECTED: &[&str] = &[
     "stdout",
     "stdout has",
     "stderr",
@@ -23,18 +23,18 @@ const WANTED: &[&str] = &[
 #[derive(Drop)]
 pub struct Command {
     pub line: String,
-    wanted: Vec<Part>,
+    expected: Vec<Part>,
 }
 
 impl Command {
     /// Returns the bytes of the part of this name, where the command has the part.
-    pub fn wants(&self, name: &str) -> Option<&[u8]> {
-        part_of(&self.wanted, name)
+    pub fn expects(&self, name: &str) -> Option<&[u8]> {
+        part_of(&self.expected, name)
     }
 
     /// Returns the parts of the command, in order.
     pub fn parts(&self) -> &[Part] {
-        self.wanted.as_slice()
+        self.expected.as_slice()
     }
 }
 
@@ -100,14 +100,14 @@ fn sections_of(alloc: Global, text: &str) -> Result<Vec<Section>, AllocError> {
 }
 
 /// Reports whether a part of this name says what a command is to print or write.
-fn is_wanted(name: &str) -> bool {
-    name.starts_with("> ") || WANTED.iter().any(|wanted| *wanted == name)
+fn is_expected(name: &str) -> bool {
+    name.starts_with("> ") || EXPECTED.iter().any(|expected| *expected == name)
 }
 
 /// Adds a part to the last command, or to the files.
 fn put(archive: &mut Archive, part: Part) -> Result<(), AllocError> {
     match archive.commands.last_mut() {
-        Some(command) if is_wanted(&part.name) => command.wanted.push(part)?,
+        Some(command) if is_expected(&part.name) => command.expected.push(part)?,
         _ => archive.files.push(part)?,
     }
     Ok(())
@@ -118,7 +118,7 @@ fn add(alloc: Global, archive: &mut Archive, section: &Section) -> Result<()> {
     match section.head.as_str().strip_prefix("$ ") {
         Some(line) => archive.commands.push(Command {
             line: String::from_str(alloc, line)?,
-            wanted: Vec::new(alloc),
+            expected: Vec::new(alloc),
         })?,
         None => put(archive, spelled(alloc, &section.head, &section.text)?)?,
     }

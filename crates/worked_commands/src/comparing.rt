@@ -4,17 +4,17 @@ use crate::archive::Command;
 use crate::parts::Part;
 use std::alloc::AllocError;
 
-/// Appends the first line in which a text differs from the wanted text.
+/// Appends the first line in which a text differs from the expected text.
 fn compare_lines(
     text: &mut String,
     name: &str,
-    wanted: &str,
+    expected: &str,
     found: &str,
 ) -> Result<(), AllocError> {
-    let mut wanted = wanted.lines();
+    let mut expected = expected.lines();
     let mut found = found.lines();
     for number in 1..u32::MAX {
-        match (wanted.next(), found.next()) {
+        match (expected.next(), found.next()) {
             (None, None) => break,
             (Some(one), Some(other)) if one == other => {}
             (one, other) => {
@@ -33,50 +33,50 @@ fn alike(one: &[u8], other: &[u8]) -> usize {
     one.iter().zip(other).take_while(|(a, b)| a == b).count()
 }
 
-/// Appends the first byte that differs from the wanted bytes.
+/// Appends the first byte that differs from the expected bytes.
 fn compare_bytes(
     text: &mut String,
     name: &str,
-    wanted: &[u8],
+    expected: &[u8],
     found: &[u8],
 ) -> Result<(), AllocError> {
-    let at = alike(wanted, found);
-    let (some, others) = (wanted.len(), found.len());
+    let at = alike(expected, found);
+    let (some, others) = (expected.len(), found.len());
     writeln!(text, "    {name}: byte {at} of {some} and {others}")?;
-    writeln!(text, "      expected: {:?}", wanted.get(at))?;
+    writeln!(text, "      expected: {:?}", expected.get(at))?;
     writeln!(text, "      came:     {:?}", found.get(at))
 }
 
-/// Appends the first difference between bytes and the wanted bytes, where there is one.
+/// Appends the first difference between bytes and the expected bytes, where there is one.
 pub fn compare(
     text: &mut String,
     name: &str,
-    wanted: &[u8],
+    expected: &[u8],
     found: &[u8],
 ) -> Result<(), AllocError> {
-    if wanted == found {
+    if expected == found {
         return Ok(());
     }
-    match (str::from_utf8(wanted), str::from_utf8(found)) {
-        (Ok(wanted), Ok(found)) => compare_lines(text, name, wanted, found),
-        _ => compare_bytes(text, name, wanted, found),
+    match (str::from_utf8(expected), str::from_utf8(found)) {
+        (Ok(expected), Ok(found)) => compare_lines(text, name, expected, found),
+        _ => compare_bytes(text, name, expected, found),
     }
 }
 
-/// Appends the first wanted line that does not stand in a text after the wanted line before it. A wanted line may be a
+/// Appends the first expected line that does not stand in a text after the expected line before it. An expected line may be a
 /// part of a line.
 pub fn compare_some(
     text: &mut String,
     name: &str,
-    wanted: &[u8],
+    expected: &[u8],
     found: &[u8],
 ) -> Result<(), AllocError> {
-    let wanted = str::from_utf8(wanted).unwrap_or("");
+    let expected = str::from_utf8(expected).unwrap_or("");
     let mut found = str::from_utf8(found).unwrap_or("").lines();
-    for line in wanted.lines() {
+    for line in expected.lines() {
         if !found.any(|other| other.contains(line)) {
             writeln!(text, "    {name}: {line}")?;
-            writeln!(text, "      is not told, or not behind the line before it")?;
+            writeln!(text, "      is not there, or not after the line before it")?;
             break;
         }
     }

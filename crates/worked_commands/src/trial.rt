@@ -14,13 +14,13 @@ struct Outcome<'a> {
     /// The reports of the progress.
     reports: Reports,
     /// The text of the standard error.
-    told: String,
+    said: String,
     /// The status with which the program ends, in a line.
     status: String,
 }
 
 /// Returns the text of a fault on the standard error.
-fn told_of(alloc: Global, fault: &ToolFault) -> Result<String, AllocError> {
+fn said_by(alloc: Global, fault: &ToolFault) -> Result<String, AllocError> {
     match fault {
         ToolFault::Usage { text } => text.clone(),
         _ => format!(in alloc; "{fault}\n"),
@@ -38,37 +38,37 @@ fn outcome_of<'a>(
     let mut reports = Reports {
         lines: String::new(alloc),
     };
-    let (told, status) = match tool(alloc, words, &mut disk, &mut reports) {
+    let (said, status) = match tool(alloc, words, &mut disk, &mut reports) {
         Ok(ending) => (String::new(alloc), ending.status()),
-        Err(fault) => (told_of(alloc, &fault)?, fault.status()),
+        Err(fault) => (said_by(alloc, &fault)?, fault.status()),
     };
     let status = format!(in alloc; "{status}\n")?;
     Ok(Outcome {
         disk,
         reports,
-        told,
+        said,
         status,
     })
 }
 
 /// Compares bytes with a part, or with the lines of a part that are to stand in the bytes. Where the command has
-/// neither part, no bytes are wanted.
+/// neither part, no bytes are expected.
 fn compare_part(
     text: &mut String,
     command: &Command,
     [name, some]: [&str; 2],
     found: &[u8],
 ) -> Result<(), AllocError> {
-    match command.wants(some) {
-        Some(wanted) => compare_some(text, name, wanted, found),
-        None => compare(text, name, command.wants(name).unwrap_or(b""), found),
+    match command.expects(some) {
+        Some(expected) => compare_some(text, name, expected, found),
+        None => compare(text, name, command.expects(name).unwrap_or(b""), found),
     }
 }
 
-/// Returns the wanted status: that of the part `status`, or else 1 where the command has a part `stderr`, and 0
+/// Returns the expected status: that of the part `status`, or else 1 where the command has a part `stderr`, and 0
 /// otherwise.
-fn wanted_status(command: &Command) -> &[u8] {
-    match (command.wants("status"), command.wants("stderr")) {
+fn expected_status(command: &Command) -> &[u8] {
+    match (command.expects("status"), command.expects("stderr")) {
         (Some(status), _) => status,
         (None, Some(_)) => b"1\n",
         (None, None) => b"0\n",
@@ -87,14 +87,14 @@ fn compare_outcome(
         text,
         command,
         ["stderr", "stderr has"],
-        outcome.told.as_bytes(),
+        outcome.said.as_bytes(),
     )?;
     let status = outcome.status.as_bytes();
-    compare(text, "status", wanted_status(command), status)?;
-    let progress = command.wants("progress").unwrap_or(b"");
+    compare(text, "status", expected_status(command), status)?;
+    let progress = command.expects("progress").unwrap_or(b"");
     let reported = outcome.reports.lines.as_bytes();
     compare(text, "progress", progress, reported)?;
-    if let Some(asked) = command.wants("asked") {
+    if let Some(asked) = command.expects("asked") {
         compare(text, "asked", asked, disk.asked.as_bytes())?;
     }
     compare_files(text, command, &disk.written)
@@ -111,9 +111,9 @@ fn compare_failed(
 ) -> Result<(), AllocError> {
     let (what, path) = thing.split_once(' ').unwrap_or((thing, ""));
     let verb = if what == "read" { "read" } else { "write" };
-    let told = format!(in alloc; "macmem: {path}: cannot {verb}\n")?;
+    let said = format!(in alloc; "macmem: {path}: cannot {verb}\n")?;
     let disk = &outcome.disk;
-    compare(text, thing, told.as_bytes(), outcome.told.as_bytes())?;
+    compare(text, thing, said.as_bytes(), outcome.said.as_bytes())?;
     compare(text, thing, b"1\n", outcome.status.as_bytes())?;
     compare(text, thing, asked.as_bytes(), disk.asked.as_bytes())?;
     if what == "read" && !disk.written.is_empty() {
@@ -166,10 +166,11 @@ pub fn differences(
     let words = words_of(alloc, &command.line)?;
     let outcome = outcome_of(alloc, archive, &words, 0)?;
     compare_outcome(&mut text, command, &outcome)?;
-    if words.get(1) == Some(&"run") && outcome.told.is_empty() {
-        compare_in_lists(alloc, &mut text, archive, command, &words)?;
+    if words.get(1) == Some(&"run") {
+        let is_done = outcome.said.is_empty();
+        compare_in_lists(alloc, &mut text, archive, command, &words, is_done)?;
     }
-    if command.wants("each may fail").is_some() {
+    if command.expects("each may fail").is_some() {
         compare_failures(alloc, &mut text, archive, &words, &outcome)?;
     }
     Ok(text)

@@ -46,7 +46,7 @@ pub record HasHandle (t : Table) (slot : ℕ) (xs : List ℕ) : Type 0 where
   pub resource : Bool
   pub used : t.slots slot ≡ Used resource
 
--- A walk from the place `from` comes to the higher place `place`: a block begins at `from`, or `from` is the bottom.
+-- A walk from the place `from` reaches the higher place `place`: a block begins at `from`, or `from` is the bottom.
 pub record LeadsUp (from place : ℕ) (xs : List ℕ) : Type 0 where
   pub below : List Block
   pub is : left_in 0 xs ≡ below ++ left_in from xs

@@ -13,7 +13,7 @@ ghost use Rattle.zone_bytes.specs.Beside.{KeepsPlace};
 
 use crate::placing::lay_block;
 use crate::words::{read_word, write_word};
-use heap_words::{Header, Tag};
+use heap_words::{EMPTY_RESOURCE, Header, RESOURCE, Tag};
 use raw_region::Part;
 
 /// Makes the blocks from `bottom` to `top` one free block.
@@ -60,5 +60,9 @@ pub fn kept_flags(part: &Part, slot: u32) -> u32
     requires { (slot % 4 ≡ 0) × (slot + 4 ≤ length part.now.bytes) }
     ensures { result ≡ (if word_at slot part.now.bytes == 18 then 32 else 0) }
 {
-    if read_word(part, slot) == 18 { 32 } else { 0 }
+    if read_word(part, slot) == EMPTY_RESOURCE {
+        RESOURCE
+    } else {
+        0
+    }
 }

@@ -1,6 +1,6 @@
 //! The flags in a header.
 
-ghost use Rattle.std.specs.Prelude.{◌≡◌, ◌<◌, ◌≤◌, ◌==◌, false, length};
+ghost use Rattle.std.specs.Prelude.{◌≡◌, ◌<◌, ◌≤◌, ◌%◌, ◌==◌, false, length, nat_le};
 ghost use Rattle.heap_words.specs.Headers.{tag_number};
 ghost use Rattle.zone_bytes.specs.Flagged.{flagged};
 ghost use Rattle.zone_bytes.specs.Layout.{flag_word};
@@ -9,16 +9,23 @@ ghost use Rattle.zone_bytes.specs.Beside.{KeepsPlace};
 
 use crate::words::{read_header, write_word};
 use block_store::Flags;
-use heap_words::Tag;
+use heap_words::{LOCKED, PURGEABLE, RESOURCE, Tag};
 use raw_region::Part;
 
-/// Returns the number of the flags: 128 for locked, 64 for purgeable.
+/// Returns the number of the flags: `LOCKED` for a locked block, `PURGEABLE` for a purgeable one.
 pub fn flag_bits(flags: Flags) -> u32
     ensures { result ≡ flag_word flags false }
 {
-    let locked: u32 = if flags.locked { 128 } else { 0 };
-    let purgeable: u32 = if flags.purgeable { 64 } else { 0 };
+    let locked = if flags.locked { LOCKED } else { 0 };
+    let purgeable = if flags.purgeable { PURGEABLE } else { 0 };
     locked + purgeable
+}
+
+/// Reports whether the flags of a header have the resource flag.
+pub fn has_resource_flag(flags: u32) -> bool
+    ensures { result ≡ nat_le 32 (flags % 64) }
+{
+    flags % PURGEABLE >= RESOURCE
 }
 
 /// Reports whether a kind is that of relocatable blocks.
@@ -40,6 +47,10 @@ pub fn flag_at(part: &mut Part, place: u32, flags: Flags)
 {
     let header = read_header(part, place);
     if moves(header.tag) {
-        write_word(part, place + 12, flag_bits(flags) + header.flags % 64);
+        write_word(
+            part,
+            place + 12,
+            flag_bits(flags) + header.flags % PURGEABLE,
+        );
     }
 }

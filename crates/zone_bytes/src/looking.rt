@@ -9,33 +9,28 @@ ghost use Rattle.block_store.specs.Slot.{Used, set_slot, is_resource};
 ghost use Rattle.zone_bytes.specs.Beside.{KeepsPlace};
 ghost use Rattle.zone_bytes.specs.Looking.{place_of_word, IsHandle};
 ghost use Rattle.zone_bytes.specs.Stepping.{left_in, IsOnWay};
-ghost use Rattle.zone_bytes.specs.Table.{Table, Lays, empty_word};
+ghost use Rattle.zone_bytes.specs.Table.{Table, Lays};
 
+use crate::flagging::has_resource_flag;
 use crate::raw_walk::{RawWalk, walk_from};
-use crate::words::{read_word, write_word};
+use crate::words::{read_word, write_slot, write_word};
 use block_store::Walk;
+use heap_words::{EMPTY, EMPTY_RESOURCE, PURGEABLE, RESOURCE, SlotWord};
 use raw_region::Part;
-
-/// Returns the word of the slot of an empty handle.
-fn word_of_empty(resource: bool) -> u32
-    ensures { result ≡ empty_word resource }
-{
-    if resource { 18 } else { 2 }
-}
 
 /// Returns the flags of a header with the resource flag set or cleared.
 fn with_resource(flags: u32, resource: bool) -> u32
     ensures { result ≡ flags / 64 * 64 + (if resource then 32 else 0) }
 {
-    let bit: u32 = if resource { 32 } else { 0 };
-    flags / 64 * 64 + bit
+    let bit = if resource { RESOURCE } else { 0 };
+    flags / PURGEABLE * PURGEABLE + bit
 }
 
 /// Returns the place that a slot's word holds; `None` for the word of an empty handle.
 fn leads_to(word: u32) -> Option<u32>
     ensures { result ≡ place_of_word word }
 {
-    if word == 2 || word == 18 {
+    if word == EMPTY || word == EMPTY_RESOURCE {
         None
     } else {
         Some(word)
@@ -58,8 +53,8 @@ pub fn slot_resource(part: &Part, slot: u32) -> bool
 {
     let word = read_word(part, slot);
     match leads_to(word) {
-        Some(place) => read_word(part, place + 12) % 64 >= 32,
-        None => word == 18,
+        Some(place) => has_resource_flag(read_word(part, place + 12)),
+        None => word == EMPTY_RESOURCE,
     }
 }
 
@@ -75,7 +70,7 @@ pub fn mark_slot(part: &mut Part, slot: u32, resource: bool)
             let flags = read_word(part, place + 12);
             write_word(part, place + 12, with_resource(flags, resource));
         }
-        None => write_word(part, slot, word_of_empty(resource)),
+        None => write_slot(part, slot, SlotWord::Empty(resource)),
     }
 }
 

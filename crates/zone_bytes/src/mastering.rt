@@ -12,7 +12,8 @@ ghost use Rattle.zone_bytes.specs.Mastering.{slots_at, with_slots, Thread, HasMa
 ghost use Rattle.zone_bytes.specs.Beside.{KeepsPlace};
 
 use crate::placing::{lay_block, size_at};
-use crate::words::write_word;
+use crate::slots::unused_before;
+use crate::words::write_slot;
 use block_store::{HEADER_SIZE, MASTERS_SIZE};
 use heap_words::{Header, Tag};
 use raw_region::Part;
@@ -29,9 +30,9 @@ fn thread_slots(part: &mut Part, place: u32, first: u32)
     ensures outside { SameOutside (place + 16) (place + MASTERS_SIZE) part.old.bytes part.new.bytes }
 {
     let mut slot = place + MASTERS_SIZE - 4;
-    write_word(part, slot, 16 * first + 1);
+    write_slot(part, slot, unused_before(first));
     while place + HEADER_SIZE < slot {
-        write_word(part, slot - 4, 16 * slot + 1);
+        write_slot(part, slot - 4, unused_before(slot));
         slot -= 4;
     }
 }

@@ -6,7 +6,7 @@ ghost use Rattle.zone_bytes.specs.Stepping.{header_seen, left_in, IsOnWay, Steps
 
 use crate::words::read_header;
 use block_store::{Flags, Seen, Walk};
-use heap_words::{Header, Tag};
+use heap_words::{Header, LOCKED, PURGEABLE, Tag};
 use raw_region::Part;
 use std::marker::Model;
 
@@ -15,8 +15,8 @@ pub fn seen_of(header: Header) -> Seen
     ensures { result ≡ header_seen (tag_number header.tag) header.size header.logical header.slot header.flags }
 {
     let flags = Flags {
-        locked: header.flags >= 128,
-        purgeable: header.flags % 128 >= 64,
+        locked: header.flags >= LOCKED,
+        purgeable: header.flags % LOCKED >= PURGEABLE,
     };
     match header.tag {
         Tag::Free => Seen::Free(header.size),

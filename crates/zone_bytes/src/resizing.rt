@@ -20,7 +20,7 @@ use heap_words::{Header, Tag};
 use raw_region::Part;
 
 /// Returns the size of the free block that begins at a place, or 0 if no free block begins there.
-pub fn free_behind(part: &Part, at: u32) -> u32
+pub fn free_above(part: &Part, at: u32) -> u32
     requires { IsOnWay at part.now.bytes }
     ensures { result ≡ free_first (left_in at part.now.bytes) }
 {
@@ -68,7 +68,7 @@ pub fn resize_block(part: &mut Part, place: u32, bytes: u32, free: u32) -> Resiz
         return ResizedBlock { free, top: place };
     }
     let end = place + header.size;
-    let top = end + free_behind(part, end);
+    let top = end + free_above(part, end);
     let sized = Header {
         size: padded_size(bytes),
         tag: header.tag,

@@ -12,8 +12,11 @@ ghost use Rattle.zone_bytes.specs.Beside.{KeepsPlace};
 
 use crate::edges::Edges;
 use crate::words::{read_header, write_word};
-use heap_words::{Header, Tag};
+use heap_words::{Header, LOCKED, Tag};
 use raw_region::Part;
+
+/// More free bytes than a run has: so many are never enough before the run ends.
+const NEVER_ENOUGH: u32 = u32::MAX;
 
 /// The result of packing a run.
 #[derive(Clone, Copy, Debug)]
@@ -58,7 +61,7 @@ fn is_in_run(header: Header) -> bool
     match header.tag {
         Tag::Free => true,
         Tag::Nonrelocatable | Tag::Masters => false,
-        Tag::Relocatable => header.flags < 128,
+        Tag::Relocatable => header.flags < LOCKED,
     }
 }
 
@@ -132,5 +135,5 @@ pub fn settle_run(part: &mut Part, edges: &mut Edges, place: u32) -> PackedRun
     ensures stop { result.stop ≡ place + sizes lay.run }
     ensures edges { Noted edges.old edges.new place (movers lay.run) }
 {
-    pack_until(part, edges, place, 0, u32::MAX)
+    pack_until(part, edges, place, 0, NEVER_ENOUGH)
 }

@@ -4,9 +4,25 @@ ghost use Rattle.std.specs.Prelude.{◌≡◌, ◌+◌, ◌*◌, ◌≤◌, ◌<
 ghost use Rattle.block_store.specs.Slot.{Used, Unused, set_slot};
 ghost use Rattle.zone_bytes.specs.Table.{Table, MayGive, Lays, first_of};
 ghost use Rattle.zone_bytes.specs.Beside.{KeepsPlace};
+ghost use Rattle.heap_words.specs.Slots.{IsSlotWord, slot_number};
+ghost use Rattle.block_store.specs.declared.measures.TheConstants.{GREATEST_ZONE};
 
-use crate::words::{read_word, write_word};
+use crate::words::{read_slot, write_slot};
+use heap_words::SlotWord;
 use raw_region::Part;
+
+/// Returns the word of an unused slot that is followed in the list by the slot `next`; by none if `next` is 0.
+pub(crate) fn unused_before(next: u32) -> SlotWord
+    requires { next < GREATEST_ZONE }
+    ensures slot { IsSlotWord result }
+    ensures number { slot_number result ≡ 16 * next + 1 }
+{
+    if next == 0 {
+        SlotWord::Unused(None)
+    } else {
+        SlotWord::Unused(Some(next))
+    }
+}
 
 /// Takes the slot `first` from the list of unused slots, for an empty handle. Returns the slot that follows it in the
 /// list.
@@ -16,9 +32,11 @@ pub fn take_slot(part: &mut Part, first: u32) -> u32
     ensures lays { (t : Table) → Lays part.old.bytes t.blocks t.slots (first ∷ t.unused)
         → Lays part.new.bytes t.blocks (set_slot t.slots first (Used false)) t.unused × (result ≡ first_of t.unused) }
 {
-    let next = read_word(part, first) / 16;
-    write_word(part, first, 2);
-    next
+    let SlotWord::Unused(next) = read_slot(part, first) else {
+        unreachable!()
+    };
+    write_slot(part, first, SlotWord::Empty(false));
+    next.unwrap_or(0)
 }
 
 /// Puts the slot of an empty handle at the front of the list of unused slots.
@@ -28,5 +46,5 @@ pub fn give_slot(part: &mut Part, slot: u32, first: u32)
     ensures lays { (t : Table) → MayGive part.old.bytes t slot first
         → Lays part.new.bytes t.blocks (set_slot t.slots slot Unused) (slot ∷ t.unused) }
 {
-    write_word(part, slot, 16 * first + 1);
+    write_slot(part, slot, unused_before(first));
 }

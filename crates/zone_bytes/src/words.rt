@@ -1,12 +1,13 @@
-//! Words and headers of a zone, by places of 32 bits.
+//! Words, headers and slots of a zone, by places of 32 bits.
 
 ghost use Rattle.std.specs.Prelude.{◌≡◌, ◌+◌, ◌%◌, ◌≤◌, ◌<◌, ◌^◌, length};
 ghost use Rattle.windows.specs.Writes.{written};
 ghost use Rattle.heap_words.specs.Headers.{header_bytes, tag_number};
+ghost use Rattle.heap_words.specs.Slots.{IsSlotNumber, IsSlotWord, slot_number};
 ghost use Rattle.heap_words.specs.Words.{word, word_at};
 ghost use Rattle.zone_bytes.specs.Beside.{KeepsPlace};
 
-use heap_words::Header;
+use heap_words::{Header, SlotWord};
 use raw_region::Part;
 
 /// Reads the word at a place.
@@ -49,4 +50,24 @@ pub fn write_header(part: &mut Part, at: u32, header: Header)
     ensures bytes { part.new.bytes ≡ written at (header_bytes header) part.old.bytes }
 {
     heap_words::write_header(part, at, header);
+}
+
+/// Reads the slot at a place.
+pub fn read_slot(part: &Part, at: u32) -> SlotWord
+    requires within { (at % 4 ≡ 0) × (at + 4 ≤ length part.now.bytes) }
+    requires slot { IsSlotNumber (word_at at part.now.bytes) }
+    ensures number { slot_number result ≡ word_at at part.now.bytes }
+    ensures kept { IsSlotWord result }
+{
+    heap_words::read_slot(part, at)
+}
+
+/// Writes the slot at a place.
+pub fn write_slot(part: &mut Part, at: u32, slot: SlotWord)
+    requires within { (at % 4 ≡ 0) × (at + 4 ≤ length part.old.bytes) }
+    requires slot { IsSlotWord slot }
+    ensures same { KeepsPlace part.old part.new }
+    ensures bytes { part.new.bytes ≡ written at (word (slot_number slot)) part.old.bytes }
+{
+    heap_words::write_slot(part, at, slot);
 }

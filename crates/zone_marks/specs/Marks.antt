@@ -36,8 +36,8 @@ between lo hi at (b ∷ above) = if nat_le lo at && nat_lt at hi then b ∷ betw
 abbrev pub ends_run : Block → Bool
 ends_run b = not (in_run b)
 
--- What a tally says of blocks, counted in one way: what they come to, or nothing.
--- See decision 149 (a tally says what the blocks up to the next landmark come to, or nothing).
+-- What a tally says of blocks, counted in one way: their summary, or nothing.
+-- See decision 149 (a tally is the summary of the blocks up to the next landmark, or nothing).
 abbrev pub IsTally : Counting → Tally → List Block → Type 0
 IsTally c (tally.Known stretch) blocks = stretch_by c blocks ≡ stretch
 IsTally c tally.Unknown blocks = Unit {0}
@@ -51,17 +51,17 @@ told counting.Spaces t = t.spaces
 abbrev pub AreTold : Tallies → List Block → Type 0
 AreTold t blocks = (c : Counting) → IsTally c (told c t) blocks
 
--- What a walk finds of the blocks that begin from `lo` up to `hi`: a bound on each free block, and what the blocks come
--- to in runs.
+-- What a walk finds of the blocks that begin from `lo` up to `hi`: a bound on each free block, and the summary of the
+-- blocks in runs.
 pub record Measures (lo hi at : ℕ) (zone : List Block) (m : Measured) : Type 0 where
   pub most : AtEach (AtMost m.most lo hi) at zone
   pub runs : stretch_of (between lo hi at zone) ≡ m.runs
 
--- Of blocks that are none it is known what they come to, in each way.
+-- The tallies of no blocks, which are known in each way.
 abbrev pub nothing : Tallies
 nothing = record { runs = tally.Known (Whole 0); spaces = tally.Known (Whole 0) }
 
--- A landmark that stands for none.
+-- The landmark that stands for one that is not there.
 abbrev pub no_mark : Landmark
 no_mark = record { at = 0; most = 0; tally = nothing }
 
@@ -88,18 +88,18 @@ abbrev pub AreMarks : ℕ → List Block → List Landmark → Type 0
 AreMarks end zone [] = Unit {0}
 AreMarks end zone (m ∷ marks) = IsMark (next_of end marks) zone m × AreMarks end zone marks
 
--- What two tallies tell of the blocks of both, those of `low` first; nothing where one of them tells nothing.
+-- The tally of the blocks of two tallies, those of `low` first; it says nothing where one of the two says nothing.
 abbrev pub join_tallies : Tally → Tally → Tally
 join_tallies (tally.Known low) (tally.Known high) = tally.Known (join low high)
 join_tallies (tally.Known low) tally.Unknown = tally.Unknown
 join_tallies tally.Unknown high = tally.Unknown
 
--- What the tallies of landmarks tell of the blocks of all of them, counted in one way.
+-- The tally of the blocks of all these landmarks, counted in one way.
 abbrev pub tally_of : Counting → List Landmark → Tally
 tally_of c [] = tally.Known (Whole 0)
 tally_of c (m ∷ marks) = join_tallies (told c m.tally) (tally_of c marks)
 
--- What is known of blocks holds in sum so many bytes, as `load` counts them.
+-- The total of a tally, as `load` counts it; 0 where it says nothing.
 abbrev pub known_load : Tally → ℕ
 known_load (tally.Known stretch) = load stretch
 known_load tally.Unknown = 0
@@ -108,7 +108,7 @@ known_load tally.Unknown = 0
 abbrev pub AreOfZone : List Landmark → Type 0
 AreOfZone marks = (end : ℕ) × (zone : List Block) × (sizes zone < 2 ^ 32) × AreMarks end zone marks
 
--- A group that stands for none.
+-- The group that stands for one that is not there.
 abbrev pub no_group : Group
 no_group = record { most = 0; tally = nothing }
 
@@ -116,8 +116,8 @@ no_group = record { most = 0; tally = nothing }
 abbrev pub marks_in : ℕ → List Landmark → List Landmark
 marks_in group marks = take GROUP (drop (GROUP * group) marks)
 
--- No landmark of a group notes more than the group does, and where the group knows what its blocks come to, its
--- landmarks do.
+-- No landmark of a group has a higher bound than the group, and where the tally of the group is known, those of its
+-- landmarks are.
 pub record IsGroup (g : Group) (marks : List Landmark) : Type 0 where
   pub most : (index : ℕ) → index < length marks → (get_or marks index no_mark).most ≤ g.most
   pub known : (c : Counting) (s : Stretch) → told c g.tally ≡ tally.Known s → tally_of c marks ≡ tally.Known s

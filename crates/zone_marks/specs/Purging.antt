@@ -43,7 +43,7 @@ pub record Purging (p : Purge) (n : Sparing) (start at left freed : ℕ) (xs : L
   pub base : sizes below ≡ p.from
   pub span : p.from + sizes was ≡ at
 
--- A pass came to the place `stop`, and blocks from the pass's place on up to there became others.
+-- A pass ended at the place `stop`, and blocks from the pass's place on up to there became others.
 pub record Purged (p : Purge) (stop freed : ℕ) (xs : List ℕ) : Type 0 where
   pub lays : Lays xs (tidy p.goal) p.slots p.unused
   pub count : free_sum (tidy p.goal) ≡ p.free + freed

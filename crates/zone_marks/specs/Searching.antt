@@ -52,8 +52,8 @@ pub record IsPiece (from to : ℕ) (xs : List ℕ) (here : List Block) : Type 0 
 abbrev pub IsStretch : Counting → Tally → ℕ → ℕ → List ℕ → Type 0
 IsStretch c t from to xs = (here : List Block) × IsPiece from to xs here × IsTally c t here
 
--- A search for any run, from the bottom on and with no purges, is at the place `to` or below it, where it is known what the
--- blocks below come to: no run of them has `bytes` free bytes.
+-- A search for any run, from the bottom on and with no purges, is at the place `to` or below it. No run of the blocks
+-- below its place has `bytes` free bytes.
 pub record IsKnown (bytes to : ℕ) (xs : List ℕ) (r : RunScan) : Type 0 where
   pub done : List Block
   pub piece : IsPiece 0 r.place xs done

@@ -1,5 +1,5 @@
-//! The state of a search for a run behind blocks that it passed by what landmarks know of them, and so where the search
-//! for a run after all purges begins: the blocks below the lowest one that may be purged are not walked over.
+//! The state of a search for a run after blocks that the search passed by their landmarks' tallies. The search for a run
+//! after all purges begins there: the blocks below the lowest one that may be purged are not walked over.
 
 ghost use Rattle.std.specs.Prelude.{◌≡◌, ◌≤◌, ◌<◌, ℕ, List, length, IfSome};
 ghost use Rattle.block_store.specs.Block.{Block};
@@ -20,9 +20,9 @@ use raw_region::Part;
 use zone_bytes::step_at;
 use zone_summary::{Counting, Stretch};
 
-/// What is known of the blocks below the place `at`, which were passed: what they come to in runs. From the place `end`
-/// on none of them ends a run; if one ends a run, the last one that does is between the places `barred` and `end`. The
-/// landmark at `index` stands at the place; where there is none, it is the zone's end.
+/// What is known of the blocks below the place `at`, which were passed: their summary in runs. From the place `end` on
+/// none of them ends a run; if one ends a run, the last one that does is between the places `barred` and `end`. The
+/// landmark at `index` stands at the place `at`; if there is no such landmark, the place is the zone's end.
 #[derive(Clone, Copy, Drop)]
 pub struct Passed {
     pub runs: Stretch,
@@ -41,25 +41,25 @@ const NOTHING: Passed = Passed {
     index: 0,
 };
 
-/// Takes a search past the stretches of the landmarks below the index `behind`, whose blocks `tally` is of; `None`
-/// where it isn't known what they come to in runs, or where a run has `bytes` free bytes with them.
+/// Takes a search past the stretches of the landmarks below the index `above`. The `tally` is that of their blocks. Returns
+/// `None` if their summary in runs isn't known, or if a run has `bytes` free bytes with them.
 pub fn pass_up_to(
     marks: &[Landmark],
     part: &Part,
     passed: Passed,
     tally: Tally,
-    behind: usize,
+    above: usize,
     bytes: u32,
 ) -> Option<Passed>
     requires sound { (first : ℕ) × (unused : ℕ) × IsSound part.now.bytes first unused }
-    requires inside { behind ≤ length marks.now }
+    requires inside { above ≤ length marks.now }
     requires come { HasCome bytes marks.now part.now.bytes passed }
-    requires stretch { IsStretch counting.Runs tally passed.at (place_at behind marks.now part.now.bytes)
+    requires stretch { IsStretch counting.Runs tally passed.at (place_at above marks.now part.now.bytes)
         part.now.bytes }
-    ensures behind { IfSome result (λ p. p.index ≡ behind) }
+    ensures above { IfSome result (λ p. p.index ≡ above) }
     ensures come { IfSome result (λ p. HasCome bytes marks.now part.now.bytes p) }
 {
-    let next = edge_of(marks, part, behind);
+    let next = edge_of(marks, part, above);
     let Tally::Known(stretch) = tally else {
         return None;
     };
@@ -71,7 +71,7 @@ pub fn pass_up_to(
         Stretch::Whole(_) => Some(Passed {
             runs,
             at: next,
-            index: behind,
+            index: above,
             ..passed
         }),
         Stretch::Ended(_, _, _) => Some(Passed {
@@ -79,7 +79,7 @@ pub fn pass_up_to(
             barred: passed.at,
             end: next,
             at: next,
-            index: behind,
+            index: above,
         }),
     }
 }
@@ -97,8 +97,8 @@ pub fn begun_at(place: u32, purges: u32) -> RunScan
     }
 }
 
-/// Takes a search past the stretches of a group, if it has come to the first of the group's landmarks and none of them
-/// stands at an index of `last` or above, or past the stretch of one landmark; `None` where neither can be passed.
+/// Takes a search past the stretches of a group, if the search is at the first of the group's landmarks and none of them
+/// has an index of `last` or above; else past the stretch of one landmark. Returns `None` if neither can be passed.
 fn pass_far(
     marks: &[Landmark],
     groups: &[Group],
@@ -116,8 +116,8 @@ fn pass_far(
     ensures come { IfSome result (λ p. HasCome bytes marks.now part.now.bytes p) }
 {
     let told = told_from(marks, groups, part, passed.index, Counting::Runs);
-    if told.behind <= last {
-        let farther = pass_up_to(marks, part, passed, told.tally, told.behind, bytes);
+    if told.above <= last {
+        let farther = pass_up_to(marks, part, passed, told.tally, told.above, bytes);
         if farther.is_some() {
             return farther;
         }
@@ -152,7 +152,7 @@ pub fn passed_below(
     passed
 }
 
-/// Returns where the run began that goes on at the place `to`: where it has blocks below the place `from`, `from`.
+/// Returns the bottom of the run that goes on at the place `to`; returns `from` if the run has blocks below `from`.
 fn run_start(part: &Part, from: u32, to: u32) -> u32
     requires sound { (first : ℕ) × (unused : ℕ) × IsSound part.now.bytes first unused }
     requires begins { Begins from 0 (zone_in part.now.bytes) }
@@ -171,8 +171,8 @@ fn run_start(part: &Part, from: u32, to: u32) -> u32
     start
 }
 
-/// Returns the state of a search from the bottom on, with no purges, behind the blocks that it passed.
-fn behind_passed(part: &Part, passed: Passed) -> RunScan
+/// Returns the state of a search from the bottom on, with no purges, after the blocks that it passed.
+fn after_passed(part: &Part, passed: Passed) -> RunScan
     requires sound { (first : ℕ) × (unused : ℕ) × IsSound part.now.bytes first unused }
     requires passed { IsPassed part.now.bytes passed }
     ensures { (bytes to : ℕ) → best passed.runs < bytes → passed.at ≤ to → IsKnown bytes to part.now.bytes result }
@@ -186,8 +186,8 @@ fn behind_passed(part: &Part, passed: Passed) -> RunScan
     }
 }
 
-/// Returns the state of a search from the bottom on, with no purges, at the last landmark up to the place `from` up to which
-/// it is known that no run has `bytes` free bytes.
+/// Returns the state of a search from the bottom on, with no purges. The search is at a landmark at or below the place
+/// `from`: the last one up to which it is known that no run has `bytes` free bytes.
 pub fn run_below(
     marks: &[Landmark],
     groups: &[Group],
@@ -203,5 +203,5 @@ pub fn run_below(
         return begun_at(0, 0);
     }
     let passed = passed_below(marks, groups, part, above - 1, bytes);
-    behind_passed(part, passed)
+    after_passed(part, passed)
 }

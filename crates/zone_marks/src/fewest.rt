@@ -1,5 +1,5 @@
-//! The least number of purges after which a run has enough free bytes. The lowest run that has them once all blocks are
-//! purged that may be is the first to have them: all such blocks below it are purged, and as few of its own as serve.
+//! The least number of purges after which a run has enough free bytes. The lowest run that has them after all blocks that
+//! may be purged were purged is the first to have them: all such blocks below it are purged, and as few of its own as serve.
 //! The run of a block that is not purged stays where it is, so the same is counted for it.
 
 ghost use Rattle.std.specs.Prelude.{◌≡◌, ◌≤◌, ◌<◌, ◌+◌, ◌^◌, ◌++◌, ℕ, List, Some, IfSome, MatchOption, true, false};
@@ -24,7 +24,7 @@ use crate::finding_runs::find_run_purged;
 use crate::keeping::Landmarks;
 use crate::landmark::{Group, Landmark};
 use crate::largest::stretch_above;
-use crate::measuring::{walk_at, within};
+use crate::measuring::walk_at;
 use crate::purgeable::frees_one;
 use block_store::{
     Sparing, Walk, is_counted_free, is_in_run, may_purge, may_purge_now, size_of_seen,
@@ -134,7 +134,7 @@ fn count_below(part: &Part, from: u32, run: u32, sparing: Sparing) -> u32
         → result ≡ count_of (spared sparing) (opened sparing low) }
     ensures few { result ≤ run }
 {
-    let first = within(from, run);
+    let first = from.min(run);
     count_in(&mut walk_at(part, first), run - first, sparing)
 }
 

@@ -1,5 +1,5 @@
-//! The search for a run by landmarks: stretches with which no run comes to enough free bytes are passed without a walk
-//! over their blocks.
+//! The search for a run by landmarks: stretches with which no run has enough free bytes are passed without a walk over
+//! their blocks.
 
 ghost use Rattle.std.specs.Prelude.{◌≡◌, ◌≤◌, ℕ};
 ghost use Rattle.block_store.specs.Find.{FindsLowestRun};
@@ -61,8 +61,8 @@ impl Landmarks {
     }
 }
 
-/// Returns the place of the lowest run with at least `bytes` free bytes once all blocks that may be purged were. The
-/// blocks below `from` are those of the zone as it stands.
+/// Returns the place of the lowest run with at least `bytes` free bytes after all blocks that may be purged were purged.
+/// The blocks below `from` are those of the zone as it stands.
 pub fn find_run_purged(
     marks: &[Landmark],
     groups: &[Group],

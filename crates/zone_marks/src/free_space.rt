@@ -15,7 +15,7 @@ use crate::keeping::Landmarks;
 use crate::landmark::{GROUP, Group, Landmark};
 use crate::largest::stretch_above;
 use crate::marking::place_of_mark;
-use crate::measuring::{greater, measure_up_to, walk_at};
+use crate::measuring::{measure_up_to, walk_at};
 use block_store::{GREATEST_ZONE, Sparing, largest_after_in};
 use raw_region::Part;
 use zone_summary::Counting;
@@ -48,7 +48,7 @@ fn larger_in_group(
             continue;
         }
         let stretch = measure_up_to(part, mark.at, place_of_mark(marks, index + 1));
-        largest = greater(largest, stretch.most);
+        largest = largest.max(stretch.most);
     }
     largest
 }
@@ -66,9 +66,9 @@ pub fn largest_free_by_marks(marks: &[Landmark], groups: &[Group], part: &Part) 
 }
 
 impl Landmarks {
-    /// Returns the size of the largest free block after the given number of purges. Where all blocks that may be purged
-    /// are, landmarks tell it; else the blocks below the first of them are those of the zone as it stands, and those above
-    /// are walked over.
+    /// Returns the size of the largest free block after the given number of purges. If all blocks that may be purged are
+    /// purged, the landmarks' tallies give it; else the blocks below the first of them are those of the zone as it stands,
+    /// and those above are walked over.
     pub fn largest_after(&self, part: &Part, purges: u32) -> u32
         requires sound { (first : ℕ) × (unused : ℕ) × IsSound part.now.bytes first unused }
         requires marks { AreOf self.now (zone_in part.now.bytes) }
@@ -80,6 +80,6 @@ impl Landmarks {
         }
         let stands = largest_free_by_marks(marks, groups, part);
         let above = largest_after_in(&mut walk_at(part, self.under()), purges, Sparing::Nothing);
-        greater(stands, above)
+        stands.max(above)
     }
 }

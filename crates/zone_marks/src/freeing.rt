@@ -1,26 +1,21 @@
 //! Blocks are made free, and joined with free blocks beside them.
 
-ghost use Rattle.std.specs.Prelude.{◌≡◌, ◌+◌, ◌-◌, ◌%◌, ◌∷◌, ◌++◌, nat_le, length};
+ghost use Rattle.std.specs.Prelude.{◌≡◌, ◌+◌, ◌-◌, ◌%◌, ◌∷◌, ◌++◌, length};
 ghost use Rattle.block_store.specs.Block.{Free, size, free, tidy, free_sum, is_relocatable};
 ghost use Rattle.block_store.specs.Grow.{freed};
 ghost use Rattle.zone_bytes.specs.Joining.{Freeing, MayFree, MayRelease, HasHandle};
 ghost use Rattle.zone_marks.specs.Marked.{AreOf};
 ghost use Rattle.zone_bytes.specs.Changes.{Replaced};
-ghost use Rattle.zone_bytes.specs.Table.{Table, Lays, empty_word};
+ghost use Rattle.zone_bytes.specs.Table.{Table, Lays};
 ghost use Rattle.zone_bytes.specs.Beside.{KeepsPlace};
 
 use crate::keeping::Landmarks;
 use block_store::UNIT;
-use heap_words::Tag;
+use heap_words::{SlotWord, Tag};
 use raw_region::Part;
-use zone_bytes::{free_behind, last_free_below, make_free, read_header, read_word, write_word};
-
-/// Returns the word of the slot of a handle that is emptied, by the flags in the header of the handle's block.
-fn word_once_empty(flags: u32) -> u32
-    ensures { result ≡ empty_word (nat_le 32 (flags % 64)) }
-{
-    if flags % 64 >= 32 { 18 } else { 2 }
-}
+use zone_bytes::{
+    free_above, has_resource_flag, last_free_below, make_free, read_header, read_word, write_slot,
+};
 
 /// Makes the block at `at`, together with the free bytes from `start` to there, one free block, and empties the handle
 /// that led to the block. Returns the place at which the block ended.
@@ -35,7 +30,8 @@ pub fn free_up(part: &mut Part, start: u32, at: u32) -> u32
     let end = at + header.size;
     make_free(part, start, end);
     if header.tag == Tag::Relocatable {
-        write_word(part, header.slot, word_once_empty(header.flags));
+        let empty = SlotWord::Empty(has_resource_flag(header.flags));
+        write_slot(part, header.slot, empty);
     }
     end
 }
@@ -62,7 +58,7 @@ pub fn free_block(part: &mut Part, marks: &Landmarks, place: u32) -> Freed
     let from = marks.below(place);
     let start = last_free_below(part, from, place);
     let end = free_up(part, start, place);
-    let more = free_behind(part, end);
+    let more = free_above(part, end);
     if more > 0 {
         free_up(part, start, end);
     }

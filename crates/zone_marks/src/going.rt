@@ -12,7 +12,7 @@ ghost use Rattle.zone_bytes.specs.Changes.{AtEach, Begins, Replaced};
 ghost use Rattle.zone_marks.specs.Purgeable.{NoneGoes, Stays};
 ghost use Rattle.zone_bytes.specs.Stepping.{left_in, IsOnWay};
 
-use crate::measuring::{walk_at, within};
+use crate::measuring::walk_at;
 use block_store::{Sparing, may_purge_now, next_purgeable_in, purgeable_in};
 use raw_region::Part;
 use zone_bytes::step_at;
@@ -23,7 +23,7 @@ pub fn first_going(part: &Part, from: u32, to: u32) -> u32
     requires { IsOnWay from part.now.bytes }
     ensures { AtEach (Stays result) from (left_in from part.now.bytes) }
 {
-    let stop = within(to, part.len() as u32);
+    let stop = to.min(part.len() as u32);
     let mut at = from;
     while at < stop {
         let step = step_at(part, at);
@@ -50,7 +50,7 @@ pub fn lowest_after(part: &Part, lowest: u32, lo: u32, hi: u32) -> u32
     if hi <= found {
         return lowest;
     }
-    within(lowest, found)
+    lowest.min(found)
 }
 
 /// Returns the place of the block that is purged next after `purges` purges, where no block below `from` may be purged.

@@ -1,4 +1,4 @@
-//! Landmarks in groups. Of each group it is kept how large its free blocks are at most, and what its blocks come to.
+//! Landmarks in groups. Each group has a bound on the size of its free blocks, and the tallies of its blocks.
 
 ghost use Rattle.std.specs.Prelude.{◌≡◌, ◌≤◌, ◌<◌, ◌*◌, ◌+◌, ℕ, List, length, get_or, set};
 ghost use Rattle.zone_marks.specs.Marks.{AreGroups, AreOfZone, IsGroup, no_mark, tally_of};
@@ -6,11 +6,10 @@ ghost use Rattle.zone_marks.specs.declared.landmark.Landmark.{Landmark};
 ghost use Rattle.zone_marks.specs.declared.landmark.TheConstants.{GROUP};
 
 use crate::landmark::{GROUP, Group, Landmark, Tallies, Tally};
-use crate::measuring::greater;
 use zone_summary::{Counting, Stretch};
 
 /// Changes what is known of a landmark's group, before the landmark becomes another that notes the bound `most`: the
-/// group's bound is at least as high, and what its blocks come to is forgotten.
+/// group's bound is at least as high, and the tallies of its blocks are forgotten.
 pub fn raise_group(groups: &mut [Group], index: usize, most: u32)
     requires { index < GROUP * length groups.old }
     ensures { (marks : List Landmark) (mark : Landmark) → mark.most ≤ most → AreGroups groups.old marks →
@@ -18,12 +17,12 @@ pub fn raise_group(groups: &mut [Group], index: usize, most: u32)
 {
     let group = index / GROUP;
     groups[group] = Group {
-        most: greater(groups[group].most, most),
+        most: groups[group].most.max(most),
         tally: Tallies::UNKNOWN,
     };
 }
 
-/// Returns what the blocks of all these landmarks come to, counted in one way, where it is known of each.
+/// Returns the tally of the blocks of all these landmarks, counted in one way; it is known if each of theirs is.
 fn joined(marks: &[Landmark], counting: Counting) -> Tally
     requires { AreOfZone marks.now }
     ensures { result ≡ tally_of counting marks.now }
@@ -42,9 +41,9 @@ fn joined(marks: &[Landmark], counting: Counting) -> Tally
 fn highest(marks: &[Landmark]) -> u32
     ensures { (index : ℕ) → index < length marks.now → (get_or marks.now index no_mark).most ≤ result }
 {
-    let mut most = 0;
+    let mut most: u32 = 0;
     for mark in marks {
-        most = greater(most, mark.most);
+        most = most.max(mark.most);
     }
     most
 }

@@ -24,7 +24,6 @@ use crate::landmark::{GROUP, Group, Kept, Landmark, UNKNOWN, UNKNOWN_GROUP};
 use crate::marking::{
     NextMark, change_marks, find_by_marks, lay_edges, lay_marks, mark_below, place_of_mark,
 };
-use crate::measuring::within;
 use crate::paging::{groups_of, page_bytes, page_end};
 use block_store::{Flags, Sparing};
 use raw_region::Part;
@@ -32,10 +31,10 @@ use std::alloc::{AllocError, Global};
 use zone_bytes::{Edges, PackedRun, size_at};
 
 /// Landmarks of a zone: places at which blocks begin, one for each page of the zone's bytes. Each has a bound on the
-/// size of each free block up to the next landmark, and tallies of the blocks there: what they come to in runs, and, from
-/// the first time on that a block may be purged, in spaces. Each group of landmarks has both of all its blocks. With them
-/// is kept a place below which no block may be purged. Landmarks lie in the host's memory, and can be thrown away and
-/// made anew at any time.
+/// size of each free block up to the next landmark, and tallies of the blocks there: their summary in runs, and, from the
+/// first time on that a block may be purged, their summary in spaces. Each group of landmarks has both for all its blocks.
+/// A place below which no block may be purged is kept with them. Landmarks lie in the host's memory, and can be thrown
+/// away and made anew at any time.
 #[derive(Drop)]
 pub struct Landmarks {
     pub(crate) marks: Vec<Landmark>,
@@ -46,8 +45,8 @@ pub struct Landmarks {
 }
 
 impl Landmarks {
-    /// Makes the landmarks of a zone, by walks over the zone. All room that they ever take is asked of the host here.
-    /// Where the host refuses it, there are none: each search then begins at the bottom, and finds the same.
+    /// Makes the landmarks of a zone, by walks over the zone. All room that they ever take is taken from the host here.
+    /// If the host is out of memory, there are none: each search then begins at the bottom, and finds the same.
     #[tactic(auto, using(crate::proofs::Bounds::Going::lowest_places))]
     pub fn of(alloc: Global, part: &Part) -> Landmarks
         requires sound { (first : ℕ) × (unused : ℕ) × IsSound part.now.bytes first unused }
@@ -145,7 +144,7 @@ impl Landmarks {
         ensures { (hi : ℕ) (old new : List Block) → AreOf self.now old → Replaced place hi old new →
             NoneGoes result new }
     {
-        within(self.lowest, place)
+        self.lowest.min(place)
     }
 
     /// Returns the place of the lowest free block of at least `bytes` bytes.
@@ -205,8 +204,8 @@ impl Landmarks {
         self.note(part, place, place + size);
     }
 
-    /// Renews the landmarks after the flags of the block at `place` became others. Once a block is purgeable, it is kept
-    /// what blocks come to in spaces.
+    /// Renews the landmarks after the flags of the block at `place` became others. From the first purgeable block on,
+    /// summaries in spaces are kept.
     pub fn note_flags(&mut self, part: &Part, place: u32, flags: Flags)
         requires sound { (first : ℕ) × (unused : ℕ) × IsSound part.now.bytes first unused }
         requires marks { (old : List Block) × Became place old (zone_in part.now.bytes) × AreOf self.old old }

@@ -11,7 +11,7 @@ pub const GROUP: usize = 16;
 /// What is known of blocks, counted in one way.
 #[derive(Clone, Copy, Drop)]
 pub enum Tally {
-    /// What the blocks come to.
+    /// The summary of the blocks.
     Known(Stretch),
     /// Nothing is known.
     Unknown,
@@ -20,9 +20,9 @@ pub enum Tally {
 /// What is known of blocks, counted in each way.
 #[derive(Clone, Copy, Drop)]
 pub struct Tallies {
-    /// What they come to in runs.
+    /// The tally in runs.
     pub runs: Tally,
-    /// What they come to in spaces.
+    /// The tally in spaces.
     pub spaces: Tally,
 }
 
@@ -47,11 +47,11 @@ impl Tallies {
 /// What landmarks are to know of blocks that became others.
 #[derive(Clone, Copy, Drop)]
 pub enum Kept {
-    /// Nothing, so that the blocks needn't be walked over.
+    /// Nothing, so that the blocks need not be walked over.
     Nothing,
-    /// What the blocks come to in runs.
+    /// Their summary in runs.
     Runs,
-    /// What they come to in runs and in spaces.
+    /// Their summaries in runs and in spaces.
     Both,
 }
 

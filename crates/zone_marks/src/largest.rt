@@ -1,6 +1,6 @@
-//! What the blocks of a zone from a place on come to in runs or in spaces, by landmarks: the blocks of a stretch are not
-//! walked over if it is known what they come to. So the greatest number of free bytes in one run is found, and the largest
-//! free block once all blocks that may be purged were.
+//! The summary of the blocks of a zone from a place on, in runs or in spaces, by landmarks: the blocks of a stretch are not
+//! walked over if their summary is known. So the greatest number of free bytes in one run is found, and the largest free
+//! block after all blocks that may be purged were purged.
 
 ghost use Rattle.std.specs.Prelude.{◌≡◌, ◌≤◌, ◌<◌, ℕ, false, length};
 ghost use Rattle.block_store.specs.Compact.{largest_run};
@@ -20,7 +20,7 @@ use crate::measuring::{measure_up_to, spaces_up_to};
 use raw_region::Part;
 use zone_summary::{Counting, Stretch};
 
-/// Returns what the blocks from one place up to another come to, by a walk over them.
+/// Returns the summary of the blocks from one place up to another, by a walk over them.
 fn walked_between(part: &Part, from: u32, to: u32, counting: Counting) -> Stretch
     requires sound { (first : ℕ) × (unused : ℕ) × IsSound part.now.bytes first unused }
     requires begins { Begins from 0 (zone_in part.now.bytes) }
@@ -49,11 +49,11 @@ pub fn edge_of(marks: &[Landmark], part: &Part, index: usize) -> u32
 #[derive(Clone, Copy, Drop)]
 pub struct Told {
     pub tally: Tally,
-    pub behind: usize,
+    pub above: usize,
 }
 
 /// Returns what is known of the blocks from a landmark on: of those of its group, if it is the first of the group and the
-/// group's tally says what they come to, or else of its own.
+/// group's tally is known, or else of its own.
 pub fn told_from(
     marks: &[Landmark],
     groups: &[Group],
@@ -63,28 +63,28 @@ pub fn told_from(
 ) -> Told
     requires marked { HasMarks part.now.bytes marks.now groups.now }
     requires inside { index < length marks.now }
-    ensures further { index < result.behind }
-    ensures inside { result.behind ≤ length marks.now }
+    ensures further { index < result.above }
+    ensures inside { result.above ≤ length marks.now }
     ensures stretch { IsStretch counting result.tally (place_at index marks.now part.now.bytes)
-        (place_at result.behind marks.now part.now.bytes) part.now.bytes }
+        (place_at result.above marks.now part.now.bytes) part.now.bytes }
 {
     if index % GROUP == 0 {
         let tally = groups[index / GROUP].tally.told(counting);
         if let Tally::Known(_) = tally {
             return Told {
                 tally,
-                behind: index + GROUP,
+                above: index + GROUP,
             };
         }
     }
     Told {
         tally: marks[index].tally.told(counting),
-        behind: index + 1,
+        above: index + 1,
     }
 }
 
-/// Returns what the blocks from the place `from` on come to. If the `lowest` run or space alone is asked for, blocks above
-/// it may be left out.
+/// Returns the summary of the blocks from the place `from` on. If the caller needs only the `lowest` run or space, blocks
+/// above it may be left out.
 pub fn stretch_above(
     marks: &[Landmark],
     groups: &[Group],
@@ -109,12 +109,12 @@ pub fn stretch_above(
             Tally::Known(next) => next,
             Tally::Unknown => {
                 let at = edge_of(marks, part, index);
-                let to = edge_of(marks, part, told.behind);
+                let to = edge_of(marks, part, told.above);
                 walked_between(part, at, to, counting)
             }
         };
         stretch = stretch.join(next);
-        index = told.behind;
+        index = told.above;
     }
     stretch
 }

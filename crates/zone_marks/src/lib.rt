@@ -2,8 +2,8 @@
 //! them, by which blocks, runs and sums are found without a walk over the zone.
 #![tactic(auto)]
 
+mod above;
 mod beginning;
-mod behind;
 mod fewest;
 mod finding_runs;
 mod free_space;
@@ -19,7 +19,7 @@ mod paging;
 mod purgeable;
 mod purging;
 
-pub use behind::has_room_behind;
+pub use above::has_room_above;
 pub use freeing::{Freed, free_block, free_slot};
 pub use going::{count_purgeable, next_purgeable};
 pub use keeping::Landmarks;

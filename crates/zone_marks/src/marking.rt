@@ -17,7 +17,7 @@ ghost use Rattle.zone_marks.specs.declared.landmark.TheConstants.{GROUP};
 
 use crate::grouping::{raise_group, renew_groups};
 use crate::landmark::{GROUP, Group, Kept, Landmark, Tallies, Tally, UNKNOWN};
-use crate::measuring::{Measured, greater, measure_up_to, room_between, spaces_up_to};
+use crate::measuring::{Measured, measure_up_to, room_between, spaces_up_to};
 use crate::paging::page_end;
 use raw_region::Part;
 use zone_bytes::Edges;
@@ -152,7 +152,7 @@ fn lowered_mark(at: u32, lo: u32, hi: u32) -> u32
     if lo < at && at < hi { lo } else { at }
 }
 
-/// Returns what the blocks from `at` up to `above` come to in spaces, if that is to be known.
+/// Returns the tally in spaces of the blocks from `at` up to `above`, if it is to be known.
 fn spaces_told(part: &Part, at: u32, above: u32, kept: Kept) -> Tally
     requires { IsOnWay at part.now.bytes }
     ensures { IsTally Spaces result (between at above at (left_in at part.now.bytes)) }
@@ -206,7 +206,7 @@ fn changed_mark(
     mark.at = lowered_mark(mark.at, lo, hi);
     match kept {
         Kept::Nothing => {
-            mark.most = greater(mark.most, hi - lo);
+            mark.most = mark.most.max(hi - lo);
             mark.tally = Tallies::UNKNOWN;
         }
         _ => *mark = measured_mark(part, mark.at, above, kept),
@@ -273,8 +273,7 @@ pub struct NextMark {
 }
 
 /// Lays a landmark anew at `at`, with what is known of the blocks up to `edge`: from `base` on these are relocatable
-/// blocks that lie packed, of which it isn't known what they come to in spaces, and below `base` they are measured by a
-/// walk.
+/// blocks that lie packed, whose summary in spaces isn't known, and below `base` they are measured by a walk.
 fn packed_mark(mark: &mut Landmark, part: &Part, at: u32, edge: u32, base: u32, kept: Kept)
     requires sound { (first : ℕ) × (unused : ℕ) × IsSound part.now.bytes first unused }
     requires begins { Begins at 0 (zone_in part.now.bytes) }
@@ -319,7 +318,7 @@ pub fn lay_edges(
         let Some(place) = edges.get(next.index - from.index) else {
             break;
         };
-        let edge = greater(next.at, place);
+        let edge = next.at.max(place);
         let mark = &mut marks[next.index];
         packed_mark(mark, part, next.at, edge, base, kept);
         raise_group(groups, next.index, mark.most);

@@ -1,6 +1,6 @@
 //! Walks over a stretch of a zone.
 
-ghost use Rattle.std.specs.Prelude.{◌≡◌, ◌+◌, ◌%◌, ◌==◌, ◌<◌, ◌≤◌, ◌^◌, ◌⊎◌, not, if◌then◌else◌, ℕ, length};
+ghost use Rattle.std.specs.Prelude.{◌≡◌, ◌+◌, ◌%◌, ◌==◌, ◌<◌, ◌≤◌, ◌^◌, not, if◌then◌else◌, ℕ, length};
 ghost use Rattle.std.specs.Prelude.{MatchOption, IfSome};
 ghost use Rattle.block_store.specs.Block.{Block, size, sizes};
 ghost use Rattle.block_store.specs.Compact.{largest_free};
@@ -15,6 +15,7 @@ ghost use Rattle.zone_bytes.specs.Stepping.{left_in, IsOnWay};
 ghost use Rattle.zone_summary.specs.Stretches.{counted, space, spaces_of};
 
 use block_store::{Seen, UNIT};
+use heap_words::LOCKED;
 use raw_region::Part;
 use zone_bytes::{RawWalk, read_word, step_at, walk_from};
 use zone_summary::Stretch;
@@ -29,24 +30,6 @@ pub fn walk_at<'a>(part: &'a Part, at: u32) -> RawWalk<'a>
     walk_from(part, at)
 }
 
-/// Returns the lower of a place and the zone's end.
-pub fn within(to: u32, end: u32) -> u32
-    ensures low { result ≤ end }
-    ensures least { result ≤ to }
-    ensures one { (result ≡ to) ⊎ (result ≡ end) }
-{
-    if to < end { to } else { end }
-}
-
-/// Returns the greater of two numbers of bytes.
-pub fn greater(most: u32, bytes: u32) -> u32
-    ensures first { most ≤ result }
-    ensures second { bytes ≤ result }
-    ensures one { (result ≡ most) ⊎ (result ≡ bytes) }
-{
-    if most < bytes { bytes } else { most }
-}
-
 /// The end of a block, its free bytes, and whether it ends a run.
 #[derive(Clone, Copy, Drop)]
 pub struct Span {
@@ -56,7 +39,7 @@ pub struct Span {
 }
 
 impl Span {
-    /// Returns what the block comes to in runs.
+    /// Returns the summary of the block in runs.
     fn runs(self) -> Stretch
         ensures { result ≡ counted (not self.barrier) self.free }
     {
@@ -86,7 +69,7 @@ fn ends_run_at(part: &Part, at: u32, tag: u32) -> bool
     if tag < 3 {
         return tag > 0;
     }
-    read_word(part, at + 12) >= 128
+    read_word(part, at + 12) >= LOCKED
 }
 
 /// Measures the block at a place.
@@ -105,7 +88,7 @@ pub fn span_at(part: &Part, at: u32) -> Span
     }
 }
 
-/// Returns what a block of `bytes` bytes comes to in spaces: a free block adds its bytes to a space, and so does a
+/// Returns the summary of a block of `bytes` bytes in spaces: a free block adds its bytes to a space, and so does a
 /// relocatable block that is purgeable and not locked.
 fn space_of_seen(block: Seen, bytes: u32) -> Stretch
     ensures { (b : Block) → seen b ≡ block → size b ≡ bytes → result ≡ space b }
@@ -122,13 +105,13 @@ fn space_of_seen(block: Seen, bytes: u32) -> Stretch
     }
 }
 
-/// Walks from one place to the first block that begins at or above another, or to the zone's end, and returns what the
-/// blocks come to in spaces.
+/// Walks from one place to the first block that begins at or above another, or to the zone's end, and returns the summary
+/// of the blocks in spaces.
 pub fn spaces_up_to(part: &Part, from: u32, place: u32) -> Stretch
     requires { IsOnWay from part.now.bytes }
     ensures { spaces_of (between from place from (left_in from part.now.bytes)) ≡ result }
 {
-    let stop = within(place, part.len() as u32);
+    let stop = place.min(part.len() as u32);
     let mut spaces = Stretch::NONE;
     let mut at = from;
     while at < stop {
@@ -139,8 +122,8 @@ pub fn spaces_up_to(part: &Part, from: u32, place: u32) -> Stretch
     spaces
 }
 
-/// The result of a walk from a place: where the walk ended, the size of the largest free block that it passed, and what
-/// the blocks that it passed come to in runs.
+/// The result of a walk from a place: where the walk ended, the size of the largest free block that it passed, and the
+/// summary in runs of the blocks that it passed.
 #[derive(Clone, Copy, Drop)]
 pub struct Measured {
     pub edge: u32,
@@ -157,13 +140,13 @@ pub fn measure_up_to(part: &Part, from: u32, place: u32) -> Measured
     ensures below { Measures from place from (left_in from part.now.bytes) result }
     ensures reached { result.most ≤ largest_free (left_in from part.now.bytes) }
 {
-    let stop = within(place, part.len() as u32);
-    let mut most = 0;
+    let stop = place.min(part.len() as u32);
+    let mut most: u32 = 0;
     let mut runs = Stretch::NONE;
     let mut at = from;
     while at < stop {
         let span = span_at(part, at);
-        most = greater(most, span.free);
+        most = most.max(span.free);
         runs = runs.join(span.runs());
         at = span.end;
     }
@@ -182,7 +165,7 @@ pub fn room_between(part: &Part, from: u32, to: u32, bytes: u32) -> Option<u32>
     ensures lowest { IfSome result (λ place. AtEach (NoRoom bytes from place) from (left_in from part.now.bytes)) }
     ensures room { IfSome result (λ place. RoomAt bytes place part.now.bytes) }
 {
-    let stop = within(to, part.len() as u32);
+    let stop = to.min(part.len() as u32);
     let mut at = from;
     while at < stop {
         let span = span_at(part, at);

@@ -4,7 +4,6 @@ ghost use Rattle.std.specs.Prelude.{◌≡◌, ◌≤◌, ◌<◌, ℕ};
 ghost use Rattle.zone_bytes.specs.Lawful.{IsSound};
 
 use crate::landmark::GROUP;
-use crate::measuring::greater;
 use raw_region::Part;
 
 /// The greatest number of landmarks of a zone, one for each of its pages. Each change walks over the blocks of a page.
@@ -21,7 +20,7 @@ pub fn page_bytes(part: &Part) -> u32
     requires sound { (first : ℕ) × (unused : ℕ) × IsSound part.now.bytes first unused }
     ensures { 0 < result }
 {
-    greater(LEAST_PAGE, (part.len() as u32) / LANDMARKS as u32 + 1)
+    LEAST_PAGE.max((part.len() as u32) / LANDMARKS as u32 + 1)
 }
 
 /// Returns the number of groups in which the landmarks of a zone are.

@@ -95,9 +95,9 @@ pub fn purgeable_left(part: &Part, before: u32, freed: u32, sparing: Sparing) ->
     }
 }
 
-/// Reports whether a whole zone has fewer than `bytes` bytes, where `most` bytes are free in it once all blocks that may
-/// be purged were: then no run of the zone has as many as `bytes`, after however many purges. If `sparing` counts a block
-/// as free that is not free, nothing is known and the answer is `false`.
+/// Reports whether `most`, the free bytes of a zone after all blocks that may be purged were purged, are fewer than
+/// `bytes`: then no run of the zone has `bytes` free bytes, after however many purges. If `sparing` counts a block as free
+/// that is not free, nothing is known and the result is `false`.
 #[tactic(auto, using(crate::proofs::Marks::Owed::given_steps))]
 pub fn falls_short(most: u32, bytes: u32, sparing: Sparing) -> bool
     ensures { result ≡ true → (zone : List Block) (purges : ℕ) → most ≡ free_sum zone + purgeable_sum zone

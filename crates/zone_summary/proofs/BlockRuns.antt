@@ -12,9 +12,8 @@ use Rattle.block_store.specs.Run.{RunSpot, has, has_free, in_run, run_spot}
 use Rattle.block_store.specs.Sparing.{opened, purged, spared}
 use Rattle.block_store.specs.declared.sparing.Sparing.{Sparing}
 use Rattle.block_store.specs.declared.sparing.Sparing.TheVariants as sparing
-use Rattle.block_store.proofs.Regroup.RunSkips.{scan-end}
 use Rattle.block_store.proofs.Purged.Rising.{lowest_purged-none}
-use Rattle.block_store.proofs.Regroup.RunScans.{scan-is, scan_kept, suits-slot}
+use Rattle.block_store.proofs.Regroup.RunScans.{scan-end, scan-is, scan_kept, suits-slot}
 use Rattle.zone_summary.specs.Fewest.{purges_for, run_purges_for}
 use Rattle.zone_summary.specs.Stretches.{prefix, stretch_of}
 use Rattle.zone_summary.proofs.Purges.{freed, gain, gains, own-is}

@@ -21,7 +21,7 @@ count_within spared (suc bytes) (b ∷ above) =
     (if may_be_purged spared b then 1 else 0) + count_within spared (suc bytes - size b) above
 
 -- How many of the lowest blocks of a run that may be purged free so many bytes, after `done` others; none where they free
--- fewer. The run ends where a block that is in none does.
+-- fewer. The run ends at the first block that is in no run.
 abbrev pub run_purges_for : (Block → Bool) → ℕ → ℕ → List Block → Option ℕ
 run_purges_for spared done zero blocks = Some done
 run_purges_for spared done (suc bytes) [] = None

@@ -9,7 +9,7 @@ use Rattle.block_store.specs.Run.{in_run}
 abbrev pub found_from : ℕ → (Block → Bool) → ℕ → ℕ → ℕ → List Block → Option ℕ
 found_from enough spared start free place blocks = scan_runs None enough spared 0 start free true place blocks
 
--- Where the run began that goes on behind blocks of which the first is at `place`, and the run below it began at `start`.
+-- The bottom of the run that goes on after these blocks. The first of them is at `place`, and its run began at `start`.
 abbrev pub begun_in : ℕ → ℕ → List Block → ℕ
 begun_in start place [] = start
 begun_in start place (b ∷ done) = begun_in (if in_run b then start else place + size b) (place + size b) done

@@ -1,5 +1,5 @@
--- What the blocks of a stretch of a zone come to in runs, and in spaces. Inside Macintosh: Memory, chapter 2, "Freeing
--- Memory": MaxBlock and PurgeSpace are asked of a whole zone, and answered here from what parts of it come to.
+-- The summary of a stretch of a zone's blocks in runs, and in spaces. Inside Macintosh: Memory, chapter 2, "Freeing
+-- Memory": MaxBlock and PurgeSpace ask about a whole zone, and are answered here by the summaries of its parts.
 use Rattle.std.specs.Prelude.{ℕ, ◌+◌, max, Bool, true, false, List, [], ◌∷◌}
 use Rattle.block_store.specs.Block.{Block, Free, Nonrelocatable, Masters, Relocatable, free_of, is_purgeable, size}
 use Rattle.block_store.specs.Run.{in_run}
@@ -13,18 +13,18 @@ abbrev pub counted : Bool → ℕ → Stretch
 counted true free = Whole free
 counted false free = Ended 0 0 0
 
--- What one block comes to.
+-- The summary of one block.
 abbrev pub one : Block → Stretch
 one b = counted (in_run b) (free_of b)
 
--- Two stretches, of which the second follows the first, as one.
+-- The summary of two stretches, of which the second follows the first.
 abbrev pub join : Stretch → Stretch → Stretch
 join (Whole a) (Whole b) = Whole (a + b)
 join (Whole a) (Ended p i s) = Ended (a + p) i s
 join (Ended p i s) (Whole b) = Ended p i (s + b)
 join (Ended p i s) (Ended q j t) = Ended p (max (max i j) (s + q)) t
 
--- What the blocks of a stretch come to, lowest first.
+-- The summary of the blocks of a stretch in runs, lowest first.
 abbrev pub stretch_of : List Block → Stretch
 stretch_of [] = Whole 0
 stretch_of (b ∷ above) = join (one b) (stretch_of above)
@@ -36,16 +36,16 @@ is_space (Nonrelocatable id content) = false
 is_space Masters = false
 is_space (Relocatable id flags content) = is_purgeable (Relocatable id flags content)
 
--- What one block comes to in spaces: it adds its bytes to a space, or ends one.
+-- The summary of one block in spaces: the block adds its bytes to a space, or ends one.
 abbrev pub space : Block → Stretch
 space b = counted (is_space b) (size b)
 
--- What the blocks of a stretch come to in spaces, lowest first.
+-- The summary of the blocks of a stretch in spaces, lowest first.
 abbrev pub spaces_of : List Block → Stretch
 spaces_of [] = Whole 0
 spaces_of (b ∷ above) = join (space b) (spaces_of above)
 
--- What the blocks of a stretch come to, counted in one of the two ways.
+-- The summary of the blocks of a stretch, counted in one of the two ways.
 abbrev pub stretch_by : Counting → List Block → Stretch
 stretch_by counting.Runs blocks = stretch_of blocks
 stretch_by counting.Spaces blocks = spaces_of blocks
@@ -74,7 +74,7 @@ abbrev pub is_ended : Stretch → Bool
 is_ended (Whole a) = false
 is_ended (Ended p i s) = true
 
--- What a stretch holds in sum: no less than any number that it gives to a join.
+-- The total of a summary: no less than any of its numbers that a join adds up.
 abbrev pub load : Stretch → ℕ
 load (Whole a) = a
 load (Ended p i s) = p + i + s

@@ -1,4 +1,4 @@
-//! What stretches of a zone's blocks come to in runs and in spaces, by which questions about the runs and the spaces of the
+//! Summaries of stretches of a zone's blocks, in runs and in spaces. By them questions about the runs and the spaces of the
 //! whole zone are answered without a walk over its blocks.
 #![tactic(auto)]
 

@@ -1,4 +1,4 @@
-//! What a stretch of blocks comes to in runs or in spaces, and how two that are neighbours come to one.
+//! The summary of a stretch of blocks in runs or in spaces, and the summary of two neighbouring stretches.
 
 ghost use Rattle.std.specs.Prelude.{◌≡◌, ◌+◌, ◌^◌, ◌<◌, ◌++◌, List};
 ghost use Rattle.block_store.specs.Block.{Block};
@@ -14,17 +14,17 @@ ghost use Rattle.zone_summary.specs.declared.stretch.Counting.{Counting as Count
 pub enum Counting {
     /// The free bytes of runs, which are one block once the run is packed.
     Runs,
-    /// The bytes of spaces: of blocks beside one another that are free, or would be if they were purged.
+    /// The bytes of spaces: of neighbouring blocks that are free, or would be free if they were purged.
     Spaces,
 }
 
-/// What the blocks of a stretch come to in runs, in free bytes; or in spaces, which are then meant by 'run'.
+/// The summary of a stretch of blocks, in bytes. Counted in spaces, a space stands for each run that is named here.
 #[derive(Clone, Copy)]
 pub enum Stretch {
-    /// No block of them ends a run, and they have so many free bytes.
+    /// No block of the stretch ends a run. The number is that of the stretch's free bytes.
     Whole(u32),
-    /// A block of them ends a run: the free bytes of the run at the lower end, the most of a run between two blocks that
-    /// end one, and those of the run at the upper end.
+    /// A block of the stretch ends a run. The numbers are those of the free bytes of the run at the lower end, of the run
+    /// with the most between two blocks that end one, and of the run at the upper end.
     Ended(u32, u32, u32),
 }
 
@@ -35,7 +35,7 @@ impl Stretch {
     /// The stretch of one block that ends a run.
     pub const END: Stretch = Stretch::Ended(0, 0, 0);
 
-    /// Returns what this stretch comes to with the one that follows it.
+    /// Returns the summary of this stretch together with the one that follows it.
     #[tactic(auto, using(crate::proofs::Monoid::joins))]
     pub fn join(self, high: Stretch) -> Stretch
         requires { suffix self + prefix high < 2 ^ 32 }

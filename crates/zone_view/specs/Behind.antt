@@ -9,7 +9,7 @@ use Rattle.applications.specs.Application.{lines_told}
 use Rattle.zone_view.specs.Shown.{zone_shown}
 use Rattle.zone_view.specs.declared.form.Form.{Form}
 
--- The zone of an application as it lies behind a line of its script.
+-- The zone of an application as it lies after a line of its script.
 
 -- The first words of the last line of a text, with the blanks between them, where `words` are those of the line so far,
 -- and `left` is how many are still to come, the one that is being read among them.
@@ -25,7 +25,7 @@ last_words words left (b ∷ more) =
     if b == 10 then last_words [] 3 more
     else last_words (with_byte b (left_behind b left) words) (left_behind b left) more
 
--- The step behind which a zone stands: the first three words of the last line of a transcript, which ends with LF. They
+-- The step after which a zone is shown: the first three words of the last line of a transcript, which ends with LF. They
 -- are the number of the line, the call and its result code; before the first step, the launch, 0 and the zone's size.
 abbrev pub step_told : List ℕ → List ℕ
 step_told transcript = last_words [] 3 (take (length transcript - 1) transcript)
@@ -44,8 +44,8 @@ steps_at (Some n) lines = steps_to n lines
 abbrev pub told : Resources → ℕ → ScriptParts → ℕ → List ℕ
 told resources size script n = launch_line size ++ lines_told (first_steps resources size script n).lines
 
--- The zone of an application with these resources, in a fresh partition of `size` bytes, behind the first `n` steps of a
--- script; or behind its last step, where it ended before.
+-- The zone of an application with these resources, in a fresh partition of `size` bytes, after the first `n` steps of a
+-- script; or after its last step, if it ended before.
 abbrev pub zone_behind : Form → Resources → ℕ → ScriptParts → ℕ → List ℕ
 zone_behind form resources size script n =
     zone_shown form (first_steps resources size script n).after (step_told (told resources size script n))

@@ -1,8 +1,10 @@
-use Rattle.std.specs.Prelude.{ℕ, ◌==◌, ◌^◌, nat_lt, Option, Some, None, List, [], ◌∷◌, if◌then◌else◌}
+use Rattle.std.specs.Prelude.{ℕ, ◌==◌, ◌^◌, nat_lt, Bool, true, false, ◌&&◌, Option, Some, None, List, [], ◌∷◌}
+use Rattle.std.specs.Prelude.{if◌then◌else◌}
 use Rattle.std.specs.Borrow.{Bor}
 use Rattle.std.specs.BTreeMap.{BTreeMap, get}
+use Rattle.std.specs.Cmp.Lexicographic.{slice_cmp}
 use Rattle.std.specs.Option.{option_or, option_map}
-use Rattle.std.specs.Ordering.{nat_cmp}
+use Rattle.std.specs.Ordering.{nat_cmp, match_ordering}
 use Rattle.mac_words.specs.declared.name.Label.{Label}
 use Rattle.res_map.specs.Map.{Reference, has_handle}
 use Rattle.res_calls.specs.Files.{OpenFile}
@@ -13,10 +15,18 @@ use Rattle.heap_view.specs.Line.{Tag}
 
 -- What is known of the handles and pointers of an application, each by its number.
 
--- The first of the names, in their order, that is bound to a number.
+-- Whether a name is before one that was found, as their bytes are ordered.
+abbrev pub is_before : List ℕ → Option (List ℕ) → Bool
+is_before name None = true
+is_before name (Some found) = match_ordering (slice_cmp nat_cmp name found) true false false
+
+-- The first of the names, as their bytes are ordered, that are bound to a number, where one may have been found before.
+abbrev pub first_of : ℕ → Option (List ℕ) → Bindings → Option (List ℕ)
+first_of n found [] = found
+first_of n found (b ∷ names) = first_of n (if b.1 == n && is_before b.0 found then Some b.0 else found) names
+
 abbrev pub name_of : ℕ → Bindings → Option (List ℕ)
-name_of n [] = None
-name_of n (b ∷ names) = if b.1 == n then Some b.0 else name_of n names
+name_of n names = first_of n None names
 
 -- The resource of a reference in the open file of this number.
 abbrev pub owner : ℕ → Reference → Owner

@@ -39,7 +39,7 @@ block_lines known place (b ∷ above) = block_line known place b ∷ block_lines
 abbrev pub zone_lines : (ℕ → Tag) → List Block → List Line
 zone_lines known zone = block_lines known 0 zone
 
--- A zone in a form, by the lines of its blocks and what could be allocated, behind a step of its application.
+-- A zone in a form, by the lines of its blocks and what could be allocated, after a step of its application.
 abbrev pub lines_shown : Form → List Line → Largest → List ℕ → List ℕ
 lines_shown form.Columns lines largest behind = zone_text (style.Columns (widest lines)) lines largest behind
 lines_shown form.Tabs lines largest behind = zone_text style.Tabs lines largest behind

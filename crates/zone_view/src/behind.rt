@@ -1,4 +1,4 @@
-//! The zone of an application as it lies behind a line of its script.
+//! The zone of an application as it lies after a line of its script.
 
 ghost use Rattle.std.specs.Prelude.{◌≡◌, ◌++◌, [], take, IfOk, OnOk};
 ghost use Rattle.block_store.specs.Block.{fresh, sizes};
@@ -15,7 +15,7 @@ use res_calls::Resources;
 use script_text::{Line, Script, write_launch};
 use std::alloc::{AllocError, Global};
 
-/// Returns how many words are still to come where a byte was read.
+/// Returns how many words are still to come once a byte was read.
 fn left_behind(byte: u8, left: u8) -> u8
     ensures { result ≡ left_behind byte left }
 {
@@ -112,13 +112,13 @@ fn run_and_show<'s, S: BlockStore>(
     ensures lies { application.new.memory.window ≡ application.old.memory.window }
 {
     application.run(script, lines, transcript, &mut Unwatched)?;
-    let behind = step_told(alloc, transcript.as_slice())?;
-    show_zone(alloc, application, form, behind.as_slice())
+    let step = step_told(alloc, transcript.as_slice())?;
+    show_zone(alloc, application, form, step.as_slice())
 }
 
 /// Runs the first `n` steps of a script, as an application with these resources in the store of a fresh zone, which is
 /// its partition, and returns its zone as it then lies, in a form. If the application ends before, its zone is shown as
-/// it lies behind its last step. The store is returned in its place, with that zone.
+/// it lies after its last step. The store is returned in its place, with that zone.
 ///
 /// # Errors
 ///

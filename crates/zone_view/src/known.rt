@@ -1,6 +1,6 @@
 //! What is known of an application's handles and pointers, by their numbers.
 
-ghost use Rattle.std.specs.Prelude.{◌≡◌, ℕ, None, map, IfOk, OnOk};
+ghost use Rattle.std.specs.Prelude.{◌≡◌, ℕ, ◌==◌, ◌&&◌, Some, None, map, IfOk, OnOk, if◌then◌else◌};
 ghost use Rattle.std.specs.BTreeMap.{get};
 ghost use Rattle.std.specs.Option.{option_or};
 ghost use Rattle.std.specs.Ordering.{nat_cmp};
@@ -9,7 +9,8 @@ ghost use Rattle.heap_view.specs.View.{view_tag};
 ghost use Rattle.res_map.specs.View.{view_lent};
 ghost use Rattle.res_calls.specs.View.{view_open};
 ghost use Rattle.applications.specs.Names.{lent_binding};
-ghost use Rattle.zone_view.specs.Known.{name_of, owner_in, owner_of, entered, owned, named_by, tag_by};
+ghost use Rattle.zone_view.specs.Known.{is_before as is_before_found, name_of, owner_in, owner_of, entered, owned};
+ghost use Rattle.zone_view.specs.Known.{named_by, tag_by};
 
 use applications::Bound;
 use fork_format::kind_of;
@@ -18,6 +19,7 @@ use mac_words::Label;
 use res_calls::OpenFile;
 use res_map::LentReference;
 use std::alloc::{AllocError, Global};
+use std::cmp::Ordering;
 use std::collections::BTreeMap;
 
 /// Enters a value at a number that has none yet.
@@ -38,7 +40,34 @@ fn enter<V: Copy>(
     Ok(())
 }
 
-/// Returns the names of numbers: of each number the first that is bound to it.
+/// Reports whether a name is before the one that was entered at a number, if any was, as their bytes are ordered.
+fn is_before(names: &BTreeMap<usize, &Label>, number: usize, name: &Label) -> bool
+    ensures { result ≡ is_before_found name.now.0.items (named_by (get nat_cmp names.now number)) }
+{
+    match names.get(&number) {
+        Some(found) => name.cmp(*found) == Ordering::Less,
+        None => true,
+    }
+}
+
+/// Enters a name at a number, unless the one that was entered there is before it.
+fn enter_name<'a>(
+    names: &mut BTreeMap<usize, &'a Label>,
+    number: usize,
+    name: &'a Label,
+) -> Result<(), AllocError>
+    ensures entered { OnOk result ((n : ℕ) → named_by (get nat_cmp names.new n)
+        ≡ (if number == n && is_before_found name.now.0.items (named_by (get nat_cmp names.old n))
+        then Some name.now.0.items else named_by (get nat_cmp names.old n))) }
+    ensures given { OnOk result (get nat_cmp names.old no_number ≡ None → get nat_cmp names.new no_number ≡ None) }
+{
+    if is_before(names, number, name) {
+        names.insert(number, name)?;
+    }
+    Ok(())
+}
+
+/// Returns the names of numbers: of each number the first, as their bytes are ordered, that is bound to it.
 pub fn names_of<'a>(
     alloc: Global,
     bound: &[Bound<'a>],
@@ -49,7 +78,7 @@ pub fn names_of<'a>(
 {
     let mut names = BTreeMap::new(alloc);
     for one in bound {
-        enter(&mut names, one.number, one.name)?;
+        enter_name(&mut names, one.number, one.name)?;
     }
     Ok(names)
 }

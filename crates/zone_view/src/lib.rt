@@ -1,4 +1,4 @@
-//! The zone of an application as it lies behind a line of its script, with the names and the resources of its blocks.
+//! The zone of an application as it lies after a line of its script, with the names and the resources of its blocks.
 #![tactic(auto)]
 
 mod behind;

@@ -1,4 +1,4 @@
-//! The moments of an application: its zone as it lies behind each of some steps of its script.
+//! The moments of an application: its zone as it lies after each of some steps of its script.
 
 ghost use Rattle.std.specs.Prelude.{◌≡◌, ◌++◌, ◌-◌, [], take, drop, map, IfOk, OnOk};
 ghost use Rattle.block_store.specs.Block.{fresh, sizes};
@@ -33,7 +33,7 @@ fn numbered_lines<'n, S: BlockStore>(
     Ok(seen.lines)
 }
 
-/// Returns the moment of an application that has told these lines.
+/// Returns the moment of an application whose transcript ends with these lines.
 fn moment_of<'n, S: BlockStore>(
     alloc: Global,
     application: &Application<'_, S>,
@@ -46,7 +46,7 @@ fn moment_of<'n, S: BlockStore>(
     Ok(Moment { caption, lines })
 }
 
-/// Takes the lines of a script in order, to the last or to the end of the application, and appends the moment behind
+/// Takes the lines of a script in order, to the last or to the end of the application, and appends the moment after
 /// each.
 fn take_moments<'s, 'n, S: BlockStore>(
     alloc: Global,
@@ -70,7 +70,7 @@ fn take_moments<'s, 'n, S: BlockStore>(
     Ok(())
 }
 
-/// Takes the first lines of a script in order, and returns the moment behind them, and those behind each of the lines
+/// Takes the first lines of a script in order, and returns the moment after them, and those after each of the lines
 /// that follow. `transcript` is the transcript so far.
 fn run_to_moments<'s, 'n, S: BlockStore>(
     alloc: Global,
@@ -133,7 +133,7 @@ fn between(script: &Script, from: usize, to: usize) -> &[Line]
 }
 
 /// Runs the first `to` steps of a script, as an application with these resources in the store of a fresh zone, which is
-/// its partition, and returns a picture of the zone: a strip for how it lies behind the first `from` steps, and one for
+/// its partition, and returns a picture of the zone: a strip for how it lies after the first `from` steps, and one for
 /// each further step, up to the one at which the application ends. The store is returned in its place.
 ///
 /// # Errors

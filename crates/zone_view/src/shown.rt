@@ -81,7 +81,7 @@ fn write_in(
     }
 }
 
-/// Returns the zone of an application as it lies, in a form, behind a step of its script.
+/// Returns the zone of an application as it lies, in a form, after a step of its script.
 ///
 /// # Errors
 ///

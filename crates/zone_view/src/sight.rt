@@ -15,9 +15,9 @@ use std::alloc::{AllocError, Global};
 /// What is shown of an application that is run alone.
 #[derive(Clone, Copy, Debug)]
 pub enum Sight {
-    /// Its zone behind so many steps, in a form.
+    /// Its zone after so many steps, in a form.
     Zone(usize, Form),
-    /// A picture of its zone at moments: behind so many steps, and behind each further step up to the second number.
+    /// A picture of its zone at moments: after so many steps, and after each further step up to the second number.
     Moments(usize, usize),
 }
 

@@ -14,6 +14,12 @@ use Rattle.block_store.specs.Inner.RunScan.{is_number, is_wanted, any_run, meets
 use Rattle.block_store.specs.declared.sparing.Sparing.{Sparing}
 use Rattle.block_store.proofs.Zone.Totals.{total-append}
 
+-- where the blocks end
+pub scan-end : (w : Option ℕ) (p : ℕ) (sp : Block → Bool) (k start free : ℕ) (met : Bool) (place : ℕ)
+    → scan_runs w p sp k start free met place [] ≡ cond (met && nat_le p free) (Some start) None
+scan-end w p sp zero start free met place = refl
+scan-end w p sp (suc k) start free met place = refl
+
 -- blocks that would be purged count as those that are
 scan-lowest_purged : (w : Option ℕ) (p : ℕ) (sp : Block → Bool) (k start free : ℕ) (met : Bool) (place : ℕ)
     (bs : List Block)

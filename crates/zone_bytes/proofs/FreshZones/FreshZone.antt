@@ -18,8 +18,9 @@ use Rattle.zone_bytes.proofs.Blocks.InPlace.{no-slots}
 use Rattle.zone_bytes.proofs.Placed.MastersCarved.{lays-masters}
 use Rattle.zone_bytes.specs.Decode.{zone_in}
 use Rattle.zone_bytes.proofs.Laws.Lawful.{Made, made}
+use Rattle.block_store.specs.declared.measures.TheConstants.{GREATEST_ZONE}
 
-module _ (end : ℕ) (old : List ℕ) (l : length old ≡ end) (e : end % 16 ≡ 0) (h : 512 ≤ end) (m : end ≤ 134217728) where
+module _ (end : ℕ) (old : List ℕ) (l : length old ≡ end) (e : end % 16 ≡ 0) (h : 512 ≤ end) (m : end ≤ GREATEST_ZONE) where
   -- bytes that are one Free block, and have no slots
   abbrev one : List ℕ
   one = written 0 (word end) old

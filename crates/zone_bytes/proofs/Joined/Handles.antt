@@ -14,17 +14,18 @@ use Rattle.zone_bytes.specs.Lawful.{IsSound, IsKept}
 use Rattle.zone_bytes.specs.Table.{Table, Lays, slot_in}
 use Rattle.zone_bytes.proofs.Laws.Lawful.{Made, made, sizes-length, kept-made}
 use Rattle.zone_bytes.proofs.Places.Walks.{free_span-le}
+use Rattle.block_store.specs.declared.measures.TheConstants.{GREATEST_ZONE}
 
 -- the Free bytes are no more than a zone may have
 pub free-fits : (xs : List ℕ) (blocks : List Block) (slots : ℕ → Slot) (unused : List ℕ)
-    → Lays xs blocks slots unused → free_sum blocks ≤ 134217728
+    → Lays xs blocks slots unused → free_sum blocks ≤ GREATEST_ZONE
 free-fits xs blocks slots unused h = omega (arith, sizes-length, free_span-le)
 
 -- the zone has other blocks, of which so many bytes more are Free
 pub record Gained (xs new : List ℕ) (first number more : ℕ) (blocks : List Block) : Type 0 where
   pub made : Made new first number blocks (slot_in xs)
   pub sum : free_sum blocks ≡ free_sum (zone_in xs) + more
-  pub fits : free_sum blocks ≤ 134217728
+  pub fits : free_sum blocks ≤ GREATEST_ZONE
   pub masters : count is_masters blocks ≡ count is_masters (zone_in xs)
 
 pub gained : (xs new : List ℕ) (first number more : ℕ) (i : IsSound xs first number) (blocks : List Block)
@@ -35,7 +36,7 @@ gained xs new first number more i blocks h s m = search (rules, made, tidy-tidy,
 module _ (xs new : List ℕ) (first number more : ℕ) (blocks : List Block) (g : Gained xs new first number more blocks)
   where
     module _ (free : ℕ) (e : free ≡ free_sum (zone_in xs)) where
-      pub gained-fits : free + more ≤ 134217728
+      pub gained-fits : free + more ≤ GREATEST_ZONE
       gained-fits = omega arith
 
       pub gained-kept : IsKept new first number (free + more)

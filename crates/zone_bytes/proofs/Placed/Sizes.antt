@@ -38,6 +38,7 @@ use Rattle.zone_bytes.proofs.Blocks.Writes.{content-room}
 use Rattle.zone_bytes.proofs.Tiles.Heads.{header-tells}
 use Rattle.zone_bytes.proofs.Tiles.Tiling.{span-append}
 use Rattle.zone_bytes.proofs.Places.AtPlace.{way-above}
+use Rattle.block_store.specs.declared.measures.TheConstants.{GREATEST_ZONE}
 
 -- blocks that stand apart, parted into the Free one that comes first and the others
 headed-above : (above : List Block) → Apart above → Heading above (free_first above) (past_free above)
@@ -57,7 +58,7 @@ pub record Same (n place : ℕ) (b : Block) : Type 0 where
   size : size (resized n b) ≡ padded n
 
 -- the header of a block at another size
-sized-head : (resource : ℕ → Bool) (n at : ℕ) (xs : List ℕ) (small : length xs ≤ 134217728) (b : Block)
+sized-head : (resource : ℕ → Bool) (n at : ℕ) (xs : List ℕ) (small : length xs ≤ GREATEST_ZONE) (b : Block)
     → Tile (head_of resource b) (size b) (drop at xs) → Each (λ s. s < 2 ^ 32) (names_of b) → Holds b
     → (word_at (at + 4) xs ≡ length (content_of b))
     × (header (padded n + kind b) n (word_at (at + 8) xs) (word_at (at + 12) xs) ++ resized_content n (content_of b)
@@ -91,7 +92,7 @@ HasRoom n s = (size (resized n s.here) ≤ size s.here) ⊎ IsSome (grow_up (res
 
 -- a block at another size, for which there is room, takes no more bytes than there are
 pub room-fits : (xs : List ℕ) (place n : ℕ) (s : Spot) → Standing xs place s → HasRoom n s
-    → sizes (s.below ++ s.here ∷ s.above) ≤ 134217728 → size (resized n s.here) ≤ 134217728
+    → sizes (s.below ++ s.here ∷ s.above) ≤ GREATEST_ZONE → size (resized n s.here) ≤ GREATEST_ZONE
 room-fits xs place n s at room small = grind (arith, total-append)
 
 -- what is known once the header and the Free bytes above the block were read
@@ -166,7 +167,7 @@ module _ {xs : List ℕ} {place n : ℕ} {s : Spot} {hd : Header} {m : ℕ} (k :
     grown-lays more = grind (arith, k.heads, sized-lays)
 
     pub free-sized : (count : ℕ) → count ≡ free_sum (zone_in xs)
-        → (z ≤ count + hd.size) × (count ≤ 134217728) × (count + hd.size - z ≡ free_sum (zone_in now))
+        → (z ≤ count + hd.size) × (count ≤ GREATEST_ZONE) × (count + hd.size - z ≡ free_sum (zone_in now))
     free-sized count c =
         let a = ap free_sum (zone-of now _ (slot_in xs) i.unused sized-lays) in
         let b = free_sum-sized s.below new left (past_free s.above) k.same.solid in

@@ -19,6 +19,7 @@ use Rattle.zone_bytes.proofs.Tiles.Keeping.{placed-right}
 use Rattle.zone_bytes.proofs.Joined.Ways.{way, left, tile-at}
 use Rattle.zone_bytes.proofs.Places.AtPlace.{whole, low, way-above, left-above}
 use Rattle.zone_bytes.proofs.Places.Stepped.{header-told}
+use Rattle.block_store.specs.declared.measures.TheConstants.{GREATEST_ZONE}
 
 -- the resource flags that bytes tell
 abbrev pub resource_in : List ℕ → ℕ → Bool
@@ -33,7 +34,7 @@ pub record Standing (xs : List ℕ) (place : ℕ) (s : Spot) : Type 0 where
   pub left_above : left_in (place + size s.here) xs ≡ s.above
   pub inside : place + size s.here ≤ length xs
   pub some : 16 ≤ size s.here
-  pub small : length xs ≤ 134217728
+  pub small : length xs ≤ GREATEST_ZONE
   pub tile : Tile (head_of (resource_in xs) s.here) (size s.here) (drop place xs)
   pub placed : IsPlaced place s.here
   pub leads : LeadsTo place s.here xs

@@ -8,13 +8,14 @@ use Rattle.block_store.specs.Block.{Block, Nonrelocatable, Relocatable, size, co
 use Rattle.zone_bytes.specs.Layout.{kind, head_of, Tile}
 use Rattle.zone_bytes.specs.Stepping.{left_in, IsOnWay}
 use Rattle.zone_bytes.proofs.Places.Stepped.{Stepped, stepped, header-told}
+use Rattle.block_store.specs.declared.measures.TheConstants.{GREATEST_ZONE}
 
 -- the content of a block at a place, whose kind has one
 pub record Contained (at : ℕ) (xs : List ℕ) (b : Block) : Type 0 where
   pub fits : at + 16 + word_at (at + 4) xs ≤ length xs
   pub is : piece (at + 16) (word_at (at + 4) xs) xs ≡ content_of b
 
-module _ (resource : ℕ → Bool) (at : ℕ) (xs : List ℕ) (small : length xs ≤ 134217728) where
+module _ (resource : ℕ → Bool) (at : ℕ) (xs : List ℕ) (small : length xs ≤ GREATEST_ZONE) where
   pub contained : (b : Block) → Tile (head_of resource b) (size b) (drop at xs) → (kind b % 2 == 1) ≡ true
       → Contained at xs b
   unfolding head_of

@@ -17,9 +17,10 @@ use Rattle.heap_words.specs.declared.header.Header.{Header}
 use Rattle.zone_bytes.proofs.Tiles.Tags.{tag-small}
 use Rattle.zone_bytes.proofs.Tiles.Heads.{next-may, Next, next-there, header-tells, MayRead, IsRead}
 use Rattle.zone_bytes.proofs.Tiles.Decoding.{blocks-back}
+use Rattle.block_store.specs.declared.measures.TheConstants.{GREATEST_ZONE}
 pub use Rattle.zone_bytes.proofs.Tiles.Heads.{header-told}
 
-module _ (resource : ℕ → Bool) (at : ℕ) (xs : List ℕ) (small : length xs ≤ 134217728) where
+module _ (resource : ℕ → Bool) (at : ℕ) (xs : List ℕ) (small : length xs ≤ GREATEST_ZONE) where
   -- what a header tells is its block without its bytes
   pub told-is : (b : Block) → Tile (head_of resource b) (size b) (drop at xs) → Each (λ s. s < 2 ^ 32) (names_of b)
       → header_seen (kind b) (size b) (word_at (at + 4) xs) (word_at (at + 8) xs) (word_at (at + 12) xs) ≡ seen b

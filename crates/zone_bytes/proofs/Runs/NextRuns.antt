@@ -13,6 +13,7 @@ use Rattle.zone_bytes.specs.Stepping.{left_in}
 use Rattle.zone_bytes.proofs.Places.AtPlace.{left-above}
 use Rattle.zone_bytes.proofs.Runs.RunsAt.{whole, in-run, left-fits}
 use Rattle.zone_bytes.proofs.Tiles.Tiling.{span-append}
+use Rattle.block_store.specs.declared.measures.TheConstants.{GREATEST_ZONE}
 
 -- the place behind the run that comes first, as a walk finds it
 abbrev pub BehindFirst : List Block → Option ℕ
@@ -38,7 +39,7 @@ module _ (xs : List ℕ) (first count : ℕ) (i : IsSound xs first count) (place
   pub next-some : (d : ℕ) → Some d ≡ BehindFirst walk → Some (place + d) ≡ next_run r
   next-some d = next-is (Some d)
 
-  pub next-fits : (d : ℕ) → Some d ≡ BehindFirst walk → place + d ≤ 134217728
+  pub next-fits : (d : ℕ) → Some d ≡ BehindFirst walk → place + d ≤ GREATEST_ZONE
   next-fits d n = omega (
     arith,
     behind-within (sizes r.run) r.above d (sym (n ∙ behind)),

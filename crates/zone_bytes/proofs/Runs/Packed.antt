@@ -31,6 +31,7 @@ use Rattle.zone_bytes.proofs.Tiles.Permuted.{SameNames, each-front, front}
 use Rattle.zone_bytes.proofs.Tiles.Splices.{tiles-parts, tiles-splice, outside-written, piece-outside, leads-outside}
 use Rattle.zone_bytes.proofs.Tiles.Keeping.{run-no_slot, span-movers, Instead, slots-now}
 use Rattle.zone_bytes.proofs.SlotTable.Tables.{apart-clear, each-both}
+use Rattle.block_store.specs.declared.measures.TheConstants.{GREATEST_ZONE}
 
 pub run-moved : (lay : Lay) (place stop : ℕ) → IsRunFrom lay place stop → IsMoved lay place stop
 run-moved lay place stop r = grind (arith, leads-right, leads-left)
@@ -41,7 +42,7 @@ pub record Bounds (lay : Lay) (place stop from to : ℕ) (xs : List ℕ) (gone m
   pub low : place ≤ to
   pub rest_end : from + sizes rest ≡ stop
   pub inside : stop ≤ length xs
-  pub small : length xs ≤ 134217728
+  pub small : length xs ≤ GREATEST_ZONE
   pub evens : (to % 16 ≡ 0) × (from % 16 ≡ 0)
   pub gone_in : Loose gone
   pub rest_in : Loose rest
@@ -242,7 +243,7 @@ module _ (lay : Lay) (place stop : ℕ) (r : IsMoved lay place stop) where
 
   -- whether the next block belongs to a run, as its header tells
   module _ (from : ℕ) (xs : List ℕ) (h : Header) (e : IsRead from xs h) where
-    runs-told : (b : Block) → length xs ≤ 134217728 → Tile (head b) (size b) (drop from xs)
+    runs-told : (b : Block) → length xs ≤ GREATEST_ZONE → Tile (head b) (size b) (drop from xs)
         → runs_on (tag_number h.tag) h.flags ≡ in_run b
     runs-told b small t =
         ap (λ j. runs_on j h.flags) (read-tells lay.resource xs from small h e b t).1 ∙ of-kind b t
@@ -300,7 +301,7 @@ module _ (lay : Lay) (place stop : ℕ) (r : IsMoved lay place stop) where
         → true ≡ runs_on (tag_number h.tag) h.flags → ⊥
     within q o l b = outside lay.above (bounds q).small q.high o
       where
-        outside : (above : List Block) → length xs ≤ 134217728 → Tiles head (drop from xs) above → EndsRun above → ⊥
+        outside : (above : List Block) → length xs ≤ GREATEST_ZONE → Tiles head (drop from xs) above → EndsRun above → ⊥
         outside [] small t o = omega (arith, length-drop from xs, ap length t)
         outside (c ∷ above) small t o = false≢true (sym o ∙ sym (runs-told from xs h e c small t.0) ∙ sym b)
 

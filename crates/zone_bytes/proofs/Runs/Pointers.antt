@@ -12,13 +12,14 @@ use Rattle.zone_bytes.specs.Pointing.{IsMoved, Pointing, Pointed}
 use Rattle.zone_bytes.proofs.Tiles.Tiling.{tiles-append, tiles-none}
 use Rattle.zone_bytes.proofs.Tiles.Leading.{leads-joined}
 use Rattle.zone_bytes.proofs.Runs.Packed.{bounds, start, step-stay, NextMover}
+use Rattle.block_store.specs.declared.measures.TheConstants.{GREATEST_ZONE}
 
 module _ (lay : Lay) (place stop : ℕ) (r : IsMoved lay place stop) where
   pub start-pointing : Pointing lay place lay.bytes
   start-pointing = record { done = []; rest = lay.run; state = start lay place stop r 0 }
 
   module _ {from : ℕ} {xs : List ℕ} (p : Pointing lay from xs) where
-    pub pointing-bounds : (from ≤ stop) × (stop ≤ length xs) × (length xs ≤ 134217728)
+    pub pointing-bounds : (from ≤ stop) × (stop ≤ length xs) × (length xs ≤ GREATEST_ZONE)
     pointing-bounds = let b = bounds lay place stop r p.state in (omega arith, b.inside, b.small)
 
     pub pointed : stop ≤ from → Pointed lay xs

@@ -19,6 +19,7 @@ use Rattle.block_store.proofs.Regroup.RunsAbove.{run_at-bottom}
 use Rattle.zone_bytes.proofs.Places.AtPlace.{way-above}
 use Rattle.zone_bytes.proofs.Places.Stepped.{left-is}
 use Rattle.block_store.specs.Slot.{is_resource}
+use Rattle.block_store.specs.declared.measures.TheConstants.{GREATEST_ZONE}
 
 ends-run : (above : List Block) → Stops above → EndsRun above
 ends-run above s = grind arith
@@ -59,7 +60,7 @@ module _ (xs : List ℕ) (first count : ℕ) (i : IsSound xs first count) (place
   pub run-way : IsOnWay place xs
   run-way = way-above xs first count i r.below (r.run ++ r.above) place whole bottom
 
-  pub left-fits : place + sizes (left_in place xs) ≤ 134217728
+  pub left-fits : place + sizes (left_in place xs) ≤ GREATEST_ZONE
   left-fits = omega (arith, ap sizes (left-is place xs run-way), run-way.walk.up)
 
   pub lay-is : lay_at xs place ≡ record {

@@ -23,6 +23,7 @@ use Rattle.zone_bytes.proofs.Tiles.Heads.{free-at}
 use Rattle.zone_bytes.proofs.Tiles.Tiling.{span-append}
 use Rattle.zone_bytes.proofs.Tiles.Splices.{outside-same, outside-written, piece-outside, leads-outside, tiles-joined}
 use Rattle.zone_bytes.proofs.Tiles.Keeping.{span-movers}
+use Rattle.block_store.specs.declared.measures.TheConstants.{GREATEST_ZONE}
 
 -- those that come lower among the first blocks, and those among the others
 falling-append : (gap : ℕ) (gone rest : List Block)
@@ -61,7 +62,7 @@ movers-free gone n = filter-append is_mover gone (Free n ∷ []) ∙ append-nil 
 module _ (lay : Lay) (place stop : ℕ) (r : IsMoved lay place stop) {gap from to moves : ℕ} {xs : List ℕ}
     {gone : List Block} (p : Packing lay gap from to moves xs gone) where
   -- no more blocks come lower than there are bytes
-  pub moves-bound : moves ≤ 134217728
+  pub moves-bound : moves ≤ GREATEST_ZONE
   moves-bound =
       let b = bounds lay place stop r p.state in
       omega (arith, lowered-span 0 gone)

@@ -1,11 +1,13 @@
 -- What the slot of a handle says: the place of its block, or that the handle is emptied.
-use Rattle.std.proofs.Common.{◌≡◌, ℕ, Bool, true, IsTrue, ◌+◌, ◌%◌, ◌==◌, ◌≤◌, nat_le, ◌⊎◌, inl, inr, Option}
+use Rattle.std.proofs.Common.{◌≡◌, ℕ, Bool, true, false, IsTrue, ◌+◌, ◌%◌, ◌==◌, ◌≤◌, nat_le, ◌⊎◌, inl, inr, Option}
 use Rattle.std.proofs.Common.{Some, None, List, [], ◌∷◌, ◌++◌, length, drop, sym, refl, ap, ◌∙◌, subst, arith, is_some}
 use Rattle.std.proofs.Common.{◌-◌}
 use Rattle.std.proofs.lemmas.Bool.{false≢true}
 use Rattle.std.proofs.lemmas.Bool.Decides.{eqb_tells}
 use Rattle.std.proofs.lemmas.List.{length-drop}
 use Rattle.std.specs.Option.{option_map}
+use Rattle.heap_words.specs.Slots.{slot_number}
+use Rattle.heap_words.specs.declared.slot.SlotWord.TheVariants.{Empty}
 use Rattle.heap_words.specs.Words.{word_at, word, header}
 use Rattle.heap_words.proofs.Words.{read_back, length-word}
 use Rattle.block_store.specs.declared.flags.Flags.{Flags}
@@ -138,6 +140,11 @@ module _ {xs : List ℕ} {t : Table} {s : ℕ} (k : IsHandle xs t s) where
 
   pub resource-gone : place_of_word (word_at s xs) ≡ None → (word_at s xs == 18) ≡ is_resource (t.slots s)
   resource-gone w = grind (arith, gone-of)
+
+-- the word of an empty handle is the number of its slot
+pub empty-number : (r : Bool) → slot_number (Empty r) ≡ empty_word r
+empty-number true = refl
+empty-number false = refl
 
 -- a slot's word, and where it leads, as they were read
 pub leads-read : (v : ℕ) {w : ℕ} {place : Option ℕ} → w ≡ v → place ≡ place_of_word w → place_of_word v ≡ place

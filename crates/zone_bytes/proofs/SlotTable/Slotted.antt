@@ -20,6 +20,7 @@ use Rattle.heap_words.specs.Words.{word_at, word}
 use Rattle.heap_words.proofs.Words.{read_back, length-word}
 use Rattle.windows.specs.Writes.{written}
 use Rattle.windows.proofs.Pieces.{piece-written}
+use Rattle.block_store.specs.declared.measures.TheConstants.{GREATEST_ZONE}
 
 module _ {xs : List ℕ} {blocks : List Block} {slots : ℕ → Slot} {first : ℕ} {unused : List ℕ}
     (h : Lays xs blocks slots (first ∷ unused)) where
@@ -37,9 +38,16 @@ module _ {xs : List ℕ} {blocks : List Block} {slots : ℕ → Slot} {first : �
       (grind (arith, each-both, set-other)) h.once.1
 
 pub first-small : {xs : List ℕ} {blocks : List Block} {slots : ℕ → Slot} {all : List ℕ} → Lays xs blocks slots all
-    → (unused : List ℕ) → Each (λ s. IsSlot s blocks × (slots s ≡ Unused)) unused → first_of unused < 134217728
+    → (unused : List ℕ) → Each (λ s. IsSlot s blocks × (slots s ≡ Unused)) unused → first_of unused < GREATEST_ZONE
 first-small h [] u = omega arith
 first-small h (s ∷ unused) u = let b = slot-in _ _ _ _ h s u.0.0 in omega (arith, h.small)
+
+-- the word of the first unused slot
+pub first-reads : {xs : List ℕ} {blocks : List Block} {slots : ℕ → Slot} {first : ℕ} {unused : List ℕ}
+    → Lays xs blocks slots (first ∷ unused) → word_at first xs ≡ 16 * first_of unused + 1
+first-reads {xs} {blocks} {slots} {first} {unused} h =
+    let s = first-small h unused h.unused_slots.1 in
+    read_back first (16 * first_of unused + 1) xs (omega arith) h.chain.0
 
 module _ {xs : List ℕ} {t : Table} {s first : ℕ} (q : MayGive xs t s first) where
   used-slot : IsSlot s t.blocks
@@ -48,7 +56,7 @@ module _ {xs : List ℕ} {t : Table} {s first : ℕ} (q : MayGive xs t s first) 
   pub slot-fits : (s % 4 ≡ 0) × (s + 4 ≤ length xs)
   slot-fits = slot-in xs t.blocks t.slots t.unused q.lays s used-slot
 
-  pub first-fits : first < 134217728
+  pub first-fits : first < GREATEST_ZONE
   first-fits = omega (arith, first-small q.lays t.unused q.lays.unused_slots, q.begins)
 
   pub given : Lays (written s (word (16 * first + 1)) xs) t.blocks (set_slot t.slots s Unused) (s ∷ t.unused)
@@ -93,7 +101,7 @@ any-has : (P : ℕ → Type 0) (us : List ℕ) (q : ℕ) → Each P us → list_
 any-has P [] q e h = absurd (false≢true h)
 any-has P (u ∷ us) q e h = grind (arith, eqb_tells, any-has P us q e.1)
 
-pub count-small : (xs : List ℕ) (first count : ℕ) → IsSound xs first count → count ≤ 134217728
+pub count-small : (xs : List ℕ) (first count : ℕ) → IsSound xs first count → count ≤ GREATEST_ZONE
 count-small xs first count i =
     let l = length-le_from_distinct_below i.unused (length xs) (distinct-apart i.unused i.lays.once) (λ q k.
     let h = any-has (λ s. IsSlot s (zone_in xs) × (slot_in xs s ≡ Unused)) i.unused q i.lays.unused_slots k in

@@ -11,6 +11,7 @@ use Rattle.zone_bytes.specs.Layout.{kind, flag_word, head_of, Tile, Tiles, names
 use Rattle.zone_bytes.specs.Decode.{flags_of, block_of_kind, block_in, blocks_in, zone_in}
 use Rattle.zone_bytes.proofs.Tiles.Leading.{each-left, each-right}
 use Rattle.zone_bytes.proofs.Tiles.Heads.{first-word, kind-small, header-told, relocatable-told}
+use Rattle.block_store.specs.declared.measures.TheConstants.{GREATEST_ZONE}
 
 -- the flags of a block, above the resource flag of its handle
 pub high-flags : (flags : Flags) → ((cond {A = ℕ} flags.locked 128 0 + cond {A = ℕ} flags.purgeable 64 0) % 64 ≡ 0)
@@ -37,7 +38,7 @@ unfolding blocks_in
 blocks-none k o = grind arith
 
 module _ (resource : ℕ → Bool) where
-  pub block-back : (o : ℕ) (b : Block) (ys : List ℕ) → length ys ≤ 134217728 → IsPlaced o b
+  pub block-back : (o : ℕ) (b : Block) (ys : List ℕ) → length ys ≤ GREATEST_ZONE → IsPlaced o b
       → Each (λ s. s < 2 ^ 32) (names_of b) → Tile (head_of resource b) (size b) ys → block_in o ys ≡ b
   unfolding head_of
   block-back o b ys s p n t =
@@ -58,7 +59,7 @@ module _ (resource : ℕ → Bool) where
           ∙ (λ i. Relocatable slot (flags_of-word flags (resource slot) i) (q.holds i))
       of-kind _ p n t = refl
 
-  pub blocks-back : (k o : ℕ) (blocks : List Block) (xs : List ℕ) → length xs ≤ k → length xs ≤ 134217728
+  pub blocks-back : (k o : ℕ) (blocks : List Block) (xs : List ℕ) → length xs ≤ k → length xs ≤ GREATEST_ZONE
       → ArePlaced o blocks → Each (λ s. s < 2 ^ 32) (names blocks) → Tiles (head_of resource) xs blocks
       → blocks_in k o xs ≡ blocks
   unfolding blocks_in
@@ -74,7 +75,7 @@ module _ (resource : ℕ → Bool) where
       (blocks-back k _ _ _ (omega arith) (omega arith) p.1 (each-right P _ _ n) t.1)
 
   -- the zone in the bytes
-  pub zone-back : (blocks : List Block) (xs : List ℕ) → length xs ≤ 134217728 → ArePlaced 0 blocks
+  pub zone-back : (blocks : List Block) (xs : List ℕ) → length xs ≤ GREATEST_ZONE → ArePlaced 0 blocks
       → Each (λ s. s < 2 ^ 32) (names blocks) → Tiles (head_of resource) xs blocks → zone_in xs ≡ blocks
   unfolding zone_in
   zone-back blocks xs s p n t = blocks-back _ 0 _ _ (omega arith) s p n t

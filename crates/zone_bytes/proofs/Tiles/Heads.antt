@@ -13,6 +13,7 @@ use Rattle.zone_bytes.specs.Layout.{kind, flag_word, head_of, Tile, Tiles}
 use Rattle.zone_bytes.proofs.Tiles.Tags.{tag-small}
 use Rattle.heap_words.specs.Headers.{tag_number}
 use Rattle.heap_words.specs.declared.header.Header.{Header}
+use Rattle.block_store.specs.declared.measures.TheConstants.{GREATEST_ZONE}
 
 -- the pieces of what a block begins with
 pub tile-piece : (h : List ℕ) (n : ℕ) (ys : List ℕ) → Tile h n ys → (i k : ℕ) → i + k ≤ length h
@@ -34,7 +35,7 @@ length-head a b c d content = omega (arith, length-append (header a b c d) conte
 
 -- what a header and its content say, where they stand
 pub record Told (n c d at : ℕ) (content xs : List ℕ) : Type 0 where
-  pub long : length xs ≤ 134217728 → word_at (at + 4) xs ≡ length content
+  pub long : length xs ≤ GREATEST_ZONE → word_at (at + 4) xs ≡ length content
   pub named : c < 2 ^ 32 → word_at (at + 8) xs ≡ c
   pub marked : d < 2 ^ 32 → word_at (at + 12) xs ≡ d
   pub holds : piece (at + 16) (length content) xs ≡ content
@@ -126,7 +127,7 @@ pub record Next (xs : List ℕ) (from : ℕ) : Type 0 where
 pub next-may : {xs : List ℕ} {from : ℕ} → Next xs from → MayRead from xs
 next-may n = record { within = (n.even, n.fits); fits = n.below; tag = n.tag }
 
-module _ (resource : ℕ → Bool) (xs : List ℕ) (from : ℕ) (small : length xs ≤ 134217728) where
+module _ (resource : ℕ → Bool) (xs : List ℕ) (from : ℕ) (small : length xs ≤ GREATEST_ZONE) where
   pub first-reads : (b : Block) → Tile (head_of resource b) (size b) (drop from xs) → word_at from xs ≡ size b + kind b
   first-reads b t = grind (arith, length-drop, read_back, first-word)
 

@@ -15,6 +15,7 @@ use Rattle.zone_bytes.proofs.Tiles.Tiling.{length-tiles, slot-inside}
 use Rattle.zone_bytes.proofs.Tiles.Leading.{each-map}
 use Rattle.zone_bytes.proofs.Tiles.Heads.{relocatable-told}
 use Rattle.zone_bytes.proofs.Tiles.Decoding.{flag_word-small, zone-back}
+use Rattle.block_store.specs.declared.measures.TheConstants.{GREATEST_ZONE}
 
 pub is_slot-true : (s : ℕ) (blocks : List Block) → IsSlot s blocks → is_slot s blocks ≡ true
 is_slot-true s [] i = absurd i
@@ -42,7 +43,7 @@ is_slot-back s (b ∷ blocks) e = elim (or_cases _ (nat_le (size b) s && is_slot
 word-emptied : (xs : List ℕ) (w : ℕ) (r : Bool) → w ≡ empty_word r → slot_of_word xs w ≡ Used r
 word-emptied xs w r e = grind arith
 
-module _ (resource : ℕ → Bool) (xs : List ℕ) (small : length xs ≤ 134217728) (s : ℕ) where
+module _ (resource : ℕ → Bool) (xs : List ℕ) (small : length xs ≤ GREATEST_ZONE) (s : ℕ) where
   named-word : (o : ℕ) (blocks : List Block) → o % 16 ≡ 0 → Tiles (head_of resource) (drop o xs) blocks
       → Leads o blocks xs → Has (names blocks) s → slot_of_word xs (word_at s xs) ≡ Used (resource s)
   unfolding head_of
@@ -64,7 +65,7 @@ module _ (xs : List ℕ) (blocks : List Block) (slots : ℕ → Slot) (unused : 
   zone-of = grind (arith, zone-back, each-map, slot-inside, length-tiles)
 
   chain-word : (us : List ℕ) → Each (λ u. IsSlot u blocks × (slots u ≡ Unused)) us → Chain xs us → (s : ℕ) → Has us s
-      → (k : ℕ) × (k < 134217728) × (piece s 4 xs ≡ word (16 * k + 1))
+      → (k : ℕ) × (k < GREATEST_ZONE) × (piece s 4 xs ≡ word (16 * k + 1))
   chain-word [] e c s h1 = absurd h1
   chain-word (u ∷ us) e c s (inr k) = chain-word us e.1 c.1 s k
   chain-word (u ∷ []) e c s (inl k) = (0, omega arith, subst (λ m. piece m 4 xs ≡ word 1) k c.0)

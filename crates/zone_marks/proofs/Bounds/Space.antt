@@ -13,7 +13,7 @@ use Rattle.block_store.proofs.Zone.Apart.{Apart, apart-size, apart-tidied, two}
 use Rattle.zone_bytes.specs.Decode.{zone_in}
 use Rattle.zone_bytes.specs.Lawful.{IsSound}
 use Rattle.zone_bytes.specs.Changes.{AtEach, Begins}
-use Rattle.zone_marks.specs.Marks.{NoRoom}
+use Rattle.zone_marks.specs.Marks.{NoRoom, above_all}
 use Rattle.zone_marks.specs.Purgeable.{MayStart, NoneGoes, Stays}
 use Rattle.zone_bytes.specs.PurgeableBytes.{purgeable_sum}
 use Rattle.zone_bytes.specs.Stepping.{left_in}
@@ -48,9 +48,9 @@ largest-append [] above = omega arith
 largest-append (b ∷ below) above = omega (arith, largest-append below above)
 
 module _ (xs : List ℕ) (first unused : ℕ) (i : IsSound xs first unused) where
-  pub zone-largest : (m : ℕ) → AtEach (NoRoom (m + 1) 0 4294967295) 0 (zone_in xs) → m ≤ largest_free (zone_in xs)
+  pub zone-largest : (m : ℕ) → AtEach (NoRoom (m + 1) 0 above_all) 0 (zone_in xs) → m ≤ largest_free (zone_in xs)
       → m ≡ largest_free (zone_in xs)
-  zone-largest m e l = omega (arith, largest-within m 4294967295 0 (zone_in xs) (omega (arith, sizes-length)) e, l)
+  zone-largest m e l = omega (arith, largest-within m above_all 0 (zone_in xs) (omega (arith, sizes-length)) e, l)
 
   pub left-largest : (p : ℕ) → Begins p 0 (zone_in xs) → largest_free (left_in p xs) ≤ largest_free (zone_in xs)
   left-largest p b = omega (arith, ap largest_free (seen-from xs first unused i p b).is, largest-append)

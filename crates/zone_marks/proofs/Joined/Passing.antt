@@ -24,6 +24,7 @@ use Rattle.zone_bytes.proofs.Tiles.Keeping.{span-free}
 use Rattle.zone_bytes.proofs.Places.Stepped.{left-none}
 use Rattle.zone_bytes.proofs.Joined.Ways.{way, left}
 use Rattle.zone_bytes.proofs.Joined.Handles.{free-fits}
+use Rattle.block_store.specs.declared.measures.TheConstants.{GREATEST_ZONE}
 
 module _ (p : Purge) (n : Sparing) (start at k freed : ℕ) (xs : List ℕ) (u : Purging p n start at k freed xs) where
   abbrev gap : List Block
@@ -35,7 +36,7 @@ module _ (p : Purge) (n : Sparing) (start at k freed : ℕ) (xs : List ℕ) (u :
   here-low : sizes (u.done ++ gap) ≡ at
   here-low = omega (arith, span-append, span-free)
 
-  pub freed-fits : freed ≤ 134217728
+  pub freed-fits : freed ≤ GREATEST_ZONE
   freed-fits = omega (arith, free-fits)
 
   -- the blocks up to there became others

@@ -18,6 +18,7 @@ use Rattle.zone_bytes.specs.Joining.{LeadsUp, Freeing, MayFree, MayRelease, Join
 use Rattle.zone_bytes.proofs.Tiles.Tiling.{span-append}
 use Rattle.zone_bytes.proofs.Tiles.Keeping.{span-free}
 use Rattle.zone_bytes.proofs.Joined.Ways.{way, left, inside, Read, read}
+use Rattle.block_store.specs.declared.measures.TheConstants.{GREATEST_ZONE}
 
 -- the Free bytes at the lower end tell whether the first block is Free
 first-free : (b : Block) (above : List Block) → 0 < free_first (b ∷ above) → kind b ≡ 0
@@ -108,7 +109,7 @@ module _ (f : Freeing) (place : ℕ) (xs : List ℕ) (m : MayRelease f place xs)
         first : more ≡ free_first f.above
         first = e ∙ ap free_first stop-left
 
-        pub stop-more : stop + more ≤ 134217728
+        pub stop-more : stop + more ≤ GREATEST_ZONE
         stop-more = omega (arith, first, first-small, stop-fits, lays-stop.small)
 
         pub freed-replaced : Replaced start (stop + more) all (tidy (f.below ++ Free (size f.here) ∷ f.above))

@@ -1,8 +1,8 @@
 -- Landmarks that are laid anew, one after another, and by edges which were noted while blocks were moved.
-use Rattle.zone_marks.specs.Marks.{IsMark, AreMarks, AtMost, between, next_of, no_mark}
+use Rattle.zone_marks.specs.Marks.{IsMark, AreMarks, AtMost, between, next_of, no_mark, above_all}
 use Rattle.std.proofs.Common.{◌<◌, set, length-set, ◌≡◌, ℕ, ◌+◌, ◌≤◌, ◌⊎◌, inl, inr, List, [], ◌∷◌, ◌++◌, length, take}
-use Rattle.std.proofs.Common.{drop, refl, sym, ap, ◌∙◌, subst, arith}
-use Rattle.std.proofs.lemmas.Bool.{false≢true}
+use Rattle.std.proofs.Common.{drop, max, refl, sym, ap, ◌∙◌, subst, arith}
+use Rattle.std.proofs.lemmas.Bool.{cases_lt, false≢true}
 use Rattle.std.proofs.lemmas.List.{drop_all, drop_more, drop-drop, drop-set, take_more_set}
 use Rattle.block_store.specs.Block.{Block, Free, Relocatable, size, sizes, free_of}
 use Rattle.zone_bytes.specs.Layout.{Each}
@@ -18,6 +18,13 @@ use Rattle.zone_summary.proofs.Monoid.{join-unit_left, stretch_of-append}
 use Rattle.zone_marks.proofs.Marks.Between.{between-append, between-each, between-none, none-below, none-above}
 use Rattle.zone_marks.proofs.Marks.Lowering.{mark-begins, mark-first, marks-join, marks-parted}
 use Rattle.zone_marks.proofs.Marks.Passing.{at-each, at-append, at-all, begins-left, begins-right, begins-within}
+
+-- the greater of two places is one of them
+pub either-is : (p q r : ℕ) → r ≡ max p q → (r ≡ p) ⊎ (r ≡ q)
+either-is p q r e = elim (cases_lt p q) [
+  | inl l ↦ inr (omega arith)
+  | inr l ↦ inl (omega arith)
+]
 
 starts-begins : (p x : ℕ) (blocks : List Block) → Starts p x blocks → Begins p x blocks
 starts-begins p x [] s = absurd s
@@ -83,22 +90,22 @@ module _ (edges : Edges) (base : ℕ) (zone : List Block) (a : ByEdges edges bas
 
 -- the landmark at an index is to be laid where it is
 pub laid-there : (zone : List Block) (marks : List Landmark) (index at : ℕ) → index ≤ length marks
-    → at ≡ next_of 4294967295 (drop index marks) → AreMarks 4294967295 zone marks → AreLaid index at zone marks
+    → at ≡ next_of above_all (drop index marks) → AreMarks above_all zone marks → AreLaid index at zone marks
 laid-there zone marks index at l e a =
-    let p = marks-parted 4294967295 zone marks index a in
+    let p = marks-parted above_all zone marks index a in
     record {
       below = subst (λ n. AreMarks n zone (take index marks)) (sym e) p.0;
       above = p.1;
       inside = l;
       begins = λ m. subst (λ n. Begins n 0 zone) (sym (e ∙ mark-first _ _ _ no_mark m))
           (mark-begins _ _ _ _ no_mark m a);
-      last = λ k. e ∙ ap (next_of 4294967295) (drop_all index marks (omega arith));
+      last = λ k. e ∙ ap (next_of above_all) (drop_all index marks (omega arith));
     }
 
 -- one more is laid
 pub laid-next : (zone : List Block) (marks : List Landmark) (index at to : ℕ) (m : Landmark)
     → AreLaid index at zone marks → index < length marks → m.at ≡ at → IsMark to zone m
-    → (index + 1 < length marks → Begins to 0 zone) → (index + 1 ≡ length marks → to ≡ 4294967295)
+    → (index + 1 < length marks → Begins to 0 zone) → (index + 1 ≡ length marks → to ≡ above_all)
     → AreLaid (index + 1) to zone (set marks index m)
 laid-next zone marks index at to m a l e i begins last =
     let n = length-set marks index m in
@@ -106,5 +113,5 @@ laid-next zone marks index at to m a l e i begins last =
     (subst (λ k. AreMarks k zone (take index marks)) (sym e) a.below) (i, tt) in
     let t = take_more_set marks index m l in
     let d = sym (drop-drop 1 index (set marks index m)) ∙ ap (drop 1) (drop-set marks index m l) in
-    let u = (subst (AreMarks 4294967295 zone) (drop_more marks index no_mark l) a.above).1 in
+    let u = (subst (AreMarks above_all zone) (drop_more marks index no_mark l) a.above).1 in
     grind arith

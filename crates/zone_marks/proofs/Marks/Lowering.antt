@@ -25,6 +25,8 @@ use Rattle.zone_marks.proofs.Marks.Passing.{begins-right, begins-either, begins-
 use Rattle.zone_marks.proofs.Marks.Spanned.{free-size}
 use Rattle.zone_marks.proofs.Marks.Between.{CountAlike, alike-as, tally-as}
 use Rattle.zone_marks.proofs.Marks.Between.{between-append, none-below, none-above, told-both}
+use Rattle.zone_marks.specs.Marks.{above_all}
+use Rattle.block_store.specs.declared.measures.TheConstants.{GREATEST_ZONE}
 
 -- the first of some landmarks is no higher than where they end
 pub marks-below : (end : ℕ) (zone : List Block) (marks : List Landmark) → AreMarks end zone marks → next_of end marks
@@ -216,13 +218,13 @@ told-unknown blocks counting.Runs = tt
 told-unknown blocks counting.Spaces = tt
 
 -- landmarks that all stand at the bottom, with nothing known
-pub unlaid-marks : (zone : List Block) → sizes zone ≤ 134217728 → (n : ℕ)
-    → AreMarks 4294967295 zone (replicate n (record { at = 0; most = 4294967295; tally = unknown }))
+pub unlaid-marks : (zone : List Block) → sizes zone ≤ GREATEST_ZONE → (n : ℕ)
+    → AreMarks above_all zone (replicate n (record { at = 0; most = above_all; tally = unknown }))
 unlaid-marks zone l zero = tt
 unlaid-marks zone l (suc n) = (
   record {
     begins = begins-here 0 zone;
-    most = at-each (AtMost 4294967295 0 _) 0 _ (λ p b _ u _ _. omega (arith, free-size));
+    most = at-each (AtMost above_all 0 _) 0 _ (λ p b _ u _ _. omega (arith, free-size));
     tells = told-unknown _;
     order = omega arith;
   },
@@ -236,22 +238,22 @@ pub record Changing (lo hi next above left : ℕ) (new : List Block) (marks : Li
   pub changed : Replaced lo hi old new
   pub is : Lowered lo hi next above
   pub low : AreMarks next old (take left marks)
-  pub high : AreMarks 4294967295 new (drop left marks)
-  pub first : above ≡ next_of 4294967295 (drop left marks)
+  pub high : AreMarks above_all new (drop left marks)
+  pub first : above ≡ next_of above_all (drop left marks)
 
 module _ (lo hi : ℕ) (new : List Block) where
   pub changing-start : (old : List Block) → Replaced lo hi old new → (above left : ℕ) (marks : List Landmark)
-      → above ≡ next_of 4294967295 (drop left marks) → hi ≤ next_of 4294967295 (drop left marks)
-      → left ≤ length marks → AreMarks 4294967295 old marks → Changing lo hi above above left new marks
+      → above ≡ next_of above_all (drop left marks) → hi ≤ next_of above_all (drop left marks)
+      → left ≤ length marks → AreMarks above_all old marks → Changing lo hi above above left new marks
   changing-start old z above left marks e u l a =
-      let r = marks-parted 4294967295 old marks left a in
+      let r = marks-parted above_all old marks left a in
       record {
         inside = l;
         old = old;
         changed = z;
         is = inr (refl, inr (omega arith));
         low = subst (λ k. AreMarks k old (take left marks)) (sym e) r.0;
-        high = marks-apart lo hi old new z 4294967295 (drop left marks) (inl u) r.1;
+        high = marks-apart lo hi old new z above_all (drop left marks) (inl u) r.1;
         first = e;
       }
 
@@ -277,12 +279,12 @@ module _ (lo hi : ℕ) (new : List Block) where
           changed = g.changed;
           is = w;
           low = subst (AreMarks at g.old) (sym (take-set marks (left - 1) m)) (last-mark s).0;
-          high = subst (AreMarks 4294967295 new) (sym q) (subst (λ k. IsMark k new m) g.first i, g.high);
-          first = sym (ap (next_of 4294967295) q);
+          high = subst (AreMarks above_all new) (sym q) (subst (λ k. IsMark k new m) g.first i, g.high);
+          first = sym (ap (next_of above_all) q);
         }
 
     -- the landmarks below the stretch aren't gone over
-    pub changing-done : (left ≤ 0) ⊎ (above < lo) → AreMarks 4294967295 new marks
+    pub changing-done : (left ≤ 0) ⊎ (above < lo) → AreMarks above_all new marks
     changing-done (inl l) = grind arith
     changing-done (inr b) =
         let w = g.is in

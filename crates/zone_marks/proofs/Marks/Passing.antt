@@ -105,11 +105,6 @@ pub record Passed (xs : List ℕ) (from at : ℕ) (R : ℕ → Block → Type 0)
   pub each : AtEach R from done
   pub way : IsOnWay at xs
 
--- where the lower of two bounds was come to
-pub past : (to end all at stop : ℕ) → (stop ≡ to) ⊎ (stop ≡ end) → end ≡ all → stop ≤ at → (to ≤ at) ⊎ (all ≤ at)
-past to end all at stop (inl e) f l = inl (omega arith)
-past to end all at stop (inr e) f l = inr (omega arith)
-
 pub passed-more : (xs : List ℕ) (from at : ℕ) (R S : ℕ → Block → Type 0) → ((p : ℕ) (b : Block) → R p b → S p b)
     → Passed xs from at R → Passed xs from at S
 passed-more xs from at R S f p = grind (arith, at-map)

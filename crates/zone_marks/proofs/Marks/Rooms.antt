@@ -21,6 +21,7 @@ use Rattle.zone_marks.specs.declared.landmark.Landmark.{Landmark}
 use Rattle.zone_marks.specs.declared.landmark.TheConstants.{GROUP}
 use Rattle.zone_bytes.proofs.Laws.Lawful.{sizes-length}
 use Rattle.zone_marks.proofs.Marks.Passing.{at-map, at-all, at-append, at-both, at-left}
+use Rattle.zone_marks.specs.Marks.{above_all}
 
 filled : (x : ℕ) (blocks : List Block) → Apart blocks → AtEach (λ _ b. 0 < size b) x blocks
 filled x [] a = tt
@@ -89,8 +90,8 @@ module _ (xs : List ℕ) (first unused : ℕ) (i : IsSound xs first unused) (byt
       )
 
   -- and where there is none
-  pub none-found : AtEach (NoRoom bytes 0 4294967295) 0 (zone_in xs) → spot (is_room bytes) (zone_in xs) ≡ None
-  none-found n = spot-none _ 0 _ (at-map (NoRoom bytes 0 4294967295) (λ _ c. is_room bytes c ≡ false) 0 _
+  pub none-found : AtEach (NoRoom bytes 0 above_all) 0 (zone_in xs) → spot (is_room bytes) (zone_in xs) ≡ None
+  none-found n = spot-none _ 0 _ (at-map (NoRoom bytes 0 above_all) (λ _ c. is_room bytes c ≡ false) 0 _
       (grind (arith, sizes-length)) n)
 
   pub nothing-below : AtEach (NoRoom bytes 0 0) 0 (zone_in xs)
@@ -108,14 +109,14 @@ if-three (Some n) P Q R S f p q r = f n p q r
 
 -- the stretch of a landmark that notes less
 pub stretch-room : (bytes : ℕ) (zone : List Block) (marks : List Landmark) (index : ℕ) → index < length marks
-    → AreMarks 4294967295 zone marks → (get_or marks index no_mark).most < bytes
-    → AtEach (NoRoom bytes (get_or marks index no_mark).at (next_of 4294967295 (drop (index + 1) marks))) 0 zone
+    → AreMarks above_all zone marks → (get_or marks index no_mark).most < bytes
+    → AtEach (NoRoom bytes (get_or marks index no_mark).at (next_of above_all (drop (index + 1) marks))) 0 zone
 stretch-room bytes zone marks index u a l =
     bound-room _ _ _ _ 0 _ l (mark-at _ _ marks index no_mark u a).most
 
 -- no room lies in the zone, once none lies below any landmark
 pub none-past : (bytes : ℕ) (zone : List Block) (marks : List Landmark) (index : ℕ) → length marks ≤ index
-    → NoneBelow bytes zone marks index → AtEach (NoRoom bytes 0 4294967295) 0 zone
+    → NoneBelow bytes zone marks index → AtEach (NoRoom bytes 0 above_all) 0 zone
 none-past bytes zone marks index l n = grind (arith, drop_all)
 
 module _ (xs : List ℕ) (first unused : ℕ) (i : IsSound xs first unused) (bytes : ℕ) where
@@ -128,19 +129,19 @@ module _ (xs : List ℕ) (first unused : ℕ) (i : IsSound xs first unused) (byt
       (none-whole _ _ _ i bytes _ _ n (bound-room _ _ _ _ 0 _ (f 0 (omega arith)) a.0.most))
 
   -- over one landmark that notes less
-  pub none-next : (marks : List Landmark) → AreMarks 4294967295 (zone_in xs) marks → (index : ℕ)
+  pub none-next : (marks : List Landmark) → AreMarks above_all (zone_in xs) marks → (index : ℕ)
       → index < length marks → (get_or marks index no_mark).most < bytes
       → NoneBelow bytes (zone_in xs) marks index → NoneBelow bytes (zone_in xs) marks (index + 1)
   none-next marks a index u l n = none-whole _ _ _ i _ _ _ (grind (arith, mark-first)) (stretch-room _ _ _ _ u a l)
 
   -- over a group whose top is less
-  pub none-group : (marks : List Landmark) → AreMarks 4294967295 (zone_in xs) marks → (groups : List Group)
+  pub none-group : (marks : List Landmark) → AreMarks above_all (zone_in xs) marks → (groups : List Group)
       → AreGroups groups marks → (group : ℕ) → group < length groups → (get_or groups group no_group).most < bytes
       → NoneBelow bytes (zone_in xs) marks (GROUP * group) → NoneBelow bytes (zone_in xs) marks (GROUP * (group + 1))
   none-group marks a groups t group u l n = subst (NoneBelow bytes (zone_in xs) marks) (search rules)
-      (none-along _ (marks_in group marks) (marks-in 4294967295 (zone_in xs) marks (GROUP * group) GROUP a)
+      (none-along _ (marks_in group marks) (marks-in above_all (zone_in xs) marks (GROUP * group) GROUP a)
       (λ j k. omega (arith, (t.each group u).most j k, l)) (subst (λ k. AtEach (NoRoom bytes 0 k) 0 (zone_in xs))
-      (sym (next-in 4294967295 marks (GROUP * group) GROUP)) n))
+      (sym (next-in above_all marks (GROUP * group) GROUP)) n))
 
 -- what a search stretch by stretch owes
 pub ruleset room_steps = (stretch-room, mark-begins)

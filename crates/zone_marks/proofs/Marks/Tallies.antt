@@ -21,6 +21,7 @@ use Rattle.zone_summary.specs.declared.stretch.Stretch.{Stretch}
 use Rattle.zone_summary.specs.declared.stretch.Stretch.TheVariants.{Whole}
 use Rattle.zone_summary.proofs.Monoid.{counted-none, join-assoc, join-unit_left, join-unit_right, stretch_by-append}
 use Rattle.zone_summary.proofs.Sums.{load-counted}
+use Rattle.zone_marks.specs.Marks.{above_all}
 
 -- tallies are joined as what they tell
 tallies-left : (t : Tally) → join_tallies (tally.Known (Whole 0)) t ≡ t
@@ -119,5 +120,5 @@ loads-fit w end zone marks i l a =
     )
 
 pub marks-of : (xs : List ℕ) (first unused : ℕ) → IsSound xs first unused → (marks : List Landmark)
-    → AreMarks 4294967295 (zone_in xs) marks → AreOfZone marks
-marks-of xs first unused i marks a = (4294967295, zone_in xs, omega (arith, sizes-length), a)
+    → AreMarks above_all (zone_in xs) marks → AreOfZone marks
+marks-of xs first unused i marks a = (above_all, zone_in xs, omega (arith, sizes-length), a)

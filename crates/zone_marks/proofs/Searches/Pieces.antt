@@ -6,7 +6,7 @@ use Rattle.zone_marks.proofs.Marks.Lowering.{mark-at}
 use Rattle.block_store.specs.Block.{Block, sizes}
 use Rattle.zone_bytes.specs.Decode.{zone_in}
 use Rattle.zone_bytes.specs.Lawful.{IsSound}
-use Rattle.zone_marks.specs.Marks.{AreMarks, IsTally, between, next_of, no_mark, tally_of, told}
+use Rattle.zone_marks.specs.Marks.{AreMarks, IsTally, between, next_of, no_mark, tally_of, told, above_all}
 use Rattle.zone_bytes.specs.Changes.{Begins}
 use Rattle.zone_marks.specs.Searching.{IsPiece, IsStretch, place_at}
 use Rattle.zone_bytes.specs.Stepping.{left_in}
@@ -87,15 +87,15 @@ module _ (xs : List ℕ) (first unused : ℕ) (i : IsSound xs first unused) wher
 
   -- what is known up to a landmark is so up to where a search goes below it
   pub stretch-before : (w : Counting) (t : Tally) (at : ℕ) (rest : List Landmark)
-      → AreMarks 4294967295 (zone_in xs) rest → Begins at 0 (zone_in xs) → at ≤ next_of 4294967295 rest
-      → IsTally w t (between at (next_of 4294967295 rest) 0 (zone_in xs))
+      → AreMarks above_all (zone_in xs) rest → Begins at 0 (zone_in xs) → at ≤ next_of above_all rest
+      → IsTally w t (between at (next_of above_all rest) 0 (zone_in xs))
       → IsStretch w t at (next_of (length xs) rest) xs
-  stretch-before w t at [] a b r k = stretch-at w t at 4294967295 (length xs) b k (subst (λ p. Begins p 0 (zone_in xs))
+  stretch-before w t at [] a b r k = stretch-at w t at above_all (length xs) b k (subst (λ p. Begins p 0 (zone_in xs))
       (grind (arith, zone-long)) (begins-end 0 (zone_in xs))) (edge-within at b)
       (omega arith) (inr refl)
   stretch-before w t at (m ∷ rest) a b r k = stretch-at w t at m.at m.at b k a.0.begins r (omega arith) (inl refl)
 
-  module _ (w : Counting) (marks : List Landmark) (a : AreMarks 4294967295 (zone_in xs) marks) where
+  module _ (w : Counting) (marks : List Landmark) (a : AreMarks above_all (zone_in xs) marks) where
     -- so the stretch of a landmark is known up to there
     pub next-stretch : (index : ℕ) → index < length marks
         → IsStretch w (told w (get_or marks index no_mark).tally) (place_at index marks xs)
@@ -111,14 +111,14 @@ module _ (xs : List ℕ) (first unused : ℕ) (i : IsSound xs first unused) wher
         → IsStretch w (tally.Known s) (place_at low marks xs) (place_at (low + GROUP) marks xs) xs
     group-stretch low s l known =
         let part = take GROUP (drop low marks) in
-        let to = next_of 4294967295 (drop (low + GROUP) marks) in
+        let to = next_of above_all (drop (low + GROUP) marks) in
         let are : AreMarks to (zone_in xs) part
-        = subst (λ k. AreMarks (next_of 4294967295 k) (zone_in xs) part) (drop-drop GROUP low marks)
-        (marks-parted _ _ (drop low marks) GROUP (marks-parted 4294967295 (zone_in xs) marks low a).1).0 in
+        = subst (λ k. AreMarks (next_of above_all k) (zone_in xs) part) (drop-drop GROUP low marks)
+        (marks-parted _ _ (drop low marks) GROUP (marks-parted above_all (zone_in xs) marks low a).1).0 in
         let first : next_of to part ≡ (get_or marks low no_mark).at
         = ap (λ k. next_of to (take GROUP k)) (drop_more marks low no_mark l) in
         let below = marks-below to (zone_in xs) part are in
         rw (mark-first (length xs) marks low no_mark l) (stretch-before w (tally.Known s) _ (drop (low + GROUP) marks)
-        (marks-parted 4294967295 (zone_in xs) marks (low + GROUP) a).1
-        (mark-begins 4294967295 (zone_in xs) marks low no_mark l a) (omega (arith, first))
+        (marks-parted above_all (zone_in xs) marks (low + GROUP) a).1
+        (mark-begins above_all (zone_in xs) marks low no_mark l a) (omega (arith, first))
         (rw (known, first) at (group-tally w _ _ _ are)))

@@ -8,12 +8,12 @@ use Rattle.commands.proofs.doing.look.Goals as goal
 -- the file was read, and then the task was refused
 pub returns-in_err-do_task-clause-undone : goal.returns-in_err-do_task-clause-undone
 returns-in_err-do_task-clause-undone g c =
-    let told : Message = message_of c.in_err-do_task.field-0.0 in
+    let message : Message = message_of c.in_err-do_task.field-0.0 in
     let read : List ℕ = c.in_ok-bytes.bytes.items in
     let same : c.from_residual-in_err-do_task.result ≡ Err c.in_err-do_task.field-0.0 = search rules in
     let bytes : c.as_slice.result.now ≡ read = search rules in
     told_err _ _ _ same (Refused read (c.in_err-do_task.ensures.files ∙ c.in_ok-bytes.ensures.read)
-    (subst (λ p. IsRefusal c.args.task.work c.args.task.path.now read p (g.H.Host.printed c.do_task.new.host) told)
+    (subst (λ p. IsRefusal c.args.task.work c.args.task.path.now read p (g.H.Host.printed c.do_task.new.host) message)
     c.in_ok-bytes.ensures.silent
     (subst (λ b. IsRefusal c.args.task.work c.args.task.path.now b (g.H.Host.printed c.read_input.new.host)
-    (g.H.Host.printed c.do_task.new.host) told) bytes c.in_err-do_task.ensures.fault)))
+    (g.H.Host.printed c.do_task.new.host) message) bytes c.in_err-do_task.ensures.fault)))

@@ -5,7 +5,7 @@ use Rattle.commands.proofs.Accesses.{told_err}
 use Rattle.commands.proofs.Extracted.{not_written}
 use Rattle.commands.proofs.extracting.write_file.Goals as goal
 
--- the host is out of memory as the fault is told
+-- the host is out of memory as the fault is reported
 pub returns-in_err-unwritten-in-Err-clause-stopped : goal.returns-in_err-unwritten-in-Err-clause-stopped
 returns-in_err-unwritten-in-Err-clause-stopped g c =
     let same : c.from_residual.result ≡ Err HostMemory = search rules in

@@ -4,7 +4,7 @@ use Rattle.script_text.specs.Job.{Input, input_seen, app_names}
 use Rattle.script_text.specs.JobFacts.{all_follow}
 use Rattle.commands.specs.Gathering.{gathered}
 use Rattle.commands.proofs.Inputs.{Come, further, stopped, ended}
-use Rattle.commands.proofs.Owners.{order_behind, names_more}
+use Rattle.commands.proofs.Owners.{order_after, names_more}
 use Rattle.commands.proofs.gathering.read_inputs.Goals as goal
 
 pub loop-input-preserved : goal.loop-input-preserved
@@ -25,7 +25,7 @@ loop-input-preserved g c =
           ∙ ap (λ names. names ++ app_names (x ∷ [])) c.loop-input.invariant.names
           ∙ sym (names_more above x)
           ∙ ap app_names (sym next);
-      order = subst (λ l. all_follow l more ≡ true) (sym next) (order_behind above more x order);
+      order = subst (λ l. all_follow l more ≡ true) (sym next) (order_after above more x order);
       come = further _ _ _ _ _ _ _ _ read.0 come read.1 read.2;
     }
 

@@ -1,8 +1,8 @@
-use Rattle.std.proofs.Common.{refl}
-use Rattle.desk.proofs.Systems.{unspelled}
+use Rattle.std.proofs.Common.{sym, ◌∙◌}
+use Rattle.fork_format.proofs.Codes.{refused}
 use Rattle.desk.proofs.system.read_system.Goals as goal
 
-pub returns-in-Err-BadMap-clause-system : goal.returns-in-Err-BadMap-clause-system
-returns-in-Err-BadMap-clause-system c =
-    let bad = (rw c.in-Err-BadMap.field-0-is at c.in-Err-BadMap.ensures.bad_map).0 refl in
-    rw (c.in-Some.is, ← c.deref.ensures.value) (unspelled c.deref.result.now bad.0 bad.1)
+pub returns-in-Err-in-Some-clause-system : goal.returns-in-Err-in-Some-clause-system
+returns-in-Err-in-Some-clause-system c =
+    rw (c.in-Some.is, ← c.deref.ensures.value) (refused c.deref.result.now c.read_fork.result c.in-Err.fault c.in-Err-in-Some.code
+    c.read_fork.ensures.empty c.read_fork.ensures.bad_map c.in-Err.is (sym c.code.ensures ∙ c.in-Err-in-Some.is))

@@ -1,6 +1,6 @@
-use Rattle.std.proofs.Common.{ℕ, List, ◌+◌, ◌∙◌, ap, sym, drop, length}
+use Rattle.std.proofs.Common.{ℕ, List, ◌+◌, ◌∙◌, ap, sym, drop, length, max}
 use Rattle.script_text.specs.declared.script.Line.{Line}
-use Rattle.desk.specs.Desk.{longest_or, larger}
+use Rattle.desk.specs.Desk.{longest_or}
 use Rattle.desk.specs.Seated.{Placed}
 use Rattle.desk.specs.View.{seen}
 use Rattle.desk.proofs.Rounds.{longest_next}
@@ -14,5 +14,5 @@ loop-seat-preserved g c =
     let steps = c.steps.ensures.steps
     ∙ ap (λ (x : Placed g.row.S.Denot). x.app.now.script.steps) (c.seat.view_is ∙ c.seat-item.is) in
     ap (λ (m : ℕ). longest_or m (seen (drop (i + 1) seats)))
-    (c.larger-most.ensures ∙ ap (λ (lines : List Line). larger most (length lines)) steps)
+    (c.max.ensures ∙ ap (λ (lines : List Line). max most (length lines)) steps)
     ∙ sym (longest_next seats i c.seat-item.result most c.loop-seat-test.true) ∙ c.loop-seat.invariant

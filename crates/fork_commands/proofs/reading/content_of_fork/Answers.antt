@@ -1,11 +1,15 @@
-use Rattle.std.proofs.Common.{sym, subst, refl}
-use Rattle.fork_commands.specs.Faults.{Stops}
+use Rattle.std.proofs.Common.{sym, ap, ◌∙◌, subst}
+use Rattle.fork_format.specs.View.{view}
+use Rattle.fork_commands.specs.Faults.{of_code, Stops}
 use Rattle.fork_commands.specs.Reading.{content_of_fork}
-use Rattle.fork_commands.proofs.Contents.{unspelled}
+use Rattle.fork_commands.proofs.Contents.{refused, spelled}
 use Rattle.fork_commands.proofs.reading.content_of_fork.Goals as goal
 
-pub returns-in-Err-BadMap-clause-fault : goal.returns-in-Err-BadMap-clause-fault
-returns-in-Err-BadMap-clause-fault c =
-    let bad = (rw c.in-Err-BadMap.field-0-is at c.in-Err-BadMap.ensures.bad_map).0 refl in
-    subst (λ fault. Stops fault (content_of_fork c.args.fork.now)) (sym c.code-in-Err-BadMap.ensures)
-    (unspelled c.args.fork.now bad.0 bad.1)
+pub returns-in-Ok-clause-content : goal.returns-in-Ok-clause-content
+returns-in-Ok-clause-content c = spelled c.args.fork.now (view c.in-Ok.content) c.in-Ok.ensures.content
+
+pub returns-in-Err-clause-fault : goal.returns-in-Err-clause-fault
+returns-in-Err-clause-fault c =
+    let why = refused c.args.fork.now c.read_fork.result c.in-Err.fault c.read_fork.ensures.empty
+    c.read_fork.ensures.bad_map c.in-Err.is in
+    subst (λ fault. Stops fault (content_of_fork c.args.fork.now)) (sym (c.of.ensures ∙ ap of_code c.code.ensures)) why

@@ -2,10 +2,11 @@ use Rattle.std.proofs.Common.{◌≡◌, ◌≤◌, map, drop}
 use Rattle.fork_format.specs.Extent.{behind}
 use Rattle.fork_format.specs.View.{view_ref}
 use Rattle.fork_format.proofs.fit.starts_behind.Given as goal
+use Rattle.fork_format.specs.Limits.{most_data}
 
 abbrev pub invariant-loop-r : goal.invariant-loop-r
 invariant-loop-r l = record {
-  datum : l.next.datum ≤ 134217728;
+  datum : l.next.datum ≤ most_data;
   name : l.next.name ≤ 65790;
   behind : behind l.next (map view_ref (drop l.r-index l.refs)) ≡ behind l.fn.starts (map view_ref l.refs);
 }

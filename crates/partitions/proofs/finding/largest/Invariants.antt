@@ -1,11 +1,11 @@
 use Rattle.std.proofs.Common.{◌≡◌, drop}
 use Rattle.windows.specs.Windows.{InOrder}
-use Rattle.partitions.specs.Grant.{holes, larger, largest}
+use Rattle.partitions.specs.Grant.{holes, larger_hole, largest}
 use Rattle.partitions.proofs.finding.largest.Given as goal
 
 abbrev pub invariant-loop-window : goal.invariant-loop-window
 invariant-loop-window l = record {
   order : InOrder l.from (drop l.window-index l.windows) l.memory;
-  value : larger l.best (largest (holes l.memory l.from (drop l.window-index l.windows)))
+  value : larger_hole l.best (largest (holes l.memory l.from (drop l.window-index l.windows)))
       ≡ largest (holes l.memory 0 l.windows);
 }

@@ -6,6 +6,6 @@ use Rattle.rez_text.proofs.read.read_source.Given as goal
 -- what is still to be read gives, from here on, what the whole text gives
 abbrev pub invariant-loop-byte : goal.invariant-loop-byte
 invariant-loop-byte l = record {
-  counted : l.line ≤ l.byte-index + 1;
-  rest : read_from l.line l.returned (state_of l.reader) (drop l.byte-index l.source) ≡ read l.source;
+  counted : l.lines.line ≤ l.byte-index + 1;
+  rest : read_from l.lines (state_of l.reader) (drop l.byte-index l.source) ≡ read l.source;
 }

@@ -1,9 +1,11 @@
 use Rattle.std.proofs.Common.{◌≡◌, ◌++◌, drop, map}
+use Rattle.fork_format.specs.Canonical.{clear_ref}
 use Rattle.fork_format.specs.View.{view_ref}
 use Rattle.rez_text.specs.View.{ref_said}
 use Rattle.rez_text.proofs.source.lend_group.Given as goal
 
 -- the resources that are lent, with those to come, are all
 abbrev pub invariant-loop-resource : goal.invariant-loop-resource
-invariant-loop-resource l = map view_ref l.refs.items ++ map ref_said (drop l.resource-index l.group.refs.items)
-    ≡ map ref_said l.group.refs.items
+invariant-loop-resource l =
+    map view_ref l.refs.items ++ map clear_ref (map ref_said (drop l.resource-index l.group.refs.items))
+    ≡ map clear_ref (map ref_said l.group.refs.items)

@@ -2,7 +2,7 @@ use Rattle.std.proofs.Common.{sym, subst, arith}
 use Rattle.block_store.specs.Slot.{Used, set_slot, is_resource}
 use Rattle.zone_bytes.specs.Table.{Lays}
 use Rattle.zone_bytes.proofs.SlotTable.Handles.{HasBlock, may-look, its_flag, here-of, gone-of, leads-read}
-use Rattle.zone_bytes.proofs.SlotTable.Handles.{lays-emptied, lays-marked}
+use Rattle.zone_bytes.proofs.SlotTable.Handles.{empty-number, lays-emptied, lays-marked}
 use Rattle.zone_bytes.proofs.looking.mark_slot.Goals as goal
 use Rattle.zone_bytes.proofs.looking.mark_slot.Goals.{In-Some}
 
@@ -26,8 +26,8 @@ overflow_add-place-in-Some c = let b = block (goal.at.overflow_add-place-in-Some
 pub write_word-requires : goal.write_word-requires
 write_word-requires c = let b = block (goal.at.write_word-requires c).In-Some in (omega arith, omega arith)
 
-pub write_word-requires-in-None : goal.write_word-requires-in-None
-write_word-requires-in-None c = may-look c.requires.1
+pub write_slot-requires-clause-within : goal.write_slot-requires-clause-within
+write_slot-requires-clause-within c = may-look c.requires.1
 
 pub returns-in-Some-clause-lays : goal.returns-in-Some-clause-lays
 returns-in-Some-clause-lays c = λ t h. let r = c.args.resource in
@@ -37,6 +37,7 @@ returns-in-Some-clause-lays c = λ t h. let r = c.args.resource in
 
 pub returns-in-None-clause-lays : goal.returns-in-None-clause-lays
 returns-in-None-clause-lays c = λ t h. subst (λ ys. Lays ys t.blocks
-    (set_slot t.slots c.args.slot (Used c.args.resource)) t.unused) (sym (grind arith))
+    (set_slot t.slots c.args.slot (Used c.args.resource)) t.unused)
+    (sym (rw (← empty-number c.args.resource) c.write_slot.ensures.bytes))
     (lays-emptied h.lays _ _ _ (its_flag h).1
     (gone-of h (leads-read _ c.read_word.ensures c.in-None.ensures)).apart)

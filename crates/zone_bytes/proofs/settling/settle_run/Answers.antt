@@ -1,5 +1,6 @@
 use Rattle.std.proofs.Common.{◌≡◌, [], arith, rules}
 use Rattle.zone_bytes.specs.Settling.{UntilAt, rest_from}
+use Rattle.zone_bytes.specs.declared.settling.TheConstants.{NEVER_ENOUGH}
 use Rattle.zone_bytes.proofs.Runs.Settled.{all-gone, settled-led, whole}
 use Rattle.zone_bytes.proofs.settling.settle_run.Goals.{After-pack_until}
 use Rattle.zone_bytes.proofs.settling.settle_run.Given.{Over}
@@ -9,7 +10,7 @@ nothing-left : (g : Over) (c : After-pack_until g) → rest_from g.lay c.pack_un
 nothing-left g c = all-gone g.lay c.args.place c.requires.1.0 c.pack_until.ensures.packed (omega arith)
 
 done : (g : Over) (c : After-pack_until g) → let p = c.pack_until.result in
-    UntilAt g.lay c.args.place 0 4294967295 p.lowered p.top p.stop c.pack_until.new.part.bytes g.lay.run []
+    UntilAt g.lay c.args.place 0 NEVER_ENOUGH p.lowered p.top p.stop c.pack_until.new.part.bytes g.lay.run []
 done g c = whole g.lay c.args.place c.requires.1.0 c.pack_until.ensures.packed (nothing-left g c)
 
 pub returns-clause-settled : goal.returns-clause-settled

@@ -1,17 +1,32 @@
-use Rattle.std.proofs.Common.{◌*◌, ◌+◌, arith}
-use Rattle.heap_words.proofs.Words.{read_back}
-use Rattle.zone_bytes.specs.Table.{first_of}
-use Rattle.zone_bytes.proofs.SlotTable.Slotted.{first-in, taken, first-small}
+use Rattle.std.proofs.Common.{ap, inr, arith}
+use Rattle.heap_words.specs.Slots.{slot_number}
+use Rattle.heap_words.proofs.Slots.{unused_number, unused_only}
+use Rattle.zone_bytes.proofs.SlotTable.Slotted.{first-in, taken, first-reads}
 use Rattle.zone_bytes.proofs.slots.take_slot.Goals as goal
 
-pub read_word-next-requires : goal.read_word-next-requires
-read_word-next-requires c = first-in c.requires.1
+pub read_slot-requires-clause-within : goal.read_slot-requires-clause-within
+read_slot-requires-clause-within c = first-in c.requires.1
 
-pub write_word-requires : goal.write_word-requires
-write_word-requires c = first-in c.requires.1
+pub read_slot-requires-clause-slot : goal.read_slot-requires-clause-slot
+read_slot-requires-clause-slot c = inr (inr (inr (omega (arith, first-reads c.requires.1))))
+
+pub unreachable-requires : goal.unreachable-requires
+unreachable-requires c =
+    unused_only c.read_slot.result c.read_slot.ensures.kept
+    (omega (arith, first-reads c.requires.1, c.read_slot.ensures.number)) c.in_default.not-Unused
+
+pub write_slot-requires-clause-within : goal.write_slot-requires-clause-within
+write_slot-requires-clause-within c = first-in c.requires.1
 
 pub returns-clause-lays : goal.returns-clause-lays
-returns-clause-lays c = λ t h.
-    let s = first-small h t.unused h.unused_slots.1 in
-    let r = read_back c.args.first (16 * first_of t.unused + 1) c.args.part.now.bytes (omega arith) h.chain.0 in
-    (rw c.write_word.ensures.bytes (taken h), rw c.read_word-next.ensures (omega arith))
+returns-clause-lays c = λ t h. (
+  rw c.write_slot.ensures.bytes (taken h),
+  omega (
+    arith,
+    first-reads h,
+    c.read_slot.ensures.number,
+    ap slot_number c.in-Unused.is,
+    unused_number c.in-Unused.next,
+    c.unwrap_or.ensures,
+  ),
+)

@@ -9,7 +9,7 @@ join-runs-requires c =
 
 pub returns-in-Whole-clause-come : goal.returns-in-Whole-clause-come
 returns-in-Whole-clause-come c =
-    let p = passed-open _ _ c.requires.come.passed _ c.args.behind _ _ (rw c.in-Known.is at c.requires.stretch)
+    let p = passed-open _ _ c.requires.come.passed _ c.args.above _ _ (rw c.in-Known.is at c.requires.stretch)
     c.join-runs.ensures.is (ap is_ended c.in-Whole.is) in
     grind arith
 

@@ -13,7 +13,7 @@ returns c =
     let p = c.passed_below-passed in
     let i = p.result.index in
     let marks = c.args.marks.now in
-    c.behind_passed.ensures _ _ p.ensures.come.short (omega (
+    c.after_passed.ensures _ _ p.ensures.come.short (omega (
       arith,
       c.saturating_add.ensures,
       p.ensures.come.at,

@@ -7,7 +7,6 @@ use Rattle.zone_marks.proofs.fewest.count_below.Goals as goal
 pub returns-clause-is : goal.returns-clause-is
 returns-clause-is c low rest is at =
     let n = c.args.sparing in
-    let w = c.within-first.ensures in
     c.count_in.ensures.is
-    ∙ ap (λ l. count_within (spared n) (c.args.run - c.within-first.result) (opened n l)) c.walk_at.ensures.is
-    ∙ count-below _ _ _ c.requires.sound.2 _ _ _ n low rest (grind arith) w.least c.requires.none w.low is at
+    ∙ ap (λ l. count_within (spared n) (c.args.run - c.min-first.result) (opened n l)) c.walk_at.ensures.is
+    ∙ count-below _ _ _ c.requires.sound.2 _ _ _ n low rest (grind arith) (omega arith) c.requires.none (omega arith) is at

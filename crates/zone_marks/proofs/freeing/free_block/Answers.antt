@@ -25,7 +25,7 @@ end c f m = let e = c.last_free_below-start.ensures in
 
 pub free_up-requires : goal.free_up-requires
 free_up-requires c = may-free-two _ _ _ c.requires.1 _ c.last_free_below-start.ensures _ (grind (arith, end)) _
-    c.free_up-end.ensures.lays _ c.free_behind-more.ensures c.if-more-gt0.true
+    c.free_up-end.ensures.lays _ c.free_above-more.ensures c.if-more-gt0.true
 
 pub overflow_sub-result : goal.overflow_sub-result
 overflow_sub-result c = omega (arith, end (goal.at.overflow_sub-result c).After-free_up-end _ c.requires.1)
@@ -38,7 +38,7 @@ returns-clause-lays c = λ f m.
     let e = c.last_free_below-start.ensures in
     let t = end (goal.at.returns-clause-lays c).After-free_up-end f m in
     let l = c.free_up-end.ensures.lays in
-    let r = c.free_behind-more.ensures in
+    let r = c.free_above-more.ensures in
     elim c.if-more-gt0.branch [
       | then-more-gt0 w ↦ rw w.part-is
           (released-two _ _ _ m _ e _ t _ l _ r w.if-more-gt0.true _ w.free_up.ensures.lays)
@@ -48,11 +48,11 @@ returns-clause-lays c = λ f m.
 pub returns-clause-replaced : goal.returns-clause-replaced
 returns-clause-replaced c = search (rules, freed-replaced, end)
 
-pub free_behind-more-requires : goal.free_behind-more-requires
-free_behind-more-requires c = stop-way _ _ _ c.requires.1 _ c.last_free_below-start.ensures _
-    (end (goal.at.free_behind-more-requires c).After-free_up-end _ c.requires.1) _ c.free_up-end.ensures.lays
+pub free_above-more-requires : goal.free_above-more-requires
+free_above-more-requires c = stop-way _ _ _ c.requires.1 _ c.last_free_below-start.ensures _
+    (end (goal.at.free_above-more-requires c).After-free_up-end _ c.requires.1) _ c.free_up-end.ensures.lays
 
 pub overflow_add-result : goal.overflow_add-result
 overflow_add-result c = let k = stop-more _ _ _ c.requires.1 _ c.last_free_below-start.ensures _
-    (grind (arith, end)) _ c.free_up-end.ensures.lays _ c.free_behind-more.ensures in
+    (grind (arith, end)) _ c.free_up-end.ensures.lays _ c.free_above-more.ensures in
     omega arith

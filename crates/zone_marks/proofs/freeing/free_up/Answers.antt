@@ -6,6 +6,7 @@ use Rattle.zone_bytes.specs.Layout.{kind}
 use Rattle.zone_bytes.specs.Table.{empty_word}
 use Rattle.zone_bytes.proofs.Tiles.Tags.{tag-true, tag-small}
 use Rattle.zone_bytes.proofs.Joined.Freed.{here-read, may-make, other-lays, slot-fits, slot-lays, led}
+use Rattle.zone_bytes.proofs.SlotTable.Handles.{empty-number}
 use Rattle.zone_marks.proofs.freeing.free_up.Goals.{After-read_header-header}
 use Rattle.zone_marks.proofs.freeing.free_up.Goals as goal
 
@@ -27,9 +28,9 @@ overflow_add-end c = grind (arith, here-read, says)
 pub make_free-requires : goal.make_free-requires
 make_free-requires c = may-make _ _ _ _ c.requires.1 _ (grind (arith, top))
 
-pub write_word-requires : goal.write_word-requires
-write_word-requires c =
-    let d = (goal.at.write_word-requires c).After-read_header-header in
+pub write_slot-requires-clause-within : goal.write_slot-requires-clause-within
+write_slot-requires-clause-within c =
+    let d = (goal.at.write_slot-requires-clause-within c).After-read_header-header in
     let m = c.requires.1 in
     let l = led _ _ _ _ m (sym (says d _ m).1 ∙ tag-true _ c.if-eq.ensures) in
     rw c.read_header-header.ensures.slot
@@ -43,7 +44,7 @@ returns-then-eq-clause-lays c = λ f m.
     let d = (goal.at.returns-then-eq-clause-lays c).After-read_header-header in
     let l = led _ _ _ _ m (sym (says d f m).1 ∙ tag-true _ c.if-eq.ensures) in
     let e = c.read_header-header.ensures in
-    rw (c.write_word.ensures.bytes, c.word_once_empty.ensures, e.slot, e.flags)
+    rw (c.write_slot.ensures.bytes, empty-number, c.has_resource_flag.ensures, e.slot, e.flags)
     (slot-lays _ _ _ _ m _ (top d f m) _ c.make_free.ensures.lies c.make_free.ensures.outside _ l.named _
     (ap empty_word l.flag))
 

@@ -27,4 +27,5 @@ returns-then-hi-found c = λ old r n. stays-replaced _ _ _ _ r _ n _ (omega arit
     (stays (goal.at.returns-then-hi-found c).After-first_going-found old r))
 
 pub returns : goal.returns
-returns c = λ old r n. stays-replaced _ _ _ _ r _ n _ c.within.ensures.least (search (rules, stays-lower, stays))
+returns c = λ old r n. stays-replaced _ _ _ _ r _ n _ (omega arith) (stays-lower _ _ _ _ (omega arith)
+    (stays (goal.at.returns c).After-first_going-found old r))

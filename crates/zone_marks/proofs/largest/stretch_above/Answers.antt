@@ -23,7 +23,7 @@ walked_between-stretch-requires-clause-stretch c =
 -- what the blocks up to the next place that is told of come to
 next : (c : Joined-told) → IsStretch c.args.counting (tally.Known c.match-told.next)
     (place_at c.loop-index.index c.args.marks.now c.args.part.now.bytes)
-    (place_at c.told_from-told.result.behind c.args.marks.now c.args.part.now.bytes) c.args.part.now.bytes
+    (place_at c.told_from-told.result.above c.args.marks.now c.args.part.now.bytes) c.args.part.now.bytes
 next c = elim c.match-told.branch [
   | in-Known w ↦ rw w.next-is (rw w.in-Known.is at c.told_from-told.ensures.stretch)
   | in-Unknown w ↦ rw w.next-is (rw w.edge_of-at.ensures at (rw w.edge_of-to.ensures at w.walked_between-next.ensures))

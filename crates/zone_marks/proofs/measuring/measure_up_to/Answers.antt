@@ -6,13 +6,13 @@ use Rattle.zone_summary.specs.declared.stretch.Counting.TheVariants.{Runs}
 use Rattle.zone_summary.proofs.Monoid.{join-unit_right}
 use Rattle.zone_marks.proofs.Marks.Counting.{measured-below, measured-edge, prefix-counted, walked-few, walked-start}
 use Rattle.zone_marks.proofs.Marks.Counting.{walked-step}
-use Rattle.zone_marks.proofs.Marks.Passing.{past, begins-here, begins-right}
+use Rattle.zone_marks.proofs.Marks.Passing.{begins-here, begins-right}
 use Rattle.zone_marks.proofs.Marks.Spanned.{free-size}
 use Rattle.zone_marks.proofs.measuring.measure_up_to.Goals as goal
 
 pub loop-at-init : goal.loop-at-init
 loop-at-init c = record {
-  walked = walked-start Runs _ _ (λ p b. (free_of b ≤ 0) × (p < c.within-stop.result)) c.requires;
+  walked = walked-start Runs _ _ (λ p b. (free_of b ≤ 0) × (p < c.min-stop.result)) c.requires;
   reached = omega arith;
 }
 
@@ -23,7 +23,7 @@ join-runs-requires c =
 
 pub loop-at-preserved : goal.loop-at-preserved
 loop-at-preserved c =
-    let m = c.greater-most.ensures in
+    let m = c.max-most.ensures in
     let s = c.span_at-span.ensures in
     record {
       walked = walked-step Runs _ _ _ _ _ c.loop-at.invariant.walked _ (λ p b r. (omega arith, r.1))
@@ -42,4 +42,4 @@ pub returns-clause-passed : goal.returns-clause-passed
 returns-clause-passed c = measured-edge _ _ _ _ _ _ c.loop-at.invariant.walked _
 
 pub returns-clause-below : goal.returns-clause-below
-returns-clause-below c = search (rules, measured-below, past)
+returns-clause-below c = measured-below _ _ _ _ _ _ c.loop-at.invariant.walked c.args.place _ (omega arith) (grind arith)

@@ -5,7 +5,7 @@ use Rattle.zone_marks.proofs.Marks.Counting.{prefix-counted, walked-below, walke
 use Rattle.zone_marks.proofs.measuring.spaces_up_to.Goals as goal
 
 pub loop-at-init : goal.loop-at-init
-loop-at-init c = walked-start Spaces _ _ (λ p _. p < c.within-stop.result) c.requires
+loop-at-init c = walked-start Spaces _ _ (λ p _. p < c.min-stop.result) c.requires
 
 pub join-spaces-requires : goal.join-spaces-requires
 join-spaces-requires c =
@@ -16,10 +16,10 @@ join-spaces-requires c =
 pub loop-at-preserved : goal.loop-at-preserved
 loop-at-preserved c =
     let s = c.step_at-step.ensures in
-    walked-step Spaces _ _ _ (λ p _. p < c.within-stop.result) _ c.loop-at.invariant
-    (λ p _. p < c.within-stop.result) (λ _ _ r. r) _ s.here s.is s.up s.way c.loop-at-test.true _ _
+    walked-step Spaces _ _ _ (λ p _. p < c.min-stop.result) _ c.loop-at.invariant
+    (λ p _. p < c.min-stop.result) (λ _ _ r. r) _ s.here s.is s.up s.way c.loop-at-test.true _ _
     (c.space_of_seen.ensures s.here s.told (omega arith) ∙ sym (join-unit_right _)) c.join-spaces.ensures.is
 
 pub returns : goal.returns
-returns c = walked-below Spaces _ _ _ (λ p _. p < c.within-stop.result) _ c.loop-at.invariant c.args.place
+returns c = walked-below Spaces _ _ _ (λ p _. p < c.min-stop.result) _ c.loop-at.invariant c.args.place
     (λ p _ r. omega arith) (grind arith)

@@ -1,22 +1,11 @@
-use Rattle.std.proofs.Common.{◌∙◌, ap, map}
-use Rattle.applications.proofs.Binding.{put-bound, bound-again}
-use Rattle.applications.specs.Names.{bind, binding, bound_to}
+use Rattle.std.proofs.Common.{◌∙◌, ap, refl, map}
+use Rattle.applications.proofs.Binding.{insert-bound}
+use Rattle.applications.specs.Names.{bind, binding}
 use Rattle.applications.proofs.names.Names.bind.Goals as goal
-
-pub invariant_of-self-2 : goal.invariant_of-self-2
-invariant_of-self-2 c =
-    let name = c.args.name.now.0.items in
-    let before = c.self.inside.bound.entries in
-    let after = c.insert.new.self.entries in
-    ap (λ n. bound_to n (map binding after)) c.copy_of.ensures
-    ∙ ap (bound_to name)
-    (put-bound c.of.result name c.args.number before after c.in_ok-insert.ensures.entries c.of.ensures)
-    ∙ bound-again name c.args.number (map binding before)
 
 pub returns : goal.returns
 returns c =
-    let name = c.args.name.now.0.items in
-    let before = c.self.inside.bound.entries in
-    let after = c.insert.new.self.entries in
-    put-bound c.of.result name c.args.number before after c.in_ok-insert.ensures.entries c.of.ensures
-    ∙ ap (bind name c.args.number) c.self.view_is
+    ap (map binding) c.in_ok-insert.ensures.entries
+    ∙ insert-bound _ (λ a b. refl) c.copy_of.result c.args.number c.self.inside.bound.entries
+    ∙ ap (λ l. bind l c.args.number (map binding c.self.inside.bound.entries)) c.copy_of.ensures
+    ∙ ap (bind c.args.name.now.0.items c.args.number) c.self.view_is

@@ -1,5 +1,6 @@
+use Rattle.std.proofs.Common.{arith}
 use Rattle.zone_marks.proofs.Bounds.Going.{stays-under}
 use Rattle.zone_marks.proofs.keeping.Landmarks.lowest_under.Goals as goal
 
 pub returns : goal.returns
-returns c = λ hi old new a r. stays-under _ _ _ _ r _ a.1 _ c.within.ensures.least c.within.ensures.low
+returns c = λ hi old new a r. stays-under _ _ _ _ r _ a.1 _ (omega arith) (omega arith)

@@ -1,6 +1,6 @@
 use Rattle.std.proofs.Common.{◌≡◌, ◌*◌, arith, sym, subst, replicate}
 use Rattle.zone_bytes.specs.Decode.{zone_in}
-use Rattle.zone_marks.specs.Marks.{AreMarks, AreGroups}
+use Rattle.zone_marks.specs.Marks.{AreMarks, AreGroups, above_all}
 use Rattle.zone_marks.specs.declared.landmark.Group.{Group}
 use Rattle.zone_marks.specs.declared.landmark.Landmark.{Landmark}
 use Rattle.zone_marks.proofs.Bounds.Going.{stays-above}
@@ -13,14 +13,14 @@ pub returns : goal.returns
 returns c =
     let xs = c.args.part.now.bytes in
     let count = c.groups_of-count.result in
-    let blank : Landmark = record { at = 0; most = 4294967295; tally = unknown } in
+    let blank : Landmark = record { at = 0; most = above_all; tally = unknown } in
     let marks = c.in_ok-marks.marks.items in
     let groups = c.in_ok-groups.groups.items in
-    let none : Group = record { most = 4294967295; tally = unknown } in
+    let none : Group = record { most = above_all; tally = unknown } in
     let f : marks ≡ replicate (count * 16) blank = c.in_ok-marks.ensures.items_if_clones_equal (λ y e. e) in
     let g : groups ≡ replicate count none = c.in_ok-groups.ensures.items_if_clones_equal (λ y e. e) in (
       (
-        subst (AreMarks 4294967295 (zone_in xs)) (sym f) (unlaid-marks _ (omega (arith, sizes-length)) _),
+        subst (AreMarks above_all (zone_in xs)) (sym f) (unlaid-marks _ (omega (arith, sizes-length)) _),
         subst (AreGroups groups) (sym f) (grind (arith, same-groups)),
       ),
       stays-above 0 0 (zone_in xs) (omega arith),

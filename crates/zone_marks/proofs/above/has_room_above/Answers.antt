@@ -1,0 +1,15 @@
+use Rattle.std.proofs.Common.{◌≤◌, arith}
+use Rattle.block_store.specs.Block.{is_relocatable, sizes}
+use Rattle.zone_bytes.proofs.Places.LedTo.{led-slot, led-place}
+use Rattle.zone_bytes.proofs.Places.Options.{if-spot}
+use Rattle.zone_marks.proofs.Marks.Sought.{sought}
+use Rattle.zone_marks.proofs.above.has_room_above.Goals as goal
+
+pub returns : goal.returns
+returns c =
+    let i = c.requires.sound.2 in
+    sought _ _ _ i _ (c.below-from.ensures.begins _ c.requires.marks) (is_relocatable c.args.slot) _
+    (if-spot _ (λ s. c.below-from.result ≤ sizes s.below) (λ s e.
+    let l = led-slot _ _ _ i c.args.slot s e in
+    omega (arith, led-place c.args.part.now.bytes _ _ i c.args.slot s e)))
+    (rw c.walk_at.ensures.is at c.room_above_in.ensures)
