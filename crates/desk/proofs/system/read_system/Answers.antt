@@ -2,7 +2,7 @@ use Rattle.std.proofs.Common.{sym, ◌∙◌}
 use Rattle.fork_format.proofs.Codes.{refused}
 use Rattle.desk.proofs.system.read_system.Goals as goal
 
-pub returns-in-Err-in-Some-clause-system : goal.returns-in-Err-in-Some-clause-system
-returns-in-Err-in-Some-clause-system c =
-    rw (c.in-Some.is, ← c.deref.ensures.value) (refused c.deref.result.now c.read_fork.result c.in-Err.fault c.in-Err-in-Some.code
-    c.read_fork.ensures.empty c.read_fork.ensures.bad_map c.in-Err.is (sym c.code.ensures ∙ c.in-Err-in-Some.is))
+pub returns-in-Some-code-clause-system : goal.returns-in-Some-code-clause-system
+returns-in-Some-code-clause-system c =
+    rw (c.in-Some.is, ← c.deref.ensures.value) (refused c.deref.result.now c.read_fork.result c.in-Err.fault c.in-Some-code.code
+    c.read_fork.ensures.empty c.read_fork.ensures.bad_map c.in-Err.is (sym c.code.ensures ∙ c.in-Some-code.is))
