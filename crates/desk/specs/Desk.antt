@@ -1,5 +1,5 @@
 use Rattle.std.specs.Prelude.{ℕ, ◌+◌, Bool, Option, Some, None, Result, Ok, Err, List, [], ◌∷◌, ◌++◌, map}
-use Rattle.std.specs.Prelude.{length, nat_lt, slice_get, slice_set, if◌then◌else◌, zero, suc}
+use Rattle.std.specs.Prelude.{length, max, slice_get, slice_set, if◌then◌else◌, zero, suc}
 use Rattle.std.specs.List.{list_any}
 use Rattle.windows.specs.declared.Window.{Window}
 use Rattle.windows.specs.Windows.{put_in, taken_out}
