@@ -1,8 +1,8 @@
 use Rattle.std.proofs.Common.{◌≡◌, ℕ, ◌+◌, ◌<◌, ◌≤◌, Bool, true, false, Option, Some, None, List}
 use Rattle.std.proofs.Common.{[], ◌∷◌, ◌++◌, map, length, drop, slice_get, slice_set, refl, sym, ◌∙◌, ap, subst, cond, arith}
-use Rattle.std.proofs.Common.{append_assoc, zero, suc, nat_lt}
+use Rattle.std.proofs.Common.{append_assoc, zero, suc, max}
 use Rattle.std.specs.List.{list_any}
-use Rattle.std.proofs.lemmas.Bool.{ltb-true, ltb-false}
+use Rattle.std.proofs.Math.Nat.{le-max_left, le-max_right}
 use Rattle.std.proofs.lemmas.Option.{slice_get_within}
 use Rattle.script_text.specs.Script.{ScriptParts}
 use Rattle.script_text.specs.declared.script.Line.{Line}
@@ -12,7 +12,7 @@ use Rattle.desk.specs.declared.act.Act.TheVariants.{Turn}
 use Rattle.desk.specs.Phase.{Live, Phase, Waiting, Running, Ended, Next, GoesOn, Ends, ends, after_course, step_of, stepped}
 use Rattle.desk.specs.Phase.{called, and_then, turn_through, turned, come_by, acted_by, runs}
 use Rattle.desk.specs.Desk.{Place, State, coming, place_come, acted_in, acted_at, each_turned, round, any_runs, rounds}
-use Rattle.desk.specs.Desk.{larger, longest_or, longest, rested}
+use Rattle.desk.specs.Desk.{longest_or, longest, rested}
 
 -- Rounds come to an end: each takes a step of each application that runs, and none has more steps than its script has
 -- lines, and the one behind the last.
@@ -174,26 +174,12 @@ rounds-stop (suc k) s so =
     (turns-within k s.places (each-soon (suc k) s.places so))))
 
 -- No script is longer than the longest.
-larger-first : (m n : ℕ) → m ≤ larger m n
-larger-first m n = by_less (nat_lt m n) refl
-  where
-    by_less : (t : Bool) → nat_lt m n ≡ t → m ≤ cond t n m
-    by_less true is = omega (arith, ltb-true m n is)
-    by_less false is = omega arith
-
-larger-second : (m n : ℕ) → n ≤ larger m n
-larger-second m n = by_less (nat_lt m n) refl
-  where
-    by_less : (t : Bool) → nat_lt m n ≡ t → n ≤ cond t n m
-    by_less true is = omega arith
-    by_less false is = ltb-false m n is
-
 longest-least : (most : ℕ) (places : List Place) → most ≤ longest_or most places
 longest-least most [] = omega arith
 longest-least most (p ∷ places) =
     let n : ℕ = length p.script.steps in
-    let on : larger most n ≤ longest_or (larger most n) places = longest-least (larger most n) places in
-    let first : most ≤ larger most n = larger-first most n in
+    let on : max most n ≤ longest_or (max most n) places = longest-least (max most n) places in
+    let first : most ≤ max most n = le-max_left most n in
     omega (arith, on, first)
 
 soon-most : (most k : ℕ) (script : ScriptParts) (phase : Phase) → length script.steps ≤ most → most < k → Soon k script
@@ -206,10 +192,10 @@ each-most : (most k : ℕ) (places : List Place) → longest_or most places < k 
 each-most most k [] less = tt
 each-most most k (p ∷ places) less =
     let n : ℕ = length p.script.steps in
-    let on : larger most n ≤ longest_or (larger most n) places = longest-least (larger most n) places in
-    let second : n ≤ larger most n = larger-second most n in (
-      soon-most (longest_or (larger most n) places) k p.script p.phase (omega (arith, on, second)) less,
-      each-most (larger most n) k places less,
+    let on : max most n ≤ longest_or (max most n) places = longest-least (max most n) places in
+    let second : n ≤ max most n = le-max_right most n in (
+      soon-most (longest_or (max most n) places) k p.script p.phase (omega (arith, on, second)) less,
+      each-most (max most n) k places less,
     )
 
 -- after a rest none runs

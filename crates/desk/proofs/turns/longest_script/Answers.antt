@@ -14,5 +14,5 @@ loop-seat-preserved g c =
     let steps = c.steps.ensures.steps
     ∙ ap (λ (x : Placed g.row.S.Denot). x.app.now.script.steps) (c.seat.view_is ∙ c.seat-item.is) in
     ap (λ (m : ℕ). longest_or m (seen (drop (i + 1) seats)))
-    (c.max.ensures ∙ ap (λ (lines : List Line). max most (length lines)) steps)
+    (c.max-most.ensures ∙ ap (λ (lines : List Line). max most (length lines)) steps)
     ∙ sym (longest_next seats i c.seat-item.result most c.loop-seat-test.true) ∙ c.loop-seat.invariant
