@@ -1,6 +1,5 @@
-use Rattle.std.proofs.Common.{◌≡◌, Result, map, refl, subst}
+use Rattle.std.proofs.Common.{◌≡◌, map, refl, subst}
 use Rattle.std.specs.Prelude.{OnOk, OnErr}
-use Rattle.std.specs.declared.alloc.AllocError.{AllocError}
 use Rattle.desk.specs.Desk.{after_events}
 use Rattle.desk.specs.Halting.{After, halted}
 use Rattle.desk.specs.View.{told_seen, outcome_seen}

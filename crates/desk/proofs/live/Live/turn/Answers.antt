@@ -1,4 +1,4 @@
-use Rattle.std.proofs.Common.{rules, ◌≡◌, ◌∙◌, ◌+◌, drop, false}
+use Rattle.std.proofs.Common.{◌≡◌, drop, false}
 use Rattle.std.proofs.lemmas.Result.{on_err_weaker}
 use Rattle.desk.specs.Live.{live_seen}
 use Rattle.desk.specs.Outcome.{Launched}
