@@ -9,7 +9,7 @@ use Rattle.desk.specs.declared.job.App.{App}
 use Rattle.desk.specs.declared.job.Job.{Job}
 use Rattle.desk.specs.declared.outcome.Outcome as declared
 use Rattle.desk.specs.Outcome.{Launched, AppResult, Outcome}
-use Rattle.desk.specs.Desk.{Place, State, after_events, told}
+use Rattle.desk.specs.Desk.{Place, after_events, told}
 use Rattle.desk.specs.Halting.{IsLeft, halted}
 use Rattle.desk.specs.Job.{opening, start_of}
 use Rattle.desk.specs.Alone.{launched_alone, IsPlaceOf}

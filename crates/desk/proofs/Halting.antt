@@ -1,4 +1,4 @@
-use Rattle.std.proofs.Common.{◌≡◌, ◌∙◌, ◌+◌, ◌-◌, ◌<◌, ◌⊎◌, inl, inr, ℕ, Bool, true, false, Option, Some, None, List, [], ◌∷◌}
+use Rattle.std.proofs.Common.{◌≡◌, ◌∙◌, ◌+◌, ◌-◌, ◌<◌, inl, inr, ℕ, Bool, true, false, Option, Some, None, List, [], ◌∷◌}
 use Rattle.std.proofs.Common.{length, map, drop, slice_get, slice_set, slice_index_or, refl, sym, ap, subst, arith, zero, suc}
 use Rattle.std.proofs.Common.{◌++◌, ◌≤◌, append-nil, option_map, IfSome}
 use Rattle.std.proofs.lemmas.List.{map-set, at_drop_more}

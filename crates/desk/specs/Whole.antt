@@ -1,12 +1,11 @@
-use Rattle.std.specs.Prelude.{◌≡◌, ℕ, ◌==◌, Option, Some, None, option_map, Result, Ok, Err, List, [], ◌∷◌, length}
-use Rattle.std.specs.Prelude.{IfSome, if◌then◌else◌}
+use Rattle.std.specs.Prelude.{◌≡◌, ℕ, Option, Some, None, option_map, Result, Ok, Err, List, [], ◌∷◌}
+use Rattle.std.specs.Prelude.{IfSome}
 use Rattle.mac_words.specs.declared.code.OsErr.{OsErr}
 use Rattle.fork_format.specs.Code.{content_or_code}
 use Rattle.fork_format.specs.Content.{Content}
 use Rattle.fork_format.specs.View.{view}
 use Rattle.fork_format.specs.declared.content.Content.{Content as Stored}
 use Rattle.script_text.specs.Script.{ScriptParts}
-use Rattle.script_text.specs.declared.job.Event.{Event}
 use Rattle.res_calls.specs.Files.{Resources}
 use Rattle.applications.specs.Trying.{no_content}
 use Rattle.applications.specs.Alone.{alone}

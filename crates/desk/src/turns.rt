@@ -23,7 +23,7 @@ use std::alloc::AllocError;
 pub(crate) fn longest_script<S: BlockStore>(seats: &[Seat<'_, S>]) -> usize
     ensures { result ≡ longest (seen seats.now) }
 {
-    let mut most = 0;
+    let mut most: usize = 0;
     for seat in seats {
         most = most.max(seat.app.script.steps().len());
     }

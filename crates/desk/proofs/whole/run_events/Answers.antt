@@ -2,7 +2,6 @@ use Rattle.std.proofs.Common.{◌∙◌, sym, subst, List}
 use Rattle.script_text.specs.declared.job.Event.{Event}
 use Rattle.desk.specs.Desk.{State}
 use Rattle.desk.specs.Free.{IsFree, StaysFree}
-use Rattle.desk.specs.Lying.{AllLie}
 use Rattle.desk.proofs.Free.{free-end}
 use Rattle.desk.proofs.Halting.{ok_then}
 use Rattle.desk.proofs.whole.run_events.Goals as goal
