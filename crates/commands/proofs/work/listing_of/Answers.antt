@@ -1,4 +1,8 @@
+use Rattle.std.proofs.Common.{rules}
 use Rattle.fork_format.specs.View.{view}
+use Rattle.fork_commands.specs.Faults.{Stops}
+use Rattle.fork_commands.specs.Reading.{content_in}
+use Rattle.fork_commands.proofs.Contents.{stopped_there}
 use Rattle.commands.proofs.Listed.{listed_there}
 use Rattle.commands.proofs.work.listing_of.Goals as goal
 
@@ -8,3 +12,11 @@ returns-in_ok-content-in-Ok-clause-listing c =
     listed_there c.args.style c.args.bytes.now c.in-Ok.found.fork.now c.in-Ok.found.wrapping
     (view c.in_ok-content-in-Ok.content) c.in-Ok.ensures.wrapping c.in-Ok.ensures.fork
     c.in_ok-content-in-Ok.ensures.content
+
+-- why the fork in the file has no content
+pub returns-in_err-content-in-Ok-clause-fault : goal.returns-in_err-content-in-Ok-clause-fault
+returns-in_err-content-in-Ok-clause-fault c =
+    let stops : Stops c.in_err-content-in-Ok.field-0.0 (content_in c.args.bytes.now) =
+        stopped_there c.args.bytes.now c.in-Ok.found.fork.now c.in_err-content-in-Ok.field-0.0 c.in-Ok.ensures.fork
+        c.in_err-content-in-Ok.ensures.fault in
+    search rules
