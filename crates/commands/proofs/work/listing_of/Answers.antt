@@ -1,8 +1,9 @@
-use Rattle.std.proofs.Common.{rules}
+use Rattle.std.proofs.Common.{IfErr, rules}
 use Rattle.fork_format.specs.View.{view}
 use Rattle.fork_commands.specs.Faults.{Stops}
-use Rattle.fork_commands.specs.Reading.{content_in}
+use Rattle.fork_commands.specs.Reading.{content_of_fork}
 use Rattle.fork_commands.proofs.Contents.{stopped_there}
+use Rattle.fork_commands.proofs.Pairs.{also_err}
 use Rattle.commands.proofs.Listed.{listed_there}
 use Rattle.commands.proofs.work.listing_of.Goals as goal
 
@@ -16,7 +17,7 @@ returns-in_ok-content-in-Ok-clause-listing c =
 -- why the fork in the file has no content
 pub returns-in_err-content-in-Ok-clause-fault : goal.returns-in_err-content-in-Ok-clause-fault
 returns-in_err-content-in-Ok-clause-fault c =
-    let stops : Stops c.in_err-content-in-Ok.field-0.0 (content_in c.args.bytes.now) =
-        stopped_there c.args.bytes.now c.in-Ok.found.fork.now c.in_err-content-in-Ok.field-0.0 c.in-Ok.ensures.fork
-        c.in_err-content-in-Ok.ensures.fault in
-    search rules
+    let has_none : IfErr c.from_residual.result (λ fault. Stops fault (content_of_fork c.in-Ok.found.fork.now)) =
+        search rules in
+    also_err _ _ c.from_residual.result
+    (λ fault stops. stopped_there c.args.bytes.now c.in-Ok.found.fork.now fault c.in-Ok.ensures.fork stops) has_none
