@@ -18,6 +18,6 @@ returns-in_ok-content-in-Ok-clause-listing c =
 pub returns-in_err-content-in-Ok-clause-fault : goal.returns-in_err-content-in-Ok-clause-fault
 returns-in_err-content-in-Ok-clause-fault c =
     let has_none : IfErr c.from_residual.result (λ fault. Stops fault (content_of_fork c.in-Ok.found.fork.now)) =
-        search rules in
+    search rules in
     also_err _ _ c.from_residual.result
     (λ fault stops. stopped_there c.args.bytes.now c.in-Ok.found.fork.now fault c.in-Ok.ensures.fork stops) has_none
