@@ -11,12 +11,12 @@ use Rattle.heap_calls.proofs.Promises.Knowing.{holds-known}
 use Rattle.applications.specs.Trying.{Blocks, launched_with, nowhere}
 use Rattle.applications.specs.Step.{Event, course_of}
 use Rattle.applications.specs.Laws.{put_at_launch, EachTry, Linked, ShowsPut, HoldsPut, KeepsLocked, KeepsNonrelocatable}
-use Rattle.applications.specs.Laws.{PurgesOnlyPurgeable, SearchesFew, RefusedLeaves, RefusedBinds, NothingBusy}
+use Rattle.applications.specs.Laws.{PurgesOnlyPurgeable, SearchesFew, RefusedLeaves, RefusedCosts, RefusedBinds, NothingBusy}
 use Rattle.applications.specs.Laws.{GoesByRule}
 use Rattle.applications.specs.Laws.{KeepsResources, KeepsFiles, KeepsTable, is_answered, frees, drops, freed_by}
 use Rattle.applications.specs.Laws.{dropped_by, LockedStay, NonrelocatableStay}
 use Rattle.applications.proofs.TryLaws.{sound-launched, once-shows, once-holds, once-locked, once-nonrelocatable, once-purgeable}
-use Rattle.applications.proofs.TryLaws.{once-searches, once-refused, once-keeps-resources, once-keeps-files}
+use Rattle.applications.proofs.TryLaws.{once-searches, once-refused, once-costs, once-keeps-resources, once-keeps-files}
 use Rattle.applications.proofs.TryLaws.{once-keeps-table}
 use Rattle.applications.proofs.Carrying.{run-goes}
 use Rattle.applications.proofs.Lines.{run-lines}
@@ -82,6 +82,11 @@ any_searches_few resources n blocks lines = (run-goes SearchesFew once-searches 
 pub any_refused_leave : (resources : Resources) (n : ℕ) (blocks : Blocks) (lines : List Line)
     → Keeps RefusedLeaves resources n blocks lines
 any_refused_leave resources n blocks lines = (run-goes RefusedLeaves once-refused blocks lines
+    (launched_with resources n nowhere) (put_at_launch resources n) (sound-launched resources n)).each
+
+pub any_refused_cost : (resources : Resources) (n : ℕ) (blocks : Blocks) (lines : List Line)
+    → Keeps RefusedCosts resources n blocks lines
+any_refused_cost resources n blocks lines = (run-goes RefusedCosts once-costs blocks lines
     (launched_with resources n nowhere) (put_at_launch resources n) (sound-launched resources n)).each
 
 pub any_resources_stay : (resources : Resources) (n : ℕ) (blocks : Blocks) (lines : List Line)

@@ -7,9 +7,11 @@ mod JumpCalls
 mod OwnFork
 pub mod Quits
 mod Hearing
+mod Refusals
 mod TryLaws
 mod Carrying
 pub mod Counting
+pub mod Stopping
 mod StepLaws
 mod Marking
 mod Ending

@@ -24,7 +24,7 @@ use Rattle.applications.specs.Trying.{is_fatal}
 use Rattle.applications.specs.Step.{Course, course_of}
 use Rattle.applications.specs.Application.{lines_told}
 use Rattle.applications.specs.Alone.{Ending, alone, quits, ending_of, first_steps, run_alone, end_told}
-use Rattle.applications.specs.Alone.{files_after, has_quit, left_after, stops, zone_alone}
+use Rattle.applications.specs.Alone.{files_after, has_quit, left_after, stops, heap_alone}
 use Rattle.applications.specs.Replies.{Came, exit_of, end_by, end_if, has_ended, left_if}
 use Rattle.applications.specs.declared.quitting.Exit.{Exit}
 use Rattle.applications.specs.declared.quitting.Exit.TheVariants.{Quits, Stops}
@@ -197,7 +197,7 @@ module _ (resources : Resources) (n : ℕ) (script : ScriptParts) (steps : ℕ) 
   pub record Gave (r after : Running) (start whole : List ℕ) : Type 0 where
     pub transcript : whole ≡ (alone resources n script steps quit).transcript
     pub files : after.resources.files ≡ (alone resources n script steps quit).files
-    pub zone : after.memory.heap.zone ≡ zone_alone resources n script steps quit
+    pub heap : after.memory.heap ≡ heap_alone resources n script steps quit
 
   pub given_alone : (r after : Running) (site : Site) (lines : List Line) (asked : Bool) (start whole : List ℕ)
       → r ≡ launched_with resources n site → start ≡ launch_line n → asked ≡ asks → lines ≡ take steps script.steps
@@ -214,7 +214,7 @@ module _ (resources : Resources) (n : ℕ) (script : ScriptParts) (steps : ℕ) 
         transcript = said ∙ (λ i. begins i ++ lines_told (same i).lines ++ end_told (ending_of (asked_is i) (same i)))
             ∙ ap (λ (e : Option Ending). launch_line n ++ lines_told c.lines ++ end_told e) (ending-elsewhere site asks c);
         files = ap (λ (x : Running). x.resources.files) went ∙ left-files asks c;
-        zone = ap (λ (x : Running). x.memory.heap.zone) went;
+        heap = ap (λ (x : Running). x.memory.heap) went;
       }
 
 -- the first lines of a list, more than it has, are all its lines

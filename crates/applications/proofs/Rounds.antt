@@ -157,7 +157,7 @@ step_goes_on blocks l n k r after text new goal all more came lines went ends =
     )
 
 -- a course says by how it ends whether it ends the application
-over-of : (c : Course) → is_some (exit_of c) ≡ c.over
+pub over-of : (c : Course) → is_some (exit_of c) ≡ c.over
 over-of c = by_over c.over
   where
     by_over : (over : Bool) → is_some (exit_as over (last_code c.told)) ≡ over

@@ -12,9 +12,12 @@ use Rattle.heap_calls.specs.Locked.{locked_place}
 use Rattle.script_text.specs.declared.script.Line.{Line}
 use Rattle.script_text.specs.Script.{ScriptParts}
 use Rattle.applications.specs.Step.{Shown, LineEnd}
+use Rattle.applications.specs.Trying.{launched, nowhere}
+use Rattle.applications.specs.Reports.{report, reports}
+use Rattle.applications.specs.Stopping.{steps_taken}
 use Rattle.applications.specs.Alone.{run_alone}
 
--- Worked examples of grow-zone scripts, in a partition of 1,024 bytes.
+-- Worked examples of grow-zone scripts, in a partition of 1,024 bytes, and of what a watch hears.
 
 -- a name of one letter
 abbrev letter : ℕ → Label
@@ -95,3 +98,18 @@ a_locked_block_stands : ends_seen (with_grown (at 2 (heap.DisposeHandle r) ∷ [
     ≡ (None, true) ∷ (None, true) ∷ (Some 272, true) ∷ (Some 272, true) ∷ (Some 272, true) ∷ (Some 272, true)
     ∷ (Some 272, false) ∷ (None, true) ∷ []
 a_locked_block_stands = refl
+
+-- each of a few steps is reported, and each third of 250, and the last
+a_few_steps_are_reported : reports 3 3 ≡ 1 ∷ 2 ∷ 3 ∷ []
+a_few_steps_are_reported = refl
+
+each_third_step_is_reported : reports 7 250 ≡ 3 ∷ 6 ∷ []
+each_third_step_is_reported = refl
+
+the_last_step_is_reported : report 250 250 ≡ 250 ∷ []
+the_last_step_is_reported = refl
+
+-- a run takes the steps up to the one that ends the application
+a_run_ends_with_its_application : steps_taken [] (control_at 1 control.WaitNextEvent ∷ control_at 2 control.ExitToShell
+    ∷ at 3 heap.FreeMem ∷ []) (launched 1024 nowhere) ≡ 2
+a_run_ends_with_its_application = refl

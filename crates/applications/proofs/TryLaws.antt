@@ -1,4 +1,4 @@
-use Rattle.std.proofs.Common.{◌≡◌, ◌≤◌, ◌<◌, ◌^◌, ◌+◌, ◌⊎◌, ℕ, length, Bool, true, false, List, [], Some, inl, inr}
+use Rattle.std.proofs.Common.{◌≡◌, ◌≤◌, ◌<◌, ◌^◌, ◌+◌, ◌⊎◌, ℕ, ℤ, length, Bool, true, false, List, [], Some, inl, inr}
 use Rattle.std.proofs.Common.{Option, None, refl, sym, ap, subst, ◌&&◌, true≢false}
 use Rattle.std.proofs.Common.{◌∙◌, arith}
 use Rattle.std.proofs.lemmas.Option.{same_Some, none-some}
@@ -24,7 +24,9 @@ use Rattle.heap_calls.proofs.Promises.StandingLaws.{next-new}
 use Rattle.heap_calls.proofs.Promises.FewSearches.{unsearched}
 use Rattle.heap_calls.proofs.Promises.Taking.{StaysOr}
 use Rattle.heap_calls.proofs.Tries.Gating.{served-known, served-shows}
-use Rattle.heap_calls.proofs.Tries.Gating.{served_searches, served-refused, served-busy}
+use Rattle.heap_calls.proofs.Tries.Gating.{served_searches, served-busy}
+use Rattle.heap_calls.specs.Staying.{CostsAtMostMasters}
+use Rattle.heap_calls.proofs.Tries.Costing.{served_costs, same-costs}
 use Rattle.heap_calls.proofs.Tries.Keeping.{served_masters_no_fewer}
 use Rattle.heap_calls.proofs.Tries.Taking.{served-stays, served-stands, served-empties}
 use Rattle.res_calls.specs.Files.{Resources}
@@ -48,6 +50,8 @@ use Rattle.applications.specs.Step.{Deed, Ask, Find, Jump, Steer, deed_of, event
 use Rattle.applications.specs.Laws.{put_found, put_deed, put_event, ShowsPut, HoldsPut, frees, drops, deed_takes_block}
 use Rattle.applications.specs.Laws.{opens, Kept}
 use Rattle.applications.specs.Laws.{KeepsLocked, KeepsNonrelocatable, PurgesOnlyPurgeable, SearchesFew, RefusedLeaves}
+use Rattle.applications.specs.Laws.{RefusedCosts, with_segment}
+use Rattle.applications.proofs.Refusals.{asked-leaves, found-leaves, found-costs, Fetches, fetched_by, jumped-stops, jumped-costs}
 use Rattle.applications.specs.Laws.{OnlyStores}
 use Rattle.applications.specs.Laws.{KeepsResources, writes_files, KeepsFiles, KeepsTable, is_answered, StayPut}
 use Rattle.applications.specs.Laws.{put_at_launch, jumps as is_jump}
@@ -317,25 +321,56 @@ once-searches blocks l r bytes sound = of-try
     (λ c opens. jumping.served-searches c (program_of r) sound.masters sound.fits)
     (λ k grow opens. unsearched r.memory.heap.zone r.memory.log.searches sound.fits)
 
--- where it is refused it leaves the heap
+-- where it is refused it leaves the memory
 pub once-refused : (blocks : Blocks) (l : Line) (r : Running) (bytes : ℕ → List ℕ) → Sound r.memory bytes
     → RefusedLeaves bytes (event_of l r (once blocks l.call r))
 once-refused blocks l r bytes sound code tells = (
   of-try (λ d told reads after. told ≡ Refused code → Kept d code r after) blocks l.call r
-      (λ a is. ((served-refused a r.memory code is).0, refl))
-      (λ a is. let left = laws.served-refused a (managers_of r) code is in
-      (left.0, ap (stored_gone (heard r.resources.purging (purges.gone_for a (managers_of r)))) left.1))
-      (λ c is other.
-      ap (λ (p : Program). storing r.resources.purging (jump_purges.gone_for c (program_of r)) (kept p))
-      (jumping.served-refused c (program_of r) code is other)
-      ∙ ap (λ l. storing r.resources.purging l r) (refused-gone c (program_of r) code is other)
-      ∙ ap (λ l. record r { resources = stored_gone l r.resources }) (heard-none r.resources.purging))
-      (λ k grow is. (refl, refl)) tells,
+      (λ a is. (asked-leaves a r.memory code is, refl))
+      (λ a is. (
+        found-leaves a (managers_of r) code is,
+        ap (stored_gone (heard r.resources.purging (purges.gone_for a (managers_of r))))
+            (laws.served-refused a (managers_of r) code is).1,
+      ))
+      (λ c is. (
+        λ other.
+            ap (λ (p : Program). storing r.resources.purging (jump_purges.gone_for c (program_of r)) (kept p))
+            (jumping.served-refused c (program_of r) code is other)
+            ∙ ap (λ l. storing r.resources.purging l r) (refused-gone c (program_of r) code is other)
+            ∙ ap (λ l. record r { resources = stored_gone l r.resources }) (heard-none r.resources.purging),
+        fetched c (jumped-stops c (program_of r) code is),
+      ))
+      (λ k grow is. let no : Done ≡ Refused code = is in cc) tells,
   once-names blocks l.call r,
 )
   where
     kept : Program → Running
     kept p = record r { memory = p.managers.memory; resources = p.managers.resources; table = p.table }
+
+    same : (n : Option ℤ) → kept (fetched_by n (program_of r)) ≡ with_segment n r
+    same None = refl
+    same (Some n) = refl
+
+    fetched : (c : SegmentCall) → Fetches (program_of r) (jumps.served c (program_of r)).after (jumps.served c (program_of r)).reads
+        → (n : Option ℤ)
+        × (jumped_after c r ≡ storing r.resources.purging (jump_purges.gone_for c (program_of r)) (with_segment n r))
+    fetched c left = (
+      left.0,
+      ap (λ (p : Program). storing r.resources.purging
+          (jump_purges.gone_for c (program_of r)) (kept p)) left.1
+          ∙ ap (storing r.resources.purging (jump_purges.gone_for c (program_of r))) (same left.0),
+    )
+
+-- and costs at most one block of master pointers
+pub once-costs : (blocks : Blocks) (l : Line) (r : Running) (bytes : ℕ → List ℕ) → Sound r.memory bytes
+    → RefusedCosts bytes (event_of l r (once blocks l.call r))
+once-costs blocks l r bytes sound code = of-try
+    (λ d told reads after. told ≡ Refused code → reads ≡ []
+    → CostsAtMostMasters r.memory.heap.zone after.memory.heap.zone) blocks l.call r
+    (λ a is none. served_costs a r.memory code is)
+    (λ a is none. found-costs a (managers_of r) code is)
+    (λ c is none. jumped-costs c (program_of r) code is none)
+    (λ k grow is none. same-costs r.memory.heap.zone)
 
 -- a call of the heap's table only stores what it purges
 pub once-keeps-resources : (blocks : Blocks) (l : Line) (r : Running) (bytes : ℕ → List ℕ) → Sound r.memory bytes

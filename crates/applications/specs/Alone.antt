@@ -2,7 +2,7 @@ use Rattle.std.specs.Prelude.{ℕ, ◌+◌, ◌||◌, Bool, false, Option, Some,
 use Rattle.std.specs.Prelude.{if◌then◌else◌}
 use Rattle.mac_words.specs.declared.code.OsErr.{OsErr}
 use Rattle.mac_words.specs.declared.code.TheConstants.OsErr.{SYSTEM_ERROR}
-use Rattle.block_store.specs.Block.{Block}
+use Rattle.heap_calls.specs.State.{State}
 use Rattle.script_text.specs.Script.{ScriptParts}
 use Rattle.script_text.specs.Transcript.{launch_line, end_line}
 use Rattle.res_calls.specs.Files.{File, Resources}
@@ -93,10 +93,10 @@ alone resources size script n quit = record {
       files_after (ending resources size script n quit) (first_steps resources size script n).after;
 }
 
--- The zone of that application, as its end left the zone where it ended.
-abbrev pub zone_alone : Resources → ℕ → ScriptParts → ℕ → Bool → List Block
-zone_alone resources size script n quit =
-    (left_after (nat_lt (length script.steps) n || quit) (first_steps resources size script n)).memory.heap.zone
+-- The heap of that application, as its end left the heap where it ended.
+abbrev pub heap_alone : Resources → ℕ → ScriptParts → ℕ → Bool → State
+heap_alone resources size script n quit =
+    (left_after (nat_lt (length script.steps) n || quit) (first_steps resources size script n)).memory.heap
 
 -- What an application leaves that takes all its steps, and the step past the last line, which is a quit.
 abbrev pub to_its_end : Resources → ℕ → ScriptParts → Alone
@@ -107,7 +107,7 @@ to_its_end resources size script = alone resources size script (length script.st
 abbrev pub script_alone : ℕ → ScriptParts → Alone
 script_alone size script = to_its_end own_resources size script
 
--- The zone of that application, as its end left the zone.
+-- The heap of that application, as its end left the heap.
 -- See decision 101 (a script ends with its quit).
-abbrev pub script_zone : ℕ → ScriptParts → List Block
-script_zone size script = zone_alone own_resources size script (length script.steps + 1) false
+abbrev pub script_heap : ℕ → ScriptParts → State
+script_heap size script = heap_alone own_resources size script (length script.steps + 1) false

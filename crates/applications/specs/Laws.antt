@@ -1,18 +1,19 @@
-use Rattle.std.specs.Prelude.{◌≡◌, ◌≢◌, ◌≤◌, ◌⊎◌, ℕ, Bool, true, false, ◌&&◌, Option, Some, None, List, [], ◌∷◌, length}
+use Rattle.std.specs.Prelude.{◌≡◌, ◌≢◌, ◌≤◌, ◌⊎◌, ℕ, ℤ, Bool, true, false, ◌&&◌, Option, Some, None, List, [], ◌∷◌, length}
 use Rattle.std.specs.Prelude.{◌+◌}
 use Rattle.mac_words.specs.declared.code.OsErr.{OsErr}
 use Rattle.mac_words.specs.declared.code.TheConstants.OsErr.{SYSTEM_ERROR}
 use Rattle.block_store.specs.Block.{Block, is_relocatable}
 use Rattle.block_store.specs.Run.{has}
 use Rattle.block_store.specs.Rest.{counted}
-use Rattle.heap_calls.specs.State.{State}
+use Rattle.heap_calls.specs.State.{State, Memory}
 use Rattle.mac_words.specs.Told.{Told, Bytes, Refused}
 use Rattle.heap_calls.specs.Asked.{Show, ShowPtr}
 use Rattle.heap_calls.specs.LastPut.{Holds, put_by}
 use Rattle.heap_calls.specs.Locked.{locked_place, releases}
 use Rattle.heap_calls.specs.Standing.{pointer_place, disposes}
 use Rattle.heap_calls.specs.Emptying.{has_purgeable, takes_block}
-use Rattle.heap_calls.specs.Refused.{refused_zone}
+use Rattle.heap_calls.specs.Refused.{refused_zone, code_left}
+use Rattle.heap_calls.specs.Staying.{CostsAtMostMasters}
 use Rattle.heap_calls.specs.Busy.{idle}
 use Rattle.heap_calls.specs.GoneBy.{gone_in}
 use Rattle.script_text.specs.declared.script.Line.{Line}
@@ -26,8 +27,11 @@ use Rattle.res_calls.specs.Files.{Resources}
 use Rattle.res_calls.specs.Gone.{gone_for}
 use Rattle.res_calls.specs.Purging.{heard, stored_gone}
 use Rattle.res_calls.specs.Refused.{left_refused}
+use Rattle.res_calls.specs.Own.{fetch_own}
 use Rattle.segments.specs.Asked.{unlocks}
-use Rattle.applications.specs.Trying.{Running, Blocks, managers_of, read_at_launch, nowhere}
+use Rattle.segments.specs.Calls.{code_type}
+use Rattle.segments.specs.Gone.{gone_for as segment_gone}
+use Rattle.applications.specs.Trying.{Running, Blocks, managers_of, program_of, read_at_launch, nowhere, storing}
 use Rattle.applications.specs.Step.{Deed, Ask, Find, Jump, Steer, deed_of, Event, Shown, LineEnd, step, step_by_rule}
 
 -- What holds of each try of a run, the refused tries and the tries of a grow-zone script's lines too.
@@ -190,27 +194,56 @@ SearchesFew bytes e =
     opens e.deed ≡ false → (n : ℕ) × (n ≤ length e.before.memory.heap.zone + 1)
     × (e.after.memory.log.searches ≡ counted e.before.memory.log.searches n)
 
--- What a refused try leaves. A call of the heap's table leaves the heap as it was, except the zone, which is as a
--- refused call leaves it. A call of the Resource Manager leaves its code, and may leave a master pointer block that was
--- made for a new handle; where WritePartialResource or SetResourceSize is refused with -188 (resourceInMemory) the stored
--- data is changed all the same (`left_refused`). What either purged is stored while SetResPurge is on. A call on a segment
--- leaves everything as it was, unless a system error ends the application.
+-- What a refused try leaves of the memory: a heap with this zone, this code for MemError, and all else as it was, except
+-- for what is counted: the searches for room, and the blocks that packing moved down.
+abbrev pub LeavesMemory : List Block → OsErr → Memory → Memory → Type 0
+LeavesMemory zone code before after = after ≡ record before {
+  heap = record before.heap { zone = zone };
+  log = record before.log { code = code; searches = after.log.searches };
+  moves = after.moves;
+}
+
+-- The application as the fetch of a segment's resource leaves it; as it was where no resource is fetched.
+abbrev pub with_segment : Option ℤ → Running → Running
+with_segment None r = r
+with_segment (Some n) r = record r {
+  memory = (fetch_own code_type n (managers_of r)).after.memory;
+  resources = (fetch_own code_type n (managers_of r)).after.resources;
+}
+
+-- What a refused try leaves. A call of the heap's table leaves the memory as it was, except the zone, which is as a
+-- refused call leaves it, and the code of the refusal. A call of the Resource Manager sets its own code and leaves that of
+-- MemError, and may leave a master pointer block that was made for a new handle; where WritePartialResource or
+-- SetResourceSize is refused with -188 (resourceInMemory) the stored data is changed all the same (`left_refused`). What
+-- either purged is stored while SetResPurge is on. A call on a segment leaves everything as it was, unless system error 15
+-- refuses it: then everything is as the fetch of the segment's resource left it, if there was a fetch. A call that steers
+-- the application is never refused.
 abbrev pub Kept : Deed → OsErr → Running → Running → Type 0
 Kept (Ask asked) code r after =
-    (after.memory.heap ≡ record r.memory.heap { zone = refused_zone asked r.memory })
+    LeavesMemory (refused_zone asked r.memory) (code_left asked code r.memory.log.code) r.memory after.memory
     × (after.resources ≡ stored_gone (heard r.resources.purging (gone_in asked r.memory)) r.resources)
 Kept (Find asked) code r after =
-    ((after.memory.heap ≡ r.memory.heap)
-    ⊎ (after.memory.heap ≡ record r.memory.heap { zone = slotted_zone nothing r.memory.heap }))
+    ((LeavesMemory r.memory.heap.zone r.memory.log.code r.memory after.memory)
+    ⊎ (LeavesMemory (slotted_zone nothing r.memory.heap) r.memory.log.code r.memory after.memory))
     × (after.resources ≡ stored_gone (heard r.resources.purging (gone_for asked (managers_of r)))
     (record (left_refused asked code (managers_of r)) { error = code }))
-Kept (Jump call) code r after = code ≢ SYSTEM_ERROR → after ≡ r
-Kept (Steer control) code r after = (after.memory.heap ≡ r.memory.heap) × (after.resources ≡ r.resources)
+Kept (Jump call) code r after =
+    (code ≢ SYSTEM_ERROR → after ≡ r)
+    × ((n : Option ℤ)
+    × (after ≡ storing r.resources.purging (segment_gone call (program_of r)) (with_segment n r)))
+Kept (Steer control) code r after = ⊥
 
 -- A refused try leaves exactly that, and leaves each name bound as it was.
 abbrev pub RefusedLeaves : (ℕ → List ℕ) → Event → Type 0
 RefusedLeaves bytes e =
     (code : OsErr) → e.told ≡ Refused code → Kept e.deed code e.before e.after × (e.after.names ≡ e.before.names)
+
+-- A refused try costs nothing of the bytes that are free or may be purged, or one master pointer block, which it made.
+-- Only a call on a segment that is refused although its resource was read costs more; the application ends with it.
+abbrev pub RefusedCosts : (ℕ → List ℕ) → Event → Type 0
+RefusedCosts bytes e =
+    (code : OsErr) → e.told ≡ Refused code → e.reads ≡ []
+    → CostsAtMostMasters e.before.memory.heap.zone e.after.memory.heap.zone
 
 -- What a call of the heap's table does to the resources: it stores what was changed of the blocks that it purges, while
 -- SetResPurge is on, and changes nothing else. A call that steers the application changes nothing of them.

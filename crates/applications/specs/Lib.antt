@@ -1,6 +1,8 @@
 pub mod Names
 pub mod Trying
 pub mod Step
+pub mod Reports
+pub mod Stopping
 pub mod Application
 pub mod Alone
 pub mod Elsewhere

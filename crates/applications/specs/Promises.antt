@@ -5,7 +5,7 @@ use Rattle.res_calls.specs.Files.{Resources}
 use Rattle.applications.specs.Trying.{launched_with, nowhere}
 use Rattle.applications.specs.Alone.{first_steps}
 use Rattle.applications.specs.Laws.{put_at_launch, EachTry, Linked, ShowsPut, HoldsPut, KeepsLocked, KeepsNonrelocatable}
-use Rattle.applications.specs.Laws.{PurgesOnlyPurgeable, SearchesFew, RefusedLeaves, RefusedBinds, GoesByRule}
+use Rattle.applications.specs.Laws.{PurgesOnlyPurgeable, SearchesFew, RefusedLeaves, RefusedCosts, RefusedBinds, GoesByRule}
 use Rattle.applications.specs.Laws.{NothingBusy}
 use Rattle.applications.specs.Laws.{KeepsResources, KeepsFiles, KeepsTable, LockedStay, NonrelocatableStay}
 
@@ -42,9 +42,13 @@ pub record KeepsPromises (given : Resources) (size : ℕ) (script : ScriptParts)
   -- The number of searches for room in a try, other than one of OpenResFile, is at most one more than the number of
   -- blocks at the start of the try.
   pub searches : EachTry SearchesFew (put_at_launch given size) (first_steps given size script n).events
-  -- A refused try leaves the heap, the resources and the names' bindings as they were, except for the zone where the
-  -- tables say so, for what is stored of the blocks that it purged, and for the code that ResError returns. A segment that can't be loaded ends the application instead.
+  -- A refused try leaves the memory, the resources and the names' bindings as they were, except for the zone where the
+  -- tables say so, for what is stored of the blocks that it purged, for what is counted, and for the code that MemError or
+  -- ResError returns. A segment that can't be loaded leaves what the fetch of its resource leaves.
   pub refused : EachTry RefusedLeaves (put_at_launch given size) (first_steps given size script n).events
+  -- A refused try, fetches and calls on segments included, leaves as many bytes that are free or may be purged as before
+  -- it, or fewer by the bytes of one master pointer block that it made.
+  pub costs : EachTry RefusedCosts (put_at_launch given size) (first_steps given size script n).events
   -- A call of the Memory Manager only stores what it purges, while SetResPurge is on; else it leaves the resources as they
   -- are.
   pub resources : EachTry KeepsResources (put_at_launch given size) (first_steps given size script n).events

@@ -2,7 +2,7 @@
 
 ghost use Rattle.std.specs.Prelude.{◌≡◌, map, IfOk, IfErr};
 ghost use Rattle.block_store.specs.Block.{fresh, sizes};
-ghost use Rattle.heap_calls.specs.Stored.{IsNamed};
+ghost use Rattle.heap_calls.specs.Stored.{IsStored};
 ghost use Rattle.res_calls.specs.View.{view_file};
 ghost use Rattle.applications.specs.Trying.{launched, launched_with};
 
@@ -109,7 +109,7 @@ impl<'s, S: BlockStore> Application<'s, S> {
     /// Releases the application, and returns its store as it is, and its files, in order.
     pub fn into_parts(self) -> (S, Vec<File>)
         ensures files { map view_file result.1.items ≡ self.entry.resources.files }
-        ensures zone { IsNamed (S.zone result.0) self.entry.memory.heap.zone }
+        ensures stored { IsStored (S.zone result.0) (S.rest result.0).slots self.entry.memory.heap }
         ensures window { (S.rest result.0).window ≡ self.entry.memory.window }
     {
         let Application {

@@ -1,13 +1,16 @@
 //! The transcript and the files of an application that runs alone.
 
-ghost use Rattle.std.specs.Prelude.{◌≡◌, ◌%◌, ◌≤◌, ◌++◌, ◌||◌, map, take, length, nat_lt, IfOk, OnOk};
+ghost use Rattle.std.specs.Prelude.{◌≡◌, ◌%◌, ◌≤◌, ◌++◌, ◌||◌, ℕ, map, take, length, nat_lt, IfOk, IfErr, OnOk, OnErr};
+ghost use Rattle.std.specs.Io.KnownBytes.{append_known};
 ghost use Rattle.block_store.specs.Block.{fresh, sizes};
 ghost use Rattle.block_store.specs.declared.measures.TheConstants.{GREATEST_ZONE, LEAST_ZONE};
-ghost use Rattle.heap_calls.specs.Stored.{IsNamed};
+ghost use Rattle.heap_calls.specs.Stored.{IsStored};
 ghost use Rattle.res_calls.specs.View.{view_file};
 ghost use Rattle.applications.specs.Step.{course_of};
 ghost use Rattle.applications.specs.Application.{lines_told};
-ghost use Rattle.applications.specs.Alone.{alone, zone_alone, ending_of, left_after, end_told};
+ghost use Rattle.applications.specs.Alone.{alone, heap_alone, ending_of, left_after, end_told};
+ghost use Rattle.applications.specs.Reports.{reports};
+ghost use Rattle.applications.specs.Stopping.{steps_taken, steps_alone};
 ghost use Rattle.applications.specs.Replies.{end_if, left_if};
 
 use crate::application::Application;
@@ -91,7 +94,7 @@ impl<'s, S: BlockStore> Application<'s, S> {
 
     /// Takes the lines of a script in order, and ends the application where a call ends it or a quit is asked for.
     /// Appends the lines of the transcript, and the line of the end, to `text`, and reports the number of steps done to
-    /// the watch.
+    /// the watch. Where the host is out of memory, the reports are those of the steps that were completed.
     #[tactic(auto, using(crate::proofs::Quits::gives_so))]
     fn give<W: Watch>(
         &mut self,
@@ -105,6 +108,10 @@ impl<'s, S: BlockStore> Application<'s, S> {
             ≡ text.old.items ++ lines_told (course_of script.now.blocks lines.now self.old).lines
             ++ end_told (ending_of asked (course_of script.now.blocks lines.now self.old))) }
         ensures after { OnOk result (self.new ≡ left_after asked (course_of script.now.blocks lines.now self.old)) }
+        ensures heard { OnOk result (W.heard watch.new ≡ append_known (W.heard watch.old)
+            (reports (steps_taken script.now.blocks lines.now self.old) (length lines.now))) }
+        ensures stopped { OnErr result ((k : ℕ) × (k ≤ steps_taken script.now.blocks lines.now self.old)
+            × (W.heard watch.new ≡ append_known (W.heard watch.old) (reports k (length lines.now)))) }
         ensures lies { self.new.memory.window ≡ self.old.memory.window }
     {
         let exit = self.run(script, lines, text, watch)?;
@@ -116,11 +123,12 @@ impl<'s, S: BlockStore> Application<'s, S> {
 /// the store of a fresh zone, which is its partition. The transcript has the line of the launch, the lines of each
 /// call, and the line of the end where the application ends. The application ends where a call ends it; the application
 /// quits after its last step, where `steps` passes that step, and where `quit` asks for a quit. The store is returned
-/// in its place, with the zone as the application left it. The number of steps done is reported to the watch.
+/// in its place, with the heap as the application left it. The number of steps done is reported to the watch.
 ///
 /// # Errors
 ///
-/// Returns an error where the host is out of memory; the store is returned all the same.
+/// Returns an error where the host is out of memory; the store is returned all the same, and the reports are those of the
+/// steps that were completed.
 pub fn give_in<S: BlockStore, W: Watch>(
     alloc: Global,
     store: S,
@@ -135,8 +143,14 @@ pub fn give_in<S: BlockStore, W: Watch>(
     requires all { (S.rest store).all ≡ 64 }
     requires moves { (S.rest store).moves ≡ 0 }
     ensures given { IfOk result.0 (λ given. given ≡ alone resources (sizes (S.zone store)) script.now steps quit) }
-    ensures zone { IfOk result.0 (λ _. IsNamed (S.zone result.1)
-        (zone_alone resources (sizes (S.zone store)) script.now steps quit)) }
+    ensures stored { IfOk result.0 (λ _. IsStored (S.zone result.1) (S.rest result.1).slots
+        (heap_alone resources (sizes (S.zone store)) script.now steps quit)) }
+    ensures heard { IfOk result.0 (λ _. W.heard watch.new ≡ append_known (W.heard watch.old)
+        (reports (steps_alone resources (sizes (S.zone store)) script.now steps) (length (take steps script.now.steps)))) }
+    ensures stopped { IfErr result.0 (λ _. (k : ℕ)
+        × (k ≤ steps_alone resources (sizes (S.zone store)) script.now steps)
+        × (W.heard watch.new
+        ≡ append_known (W.heard watch.old) (reports k (length (take steps script.now.steps))))) }
     ensures window { (S.rest result.1).window ≡ (S.rest store).window }
 {
     let mut transcript = Vec::new(alloc);

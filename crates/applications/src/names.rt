@@ -1,6 +1,6 @@
 //! The names of a script.
 
-ghost use Rattle.std.specs.Prelude.{◌≡◌, [], map, IfOk, OnOk};
+ghost use Rattle.std.specs.Prelude.{◌≡◌, [], map, IfOk, OnOk, OnErr};
 ghost use Rattle.applications.specs.Names.{Bindings, bound_to, bind, binding, lent_binding};
 
 use crate::keyed::Keyed;
@@ -93,9 +93,11 @@ impl Names {
         listed(alloc, &self.bound)
     }
 
-    /// Binds a name to a number, in place of the number that the name was bound to before.
+    /// Binds a name to a number, in place of the number that the name was bound to before. Where the host is out of
+    /// memory, the names are bound as they were.
     pub fn bind(&mut self, name: &Label, number: usize) -> Result<(), AllocError>
-        ensures { OnOk result (self.new ≡ bind name.now.0.items number self.old) }
+        ensures bound { OnOk result (self.new ≡ bind name.now.0.items number self.old) }
+        ensures kept { OnErr result (self.new ≡ self.old) }
     {
         self.bound.insert(copy_of(name), number)?;
         Ok(())

@@ -1,7 +1,8 @@
 //! A step of an application: a call is tried, and tried again as long as the grow-zone script makes room.
 
-ghost use Rattle.std.specs.Prelude.{◌≡◌, ◌++◌, ◌+◌, ◌≤◌, [], length, false, true, None, IfOk, IsOk, OnOk, OnErr, is_some};
+ghost use Rattle.std.specs.Prelude.{◌≡◌, ◌++◌, ◌+◌, ◌≤◌, ℕ, [], length, false, true, None, IfOk, IsOk, OnOk, OnErr, is_some};
 ghost use Rattle.std.specs.Prelude.{nat_lt, vec_len};
+ghost use Rattle.std.specs.Io.KnownBytes.{append_known};
 ghost use Rattle.std.specs.Vec.{vec_capacity};
 ghost use Rattle.heap_calls.specs.Staying.{ease};
 ghost use Rattle.script_text.specs.Call.{word_of};
@@ -11,8 +12,11 @@ ghost use Rattle.script_text.specs.Transcript.{call_at, reply_line, values_of};
 ghost use Rattle.applications.specs.Trying.{once};
 ghost use Rattle.applications.specs.Step.{marked, marked_for, grown, grown_for, kept_anew, names_given, round, step};
 ghost use Rattle.applications.specs.Step.{course_of, turn};
+ghost use Rattle.applications.specs.Step as steps;
 ghost use Rattle.applications.specs.Application.{bytes_told, lines_told};
 ghost use Rattle.applications.specs.Replies.{Came, CameRound, exit_of, Extends, goes_on};
+ghost use Rattle.applications.specs.Reports.{reports};
+ghost use Rattle.applications.specs.Stopping.{steps_taken, StopsAfter};
 
 use crate::application::Application;
 use crate::naming::{named, named_resource};
@@ -334,7 +338,8 @@ impl<'s, S: BlockStore> Application<'s, S> {
     }
 
     /// Takes steps in order, to the last line or to the end of the application, and reports the number of steps done to
-    /// the watch. Returns how the application ends, or `None` where it goes on.
+    /// the watch. Returns how the application ends, or `None` where it goes on. Where the host is out of memory, the
+    /// transcript, the files and the reports are those of the steps that were completed, and nothing of another.
     pub fn run<W: Watch>(
         &mut self,
         script: &'s Script,
@@ -345,12 +350,19 @@ impl<'s, S: BlockStore> Application<'s, S> {
         ensures ends { IfOk result (λ exit. exit ≡ exit_of (course_of script.now.blocks lines.now self.old)) }
         ensures came { OnOk result (Came (course_of script.now.blocks lines.now self.old) text.old.items text.new.items
             self.new) }
+        ensures heard { OnOk result (W.heard watch.new ≡ append_known (W.heard watch.old)
+            (reports (steps_taken script.now.blocks lines.now self.old) (length lines.now))) }
+
+        // Where the host is out of memory, the text, the files and the reports are those of the first `k` steps.
+        ensures stopped { OnErr result ((k : ℕ) × StopsAfter k script.now.blocks lines.now self.old self.new
+            text.old.items text.new.items
+            × (W.heard watch.new ≡ append_known (W.heard watch.old) (reports k (length lines.now)))) }
         ensures lies { self.new.memory.window ≡ self.old.memory.window }
     {
         let mut done: usize = 0;
         for line in lines {
             let exit = self.step(script, line, text)?;
-            done = done.saturating_add(1);
+            done += 1;
             tell(watch, done, lines.len());
             if exit.is_some() {
                 return Ok(exit);
@@ -360,7 +372,8 @@ impl<'s, S: BlockStore> Application<'s, S> {
     }
 
     /// Takes a turn: the steps up to and including the next `WaitNextEvent`, or to the last line, as `up_to_wait`
-    /// selects them. Returns how the application ends with the turn, or `None` where it goes on.
+    /// selects them. Returns how the application ends with the turn, or `None` where it goes on. Where the host is out
+    /// of memory, the transcript and the files are those of the steps that were completed, and nothing of another.
     ///
     /// *Inside Macintosh: Processes*, chapter 1, "Scheduling of Processes".
     pub fn turn(
@@ -372,6 +385,8 @@ impl<'s, S: BlockStore> Application<'s, S> {
         ensures ends { IfOk result (λ exit. exit ≡ exit_of (turn script.now.blocks lines.now self.old)) }
         ensures came { OnOk result (Came (turn script.now.blocks lines.now self.old) text.old.items text.new.items
             self.new) }
+        ensures stopped { OnErr result ((k : ℕ) × StopsAfter k script.now.blocks (steps.up_to_wait lines.now) self.old
+            self.new text.old.items text.new.items) }
         ensures lies { self.new.memory.window ≡ self.old.memory.window }
     {
         self.run(script, up_to_wait(lines), text, &mut Unwatched)

@@ -11,12 +11,14 @@ pub record Site : Type 0 where
   pub window : Window
 
 -- The state of a store beside its blocks: the state of each number as a master pointer, the number of unused master
--- pointers and of all master pointers, the number of times that a block was moved down, and where the store lies.
+-- pointers and of all master pointers, the number of times that a block was moved down, the number of placings (a run was
+-- raised, or a relocatable block was hoisted, moved to a free block, or made), and where the store lies.
 pub record Rest : Type 0 where
   pub slots : ℕ → Slot
   pub unused : ℕ
   pub all : ℕ
   pub moves : ℕ
+  pub placed : ℕ
   pub window : Site
 
 -- The state of a store beside its blocks is as expected.
@@ -25,6 +27,7 @@ pub record IsRest (expected : Rest) (found : Rest) : Type 0 where
   pub unused : found.unused ≡ expected.unused
   pub all : found.all ≡ expected.all
   pub moves : found.moves ≡ expected.moves
+  pub placed : found.placed ≡ expected.placed
   pub window : found.window ≡ expected.window
 
 -- The state with one master pointer in another state, and another number of unused master pointers.
@@ -39,6 +42,10 @@ counted n more = n + min more (18446744073709551615 - n)
 abbrev pub with_moves : ℕ → Rest → Rest
 with_moves n r = record r { moves = counted r.moves n }
 
+-- The state after n placings more.
+abbrev pub with_placed : ℕ → Rest → Rest
+with_placed n r = record r { placed = counted r.placed n }
+
 -- The number of relocatable blocks of a run that have free bytes below them: the blocks that compaction of the run
 -- moves.
 abbrev pub lowered_in_run : List Block → ℕ
@@ -50,4 +57,4 @@ lowered_in_run (Relocatable id flags content ∷ run) = lowered_in_run run
 
 -- The master pointers, their numbers, and where the store lies are as they were.
 abbrev pub KeepsSlots : Rest → Rest → Type 0
-KeepsSlots old new = IsRest (record old { moves = new.moves }) new
+KeepsSlots old new = IsRest (record old { moves = new.moves; placed = new.placed }) new

@@ -40,6 +40,7 @@ pub struct ListStore {
     alloc: Global,
     bytes: u32,
     moves: u64,
+    placings: u64,
     blocks: Vec<StoredBlock>,
     slots: Vec<SlotEntry>,
     ghost covered: { sizes (blocks_of blocks.items) ≡ bytes },
@@ -68,6 +69,7 @@ impl ListStore {
         ensures unused { IfOk result (λ s. (⟦<ListStore as BlockStore>⟧.rest s).unused ≡ SLOTS_A_BLOCK) }
         ensures all { IfOk result (λ s. (⟦<ListStore as BlockStore>⟧.rest s).all ≡ SLOTS_A_BLOCK) }
         ensures moves { IfOk result (λ s. (⟦<ListStore as BlockStore>⟧.rest s).moves ≡ 0) }
+        ensures placed { IfOk result (λ s. (⟦<ListStore as BlockStore>⟧.rest s).placed ≡ 0) }
         ensures window { IfOk result (λ s. (⟦<ListStore as BlockStore>⟧.rest s).window
             ≡ record { home = null_ptr; window = record { at = 0; len = len } }) }
     {
@@ -79,6 +81,7 @@ impl ListStore {
             alloc,
             bytes: len,
             moves: 0,
+            placings: 0,
             blocks,
             slots,
         })
@@ -103,6 +106,7 @@ impl BlockStore for ListStore {
       unused = count_by is_unused s.slots.items;
       all = length s.slots.items;
       moves = s.moves;
+      placed = s.placings;
       window = record { home = null_ptr; window = record { at = 0; len = s.bytes } };
     } };
 
@@ -116,6 +120,10 @@ impl BlockStore for ListStore {
 
     fn moves(&self) -> u64 {
         self.moves
+    }
+
+    fn placings(&self) -> u64 {
+        self.placings
     }
 
     fn block_at(&self, place: u32) -> Option<Seen> {
@@ -202,17 +210,20 @@ impl BlockStore for ListStore {
 
     fn raise(&mut self, run: u32, bytes: u32) -> Result<(), AllocError> {
         raise_run(&mut self.blocks, run, bytes)?;
+        self.placings = self.placings.saturating_add(1);
         Ok(())
     }
 
     fn hoist(&mut self, run: u32, number: u32) {
         hoist_slot(&mut self.blocks, run, number);
+        self.placings = self.placings.saturating_add(1);
     }
 
     fn carve(&mut self, place: u32, number: u32, size: u32) -> Result<(), AllocError> {
         let content = zeros(self.alloc, size as usize)?;
         let new = StoredBlock::Relocatable(number, Flags::NONE, content);
         fill(&mut self.blocks, place, new)?;
+        self.placings = self.placings.saturating_add(1);
         Ok(())
     }
 
@@ -246,7 +257,9 @@ impl BlockStore for ListStore {
     }
 
     fn move_to(&mut self, place: u32, number: u32, bytes: u32) -> Result<(), AllocError> {
-        move_slot(self.alloc, &mut self.blocks, place, number, bytes as usize)
+        move_slot(self.alloc, &mut self.blocks, place, number, bytes as usize)?;
+        self.placings = self.placings.saturating_add(1);
+        Ok(())
     }
 
     fn take_slot(&mut self) -> Option<u32> {

@@ -54,7 +54,7 @@ impl ZoneMaker for ListZones {
 
     ghost made = { λ z w site. site.window.len ≡ w.len };
 
-    ghost left = { λ z w blocks. Unit {0} };
+    ghost left = { λ z w blocks slots. Unit {0} };
 
     ghost byte = { λ z place. None };
 

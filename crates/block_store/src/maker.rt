@@ -8,7 +8,7 @@ ghost use Rattle.windows.specs.declared.list.TheConstants.{MOST_WINDOWS};
 ghost use Rattle.windows.specs.Outside.{IsOutside};
 ghost use Rattle.windows.specs.Windows.{IsApart, Misses, with_window, without_window};
 ghost use Rattle.block_store.specs.Block.{Block, fresh};
-ghost use Rattle.block_store.specs.Slot.{is_used};
+ghost use Rattle.block_store.specs.Slot.{Slot, is_used};
 ghost use Rattle.block_store.specs.Rest.{Site};
 ghost use Rattle.block_store.specs.declared.measures.TheConstants.{GREATEST_ZONE, LEAST_ZONE, SLOTS_A_BLOCK, UNIT};
 
@@ -33,8 +33,9 @@ pub trait ZoneMaker {
     /// A store that lies at this site has its zone in this window of this memory.
     ghost made: { Self → Window → Site → Type 0 };
 
-    /// The bytes in a window are those of a zone of these blocks. Where the memory has no bytes, this says nothing.
-    ghost left: { Self → Window → List Block → Type 0 };
+    /// The bytes in a window are those of a zone of these blocks and these master pointers. Where the memory has no
+    /// bytes, this says nothing.
+    ghost left: { Self → Window → List Block → (ℕ → Slot) → Type 0 };
 
     /// The byte at a place of the memory, where the place is in no open window; none where the memory has no bytes.
     ghost byte: { Self → ℕ → Option ℕ };
@@ -56,16 +57,15 @@ pub trait ZoneMaker {
         ensures unused { IfOk result (λ s. (Self.Store.rest s).unused ≡ SLOTS_A_BLOCK) }
         ensures all { IfOk result (λ s. (Self.Store.rest s).all ≡ SLOTS_A_BLOCK) }
         ensures moves { IfOk result (λ s. (Self.Store.rest s).moves ≡ 0) }
+        ensures placed { IfOk result (λ s. (Self.Store.rest s).placed ≡ 0) }
         ensures made { IfOk result (λ s. made self.new window (Self.Store.rest s).window) }
         ensures opened { OnOk result (windows self.new ≡ with_window window.at window.len (windows self.old)) }
-        ensures err { OnErr result (windows self.new ≡ windows self.old) }
+        ensures err { OnErr result (self.new ≡ self.old) }
         ensures host { IsErr result → IsTrue Self.Store.TAKES_HOST }
         ensures memory { memory self.new ≡ memory self.old }
         ensures kept { (w : Window) (site : Site) → made self.old w site → made self.new w site }
-        ensures left { (w : Window) (blocks : List Block) →
-            Misses w window → left self.old w blocks → left self.new w blocks }
-        ensures same { IsErr result →
-            (w : Window) (blocks : List Block) → left self.old w blocks → left self.new w blocks }
+        ensures left { (w : Window) (blocks : List Block) (slots : ℕ → Slot) →
+            Misses w window → left self.old w blocks slots → left self.new w blocks slots }
         ensures outside { (place : ℕ) → IsOutside place window → byte self.new place ≡ byte self.old place };
 
     /// Closes the zone of a window. The bytes of the zone stay as they are until a window that meets them is opened.
@@ -75,9 +75,9 @@ pub trait ZoneMaker {
         ensures closed { windows self.new ≡ without_window window.at window.len (windows self.old) }
         ensures memory { memory self.new ≡ memory self.old }
         ensures kept { (w : Window) (site : Site) → made self.old w site → made self.new w site }
-        ensures lies { left self.new window (Self.Store.zone store) }
-        ensures left { (w : Window) (blocks : List Block) →
-            Misses w window → left self.old w blocks → left self.new w blocks }
+        ensures lies { left self.new window (Self.Store.zone store) (Self.Store.rest store).slots }
+        ensures left { (w : Window) (blocks : List Block) (slots : ℕ → Slot) →
+            Misses w window → left self.old w blocks slots → left self.new w blocks slots }
         ensures outside { (place : ℕ) → IsOutside place window → byte self.new place ≡ byte self.old place };
 
     /// A memory has at most 2^27 bytes.

@@ -18,7 +18,7 @@ ghost use Rattle.block_store.specs.Compact.{largest_free, largest_run, next_run,
 ghost use Rattle.block_store.specs.Slot.{Unused, Used, is_used, is_resource};
 ghost use Rattle.block_store.specs.Sparing.{purged, opened, spared, most_purges};
 ghost use Rattle.block_store.specs.declared.sparing.Sparing.TheVariants.{Nothing};
-ghost use Rattle.block_store.specs.Rest.{Rest, IsRest, with_slot, with_moves, lowered_in_run};
+ghost use Rattle.block_store.specs.Rest.{Rest, IsRest, with_slot, with_moves, with_placed, lowered_in_run};
 ghost use Rattle.block_store.specs.declared.measures.TheConstants.{GREATEST_ZONE, SLOTS_A_BLOCK};
 ghost use Rattle.block_store.specs.Seen.{seen, with_flags, moved_away};
 
@@ -42,7 +42,7 @@ pub trait BlockStore {
     /// The blocks from bottom to top; a relocatable block is named by its slot, a nonrelocatable block by its place.
     ghost zone: { Self → List Block };
 
-    /// The master pointers, the count of moves, and the window in which the store lies.
+    /// The master pointers, the counts of moves and of placings, and the window in which the store lies.
     ghost rest: { Self → Rest };
 
     /// Returns the size of the zone in bytes.
@@ -64,6 +64,11 @@ pub trait BlockStore {
     /// Returns the number of times that `settle` moved a block down; the count stays at the greatest value of its type.
     fn moves(&self) -> u64
         ensures { result ≡ (rest self.now).moves };
+
+    /// Returns the number of placings: how often a run was raised, or a relocatable block hoisted, moved to a free
+    /// block, or made. `settle` is none of these. The count stays at the greatest value of its type.
+    fn placings(&self) -> u64
+        ensures { result ≡ (rest self.now).placed };
 
     /// Returns the block that begins at a place; `None` at the zone's end.
     fn block_at(&self, place: u32) -> Option<Seen>
@@ -172,8 +177,9 @@ pub trait BlockStore {
         requires some { 0 < bytes }
         ensures ok { OnOk result
             (IfSome (run_at run (zone self.old)) (λ r. zone self.new ≡ tidy (with_run (low (Free bytes)) r))) }
-        ensures rest { IsRest (rest self.old) (rest self.new) }
+        ensures rest { OnOk result (IsRest (with_placed 1 (rest self.old)) (rest self.new)) }
         ensures err { OnErr result (zone self.new ≡ zone self.old) }
+        ensures same { OnErr result (IsRest (rest self.old) (rest self.new)) }
         ensures host { IsErr result → IsTrue TAKES_HOST };
 
     /// Moves the block of a master pointer to the top of its run.
@@ -181,7 +187,7 @@ pub trait BlockStore {
         requires { IsSomeAnd (run_at run (zone self.old)) (λ r. IsTrue (has (is_relocatable number) r.run)) }
         ensures zone { IfSome (run_at run (zone self.old)) (λ r.
             zone self.new ≡ tidy (with_run (high (is_relocatable number)) r)) }
-        ensures rest { IsRest (rest self.old) (rest self.new) };
+        ensures rest { IsRest (with_placed 1 (rest self.old)) (rest self.new) };
 
     /// Puts a new relocatable block of `size` bytes 0 at the lower end of the free block at a place.
     fn carve(&mut self, place: u32, number: u32, size: u32) -> Result<(), AllocError>
@@ -190,8 +196,9 @@ pub trait BlockStore {
         requires no_block { has (is_relocatable number) (zone self.old) ≡ false }
         ensures ok { OnOk result (IfSome (spot_at place (zone self.old)) (λ s.
             zone self.new ≡ filled (Relocatable number no_flags (replicate size 0)) s)) }
-        ensures rest { IsRest (rest self.old) (rest self.new) }
+        ensures rest { OnOk result (IsRest (with_placed 1 (rest self.old)) (rest self.new)) }
         ensures err { OnErr result (zone self.new ≡ zone self.old) }
+        ensures same { OnErr result (IsRest (rest self.old) (rest self.new)) }
         ensures host { IsErr result → IsTrue TAKES_HOST };
 
     /// Puts a new nonrelocatable block of `size` bytes 0 at the lower end of the free block at a place.
@@ -215,6 +222,7 @@ pub trait BlockStore {
         ensures slots { OnOk result
             ((k : ℕ) → IsTrue (is_used ((rest self.old).slots k)) → (rest self.new).slots k ≡ (rest self.old).slots k) }
         ensures moves { (rest self.new).moves ≡ (rest self.old).moves }
+        ensures placed { (rest self.new).placed ≡ (rest self.old).placed }
         ensures window { (rest self.new).window ≡ (rest self.old).window }
         ensures err { OnErr result (zone self.new ≡ zone self.old) }
         ensures same { OnErr result (IsRest (rest self.old) (rest self.new)) }
@@ -254,8 +262,9 @@ pub trait BlockStore {
         ensures ok { OnOk result (IfSome (spot_at place (zone self.old)) (λ s.
             IfSome (spot (is_relocatable number) (zone self.old)) (λ from.
             zone self.new ≡ filled (resized bytes from.here) (moved_away (is_relocatable number) s)))) }
-        ensures rest { IsRest (rest self.old) (rest self.new) }
+        ensures rest { OnOk result (IsRest (with_placed 1 (rest self.old)) (rest self.new)) }
         ensures err { OnErr result (zone self.new ≡ zone self.old) }
+        ensures same { OnErr result (IsRest (rest self.old) (rest self.new)) }
         ensures host { IsErr result → IsTrue TAKES_HOST };
 
     /// Sets the flags of the block at a place, where the block is relocatable.

@@ -1,5 +1,5 @@
 -- Accesses that are made one after the other, and what stops them.
-use Rattle.std.proofs.Common.{◌≡◌, ◌++◌, ℕ, List, [], Option, Some, None, Result, Ok, Err, IfErr, refl, sym, ap, subst}
+use Rattle.std.proofs.Common.{◌≡◌, ◌∷◌, ◌++◌, ℕ, List, [], Option, Some, None, Result, Ok, Err, IfErr, inl, inr, refl, sym, ap, subst}
 use Rattle.std.proofs.Common.{append_assoc, append-nil}
 use Rattle.script_text.specs.declared.fault.FaultKind.{FaultKind}
 use Rattle.script_text.specs.declared.fault.FaultKind.TheVariants as kinds
@@ -8,7 +8,12 @@ use Rattle.script_text.specs.Script.{Spelled}
 use Rattle.commands.specs.Fault.{Message, Usage, CannotRead, Script, Fork, CannotWrite, HostMemory, NotLaunched, message_of}
 use Rattle.commands.specs.declared.fault.ToolFault.{ToolFault}
 use Rattle.commands.specs.Tasks.{script_message}
-use Rattle.commands.specs.Accesses.{Access, and_then}
+use Rattle.commands.specs.declared.host.WriteError.{WriteError}
+use Rattle.commands.specs.declared.host.WriteError.TheVariants as write_error
+use Rattle.fork_commands.specs.declared.fault.FileFault.{FileFault}
+use Rattle.commands.specs.Fault.{write_message}
+use Rattle.commands.specs.Tasks.{IsForkFault}
+use Rattle.commands.specs.Accesses.{Access, Failed, and_then, RefusesWrite, IsUnread, IsUnwritten, Stops, Ends}
 use Rattle.commands.specs.Gathering.{IsStop, IsGiven, script_told, given_then}
 
 pub none : (a : Option (List Access)) → a ≡ and_then a []
@@ -33,6 +38,78 @@ script_stop path read line kinds.NotAllowed message fails is =
 script_stop path read line kinds.LongLine message fails is =
     subst (λ m. IsStop (script_told path read) m) (sym is) (ap (script_told path) fails)
 
+-- the host refused to write to a path, as the fault says; or there was no memory to report it
+pub unwritten_so : (path : List ℕ) (error : WriteError) (old new : Option (List Access)) (message : Message)
+    → RefusesWrite path error old new → message ≡ write_message path error → IsUnwritten path old new message
+unwritten_so path write_error.CannotWrite old new message fails is =
+    subst (λ m. IsUnwritten path old new m) (sym is) (refl, fails)
+unwritten_so path write_error.HostMemory old new message fails is =
+    subst (λ m. IsUnwritten path old new m) (sym is) (inl fails)
+
+pub unreported : (path : List ℕ) (error : WriteError) (old new : Option (List Access)) → RefusesWrite path error old new
+    → IsUnwritten path old new HostMemory
+unreported path write_error.CannotWrite old new fails = inr fails
+unreported path write_error.HostMemory old new fails = inl fails
+
+-- the path that a fault names
+abbrev named_in : Message → List ℕ
+named_in (CannotRead path) = path
+named_in message = []
+
+-- a file that was not read stops the reading
+pub unread_stops : (path : List ℕ) (old new : Option (List Access)) (message : Message) → IsUnread path old new message
+    → Stops old new message
+unread_stops path old new HostMemory unread = unread
+unread_stops path old new (CannotRead named) unread =
+    subst (λ p. new ≡ and_then old (Failed p ∷ [])) (sym (ap named_in unread.0)) unread.1
+unread_stops path old new (Usage text) unread = absurd (let no : Usage text ≡ CannotRead path = unread.0 in cc)
+unread_stops path old new (Script named line kind) unread =
+    absurd (let no : Script named line kind ≡ CannotRead path = unread.0 in cc)
+unread_stops path old new (Fork named fault) unread = absurd (let no : Fork named fault ≡ CannotRead path = unread.0 in cc)
+unread_stops path old new (CannotWrite named) unread =
+    absurd (let no : CannotWrite named ≡ CannotRead path = unread.0 in cc)
+unread_stops path old new (NotLaunched named app) unread =
+    absurd (let no : NotLaunched named app ≡ CannotRead path = unread.0 in cc)
+
+pub unread_given : (A : Type 0) (path : List ℕ) (old new : Option (List Access)) (message : Message)
+    → IsUnread path old new message → IsStop {Y = A} (Err (CannotRead path)) message
+unread_given A path old new HostMemory unread = tt
+unread_given A path old new (CannotRead named) unread = ap Err (sym unread.0)
+unread_given A path old new (Usage text) unread = ap Err (sym unread.0)
+unread_given A path old new (Script named line kind) unread = ap Err (sym unread.0)
+unread_given A path old new (Fork named fault) unread = ap Err (sym unread.0)
+unread_given A path old new (CannotWrite named) unread = ap Err (sym unread.0)
+unread_given A path old new (NotLaunched named app) unread = ap Err (sym unread.0)
+
+-- the fault of a file's bytes, and of a script, comes after all that was read
+pub fork_ends : {A : Type 0} (path : List ℕ) (made : Result A FileFault) (mid new : Option (List Access))
+    (message : Message) → IsForkFault path made message → new ≡ mid → Stops mid new message
+fork_ends path made mid new HostMemory fault same = same
+fork_ends path made mid new (Fork named why) fault same = same
+fork_ends path made mid new (Usage text) fault same = same
+fork_ends path made mid new (CannotRead named) fault same = absurd fault
+fork_ends path made mid new (Script named line kind) fault same = same
+fork_ends path made mid new (CannotWrite named) fault same = same
+fork_ends path made mid new (NotLaunched named app) fault same = same
+
+pub script_ends : (path : List ℕ) (line : ℕ) (kind : FaultKind) (mid new : Option (List Access)) (message : Message)
+    → message ≡ script_message path line kind → new ≡ mid → Stops mid new message
+script_ends path line kinds.HostMemory mid new message is same = subst (λ m. Stops mid new m) (sym is) same
+script_ends path line kinds.UnknownCall mid new message is same = subst (λ m. Stops mid new m) (sym is) same
+script_ends path line kinds.BadArgument mid new message is same = subst (λ m. Stops mid new m) (sym is) same
+script_ends path line kinds.NotAllowed mid new message is same = subst (λ m. Stops mid new m) (sym is) same
+script_ends path line kinds.LongLine mid new message is same = subst (λ m. Stops mid new m) (sym is) same
+
+-- a fault that is passed on ends the reading
+pub ends_err : {X : Type 0} (mid new : Option (List Access)) (result : Result X ToolFault) (fault : ToolFault)
+    → result ≡ Err fault → Stops mid new (message_of fault) → Ends mid new result
+ends_err mid new result fault is stops = subst (λ r. Ends mid new r) (sym is) stops
+
+-- it does so after all that was read before
+pub stops_from : (mid all new : Option (List Access)) (message : Message) → mid ≡ all → Stops mid new message
+    → Stops all new message
+stops_from mid all new message same stops = subst (λ m. Stops m new message) same stops
+
 -- what stops the first stops what follows
 pub stop_then : {A B : Type 0} (r : Result A Message) (next : A → Result B Message) (message : Message) → IsStop r message
     → IsStop (given_then r next) message
@@ -50,7 +127,7 @@ pub stop_given : {X Y : Type 0} (view : X → Y) (given : Result Y Message) (res
 stop_given view given result fault is stops = subst (λ r. IsGiven view given r) (sym is) stops
 
 -- what is known of a fault that is passed on
-pub told_err : {X : Type 0} (P : ToolFault → Type 0) (result : Result X ToolFault) (fault : ToolFault)
+pub told_err : {X E : Type 0} (P : E → Type 0) (result : Result X E) (fault : E)
     → result ≡ Err fault → P fault → IfErr result P
 told_err P result fault is h = subst (λ r. IfErr r P) (sym is) h
 

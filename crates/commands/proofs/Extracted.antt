@@ -6,23 +6,23 @@ use Rattle.fork_commands.specs.declared.extracting.ResourceFile.{ResourceFile}
 use Rattle.fork_commands.specs.Extracting.{ToWrite, extracted}
 use Rattle.fork_commands.specs.View.{view_file}
 use Rattle.commands.specs.declared.extracting.Extraction.{Extraction}
-use Rattle.commands.specs.Accesses.{Access, Read, Folder, Fails, WritesFront, StopsAmong, and_then, path_of, IsReported}
+use Rattle.commands.specs.Accesses.{Access, Read, Folder, Fails, RefusesFile, StopsAmong, and_then}
 use Rattle.commands.specs.Extracting.{write_in, writes_in, Extracts, IsUnextracted, Faulty, Unwritten}
-use Rattle.commands.specs.Fault.{Message, CannotWrite}
+use Rattle.commands.specs.Fault.{Message, HostMemory, write_message}
 use Rattle.commands.specs.Tasks.{IsForkFault}
-use Rattle.commands.proofs.Accesses.{none, one_more}
+use Rattle.commands.specs.declared.host.WriteError.{WriteError}
+use Rattle.commands.proofs.Accesses.{none, one_more, unwritten_so, unreported}
 use Rattle.commands.proofs.Writes.{Made, further, begun}
 
 -- the first of these accesses failed
 pub stops_first : (next : Access) (rest : List Access) (old new : Option (List Access)) (message : Message)
-    → Fails next old new → IsReported (CannotWrite (path_of next)) message → StopsAmong (next ∷ rest) old new message
-stops_first next rest old new message fails fault = record {
+    → Fails next old new message → StopsAmong (next ∷ rest) old new message
+stops_first next rest old new message fails = record {
   first = [];
   next = next;
   rest = rest;
   split = refl;
-  fails = subst (λ a. Fails next a new) (none old) fails;
-  fault = fault;
+  fails = subst (λ a. Fails next a new message) (none old) fails;
 }
 
 -- one of those that come next failed
@@ -35,9 +35,8 @@ stopped_among all left xs rest old mid new message come so s = record {
   split = so.split ∙ ap (λ l. so.first ++ l) come ∙ ap (λ l. so.first ++ (l ++ rest)) s.split
       ∙ ap (λ l. so.first ++ l) (append_assoc s.first (s.next ∷ s.rest) rest)
       ∙ sym (append_assoc so.first s.first (s.next ∷ s.rest ++ rest));
-  fails = subst (λ a. Fails s.next a new)
+  fails = subst (λ a. Fails s.next a new message)
       (ap (λ a. and_then a s.first) so.made ∙ one_more old so.first s.first) s.fails;
-  fault = s.fault;
 }
 
 -- the folder was not made
@@ -98,11 +97,19 @@ extracts e bytes read files sent old then new is same all made written = (
       (subst (λ a. new ≡ and_then a (writes_in e.out.now sent)) is written),
 )
 
--- a file was not written to its end
-pub not_written : (file : ToWrite) (p b q : List ℕ) (old new : Option (List Access)) (message : Message)
-    → WritesFront p b old new → p ≡ file.path → b ≡ file.bytes → q ≡ file.path → IsReported (CannotWrite q) message
+-- a file was not written to its end, and that is the fault; or there was no memory to report it
+pub not_written : (file : ToWrite) (p b : List ℕ) (error : WriteError) (old new : Option (List Access)) (message : Message)
+    → RefusesFile p b error old new → p ≡ file.path → b ≡ file.bytes → message ≡ write_message file.path error
     → StopsAmong (write_in file ∷ []) old new message
-not_written file p b q old new message front same equal named fault =
+not_written file p b error old new message fails same equal is =
+    let so : RefusesFile file.path file.bytes error old new =
+    subst (λ x. RefusesFile file.path x error old new) equal (subst (λ x. RefusesFile x b error old new) same fails) in
     stops_first (write_in file) [] old new message
-    (subst (λ x. WritesFront file.path x old new) equal (subst (λ x. WritesFront x b old new) same front))
-    (subst (λ x. IsReported (CannotWrite x) message) named fault)
+    (so.0, so.1, unwritten_so file.path error so.0 new message so.2 is)
+
+pub not_reported : (file : ToWrite) (p b : List ℕ) (error : WriteError) (old new : Option (List Access))
+    → RefusesFile p b error old new → p ≡ file.path → b ≡ file.bytes → StopsAmong (write_in file ∷ []) old new HostMemory
+not_reported file p b error old new fails same equal =
+    let so : RefusesFile file.path file.bytes error old new =
+    subst (λ x. RefusesFile file.path x error old new) equal (subst (λ x. RefusesFile x b error old new) same fails) in
+    stops_first (write_in file) [] old new HostMemory (so.0, so.1, unreported file.path error so.0 new so.2)

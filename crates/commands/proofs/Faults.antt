@@ -4,7 +4,7 @@ use Rattle.fork_commands.specs.declared.fault.WorkFault.{WorkFault}
 use Rattle.fork_commands.specs.declared.fault.WorkFault.TheVariants.{File, HostMemory as NoMemory}
 use Rattle.fork_commands.specs.Faults.{Stops}
 use Rattle.commands.specs.Fault.{Message, Usage, CannotRead, Script, Fork, CannotWrite, HostMemory, NotLaunched}
-use Rattle.commands.specs.Accesses.{IsReported}
+use Rattle.commands.specs.Accesses.{Access, IsUnwritten}
 use Rattle.commands.specs.Tasks.{fork_message, IsForkFault, IsQuiet}
 
 -- What a fault says stays so as it is passed on.
@@ -16,14 +16,17 @@ fork_stopped path NoMemory wanted message stops is = subst (λ m. IsForkFault pa
 fork_stopped path (File fault) wanted message stops is = subst (λ m. IsForkFault path wanted m) (sym is) (refl, stops)
 
 -- nothing is said of what was printed where something can't be written
-pub loud_write : (path : List ℕ) (p q : Option (List ℕ)) (message : Message) → IsReported (CannotWrite path) message → IsQuiet p q message
-loud_write path p q HostMemory is = tt
-loud_write path p q (CannotWrite named) is = tt
-loud_write path p q (Fork named fault) is = absurd (let no : Fork named fault ≡ CannotWrite path = is in cc)
-loud_write path p q (Usage text) is = absurd (let no : Usage text ≡ CannotWrite path = is in cc)
-loud_write path p q (CannotRead named) is = absurd (let no : CannotRead named ≡ CannotWrite path = is in cc)
-loud_write path p q (Script named line kind) is = absurd (let no : Script named line kind ≡ CannotWrite path = is in cc)
-loud_write path p q (NotLaunched named app) is = absurd (let no : NotLaunched named app ≡ CannotWrite path = is in cc)
+pub loud_write : (path : List ℕ) (p q : Option (List ℕ)) (old new : Option (List Access)) (message : Message)
+    → IsUnwritten path old new message → IsQuiet p q message
+loud_write path p q old new HostMemory is = tt
+loud_write path p q old new (CannotWrite named) is = tt
+loud_write path p q old new (Fork named fault) is = absurd (let no : Fork named fault ≡ CannotWrite path = is.0 in cc)
+loud_write path p q old new (Usage text) is = absurd (let no : Usage text ≡ CannotWrite path = is.0 in cc)
+loud_write path p q old new (CannotRead named) is = absurd (let no : CannotRead named ≡ CannotWrite path = is.0 in cc)
+loud_write path p q old new (Script named line kind) is =
+    absurd (let no : Script named line kind ≡ CannotWrite path = is.0 in cc)
+loud_write path p q old new (NotLaunched named app) is =
+    absurd (let no : NotLaunched named app ≡ CannotWrite path = is.0 in cc)
 
 -- nothing was printed
 pub quiet_silent : (p q : Option (List ℕ)) (message : Message) → q ≡ p → IsQuiet p q message

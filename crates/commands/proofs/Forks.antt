@@ -1,15 +1,16 @@
 -- Forks that were read for the lines of a job.
-use Rattle.std.proofs.Common.{◌≡◌, ◌∷◌, ◌∙◌, ℕ, List, [], Option, Ok, Err, sym, ap, subst}
+use Rattle.std.proofs.Common.{◌≡◌, ◌∷◌, ◌∙◌, ℕ, List, [], Option, Result, Ok, Err, IfErr, sym, ap, subst}
 use Rattle.script_text.specs.Script.{Spelled}
 use Rattle.fork_wrappers.specs.declared.wrapping.Wrapping.TheVariants.{Plain}
 use Rattle.fork_wrappers.specs.Unwrapped.{wrapping_of}
 use Rattle.fork_wrappers.specs.Unwrapped as wrappers
 use Rattle.fork_commands.specs.Reading.{fork_in, fork_found}
-use Rattle.commands.specs.Fault.{Message, Usage, CannotRead, Script, Fork, CannotWrite, HostMemory, NotLaunched}
-use Rattle.commands.specs.Accesses.{Access}
-use Rattle.commands.specs.Gathering.{fork_told, fork_at, script_at, app_of, app_at, GivenApp, IsStop, Reads}
+use Rattle.commands.specs.Fault.{Message, Usage, CannotRead, Script, Fork, CannotWrite, HostMemory, NotLaunched, message_of}
+use Rattle.commands.specs.declared.fault.ToolFault.{ToolFault}
+use Rattle.commands.specs.Accesses.{Access, Stops, IsUnread, and_then, reads_at}
+use Rattle.commands.specs.Gathering.{fork_told, fork_at, script_at, app_of, app_at, GivenApp, IsStop, Reads, IsGiven}
 use Rattle.commands.specs.Tasks.{IsForkFault}
-use Rattle.commands.proofs.Accesses.{stop_then}
+use Rattle.commands.proofs.Accesses.{none, stop_then, ends_err, stops_from, unread_given, unread_stops}
 
 -- bytes in no wrapper are the fork
 pub plain_fork : (bytes : List ℕ) → Plain ≡ wrapping_of bytes → fork_in bytes ≡ Ok bytes
@@ -32,6 +33,27 @@ fork_stop path file (Script named line kind) is = absurd is
 fork_stop path file (CannotWrite named) is = absurd is
 fork_stop path file (NotLaunched named app) is = absurd is
 
+-- the fork's file, and the script's, can't be read
+pub fork_unread : {X : Type 0} (path : List ℕ) (old new : Option (List Access)) (result : Result X ToolFault)
+    (fault : ToolFault) → result ≡ Err fault → IsUnread path old new (message_of fault)
+    → IfErr result (λ f. Reads (path ∷ []) old new result (λ texts. IsStop (fork_at path texts) (message_of f)))
+fork_unread path old new result fault is unread =
+    subst (λ r. IfErr r (λ f. Reads (path ∷ []) old new r (λ texts. IsStop (fork_at path texts) (message_of f)))) (sym is) (
+      [],
+      stops_from old (and_then old []) new (message_of fault) (none old) (unread_stops path old new (message_of fault) unread),
+      unread_given _ path old new (message_of fault) unread,
+    )
+
+pub script_unread : {X : Type 0} (view : X → Spelled) (path : List ℕ) (old new : Option (List Access))
+    (result : Result X ToolFault) (fault : ToolFault) → result ≡ Err fault → IsUnread path old new (message_of fault)
+    → Reads (path ∷ []) old new result (λ texts. IsGiven view (script_at path texts) result)
+script_unread view path old new result fault is unread =
+    subst (λ r. Reads (path ∷ []) old new r (λ texts. IsGiven view (script_at path texts) r)) (sym is) (
+      [],
+      stops_from old (and_then old []) new (message_of fault) (none old) (unread_stops path old new (message_of fault) unread),
+      unread_given _ path old new (message_of fault) unread,
+    )
+
 -- an application's script stops it, after its fork
 pub app_stop : (name fork script file bytes : List ℕ) (texts : List (List ℕ)) (message : Message) → fork_in file ≡ Ok bytes
     → IsStop (script_at script texts) message → IsStop (app_at name fork script (file ∷ texts)) message
@@ -48,12 +70,13 @@ app_there name fork script file bytes texts spelled app found reads is =
     ∙ ap (λ r. app_of name (Ok bytes) r) reads ∙ is
 
 -- an application's fork stops it
-pub app_unread : (name fork script : List ℕ) (old new : Option (List Access)) (message : Message)
-    → Reads (fork ∷ []) old new (λ texts. IsStop (fork_at fork texts) message)
-    → Reads (fork ∷ script ∷ []) old new (λ texts. IsStop (app_at name fork script texts) message)
-app_unread name fork script old new message ([], reads, stops) =
+pub app_unread : (name fork script : List ℕ) (old new : Option (List Access)) (message : Message) (texts : List (List ℕ))
+    → Stops (and_then old (reads_at (fork ∷ []) texts)) new message → IsStop (fork_at fork texts) message
+    → (read : List (List ℕ)) × Stops (and_then old (reads_at (fork ∷ script ∷ []) read)) new message
+    × IsStop (app_at name fork script read) message
+app_unread name fork script old new message [] reads stops =
     ([], reads, stop_then (fork_at fork []) (λ bytes. app_of name (Ok bytes) (script_at script [])) message stops)
-app_unread name fork script old new message (file ∷ texts, reads, stops) = (
+app_unread name fork script old new message (file ∷ texts) reads stops = (
   file ∷ [],
   reads,
   stop_then (fork_at fork (file ∷ [])) (λ bytes. app_of name (Ok bytes) (script_at script [])) message stops,

@@ -4,10 +4,10 @@ use Rattle.std.proofs.Common.{append_assoc, append-nil}
 use Rattle.script_text.specs.Job.{Input}
 use Rattle.commands.specs.declared.fault.ToolFault.{ToolFault}
 use Rattle.commands.specs.Fault.{message_of}
-use Rattle.commands.specs.Accesses.{Access, and_then, reads_at}
+use Rattle.commands.specs.Accesses.{Access, and_then, reads_at, Stops}
 use Rattle.commands.specs.Gathering.{Given, nothing_given, with_input, with_inputs, given_then, paths_of, reads_of, ReadsOf}
 use Rattle.commands.specs.Gathering.{IsStop, IsGiven}
-use Rattle.commands.proofs.Accesses.{none, one_more, stop_then, stop_given}
+use Rattle.commands.proofs.Accesses.{none, one_more, ends_err, stops_from, stop_then, stop_given}
 
 -- Of these lines all but the rest are gathered: with the texts so far, the whole is what the rest gives.
 pub record Come (inputs rest : List Input) (old new : Option (List Access)) (given : Given) : Type 0 where
@@ -38,19 +38,23 @@ further inputs rest i old mid new given next t come read is = record {
 
 pub stopped : {X : Type 0} (view : X → Given) (inputs rest : List Input) (i : Input) (old mid new : Option (List Access))
     (given : Given) (t : List (List ℕ)) (result : Result X ToolFault) (fault : ToolFault)
-    → Come inputs (i ∷ rest) old mid given → new ≡ and_then mid (reads_at (paths_of i) t) → result ≡ Err fault
+    → Come inputs (i ∷ rest) old mid given → Stops (and_then mid (reads_at (paths_of i) t)) new (message_of fault)
+    → result ≡ Err fault
     → IsStop (with_input given i t) (message_of fault)
-    → ReadsOf inputs old new (λ texts. IsGiven view (with_inputs nothing_given inputs texts) result)
+    → ReadsOf inputs old new result (λ texts. IsGiven view (with_inputs nothing_given inputs texts) result)
 stopped view inputs rest i old mid new given t result fault come read is stops = (
   come.texts ++ t ∷ [],
-  read ∙ ap (λ xs. and_then mid xs) (sym (append-nil (reads_at (paths_of i) t))) ∙ come.reads (t ∷ []),
+  ends_err (and_then old (reads_of inputs (come.texts ++ t ∷ []))) new result fault is
+      (stops_from _ _ new (message_of fault)
+      (ap (λ xs. and_then mid xs) (sym (append-nil (reads_at (paths_of i) t))) ∙ come.reads (t ∷ [])) read),
   stop_given view (with_inputs nothing_given inputs (come.texts ++ t ∷ [])) result fault is
       (subst (λ r. IsStop r (message_of fault)) (sym (come.gives (t ∷ [])))
       (stop_then (with_input given i t) (λ g. with_inputs g rest []) (message_of fault) stops)),
 )
 
 pub ended : (inputs : List Input) (old new : Option (List Access)) (given : Given) → Come inputs [] old new given
-    → ReadsOf inputs old new (λ texts. with_inputs nothing_given inputs texts ≡ Ok given)
+    → (texts : List (List (List ℕ))) × (new ≡ and_then old (reads_of inputs texts))
+    × (with_inputs nothing_given inputs texts ≡ Ok given)
 ended inputs old new given come = (
   come.texts,
   none new ∙ come.reads [] ∙ ap (λ ts. and_then old (reads_of inputs ts)) (append-nil come.texts),

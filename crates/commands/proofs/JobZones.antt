@@ -20,14 +20,15 @@ use Rattle.desk.specs.Whole.{Law, OfEachApp, start_with}
 use Rattle.desk.proofs.Givens.{has_started}
 use Rattle.commands.specs.declared.delivering.Target.TheVariants.{Printed}
 use Rattle.commands.specs.declared.job_zones.JobZone.{JobZone}
-use Rattle.commands.specs.Accesses.{Access, Read, and_then}
+use Rattle.commands.specs.Accesses.{Access, Read, and_then, Stops}
 use Rattle.commands.specs.Delivering.{Delivers, IsUndelivered}
 use Rattle.commands.specs.Fault.{Message}
 use Rattle.commands.specs.Gathering.{nothing_given, with_inputs, reads_of, system_path, IsStop}
 use Rattle.commands.specs.Running.{Stated, Taken}
 use Rattle.commands.specs.JobZones.{number_of, launched_of, launched_at, launched_with, launched_as, IsShown, IsZoneLeft, IsJobZone}
 use Rattle.commands.specs.JobZones.{IsZoneFault, Sees, IsUnseen, Ungathered, NotThere, Shows, IsUnshown, Unprinted}
-use Rattle.commands.proofs.Jobs.{all_read}
+use Rattle.commands.proofs.Accesses.{stops_from}
+use Rattle.commands.proofs.Jobs.{both_read, all_read}
 
 -- an application that was launched had resources with which it was launched
 pub is_started : (P : Law) (system : Result Content OsErr) (apps : List App) (message : List AppResult) (i : ℕ) (app : App)
@@ -93,10 +94,10 @@ unlaunched_so name apps message i number none =
 -- the job's text was read, and then what its lines name
 pub ungathered_zone : (asked : JobZone) (stated : Stated) (texts : List (List (List ℕ))) (a b d : Option (List Access))
     (message : Message) → b ≡ and_then a (Read asked.job.now stated.text ∷ [])
-    → d ≡ and_then b (reads_of stated.lines.inputs texts)
+    → Stops (and_then b (reads_of stated.lines.inputs texts)) d message
     → IsStop (with_inputs nothing_given stated.lines.inputs texts) message → IsUnseen asked a d message
 ungathered_zone asked stated texts a b d message first second stops =
-    Ungathered stated texts (all_read asked.job.now stated texts a b d first second) stops
+    Ungathered stated texts (stops_from _ _ d message (both_read asked.job.now stated texts a b first) second) stops
 
 pub not_there : (asked : JobZone) (system : List ℕ) (t : Taken) (a b d : Option (List Access)) (message : Message)
     → system ≡ system_path t.stated.lines.inputs → b ≡ and_then a (Read asked.job.now t.stated.text ∷ [])

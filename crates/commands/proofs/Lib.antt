@@ -1,4 +1,5 @@
 mod Accesses
+mod Asked
 mod Digits
 mod Extracted
 pub mod Faults

@@ -14,8 +14,9 @@ use Rattle.commands.proofs.Faults.{loud_write}
 -- nothing is said of what was printed where bytes were not delivered
 pub quiet_undelivered : (target : Target) (bytes : List ℕ) (p mid q : Option (List ℕ)) (old new : Option (List Access))
     (message : Message) → IsUndelivered target bytes mid q old new message → IsQuiet p q message
-quiet_undelivered Printed bytes p mid q old new message h = loud_write _ p q message h.2
-quiet_undelivered (NewFile path) bytes p mid q old new message h = loud_write _ p q message h.2
+quiet_undelivered Printed bytes p mid q old new message h = loud_write _ p q old new message h.1
+quiet_undelivered (NewFile path) bytes p mid q old new message (same, (between, front, fault)) =
+    loud_write _ p q between new message fault
 
 -- nothing was made of the file's bytes
 pub unmade : (c : Conversion) (bytes read : List ℕ) (p q : Option (List ℕ)) (old new : Option (List Access)) (message : Message)

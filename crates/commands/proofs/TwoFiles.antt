@@ -7,12 +7,12 @@ use Rattle.fork_commands.specs.declared.pair.PairFault.TheVariants as pair_fault
 use Rattle.fork_commands.specs.Pairs.{combined, StopsPair}
 use Rattle.commands.specs.declared.combining.Combination.{Combination}
 use Rattle.commands.specs.declared.ending.Ending.{Ending}
-use Rattle.commands.specs.Accesses.{Access, Read, and_then, IsReported}
+use Rattle.commands.specs.Accesses.{Access, Read, and_then, IsUnread}
 use Rattle.commands.specs.Combining.{IsPairFault, pair_message, reads_both, Combines, IsUncombined}
 use Rattle.commands.specs.Combining.{SecondUnread, Unmade, Undelivered}
 use Rattle.commands.specs.Delivering.{Delivers, IsUndelivered}
 use Rattle.commands.specs.Ending.{ending_of}
-use Rattle.commands.specs.Fault.{Message, CannotRead}
+use Rattle.commands.specs.Fault.{Message}
 use Rattle.commands.proofs.Accesses.{one_more}
 
 -- the fault of the bytes is reported with the path of the file
@@ -34,10 +34,10 @@ both c first second old mid new one two =
 
 -- the second file can't be read
 pub second_unread : (c : Combination) (first : List ℕ) (p mid q : Option (List ℕ)) (old then new : Option (List Access))
-    (message : Message) → mid ≡ p → q ≡ mid → then ≡ and_then old (Read c.first.now first ∷ []) → new ≡ then
-    → IsReported (CannotRead c.second.now) message → IsUncombined c p q old new message
-second_unread c first p mid q old then new message silent quiet is stays fault =
-    SecondUnread first (quiet ∙ silent) (stays ∙ is) fault
+    (message : Message) → mid ≡ p → q ≡ mid → then ≡ and_then old (Read c.first.now first ∷ [])
+    → IsUnread c.second.now then new message → IsUncombined c p q old new message
+second_unread c first p mid q old then new message silent quiet is fault =
+    SecondUnread first (quiet ∙ silent) (subst (λ a. IsUnread c.second.now a new message) is fault)
 
 -- nothing was made of the bytes
 pub unmade : (c : Combination) (a b first second : List ℕ) (p q : Option (List ℕ)) (old new : Option (List Access))

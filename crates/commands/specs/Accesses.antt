@@ -1,13 +1,20 @@
-use Rattle.std.specs.Prelude.{◌≡◌, ◌⊎◌, ℕ, Option, Some, None, List, [], ◌∷◌, ◌++◌}
-use Rattle.commands.specs.Fault.{Message, CannotWrite, HostMemory}
+use Rattle.std.specs.Prelude.{◌≡◌, ◌⊎◌, ℕ, Option, Some, None, Result, Ok, Err, List, [], ◌∷◌, ◌++◌}
+use Rattle.commands.specs.declared.fault.ToolFault.{ToolFault}
+use Rattle.commands.specs.declared.host.ReadError.{ReadError}
+use Rattle.commands.specs.declared.host.ReadError.TheVariants as read_error
+use Rattle.commands.specs.declared.host.WriteError.{WriteError}
+use Rattle.commands.specs.declared.host.WriteError.TheVariants as write_error
+use Rattle.commands.specs.Fault.{Message, CannotRead, CannotWrite, HostMemory, message_of, write_message}
 
 -- The accesses of the program to its host's files.
 
--- An access: a file was read, a folder was made, or a file was written.
+-- An access: a file was read, a folder was made, a file was written, or the host refused a path: a file was not read, a
+-- folder was not made, or a file was not written to its end. The path `-` stands for the standard output.
 pub data Access : Type 0 where
   Read : (path : List ℕ) → (bytes : List ℕ) → Access
   Folder : (path : List ℕ) → Access
   Write : (path : List ℕ) → (bytes : List ℕ) → Access
+  Failed : (path : List ℕ) → Access
 
 -- The accesses so far with those that follow, if the former are known.
 abbrev pub and_then : Option (List Access) → List Access → Option (List Access)
@@ -20,36 +27,75 @@ reads_at [] texts = []
 reads_at (path ∷ paths) [] = []
 reads_at (path ∷ paths) (bytes ∷ texts) = Read path bytes ∷ reads_at paths texts
 
--- The fault is this one, unless the host is out of memory.
-abbrev pub IsReported : Message → Message → Type 0
-IsReported fault HostMemory = Unit {0}
-IsReported fault message = message ≡ fault
-
 -- Nothing of a file was written, or a front of its bytes.
 abbrev pub WritesFront : List ℕ → List ℕ → Option (List Access) → Option (List Access) → Type 0
 WritesFront path bytes old new =
     (new ≡ old)
     ⊎ ((front : List ℕ) × (rest : List ℕ) × (bytes ≡ front ++ rest) × (new ≡ and_then old (Write path front ∷ [])))
 
--- An access failed: a folder was not made, or a file was not written to its end.
-abbrev pub Fails : Access → Option (List Access) → Option (List Access) → Type 0
-Fails (Read path bytes) old new = new ≡ old
-Fails (Folder path) old new = new ≡ old
-Fails (Write path bytes) old new = WritesFront path bytes old new
+-- What a host does that fails: it refuses the path, or is out of memory and does nothing.
+abbrev pub RefusesRead : List ℕ → ReadError → Option (List Access) → Option (List Access) → Type 0
+RefusesRead path read_error.CannotRead old new = new ≡ and_then old (Failed path ∷ [])
+RefusesRead path read_error.HostMemory old new = new ≡ old
+
+abbrev pub RefusesWrite : List ℕ → WriteError → Option (List Access) → Option (List Access) → Type 0
+RefusesWrite path write_error.CannotWrite old new = new ≡ and_then old (Failed path ∷ [])
+RefusesWrite path write_error.HostMemory old new = new ≡ old
+
+-- A file of these bytes was not written to its end: a front of the bytes may have been written before.
+abbrev pub RefusesFile : List ℕ → List ℕ → WriteError → Option (List Access) → Option (List Access) → Type 0
+RefusesFile path bytes error old new =
+    (mid : Option (List Access)) × WritesFront path bytes old mid × RefusesWrite path error mid new
+
+-- A file was not read: the host refused its path, and that is the fault, or is out of memory.
+abbrev pub IsUnread : List ℕ → Option (List Access) → Option (List Access) → Message → Type 0
+IsUnread path old new HostMemory = new ≡ old
+IsUnread path old new message = (message ≡ CannotRead path) × (new ≡ and_then old (Failed path ∷ []))
+
+-- The host refused to write to a path, and that is the fault; or it is out of memory, which may be so as the fault is
+-- reported.
+abbrev pub IsUnwritten : List ℕ → Option (List Access) → Option (List Access) → Message → Type 0
+IsUnwritten path old new HostMemory = (new ≡ old) ⊎ (new ≡ and_then old (Failed path ∷ []))
+IsUnwritten path old new message = (message ≡ CannotWrite path) × (new ≡ and_then old (Failed path ∷ []))
+
+-- A file of these bytes was not written to its end, and that is the fault.
+abbrev pub IsPartWritten : List ℕ → List ℕ → Option (List Access) → Option (List Access) → Message → Type 0
+IsPartWritten path bytes old new message =
+    (mid : Option (List Access)) × WritesFront path bytes old mid × IsUnwritten path mid new message
+
+-- An access was not done to its end, and that is the fault.
+abbrev pub Fails : Access → Option (List Access) → Option (List Access) → Message → Type 0
+Fails (Read path bytes) old new message = IsUnread path old new message
+Fails (Folder path) old new message = IsUnwritten path old new message
+Fails (Write path bytes) old new message = IsPartWritten path bytes old new message
+Fails (Failed path) old new message = ⊥
+
+-- What stops the reading of several files: the host refused the path that the fault names, and is asked for nothing
+-- after it; where the fault is another, it refused nothing.
+abbrev pub Stops : Option (List Access) → Option (List Access) → Message → Type 0
+Stops mid new (CannotRead path) = new ≡ and_then mid (Failed path ∷ [])
+Stops mid new message = new ≡ mid
+
+-- Several files were read, or the reading stopped.
+abbrev pub Ends : {X : Type 0} → Option (List Access) → Option (List Access) → Result X ToolFault → Type 0
+Ends mid new (Ok x) = new ≡ mid
+Ends mid new (Err fault) = Stops mid new (message_of fault)
 
 -- The path of an access.
 abbrev pub path_of : Access → List ℕ
 path_of (Read path bytes) = path
 path_of (Folder path) = path
 path_of (Write path bytes) = path
+path_of (Failed path) = path
 
 -- Of these accesses the first were made, one failed, at this path, and none was made after it.
-pub record StopsAt (all : List Access) (old new : Option (List Access)) (path : List ℕ) : Type 0 where
+pub record StopsAt (all : List Access) (old new : Option (List Access)) (path : List ℕ) (error : WriteError)
+    : Type 0 where
   pub first : List Access
   pub next : Access
   pub rest : List Access
   pub split : all ≡ first ++ next ∷ rest
-  pub fails : Fails next (and_then old first) new
+  pub fails : Fails next (and_then old first) new (write_message path error)
   pub named : path ≡ path_of next
 
 -- Of these accesses the first were made, one failed, which is the fault, and none was made after it.
@@ -58,5 +104,4 @@ pub record StopsAmong (all : List Access) (old new : Option (List Access)) (mess
   pub next : Access
   pub rest : List Access
   pub split : all ≡ first ++ next ∷ rest
-  pub fails : Fails next (and_then old first) new
-  pub fault : IsReported (CannotWrite (path_of next)) message
+  pub fails : Fails next (and_then old first) new message

@@ -6,7 +6,7 @@ use Rattle.fork_commands.specs.declared.pair.PairFault.{PairFault}
 use Rattle.fork_commands.specs.declared.pair.PairFault.TheVariants as pair_fault
 use Rattle.fork_commands.specs.Pairs.{combined}
 use Rattle.commands.specs.declared.combining.Combination.{Combination}
-use Rattle.commands.specs.Accesses.{Access, Read, and_then, IsReported}
+use Rattle.commands.specs.Accesses.{Access, Read, and_then, IsUnread}
 use Rattle.commands.specs.declared.ending.Ending.{Ending}
 use Rattle.commands.specs.Delivering.{Delivers, IsUndelivered}
 use Rattle.commands.specs.Ending.{ending_of}
@@ -52,9 +52,9 @@ Combines c ending p q old new =
 -- A file can't be read, nothing is made of the bytes, or what was made of them was not delivered to its end.
 pub data IsUncombined
     (c : Combination) (p q : Option (List ℕ)) (old new : Option (List Access)) (message : Message) : Type 0 where
-  FirstUnread : q ≡ p → new ≡ old → IsReported (CannotRead c.first.now) message → IsUncombined c p q old new message
-  SecondUnread : (first : List ℕ) → q ≡ p → new ≡ and_then old (Read c.first.now first ∷ [])
-      → IsReported (CannotRead c.second.now) message → IsUncombined c p q old new message
+  FirstUnread : q ≡ p → IsUnread c.first.now old new message → IsUncombined c p q old new message
+  SecondUnread : (first : List ℕ) → q ≡ p
+      → IsUnread c.second.now (and_then old (Read c.first.now first ∷ [])) new message → IsUncombined c p q old new message
   Unmade : (first second : List ℕ) → q ≡ p → new ≡ and_then old (reads_both c first second)
       → IsPairFault c.first.now c.second.now (combined c.work first second) message → IsUncombined c p q old new message
   Undelivered : (first second out : List ℕ) (differs : Bool) → combined c.work first second ≡ Ok (out, differs)

@@ -1,9 +1,9 @@
 use Rattle.std.specs.Prelude.{◌≡◌, ℕ, Option, Ok, List, [], ◌∷◌}
 use Rattle.fork_commands.specs.Works.{made}
 use Rattle.commands.specs.declared.converting.Conversion.{Conversion}
-use Rattle.commands.specs.Accesses.{Access, Read, and_then, IsReported}
+use Rattle.commands.specs.Accesses.{Access, Read, and_then, IsUnread}
 use Rattle.commands.specs.Delivering.{Delivers, IsUndelivered}
-use Rattle.commands.specs.Fault.{Message, CannotRead}
+use Rattle.commands.specs.Fault.{Message}
 use Rattle.commands.specs.Tasks.{IsForkFault}
 
 -- A file is read, and what is made of its bytes is printed or written. `p` and `q` are the bytes that have been printed
@@ -19,7 +19,7 @@ Converts c p q old new =
 -- The file can't be read, nothing is made of its bytes, or what was made of them was not delivered to its end.
 pub data IsUnconverted
     (c : Conversion) (p q : Option (List ℕ)) (old new : Option (List Access)) (message : Message) : Type 0 where
-  Unread : q ≡ p → new ≡ old → IsReported (CannotRead c.path.now) message → IsUnconverted c p q old new message
+  Unread : q ≡ p → IsUnread c.path.now old new message → IsUnconverted c p q old new message
   Unmade : (bytes : List ℕ) → q ≡ p → new ≡ and_then old (Read c.path.now bytes ∷ [])
       → IsForkFault c.path.now (made c.work bytes) message → IsUnconverted c p q old new message
   Undelivered : (bytes out : List ℕ) → made c.work bytes ≡ Ok out

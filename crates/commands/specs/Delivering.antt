@@ -2,8 +2,8 @@ use Rattle.std.specs.Prelude.{◌≡◌, ℕ, Option, List, [], ◌∷◌, codes
 use Rattle.std.specs.Io.KnownBytes.{append_known}
 use Rattle.commands.specs.declared.delivering.Target.{Target}
 use Rattle.commands.specs.declared.delivering.Target.TheVariants.{Printed, NewFile}
-use Rattle.commands.specs.Accesses.{Access, Write, and_then, IsReported, WritesFront}
-use Rattle.commands.specs.Fault.{Message, CannotWrite}
+use Rattle.commands.specs.Accesses.{Access, Write, and_then, IsUnwritten, IsPartWritten}
+use Rattle.commands.specs.Fault.{Message}
 use Rattle.commands.specs.Printing.{PrintsFront}
 
 -- Where bytes go: to the standard output, or into a new file. `p` and `q` are the bytes that have been printed before and
@@ -18,6 +18,5 @@ Delivers (NewFile path) bytes p q old new = (q ≡ p) × (new ≡ and_then old (
 -- The bytes did not go there, or a front of them did; nothing else was printed or written.
 abbrev pub IsUndelivered
     : Target → List ℕ → Option (List ℕ) → Option (List ℕ) → Option (List Access) → Option (List Access) → Message → Type 0
-IsUndelivered Printed bytes p q old new message = PrintsFront bytes p q × (new ≡ old) × IsReported (CannotWrite (codes "-")) message
-IsUndelivered (NewFile path) bytes p q old new message =
-    (q ≡ p) × WritesFront path.now bytes old new × IsReported (CannotWrite path.now) message
+IsUndelivered Printed bytes p q old new message = PrintsFront bytes p q × IsUnwritten (codes "-") old new message
+IsUndelivered (NewFile path) bytes p q old new message = (q ≡ p) × IsPartWritten path.now bytes old new message

@@ -4,8 +4,9 @@ use Rattle.commands.specs.declared.ending.Ending.TheVariants.{Done}
 use Rattle.commands.specs.declared.tasks.Task.{Task}
 use Rattle.commands.specs.declared.request.Request.{Request}
 use Rattle.commands.specs.declared.request.Request.TheVariants.{Look, Run, Show, Convert, Combine, Extract}
-use Rattle.commands.specs.Fault.{Message, CannotRead, IsUsage}
-use Rattle.commands.specs.Accesses.{Access, Read, and_then, IsReported}
+use Rattle.commands.specs.Fault.{Message, IsUsage}
+use Rattle.commands.specs.Accesses.{Access, Read, and_then, IsUnread}
+use Rattle.commands.specs.Asking.{IsAskedBy}
 use Rattle.commands.specs.Tasks.{Prints, IsRefusal}
 use Rattle.commands.specs.Running.{Runs, IsStopped}
 use Rattle.commands.specs.JobZones.{Shows, IsUnshown}
@@ -23,32 +24,38 @@ Looks task p q old new =
 
 -- A task was not done, or not to its end: its file can't be read, the bytes are faulty, or printing failed.
 pub data IsUnseen (task : Task) (p q : Option (List ℕ)) (old new : Option (List Access)) (message : Message) : Type 0 where
-  Unread : q ≡ p → new ≡ old → IsReported (CannotRead task.path.now) message → IsUnseen task p q old new message
-  Refused : (bytes : List ℕ) → new ≡ and_then old (Read task.path.now bytes ∷ [])
-      → IsRefusal task.work task.path.now bytes p q message → IsUnseen task p q old new message
+  Unread : q ≡ p → IsUnread task.path.now old new message → IsUnseen task p q old new message
+  Refused : (bytes : List ℕ)
+      → IsRefusal task.work task.path.now bytes p q (and_then old (Read task.path.now bytes ∷ [])) new message → IsUnseen task p q old new message
+
+-- In what follows `h` and `k` are the reports that the watch has heard before and after; they are said of a job.
 
 -- What the request asks for was done: a task, a job was run to its end, the zone of one of its applications was printed, what was
 -- made of one file or of two was delivered, or the resources of a fork were written.
-abbrev pub IsDone
-    : Request → Ending → Option (List ℕ) → Option (List ℕ) → Option (List Access) → Option (List Access) → Type 0
-IsDone (Look task) ending p q old new = (ending ≡ Done) × Looks task p q old new
-IsDone (Run errand) ending p q old new = (ending ≡ Done) × (q ≡ p) × Runs errand.job.now errand.out.now old new
-IsDone (Show zone) ending p q old new = (ending ≡ Done) × Shows zone p q old new
-IsDone (Convert conversion) ending p q old new = (ending ≡ Done) × Converts conversion p q old new
-IsDone (Combine combination) ending p q old new = Combines combination ending p q old new
-IsDone (Extract extraction) ending p q old new = (ending ≡ Done) × (q ≡ p) × Extracts extraction old new
+abbrev pub IsDone : Request → Ending → Option (List ℕ) → Option (List ℕ) → Option (List ℕ) → Option (List ℕ)
+    → Option (List Access) → Option (List Access) → Type 0
+IsDone (Look task) ending h k p q old new = (ending ≡ Done) × Looks task p q old new
+IsDone (Run errand) ending h k p q old new =
+    (ending ≡ Done) × (q ≡ p) × Runs errand.job.now errand.out.now errand.watched h k old new
+IsDone (Show zone) ending h k p q old new = (ending ≡ Done) × Shows zone p q old new
+IsDone (Convert conversion) ending h k p q old new = (ending ≡ Done) × Converts conversion p q old new
+IsDone (Combine combination) ending h k p q old new = Combines combination ending p q old new
+IsDone (Extract extraction) ending h k p q old new = (ending ≡ Done) × (q ≡ p) × Extracts extraction old new
 
 -- What the request asks for was not done, or not to its end.
-abbrev pub IsUndone
-    : Request → Option (List ℕ) → Option (List ℕ) → Option (List Access) → Option (List Access) → Message → Type 0
-IsUndone (Look task) p q old new message = IsUnseen task p q old new message
-IsUndone (Run errand) p q old new message = (q ≡ p) × IsStopped errand.job.now errand.out.now old new message
-IsUndone (Show zone) p q old new message = IsUnshown zone p q old new message
-IsUndone (Convert conversion) p q old new message = IsUnconverted conversion p q old new message
-IsUndone (Combine combination) p q old new message = IsUncombined combination p q old new message
-IsUndone (Extract extraction) p q old new message = (q ≡ p) × IsUnextracted extraction old new message
+abbrev pub IsUndone : Request → Option (List ℕ) → Option (List ℕ) → Option (List ℕ) → Option (List ℕ)
+    → Option (List Access) → Option (List Access) → Message → Type 0
+IsUndone (Look task) h k p q old new message = IsUnseen task p q old new message
+IsUndone (Run errand) h k p q old new message =
+    (q ≡ p) × IsStopped errand.job.now errand.out.now errand.watched h k old new message
+IsUndone (Show zone) h k p q old new message = IsUnshown zone p q old new message
+IsUndone (Convert conversion) h k p q old new message = IsUnconverted conversion p q old new message
+IsUndone (Combine combination) h k p q old new message = IsUncombined combination p q old new message
+IsUndone (Extract extraction) h k p q old new message = (q ≡ p) × IsUnextracted extraction old new message
 
--- Nothing was done, or not all that some request asks for.
-pub data IsNotDone (p q : Option (List ℕ)) (old new : Option (List Access)) (message : Message) : Type 0 where
-  AsksNothing : q ≡ p → new ≡ old → IsUsage message → IsNotDone p q old new message
-  Asks : (request : Request) → IsUndone request p q old new message → IsNotDone p q old new message
+-- The words make no request, and nothing was done; or not all was done for which they ask.
+pub data IsNotDone (words : List (List ℕ)) (h k p q : Option (List ℕ)) (old new : Option (List Access)) (message : Message)
+    : Type 0 where
+  AsksNothing : k ≡ h → q ≡ p → new ≡ old → IsUsage message → IsNotDone words h k p q old new message
+  Asks : (request : Request) → IsAskedBy words request → IsUndone request h k p q old new message
+      → IsNotDone words h k p q old new message

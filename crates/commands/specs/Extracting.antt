@@ -1,8 +1,8 @@
 use Rattle.std.specs.Prelude.{◌≡◌, ℕ, Option, Ok, List, [], ◌∷◌, map}
 use Rattle.fork_commands.specs.Extracting.{ToWrite, extracted}
 use Rattle.commands.specs.declared.extracting.Extraction.{Extraction}
-use Rattle.commands.specs.Accesses.{Access, Read, Folder, Write, and_then, IsReported, StopsAmong}
-use Rattle.commands.specs.Fault.{Message, CannotRead}
+use Rattle.commands.specs.Accesses.{Access, Read, Folder, Write, and_then, IsUnread, StopsAmong}
+use Rattle.commands.specs.Fault.{Message}
 use Rattle.commands.specs.Tasks.{IsForkFault}
 
 -- A fork is read, and its resources are written into a folder, a file each. `old` and `new` are the accesses to files before
@@ -23,7 +23,7 @@ Extracts e old new =
 
 -- The file can't be read, its bytes are at fault, or what there is to be written was not written to its end.
 pub data IsUnextracted (e : Extraction) (old new : Option (List Access)) (message : Message) : Type 0 where
-  Unread : new ≡ old → IsReported (CannotRead e.fork.now) message → IsUnextracted e old new message
+  Unread : IsUnread e.fork.now old new message → IsUnextracted e old new message
   Faulty : (bytes : List ℕ) → new ≡ and_then old (Read e.fork.now bytes ∷ [])
       → IsForkFault e.fork.now (extracted e.out.now bytes) message → IsUnextracted e old new message
   Unwritten : (bytes : List ℕ) (files : List ToWrite) → extracted e.out.now bytes ≡ Ok files

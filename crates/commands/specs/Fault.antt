@@ -3,6 +3,10 @@ use Rattle.script_text.specs.Fault as script
 use Rattle.script_text.specs.declared.fault.FaultKind.{FaultKind}
 use Rattle.fork_commands.specs.declared.fault.FileFault.{FileFault}
 use Rattle.fork_commands.specs.Faults as file
+use Rattle.commands.specs.declared.host.ReadError.{ReadError}
+use Rattle.commands.specs.declared.host.ReadError.TheVariants as read_error
+use Rattle.commands.specs.declared.host.WriteError.{WriteError}
+use Rattle.commands.specs.declared.host.WriteError.TheVariants as write_error
 use Rattle.commands.specs.declared.fault.ToolFault.{ToolFault}
 use Rattle.commands.specs.declared.fault.ToolFault.TheVariants as fault
 
@@ -26,6 +30,15 @@ message_of (fault.Fork path why) = Fork (string_bytes path) why
 message_of (fault.CannotWrite path) = CannotWrite (string_bytes path)
 message_of fault.HostMemory = HostMemory
 message_of (fault.NotLaunched path app) = NotLaunched (string_bytes path) (string_bytes app)
+
+-- The fault of an input that could not be read, and of output that could not be written, with its path.
+abbrev pub read_message : List ℕ → ReadError → Message
+read_message path read_error.CannotRead = CannotRead path
+read_message path read_error.HostMemory = HostMemory
+
+abbrev pub write_message : List ℕ → WriteError → Message
+write_message path write_error.CannotWrite = CannotWrite path
+write_message path write_error.HostMemory = HostMemory
 
 -- The fault of words that make no request.
 abbrev pub IsUsage : Message → Type 0

@@ -11,7 +11,7 @@ use Rattle.desk.specs.declared.job.Job.{Job}
 use Rattle.commands.specs.declared.fault.ToolFault.{ToolFault}
 use Rattle.commands.specs.declared.gathering.Gathered.{Gathered}
 use Rattle.commands.specs.Fault.{Message, CannotRead, Script, Fork, HostMemory, message_of}
-use Rattle.commands.specs.Accesses.{Access, and_then, reads_at}
+use Rattle.commands.specs.Accesses.{Access, and_then, reads_at, Ends}
 
 -- What the lines of a job name.
 
@@ -129,14 +129,18 @@ reads_of inputs [] = []
 reads_of [] (t ∷ texts) = []
 reads_of (i ∷ inputs) (t ∷ texts) = reads_at (paths_of i) t ++ reads_of inputs texts
 
--- Files were read at these paths, in order, and no others; `P` holds of their texts.
-abbrev pub Reads : List (List ℕ) → Option (List Access) → Option (List Access) → (List (List ℕ) → Type 0) → Type 0
-Reads paths old new P = (texts : List (List ℕ)) × (new ≡ and_then old (reads_at paths texts)) × P texts
+-- Files were read at these paths, in order, and no others, up to the first that the host refused; `P` holds of their
+-- texts.
+abbrev pub Reads : {X : Type 0} → List (List ℕ) → Option (List Access) → Option (List Access) → Result X ToolFault
+    → (List (List ℕ) → Type 0) → Type 0
+Reads paths old new result P = (texts : List (List ℕ)) × Ends (and_then old (reads_at paths texts)) new result × P texts
 
--- Files were read at the paths of these lines, in order, and no others; `P` holds of their texts.
-abbrev pub ReadsOf
-    : List Input → Option (List Access) → Option (List Access) → (List (List (List ℕ)) → Type 0) → Type 0
-ReadsOf inputs old new P = (texts : List (List (List ℕ))) × (new ≡ and_then old (reads_of inputs texts)) × P texts
+-- Files were read at the paths of these lines, in order, and no others, up to the first that the host refused; `P` holds
+-- of their texts.
+abbrev pub ReadsOf : {X : Type 0} → List Input → Option (List Access) → Option (List Access) → Result X ToolFault
+    → (List (List (List ℕ)) → Type 0) → Type 0
+ReadsOf inputs old new result P =
+    (texts : List (List (List ℕ))) × Ends (and_then old (reads_of inputs texts)) new result × P texts
 
 -- The result of a function, seen by `view`, is what is given, or what stops it, unless the host is out of memory.
 abbrev pub IsStop : {Y : Type 0} → Result Y Message → Message → Type 0

@@ -10,9 +10,9 @@ use Rattle.desk.specs.Whole.{system_of, start_with, LeftByRun}
 use Rattle.zone_view.specs.Behind.{zone_behind, steps_at}
 use Rattle.commands.specs.declared.delivering.Target.TheVariants.{Printed}
 use Rattle.commands.specs.declared.job_zones.JobZone.{JobZone}
-use Rattle.commands.specs.Accesses.{Access, Read, and_then, IsReported}
+use Rattle.commands.specs.Accesses.{Access, Read, and_then, IsUnread, Stops}
 use Rattle.commands.specs.Delivering.{Delivers, IsUndelivered}
-use Rattle.commands.specs.Fault.{Message, CannotRead, HostMemory, NotLaunched}
+use Rattle.commands.specs.Fault.{Message, HostMemory, NotLaunched}
 use Rattle.commands.specs.Gathering.{name_of, nothing_given, with_inputs, system_path, IsStop}
 use Rattle.commands.specs.Running.{Stated, Taken, reads_for, IsJobFault, IsRunFault}
 
@@ -84,13 +84,13 @@ Sees asked out old new =
 -- Why there is no zone to print, and what was read before.
 pub data IsUnseen (asked : JobZone) (old new : Option (List Access)) (message : Message) : Type 0 where
   -- the job can't be read
-  Unread : new ≡ old → IsReported (CannotRead asked.job.now) message → IsUnseen asked old new message
+  Unread : IsUnread asked.job.now old new message → IsUnseen asked old new message
   -- its text is faulty
   Misstated : (text : List ℕ) → new ≡ and_then old (Read asked.job.now text ∷ [])
       → IsJobFault asked.job.now text message → IsUnseen asked old new message
   -- a file that a line names can't be read, or the text of a script is faulty
   Ungathered : (stated : Stated) (texts : List (List (List ℕ)))
-      → new ≡ and_then old (reads_for asked.job.now stated texts)
+      → Stops (and_then old (reads_for asked.job.now stated texts)) new message
       → IsStop (with_inputs nothing_given stated.lines.inputs texts) message → IsUnseen asked old new message
   -- all input was read, and there is no such zone
   NotThere : (t : Taken) → new ≡ and_then old (reads_for asked.job.now t.stated t.texts)

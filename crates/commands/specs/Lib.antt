@@ -14,4 +14,5 @@ pub mod Converting
 pub mod Combining
 pub mod JobZones
 pub mod Extracting
+pub mod Asking
 pub mod Doing

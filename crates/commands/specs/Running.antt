@@ -1,11 +1,13 @@
-use Rattle.std.specs.Prelude.{◌≡◌, ℕ, true, false, Option, Ok, Err, List, [], ◌∷◌, map}
+use Rattle.std.specs.Prelude.{◌≡◌, ℕ, Bool, true, false, Option, Ok, Err, List, [], ◌∷◌, map, length}
+use Rattle.std.specs.Io.KnownBytes.{append_known}
 use Rattle.script_text.specs.Job.{Job as TextJob, job_of}
+use Rattle.applications.specs.Reports.{reports}
 use Rattle.desk.specs.declared.job.Job.{Job}
 use Rattle.desk.specs.Outcome.{Outcome}
 use Rattle.fork_commands.specs.declared.fault.FileFault.TheVariants.{Code}
 use Rattle.desk.specs.Whole.{system_of, LeftByRun}
-use Rattle.commands.specs.Fault.{Message, CannotRead, Script, Fork, HostMemory}
-use Rattle.commands.specs.Accesses.{Access, Read, Folder, Write, and_then, IsReported, StopsAmong}
+use Rattle.commands.specs.Fault.{Message, Script, Fork, HostMemory}
+use Rattle.commands.specs.Accesses.{Access, Read, Folder, Write, and_then, IsUnread, Stops, StopsAmong}
 use Rattle.commands.specs.Gathering.{nothing_given, with_inputs, reads_of, system_path, job_given, IsStop}
 use Rattle.commands.specs.Outputs.{Written, left_by}
 
@@ -49,38 +51,62 @@ IsRunFault system job HostMemory = Unit {0}
 IsRunFault system job (Fork named (Code code)) = (named ≡ system) × (system_of job ≡ Err code)
 IsRunFault system job message = ⊥
 
--- What a run leaves that did not stop was written into a folder.
-abbrev pub Leaves : List ℕ → Job → Option (List Access) → Option (List Access) → Type 0
-Leaves folder job old new =
-    (outcome : Outcome) × (outcome.stopped ≡ false) × LeftByRun job outcome × (new ≡ and_then old (writes_for folder outcome))
+-- What a watch has heard before and after a run of which so many events were completed: of these events, if the run is
+-- watched, and else of nothing.
+abbrev pub Hears : Bool → Job → ℕ → Option (List ℕ) → Option (List ℕ) → Type 0
+Hears true job done h k = k ≡ append_known h (reports done (length job.events.items))
+Hears false job done h k = k ≡ h
 
--- A run did not begin; or it stopped, and what it leaves was written all the same; or what it leaves was not written to
--- its end.
-pub data IsUnleft (system folder : List ℕ) (job : Job) (old new : Option (List Access)) (message : Message) : Type 0 where
-  NotRun : new ≡ old → IsRunFault system job message → IsUnleft system folder job old new message
-  Halted : (outcome : Outcome) → outcome.stopped ≡ true → LeftByRun job outcome
-      → new ≡ and_then old (writes_for folder outcome) → message ≡ HostMemory → IsUnleft system folder job old new message
-  NotWritten : (outcome : Outcome) → LeftByRun job outcome → StopsAmong (writes_for folder outcome) old new message
-      → IsUnleft system folder job old new message
+-- In what follows `h` and `k` are the reports that the watch has heard before and after, `old` and `new` the accesses to
+-- files.
+
+-- What a run leaves that did not stop was written into a folder.
+abbrev pub Leaves : List ℕ → Bool → Job → Option (List ℕ) → Option (List ℕ) → Option (List Access) → Option (List Access)
+    → Type 0
+Leaves folder watched job h k old new =
+    (outcome : Outcome) × (outcome.stopped ≡ false) × LeftByRun job outcome × Hears watched job outcome.done h k
+    × (new ≡ and_then old (writes_for folder outcome))
+
+-- All that a run leaves was written, and the run stopped, which is a fault of the host's memory; or what it leaves was not
+-- written to its end.
+pub data IsUnwell (folder : List ℕ) (outcome : Outcome) (old new : Option (List Access)) (message : Message)
+    : Type 0 where
+  Halted : outcome.stopped ≡ true → new ≡ and_then old (writes_for folder outcome) → message ≡ HostMemory
+      → IsUnwell folder outcome old new message
+  NotWritten : StopsAmong (writes_for folder outcome) old new message → IsUnwell folder outcome old new message
+
+-- A run did not begin, and the watch has heard nothing; or it stopped, and what it leaves was written all the same; or
+-- what it leaves was not written to its end.
+pub data IsUnleft (system folder : List ℕ) (watched : Bool) (job : Job) (h k : Option (List ℕ))
+    (old new : Option (List Access)) (message : Message) : Type 0 where
+  NotRun : k ≡ h → new ≡ old → IsRunFault system job message → IsUnleft system folder watched job h k old new message
+  Run : (outcome : Outcome) → LeftByRun job outcome → Hears watched job outcome.done h k
+      → IsUnwell folder outcome old new message → IsUnleft system folder watched job h k old new message
 
 -- A job was run to its end: all input was read, then all that it leaves was written, and no other file was read or
 -- written.
-abbrev pub Runs : List ℕ → List ℕ → Option (List Access) → Option (List Access) → Type 0
-Runs path folder old new = (t : Taken) × Leaves folder t.job (and_then old (reads_for path t.stated t.texts)) new
+abbrev pub Runs : List ℕ → List ℕ → Bool → Option (List ℕ) → Option (List ℕ) → Option (List Access) → Option (List Access)
+    → Type 0
+Runs path folder watched h k old new =
+    (t : Taken) × Leaves folder watched t.job h k (and_then old (reads_for path t.stated t.texts)) new
 
 -- Why a job was not run to its end, and what was read and written before. If the host is out of memory, the job may
 -- stop anywhere; a run that stops within its events leaves what was completed, and that is written.
-pub data IsStopped (path folder : List ℕ) (old new : Option (List Access)) (message : Message) : Type 0 where
+pub data IsStopped (path folder : List ℕ) (watched : Bool) (h k : Option (List ℕ)) (old new : Option (List Access))
+    (message : Message) : Type 0 where
   -- the job can't be read
-  Unread : new ≡ old → IsReported (CannotRead path) message → IsStopped path folder old new message
+  Unread : k ≡ h → IsUnread path old new message → IsStopped path folder watched h k old new message
   -- its text is faulty
-  Misstated : (text : List ℕ) → new ≡ and_then old (Read path text ∷ []) → IsJobFault path text message
-      → IsStopped path folder old new message
+  Misstated : (text : List ℕ) → k ≡ h → new ≡ and_then old (Read path text ∷ []) → IsJobFault path text message
+      → IsStopped path folder watched h k old new message
   -- a file that a line names can't be read, or the text of a script is faulty
-  Ungathered : (stated : Stated) (texts : List (List (List ℕ))) → new ≡ and_then old (reads_for path stated texts)
-      → IsStop (with_inputs nothing_given stated.lines.inputs texts) message → IsStopped path folder old new message
+  Ungathered : (stated : Stated) (texts : List (List (List ℕ))) → k ≡ h
+      → Stops (and_then old (reads_for path stated texts)) new message
+      → IsStop (with_inputs nothing_given stated.lines.inputs texts) message
+      → IsStopped path folder watched h k old new message
   -- all input was read, and the System file's fork is no fork, or the run stopped and all that it leaves was written, or
   -- the folder can't be made, or a file can't be written
   Unleft : (t : Taken)
-      → IsUnleft (system_path t.stated.lines.inputs) folder t.job (and_then old (reads_for path t.stated t.texts)) new message
-      → IsStopped path folder old new message
+      → IsUnleft (system_path t.stated.lines.inputs) folder watched t.job h k
+      (and_then old (reads_for path t.stated t.texts)) new message
+      → IsStopped path folder watched h k old new message

@@ -7,13 +7,12 @@ use Rattle.fork_commands.specs.declared.fault.FileFault.{FileFault}
 use Rattle.fork_commands.specs.declared.fault.WorkFault.{WorkFault}
 use Rattle.fork_commands.specs.declared.fault.WorkFault.TheVariants as work_fault
 use Rattle.fork_commands.specs.Reading.{content_in}
+use Rattle.commands.specs.Accesses.{Access, IsUnwritten}
 use Rattle.commands.specs.Fault.{Message, Usage, CannotRead, Script, Fork, CannotWrite, HostMemory, NotLaunched}
 use Rattle.fork_format.specs.View.{view}
 use Rattle.commands.specs.Listing.{listing}
 use Rattle.commands.specs.Printing.{PrintsFront}
 use Rattle.commands.specs.Work.{IsTranscriptOf, IsZoneOf, IsListingOf, IsFormText, text_of}
-use Rattle.commands.specs.declared.host.WriteError.{WriteError}
-use Rattle.commands.specs.declared.host.WriteError.TheVariants as write_error
 use Rattle.commands.specs.declared.tasks.Output.{Output}
 use Rattle.commands.specs.declared.tasks.Output.TheVariants as output
 use Rattle.commands.specs.declared.tasks.Work.{Work}
@@ -68,11 +67,6 @@ IsFault (work.Heap asked) path bytes message = IsScriptFault path bytes message
 IsFault (work.Map style) path bytes message = IsForkFault path (content_in bytes) message
 IsFault work.Check path bytes message = IsForkFault path (content_in bytes) message
 
--- The fault of output that could not be written, with its path.
-abbrev pub write_message : List ℕ → WriteError → Message
-write_message path write_error.CannotWrite = CannotWrite path
-write_message path write_error.HostMemory = HostMemory
-
 -- The text of an output.
 abbrev pub output_text : Output → List ℕ
 output_text (output.Text text) = text.items
@@ -87,11 +81,15 @@ Prints w bytes old new = (out : List ℕ) × IsPrinted w bytes out × (new ≡ a
 abbrev pub PrintsPart : Work → List ℕ → Option (List ℕ) → Option (List ℕ) → Type 0
 PrintsPart w bytes old new = (out : List ℕ) × IsPrinted w bytes out × PrintsFront out old new
 
--- The reason why a task was not done, or not to its end, and what was printed before.
-abbrev pub IsRefusal : Work → List ℕ → List ℕ → Option (List ℕ) → Option (List ℕ) → Message → Type 0
-IsRefusal w path bytes old new (CannotWrite named) = (named ≡ codes "-") × PrintsPart w bytes old new
-IsRefusal w path bytes old new HostMemory = (new ≡ old) ⊎ PrintsPart w bytes old new
-IsRefusal w path bytes old new message = IsFault w path bytes message × (new ≡ old)
+-- The reason why a task was not done, or not to its end, and what was printed before. `p` and `q` are the bytes that have
+-- been printed before and after, `old` and `new` the accesses to files.
+abbrev pub IsRefusal : Work → List ℕ → List ℕ → Option (List ℕ) → Option (List ℕ)
+    → Option (List Access) → Option (List Access) → Message → Type 0
+IsRefusal w path bytes p q old new (CannotWrite named) =
+    PrintsPart w bytes p q × IsUnwritten (codes "-") old new (CannotWrite named)
+IsRefusal w path bytes p q old new HostMemory =
+    ((q ≡ p) ⊎ PrintsPart w bytes p q) × IsUnwritten (codes "-") old new HostMemory
+IsRefusal w path bytes p q old new message = IsFault w path bytes message × (q ≡ p) × (new ≡ old)
 
 -- Nothing is printed if the fault is not one of printing.
 abbrev pub IsQuiet : Option (List ℕ) → Option (List ℕ) → Message → Type 0

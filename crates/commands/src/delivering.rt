@@ -1,10 +1,9 @@
 //! Where bytes go: to the standard output, or into a new file.
 
-ghost use Rattle.std.specs.Prelude.{OnOk, IfOk, IfErr};
+ghost use Rattle.std.specs.Prelude.{◌≡◌, OnOk, IfOk, IfErr};
 ghost use Rattle.commands.specs.declared.delivering.Target.TheVariants.{Printed, NewFile};
-ghost use Rattle.commands.specs.Accesses.{IsReported};
 ghost use Rattle.commands.specs.Delivering.{Delivers, IsUndelivered};
-ghost use Rattle.commands.specs.Fault.{message_of, CannotWrite};
+ghost use Rattle.commands.specs.Fault.{message_of, write_message};
 
 use crate::fault::ToolFault;
 use crate::host::{Host, WriteError};
@@ -28,7 +27,7 @@ pub(crate) fn unwritten(
     path: &str,
     error: WriteError,
 ) -> Result<ToolFault, AllocError>
-    ensures { IfOk result (λ fault. IsReported (CannotWrite path.now) (message_of fault)) }
+    ensures { IfOk result (λ fault. message_of fault ≡ write_message path.now error) }
 {
     match error {
         WriteError::CannotWrite => Ok(ToolFault::CannotWrite {

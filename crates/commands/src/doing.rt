@@ -3,9 +3,10 @@
 //! resources of a fork to be written. Between the words and the host stand only `tasks::do_task`, `running::run_job`,
 //! `job_zones::show_in_job`, `converting::convert`, `combining::combine` and `extracting::extract`.
 
-ghost use Rattle.std.specs.Prelude.{◌≡◌, IfErr, IfOk};
+ghost use Rattle.std.specs.Prelude.{◌≡◌, map, IfErr, IfOk};
 ghost use Rattle.commands.specs.declared.request.Request.{Request};
 ghost use Rattle.commands.specs.declared.ending.Ending.TheVariants.{Done};
+ghost use Rattle.commands.specs.Asking.{IsAskedBy};
 ghost use Rattle.commands.specs.Fault.{message_of};
 ghost use Rattle.commands.specs.Tasks.{IsQuiet};
 ghost use Rattle.commands.specs.Running.{Runs, IsStopped};
@@ -53,10 +54,11 @@ fn run<H: Host, W: Watch>(
     watch: &mut W,
 ) -> Result<Ending, ToolFault>
     ensures done { IfOk result (λ ending. (ending ≡ Done) × (H.printed host.new ≡ H.printed host.old)
-        × Runs errand.entry.job.now errand.entry.out.now (H.accesses host.old) (H.accesses host.new)) }
+        × Runs errand.entry.job.now errand.entry.out.now errand.entry.watched (W.heard watch.old) (W.heard watch.new)
+        (H.accesses host.old) (H.accesses host.new)) }
     ensures undone { IfErr result (λ fault. (H.printed host.new ≡ H.printed host.old)
-        × IsStopped errand.entry.job.now errand.entry.out.now (H.accesses host.old) (H.accesses host.new)
-        (message_of fault)) }
+        × IsStopped errand.entry.job.now errand.entry.out.now errand.entry.watched
+        (W.heard watch.old) (W.heard watch.new) (H.accesses host.old) (H.accesses host.new) (message_of fault)) }
     ensures quiet { IfErr result (λ fault. IsQuiet (H.printed host.old) (H.printed host.new) (message_of fault)) }
 {
     run_job(alloc, host, errand, watch)?;
@@ -86,10 +88,10 @@ fn perform<H: Host, W: Watch>(
     request: Request<'_>,
     watch: &mut W,
 ) -> Result<Ending, ToolFault>
-    ensures done { IfOk result (λ ending. IsDone request.entry ending (H.printed host.old) (H.printed host.new)
-        (H.accesses host.old) (H.accesses host.new)) }
-    ensures undone { IfErr result (λ fault. IsUndone request.entry (H.printed host.old) (H.printed host.new)
-        (H.accesses host.old) (H.accesses host.new) (message_of fault)) }
+    ensures done { IfOk result (λ ending. IsDone request.entry ending (W.heard watch.old) (W.heard watch.new)
+        (H.printed host.old) (H.printed host.new) (H.accesses host.old) (H.accesses host.new)) }
+    ensures undone { IfErr result (λ fault. IsUndone request.entry (W.heard watch.old) (W.heard watch.new)
+        (H.printed host.old) (H.printed host.new) (H.accesses host.old) (H.accesses host.new) (message_of fault)) }
     ensures quiet { IfErr result (λ fault. IsQuiet (H.printed host.old) (H.printed host.new) (message_of fault)) }
 {
     match request {
@@ -111,14 +113,15 @@ pub fn tool<H: Host, W: Watch>(
     host: &mut H,
     watch: &mut W,
 ) -> Result<Ending, ToolFault>
-    // What a request asks for is done: its file is read and all that it prints of the bytes is printed, or its job is
+    // What the words ask for is done: a file is read and all that the request prints of the bytes is printed, or a job is
     // run and what the job leaves is written, or the zone of one of its applications printed.
-    ensures done { IfOk result (λ ending. (request : Request) × IsDone request ending (H.printed host.old) (H.printed host.new)
-        (H.accesses host.old) (H.accesses host.new)) }
+    ensures done { IfOk result (λ ending. (request : Request) × IsAskedBy (map (λ word. word.now) words.entry.now) request
+        × IsDone request ending (W.heard watch.old) (W.heard watch.new)
+        (H.printed host.old) (H.printed host.new) (H.accesses host.old) (H.accesses host.new)) }
 
-    // The words make no request, and nothing is done; or a request is done up to the first fault.
-    ensures undone { IfErr result (λ fault. IsNotDone (H.printed host.old) (H.printed host.new)
-        (H.accesses host.old) (H.accesses host.new) (message_of fault)) }
+    // The words make no request, and nothing is done; or what they ask for is done up to the first fault.
+    ensures undone { IfErr result (λ fault. IsNotDone (map (λ word. word.now) words.entry.now)
+        (W.heard watch.old) (W.heard watch.new) (H.printed host.old) (H.printed host.new) (H.accesses host.old) (H.accesses host.new) (message_of fault)) }
 
     // Nothing is printed if the words make no request, the file can't be read, or its bytes are faulty.
     ensures quiet { IfErr result (λ fault. IsQuiet (H.printed host.old) (H.printed host.new) (message_of fault)) }

@@ -67,7 +67,7 @@ fn fork_at<H: Host>(alloc: Global, host: &mut H, path: &str) -> Result<Vec<u8>, 
     ensures silent { H.printed host.new ≡ H.printed host.old }
     ensures fork { IfOk result (λ fork. (bytes : List ℕ) × (H.accesses host.new
         ≡ and_then (H.accesses host.old) (Read path.now bytes ∷ [])) × (fork_in bytes ≡ Ok fork.items)) }
-    ensures stop { IfErr result (λ fault. Reads (path.now ∷ []) (H.accesses host.old) (H.accesses host.new) (λ texts.
+    ensures stop { IfErr result (λ fault. Reads (path.now ∷ []) (H.accesses host.old) (H.accesses host.new) result (λ texts.
         IsStop (fork_at path.now texts) (message_of fault))) }
 {
     let bytes = read_input(alloc, host, path)?;
@@ -80,7 +80,7 @@ fn fork_at<H: Host>(alloc: Global, host: &mut H, path: &str) -> Result<Vec<u8>, 
 /// Reads the script at a path.
 fn script_at<H: Host>(alloc: Global, host: &mut H, path: &str) -> Result<Script, ToolFault>
     ensures silent { H.printed host.new ≡ H.printed host.old }
-    ensures script { Reads (path.now ∷ []) (H.accesses host.old) (H.accesses host.new) (λ texts.
+    ensures script { Reads (path.now ∷ []) (H.accesses host.old) (H.accesses host.new) result (λ texts.
         IsGiven spelled (script_at path.now texts) result) }
 {
     let text = read_input(alloc, host, path)?;
@@ -114,7 +114,7 @@ fn app_at<H: Host>(
 ) -> Result<App, ToolFault>
     ensures silent { H.printed host.new ≡ H.printed host.old }
     ensures name { IfOk result (λ app. app.name.0.items ≡ name.now.0.items) }
-    ensures app { Reads (fork.now ∷ script.now ∷ []) (H.accesses host.old) (H.accesses host.new) (λ texts.
+    ensures app { Reads (fork.now ∷ script.now ∷ []) (H.accesses host.old) (H.accesses host.new) result (λ texts.
         IsGiven app_given (app_at name.now.0.items fork.now script.now texts) result) }
 {
     let bytes = fork_at(alloc, host, fork)?;
@@ -135,7 +135,7 @@ fn file_at<H: Host>(
     path: &str,
 ) -> Result<AppFile, ToolFault>
     ensures silent { H.printed host.new ≡ H.printed host.old }
-    ensures file { Reads (path.now ∷ []) (H.accesses host.old) (H.accesses host.new) (λ texts.
+    ensures file { Reads (path.now ∷ []) (H.accesses host.old) (H.accesses host.new) result (λ texts.
         IsGiven file_given (file_at name.now.0.items path.now texts) result) }
 {
     let fork = fork_at(alloc, host, path)?;
@@ -182,7 +182,7 @@ fn add_system<H: Host>(
 ) -> Result<(), ToolFault>
     ensures silent { H.printed host.new ≡ H.printed host.old }
     ensures names { map name_of inputs.new.apps.items ≡ map name_of inputs.old.apps.items }
-    ensures given { Reads (path.now ∷ []) (H.accesses host.old) (H.accesses host.new) (λ texts.
+    ensures given { Reads (path.now ∷ []) (H.accesses host.old) (H.accesses host.new) result (λ texts.
         IsGiven (λ _. gathered inputs.new) (with_input (gathered inputs.old) (System path.now) texts) result) }
 {
     inputs.system = Some(fork_at(alloc, host, path)?);
@@ -201,7 +201,7 @@ fn add_app<H: Host>(
     ensures silent { H.printed host.new ≡ H.printed host.old }
     ensures names { OnOk result (map name_of inputs.new.apps.items
         ≡ map name_of inputs.old.apps.items ++ name.now.0.items ∷ []) }
-    ensures given { Reads (fork.now ∷ script.now ∷ []) (H.accesses host.old) (H.accesses host.new) (λ texts.
+    ensures given { Reads (fork.now ∷ script.now ∷ []) (H.accesses host.old) (H.accesses host.new) result (λ texts.
         IsGiven (λ _. gathered inputs.new)
         (with_input (gathered inputs.old) (AppLine name.now.0.items fork.now script.now) texts) result) }
 {
@@ -222,7 +222,7 @@ fn add_file<H: Host>(
     requires { app < length inputs.old.apps.items }
     ensures silent { H.printed host.new ≡ H.printed host.old }
     ensures names { map name_of inputs.new.apps.items ≡ map name_of inputs.old.apps.items }
-    ensures given { Reads (path.now ∷ []) (H.accesses host.old) (H.accesses host.new) (λ texts.
+    ensures given { Reads (path.now ∷ []) (H.accesses host.old) (H.accesses host.new) result (λ texts.
         IsGiven (λ _. gathered inputs.new)
         (with_input (gathered inputs.old) (File app name.now.0.items path.now) texts) result) }
 {
@@ -244,7 +244,7 @@ fn add<H: Host>(
         ≡ map name_of inputs.old.apps.items ++ app_names (input_seen input.now ∷ [])) }
 
     // What the line gives is added, with the bytes at its paths.
-    ensures given { Reads (paths_of (input_seen input.now)) (H.accesses host.old) (H.accesses host.new) (λ texts.
+    ensures given { Reads (paths_of (input_seen input.now)) (H.accesses host.old) (H.accesses host.new) result (λ texts.
         IsGiven (λ _. gathered inputs.new) (with_input (gathered inputs.old) (input_seen input.now) texts) result) }
 {
     match input {
@@ -265,7 +265,7 @@ fn read_inputs<H: Host>(
     ensures names { IfOk result (λ g. map name_of g.apps.items ≡ app_names (map input_seen inputs.now)) }
 
     // What each line gives is added, with the bytes at its paths, in the order of the lines.
-    ensures given { ReadsOf (map input_seen inputs.now) (H.accesses host.old) (H.accesses host.new) (λ texts.
+    ensures given { ReadsOf (map input_seen inputs.now) (H.accesses host.old) (H.accesses host.new) result (λ texts.
         IsGiven gathered (with_inputs nothing_given (map input_seen inputs.now) texts) result) }
 {
     let mut all = Gathered {
@@ -306,7 +306,7 @@ pub fn gather<H: Host>(alloc: Global, host: &mut H, text: JobText<'_>) -> Result
     // The job has what its lines give, with the bytes at their paths, which are read in the order of the lines; or the
     // first path that can't be read, or the first script that is faulty, stops it. No other file is read.
     ensures given { ReadsOf (map input_seen text.entry.inputs.items) (H.accesses host.old) (H.accesses host.new)
-        (λ texts. IsGiven job_given (with_inputs nothing_given (map input_seen text.entry.inputs.items) texts) result) }
+        result (λ texts. IsGiven job_given (with_inputs nothing_given (map input_seen text.entry.inputs.items) texts) result) }
 {
     let Gathered { system, apps } = read_inputs(alloc, host, &text.inputs)?;
     Ok(Job {

@@ -1,8 +1,8 @@
 //! The host: the program's access to files and the standard output.
 
-ghost use Rattle.std.specs.Prelude.{◌≡◌, ℕ, Option, List, ◌∷◌, [], OnOk, OnErr, IfOk};
+ghost use Rattle.std.specs.Prelude.{◌≡◌, ℕ, Option, List, ◌∷◌, [], codes, OnOk, IfOk, IfErr};
 ghost use Rattle.std.specs.Io.KnownBytes.{append_known};
-ghost use Rattle.commands.specs.Accesses.{Access, Read, Folder, Write, and_then, WritesFront};
+ghost use Rattle.commands.specs.Accesses.{Access, Read, Folder, Write, and_then, RefusesRead, RefusesWrite, RefusesFile};
 ghost use Rattle.commands.specs.Printing.{PrintsFront};
 ghost use Rattle.commands.specs.declared.host.ReadError.TheVariants.{HostMemory};
 ghost use Rattle.commands.specs.declared.host.WriteError.TheVariants as write_error;
@@ -48,14 +48,14 @@ pub trait Host {
     /// The bytes that have been printed so far, where they are known.
     ghost printed: { Self → Option (List ℕ) };
 
-    /// The accesses to files so far, in order, where they are known.
+    /// The accesses to files so far, in order, where they are known: those that succeeded, and those that the host refused.
     ghost accesses: { Self → Option (List Access) };
 
     /// Reads all bytes of a file.
     fn read(&mut self, alloc: Global, path: &str) -> Result<Vec<u8>, ReadError>
         ensures read { IfOk result (λ bytes. accesses self.new
             ≡ and_then (accesses self.old) (Read path.now bytes.items ∷ [])) }
-        ensures unread { OnErr result (accesses self.new ≡ accesses self.old) }
+        ensures unread { IfErr result (λ error. RefusesRead path.now error (accesses self.old) (accesses self.new)) }
 
         // Nothing is printed.
         ensures silent { printed self.new ≡ printed self.old };
@@ -68,12 +68,13 @@ pub trait Host {
         ensures front { PrintsFront bytes.now (printed self.old) (printed self.new) }
 
         // No file is read or written.
-        ensures files { accesses self.new ≡ accesses self.old };
+        ensures files { OnOk result (accesses self.new ≡ accesses self.old) }
+        ensures refused { IfErr result (λ error. RefusesWrite (codes "-") error (accesses self.old) (accesses self.new)) };
 
     /// Makes a folder. The call fails if a file or a folder of that path exists.
     fn make_folder(&mut self, path: &str) -> Result<(), WriteError>
         ensures made { OnOk result (accesses self.new ≡ and_then (accesses self.old) (Folder path.now ∷ [])) }
-        ensures unmade { OnErr result (accesses self.new ≡ accesses self.old) }
+        ensures unmade { IfErr result (λ error. RefusesWrite path.now error (accesses self.old) (accesses self.new)) }
 
         // Nothing is printed.
         ensures silent { printed self.new ≡ printed self.old };
@@ -83,7 +84,8 @@ pub trait Host {
     fn write(&mut self, path: &str, bytes: &[u8]) -> Result<(), WriteError>
         ensures written { OnOk result (accesses self.new
             ≡ and_then (accesses self.old) (Write path.now bytes.now ∷ [])) }
-        ensures front { OnErr result (WritesFront path.now bytes.now (accesses self.old) (accesses self.new)) }
+        ensures front { IfErr result (λ error. RefusesFile path.now bytes.now error
+            (accesses self.old) (accesses self.new)) }
 
         // Nothing is printed.
         ensures silent { printed self.new ≡ printed self.old };

@@ -1,14 +1,14 @@
 //! An input by its path.
 
-ghost use Rattle.std.specs.Prelude.{◌≡◌, ◌∷◌, [], IfOk, IfErr, OnErr};
-ghost use Rattle.commands.specs.Fault.{message_of, CannotRead};
-ghost use Rattle.commands.specs.Accesses.{Read, and_then, IsReported};
+ghost use Rattle.std.specs.Prelude.{◌≡◌, ◌∷◌, [], IfOk, IfErr};
+ghost use Rattle.commands.specs.Fault.{message_of};
+ghost use Rattle.commands.specs.Accesses.{Read, and_then, IsUnread};
 
 use crate::fault::ToolFault;
 use crate::host::{Host, ReadError};
 use std::alloc::Global;
 
-/// Reads all bytes of a file.
+/// Reads all bytes of a file. The path of the fault is made before the host is asked.
 ///
 /// # Errors
 ///
@@ -17,14 +17,14 @@ pub fn read_input<H: Host>(alloc: Global, host: &mut H, path: &str) -> Result<Ve
     ensures silent { H.printed host.new ≡ H.printed host.old }
     ensures read { IfOk result (λ bytes. H.accesses host.new
         ≡ and_then (H.accesses host.old) (Read path.now bytes.items ∷ [])) }
-    ensures unread { OnErr result (H.accesses host.new ≡ H.accesses host.old) }
-    ensures fault { IfErr result (λ fault. IsReported (CannotRead path.now) (message_of fault)) }
+
+    // The host refused the path, and that is the fault; or the host is out of memory.
+    ensures unread { IfErr result (λ fault. IsUnread path.now (H.accesses host.old) (H.accesses host.new) (message_of fault)) }
 {
+    let named = String::from_str(alloc, path)?;
     match host.read(alloc, path) {
         Ok(bytes) => Ok(bytes),
-        Err(ReadError::CannotRead) => Err(ToolFault::CannotRead {
-            path: String::from_str(alloc, path)?,
-        }),
+        Err(ReadError::CannotRead) => Err(ToolFault::CannotRead { path: named }),
         Err(ReadError::HostMemory) => Err(ToolFault::HostMemory),
     }
 }

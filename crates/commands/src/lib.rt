@@ -1,6 +1,7 @@
 //! The work of the program: scripts and jobs are run, and resource forks are listed and checked.
 #![tactic(auto)]
 
+mod asking;
 mod combining;
 mod converting;
 mod delivering;

@@ -1,12 +1,13 @@
 //! The listing of the content of a resource fork.
 
-ghost use Rattle.std.specs.Prelude.{◌≡◌, ◌≤◌, ◌*◌, ◌++◌, OnOk, length, take};
+ghost use Rattle.std.specs.Prelude.{◌≡◌, ◌≤◌, ◌*◌, ◌++◌, OnOk, IfErr, codes, length, take};
 ghost use Rattle.std.specs.List.{flat_map};
 ghost use Rattle.std.specs.Io.KnownBytes.{append_known};
 ghost use Rattle.byteorder.specs.Endian.{big_bytes, big_number};
 ghost use Rattle.script_text.specs.Transcript.{hex};
 ghost use Rattle.fork_format.specs.Content.{refs_of};
 ghost use Rattle.fork_format.specs.View.{view_name, view_ref, view_group, view};
+ghost use Rattle.commands.specs.Accesses.{RefusesWrite};
 ghost use Rattle.commands.specs.Listing.{type_listed, numbers_listed, name_digits, name_listed, line_of, group_lines};
 ghost use Rattle.commands.specs.Listing.{head_line, wrapper_word, wrapper_line, first_lines};
 ghost use Rattle.commands.specs.Listing as spec;
@@ -217,7 +218,8 @@ fn push_first(text: &mut Vec<u8>, listing: &Listing<'_>) -> Result<(), AllocErro
 fn print_many<H: Host>(host: &mut H, lines: &mut Vec<u8>) -> Result<(), WriteError>
     ensures some { OnOk result (PrintsBut lines.old.items lines.new.items (H.printed host.old) (H.printed host.new)) }
     ensures front { PrintsFront lines.old.items (H.printed host.old) (H.printed host.new) }
-    ensures files { H.accesses host.new ≡ H.accesses host.old }
+    ensures files { OnOk result (H.accesses host.new ≡ H.accesses host.old) }
+    ensures refused { IfErr result (λ error. RefusesWrite (codes "-") error (H.accesses host.old) (H.accesses host.new)) }
 {
     if lines.len() >= MANY {
         host.print(lines.as_slice())?;
@@ -237,7 +239,8 @@ fn print_group<H: Host>(
         (H.printed host.old) (H.printed host.new)) }
     ensures front { PrintsFront (lines.old.items ++ group_lines spelling (view_group group.now))
         (H.printed host.old) (H.printed host.new) }
-    ensures files { H.accesses host.new ≡ H.accesses host.old }
+    ensures files { OnOk result (H.accesses host.new ≡ H.accesses host.old) }
+    ensures refused { IfErr result (λ error. RefusesWrite (codes "-") error (H.accesses host.old) (H.accesses host.new)) }
 {
     let ty = group.ty;
     for resource in &group.refs {
@@ -258,7 +261,8 @@ fn print_groups<H: Host>(
         lines.new.items (H.printed host.old) (H.printed host.new)) }
     ensures front { PrintsFront (lines.old.items ++ flat_map (group_lines spelling) (view content.now).groups)
         (H.printed host.old) (H.printed host.new) }
-    ensures files { H.accesses host.new ≡ H.accesses host.old }
+    ensures files { OnOk result (H.accesses host.new ≡ H.accesses host.old) }
+    ensures refused { IfErr result (λ error. RefusesWrite (codes "-") error (H.accesses host.old) (H.accesses host.new)) }
 {
     for group in &content.groups {
         print_group(host, lines, spelling, group)?;
@@ -282,7 +286,8 @@ pub fn print_listing<H: Host>(
         (spec.listing listing.now.style listing.now.wrapping (view listing.now.content))) }
     ensures front { PrintsFront (spec.listing listing.now.style listing.now.wrapping (view listing.now.content))
         (H.printed host.old) (H.printed host.new) }
-    ensures files { H.accesses host.new ≡ H.accesses host.old }
+    ensures files { OnOk result (H.accesses host.new ≡ H.accesses host.old) }
+    ensures refused { IfErr result (λ error. RefusesWrite (codes "-") error (H.accesses host.old) (H.accesses host.new)) }
 {
     let mut lines = Vec::with_capacity(alloc, MANY + LONGEST)?;
     push_first(&mut lines, listing)?;

@@ -1,6 +1,6 @@
 //! What a run leaves is written: the folder is made, and then the files are written, each straight from the outcome.
 
-ghost use Rattle.std.specs.Prelude.{◌≡◌, ◌∷◌, [], map, OnOk, OnErr, string_bytes, string_capacity};
+ghost use Rattle.std.specs.Prelude.{◌≡◌, ◌∷◌, [], map, OnOk, IfErr, string_bytes, string_capacity};
 ghost use Rattle.desk.specs.View.{told_seen, outcome_seen};
 ghost use Rattle.res_calls.specs.View.{view_file};
 ghost use Rattle.commands.specs.Accesses.{and_then, StopsAt};
@@ -24,8 +24,8 @@ fn write_log<H: Host>(
     ensures silent { H.printed host.new ≡ H.printed host.old }
     ensures written { OnOk result (H.accesses host.new
         ≡ and_then (H.accesses host.old) (map write_of (log_left folder.now (told_seen app.now)))) }
-    ensures stopped { OnErr result (StopsAt (map write_of (log_left folder.now (told_seen app.now)))
-        (H.accesses host.old) (H.accesses host.new) (string_bytes path.new)) }
+    ensures stopped { IfErr result (λ error. StopsAt (map write_of (log_left folder.now (told_seen app.now)))
+        (H.accesses host.old) (H.accesses host.new) (string_bytes path.new) error) }
     ensures room { HasRoom folder.now (string_capacity path.new) }
 {
     let Some(launched) = &app.launched else {
@@ -47,8 +47,8 @@ fn write_logs<H: Host>(
     ensures silent { H.printed host.new ≡ H.printed host.old }
     ensures written { OnOk result (H.accesses host.new
         ≡ and_then (H.accesses host.old) (map write_of (logs_left folder.now (map told_seen apps.now)))) }
-    ensures stopped { OnErr result (StopsAt (map write_of (logs_left folder.now (map told_seen apps.now)))
-        (H.accesses host.old) (H.accesses host.new) (string_bytes path.new)) }
+    ensures stopped { IfErr result (λ error. StopsAt (map write_of (logs_left folder.now (map told_seen apps.now)))
+        (H.accesses host.old) (H.accesses host.new) (string_bytes path.new) error) }
     ensures room { HasRoom folder.now (string_capacity path.new) }
 {
     for app in apps {
@@ -70,9 +70,9 @@ fn write_fork<H: Host>(
     ensures silent { H.printed host.new ≡ H.printed host.old }
     ensures written { OnOk result (H.accesses host.new ≡ and_then (H.accesses host.old)
         (map write_of (forks_within folder.now name.now.0.items k (view_file file.now ∷ [])))) }
-    ensures stopped { OnErr result (StopsAt
+    ensures stopped { IfErr result (λ error. StopsAt
         (map write_of (forks_within folder.now name.now.0.items k (view_file file.now ∷ [])))
-        (H.accesses host.old) (H.accesses host.new) (string_bytes path.new)) }
+        (H.accesses host.old) (H.accesses host.new) (string_bytes path.new) error) }
     ensures room { HasRoom folder.now (string_capacity path.new) }
 {
     if file.written {
@@ -94,9 +94,9 @@ fn write_forks_within<H: Host>(
     ensures silent { H.printed host.new ≡ H.printed host.old }
     ensures written { OnOk result (H.accesses host.new ≡ and_then (H.accesses host.old)
         (map write_of (forks_within folder.now name.now.0.items 0 (map view_file files.now)))) }
-    ensures stopped { OnErr result (StopsAt
+    ensures stopped { IfErr result (λ error. StopsAt
         (map write_of (forks_within folder.now name.now.0.items 0 (map view_file files.now)))
-        (H.accesses host.old) (H.accesses host.new) (string_bytes path.new)) }
+        (H.accesses host.old) (H.accesses host.new) (string_bytes path.new) error) }
     ensures room { HasRoom folder.now (string_capacity path.new) }
 {
     for (k, file) in files.iter().enumerate() {
@@ -116,8 +116,8 @@ fn write_forks_of<H: Host>(
     ensures silent { H.printed host.new ≡ H.printed host.old }
     ensures written { OnOk result (H.accesses host.new
         ≡ and_then (H.accesses host.old) (map write_of (forks_left folder.now (told_seen app.now)))) }
-    ensures stopped { OnErr result (StopsAt (map write_of (forks_left folder.now (told_seen app.now)))
-        (H.accesses host.old) (H.accesses host.new) (string_bytes path.new)) }
+    ensures stopped { IfErr result (λ error. StopsAt (map write_of (forks_left folder.now (told_seen app.now)))
+        (H.accesses host.old) (H.accesses host.new) (string_bytes path.new) error) }
     ensures room { HasRoom folder.now (string_capacity path.new) }
 {
     match &app.launched {
@@ -137,8 +137,8 @@ fn write_forks<H: Host>(
     ensures silent { H.printed host.new ≡ H.printed host.old }
     ensures written { OnOk result (H.accesses host.new
         ≡ and_then (H.accesses host.old) (map write_of (all_forks_left folder.now (map told_seen apps.now)))) }
-    ensures stopped { OnErr result (StopsAt (map write_of (all_forks_left folder.now (map told_seen apps.now)))
-        (H.accesses host.old) (H.accesses host.new) (string_bytes path.new)) }
+    ensures stopped { IfErr result (λ error. StopsAt (map write_of (all_forks_left folder.now (map told_seen apps.now)))
+        (H.accesses host.old) (H.accesses host.new) (string_bytes path.new) error) }
     ensures room { HasRoom folder.now (string_capacity path.new) }
 {
     for app in apps {
@@ -159,8 +159,8 @@ fn write_files<H: Host>(
     ensures silent { H.printed host.new ≡ H.printed host.old }
     ensures written { OnOk result (H.accesses host.new
         ≡ and_then (H.accesses host.old) (map write_of (left_by folder.now (outcome_seen outcome.now)))) }
-    ensures stopped { OnErr result (StopsAt (map write_of (left_by folder.now (outcome_seen outcome.now)))
-        (H.accesses host.old) (H.accesses host.new) (string_bytes path.new)) }
+    ensures stopped { IfErr result (λ error. StopsAt (map write_of (left_by folder.now (outcome_seen outcome.now)))
+        (H.accesses host.old) (H.accesses host.new) (string_bytes path.new) error) }
 {
     set_desk_path(path, folder);
     host.write(path.as_str(), outcome.desk.as_slice())?;
@@ -191,8 +191,8 @@ pub fn write_outcome<H: Host>(
         ≡ and_then (H.accesses host.old) (writes_for folder.now (outcome_seen outcome.now))) }
 
     // These were done up to the first that failed, whose path stands in the text.
-    ensures stopped { OnErr result (StopsAt (writes_for folder.now (outcome_seen outcome.now))
-        (H.accesses host.old) (H.accesses host.new) (string_bytes path.new)) }
+    ensures stopped { IfErr result (λ error. StopsAt (writes_for folder.now (outcome_seen outcome.now))
+        (H.accesses host.old) (H.accesses host.new) (string_bytes path.new) error) }
 {
     set_folder_path(path, folder);
     host.make_folder(path.as_str())?;

@@ -1,6 +1,6 @@
 //! A job is run, and what it leaves is written.
 
-ghost use Rattle.std.specs.Prelude.{◌≡◌, ◌≤◌, map, length, Ok, IfOk, IfErr, OnOk, string_capacity};
+ghost use Rattle.std.specs.Prelude.{◌≡◌, ◌≤◌, [], map, length, false, Ok, IfOk, IfErr, OnOk, string_capacity};
 ghost use Rattle.script_text.specs.Job.{input_seen, job_seen, job_of};
 ghost use Rattle.script_text.specs.JobFacts.{IsMemory, AreInOrder, AreApps};
 ghost use Rattle.desk.specs.View.{outcome_seen};
@@ -8,7 +8,7 @@ ghost use Rattle.desk.specs.Whole.{LeftByRun, IsOutcome, EachLaunched, IsAlone};
 ghost use Rattle.commands.specs.Fault.{message_of};
 ghost use Rattle.commands.specs.Accesses.{and_then, StopsAmong};
 ghost use Rattle.commands.specs.Outputs.{HasRoom};
-ghost use Rattle.commands.specs.Running.{writes_for, IsJobFault, IsRunFault, Leaves, IsUnleft, Runs, IsStopped};
+ghost use Rattle.commands.specs.Running.{writes_for, IsJobFault, IsRunFault, Hears, Leaves, IsUnwell, IsUnleft, Runs, IsStopped};
 
 use crate::fault::ToolFault;
 use crate::gathering::{gather, system_path};
@@ -47,6 +47,30 @@ pub fn job_text<'t>(alloc: Global, path: &str, text: &'t [u8]) -> Result<JobText
     }
 }
 
+/// Runs a job in a region. The progress is reported to the watch if `watched` is set.
+fn run_in<W: Watch>(
+    alloc: Global,
+    region: Region,
+    job: &Job,
+    watched: bool,
+    watch: &mut W,
+) -> (Result<Outcome, RunFault>, Region)
+    requires home { region.out ≡ [] }
+    requires length { length region.bytes ≡ job.now.memory }
+    requires memory { IsMemory job.now.memory }
+    requires few { length job.now.apps.items ≤ 64 }
+    ensures outcome { IsOutcome job.now result.0 }
+    ensures alone { IfOk result.0 (λ outcome. EachLaunched IsAlone job.now outcome) }
+    ensures heard { IfOk result.0 (λ outcome. Hears watched job.now outcome.done (W.heard watch.old) (W.heard watch.new)) }
+    ensures unheard { IfErr result.0 (λ _. W.heard watch.new ≡ W.heard watch.old) }
+    ensures home { result.1.out ≡ [] }
+{
+    if watched {
+        return run(alloc, region, job, watch);
+    }
+    run(alloc, region, job, &mut Unwatched)
+}
+
 /// Runs a job and returns what it leaves, or why the job does not begin. The job's memory is one region. The progress is
 /// reported to the watch if `watched` is set.
 fn ran<W: Watch>(
@@ -63,16 +87,16 @@ fn ran<W: Watch>(
 
     // What each application leaves that was launched is what it leaves alone.
     ensures alone { IfOk result (λ outcome. EachLaunched IsAlone job.now outcome) }
+
+    // The watch has heard of the events that were completed, if the run is watched; of a run that did not begin, nothing.
+    ensures heard { IfOk result (λ outcome. Hears watched job.now outcome.done (W.heard watch.old) (W.heard watch.new)) }
+    ensures unheard { IfErr result (λ _. W.heard watch.new ≡ W.heard watch.old) }
 {
     let region = match Region::new(alloc, job.memory as usize) {
         Ok(region) => region,
         Err(_) => return Err(RunFault::HostMemory),
     };
-    let (outcome, region) = if watched {
-        run(alloc, region, job, watch)
-    } else {
-        run(alloc, region, job, &mut Unwatched)
-    };
+    let (outcome, region) = run_in(alloc, region, job, watched, watch);
     region.close();
     outcome
 }
@@ -89,6 +113,8 @@ pub fn outcome_of<W: Watch>(
     requires few { length job.now.apps.items ≤ 64 }
     ensures outcome { IfOk result (λ outcome. LeftByRun job.now (outcome_seen outcome)) }
     ensures alone { IfOk result (λ outcome. EachLaunched IsAlone job.now outcome) }
+    ensures heard { IfOk result (λ outcome. Hears watched job.now outcome.done (W.heard watch.old) (W.heard watch.new)) }
+    ensures unheard { IfErr result (λ _. W.heard watch.new ≡ W.heard watch.old) }
     ensures fault { IfErr result (λ fault. IsRunFault system.now job.now (message_of fault)) }
 {
     match ran(alloc, job, watched, watch) {
@@ -122,8 +148,30 @@ fn write_all<H: Host>(
     }
 }
 
-/// Runs a job whose System file is read at the path `system`, and writes what the job leaves into a new folder. A run
-/// that stopped is a fault once all that it leaves is written. What the paths need is taken before the run.
+/// Writes what a run leaves into a new folder. A run that stopped is a fault once all that it leaves is written.
+fn written<H: Host>(
+    host: &mut H,
+    folder: &str,
+    outcome: &Outcome,
+    room: String,
+) -> Result<(), ToolFault>
+    requires { HasRoom folder.now (string_capacity room) }
+    ensures silent { H.printed host.new ≡ H.printed host.old }
+    ensures whole { OnOk result (outcome.now.stopped ≡ false) }
+    ensures written { OnOk result (H.accesses host.new
+        ≡ and_then (H.accesses host.old) (writes_for folder.now (outcome_seen outcome.now))) }
+    ensures unwell { IfErr result (λ fault. IsUnwell folder.now (outcome_seen outcome.now)
+        (H.accesses host.old) (H.accesses host.new) (message_of fault)) }
+{
+    write_all(host, folder, outcome, room)?;
+    if outcome.stopped {
+        return Err(ToolFault::HostMemory);
+    }
+    Ok(())
+}
+
+/// Runs a job whose System file is read at the path `system`, and writes what the job leaves into a new folder. What the
+/// paths need is taken before the run.
 fn leave<H: Host, W: Watch>(
     alloc: Global,
     host: &mut H,
@@ -135,16 +183,14 @@ fn leave<H: Host, W: Watch>(
     requires memory { IsMemory job.now.memory }
     requires few { length job.now.apps.items ≤ 64 }
     ensures silent { H.printed host.new ≡ H.printed host.old }
-    ensures left { OnOk result (Leaves errand.entry.out.now job.now (H.accesses host.old) (H.accesses host.new)) }
-    ensures unleft { IfErr result (λ fault. IsUnleft system.now errand.entry.out.now job.now
-        (H.accesses host.old) (H.accesses host.new) (message_of fault)) }
+    ensures left { OnOk result (Leaves errand.entry.out.now errand.entry.watched job.now
+        (W.heard watch.old) (W.heard watch.new) (H.accesses host.old) (H.accesses host.new)) }
+    ensures unleft { IfErr result (λ fault. IsUnleft system.now errand.entry.out.now errand.entry.watched job.now
+        (W.heard watch.old) (W.heard watch.new) (H.accesses host.old) (H.accesses host.new) (message_of fault)) }
 {
     let room = room_for_paths(alloc, errand.out)?;
     let outcome = outcome_of(alloc, job, system, errand.watched, watch)?;
-    write_all(host, errand.out, &outcome, room)?;
-    if outcome.stopped {
-        return Err(ToolFault::HostMemory);
-    }
+    written(host, errand.out, &outcome, room)?;
     Ok(())
 }
 
@@ -168,13 +214,14 @@ pub fn run_job<H: Host, W: Watch>(
 
     // The job and all that its lines name are read; then the folder is made, and the files that the run leaves, by the
     // definition of the desk, are written, in their order. No other file is read or written.
-    ensures runs { OnOk result (Runs errand.entry.job.now errand.entry.out.now
-        (H.accesses host.old) (H.accesses host.new)) }
+    ensures runs { OnOk result (Runs errand.entry.job.now errand.entry.out.now errand.entry.watched
+        (W.heard watch.old) (W.heard watch.new) (H.accesses host.old) (H.accesses host.new)) }
 
     // The fault is the first in that order, and nothing is read or written after it; but a run that stops, since the host
-    // is out of memory, has its fault after all that it leaves is written.
-    ensures stopped { IfErr result (λ fault. IsStopped errand.entry.job.now errand.entry.out.now
-        (H.accesses host.old) (H.accesses host.new) (message_of fault)) }
+    // is out of memory, has its fault after all that it leaves is written. The watch has heard nothing of a run that did
+    // not begin.
+    ensures stopped { IfErr result (λ fault. IsStopped errand.entry.job.now errand.entry.out.now errand.entry.watched
+        (W.heard watch.old) (W.heard watch.new) (H.accesses host.old) (H.accesses host.new) (message_of fault)) }
 {
     let bytes = read_input(alloc, host, errand.job)?;
     let text = job_text(alloc, errand.job, &bytes)?;

@@ -1,12 +1,13 @@
 //! A task: what is printed of the bytes of its file.
 
-ghost use Rattle.std.specs.Prelude.{◌≡◌, IfOk, IfErr, OnOk, string_bytes};
+ghost use Rattle.std.specs.Prelude.{◌≡◌, IfOk, IfErr, OnOk, codes, string_bytes};
 ghost use Rattle.std.specs.Io.KnownBytes.{append_known};
 ghost use Rattle.fork_commands.specs.Reading.{content_in};
-ghost use Rattle.commands.specs.Fault.{message_of};
+ghost use Rattle.commands.specs.Accesses.{RefusesWrite};
+ghost use Rattle.commands.specs.Fault.{message_of, write_message};
 ghost use Rattle.commands.specs.Work.{IsTranscriptOf, IsZoneOf, IsListingOf, IsFormText};
 ghost use Rattle.commands.specs.Printing.{PrintsFront};
-ghost use Rattle.commands.specs.Tasks.{script_message, fork_message, write_message, IsScriptFault, IsForkFault};
+ghost use Rattle.commands.specs.Tasks.{script_message, fork_message, IsScriptFault, IsForkFault};
 ghost use Rattle.commands.specs.Tasks.{output_text, IsPrinted, IsFault, Prints, IsRefusal};
 
 use crate::delivering::STANDARD_OUTPUT;
@@ -184,7 +185,8 @@ pub fn output_of<'b, W: Watch>(
 fn print_output<H: Host>(alloc: Global, host: &mut H, output: &Output<'_>) -> Result<(), WriteError>
     ensures all { OnOk result (H.printed host.new ≡ append_known (H.printed host.old) (output_text output.now)) }
     ensures front { PrintsFront (output_text output.now) (H.printed host.old) (H.printed host.new) }
-    ensures files { H.accesses host.new ≡ H.accesses host.old }
+    ensures files { OnOk result (H.accesses host.new ≡ H.accesses host.old) }
+    ensures refused { IfErr result (λ error. RefusesWrite (codes "-") error (H.accesses host.old) (H.accesses host.new)) }
 {
     match output {
         Output::Text(text) => host.print(text.as_slice()),
@@ -212,10 +214,10 @@ pub fn do_task<H: Host, W: Watch>(
 
     // The bytes are faulty and nothing is printed, or printing failed.
     ensures fault { IfErr result (λ fault. IsRefusal task.entry.work task.entry.path.now bytes.now
-        (H.printed host.old) (H.printed host.new) (message_of fault)) }
+        (H.printed host.old) (H.printed host.new) (H.accesses host.old) (H.accesses host.new) (message_of fault)) }
 
     // No file is read or written.
-    ensures files { H.accesses host.new ≡ H.accesses host.old }
+    ensures files { OnOk result (H.accesses host.new ≡ H.accesses host.old) }
 {
     let output = output_of(alloc, task, bytes, watch)?;
     match print_output(alloc, host, &output) {

@@ -1,9 +1,11 @@
 //! The words of the command line. Only this module, `fork_words`, `zone_words` and `parsing` use the
 //! parser.
 
-ghost use Rattle.std.specs.Prelude.{IfOk, IfErr};
+ghost use Rattle.std.specs.Prelude.{map, IfOk, IfErr};
+ghost use Rattle.commands.specs.Asking.{IsAskedBy};
 ghost use Rattle.commands.specs.Fault.{message_of, IsUsage};
 
+use crate::asking::is_asked;
 use crate::fault::ToolFault;
 use crate::fork_words::{FORK_HELP, fork_request, with_fork_commands};
 use crate::listing::{MapStyle, Spelling};
@@ -297,12 +299,28 @@ fn asked<'a>(alloc: Global, matches: &ArgMatches<'a>) -> Result<Request<'a>, Too
     }
 }
 
-/// Reads the words of the command line, the program's name first.
-pub fn read_words<'a>(alloc: Global, words: &'a [&'a str]) -> Result<Request<'a>, ToolFault>
+/// Returns the request that the parser finds in the words of the command line.
+fn parsed<'a>(alloc: Global, words: &'a [&'a str]) -> Result<Request<'a>, ToolFault>
     ensures { IfErr result (λ fault. IsUsage (message_of fault)) }
 {
     match program(alloc)?.try_get_matches_from(words) {
         Ok(matches) => asked(alloc, &matches),
         Err(error) => Err(usage(alloc, &error)),
+    }
+}
+
+/// The mistake of a request for which the words don't ask; the parser finds none.
+const NOT_ASKED: &str = "the words don't ask for this";
+
+/// Reads the words of the command line, the program's name first. The request that the parser finds is tested: a
+/// request for which the words don't ask is none.
+pub fn read_words<'a>(alloc: Global, words: &'a [&'a str]) -> Result<Request<'a>, ToolFault>
+    ensures asked { IfOk result (λ request. IsAskedBy (map (λ word. word.now) words.entry.now) request) }
+    ensures fault { IfErr result (λ fault. IsUsage (message_of fault)) }
+{
+    match parsed(alloc, words) {
+        Ok(request) if is_asked(words, &request) => Ok(request),
+        Ok(_) => Err(mistake(alloc, program(alloc)?, NOT_ASKED)),
+        Err(fault) => Err(fault),
     }
 }

@@ -26,11 +26,11 @@ use Rattle.desk.specs.Phase.{Live, Phase, Waiting, Running, Ended, Next, GoesOn,
 use Rattle.desk.specs.Phase.{called, run_out, step_of, stepped, quitted, and_then, turn_through, acted, acted_by, come_by, told_of}
 use Rattle.partitions.specs.Grant.{grant}
 use Rattle.desk.specs.Sizes.{sizes_of}
-use Rattle.desk.specs.Desk.{Place, State, coming, place_come, ready, begun_in, begun_if, launch_answer, after_events, told}
+use Rattle.desk.specs.Desk.{Place, State, coming, place_come, ready, begun_in, begun_if, launch_answer, acted_at, after_event, after_events, told}
 use Rattle.desk.specs.Job.{place_given, opening, start_of}
 use Rattle.desk.specs.Alone.{launched_alone, RunsAsAlone, LeftAsAlone, IsAsAlone, IsPlaceOf}
-use Rattle.desk.specs.Halting.{After}
-use Rattle.desk.proofs.Events.{Pairs, pairs_kept, pairs_within, pair_at}
+use Rattle.desk.specs.Halting.{HaltsAfter}
+use Rattle.desk.proofs.Events.{Pairs, acted-pairs, event-pairs, pairs_kept, pairs_within, pair_at}
 
 -- The desk seen from one application is that application alone.
 
@@ -272,7 +272,7 @@ launched-place system app p s live is so = record {
   phase = launched-alone (start_of system app) app.script p.phase s live is so.phase;
 }
 
-given-alone : (system : Content) (apps : List App) → Pairs (IsPlaceOf system) apps (map (place_given system) apps)
+pub given-alone : (system : Content) (apps : List App) → Pairs (IsPlaceOf system) apps (map (place_given system) apps)
 given-alone system [] = tt
 given-alone system (app ∷ apps) = (record { name = refl; script = refl; phase = refl }, given-alone system apps)
 
@@ -284,12 +284,25 @@ all_alone memory system apps events =
     (λ app p s live is so. launched-place system app p s live is so) apps events (opening memory system apps)
     (given-alone system apps)
 
--- and each place after some completed launches, steps and quits
-pub after_alone : (memory : ℕ) (system : Content) (apps : List App) (events : List Event) (Q : State → Type 0)
-    → After Q events (opening memory system apps) → (m : State) × Pairs (IsPlaceOf system) apps m.places × Q m
-after_alone memory system apps events Q within =
+-- so it is after a turn, and after any event
+pub act_alone : (system : Content) (apps : List App) (i : ℕ) (s : State) → Pairs (IsPlaceOf system) apps s.places
+    → Pairs (IsPlaceOf system) apps (acted_at Turn i s).places
+act_alone system apps i s so =
+    acted-pairs (IsPlaceOf system) (λ act app p so. acted-place system act app p so)
+    (λ app p s live is so. launched-place system app p s live is so) apps Turn i (slice_get s.places i) s refl so
+
+pub event_alone : (system : Content) (apps : List App) (e : Event) (s : State) → Pairs (IsPlaceOf system) apps s.places
+    → Pairs (IsPlaceOf system) apps (after_event e s).places
+event_alone system apps e s so =
+    event-pairs (IsPlaceOf system) (λ act app p so. acted-place system act app p so)
+    (λ app p s live is so. launched-place system app p s live is so) apps e s so
+
+-- and each place where a run stops
+pub after_alone : (memory : ℕ) (system : Content) (apps : List App) (done : ℕ) (events : List Event) (Q : State → Type 0)
+    → HaltsAfter Q done events (opening memory system apps) → (m : State) × Pairs (IsPlaceOf system) apps m.places × Q m
+after_alone memory system apps done events Q within =
     pairs_within (IsPlaceOf system) (λ act app p so. acted-place system act app p so)
-    (λ app p s live is so. launched-place system app p s live is so) apps Q events (opening memory system apps)
+    (λ app p s live is so. launched-place system app p s live is so) apps Q done events (opening memory system apps)
     (given-alone system apps) within
 
 pub seen_alone : (memory : ℕ) (system : Content) (apps : List App) (events : List Event) (i : ℕ) (app : App) (p : Place)

@@ -4,9 +4,12 @@ use Rattle.std.specs.Prelude.{IsOk, OnOk}
 use Rattle.std.proofs.Common.{true, false, slice_get, slice_set, slice_index_or, IfSome, ◌<◌, refl, sym, ◌∙◌, ap, subst}
 use Rattle.std.specs.Borrow.{Bor}
 use Rattle.std.specs.Slice.{IsItemAt}
+use Rattle.std.specs.Option.{ok_or}
 use Rattle.std.proofs.lemmas.Option.{slice_get-map, slice_get_read, slice_get_past}
 use Rattle.windows.specs.declared.Window.{Window}
+use Rattle.std.proofs.lemmas.List.Elements.{All-contains}
 use Rattle.windows.specs.Windows.{put_in}
+use Rattle.windows.specs.Outside.{IsOutside}
 use Rattle.mac_words.specs.declared.code.OsErr.{OsErr}
 use Rattle.res_calls.specs.Files.{Resources}
 use Rattle.heap_calls.specs.declared.refusal.Refusal.{Refusal}
@@ -17,6 +20,8 @@ use Rattle.desk.specs.Phase.{Phase, Waiting, Running, Ended, begun, waits}
 use Rattle.desk.specs.Sizes.{Sizes, sizes_of}
 use Rattle.desk.specs.Ready.{IsReady}
 use Rattle.desk.specs.Desk.{Place, State}
+use Rattle.desk.specs.Free.{IsFree}
+use Rattle.desk.proofs.Holding.{contains-put_in}
 use Rattle.desk.specs.Desk.{launch_reply, reply_at, size_granted, begun_in, begun_with, begun_if, ready, launched_by, launched_in, launched_at}
 
 -- a state by its parts
@@ -40,12 +45,26 @@ module _ (i : ℕ) (s : State) (p : Place) (here : slice_get s.places i ≡ Some
       stands (launched_by (begun_if (Err code) s) i p s) m ws ps text hm hw hp ht
       ∙ sym (ap (λ o. launched_in i o s) here ∙ ap (λ r. launched_by (begun_if r s) i p s) e)
 
-  answered : (r : Resources) (sizes : Sizes) (o : Option Window) → ready p.phase ≡ Ok r → sizes ≡ sizes_of r
+  pub answered : (r : Resources) (sizes : Sizes) (o : Option Window) → ready p.phase ≡ Ok r → sizes ≡ sizes_of r
       → o ≡ grant s.memory s.windows sizes.preferred sizes.minimum → launched_at i s ≡ launched_by (begun_in r o) i p s
   answered r sizes o e hs ho =
       ap (λ q. launched_in i q s) here ∙ ap (λ q. launched_by (begun_if q s) i p s) e
       ∙ ap (λ (z : Sizes). launched_by (begun_with r z s) i p s) (sym hs)
       ∙ ap (λ q. launched_by (begun_in r q) i p s) (sym ho)
+
+  -- a place that is free after the launch is outside the window that the launch is granted
+  pub out_granted : (place : ℕ) (r : Resources) (sizes : Sizes) → ready p.phase ≡ Ok r → sizes ≡ sizes_of r
+      → IsFree place (launched_at i s)
+      → IfSome (grant s.memory s.windows sizes.preferred sizes.minimum) (λ w. IsOutside place w)
+  out_granted place r sizes e hs f =
+      by_grant (grant s.memory s.windows sizes.preferred sizes.minimum)
+      (subst (IsFree place) (answered r sizes (grant s.memory s.windows sizes.preferred sizes.minimum) e hs refl) f)
+    where
+      by_grant : (o : Option Window) → IsFree place (launched_by (begun_in r o) i p s)
+          → IfSome o (λ w. IsOutside place w)
+      by_grant None f = tt
+      by_grant (Some w) f =
+          All-contains (λ v. IsOutside place v) (put_in w s.windows) w f (contains-put_in w s.windows)
 
   -- there is no room for it
   pub launched-full : (r : Resources) (sizes : Sizes) (m : ℕ) (ws : List Window) (ps : List Place) (text : List ℕ)
@@ -76,6 +95,11 @@ module _ (i : ℕ) (s : State) (p : Place) (here : slice_get s.places i ≡ Some
       sym (ap (λ q. launch_reply q s) here ∙ ap (λ q. size_granted (begun_if q s)) e
       ∙ ap (λ (z : Sizes). size_granted (begun_with r z s)) (sym hs)
       ∙ ap (λ q. size_granted (begun_in r q)) (sym ho))
+
+-- a window that was granted
+pub granted-some : {A E : Type 0} (r : Result A E) (o : Option A) (e : E) (x : A) → r ≡ ok_or o e → r ≡ Ok x → o ≡ Some x
+granted-some r None e x is ok = cc
+granted-some r (Some y) e x is ok = cc
 
 -- what was written stays, once it is told
 pub through : {A B E : Type 0} (r : Result A E) (w : Result B E) (P : Type 0) → OnOk r (IsOk w) → OnOk w P → OnOk r P

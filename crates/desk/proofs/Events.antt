@@ -9,7 +9,7 @@ use Rattle.desk.specs.declared.job.App.{App}
 use Rattle.script_text.specs.declared.script.Line.{Line}
 use Rattle.desk.specs.Phase.{Live, Phase, Waiting, Running, Ended, Next, GoesOn, Ends, come_by, stepped}
 use Rattle.desk.specs.Halting.{Goes, WithinTurn, WithinAct, WithinPhase, WithinOf, WithinAt, WithinTurns, WithinRounds}
-use Rattle.desk.specs.Halting.{WithinEvent, After}
+use Rattle.desk.specs.Halting.{WithinEvent, HaltsAfter}
 use Rattle.desk.specs.Desk.{Place, State, coming, place_come, acted_in, acted_at, launch_answer, launched_by}
 use Rattle.desk.specs.Desk.{launched_in, each_turned, round, any_runs, rounds, longest, after_event, after_events}
 
@@ -50,7 +50,7 @@ module _ (P : App → Place → Type 0)
   set-pairs [] (r ∷ places) i p q is on so = absurd so
   set-pairs (app ∷ all) [] i p q is on so = absurd so
 
-  acted-pairs : (act : Act) (i : ℕ) (o : Option Place) (s : State) → slice_get s.places i ≡ o
+  pub acted-pairs : (act : Act) (i : ℕ) (o : Option Place) (s : State) → slice_get s.places i ≡ o
       → Pairs P apps s.places → Pairs P apps (acted_in act i o s).places
   acted-pairs act i None s is so = so
   acted-pairs act i (Some p) s is so =
@@ -82,7 +82,7 @@ module _ (P : App → Place → Type 0)
       by_runs goes true = goes
       by_runs goes false = so
 
-  event-pairs : (e : Event) (s : State) → Pairs P apps s.places → Pairs P apps (after_event e s).places
+  pub event-pairs : (e : Event) (s : State) → Pairs P apps s.places → Pairs P apps (after_event e s).places
   event-pairs (event.Launch i) s so = launched-pairs i (slice_get s.places i) s refl so
   event-pairs (event.Step i) s so = acted-pairs Step i (slice_get s.places i) s refl so
   event-pairs (event.Turn i) s so = acted-pairs Turn i (slice_get s.places i) s refl so
@@ -164,12 +164,13 @@ module _ (P : App → Place → Type 0)
   event-within Q (event.Quit i) s so within = at-within Q Quit i s so within
   event-within Q event.Rest s so within = rounds-within Q (suc (longest s.places)) s so within
 
-  pub pairs_within : (Q : State → Type 0) (events : List Event) (s : State) → Pairs P apps s.places → After Q events s
-      → (m : State) × Pairs P apps m.places × Q m
-  pairs_within Q [] s so within = (s, so, within)
-  pairs_within Q (e ∷ events) s so (inl within) = event-within Q e s so within
-  pairs_within Q (e ∷ events) s so (inr within) =
-      pairs_within Q events (after_event e s) (event-pairs e s so) within
+  pub pairs_within : (Q : State → Type 0) (done : ℕ) (events : List Event) (s : State) → Pairs P apps s.places
+      → HaltsAfter Q done events s → (m : State) × Pairs P apps m.places × Q m
+  pairs_within Q zero [] s so within = (s, so, within.0)
+  pairs_within Q zero (e ∷ events) s so within = event-within Q e s so within
+  pairs_within Q (suc done) [] s so within = absurd within
+  pairs_within Q (suc done) (e ∷ events) s so within =
+      pairs_within Q done events (after_event e s) (event-pairs e s so) within
 
   pub pairs_kept : (events : List Event) (s : State) → Pairs P apps s.places
       → Pairs P apps (after_events events s).places

@@ -1,8 +1,13 @@
-use Rattle.std.proofs.Common.{◌≡◌, ℕ, ◌+◌, ◌<◌, ◌++◌, List, length, map, drop, slice_index_or, sym, ◌∙◌, append_assoc}
+use Rattle.std.proofs.Common.{◌≡◌, ◌≢◌, ℕ, ◌+◌, ◌<◌, ◌++◌, Bool, true, cond, List, [], length, map, drop, slice_index_or, sym, ◌∙◌}
+use Rattle.std.proofs.Common.{append_assoc, ap, arith}
+use Rattle.std.proofs.lemmas.List.{nil_from_length, length-append}
 use Rattle.std.proofs.lemmas.List.{at_drop_more}
 use Rattle.std.specs.List.{flat_map}
 use Rattle.res_calls.specs.declared.files.File.{File as StoredFile}
 use Rattle.res_calls.specs.View.{view_file}
+use Rattle.res_calls.specs.Files.{File}
+use Rattle.applications.specs.Replies.{Extends}
+use Rattle.script_text.specs.DeskLog.{fork_of}
 use Rattle.desk.specs.declared.outcome.AppOutcome.{AppOutcome}
 use Rattle.desk.specs.Outcome.{fork_told, forks_told, forks_of}
 use Rattle.desk.specs.View.{told_seen}
@@ -26,3 +31,23 @@ apps_next text apps i a less =
     at_drop_more (λ (xs : List AppOutcome). text ++ flat_map forks_of (map told_seen xs)) apps i a less
     ∙ sym (append_assoc text (forks_of (told_seen (slice_index_or apps i a)))
     (flat_map forks_of (map told_seen (drop (i + 1) apps))))
+
+-- A fork that was written has a line.
+
+no-line : (name : List ℕ) (k : ℕ) (file : List ℕ) (len : ℕ) → fork_of name k file len ≡ [] → ⊥
+no-line name k file len is = absurd cc
+
+pub some-line : (name : List ℕ) (k : ℕ) (f : File) → f.written ≡ true → fork_told name k f ≢ []
+some-line name k f is none =
+    no-line name k f.name (length f.fork)
+    (sym (ap (λ (t : Bool). cond t (fork_of name k f.name (length f.fork)) []) is) ∙ none)
+
+-- where a line is still to come, there are lines
+pub still-lines : (text old item rest all : List ℕ) → (text ++ item) ++ rest ≡ old ++ all → Extends old text → item ≢ []
+    → all ≢ []
+still-lines text old item rest all is front some none = some (nil_from_length item (
+    let same = sym (length-append (text ++ item) rest) ∙ ap (λ (xs : List ℕ). length xs) is ∙ length-append old all in
+    let first = length-append text item in
+    let long = ap (λ (xs : List ℕ). length xs) front.1 ∙ length-append old front.0 in
+    let empty : length all ≡ 0 = ap (λ (xs : List ℕ). length xs) none in
+    omega (arith, same, first, long, empty)))

@@ -10,7 +10,7 @@ use Rattle.desk.specs.declared.job.Job.{Job}
 use Rattle.desk.specs.declared.outcome.Outcome as declared
 use Rattle.desk.specs.Outcome.{Launched, AppResult, Outcome}
 use Rattle.desk.specs.Desk.{Place, after_events, told}
-use Rattle.desk.specs.Halting.{IsLeft, halted}
+use Rattle.desk.specs.Halting.{Halt, IsLeft, halted}
 use Rattle.desk.specs.Job.{opening, start_of}
 use Rattle.desk.specs.Alone.{launched_alone, IsPlaceOf}
 use Rattle.desk.specs.View.{outcome_seen}
@@ -59,8 +59,8 @@ each-left P each system memory apps events found (inl is) =
     (each-keeps P each system apps (after_events events (opening memory system apps)).places
     (all_alone memory system apps events))
 each-left P each system memory apps events found (inr within) =
-    let reached = after_alone memory system apps events (λ m. halted m ≡ found) within in
-    subst (λ (o : Outcome). OfEach P system apps o.apps) reached.2
+    let reached = after_alone memory system apps found.done events (λ m. halted m ≡ (found.log, found.apps)) within.1 in
+    subst (λ (h : Halt). OfEach P system apps h.1) reached.2
     (each-keeps P each system apps reached.0.places reached.1)
 
 -- such a law holds of each application that a run launched

@@ -1,7 +1,8 @@
 use Rattle.std.proofs.Common.{◌≡◌, ◌∙◌, ◌+◌, ◌-◌, ◌<◌, inl, inr, ℕ, Bool, true, false, Option, Some, None, List, [], ◌∷◌}
 use Rattle.std.proofs.Common.{length, map, drop, slice_get, slice_set, slice_index_or, refl, sym, ap, subst, arith, zero, suc}
-use Rattle.std.proofs.Common.{◌++◌, ◌≤◌, append-nil, option_map, IfSome}
+use Rattle.std.proofs.Common.{◌++◌, ◌≤◌, ◌≢◌, append-nil, option_map, IfSome}
 use Rattle.std.proofs.lemmas.List.{map-set, at_drop_more}
+use Rattle.std.specs.List.{flat_map}
 use Rattle.script_text.specs.DeskLog.{end_of}
 use Rattle.std.specs.Prelude.{Result, Ok, Err, IsOk, is_ok, OnOk, OnErr}
 use Rattle.windows.specs.declared.Window.{Window}
@@ -14,13 +15,13 @@ use Rattle.applications.specs.Elsewhere.{moved}
 use Rattle.applications.specs.Step.{is_wait}
 use Rattle.desk.specs.declared.act.Act.{Act}
 use Rattle.desk.specs.declared.act.Act.TheVariants.{Step, Turn, Quit}
-use Rattle.desk.specs.Outcome.{AppResult, Launched, Outcome, outcome_told}
+use Rattle.desk.specs.Outcome.{AppResult, Launched, Outcome, forks_of, outcome_told}
 use Rattle.desk.specs.Phase.{Phase, Waiting, Running, Ended, Live, Next, GoesOn, Ends, Left, leaves, stepped, told_of}
 use Rattle.desk.specs.Desk.{Place, State, acted_at, acted_in, after_event, after_events, coming, end_told, left_by, outcome_of}
 use Rattle.desk.specs.Desk.{places_acted, round, told, windows_after}
 use Rattle.desk.specs.Halting.{Goes, WithinTurn, WithinAct, WithinPhase, WithinPlace, WithinOf, WithinPlaces, WithinAt}
 use Rattle.desk.proofs.Places.{seen_at}
-use Rattle.desk.specs.Halting.{WithinTurns, WithinRounds, WithinEvent, After, IsLeft, halted, halted_with}
+use Rattle.desk.specs.Halting.{WithinTurns, WithinRounds, WithinEvent, WroteForks, HaltsAfter, IsLeft, halted}
 
 -- What holds within an act, a round or events.
 
@@ -42,7 +43,7 @@ phase-begun P act script (Running live) so = act-begun (λ m. P (Running m)) act
 phase-begun P act script (Ended l) so = so
 
 -- setting a place to what it holds changes nothing
-same_place : {X : Type 0} (xs : List X) (i : ℕ) (x : X) → slice_get xs i ≡ Some x → slice_set xs i x ≡ xs
+pub same_place : {X : Type 0} (xs : List X) (i : ℕ) (x : X) → slice_get xs i ≡ Some x → slice_set xs i x ≡ xs
 same_place [] i x is = cc
 same_place (y ∷ xs) zero x is = let same : y ≡ x = cc in ap (λ z. z ∷ xs) (sym same)
 same_place (y ∷ xs) (suc i) x is = ap (λ zs. y ∷ zs) (same_place xs i x is)
@@ -128,15 +129,16 @@ rounds_next P n i s less within =
     inr (subst (λ (k : ℕ). WithinRounds P k (round s)) (sym more) within)
 
 -- one more event, and a halt in it
-pub events_within : (P : State → Type 0) (events : List Event) (i : ℕ) (e : Event) (s : State) → i < length events
-    → After P (drop (i + 1) events) (after_event (slice_index_or events i e) s) → After P (drop i events) s
-events_within P events i e s less within =
-    subst (λ es. After P es s) (sym (at_drop_more (λ (es : List Event). es) events i e less)) (inr within)
+pub events_within : (P : State → Type 0) (k : ℕ) (events : List Event) (i : ℕ) (e : Event) (s : State)
+    → i < length events → HaltsAfter P k (drop (i + 1) events) (after_event (slice_index_or events i e) s)
+    → HaltsAfter P (suc k) (drop i events) s
+events_within P k events i e s less within =
+    subst (λ es. HaltsAfter P (suc k) es s) (sym (at_drop_more (λ (es : List Event). es) events i e less)) within
 
 pub events_halt : (P : State → Type 0) (events : List Event) (i : ℕ) (e : Event) (s : State) → i < length events
-    → WithinEvent P (slice_index_or events i e) s → After P (drop i events) s
+    → WithinEvent P (slice_index_or events i e) s → HaltsAfter P 0 (drop i events) s
 events_halt P events i e s less within =
-    subst (λ es. After P es s) (sym (at_drop_more (λ (es : List Event). es) events i e less)) (inl within)
+    subst (λ es. HaltsAfter P 0 es s) (sym (at_drop_more (λ (es : List Event). es) events i e less)) within
 
 -- the places of which one is set tell what those tell of which an element is set
 pub told_set : {X : Type 0} (v : X → Place) (xs : List X) (i : ℕ) (y : X) (q : Place) → told q ≡ told (v y)
@@ -169,7 +171,7 @@ place_within (Err e) p q act within =
 
 -- two states with the same log, whose places tell the same
 pub halted_alike : (s t : State) → s.log ≡ t.log → map told s.places ≡ map told t.places → halted s ≡ halted t
-halted_alike s t log apps = λ i. record { log = log i; apps = apps i; stopped = true }
+halted_alike s t log apps = λ i. (log i, apps i)
 
 -- an application leaves the same as it stands, with the same text and the same files
 pub leaves_alike : (w : Window) (n : ℕ) (text new : List ℕ) (r after : application.Running) → new ≡ text
@@ -197,28 +199,39 @@ pub ok_then : {T E : Type 0} (result : Result T E) (P : Type 0) → OnOk result 
 ok_then (Ok x) P so well = so
 ok_then (Err e) P so well = absurd (let no : false ≡ true = well in cc)
 
--- what holds after all events
-after_end : (P : State → Type 0) (events : List Event) (s : State) → P (after_events events s) → After P events s
-after_end P [] s so = so
-after_end P (e ∷ events) s so = inr (after_end P events (after_event e s) so)
+-- what holds after all events, where some fork was written
+after_end : (P : State → Type 0) (events : List Event) (s : State) → P (after_events events s)
+    → WroteForks (after_events events s) → HaltsAfter P (length events) events s
+after_end P [] s so forks = (so, forks)
+after_end P (e ∷ events) s so forks = after_end P events (after_event e s) so forks
 
 -- what a run leaves whose events were all performed
-pub left_whole : (o : Outcome) (events : List Event) (s m : State) (log : List ℕ) (apps : List AppResult) → log ≡ m.log
-    → apps ≡ map told m.places → m ≡ after_events events s → (o.stopped ≡ false → o ≡ outcome_told log apps)
-    → (o.stopped ≡ true → o ≡ halted_with log apps) → IsLeft o events s
-left_whole o events s m log apps same told_so done whole stopped = by_stopped o.stopped refl
+pub left_whole : (o : Outcome) (n : ℕ) (events : List Event) (s m : State) (log : List ℕ) (apps : List AppResult)
+    → log ≡ m.log → apps ≡ map told m.places → n ≡ length events → m ≡ after_events events s
+    → (o.stopped ≡ false → o ≡ outcome_told n log apps) → (o.stopped ≡ true → o.log ≡ log) → o.apps ≡ apps
+    → (o.stopped ≡ true → flat_map forks_of apps ≢ []) → o.done ≡ n → IsLeft o events s
+left_whole o n events s m log apps same told_so all done whole stopped kept forks count = by_stopped o.stopped refl
   where
     by_stopped : (t : Bool) → o.stopped ≡ t → IsLeft o events s
-    by_stopped false is = inl (whole is ∙ (λ i. outcome_told (same i) (told_so i)) ∙ ap outcome_of done)
-    by_stopped true is =
-        inr (after_end (λ n. halted n ≡ o) events s
-        (ap halted (sym done) ∙ sym (stopped is ∙ (λ i. halted_with (same i) (told_so i)))))
+    by_stopped false is =
+        inl (whole is ∙ (λ i. outcome_told (all i) (same i) (told_so i)) ∙ ap (outcome_of (length events)) done)
+    by_stopped true is = inr (
+      is,
+      subst (λ (k : ℕ). HaltsAfter (λ n. halted n ≡ (o.log, o.apps)) k events s) (sym (count ∙ all))
+          (after_end (λ n. halted n ≡ (o.log, o.apps)) events s
+          (ap halted (sym done) ∙ (λ i. (sym (stopped is ∙ same) i, sym (kept ∙ told_so) i)))
+          (subst WroteForks done (subst (λ (ts : List AppResult). flat_map forks_of ts ≢ []) told_so (forks is)))),
+    )
 
--- what a run leaves that stopped
-pub left_halted : (o : Outcome) (events : List Event) (s m : State) (log : List ℕ) (apps : List AppResult) → log ≡ m.log
-    → apps ≡ map told m.places → After (λ n. halted n ≡ halted m) events s → o ≡ halted_with log apps → IsLeft o events s
-left_halted o events s m log apps same told_so within is =
-    inr (subst (λ (x : Outcome). After (λ n. halted n ≡ x) events s) (sym (is ∙ (λ i. halted_with (same i) (told_so i)))) within)
+-- what a run leaves that stopped within an event
+pub left_halted : (o : Outcome) (n : ℕ) (events : List Event) (s m : State) → o.log ≡ m.log
+    → o.apps ≡ map told m.places → HaltsAfter (λ n. halted n ≡ halted m) n events s → o.stopped ≡ true → o.done ≡ n
+    → IsLeft o events s
+left_halted o n events s m same told_so within is count = inr (
+  is,
+  subst (λ (k : ℕ). HaltsAfter (λ n. halted n ≡ (o.log, o.apps)) k events s) (sym count)
+      (subst (λ x. HaltsAfter (λ n. halted n ≡ x) n events s) (λ i. (sym same i, sym told_so i)) within),
+)
 
 -- A desk that stops in an act.
 

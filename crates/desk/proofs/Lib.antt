@@ -11,6 +11,8 @@ pub mod Leaving
 pub mod Lying
 pub mod Places
 pub mod Resting
+pub mod Steps
 pub mod Rounds
+pub mod Told
 pub mod WholeRegion
 pub mod Halting

@@ -9,13 +9,14 @@ use Rattle.windows.specs.Windows.{IsApart, InOrder, Misses}
 use Rattle.windows.proofs.Listed.{All-without_window}
 use Rattle.windows.proofs.Ordered.{apart-taken_out}
 use Rattle.block_store.specs.Block.{Block}
+use Rattle.block_store.specs.Slot.{Slot}
 use Rattle.fork_format.specs.Content.{Content}
 use Rattle.desk.specs.declared.job.Job.{Job}
 use Rattle.desk.specs.Phase.{Phase, Waiting, Running, Ended, window_of}
 use Rattle.desk.specs.Desk.{Place, after_events}
 use Rattle.desk.specs.Job.{opening}
 use Rattle.desk.specs.Held.{closed}
-use Rattle.desk.specs.Lying.{Lying, IsZoneOf, LiesOf, LiesAt, AllLie, LieAfter, LieAtEnd}
+use Rattle.desk.specs.Lying.{Lying, IsHeapOf, LiesOf, LiesAt, AllLie, LieAfter, LieAtEnd}
 use Rattle.desk.specs.Whole.{system_of}
 
 -- the windows of those who left meet no window that is out
@@ -28,18 +29,21 @@ abbrev pub LeftSo : Lying → List Window → List Place → List Place → Type
 LeftSo Left ws rest places = (front : List Place) × (places ≡ front ++ rest) × AllLie Left front × AllClear ws front
 
 -- the zone of who leaves lies in its window
-pub lies_of : {S : Type 0} (zone : S → List Block) (Left : Lying) (phase : Phase) (freed : Option (Window × S))
-    → option_map (λ f. f.0) freed ≡ window_of phase → IfSome freed (λ f. IsZoneOf phase (zone f.1))
-    → IfSome freed (λ f. Left f.0 (zone f.1)) → LiesOf Left phase
-lies_of zone Left (Running live) (Some f) same named lies =
-    let is : f.0 ≡ live.window = cc in (zone f.1, named, subst (λ v. Left v (zone f.1)) is lies)
-lies_of zone Left (Running live) None same named lies = absurd cc
-lies_of zone Left (Waiting start) freed same named lies = tt
-lies_of zone Left (Ended launched) freed same named lies = tt
+pub lies_of : {S : Type 0} (zone : S → List Block) (slots : S → ℕ → Slot) (Left : Lying) (phase : Phase)
+    (freed : Option (Window × S)) → option_map (λ f. f.0) freed ≡ window_of phase
+    → IfSome freed (λ f. IsHeapOf phase (zone f.1) (slots f.1))
+    → IfSome freed (λ f. Left f.0 (zone f.1) (slots f.1)) → LiesOf Left phase
+lies_of zone slots Left (Running live) (Some f) same stored lies =
+    let is : f.0 ≡ live.window = cc in
+    (zone f.1, slots f.1, stored, subst (λ v. Left v (zone f.1) (slots f.1)) is lies)
+lies_of zone slots Left (Running live) None same stored lies = absurd cc
+lies_of zone slots Left (Waiting start) freed same stored lies = tt
+lies_of zone slots Left (Ended launched) freed same stored lies = tt
 
 -- what lies in windows that miss the one that is closed stays
 module _ (L N : Lying) (o : Option Window) (ws : List Window) (here : IfSome o (λ v. Contains ws v))
-    (k : (w : Window) (blocks : List Block) → IfSome o (λ v. Misses w v) → L w blocks → N w blocks) where
+    (k : (w : Window) (blocks : List Block) (slots : ℕ → Slot) → IfSome o (λ v. Misses w v)
+    → L w blocks slots → N w blocks slots) where
   misses : (w : Window) (p : Option Window) → IfSome p (λ v. Contains ws v) → IsApart w.at w.len ws
       → IfSome p (λ v. Misses w v)
   misses w None c a = tt
@@ -47,7 +51,7 @@ module _ (L N : Lying) (o : Option Window) (ws : List Window) (here : IfSome o (
 
   lies_kept : (phase : Phase) → IfSome (window_of phase) (λ w. IsApart w.at w.len ws) → LiesOf L phase → LiesOf N phase
   lies_kept (Waiting start) c l = tt
-  lies_kept (Running live) c l = (l.0, l.1, k live.window l.0 (misses live.window o here c) l.2)
+  lies_kept (Running live) c l = (l.0, l.1, l.2, k live.window l.0 l.1 (misses live.window o here c) l.3)
   lies_kept (Ended launched) c l = tt
 
   all_kept : (ps : List Place) → AllClear ws ps → AllLie L ps → AllLie N ps
@@ -90,7 +94,8 @@ left_begins L ws places = ([], refl, tt, tt)
 
 one_left : (L N : Lying) (n : ℕ) (ws : List Window) (p : Place) (rest places : List Place) → InOrder 0 ws n
     → IfSome (window_of p.phase) (λ w. Contains ws w)
-    → ((w : Window) (blocks : List Block) → IfSome (window_of p.phase) (λ v. Misses w v) → L w blocks → N w blocks)
+    → ((w : Window) (blocks : List Block) (slots : ℕ → Slot) → IfSome (window_of p.phase) (λ v. Misses w v)
+    → L w blocks slots → N w blocks slots)
     → LiesAt N p → LeftSo L ws (p ∷ rest) places → LeftSo N (closed (window_of p.phase) ws) rest places
 one_left L N n ws p rest places order here k lies so =
     let o = window_of p.phase in
@@ -104,7 +109,8 @@ one_left L N n ws p rest places order here k lies so =
 -- one more has left
 pub left_next : (L N : Lying) (n : ℕ) (ws vs : List Window) (p : Place) (ps rest places : List Place) → ps ≡ p ∷ rest
     → vs ≡ closed (window_of p.phase) ws → InOrder 0 ws n → IfSome (window_of p.phase) (λ w. Contains ws w)
-    → ((w : Window) (blocks : List Block) → IfSome (window_of p.phase) (λ v. Misses w v) → L w blocks → N w blocks)
+    → ((w : Window) (blocks : List Block) (slots : ℕ → Slot) → IfSome (window_of p.phase) (λ v. Misses w v)
+    → L w blocks slots → N w blocks slots)
     → LiesAt N p → LeftSo L ws ps places → LeftSo N vs rest places
 left_next L N n ws vs p ps rest places is after order here k lies so =
     subst (λ us. LeftSo N us rest places) (sym after)

@@ -179,5 +179,6 @@ after_events (e ∷ events) s = after_events events (after_event e s)
 abbrev pub told : Place → AppResult
 told p = record { name = p.name; launched = told_of p.phase }
 
-abbrev pub outcome_of : State → Outcome
-outcome_of s = outcome_told s.log (map told s.places)
+-- What a run leaves after so many events, all of which were completed.
+abbrev pub outcome_of : ℕ → State → Outcome
+outcome_of done s = outcome_told done s.log (map told s.places)

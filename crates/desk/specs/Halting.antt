@@ -1,5 +1,6 @@
-use Rattle.std.specs.Prelude.{◌≡◌, ◌⊎◌, ℕ, ◌+◌, true, false, Option, Some, None, List, [], ◌∷◌, drop, length, map}
+use Rattle.std.specs.Prelude.{◌≡◌, ◌≢◌, ◌⊎◌, ℕ, ◌+◌, true, false, Option, Some, None, List, [], ◌∷◌, drop, length, map}
 use Rattle.std.specs.Prelude.{slice_get, slice_set, zero, suc}
+use Rattle.std.specs.List.{flat_map}
 use Rattle.script_text.specs.Script.{ScriptParts}
 use Rattle.script_text.specs.declared.script.Line.{Line}
 use Rattle.script_text.specs.declared.job.Event.{Event}
@@ -7,20 +8,20 @@ use Rattle.script_text.specs.declared.job.Event.TheVariants as event
 use Rattle.applications.specs.Step.{is_wait}
 use Rattle.desk.specs.declared.act.Act.{Act}
 use Rattle.desk.specs.declared.act.Act.TheVariants.{Step, Turn, Quit}
-use Rattle.desk.specs.Outcome.{AppResult, Outcome}
+use Rattle.desk.specs.Outcome.{AppResult, Outcome, forks_of}
 use Rattle.desk.specs.Phase.{Phase, Waiting, Running, Ended, Live, Next, GoesOn, Ends, stepped}
 use Rattle.desk.specs.Desk.{Place, State, acted_at, after_event, after_events, longest, outcome_of, round, told}
 
 -- The host may be out of memory in the midst of a run, which then stops. What counts is what was completed: launches,
 -- steps and quits. A turn is its steps, and a rest is the turns of its rounds.
 
--- What a run leaves that stops in a state of the desk: the log so far, without lines for forks, and what each
--- application leaves as it stands.
-abbrev pub halted_with : List ℕ → List AppResult → Outcome
-halted_with log apps = record { log = log; apps = apps; stopped = true }
+-- What the desk leaves that stops in a state: the log so far, without lines for forks, and what each application leaves
+-- as it stands.
+abbrev pub Halt : Type 0
+Halt = List ℕ × List AppResult
 
-abbrev pub halted : State → Outcome
-halted s = halted_with s.log (map told s.places)
+abbrev pub halted : State → Halt
+halted s = (s.log, map told s.places)
 
 -- The property holds of the application that goes on.
 abbrev pub Goes : (Live → Type 0) → Next → Type 0
@@ -82,14 +83,23 @@ WithinEvent P (event.Turn i) s = WithinAt P Turn i s
 WithinEvent P (event.Quit i) s = WithinAt P Quit i s
 WithinEvent P event.Rest s = WithinRounds P (suc (longest s.places)) s
 
--- The property holds of the desk after some number of completed launches, steps and quits of the events, in order.
-abbrev pub After : (State → Type 0) → List Event → State → Type 0
-After P [] s = P s
-After P (e ∷ events) s = WithinEvent P e s ⊎ After P events (after_event e s)
+-- Some fork was written, so that the desk's log is to end with lines.
+abbrev pub WroteForks : State → Type 0
+WroteForks s = flat_map forks_of (map told s.places) ≢ []
 
--- What a run leaves: what the desk leaves after all events; or it stopped, and leaves what the desk leaves after some
--- number of completed launches, steps and quits, the same number for all parts.
+-- The property holds of the desk where a run stops after so many completed events: within the next event, or, after the
+-- last one, for the lines of the forks.
+abbrev pub HaltsAfter : (State → Type 0) → ℕ → List Event → State → Type 0
+HaltsAfter P zero [] s = P s × WroteForks s
+HaltsAfter P zero (e ∷ events) s = WithinEvent P e s
+HaltsAfter P (suc done) [] s = ⊥
+HaltsAfter P (suc done) (e ∷ events) s = HaltsAfter P done events (after_event e s)
+
+-- What a run leaves: what the desk leaves after all events; or it stopped after those that were completed, and leaves
+-- what was completed of the next one too. Of a turn and of a rest that is what the numbers of the applications' steps say.
 -- See decision 181 (a run that the host stops leaves what was completed).
 abbrev pub IsLeft : Outcome → List Event → State → Type 0
 IsLeft outcome events s =
-    (outcome ≡ outcome_of (after_events events s)) ⊎ After (λ m. halted m ≡ outcome) events s
+    (outcome ≡ outcome_of (length events) (after_events events s))
+    ⊎ ((outcome.stopped ≡ true)
+    × HaltsAfter (λ m. halted m ≡ (outcome.log, outcome.apps)) outcome.done events s)

@@ -34,12 +34,23 @@ forks_of t = by_launched t.launched
     by_launched None = []
     by_launched (Some l) = forks_told t.name 0 l.files
 
--- What a run leaves: the desk's log, which ends with the forks that were written, what the applications leave, and
--- whether the run stopped since the host was out of memory.
+-- The number of steps that the applications took, all together.
+abbrev pub steps_of : Option Launched → ℕ
+steps_of None = 0
+steps_of (Some l) = l.steps
+
+abbrev pub steps_shown : List AppResult → ℕ
+steps_shown [] = 0
+steps_shown (t ∷ told) = steps_of t.launched + steps_shown told
+
+-- What a run leaves: the number of its events that were completed; the desk's log, which ends with the forks that were
+-- written; what the applications leave; and whether the run stopped since the host was out of memory.
 pub record Outcome : Type 0 where
+  pub done : ℕ
   pub log : List ℕ
   pub apps : List AppResult
   pub stopped : Bool
 
-abbrev pub outcome_told : List ℕ → List AppResult → Outcome
-outcome_told log apps = record { log = log ++ flat_map forks_of apps; apps = apps; stopped = false }
+abbrev pub outcome_told : ℕ → List ℕ → List AppResult → Outcome
+outcome_told done log apps =
+    record { done = done; log = log ++ flat_map forks_of apps; apps = apps; stopped = false }

@@ -60,4 +60,9 @@ abbrev pub told_seen : AppOutcome → AppResult
 told_seen a = record { name = a.name.0.items; launched = option_map leaves_seen a.launched }
 
 abbrev pub outcome_seen : declared.Outcome → Outcome
-outcome_seen o = record { log = o.desk.items; apps = map told_seen o.apps.items; stopped = o.stopped }
+outcome_seen o = record {
+  done = o.done;
+  log = o.desk.items;
+  apps = map told_seen o.apps.items;
+  stopped = o.stopped;
+}

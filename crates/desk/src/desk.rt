@@ -9,6 +9,7 @@ ghost use Rattle.windows.specs.Outside.{IsOutside};
 ghost use Rattle.windows.specs.Windows.{Misses, taken_out};
 ghost use Rattle.block_store.specs.Block.{Block, fresh};
 ghost use Rattle.block_store.specs.Rest.{Site};
+ghost use Rattle.block_store.specs.Slot.{Slot};
 ghost use Rattle.block_store.specs.declared.measures.TheConstants.{GREATEST_ZONE};
 ghost use Rattle.fork_format.specs.Content.{Group as GroupValue};
 ghost use Rattle.fork_format.specs.Canonical.{has_refs, are_distinct};
@@ -140,8 +141,8 @@ impl<'j, Z: ZoneMaker> Desk<'j, Z> {
         ensures host { result ≡ Err Refusal.HostMemory → self.new.state ≡ self.old.state }
         ensures memory { self.new.state.memory ≡ self.old.state.memory }
         ensures kept { (w : Stretch) (site : Site) → Z.made self.old.zones w site → Z.made self.new.zones w site }
-        ensures outside { UnlessHostMemory result ((place : ℕ) → IsFree place self.new.state
-            → Z.byte self.new.zones place ≡ Z.byte self.old.zones place) }
+        ensures outside { (place : ℕ) → IsFree place (launched_at i self.old.state)
+            → Z.byte self.new.zones place ≡ Z.byte self.old.zones place }
     {
         match self.try_launch(i) {
             Ok(Ok(size)) => Ok(size),
@@ -151,14 +152,14 @@ impl<'j, Z: ZoneMaker> Desk<'j, Z> {
     }
 
     /// Launches application `i`. Returns the size of its partition, or the result code for which the launch is refused.
-    fn try_launch(&mut self, i: usize) -> Result<Result<u32, OsErr>, AllocError>
+    pub(crate) fn try_launch(&mut self, i: usize) -> Result<Result<u32, OsErr>, AllocError>
         ensures answer { IfOk result (λ reply. reply ≡ reply_at i self.old.state) }
         ensures ok { OnOk result (self.new.state ≡ launched_at i self.old.state) }
         ensures host { OnErr result (self.new.state ≡ self.old.state) }
         ensures memory { self.new.state.memory ≡ self.old.state.memory }
         ensures kept { (w : Stretch) (site : Site) → Z.made self.old.zones w site → Z.made self.new.zones w site }
-        ensures outside { OnOk result ((place : ℕ) → IsFree place self.new.state
-            → Z.byte self.new.zones place ≡ Z.byte self.old.zones place) }
+        ensures outside { (place : ℕ) → IsFree place (launched_at i self.old.state)
+            → Z.byte self.new.zones place ≡ Z.byte self.old.zones place }
     {
         let Some(seat) = self.seats.get(i) else {
             return Ok(Err(OsErr::PROFILE));
@@ -197,8 +198,8 @@ impl<'j, Z: ZoneMaker> Desk<'j, Z> {
         ensures within { OnErr result (WithinAt (λ m. halted m ≡ halted self.new.state) Step i self.old.state) }
         ensures memory { self.new.state.memory ≡ self.old.state.memory }
         ensures kept { (w : Stretch) (site : Site) → Z.made self.old.zones w site → Z.made self.new.zones w site }
-        ensures outside { OnOk result ((place : ℕ) → IsFree place self.old.state
-            → Z.byte self.new.zones place ≡ Z.byte self.old.zones place) }
+        ensures outside { (place : ℕ) → IsFree place self.old.state
+            → IsFree place self.new.state × (Z.byte self.new.zones place ≡ Z.byte self.old.zones place) }
     {
         self.act(i, Act::Step)
     }
@@ -217,8 +218,8 @@ impl<'j, Z: ZoneMaker> Desk<'j, Z> {
         ensures within { OnErr result (WithinAt (λ m. halted m ≡ halted self.new.state) Turn i self.old.state) }
         ensures memory { self.new.state.memory ≡ self.old.state.memory }
         ensures kept { (w : Stretch) (site : Site) → Z.made self.old.zones w site → Z.made self.new.zones w site }
-        ensures outside { OnOk result ((place : ℕ) → IsFree place self.old.state
-            → Z.byte self.new.zones place ≡ Z.byte self.old.zones place) }
+        ensures outside { (place : ℕ) → IsFree place self.old.state
+            → IsFree place self.new.state × (Z.byte self.new.zones place ≡ Z.byte self.old.zones place) }
     {
         self.act(i, Act::Turn)
     }
@@ -234,8 +235,8 @@ impl<'j, Z: ZoneMaker> Desk<'j, Z> {
         ensures within { OnErr result (WithinAt (λ m. halted m ≡ halted self.new.state) Quit i self.old.state) }
         ensures memory { self.new.state.memory ≡ self.old.state.memory }
         ensures kept { (w : Stretch) (site : Site) → Z.made self.old.zones w site → Z.made self.new.zones w site }
-        ensures outside { OnOk result ((place : ℕ) → IsFree place self.old.state
-            → Z.byte self.new.zones place ≡ Z.byte self.old.zones place) }
+        ensures outside { (place : ℕ) → IsFree place self.old.state
+            → IsFree place self.new.state × (Z.byte self.new.zones place ≡ Z.byte self.old.zones place) }
     {
         self.act(i, Act::Quit)
     }
@@ -248,8 +249,8 @@ impl<'j, Z: ZoneMaker> Desk<'j, Z> {
         ensures within { OnErr result (WithinAt (λ m. halted m ≡ halted self.new.state) act i self.old.state) }
         ensures memory { self.new.state.memory ≡ self.old.state.memory }
         ensures kept { (w : Stretch) (site : Site) → Z.made self.old.zones w site → Z.made self.new.zones w site }
-        ensures outside { OnOk result ((place : ℕ) → IsFree place self.old.state
-            → Z.byte self.new.zones place ≡ Z.byte self.old.zones place) }
+        ensures outside { (place : ℕ) → IsFree place self.old.state
+            → IsFree place self.new.state × (Z.byte self.new.zones place ≡ Z.byte self.old.zones place) }
     {
         take_end_room(&mut self.log, &self.seats, i)?;
         let ended = seats::act_at(&mut self.seats, i, act)?;
@@ -361,9 +362,9 @@ fn give_back<Z: ZoneMaker>(zones: &mut Z, grants: &mut Grants, window: Window, s
     ensures zones { Z.windows zones.new ≡ grants.new.windows }
     ensures memory { Z.memory zones.new ≡ Z.memory zones.old }
     ensures kept { (w : Stretch) (site : Site) → Z.made zones.old w site → Z.made zones.new w site }
-    ensures lies { Z.left zones.new window (Z.Store.zone store) }
-    ensures left { (w : Stretch) (blocks : List Block) → Misses w window
-        → Z.left zones.old w blocks → Z.left zones.new w blocks }
+    ensures lies { Z.left zones.new window (Z.Store.zone store) (Z.Store.rest store).slots }
+    ensures left { (w : Stretch) (blocks : List Block) (slots : ℕ → Slot) → Misses w window
+        → Z.left zones.old w blocks slots → Z.left zones.new w blocks slots }
     ensures outside { (place : ℕ) → IsOutside place window → Z.byte zones.new place ≡ Z.byte zones.old place }
 {
     zones.close(window, store);
@@ -379,9 +380,10 @@ fn release<Z: ZoneMaker>(zones: &mut Z, grants: &mut Grants, freed: Option<(Wind
     ensures zones { Z.windows zones.new ≡ grants.new.windows }
     ensures memory { Z.memory zones.new ≡ Z.memory zones.old }
     ensures kept { (w : Stretch) (site : Site) → Z.made zones.old w site → Z.made zones.new w site }
-    ensures lies { IfSome freed (λ f. Z.left zones.new f.0 (Z.Store.zone f.1)) }
-    ensures left { (w : Stretch) (blocks : List Block) → IfSome (option_map (λ f. f.0) freed) (λ v. Misses w v)
-        → Z.left zones.old w blocks → Z.left zones.new w blocks }
+    ensures lies { IfSome freed (λ f. Z.left zones.new f.0 (Z.Store.zone f.1) (Z.Store.rest f.1).slots) }
+    ensures left { (w : Stretch) (blocks : List Block) (slots : ℕ → Slot)
+        → IfSome (option_map (λ f. f.0) freed) (λ v. Misses w v)
+        → Z.left zones.old w blocks slots → Z.left zones.new w blocks slots }
     ensures outside { (place : ℕ) → IfSome (option_map (λ f. f.0) freed) (λ v. IsOutside place v)
         → Z.byte zones.new place ≡ Z.byte zones.old place }
 {
@@ -420,8 +422,9 @@ fn open_zone<Z: ZoneMaker>(
     ensures same { Z.windows zones.new ≡ grants.new.windows }
     ensures memory { Z.memory zones.new ≡ Z.memory zones.old }
     ensures kept { (w : Stretch) (site : Site) → Z.made zones.old w site → Z.made zones.new w site }
-    ensures outside { IfOk result (λ o. (place : ℕ) → IfSome (option_map (λ f. f.0) o) (λ v. IsOutside place v)
-        → Z.byte zones.new place ≡ Z.byte zones.old place) }
+    ensures outside { (place : ℕ)
+        → IfSome (grant grants.old.memory grants.old.windows sizes.preferred sizes.minimum) (λ v. IsOutside place v)
+        → Z.byte zones.new place ≡ Z.byte zones.old place }
 {
     let Ok(window) = grants.grant(sizes.preferred, sizes.minimum) else {
         return Ok(None);
@@ -459,8 +462,8 @@ fn begin<'j, Z: ZoneMaker>(
     ensures same { Z.windows zones.new ≡ grants.new.windows }
     ensures memory { Z.memory zones.new ≡ Z.memory zones.old }
     ensures kept { (w : Stretch) (site : Site) → Z.made zones.old w site → Z.made zones.new w site }
-    ensures outside { IfOk result (λ o. (place : ℕ) → IfSome (option_map (λ l. l.partition.window) o) (λ v. IsOutside place v)
-        → Z.byte zones.new place ≡ Z.byte zones.old place) }
+    ensures outside { (place : ℕ) → IfSome (grant grants.old.memory grants.old.windows ready.sizes.preferred
+        ready.sizes.minimum) (λ v. IsOutside place v) → Z.byte zones.new place ≡ Z.byte zones.old place }
 {
     let Ready { resources, sizes } = ready;
     let Some((window, store)) = open_zone(zones, grants, sizes)? else {

@@ -1,6 +1,6 @@
 //! The forks that a run wrote.
 
-ghost use Rattle.std.specs.Prelude.{◌≡◌, ◌++◌, map, OnOk};
+ghost use Rattle.std.specs.Prelude.{◌≡◌, ◌≢◌, ◌++◌, [], map, OnOk, OnErr};
 ghost use Rattle.std.specs.List.{flat_map};
 ghost use Rattle.res_calls.specs.View.{view_file};
 ghost use Rattle.applications.specs.Replies.{Extends};
@@ -18,6 +18,7 @@ fn write_file(text: &mut Vec<u8>, name: &Label, place: usize, file: &File) -> Re
     ensures lines { OnOk result (text.new.items
         ≡ text.old.items ++ fork_told name.now.0.items place (view_file file.now)) }
     ensures front { Extends text.old.items text.new.items }
+    ensures forks { OnErr result (fork_told name.now.0.items place (view_file file.now) ≢ []) }
 {
     if file.written {
         return write_app_fork(text, name, place, &file.name, file.fork.len());
@@ -31,6 +32,7 @@ fn write_files(text: &mut Vec<u8>, name: &Label, files: &[File]) -> Result<(), A
     ensures lines { OnOk result (text.new.items
         ≡ text.old.items ++ forks_told name.now.0.items 0 (map view_file files.now)) }
     ensures front { Extends text.old.items text.new.items }
+    ensures forks { OnErr result (forks_told name.now.0.items 0 (map view_file files.now) ≢ []) }
 {
     for (place, file) in files.iter().enumerate() {
         write_file(text, name, place, file)?;
@@ -42,6 +44,7 @@ fn write_files(text: &mut Vec<u8>, name: &Label, files: &[File]) -> Result<(), A
 fn write_app(text: &mut Vec<u8>, app: &AppOutcome) -> Result<(), AllocError>
     ensures lines { OnOk result (text.new.items ≡ text.old.items ++ forks_of (told_seen app.now)) }
     ensures front { Extends text.old.items text.new.items }
+    ensures forks { OnErr result (forks_of (told_seen app.now) ≢ []) }
 {
     match &app.launched {
         Some(launched) => write_files(text, &app.name, &launched.files),
@@ -54,6 +57,7 @@ fn write_app(text: &mut Vec<u8>, app: &AppOutcome) -> Result<(), AllocError>
 pub(crate) fn write_forks(text: &mut Vec<u8>, apps: &[AppOutcome]) -> Result<(), AllocError>
     ensures lines { OnOk result (text.new.items ≡ text.old.items ++ flat_map forks_of (map told_seen apps.now)) }
     ensures front { Extends text.old.items text.new.items }
+    ensures forks { OnErr result (flat_map forks_of (map told_seen apps.now) ≢ []) }
 {
     for app in apps {
         write_app(text, app)?;

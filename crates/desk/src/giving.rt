@@ -2,8 +2,8 @@
 
 ghost use Rattle.std.specs.Prelude.{◌≡◌, ◌%◌, ◌≤◌, [], length, IfOk};
 ghost use Rattle.block_store.specs.declared.measures.TheConstants.{GREATEST_ZONE, LEAST_ZONE};
-ghost use Rattle.applications.specs.Alone.{alone, zone_alone};
-ghost use Rattle.desk.specs.Lying.{LieAs};
+ghost use Rattle.applications.specs.Alone.{alone, heap_alone};
+ghost use Rattle.desk.specs.Lying.{LieAs, IsZone};
 
 use applications::{Given, Watch, give_in};
 use raw_region::Region;
@@ -18,7 +18,7 @@ use std::alloc::{AllocError, Global};
 ///
 /// # Errors
 ///
-/// The host is out of memory.
+/// The host is out of memory; a zone lies in the region all the same.
 pub fn give_in_region<W: Watch>(
     alloc: Global,
     region: Region,
@@ -34,7 +34,8 @@ pub fn give_in_region<W: Watch>(
     requires high { length region.bytes ≤ GREATEST_ZONE }
     ensures given { IfOk result.0 (λ given. given ≡ alone resources (length region.bytes) script.now steps quit) }
     ensures lies { IfOk result.0 (λ _.
-        LieAs (zone_alone resources (length region.bytes) script.now steps quit) result.1.bytes) }
+        LieAs (heap_alone resources (length region.bytes) script.now steps quit) result.1.bytes) }
+    ensures laid { IsZone result.1.bytes }
     ensures home { result.1.out ≡ [] }
     ensures same { result.1.home ≡ region.home }
     ensures length { length result.1.bytes ≡ length region.bytes }

@@ -1,9 +1,11 @@
 //! Whole runs in the bytes of a region.
 
-ghost use Rattle.std.specs.Prelude.{◌≡◌, ◌≤◌, ◌%◌, ℕ, [], false, length, slice_get, IfOk};
+ghost use Rattle.std.specs.Prelude.{◌≡◌, ◌≤◌, ◌%◌, ℕ, [], false, length, slice_get, IfOk, IfErr};
+ghost use Rattle.std.specs.Io.KnownBytes.{append_known};
 ghost use Rattle.block_store.specs.declared.measures.TheConstants.{GREATEST_ZONE};
 ghost use Rattle.zone_bytes.specs.Laid.{LiesThere};
 ghost use Rattle.applications.specs.Promises.{KeepsPromises};
+ghost use Rattle.applications.specs.Reports.{reports};
 ghost use Rattle.desk.specs.Free.{IsNeverGranted};
 ghost use Rattle.desk.specs.Lying.{LieAtEnd};
 ghost use Rattle.desk.specs.Whole.{IsOutcome, EachLaunched, IsAlone, InItsSteps};
@@ -38,7 +40,8 @@ pub fn run<W: Watch>(
 
     // What the run leaves is what the definition of the desk says for the events, one after another: the log, and of
     // each application the transcript and the files. If the host is out of memory within an event, the run stops, and
-    // leaves what the desk leaves after the launches, steps and quits that were completed. The run is refused for the
+    // leaves what the desk leaves after the events that were completed, `done` of them, and what was completed of the
+    // next one; or the host is out of memory for the line of a fork, after the last event. The run is refused for the
     // System file exactly if that file's fork can't be read.
     ensures outcome { IsOutcome job.now result.0 }
 
@@ -50,11 +53,20 @@ pub fn run<W: Watch>(
     ensures laws { IfOk result.0 (λ o. EachLaunched (InItsSteps KeepsPromises) job.now o) }
 
     // In the window of each application that still runs after the last event lies its zone.
-    ensures lies { IfOk result.0 (λ o. o.stopped ≡ false → LieAtEnd (λ w blocks. LiesThere result.1.bytes w blocks) job.now) }
+    ensures lies { IfOk result.0 (λ o. o.stopped ≡ false → LieAtEnd (λ w blocks slots. LiesThere result.1.bytes w blocks slots) job.now) }
 
-    // Each byte that was in no partition at any time keeps its value.
-    ensures untouched { IfOk result.0 (λ o. o.stopped ≡ false → (place : ℕ) → IsNeverGranted place job.now
+    // Each byte that was in no partition at any time keeps its value, whether the run stopped or not.
+    ensures untouched { IfOk result.0 (λ o. (place : ℕ) → IsNeverGranted place o.done job.now
         → slice_get result.1.bytes place ≡ slice_get region.bytes place) }
+
+    // The watch hears of the events that were completed, and of no others.
+    ensures heard { IfOk result.0 (λ o. W.heard watch.new
+        ≡ append_known (W.heard watch.old) (reports o.done (length job.now.events.items))) }
+
+    // A run has no outcome only before its first event: the region is returned as it was, and the watch has heard of
+    // nothing.
+    ensures given_back { IfErr result.0 (λ _. result.1 ≡ region) }
+    ensures unheard { IfErr result.0 (λ _. W.heard watch.new ≡ W.heard watch.old) }
 
     // The region that is returned is the one that was given, with all its parts returned.
     ensures same { result.1.home ≡ region.home }

@@ -1,12 +1,13 @@
 //! Laws of the desk's definitions.
 
-ghost use Rattle.std.specs.Prelude.{◌≡◌, ◌≢◌, ℕ, false, List, Some, slice_get};
+ghost use Rattle.std.specs.Prelude.{◌≡◌, ◌≢◌, ℕ, true, false, List, Some, slice_get};
 ghost use Rattle.fork_format.specs.Content.{Content};
 ghost use Rattle.script_text.specs.declared.job.Event.{Event};
 ghost use Rattle.desk.specs.declared.act.Act.{Act};
 ghost use Rattle.desk.specs.declared.job.App.{App};
 ghost use Rattle.desk.specs.Alone.{IsPlaceOf};
-ghost use Rattle.desk.specs.Outcome.{Launched};
+ghost use Rattle.desk.specs.Outcome.{Launched, Outcome, steps_shown};
+ghost use Rattle.desk.specs.Halting.{IsLeft};
 ghost use Rattle.desk.specs.Desk.{Place, State, acted_at, launched_at, any_runs, rested, after_events, told};
 ghost use Rattle.desk.specs.Job.{opening, start_of};
 
@@ -28,6 +29,14 @@ pub fn what_an_application_leaves_is_its_own()
         → IsPlaceOf first a p → IsPlaceOf second b q → start_of first a ≡ start_of second b → a.script ≡ b.script
         → (told p).launched ≡ Some l → (told q).launched ≡ Some m
         → l.size ≡ m.size → l.steps ≡ m.steps → l.asked ≡ m.asked → l ≡ m }
+{}
+
+/// A run of a job that the host stops is known by the number of events and the number of steps that were completed: two
+/// such runs that have these numbers in common leave the same. Within a turn or a rest no two states have as many steps.
+pub fn a_stopped_run_is_known_by_its_steps()
+    ensures { (memory : ℕ) (system : Content) (apps : List App) (events : List Event) (o q : Outcome)
+        → IsLeft o events (opening memory system apps) → IsLeft q events (opening memory system apps)
+        → o.stopped ≡ true → q.stopped ≡ true → o.done ≡ q.done → steps_shown o.apps ≡ steps_shown q.apps → o ≡ q }
 {}
 
 /// Whatever the state of the desk, no application runs after a rest: the bound on the number of rounds is never too

@@ -30,7 +30,8 @@ pub use giving::give_in_region;
 pub use in_region::run;
 pub use job::{App, AppFile, Job};
 pub use laws::{
-    no_application_runs_after_a_rest, other_applications_stay_as_they_are,
+    a_stopped_run_is_known_by_its_steps, no_application_runs_after_a_rest,
+    other_applications_stay_as_they_are,
     the_desk_seen_from_one_application_is_that_application_alone,
     what_an_application_leaves_is_its_own,
 };

@@ -3,13 +3,13 @@
 ghost use Rattle.std.specs.Prelude.{◌≡◌, ◌+◌, ◌%◌, ◌^◌, ◌<◌, ◌≤◌, Bool, false, true, drop, length, slice_get, Some, IfOk, IfErr, OnErr};
 ghost use Rattle.block_store.specs.Block.{fresh};
 ghost use Rattle.block_store.specs.declared.measures.TheConstants.{GREATEST_ZONE};
-ghost use Rattle.heap_calls.specs.Stored.{IsNamed};
+ghost use Rattle.heap_calls.specs.Stored.{IsStored};
 ghost use Rattle.applications.specs.Step.{step};
 ghost use Rattle.applications.specs.Replies.{Extends, end_by};
 ghost use Rattle.desk.specs.Phase.{begun, ends, called, run_out, stepped, turned, quitted, acted, is_quit, leaves};
 ghost use Rattle.desk.specs.Halting.{WithinTurn, WithinAct};
 ghost use Rattle.desk.specs.Live.{live_seen, HasCome, LeavesAs, lot_of_live, leaves_seen};
-ghost use Rattle.desk.specs.Lying.{zone_of};
+ghost use Rattle.desk.specs.Lying.{heap_of};
 
 use crate::act::Act;
 use crate::outcome::Launched;
@@ -197,7 +197,7 @@ impl<'j, S: BlockStore> Live<'j, S> {
     pub(crate) fn leave(self, asked: bool) -> (Launched, Window, S)
         ensures launched { leaves_seen result.0 ≡ leaves asked (live_seen self.entry) }
         ensures lot { (result.1, (S.rest result.2).window) ≡ lot_of_live self.entry }
-        ensures zone { IsNamed (S.zone result.2) (zone_of (live_seen self.entry)) }
+        ensures heap { IsStored (S.zone result.2) (S.rest result.2).slots (heap_of (live_seen self.entry)) }
     {
         let Live {
             application,

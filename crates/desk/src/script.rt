@@ -1,11 +1,11 @@
 //! A script that is run to its end.
 
-ghost use Rattle.std.specs.Prelude.{◌≡◌, ◌%◌, ◌≤◌, ◌+◌, [], length, IfOk};
+ghost use Rattle.std.specs.Prelude.{◌≡◌, ◌⊎◌, ◌%◌, ◌≤◌, ◌+◌, [], length, IfOk, IfErr};
 ghost use Rattle.block_store.specs.declared.measures.TheConstants.{GREATEST_ZONE, LEAST_ZONE};
 ghost use Rattle.applications.specs.Trying.{own_resources as own};
-ghost use Rattle.applications.specs.Alone.{run_alone, script_alone, script_zone, first_steps};
+ghost use Rattle.applications.specs.Alone.{run_alone, script_alone, script_heap, first_steps};
 ghost use Rattle.applications.specs.Promises.{KeepsPromises};
-ghost use Rattle.desk.specs.Lying.{LieAs};
+ghost use Rattle.desk.specs.Lying.{LieAs, IsZone};
 
 use crate::giving::give_in_region;
 use applications::{Watch, own_resources};
@@ -55,7 +55,10 @@ pub fn run_script<W: Watch>(
 
     // After the run, the region holds the zone that the application leaves: headers tile the bytes, each handle's
     // master pointer leads to its block, and the unused master pointers are one list.
-    ensures lies { IfOk result.0 (λ _. LieAs (script_zone (length region.bytes) script.now) result.1.bytes) }
+    ensures lies { IfOk result.0 (λ _. LieAs (script_heap (length region.bytes) script.now) result.1.bytes) }
+
+    // If there is no transcript, nothing ran, and the region is as it was; or a zone lies in it.
+    ensures fault { IfErr result.0 (λ _. (result.1 ≡ region) ⊎ IsZone result.1.bytes) }
 
     // The region that is returned is the one that was given, with all its parts returned, whatever the result is.
     ensures home { result.1.out ≡ [] }
@@ -79,7 +82,8 @@ fn run_as_application<W: Watch>(
     requires high { length region.bytes ≤ GREATEST_ZONE }
     ensures transcript { IfOk result.0 (λ text. text.items
         ≡ (script_alone (length region.bytes) script.now).transcript) }
-    ensures lies { IfOk result.0 (λ _. LieAs (script_zone (length region.bytes) script.now) result.1.bytes) }
+    ensures lies { IfOk result.0 (λ _. LieAs (script_heap (length region.bytes) script.now) result.1.bytes) }
+    ensures fault { IfErr result.0 (λ _. (result.1 ≡ region) ⊎ IsZone result.1.bytes) }
     ensures home { result.1.out ≡ [] }
     ensures same { result.1.home ≡ region.home }
     ensures length { length result.1.bytes ≡ length region.bytes }

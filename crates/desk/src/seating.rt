@@ -7,7 +7,7 @@ ghost use Rattle.desk.specs.Phase.{Running, acted, come_by, acted_by, window_of,
 ghost use Rattle.desk.specs.Desk.{coming, place_come, told};
 ghost use Rattle.desk.specs.Halting.{WithinAct, WithinPhase, WithinPlace};
 ghost use Rattle.desk.specs.Live.{live_seen, lot_of_live, leaves_seen};
-ghost use Rattle.desk.specs.Lying.{IsZoneOf};
+ghost use Rattle.desk.specs.Lying.{IsHeapOf};
 ghost use Rattle.desk.specs.View.{place_seen, phase_seen, is_waiting, lot_of, left_of};
 
 use crate::act::Act;
@@ -154,7 +154,7 @@ pub(crate) fn part<'j, S: BlockStore>(
         → option_map (λ f. f.0) result.1 ≡ window_of (phase_seen start phase.entry) }
     ensures lot { option_map (λ f. (f.0, (S.rest f.1).window)) result.1 ≡ lot_of phase.entry }
     ensures zone { (start : Result Opened Code)
-        → IfSome result.1 (λ f. IsZoneOf (phase_seen start phase.entry) (S.zone f.1)) }
+        → IfSome result.1 (λ f. IsHeapOf (phase_seen start phase.entry) (S.zone f.1) (S.rest f.1).slots) }
 {
     match phase {
         Phase::Waiting => (None, None),

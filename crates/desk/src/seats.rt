@@ -12,7 +12,7 @@ ghost use Rattle.desk.specs.Job.{place_given};
 ghost use Rattle.desk.specs.Halting.{WithinPlaces};
 ghost use Rattle.desk.specs.Held.{Fewer, holders};
 ghost use Rattle.desk.specs.Live.{lot_of_live, live_seen};
-ghost use Rattle.desk.specs.Lying.{IsZoneOf};
+ghost use Rattle.desk.specs.Lying.{IsHeapOf};
 ghost use Rattle.desk.specs.View.{place_seen, seen, lot_of, lots, left_of, told_seen};
 
 use crate::act::Act;
@@ -103,7 +103,7 @@ pub(crate) fn leave<'j, S: BlockStore>(seat: Seat<'j, S>) -> (AppOutcome, Option
     ensures told { told_seen result.0 ≡ told (place_seen seat.entry) }
     ensures window { option_map (λ f. f.0) result.1 ≡ window_of (place_seen seat.entry).phase }
     ensures lot { option_map (λ f. (f.0, (S.rest f.1).window)) result.1 ≡ lot_of seat.entry.phase }
-    ensures zone { IfSome result.1 (λ f. IsZoneOf (place_seen seat.entry).phase (S.zone f.1)) }
+    ensures zone { IfSome result.1 (λ f. IsHeapOf (place_seen seat.entry).phase (S.zone f.1) (S.rest f.1).slots) }
 {
     let Seat {
         system: _,

@@ -1,12 +1,14 @@
 //! The events at the desk.
 
-ghost use Rattle.std.specs.Prelude.{◌≡◌, ℕ, suc, OnOk, OnErr};
+ghost use Rattle.std.specs.Prelude.{◌≡◌, ◌<◌, ◌≤◌, ℕ, suc, length, take, OnOk, OnErr};
+ghost use Rattle.std.specs.Io.KnownBytes.{append_known};
 ghost use Rattle.windows.specs.declared.Window.{Window as Stretch};
 ghost use Rattle.block_store.specs.Rest.{Site};
+ghost use Rattle.applications.specs.Reports.{reports};
 ghost use Rattle.desk.specs.declared.act.Act.TheVariants.{Step, Turn, Quit};
-ghost use Rattle.desk.specs.Desk.{acted_at, round, rested, after_event, after_events, longest, longest_or};
+ghost use Rattle.desk.specs.Desk.{acted_at, launched_at, round, rested, after_event, after_events, longest, longest_or};
 ghost use Rattle.desk.specs.Free.{IsFree, StaysFree};
-ghost use Rattle.desk.specs.Halting.{After, WithinEvent, WithinRound, WithinRounds, halted};
+ghost use Rattle.desk.specs.Halting.{HaltsAfter, WithinEvent, WithinRound, WithinRounds, halted};
 ghost use Rattle.desk.specs.View.{seen};
 
 use crate::act::Act;
@@ -14,7 +16,6 @@ use crate::desk::Desk;
 use crate::seat::Seat;
 use applications::{Watch, tell};
 use block_store::{BlockStore, ZoneMaker};
-use heap_calls::Refusal;
 use script_text::Event;
 use std::alloc::AllocError;
 
@@ -38,8 +39,8 @@ impl<'j, Z: ZoneMaker> Desk<'j, Z> {
         ensures within { OnErr result (WithinRound (λ m. halted m ≡ halted self.new.state) self.old.state) }
         ensures memory { self.new.state.memory ≡ self.old.state.memory }
         ensures kept { (w : Stretch) (site : Site) → Z.made self.old.zones w site → Z.made self.new.zones w site }
-        ensures outside { OnOk result ((place : ℕ) → IsFree place self.old.state
-            → Z.byte self.new.zones place ≡ Z.byte self.old.zones place) }
+        ensures outside { (place : ℕ) → IsFree place self.old.state
+            → IsFree place self.new.state × (Z.byte self.new.zones place ≡ Z.byte self.old.zones place) }
     {
         let count = self.count();
         for i in 0..count {
@@ -61,8 +62,8 @@ impl<'j, Z: ZoneMaker> Desk<'j, Z> {
             (suc (longest self.old.state.places)) self.old.state) }
         ensures memory { self.new.state.memory ≡ self.old.state.memory }
         ensures kept { (w : Stretch) (site : Site) → Z.made self.old.zones w site → Z.made self.new.zones w site }
-        ensures outside { OnOk result ((place : ℕ) → IsFree place self.old.state
-            → Z.byte self.new.zones place ≡ Z.byte self.old.zones place) }
+        ensures outside { (place : ℕ) → IsFree place self.old.state
+            → IsFree place self.new.state × (Z.byte self.new.zones place ≡ Z.byte self.old.zones place) }
     {
         let most = self.longest();
         for _ in 0..most {
@@ -77,6 +78,21 @@ impl<'j, Z: ZoneMaker> Desk<'j, Z> {
         Ok(())
     }
 
+    /// Launches application `i`, whatever the reply is.
+    fn begin_if(&mut self, i: usize) -> Result<(), AllocError>
+        ensures ok { OnOk result (self.new.state ≡ launched_at i self.old.state) }
+        ensures host { OnErr result (halted self.old.state ≡ halted self.new.state) }
+        ensures memory { self.new.state.memory ≡ self.old.state.memory }
+        ensures kept { (w : Stretch) (site : Site) → Z.made self.old.zones w site → Z.made self.new.zones w site }
+        ensures outside { (place : ℕ) → IsFree place self.old.state → IsFree place (launched_at i self.old.state)
+            → IsFree place self.new.state × (Z.byte self.new.zones place ≡ Z.byte self.old.zones place) }
+    {
+        match self.try_launch(i) {
+            Ok(_) => Ok(()),
+            Err(fault) => Err(fault),
+        }
+    }
+
     /// Performs an event.
     ///
     /// # Errors
@@ -88,14 +104,11 @@ impl<'j, Z: ZoneMaker> Desk<'j, Z> {
         ensures within { OnErr result (WithinEvent (λ m. halted m ≡ halted self.new.state) event self.old.state) }
         ensures memory { self.new.state.memory ≡ self.old.state.memory }
         ensures kept { (w : Stretch) (site : Site) → Z.made self.old.zones w site → Z.made self.new.zones w site }
-        ensures outside { OnOk result ((place : ℕ) → IsFree place self.old.state → IsFree place self.new.state
-            → Z.byte self.new.zones place ≡ Z.byte self.old.zones place) }
+        ensures outside { (place : ℕ) → IsFree place self.old.state → IsFree place (after_event event self.old.state)
+            → IsFree place self.new.state × (Z.byte self.new.zones place ≡ Z.byte self.old.zones place) }
     {
         match event {
-            Event::Launch(i) => match self.launch(i) {
-                Ok(_) | Err(Refusal::Code(_)) => Ok(()),
-                Err(Refusal::HostMemory) => Err(AllocError),
-            },
+            Event::Launch(i) => self.begin_if(i),
             Event::Step(i) => self.step(i),
             Event::Turn(i) => self.turn(i),
             Event::Quit(i) => self.quit(i),
@@ -105,23 +118,28 @@ impl<'j, Z: ZoneMaker> Desk<'j, Z> {
 }
 
 /// Performs events, up to the first for which the host is out of memory, and informs a watch of the number of events
-/// that have happened.
+/// that have happened. Returns that number.
 #[tactic(auto, using(crate::proofs::Rounds::events_next))]
 pub(crate) fn serve_all<Z: ZoneMaker, W: Watch>(
     desk: &mut Desk<'_, Z>,
     events: &[Event],
     watch: &mut W,
-) -> Result<(), AllocError>
-    ensures ok { OnOk result (desk.new.state ≡ after_events events.now desk.old.state) }
-    ensures within { OnErr result (After (λ m. halted m ≡ halted desk.new.state) events.now desk.old.state) }
+) -> usize
+    ensures few { result ≤ length events.now }
+    ensures all { result ≡ length events.now → desk.new.state ≡ after_events events.now desk.old.state }
+    ensures within { result < length events.now
+        → HaltsAfter (λ m. halted m ≡ halted desk.new.state) result events.now desk.old.state }
     ensures memory { desk.new.state.memory ≡ desk.old.state.memory }
     ensures kept { (w : Stretch) (site : Site) → Z.made desk.old.zones w site → Z.made desk.new.zones w site }
-    ensures outside { OnOk result ((place : ℕ) → StaysFree place events.now desk.old.state
-        → Z.byte desk.new.zones place ≡ Z.byte desk.old.zones place) }
+    ensures outside { (place : ℕ) → StaysFree place (take (suc result) events.now) desk.old.state
+        → IsFree place desk.new.state × (Z.byte desk.new.zones place ≡ Z.byte desk.old.zones place) }
+    ensures heard { W.heard watch.new ≡ append_known (W.heard watch.old) (reports result (length events.now)) }
 {
     for (index, event) in events.iter().enumerate() {
-        desk.serve(*event)?;
-        tell(watch, index + 1, events.len());
+        match desk.serve(*event) {
+            Ok(()) => tell(watch, index + 1, events.len()),
+            Err(_) => return index,
+        }
     }
-    Ok(())
+    events.len()
 }

@@ -1,6 +1,8 @@
 //! Whole runs.
 
-ghost use Rattle.std.specs.Prelude.{◌≡◌, ℕ, ◌≤◌, ◌%◌, ◌++◌, List, [], false, true, length, map, IsTrue, IfOk, IsOk, OnOk, OnErr};
+ghost use Rattle.std.specs.Prelude.{◌≡◌, ◌≢◌, ℕ, ◌<◌, ◌≤◌, ◌%◌, ◌++◌, List, [], false, true, length, map, take, suc};
+ghost use Rattle.std.specs.Prelude.{IsTrue, IfOk, IfErr, OnOk, OnErr};
+ghost use Rattle.std.specs.Io.KnownBytes.{append_known};
 ghost use Rattle.std.specs.List.{list_all, flat_map};
 ghost use Rattle.windows.specs.declared.Window.{Window};
 ghost use Rattle.block_store.specs.Rest.{Site};
@@ -8,9 +10,10 @@ ghost use Rattle.fork_format.specs.Content.{Group as GroupValue};
 ghost use Rattle.fork_format.specs.Canonical.{has_refs, are_distinct};
 ghost use Rattle.fork_format.specs.View.{view};
 ghost use Rattle.applications.specs.Promises.{KeepsPromises};
+ghost use Rattle.applications.specs.Reports.{reports};
 ghost use Rattle.script_text.specs.declared.job.Event.{Event};
 ghost use Rattle.desk.specs.Desk.{State, after_events, told};
-ghost use Rattle.desk.specs.Halting.{After, IsLeft, halted, halted_with};
+ghost use Rattle.desk.specs.Halting.{HaltsAfter, IsLeft, halted};
 ghost use Rattle.desk.specs.Outcome.{forks_of, outcome_told};
 ghost use Rattle.desk.specs.Job.{opening};
 ghost use Rattle.desk.specs.Free.{StaysFree, IsNeverGranted};
@@ -29,11 +32,12 @@ use block_store::ZoneMaker;
 use fork_format::Content;
 use std::alloc::{AllocError, Global};
 
-/// Ends the desk's log with a line for each fork that was written. Where the host is out of memory, the log stays as it
-/// was.
+/// Ends the desk's log with a line for each fork that was written. Where the host is out of memory for one of them, the
+/// log stays as it was.
 fn end_log(log: &mut Vec<u8>, apps: &[AppOutcome]) -> Result<(), AllocError>
     ensures lines { OnOk result (log.new.items ≡ log.old.items ++ flat_map forks_of (map told_seen apps.now)) }
     ensures unchanged { OnErr result (log.new.items ≡ log.old.items) }
+    ensures forks { OnErr result (flat_map forks_of (map told_seen apps.now) ≢ []) }
 {
     let length = log.len();
     let written = write_forks(log, apps);
@@ -43,34 +47,44 @@ fn end_log(log: &mut Vec<u8>, apps: &[AppOutcome]) -> Result<(), AllocError>
     written
 }
 
-/// Returns what a run leaves whose events were all performed. The run stops if the host is out of memory for the lines of
-/// the forks.
-fn ended_outcome(mut log: Vec<u8>, apps: Vec<AppOutcome>) -> Outcome
-    ensures whole { result.stopped ≡ false → outcome_seen result ≡ outcome_told log.items (map told_seen apps.items) }
-    ensures stopped { result.stopped ≡ true → outcome_seen result ≡ halted_with log.items (map told_seen apps.items) }
+/// Returns what a run leaves whose events, `done` in all, were completed. The run stops if the host is out of memory for
+/// the line of a fork.
+fn ended_outcome(done: usize, mut log: Vec<u8>, apps: Vec<AppOutcome>) -> Outcome
+    ensures whole { result.stopped ≡ false
+        → outcome_seen result ≡ outcome_told done log.items (map told_seen apps.items) }
+    ensures log { result.stopped ≡ true → result.desk.items ≡ log.items }
+    ensures apps { result.apps.items ≡ apps.items }
+    ensures forks { result.stopped ≡ true → flat_map forks_of (map told_seen apps.items) ≢ [] }
+    ensures done { result.done ≡ done }
 {
     let stopped = end_log(&mut log, &apps).is_err();
     Outcome {
+        done,
         desk: log,
         apps,
         stopped,
     }
 }
 
-/// Returns what a run leaves whose events were performed, or which stopped since the host was out of memory.
-fn outcome_by(served: Result<(), AllocError>, log: Vec<u8>, apps: Vec<AppOutcome>) -> Outcome
+/// Returns what a run leaves of whose events, `of` in all, the first `done` were completed. If these are not all, the run
+/// stopped within the next one, since the host was out of memory.
+fn outcome_by(done: usize, of: usize, log: Vec<u8>, apps: Vec<AppOutcome>) -> Outcome
     ensures outcome { (events : List Event) (s m : State) → log.items ≡ m.log → map told_seen apps.items ≡ map told m.places
-        → OnOk served (m ≡ after_events events s) → OnErr served (After (λ n. halted n ≡ halted m) events s)
+        → of ≡ length events → done ≤ of → (done ≡ of → m ≡ after_events events s)
+        → (done < of → HaltsAfter (λ n. halted n ≡ halted m) done events s)
         → IsLeft (outcome_seen result) events s }
-    ensures served { result.stopped ≡ false → IsOk served }
+    ensures done { result.done ≡ done }
+    ensures whole { result.stopped ≡ false → of ≤ done }
 {
-    match served {
-        Ok(()) => ended_outcome(log, apps),
-        Err(_) => Outcome {
+    if done < of {
+        Outcome {
+            done,
             desk: log,
             apps,
             stopped: true,
-        },
+        }
+    } else {
+        ended_outcome(done, log, apps)
     }
 }
 
@@ -87,12 +101,14 @@ fn run_events<Z: ZoneMaker, W: Watch>(
     ensures lies { result.0.stopped ≡ false
         → AllLie (Z.left result.1) (after_events job.now.events.items desk.entry.state).places }
     ensures kept { (w : Window) (site : Site) → Z.made desk.entry.zones w site → Z.made result.1 w site }
-    ensures outside { result.0.stopped ≡ false → (place : ℕ) → StaysFree place job.now.events.items desk.entry.state
+    ensures outside { (place : ℕ) → StaysFree place (take (suc result.0.done) job.now.events.items) desk.entry.state
         → Z.byte result.1 place ≡ Z.byte desk.entry.zones place }
+    ensures heard { W.heard watch.new
+        ≡ append_known (W.heard watch.old) (reports result.0.done (length job.now.events.items)) }
 {
-    let served = serve_all(&mut desk, &job.events, watch);
+    let done = serve_all(&mut desk, &job.events, watch);
     let (apps, log, zones) = desk.finish();
-    (outcome_by(served, log, apps), zones)
+    (outcome_by(done, job.events.len(), log, apps), zones)
 }
 
 /// Runs a job with the content of the System file.
@@ -116,8 +132,12 @@ fn run_by<Z: ZoneMaker, W: Watch>(
     ensures lies { IfOk result.0 (λ o. o.stopped ≡ false → AllLie (Z.left result.1) (after_events job.now.events.items
         (opening job.now.memory (view system.now) job.now.apps.items)).places) }
     ensures kept { (w : Window) (site : Site) → Z.made zones w site → Z.made result.1 w site }
-    ensures outside { IfOk result.0 (λ o. o.stopped ≡ false → (place : ℕ) → StaysFree place job.now.events.items
+    ensures outside { IfOk result.0 (λ o. (place : ℕ) → StaysFree place (take (suc o.done) job.now.events.items)
         (opening job.now.memory (view system.now) job.now.apps.items) → Z.byte result.1 place ≡ Z.byte zones place) }
+    ensures heard { IfOk result.0 (λ o. W.heard watch.new
+        ≡ append_known (W.heard watch.old) (reports o.done (length job.now.events.items))) }
+    ensures given_back { IfErr result.0 (λ _. result.1 ≡ zones) }
+    ensures unheard { IfErr result.0 (λ _. W.heard watch.new ≡ W.heard watch.old) }
 {
     match Desk::new(alloc, job.memory, system, &job.apps, zones) {
         Err(zones) => (Err(AllocError), zones),
@@ -150,7 +170,8 @@ pub fn run_with<Z: ZoneMaker, W: Watch>(
 
     // What the run leaves is what the definition of the desk says for the events, one after another: the log, and of
     // each application the transcript and the files. If the host is out of memory within an event, the run stops, and
-    // leaves what the desk leaves after the launches, steps and quits that were completed. The run is refused for the
+    // leaves what the desk leaves after the events that were completed, `done` of them, and what was completed of the
+    // next one; or the host is out of memory for the line of a fork, after the last event. The run is refused for the
     // System file exactly if that file's fork can't be read.
     ensures outcome { IsOutcome job.now result.0 }
 
@@ -168,10 +189,20 @@ pub fn run_with<Z: ZoneMaker, W: Watch>(
     // In the window of each application that still runs after the last event lies its zone.
     ensures lies { IfOk result.0 (λ o. o.stopped ≡ false → LieAtEnd (Z.left result.1) job.now) }
 
-    // The maker of zones works in the same memory, and each byte that was in no partition at any time keeps its value.
+    // The maker of zones works in the same memory, and each byte that was in no partition at any time keeps its value,
+    // whether the run stopped or not.
     ensures kept { (w : Window) (site : Site) → Z.made zones w site → Z.made result.1 w site }
-    ensures outside { IfOk result.0 (λ o. o.stopped ≡ false → (place : ℕ) → IsNeverGranted place job.now
+    ensures outside { IfOk result.0 (λ o. (place : ℕ) → IsNeverGranted place o.done job.now
         → Z.byte result.1 place ≡ Z.byte zones place) }
+
+    // The watch hears of the events that were completed, and of no others.
+    ensures heard { IfOk result.0 (λ o. W.heard watch.new
+        ≡ append_known (W.heard watch.old) (reports o.done (length job.now.events.items))) }
+
+    // A run has no outcome only before its first event: the maker of zones is returned as it was, and the watch has
+    // heard of nothing.
+    ensures given_back { IfErr result.0 (λ _. result.1 ≡ zones) }
+    ensures unheard { IfErr result.0 (λ _. W.heard watch.new ≡ W.heard watch.old) }
 {
     let system = match read_system(alloc, &job.system) {
         Ok(system) => system,

@@ -1,4 +1,4 @@
-use Rattle.std.specs.Prelude.{◌≡◌, ◌≤◌, ◌<◌, ℕ, ◌+◌, ◌*◌, not, ◌&&◌, List, length, if◌then◌else◌}
+use Rattle.std.specs.Prelude.{◌≡◌, ◌⊎◌, ◌≤◌, ◌<◌, ℕ, ◌+◌, ◌*◌, not, ◌&&◌, Some, List, length, if◌then◌else◌}
 use Rattle.mac_words.specs.Size.{padded}
 use Rattle.block_store.specs.declared.measures.TheConstants.{MASTERS_SIZE}
 use Rattle.block_store.specs.Block.{Block, Free, Nonrelocatable, Masters, Relocatable, count, total, sizes, free_sum, is_masters}
@@ -8,6 +8,7 @@ use Rattle.mac_words.specs.Told.{Refused}
 use Rattle.heap_calls.specs.Asked.{Asked}
 use Rattle.heap_calls.specs.Busy.{served}
 use Rattle.heap_calls.specs.Locked.{OneBlockEach}
+use Rattle.heap_calls.specs.Path.{Step, stepped, refusal}
 use Rattle.mac_words.specs.declared.code.OsErr.{OsErr}
 
 -- What can be allocated in a zone, and what stays. Inside Macintosh: Memory, chapter 1, "Low-Memory Conditions".
@@ -39,6 +40,23 @@ Parted zone = ease zone + (staying zone + of_masters zone) ≡ sizes zone
 abbrev pub RefusedKeepsNoMore : Asked → Memory → Type 0
 RefusedKeepsNoMore asked m =
     (code : OsErr) → (served asked m).0 ≡ Refused code → staying (served asked m).1.heap.zone ≤ staying m.heap.zone
+
+-- Of two zones, the later has as much that can be allocated as the earlier, and as many master pointer blocks; or it has
+-- one master pointer block more, and less that can be allocated by just the bytes of that block.
+abbrev pub CostsAtMostMasters : List Block → List Block → Type 0
+CostsAtMostMasters earlier later =
+    ((count is_masters later ≡ count is_masters earlier) × (ease later ≡ ease earlier))
+    ⊎ ((count is_masters later ≡ count is_masters earlier + 1) × (ease later + MASTERS_SIZE ≡ ease earlier))
+
+-- A try that is refused costs nothing that can be allocated, or one master pointer block.
+abbrev pub RefusedCostsAtMostMasters : Asked → Memory → Type 0
+RefusedCostsAtMostMasters asked m = (code : OsErr) → (served asked m).0 ≡ Refused code
+    → CostsAtMostMasters m.heap.zone (served asked m).1.heap.zone
+
+-- So it is with a step of the Resource or the Segment Manager that is refused.
+abbrev pub StepCostsAtMostMasters : Step → Memory → Type 0
+StepCostsAtMostMasters step m = (code : OsErr) → refusal step m ≡ Some code
+    → CostsAtMostMasters m.heap.zone (stepped step m).heap.zone
 
 -- Where, some time after a refused try, more can be allocated in the zone, which has the same number of bytes and no
 -- fewer master pointer blocks, fewer bytes stay than before the try.

@@ -23,8 +23,8 @@ bytes_in h [] = []
 bytes_in h (b ∷ above) = if is_relocatable h b then content_of b ∷ bytes_in h above else bytes_in h above
 
 -- What one try of a call reports of a handle is what the handle loses: once, with its bytes, where the handle has a
--- block before the call and none after it; else nothing. Nothing either of a handle that the call itself disposes of,
--- empties or gives another block.
+-- block before the call and none after it; else nothing. Nothing either of a handle that the call itself disposes of or
+-- empties.
 abbrev pub TellsWhatGoes : Asked → Memory → Type 0
 TellsWhatGoes asked m =
     (h : ℕ) → h < length m.heap.names → told_of h (gone_in asked m)

@@ -8,7 +8,7 @@ ghost use Rattle.heap_calls.specs.Inner.Base.{IsBaseAt, base, base_searches};
 ghost use Rattle.heap_calls.specs.Inner.Numbered.{KeepsNonrelocatable};
 ghost use Rattle.heap_calls.specs.Inner.NewSlot.{HasMore, IsMade, TakesSlot, zone_searches};
 ghost use Rattle.heap_calls.specs.Gone.{Tells, TellsNothing, IsIdle};
-ghost use Rattle.heap_calls.specs.Inner.Packed.{PacksNone};
+ghost use Rattle.heap_calls.specs.Inner.Packed.{KeepsAllButPlaced, PacksNone};
 ghost use Rattle.heap_calls.specs.Inner.Telling.{base_gone, zone_slot_gone};
 ghost use Rattle.block_store.specs.declared.measures.TheConstants.{GREATEST_ZONE, MASTERS_SIZE};
 
@@ -50,7 +50,7 @@ pub fn make_base<S: BlockStore>(
     ensures searches { IfOk result (λ r. r.searches ≡ base_searches bytes sparing (S.zone store.old)) }
     ensures few { IfOk result (λ r. r.searches ≤ GREATEST_ZONE + 1) }
     ensures nonrelocatable { KeepsNonrelocatable (S.zone store.old) (S.zone store.new) }
-    ensures rest { IsRest (S.rest store.old) (S.rest store.new) }
+    ensures rest { KeepsAllButPlaced (S.rest store.old) (S.rest store.new) }
     ensures host { IsErr result → IsTrue S.TAKES_HOST }
 {
     let counted = count_for_base(store, bytes, sparing);

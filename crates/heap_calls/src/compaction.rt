@@ -46,13 +46,15 @@ impl<S: BlockStore> Heap<S> {
 }
 
 /// Compacts runs of movable blocks, lowest first, until a free block of `bytes` bytes stands or all runs are
-/// compacted, and returns how many of the runs had a block. Where `bytes` is `None`, all runs are compacted.
+/// compacted, and returns how many of the runs had a block. Where `bytes` is `None`, all runs are compacted. Blocks move
+/// by packing alone: none is raised, hoisted, moved to a free block or made, by the store's own count.
 ///
 /// *Inside Macintosh: Memory*, chapter 1, "Heap Compaction".
 pub fn compact<S: BlockStore>(store: &mut S, bytes: Option<u32>) -> u32
     ensures zone { S.zone store.new ≡ compacted bytes (S.zone store.old) }
     ensures moves { (S.rest store.new).moves ≡ counted (S.rest store.old).moves
         (lowered_in_runs (runs_settled bytes (S.zone store.old)) (runs (S.zone store.old))) }
+    ensures placed { (S.rest store.new).placed ≡ (S.rest store.old).placed }
     ensures rest { KeepsSlots (S.rest store.old) (S.rest store.new) }
     ensures runs { result ≡ stretches (runs_settled bytes (S.zone store.old)) (runs (S.zone store.old)) }
 {

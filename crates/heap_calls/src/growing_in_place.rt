@@ -9,7 +9,6 @@ ghost use Rattle.block_store.specs.Run.{in_run, has_free, segments};
 ghost use Rattle.block_store.specs.Room.{spot_at, purge, count_of};
 ghost use Rattle.block_store.specs.Grow.{grow_nonrelocatable};
 ghost use Rattle.block_store.specs.Sparing.{spared};
-ghost use Rattle.block_store.specs.Rest.{IsRest};
 ghost use Rattle.heap_calls.specs.Inner.GrowingInPlace.{made_zone, enough, seen_size, room_at, FindsPurges, pushed_up};
 ghost use Rattle.heap_calls.specs.Inner.SearchLaws.{above-rises, above-ends};
 ghost use Rattle.heap_calls.specs.Inner.Least.{IsMost, enough_above};
@@ -18,6 +17,7 @@ ghost use Rattle.heap_calls.specs.Inner.Telling.{OpensNone, still_gone};
 ghost use Rattle.heap_calls.specs.Gone.{Tells, TellsNothing, IsIdle};
 ghost use Rattle.heap_calls.specs.Searches.{room_searches, in_place_searches};
 ghost use Rattle.block_store.specs.declared.measures.TheConstants.{GREATEST_ZONE};
+ghost use Rattle.heap_calls.specs.Inner.Packed.{KeepsAllButPlaced};
 
 use crate::anchor::Anchor;
 use crate::least::{Sought, least_search};
@@ -61,7 +61,7 @@ pub fn grow_in_place<S: BlockStore>(
     ensures searches { IfOk result (λ grown. IfSome (spot_at place (S.zone store.old))
         (λ s. grown.searches ≡ in_place_searches (spared sparing) (resized bytes s.here) s)) }
     ensures nonrelocatable { KeepsNonrelocatable (S.zone store.old) (S.zone store.new) }
-    ensures rest { IsRest (S.rest store.old) (S.rest store.new) }
+    ensures rest { KeepsAllButPlaced (S.rest store.old) (S.rest store.new) }
     ensures host { IsErr result → IsTrue S.TAKES_HOST }
 {
     let taken = bytes_at(store, place);
@@ -257,7 +257,7 @@ fn push_up<S: BlockStore>(
     ensures zone { OnOk result (IfSome (spot_at place (S.zone store.old))
         (λ s. S.zone store.new ≡ s.below ++ s.here ∷ pushed_up bytes purges (spared sparing) s.above)) }
     ensures nonrelocatable { KeepsNonrelocatable (S.zone store.old) (S.zone store.new) }
-    ensures rest { IsRest (S.rest store.old) (S.rest store.new) }
+    ensures rest { KeepsAllButPlaced (S.rest store.old) (S.rest store.new) }
     ensures host { IsErr result → IsTrue S.TAKES_HOST }
 {
     store.purge_after(place, purges, sparing);

@@ -17,6 +17,7 @@ ghost use Rattle.heap_calls.specs.Path.{Step};
 ghost use Rattle.heap_calls.specs.Lowering.{CompactCountsLowered, CompactRaisesNone, MaxCountsLowered, MaxRaisesNone};
 ghost use Rattle.heap_calls.specs.Refused.{RefusedLeaves, BarredLeaves};
 ghost use Rattle.heap_calls.specs.Staying.{ease, Parted, RefusedKeepsNoMore, LessStaysLater, KeepsBytes, KeepsMasters};
+ghost use Rattle.heap_calls.specs.Staying.{RefusedCostsAtMostMasters, StepCostsAtMostMasters};
 ghost use Rattle.heap_calls.specs.Moves.{compact_mem_moves, max_mem_moves};
 ghost use Rattle.heap_calls.specs.Slots.{new_handle};
 ghost use Rattle.heap_calls.specs.ToldGone.{TellsWhatGoes, TellsOfPurgeable, StepTellsWhatGoes};
@@ -78,6 +79,14 @@ pub fn a_refused_call_leaves_the_heap()
 pub fn a_refused_call_keeps_no_more()
     ensures refused { (asked : Asked) (m : Memory) → RefusedKeepsNoMore asked m }
     ensures later { (asked : Asked) (m : Memory) → LessStaysLater asked m }
+{}
+
+/// A refused try leaves as many bytes that can be allocated as there were, or fewer by the bytes of one master pointer
+/// block, which was then made. So does a refused step by which the Resource Manager or the Segment Manager fetches.
+#[tactic(auto, using(crate::proofs::Tries::Costing::served_costs, crate::proofs::Tries::Costing::step_costs))]
+pub fn a_refused_call_costs_at_most_one_master_pointer_block()
+    ensures calls { (asked : Asked) (m : Memory) → RefusedCostsAtMostMasters asked m }
+    ensures steps { (step : Step) (m : Memory) → StepCostsAtMostMasters step m }
 {}
 
 /// In a zone where no handle has two blocks, no try changes the number of bytes of the zone or removes a master

@@ -3,7 +3,6 @@
 ghost use Rattle.std.specs.Prelude.{◌≡◌, ◌≢◌, ◌⊎◌, Some, Err, true, false, IfOk, OnOk, OnErr, IsErr, IsTrue};
 ghost use Rattle.block_store.specs.Block.{is_nonrelocatable};
 ghost use Rattle.block_store.specs.Find.{FindsLowest};
-ghost use Rattle.block_store.specs.Rest.{IsRest};
 ghost use Rattle.heap_calls.specs.Asked.{seeking};
 ghost use Rattle.heap_calls.specs.Busy.{pointer_barred, unless};
 ghost use Rattle.heap_calls.specs.Answer.{nothing, noting, searching, silent};
@@ -15,6 +14,7 @@ ghost use Rattle.heap_calls.specs.Inner.Numbered.{KeepsNonrelocatable};
 ghost use Rattle.heap_calls.specs.Inner.Telling.{fitted_gone};
 ghost use Rattle.heap_calls.specs.Pointers.{set_pointer_size};
 ghost use Rattle.heap_calls.specs.Searches.{size_searches, set_pointer_size_searches};
+ghost use Rattle.heap_calls.specs.Inner.Packed.{KeepsAllButPlaced};
 
 use crate::anchor::{Anchor, target_of};
 use crate::growing_in_place::{Grown, bytes_at, grow_in_place, tell_in_place};
@@ -113,7 +113,7 @@ fn fit_nonrelocatable<S: BlockStore>(
     ensures searches { IfOk result (λ grown. grown.searches ≡ size_searches (is_nonrelocatable place) nothing size
         (S.zone store.old)) }
     ensures nonrelocatable { KeepsNonrelocatable (S.zone store.old) (S.zone store.new) }
-    ensures rest { IsRest (S.rest store.old) (S.rest store.new) }
+    ensures rest { KeepsAllButPlaced (S.rest store.old) (S.rest store.new) }
     ensures host { IsErr result → IsTrue S.TAKES_HOST }
 {
     let Some(bytes) = phys(size) else {

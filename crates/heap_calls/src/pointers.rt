@@ -1,7 +1,6 @@
 //! Pointers, and the nonrelocatable blocks that they lead to.
 
 ghost use Rattle.std.specs.Prelude.{◌≡◌, ◌≢◌, ◌⊎◌, ◌≤◌, length, true, Err, IfOk, OnOk, OnErr, IsErr, IsTrue};
-ghost use Rattle.block_store.specs.Rest.{IsRest};
 ghost use Rattle.heap_calls.specs.Busy.{pointer_barred, unless, unless_silent};
 ghost use Rattle.heap_calls.specs.Inner.Given.{IsAnswer, IsShown, KeepsMoves};
 ghost use Rattle.heap_calls.specs.Answer.{noting, searching, silent};
@@ -13,6 +12,7 @@ ghost use Rattle.heap_calls.specs.Pointers.{new_pointer, dispose_pointer, get_po
 ghost use Rattle.heap_calls.specs.Pointers.{block_named};
 ghost use Rattle.heap_calls.specs.Inner.Pointing.{FindsHeld};
 ghost use Rattle.heap_calls.specs.Inner.Numbered.{Agrees, KeepsNonrelocatable, state_of};
+ghost use Rattle.heap_calls.specs.Inner.Packed.{KeepsAllButPlaced};
 
 use crate::anchor::{Anchor, target_of};
 use crate::base::{make_base, tell_base};
@@ -214,7 +214,7 @@ fn add_nonrelocatable<S: BlockStore>(store: &mut S, size: u32) -> Result<Room, A
     ensures put { IfOk result (λ r. IsNewNonrelocatable size (S.zone store.old) r.place (S.zone store.new)) }
     ensures searches { IfOk result (λ r. r.searches ≡ nonrelocatable_searches size (S.zone store.old)) }
     ensures nonrelocatable { OnErr result (KeepsNonrelocatable (S.zone store.old) (S.zone store.new)) }
-    ensures rest { IsRest (S.rest store.old) (S.rest store.new) }
+    ensures rest { KeepsAllButPlaced (S.rest store.old) (S.rest store.new) }
     ensures host { IsErr result → IsTrue S.TAKES_HOST }
 {
     let Some(bytes) = phys(size) else {

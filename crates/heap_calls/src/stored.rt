@@ -2,17 +2,16 @@
 
 ghost use Rattle.std.specs.Prelude.{◌≡◌};
 ghost use Rattle.heap_calls.specs.Inner.Numbered.{state_of};
-ghost use Rattle.heap_calls.specs.Stored.{IsNamed};
+ghost use Rattle.heap_calls.specs.Stored.{IsStored};
 
 use crate::anchor::Anchor;
 use crate::heap::Heap;
 use block_store::BlockStore;
 
 impl<S: BlockStore> Heap<S> {
-    /// Returns the store of the heap's zone, to be read. The heap's zone is the store's, with its blocks named by
-    /// number.
+    /// Returns the store of the heap's zone, to be read. The heap is the one of the store's blocks and master pointers.
     pub fn store(&self) -> &S
-        ensures zone { IsNamed (S.zone result.now) self.now.heap.zone }
+        ensures stored { IsStored (S.zone result.now) (S.rest result.now).slots self.now.heap }
         ensures window { (S.rest result.now).window ≡ self.now.window }
     {
         &self.store
@@ -27,8 +26,9 @@ impl<S: BlockStore> Heap<S> {
     }
 
     /// Drops the heap, and returns its store as it is, so that a store that lies in a part of a region can be closed.
+    /// The heap was the one of the store's blocks and master pointers.
     pub fn into_store(self) -> S
-        ensures zone { IsNamed (S.zone result) self.heap.zone }
+        ensures stored { IsStored (S.zone result) (S.rest result).slots self.heap }
         ensures window { (S.rest result).window ≡ self.window }
     {
         let Heap {

@@ -9,4 +9,5 @@ pub record Held : Type 0 where
   pub unused : ℕ
   pub free : ℕ
   pub moves : ℕ
+  pub placings : ℕ
   pub lawful : ∥ IsLawful part.bytes ∥₁

@@ -18,7 +18,7 @@ abbrev pub zone_of : Held → List Block
 zone_of z = zone_in z.part.bytes
 
 abbrev pub rest_of : Held → Rest
-rest_of z = rest_in z.part z.unused z.moves
+rest_of z = rest_in z.part z.unused z.moves z.placings
 
 pub blocks_set : (a b : List Block) → IsProp (a ≡ b)
 blocks_set a b = Prim.hlevel props

@@ -53,7 +53,7 @@ impl ZoneMaker for RegionZones {
 
     ghost made = { λ z w site. LiesIn z.region w site };
 
-    ghost left = { λ z w blocks. LiesThere z.region.bytes w blocks };
+    ghost left = { λ z w blocks slots. LiesThere z.region.bytes w blocks slots };
 
     ghost byte = { λ z place. slice_get z.region.bytes place };
 

@@ -37,6 +37,7 @@ pub struct RawZone {
     free: u32,
     purgeable: u32,
     moves: u64,
+    placings: u64,
     marks: Landmarks,
     edges: Edges,
     ghost lawful: { ∥ IsLawful part.bytes ∥₁ },
@@ -95,6 +96,7 @@ impl RawZone {
         ensures unused { (⟦<RawZone as BlockStore>⟧.rest result).unused ≡ SLOTS_A_BLOCK }
         ensures all { (⟦<RawZone as BlockStore>⟧.rest result).all ≡ SLOTS_A_BLOCK }
         ensures moves { (⟦<RawZone as BlockStore>⟧.rest result).moves ≡ 0 }
+        ensures placed { (⟦<RawZone as BlockStore>⟧.rest result).placed ≡ 0 }
         ensures window { (⟦<RawZone as BlockStore>⟧.rest result).window
             ≡ record { home = part.home; window = record { at = part.at; len = length part.bytes } } }
     {
@@ -109,6 +111,7 @@ impl RawZone {
             free: end - MASTERS_SIZE,
             purgeable: 0,
             moves: 0,
+            placings: 0,
             marks,
             edges,
         }
@@ -129,6 +132,7 @@ impl RawZone {
             free: _free,
             purgeable: _purgeable,
             moves: _moves,
+            placings: _placings,
             marks: _marks,
             edges: _edges,
         } = self;
@@ -242,6 +246,10 @@ impl BlockStore for RawZone {
 
     fn moves(&self) -> u64 {
         self.moves
+    }
+
+    fn placings(&self) -> u64 {
+        self.placings
     }
 
     fn block_at(&self, place: u32) -> Option<Seen> {
@@ -365,6 +373,7 @@ impl BlockStore for RawZone {
         let stop = raise_run(&mut self.part, &mut self.edges, run, bytes);
         self.marks
             .note_packed(&self.part, &self.edges, run + bytes, run, stop, lowest);
+        self.placings = self.placings.saturating_add(1);
         Ok(())
     }
 
@@ -373,6 +382,7 @@ impl BlockStore for RawZone {
         let place = read_word(&self.part, number);
         hoist_block(&mut self.part, place, packed.stop);
         self.marks.note(&self.part, run, packed.stop);
+        self.placings = self.placings.saturating_add(1);
     }
 
     fn carve(&mut self, place: u32, number: u32, size: u32) -> Result<(), AllocError> {
@@ -381,6 +391,7 @@ impl BlockStore for RawZone {
         carve(&mut self.part, place, place + free, number, size, flags);
         self.free -= padded_size(size);
         self.marks.note(&self.part, place, place + free);
+        self.placings = self.placings.saturating_add(1);
         Ok(())
     }
 
@@ -432,6 +443,7 @@ impl BlockStore for RawZone {
         self.copy(old.place, old.length.min(bytes), place, 0);
         self.release(number);
         self.adopt(place, number, old.flags);
+        self.placings = self.placings.saturating_add(1);
         Ok(())
     }
 

@@ -1,5 +1,6 @@
-use Rattle.std.proofs.Common.{◌≡◌, ◌<◌, ℤ, pos, Bool, true, false, true≢false, not}
-use Rattle.std.proofs.Common.{Option, Some, None, List, [], ◌∷◌, length, refl, sym, ◌∙◌, ap, subst, cond, arith}
+use Rattle.std.proofs.Common.{◌≡◌, ◌<◌, ℕ, suc, ℤ, pos, Bool, true, false, true≢false, not}
+use Rattle.std.specs.Prelude.{OnErr}
+use Rattle.std.proofs.Common.{Result, Ok, Err, Option, Some, None, List, [], ◌∷◌, length, refl, sym, ◌∙◌, ap, subst, cond, arith}
 use Rattle.std.proofs.lemmas.Bool.{not-true}
 use Rattle.std.proofs.lemmas.Bool.Decides.{Decides-int_eq}
 use Rattle.std.specs.Ordering.{int_eq}
@@ -11,8 +12,8 @@ use Rattle.res_calls.specs.Files.{OpenFile, Resources}
 use Rattle.res_calls.specs.Fetch.{Managers, is_system}
 use Rattle.res_calls.specs.Given.{managers}
 use Rattle.res_calls.specs.Leaving.{FilesClosed, update_code, updated_or, left_file, last_opened, first_code, leave}
-use Rattle.res_calls.specs.Leaving.{leave_files}
-use Rattle.res_calls.specs.Places.{at_index, has_own, left_last, left_last_of, IsLastUpdated, IsLastClosed}
+use Rattle.res_calls.specs.Leaving.{leave_files, has_own, left_one_of, left_one, left_after}
+use Rattle.res_calls.specs.Places.{at_index, left_last, left_last_of, IsLastUpdated, IsLastClosed, StopsAmid}
 use Rattle.res_calls.specs.Rows.{handles_of, closed, closed_file}
 use Rattle.res_calls.specs.Sound.{Sound}
 use Rattle.res_calls.specs.Update.{update, updated_map, rewritten}
@@ -228,3 +229,31 @@ one_fewer now later own left = by_chain now.resources.chain own
         → length later.resources.chain < length chain
     by_chain [] own e = cc
     by_chain (f ∷ older) own e = omega (arith, e)
+
+-- the first files were left
+pub record LeftSome (now start : Managers) : Type 0 where
+  pub k : ℕ
+  pub left : now ≡ left_after k start
+
+one-of : (chain : List OpenFile) (s : Managers) → (left_last_of chain s).after ≡ left_one_of chain s
+one-of [] s = refl
+one-of (f ∷ older) s = refl
+
+pub one_more : (now later start : Managers) → later ≡ (left_last now).after → LeftSome now start → LeftSome later start
+one_more now later start is so = record {
+  k = suc so.k;
+  left = is ∙ one-of now.resources.chain now ∙ ap left_one so.left;
+}
+
+pub stops_there : (now later start : Managers) → has_own now.resources.chain ≡ true → later ≡ now → LeftSome now start
+    → StopsAmid start later
+stops_there now later start own same so = record {
+  k = so.k;
+  more = ap (λ (s : Managers). has_own s.resources.chain) (sym so.left) ∙ own;
+  left = same ∙ so.left;
+}
+
+-- what holds where a call fails
+pub on_any_err : {T E : Type 0} (result : Result T E) (P : Type 0) → P → OnErr result P
+on_any_err (Ok x) P so = tt
+on_any_err (Err e) P so = so

@@ -10,8 +10,7 @@ use Rattle.res_map.specs.Map.{content}
 use Rattle.res_calls.specs.Files.{File, OpenFile, Resources, is_at}
 use Rattle.res_calls.specs.Fetch.{Managers, is_system}
 use Rattle.res_calls.specs.Leaving.{FilesClosed, update_code, updated_or, left_file, last_opened, first_code, leave}
-use Rattle.res_calls.specs.Leaving.{leave_files}
-use Rattle.res_calls.specs.Places.{has_own}
+use Rattle.res_calls.specs.Leaving.{leave_files, has_own}
 use Rattle.res_calls.specs.Sound.{Sound, falls}
 use Rattle.res_calls.specs.Update.{update, updated_map, written, written_at, fork_of}
 use Rattle.res_calls.proofs.LastOpened.{next_code, next_after, no_more, sound_left_file}

@@ -16,8 +16,11 @@ pub mod Preloads
 pub mod OpeningGone
 pub mod Stopping
 pub mod Storing
-mod StoringChanged
+pub mod StoringChanged
+pub mod StoringAll
+mod StoringFetched
 pub mod GoneElsewhere
+pub mod ToldGone
 pub mod Following
 pub mod Keeping
 pub mod Joining

@@ -73,7 +73,7 @@ one-stored g r (Some at) e = by_test (is_to_write at.reference.here) refl
     by_test false plain = same-stores (g ∷ []) r
 
 -- what is stored is changed no more
-stored-unchanged : (bytes : List ℕ) (x : Reference) → is_to_write (stored_anew (Some bytes) x) ≡ false
+pub stored-unchanged : (bytes : List ℕ) (x : Reference) → is_to_write (stored_anew (Some bytes) x) ≡ false
 stored-unchanged bytes x = and_left _ _ (changed-clear x.stored.attrs)
 
 -- of one block, and then of others

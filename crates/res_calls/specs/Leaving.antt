@@ -1,8 +1,10 @@
-use Rattle.std.specs.Prelude.{pos, Option, Some, None, List, [], ◌∷◌, if◌then◌else◌}
+use Rattle.std.specs.Prelude.{◌≡◌, ℕ, zero, suc, pos, not, Bool, true, false, Option, Some, None, List, [], ◌∷◌}
+use Rattle.std.specs.Prelude.{if◌then◌else◌}
 use Rattle.std.specs.Ordering.{int_eq}
 use Rattle.mac_words.specs.declared.code.OsErr.{OsErr}
 use Rattle.mac_words.specs.declared.code.TheConstants.OsErr.{NO_ERR, DISK_FULL}
 use Rattle.res_map.specs.Split.{Split}
+use Rattle.res_calls.specs.Changing.{with_files}
 use Rattle.res_calls.specs.Files.{OpenFile, Resources}
 use Rattle.res_calls.specs.Fetch.{Managers, is_system}
 use Rattle.res_calls.specs.Rows.{closed_file}
@@ -53,3 +55,28 @@ leave_files (f ∷ older) s = if is_system f then record { code = NO_ERR; after 
 
 abbrev pub leave : Managers → FilesClosed
 leave s = leave_files s.resources.chain s
+
+-- Holds where a file other than the System file is open: the file opened last is not the System file.
+abbrev pub has_own : List OpenFile → Bool
+has_own [] = false
+has_own (f ∷ older) = not (is_system f)
+
+-- The managers after the file opened last is updated and closed.
+abbrev pub left_one_of : List OpenFile → Managers → Managers
+left_one_of [] s = s
+left_one_of (f ∷ older) s = left_file (last_opened f older) s
+
+abbrev pub left_one : Managers → Managers
+left_one s = left_one_of s.resources.chain s
+
+-- The managers after the k files that were opened last are updated and closed, one after another.
+abbrev pub left_after : ℕ → Managers → Managers
+left_after zero s = s
+left_after (suc k) s = left_one (left_after k s)
+
+-- A quit in whose midst the host was out of memory: the k files that were opened last are updated and closed, as in the
+-- quit, and no more are, though another was to be closed; but all files have the forks that they had before the quit.
+pub record StopsLeaving (old new : Managers) : Type 0 where
+  pub k : ℕ
+  pub more : has_own (left_after k old).resources.chain ≡ true
+  pub left : new ≡ with_files old.resources.files (left_after k old)

@@ -17,6 +17,7 @@ pub mod Forks
 pub mod Places
 pub mod Own
 pub mod Gone
+pub mod ToldGone
 pub mod Owning
 pub mod Preloading
 pub mod Stopped

@@ -1,5 +1,5 @@
-use Rattle.std.specs.Prelude.{◌≡◌, ℕ, zero, suc, Bool, true, false, Option, Some, None, Result, Ok, Err, List, [], ◌∷◌}
-use Rattle.std.specs.Prelude.{map, option_map, nat_le, not, ◌==◌, if◌then◌else◌}
+use Rattle.std.specs.Prelude.{◌≡◌, ℕ, zero, suc, Bool, true, Option, Some, None, Result, Ok, Err, List, [], ◌∷◌}
+use Rattle.std.specs.Prelude.{map, option_map, nat_le, ◌==◌, if◌then◌else◌}
 use Rattle.byteorder.specs.Endian.{big_number}
 use Rattle.mac_words.specs.declared.code.OsErr.{OsErr}
 use Rattle.mac_words.specs.declared.code.TheConstants.OsErr.{NO_ERR}
@@ -17,7 +17,7 @@ use Rattle.res_calls.specs.Fetch as fetch
 use Rattle.res_calls.specs.Rows.{reference_in, fetched_as, closed_file}
 use Rattle.res_calls.specs.Rows as rows
 use Rattle.res_calls.specs.Update.{update}
-use Rattle.res_calls.specs.Leaving.{FilesClosed, update_code, updated_or, left_file, last_opened}
+use Rattle.res_calls.specs.Leaving.{FilesClosed, update_code, updated_or, left_file, last_opened, has_own, left_after}
 use Rattle.fork_format.specs.declared.content.RefName.{RefName}
 use Rattle.res_calls.specs.declared.info.Info.{Info}
 use Rattle.res_calls.specs.declared.files.File.{File as StoredFile}
@@ -114,11 +114,6 @@ seen_info i = record { id = i.id; kind = big_number 4 i.ty.0; name = i.name.0.it
 abbrev pub view_new : NewReference → Reference
 view_new new = new_reference (big_number 4 new.ty.0) new.id new.name.now.0.items new.handle
 
--- Holds where a file other than the System file is open: the file opened last is not the System file.
-abbrev pub has_own : List OpenFile → Bool
-has_own [] = false
-has_own (f ∷ older) = not (is_system f)
-
 -- The resources with the given files, open files and number of the current file.
 abbrev pub standing : List StoredFile → List StoredOpenFile → ℕ → Resources → Resources
 standing files chain current r =
@@ -146,3 +141,9 @@ IsLastUpdated m (f ∷ older) code before after =
 abbrev pub IsLastClosed : List OpenFile → Managers → Managers → Type 0
 IsLastClosed [] s after = Unit {0}
 IsLastClosed (f ∷ older) s after = closed_file (last_opened f older) s.resources s ≡ after
+
+-- The k files opened last were updated and closed, and no more, though another was to be closed.
+pub record StopsAmid (old new : Managers) : Type 0 where
+  pub k : ℕ
+  pub more : has_own (left_after k old).resources.chain ≡ true
+  pub left : new ≡ left_after k old

@@ -1,18 +1,22 @@
 //! Laws of the definitions.
 
-ghost use Rattle.std.specs.Prelude.{◌≡◌, ◌≢◌, ◌<◌, ◌⊎◌, ◌&&◌, ℕ, ℤ, Bool, true, false, not, Ok, Err, Option, Some, None};
+ghost use Rattle.std.specs.Prelude.{◌≡◌, ◌≢◌, ◌<◌, ◌≤◌, ◌⊎◌, ◌&&◌, ℕ, ℤ, Bool, true, false, not, Ok, Err, Option, Some, None};
 ghost use Rattle.std.specs.Prelude.{List, [], ◌∷◌, length, map, option_map, filter, nat_le, slice_get};
 ghost use Rattle.std.specs.List.{flat_map, list_all, list_any, find as first_of};
 ghost use Rattle.mac_words.specs.declared.code.TheConstants.OsErr.{NO_ERR, RES_FILE_NOT_FOUND};
-ghost use Rattle.block_store.specs.Block.{is_relocatable};
+ghost use Rattle.block_store.specs.Block.{is_relocatable, sizes};
+ghost use Rattle.block_store.specs.declared.measures.TheConstants.{GREATEST_ZONE};
 ghost use Rattle.block_store.specs.Run.{has};
 ghost use Rattle.fork_format.specs.Canonical.{clear, fits};
 ghost use Rattle.fork_format.specs.Content.{Content, IsContent};
 ghost use Rattle.heap_calls.specs.Asked.{Asked};
 ghost use Rattle.heap_calls.specs.Busy as heap;
+ghost use Rattle.heap_calls.specs.Emptying.{has_purgeable};
 ghost use Rattle.heap_calls.specs.Gone.{Gone};
+ghost use Rattle.heap_calls.specs.Locked.{OneBlockEach};
 ghost use Rattle.heap_calls.specs.Owned.{resource_role_at};
 ghost use Rattle.heap_calls.specs.State.{State, Memory};
+ghost use Rattle.heap_calls.specs.ToldGone.{told_of};
 ghost use Rattle.res_map.specs.Split.{Split};
 ghost use Rattle.res_map.specs.Map.{Reference, is_changed, content, map_of};
 ghost use Rattle.res_calls.specs.Asked.{ResourceAsked, OpenResFile, UpdateResFile, served};
@@ -21,16 +25,23 @@ ghost use Rattle.res_calls.specs.Disposing.{disposes_of, opens_file};
 ghost use Rattle.res_calls.specs.Fetch.{Managers};
 ghost use Rattle.res_calls.specs.Fetching.{fetches, without_handles, OnlyGivesHandles, OpensAtMost};
 ghost use Rattle.res_calls.specs.Files.{File, Resources, OpenFile, Found, file_of, find_from_current, is_at};
+ghost use Rattle.res_calls.specs.Gone.{gone_for, own_gone};
 ghost use Rattle.res_calls.specs.Forks.{Written, HasFork, StoresHandle};
+ghost use Rattle.res_calls.specs.Given.{managers};
 ghost use Rattle.res_calls.specs.Leaving.{leave};
 ghost use Rattle.res_calls.specs.Own.{fetch_own};
 ghost use Rattle.res_calls.specs.Owning.{Owns};
 ghost use Rattle.res_calls.specs.Purging.{heard, stored_gone};
 ghost use Rattle.res_calls.specs.Rows.{launched_resources, preloaded, map_in, keep_error, with_resources};
-ghost use Rattle.res_calls.specs.Storing.{OnlyStoresChanged};
+ghost use Rattle.res_calls.specs.Storing.{OnlyStoresChanged, StoresJust, all_stored, after_purges};
 ghost use Rattle.res_calls.specs.Sound.{Sound};
+ghost use Rattle.res_calls.specs.ToldGone.{TellsWhatGoes, TellsOfPurgeable, TellsWhatPreloadsLose, TellsOnce};
+ghost use Rattle.res_calls.specs.ToldGone.{TellsOfLoosePreloads, IsWhole};
 ghost use Rattle.res_calls.specs.Update.{bytes_held, updated_reference, updated_map, fork_of, rewritten, update};
 ghost use Rattle.res_calls.specs.Writing.{writes, alters};
+
+use block_store::BlockStore;
+use heap_calls::{Heap, a_heap_tells_what_goes};
 
 /// States that a search begins in the current file: the search finds the first reference that passes a test, among the
 /// references of the current file, then of the file opened before it, and so on, and of the System file last.
@@ -108,10 +119,82 @@ pub fn a_fetch_stores_nothing()
 
 /// States that a purge changes no fork, and stored data only of a changed resource that is not protected, while
 /// SetResPurge is on: storing purged blocks gives each reference that it changes the bytes of its own handle's block, as
-/// WriteResource would, and leaves all else as it was. Nothing is stored while SetResPurge is off.
+/// WriteResource would, and leaves all else as it was. Nothing is stored while SetResPurge is off. Where each resource has
+/// its own handle, just that is stored: of each changed resource that is not protected, and whose handle's block is among
+/// the blocks.
 pub fn a_purge_stores_only_what_was_changed()
     ensures on { (gone : List Gone) (r : Resources) → OnlyStoresChanged gone r (stored_gone gone r) }
     ensures off { (gone : List Gone) (r : Resources) → stored_gone (heard false gone) r ≡ r }
+    ensures just { (gone : List Gone) (s : Managers) → Owns s → stored_gone gone s.resources ≡ all_stored gone s.resources }
+{}
+
+/// States what is stored by a call that fetches, where each resource has its own handle, once what it purged is stored: of
+/// the resources as they were before the call just the changed ones that are not protected, and whose block the call
+/// purged, while SetResPurge is on. All else but handles is as it was. So it is of the fetch from the application's own
+/// fork, by which a segment is loaded.
+pub fn a_fetch_stores_just_what_it_purged()
+    ensures fetched { (asked : ResourceAsked) (s : Managers) → fetches asked ≡ true → Owns s
+        → StoresJust (heard s.resources.purging (gone_for asked s)) s.resources (after_purges asked s) }
+    ensures own { (kind : ℕ) (id : ℤ) (s : Managers) → Owns s
+        → StoresJust (heard s.resources.purging (own_gone kind id s)) s.resources
+        (stored_gone (heard s.resources.purging (own_gone kind id s)) (fetch_own kind id s).after.resources) }
+{}
+
+/// States that a call which fetches reports just what it purges: what its table names. Where no handle has two blocks, the
+/// call reports a handle of the heap where the handle has a block before the call and none after it: once, with the
+/// bytes that the block had. Each block that is reported was unlocked and purgeable before the call, and no other handle
+/// is reported. So does the fetch from the application's own fork.
+pub fn a_fetch_reports_what_goes()
+    ensures goes { (asked : ResourceAsked) (s : Managers) → fetches asked ≡ true → OneBlockEach s.memory.heap.zone
+        → sizes s.memory.heap.zone ≤ GREATEST_ZONE
+        → TellsWhatGoes (gone_for asked s) s.memory.heap (served asked s).after.memory.heap }
+    ensures purgeable { (asked : ResourceAsked) (s : Managers) → fetches asked ≡ true
+        → OneBlockEach s.memory.heap.zone → sizes s.memory.heap.zone ≤ GREATEST_ZONE
+        → TellsOfPurgeable (gone_for asked s) s.memory.heap }
+    ensures once { (asked : ResourceAsked) (s : Managers) → fetches asked ≡ true → OneBlockEach s.memory.heap.zone
+        → sizes s.memory.heap.zone ≤ GREATEST_ZONE → TellsOnce (gone_for asked s) }
+    ensures own_goes { (kind : ℕ) (id : ℤ) (s : Managers) → OneBlockEach s.memory.heap.zone
+        → sizes s.memory.heap.zone ≤ GREATEST_ZONE
+        → TellsWhatGoes (own_gone kind id s) s.memory.heap (fetch_own kind id s).after.memory.heap }
+    ensures own_purgeable { (kind : ℕ) (id : ℤ) (s : Managers) → OneBlockEach s.memory.heap.zone
+        → sizes s.memory.heap.zone ≤ GREATEST_ZONE → TellsOfPurgeable (own_gone kind id s) s.memory.heap }
+    ensures own_once { (kind : ℕ) (id : ℤ) (s : Managers) → OneBlockEach s.memory.heap.zone
+        → sizes s.memory.heap.zone ≤ GREATEST_ZONE → TellsOnce (own_gone kind id s) }
+{}
+
+/// States the same of each heap, with no condition: no handle of a heap has two blocks, and its zone is no larger than a
+/// zone can be.
+pub fn a_fetch_on_a_heap_reports_what_goes<S: BlockStore>(heap: &Heap<S>)
+    ensures goes { (asked : ResourceAsked) (r : Resources) → fetches asked ≡ true
+        → TellsWhatGoes (gone_for asked (managers r heap.now)) heap.now.heap
+        (served asked (managers r heap.now)).after.memory.heap }
+    ensures purgeable { (asked : ResourceAsked) (r : Resources) → fetches asked ≡ true
+        → TellsOfPurgeable (gone_for asked (managers r heap.now)) heap.now.heap }
+    ensures once { (asked : ResourceAsked) (r : Resources) → fetches asked ≡ true
+        → TellsOnce (gone_for asked (managers r heap.now)) }
+{
+    a_heap_tells_what_goes(heap);
+}
+
+/// States that `OpenResFile` reports just what it purges, where each block of a handle is of one that was given, and no
+/// handle has two. Of a handle of the heap before the call it reports what a fetch does. Of a handle that the call itself
+/// makes, for a resource that is preloaded, it reports the bytes that were read into the block, once, where a later preload
+/// of the same call purged the block; its resource then has resPurgeable, and not resLocked.
+pub fn an_opening_reports_what_goes()
+    ensures goes { (name : List ℕ) (s : Managers) → IsWhole s.memory.heap
+        → TellsWhatGoes (gone_for (OpenResFile name) s) s.memory.heap
+        (served (OpenResFile name) s).after.memory.heap }
+    ensures preloads { (name : List ℕ) (s : Managers) → IsWhole s.memory.heap
+        → TellsWhatPreloadsLose (gone_for (OpenResFile name) s) (served (OpenResFile name) s).reads s.memory.heap
+        (served (OpenResFile name) s).after.memory.heap }
+    ensures purgeable { (name : List ℕ) (s : Managers) (h : ℕ) → IsWhole s.memory.heap
+        → 0 < length (told_of h (gone_for (OpenResFile name) s)) → h < length s.memory.heap.names
+        → has_purgeable h s.memory.heap.zone ≡ true }
+    ensures loose { (name : List ℕ) (s : Managers) → IsWhole s.memory.heap
+        → TellsOfLoosePreloads (gone_for (OpenResFile name) s) s.memory.heap
+        (served (OpenResFile name) s).after.resources }
+    ensures once { (name : List ℕ) (s : Managers) → IsWhole s.memory.heap
+        → TellsOnce (gone_for (OpenResFile name) s) }
 {}
 
 /// States that of the calls only those purge that fetch, and the one that opens a file: after any other call each

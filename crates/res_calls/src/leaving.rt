@@ -6,7 +6,8 @@ ghost use Rattle.std.specs.Prelude.{◌≡◌, ◌<◌, map, length, IfOk, OnOk,
 ghost use Rattle.res_calls.specs.Files.{Resources as ResourcesValue};
 ghost use Rattle.res_calls.specs.Given.{managers};
 ghost use Rattle.res_calls.specs.Leaving as leaving;
-ghost use Rattle.res_calls.specs.Places.{has_own, left_last, standing, IsLastUpdated, IsLastClosed};
+ghost use Rattle.res_calls.specs.Leaving.{has_own, StopsLeaving};
+ghost use Rattle.res_calls.specs.Places.{left_last, standing, IsLastUpdated, IsLastClosed, StopsAmid};
 ghost use Rattle.res_calls.specs.Undoing.{undone};
 ghost use Rattle.res_calls.specs.Updating.{stored_in};
 ghost use Rattle.res_calls.specs.declared.files.File.{File as StoredFile};
@@ -87,7 +88,8 @@ impl Resources {
     /// Updates and closes the open files of an application that quits, the file opened last first; the System file
     /// stays open. Returns the first code that is not 0, or 0. A file whose content does not fit the format of a
     /// resource fork (-34, dskFulErr) keeps its fork, and is closed all the same. Where the host is out of memory,
-    /// all files stay as they were; of the open files nothing is promised, and they and the heap are of no further use.
+    /// all files stay as they were. The open files that were opened last, as many as had been closed until then, are
+    /// closed, and the handles of their resources disposed of; the other open files are as they were, and the heap too.
     pub fn leave<S: BlockStore>(
         &mut self,
         alloc: Global,
@@ -96,6 +98,7 @@ impl Resources {
         ensures code { IfOk result (λ code. code ≡ (leaving.leave (managers self.old heap.old)).code) }
         ensures after { OnOk result (managers self.new heap.new ≡ (leaving.leave (managers self.old heap.old)).after) }
         ensures files { OnErr result (self.new.files ≡ self.old.files) }
+        ensures stopped { OnErr result (StopsLeaving (managers self.old heap.old) (managers self.new heap.new)) }
         ensures lies { heap.new.window ≡ heap.old.window }
     {
         let mut undo = Vec::new(alloc);
@@ -118,6 +121,7 @@ impl Resources {
         ensures code { IfOk result (λ code. code ≡ (leaving.leave (managers self.old heap.old)).code) }
         ensures after { OnOk result (managers self.new heap.new ≡ (leaving.leave (managers self.old heap.old)).after) }
         ensures undone { undone undo.new.items self.new.files ≡ undone undo.old.items self.old.files }
+        ensures stopped { OnErr result (StopsAmid (managers self.old heap.old) (managers self.new heap.new)) }
         ensures lies { heap.new.window ≡ heap.old.window }
     {
         let mut code = OsErr::NO_ERR;
@@ -146,6 +150,8 @@ impl Resources {
         ensures code { IfOk result (λ code. code ≡ (left_last (managers self.old heap.old)).code) }
         ensures after { OnOk result (managers self.new heap.new ≡ (left_last (managers self.old heap.old)).after) }
         ensures undone { undone undo.new.items self.new.files ≡ undone undo.old.items self.old.files }
+        ensures kept { OnErr result (self.new ≡ self.old) }
+        ensures heap { OnErr result (heap.new ≡ heap.old) }
         ensures lies { heap.new.window ≡ heap.old.window }
     {
         let code = update_last(alloc, heap, &mut self.files, &mut self.chain, undo)?;

@@ -4,3 +4,4 @@ pub mod Loading
 pub mod Laws
 pub mod Taking
 pub mod Purging
+mod ToldGone

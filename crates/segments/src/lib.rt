@@ -5,7 +5,9 @@ mod calls;
 mod entries;
 mod entry;
 mod loaded;
+mod reporting;
 mod table;
 
 pub use loaded::{Called, Shown, Unloaded};
+pub use reporting::a_segment_call_reports_what_goes;
 pub use table::JumpTable;

@@ -10,13 +10,14 @@ use Rattle.zone_bytes.specs.Table.{slot_in}
 abbrev pub KeepsPlace : Bytes → Bytes → Type 0
 KeepsPlace old new = (new.home ≡ old.home) × (new.at ≡ old.at) × (length new.bytes ≡ length old.bytes)
 
--- The slots that the bytes spell, with the given numbers of unused slots and of moves, and the number of all slots and
--- the window of the part.
-abbrev pub rest_in : Bytes → ℕ → ℕ → Rest
-rest_in part unused moves = record {
+-- The slots that the bytes spell, with the given numbers of unused slots, of moves and of placings, and the number of
+-- all slots and the window of the part.
+abbrev pub rest_in : Bytes → ℕ → ℕ → ℕ → Rest
+rest_in part unused moves placed = record {
   slots = slot_in part.bytes;
   unused = unused;
   all = 64 * count is_masters (zone_in part.bytes);
   moves = moves;
+  placed = placed;
   window = record { home = part.home; window = record { at = part.at; len = length part.bytes } };
 }

@@ -12,10 +12,6 @@ use Rattle.zone_bytes.specs.Table.{Lays}
 abbrev pub LaysOut : List ℕ → List Block → (ℕ → Slot) → Type 0
 LaysOut xs blocks slots = (unused : List ℕ) × Lays xs blocks slots unused
 
--- The bytes are a zone of these blocks, with some slots.
-abbrev pub IsLaid : List ℕ → List Block → Type 0
-IsLaid xs blocks = (slots : ℕ → Slot) × LaysOut xs blocks slots
-
--- The bytes in a window are a zone of these blocks.
-abbrev pub LiesThere : List ℕ → Window → List Block → Type 0
-LiesThere bytes w blocks = IsLaid (piece w.at w.len bytes) blocks
+-- The bytes in a window are a zone of these blocks and these slots.
+abbrev pub LiesThere : List ℕ → Window → List Block → (ℕ → Slot) → Type 0
+LiesThere bytes w blocks slots = LaysOut (piece w.at w.len bytes) blocks slots

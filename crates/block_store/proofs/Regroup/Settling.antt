@@ -163,6 +163,7 @@ keeps-next place zone r first rest rest' at done before =
       all = now.all
           ∙ before.all;
       moves = refl;
+      placed = refl;
       window = now.window ∙ before.window;
     }
 

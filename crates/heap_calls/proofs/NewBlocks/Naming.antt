@@ -4,7 +4,7 @@ use Rattle.std.proofs.Common.{refl, sym, ◌∙◌, ap}
 use Rattle.mac_words.specs.declared.code.OsErr.{OsErr}
 use Rattle.mac_words.specs.declared.code.TheConstants.OsErr.{MEM_FULL}
 use Rattle.block_store.specs.Block.{Block, is_masters, count, is_relocatable, content_of}
-use Rattle.block_store.specs.Rest.{Rest, IsRest, counted}
+use Rattle.block_store.specs.Rest.{Rest, counted}
 use Rattle.block_store.specs.Room.{Spot, spot}
 use Rattle.block_store.specs.declared.sparing.Sparing.TheVariants as sparing
 use Rattle.block_store.specs.declared.measures.TheConstants.{GREATEST_ZONE}
@@ -28,7 +28,7 @@ use Rattle.heap_calls.specs.Inner.Reaching.{sized_reply}
 use Rattle.heap_calls.specs.Inner.Base.{IsBaseAt, base}
 use Rattle.mac_words.specs.Size.{phys}
 use Rattle.heap_calls.specs.Inner.Numbered.{Agrees, KeepsNonrelocatable, no_number, state_of, memory_of}
-use Rattle.heap_calls.specs.Inner.Packed.{Packs, new_moves}
+use Rattle.heap_calls.specs.Inner.Packed.{KeepsAllButPlaced, Packs, new_moves}
 use Rattle.heap_calls.proofs.NewBlocks.NewHandles.{searched-done, new_handle-done, new_handle-refused, handle-agrees}
 use Rattle.heap_calls.proofs.NewBlocks.NewHandles.{handle-window}
 use Rattle.heap_calls.proofs.NewBlocks.Reserving.{empty-refused, empty-done, empty-agrees, empty-window}
@@ -188,7 +188,7 @@ module _ (zone : List Block) (rest : Rest) (es : List Anchor) (masters : rest.al
     masters-ends (Some place) h = let r = masters-done zone rest es masters agrees zone' rest' nonrelocatable place h in
         record { answer = r.0; agrees = r.1; window = r.2 }
 
-    pub reserve-ends : (n p : ℕ) → phys n ≡ Some p → IsRest rest rest' → (place : Option ℕ)
+    pub reserve-ends : (n p : ℕ) → phys n ≡ Some p → KeepsAllButPlaced rest rest' → (place : Option ℕ)
         → IsBaseAt p (base p sparing.Nothing zone) zone' place → (place ≡ None → zone' ≡ zone)
         → Ends (reserve_mem n) zone rest es (served_answer (is_some place)) zone' rest' es
     reserve-ends n p fits now None h same =

@@ -7,6 +7,8 @@ use Rattle.block_store.specs.Run.{RunSpot, run_spot, has_free, with_run, low}
 use Rattle.block_store.specs.Room.{Spot, spot_at, filled, least, room, put_at_base}
 use Rattle.block_store.specs.Slot.{is_used}
 use Rattle.block_store.specs.Rest.{Rest, IsRest, KeepsSlots}
+use Rattle.heap_calls.specs.Inner.Packed.{KeepsAllButPlaced}
+use Rattle.heap_calls.proofs.Numbering.Changing.{slots_kept}
 use Rattle.block_store.specs.Sparing.{spared, opened, purged, most_purges}
 use Rattle.block_store.specs.declared.sparing.Sparing.{Sparing}
 use Rattle.block_store.proofs.Plain.Trials.{least-map}
@@ -87,7 +89,7 @@ base-wide p wanted zone o place is at =
 
 -- what came of making 64 slots
 pub made-some : (sparing : Sparing) (zone zone' : List Block) (rest rest1 rest' : Rest) (o : Option ℕ) (place : ℕ)
-    → o ≡ Some place → zone_with_masters sparing zone ≡ Some zone' → IsRest rest rest1
+    → o ≡ Some place → zone_with_masters sparing zone ≡ Some zone' → KeepsAllButPlaced rest rest1
     → rest'.unused ≡ rest1.unused + 64 → rest'.all ≡ rest1.all + 64
     → ((k : ℕ) → IsTrue (is_used (rest1.slots k)) → rest'.slots k ≡ rest1.slots k) → rest'.window ≡ rest1.window
     → IsMade sparing zone rest o zone' rest'
@@ -103,17 +105,10 @@ made-some sparing zone zone' rest rest1 rest' o place is made now unused all slo
     subst P (sym is) done
 
 pub made-none : (sparing : Sparing) (zone zone' : List Block) (rest rest' : Rest) (o : Option ℕ) → o ≡ None
-    → zone_with_masters sparing zone ≡ None → zone' ≡ zone → IsRest rest rest' → IsMade sparing zone rest o zone' rest'
+    → zone_with_masters sparing zone ≡ None → zone' ≡ zone → KeepsAllButPlaced rest rest' → IsMade sparing zone rest o zone' rest'
 made-none sparing zone zone' rest rest' o is none same now =
     let P : Option ℕ → Type 0 = λ o. IsMade sparing zone rest o zone' rest' in
-    let kept : KeepsSlots rest rest' = record {
-      slots = now.slots;
-      unused = now.unused;
-      all = now.all;
-      moves = refl;
-      window = now.window;
-    } in
-    let done : P None = (none, same, kept) in
+    let done : P None = (none, same, slots_kept rest rest' now) in
     subst P (sym is) done
 
 -- there is neither an unused slot nor room for more
@@ -130,6 +125,7 @@ slot-none sparing zone zone1 zone' rest rest1 rest' o is unused same now made =
         unused = none.2.unused ∙ now.unused;
         all = none.2.all ∙ now.all;
         moves = refl;
+        placed = refl;
         window = none.2.window ∙ now.window;
       },
     )

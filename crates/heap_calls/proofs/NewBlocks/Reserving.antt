@@ -4,7 +4,8 @@ use Rattle.mac_words.specs.Size.{phys}
 use Rattle.mac_words.specs.declared.code.TheConstants.OsErr.{MEM_FULL}
 use Rattle.block_store.specs.Block.{Block, Free, Masters, count, is_masters, rename}
 use Rattle.block_store.specs.Room.{room, put_at_base}
-use Rattle.block_store.specs.Rest.{Rest, IsRest}
+use Rattle.block_store.specs.Rest.{Rest}
+use Rattle.heap_calls.specs.Inner.Packed.{KeepsAllButPlaced}
 use Rattle.block_store.specs.declared.sparing.Sparing.TheVariants as sparing
 use Rattle.block_store.proofs.Plain.Counters.{counted-none}
 use Rattle.heap_calls.specs.State.{State, Memory, Plain}
@@ -17,7 +18,7 @@ use Rattle.heap_calls.specs.Searches.{new_empty_handle_searches, more_masters_se
 use Rattle.heap_calls.specs.Inner.Base.{base, base_searches, IsBaseAt}
 use Rattle.heap_calls.specs.Inner.NewSlot.{zone_slotted, zone_searches, IsTaken, TakesSlot, IsMade}
 use Rattle.heap_calls.specs.Inner.Numbered.{state_of, handle_number, pointer_number, KeepsNonrelocatable, Agrees}
-use Rattle.heap_calls.proofs.Numbering.Changing.{agrees-now, handle-empty, agrees-kept, kept}
+use Rattle.heap_calls.proofs.Numbering.Changing.{agrees-now, handle-empty, agrees-kept, slots_kept}
 use Rattle.heap_calls.proofs.NewBlocks.NewSlots.{at_base, room-base}
 use Rattle.heap_calls.proofs.NewBlocks.NewHandles.{slotted-is, slot_searches-is, base-is, base_searches-is, agrees-more}
 use Rattle.heap_calls.proofs.NewBlocks.NewHandles.{state-more, state-kept, with_handle}
@@ -116,23 +117,23 @@ module _ (zone : List Block) (rest : Rest) (es : List Anchor) (masters : rest.al
         rw fits (ap (λ o. rebuilt o old) (base-is zone rest es masters agrees nothing sparing.Nothing (λ b. refl) refl
         (Free p) ∙ ap (option_map (rename (handle_number es) (pointer_number es))) is))
 
-    pub reserve-none : (n p : ℕ) → phys n ≡ Some p → IsRest rest rest' → zone' ≡ zone
+    pub reserve-none : (n p : ℕ) → phys n ≡ Some p → KeepsAllButPlaced rest rest' → zone' ≡ zone
         → IsBaseAt p (base p sparing.Nothing zone) zone' None → IsRefused (reserve_mem n) zone rest es zone' rest'
     reserve-none n p fits now same none = (
       reserved_in n p fits None (room-base (Free p) sparing.Nothing zone ∙ ap (option_map (at_base (Free p))) none)
           ∙ ap (λ (t : State). refused {T = Unit {0}} MEM_FULL t)
-          (sym (ap (λ z. state_of z rest'.slots es) same ∙ state-kept zone rest rest' es (kept rest rest' now))),
-      agrees-kept zone zone' rest rest' es agrees nonrelocatable (kept rest rest' now),
+          (sym (ap (λ z. state_of z rest'.slots es) same ∙ state-kept zone rest rest' es (slots_kept rest rest' now))),
+      agrees-kept zone zone' rest rest' es agrees nonrelocatable (slots_kept rest rest' now),
       now.window,
     )
 
-    pub reserve-done : (n p place : ℕ) → phys n ≡ Some p → IsRest rest rest'
+    pub reserve-done : (n p place : ℕ) → phys n ≡ Some p → KeepsAllButPlaced rest rest'
         → IsBaseAt p (base p sparing.Nothing zone) zone' (Some place) → IsDone (reserve_mem n) zone rest es zone' rest'
     reserve-done n p place fits now found = (
       reserved_in n p fits (Some zone') (room-base (Free p) sparing.Nothing zone
           ∙ ap (option_map (at_base (Free p))) found.1 ∙ ap Some (sym found.2))
-          ∙ ap (λ (t : State). (Ok tt, t)) (sym (state-kept zone' rest rest' es (kept rest rest' now))),
-      agrees-kept zone zone' rest rest' es agrees nonrelocatable (kept rest rest' now),
+          ∙ ap (λ (t : State). (Ok tt, t)) (sym (state-kept zone' rest rest' es (slots_kept rest rest' now))),
+      agrees-kept zone zone' rest rest' es agrees nonrelocatable (slots_kept rest rest' now),
       now.window,
     )
 

@@ -1,6 +1,6 @@
 use Rattle.std.proofs.Common.{◌≡◌, ℕ, ◌+◌, ◌-◌, ◌*◌, ◌≤◌, ◌<◌, zero, suc, Bool, true, false, ◌==◌, List, [], ◌∷◌, ◌++◌}
 use Rattle.std.proofs.Common.{length, refl, sym, ◌∙◌, ap, cond, map, arith, Option, Some, None, Result, Ok, Err}
-use Rattle.std.proofs.Common.{slice_get, slice_set, get_or, count_by, subst, ◌⊎◌, inl, inr, nat_le}
+use Rattle.std.proofs.Common.{slice_get, slice_set, get_or, count_by, subst, ◌⊎◌, inl, inr, nat_le, OnOk, OnErr}
 use Rattle.std.proofs.lemmas.List.{map-append, map_push, map-set, length-map}
 use Rattle.std.proofs.lemmas.List.Sums.{sum_by_push, sum_by-set}
 use Rattle.std.proofs.lemmas.Option.{none-some, same_Some, slice_get_within, slice_get-map, get_or_from_slice_get}
@@ -19,7 +19,8 @@ use Rattle.block_store.specs.Block.{is_masters, tidy, no_flags}
 use Rattle.windows.specs.Writes.{written}
 use Rattle.block_store.specs.Run.{has}
 use Rattle.block_store.specs.Slot.{Slot, Unused, Used, set_slot, AreSlots, is_used}
-use Rattle.block_store.specs.Rest.{Rest, IsRest, KeepsSlots}
+use Rattle.block_store.specs.Rest.{Rest, IsRest, KeepsSlots, with_placed}
+use Rattle.heap_calls.specs.Inner.Packed.{KeepsAllButPlaced}
 use Rattle.block_store.specs.Room.{Spot, spot_at, raised, rename_spot, filled, room, put_in_place}
 use Rattle.block_store.specs.Grow.{freed}
 use Rattle.block_store.proofs.Renamed.Renaming.{total-rename, free_of-rename, freed-rename, tidy-rename, room-rename}
@@ -427,32 +428,94 @@ agrees-kept zone zone' rest rest' es agrees nonrelocatable now = record {
   masters = let a = agrees.masters in omega (arith, now.all);
 }
 
--- with the same count of moves, the rest is what it was
-as_many : (rest rest' : Rest) (moves : ℕ) → IsRest rest rest'
-    → IsRest (record rest { moves = moves }) (record rest' { moves = moves })
-as_many rest rest' moves now = record {
+-- with the same counts, the rest is what it was
+as_many : (rest rest' : Rest) (moves placed : ℕ) → IsRest rest rest'
+    → IsRest (record rest { moves = moves; placed = placed }) (record rest' { moves = moves; placed = placed })
+as_many rest rest' moves placed now = record {
   slots = now.slots;
   unused = now.unused;
   all = now.all;
   moves = refl;
+  placed = refl;
   window = now.window;
 }
 
 -- where nothing is moved the slots are kept
 pub kept : (rest rest' : Rest) → IsRest rest rest' → KeepsSlots rest rest'
-kept rest rest' now = as_many rest rest' rest'.moves now
+kept rest rest' now = as_many rest rest' rest'.moves rest'.placed now
 
--- what a store has beside its blocks, as if none had moved
+-- what a store has beside its blocks, as if none had moved or been placed
 abbrev pub unmoved : Rest → Rest → Rest
-unmoved rest rest' = record rest' { moves = rest.moves }
+unmoved rest rest' = record rest' { moves = rest.moves; placed = rest.placed }
 
 pub unmoved-is : (rest rest' : Rest) → KeepsSlots rest rest' → IsRest rest (unmoved rest rest')
-unmoved-is rest rest' now = as_many (record rest { moves = rest'.moves }) rest' rest.moves now
+unmoved-is rest rest' now =
+    as_many (record rest { moves = rest'.moves; placed = rest'.placed }) rest' rest.moves rest.placed now
 
 pub agrees-same : (zone zone' : List Block) (rest rest' : Rest) (es : List Anchor) → Agrees zone rest es
     → KeepsNonrelocatable zone zone' → IsRest rest rest' → Agrees zone' rest' es
 agrees-same zone zone' rest rest' es agrees nonrelocatable now = agrees-kept zone zone' rest rest' es agrees nonrelocatable
     (kept rest rest' now)
+
+-- what a store has beside its blocks, as if none had been placed
+abbrev pub unplaced : Rest → Rest → Rest
+unplaced rest rest' = record rest' { placed = rest.placed }
+
+pub unplaced-is : (rest rest' : Rest) → KeepsAllButPlaced rest rest' → IsRest rest (unplaced rest rest')
+unplaced-is rest rest' now = record {
+  slots = now.slots;
+  unused = now.unused;
+  all = now.all;
+  moves = now.moves;
+  placed = refl;
+  window = now.window;
+}
+
+-- where blocks may have been placed the slots are kept
+pub slots_kept : (rest rest' : Rest) → KeepsAllButPlaced rest rest' → KeepsSlots rest rest'
+slots_kept rest rest' now = as_many rest (unplaced rest rest') rest'.moves rest'.placed (unplaced-is rest rest' now)
+
+pub agrees-placed : (zone zone' : List Block) (rest rest' : Rest) (es : List Anchor) → Agrees zone rest es
+    → KeepsNonrelocatable zone zone' → KeepsAllButPlaced rest rest' → Agrees zone' rest' es
+agrees-placed zone zone' rest rest' es agrees nonrelocatable now =
+    agrees-kept zone zone' rest rest' es agrees nonrelocatable (slots_kept rest rest' now)
+
+-- one placing is counted, or more
+pub once_placed : (n : ℕ) (rest rest' : Rest) → IsRest (with_placed n rest) rest' → KeepsAllButPlaced rest rest'
+once_placed n rest rest' now = record {
+  slots = now.slots;
+  unused = now.unused;
+  all = now.all;
+  moves = now.moves;
+  placed = refl;
+  window = now.window;
+}
+
+pub none_placed : (rest rest' : Rest) → IsRest rest rest' → KeepsAllButPlaced rest rest'
+none_placed rest rest' now = record {
+  slots = now.slots;
+  unused = now.unused;
+  all = now.all;
+  moves = now.moves;
+  placed = refl;
+  window = now.window;
+}
+
+-- it is counted where the store had host memory for it
+pub may_place : {T E : Type 0} (r : Result T E) (n : ℕ) (rest rest' : Rest) → OnOk r (IsRest (with_placed n rest) rest')
+    → OnErr r (IsRest rest rest') → KeepsAllButPlaced rest rest'
+may_place (Ok x) n rest rest' ok err = once_placed n rest rest' ok
+may_place (Err e) n rest rest' ok err = none_placed rest rest' err
+
+pub placed-then : (a b c : Rest) → KeepsAllButPlaced a b → KeepsAllButPlaced b c → KeepsAllButPlaced a c
+placed-then a b c first next = record {
+  slots = λ k. next.slots k ∙ first.slots k;
+  unused = next.unused ∙ first.unused;
+  all = next.all ∙ first.all;
+  moves = next.moves ∙ first.moves;
+  placed = refl;
+  window = next.window ∙ first.window;
+}
 
 -- a heap over another zone and the same slots
 pub memory-same : (zone : List Block) (rest rest' : Rest) (es : List Anchor) (log : Log) → IsRest rest rest'

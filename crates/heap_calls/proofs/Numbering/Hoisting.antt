@@ -13,6 +13,7 @@ use Rattle.block_store.specs.Block.{rename_block, is_relocatable, is_mover, tidy
 use Rattle.block_store.specs.Run.{RunSpot, run_spot, run_at, change_run, with_run, has, has_free, others, high}
 use Rattle.block_store.specs.Seen.{seen, with_flags}
 use Rattle.block_store.specs.Rest.{Rest, IsRest}
+use Rattle.heap_calls.specs.Inner.Packed.{KeepsAllButPlaced}
 use Rattle.block_store.specs.Room.{Spot, spot, spot_at, rename_spot}
 use Rattle.block_store.specs.Find.{FindsLowestRun}
 use Rattle.block_store.proofs.Renamed.Renaming.{change_run-rename, has-rename, others-rename, filter-rename}
@@ -28,7 +29,7 @@ use Rattle.heap_calls.specs.declared.anchor.Anchor.TheVariants.{Handle}
 use Rattle.heap_calls.specs.Inner.Numbered.{state_of, memory_of, handle_number, pointer_number, no_number}
 use Rattle.heap_calls.proofs.Numbering.Answering.{look_up-by, held}
 use Rattle.heap_calls.proofs.Numbering.Numbers.{Apart, is_relocatable-number}
-use Rattle.heap_calls.proofs.Numbering.Changing.{silent-kept, silent-refused}
+use Rattle.heap_calls.proofs.Numbering.Changing.{silent-kept, silent-refused, unplaced, unplaced-is}
 
 -- a block without flags has none to change
 pub flags-none : (change : Flags → Flags) (b : Block) → seen_flags (Some (seen b)) ≡ None → flagged change b ≡ b
@@ -66,7 +67,7 @@ seen-at of place zone s r at is = ap of (is ∙ ap (option_map (λ (s : Spot). s
 
 -- the rest is what it was
 pub rest-same : (rest : Rest) → IsRest rest rest
-rest-same rest = record { slots = λ k. refl; unused = refl; all = refl; moves = refl; window = refl }
+rest-same rest = record { slots = λ k. refl; unused = refl; all = refl; moves = refl; placed = refl; window = refl }
 
 -- the answer of a call that changes flags, where they were changed
 pub change_flags-done : (change : Flags → Flags) (value : Memory) (zone zone' : List Block) (rest rest' : Rest)
@@ -162,14 +163,14 @@ module _ (value : Memory) (zone : List Block) (rest : Rest) (es : List Anchor) (
         (row s false found locked)
 
     pub move_h_hi-done : (zone' : List Block) (rest' : Rest) (s : Spot) → spot (is_relocatable slot) zone ≡ Some s
-        → is_mover s.here ≡ true → IsRest rest rest' → zone' ≡ hoisted slot zone
+        → is_mover s.here ≡ true → KeepsAllButPlaced rest rest' → zone' ≡ hoisted slot zone
         → silent (move_h_hi handle) value ≡ (Ok tt, memory_of zone' rest' es log)
     move_h_hi-done zone' rest' s found free now done =
         let f : ℕ → ℕ = handle_number es in
         let g : ℕ → ℕ = pointer_number es in
-        silent-kept (move_h_hi handle) value zone zone' rest rest' es log (Ok tt) is
+        silent-kept (move_h_hi handle) value zone zone' rest (unplaced rest rest') es log (Ok tt) is
         (row s true found free ∙ ap (λ z. (Ok tt, record state { zone = z })) (hoisted-rename f g h slot
-        (is_relocatable-number es h slot at apart small) zone ∙ ap (rename f g) (sym done))) now
+        (is_relocatable-number es h slot at apart small) zone ∙ ap (rename f g) (sym done))) (unplaced-is rest rest' now)
 
 -- the run of a block, found with no Free bytes wanted
 and-free : (test : List Block → Bool) (zone : List Block) → run_spot (λ run. test run && has_free 0 run) zone

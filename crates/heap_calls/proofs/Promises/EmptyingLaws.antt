@@ -12,10 +12,10 @@ use Rattle.mac_words.specs.declared.code.TheConstants.OsErr.{MEM_FULL, LOCKED, P
 use Rattle.block_store.specs.declared.flags.Flags.{Flags}
 use Rattle.block_store.specs.Block.{Block, Free, Nonrelocatable, Masters, Relocatable, sizes, total, count, is_mover}
 use Rattle.block_store.specs.Block.{is_purgeable, is_masters, is_relocatable, is_nonrelocatable, content_of, with_content}
-use Rattle.block_store.specs.Block.{no_flags, tidy, resized}
+use Rattle.block_store.specs.Block.{no_flags, tidy, resized, size}
 use Rattle.windows.specs.Writes.{written}
 use Rattle.block_store.specs.Run.{has, runs}
-use Rattle.block_store.specs.Room.{Spot, spot, put_in_place, put_at_base, room}
+use Rattle.block_store.specs.Room.{Spot, spot, filled, place, purge, put_in_place, put_at_base, room}
 use Rattle.block_store.specs.Grow.{freed, grow}
 use Rattle.block_store.specs.Compact.{runs_settled}
 use Rattle.block_store.proofs.Zone.Tidy.{spot-is, spot-passes}
@@ -37,8 +37,8 @@ use Rattle.heap_calls.specs.Asked.{Asked, answered}
 use Rattle.heap_calls.specs.Asked as asked
 use Rattle.heap_calls.specs.Locked.{OneBlockEach}
 use Rattle.heap_calls.specs.Emptying.{has_purgeable, PurgesOnlyPurgeable}
-use Rattle.block_store.proofs.Zone.Views.{map-some}
-use Rattle.block_store.proofs.Zone.Keeping.{unless, tidied, freed-is}
+use Rattle.block_store.proofs.Zone.Views.{map-some, room-some}
+use Rattle.block_store.proofs.Zone.Keeping.{unless, tidied, freed-is, filled-is}
 use Rattle.heap_calls.proofs.Promises.Knowing.{look_up-spot, pointed_at-spot}
 use Rattle.heap_calls.proofs.Promises.LastPutLaws.{found-same, handle_at-name}
 use Rattle.heap_calls.proofs.Promises.AlikeCalls.{flagged-number}
@@ -589,6 +589,49 @@ unpurgeable-none f = cases f.locked
     cases true = refl
     cases false = refl
 
+-- a block that was put in its place is there
+put-there : (of : Block → ℕ) → ((n : ℕ) → of (Free n) ≡ 0) → (new : Block) (sp : Block → Bool) (zone z : List Block)
+    → room (put_in_place new) sp zone ≡ Some z → of new ≤ total of z
+put-there of none new sp zone z e =
+    let r = room-some (put_in_place new) sp zone z e in
+    map-some (filled new) (place (size new) (purge r.0 sp zone)) z (of new ≤ total of z) r.1
+    (λ s found is. omega (arith, ap (total of) is, filled-is of none new s))
+
+-- a handle that had a block has one after ReallocateHandle
+pub renewed-there : (h k n : ℕ) (s : State) → (k == h) ≡ true → has (is_relocatable h) s.zone ≡ true
+    → has (is_relocatable h) (purging.reallocate_handle (Some k) n s).1.zone ≡ true
+renewed-there h k n s e before = by_found (handle_at (Some k) s) (λ found is. (handle_at-name k s found is).1)
+  where
+    answer : ℕ → Answer (Unit {0})
+    answer j = if is_loose (spot (is_relocatable j) s.zone) then
+        (if is_some (phys n) then rebuilt (reallocated j n s.zone) s else refused MEM_FULL s) else refused PURGED s
+
+    there : (z : List Block) → 1 ≤ count (is_relocatable h) z → (t : Bool) → has (is_relocatable h) z ≡ t → t ≡ true
+    there z some true is = refl
+    there z some false is = absurd (let none = count-none (is_relocatable h) z is in omega arith)
+
+    by_room : (j : ℕ) → (j == h) ≡ true → (o : Option (List Block)) → reallocated j n s.zone ≡ o
+        → has (is_relocatable h) (rebuilt o s).1.zone ≡ true
+    by_room j same None is = before
+    by_room j same (Some z) is =
+        let new : Block = Relocatable j no_flags (replicate n 0) in
+        let one : is_of h new ≡ 1 = ap {B = ℕ} (λ (t : Bool). cond t 1 0) same in
+        there z (let l = put-there (is_of h) (λ m. refl) new nothing (freed (is_relocatable j) s.zone) z is in
+        omega (arith, one)) (has (is_relocatable h) z) refl
+
+    by_tests : (j : ℕ) → (j == h) ≡ true → (t u : Bool) → has (is_relocatable h) (cond t
+        (cond u (rebuilt (reallocated j n s.zone) s) (refused MEM_FULL s)) (refused PURGED s)).1.zone ≡ true
+    by_tests j same true true = by_room j same (reallocated j n s.zone) refl
+    by_tests j same true false = before
+    by_tests j same false u = before
+
+    by_found : (r : Result calls.Known OsErr) → ((found : calls.Known) → r ≡ Ok found → found.number ≡ k)
+        → has (is_relocatable h) (for_found r s (λ found. answer found.number)).1.zone ≡ true
+    by_found (Err code) named = before
+    by_found (Ok found) named =
+        by_tests found.number (ap (λ j. j == h) (named found refl) ∙ e)
+        (is_loose (spot (is_relocatable found.number) s.zone)) (is_some (phys n))
+
 -- no call empties a block that may not be purged, unless it lets it go
 pub only-purgeable-go : (a : Asked) (m : Memory) → OneBlockEach m.heap.zone → PurgesOnlyPurgeable a m
 only-purgeable-go (asked.DisposeHandle None) m once h keeps = spared-stays h (asked.DisposeHandle None) m once tt
@@ -599,8 +642,13 @@ only-purgeable-go (asked.EmptyHandle (Some k)) m once h keeps =
     spared-stays h (asked.EmptyHandle (Some k)) m once (stays-other h k keeps)
 only-purgeable-go (asked.ReallocateHandle None n) m once h keeps =
     spared-stays h (asked.ReallocateHandle None n) m once tt
-only-purgeable-go (asked.ReallocateHandle (Some k) n) m once h keeps =
-    spared-stays h (asked.ReallocateHandle (Some k) n) m once (stays-other h k keeps)
+only-purgeable-go (asked.ReallocateHandle (Some k) n) m once h keeps = by_handle (k == h) refl
+  where
+    by_handle : (t : Bool) → (k == h) ≡ t → has (is_relocatable h) m.heap.zone ≡ true
+        → has (is_relocatable h) (answered (asked.ReallocateHandle (Some k) n) m).1.heap.zone ≡ false
+        → has_purgeable h m.heap.zone ≡ true
+    by_handle true e = λ before after. let f : true ≡ false = sym (renewed-there h k n m.heap e before) ∙ after in cc
+    by_handle false e = spared-stays h (asked.ReallocateHandle (Some k) n) m once (stays-other h k e)
 only-purgeable-go (asked.DisposePtr None) m once h keeps = spared-stays h (asked.DisposePtr None) m once tt
 only-purgeable-go (asked.DisposePtr (Some p)) m once h keeps =
     spared-stays h (asked.DisposePtr (Some p)) m once (stays-pointer h p)

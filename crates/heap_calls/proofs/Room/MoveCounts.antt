@@ -11,7 +11,7 @@ use Rattle.block_store.specs.Run.{RunSpot, run_spot, run_at, has, has_free, sett
 use Rattle.block_store.specs.Room.{Spot, spot, place, purge, filled}
 use Rattle.block_store.specs.Grow.{growth, grow_up, grow_mover, move_away, grow_last, freed}
 use Rattle.block_store.specs.Sparing.{spared, opened, purged}
-use Rattle.block_store.specs.Rest.{Rest, IsRest, counted, with_moves, lowered_in_run}
+use Rattle.block_store.specs.Rest.{Rest, IsRest, counted, with_moves, with_placed, lowered_in_run}
 use Rattle.block_store.specs.declared.sparing.Sparing.{Sparing}
 use Rattle.heap_calls.specs.declared.growing.Growth.TheVariants as grows
 use Rattle.heap_calls.specs.declared.log.Log.{Log}
@@ -138,7 +138,7 @@ no-growth test new zone none = cases (spot test zone) none
 pub last-moves : (number n : ℕ) (zone zone1 : List Block) (run : ℕ) (k : IsLast number n zone run) → tidy zone ≡ zone
     → count (is_relocatable number) zone ≤ 1
     → IfSome (run_at run zone) (λ r. zone1 ≡ tidy (with_run (high (is_relocatable number)) r)) → (a b c d : Rest)
-    → IsRest a b → IfSome (run_at run zone1) (λ r. IsRest (with_moves (lowered_in_run r.run) b) c) → IsRest c d
+    → IsRest (with_placed 1 a) b → IfSome (run_at run zone1) (λ r. IsRest (with_moves (lowered_in_run r.run) b) c) → IsRest c d
     → Packs (grow_moves (is_relocatable number) (grown n (spot (is_relocatable number) zone)) zone) a d
 last-moves number n zone zone1 run k tidied once hoisted a b c d before packed after =
     let P : Option RunSpot → Type 0 = λ o. IfSome o (λ r. IsRest (with_moves (lowered_in_run r.run) b) c) in

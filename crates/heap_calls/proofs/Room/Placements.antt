@@ -87,6 +87,7 @@ slot-back more rest1 rest' slot was one took back = record {
   unused = back.unused ∙ one;
   all = back.all ∙ took.all;
   moves = refl;
+  placed = refl;
   window = back.window ∙ took.window;
 }
   where
@@ -104,6 +105,7 @@ kept-back rest rest1 rest' slot kept back = record {
   unused = back.unused ∙ ap (λ n. n + 1) kept.unused;
   all = back.all ∙ kept.all;
   moves = refl;
+  placed = refl;
   window = back.window ∙ kept.window;
 }
 

@@ -1,5 +1,5 @@
 use Rattle.std.proofs.Common.{◌≡◌, ℕ, ◌+◌, ◌≤◌, ◌<◌, ◌⊎◌, inl, inr, Bool, true, false, List, length, Option, Some, None}
-use Rattle.std.proofs.Common.{refl, sym, ◌∙◌, ap, arith}
+use Rattle.std.proofs.Common.{refl, sym, ◌∙◌, ap, subst, arith}
 use mir.Val.{bool_byte}
 use Rattle.std.specs.Option.{option_map, IfSome}
 use Rattle.block_store.specs.Block.{Block, sizes, tidy}
@@ -7,7 +7,7 @@ use Rattle.block_store.specs.Compact.{compacted, lowered_in_runs, has_room, next
 use Rattle.block_store.specs.Inner.NthRun.{FindsRun}
 use Rattle.block_store.specs.Rest.{Rest, IsRest, KeepsSlots, counted, lowered_in_run, with_moves}
 use Rattle.block_store.specs.Room.{Spot, spot_at}
-use Rattle.block_store.specs.Run.{run_at, runs, settle, with_run}
+use Rattle.block_store.specs.Run.{RunSpot, run_at, runs, settle, with_run}
 use Rattle.block_store.specs.Seen.{seen}
 use Rattle.block_store.specs.declared.sparing.Seen.{Seen}
 use Rattle.block_store.proofs.Regroup.NextRuns.{first-run, next-higher, next-settled, sizes-settled}
@@ -28,6 +28,7 @@ pub record SettledTo (k : ℕ) (bytes : Option ℕ) (start : List Block) (first 
   pub zone_is : zone ≡ settled k start
   pub moves : rest.moves ≡ counted first.moves (lowered_in_runs k (runs start))
   pub keeps : KeepsSlots first rest
+  pub placed : rest.placed ≡ first.placed
   pub count : n ≡ stretches k (runs start)
   pub none : (j : ℕ) → j < k → has_room bytes (settled j start) ≡ false
 
@@ -47,6 +48,7 @@ begins bytes start first = record {
     zone_is = sym (joined-segments start);
     moves = omega arith;
     keeps = rest-same first;
+    placed = refl;
     count = refl;
     none = λ j less. absurd (omega arith);
   };
@@ -76,6 +78,14 @@ few bytes start first zone rest place n m tidied i c =
       runs-few start,
     )
 
+-- a run that is settled is placed nowhere else
+unplaced-next : (place : ℕ) (zone : List Block) (r : RunSpot) (rest rest' : Rest) → run_at place zone ≡ Some r
+    → IfSome (run_at place zone) (λ r. IsRest (with_moves (lowered_in_run r.run) rest) rest')
+    → rest'.placed ≡ rest.placed
+unplaced-next place zone r rest rest' at rest_is =
+    let P : Option RunSpot → Type 0 = λ o. IfSome o (λ r. IsRest (with_moves (lowered_in_run r.run) rest) rest') in
+    (subst P at rest_is).placed
+
 -- one more
 pub one-more : (bytes : Option ℕ) (start : List Block) (first : Rest) (zone : List Block) (rest : Rest) (place n m : ℕ)
     (zone' : List Block) (rest' : Rest) → tidy start ≡ start → tidy zone ≡ zone → has_room bytes zone ≡ false
@@ -92,6 +102,7 @@ one-more bytes start first zone rest place n m zone' rest' tidied tidied_now ful
       zone_is = settled-next k place start zone zone' tidied f.zone_is i.found done;
       moves = moves-next k place start zone first rest rest' f.zone_is i.found rest_is f.moves;
       keeps = keeps-next place zone i.found.0 first rest rest' i.found.2 rest_is f.keeps;
+      placed = unplaced-next place zone i.found.0 rest rest' i.found.2 rest_is ∙ f.placed;
       count = stretches-next k place start zone c.there c.begins m n tidied_now f.zone_is i.found c.there_is c.begins_is
           c.as_number f.count;
       none = none-next bytes start zone k f.zone_is full f.none;
@@ -114,6 +125,7 @@ pub record IsCompacted (bytes : Option ℕ) (start : List Block) (first : Rest) 
   pub zone_is : zone ≡ compacted bytes start
   pub moves : rest.moves ≡ counted first.moves (lowered_in_runs (runs_settled bytes start) (runs start))
   pub keeps : KeepsSlots first rest
+  pub placed : rest.placed ≡ first.placed
   pub count : n ≡ stretches (runs_settled bytes start) (runs start)
 
 ends : (k : ℕ) (bytes : Option ℕ) (start : List Block) (first : Rest) (zone : List Block) (rest : Rest) (n : ℕ)
@@ -125,6 +137,7 @@ ends k bytes start first zone rest n f end =
       zone_is = zone-end k (runs_settled bytes start) start zone f.zone_is all;
       moves = moves-end k (runs_settled bytes start) first.moves rest.moves (runs start) f.moves all;
       keeps = f.keeps;
+      placed = f.placed;
       count = stretches-end n (runs_settled bytes start) k (runs start) f.count all;
     }
 

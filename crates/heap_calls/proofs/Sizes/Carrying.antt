@@ -28,7 +28,7 @@ use Rattle.block_store.specs.Inner.Packing.{Loose}
 use Rattle.block_store.specs.Sparing.{purged, spared}
 use Rattle.block_store.specs.declared.sparing.Sparing.{Sparing}
 use Rattle.block_store.specs.Seen.{moved_away}
-use Rattle.block_store.specs.Rest.{Rest, IsRest, KeepsSlots, with_moves, lowered_in_run}
+use Rattle.block_store.specs.Rest.{Rest, IsRest, KeepsSlots, with_moves, with_placed, lowered_in_run}
 use Rattle.heap_calls.specs.Inner.Search.{FindsPlacement, IsAt}
 use Rattle.heap_calls.specs.declared.search.Placement.{Placement}
 use Rattle.heap_calls.specs.declared.growing.Growth.TheVariants as grows
@@ -596,7 +596,7 @@ grown-positive number n zone grows = cases (spot (is_relocatable number) zone) g
     cases (Some s) h = omega (arith, h)
 
 -- the slots stay while a block is moved to the top of its run, which is packed
-pub rest-last : (a b c d : Rest) (o : Option RunSpot) → IsSome o → IsRest a b
+pub rest-last : (a b c d : Rest) (o : Option RunSpot) → IsSome o → IsRest (with_placed 1 a) b
     → IfSome o (λ r. IsRest (with_moves (lowered_in_run r.run) b) c) → IsRest c d → KeepsSlots a d
 rest-last a b c d None there hoisted packed grown = let f : false ≡ true = there in cc
 rest-last a b c d (Some r) there hoisted packed grown = record {
@@ -604,5 +604,6 @@ rest-last a b c d (Some r) there hoisted packed grown = record {
   unused = grown.unused ∙ packed.unused ∙ hoisted.unused;
   all = grown.all ∙ packed.all ∙ hoisted.all;
   moves = refl;
+  placed = refl;
   window = grown.window ∙ packed.window ∙ hoisted.window;
 }

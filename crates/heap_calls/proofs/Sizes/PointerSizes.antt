@@ -10,7 +10,8 @@ use Rattle.block_store.specs.Block.{rename, rename_block}
 use Rattle.block_store.specs.Run.{in_run}
 use Rattle.block_store.specs.Room.{Spot, spot_at}
 use Rattle.block_store.specs.Grow.{grow}
-use Rattle.block_store.specs.Rest.{Rest, IsRest, counted}
+use Rattle.block_store.specs.Rest.{Rest, counted}
+use Rattle.heap_calls.specs.Inner.Packed.{KeepsAllButPlaced}
 use Rattle.heap_calls.specs.State.{State, Memory}
 use Rattle.heap_calls.specs.Answer.{Held, nothing, rebuilt, refused, for_found, silent, searching}
 use Rattle.heap_calls.specs.Inner.Given.{IsAnswer}
@@ -28,7 +29,7 @@ use Rattle.heap_calls.specs.Inner.Numbered.{state_of, memory_of, handle_number, 
 use Rattle.heap_calls.specs.Inner.Reaching.{sized_reply}
 use Rattle.heap_calls.specs.declared.anchor.Target.{Target}
 use Rattle.heap_calls.proofs.Numbering.Answering.{at_place}
-use Rattle.heap_calls.proofs.Numbering.Changing.{phys-some}
+use Rattle.heap_calls.proofs.Numbering.Changing.{phys-some, unplaced, unplaced-is}
 use Rattle.heap_calls.proofs.Numbering.Pointing.{Lone, IsHeld, is_nonrelocatable-number, pointed_at-refused}
 use Rattle.heap_calls.proofs.Numbering.Rebuilding.{not-looked, rebuilt-reply}
 use Rattle.heap_calls.proofs.Numbering.Looking.{size_searches-rename, fitted-rename}
@@ -83,7 +84,7 @@ set_pointer_size-row pointer n s k found =
 -- what it answers where the block's growth came to a zone
 pub set_pointer_size-done : (value : Memory) (zone zone' : List Block) (rest rest' : Rest) (es : List Anchor)
     (log : Log) (pointer : Option ℕ) (t : Target) (n searches : ℕ) (done : Bool) → memory_of zone rest es log ≡ value
-    → IsHeld zone rest.slots es pointer t → Lone es → t.number < no_number → IsRest rest rest'
+    → IsHeld zone rest.slots es pointer t → Lone es → t.number < no_number → KeepsAllButPlaced rest rest'
     → searches ≡ size_searches (is_nonrelocatable t.place) nothing n zone
     → fitted (is_nonrelocatable t.place) nothing n zone ≡ made_zone done zone' → (done ≡ false → zone' ≡ zone)
     → IsAnswer (searching (set_pointer_size_searches pointer n value.heap) (silent (set_pointer_size pointer n) value))
@@ -91,7 +92,7 @@ pub set_pointer_size-done : (value : Memory) (zone zone' : List Block) (rest res
 set_pointer_size-done value zone zone' rest rest' es log pointer t n searches done is there lone small now looks made
     full =
     rebuilt-reply value zone rest es log is (set_pointer_size pointer n) (set_pointer_size_searches pointer n) zone'
-    rest' now searches
+    (unplaced rest rest') (unplaced-is rest rest' now) searches
     (ap (λ r. found_searches r (λ (k : Held). size_searches (is_nonrelocatable k.number) nothing n (rename f g zone)))
     there.looked ∙ size_searches-rename f g nothing nothing (λ b. refl) (is_nonrelocatable t.number) (is_nonrelocatable t.place) same n
     zone ∙ sym looks)

@@ -33,6 +33,7 @@ use Rattle.heap_calls.specs.Path.{Step, NewFilled, NewEmpty, Refill, Release, Ca
 use Rattle.heap_calls.proofs.Gates.Served.{served-gated}
 use Rattle.heap_calls.proofs.Promises.LastPutLaws.{handle_at-name}
 use Rattle.heap_calls.proofs.Promises.EmptyingLaws.{Unseen, Spares, purges, of-quiet, of-gone, is_of, is_of-rises}
+use Rattle.heap_calls.proofs.Promises.EmptyingLaws.{renewed-there}
 use Rattle.heap_calls.proofs.ToldGone.Sums.{Adds}
 use Rattle.heap_calls.proofs.ToldGone.Bounds.{told-most, step-most, loose-bound}
 use Rattle.heap_calls.proofs.ToldGone.Rows.{row_gone, rows-even, filled_step-even, empty_step-even, refill_step-even}
@@ -133,8 +134,13 @@ pointer-unseen h p (Nonrelocatable id content) e = refl
 pointer-unseen h p Masters e = refl
 pointer-unseen h p (Relocatable id flags content) e = let f : false ≡ true = e in cc
 
--- a call that takes no block of a handle away lets none of them go
-spares-others : (h : ℕ) (a : Asked) → takes_block h a ≡ false → Spares (is_of h) a
+-- whether a call takes a handle's block away, or puts another in its place
+abbrev lets_go : ℕ → Asked → Bool
+lets_go h (asked.ReallocateHandle (Some k) n) = k == h
+lets_go h a = takes_block h a
+
+-- a call that lets no block of a handle go
+spares-others : (h : ℕ) (a : Asked) → lets_go h a ≡ false → Spares (is_of h) a
 spares-others h (asked.DisposeHandle (Some k)) keeps = other-unseen h k keeps
 spares-others h (asked.EmptyHandle (Some k)) keeps = other-unseen h k keeps
 spares-others h (asked.ReallocateHandle (Some k) n) keeps = other-unseen h k keeps
@@ -147,6 +153,13 @@ spares-others h (asked.HSetState handle byte) keeps = is_of-rises h
     (λ f. record { locked = byte / 128 % 2 == 1; purgeable = byte / 64 % 2 == 1 })
 spares-others h (asked.HLockHi handle) keeps = is_of-rises h (λ f. record f { locked = true })
 spares-others h a keeps = tt
+
+-- or takes none away
+spares-takes : (h : ℕ) (a : Asked) → lets_go h a ≡ false → takes_block h a ≡ false
+spares-takes h (asked.DisposeHandle (Some k)) keeps = keeps
+spares-takes h (asked.EmptyHandle (Some k)) keeps = keeps
+spares-takes h (asked.ReallocateHandle handle n) keeps = refl
+spares-takes h a keeps = refl
 
 is_of-sized : (h k : ℕ) (b : Block) → is_of h b ≡ is_of h (resized k b)
 is_of-sized h k (Free m) = refl
@@ -206,7 +219,7 @@ module _ (h : ℕ) (m : Memory) (within : h < length m.heap.names)
     fresh flags content = cond-false (length m.heap.names == h) 1 0 (grind (arith, nat_tests, within))
 
     -- as many blocks of a handle go as are told of
-    balance : (a : Asked) → takes_block h a ≡ false
+    balance : (a : Asked) → lets_go h a ≡ false
         → (count (is_relocatable h) m.heap.zone ≤ count (is_relocatable h) (answered a m).1.heap.zone
         + many (told_of h (row_gone a m.heap)))
         × ((told_of h (row_gone a m.heap) ≡ []) ⊎ (count (is_relocatable h) (answered a m).1.heap.zone
@@ -228,8 +241,8 @@ module _ (h : ℕ) (m : Memory) (within : h < length m.heap.names)
             let le = of-quiet (is_of h) (λ k. refl) (is_of-filled h) a m e (spares-others h a keeps) in
             (omega arith, inl (ap (told_of h) (row-none a m.heap e)))
 
-    -- nothing is told of a handle whose block is taken away
-    taken-none : (a : Asked) → takes_block h a ≡ true → told_of h (row_gone a m.heap) ≡ []
+    -- nothing is told of a handle whose block a call lets go
+    taken-none : (a : Asked) → lets_go h a ≡ true → told_of h (row_gone a m.heap) ≡ []
     taken-none (asked.DisposeHandle (Some k)) takes = refl
     taken-none (asked.EmptyHandle (Some k)) takes = refl
     taken-none (asked.ReallocateHandle (Some k) n) takes =
@@ -281,12 +294,40 @@ module _ (h : ℕ) (m : Memory) (within : h < length m.heap.names)
         cases false e = sym (many-none (bytes_in h zone)
             (omega (arith, held-bytes (λ x. 1) h zone, count-none (is_relocatable h) zone e)))
 
+    -- and that is what the handle loses
+    taken-tells : (a : Asked) → lets_go h a ≡ true
+        → [] ≡ cond (takes_block h a || has (is_relocatable h) (answered a m).1.heap.zone) [] (bytes_in h m.heap.zone)
+    taken-tells (asked.DisposeHandle (Some k)) takes =
+        sym (ap (λ t. cond (t || has (is_relocatable h) (answered (asked.DisposeHandle (Some k)) m).1.heap.zone) []
+        (bytes_in h m.heap.zone)) takes)
+    taken-tells (asked.EmptyHandle (Some k)) takes =
+        sym (ap (λ t. cond (t || has (is_relocatable h) (answered (asked.EmptyHandle (Some k)) m).1.heap.zone) []
+        (bytes_in h m.heap.zone)) takes)
+    taken-tells (asked.ReallocateHandle (Some k) n) takes = by_block (has (is_relocatable h) m.heap.zone) refl
+      where
+        after : List Block
+        after = (answered (asked.ReallocateHandle (Some k) n) m).1.heap.zone
+
+        none : (t : Bool) → cond {A = List (List ℕ)} t [] [] ≡ []
+        none true = refl
+        none false = refl
+
+        by_block : (t : Bool) → has (is_relocatable h) m.heap.zone ≡ t
+            → [] ≡ cond (has (is_relocatable h) after) [] (bytes_in h m.heap.zone)
+        by_block true e =
+            sym (ap (λ t. cond t [] (bytes_in h m.heap.zone)) (renewed-there h k n m.heap takes e))
+        by_block false e =
+            let held : bytes_in h m.heap.zone ≡ [] = many-none (bytes_in h m.heap.zone)
+            (omega (arith, held-bytes (λ x. 1) h m.heap.zone, count-none (is_relocatable h) m.heap.zone e)) in
+            sym (ap (λ l. cond (has (is_relocatable h) after) [] l) held ∙ none (has (is_relocatable h) after))
+    taken-tells a takes = let f : false ≡ true = takes in cc
+
     -- what a call's row tells of a handle
     row-tells : (a : Asked) → ((f : List ℕ → ℕ)
         → weigh f (told_of h (row_gone a m.heap)) ≤ weigh f (bytes_in h m.heap.zone))
         → told_of h (row_gone a m.heap)
         ≡ cond (takes_block h a || has (is_relocatable h) (answered a m).1.heap.zone) [] (bytes_in h m.heap.zone)
-    row-tells a each = by_taking (takes_block h a) refl
+    row-tells a each = by_going (lets_go h a) refl
       where
         after : List Block
         after = (answered a m).1.heap.zone
@@ -294,10 +335,10 @@ module _ (h : ℕ) (m : Memory) (within : h < length m.heap.names)
         bytes : List (List ℕ)
         bytes = bytes_in h m.heap.zone
 
-        by_taking : (t : Bool) → takes_block h a ≡ t
-            → told_of h (row_gone a m.heap) ≡ cond (t || has (is_relocatable h) after) [] bytes
-        by_taking true e = taken-none a e
-        by_taking false e =
+        by_going : (t : Bool) → lets_go h a ≡ t
+            → told_of h (row_gone a m.heap) ≡ cond (takes_block h a || has (is_relocatable h) after) [] bytes
+        by_going true e = taken-none a e ∙ taken-tells a e
+        by_going false e =
             let even = balance a e in
             let counted : count (is_relocatable h) m.heap.zone ≡ many bytes = held-bytes (λ x. 1) h m.heap.zone in
             let one = once h within in
@@ -305,6 +346,7 @@ module _ (h : ℕ) (m : Memory) (within : h < length m.heap.names)
             (omega (arith, counted)) (let l = even.0 in omega (arith, counted, l))
             (elim even.1 [ inl none ↦ inl none | inr most ↦ inr (omega (arith, counted, most)) ]) each
             (has (is_relocatable h) after) (has-count (is_relocatable h) after) (count-none (is_relocatable h) after)
+            ∙ ap (λ t. cond (t || has (is_relocatable h) after) [] bytes) (sym (spares-takes h a e))
 
     -- what a step tells of a handle comes to no more than its blocks
     step-few : (step : Step) (f : List ℕ → ℕ)

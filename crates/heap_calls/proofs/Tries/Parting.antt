@@ -57,7 +57,7 @@ none-left (suc k) (b ∷ bs) few =
         omega arith
 
 -- a block that may be purged doesn't stay
-staying-goes : (b : Block) → is_purgeable b ≡ true → staying_of b ≡ 0
+pub staying-goes : (b : Block) → is_purgeable b ≡ true → staying_of b ≡ 0
 staying-goes (Free n) e = refl
 staying-goes (Nonrelocatable id content) e = let f : false ≡ true = e in cc
 staying-goes Masters e = refl

@@ -59,12 +59,6 @@ lets-or-same (asked.EmptyHandle handle) m h lets = done-or-same (asked.EmptyHand
     same : (o : Option OsErr) → zone_behind o (asked.EmptyHandle handle) m.heap ≡ m.heap.zone
     same None = refl
     same (Some why) = refl
-lets-or-same (asked.ReallocateHandle handle n) m h lets =
-    done-or-same (asked.ReallocateHandle handle n) m same (done-or _)
-  where
-    same : (o : Option OsErr) → zone_behind o (asked.ReallocateHandle handle n) m.heap ≡ m.heap.zone
-    same None = refl
-    same (Some why) = refl
 lets-or-same a m h lets = let f : false ≡ true = lets in cc
 
 -- a handle's block that goes might be purged, or the call that let it go is done

@@ -9,6 +9,7 @@ use Rattle.heap_calls.specs.Slots.{new_handle, new_empty_handle}
 use Rattle.heap_calls.specs.Purging.{h_purge, purge_mem}
 use Rattle.heap_calls.specs.Asked.{NewHandle, PurgeMem, NewPtr, Put}
 use Rattle.heap_calls.specs.Refused.{zone_left, code_left}
+use Rattle.heap_calls.specs.Staying.{ease}
 
 -- What refused calls leave, on small zones.
 
@@ -37,6 +38,13 @@ block-emptied = refl
 
 masters-left : zone_left (NewHandle 700) full ≡ Masters ∷ Masters ∷ Free 480 ∷ []
 masters-left = refl
+
+-- the new block takes its bytes from what can be had
+had-before : ease full.zone ≡ 752
+had-before = refl
+
+had-after : ease (zone_left (NewHandle 700) full) ≡ 480
+had-after = refl
 
 -- a search for a block alone leaves it
 block-left : zone_left (NewPtr 900) full ≡ full.zone

@@ -2,14 +2,14 @@ use Rattle.std.specs.Prelude.{◌≡◌, ℕ, ◌-◌, List, is_some, if◌then�
 use Rattle.mac_words.specs.Size.{phys, padded}
 use Rattle.block_store.specs.Block.{Block}
 use Rattle.block_store.specs.Sparing.{purged}
-use Rattle.block_store.specs.Rest.{Rest, counted}
+use Rattle.block_store.specs.Rest.{Rest, IsRest, counted}
 use Rattle.block_store.specs.declared.sparing.Sparing.{Sparing}
 use Rattle.heap_calls.specs.Moves.{place_moves}
 use Rattle.heap_calls.specs.Inner.NewBlock.{ready_count}
 use Rattle.heap_calls.specs.Inner.NewSlot.{zone_slotted}
 use Rattle.heap_calls.specs.Inner.Search.{placement_searches}
 
--- How many blocks the packing of a store moves down.
+-- How many blocks the packing of a store moves down, and that it places none.
 
 -- n blocks were moved down.
 abbrev pub Packs : ℕ → Rest → Rest → Type 0
@@ -18,6 +18,10 @@ Packs n old new = new.moves ≡ counted old.moves n
 -- No block was moved down.
 abbrev pub PacksNone : Rest → Rest → Type 0
 PacksNone old new = new.moves ≡ old.moves
+
+-- All that a store has beside its blocks is as it was, but for the count of placings.
+abbrev pub KeepsAllButPlaced : Rest → Rest → Type 0
+KeepsAllButPlaced old new = IsRest (record old { placed = new.placed }) new
 
 -- The moves for a relocatable block of p bytes, after as few purges as give it a place.
 abbrev pub placement_moves : ℕ → Sparing → List Block → ℕ

@@ -44,8 +44,8 @@ module _ (xs new : List ℕ) (first number more : ℕ) (blocks : List Block) (g 
 
 pub gained-rest : (old new : Bytes) (first number more : ℕ) (blocks : List Block)
     → Gained old.bytes new.bytes first number more blocks → KeepsPlace old new
-    → (moves : ℕ) → IsRest (rest_in old number moves) (rest_in new number moves)
-gained-rest old new first number more blocks g k moves = grind arith
+    → (moves placed : ℕ) → IsRest (rest_in old number moves placed) (rest_in new number moves placed)
+gained-rest old new first number more blocks g k moves placed = grind arith
 
 module _ (xs : List ℕ) (first number : ℕ) (i : IsSound xs first number) where
   abbrev pub table-of : Table

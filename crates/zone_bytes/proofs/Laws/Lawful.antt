@@ -11,7 +11,7 @@ use Rattle.zone_bytes.specs.Layout.{head_of, Tiles, names, Apart, Each, Pairs, A
 use Rattle.zone_bytes.specs.Decode.{zone_in}
 use Rattle.zone_bytes.specs.Table.{Lays, slot_in, first_of}
 use Rattle.zone_bytes.specs.Lawful.{IsLawful, IsSound, IsKept}
-use Rattle.block_store.specs.Rest.{IsRest}
+use Rattle.block_store.specs.Rest.{Rest, IsRest, with_placed, counted}
 use Rattle.raw_region.specs.Memory.{Bytes}
 use Rattle.zone_bytes.specs.Beside.{rest_in}
 use Rattle.zone_bytes.proofs.Tiles.Tiling.{length-tiles}
@@ -82,11 +82,17 @@ module _ (xs : List ℕ) (blocks : List Block) (slots : ℕ → Slot) (unused : 
       }
 
 -- what a RawZone has beside its blocks, after a call
-pub rest-made : (old new : Bytes) (table : ℕ → Slot) (unused moves : ℕ) → ((s : ℕ) → slot_in new.bytes s ≡ table s)
+pub rest-made : (old new : Bytes) (table : ℕ → Slot) (unused moves placed : ℕ) → ((s : ℕ) → slot_in new.bytes s ≡ table s)
     → count is_masters (zone_in new.bytes) ≡ count is_masters (zone_in old.bytes)
     → (new.home ≡ old.home) × (new.at ≡ old.at) × (length new.bytes ≡ length old.bytes)
-    → IsRest (record (rest_in old unused moves) { slots = table }) (rest_in new unused moves)
-rest-made old new table unused moves s k w = grind arith
+    → IsRest (record (rest_in old unused moves placed) { slots = table }) (rest_in new unused moves placed)
+rest-made old new table unused moves placed s k w = grind arith
+
+-- one placing more is counted
+pub rest-placed : (before : Rest) (part : Bytes) (unused moves placed more : ℕ)
+    → IsRest before (rest_in part unused moves placed) → more ≡ counted placed 1
+    → IsRest (with_placed 1 before) (rest_in part unused moves more)
+rest-placed before part unused moves placed more r e = grind arith
 
 -- the invariant of a zone in bytes, whose Free bytes are counted beside it
 pub kept-made : (xs : List ℕ) (first unused free : ℕ) (blocks : List Block) (table : ℕ → Slot)

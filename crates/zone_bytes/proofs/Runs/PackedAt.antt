@@ -84,8 +84,9 @@ module _ {xs : List ℕ} {first unused place top stop : ℕ} {old : List Block}
 
 pub rest-changed : {first unused place top stop : ℕ} {old : List Block} (part after : Bytes)
     (k : IsPacked part.bytes first unused place top stop old) (change : List Block → List Block) (before : Rest)
-    (moves : ℕ) → ChangedRun change old k.spot after.bytes first unused (slot_in part.bytes)
-    → IsRest before (rest_in part unused moves) → KeepsPlace part after → IsRest before (rest_in after unused moves)
-rest-changed {unused = unused} part after k change before moves d p same =
-    rest-again _ _ _ p (rest-made _ _ (slot_in part.bytes) _ _ d.made.slots (d.masters
+    (moves placed : ℕ) → ChangedRun change old k.spot after.bytes first unused (slot_in part.bytes)
+    → IsRest before (rest_in part unused moves placed) → KeepsPlace part after
+    → IsRest before (rest_in after unused moves placed)
+rest-changed {unused = unused} part after k change before moves placed d p same =
+    rest-again _ _ _ p (rest-made _ _ (slot_in part.bytes) _ _ _ d.made.slots (d.masters
     ∙ sym (total-packed k (λ b. cond (is_masters b) 1 0) (λ n m. refl))) same)

@@ -9,7 +9,7 @@ pub returns-in_err-second-clause-undone : goal.returns-in_err-second-clause-undo
 returns-in_err-second-clause-undone g c =
     let same : c.from_residual-in_err-second.result ≡ Err c.in_err-second.field-0.0 = search rules in
     told_err _ _ _ same (second_unread c.args.combination _ _ _ _ _ _ _ _ c.in_ok-first.ensures.silent
-    c.in_err-second.ensures.silent c.in_ok-first.ensures.read c.in_err-second.ensures.unread c.in_err-second.ensures.fault)
+    c.in_err-second.ensures.silent c.in_ok-first.ensures.read c.in_err-second.ensures.unread)
 
 pub returns-in_err-second-clause-quiet : goal.returns-in_err-second-clause-quiet
 returns-in_err-second-clause-quiet g c =

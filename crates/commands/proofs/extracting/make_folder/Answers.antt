@@ -1,7 +1,7 @@
 use Rattle.std.proofs.Common.{◌≡◌, [], Err, rules}
 use Rattle.commands.specs.declared.fault.ToolFault.TheVariants.{HostMemory}
 use Rattle.commands.specs.Accesses.{Folder}
-use Rattle.commands.proofs.Accesses.{told_err}
+use Rattle.commands.proofs.Accesses.{told_err, unwritten_so, unreported}
 use Rattle.commands.proofs.Extracted.{stops_first}
 use Rattle.commands.proofs.extracting.make_folder.Goals as goal
 
@@ -9,8 +9,10 @@ use Rattle.commands.proofs.extracting.make_folder.Goals as goal
 pub returns-in_err-unwritten-in-Err-clause-stopped : goal.returns-in_err-unwritten-in-Err-clause-stopped
 returns-in_err-unwritten-in-Err-clause-stopped g c =
     let same : c.from_residual.result ≡ Err HostMemory = search rules in
-    told_err _ _ _ same (stops_first (Folder c.args.folder.now) [] _ _ _ c.in-Err.ensures.unmade tt)
+    told_err _ _ _ same (stops_first (Folder c.args.folder.now) [] _ _ _
+    (unreported c.args.folder.now c.in-Err.error _ _ c.in-Err.ensures.unmade))
 
 pub returns-in_ok-unwritten-in-Err-clause-stopped : goal.returns-in_ok-unwritten-in-Err-clause-stopped
 returns-in_ok-unwritten-in-Err-clause-stopped g c =
-    stops_first (Folder c.args.folder.now) [] _ _ _ c.in-Err.ensures.unmade c.in_ok-unwritten-in-Err.ensures
+    stops_first (Folder c.args.folder.now) [] _ _ _
+    (unwritten_so c.args.folder.now c.in-Err.error _ _ _ c.in-Err.ensures.unmade c.in_ok-unwritten-in-Err.ensures)

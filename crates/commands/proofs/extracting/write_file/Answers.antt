@@ -1,18 +1,21 @@
-use Rattle.std.proofs.Common.{◌≡◌, Err, rules}
+use Rattle.std.proofs.Common.{◌≡◌, ◌∙◌, Err, ap, rules}
 use Rattle.fork_commands.specs.View.{view_file}
 use Rattle.commands.specs.declared.fault.ToolFault.TheVariants.{HostMemory}
+use Rattle.commands.specs.Fault.{write_message}
 use Rattle.commands.proofs.Accesses.{told_err}
-use Rattle.commands.proofs.Extracted.{not_written}
+use Rattle.commands.proofs.Extracted.{not_written, not_reported}
 use Rattle.commands.proofs.extracting.write_file.Goals as goal
 
 -- the host is out of memory as the fault is reported
 pub returns-in_err-unwritten-in-Err-clause-stopped : goal.returns-in_err-unwritten-in-Err-clause-stopped
 returns-in_err-unwritten-in-Err-clause-stopped g c =
     let same : c.from_residual.result ≡ Err HostMemory = search rules in
-    told_err _ _ _ same (not_written (view_file c.args.file.now) c.as_str.result.now c.args.file.now.datum.now
-    c.as_str.result.now _ _ _ c.in-Err.ensures.front (search rules) (search rules) (search rules) tt)
+    told_err _ _ _ same (not_reported (view_file c.args.file.now) c.as_str.result.now c.args.file.now.datum.now
+    c.in-Err.error _ _ c.in-Err.ensures.front (search rules) (search rules))
 
 pub returns-in_ok-unwritten-in-Err-clause-stopped : goal.returns-in_ok-unwritten-in-Err-clause-stopped
 returns-in_ok-unwritten-in-Err-clause-stopped g c =
-    not_written (view_file c.args.file.now) c.as_str.result.now c.args.file.now.datum.now c.as_str-in-Err.result.now _ _ _
-    c.in-Err.ensures.front (search rules) (search rules) (search rules) c.in_ok-unwritten-in-Err.ensures
+    let path : c.as_str-in-Err.result.now ≡ (view_file c.args.file.now).path = search rules in
+    not_written (view_file c.args.file.now) c.as_str.result.now c.args.file.now.datum.now c.in-Err.error _ _ _
+    c.in-Err.ensures.front (search rules) (search rules)
+    (c.in_ok-unwritten-in-Err.ensures ∙ ap (λ p. write_message p c.in-Err.error) path)

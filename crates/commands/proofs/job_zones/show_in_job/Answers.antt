@@ -24,7 +24,7 @@ returns-in_err-deliver-clause-undone g c =
 pub returns-in_err-deliver-clause-quiet : goal.returns-in_err-deliver-clause-quiet
 returns-in_err-deliver-clause-quiet g c =
     let same : c.from_residual-in_err-deliver.result ≡ Err c.in_err-deliver.field-0.0 = search rules in
-    told_err _ _ _ same (loud_write _ _ _ _ c.in_err-deliver.ensures.undelivered.2)
+    told_err _ _ _ same (loud_write _ _ _ _ _ _ c.in_err-deliver.ensures.undelivered.1)
 
 pub returns-clause-done : goal.returns-clause-done
 returns-clause-done g c = (

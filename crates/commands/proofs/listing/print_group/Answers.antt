@@ -28,5 +28,5 @@ loop-resource-preserved g c =
     (g.H.Host.printed c.print_many.new.host) = search rules in
     record {
       printed = first-further _ _ first _ (lines (i + 1)) _ _ _ c.loop-resource.invariant.printed split now;
-      files = c.print_many.ensures.files ∙ c.loop-resource.invariant.files;
+      files = c.in_ok-print_many.ensures.files ∙ c.loop-resource.invariant.files;
     }

@@ -25,5 +25,5 @@ loop-group-preserved g c =
     (g.H.Host.printed c.print_group.new.host) = search rules in
     record {
       printed = first-further _ _ first _ (lines (i + 1)) _ _ _ c.loop-group.invariant.printed split now;
-      files = c.print_group.ensures.files ∙ c.loop-group.invariant.files;
+      files = c.in_ok-print_group.ensures.files ∙ c.loop-group.invariant.files;
     }

@@ -1,5 +1,6 @@
-use Rattle.std.proofs.Common.{◌∙◌}
-use Rattle.commands.proofs.Writes.{further, stopped, on_err, of_file}
+use Rattle.std.proofs.Common.{◌≡◌, ◌∙◌, Err, rules}
+use Rattle.commands.proofs.Accesses.{told_err}
+use Rattle.commands.proofs.Writes.{further, stopped, of_file}
 use Rattle.commands.proofs.outputs.write_forks_within.Goals as goal
 
 pub loop-k-preserved : goal.loop-k-preserved
@@ -16,4 +17,5 @@ pub returns-in_err-write_fork-clause-stopped : goal.returns-in_err-write_fork-cl
 returns-in_err-write_fork-clause-stopped g c =
     let come = of_file c.args.folder.now c.args.name.now.0.items c.args.files.now c.loop-k.k c.index-files-k.result
     c.loop-k-test.true c.index-files-k.is in
-    on_err _ (stopped _ _ _ _ _ _ _ _ come c.loop-k.invariant.made c.in_err-write_fork.ensures.stopped)
+    let same : c.from_residual.result ≡ Err c.in_err-write_fork.field-0.0 = search rules in
+    told_err _ _ _ same (stopped _ _ _ _ _ _ _ _ _ come c.loop-k.invariant.made c.in_err-write_fork.ensures.stopped)

@@ -1,4 +1,4 @@
-use Rattle.std.proofs.Common.{◌≡◌, Ok, Err, map, subst, rules}
+use Rattle.std.proofs.Common.{◌≡◌, Ok, Err, map, refl, subst, rules}
 use Rattle.script_text.specs.Job.{job_seen, job_of, input_seen}
 use Rattle.commands.specs.Fault.{message_of}
 use Rattle.commands.specs.Gathering.{system_path}
@@ -12,7 +12,7 @@ returns-in_err-text-clause-stopped g c =
     let fault = c.in_err-text.field-0.0 in
     let same : c.from_residual-in_err-text.result ≡ Err fault = search rules in
     let text : c.deref.result.now ≡ c.in_ok-bytes.bytes.items = search rules in
-    told_err _ _ _ same (Misstated c.in_ok-bytes.bytes.items c.in_ok-bytes.ensures.read
+    told_err _ _ _ same (Misstated c.in_ok-bytes.bytes.items refl c.in_ok-bytes.ensures.read
     (subst (λ t. IsJobFault c.args.errand.job.now t (message_of fault)) text c.in_err-text.ensures.fault))
 
 pub returns-in_err-job-clause-stopped : goal.returns-in_err-job-clause-stopped
@@ -22,7 +22,7 @@ returns-in_err-job-clause-stopped g c =
     let stated : Stated =
     record { text = c.in_ok-bytes.bytes.items; lines = job_seen c.in_ok-text.text; states = states } in
     let h = c.in_err-job.ensures.given in
-    told_err _ _ _ same (ungathered _ _ stated h.0 _ _ _ _ c.in_ok-bytes.ensures.read h.1 h.2)
+    told_err _ _ _ same (ungathered _ _ _ _ _ stated h.0 _ _ _ _ refl c.in_ok-bytes.ensures.read h.1 h.2)
 
 pub returns-in_err-leave-clause-stopped : goal.returns-in_err-leave-clause-stopped
 returns-in_err-leave-clause-stopped g c =
@@ -40,7 +40,7 @@ returns-in_err-leave-clause-stopped g c =
       given = h.2;
     } in
     told_err _ _ _ same
-    (unleft _ _ _ taken _ _ _ _ _ system c.in_ok-bytes.ensures.read h.1 c.in_err-leave.ensures.unleft)
+    (unleft _ _ _ _ _ _ taken _ _ _ _ _ system c.in_ok-bytes.ensures.read h.1 c.in_err-leave.ensures.unleft)
 
 pub returns-clause-runs : goal.returns-clause-runs
 returns-clause-runs g c =
@@ -54,4 +54,4 @@ returns-clause-runs g c =
       events = c.in_ok-job.ensures.events;
       given = h.2;
     } in
-    runs _ _ taken _ _ _ _ c.in_ok-bytes.ensures.read h.1 c.in_ok-leave.ensures.left
+    runs _ _ _ _ _ taken _ _ _ _ c.in_ok-bytes.ensures.read h.1 c.in_ok-leave.ensures.left

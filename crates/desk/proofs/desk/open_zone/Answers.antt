@@ -1,5 +1,8 @@
-use Rattle.std.proofs.Common.{sym, ◌∙◌, Some, refl}
+use Rattle.std.proofs.Common.{sym, ap, ◌∙◌, Some, refl}
+use Rattle.std.proofs.Common.{subst, IfSome}
+use Rattle.windows.specs.Outside.{IsOutside}
 use Rattle.desk.proofs.Holding.{contains-opened, closed-opened}
+use Rattle.desk.proofs.Changes.{granted-some}
 use Rattle.desk.proofs.desk.open_zone.Goals as goal
 
 pub give_back-requires : goal.give_back-requires
@@ -13,6 +16,13 @@ returns-in-Err-clause-err g c =
 
 pub returns-in-Err-clause-same : goal.returns-in-Err-clause-same
 returns-in-Err-clause-same g c =
-    c.in-Err.ensures.err ∙ c.requires.same ∙ sym (
+    ap g.Z.ZoneMaker.windows c.in-Err.ensures.err ∙ c.requires.same ∙ sym (
     closed-opened (Some c.in-Ok.window) c.in-Ok.window c.args.grants.now.windows c.grant.new.self.windows
     c.give_back.new.self.windows refl c.in-Ok.ensures.zone.2 c.in-Ok.ensures.granted c.give_back.ensures.windows)
+
+-- the window that is opened is the one that is granted
+pub returns-in-Err-clause-outside : goal.returns-in-Err-clause-outside
+returns-in-Err-clause-outside g c = λ place f.
+    c.open.ensures.outside place
+    (subst (λ o. IfSome o (λ v. IsOutside place v))
+    (granted-some c.grant.result _ _ c.in-Ok.window c.grant.ensures.answer c.in-Ok.is) f)

@@ -2,10 +2,10 @@ use Rattle.std.proofs.Common.{◌≡◌, ◌∙◌, ℕ, ap, sym, subst, length,
 use Rattle.raw_zone.specs.Parted.{zone_of}
 use Rattle.block_store.specs.Block.{fresh, sizes}
 use Rattle.block_store.specs.Rest.{Site}
-use Rattle.applications.specs.Alone.{alone, zone_alone}
+use Rattle.applications.specs.Alone.{alone, heap_alone}
 use Rattle.applications.specs.Alone as gives
 use Rattle.applications.proofs.Elsewhere.{sizes-fresh}
-use Rattle.desk.proofs.WholeRegion.{whole_home, whole_lies, whole_there}
+use Rattle.desk.proofs.WholeRegion.{whole_home, whole_laid, whole_lies, whole_there}
 use Rattle.desk.proofs.giving.give_in_region.Goals as goal
 
 -- the zone is fresh, and fills the region
@@ -47,11 +47,22 @@ returns-clause-lies g c =
     let at = ap (λ (s : Site). s.window.at) site in
     let len = ap (λ (s : Site). s.window.len) site in
     whole_lies c.give_in-given.result.0 _ _ _
-    (λ (n : ℕ). zone_alone c.args.resources n c.args.script.now c.args.steps c.args.quit) whole
+    (λ (n : ℕ). heap_alone c.args.resources n c.args.script.now c.args.steps c.args.quit) whole
     c.into_part.result.at c.into_part.result.bytes c.cut.new.self.bytes c.join.new.self.bytes _
     (ap (λ p. p.at) c.into_part.ensures.part ∙ at ∙ c.cut.ensures.part_place)
     (ap (λ p. length p.bytes) c.into_part.ensures.part ∙ len ∙ long ∙ sym c.cut.ensures.same_length)
-    c.join.ensures.bytes c.give_in-given.ensures.zone c.into_part.ensures.laid
+    c.join.ensures.bytes c.give_in-given.ensures.stored c.into_part.ensures.laid
+
+pub returns-clause-laid : goal.returns-clause-laid
+returns-clause-laid g c =
+    let long : length c.cut.result.bytes ≡ length c.args.region.bytes = c.cut.ensures.part_length ∙ c.len-len.ensures in
+    let site = c.give_in-given.ensures.window ∙ c.new-zone.ensures.window in
+    let at = ap (λ (s : Site). s.window.at) site in
+    let len = ap (λ (s : Site). s.window.len) site in
+    whole_laid _ c.into_part.result.at c.into_part.result.bytes c.cut.new.self.bytes c.join.new.self.bytes _
+    (ap (λ p. p.at) c.into_part.ensures.part ∙ at ∙ c.cut.ensures.part_place)
+    (ap (λ p. length p.bytes) c.into_part.ensures.part ∙ len ∙ long ∙ sym c.cut.ensures.same_length)
+    c.join.ensures.bytes c.into_part.ensures.laid
 
 pub returns-clause-home : goal.returns-clause-home
 returns-clause-home g c =

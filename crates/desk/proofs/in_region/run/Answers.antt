@@ -1,5 +1,7 @@
 use Rattle.std.proofs.Common.{◌≡◌, ◌∙◌, ℕ, false, ap, slice_get, sym, subst, IfOk}
+use Rattle.std.proofs.lemmas.Result.{IfErr-weaker}
 use Rattle.raw_region.specs.Memory.{Whole}
+use Rattle.raw_zone.specs.declared.region_zones.RegionZones.{RegionZones}
 use Rattle.zone_bytes.specs.Laid.{LiesThere}
 use Rattle.desk.specs.Free.{IsNeverGranted}
 use Rattle.desk.specs.Lying.{LieAtEnd}
@@ -8,15 +10,15 @@ use Rattle.desk.proofs.in_region.run.Goals as goal
 
 pub returns-clause-lies : goal.returns-clause-lies
 returns-clause-lies g c =
-    subst (λ (r : Whole). IfOk c.run_with-outcome.result.0 (λ o. o.stopped ≡ false → LieAtEnd (λ w blocks. LiesThere r.bytes w blocks) c.args.job.now))
+    subst (λ (r : Whole). IfOk c.run_with-outcome.result.0 (λ o. o.stopped ≡ false → LieAtEnd (λ w blocks slots. LiesThere r.bytes w blocks slots) c.args.job.now))
     (sym c.into_region.ensures) c.run_with-outcome.ensures.lies
 
 pub returns-clause-untouched : goal.returns-clause-untouched
 returns-clause-untouched g c =
-    subst (λ (r : Whole). IfOk c.run_with-outcome.result.0 (λ o. o.stopped ≡ false → (place : ℕ) → IsNeverGranted place c.args.job.now
+    subst (λ (r : Whole). IfOk c.run_with-outcome.result.0 (λ o. (place : ℕ) → IsNeverGranted place o.done c.args.job.now
     → slice_get r.bytes place ≡ slice_get c.args.region.bytes place))
     (sym c.into_region.ensures)
-    (subst (λ (r : Whole). IfOk c.run_with-outcome.result.0 (λ o. o.stopped ≡ false → (place : ℕ) → IsNeverGranted place c.args.job.now
+    (subst (λ (r : Whole). IfOk c.run_with-outcome.result.0 (λ o. (place : ℕ) → IsNeverGranted place o.done c.args.job.now
     → slice_get c.run_with-outcome.result.1.region.bytes place ≡ slice_get r.bytes place))
     c.new.ensures c.run_with-outcome.ensures.outside)
 
@@ -25,3 +27,9 @@ returns-clause-same g c =
     ap (λ (r : Whole). r.home) c.into_region.ensures
     ∙ same-home c.new.result.region c.run_with-outcome.result.1.region c.run_with-outcome.ensures.kept
     ∙ ap (λ (r : Whole). r.home) c.new.ensures
+
+pub returns-clause-given_back : goal.returns-clause-given_back
+returns-clause-given_back g c =
+    IfErr-weaker c.run_with-outcome.result.0 _ _
+    (λ fault same. c.into_region.ensures ∙ ap (λ (z : RegionZones). z.region) same ∙ c.new.ensures)
+    c.run_with-outcome.ensures.given_back

@@ -1,7 +1,7 @@
 use Rattle.std.proofs.Common.{refl, subst, IfSome}
 use Rattle.fork_format.specs.View.{view}
 use Rattle.desk.specs.Job.{start_of}
-use Rattle.desk.specs.Lying.{IsZoneOf}
+use Rattle.desk.specs.Lying.{IsHeapOf}
 use Rattle.desk.specs.Seated.{Placed}
 use Rattle.desk.specs.View.{place_seen}
 use Rattle.desk.proofs.seats.leave.Goals as goal
@@ -14,5 +14,5 @@ returns-clause-window g c = rw (← c.seat.view_is) (c.part-launched.ensures.win
 
 pub returns-clause-zone : goal.returns-clause-zone
 returns-clause-zone g c =
-    subst (λ (s : Placed _). IfSome c.part-launched.result.1 (λ f. IsZoneOf (place_seen s).phase (g.S.BlockStore.zone f.1)))
+    subst (λ (s : Placed _). IfSome c.part-launched.result.1 (λ f. IsHeapOf (place_seen s).phase (g.S.BlockStore.zone f.1) (g.S.BlockStore.rest f.1).slots))
     c.seat.view_is (c.part-launched.ensures.zone _)

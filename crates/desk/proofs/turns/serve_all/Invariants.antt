@@ -1,20 +1,23 @@
-use Rattle.std.proofs.Common.{◌≡◌, ℕ, drop}
+use Rattle.std.proofs.Common.{◌≡◌, ℕ, ◌+◌, drop, length, take}
+use Rattle.std.specs.Io.KnownBytes.{append_known}
 use Rattle.windows.specs.declared.Window.{Window}
 use Rattle.block_store.specs.Rest.{Site}
+use Rattle.applications.specs.Reports.{reports}
 use Rattle.desk.specs.Free.{StaysFree}
 use Rattle.desk.specs.Desk.{after_events}
-use Rattle.desk.specs.Halting.{After, halted}
-use Rattle.desk.specs.Outcome.{Outcome}
+use Rattle.desk.specs.Halting.{Halt, HaltsAfter, halted}
 use Rattle.desk.proofs.turns.serve_all.Given as goal
 
 -- the events that are left make up the whole
 abbrev pub invariant-loop-index : goal.invariant-loop-index
 invariant-loop-index g l = record {
   rest : after_events (drop l.index l.events) l.desk.state ≡ after_events l.events l.fn.desk.state;
-  within : (x : Outcome) → After (λ m. halted m ≡ x) (drop l.index l.events) l.desk.state
-      → After (λ m. halted m ≡ x) l.events l.fn.desk.state;
+  within : (x : Halt) (k : ℕ) → HaltsAfter (λ m. halted m ≡ x) k (drop l.index l.events) l.desk.state
+      → HaltsAfter (λ m. halted m ≡ x) (l.index + k) l.events l.fn.desk.state;
   memory : l.desk.state.memory ≡ l.fn.desk.state.memory;
   kept : (w : Window) (site : Site) → g.Z.ZoneMaker.made l.fn.desk.zones w site → g.Z.ZoneMaker.made l.desk.zones w site;
-  outside : (place : ℕ) → StaysFree place l.events l.fn.desk.state → StaysFree place (drop l.index l.events) l.desk.state
+  outside : (place k : ℕ) → StaysFree place (take (l.index + k) l.events) l.fn.desk.state
+      → StaysFree place (take k (drop l.index l.events)) l.desk.state
       × (g.Z.ZoneMaker.byte l.desk.zones place ≡ g.Z.ZoneMaker.byte l.fn.desk.zones place);
+  heard : g.W.Watch.heard l.watch ≡ append_known (g.W.Watch.heard l.fn.watch) (reports l.index (length l.events));
 }

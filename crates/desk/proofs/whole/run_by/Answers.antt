@@ -1,5 +1,5 @@
 use Rattle.std.proofs.Common.{◌∙◌, ap, sym, subst}
-use Rattle.std.proofs.Common.{List}
+use Rattle.std.proofs.Common.{List, suc, take}
 use Rattle.fork_format.specs.View.{view}
 use Rattle.desk.specs.declared.job.App.{App}
 use Rattle.desk.specs.Job.{opening}
@@ -13,9 +13,9 @@ returns-in-Ok-clause-kept g c =
     (subst (λ z. g.Z.ZoneMaker.made z w site) (sym c.in-Ok.ensures.zones) m)
 
 pub returns-in-Ok-clause-outside : goal.returns-in-Ok-clause-outside
-returns-in-Ok-clause-outside g c = λ whole place f.
-    c.run_events-outcome.ensures.outside whole place
-    (subst (λ (s : State). StaysFree place c.args.job.now.events.items s)
+returns-in-Ok-clause-outside g c = λ place f.
+    c.run_events-outcome.ensures.outside place
+    (subst (λ (s : State). StaysFree place (take (suc c.run_events-outcome.result.0.done) c.args.job.now.events.items) s)
     (sym (c.in-Ok.ensures.ok
     ∙ ap (λ (apps : List App). opening c.args.job.now.memory (view c.args.system.now) apps) c.deref.ensures.value)) f)
     ∙ ap (λ z. g.Z.ZoneMaker.byte z place) c.in-Ok.ensures.zones

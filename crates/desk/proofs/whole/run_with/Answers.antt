@@ -31,5 +31,5 @@ pub returns-in-Ok-outcome-clause-outside : goal.returns-in-Ok-outcome-clause-out
 returns-in-Ok-outcome-clause-outside g c =
     never-granted
     (λ place. g.Z.ZoneMaker.byte c.run_by-outcome.result.1 place ≡ g.Z.ZoneMaker.byte c.args.zones place)
-    (λ o. o.stopped ≡ false) c.args.job.now (view c.in-Ok.system) c.run_by-outcome.result.0 c.in-Ok-outcome.outcome
+    c.args.job.now (view c.in-Ok.system) c.run_by-outcome.result.0 c.in-Ok-outcome.outcome
     c.in-Ok.ensures.system c.run_by-outcome.ensures.outside c.in-Ok-outcome.is

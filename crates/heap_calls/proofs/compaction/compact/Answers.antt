@@ -72,6 +72,9 @@ returns-in_default-clause-zone g c = (ended g (goal.at.returns-in_default-clause
 pub returns-in_default-clause-moves : goal.returns-in_default-clause-moves
 returns-in_default-clause-moves g c = (ended g (goal.at.returns-in_default-clause-moves g c).In_default).moves
 
+pub returns-in_default-clause-placed : goal.returns-in_default-clause-placed
+returns-in_default-clause-placed g c = (ended g (goal.at.returns-in_default-clause-placed g c).In_default).placed
+
 pub returns-in_default-clause-rest : goal.returns-in_default-clause-rest
 returns-in_default-clause-rest g c = (ended g (goal.at.returns-in_default-clause-rest g c).In_default).keeps
 
@@ -113,6 +116,9 @@ returns-clause-zone g c = (served g c).zone_is
 
 pub returns-clause-moves : goal.returns-clause-moves
 returns-clause-moves g c = (served g c).moves
+
+pub returns-clause-placed : goal.returns-clause-placed
+returns-clause-placed g c = (served g c).placed
 
 pub returns-clause-rest : goal.returns-clause-rest
 returns-clause-rest g c = (served g c).keeps

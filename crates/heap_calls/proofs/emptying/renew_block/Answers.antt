@@ -69,6 +69,7 @@ returns-clause-answer g c =
         unused = carved.unused ∙ kept.unused;
         all = carved.all ∙ kept.all;
         moves = refl;
+        placed = refl;
         window = carved.window ∙ kept.window;
       };
     }
@@ -101,14 +102,14 @@ returns-in_default-place-clause-moves g c =
 
 pub returns-in_err-carve-clause-moves : goal.returns-in_err-carve-clause-moves
 returns-in_err-carve-clause-moves g c =
-    c.carve.ensures.rest.moves ∙ c.make_room-room.ensures.moves
+    c.in_err-carve.ensures.same.moves ∙ c.make_room-room.ensures.moves
     ∙ ap (counted (g.S.BlockStore.rest c.args.store.now).moves)
     (renewed_moves-is c.args.slot (g.S.BlockStore.zone c.args.store.now) c.args.size c.in-Some.bytes
     (sym c.phys.ensures ∙ c.in-Some.is))
 
 pub returns-clause-moves : goal.returns-clause-moves
 returns-clause-moves g c =
-    c.carve.ensures.rest.moves ∙ c.make_room-room.ensures.moves
+    c.in_ok-carve.ensures.rest.moves ∙ c.make_room-room.ensures.moves
     ∙ ap (counted (g.S.BlockStore.rest c.args.store.now).moves)
     (renewed_moves-is c.args.slot (g.S.BlockStore.zone c.args.store.now) c.args.size c.in-Some.bytes
     (sym c.phys.ensures ∙ c.in-Some.is))

@@ -85,6 +85,7 @@ returns-clause-answer g c =
         unused = now.unused ∙ was.slots.unused;
         all = now.all ∙ was.slots.all;
         moves = refl;
+        placed = refl;
         window = now.window ∙ was.slots.window;
       };
     }

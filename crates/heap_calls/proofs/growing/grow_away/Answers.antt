@@ -7,6 +7,7 @@ use Rattle.block_store.specs.Rest.{counted}
 use Rattle.block_store.specs.Room.{spot}
 use Rattle.heap_calls.specs.Inner.Growing.{grown}
 use Rattle.heap_calls.proofs.Room.MoveCounts.{away-moves}
+use Rattle.heap_calls.proofs.Numbering.Changing.{may_place}
 use Rattle.heap_calls.proofs.growing.grow_away.Goals as goal
 
 pub move_to-requires-clause-room : goal.move_to-requires-clause-room
@@ -44,6 +45,8 @@ returns-clause-moves g c =
     let zone = g.S.BlockStore.zone c.args.store.now in
     let rest = g.S.BlockStore.rest c.args.store.now in
     let t = is_relocatable c.args.number in
-    c.move_to.ensures.rest.moves ∙ c.pack_placement-place.ensures.moves
+    let placed = may_place c.move_to.result 1 (g.S.BlockStore.rest c.pack_placement-place.new.store)
+    (g.S.BlockStore.rest c.move_to.new.self) c.move_to.ensures.rest c.move_to.ensures.same in
+    placed.moves ∙ c.pack_placement-place.ensures.moves
     ∙ ap (counted rest.moves) (sym (away-moves t (grown c.args.size (spot t zone)) zone c.args.bytes c.args.placement
     c.requires.takes c.requires.positive c.requires.found))

@@ -60,6 +60,7 @@ returns-in-Ok-clause-added g c =
       unused = carved.unused ∙ room.ensures.rest.unused;
       all = carved.all ∙ room.ensures.rest.all;
       moves = refl;
+      placed = refl;
       window = carved.window ∙ room.ensures.rest.window;
     } in
     let done : P (Some c.in-Some-place.place) = (
@@ -115,6 +116,6 @@ pub returns-in-Err-clause-moves : goal.returns-in-Err-clause-moves
 returns-in-Err-clause-moves g c =
     let rest = g.S.BlockStore.rest c.args.store.now in
     let fits = phys-some c.args.size c.in-Some.bytes (sym c.phys.ensures ∙ c.in-Some.is) in
-    c.give_slot-in-Err.ensures.rest.moves ∙ c.in-Err.ensures.rest.moves ∙ c.make_room-room.ensures.moves
+    c.give_slot-in-Err.ensures.rest.moves ∙ c.in-Err.ensures.same.moves ∙ c.make_room-room.ensures.moves
     ∙ ap (counted rest.moves) (content-at c.args.size c.in-Some.bytes fits.0 fits.1 c.args.sparing
     (g.S.BlockStore.zone c.args.store.now))

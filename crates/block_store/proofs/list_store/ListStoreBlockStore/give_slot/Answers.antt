@@ -34,5 +34,6 @@ returns-clause-rest c =
       unused = unused-set slots i c.requires.used;
       all = length-set slots i slot_entry.Unused;
       moves = refl;
+      placed = refl;
       window = refl;
     }

@@ -1,13 +1,16 @@
-use Rattle.std.proofs.Common.{length, ap}
+use Rattle.std.proofs.Common.{length, ap, rules}
 use Rattle.std.proofs.lemmas.Result.{on_err_weaker}
 use Rattle.block_store.specs.Inner.ListStore.{blocks_of, slots_of}
-use Rattle.block_store.proofs.Content.Filling.{lawful-moved}
+use Rattle.block_store.proofs.Content.Filling.{Lawful, lawful-moved}
 use Rattle.block_store.proofs.list_store.ListStoreBlockStore.move_to.Goals as goal
+use Rattle.block_store.proofs.list_store.ListStoreBlockStore.move_to.Goals.{After-move_slot}
 
-pub invariant_of-self : goal.invariant_of-self
-invariant_of-self c =
+-- the zone afterwards, with the block moved or as it was
+after : (c : After-move_slot) → let self = c.args.self.now in
+    Lawful (slots_of self.slots.items) self.bytes (length self.slots.items) (blocks_of c.move_slot.new.entries.items)
+after c =
     let self = c.args.self.now in
-    let lawful = lawful-moved c.move_slot.result (slots_of self.slots.items) self.bytes (length self.slots.items)
+    lawful-moved c.move_slot.result (slots_of self.slots.items) self.bytes (length self.slots.items)
     (blocks_of self.blocks.items) (blocks_of c.move_slot.new.entries.items) c.args.place c.args.number c.args.bytes
     (record {
       covered = self.covered;
@@ -18,14 +21,10 @@ invariant_of-self c =
       aligned = self.aligned;
       placed = self.placed;
     }) c.requires.room c.requires.block
-    c.move_slot.ensures.ok (on_err_weaker c.move_slot.result (ap blocks_of) c.move_slot.ensures.err) in
-    record {
-      covered = lawful.covered;
-      small = self.small;
-      masters = lawful.masters;
-      no_block = lawful.no_block;
-      once = lawful.once;
-      tidied = lawful.tidied;
-      aligned = lawful.aligned;
-      placed = lawful.placed;
-    }
+    c.move_slot.ensures.ok (on_err_weaker c.move_slot.result (ap blocks_of) c.move_slot.ensures.err)
+
+pub invariant_of-self : goal.invariant_of-self
+invariant_of-self c = let l = after (goal.at.invariant_of-self c).After-move_slot in search rules
+
+pub invariant_of-self-2 : goal.invariant_of-self-2
+invariant_of-self-2 c = let l = after (goal.at.invariant_of-self-2 c).After-move_slot in search rules

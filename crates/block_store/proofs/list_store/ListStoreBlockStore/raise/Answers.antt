@@ -1,13 +1,17 @@
-use Rattle.std.proofs.Common.{length, ap}
+use Rattle.std.proofs.Common.{length, ap, rules}
 use Rattle.std.proofs.lemmas.Result.{on_err_weaker}
 use Rattle.block_store.specs.Inner.ListStore.{blocks_of, slots_of}
+use Rattle.block_store.proofs.Content.Filling.{Lawful}
 use Rattle.block_store.proofs.Regroup.Repacked.{lawful-raised}
 use Rattle.block_store.proofs.list_store.ListStoreBlockStore.raise.Goals as goal
+use Rattle.block_store.proofs.list_store.ListStoreBlockStore.raise.Goals.{After-raise_run}
 
-pub invariant_of-self : goal.invariant_of-self
-invariant_of-self c =
+-- the zone afterwards, raised or as it was
+after : (c : After-raise_run) → let self = c.args.self.now in
+    Lawful (slots_of self.slots.items) self.bytes (length self.slots.items) (blocks_of c.raise_run.new.entries.items)
+after c =
     let self = c.args.self.now in
-    let lawful = lawful-raised c.raise_run.result (slots_of self.slots.items) self.bytes (length self.slots.items)
+    lawful-raised c.raise_run.result (slots_of self.slots.items) self.bytes (length self.slots.items)
     (blocks_of self.blocks.items) (blocks_of c.raise_run.new.entries.items) c.args.run c.args.bytes c.requires.even
     (record {
       covered = self.covered;
@@ -18,14 +22,10 @@ invariant_of-self c =
       aligned = self.aligned;
       placed = self.placed;
     }) c.requires.run c.raise_run.ensures.ok
-    (on_err_weaker c.raise_run.result (ap blocks_of) c.raise_run.ensures.err) in
-    record {
-      covered = lawful.covered;
-      small = self.small;
-      masters = lawful.masters;
-      no_block = lawful.no_block;
-      once = lawful.once;
-      tidied = lawful.tidied;
-      aligned = lawful.aligned;
-      placed = lawful.placed;
-    }
+    (on_err_weaker c.raise_run.result (ap blocks_of) c.raise_run.ensures.err)
+
+pub invariant_of-self : goal.invariant_of-self
+invariant_of-self c = let l = after (goal.at.invariant_of-self c).After-raise_run in search rules
+
+pub invariant_of-self-2 : goal.invariant_of-self-2
+invariant_of-self-2 c = let l = after (goal.at.invariant_of-self-2 c).After-raise_run in search rules

@@ -30,5 +30,6 @@ returns-clause-rest c =
       unused = unused-flagged slots i r c.requires;
       all = length-set slots i (slot_entry.Used r);
       moves = refl;
+      placed = refl;
       window = refl;
     }

@@ -58,5 +58,6 @@ returns-clause-rest c =
       unused = refl;
       all = length-set c.args.self.now.slots.items c.in_ok-i.i (slot_entry.Used false);
       moves = refl;
+      placed = refl;
       window = refl;
     }

@@ -10,7 +10,8 @@ use Rattle.desk.proofs.Halting.{halts_begun, halts_at, no_error, room_named, act
 use Rattle.desk.specs.Free.{IsFree}
 use Rattle.desk.specs.View.{DeskSeen, seen, lots, left_of}
 use Rattle.desk.proofs.Holding.{acted_in, left-ended, windows-ended, windows-stay}
-use Rattle.desk.proofs.Free.{out-of}
+use Rattle.desk.proofs.Free.{out-of, out-closed}
+use Rattle.windows.specs.Outside.{IsOutsideAll}
 use Rattle.desk.proofs.Leaving.{housed_same, housed_acted, ended_made}
 use Rattle.desk.proofs.desk.Desk.act.Goals as goal
 
@@ -82,12 +83,32 @@ returns-in-Some-clause-outside g c =
     (left_of c.in-Some.departure) c.self.invariant.0.held
     (left-ended left_of c.in_ok-ended.ended c.in-Some.departure
     (left_by c.args.act (slice_get (seen c.self.inside.seats.items) c.args.i)) c.in-Some.is c.in_ok-ended.ensures.left) in
-    on_ok_weaker c.write_app_end.result
-    (λ h place f. c.give_back.ensures.outside place
-    (out-of place (Some c.in-Some.departure.window) c.self.inside.grants.windows here
-    (subst (λ (d : DeskSeen _). IsFree place d.state) (sym c.self.view_is) f))
-    ∙ ap (λ (d : DeskSeen _). g.Z.ZoneMaker.byte d.zones place) c.self.view_is)
-    c.write_app_end.ensures.line
+    λ place f.
+    let free = subst (λ (d : DeskSeen _). IsFree place d.state) (sym c.self.view_is) f in (
+      subst (λ ws. IsOutsideAll place ws) (sym c.give_back.ensures.windows)
+          (out-closed place (Some c.in-Some.departure.window) c.self.inside.grants.windows free),
+      c.give_back.ensures.outside place
+          (out-of place (Some c.in-Some.departure.window) c.self.inside.grants.windows here free)
+          ∙ ap (λ (d : DeskSeen _). g.Z.ZoneMaker.byte d.zones place) c.self.view_is,
+    )
+
+pub returns-in_err-take_end_room-clause-outside : goal.returns-in_err-take_end_room-clause-outside
+returns-in_err-take_end_room-clause-outside g c = λ place f. (
+  subst (λ (d : DeskSeen _). IsFree place d.state) (sym c.self.view_is) f,
+  ap (λ (d : DeskSeen _). g.Z.ZoneMaker.byte d.zones place) c.self.view_is,
+)
+
+pub returns-in_err-ended-clause-outside : goal.returns-in_err-ended-clause-outside
+returns-in_err-ended-clause-outside g c = λ place f. (
+  subst (λ (d : DeskSeen _). IsFree place d.state) (sym c.self.view_is) f,
+  ap (λ (d : DeskSeen _). g.Z.ZoneMaker.byte d.zones place) c.self.view_is,
+)
+
+pub returns-in-None-clause-outside : goal.returns-in-None-clause-outside
+returns-in-None-clause-outside g c = λ place f. (
+  subst (λ (d : DeskSeen _). IsFree place d.state) (sym c.self.view_is) f,
+  ap (λ (d : DeskSeen _). g.Z.ZoneMaker.byte d.zones place) c.self.view_is,
+)
 
 -- the host is out of memory before the act, within it, or never after it
 pub returns-in_err-take_end_room-clause-within : goal.returns-in_err-take_end_room-clause-within

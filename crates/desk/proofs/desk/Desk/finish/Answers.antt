@@ -112,9 +112,10 @@ places-preserved g c =
           (first_out (g.Z.ZoneMaker.made c.places.zones) (g.Z.ZoneMaker.windows c.places.zones) c.places.grants.windows
           (seen c.places.seats.items) (seen c.remove-seat.new.self.items) (place_seen c.remove-seat.result)
           (lots c.places.seats.items) (ap seen one) c.places.invariant.housed)
-          (λ w blocks m l. c.release.ensures.left w blocks
+          (λ w blocks slots m l. c.release.ensures.left w blocks slots
           (subst (λ (o : Option Window). IfSome o (λ v. Misses w v)) (sym c.leave-app.ensures.window) m) l)
-          (lies_of g.Z.Store.BlockStore.zone (g.Z.ZoneMaker.left c.release.new.zones)
+          (lies_of g.Z.Store.BlockStore.zone (λ s. (g.Z.Store.BlockStore.rest s).slots)
+          (g.Z.ZoneMaker.left c.release.new.zones)
           (place_seen c.remove-seat.result).phase c.leave-app.result.1 c.leave-app.ensures.window
           c.leave-app.ensures.zone c.release.ensures.lies)
           c.places.invariant.left;

@@ -1,8 +1,7 @@
 use Rattle.std.proofs.Common.{rules, ◌≡◌, ◌+◌, ◌-◌, ◌<◌, ◌∙◌, ap, subst, inl, sym, suc, true}
 use Rattle.desk.specs.Desk.{State, rounds, any_runs}
-use Rattle.desk.proofs.Free.{round-out}
-use Rattle.desk.specs.Halting.{WithinRounds, halted}
-use Rattle.desk.specs.Outcome.{Outcome}
+use Rattle.desk.proofs.Free.{next-out}
+use Rattle.desk.specs.Halting.{Halt, WithinRounds, halted}
 use Rattle.desk.proofs.Halting.{rounds_next, on_any_err}
 use Rattle.desk.proofs.Rounds.{round_next}
 use Rattle.desk.proofs.desk.Desk.rest.Goals as goal
@@ -20,17 +19,34 @@ loop-preserved g c =
           (subst (WithinRounds (λ m. halted m ≡ x) (suc (n - (k + 1)))) c.in_ok-round.ensures.ok rest));
       memory = c.round.ensures.memory ∙ c.loop.invariant.memory;
       kept = λ w site m. c.round.ensures.kept w site (c.loop.invariant.kept w site m);
-      outside = round-out g.Z.ZoneMaker.byte c.args.self.now.zones c.loop.self.zones c.round.new.self.zones
-          c.args.self.now.state c.loop.self.state c.round.new.self.state c.in_ok-round.ensures.ok
-          c.in_ok-round.ensures.outside c.loop.invariant.outside;
+      outside = next-out g.Z.ZoneMaker.byte c.args.self.now.zones c.loop.self.zones c.round.new.self.zones
+          c.args.self.now.state c.loop.self.state c.round.new.self.state c.round.ensures.outside
+          c.loop.invariant.outside;
     }
 
 pub returns-in_err-round-clause-within : goal.returns-in_err-round-clause-within
 returns-in_err-round-clause-within g c =
-    let x : Outcome = halted c.round.new.self.state in
+    let x : Halt = halted c.round.new.self.state in
     on_any_err c.from_residual.result _ (c.loop.invariant.within x (inl c.in_err-round.ensures.within))
 
 pub returns-in_err-round-2-clause-within : goal.returns-in_err-round-2-clause-within
 returns-in_err-round-2-clause-within g c =
-    let x : Outcome = halted c.round-then-any_runs.new.self.state in
+    let x : Halt = halted c.round-then-any_runs.new.self.state in
     on_any_err c.from_residual-in_err-round-2.result _ (c.loop.invariant.within x (inl c.in_err-round-2.ensures.within))
+
+pub returns-in_err-round-clause-outside : goal.returns-in_err-round-clause-outside
+returns-in_err-round-clause-outside g c =
+    next-out g.Z.ZoneMaker.byte c.args.self.now.zones c.loop.self.zones c.round.new.self.zones
+    c.args.self.now.state c.loop.self.state c.round.new.self.state c.round.ensures.outside c.loop.invariant.outside
+
+pub returns-in_err-round-2-clause-outside : goal.returns-in_err-round-2-clause-outside
+returns-in_err-round-2-clause-outside g c =
+    next-out g.Z.ZoneMaker.byte c.args.self.now.zones c.loop.self.zones c.round-then-any_runs.new.self.zones
+    c.args.self.now.state c.loop.self.state c.round-then-any_runs.new.self.state c.round-then-any_runs.ensures.outside
+    c.loop.invariant.outside
+
+pub returns-in_ok-round-2-clause-outside : goal.returns-in_ok-round-2-clause-outside
+returns-in_ok-round-2-clause-outside g c =
+    next-out g.Z.ZoneMaker.byte c.args.self.now.zones c.loop.self.zones c.round-then-any_runs.new.self.zones
+    c.args.self.now.state c.loop.self.state c.round-then-any_runs.new.self.state c.round-then-any_runs.ensures.outside
+    c.loop.invariant.outside

@@ -2,8 +2,7 @@ use Rattle.std.proofs.Common.{◌≡◌, ℕ, ◌-◌, suc}
 use Rattle.windows.specs.declared.Window.{Window}
 use Rattle.block_store.specs.Rest.{Site}
 use Rattle.desk.specs.Free.{IsFree}
-use Rattle.desk.specs.Halting.{WithinRounds, halted}
-use Rattle.desk.specs.Outcome.{Outcome}
+use Rattle.desk.specs.Halting.{Halt, WithinRounds, halted}
 use Rattle.desk.specs.Desk.{longest, rounds, rested}
 use Rattle.desk.proofs.desk.Desk.rest.Given as goal
 
@@ -11,7 +10,7 @@ use Rattle.desk.proofs.desk.Desk.rest.Given as goal
 abbrev pub invariant-loop : goal.invariant-loop
 invariant-loop g l = record {
   rest : rounds (suc (l.most - l.counter)) l.self.state ≡ rested l.fn.self.state;
-  within : (x : Outcome) → WithinRounds (λ m. halted m ≡ x) (suc (l.most - l.counter)) l.self.state
+  within : (x : Halt) → WithinRounds (λ m. halted m ≡ x) (suc (l.most - l.counter)) l.self.state
       → WithinRounds (λ m. halted m ≡ x) (suc (longest l.fn.self.state.places)) l.fn.self.state;
   memory : l.self.state.memory ≡ l.fn.self.state.memory;
   kept : (w : Window) (site : Site) → g.Z.ZoneMaker.made l.fn.self.zones w site → g.Z.ZoneMaker.made l.self.zones w site;

@@ -1,8 +1,7 @@
 use Rattle.std.proofs.Common.{rules, ◌≡◌, subst, ◌+◌, ◌-◌, ◌<◌, ◌∙◌, ap, sym}
 use Rattle.desk.specs.Desk.{State, each_turned}
-use Rattle.desk.proofs.Free.{turned-out}
-use Rattle.desk.specs.Halting.{WithinTurns, halted}
-use Rattle.desk.specs.Outcome.{Outcome}
+use Rattle.desk.proofs.Free.{next-out}
+use Rattle.desk.specs.Halting.{Halt, WithinTurns, halted}
 use Rattle.desk.proofs.Halting.{turns_next, turns_halt, on_any_err}
 use Rattle.desk.proofs.Rounds.{turned_next}
 use Rattle.desk.proofs.desk.Desk.round.Goals as goal
@@ -19,9 +18,9 @@ loop-i-preserved g c =
           (subst (WithinTurns (λ m. halted m ≡ x) (n - (i + 1)) (i + 1)) c.in_ok-act.ensures.ok rest));
       memory = c.act.ensures.memory ∙ c.loop-i.invariant.memory;
       kept = λ w site m. c.act.ensures.kept w site (c.loop-i.invariant.kept w site m);
-      outside = turned-out g.Z.ZoneMaker.byte c.args.self.now.zones c.loop-i.self.zones c.act.new.self.zones i
-          c.args.self.now.state c.loop-i.self.state c.act.new.self.state c.in_ok-act.ensures.ok
-          c.in_ok-act.ensures.outside c.loop-i.invariant.outside;
+      outside = next-out g.Z.ZoneMaker.byte c.args.self.now.zones c.loop-i.self.zones c.act.new.self.zones
+          c.args.self.now.state c.loop-i.self.state c.act.new.self.state c.act.ensures.outside
+          c.loop-i.invariant.outside;
     }
 
 pub returns-in_err-act-clause-within : goal.returns-in_err-act-clause-within
@@ -29,7 +28,12 @@ returns-in_err-act-clause-within g c =
     let n = c.count-count.result in
     let i = c.loop-i.i in
     let less : i < n = search rules in
-    let x : Outcome = halted c.act.new.self.state in
+    let x : Halt = halted c.act.new.self.state in
     on_any_err c.from_residual.result _
     (c.loop-i.invariant.within x
     (turns_halt (λ m. halted m ≡ x) n i c.loop-i.self.state less c.in_err-act.ensures.within))
+
+pub returns-in_err-act-clause-outside : goal.returns-in_err-act-clause-outside
+returns-in_err-act-clause-outside g c =
+    next-out g.Z.ZoneMaker.byte c.args.self.now.zones c.loop-i.self.zones c.act.new.self.zones
+    c.args.self.now.state c.loop-i.self.state c.act.new.self.state c.act.ensures.outside c.loop-i.invariant.outside

@@ -2,8 +2,7 @@ use Rattle.std.proofs.Common.{◌≡◌, ℕ, ◌-◌}
 use Rattle.windows.specs.declared.Window.{Window}
 use Rattle.block_store.specs.Rest.{Site}
 use Rattle.desk.specs.Free.{IsFree}
-use Rattle.desk.specs.Halting.{WithinTurns, WithinRound, halted}
-use Rattle.desk.specs.Outcome.{Outcome}
+use Rattle.desk.specs.Halting.{Halt, WithinTurns, WithinRound, halted}
 use Rattle.desk.specs.Desk.{each_turned, round}
 use Rattle.desk.proofs.desk.Desk.round.Given as goal
 
@@ -11,7 +10,7 @@ use Rattle.desk.proofs.desk.Desk.round.Given as goal
 abbrev pub invariant-loop-i : goal.invariant-loop-i
 invariant-loop-i g l = record {
   rest : each_turned (l.count - l.i) l.i l.self.state ≡ round l.fn.self.state;
-  within : (x : Outcome) → WithinTurns (λ m. halted m ≡ x) (l.count - l.i) l.i l.self.state
+  within : (x : Halt) → WithinTurns (λ m. halted m ≡ x) (l.count - l.i) l.i l.self.state
       → WithinRound (λ m. halted m ≡ x) l.fn.self.state;
   memory : l.self.state.memory ≡ l.fn.self.state.memory;
   kept : (w : Window) (site : Site) → g.Z.ZoneMaker.made l.fn.self.zones w site → g.Z.ZoneMaker.made l.self.zones w site;

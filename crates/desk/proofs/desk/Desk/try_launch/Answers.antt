@@ -8,15 +8,15 @@ use Rattle.script_text.specs.DeskLog.{launch_of, refusal_of}
 use Rattle.desk.specs.Phase.{Live, Running, begun, waits}
 use Rattle.desk.specs.Live.{live_seen}
 use Rattle.desk.specs.Desk.{Place, State, ready, launched_at, launch_reply, reply_at}
+use Rattle.desk.specs.Free.{IsFree}
 use Rattle.desk.specs.Ready.{sizes_seen}
 use Rattle.desk.specs.Seated.{Placed}
 use Rattle.desk.specs.View.{DeskSeen, place_seen, seen, lots}
 use Rattle.desk.proofs.Holding.{few_out, not-opened, is-opened}
-use Rattle.desk.proofs.Free.{out-opened}
 use Rattle.desk.proofs.Halting.{failed_so, stays_so, no_error, on_any_err}
 use Rattle.desk.proofs.Leaving.{housed_kept, housed_started}
 use Rattle.desk.proofs.Changes.{launched-none, launched-refused, launched-full, launched-begins, seen-some, seen-none, refused-ready}
-use Rattle.desk.proofs.Changes.{waits_ready, at-some, through, replied-refused, replied-begun}
+use Rattle.desk.proofs.Changes.{out_granted, waits_ready, at-some, through, replied-refused, replied-begun}
 use Rattle.desk.proofs.desk.Desk.try_launch.Goals as goal
 
 pub returns-in_default-clause-ok : goal.returns-in_default-clause-ok
@@ -177,12 +177,6 @@ returns-clause-ok g c =
     ∙ ap (λ (d : DeskSeen _). launched_at c.args.i d.state) c.self.view_is)
     c.write_app_launch.ensures.line)
 
-pub returns-in-Err-Code-clause-outside : goal.returns-in-Err-Code-clause-outside
-returns-in-Err-Code-clause-outside g c =
-    through c.once_written.result c.write_app_refusal.result _ c.once_written.ensures.written (on_ok_weaker c.write_app_refusal.result
-    (λ h place f. ap (λ (d : DeskSeen _). g.Z.ZoneMaker.byte d.zones place) c.self.view_is)
-    c.write_app_refusal.ensures.line)
-
 pub returns-in_err-begun-clause-kept : goal.returns-in_err-begun-clause-kept
 returns-in_err-begun-clause-kept g c =
     λ w site m. c.begin.ensures.kept w site
@@ -197,24 +191,6 @@ pub returns-clause-kept : goal.returns-clause-kept
 returns-clause-kept g c =
     λ w site m. c.begin.ensures.kept w site
     (subst (λ (d : DeskSeen _). g.Z.ZoneMaker.made d.zones w site) (sym c.self.view_is) m)
-
-pub returns-in_default-begun-clause-outside : goal.returns-in_default-begun-clause-outside
-returns-in_default-begun-clause-outside g c =
-    through c.once_written-in_default-begun.result c.write_app_refusal-in_default-begun.result _ c.once_written-in_default-begun.ensures.written (on_ok_weaker c.write_app_refusal-in_default-begun.result
-    (λ h place f. c.in_ok-begun.ensures.outside place
-    (out-opened place (option_map (λ l. l.partition.window) c.in_ok-begun.begun) c.self.inside.grants.windows
-    c.begin.new.grants.windows c.in_ok-begun.ensures.windows f)
-    ∙ ap (λ (d : DeskSeen _). g.Z.ZoneMaker.byte d.zones place) c.self.view_is)
-    c.write_app_refusal-in_default-begun.ensures.line)
-
-pub returns-clause-outside : goal.returns-clause-outside
-returns-clause-outside g c =
-    through c.once_written-2.result c.write_app_launch.result _ c.once_written-2.ensures.written (on_ok_weaker c.write_app_launch.result
-    (λ h place f. c.in_ok-begun.ensures.outside place
-    (out-opened place (option_map (λ l. l.partition.window) c.in_ok-begun.begun) c.self.inside.grants.windows
-    c.begin.new.grants.windows c.in_ok-begun.ensures.windows f)
-    ∙ ap (λ (d : DeskSeen _). g.Z.ZoneMaker.byte d.zones place) c.self.view_is)
-    c.write_app_launch.ensures.line)
 
 pub returns-in_default-clause-answer : goal.returns-in_default-clause-answer
 returns-in_default-clause-answer g c =
@@ -330,3 +306,55 @@ returns-clause-host g c =
     let length = c.len.ensures.value in
     failed_so c.once_written-2.result c.write_app_launch.result _ c.once_written-2.ensures.failed
     (no_error c.write_app_launch.result _ (c.write_app_launch.ensures.room (omega (arith, room, length))))
+
+-- a byte outside the window that is granted, if one is
+pub returns-in_err-begun-clause-outside : goal.returns-in_err-begun-clause-outside
+returns-in_err-begun-clause-outside g c =
+    let p = place_seen c.in-Some.seat.now in
+    let s : State = record {
+      memory = c.self.inside.grants.memory;
+      windows = c.self.inside.grants.windows;
+      places = seen c.self.inside.seats.items;
+      log = c.self.inside.log.items;
+    } in
+    let here : slice_get (seen c.self.inside.seats.items) c.args.i ≡ Some p = seen-some place_seen c.self.inside.seats.items
+    c.deref.result.now c.args.i c.in-Some.seat.now c.deref.ensures.value c.in-Some.ensures.lookup.3.0
+    c.in-Some.ensures.lookup.1 in
+    λ place f. c.begin.ensures.outside place (out_granted c.args.i s p here place c.in-Ok.ready.resources
+    (sizes_seen c.in-Ok.ready.sizes) c.in-Ok.ensures.answer c.in-Ok.ensures.sizes
+    (subst (λ (d : DeskSeen _). IsFree place (launched_at c.args.i d.state)) (sym c.self.view_is) f))
+    ∙ ap (λ (d : DeskSeen _). g.Z.ZoneMaker.byte d.zones place) c.self.view_is
+
+pub returns-in_default-begun-clause-outside : goal.returns-in_default-begun-clause-outside
+returns-in_default-begun-clause-outside g c =
+    let p = place_seen c.in-Some.seat.now in
+    let s : State = record {
+      memory = c.self.inside.grants.memory;
+      windows = c.self.inside.grants.windows;
+      places = seen c.self.inside.seats.items;
+      log = c.self.inside.log.items;
+    } in
+    let here : slice_get (seen c.self.inside.seats.items) c.args.i ≡ Some p = seen-some place_seen c.self.inside.seats.items
+    c.deref.result.now c.args.i c.in-Some.seat.now c.deref.ensures.value c.in-Some.ensures.lookup.3.0
+    c.in-Some.ensures.lookup.1 in
+    λ place f. c.begin.ensures.outside place (out_granted c.args.i s p here place c.in-Ok.ready.resources
+    (sizes_seen c.in-Ok.ready.sizes) c.in-Ok.ensures.answer c.in-Ok.ensures.sizes
+    (subst (λ (d : DeskSeen _). IsFree place (launched_at c.args.i d.state)) (sym c.self.view_is) f))
+    ∙ ap (λ (d : DeskSeen _). g.Z.ZoneMaker.byte d.zones place) c.self.view_is
+
+pub returns-clause-outside : goal.returns-clause-outside
+returns-clause-outside g c =
+    let p = place_seen c.in-Some.seat.now in
+    let s : State = record {
+      memory = c.self.inside.grants.memory;
+      windows = c.self.inside.grants.windows;
+      places = seen c.self.inside.seats.items;
+      log = c.self.inside.log.items;
+    } in
+    let here : slice_get (seen c.self.inside.seats.items) c.args.i ≡ Some p = seen-some place_seen c.self.inside.seats.items
+    c.deref.result.now c.args.i c.in-Some.seat.now c.deref.ensures.value c.in-Some.ensures.lookup.3.0
+    c.in-Some.ensures.lookup.1 in
+    λ place f. c.begin.ensures.outside place (out_granted c.args.i s p here place c.in-Ok.ready.resources
+    (sizes_seen c.in-Ok.ready.sizes) c.in-Ok.ensures.answer c.in-Ok.ensures.sizes
+    (subst (λ (d : DeskSeen _). IsFree place (launched_at c.args.i d.state)) (sym c.self.view_is) f))
+    ∙ ap (λ (d : DeskSeen _). g.Z.ZoneMaker.byte d.zones place) c.self.view_is

@@ -1,6 +1,6 @@
 use Rattle.std.proofs.Common.{arith, Err}
 use Rattle.std.proofs.lemmas.Result.{err_from_is_err_and}
-use Rattle.heap_calls.proofs.Numbering.Changing.{agrees-same}
+use Rattle.heap_calls.proofs.Numbering.Changing.{agrees-placed}
 use Rattle.heap_calls.proofs.Numbering.Pointing.{IsHeld, pointer-held, target_in}
 use Rattle.heap_calls.proofs.Sizes.PointerSizes.{set_pointer_size-done, no_pointer}
 use Rattle.heap_calls.proofs.heap.Heap.fit_pointer.Given.{Over}
@@ -33,14 +33,14 @@ fit_nonrelocatable-requires g c =
 pub invariant_of-self : goal.invariant_of-self
 invariant_of-self g c =
     let a = c.self.inside in
-    agrees-same (g.S.BlockStore.zone a.store) (g.S.BlockStore.zone c.fit_nonrelocatable.new.store) (g.S.BlockStore.rest a.store)
+    agrees-placed (g.S.BlockStore.zone a.store) (g.S.BlockStore.zone c.fit_nonrelocatable.new.store) (g.S.BlockStore.rest a.store)
     (g.S.BlockStore.rest c.fit_nonrelocatable.new.store) a.names.items c.self.invariant c.fit_nonrelocatable.ensures.nonrelocatable
     c.fit_nonrelocatable.ensures.rest
 
 pub invariant_of-self-2 : goal.invariant_of-self-2
 invariant_of-self-2 g c =
     let a = c.self.inside in
-    agrees-same (g.S.BlockStore.zone a.store) (g.S.BlockStore.zone c.fit_nonrelocatable.new.store) (g.S.BlockStore.rest a.store)
+    agrees-placed (g.S.BlockStore.zone a.store) (g.S.BlockStore.zone c.fit_nonrelocatable.new.store) (g.S.BlockStore.rest a.store)
     (g.S.BlockStore.rest c.fit_nonrelocatable.new.store) a.names.items c.self.invariant c.fit_nonrelocatable.ensures.nonrelocatable
     c.fit_nonrelocatable.ensures.rest
 

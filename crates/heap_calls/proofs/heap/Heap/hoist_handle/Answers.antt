@@ -3,7 +3,7 @@ use Rattle.block_store.specs.Block.{is_relocatable, is_mover, tidy}
 use Rattle.block_store.specs.Run.{has, high, with_run}
 use Rattle.heap_calls.specs.Inner.Given.{seen_mover}
 use Rattle.heap_calls.specs.declared.anchor.Anchor.TheVariants.{Handle}
-use Rattle.heap_calls.proofs.Numbering.Changing.{agrees-same}
+use Rattle.heap_calls.proofs.Numbering.Changing.{agrees-placed, none_placed, once_placed}
 use Rattle.heap_calls.proofs.Room.Searching.{at_run}
 use Rattle.heap_calls.proofs.Room.Staying.{nonrelocatable-run, nonrelocatable-same, nonrelocatable-then, none-high}
 use Rattle.heap_calls.proofs.Numbering.Hoisting.{seen-at, seen_mover-is, rest-same, run-found, hoist-allowed}
@@ -66,7 +66,7 @@ returns-in_default-run_of-clause-answer g c =
     let none = run-found (has (is_relocatable f.slot)) zone None
     c.in_default-run_of.ensures in
     move_h_hi-done c.args.self.now zone rest es a.log c.args.handle f.number f.slot c.self.view_is is.0 is.1
-    c.self.invariant.apart (omega arith) zone rest there.0 there.1 free (rest-same rest) (hoisted-none f.slot zone none)
+    c.self.invariant.apart (omega arith) zone rest there.0 there.1 free (none_placed rest rest (rest-same rest)) (hoisted-none f.slot zone none)
     ∙ ap (λ m. (Ok tt, m)) c.self.view_is
 
 pub hoist-requires : goal.hoist-requires
@@ -89,10 +89,11 @@ invariant_of-self g c =
     let now = tidy (with_run (high (is_relocatable slot)) found.0) in
     let done = at_run run zone zone found.0 (λ r. zone' ≡ tidy (with_run (high (is_relocatable slot)) r)) refl found.2
     c.hoist.ensures.zone in
-    agrees-same zone zone' (g.S.BlockStore.rest a.store) (g.S.BlockStore.rest c.hoist.new.self) a.names.items
+    agrees-placed zone zone' (g.S.BlockStore.rest a.store) (g.S.BlockStore.rest c.hoist.new.self) a.names.items
     c.self.invariant
     (nonrelocatable-then zone now zone' (nonrelocatable-run (high (is_relocatable slot)) (none-high (is_relocatable slot))
-    (has (is_relocatable slot)) zone found.0 found.1) (nonrelocatable-same now zone' done)) c.hoist.ensures.rest
+    (has (is_relocatable slot)) zone found.0 found.1) (nonrelocatable-same now zone' done))
+    (once_placed 1 (g.S.BlockStore.rest a.store) (g.S.BlockStore.rest c.hoist.new.self) c.hoist.ensures.rest)
 
 pub returns-clause-answer : goal.returns-clause-answer
 returns-clause-answer g c =
@@ -110,5 +111,5 @@ returns-clause-answer g c =
     c.in-Some-run_of.ensures in
     move_h_hi-done c.args.self.now zone rest es a.log c.args.handle f.number f.slot c.self.view_is is.0 is.1
     c.self.invariant.apart (omega arith) zone' (g.S.BlockStore.rest c.hoist.new.self) there.0 there.1 free
-    c.hoist.ensures.rest
+    (once_placed 1 rest (g.S.BlockStore.rest c.hoist.new.self) c.hoist.ensures.rest)
     (hoisted-done f.slot c.in-Some-run_of.run' zone zone' found c.hoist.ensures.zone)

@@ -12,7 +12,7 @@ use Rattle.heap_calls.specs.Inner.NewPointer.{IsNewNonrelocatable}
 use Rattle.heap_calls.specs.Inner.Numbered.{state_of, memory_of}
 use Rattle.heap_calls.proofs.GoneBlocks.{pointer_gone-is}
 use Rattle.heap_calls.proofs.NewBlocks.NewHandles.{searched-done}
-use Rattle.heap_calls.proofs.Numbering.Changing.{agrees-same, kept, memory-same}
+use Rattle.heap_calls.proofs.Numbering.Changing.{agrees-placed, slots_kept, memory-same, unplaced, unplaced-is}
 use Rattle.heap_calls.proofs.NewBlocks.NewPointers.{new_pointer-refused, new_pointer-done, new_pointer_searches-is}
 use Rattle.heap_calls.proofs.NewBlocks.NewPointers.{agrees-more}
 use Rattle.heap_calls.proofs.heap.Heap.make_pointer.Given.{Over}
@@ -37,14 +37,15 @@ returns-in_default-clause-answer g c =
     (new_pointer-refused c.args.size zone rest es none.1) refl refl
     (c.in_ok-room.ensures.searches ∙ sym (new_pointer_searches-is c.args.size zone rest es)) c.count.ensures
     ∙ ap (λ (m : Memory). (Err MEM_FULL, m))
-    (sym (memory-same zone rest rest' es c.count.new.self c.add_nonrelocatable.ensures.rest)
+    (sym (memory-same zone rest (unplaced rest rest') es c.count.new.self
+    (unplaced-is rest rest' c.add_nonrelocatable.ensures.rest))
     ∙ ap (λ z. memory_of z rest' es c.count.new.self) (sym none.0)
     ∙ ap (λ (l : List Anchor). memory_of zone' rest' l c.count.new.self)
     (sym {A = List Anchor} c.in_ok-reserve.ensures.items))
 
 pub invariant_of-self-in_err-room : goal.invariant_of-self-in_err-room
 invariant_of-self-in_err-room g c = rw c.in_ok-reserve.ensures.items
-    (agrees-same _ _ _ _ _ c.self.invariant c.in_err-room.ensures.nonrelocatable c.add_nonrelocatable.ensures.rest)
+    (agrees-placed _ _ _ _ _ c.self.invariant c.in_err-room.ensures.nonrelocatable c.add_nonrelocatable.ensures.rest)
 
 -- the entries with the new pointer
 entered : (g : Over) (c : After-push_reserved g) → c.push_reserved.new.self.items ≡ c.self.inside.names.items
@@ -53,7 +54,9 @@ entered g c = c.push_reserved.ensures.items ∙ ap (λ l. l ++ Pointer c.in-Some
 
 pub invariant_of-self-2 : goal.invariant_of-self-2
 invariant_of-self-2 g c = rw (entered g (goal.at.invariant_of-self-2 g c).After-push_reserved)
-    (agrees-more _ _ _ _ _ c.args.size c.in-Some.place c.self.invariant (kept _ _ c.add_nonrelocatable.ensures.rest)
+    (agrees-more _ _ _ _ _ c.args.size c.in-Some.place c.self.invariant
+    (slots_kept (g.S.BlockStore.rest c.self.inside.store) (g.S.BlockStore.rest c.add_nonrelocatable.new.store)
+    c.add_nonrelocatable.ensures.rest)
     (rw c.in-Some.is at c.in_ok-room.ensures.put))
 
 pub returns-clause-answer : goal.returns-clause-answer
@@ -69,7 +72,7 @@ returns-clause-answer g c =
     (g.S.BlockStore.zone a.store) zone' (g.S.BlockStore.rest a.store) rest' a.names.items es' a.log c.count.new.self
     (Ok c.len-number.result) c.in_ok-room.room.searches c.self.view_is
     (new_pointer-done (g.S.BlockStore.zone a.store) zone' (g.S.BlockStore.rest a.store) rest' a.names.items c.args.size
-    c.in-Some.place c.self.invariant (kept (g.S.BlockStore.rest a.store) rest' c.add_nonrelocatable.ensures.rest) put
+    c.in-Some.place c.self.invariant (slots_kept (g.S.BlockStore.rest a.store) rest' c.add_nonrelocatable.ensures.rest) put
     ∙ ap (λ (k : ℕ). (Ok k, state_of zone' rest'.slots es')) n)
     c.add_nonrelocatable.ensures.rest.window c.add_nonrelocatable.ensures.rest.moves
     (c.in_ok-room.ensures.searches ∙ sym (new_pointer_searches-is c.args.size (g.S.BlockStore.zone a.store)

@@ -31,6 +31,7 @@ kept g c =
       unused = packed.unused ∙ emptied.unused;
       all = packed.all ∙ emptied.all;
       moves = refl;
+      placed = refl;
       window = packed.window ∙ emptied.window;
     }
 

@@ -4,7 +4,7 @@ use Rattle.heap_calls.specs.Pointers.{reserve_mem}
 use Rattle.heap_calls.specs.Searches.{reserve_searches}
 use Rattle.heap_calls.proofs.NewBlocks.Naming.{Ends, reserve-ends, served-looking}
 use Rattle.heap_calls.proofs.NewBlocks.Reserving.{reserve-too_large, reserve_searches-is}
-use Rattle.heap_calls.proofs.Numbering.Changing.{agrees-same}
+use Rattle.heap_calls.proofs.Numbering.Changing.{agrees-placed}
 use Rattle.heap_calls.proofs.Numbering.PurgeTrials.{served_answer}
 use Rattle.heap_calls.proofs.Room.Placements.{at_none}
 use Rattle.heap_calls.proofs.heap.Heap.reserve_base.Given.{Over}
@@ -38,7 +38,7 @@ returns-clause-answer g c =
     c.in-Some.bytes (sym c.phys.ensures ∙ c.in-Some.is))) now.rest.moves)
 
 pub invariant_of-self : goal.invariant_of-self
-invariant_of-self g c = agrees-same _ _ _ _ _ c.self.invariant c.make_base.ensures.nonrelocatable c.make_base.ensures.rest
+invariant_of-self g c = agrees-placed _ _ _ _ _ c.self.invariant c.make_base.ensures.nonrelocatable c.make_base.ensures.rest
 
 pub invariant_of-self-2 : goal.invariant_of-self-2
-invariant_of-self-2 g c = agrees-same _ _ _ _ _ c.self.invariant c.make_base.ensures.nonrelocatable c.make_base.ensures.rest
+invariant_of-self-2 g c = agrees-placed _ _ _ _ _ c.self.invariant c.make_base.ensures.nonrelocatable c.make_base.ensures.rest

@@ -158,7 +158,7 @@ returns-clause-rest c =
     let i = c.self.inside in
     let d = done (goal.at.returns-clause-rest c).After-adopt in
     let a = d.0 in
-    subst (λ v. IsRest (rest_of v) (rest_in c.adopt.new.part i.unused i.moves)) c.self.view_is
-    (rest-made i.part c.adopt.new.part (slot_in i.part.bytes) i.unused i.moves d.1.slots
+    subst (λ v. IsRest (rest_of v) (rest_in c.adopt.new.part i.unused i.moves i.placings)) c.self.view_is
+    (rest-made i.part c.adopt.new.part (slot_in i.part.bytes) i.unused i.moves i.placings d.1.slots
     (ap (count is_masters) d.1.zone ∙ masters-adopted a.s.below a.id c.args.number c.args.flags a.content a.s.above
     ∙ ap (count is_masters) (sym a.whole)) c.adopt.ensures.same)

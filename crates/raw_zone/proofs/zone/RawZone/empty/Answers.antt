@@ -74,10 +74,10 @@ returns-clause-zone c = (done (goal.at.returns-clause-zone c).After-purge_lowest
 
 pub returns-clause-rest : goal.returns-clause-rest
 returns-clause-rest c =
-    subst (λ v. IsRest (rest_of v) (rest_in c.purge_lowest-freed.new.part c.self.inside.unused c.self.inside.moves))
+    subst (λ v. IsRest (rest_of v) (rest_in c.purge_lowest-freed.new.part c.self.inside.unused c.self.inside.moves c.self.inside.placings))
     c.self.view_is
     (gained-rest c.self.inside.part c.purge_lowest-freed.new.part _ _ _ _
-    (done (goal.at.returns-clause-rest c).After-purge_lowest-freed) c.purge_lowest-freed.ensures.same c.self.inside.moves)
+    (done (goal.at.returns-clause-rest c).After-purge_lowest-freed) c.purge_lowest-freed.ensures.same c.self.inside.moves c.self.inside.placings)
 
 pub seek-requires-clause-sound : goal.seek-requires-clause-sound
 seek-requires-clause-sound c = (

@@ -97,10 +97,10 @@ returns-clause-zone c =
 pub returns-clause-rest : goal.returns-clause-rest
 returns-clause-rest c =
     let d = done (goal.at.returns-clause-rest c).After-settle_run-packed in
-    subst (λ v. IsRest (rest_of v) (rest_in c.settle_run-packed.new.part c.self.inside.unused c.self.inside.moves))
+    subst (λ v. IsRest (rest_of v) (rest_in c.settle_run-packed.new.part c.self.inside.unused c.self.inside.moves c.self.inside.placings))
     c.self.view_is
     (rest-made c.self.inside.part c.settle_run-packed.new.part
-    (slot_in c.self.inside.part.bytes) c.self.inside.unused c.self.inside.moves d.2.made.slots d.2.masters
+    (slot_in c.self.inside.part.bytes) c.self.inside.unused c.self.inside.moves c.self.inside.placings d.2.made.slots d.2.masters
     c.settle_run-packed.ensures.same)
 
 pub returns-clause-lowered : goal.returns-clause-lowered

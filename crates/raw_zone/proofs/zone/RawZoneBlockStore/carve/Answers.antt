@@ -9,7 +9,7 @@ use Rattle.zone_bytes.specs.Decode.{zone_in}
 use Rattle.zone_bytes.specs.Table.{slot_in}
 use Rattle.zone_bytes.specs.Laying.{new_header}
 use Rattle.zone_bytes.specs.PurgeableBytes.{purgeable_sum}
-use Rattle.zone_bytes.proofs.Laws.Lawful.{Made, rest-made, kept-made}
+use Rattle.zone_bytes.proofs.Laws.Lawful.{Made, rest-made, rest-placed, kept-made}
 use Rattle.zone_bytes.proofs.SlotTable.Slotted.{slot-reads-in}
 use Rattle.zone_bytes.proofs.Placed.Carved.{Roomy, roomy, free-roomy, may-carve, carved-free, carved-masters}
 use Rattle.zone_bytes.proofs.Placed.Carved.{relocatable-made}
@@ -127,5 +127,7 @@ returns-clause-rest c =
     let m = done a in
     let l = new-size a in
     let k = carved-masters _ _ _ (there a) _ (new a) refl (omega (arith, l)) m.zone in
-    rw (← c.self.view_is) (rest-made c.self.inside.part c.carve.new.part (slot_in c.self.inside.part.bytes)
-    c.self.inside.unused c.self.inside.moves m.slots (omega (arith, k)) c.carve.ensures.same)
+    rw (← c.self.view_is) (rest-placed _ c.carve.new.part c.self.inside.unused c.self.inside.moves c.self.inside.placings
+    c.saturating_add-self-inside.result (rest-made c.self.inside.part c.carve.new.part (slot_in c.self.inside.part.bytes)
+    c.self.inside.unused c.self.inside.moves c.self.inside.placings m.slots (omega (arith, k)) c.carve.ensures.same)
+    (omega (arith, c.saturating_add-self-inside.ensures)))

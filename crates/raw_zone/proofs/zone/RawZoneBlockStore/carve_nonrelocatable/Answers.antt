@@ -99,7 +99,7 @@ returns-clause-rest c =
     let k = carved-masters _ _ _ (there a) _ (new a) refl (omega (arith, l)) m.zone in
     rw (← c.self.view_is) (rest-made c.self.inside.part c.carve_nonrelocatable.new.part
     (slot_in c.self.inside.part.bytes)
-    c.self.inside.unused c.self.inside.moves m.slots (omega (arith, k)) c.carve_nonrelocatable.ensures.same)
+    c.self.inside.unused c.self.inside.moves c.self.inside.placings m.slots (omega (arith, k)) c.carve_nonrelocatable.ensures.same)
 
 pub overflow_add-place : goal.overflow_add-place
 overflow_add-place c =

@@ -143,10 +143,10 @@ returns-clause-rest c =
     let m = copied c.self.inside.part.bytes c.self.inside.first c.self.inside.unused c.args.source c.args.bytes
     c.args.place
     c.args.from c.self.invariant.sound t.0 s.0 t.1 s.1 t.2 s.2 in
-    subst (λ v. IsRest (rest_of v) (rest_in c.move_bytes.new.part c.self.inside.unused c.self.inside.moves))
+    subst (λ v. IsRest (rest_of v) (rest_in c.move_bytes.new.part c.self.inside.unused c.self.inside.moves c.self.inside.placings))
     c.self.view_is
     (rest-made c.self.inside.part c.move_bytes.new.part
-    (slot_in c.self.inside.part.bytes) c.self.inside.unused c.self.inside.moves
+    (slot_in c.self.inside.part.bytes) c.self.inside.unused c.self.inside.moves c.self.inside.placings
     (rw c.move_bytes.ensures.bytes m.slots)
     (rw c.move_bytes.ensures.bytes (copied-masters c.self.inside.part.bytes c.self.inside.first c.self.inside.unused
     c.args.source

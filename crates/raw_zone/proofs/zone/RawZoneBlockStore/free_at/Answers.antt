@@ -88,10 +88,10 @@ returns-clause-zone c = (done (goal.at.returns-clause-zone c).After-free_block-f
 
 pub returns-clause-rest : goal.returns-clause-rest
 returns-clause-rest c =
-    subst (λ v. IsRest (rest_of v) (rest_in c.free_block-freed.new.part c.self.inside.unused c.self.inside.moves))
+    subst (λ v. IsRest (rest_of v) (rest_in c.free_block-freed.new.part c.self.inside.unused c.self.inside.moves c.self.inside.placings))
     c.self.view_is
     (gained-rest c.self.inside.part c.free_block-freed.new.part _ _ _ _
-    (done (goal.at.returns-clause-rest c).After-free_block-freed) c.free_block-freed.ensures.same c.self.inside.moves)
+    (done (goal.at.returns-clause-rest c).After-free_block-freed) c.free_block-freed.ensures.same c.self.inside.moves c.self.inside.placings)
 
 pub note-requires-clause-sound : goal.note-requires-clause-sound
 note-requires-clause-sound c = (

@@ -51,10 +51,10 @@ pub returns-clause-rest : goal.returns-clause-rest
 returns-clause-rest c =
     let m = done c in
     subst (λ v. IsRest (with_slot c.args.number Unused (v.unused + 1) (rest_of v))
-    (rest_in c.give_slot.new.part (c.self.inside.unused + 1) c.self.inside.moves)) c.self.view_is
+    (rest_in c.give_slot.new.part (c.self.inside.unused + 1) c.self.inside.moves c.self.inside.placings)) c.self.view_is
     (rest-made c.self.inside.part c.give_slot.new.part
     (set_slot (slot_in c.self.inside.part.bytes) c.args.number Unused)
-    (c.self.inside.unused + 1) c.self.inside.moves m.slots (ap (count is_masters) m.zone) c.give_slot.ensures.same)
+    (c.self.inside.unused + 1) c.self.inside.moves c.self.inside.placings m.slots (ap (count is_masters) m.zone) c.give_slot.ensures.same)
 
 pub returns-clause-zone : goal.returns-clause-zone
 returns-clause-zone c = (done c).zone ∙ ap zone_of c.self.view_is

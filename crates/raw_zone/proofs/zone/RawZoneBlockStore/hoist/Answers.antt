@@ -1,10 +1,11 @@
-use Rattle.std.proofs.Common.{◌≡◌, ◌∙◌, IsTrue, true, sym, subst}
+use Rattle.std.proofs.Common.{◌≡◌, ◌∙◌, IsTrue, true, sym, subst, arith}
 use Rattle.std.specs.Option.{IfSome}
 use Rattle.block_store.specs.Block.{tidy, is_relocatable}
 use Rattle.block_store.specs.Run.{run_at, has, settle, high, with_run}
 use Rattle.block_store.specs.Rest.{IsRest}
 use Rattle.zone_bytes.specs.Decode.{zone_in}
 use Rattle.zone_bytes.specs.Table.{slot_in}
+use Rattle.zone_bytes.proofs.Laws.Lawful.{rest-placed}
 use Rattle.zone_bytes.proofs.Runs.Changed.{ChangedRun, if-one}
 use Rattle.zone_bytes.proofs.Runs.PackedAt.{IsPacked, is-packed, kept-changed, rest-changed, purgeable-changed}
 use Rattle.zone_bytes.proofs.Runs.PackedAt.{replaced-changed}
@@ -85,7 +86,8 @@ returns-clause-zone c =
 pub returns-clause-rest : goal.returns-clause-rest
 returns-clause-rest c =
     let d = done (goal.at.returns-clause-rest c).After-note-arg-2-1 in
-    rest-changed c.self.inside.part c.hoist_block.new.part d.0 (high (is_relocatable c.args.number))
-    (rest_of c.args.self.now) c.self.inside.moves d.1
+    rest-placed _ c.hoist_block.new.part c.self.inside.unused c.self.inside.moves c.self.inside.placings
+    c.saturating_add-self-inside.result (rest-changed c.self.inside.part c.hoist_block.new.part d.0 (high (is_relocatable c.args.number))
+    (rest_of c.args.self.now) c.self.inside.moves c.self.inside.placings d.1
     (subst (λ v. IsRest (rest_of c.args.self.now) (rest_of v)) (sym c.self.view_is) c.pack-packed.ensures.rest)
-    c.hoist_block.ensures.same
+    c.hoist_block.ensures.same) (omega (arith, c.saturating_add-self-inside.ensures))

@@ -5,6 +5,7 @@ use Rattle.block_store.specs.Block.{is_relocatable, is_room}
 use Rattle.block_store.specs.Room.{spot, spot_at}
 use Rattle.block_store.specs.Slot.{is_used}
 use Rattle.block_store.proofs.Content.MovedInSteps.{RoomAt, room-at, is-used, still, copies-to, stands, no-block, moved}
+use Rattle.zone_bytes.specs.Decode.{zone_in}
 use Rattle.raw_zone.specs.Held.{Held}
 use Rattle.raw_zone.specs.Parted.{zone_of, rest_of, zone-no_block}
 use Rattle.raw_zone.proofs.zone.RawZoneBlockStore.move_to.Goals as goal
@@ -70,5 +71,5 @@ returns-clause-ok c =
     moved a.number a.place a.bytes (zone_of a.self.now) (room a.self.now a.place a.bytes c.requires.room)
     (zone_of c.carve_nonrelocatable.new.self) c.in_ok-carve_nonrelocatable.ensures.ok old.place old.length old.flags
     c.block_of-old.ensures.place c.block_of-old.ensures.block c.min.result c.min.ensures (zone_of c.copy.new.self)
-    c.copy.ensures.zone (zone_of c.release.new.self) c.release.ensures.zone (zone_of c.adopt.new.self)
-    c.adopt.ensures.zone
+    c.copy.ensures.zone (zone_of c.release.new.self) c.release.ensures.zone (zone_in c.self.inside.part.bytes)
+    (rw (← c.self.view_is) at c.adopt.ensures.zone)

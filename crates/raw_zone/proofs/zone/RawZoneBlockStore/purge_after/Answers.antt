@@ -114,7 +114,7 @@ returns-clause-zone c =
 
 pub returns-clause-rest : goal.returns-clause-rest
 returns-clause-rest c =
-    subst (λ v. IsRest (rest_of v) (rest_in c.purge_above-freed.new.part c.self.inside.unused c.self.inside.moves))
+    subst (λ v. IsRest (rest_of v) (rest_in c.purge_above-freed.new.part c.self.inside.unused c.self.inside.moves c.self.inside.placings))
     c.self.view_is
     (gained-rest c.self.inside.part c.purge_above-freed.new.part _ _ _ _
-    (done (goal.at.returns-clause-rest c).After-purge_above-freed (here (goal.at.returns-clause-rest c).After-self)) c.purge_above-freed.ensures.same c.self.inside.moves)
+    (done (goal.at.returns-clause-rest c).After-purge_above-freed (here (goal.at.returns-clause-rest c).After-self)) c.purge_above-freed.ensures.same c.self.inside.moves c.self.inside.placings)

@@ -2,20 +2,18 @@ use Rattle.std.proofs.Common.{◌≡◌, ◌∙◌, ◌+◌, IsTrue, Some, ap, s
 use Rattle.std.specs.Option.{IfSome, IsSomeAnd}
 use Rattle.block_store.specs.Block.{Free, sizes, tidy}
 use Rattle.block_store.specs.Run.{RunSpot, run_at, low, has_free, movers, with_run}
-use Rattle.block_store.specs.Rest.{IsRest}
 use Rattle.zone_bytes.specs.Raising.{lifted}
 use Rattle.zone_bytes.specs.Decode.{zone_in}
 use Rattle.zone_bytes.specs.Edges.{AreEdges}
 use Rattle.zone_bytes.specs.Table.{slot_in}
-use Rattle.zone_bytes.specs.Beside.{rest_in}
-use Rattle.zone_bytes.proofs.Laws.Lawful.{rest-made, kept-made}
+use Rattle.zone_bytes.proofs.Laws.Lawful.{rest-made, rest-placed, kept-made}
 use Rattle.zone_bytes.proofs.Runs.RunsAt.{lay-is, lay-bytes, may-end}
 use Rattle.zone_bytes.proofs.Runs.Changed.{ChangedRun, if-one, replaced-run}
 use Rattle.zone_bytes.proofs.Runs.RaisedAt.{room-run, may-lift, lifted-run, lifted-zone}
 use Rattle.zone_bytes.proofs.Places.Walks.{free_span-le}
 use Rattle.zone_bytes.proofs.Runs.Edged.{lifted-edges}
 use Rattle.zone_marks.proofs.Marks.Owed.{with-marks}
-use Rattle.raw_zone.specs.Parted.{zone_of, rest_of}
+use Rattle.raw_zone.specs.Parted.{zone_of}
 use Rattle.raw_zone.proofs.zone.RawZoneBlockStore.raise.Goals as goal
 use Rattle.raw_zone.proofs.zone.RawZoneBlockStore.raise.Goals.{After-raise_run-stop}
 
@@ -86,10 +84,11 @@ returns-clause-ok c =
 pub returns-clause-rest : goal.returns-clause-rest
 returns-clause-rest c =
     let d = done (goal.at.returns-clause-rest c).After-raise_run-stop in
-    subst (λ v. IsRest (rest_of v) (rest_in c.raise_run-stop.new.part c.self.inside.unused c.self.inside.moves))
-    c.self.view_is
+    rw (← c.self.view_is) (rest-placed _ c.raise_run-stop.new.part c.self.inside.unused c.self.inside.moves
+    c.self.inside.placings c.saturating_add-self-inside.result
     (rest-made c.self.inside.part c.raise_run-stop.new.part (slot_in c.self.inside.part.bytes) c.self.inside.unused
-    c.self.inside.moves d.2.made.slots d.2.masters c.raise_run-stop.ensures.same)
+    c.self.inside.moves c.self.inside.placings d.2.made.slots d.2.masters c.raise_run-stop.ensures.same)
+    (omega (arith, c.saturating_add-self-inside.ensures)))
 
 pub note_packed-requires-clause-edges : goal.note_packed-requires-clause-edges
 note_packed-requires-clause-edges c =

@@ -172,8 +172,8 @@ returns-clause-rest c =
     c.args.place c.args.bytes c.self.invariant.sound a.0 a.1 a.3 a.2 c.resize_block-resized.ensures.cut
     c.resize_block-resized.ensures.grown in
     subst (λ v. IsRest (rest_of v) (rest_in c.resize_block-resized.new.part c.self.inside.unused
-    c.self.inside.moves))
+    c.self.inside.moves c.self.inside.placings))
     c.self.view_is
     (rest-made c.self.inside.part c.resize_block-resized.new.part (slot_in c.self.inside.part.bytes)
-    c.self.inside.unused c.self.inside.moves r.made.slots (ap (count is_masters) r.made.zone ∙ r.masters)
+    c.self.inside.unused c.self.inside.moves c.self.inside.placings r.made.slots (ap (count is_masters) r.made.zone ∙ r.masters)
     c.resize_block-resized.ensures.same)

@@ -39,10 +39,10 @@ pub returns-clause-rest : goal.returns-clause-rest
 returns-clause-rest c =
     let m = done c in
     subst (λ v. IsRest (with_slot c.self.inside.first (Used false) (c.self.inside.unused - 1) (rest_of v))
-    (rest_in c.take_slot-self-inside.new.part (c.self.inside.unused - 1) c.self.inside.moves)) c.self.view_is
+    (rest_in c.take_slot-self-inside.new.part (c.self.inside.unused - 1) c.self.inside.moves c.self.inside.placings)) c.self.view_is
     (rest-made c.self.inside.part c.take_slot-self-inside.new.part
     (set_slot (slot_in c.self.inside.part.bytes) c.self.inside.first (Used false))
-    (c.self.inside.unused - 1) c.self.inside.moves m.slots
+    (c.self.inside.unused - 1) c.self.inside.moves c.self.inside.placings m.slots
     (ap (count is_masters) m.zone) c.take_slot-self-inside.ensures.same)
 
 pub returns-clause-zone : goal.returns-clause-zone

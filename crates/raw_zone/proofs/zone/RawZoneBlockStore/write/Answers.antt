@@ -122,10 +122,10 @@ returns-clause-rest c =
     (whole c.self.inside.part.bytes c.self.inside.first c.self.inside.unused c.self.invariant.sound c.args.place
     a.0 a.1) (low c.self.inside.part.bytes c.self.inside.first c.self.inside.unused c.self.invariant.sound
     c.args.place a.0 a.1) a.2 in
-    subst (λ v. IsRest (rest_of v) (rest_in c.put_bytes.new.part c.self.inside.unused c.self.inside.moves))
+    subst (λ v. IsRest (rest_of v) (rest_in c.put_bytes.new.part c.self.inside.unused c.self.inside.moves c.self.inside.placings))
     c.self.view_is
     (rest-made c.self.inside.part c.put_bytes.new.part (slot_in c.self.inside.part.bytes) c.self.inside.unused
-    c.self.inside.moves (rw c.put_bytes.ensures.bytes m.slots)
+    c.self.inside.moves c.self.inside.placings (rw c.put_bytes.ensures.bytes m.slots)
     (ap (λ ys. count is_masters (zone_in ys)) c.put_bytes.ensures.bytes ∙ ap (count is_masters) m.zone
     ∙ masters-kept (written c.args.from c.args.bytes.now (content_of a.0.here)) a.0.below a.0.here a.0.above
     ∙ ap (count is_masters) (sym (whole c.self.inside.part.bytes c.self.inside.first c.self.inside.unused

@@ -1,6 +1,6 @@
-use Rattle.std.proofs.Common.{◌∙◌, sym}
+use Rattle.std.proofs.Common.{◌∙◌, sym, refl}
 use Rattle.res_calls.specs.Given.{managers}
-use Rattle.res_calls.proofs.LastOpened.{leaves-lies, leaves_next}
+use Rattle.res_calls.proofs.LastOpened.{leaves-lies, leaves_next, one_more, stops_there, on_any_err}
 use Rattle.res_calls.proofs.files.Resources.leave_each.Goals as goal
 
 pub returns-in_err-next-clause-lies : goal.returns-in_err-next-clause-lies
@@ -20,5 +20,15 @@ loop-alloc-preserved g c = record {
       (managers c.leave_last.new.self c.leave_last.new.heap) (managers c.args.self.now c.args.heap.now)
       (sym c.has_own.ensures ∙ c.loop-alloc-test.true) c.in_ok-next.ensures.code c.in_ok-next.ensures.after
       c.loop-alloc.invariant.leaves);
+  some = one_more (managers c.loop-alloc.self c.loop-alloc.heap)
+      (managers c.leave_last.new.self c.leave_last.new.heap) (managers c.args.self.now c.args.heap.now)
+      c.in_ok-next.ensures.after c.loop-alloc.invariant.some;
   undone = c.in_ok-next.ensures.undone ∙ c.loop-alloc.invariant.undone;
 }
+
+pub returns-in_err-next-clause-stopped : goal.returns-in_err-next-clause-stopped
+returns-in_err-next-clause-stopped g c =
+    on_any_err c.from_residual.result _
+    (stops_there (managers c.loop-alloc.self c.loop-alloc.heap) (managers c.leave_last.new.self c.leave_last.new.heap)
+    (managers c.args.self.now c.args.heap.now) (sym c.has_own.ensures ∙ c.loop-alloc-test.true)
+    (rw (c.in_err-next.ensures.kept, c.in_err-next.ensures.heap) refl) c.loop-alloc.invariant.some)

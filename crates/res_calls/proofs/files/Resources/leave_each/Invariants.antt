@@ -1,14 +1,15 @@
 use Rattle.std.proofs.Common.{◌≡◌, length}
 use Rattle.res_calls.specs.Given.{managers}
 use Rattle.res_calls.specs.Undoing.{undone}
-use Rattle.res_calls.proofs.LastOpened.{Leaves}
+use Rattle.res_calls.proofs.LastOpened.{Leaves, LeftSome}
 use Rattle.res_calls.proofs.files.Resources.leave_each.Given as goal
 
--- the code so far and the code of the rest is the code of all, and the rest is left as all is; the files with what was
--- replaced so far are the files as they were
+-- the code so far and the code of the rest is the code of all, and the rest is left as all is; some files were left; the
+-- files with what was replaced so far are the files as they were
 abbrev pub invariant-loop-alloc : goal.invariant-loop-alloc
 invariant-loop-alloc g l = record {
   leaves : Leaves l.code (managers l.self l.heap) (managers l.fn.self l.fn.heap);
+  some : LeftSome (managers l.self l.heap) (managers l.fn.self l.fn.heap);
   undone : undone l.undo.items l.self.files ≡ undone l.fn.undo.items l.fn.self.files;
 }
 

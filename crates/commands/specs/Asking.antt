@@ -1,0 +1,89 @@
+use Rattle.std.specs.Prelude.{◌≡◌, ◌⊎◌, ℕ, Option, Some, None, List, [], ◌∷◌, ◌++◌, codes}
+use Rattle.fork_commands.specs.declared.work.ForkWork.{ForkWork}
+use Rattle.fork_commands.specs.declared.work.ForkWork.TheVariants.{Get, Rewrite, Derez, Rez}
+use Rattle.fork_commands.specs.declared.pair.PairWork.{PairWork}
+use Rattle.fork_commands.specs.declared.pair.PairWork.TheVariants.{Set, Diff}
+use Rattle.commands.specs.declared.delivering.Target.{Target}
+use Rattle.commands.specs.declared.delivering.Target.TheVariants.{Printed, NewFile}
+use Rattle.commands.specs.declared.tasks.Work.{Work}
+use Rattle.commands.specs.declared.tasks.Work.TheVariants as work
+use Rattle.commands.specs.declared.request.Request.{Request}
+use Rattle.commands.specs.declared.request.Request.TheVariants.{Look, Run, Show, Convert, Combine, Extract}
+
+-- Which words of a command line ask for a request. The first word is the program's name, and the second the command's.
+
+-- The command that makes a request, by what is asked for, if there is one.
+abbrev pub look_word : Work → List ℕ
+look_word (work.Script size) = codes "script"
+look_word (work.Heap asked) = codes "heap"
+look_word (work.Map style) = codes "map"
+look_word work.Check = codes "check"
+
+abbrev pub print_word : ForkWork → Option (List ℕ)
+print_word (Get key) = Some (codes "get")
+print_word Derez = Some (codes "derez")
+print_word Rewrite = None
+print_word Rez = None
+
+abbrev pub write_word : ForkWork → Option (List ℕ)
+write_word Rewrite = Some (codes "rewrite")
+write_word Rez = Some (codes "rez")
+write_word (Get key) = None
+write_word Derez = None
+
+abbrev pub convert_word : ForkWork → Target → Option (List ℕ)
+convert_word w Printed = print_word w
+convert_word w (NewFile path) = write_word w
+
+abbrev pub combine_word : PairWork → Target → Option (List ℕ)
+combine_word Diff Printed = Some (codes "diff")
+combine_word Diff (NewFile path) = None
+combine_word (Set setting) Printed = None
+combine_word (Set setting) (NewFile path) = Some (codes "set")
+
+abbrev pub command_of : Request → Option (List ℕ)
+command_of (Look task) = Some (look_word task.work)
+command_of (Run errand) = Some (codes "run")
+command_of (Show zone) = Some (codes "heap")
+command_of (Convert c) = convert_word c.work c.target
+command_of (Combine c) = combine_word c.work c.target
+command_of (Extract e) = Some (codes "extract")
+
+-- The texts are words of the command line, in this order.
+abbrev pub StandIn : List (List ℕ) → List (List ℕ) → Type 0
+StandIn words [] = Unit {0}
+StandIn words (text ∷ texts) =
+    (before : List (List ℕ)) × (rest : List (List ℕ)) × (words ≡ before ++ text ∷ rest) × StandIn rest texts
+
+-- An option has this value: the value is the word after the option's, or stands after `=` in one word with it.
+abbrev pub HasValue : List (List ℕ) → List ℕ → List ℕ → Type 0
+HasValue words option value = StandsAfter words ⊎ StandsWithin words
+  where
+    StandsAfter : List (List ℕ) → Type 0
+    StandsAfter words = (before : List (List ℕ)) × (rest : List (List ℕ)) × (words ≡ before ++ option ∷ value ∷ rest)
+
+    StandsWithin : List (List ℕ) → Type 0
+    StandsWithin words = StandIn words ((option ++ codes "=" ++ value) ∷ [])
+
+-- The path of a new file, if what is made goes into one.
+abbrev pub path_in : Target → List (List ℕ)
+path_in Printed = []
+path_in (NewFile path) = path.now ∷ []
+
+-- The words after the command's name all that the request names, in the order of the command's arguments.
+abbrev pub Names : Request → List (List ℕ) → Type 0
+Names (Look task) words = StandIn words (task.path.now ∷ [])
+Names (Run errand) words = StandIn words (errand.job.now ∷ errand.out.now ∷ [])
+Names (Show zone) words = HasValue words (codes "--job") zone.job.now × HasValue words (codes "--app") zone.app.now
+Names (Convert c) words = StandIn words (c.path.now ∷ path_in c.target)
+Names (Combine c) words = StandIn words (c.first.now ∷ c.second.now ∷ path_in c.target)
+Names (Extract e) words = StandIn words (e.fork.now ∷ e.out.now ∷ [])
+
+-- The words ask for the request.
+pub record IsAskedBy (words : List (List ℕ)) (request : Request) : Type 0 where
+  pub program : List ℕ
+  pub command : List ℕ
+  pub rest : List (List ℕ)
+  pub split : words ≡ program ∷ command ∷ rest
+  pub commanded : command_of request ≡ Some command
+  pub named : Names request rest

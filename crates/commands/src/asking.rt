@@ -1,0 +1,194 @@
+//! Whether the words of a command line ask for a request: a test of what the parser of the words answers.
+
+ghost use Rattle.std.specs.Prelude.{◌≡◌, ◌≤◌, ◌++◌, ◌∷◌, [], ℕ, List, map, drop, length, option_map, codes, IsTrue};
+ghost use Rattle.commands.specs.Asking.{look_word, print_word, write_word, convert_word, combine_word, command_of};
+ghost use Rattle.commands.specs.Asking.{StandIn, HasValue, Names, IsAskedBy, path_in};
+
+use crate::delivering::Target;
+use crate::request::Request;
+use crate::tasks::Work;
+use fork_commands::{ForkWork, PairWork};
+
+/// Returns the command that prints something of a file.
+fn look_word(work: Work) -> &'static str
+    ensures { result.now ≡ look_word work }
+{
+    match work {
+        Work::Script(_) => "script",
+        Work::Heap(_) => "heap",
+        Work::Map(_) => "map",
+        Work::Check => "check",
+    }
+}
+
+/// Returns the command that prints what a work makes of a file.
+fn print_word(work: ForkWork) -> Option<&'static str>
+    ensures { option_map (λ word. word.now) result ≡ print_word work }
+{
+    match work {
+        ForkWork::Get(_) => Some("get"),
+        ForkWork::Derez => Some("derez"),
+        ForkWork::Rewrite => None,
+        ForkWork::Rez => None,
+    }
+}
+
+/// Returns the command that writes what a work makes of a file into a new one.
+fn write_word(work: ForkWork) -> Option<&'static str>
+    ensures { option_map (λ word. word.now) result ≡ write_word work }
+{
+    match work {
+        ForkWork::Rewrite => Some("rewrite"),
+        ForkWork::Rez => Some("rez"),
+        ForkWork::Get(_) => None,
+        ForkWork::Derez => None,
+    }
+}
+
+/// Returns the command that makes something of a file.
+fn convert_word(work: ForkWork, target: Target<'_>) -> Option<&'static str>
+    ensures { option_map (λ word. word.now) result ≡ convert_word work target.entry }
+{
+    match target {
+        Target::Printed => print_word(work),
+        Target::NewFile(_) => write_word(work),
+    }
+}
+
+/// Returns the command that makes something of two files.
+fn combine_word(work: PairWork<'_>, target: Target<'_>) -> Option<&'static str>
+    ensures { option_map (λ word. word.now) result ≡ combine_word work.entry target.entry }
+{
+    match work {
+        PairWork::Diff => match target {
+            Target::Printed => Some("diff"),
+            Target::NewFile(_) => None,
+        },
+        PairWork::Set(_) => match target {
+            Target::Printed => None,
+            Target::NewFile(_) => Some("set"),
+        },
+    }
+}
+
+/// Returns the command that makes a request, if there is one.
+fn command_of(request: &Request<'_>) -> Option<&'static str>
+    ensures { option_map (λ word. word.now) result ≡ command_of request.now }
+{
+    match request {
+        Request::Look(task) => Some(look_word(task.work)),
+        Request::Run(_) => Some("run"),
+        Request::Show(_) => Some("heap"),
+        Request::Convert(conversion) => convert_word(conversion.work, conversion.target),
+        Request::Combine(combination) => combine_word(combination.work, combination.target),
+        Request::Extract(_) => Some("extract"),
+    }
+}
+
+/// Returns how many of the texts are found with a further word, of which so many are found before it.
+fn found_with(word: &str, texts: &[&str], found: usize) -> usize
+    requires few { found ≤ length texts.now }
+    ensures few { result ≤ length texts.entry.now }
+    ensures so_far { (words : List (List ℕ)) → StandIn words (map (λ t. t.now) (drop result texts.entry.now))
+        → StandIn (word.now ∷ words) (map (λ t. t.now) (drop found texts.entry.now)) }
+{
+    if found < texts.len() && word == texts[found] {
+        return found + 1;
+    }
+    found
+}
+
+/// Reports whether texts are words, in their order.
+fn stand_in(words: &[&str], texts: &[&str]) -> bool
+    ensures { IsTrue result → StandIn (map (λ w. w.now) words.entry.now) (map (λ t. t.now) texts.entry.now) }
+{
+    let mut found = 0;
+    for word in words {
+        found = found_with(*word, texts, found);
+    }
+    found == texts.len()
+}
+
+/// Reports whether a word begins so and has nothing but a value after it.
+fn ends_in(word: &str, begin: &str, value: &str) -> bool
+    ensures { IsTrue result → word.now ≡ begin.now ++ value.now }
+{
+    match word.as_bytes().strip_prefix(begin.as_bytes()) {
+        Some(rest) => rest == value.as_bytes(),
+        None => false,
+    }
+}
+
+/// Reports whether an option has a value; `begin` is the option with `=` after it.
+fn has_value(words: &[&str], option: &str, begin: &str, value: &str) -> bool
+    requires { begin.now ≡ option.now ++ codes "=" }
+    ensures { IsTrue result → HasValue (map (λ w. w.now) words.entry.now) option.now value.now }
+{
+    for i in 0..words.len() {
+        if ends_in(words[i], begin, value) {
+            return true;
+        }
+        if i + 1 < words.len() && words[i] == option && words[i + 1] == value {
+            return true;
+        }
+    }
+    false
+}
+
+/// Reports whether a path and that of a new file, if what is made goes into one, are words, in this order.
+fn stand_with(words: &[&str], path: &str, target: Target<'_>) -> bool
+    ensures { IsTrue result → StandIn (map (λ w. w.now) words.entry.now) (path.now ∷ path_in target.entry) }
+{
+    match target {
+        Target::Printed => stand_in(words, &[path]),
+        Target::NewFile(out) => stand_in(words, &[path, out]),
+    }
+}
+
+/// Reports whether two paths and that of a new file, if what is made goes into one, are words, in this order.
+fn both_stand_with(words: &[&str], first: &str, second: &str, target: Target<'_>) -> bool
+    ensures { IsTrue result
+        → StandIn (map (λ w. w.now) words.entry.now) (first.now ∷ second.now ∷ path_in target.entry) }
+{
+    match target {
+        Target::Printed => stand_in(words, &[first, second]),
+        Target::NewFile(out) => stand_in(words, &[first, second, out]),
+    }
+}
+
+/// Reports whether words name all that a request names.
+fn names(words: &[&str], request: &Request<'_>) -> bool
+    ensures { IsTrue result → Names request.now (map (λ w. w.now) words.entry.now) }
+{
+    match request {
+        Request::Look(task) => stand_in(words, &[task.path]),
+        Request::Run(errand) => stand_in(words, &[errand.job, errand.out]),
+        Request::Show(zone) => {
+            has_value(words, "--job", "--job=", zone.job)
+                && has_value(words, "--app", "--app=", zone.app)
+        }
+        Request::Convert(conversion) => stand_with(words, conversion.path, conversion.target),
+        Request::Combine(combination) => {
+            both_stand_with(
+                words,
+                combination.first,
+                combination.second,
+                combination.target,
+            )
+        }
+        Request::Extract(extraction) => stand_in(words, &[extraction.fork, extraction.out]),
+    }
+}
+
+/// Reports whether the words of a command line ask for a request.
+pub fn is_asked(words: &[&str], request: &Request<'_>) -> bool
+    ensures { IsTrue result → IsAskedBy (map (λ w. w.now) words.entry.now) request.now }
+{
+    let Some(command) = command_of(request) else {
+        return false;
+    };
+    match words {
+        [_, word, rest @ ..] => *word == command && names(rest, request),
+        _ => false,
+    }
+}

@@ -1,0 +1,4 @@
+pub mod Filled
+pub mod Paths
+pub mod Calls
+pub mod Loose

@@ -1,0 +1,341 @@
+-- What a new handle with a block makes of a heap in which each block is of a handle that was given.
+use Rattle.std.proofs.Common.{◌≡◌, ◌⊎◌, inl, inr, ℕ, ◌+◌, ◌≤◌, ◌<◌, ◌==◌, Bool, true, false, List, [], ◌∷◌, ◌++◌, length}
+use Rattle.std.proofs.Common.{refl, sym, ◌∙◌, ap, subst, cond, arith, Some, Ok, nat_lt, length-append}
+use Rattle.std.proofs.lemmas.Bool.{cond-true, cond-false}
+use Rattle.std.proofs.lemmas.Bool.Decides.{Decides-eqb, nat_tests}
+use Rattle.std.proofs.lemmas.Option.{same_Some}
+use Rattle.std.proofs.lemmas.Slice.Eq.{bytes_eq-Decides}
+use Rattle.std.specs.Prelude.{bytes_eq}
+use Rattle.block_store.specs.declared.flags.Flags.{Flags}
+use Rattle.block_store.specs.Block.{Block, Free, Nonrelocatable, Masters, Relocatable, size, sizes, total, count, is_relocatable, content_of}
+use Rattle.block_store.specs.Run.{has}
+use Rattle.block_store.specs.Room.{put_at_base, put_in_place, purge, place, filled, room}
+use Rattle.block_store.proofs.Zone.Keeping.{base-le, room-le, filled-is}
+use Rattle.block_store.proofs.Zone.Leading.{count-none}
+use Rattle.block_store.proofs.Zone.Passing.{has-count}
+use Rattle.block_store.proofs.Zone.Views.{map-some, room-some}
+use Rattle.heap_calls.specs.State.{State, Memory, Meaning, Role, Handle, used_slots, all_slots}
+use Rattle.heap_calls.specs.Answer.{Answer, nothing}
+use Rattle.heap_calls.specs.Gone.{Gone, gone_of}
+use Rattle.heap_calls.specs.Inside.{has_block, new_filled}
+use Rattle.heap_calls.specs.Path.{Step, NewFilled, stepped, gone_at, read_new}
+use Rattle.heap_calls.specs.Slots.{slotted, more_masters}
+use Rattle.heap_calls.specs.ToldGone.{told_of, bytes_in}
+use Rattle.heap_calls.proofs.Steps.Standstill.{step-bytes}
+use Rattle.heap_calls.proofs.Steps.Ways.{Fits, filled-goes, slotted-names}
+use Rattle.heap_calls.proofs.ToldGone.Bounds.{step-most}
+use Rattle.heap_calls.proofs.ToldGone.Sums.{Adds}
+use Rattle.res_calls.specs.ToldGone.{IsWhole}
+
+-- what bytes come to, each by a measure, and how many there are
+abbrev pub weigh : (List ℕ → ℕ) → List (List ℕ) → ℕ
+weigh f [] = 0
+weigh f (x ∷ xs) = f x + weigh f xs
+
+abbrev pub many : List (List ℕ) → ℕ
+many = weigh (λ x. 1)
+
+-- what the blocks of a handle come to, by their bytes
+abbrev pub held : (List ℕ → ℕ) → ℕ → Block → ℕ
+held f h b = cond (is_relocatable h b) (f (content_of b)) 0
+
+pub held-bytes : (f : List ℕ → ℕ) (h : ℕ) (zone : List Block) → total (held f h) zone ≡ weigh f (bytes_in h zone)
+held-bytes f h [] = refl
+held-bytes f h (b ∷ zone) = cases (is_relocatable h b) (held-bytes f h zone)
+  where
+    cases : (t : Bool) → total (held f h) zone ≡ weigh f (bytes_in h zone)
+        → cond t (f (content_of b)) 0 + total (held f h) zone
+        ≡ weigh f (cond t (content_of b ∷ bytes_in h zone) (bytes_in h zone))
+    cases true r = omega arith
+    cases false r = omega arith
+
+pub many-none : (xs : List (List ℕ)) → many xs ≤ 0 → xs ≡ []
+many-none [] le = refl
+many-none (x ∷ xs) le = absurd (omega arith)
+
+pub many-length : (xs : List (List ℕ)) → many xs ≡ length xs
+many-length [] = refl
+many-length (x ∷ xs) = omega (arith, many-length xs)
+
+-- a handle without a block
+pub none-bytes : (h : ℕ) (zone : List Block) → has (is_relocatable h) zone ≡ false → bytes_in h zone ≡ []
+none-bytes h zone none = many-none (bytes_in h zone)
+    (omega (arith, held-bytes (λ x. 1) h zone, count-none (is_relocatable h) zone none))
+
+-- whether a test passes, by how many pass
+pub has-not : (test : Block → Bool) (zone : List Block) → count test zone ≤ 0 → has test zone ≡ false
+has-not test zone none = cases (has test zone) refl
+  where
+    cases : (t : Bool) → has test zone ≡ t → t ≡ false
+    cases true e = absurd (let c = has-count test zone e in omega arith)
+    cases false e = refl
+
+pub has-one : (test : Block → Bool) (zone : List Block) → 1 ≤ count test zone → has test zone ≡ true
+has-one test zone some = cases (has test zone) refl
+  where
+    cases : (t : Bool) → has test zone ≡ t → t ≡ true
+    cases true e = refl
+    cases false e = absurd (let c = count-none test zone e in omega arith)
+
+-- two lists of one thing at most, the first of one, that by any measure comes to no more
+abbrev other : List ℕ → List ℕ → ℕ
+other y z = cond (bytes_eq z y) 0 1
+
+other-same : (x y : List ℕ) → other y x ≤ 0 → x ≡ y
+other-same x y le = cases (bytes_eq x y) refl le
+  where
+    cases : (t : Bool) → bytes_eq x y ≡ t → cond {A = ℕ} t 0 1 ≤ 0 → x ≡ y
+    cases true e le = (bytes_eq-Decides x y).0 e
+    cases false e le = absurd (let f : 1 ≤ 0 = le in omega arith)
+
+pub same-one : (xs ys : List (List ℕ)) → many ys ≤ 1 → 1 ≤ many xs → ((f : List ℕ → ℕ) → weigh f xs ≤ weigh f ys)
+    → xs ≡ ys
+same-one [] ys few some each = absurd (omega arith)
+same-one (x ∷ more) [] few some each = absurd (let l = each (λ z. 1) in omega arith)
+same-one (x ∷ more) (y ∷ others) few some each =
+    let l = each (λ z. 1) in
+    let none_other : others ≡ [] = many-none others (omega arith) in
+    let none_more : more ≡ [] = many-none more (omega arith) in
+    let own : other y y ≡ 0 = cond-true (bytes_eq y y) 0 1 ((bytes_eq-Decides y y).1 refl) in
+    let le = each (other y) in
+    let others_none : weigh (other y) others ≡ 0 = ap (weigh (other y)) none_other in
+    let same : x ≡ y = other-same x y (omega (arith, le, own, others_none)) in
+    ap (λ (l : List (List ℕ)). x ∷ l) none_more ∙ ap (λ (z : List ℕ). z ∷ []) same
+    ∙ ap (λ (l : List (List ℕ)). y ∷ l) (sym none_other)
+
+-- what is said of one list and of another
+pub told-append : (h : ℕ) (xs ys : List Gone) → told_of h (xs ++ ys) ≡ told_of h xs ++ told_of h ys
+told-append h [] ys = refl
+told-append h (g ∷ xs) ys = cases (g.0 == h) (told-append h xs ys)
+  where
+    cases : (t : Bool) → told_of h (xs ++ ys) ≡ told_of h xs ++ told_of h ys
+        → cond t (g.1 ∷ told_of h (xs ++ ys)) (told_of h (xs ++ ys))
+        ≡ cond t (g.1 ∷ told_of h xs) (told_of h xs) ++ told_of h ys
+    cases true r = ap (λ (l : List (List ℕ)). g.1 ∷ l) r
+    cases false r = r
+
+pub told-adds : (h : ℕ) → Adds (λ l. many (told_of h l))
+told-adds h [] ys = omega arith
+told-adds h (g ∷ xs) ys = cases (g.0 == h) (told-adds h xs ys)
+  where
+    cases : (t : Bool) → many (told_of h (xs ++ ys)) ≡ many (told_of h xs) + many (told_of h ys)
+        → many (cond t (g.1 ∷ told_of h (xs ++ ys)) (told_of h (xs ++ ys)))
+        ≡ many (cond t (g.1 ∷ told_of h xs) (told_of h xs)) + many (told_of h ys)
+    cases true r = omega arith
+    cases false r = omega arith
+
+-- a step says nothing of a number that was not given
+pub step-beyond : (step : Step) (m : Memory) (h : ℕ) → length m.heap.names ≤ h → told_of h (gone_at step m) ≡ []
+step-beyond step m h high =
+    let most = step-most n (λ b. 0) (λ k. refl) refl (λ l. many (told_of h l)) refl (told-adds h)
+    (λ b goes. one b) step m refl in
+    many-none (told_of h (gone_at step m)) (omega (arith, most, unseen m.heap.zone))
+  where
+    n : ℕ
+    n = length m.heap.names
+
+    unseen : (zone : List Block) → total (λ b. 0) zone ≡ 0
+    unseen [] = refl
+    unseen (b ∷ zone) = omega (arith, unseen zone)
+
+    one : (b : Block) → many (told_of h (gone_of n b)) ≤ 0
+    one (Free k) = omega arith
+    one (Nonrelocatable id content) = omega arith
+    one Masters = omega arith
+    one (Relocatable id flags content) = cases (nat_lt id n) (id == h) refl refl
+      where
+        cases : (t u : Bool) → nat_lt id n ≡ t → (id == h) ≡ u → many (told_of h (cond t ((id, content) ∷ []) [])) ≤ 0
+        cases true true is same =
+            absurd (let e : id ≡ h = (Decides-eqb id h).0 same in grind (arith, nat_tests, is, high))
+        cases true false is same =
+            let z : many (told_of h ((id, content) ∷ [])) ≡ 0 = ap {B = ℕ} (λ (u : Bool). many (cond u (content ∷ []) []))
+            same in omega (arith, z)
+        cases false u is same = omega arith
+
+-- what a new block leaves, by a measure
+abbrev pub Sees : (Block → ℕ) → Type 0
+Sees of = ((n : ℕ) → of (Free n) ≡ 0) × (of Masters ≡ 0)
+
+slot-most : (of : Block → ℕ) → Sees of → (s r : State) → slotted nothing s ≡ Some r → total of r.zone ≤ total of s.zone
+slot-most of sees s r e = by_slots (nat_lt (used_slots s) (all_slots s)) e
+  where
+    by_slots : (t : Bool) → cond t (Some s) (more_masters nothing s) ≡ Some r → total of r.zone ≤ total of s.zone
+    by_slots true e = let same : s ≡ r = same_Some _ _ e in omega (arith, ap (λ (x : State). total of x.zone) same)
+    by_slots false e =
+        map-some (λ zone. record s { zone = zone }) (room (put_at_base Masters) nothing s.zone) r
+        (total of r.zone ≤ total of s.zone) e
+        (λ zone made is. let b = base-le of sees.0 Masters nothing s.zone zone made in
+        omega (arith, sees.1, ap (λ (x : State). total of x.zone) is))
+
+-- it is there
+fits-there : (of : Block → ℕ) → Sees of → (new : Block) (zone z : List Block)
+    → room (put_in_place new) nothing zone ≡ Some z → of new ≤ total of z
+fits-there of sees new zone z fits =
+    let r = room-some (put_in_place new) nothing zone z fits in
+    map-some (filled new) (place (size new) (purge r.0 nothing zone)) z (of new ≤ total of z) r.1
+    (λ s found is. omega (arith, ap (total of) is, filled-is of sees.0 new s))
+
+-- no handle was made; or the next number is a handle's, with the bytes in its block
+pub record Unmade (s : State) (x : List ℕ) (a : Answer ℕ) : Type 0 where
+  pub names : length a.1.names ≡ length s.names
+  pub read : read_new x a.0 ≡ []
+  pub most : (of : Block → ℕ) → Sees of → total of a.1.zone ≤ total of s.zone
+
+pub record Made (flags : Flags) (s : State) (x : List ℕ) (a : Answer ℕ) : Type 0 where
+  pub names : length a.1.names ≡ length s.names + 1
+  pub read : read_new x a.0 ≡ (length s.names, x) ∷ []
+  pub most : (of : Block → ℕ) → Sees of
+      → total of a.1.zone ≤ of (Relocatable (length s.names) flags x) + total of s.zone
+  pub there : has_block (length s.names) a.1 ≡ true
+
+abbrev pub Way : Flags → State → List ℕ → Answer ℕ → Type 0
+Way flags s x a = Unmade s x a ⊎ Made flags s x a
+
+pub way : (role : Role) (flags : Flags) (x : List ℕ) (s : State) → Way flags s x (new_filled role flags x s)
+way role flags x s = filled-goes (Way flags s x) role flags x s
+    (λ is. inl (record { names = refl; read = refl; most = λ of sees. omega arith }))
+    (λ r is. inl (record {
+      names = ap {B = ℕ} (λ (ns : List Meaning). length ns) (slotted-names s r is);
+      read = refl;
+      most = λ of sees. slot-most of sees s r is;
+    }))
+    (λ r z is fits. inr (made r z is fits))
+  where
+    made : (r : State) (z : List Block) → slotted nothing s ≡ Some r → Fits (length r.names) flags x r.zone z
+        → Made flags s x (Ok (length r.names), record { zone = z; names = r.names ++ Handle role ∷ [] })
+    made r z is fits =
+        let same : length r.names ≡ length s.names =
+        ap {B = ℕ} (λ (ns : List Meaning). length ns) (slotted-names s r is) in
+        let new : Block = Relocatable (length s.names) flags x in
+        let room_is : room (put_in_place new) nothing r.zone ≡ Some z =
+        subst (λ (k : ℕ). Fits k flags x r.zone z) same fits in
+        record {
+          names = length-append r.names (Handle role ∷ []) ∙ (omega (arith, same));
+          read = ap (λ (k : ℕ). (k, x) ∷ []) same;
+          most = λ of sees. let a = slot-most of sees s r is in
+              let b = room-le of sees.0 new nothing r.zone z room_is in omega arith;
+          there = has-one (is_relocatable (length s.names)) z
+              (let c = fits-there (λ b. cond (is_relocatable (length s.names) b) 1 0) ((λ n. refl), refl) new r.zone z room_is
+              in omega (arith, c, own (length s.names) flags x));
+        }
+      where
+        own : (k : ℕ) (flags : Flags) (x : List ℕ)
+            → cond {A = ℕ} (is_relocatable k (Relocatable k flags x)) 1 0 ≡ 1
+        own k flags x = cond-true (k == k) 1 0 ((Decides-eqb k k).1 refl)
+
+-- a number that was not given has no block
+pub ungiven : (h : ℕ) (s : State) → IsWhole s → length s.names ≤ h → has_block h s ≡ false
+ungiven h s whole high = cases (has_block h s) refl
+  where
+    cases : (t : Bool) → has_block h s ≡ t → t ≡ false
+    cases true e = absurd (let l = whole.given h e in omega arith)
+    cases false e = refl
+
+-- the heap stays whole
+abbrev one : ℕ → Block → ℕ
+one h b = cond (is_relocatable h b) 1 0
+
+one-sees : (h : ℕ) → Sees (one h)
+one-sees h = ((λ n. refl), refl)
+
+other-unseen : (h k : ℕ) (flags : Flags) (x : List ℕ) → (k == h) ≡ false → one h (Relocatable k flags x) ≡ 0
+other-unseen h k flags x other = cond-false (k == h) 1 0 other
+
+whole-from : (m after : Memory) (more : ℕ) → IsWhole m.heap → sizes after.heap.zone ≡ sizes m.heap.zone
+    → length after.heap.names ≡ length m.heap.names + more
+    → ((h : ℕ) → count (is_relocatable h) after.heap.zone ≤ 1)
+    → ((h : ℕ) → length m.heap.names + more ≤ h → count (is_relocatable h) after.heap.zone ≤ 0) → IsWhole after.heap
+whole-from m after more whole same names once none = record {
+  once = once;
+  given = λ h here. by_number h here (nat_lt h (length m.heap.names + more)) refl;
+  small = let s = whole.small in omega arith;
+}
+  where
+    by_number : (h : ℕ) → has_block h after.heap ≡ true → (t : Bool) → nat_lt h (length m.heap.names + more) ≡ t
+        → h < length after.heap.names
+    by_number h here true e = let l : h < length m.heap.names + more = grind (arith, nat_tests, e) in omega arith
+    by_number h here false e = absurd (
+        let l : length m.heap.names + more ≤ h = grind (arith, nat_tests, e) in
+        let z = none h l in
+        let c = has-count (is_relocatable h) after.heap.zone here in
+        omega arith)
+
+pub whole-filled : (role : Role) (flags : Flags) (x : List ℕ) (m : Memory) → IsWhole m.heap
+    → Way flags m.heap x (new_filled role flags x m.heap) → IsWhole (stepped (NewFilled role flags x) m).heap
+whole-filled role flags x m whole (inl w) =
+    whole-from m (stepped (NewFilled role flags x) m) 0 whole (step-bytes (NewFilled role flags x) m)
+    (omega (arith, w.names))
+    (λ h. let l = w.most (one h) (one-sees h) in let o = whole.once h in omega arith)
+    (λ h high. let l = w.most (one h) (one-sees h) in
+    let z = count-none (is_relocatable h) m.heap.zone (ungiven h m.heap whole (omega arith)) in omega arith)
+whole-filled role flags x m whole (inr w) =
+    whole-from m (stepped (NewFilled role flags x) m) 1 whole (step-bytes (NewFilled role flags x) m) w.names
+    (λ h. by_own h (n == h) refl)
+    (λ h high. let l = w.most (one h) (one-sees h) in
+    let z = count-none (is_relocatable h) m.heap.zone (ungiven h m.heap whole (omega arith)) in
+    omega (arith, other-unseen h n flags x (grind (arith, nat_tests, high))))
+  where
+    n : ℕ
+    n = length m.heap.names
+
+    at_most : (t : Bool) → cond {A = ℕ} t 1 0 ≤ 1
+    at_most true = omega arith
+    at_most false = omega arith
+
+    by_own : (h : ℕ) (t : Bool) → (n == h) ≡ t
+        → count (is_relocatable h) (stepped (NewFilled role flags x) m).heap.zone ≤ 1
+    by_own h true e =
+        let l = w.most (one h) (one-sees h) in
+        let same : n ≡ h = (Decides-eqb n h).0 e in
+        let z = count-none (is_relocatable h) m.heap.zone (ungiven h m.heap whole (omega (arith, same))) in
+        let a = at_most (n == h) in
+        omega arith
+    by_own h false e =
+        let l = w.most (one h) (one-sees h) in let o = whole.once h in
+        omega (arith, other-unseen h n flags x e)
+
+-- a handle that was given before, after a new one was made: one that has a block has the bytes that it had, and one that
+-- has none gets none
+pub kept-most : (role : Role) (flags : Flags) (x : List ℕ) (m : Memory) (of : Block → ℕ) → Sees of
+    → of (Relocatable (length m.heap.names) flags x) ≡ 0 → Way flags m.heap x (new_filled role flags x m.heap)
+    → total of (stepped (NewFilled role flags x) m).heap.zone ≤ total of m.heap.zone
+kept-most role flags x m of sees new (inl w) = w.most of sees
+kept-most role flags x m of sees new (inr w) = let l = w.most of sees in omega (arith, new)
+
+pub older-unseen : (f : List ℕ → ℕ) (h : ℕ) (flags : Flags) (x : List ℕ) (n : ℕ) → h < n
+    → held f h (Relocatable n flags x) ≡ 0
+older-unseen f h flags x n within = cond-false (n == h) (f x) 0 (grind (arith, nat_tests, within))
+
+pub kept-bytes : (h : ℕ) (role : Role) (flags : Flags) (x : List ℕ) (m : Memory) → IsWhole m.heap
+    → h < length m.heap.names → Way flags m.heap x (new_filled role flags x m.heap)
+    → has_block h (stepped (NewFilled role flags x) m).heap ≡ true
+    → bytes_in h (stepped (NewFilled role flags x) m).heap.zone ≡ bytes_in h m.heap.zone
+kept-bytes h role flags x m whole within w here =
+    same-one (bytes_in h after) (bytes_in h m.heap.zone)
+    (let o = whole.once h in omega (arith, held-bytes (λ z. 1) h m.heap.zone))
+    (let c = has-count (is_relocatable h) after here in omega (arith, held-bytes (λ z. 1) h after))
+    (λ f. let l = kept-most role flags x m (held f h) ((λ n. refl), refl)
+    (older-unseen f h flags x (length m.heap.names) within) w in
+    omega (arith, held-bytes f h after, held-bytes f h m.heap.zone))
+  where
+    after : List Block
+    after = (stepped (NewFilled role flags x) m).heap.zone
+
+-- the new one has the bytes that were read into its block
+pub new-bytes : (role : Role) (flags : Flags) (x : List ℕ) (m : Memory) → IsWhole m.heap
+    → Made flags m.heap x (new_filled role flags x m.heap)
+    → bytes_in (length m.heap.names) (stepped (NewFilled role flags x) m).heap.zone ≡ x ∷ []
+new-bytes role flags x m whole w =
+    same-one (bytes_in n after) (x ∷ []) (omega arith)
+    (let c = has-count (is_relocatable n) after w.there in omega (arith, held-bytes (λ z. 1) n after))
+    (λ f. let l = w.most (held f n) ((λ k. refl), refl) in
+    let none : weigh f (bytes_in n m.heap.zone) ≡ 0 =
+    ap (weigh f) (none-bytes n m.heap.zone (ungiven n m.heap whole (omega arith))) in
+    let own : held f n (Relocatable n flags x) ≡ f x = cond-true (n == n) (f x) 0 ((Decides-eqb n n).1 refl) in
+    omega (arith, held-bytes f n after, held-bytes f n m.heap.zone))
+  where
+    n : ℕ
+    n = length m.heap.names
+
+    after : List Block
+    after = (stepped (NewFilled role flags x) m).heap.zone
