@@ -40,7 +40,7 @@ impl<'s, S: BlockStore> Model for Application<'s, S> {
     ghost Value = { Running };
 
     ghost view = { λ a. record {
-      memory = a.heap;
+      memory = a.heap.memory;
       resources = a.resources;
       table = a.table;
       names = a.names;
@@ -87,7 +87,7 @@ impl<'s, S: BlockStore> Application<'s, S> {
 
     /// Returns the application's heap, to be read.
     pub fn heap(&self) -> &Heap<S>
-        ensures { result.now ≡ self.now.memory }
+        ensures { result.now.memory ≡ self.now.memory }
     {
         &self.heap
     }

@@ -77,7 +77,7 @@ pub(crate) fn shown_in<'a, S: BlockStore>(
     call: &ResourceCall,
 ) -> Option<&'a [u8]>
     ensures { option_map (λ bytes. bytes.now) result ≡ bytes_told (finds.served (resource_asked call.now names.now)
-        (managers resources.now heap.now)).told }
+        (managers resources.now heap.now.memory)).told }
 {
     match call {
         ResourceCall::ReadPartialResource(name, offset, count) => {
@@ -102,14 +102,14 @@ fn answered<S: BlockStore, K: PurgeSink>(
 ) -> Result<Tried, AllocError>
     requires idle { IsIdle K.told K.waits sink.old }
     ensures told { IfOk result (λ tried. TellsServed tried (finds.served (resource_asked call.now names.now)
-        (managers resources.old heap.old)) (fetches (resource_asked call.now names.now))) }
-    ensures after { OnOk result (managers resources.new heap.new ≡ (finds.served (resource_asked call.now names.now)
-        (managers resources.old heap.old)).after) }
+        (managers resources.old heap.old.memory)) (fetches (resource_asked call.now names.now))) }
+    ensures after { OnOk result (managers resources.new heap.new.memory
+        ≡ (finds.served (resource_asked call.now names.now) (managers resources.old heap.old.memory)).after) }
     ensures purged { OnOk result (K.listens sink.old ≡ true → Tells K.told
-        (gone_for (resource_asked call.now names.now) (managers resources.old heap.old)) sink.old sink.new) }
+        (gone_for (resource_asked call.now names.now) (managers resources.old heap.old.memory)) sink.old sink.new) }
     ensures listens { K.listens sink.new ≡ K.listens sink.old }
     ensures files { OnErr result (resources.new.files ≡ resources.old.files) }
-    ensures lies { heap.new.window ≡ heap.old.window }
+    ensures lies { heap.new.memory.window ≡ heap.old.memory.window }
 {
     match call {
         ResourceCall::OpenResFile(name) => counted(resources.open_res_file(

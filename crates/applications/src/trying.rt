@@ -91,7 +91,7 @@ fn shown_in<'a, S: BlockStore>(
     names: &Names,
     call: &HeapCall,
 ) -> Option<&'a [u8]>
-    ensures { option_map (λ bytes. bytes.now) result ≡ bytes_told (served (asked call.now names.now) heap.now).0 }
+    ensures { option_map (λ bytes. bytes.now) result ≡ bytes_told (served (asked call.now names.now) heap.now.memory).0 }
 {
     match call {
         HeapCall::Show(name) => heap.show(names.number(name)).ok(),
@@ -110,12 +110,12 @@ fn answered<S: BlockStore, K: PurgeSink>(
     sink: &mut K,
 ) -> Result<Tried, AllocError>
     requires idle { IsIdle K.told K.waits sink.old }
-    ensures told { IfOk result (λ tried. TellsTold tried (served (asked call.now names.now) heap.old).0) }
-    ensures after { OnOk result (heap.new ≡ (served (asked call.now names.now) heap.old).1) }
+    ensures told { IfOk result (λ tried. TellsTold tried (served (asked call.now names.now) heap.old.memory).0) }
+    ensures after { OnOk result (heap.new.memory ≡ (served (asked call.now names.now) heap.old.memory).1) }
     ensures purged { OnOk result (K.listens sink.old ≡ true
-        → Tells K.told (gone_in (asked call.now names.now) heap.old) sink.old sink.new) }
+        → Tells K.told (gone_in (asked call.now names.now) heap.old.memory) sink.old sink.new) }
     ensures listens { K.listens sink.new ≡ K.listens sink.old }
-    ensures lies { heap.new.window ≡ heap.old.window }
+    ensures lies { heap.new.memory.window ≡ heap.old.memory.window }
 {
     let (first, second) = named(call, names);
     match call {

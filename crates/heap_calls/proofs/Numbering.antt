@@ -11,3 +11,4 @@ pub mod Rebuilding
 pub mod MoveNames
 pub mod Roles
 pub mod Reserved
+pub mod Memories

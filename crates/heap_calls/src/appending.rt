@@ -48,18 +48,18 @@ impl<S: BlockStore> Heap<S> {
         sink: &mut K,
     ) -> Result<(), Refusal>
         requires idle { IsIdle K.told K.waits sink.old }
-        ensures answer { IsAnswer (unless (both_barred from to self.old) (packing (hand_and_hand_moves from to)
-            (hand_and_hand_searches from to) (hand_and_hand from to)) self.old) result self.new }
+        ensures answer { IsAnswer (unless (both_barred from to self.old.memory) (packing (hand_and_hand_moves from to)
+            (hand_and_hand_searches from to) (hand_and_hand from to)) self.old.memory) result self.new.memory }
         ensures told { result ≢ Err Refusal.HostMemory → K.listens sink.old ≡ true → Tells K.told
-            (gone_unless (both_barred from to self.old) (hand_and_hand_gone from to self.old.heap)) sink.old
-            sink.new }
+            (gone_unless (both_barred from to self.old.memory) (hand_and_hand_gone from to self.old.memory.heap))
+            sink.old sink.new }
         ensures untold { result ≡ Err Refusal.HostMemory → IsTrue S.TAKES_HOST
             ⊎ ((self.new ≡ self.old) × TellsNothing K.told sink.old sink.new) }
         ensures idle { IsIdle K.told K.waits sink.new }
         ensures listens { K.listens sink.new ≡ K.listens sink.old }
         ensures host { result ≡ Err Refusal.HostMemory → IsTrue S.TAKES_HOST ⊎ (K.listens sink.old ≡ true) }
-        ensures kept { result ≡ Err Refusal.HostMemory → KeepsNames self.old self.new }
-        ensures lies { self.new.window ≡ self.old.window }
+        ensures kept { result ≡ Err Refusal.HostMemory → KeepsNames self.old.memory self.new.memory }
+        ensures lies { self.new.memory.window ≡ self.old.memory.window }
     {
         if let Some(code) = self.both_barred(from, to) {
             return self.refuse(code);
@@ -83,19 +83,19 @@ impl<S: BlockStore> Heap<S> {
         sink: &mut K,
     ) -> Result<(), Refusal>
         requires idle { IsIdle K.told K.waits sink.old }
-        ensures answer { IsAnswer (unless (change_barred handle self.old)
+        ensures answer { IsAnswer (unless (change_barred handle self.old.memory)
             (packing (pointer_and_hand_moves handle bytes.now) (pointer_and_hand_searches handle bytes.now)
-            (pointer_and_hand handle bytes.now)) self.old) result self.new }
+            (pointer_and_hand handle bytes.now)) self.old.memory) result self.new.memory }
         ensures told { result ≢ Err Refusal.HostMemory → K.listens sink.old ≡ true → Tells K.told
-            (gone_unless (change_barred handle self.old) (pointer_and_hand_gone handle bytes.now self.old.heap)) sink.old
-            sink.new }
+            (gone_unless (change_barred handle self.old.memory) (pointer_and_hand_gone handle bytes.now
+            self.old.memory.heap)) sink.old sink.new }
         ensures untold { result ≡ Err Refusal.HostMemory → IsTrue S.TAKES_HOST
             ⊎ ((self.new ≡ self.old) × TellsNothing K.told sink.old sink.new) }
         ensures idle { IsIdle K.told K.waits sink.new }
         ensures listens { K.listens sink.new ≡ K.listens sink.old }
         ensures host { result ≡ Err Refusal.HostMemory → IsTrue S.TAKES_HOST ⊎ (K.listens sink.old ≡ true) }
-        ensures kept { result ≡ Err Refusal.HostMemory → KeepsNames self.old self.new }
-        ensures lies { self.new.window ≡ self.old.window }
+        ensures kept { result ≡ Err Refusal.HostMemory → KeepsNames self.old.memory self.new.memory }
+        ensures lies { self.new.memory.window ≡ self.old.memory.window }
     {
         if let Some(code) = self.change_barred(handle) {
             return self.refuse(code);
@@ -114,7 +114,7 @@ impl<S: BlockStore> Heap<S> {
     ) -> Result<(), AllocError>
         requires idle { IsIdle K.told K.waits sink.old }
         ensures told { OnOk result (K.listens sink.old ≡ true
-            → Tells K.told (hand_and_hand_gone from to self.now.heap) sink.old sink.new) }
+            → Tells K.told (hand_and_hand_gone from to self.now.memory.heap) sink.old sink.new) }
         ensures untold { OnErr result (TellsNothing K.told sink.old sink.new) }
         ensures idle { IsIdle K.told K.waits sink.new }
         ensures listens { K.listens sink.new ≡ K.listens sink.old }
@@ -151,7 +151,7 @@ impl<S: BlockStore> Heap<S> {
     ) -> Result<(), AllocError>
         requires idle { IsIdle K.told K.waits sink.old }
         ensures told { OnOk result (K.listens sink.old ≡ true
-            → Tells K.told (pointer_and_hand_gone handle bytes.now self.now.heap) sink.old sink.new) }
+            → Tells K.told (pointer_and_hand_gone handle bytes.now self.now.memory.heap) sink.old sink.new) }
         ensures untold { OnErr result (TellsNothing K.told sink.old sink.new) }
         ensures idle { IsIdle K.told K.waits sink.new }
         ensures listens { K.listens sink.new ≡ K.listens sink.old }
@@ -177,12 +177,12 @@ impl<S: BlockStore> Heap<S> {
 
     /// Appends the bytes of one handle's block to another's, and counts the searches for room.
     fn append_handle(&mut self, from: Option<usize>, to: Option<usize>) -> Result<(), Refusal>
-        ensures answer { IsAnswer (moving (hand_and_hand_moves from to self.old.heap)
-            (searching (hand_and_hand_searches from to self.old.heap) (silent (hand_and_hand from to) self.old))) result
-            self.new }
+        ensures answer { IsAnswer (moving (hand_and_hand_moves from to self.old.memory.heap)
+            (searching (hand_and_hand_searches from to self.old.memory.heap) (silent (hand_and_hand from to)
+            self.old.memory))) result self.new.memory }
         ensures host { result ≡ Err Refusal.HostMemory → IsTrue S.TAKES_HOST }
-        ensures kept { result ≡ Err Refusal.HostMemory → KeepsNames self.old self.new }
-        ensures lies { self.new.window ≡ self.old.window }
+        ensures kept { result ≡ Err Refusal.HostMemory → KeepsNames self.old.memory self.new.memory }
+        ensures lies { self.new.memory.window ≡ self.old.memory.window }
     {
         let source = reach(&self.store, &self.names, from)?;
         let held = reach(&self.store, &self.names, to)?;
@@ -193,12 +193,12 @@ impl<S: BlockStore> Heap<S> {
 
     /// Appends bytes to a handle's block, and counts the searches for room.
     fn append_slice(&mut self, handle: Option<usize>, bytes: &[u8]) -> Result<(), Refusal>
-        ensures answer { IsAnswer (moving (pointer_and_hand_moves handle bytes.now self.old.heap)
-            (searching (pointer_and_hand_searches handle bytes.now self.old.heap)
-            (silent (pointer_and_hand handle bytes.now) self.old))) result self.new }
+        ensures answer { IsAnswer (moving (pointer_and_hand_moves handle bytes.now self.old.memory.heap)
+            (searching (pointer_and_hand_searches handle bytes.now self.old.memory.heap)
+            (silent (pointer_and_hand handle bytes.now) self.old.memory))) result self.new.memory }
         ensures host { result ≡ Err Refusal.HostMemory → IsTrue S.TAKES_HOST }
-        ensures kept { result ≡ Err Refusal.HostMemory → KeepsNames self.old self.new }
-        ensures lies { self.new.window ≡ self.old.window }
+        ensures kept { result ≡ Err Refusal.HostMemory → KeepsNames self.old.memory self.new.memory }
+        ensures lies { self.new.memory.window ≡ self.old.memory.window }
     {
         let held = reach(&self.store, &self.names, handle)?;
         let grown = append_bytes(&mut self.store, held.slot, held.place, bytes)?;

@@ -18,22 +18,22 @@ impl<S: BlockStore> Heap<S> {
     ///
     /// *Inside Macintosh: Memory*, chapter 1, "Low-Memory Conditions".
     pub fn set_busy(&mut self, number: usize, busy: bool)
-        ensures { self.new ≡ with_busy (if busy then busied number self.old.log.busy
-            else eased number self.old.log.busy) self.old }
+        ensures { self.new.memory ≡ with_busy (if busy then busied number self.old.memory.log.busy
+            else eased number self.old.memory.log.busy) self.old.memory }
     {
         self.log.set_busy(number, busy);
     }
 
     /// Reports whether the handle or the pointer of a number is busy.
     pub fn is_busy(&self, number: usize) -> bool
-        ensures { result ≡ is_busy number self.now.log.busy }
+        ensures { result ≡ is_busy number self.now.memory.log.busy }
     {
         self.log.is_busy(number)
     }
 
     /// Sets the code that `MemError` returns.
     pub fn keep_code(&mut self, code: OsErr)
-        ensures { self.new ≡ keep_code code self.old }
+        ensures { self.new.memory ≡ keep_code code self.old.memory }
     {
         self.log.code = code;
     }
@@ -41,7 +41,7 @@ impl<S: BlockStore> Heap<S> {
     /// Returns the code with which the handle that a name is bound to bars a call: -117 (memLockedErr) where the
     /// handle is busy; `None` where it is not, or the name is no handle's.
     pub(crate) fn barred(&self, handle: Option<usize>) -> Option<OsErr>
-        ensures { result ≡ barred handle self.now }
+        ensures { result ≡ barred handle self.now.memory }
     {
         match slot_of(&self.names, handle) {
             Ok(found) => self.log.bar(found.number),
@@ -53,7 +53,7 @@ impl<S: BlockStore> Heap<S> {
     /// size: -117 (memLockedErr) where the handle is busy, else -30001 (profileErr) where the handle is a System
     /// resource's.
     pub(crate) fn change_barred(&self, handle: Option<usize>) -> Option<OsErr>
-        ensures { result ≡ change_barred handle self.now }
+        ensures { result ≡ change_barred handle self.now.memory }
     {
         match self.barred(handle) {
             Some(code) => Some(code),
@@ -65,7 +65,7 @@ impl<S: BlockStore> Heap<S> {
     /// Returns the code with which the pointer that a name is bound to bars a call: -117 (memLockedErr) where the
     /// pointer is busy; `None` where it is not, or the name is no pointer's.
     pub(crate) fn pointer_barred(&self, pointer: Option<usize>) -> Option<OsErr>
-        ensures { result ≡ pointer_barred pointer self.now }
+        ensures { result ≡ pointer_barred pointer self.now.memory }
     {
         let Ok(target) = target_of(&self.names, pointer) else {
             return None;
@@ -76,7 +76,7 @@ impl<S: BlockStore> Heap<S> {
     /// Returns the code with which the handle or the pointer that a name is bound to bars a call: -117 (memLockedErr)
     /// where it is busy.
     pub(crate) fn either_barred(&self, name: Option<usize>) -> Option<OsErr>
-        ensures { result ≡ either_barred name self.now }
+        ensures { result ≡ either_barred name self.now.memory }
     {
         match target_of(&self.names, name) {
             Ok(_) => self.pointer_barred(name),
@@ -87,7 +87,7 @@ impl<S: BlockStore> Heap<S> {
     /// Returns the code with which one of two handles bars a call that appends the bytes of `from` to `to`. The handle
     /// `to`, whose block is changed, is looked up only where `from` has a block.
     pub(crate) fn both_barred(&self, from: Option<usize>, to: Option<usize>) -> Option<OsErr>
-        ensures { result ≡ both_barred from to self.now }
+        ensures { result ≡ both_barred from to self.now.memory }
     {
         match self.barred(from) {
             Some(code) => Some(code),
@@ -98,7 +98,7 @@ impl<S: BlockStore> Heap<S> {
 
     /// Reports whether the handle that a name is bound to has a block.
     fn finds_block(&self, handle: Option<usize>) -> bool
-        ensures { result ≡ is_ok (look_up handle self.now.heap) }
+        ensures { result ≡ is_ok (look_up handle self.now.memory.heap) }
     {
         find_block(&self.store, &self.names, handle).is_ok()
     }
@@ -106,7 +106,7 @@ impl<S: BlockStore> Heap<S> {
     /// Refuses a call with a code, and sets the code that `MemError` returns.
     pub(crate) fn refuse<T>(&mut self, code: OsErr) -> Result<T, Refusal>
         ensures answer { result ≡ Err (Refusal.Code code) }
-        ensures noted { self.new ≡ keep_code code self.old }
+        ensures noted { self.new.memory ≡ keep_code code self.old.memory }
     {
         self.keep_code(code);
         Err(Refusal::Code(code))

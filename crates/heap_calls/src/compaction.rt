@@ -20,10 +20,10 @@ impl<S: BlockStore> Heap<S> {
     /// `MaxBlock`: returns the logical size in bytes of the largest block that could be allocated if all runs of
     /// movable blocks were compacted; nothing is moved.
     pub fn max_block(&mut self) -> u32
-        ensures answer { noting max_block self.old ≡ (Ok result, self.new) }
-        ensures room { 0 < result → IfSome (physical_size result) (λ p. IsSome (place p self.old.heap.zone)) }
-        ensures no_more { IfSome (physical_size (result + 1)) (λ p. place p self.old.heap.zone ≡ None) }
-        ensures lies { self.new.window ≡ self.old.window }
+        ensures answer { noting max_block self.old.memory ≡ (Ok result, self.new.memory) }
+        ensures room { 0 < result → IfSome (physical_size result) (λ p. IsSome (place p self.old.memory.heap.zone)) }
+        ensures no_more { IfSome (physical_size (result + 1)) (λ p. place p self.old.memory.heap.zone ≡ None) }
+        ensures lies { self.new.memory.window ≡ self.old.memory.window }
     {
         self.log.code = OsErr::NO_ERR;
         self.store.largest_run().saturating_sub(HEADER_SIZE)
@@ -31,11 +31,13 @@ impl<S: BlockStore> Heap<S> {
 
     /// `CompactMem`: compacts runs of movable blocks, lowest first, until a free block of `size` bytes of content
     /// stands or all runs are compacted, and returns the logical size in bytes of the largest block that can then be
-    /// allocated without moving another.
+    /// allocated without moving another. Blocks move by packing alone: none is raised, hoisted, moved to a free block or
+    /// made.
     pub fn compact_mem(&mut self, size: u32) -> u32
-        ensures answer { packing (compact_mem_moves size) (compact_mem_searches size) (compact_mem size) self.old
-            ≡ (Ok result, self.new) }
-        ensures lies { self.new.window ≡ self.old.window }
+        ensures answer { packing (compact_mem_moves size) (compact_mem_searches size) (compact_mem size) self.old.memory
+            ≡ (Ok result, self.new.memory) }
+        ensures placed { self.new.placings ≡ self.old.placings }
+        ensures lies { self.new.memory.window ≡ self.old.memory.window }
     {
         let stretches = compact(&mut self.store, phys(size));
         let most = self.store.largest_free().saturating_sub(HEADER_SIZE);

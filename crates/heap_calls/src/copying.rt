@@ -46,21 +46,22 @@ impl<S: BlockStore> Heap<S> {
     ) -> Result<usize, Refusal>
         requires idle { IsIdle K.told K.waits sink.old }
         ensures told { result ≢ Err Refusal.HostMemory → K.listens sink.old ≡ true → Tells K.told
-            (gone_unless (barred handle self.old) (hand_to_hand_gone handle self.old.heap)) sink.old sink.new }
+            (gone_unless (barred handle self.old.memory) (hand_to_hand_gone handle self.old.memory.heap)) sink.old
+            sink.new }
         ensures untold { result ≡ Err Refusal.HostMemory → IsTrue S.TAKES_HOST
             ⊎ (((self.new ≡ self.old) × TellsNothing K.told sink.old sink.new)
-            ⊎ (LeavesCopying handle self.old self.new
-            × Tells K.told (copy_slot_gone handle self.old.heap) sink.old sink.new)) }
+            ⊎ (LeavesCopying handle self.old.memory self.new.memory
+            × Tells K.told (copy_slot_gone handle self.old.memory.heap) sink.old sink.new)) }
         ensures idle { IsIdle K.told K.waits sink.new }
         ensures listens { K.listens sink.new ≡ K.listens sink.old }
-        ensures answer { IsAnswer (unless (barred handle self.old) (packing (hand_to_hand_moves handle)
-            (hand_to_hand_searches handle) (hand_to_hand handle)) self.old) result self.new }
+        ensures answer { IsAnswer (unless (barred handle self.old.memory) (packing (hand_to_hand_moves handle)
+            (hand_to_hand_searches handle) (hand_to_hand handle)) self.old.memory) result self.new.memory }
         ensures host { result ≡ Err Refusal.HostMemory
             → IsTrue S.TAKES_HOST ⊎ ((self.new ≡ self.old) ⊎ (K.listens sink.old ≡ true)) }
         ensures reserved { result ≡ Err Refusal.HostMemory → IsTrue S.TAKES_HOST
-            ⊎ ((self.old.log.reserved ≤ length self.old.heap.names) ⊎ (K.listens sink.old ≡ true)) }
-        ensures kept { result ≡ Err Refusal.HostMemory → KeepsNames self.old self.new }
-        ensures lies { self.new.window ≡ self.old.window }
+            ⊎ ((self.old.memory.log.reserved ≤ length self.old.memory.heap.names) ⊎ (K.listens sink.old ≡ true)) }
+        ensures kept { result ≡ Err Refusal.HostMemory → KeepsNames self.old.memory self.new.memory }
+        ensures lies { self.new.memory.window ≡ self.old.memory.window }
     {
         if let Some(code) = self.barred(handle) {
             return self.refuse(code);
@@ -78,22 +79,22 @@ impl<S: BlockStore> Heap<S> {
     ) -> Result<usize, Refusal>
         requires idle { IsIdle K.told K.waits sink.old }
         ensures told { result ≢ Err Refusal.HostMemory → K.listens sink.old ≡ true
-            → Tells K.told (hand_to_hand_gone handle self.old.heap) sink.old sink.new }
+            → Tells K.told (hand_to_hand_gone handle self.old.memory.heap) sink.old sink.new }
         ensures untold { result ≡ Err Refusal.HostMemory → IsTrue S.TAKES_HOST
             ⊎ (((self.new ≡ self.old) × TellsNothing K.told sink.old sink.new)
-            ⊎ (LeavesCopying handle self.old self.new
-            × Tells K.told (copy_slot_gone handle self.old.heap) sink.old sink.new)) }
+            ⊎ (LeavesCopying handle self.old.memory self.new.memory
+            × Tells K.told (copy_slot_gone handle self.old.memory.heap) sink.old sink.new)) }
         ensures idle { IsIdle K.told K.waits sink.new }
         ensures listens { K.listens sink.new ≡ K.listens sink.old }
-        ensures answer { IsAnswer (moving (hand_to_hand_moves handle self.old.heap)
-            (searching (hand_to_hand_searches handle self.old.heap) (silent (hand_to_hand handle) self.old))) result
-            self.new }
+        ensures answer { IsAnswer (moving (hand_to_hand_moves handle self.old.memory.heap)
+            (searching (hand_to_hand_searches handle self.old.memory.heap) (silent (hand_to_hand handle)
+            self.old.memory))) result self.new.memory }
         ensures host { result ≡ Err Refusal.HostMemory
             → IsTrue S.TAKES_HOST ⊎ ((self.new ≡ self.old) ⊎ (K.listens sink.old ≡ true)) }
         ensures reserved { result ≡ Err Refusal.HostMemory → IsTrue S.TAKES_HOST
-            ⊎ ((self.old.log.reserved ≤ length self.old.heap.names) ⊎ (K.listens sink.old ≡ true)) }
-        ensures kept { result ≡ Err Refusal.HostMemory → KeepsNames self.old self.new }
-        ensures lies { self.new.window ≡ self.old.window }
+            ⊎ ((self.old.memory.log.reserved ≤ length self.old.memory.heap.names) ⊎ (K.listens sink.old ≡ true)) }
+        ensures kept { result ≡ Err Refusal.HostMemory → KeepsNames self.old.memory self.new.memory }
+        ensures lies { self.new.memory.window ≡ self.old.memory.window }
     {
         let found = slot_of(&self.names, handle)?;
         let Some(place) = self.store.place_of(found.slot) else {

@@ -30,10 +30,10 @@ impl<S: BlockStore> Heap<S> {
     /// `EmptyHandle`: frees the block of a handle, and leaves the handle empty. An empty handle stays as it is.
     /// Returns -112 (memPurErr) where the block is locked.
     pub fn empty_handle(&mut self, handle: Option<usize>) -> Result<(), Refusal>
-        ensures answer { IsAnswer (unless (barred handle self.old) (noting (empty_handle handle)) self.old)
-            result self.new }
+        ensures answer { IsAnswer (unless (barred handle self.old.memory) (noting (empty_handle handle))
+            self.old.memory) result self.new.memory }
         ensures host { result ≢ Err Refusal.HostMemory }
-        ensures lies { self.new.window ≡ self.old.window }
+        ensures lies { self.new.memory.window ≡ self.old.memory.window }
     {
         if let Some(code) = self.barred(handle) {
             return self.refuse(code);
@@ -55,18 +55,20 @@ impl<S: BlockStore> Heap<S> {
         sink: &mut K,
     ) -> Result<(), Refusal>
         requires idle { IsIdle K.told K.waits sink.old }
-        ensures answer { IsAnswer (unless (change_barred handle self.old) (packing (reallocate_handle_moves handle size)
-            (reallocate_handle_searches handle size) (reallocate_handle handle size)) self.old) result self.new }
+        ensures answer { IsAnswer (unless (change_barred handle self.old.memory) (packing (reallocate_handle_moves
+            handle size)
+            (reallocate_handle_searches handle size) (reallocate_handle handle size)) self.old.memory) result
+            self.new.memory }
         ensures told { result ≢ Err Refusal.HostMemory → K.listens sink.old ≡ true
-            → Tells K.told (gone_unless (change_barred handle self.old) (reallocate_handle_gone handle size
-            self.old.heap)) sink.old sink.new }
+            → Tells K.told (gone_unless (change_barred handle self.old.memory) (reallocate_handle_gone handle size
+            self.old.memory.heap)) sink.old sink.new }
         ensures untold { result ≡ Err Refusal.HostMemory → IsTrue S.TAKES_HOST
             ⊎ ((self.new ≡ self.old) × TellsNothing K.told sink.old sink.new) }
         ensures idle { IsIdle K.told K.waits sink.new }
         ensures listens { K.listens sink.new ≡ K.listens sink.old }
         ensures host { result ≡ Err Refusal.HostMemory → IsTrue S.TAKES_HOST ⊎ (K.listens sink.old ≡ true) }
-        ensures kept { result ≡ Err Refusal.HostMemory → KeepsNames self.old self.new }
-        ensures lies { self.new.window ≡ self.old.window }
+        ensures kept { result ≡ Err Refusal.HostMemory → KeepsNames self.old.memory self.new.memory }
+        ensures lies { self.new.memory.window ≡ self.old.memory.window }
     {
         if let Some(code) = self.change_barred(handle) {
             return self.refuse(code);
@@ -77,9 +79,9 @@ impl<S: BlockStore> Heap<S> {
 
     /// Frees the block of a handle, and leaves the handle empty.
     fn empty(&mut self, handle: Option<usize>) -> Result<(), Refusal>
-        ensures answer { IsAnswer (silent (empty_handle handle) self.old) result self.new }
+        ensures answer { IsAnswer (silent (empty_handle handle) self.old.memory) result self.new.memory }
         ensures host { result ≢ Err Refusal.HostMemory }
-        ensures lies { self.new.window ≡ self.old.window }
+        ensures lies { self.new.memory.window ≡ self.old.memory.window }
     {
         let slot = loose_slot(&self.store, &self.names, handle)?;
         self.store.release(slot);
@@ -95,18 +97,18 @@ impl<S: BlockStore> Heap<S> {
         sink: &mut K,
     ) -> Result<(), Refusal>
         requires idle { IsIdle K.told K.waits sink.old }
-        ensures answer { IsAnswer (moving (reallocate_handle_moves handle size self.old.heap)
-            (searching (reallocate_handle_searches handle size self.old.heap)
-            (silent (reallocate_handle handle size) self.old))) result self.new }
+        ensures answer { IsAnswer (moving (reallocate_handle_moves handle size self.old.memory.heap)
+            (searching (reallocate_handle_searches handle size self.old.memory.heap)
+            (silent (reallocate_handle handle size) self.old.memory))) result self.new.memory }
         ensures told { result ≢ Err Refusal.HostMemory → K.listens sink.old ≡ true
-            → Tells K.told (reallocate_handle_gone handle size self.old.heap) sink.old sink.new }
+            → Tells K.told (reallocate_handle_gone handle size self.old.memory.heap) sink.old sink.new }
         ensures untold { result ≡ Err Refusal.HostMemory → IsTrue S.TAKES_HOST
             ⊎ ((self.new ≡ self.old) × TellsNothing K.told sink.old sink.new) }
         ensures idle { IsIdle K.told K.waits sink.new }
         ensures listens { K.listens sink.new ≡ K.listens sink.old }
         ensures host { result ≡ Err Refusal.HostMemory → IsTrue S.TAKES_HOST ⊎ (K.listens sink.old ≡ true) }
-        ensures kept { result ≡ Err Refusal.HostMemory → KeepsNames self.old self.new }
-        ensures lies { self.new.window ≡ self.old.window }
+        ensures kept { result ≡ Err Refusal.HostMemory → KeepsNames self.old.memory self.new.memory }
+        ensures lies { self.new.memory.window ≡ self.old.memory.window }
     {
         let slot = loose_slot(&self.store, &self.names, handle)?;
         tell_renewal(&self.store, &self.names, slot, size, sink)?;

@@ -62,20 +62,22 @@ impl<S: BlockStore> Heap<S> {
         sink: &mut K,
     ) -> Result<usize, Refusal>
         requires idle { IsIdle K.told K.waits sink.old }
-        ensures answer { IsAnswer (new_inside (resource_role guarded) flags bytes.now self.old) result self.new }
+        ensures answer { IsAnswer (new_inside (resource_role guarded) flags bytes.now self.old.memory) result
+            self.new.memory }
         ensures told { result ≢ Err Refusal.HostMemory → K.listens sink.old ≡ true
-            → Tells K.told (made_gone nothing bytes.now self.old.heap) sink.old sink.new }
+            → Tells K.told (made_gone nothing bytes.now self.old.memory.heap) sink.old sink.new }
         ensures untold { result ≡ Err Refusal.HostMemory → IsTrue S.TAKES_HOST
             ⊎ (((self.new ≡ self.old) × TellsNothing K.told sink.old sink.new)
-            ⊎ (LeavesMasters nothing self.old self.new × Tells K.told (slot_gone nothing self.old.heap) sink.old sink.new)) }
+            ⊎ (LeavesMasters nothing self.old.memory self.new.memory
+            × Tells K.told (slot_gone nothing self.old.memory.heap) sink.old sink.new)) }
         ensures idle { IsIdle K.told K.waits sink.new }
         ensures listens { K.listens sink.new ≡ K.listens sink.old }
         ensures host { result ≡ Err Refusal.HostMemory
             → IsTrue S.TAKES_HOST ⊎ ((self.new ≡ self.old) ⊎ (K.listens sink.old ≡ true)) }
         ensures reserved { result ≡ Err Refusal.HostMemory → IsTrue S.TAKES_HOST
-            ⊎ ((self.old.log.reserved ≤ length self.old.heap.names) ⊎ (K.listens sink.old ≡ true)) }
-        ensures kept { result ≡ Err Refusal.HostMemory → KeepsNames self.old self.new }
-        ensures lies { self.new.window ≡ self.old.window }
+            ⊎ ((self.old.memory.log.reserved ≤ length self.old.memory.heap.names) ⊎ (K.listens sink.old ≡ true)) }
+        ensures kept { result ≡ Err Refusal.HostMemory → KeepsNames self.old.memory self.new.memory }
+        ensures lies { self.new.memory.window ≡ self.old.memory.window }
     {
         let answer = self.fill_handle(bytes, flags, sink);
         self.own(answer, guarded)
@@ -91,18 +93,18 @@ impl<S: BlockStore> Heap<S> {
         sink: &mut K,
     ) -> Result<usize, Refusal>
         requires idle { IsIdle K.told K.waits sink.old }
-        ensures answer { IsAnswer (new_empty_inside (resource_role guarded) self.old) result self.new }
+        ensures answer { IsAnswer (new_empty_inside (resource_role guarded) self.old.memory) result self.new.memory }
         ensures told { result ≢ Err Refusal.HostMemory → K.listens sink.old ≡ true
-            → Tells K.told (slot_gone nothing self.old.heap) sink.old sink.new }
+            → Tells K.told (slot_gone nothing self.old.memory.heap) sink.old sink.new }
         ensures untold { result ≡ Err Refusal.HostMemory
             → IsTrue S.TAKES_HOST ⊎ TellsNothing K.told sink.old sink.new }
         ensures idle { IsIdle K.told K.waits sink.new }
         ensures listens { K.listens sink.new ≡ K.listens sink.old }
         ensures host { result ≡ Err Refusal.HostMemory → IsTrue S.TAKES_HOST ⊎ (self.new ≡ self.old) }
         ensures reserved { result ≡ Err Refusal.HostMemory → IsTrue S.TAKES_HOST
-            ⊎ ((self.old.log.reserved ≤ length self.old.heap.names) ⊎ (K.listens sink.old ≡ true)) }
-        ensures kept { result ≡ Err Refusal.HostMemory → KeepsMoves self.old self.new }
-        ensures lies { self.new.window ≡ self.old.window }
+            ⊎ ((self.old.memory.log.reserved ≤ length self.old.memory.heap.names) ⊎ (K.listens sink.old ≡ true)) }
+        ensures kept { result ≡ Err Refusal.HostMemory → KeepsMoves self.old.memory self.new.memory }
+        ensures lies { self.new.memory.window ≡ self.old.memory.window }
     {
         let answer = self.make_empty_handle(sink);
         self.own(answer, guarded)
@@ -121,16 +123,18 @@ impl<S: BlockStore> Heap<S> {
         sink: &mut K,
     ) -> Result<(), AllocError>
         requires idle { IsIdle K.told K.waits sink.old }
-        ensures answer { OnOk result (new_all (map wanted_as wanted.now) self.old ≡ (numbers.new.items, self.new)) }
+        ensures answer { OnOk result (new_all (map wanted_as wanted.now) self.old.memory
+            ≡ (numbers.new.items, self.new.memory)) }
         ensures told { OnOk result (K.listens sink.old ≡ true
-            → Tells K.told (all_gone (map wanted_as wanted.now) self.old) sink.old sink.new) }
+            → Tells K.told (all_gone (map wanted_as wanted.now) self.old.memory) sink.old sink.new) }
         ensures untold { OnErr result (IsTrue S.TAKES_HOST
-            ⊎ Stops K.told (map wanted_as wanted.now) self.old numbers.new.items self.new sink.old sink.new) }
+            ⊎ Stops K.told (map wanted_as wanted.now) self.old.memory numbers.new.items self.new.memory sink.old
+            sink.new) }
         ensures idle { IsIdle K.told K.waits sink.new }
         ensures listens { K.listens sink.new ≡ K.listens sink.old }
         ensures host { IsErr result
             → IsTrue S.TAKES_HOST ⊎ ((self.new ≡ self.old) ⊎ (K.listens sink.old ≡ true)) }
-        ensures lies { self.new.window ≡ self.old.window }
+        ensures lies { self.new.memory.window ≡ self.old.memory.window }
     {
         numbers.clear();
         numbers.reserve(wanted.len())?;
@@ -159,18 +163,18 @@ impl<S: BlockStore> Heap<S> {
         flags: Flags,
         sink: &mut K,
     ) -> Result<(), Refusal>
-        requires emptied { has_block number self.old.heap ≡ false }
+        requires emptied { has_block number self.old.memory.heap ≡ false }
         requires idle { IsIdle K.told K.waits sink.old }
-        ensures answer { IsAnswer (refill_inside number flags bytes.now self.old) result self.new }
+        ensures answer { IsAnswer (refill_inside number flags bytes.now self.old.memory) result self.new.memory }
         ensures told { result ≢ Err Refusal.HostMemory → K.listens sink.old ≡ true
-            → Tells K.told (refill_gone number (length bytes.now) self.old.heap) sink.old sink.new }
+            → Tells K.told (refill_gone number (length bytes.now) self.old.memory.heap) sink.old sink.new }
         ensures untold { result ≡ Err Refusal.HostMemory → IsTrue S.TAKES_HOST
             ⊎ ((self.new ≡ self.old) × TellsNothing K.told sink.old sink.new) }
         ensures idle { IsIdle K.told K.waits sink.new }
         ensures listens { K.listens sink.new ≡ K.listens sink.old }
         ensures host { result ≡ Err Refusal.HostMemory → IsTrue S.TAKES_HOST ⊎ (K.listens sink.old ≡ true) }
-        ensures kept { result ≡ Err Refusal.HostMemory → KeepsNames self.old self.new }
-        ensures lies { self.new.window ≡ self.old.window }
+        ensures kept { result ≡ Err Refusal.HostMemory → KeepsNames self.old.memory self.new.memory }
+        ensures lies { self.new.memory.window ≡ self.old.memory.window }
     {
         let found = slot_of(&self.names, Some(number))?;
         tell_refilling(&self.store, &self.names, found.slot, bytes, sink)?;
@@ -190,20 +194,21 @@ impl<S: BlockStore> Heap<S> {
         sink: &mut K,
     ) -> Result<usize, Refusal>
         requires idle { IsIdle K.told K.waits sink.old }
-        ensures answer { IsAnswer (new_inside Plain flags bytes.now self.old) result self.new }
+        ensures answer { IsAnswer (new_inside Plain flags bytes.now self.old.memory) result self.new.memory }
         ensures told { result ≢ Err Refusal.HostMemory → K.listens sink.old ≡ true
-            → Tells K.told (made_gone nothing bytes.now self.old.heap) sink.old sink.new }
+            → Tells K.told (made_gone nothing bytes.now self.old.memory.heap) sink.old sink.new }
         ensures untold { result ≡ Err Refusal.HostMemory → IsTrue S.TAKES_HOST
             ⊎ (((self.new ≡ self.old) × TellsNothing K.told sink.old sink.new)
-            ⊎ (LeavesMasters nothing self.old self.new × Tells K.told (slot_gone nothing self.old.heap) sink.old sink.new)) }
+            ⊎ (LeavesMasters nothing self.old.memory self.new.memory
+            × Tells K.told (slot_gone nothing self.old.memory.heap) sink.old sink.new)) }
         ensures idle { IsIdle K.told K.waits sink.new }
         ensures listens { K.listens sink.new ≡ K.listens sink.old }
         ensures host { result ≡ Err Refusal.HostMemory
             → IsTrue S.TAKES_HOST ⊎ ((self.new ≡ self.old) ⊎ (K.listens sink.old ≡ true)) }
         ensures reserved { result ≡ Err Refusal.HostMemory → IsTrue S.TAKES_HOST
-            ⊎ ((self.old.log.reserved ≤ length self.old.heap.names) ⊎ (K.listens sink.old ≡ true)) }
-        ensures kept { result ≡ Err Refusal.HostMemory → KeepsNames self.old self.new }
-        ensures lies { self.new.window ≡ self.old.window }
+            ⊎ ((self.old.memory.log.reserved ≤ length self.old.memory.heap.names) ⊎ (K.listens sink.old ≡ true)) }
+        ensures kept { result ≡ Err Refusal.HostMemory → KeepsNames self.old.memory self.new.memory }
+        ensures lies { self.new.memory.window ≡ self.old.memory.window }
     {
         self.names.reserve(1)?;
         let made = fill_block(&mut self.store, &self.names, bytes, flags, sink)?;
@@ -214,7 +219,8 @@ impl<S: BlockStore> Heap<S> {
     /// Makes the handle of an answer, where one was made, a resource's, and returns the answer.
     fn own(&mut self, answer: Result<usize, Refusal>, guarded: bool) -> Result<usize, Refusal>
         ensures answer { result ≡ answer }
-        ensures owned { self.new ≡ inside (owned_by guarded answer) self.old }
+        ensures owned { self.new.memory ≡ inside (owned_by guarded answer) self.old.memory }
+        ensures same { result ≡ Err Refusal.HostMemory → self.new ≡ self.old }
     {
         if let Ok(number) = answer {
             self.set_resource(number, true);

@@ -14,9 +14,10 @@ use block_store::{BlockStore, Flags, Seen};
 impl<S: BlockStore> Heap<S> {
     /// `HPurge`: makes the block of a handle purgeable, so that the block may be purged while unlocked.
     pub fn h_purge(&mut self, handle: Option<usize>) -> Result<(), Refusal>
-        ensures answer { IsAnswer (unless (barred handle self.old) (noting (h_purge handle)) self.old) result self.new }
+        ensures answer { IsAnswer (unless (barred handle self.old.memory) (noting (h_purge handle)) self.old.memory)
+            result self.new.memory }
         ensures host { result ≢ Err Refusal.HostMemory }
-        ensures lies { self.new.window ≡ self.old.window }
+        ensures lies { self.new.memory.window ≡ self.old.memory.window }
     {
         if let Some(code) = self.barred(handle) {
             return self.refuse(code);
@@ -27,10 +28,10 @@ impl<S: BlockStore> Heap<S> {
 
     /// `HNoPurge`: makes the block of a handle unpurgeable, so that the block is not purged.
     pub fn h_no_purge(&mut self, handle: Option<usize>) -> Result<(), Refusal>
-        ensures answer { IsAnswer (unless (barred handle self.old) (noting (h_no_purge handle)) self.old)
-            result self.new }
+        ensures answer { IsAnswer (unless (barred handle self.old.memory) (noting (h_no_purge handle)) self.old.memory)
+            result self.new.memory }
         ensures host { result ≢ Err Refusal.HostMemory }
-        ensures lies { self.new.window ≡ self.old.window }
+        ensures lies { self.new.memory.window ≡ self.old.memory.window }
     {
         if let Some(code) = self.barred(handle) {
             return self.refuse(code);
@@ -42,10 +43,10 @@ impl<S: BlockStore> Heap<S> {
     /// `HGetState`: returns the properties of a handle's block as bits of a byte: 128 where the block is locked, 64
     /// where it is purgeable, 32 where the handle is a resource's.
     pub fn h_get_state(&mut self, handle: Option<usize>) -> Result<u8, Refusal>
-        ensures answer { IsAnswer (unless (barred handle self.old) (noting (h_get_state handle)) self.old)
-            result self.new }
+        ensures answer { IsAnswer (unless (barred handle self.old.memory) (noting (h_get_state handle)) self.old.memory)
+            result self.new.memory }
         ensures host { result ≢ Err Refusal.HostMemory }
-        ensures lies { self.new.window ≡ self.old.window }
+        ensures lies { self.new.memory.window ≡ self.old.memory.window }
     {
         if let Some(code) = self.barred(handle) {
             return self.refuse(code);
@@ -58,10 +59,10 @@ impl<S: BlockStore> Heap<S> {
     /// unpurgeable by bit 64, as `HGetState` returns them. The other bits have no effect: a resource's handle stays a
     /// resource's.
     pub fn h_set_state(&mut self, handle: Option<usize>, byte: u8) -> Result<(), Refusal>
-        ensures answer { IsAnswer (unless (barred handle self.old) (noting (h_set_state handle byte)) self.old)
-            result self.new }
+        ensures answer { IsAnswer (unless (barred handle self.old.memory) (noting (h_set_state handle byte))
+            self.old.memory) result self.new.memory }
         ensures host { result ≢ Err Refusal.HostMemory }
-        ensures lies { self.new.window ≡ self.old.window }
+        ensures lies { self.new.memory.window ≡ self.old.memory.window }
     {
         if let Some(code) = self.barred(handle) {
             return self.refuse(code);
@@ -79,10 +80,10 @@ impl<S: BlockStore> Heap<S> {
         locked: Option<bool>,
         purgeable: Option<bool>,
     ) -> Result<(), Refusal>
-        ensures answer { IsAnswer (silent (change_flags (flags_with locked purgeable) handle) self.old) result
-            self.new }
+        ensures answer { IsAnswer (silent (change_flags (flags_with locked purgeable) handle) self.old.memory) result
+            self.new.memory }
         ensures host { result ≢ Err Refusal.HostMemory }
-        ensures lies { self.new.window ≡ self.old.window }
+        ensures lies { self.new.memory.window ≡ self.old.memory.window }
     {
         let place = find_block(&self.store, &self.names, handle)?;
         let Some(flags) = flags_of(self.store.block_at(place)) else {
@@ -98,7 +99,7 @@ impl<S: BlockStore> Heap<S> {
 
     /// Returns the properties of a handle's block as bits of a byte.
     fn state_of(&self, handle: Option<usize>) -> Result<u8, Refusal>
-        ensures answer { IsAnswer (silent (h_get_state handle) self.now) result self.now }
+        ensures answer { IsAnswer (silent (h_get_state handle) self.now.memory) result self.now.memory }
         ensures host { result ≢ Err Refusal.HostMemory }
     {
         let place = find_block(&self.store, &self.names, handle)?;

@@ -53,13 +53,13 @@ pub struct Heap<S: BlockStore> {
 }
 
 impl<S: BlockStore> Model for Heap<S> {
-    ghost use Rattle.heap_calls.specs.State.{Memory};
+    ghost use Rattle.heap_calls.specs.State.{CountedMemory};
 
-    ghost Value = { Memory };
+    ghost Value = { CountedMemory };
 
-    ghost use Rattle.heap_calls.specs.Inner.Numbered.{memory_of, Agrees};
+    ghost use Rattle.heap_calls.specs.Inner.Numbered.{heap_of, Agrees};
 
-    ghost view = { λ a. memory_of (S.zone a.store) (S.rest a.store) a.names.items a.log };
+    ghost view = { λ a. heap_of (S.zone a.store) (S.rest a.store) a.names.items a.log };
 
     ghost invariant = { λ a. Agrees (S.zone a.store) (S.rest a.store) a.names.items };
 }
@@ -71,7 +71,8 @@ impl<S: BlockStore> Heap<S> {
         requires unused { (S.rest store).unused ≡ SLOTS_A_BLOCK }
         requires all { (S.rest store).all ≡ SLOTS_A_BLOCK }
         requires moves { (S.rest store).moves ≡ 0 }
-        ensures { result ≡ fresh_memory (sizes (S.zone store)) (S.rest store).window }
+        ensures memory { result.memory ≡ fresh_memory (sizes (S.zone store)) (S.rest store).window }
+        ensures placings { result.placings ≡ (S.rest store).placed }
     {
         Heap {
             store,
@@ -91,13 +92,15 @@ impl<S: BlockStore> Heap<S> {
     /// `n` is not 0 and fewer are reserved as yet; nothing changes then.
     pub fn reserve(&mut self, n: usize) -> Result<(), AllocError>
         ensures kept { OnOk result (self.new ≡ record self.old {
-          log = record self.old.log
-              { reserved = max self.old.log.reserved (length self.old.heap.names + n) };
+          memory = record self.old.memory {
+            log = record self.old.memory.log
+                { reserved = max self.old.memory.log.reserved (length self.old.memory.heap.names + n) };
+          };
         }) }
         ensures unchanged { OnErr result (self.new ≡ self.old) }
-        ensures full { OnErr result (self.old.log.reserved < length self.old.heap.names + n) }
+        ensures full { OnErr result (self.old.memory.log.reserved < length self.old.memory.heap.names + n) }
         ensures some { OnErr result (0 < n) }
-        ensures lies { self.new.window ≡ self.old.window }
+        ensures lies { self.new.memory.window ≡ self.old.memory.window }
     {
         self.names.reserve(n)?;
         let wanted = self.names.len() + n;
@@ -116,20 +119,21 @@ impl<S: BlockStore> Heap<S> {
     pub fn new_handle<K: PurgeSink>(&mut self, size: u32, sink: &mut K) -> Result<usize, Refusal>
         requires idle { IsIdle K.told K.waits sink.old }
         ensures told { result ≢ Err Refusal.HostMemory → K.listens sink.old ≡ true
-            → Tells K.told (new_handle_gone size self.old.heap) sink.old sink.new }
+            → Tells K.told (new_handle_gone size self.old.memory.heap) sink.old sink.new }
         ensures untold { result ≡ Err Refusal.HostMemory → IsTrue S.TAKES_HOST
             ⊎ (((self.new ≡ self.old) × TellsNothing K.told sink.old sink.new)
-            ⊎ (LeavesMasters nothing self.old self.new × Tells K.told (slot_gone nothing self.old.heap) sink.old sink.new)) }
+            ⊎ (LeavesMasters nothing self.old.memory self.new.memory
+            × Tells K.told (slot_gone nothing self.old.memory.heap) sink.old sink.new)) }
         ensures idle { IsIdle K.told K.waits sink.new }
         ensures listens { K.listens sink.new ≡ K.listens sink.old }
         ensures answer { IsAnswer (packing (new_handle_moves size) (new_handle_searches size) (new_handle size)
-            self.old) result self.new }
+            self.old.memory) result self.new.memory }
         ensures host { result ≡ Err Refusal.HostMemory
             → IsTrue S.TAKES_HOST ⊎ ((self.new ≡ self.old) ⊎ (K.listens sink.old ≡ true)) }
         ensures reserved { result ≡ Err Refusal.HostMemory → IsTrue S.TAKES_HOST
-            ⊎ ((self.old.log.reserved ≤ length self.old.heap.names) ⊎ (K.listens sink.old ≡ true)) }
-        ensures kept { result ≡ Err Refusal.HostMemory → KeepsNames self.old self.new }
-        ensures lies { self.new.window ≡ self.old.window }
+            ⊎ ((self.old.memory.log.reserved ≤ length self.old.memory.heap.names) ⊎ (K.listens sink.old ≡ true)) }
+        ensures kept { result ≡ Err Refusal.HostMemory → KeepsNames self.old.memory self.new.memory }
+        ensures lies { self.new.memory.window ≡ self.old.memory.window }
     {
         let answer = self.make_handle(size, sink);
         self.note(answer)
@@ -138,10 +142,10 @@ impl<S: BlockStore> Heap<S> {
     /// `DisposeHandle`: disposes of a handle. Its block, locked or not, becomes free, and its master pointer is
     /// unused again. Returns -30001 (profileErr) where the handle is a resource's.
     pub fn dispose_handle(&mut self, handle: Option<usize>) -> Result<(), Refusal>
-        ensures answer { IsAnswer (unless (barred handle self.old) (noting (dispose_handle handle)) self.old)
-            result self.new }
+        ensures answer { IsAnswer (unless (barred handle self.old.memory) (noting (dispose_handle handle))
+            self.old.memory) result self.new.memory }
         ensures host { result ≢ Err Refusal.HostMemory }
-        ensures lies { self.new.window ≡ self.old.window }
+        ensures lies { self.new.memory.window ≡ self.old.memory.window }
     {
         if let Some(code) = self.barred(handle) {
             return self.refuse(code);
@@ -152,10 +156,10 @@ impl<S: BlockStore> Heap<S> {
 
     /// `GetHandleSize`: returns the logical size in bytes of the block of a handle.
     pub fn get_handle_size(&mut self, handle: Option<usize>) -> Result<u32, Refusal>
-        ensures answer { IsAnswer (unless (barred handle self.old) (noting (get_handle_size handle)) self.old)
-            result self.new }
+        ensures answer { IsAnswer (unless (barred handle self.old.memory) (noting (get_handle_size handle))
+            self.old.memory) result self.new.memory }
         ensures host { result ≢ Err Refusal.HostMemory }
-        ensures lies { self.new.window ≡ self.old.window }
+        ensures lies { self.new.memory.window ≡ self.old.memory.window }
     {
         if let Some(code) = self.barred(handle) {
             return self.refuse(code);
@@ -166,7 +170,7 @@ impl<S: BlockStore> Heap<S> {
 
     /// `FreeMem`: returns the number of free bytes of the zone, the headers of the free blocks included.
     pub fn free_mem(&mut self) -> u32
-        ensures { noting free_mem self.old ≡ (Ok result, self.new) }
+        ensures { noting free_mem self.old.memory ≡ (Ok result, self.new.memory) }
     {
         self.log.code = OsErr::NO_ERR;
         self.store.free_bytes()
@@ -174,7 +178,7 @@ impl<S: BlockStore> Heap<S> {
 
     /// Returns the number of bytes of the zone.
     pub fn len(&self) -> u32
-        ensures { result ≡ sizes self.now.heap.zone }
+        ensures { result ≡ sizes self.now.memory.heap.zone }
     {
         self.store.len()
     }
@@ -182,7 +186,7 @@ impl<S: BlockStore> Heap<S> {
     /// Returns how many searches for room all calls have made; the count stays at its greatest value once it is
     /// there.
     pub fn searches(&self) -> u64
-        ensures { result ≡ self.now.log.searches }
+        ensures { result ≡ self.now.memory.log.searches }
     {
         let log = self.log;
         log.searches
@@ -191,14 +195,14 @@ impl<S: BlockStore> Heap<S> {
     /// Returns how many blocks compaction has moved down; the count stays at its greatest value once it is there. A
     /// block that moves up, to make room at the base of a run or to stand at the top of one, is not counted.
     pub fn moves(&self) -> u64
-        ensures { result ≡ self.now.moves }
+        ensures { result ≡ self.now.memory.moves }
     {
         self.store.moves()
     }
 
     /// `MemError`: returns the code of the last call that sets one.
     pub fn mem_error(&self) -> OsErr
-        ensures { result ≡ self.now.log.code }
+        ensures { result ≡ self.now.memory.log.code }
     {
         let last = self.log;
         last.code
@@ -208,10 +212,10 @@ impl<S: BlockStore> Heap<S> {
     /// the bytes would end past the block's content, or where the handle is a System resource's. The call does not
     /// set the code that `MemError` returns.
     pub fn put(&mut self, handle: Option<usize>, from: u32, bytes: &[u8]) -> Result<(), Refusal>
-        ensures answer { IsAnswer (unless_silent (change_barred handle self.old) (silent (put handle from bytes.now))
-            self.old) result self.new }
+        ensures answer { IsAnswer (unless_silent (change_barred handle self.old.memory) (silent (put handle from
+            bytes.now)) self.old.memory) result self.new.memory }
         ensures host { result ≢ Err Refusal.HostMemory }
-        ensures lies { self.new.window ≡ self.old.window }
+        ensures lies { self.new.memory.window ≡ self.old.memory.window }
     {
         if let Some(code) = self.change_barred(handle) {
             return Err(Refusal::Code(code));
@@ -221,8 +225,8 @@ impl<S: BlockStore> Heap<S> {
 
     /// `Show`: returns the bytes of the block of a handle. The call does not set the code that `MemError` returns.
     pub fn show(&self, handle: Option<usize>) -> Result<&[u8], Refusal>
-        ensures answer { IsShown (unless_silent (barred handle self.now) (silent (show handle)) self.now) result
-            self.now }
+        ensures answer { IsShown (unless_silent (barred handle self.now.memory) (silent (show handle)) self.now.memory)
+            result self.now.memory }
         ensures host { result ≢ Err Refusal.HostMemory }
     {
         if let Some(code) = self.barred(handle) {
@@ -234,8 +238,8 @@ impl<S: BlockStore> Heap<S> {
     /// `Where`: returns the offset, from the start of the zone, of the content of the block of a handle or a pointer.
     /// The call does not set the code that `MemError` returns.
     pub fn place_of(&self, name: Option<usize>) -> Result<u32, Refusal>
-        ensures answer { IsAnswer (unless_silent (either_barred name self.now) (silent (place_of name)) self.now)
-            result self.now }
+        ensures answer { IsAnswer (unless_silent (either_barred name self.now.memory) (silent (place_of name))
+            self.now.memory) result self.now.memory }
         ensures host { result ≢ Err Refusal.HostMemory }
     {
         if let Some(code) = self.either_barred(name) {
@@ -249,20 +253,22 @@ impl<S: BlockStore> Heap<S> {
     fn make_handle<K: PurgeSink>(&mut self, size: u32, sink: &mut K) -> Result<usize, Refusal>
         requires idle { IsIdle K.told K.waits sink.old }
         ensures told { result ≢ Err Refusal.HostMemory → K.listens sink.old ≡ true
-            → Tells K.told (new_handle_gone size self.old.heap) sink.old sink.new }
+            → Tells K.told (new_handle_gone size self.old.memory.heap) sink.old sink.new }
         ensures untold { result ≡ Err Refusal.HostMemory → IsTrue S.TAKES_HOST
             ⊎ (((self.new ≡ self.old) × TellsNothing K.told sink.old sink.new)
-            ⊎ (LeavesMasters nothing self.old self.new × Tells K.told (slot_gone nothing self.old.heap) sink.old sink.new)) }
+            ⊎ (LeavesMasters nothing self.old.memory self.new.memory
+            × Tells K.told (slot_gone nothing self.old.memory.heap) sink.old sink.new)) }
         ensures idle { IsIdle K.told K.waits sink.new }
         ensures listens { K.listens sink.new ≡ K.listens sink.old }
-        ensures answer { IsAnswer (moving (new_handle_moves size self.old.heap)
-            (searching (new_handle_searches size self.old.heap) (silent (new_handle size) self.old))) result self.new }
+        ensures answer { IsAnswer (moving (new_handle_moves size self.old.memory.heap)
+            (searching (new_handle_searches size self.old.memory.heap) (silent (new_handle size) self.old.memory)))
+            result self.new.memory }
         ensures host { result ≡ Err Refusal.HostMemory
             → IsTrue S.TAKES_HOST ⊎ ((self.new ≡ self.old) ⊎ (K.listens sink.old ≡ true)) }
         ensures reserved { result ≡ Err Refusal.HostMemory → IsTrue S.TAKES_HOST
-            ⊎ ((self.old.log.reserved ≤ length self.old.heap.names) ⊎ (K.listens sink.old ≡ true)) }
-        ensures kept { result ≡ Err Refusal.HostMemory → KeepsNames self.old self.new }
-        ensures lies { self.new.window ≡ self.old.window }
+            ⊎ ((self.old.memory.log.reserved ≤ length self.old.memory.heap.names) ⊎ (K.listens sink.old ≡ true)) }
+        ensures kept { result ≡ Err Refusal.HostMemory → KeepsNames self.old.memory self.new.memory }
+        ensures lies { self.new.memory.window ≡ self.old.memory.window }
     {
         self.names.reserve(1)?;
         let made = new_block(&mut self.store, &self.names, size, Sparing::Nothing, sink)?;
@@ -272,9 +278,9 @@ impl<S: BlockStore> Heap<S> {
 
     /// Disposes of a handle and its block; returns -30001 (profileErr) where the handle is a resource's.
     fn dispose(&mut self, handle: Option<usize>) -> Result<(), Refusal>
-        ensures answer { IsAnswer (silent (dispose_handle handle) self.old) result self.new }
+        ensures answer { IsAnswer (silent (dispose_handle handle) self.old.memory) result self.new.memory }
         ensures host { result ≢ Err Refusal.HostMemory }
-        ensures lies { self.new.window ≡ self.old.window }
+        ensures lies { self.new.memory.window ≡ self.old.memory.window }
     {
         let found = slot_of(&self.names, handle)?;
         if self.store.is_resource(found.slot) {
@@ -286,7 +292,7 @@ impl<S: BlockStore> Heap<S> {
 
     /// Returns the logical size in bytes of the block of a handle.
     fn size_of(&self, handle: Option<usize>) -> Result<u32, Refusal>
-        ensures answer { IsAnswer (silent (get_handle_size handle) self.now) result self.now }
+        ensures answer { IsAnswer (silent (get_handle_size handle) self.now.memory) result self.now.memory }
         ensures host { result ≢ Err Refusal.HostMemory }
     {
         let place = find_block(&self.store, &self.names, handle)?;
@@ -295,9 +301,9 @@ impl<S: BlockStore> Heap<S> {
 
     /// Writes bytes into the block of a handle, from the offset `from` on.
     fn write_block(&mut self, handle: Option<usize>, from: u32, bytes: &[u8]) -> Result<(), Refusal>
-        ensures answer { IsAnswer (silent (put handle from bytes.now) self.old) result self.new }
+        ensures answer { IsAnswer (silent (put handle from bytes.now) self.old.memory) result self.new.memory }
         ensures host { result ≢ Err Refusal.HostMemory }
-        ensures lies { self.new.window ≡ self.old.window }
+        ensures lies { self.new.memory.window ≡ self.old.memory.window }
     {
         let place = find_block(&self.store, &self.names, handle)?;
         let len = self.store.bytes(place).len();
@@ -310,7 +316,7 @@ impl<S: BlockStore> Heap<S> {
 
     /// Returns the bytes of the block of a handle, whether the handle is busy or not.
     pub(crate) fn block_bytes(&self, handle: Option<usize>) -> Result<&[u8], Refusal>
-        ensures answer { IsShown (silent (show handle) self.now) result self.now }
+        ensures answer { IsShown (silent (show handle) self.now.memory) result self.now.memory }
         ensures host { result ≢ Err Refusal.HostMemory }
     {
         let place = find_block(&self.store, &self.names, handle)?;
@@ -319,7 +325,7 @@ impl<S: BlockStore> Heap<S> {
 
     /// Returns the offset of the content of the block of a handle or a pointer, whether it is busy or not.
     fn bytes_place(&self, name: Option<usize>) -> Result<u32, Refusal>
-        ensures answer { IsAnswer (silent (place_of name) self.now) result self.now }
+        ensures answer { IsAnswer (silent (place_of name) self.now.memory) result self.now.memory }
         ensures host { result ≢ Err Refusal.HostMemory }
     {
         let place = find_named(&self.store, &self.names, name)?;
@@ -331,8 +337,10 @@ impl<S: BlockStore> Heap<S> {
     pub(crate) fn note<T>(&mut self, answer: Result<T, Refusal>) -> Result<T, Refusal>
         ensures answer { result ≡ answer }
         ensures noted { self.new ≡ record self.old {
-          log = record self.old.log
-              { code = last_after answer self.old.log.code };
+          memory = record self.old.memory {
+            log = record self.old.memory.log
+                { code = last_after answer self.old.memory.log.code };
+          };
         } }
     {
         match &answer {

@@ -54,9 +54,9 @@ pub fn a_call_searches_few_times()
 /// are neighbours. So each try of a call on a heap makes at most one more search for room than there are blocks at its
 /// start.
 pub fn a_heap_searches_few_times<S: BlockStore>(heap: &Heap<S>)
-    ensures masters { 0 < count is_masters heap.now.heap.zone }
-    ensures tidied { tidy heap.now.heap.zone ≡ heap.now.heap.zone }
-    ensures searches { (asked : Asked) → SearchesFew asked heap.now }
+    ensures masters { 0 < count is_masters heap.now.memory.heap.zone }
+    ensures tidied { tidy heap.now.memory.heap.zone ≡ heap.now.memory.heap.zone }
+    ensures searches { (asked : Asked) → SearchesFew asked heap.now.memory }
 {
     // The invariant is known once a field is read.
     let _ = &heap.store;
@@ -152,10 +152,11 @@ pub fn a_sink_is_told_of_what_goes()
 /// Each call on a heap reports to a sink just what it purges, with no condition: no handle of a heap has two blocks,
 /// and its zone is no larger than a zone can be.
 pub fn a_heap_tells_what_goes<S: BlockStore>(heap: &Heap<S>)
-    ensures once { (h : ℕ) → h < length heap.now.heap.names → count (is_relocatable h) heap.now.heap.zone ≤ 1 }
-    ensures small { sizes heap.now.heap.zone ≤ GREATEST_ZONE }
-    ensures goes { (asked : Asked) → TellsWhatGoes asked heap.now }
-    ensures steps { (step : Step) → StepTellsWhatGoes step heap.now }
+    ensures once { (h : ℕ) → h < length heap.now.memory.heap.names
+        → count (is_relocatable h) heap.now.memory.heap.zone ≤ 1 }
+    ensures small { sizes heap.now.memory.heap.zone ≤ GREATEST_ZONE }
+    ensures goes { (asked : Asked) → TellsWhatGoes asked heap.now.memory }
+    ensures steps { (step : Step) → StepTellsWhatGoes step heap.now.memory }
 {
     // The invariant is known once a field is read.
     let _ = heap.names.len();

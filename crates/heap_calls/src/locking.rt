@@ -14,9 +14,10 @@ use mac_words::OsErr;
 impl<S: BlockStore> Heap<S> {
     /// `HLock`: locks the block of a handle, so that the block is neither moved nor purged.
     pub fn h_lock(&mut self, handle: Option<usize>) -> Result<(), Refusal>
-        ensures answer { IsAnswer (unless (barred handle self.old) (noting (h_lock handle)) self.old) result self.new }
+        ensures answer { IsAnswer (unless (barred handle self.old.memory) (noting (h_lock handle)) self.old.memory)
+            result self.new.memory }
         ensures host { result ≢ Err Refusal.HostMemory }
-        ensures lies { self.new.window ≡ self.old.window }
+        ensures lies { self.new.memory.window ≡ self.old.memory.window }
     {
         if let Some(code) = self.barred(handle) {
             return self.refuse(code);
@@ -27,10 +28,10 @@ impl<S: BlockStore> Heap<S> {
 
     /// `HUnlock`: unlocks the block of a handle, so that the block may be moved.
     pub fn h_unlock(&mut self, handle: Option<usize>) -> Result<(), Refusal>
-        ensures answer { IsAnswer (unless (barred handle self.old) (noting (h_unlock handle)) self.old)
-            result self.new }
+        ensures answer { IsAnswer (unless (barred handle self.old.memory) (noting (h_unlock handle)) self.old.memory)
+            result self.new.memory }
         ensures host { result ≢ Err Refusal.HostMemory }
-        ensures lies { self.new.window ≡ self.old.window }
+        ensures lies { self.new.memory.window ≡ self.old.memory.window }
     {
         if let Some(code) = self.barred(handle) {
             return self.refuse(code);
@@ -42,10 +43,10 @@ impl<S: BlockStore> Heap<S> {
     /// `MoveHHi`: moves the block of a handle to the top of its run of movable blocks. Returns -117 (memLockedErr)
     /// where the block is locked.
     pub fn move_h_hi(&mut self, handle: Option<usize>) -> Result<(), Refusal>
-        ensures answer { IsAnswer (unless (barred handle self.old) (noting (move_h_hi handle)) self.old)
-            result self.new }
+        ensures answer { IsAnswer (unless (barred handle self.old.memory) (noting (move_h_hi handle)) self.old.memory)
+            result self.new.memory }
         ensures host { result ≢ Err Refusal.HostMemory }
-        ensures lies { self.new.window ≡ self.old.window }
+        ensures lies { self.new.memory.window ≡ self.old.memory.window }
     {
         if let Some(code) = self.barred(handle) {
             return self.refuse(code);
@@ -57,10 +58,10 @@ impl<S: BlockStore> Heap<S> {
     /// `HLockHi`: moves the block of a handle to the top of its run of movable blocks, as `MoveHHi` does, and locks
     /// the block there. Returns -117 (memLockedErr) where the block is locked already.
     pub fn h_lock_hi(&mut self, handle: Option<usize>) -> Result<(), Refusal>
-        ensures answer { IsAnswer (unless (barred handle self.old) (noting (h_lock_hi handle)) self.old)
-            result self.new }
+        ensures answer { IsAnswer (unless (barred handle self.old.memory) (noting (h_lock_hi handle)) self.old.memory)
+            result self.new.memory }
         ensures host { result ≢ Err Refusal.HostMemory }
-        ensures lies { self.new.window ≡ self.old.window }
+        ensures lies { self.new.memory.window ≡ self.old.memory.window }
     {
         if let Some(code) = self.barred(handle) {
             return self.refuse(code);
@@ -71,9 +72,9 @@ impl<S: BlockStore> Heap<S> {
 
     /// Hoists the block of a handle: moves the block to the top of its run.
     fn hoist_handle(&mut self, handle: Option<usize>) -> Result<(), Refusal>
-        ensures answer { IsAnswer (silent (move_h_hi handle) self.old) result self.new }
+        ensures answer { IsAnswer (silent (move_h_hi handle) self.old.memory) result self.new.memory }
         ensures host { result ≢ Err Refusal.HostMemory }
-        ensures lies { self.new.window ≡ self.old.window }
+        ensures lies { self.new.memory.window ≡ self.old.memory.window }
     {
         let found = slot_of(&self.names, handle)?;
         let Some(place) = self.store.place_of(found.slot) else {
@@ -91,9 +92,9 @@ impl<S: BlockStore> Heap<S> {
 
     /// Hoists the block of a handle, and locks the block there.
     pub(crate) fn hoist_and_lock(&mut self, handle: Option<usize>) -> Result<(), Refusal>
-        ensures answer { IsAnswer (silent (h_lock_hi handle) self.old) result self.new }
+        ensures answer { IsAnswer (silent (h_lock_hi handle) self.old.memory) result self.new.memory }
         ensures host { result ≢ Err Refusal.HostMemory }
-        ensures lies { self.new.window ≡ self.old.window }
+        ensures lies { self.new.memory.window ≡ self.old.memory.window }
     {
         self.hoist_handle(handle)?;
         self.set_flags(handle, Some(true), None)?;

@@ -26,19 +26,19 @@ impl<S: BlockStore> Heap<S> {
     /// so over a store that takes no host memory.
     pub fn new_empty_handle<K: PurgeSink>(&mut self, sink: &mut K) -> Result<usize, Refusal>
         requires idle { IsIdle K.told K.waits sink.old }
-        ensures answer { IsAnswer (searching (new_empty_handle_searches self.old.heap)
-            (noting new_empty_handle self.old)) result self.new }
+        ensures answer { IsAnswer (searching (new_empty_handle_searches self.old.memory.heap)
+            (noting new_empty_handle self.old.memory)) result self.new.memory }
         ensures told { result ≢ Err Refusal.HostMemory → K.listens sink.old ≡ true
-            → Tells K.told (new_empty_handle_gone self.old.heap) sink.old sink.new }
+            → Tells K.told (new_empty_handle_gone self.old.memory.heap) sink.old sink.new }
         ensures untold { result ≡ Err Refusal.HostMemory
             → IsTrue S.TAKES_HOST ⊎ TellsNothing K.told sink.old sink.new }
         ensures idle { IsIdle K.told K.waits sink.new }
         ensures listens { K.listens sink.new ≡ K.listens sink.old }
         ensures host { result ≡ Err Refusal.HostMemory → IsTrue S.TAKES_HOST ⊎ (self.new ≡ self.old) }
         ensures reserved { result ≡ Err Refusal.HostMemory → IsTrue S.TAKES_HOST
-            ⊎ ((self.old.log.reserved ≤ length self.old.heap.names) ⊎ (K.listens sink.old ≡ true)) }
-        ensures kept { result ≡ Err Refusal.HostMemory → KeepsMoves self.old self.new }
-        ensures lies { self.new.window ≡ self.old.window }
+            ⊎ ((self.old.memory.log.reserved ≤ length self.old.memory.heap.names) ⊎ (K.listens sink.old ≡ true)) }
+        ensures kept { result ≡ Err Refusal.HostMemory → KeepsMoves self.old.memory self.new.memory }
+        ensures lies { self.new.memory.window ≡ self.old.memory.window }
     {
         let answer = self.make_empty_handle(sink);
         self.note(answer)
@@ -50,17 +50,17 @@ impl<S: BlockStore> Heap<S> {
     /// only where the sink listens, and the whole heap stays as it was.
     pub fn more_masters<K: PurgeSink>(&mut self, sink: &mut K) -> Result<(), Refusal>
         requires idle { IsIdle K.told K.waits sink.old }
-        ensures answer { IsAnswer (searching (more_masters_searches self.old.heap) (noting add_masters self.old)) result
-            self.new }
+        ensures answer { IsAnswer (searching (more_masters_searches self.old.memory.heap) (noting add_masters
+            self.old.memory)) result self.new.memory }
         ensures told { result ≢ Err Refusal.HostMemory → K.listens sink.old ≡ true
-            → Tells K.told (more_masters_gone self.old.heap) sink.old sink.new }
+            → Tells K.told (more_masters_gone self.old.memory.heap) sink.old sink.new }
         ensures untold { result ≡ Err Refusal.HostMemory → IsTrue S.TAKES_HOST
             ⊎ ((self.new ≡ self.old) × TellsNothing K.told sink.old sink.new) }
         ensures idle { IsIdle K.told K.waits sink.new }
         ensures listens { K.listens sink.new ≡ K.listens sink.old }
         ensures host { result ≡ Err Refusal.HostMemory → IsTrue S.TAKES_HOST ⊎ (K.listens sink.old ≡ true) }
-        ensures kept { result ≡ Err Refusal.HostMemory → KeepsMoves self.old self.new }
-        ensures lies { self.new.window ≡ self.old.window }
+        ensures kept { result ≡ Err Refusal.HostMemory → KeepsMoves self.old.memory self.new.memory }
+        ensures lies { self.new.memory.window ≡ self.old.memory.window }
     {
         self.tell_masters(sink)?;
         let answer = self.add_masters();
@@ -73,17 +73,17 @@ impl<S: BlockStore> Heap<S> {
     /// no host memory that can be only where the sink listens, and the whole heap stays as it was.
     pub fn reserve_mem<K: PurgeSink>(&mut self, size: u32, sink: &mut K) -> Result<(), Refusal>
         requires idle { IsIdle K.told K.waits sink.old }
-        ensures answer { IsAnswer (searching (reserve_searches (physical_size size) self.old.heap)
-            (noting (reserve_mem size) self.old)) result self.new }
+        ensures answer { IsAnswer (searching (reserve_searches (physical_size size) self.old.memory.heap)
+            (noting (reserve_mem size) self.old.memory)) result self.new.memory }
         ensures told { result ≢ Err Refusal.HostMemory → K.listens sink.old ≡ true
-            → Tells K.told (reserve_gone (physical_size size) self.old.heap) sink.old sink.new }
+            → Tells K.told (reserve_gone (physical_size size) self.old.memory.heap) sink.old sink.new }
         ensures untold { result ≡ Err Refusal.HostMemory → IsTrue S.TAKES_HOST
             ⊎ ((self.new ≡ self.old) × TellsNothing K.told sink.old sink.new) }
         ensures idle { IsIdle K.told K.waits sink.new }
         ensures listens { K.listens sink.new ≡ K.listens sink.old }
         ensures host { result ≡ Err Refusal.HostMemory → IsTrue S.TAKES_HOST ⊎ (K.listens sink.old ≡ true) }
-        ensures kept { result ≡ Err Refusal.HostMemory → KeepsMoves self.old self.new }
-        ensures lies { self.new.window ≡ self.old.window }
+        ensures kept { result ≡ Err Refusal.HostMemory → KeepsMoves self.old.memory self.new.memory }
+        ensures lies { self.new.memory.window ≡ self.old.memory.window }
     {
         self.tell_reserve(size, sink)?;
         let answer = self.reserve_base(size);
@@ -95,18 +95,18 @@ impl<S: BlockStore> Heap<S> {
     pub(crate) fn make_empty_handle<K: PurgeSink>(&mut self, sink: &mut K) -> Result<usize, Refusal>
         requires idle { IsIdle K.told K.waits sink.old }
         ensures told { result ≢ Err Refusal.HostMemory → K.listens sink.old ≡ true
-            → Tells K.told (new_empty_handle_gone self.old.heap) sink.old sink.new }
+            → Tells K.told (new_empty_handle_gone self.old.memory.heap) sink.old sink.new }
         ensures untold { result ≡ Err Refusal.HostMemory
             → IsTrue S.TAKES_HOST ⊎ TellsNothing K.told sink.old sink.new }
         ensures idle { IsIdle K.told K.waits sink.new }
         ensures listens { K.listens sink.new ≡ K.listens sink.old }
-        ensures answer { IsAnswer (searching (new_empty_handle_searches self.old.heap)
-            (silent new_empty_handle self.old)) result self.new }
+        ensures answer { IsAnswer (searching (new_empty_handle_searches self.old.memory.heap)
+            (silent new_empty_handle self.old.memory)) result self.new.memory }
         ensures host { result ≡ Err Refusal.HostMemory → IsTrue S.TAKES_HOST ⊎ (self.new ≡ self.old) }
         ensures reserved { result ≡ Err Refusal.HostMemory → IsTrue S.TAKES_HOST
-            ⊎ ((self.old.log.reserved ≤ length self.old.heap.names) ⊎ (K.listens sink.old ≡ true)) }
-        ensures kept { result ≡ Err Refusal.HostMemory → KeepsMoves self.old self.new }
-        ensures lies { self.new.window ≡ self.old.window }
+            ⊎ ((self.old.memory.log.reserved ≤ length self.old.memory.heap.names) ⊎ (K.listens sink.old ≡ true)) }
+        ensures kept { result ≡ Err Refusal.HostMemory → KeepsMoves self.old.memory self.new.memory }
+        ensures lies { self.new.memory.window ≡ self.old.memory.window }
     {
         self.names.reserve(1)?;
         let taken = make_slot(&mut self.store, &self.names, Sparing::Nothing, sink)?;
@@ -118,7 +118,7 @@ impl<S: BlockStore> Heap<S> {
     fn tell_masters<K: PurgeSink>(&self, sink: &mut K) -> Result<(), AllocError>
         requires idle { IsIdle K.told K.waits sink.old }
         ensures told { OnOk result (K.listens sink.old ≡ true
-            → Tells K.told (more_masters_gone self.now.heap) sink.old sink.new) }
+            → Tells K.told (more_masters_gone self.now.memory.heap) sink.old sink.new) }
         ensures untold { OnErr result (TellsNothing K.told sink.old sink.new) }
         ensures idle { IsIdle K.told K.waits sink.new }
         ensures listens { K.listens sink.new ≡ K.listens sink.old }
@@ -131,7 +131,7 @@ impl<S: BlockStore> Heap<S> {
     fn tell_reserve<K: PurgeSink>(&self, size: u32, sink: &mut K) -> Result<(), AllocError>
         requires idle { IsIdle K.told K.waits sink.old }
         ensures told { OnOk result (K.listens sink.old ≡ true
-            → Tells K.told (reserve_gone (physical_size size) self.now.heap) sink.old sink.new) }
+            → Tells K.told (reserve_gone (physical_size size) self.now.memory.heap) sink.old sink.new) }
         ensures untold { OnErr result (TellsNothing K.told sink.old sink.new) }
         ensures idle { IsIdle K.told K.waits sink.new }
         ensures listens { K.listens sink.new ≡ K.listens sink.old }
@@ -148,11 +148,11 @@ impl<S: BlockStore> Heap<S> {
 
     /// Allocates a block of 64 master pointers, and counts the searches for room.
     fn add_masters(&mut self) -> Result<(), Refusal>
-        ensures answer { IsAnswer (searching (more_masters_searches self.old.heap) (silent add_masters self.old)) result
-            self.new }
+        ensures answer { IsAnswer (searching (more_masters_searches self.old.memory.heap) (silent add_masters
+            self.old.memory)) result self.new.memory }
         ensures host { result ≡ Err Refusal.HostMemory → IsTrue S.TAKES_HOST }
-        ensures kept { result ≡ Err Refusal.HostMemory → KeepsMoves self.old self.new }
-        ensures lies { self.new.window ≡ self.old.window }
+        ensures kept { result ≡ Err Refusal.HostMemory → KeepsMoves self.old.memory self.new.memory }
+        ensures lies { self.new.memory.window ≡ self.old.memory.window }
     {
         let room = make_masters(&mut self.store, Sparing::Nothing)?;
         self.account(Grown {
@@ -163,11 +163,11 @@ impl<S: BlockStore> Heap<S> {
 
     /// Makes room for a block at the base of a run, and counts the searches for room.
     fn reserve_base(&mut self, size: u32) -> Result<(), Refusal>
-        ensures answer { IsAnswer (searching (reserve_searches (physical_size size) self.old.heap)
-            (silent (reserve_mem size) self.old)) result self.new }
+        ensures answer { IsAnswer (searching (reserve_searches (physical_size size) self.old.memory.heap)
+            (silent (reserve_mem size) self.old.memory)) result self.new.memory }
         ensures host { result ≡ Err Refusal.HostMemory → IsTrue S.TAKES_HOST }
-        ensures kept { result ≡ Err Refusal.HostMemory → KeepsMoves self.old self.new }
-        ensures lies { self.new.window ≡ self.old.window }
+        ensures kept { result ≡ Err Refusal.HostMemory → KeepsMoves self.old.memory self.new.memory }
+        ensures lies { self.new.memory.window ≡ self.old.memory.window }
     {
         let Some(bytes) = phys(size) else {
             return Err(Refusal::Code(OsErr::MEM_FULL));

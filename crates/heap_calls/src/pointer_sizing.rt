@@ -39,19 +39,19 @@ impl<S: BlockStore> Heap<S> {
         sink: &mut K,
     ) -> Result<(), Refusal>
         requires idle { IsIdle K.told K.waits sink.old }
-        ensures answer { IsAnswer (unless (pointer_barred pointer self.old)
-            (seeking (set_pointer_size_searches pointer size) (set_pointer_size pointer size)) self.old) result
-            self.new }
+        ensures answer { IsAnswer (unless (pointer_barred pointer self.old.memory)
+            (seeking (set_pointer_size_searches pointer size) (set_pointer_size pointer size)) self.old.memory) result
+            self.new.memory }
         ensures told { result ≢ Err Refusal.HostMemory → K.listens sink.old ≡ true → Tells K.told
-            (gone_unless (pointer_barred pointer self.old) (set_pointer_size_gone pointer size self.old.heap)) sink.old
-            sink.new }
+            (gone_unless (pointer_barred pointer self.old.memory) (set_pointer_size_gone pointer size
+            self.old.memory.heap)) sink.old sink.new }
         ensures untold { result ≡ Err Refusal.HostMemory → IsTrue S.TAKES_HOST
             ⊎ ((self.new ≡ self.old) × TellsNothing K.told sink.old sink.new) }
         ensures idle { IsIdle K.told K.waits sink.new }
         ensures listens { K.listens sink.new ≡ K.listens sink.old }
         ensures host { result ≡ Err Refusal.HostMemory → IsTrue S.TAKES_HOST ⊎ (K.listens sink.old ≡ true) }
-        ensures kept { result ≡ Err Refusal.HostMemory → KeepsMoves self.old self.new }
-        ensures lies { self.new.window ≡ self.old.window }
+        ensures kept { result ≡ Err Refusal.HostMemory → KeepsMoves self.old.memory self.new.memory }
+        ensures lies { self.new.memory.window ≡ self.old.memory.window }
     {
         if let Some(code) = self.pointer_barred(pointer) {
             return self.refuse(code);
@@ -70,7 +70,7 @@ impl<S: BlockStore> Heap<S> {
     ) -> Result<(), AllocError>
         requires idle { IsIdle K.told K.waits sink.old }
         ensures told { OnOk result (K.listens sink.old ≡ true
-            → Tells K.told (set_pointer_size_gone pointer size self.now.heap) sink.old sink.new) }
+            → Tells K.told (set_pointer_size_gone pointer size self.now.memory.heap) sink.old sink.new) }
         ensures untold { OnErr result (TellsNothing K.told sink.old sink.new) }
         ensures idle { IsIdle K.told K.waits sink.new }
         ensures listens { K.listens sink.new ≡ K.listens sink.old }
@@ -87,11 +87,11 @@ impl<S: BlockStore> Heap<S> {
 
     /// Changes the logical size of a pointer's block, and counts the searches for room.
     fn fit_pointer(&mut self, pointer: Option<usize>, size: u32) -> Result<(), Refusal>
-        ensures answer { IsAnswer (searching (set_pointer_size_searches pointer size self.old.heap)
-            (silent (set_pointer_size pointer size) self.old)) result self.new }
+        ensures answer { IsAnswer (searching (set_pointer_size_searches pointer size self.old.memory.heap)
+            (silent (set_pointer_size pointer size) self.old.memory)) result self.new.memory }
         ensures host { result ≡ Err Refusal.HostMemory → IsTrue S.TAKES_HOST }
-        ensures kept { result ≡ Err Refusal.HostMemory → KeepsMoves self.old self.new }
-        ensures lies { self.new.window ≡ self.old.window }
+        ensures kept { result ≡ Err Refusal.HostMemory → KeepsMoves self.old.memory self.new.memory }
+        ensures lies { self.new.memory.window ≡ self.old.memory.window }
     {
         let target = target_of(&self.names, pointer)?;
         let grown = fit_nonrelocatable(&mut self.store, target.place, size)?;

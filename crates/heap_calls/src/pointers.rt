@@ -31,19 +31,19 @@ impl<S: BlockStore> Heap<S> {
     /// and the whole heap and the sink stay so over a store that takes no host memory.
     pub fn new_pointer<K: PurgeSink>(&mut self, size: u32, sink: &mut K) -> Result<usize, Refusal>
         requires idle { IsIdle K.told K.waits sink.old }
-        ensures answer { IsAnswer (searching (new_pointer_searches size self.old.heap)
-            (noting (new_pointer size) self.old)) result self.new }
+        ensures answer { IsAnswer (searching (new_pointer_searches size self.old.memory.heap)
+            (noting (new_pointer size) self.old.memory)) result self.new.memory }
         ensures told { result ≢ Err Refusal.HostMemory → K.listens sink.old ≡ true
-            → Tells K.told (new_pointer_gone size self.old.heap) sink.old sink.new }
+            → Tells K.told (new_pointer_gone size self.old.memory.heap) sink.old sink.new }
         ensures untold { result ≡ Err Refusal.HostMemory
             → IsTrue S.TAKES_HOST ⊎ TellsNothing K.told sink.old sink.new }
         ensures idle { IsIdle K.told K.waits sink.new }
         ensures listens { K.listens sink.new ≡ K.listens sink.old }
         ensures host { result ≡ Err Refusal.HostMemory → IsTrue S.TAKES_HOST ⊎ (self.new ≡ self.old) }
         ensures reserved { result ≡ Err Refusal.HostMemory → IsTrue S.TAKES_HOST
-            ⊎ ((self.old.log.reserved ≤ length self.old.heap.names) ⊎ (K.listens sink.old ≡ true)) }
-        ensures kept { result ≡ Err Refusal.HostMemory → KeepsMoves self.old self.new }
-        ensures lies { self.new.window ≡ self.old.window }
+            ⊎ ((self.old.memory.log.reserved ≤ length self.old.memory.heap.names) ⊎ (K.listens sink.old ≡ true)) }
+        ensures kept { result ≡ Err Refusal.HostMemory → KeepsMoves self.old.memory self.new.memory }
+        ensures lies { self.new.memory.window ≡ self.old.memory.window }
     {
         let answer = self.make_pointer(size, sink);
         self.note(answer)
@@ -51,10 +51,10 @@ impl<S: BlockStore> Heap<S> {
 
     /// `DisposePtr`: disposes of a pointer. Its block becomes free.
     pub fn dispose_pointer(&mut self, pointer: Option<usize>) -> Result<(), Refusal>
-        ensures answer { IsAnswer (unless (pointer_barred pointer self.old) (noting (dispose_pointer pointer)) self.old)
-            result self.new }
+        ensures answer { IsAnswer (unless (pointer_barred pointer self.old.memory) (noting (dispose_pointer pointer))
+            self.old.memory) result self.new.memory }
         ensures host { result ≢ Err Refusal.HostMemory }
-        ensures lies { self.new.window ≡ self.old.window }
+        ensures lies { self.new.memory.window ≡ self.old.memory.window }
     {
         if let Some(code) = self.pointer_barred(pointer) {
             return self.refuse(code);
@@ -65,10 +65,10 @@ impl<S: BlockStore> Heap<S> {
 
     /// `GetPtrSize`: returns the logical size in bytes of the block of a pointer.
     pub fn get_pointer_size(&mut self, pointer: Option<usize>) -> Result<u32, Refusal>
-        ensures answer { IsAnswer (unless (pointer_barred pointer self.old) (noting (get_pointer_size pointer))
-            self.old) result self.new }
+        ensures answer { IsAnswer (unless (pointer_barred pointer self.old.memory) (noting (get_pointer_size pointer))
+            self.old.memory) result self.new.memory }
         ensures host { result ≢ Err Refusal.HostMemory }
-        ensures lies { self.new.window ≡ self.old.window }
+        ensures lies { self.new.memory.window ≡ self.old.memory.window }
     {
         if let Some(code) = self.pointer_barred(pointer) {
             return self.refuse(code);
@@ -85,10 +85,10 @@ impl<S: BlockStore> Heap<S> {
         from: u32,
         bytes: &[u8],
     ) -> Result<(), Refusal>
-        ensures answer { IsAnswer (unless_silent (pointer_barred pointer self.old)
-            (silent (put_pointer pointer from bytes.now)) self.old) result self.new }
+        ensures answer { IsAnswer (unless_silent (pointer_barred pointer self.old.memory)
+            (silent (put_pointer pointer from bytes.now)) self.old.memory) result self.new.memory }
         ensures host { result ≢ Err Refusal.HostMemory }
-        ensures lies { self.new.window ≡ self.old.window }
+        ensures lies { self.new.memory.window ≡ self.old.memory.window }
     {
         if let Some(code) = self.pointer_barred(pointer) {
             return Err(Refusal::Code(code));
@@ -99,8 +99,8 @@ impl<S: BlockStore> Heap<S> {
     /// `ShowPtr`: returns the bytes of the block of a pointer. The call does not set the code that `MemError`
     /// returns.
     pub fn show_pointer(&self, pointer: Option<usize>) -> Result<&[u8], Refusal>
-        ensures answer { IsShown (unless_silent (pointer_barred pointer self.now) (silent (show_pointer pointer))
-            self.now) result self.now }
+        ensures answer { IsShown (unless_silent (pointer_barred pointer self.now.memory) (silent (show_pointer pointer))
+            self.now.memory) result self.now.memory }
         ensures host { result ≢ Err Refusal.HostMemory }
     {
         if let Some(code) = self.pointer_barred(pointer) {
@@ -113,19 +113,19 @@ impl<S: BlockStore> Heap<S> {
     /// are purged to a sink, if it listens.
     fn make_pointer<K: PurgeSink>(&mut self, size: u32, sink: &mut K) -> Result<usize, Refusal>
         requires idle { IsIdle K.told K.waits sink.old }
-        ensures answer { IsAnswer (searching (new_pointer_searches size self.old.heap)
-            (silent (new_pointer size) self.old)) result self.new }
+        ensures answer { IsAnswer (searching (new_pointer_searches size self.old.memory.heap)
+            (silent (new_pointer size) self.old.memory)) result self.new.memory }
         ensures told { result ≢ Err Refusal.HostMemory → K.listens sink.old ≡ true
-            → Tells K.told (new_pointer_gone size self.old.heap) sink.old sink.new }
+            → Tells K.told (new_pointer_gone size self.old.memory.heap) sink.old sink.new }
         ensures untold { result ≡ Err Refusal.HostMemory
             → IsTrue S.TAKES_HOST ⊎ TellsNothing K.told sink.old sink.new }
         ensures idle { IsIdle K.told K.waits sink.new }
         ensures listens { K.listens sink.new ≡ K.listens sink.old }
         ensures host { result ≡ Err Refusal.HostMemory → IsTrue S.TAKES_HOST ⊎ (self.new ≡ self.old) }
         ensures reserved { result ≡ Err Refusal.HostMemory → IsTrue S.TAKES_HOST
-            ⊎ ((self.old.log.reserved ≤ length self.old.heap.names) ⊎ (K.listens sink.old ≡ true)) }
-        ensures kept { result ≡ Err Refusal.HostMemory → KeepsMoves self.old self.new }
-        ensures lies { self.new.window ≡ self.old.window }
+            ⊎ ((self.old.memory.log.reserved ≤ length self.old.memory.heap.names) ⊎ (K.listens sink.old ≡ true)) }
+        ensures kept { result ≡ Err Refusal.HostMemory → KeepsMoves self.old.memory self.new.memory }
+        ensures lies { self.new.memory.window ≡ self.old.memory.window }
     {
         self.names.reserve(1)?;
         tell_nonrelocatable(&self.store, &self.names, size, sink)?;
@@ -141,9 +141,9 @@ impl<S: BlockStore> Heap<S> {
 
     /// Disposes of a pointer and its block.
     fn free_block(&mut self, pointer: Option<usize>) -> Result<(), Refusal>
-        ensures answer { IsAnswer (silent (dispose_pointer pointer) self.old) result self.new }
+        ensures answer { IsAnswer (silent (dispose_pointer pointer) self.old.memory) result self.new.memory }
         ensures host { result ≢ Err Refusal.HostMemory }
-        ensures lies { self.new.window ≡ self.old.window }
+        ensures lies { self.new.memory.window ≡ self.old.memory.window }
     {
         let target = target_of(&self.names, pointer)?;
         self.store.free_at(target.place);
@@ -158,9 +158,9 @@ impl<S: BlockStore> Heap<S> {
         from: u32,
         bytes: &[u8],
     ) -> Result<(), Refusal>
-        ensures answer { IsAnswer (silent (put_pointer pointer from bytes.now) self.old) result self.new }
+        ensures answer { IsAnswer (silent (put_pointer pointer from bytes.now) self.old.memory) result self.new.memory }
         ensures host { result ≢ Err Refusal.HostMemory }
-        ensures lies { self.new.window ≡ self.old.window }
+        ensures lies { self.new.memory.window ≡ self.old.memory.window }
     {
         let target = target_of(&self.names, pointer)?;
         let len = self.store.bytes(target.place).len();
@@ -173,7 +173,7 @@ impl<S: BlockStore> Heap<S> {
 
     /// Returns the bytes of the block of a pointer, whether the pointer is busy or not.
     fn pointer_bytes(&self, pointer: Option<usize>) -> Result<&[u8], Refusal>
-        ensures answer { IsShown (silent (show_pointer pointer) self.now) result self.now }
+        ensures answer { IsShown (silent (show_pointer pointer) self.now.memory) result self.now.memory }
         ensures host { result ≢ Err Refusal.HostMemory }
     {
         let target = target_of(&self.names, pointer)?;
@@ -182,7 +182,7 @@ impl<S: BlockStore> Heap<S> {
 
     /// Returns the logical size in bytes of the block of a pointer.
     fn bytes_of(&self, pointer: Option<usize>) -> Result<u32, Refusal>
-        ensures answer { IsAnswer (silent (get_pointer_size pointer) self.now) result self.now }
+        ensures answer { IsAnswer (silent (get_pointer_size pointer) self.now.memory) result self.now.memory }
         ensures host { result ≢ Err Refusal.HostMemory }
     {
         let target = target_of(&self.names, pointer)?;

@@ -41,16 +41,16 @@ impl<S: BlockStore> Heap<S> {
     /// the host out of memory, nothing is purged.
     pub fn purge_mem<K: PurgeSink>(&mut self, size: u32, sink: &mut K) -> Result<(), Refusal>
         requires idle { IsIdle K.told K.waits sink.old }
-        ensures answer { IsAnswer (searching (purge_mem_searches size self.old.heap) (noting (purge_mem size) self.old))
-            result self.new }
+        ensures answer { IsAnswer (searching (purge_mem_searches size self.old.memory.heap) (noting (purge_mem size)
+            self.old.memory)) result self.new.memory }
         ensures told { result ≢ Err Refusal.HostMemory → K.listens sink.old ≡ true
-            → Tells K.told (purge_mem_gone size self.old.heap) sink.old sink.new }
+            → Tells K.told (purge_mem_gone size self.old.memory.heap) sink.old sink.new }
         ensures untold { result ≡ Err Refusal.HostMemory → TellsNothing K.told sink.old sink.new }
         ensures idle { IsIdle K.told K.waits sink.new }
         ensures listens { K.listens sink.new ≡ K.listens sink.old }
         ensures host { result ≡ Err Refusal.HostMemory → K.listens sink.old ≡ true }
         ensures kept { result ≡ Err Refusal.HostMemory → self.new ≡ self.old }
-        ensures lies { self.new.window ≡ self.old.window }
+        ensures lies { self.new.memory.window ≡ self.old.memory.window }
     {
         self.tell_purge_mem(size, sink)?;
         let answer = self.purge_for(size);
@@ -60,7 +60,7 @@ impl<S: BlockStore> Heap<S> {
     /// `PurgeSpace`: returns what could be allocated if every block that may be purged were purged; nothing is
     /// purged.
     pub fn purge_space(&mut self) -> Space
-        ensures { noting purge_space self.old ≡ (Ok (result.total, result.contiguous), self.new) }
+        ensures { noting purge_space self.old.memory ≡ (Ok (result.total, result.contiguous), self.new.memory) }
     {
         self.log.code = OsErr::NO_ERR;
         Space {
@@ -74,25 +74,28 @@ impl<S: BlockStore> Heap<S> {
 
     /// Returns the number of bytes that are free or belong to blocks that may be purged.
     pub fn free_or_purgeable(&self) -> u32
-        ensures { result ≡ free_sum (purged_all self.now.heap.zone) }
+        ensures { result ≡ free_sum (purged_all self.now.memory.heap.zone) }
     {
         self.store.free_if_purged()
     }
 
     /// `MaxMem`: purges every block that may be purged, compacts all runs of movable blocks, and returns the logical
     /// size in bytes of the largest block that can then be allocated. The blocks are reported to the sink, if it
-    /// listens, before they are purged; where it finds the host out of memory, nothing happens.
+    /// listens, before they are purged; where it finds the host out of memory, nothing happens. Blocks move by packing
+    /// alone: none is raised, hoisted, moved to a free block or made.
     pub fn max_mem<K: PurgeSink>(&mut self, sink: &mut K) -> Result<u32, Refusal>
         requires idle { IsIdle K.told K.waits sink.old }
-        ensures answer { IsAnswer (moving (max_mem_moves self.old.heap) (noting max_mem self.old)) result self.new }
+        ensures answer { IsAnswer (moving (max_mem_moves self.old.memory.heap) (noting max_mem self.old.memory)) result
+            self.new.memory }
         ensures told { result ≢ Err Refusal.HostMemory → K.listens sink.old ≡ true
-            → Tells K.told (max_mem_gone self.old.heap) sink.old sink.new }
+            → Tells K.told (max_mem_gone self.old.memory.heap) sink.old sink.new }
         ensures untold { result ≡ Err Refusal.HostMemory → TellsNothing K.told sink.old sink.new }
         ensures idle { IsIdle K.told K.waits sink.new }
         ensures listens { K.listens sink.new ≡ K.listens sink.old }
         ensures host { result ≡ Err Refusal.HostMemory → K.listens sink.old ≡ true }
         ensures kept { result ≡ Err Refusal.HostMemory → self.new ≡ self.old }
-        ensures lies { self.new.window ≡ self.old.window }
+        ensures placed { self.new.placings ≡ self.old.placings }
+        ensures lies { self.new.memory.window ≡ self.old.memory.window }
     {
         self.tell_max_mem(sink)?;
         Ok(self.purge_and_compact())
@@ -102,7 +105,7 @@ impl<S: BlockStore> Heap<S> {
     fn tell_purge_mem<K: PurgeSink>(&self, size: u32, sink: &mut K) -> Result<(), AllocError>
         requires idle { IsIdle K.told K.waits sink.old }
         ensures told { OnOk result (K.listens sink.old ≡ true
-            → Tells K.told (purge_mem_gone size self.now.heap) sink.old sink.new) }
+            → Tells K.told (purge_mem_gone size self.now.memory.heap) sink.old sink.new) }
         ensures untold { OnErr result (TellsNothing K.told sink.old sink.new) }
         ensures idle { IsIdle K.told K.waits sink.new }
         ensures listens { K.listens sink.new ≡ K.listens sink.old }
@@ -119,7 +122,7 @@ impl<S: BlockStore> Heap<S> {
     fn tell_max_mem<K: PurgeSink>(&self, sink: &mut K) -> Result<(), AllocError>
         requires idle { IsIdle K.told K.waits sink.old }
         ensures told { OnOk result (K.listens sink.old ≡ true
-            → Tells K.told (max_mem_gone self.now.heap) sink.old sink.new) }
+            → Tells K.told (max_mem_gone self.now.memory.heap) sink.old sink.new) }
         ensures untold { OnErr result (TellsNothing K.told sink.old sink.new) }
         ensures idle { IsIdle K.told K.waits sink.new }
         ensures listens { K.listens sink.new ≡ K.listens sink.old }
@@ -135,7 +138,9 @@ impl<S: BlockStore> Heap<S> {
     /// Purges every block that may be purged, compacts all runs of movable blocks, and returns the logical size in bytes
     /// of the largest block that can then be allocated.
     fn purge_and_compact(&mut self) -> u32
-        ensures { moving (max_mem_moves self.old.heap) (noting max_mem self.old) ≡ (Ok result, self.new) }
+        ensures answer { moving (max_mem_moves self.old.memory.heap) (noting max_mem self.old.memory)
+            ≡ (Ok result, self.new.memory) }
+        ensures placed { self.new.placings ≡ self.old.placings }
     {
         let purges = self.store.purgeable(Sparing::Nothing);
         self.store.purge(purges, Sparing::Nothing);
@@ -147,10 +152,10 @@ impl<S: BlockStore> Heap<S> {
     /// Purges blocks, lowest first, until a block of `size` bytes of content has room, and counts the searches for
     /// room.
     fn purge_for(&mut self, size: u32) -> Result<(), Refusal>
-        ensures answer { IsAnswer (searching (purge_mem_searches size self.old.heap) (silent (purge_mem size) self.old))
-            result self.new }
+        ensures answer { IsAnswer (searching (purge_mem_searches size self.old.memory.heap) (silent (purge_mem size)
+            self.old.memory)) result self.new.memory }
         ensures host { result ≢ Err Refusal.HostMemory }
-        ensures lies { self.new.window ≡ self.old.window }
+        ensures lies { self.new.memory.window ≡ self.old.memory.window }
     {
         let bytes = phys(size);
         let purges = purges_for(&self.store, bytes);

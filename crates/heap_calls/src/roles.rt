@@ -13,14 +13,14 @@ use block_store::BlockStore;
 impl<S: BlockStore> Heap<S> {
     /// Reports whether the number that a name is bound to is a handle's; the handle may be empty.
     pub fn is_handle(&self, handle: Option<usize>) -> bool
-        ensures { result ≡ is_ok (handle_at handle self.now.heap) }
+        ensures { result ≡ is_ok (handle_at handle self.now.memory.heap) }
     {
         slot_of(&self.names, handle).is_ok()
     }
 
     /// Reports whether the handle that a name is bound to is a resource's.
     pub fn is_resource(&self, handle: Option<usize>) -> bool
-        ensures { result ≡ is_owned (handle_at handle self.now.heap) }
+        ensures { result ≡ is_owned (handle_at handle self.now.memory.heap) }
     {
         match slot_of(&self.names, handle) {
             Ok(found) => self.store.is_resource(found.slot),
@@ -32,7 +32,7 @@ impl<S: BlockStore> Heap<S> {
     ///
     /// *Inside Macintosh: Memory*, chapter 2, "Setting the Properties of Relocatable Blocks".
     pub fn set_resource(&mut self, number: usize, resource: bool)
-        ensures { self.new ≡ inside (cast (owned_as resource) number) self.old }
+        ensures { self.new.memory ≡ inside (cast (owned_as resource) number) self.old.memory }
     {
         let Ok(found) = slot_of(&self.names, Some(number)) else {
             return;
@@ -47,7 +47,7 @@ impl<S: BlockStore> Heap<S> {
     /// Makes the handle of a resource a System resource's, whose bytes and size cannot be changed, or an ordinary
     /// resource's. An application's own handle stays as it is.
     pub fn set_guard(&mut self, number: usize, guarded: bool)
-        ensures { self.new ≡ inside (cast (guarded_as guarded) number) self.old }
+        ensures { self.new.memory ≡ inside (cast (guarded_as guarded) number) self.old.memory }
     {
         let Ok(found) = slot_of(&self.names, Some(number)) else {
             return;
@@ -60,7 +60,7 @@ impl<S: BlockStore> Heap<S> {
 
     /// Reports whether the handle of a number has a block.
     pub fn has_block(&self, number: usize) -> bool
-        ensures { result ≡ has_block number self.now.heap }
+        ensures { result ≡ has_block number self.now.memory.heap }
     {
         let Ok(found) = slot_of(&self.names, Some(number)) else {
             return false;
@@ -71,7 +71,7 @@ impl<S: BlockStore> Heap<S> {
     /// Returns the bytes of the block of a number's handle, whether the handle is busy or not; `None` where it has no
     /// block.
     pub fn bytes(&self, number: usize) -> Option<&[u8]>
-        ensures { option_map (λ b. b.now) result ≡ bytes_of number self.now.heap }
+        ensures { option_map (λ b. b.now) result ≡ bytes_of number self.now.memory.heap }
     {
         match self.block_bytes(Some(number)) {
             Ok(bytes) => Some(bytes),
@@ -82,7 +82,7 @@ impl<S: BlockStore> Heap<S> {
     /// Disposes of the handle of a number, of whatever role, and of its block, locked or not; the slot is unused
     /// again.
     pub fn release(&mut self, number: usize)
-        ensures { self.new ≡ inside (released number) self.old }
+        ensures { self.new.memory ≡ inside (released number) self.old.memory }
     {
         let Ok(found) = slot_of(&self.names, Some(number)) else {
             return;
@@ -94,7 +94,7 @@ impl<S: BlockStore> Heap<S> {
 
     /// Reports whether the handle that a name is bound to is a System resource's.
     pub(crate) fn is_guarded(&self, handle: Option<usize>) -> bool
-        ensures { result ≡ is_system (handle_at handle self.now.heap) }
+        ensures { result ≡ is_system (handle_at handle self.now.memory.heap) }
     {
         match slot_of(&self.names, handle) {
             Ok(found) => found.guarded && self.store.is_resource(found.slot),

@@ -17,7 +17,7 @@ impl<S: BlockStore> Heap<S> {
     ///
     /// *Inside Macintosh: Processes*, chapter 7, "Loading and Unloading Segments".
     pub fn hold_high(&mut self, handle: usize)
-        ensures { self.new ≡ inside (held_high handle) self.old }
+        ensures { self.new.memory ≡ inside (held_high handle) self.old.memory }
     {
         match self.hoist_and_lock(Some(handle)) {
             Ok(()) | Err(_) => {}
@@ -28,7 +28,7 @@ impl<S: BlockStore> Heap<S> {
     ///
     /// *Inside Macintosh: Processes*, chapter 7, "Loading and Unloading Segments".
     pub fn loosen(&mut self, handle: usize)
-        ensures { self.new ≡ inside (loosened handle) self.old }
+        ensures { self.new.memory ≡ inside (loosened handle) self.old.memory }
     {
         self.put_flags(handle, Some(false), None);
         self.put_flags(handle, None, Some(true));
@@ -37,7 +37,8 @@ impl<S: BlockStore> Heap<S> {
     /// Sets those properties of the block of a number's handle that are given; the others stay as they are, and so
     /// does an empty handle.
     fn put_flags(&mut self, handle: usize, locked: Option<bool>, purgeable: Option<bool>)
-        ensures { self.new ≡ inside (λ s. (change_flags (flags_with locked purgeable) (Some handle) s).1) self.old }
+        ensures { self.new.memory ≡ inside (λ s. (change_flags (flags_with locked purgeable) (Some handle) s).1)
+            self.old.memory }
     {
         match self.set_flags(Some(handle), locked, purgeable) {
             Ok(()) | Err(_) => {}

@@ -48,18 +48,19 @@ impl<S: BlockStore> Heap<S> {
         sink: &mut K,
     ) -> Result<(), Refusal>
         requires idle { IsIdle K.told K.waits sink.old }
-        ensures answer { IsAnswer (unless (change_barred handle self.old) (packing (set_handle_size_moves handle size)
-            (set_handle_size_searches handle size) (set_handle_size handle size)) self.old) result self.new }
+        ensures answer { IsAnswer (unless (change_barred handle self.old.memory) (packing (set_handle_size_moves handle
+            size) (set_handle_size_searches handle size) (set_handle_size handle size)) self.old.memory) result
+            self.new.memory }
         ensures told { result ≢ Err Refusal.HostMemory → K.listens sink.old ≡ true → Tells K.told
-            (gone_unless (change_barred handle self.old) (set_handle_size_gone handle size self.old.heap)) sink.old
-            sink.new }
+            (gone_unless (change_barred handle self.old.memory) (set_handle_size_gone handle size self.old.memory.heap))
+            sink.old sink.new }
         ensures untold { result ≡ Err Refusal.HostMemory → IsTrue S.TAKES_HOST
             ⊎ ((self.new ≡ self.old) × TellsNothing K.told sink.old sink.new) }
         ensures idle { IsIdle K.told K.waits sink.new }
         ensures listens { K.listens sink.new ≡ K.listens sink.old }
         ensures host { result ≡ Err Refusal.HostMemory → IsTrue S.TAKES_HOST ⊎ (K.listens sink.old ≡ true) }
-        ensures kept { result ≡ Err Refusal.HostMemory → KeepsNames self.old self.new }
-        ensures lies { self.new.window ≡ self.old.window }
+        ensures kept { result ≡ Err Refusal.HostMemory → KeepsNames self.old.memory self.new.memory }
+        ensures lies { self.new.memory.window ≡ self.old.memory.window }
     {
         if let Some(code) = self.change_barred(handle) {
             return self.refuse(code);
@@ -78,7 +79,7 @@ impl<S: BlockStore> Heap<S> {
     ) -> Result<(), AllocError>
         requires idle { IsIdle K.told K.waits sink.old }
         ensures told { OnOk result (K.listens sink.old ≡ true
-            → Tells K.told (set_handle_size_gone handle size self.now.heap) sink.old sink.new) }
+            → Tells K.told (set_handle_size_gone handle size self.now.memory.heap) sink.old sink.new) }
         ensures untold { OnErr result (TellsNothing K.told sink.old sink.new) }
         ensures idle { IsIdle K.told K.waits sink.new }
         ensures listens { K.listens sink.new ≡ K.listens sink.old }
@@ -103,12 +104,12 @@ impl<S: BlockStore> Heap<S> {
 
     /// Changes the logical size of a handle's block, and counts the searches for room.
     fn give_size(&mut self, handle: Option<usize>, size: u32) -> Result<(), Refusal>
-        ensures answer { IsAnswer (moving (set_handle_size_moves handle size self.old.heap)
-            (searching (set_handle_size_searches handle size self.old.heap)
-            (silent (set_handle_size handle size) self.old))) result self.new }
+        ensures answer { IsAnswer (moving (set_handle_size_moves handle size self.old.memory.heap)
+            (searching (set_handle_size_searches handle size self.old.memory.heap)
+            (silent (set_handle_size handle size) self.old.memory))) result self.new.memory }
         ensures host { result ≡ Err Refusal.HostMemory → IsTrue S.TAKES_HOST }
-        ensures kept { result ≡ Err Refusal.HostMemory → KeepsNames self.old self.new }
-        ensures lies { self.new.window ≡ self.old.window }
+        ensures kept { result ≡ Err Refusal.HostMemory → KeepsNames self.old.memory self.new.memory }
+        ensures lies { self.new.memory.window ≡ self.old.memory.window }
     {
         let held = reach(&self.store, &self.names, handle)?;
         let sparing = Sparing::One(held.slot);
@@ -120,9 +121,9 @@ impl<S: BlockStore> Heap<S> {
     /// room.
     pub(crate) fn account(&mut self, grown: Grown) -> Result<(), Refusal>
         ensures reply { result ≡ sized_reply grown.done }
-        ensures counted { self.new ≡ record self.old {
-          log = record self.old.log
-              { searches = counted self.old.log.searches grown.searches };
+        ensures counted { self.new.memory ≡ record self.old.memory {
+          log = record self.old.memory.log
+              { searches = counted self.old.memory.log.searches grown.searches };
         } }
     {
         self.log.count(grown.searches);

@@ -63,12 +63,12 @@ fn add_to<S: BlockStore>(
     new: NewReference<'_>,
 ) -> Result<(), Refusal>
     ensures answer { (r : ResourcesValue) → IsAnswered (λ (u : Unit {0}). u)
-        (on_file current (managers (chained files.old.items r) heap.old) (λ at. done tt (added_to at
-        (view_new new.entry) new.entry.handle (managers (chained files.old.items r) heap.old))))
-        result (managers (chained files.new.items r) heap.new) }
+        (on_file current (managers (chained files.old.items r) heap.old.memory) (λ at. done tt (added_to at
+        (view_new new.entry) new.entry.handle (managers (chained files.old.items r) heap.old.memory))))
+        result (managers (chained files.new.items r) heap.new.memory) }
     ensures kept { result ≡ Err Refusal.HostMemory → map view_open files.new.items ≡ map view_open files.old.items }
     ensures heap { result ≡ Err Refusal.HostMemory → heap.new ≡ heap.old }
-    ensures lies { heap.new.window ≡ heap.old.window }
+    ensures lies { heap.new.memory.window ≡ heap.old.memory.window }
 {
     let Some(at) = place_numbered(files, current) else {
         return Err(Refusal::Code(OsErr::RES_FILE_NOT_FOUND));
@@ -89,13 +89,14 @@ fn add_with<S: BlockStore>(
     new: NewReference<'_>,
 ) -> Result<(), Refusal>
     ensures answer { (r : ResourcesValue) (role : Role) → r.current ≡ current
-        → handle_at (Some new.entry.handle) heap.old.heap ≡ Ok (record { number = new.entry.handle; role = role })
+        → handle_at (Some new.entry.handle) heap.old.memory.heap
+        ≡ Ok (record { number = new.entry.handle; role = role })
         → IsAnswered (λ (u : Unit {0}). u) (add_found role (view_new new.entry) new.entry.handle
-        (managers (chained files.old.items r) heap.old))
-        result (managers (chained files.new.items r) heap.new) }
+        (managers (chained files.old.items r) heap.old.memory))
+        result (managers (chained files.new.items r) heap.new.memory) }
     ensures kept { result ≡ Err Refusal.HostMemory → map view_open files.new.items ≡ map view_open files.old.items }
     ensures heap { result ≡ Err Refusal.HostMemory → heap.new ≡ heap.old }
-    ensures lies { heap.new.window ≡ heap.old.window }
+    ensures lies { heap.new.memory.window ≡ heap.old.memory.window }
 {
     if heap.is_resource(Some(new.handle)) || !heap.has_block(new.handle) {
         return Err(Refusal::Code(OsErr::ADD_RES_FAILED));
@@ -120,10 +121,10 @@ fn remove_at<S: BlockStore>(
     ensures answer { (r : ResourcesValue) (f : Found) → found_at at (map view_open files.old.items) ≡ Some f
         → r.current ≡ current
         → IsAnswered (λ (u : Unit {0}). u)
-        (remove_found number (managers (chained files.old.items r) heap.old) f)
-        result (managers (chained files.new.items r) heap.new) }
+        (remove_found number (managers (chained files.old.items r) heap.old.memory) f)
+        result (managers (chained files.new.items r) heap.new.memory) }
     ensures host { result ≢ Err Refusal.HostMemory }
-    ensures lies { heap.new.window ≡ heap.old.window }
+    ensures lies { heap.new.memory.window ≡ heap.old.memory.window }
 {
     let home = number_at(files, at);
     if home == 0 {
@@ -152,10 +153,10 @@ impl Resources {
         name: &Name,
     ) -> Result<(), Refusal>
         ensures answer { IsAnswered (λ (u : Unit {0}). u) (noting (changing.add_resource handle (big_number 4 ty.0) id
-            name.now.0.items) (managers self.old heap.old)) result (managers self.new heap.new) }
+            name.now.0.items) (managers self.old heap.old.memory)) result (managers self.new heap.new.memory) }
         ensures kept { result ≡ Err Refusal.HostMemory → self.new ≡ self.old }
         ensures heap { result ≡ Err Refusal.HostMemory → heap.new ≡ heap.old }
-        ensures lies { heap.new.window ≡ heap.old.window }
+        ensures lies { heap.new.memory.window ≡ heap.old.memory.window }
     {
         let answer = self.add(alloc, heap, handle, ty, id, name);
         self.note(answer)
@@ -172,10 +173,10 @@ impl Resources {
         name: &Name,
     ) -> Result<(), Refusal>
         ensures answer { IsAnswered (λ (u : Unit {0}). u) (changing.add_resource handle (big_number 4 ty.0) id
-            name.now.0.items (managers self.old heap.old)) result (managers self.new heap.new) }
+            name.now.0.items (managers self.old heap.old.memory)) result (managers self.new heap.new.memory) }
         ensures kept { result ≡ Err Refusal.HostMemory → self.new ≡ self.old }
         ensures heap { result ≡ Err Refusal.HostMemory → heap.new ≡ heap.old }
-        ensures lies { heap.new.window ≡ heap.old.window }
+        ensures lies { heap.new.memory.window ≡ heap.old.memory.window }
     {
         let Some(number) = handle else {
             return Err(Refusal::Code(OsErr::RES_NOT_FOUND));
@@ -203,9 +204,9 @@ impl Resources {
         handle: Option<usize>,
     ) -> Result<(), Refusal>
         ensures answer { IsAnswered (λ (u : Unit {0}). u) (noting (changing.remove_resource handle)
-            (managers self.old heap.old)) result (managers self.new heap.new) }
+            (managers self.old heap.old.memory)) result (managers self.new heap.new.memory) }
         ensures host { result ≢ Err Refusal.HostMemory }
-        ensures lies { heap.new.window ≡ heap.old.window }
+        ensures lies { heap.new.memory.window ≡ heap.old.memory.window }
     {
         let answer = self.remove(heap, handle);
         self.note(answer)
@@ -218,10 +219,10 @@ impl Resources {
         handle: Option<usize>,
     ) -> Result<(), Refusal>
         ensures answer { IsAnswered (λ (u : Unit {0}). u)
-            (changing.remove_resource handle (managers self.old heap.old)) result
-            (managers self.new heap.new) }
+            (changing.remove_resource handle (managers self.old heap.old.memory)) result
+            (managers self.new heap.new.memory) }
         ensures host { result ≢ Err Refusal.HostMemory }
-        ensures lies { heap.new.window ≡ heap.old.window }
+        ensures lies { heap.new.memory.window ≡ heap.old.memory.window }
     {
         let Some(number) = handle else {
             return Err(Refusal::Code(OsErr::RES_NOT_FOUND));

@@ -51,8 +51,8 @@ fn write_at<S: BlockStore>(
     requires { is_some (found_at at (map view_open files.old.items)) ≡ true }
     ensures answer { (r : ResourcesValue) (f : Found) → found_at at (map view_open files.old.items) ≡ Some f
         → IsAnswered (λ (u : Unit {0}). u)
-        (write_found (Some number) (managers (chained files.old.items r) heap.now) f)
-        result (managers (chained files.new.items r) heap.now) }
+        (write_found (Some number) (managers (chained files.old.items r) heap.now.memory) f)
+        result (managers (chained files.new.items r) heap.now.memory) }
     ensures kept { result ≡ Err Refusal.HostMemory → map view_open files.new.items ≡ map view_open files.old.items }
 {
     if !has_bit_at(files, at, Attrs::CHANGED) || has_bit_at(files, at, Attrs::PROTECTED) {
@@ -102,7 +102,7 @@ impl Resources {
         handle: Option<usize>,
     ) -> Result<(), Refusal>
         ensures answer { IsAnswered (λ (u : Unit {0}). u) (noting (changing.write_resource handle)
-            (managers self.old heap.now)) result (managers self.new heap.now) }
+            (managers self.old heap.now.memory)) result (managers self.new heap.now.memory) }
         ensures kept { result ≡ Err Refusal.HostMemory → self.new ≡ self.old }
     {
         let answer = self.write(alloc, heap, handle);
@@ -117,7 +117,7 @@ impl Resources {
         handle: Option<usize>,
     ) -> Result<(), Refusal>
         ensures answer { IsAnswered (λ (u : Unit {0}). u) (changing.write_resource handle
-            (managers self.old heap.now)) result (managers self.new heap.now) }
+            (managers self.old heap.now.memory)) result (managers self.new heap.now.memory) }
         ensures kept { result ≡ Err Refusal.HostMemory → self.new ≡ self.old }
     {
         let Some(number) = handle else {

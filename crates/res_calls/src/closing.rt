@@ -31,7 +31,7 @@ pub(crate) struct Removed {
 
 /// Disposes of the handle of a reference, where the reference has a handle.
 fn release_held<S: BlockStore>(heap: &mut Heap<S>, handle: Option<usize>)
-    ensures { heap.new ≡ all_released (option_to_list handle) heap.old }
+    ensures { heap.new.memory ≡ all_released (option_to_list handle) heap.old.memory }
 {
     if let Some(number) = handle {
         heap.release(number);
@@ -41,8 +41,8 @@ fn release_held<S: BlockStore>(heap: &mut Heap<S>, handle: Option<usize>)
 /// Disposes of the handles of all references of a resource map, in order.
 #[tactic(auto, using(crate::proofs::LettingGo::released_next, crate::proofs::LettingGo::released_none, crate::proofs::LettingGo::released_lies))]
 pub(crate) fn release_all<S: BlockStore>(heap: &mut Heap<S>, map: &ResFile)
-    ensures released { heap.new ≡ all_released (handles_of map.now.references) heap.old }
-    ensures lies { heap.new.window ≡ heap.old.window }
+    ensures released { heap.new.memory ≡ all_released (handles_of map.now.references) heap.old.memory }
+    ensures lies { heap.new.memory.window ≡ heap.old.memory.window }
 {
     for i in 0..map.len() {
         let handle = map.reference(i).handle;
@@ -96,13 +96,14 @@ impl Resources {
         number: u32,
     ) -> Result<(), Refusal>
         ensures answer { IsAnswered (λ (u : Unit {0}). u) (noting (rows.close_res_file number)
-            (managers self.old heap.old)) result (managers self.new heap.new) }
+            (managers self.old heap.old.memory)) result (managers self.new heap.new.memory) }
         ensures kept { result ≡ Err Refusal.HostMemory → self.new ≡ self.old }
         ensures heap { result ≡ Err Refusal.HostMemory → heap.new ≡ heap.old }
         ensures read_again { OnOk result ((at : Split OpenFileValue) → number ≢ 0 → file_of number self.old ≡ Some at
             → at.here.touched ≡ true
-            → Spells (fork_of heap.old.heap at.here) (clear (content (updated_map heap.old.heap at.here.map)))) }
-        ensures lies { heap.new.window ≡ heap.old.window }
+            → Spells (fork_of heap.old.memory.heap at.here) (clear (content (updated_map heap.old.memory.heap
+            at.here.map)))) }
+        ensures lies { heap.new.memory.window ≡ heap.old.memory.window }
     {
         let answer = self.close(alloc, heap, number);
         self.note(answer)
@@ -116,13 +117,14 @@ impl Resources {
         number: u32,
     ) -> Result<(), Refusal>
         ensures answer { IsAnswered (λ (u : Unit {0}). u) (rows.close_res_file number
-            (managers self.old heap.old)) result (managers self.new heap.new) }
+            (managers self.old heap.old.memory)) result (managers self.new heap.new.memory) }
         ensures kept { result ≡ Err Refusal.HostMemory → self.new ≡ self.old }
         ensures heap { result ≡ Err Refusal.HostMemory → heap.new ≡ heap.old }
         ensures read_again { OnOk result ((at : Split OpenFileValue) → number ≢ 0 → file_of number self.old ≡ Some at
             → at.here.touched ≡ true
-            → Spells (fork_of heap.old.heap at.here) (clear (content (updated_map heap.old.heap at.here.map)))) }
-        ensures lies { heap.new.window ≡ heap.old.window }
+            → Spells (fork_of heap.old.memory.heap at.here) (clear (content (updated_map heap.old.memory.heap
+            at.here.map)))) }
+        ensures lies { heap.new.memory.window ≡ heap.old.memory.window }
     {
         let Some(at) = place_numbered(&self.chain, number) else {
             return Err(Refusal::Code(OsErr::RES_FILE_NOT_FOUND));

@@ -50,19 +50,19 @@ fn make_handle<S: BlockStore, K: PurgeSink>(
     sink: &mut K,
 ) -> Result<usize, Refusal>
     requires idle { IsIdle K.told K.waits sink.old }
-    ensures answer { IsAnswer (made_for loading guarded (view_lent entry.now) heap.old) result heap.new }
+    ensures answer { IsAnswer (made_for loading guarded (view_lent entry.now) heap.old.memory) result heap.new.memory }
     ensures told { result ≢ Err Refusal.HostMemory → K.listens sink.old ≡ true
-        → Tells K.told (handle_gone loading (view_lent entry.now) heap.old) sink.old sink.new }
+        → Tells K.told (handle_gone loading (view_lent entry.now) heap.old.memory) sink.old sink.new }
     ensures untold { result ≡ Err Refusal.HostMemory → IsTrue S.TAKES_HOST
         ⊎ (((heap.new ≡ heap.old) × TellsNothing K.told sink.old sink.new)
-        ⊎ (LeavesMasters nothing heap.old heap.new
-        × Tells K.told (slot_gone nothing heap.old.heap) sink.old sink.new)) }
+        ⊎ (LeavesMasters nothing heap.old.memory heap.new.memory
+        × Tells K.told (slot_gone nothing heap.old.memory.heap) sink.old sink.new)) }
     ensures idle { IsIdle K.told K.waits sink.new }
     ensures listens { K.listens sink.new ≡ K.listens sink.old }
     ensures host { result ≡ Err Refusal.HostMemory
         → IsTrue S.TAKES_HOST ⊎ ((heap.new ≡ heap.old) ⊎ (K.listens sink.old ≡ true)) }
-    ensures kept { result ≡ Err Refusal.HostMemory → KeepsNames heap.old heap.new }
-    ensures lies { heap.new.window ≡ heap.old.window }
+    ensures kept { result ≡ Err Refusal.HostMemory → KeepsNames heap.old.memory heap.new.memory }
+    ensures lies { heap.new.memory.window ≡ heap.old.memory.window }
 {
     if loading {
         heap.new_resource(entry.stored.datum, flags_of(entry), guarded, sink)
@@ -83,22 +83,22 @@ fn fetch_new<S: BlockStore, K: PurgeSink>(
     requires place { is_some (found_at at (map view_open files.old.items)) ≡ true }
     requires idle { IsIdle K.told K.waits sink.old }
     ensures answer { (r : ResourcesValue) (f : Found) → found_at at (map view_open files.old.items) ≡ Some f
-        → IsFetched (fetch.fetch_new loading f (managers (chained files.old.items r) heap.old)) result
-        (managers (chained files.new.items r) heap.new) }
+        → IsFetched (fetch.fetch_new loading f (managers (chained files.old.items r) heap.old.memory)) result
+        (managers (chained files.new.items r) heap.new.memory) }
     ensures told { (r : ResourcesValue) (f : Found) → found_at at (map view_open files.old.items) ≡ Some f
         → ¬ (WantsHost result) → K.listens sink.old ≡ true → Tells K.told
-        (fetch_gone_as loading f None (managers (chained files.old.items r) heap.old)) sink.old sink.new }
+        (fetch_gone_as loading f None (managers (chained files.old.items r) heap.old.memory)) sink.old sink.new }
     ensures left { WantsHost result → map view_open files.new.items ≡ map view_open files.old.items }
     ensures untold { WantsHost result → IsTrue S.TAKES_HOST
         ⊎ (((heap.new ≡ heap.old) × TellsNothing K.told sink.old sink.new)
-        ⊎ (LeavesMasters nothing heap.old heap.new
-        × Tells K.told (slot_gone nothing heap.old.heap) sink.old sink.new)) }
+        ⊎ (LeavesMasters nothing heap.old.memory heap.new.memory
+        × Tells K.told (slot_gone nothing heap.old.memory.heap) sink.old sink.new)) }
     ensures idle { IsIdle K.told K.waits sink.new }
     ensures listens { K.listens sink.new ≡ K.listens sink.old }
     ensures host { WantsHost result → IsTrue S.TAKES_HOST
         ⊎ ((heap.new ≡ heap.old) ⊎ (K.listens sink.old ≡ true)) }
-    ensures kept { WantsHost result → KeepsNames heap.old heap.new }
-    ensures lies { heap.new.window ≡ heap.old.window }
+    ensures kept { WantsHost result → KeepsNames heap.old.memory heap.new.memory }
+    ensures lies { heap.new.memory.window ≡ heap.old.memory.window }
 {
     let guarded = number_at(files, at) == 0;
     let entry = entry_at(files, at);
@@ -128,20 +128,21 @@ fn fetch_again<S: BlockStore, K: PurgeSink>(
 ) -> Result<Fetched, Unread>
     requires idle { IsIdle K.told K.waits sink.old }
     ensures answer { (r : ResourcesValue) (f : Found) → f.reference.here ≡ view_lent entry.now
-        → IsFetched (fetch.fetch_again loading f handle (managers r heap.old)) result (managers r heap.new) }
+        → IsFetched (fetch.fetch_again loading f handle (managers r heap.old.memory)) result (managers r
+        heap.new.memory) }
     ensures told { (r : ResourcesValue) (f : Found) → f.reference.here ≡ view_lent entry.now
         → ¬ (WantsHost result) → K.listens sink.old ≡ true → Tells K.told
-        (fetch_gone_as loading f (Some handle) (managers r heap.old)) sink.old sink.new }
+        (fetch_gone_as loading f (Some handle) (managers r heap.old.memory)) sink.old sink.new }
     ensures untold { WantsHost result → IsTrue S.TAKES_HOST
         ⊎ (((heap.new ≡ heap.old) × TellsNothing K.told sink.old sink.new)
-        ⊎ (LeavesMasters nothing heap.old heap.new
-        × Tells K.told (slot_gone nothing heap.old.heap) sink.old sink.new)) }
+        ⊎ (LeavesMasters nothing heap.old.memory heap.new.memory
+        × Tells K.told (slot_gone nothing heap.old.memory.heap) sink.old sink.new)) }
     ensures idle { IsIdle K.told K.waits sink.new }
     ensures listens { K.listens sink.new ≡ K.listens sink.old }
     ensures host { WantsHost result → IsTrue S.TAKES_HOST
         ⊎ ((heap.new ≡ heap.old) ⊎ (K.listens sink.old ≡ true)) }
-    ensures kept { WantsHost result → KeepsNames heap.old heap.new }
-    ensures lies { heap.new.window ≡ heap.old.window }
+    ensures kept { WantsHost result → KeepsNames heap.old.memory heap.new.memory }
+    ensures lies { heap.new.memory.window ≡ heap.old.memory.window }
 {
     if !loading || heap.has_block(handle) {
         return Ok(Fetched {
@@ -169,23 +170,23 @@ fn fetch_in<S: BlockStore, K: PurgeSink>(
     requires place { is_some (found_at at (map view_open files.old.items)) ≡ true }
     requires idle { IsIdle K.told K.waits sink.old }
     ensures answer { (r : ResourcesValue) (f : Found) → found_at at (map view_open files.old.items) ≡ Some f
-        → IsFetched (fetch.fetch loading f (managers (chained files.old.items r) heap.old)) result
-        (managers (chained files.new.items r) heap.new) }
+        → IsFetched (fetch.fetch loading f (managers (chained files.old.items r) heap.old.memory)) result
+        (managers (chained files.new.items r) heap.new.memory) }
     ensures told { (r : ResourcesValue) (f : Found) → found_at at (map view_open files.old.items) ≡ Some f
         → ¬ (WantsHost result) → K.listens sink.old ≡ true → Tells K.told
-        (fetch_gone_as loading f f.reference.here.handle (managers (chained files.old.items r) heap.old))
+        (fetch_gone_as loading f f.reference.here.handle (managers (chained files.old.items r) heap.old.memory))
         sink.old sink.new }
     ensures left { WantsHost result → map view_open files.new.items ≡ map view_open files.old.items }
     ensures untold { WantsHost result → IsTrue S.TAKES_HOST
         ⊎ (((heap.new ≡ heap.old) × TellsNothing K.told sink.old sink.new)
-        ⊎ (LeavesMasters nothing heap.old heap.new
-        × Tells K.told (slot_gone nothing heap.old.heap) sink.old sink.new)) }
+        ⊎ (LeavesMasters nothing heap.old.memory heap.new.memory
+        × Tells K.told (slot_gone nothing heap.old.memory.heap) sink.old sink.new)) }
     ensures idle { IsIdle K.told K.waits sink.new }
     ensures listens { K.listens sink.new ≡ K.listens sink.old }
     ensures host { WantsHost result → IsTrue S.TAKES_HOST
         ⊎ ((heap.new ≡ heap.old) ⊎ (K.listens sink.old ≡ true)) }
-    ensures kept { WantsHost result → KeepsNames heap.old heap.new }
-    ensures lies { heap.new.window ≡ heap.old.window }
+    ensures kept { WantsHost result → KeepsNames heap.old.memory heap.new.memory }
+    ensures lies { heap.new.memory.window ≡ heap.old.memory.window }
 {
     let entry = entry_at(files, at);
     match entry.handle {
@@ -209,21 +210,21 @@ impl Resources {
     ) -> Result<Fetched, Unread>
         requires placed { is_some (found_from found self.old.chain) ≡ is_some found }
         requires idle { IsIdle K.told K.waits sink.old }
-        ensures answer { IsFetched (fetched_as loading (found_from found self.old.chain) (managers self.old heap.old))
-            result (managers self.new heap.new) }
+        ensures answer { IsFetched (fetched_as loading (found_from found self.old.chain) (managers self.old
+            heap.old.memory)) result (managers self.new heap.new.memory) }
         ensures told { ¬ (WantsHost result) → K.listens sink.old ≡ true → Tells K.told
-            (fetch_gone loading (found_from found self.old.chain) (managers self.old heap.old)) sink.old sink.new }
+            (fetch_gone loading (found_from found self.old.chain) (managers self.old heap.old.memory)) sink.old sink.new }
         ensures left { WantsHost result → self.new ≡ self.old }
         ensures untold { WantsHost result → IsTrue S.TAKES_HOST
             ⊎ (((heap.new ≡ heap.old) × TellsNothing K.told sink.old sink.new)
-            ⊎ (LeavesMasters nothing heap.old heap.new
-            × Tells K.told (slot_gone nothing heap.old.heap) sink.old sink.new)) }
+            ⊎ (LeavesMasters nothing heap.old.memory heap.new.memory
+            × Tells K.told (slot_gone nothing heap.old.memory.heap) sink.old sink.new)) }
         ensures idle { IsIdle K.told K.waits sink.new }
         ensures listens { K.listens sink.new ≡ K.listens sink.old }
         ensures host { WantsHost result → IsTrue S.TAKES_HOST
             ⊎ ((heap.new ≡ heap.old) ⊎ (K.listens sink.old ≡ true)) }
-        ensures kept { WantsHost result → KeepsNames heap.old heap.new }
-        ensures lies { heap.new.window ≡ heap.old.window }
+        ensures kept { WantsHost result → KeepsNames heap.old.memory heap.new.memory }
+        ensures lies { heap.new.memory.window ≡ heap.old.memory.window }
     {
         match found {
             None => Err(Unread {

@@ -58,22 +58,22 @@ impl Resources {
         sink: &mut K,
     ) -> Result<Fetched, Unread>
         requires idle { IsIdle K.told K.waits sink.old }
-        ensures answer { IsFetched (noting (fetch_wanted within wanted.entry loading) (managers self.old heap.old))
-            result (managers self.new heap.new) }
+        ensures answer { IsFetched (noting (fetch_wanted within wanted.entry loading) (managers self.old
+            heap.old.memory)) result (managers self.new heap.new.memory) }
         ensures told { ¬ (WantsHost result) → K.listens sink.old ≡ true → Tells K.told
             (fetch_gone loading (find (is_searched within) (is_wanted wanted.entry) self.old.chain)
-            (managers self.old heap.old)) sink.old sink.new }
+            (managers self.old heap.old.memory)) sink.old sink.new }
         ensures left { WantsHost result → self.new ≡ self.old }
         ensures untold { WantsHost result → IsTrue S.TAKES_HOST
             ⊎ (((heap.new ≡ heap.old) × TellsNothing K.told sink.old sink.new)
-            ⊎ (LeavesMasters nothing heap.old heap.new
-            × Tells K.told (slot_gone nothing heap.old.heap) sink.old sink.new)) }
+            ⊎ (LeavesMasters nothing heap.old.memory heap.new.memory
+            × Tells K.told (slot_gone nothing heap.old.memory.heap) sink.old sink.new)) }
         ensures idle { IsIdle K.told K.waits sink.new }
         ensures listens { K.listens sink.new ≡ K.listens sink.old }
         ensures host { WantsHost result → IsTrue S.TAKES_HOST
             ⊎ ((heap.new ≡ heap.old) ⊎ (K.listens sink.old ≡ true)) }
-        ensures kept { WantsHost result → KeepsNames heap.old heap.new }
-        ensures lies { heap.new.window ≡ heap.old.window }
+        ensures kept { WantsHost result → KeepsNames heap.old.memory heap.new.memory }
+        ensures lies { heap.new.memory.window ≡ heap.old.memory.window }
     {
         let found = self.find(within, wanted);
         let answer = self.fetch_found(heap, found, loading, sink);
@@ -92,21 +92,21 @@ impl Resources {
         sink: &mut K,
     ) -> Result<Fetched, Unread>
         requires idle { IsIdle K.told K.waits sink.old }
-        ensures answer { IsFetched (noting (rows.get_resource (big_number 4 ty.0) id) (managers self.old heap.old))
-            result (managers self.new heap.new) }
+        ensures answer { IsFetched (noting (rows.get_resource (big_number 4 ty.0) id) (managers self.old
+            heap.old.memory)) result (managers self.new heap.new.memory) }
         ensures told { ¬ (WantsHost result) → K.listens sink.old ≡ true → Tells K.told
-            (gone_for (GetResource (big_number 4 ty.0) id) (managers self.old heap.old)) sink.old sink.new }
+            (gone_for (GetResource (big_number 4 ty.0) id) (managers self.old heap.old.memory)) sink.old sink.new }
         ensures left { WantsHost result → self.new ≡ self.old }
         ensures untold { WantsHost result → IsTrue S.TAKES_HOST
             ⊎ (((heap.new ≡ heap.old) × TellsNothing K.told sink.old sink.new)
-            ⊎ (LeavesMasters nothing heap.old heap.new
-            × Tells K.told (slot_gone nothing heap.old.heap) sink.old sink.new)) }
+            ⊎ (LeavesMasters nothing heap.old.memory heap.new.memory
+            × Tells K.told (slot_gone nothing heap.old.memory.heap) sink.old sink.new)) }
         ensures idle { IsIdle K.told K.waits sink.new }
         ensures listens { K.listens sink.new ≡ K.listens sink.old }
         ensures host { WantsHost result → IsTrue S.TAKES_HOST
             ⊎ ((heap.new ≡ heap.old) ⊎ (K.listens sink.old ≡ true)) }
-        ensures kept { WantsHost result → KeepsNames heap.old heap.new }
-        ensures lies { heap.new.window ≡ heap.old.window }
+        ensures kept { WantsHost result → KeepsNames heap.old.memory heap.new.memory }
+        ensures lies { heap.new.memory.window ≡ heap.old.memory.window }
     {
         let (current, load) = (self.current, self.loading);
         self.fetch_wanted(heap, Within::UpTo(current), Wanted::Id(ty, id), load, sink)
@@ -124,21 +124,21 @@ impl Resources {
         sink: &mut K,
     ) -> Result<Fetched, Unread>
         requires idle { IsIdle K.told K.waits sink.old }
-        ensures answer { IsFetched (noting (rows.get1_resource (big_number 4 ty.0) id) (managers self.old heap.old))
-            result (managers self.new heap.new) }
+        ensures answer { IsFetched (noting (rows.get1_resource (big_number 4 ty.0) id) (managers self.old
+            heap.old.memory)) result (managers self.new heap.new.memory) }
         ensures told { ¬ (WantsHost result) → K.listens sink.old ≡ true → Tells K.told
-            (gone_for (Get1Resource (big_number 4 ty.0) id) (managers self.old heap.old)) sink.old sink.new }
+            (gone_for (Get1Resource (big_number 4 ty.0) id) (managers self.old heap.old.memory)) sink.old sink.new }
         ensures left { WantsHost result → self.new ≡ self.old }
         ensures untold { WantsHost result → IsTrue S.TAKES_HOST
             ⊎ (((heap.new ≡ heap.old) × TellsNothing K.told sink.old sink.new)
-            ⊎ (LeavesMasters nothing heap.old heap.new
-            × Tells K.told (slot_gone nothing heap.old.heap) sink.old sink.new)) }
+            ⊎ (LeavesMasters nothing heap.old.memory heap.new.memory
+            × Tells K.told (slot_gone nothing heap.old.memory.heap) sink.old sink.new)) }
         ensures idle { IsIdle K.told K.waits sink.new }
         ensures listens { K.listens sink.new ≡ K.listens sink.old }
         ensures host { WantsHost result → IsTrue S.TAKES_HOST
             ⊎ ((heap.new ≡ heap.old) ⊎ (K.listens sink.old ≡ true)) }
-        ensures kept { WantsHost result → KeepsNames heap.old heap.new }
-        ensures lies { heap.new.window ≡ heap.old.window }
+        ensures kept { WantsHost result → KeepsNames heap.old.memory heap.new.memory }
+        ensures lies { heap.new.memory.window ≡ heap.old.memory.window }
     {
         let (current, load) = (self.current, self.loading);
         self.fetch_wanted(heap, Within::Only(current), Wanted::Id(ty, id), load, sink)
@@ -157,20 +157,21 @@ impl Resources {
     ) -> Result<Fetched, Unread>
         requires idle { IsIdle K.told K.waits sink.old }
         ensures answer { IsFetched (noting (rows.get_named_resource (big_number 4 ty.0) name.now)
-            (managers self.old heap.old)) result (managers self.new heap.new) }
+            (managers self.old heap.old.memory)) result (managers self.new heap.new.memory) }
         ensures told { ¬ (WantsHost result) → K.listens sink.old ≡ true → Tells K.told
-            (gone_for (GetNamedResource (big_number 4 ty.0) name.now) (managers self.old heap.old)) sink.old sink.new }
+            (gone_for (GetNamedResource (big_number 4 ty.0) name.now) (managers self.old heap.old.memory)) sink.old
+            sink.new }
         ensures left { WantsHost result → self.new ≡ self.old }
         ensures untold { WantsHost result → IsTrue S.TAKES_HOST
             ⊎ (((heap.new ≡ heap.old) × TellsNothing K.told sink.old sink.new)
-            ⊎ (LeavesMasters nothing heap.old heap.new
-            × Tells K.told (slot_gone nothing heap.old.heap) sink.old sink.new)) }
+            ⊎ (LeavesMasters nothing heap.old.memory heap.new.memory
+            × Tells K.told (slot_gone nothing heap.old.memory.heap) sink.old sink.new)) }
         ensures idle { IsIdle K.told K.waits sink.new }
         ensures listens { K.listens sink.new ≡ K.listens sink.old }
         ensures host { WantsHost result → IsTrue S.TAKES_HOST
             ⊎ ((heap.new ≡ heap.old) ⊎ (K.listens sink.old ≡ true)) }
-        ensures kept { WantsHost result → KeepsNames heap.old heap.new }
-        ensures lies { heap.new.window ≡ heap.old.window }
+        ensures kept { WantsHost result → KeepsNames heap.old.memory heap.new.memory }
+        ensures lies { heap.new.memory.window ≡ heap.old.memory.window }
     {
         let (current, load) = (self.current, self.loading);
         self.fetch_wanted(
@@ -195,20 +196,21 @@ impl Resources {
     ) -> Result<Fetched, Unread>
         requires idle { IsIdle K.told K.waits sink.old }
         ensures answer { IsFetched (noting (rows.get1_named_resource (big_number 4 ty.0) name.now)
-            (managers self.old heap.old)) result (managers self.new heap.new) }
+            (managers self.old heap.old.memory)) result (managers self.new heap.new.memory) }
         ensures told { ¬ (WantsHost result) → K.listens sink.old ≡ true → Tells K.told
-            (gone_for (Get1NamedResource (big_number 4 ty.0) name.now) (managers self.old heap.old)) sink.old sink.new }
+            (gone_for (Get1NamedResource (big_number 4 ty.0) name.now) (managers self.old heap.old.memory)) sink.old
+            sink.new }
         ensures left { WantsHost result → self.new ≡ self.old }
         ensures untold { WantsHost result → IsTrue S.TAKES_HOST
             ⊎ (((heap.new ≡ heap.old) × TellsNothing K.told sink.old sink.new)
-            ⊎ (LeavesMasters nothing heap.old heap.new
-            × Tells K.told (slot_gone nothing heap.old.heap) sink.old sink.new)) }
+            ⊎ (LeavesMasters nothing heap.old.memory heap.new.memory
+            × Tells K.told (slot_gone nothing heap.old.memory.heap) sink.old sink.new)) }
         ensures idle { IsIdle K.told K.waits sink.new }
         ensures listens { K.listens sink.new ≡ K.listens sink.old }
         ensures host { WantsHost result → IsTrue S.TAKES_HOST
             ⊎ ((heap.new ≡ heap.old) ⊎ (K.listens sink.old ≡ true)) }
-        ensures kept { WantsHost result → KeepsNames heap.old heap.new }
-        ensures lies { heap.new.window ≡ heap.old.window }
+        ensures kept { WantsHost result → KeepsNames heap.old.memory heap.new.memory }
+        ensures lies { heap.new.memory.window ≡ heap.old.memory.window }
     {
         let (current, load) = (self.current, self.loading);
         self.fetch_wanted(
@@ -234,20 +236,20 @@ impl Resources {
     ) -> Result<Fetched, Unread>
         requires idle { IsIdle K.told K.waits sink.old }
         ensures answer { IsFetched (noting (rows.get1_ind_resource (big_number 4 ty.0) n)
-            (managers self.old heap.old)) result (managers self.new heap.new) }
+            (managers self.old heap.old.memory)) result (managers self.new heap.new.memory) }
         ensures told { ¬ (WantsHost result) → K.listens sink.old ≡ true → Tells K.told
-            (gone_for (Get1IndResource (big_number 4 ty.0) n) (managers self.old heap.old)) sink.old sink.new }
+            (gone_for (Get1IndResource (big_number 4 ty.0) n) (managers self.old heap.old.memory)) sink.old sink.new }
         ensures left { WantsHost result → self.new ≡ self.old }
         ensures untold { WantsHost result → IsTrue S.TAKES_HOST
             ⊎ (((heap.new ≡ heap.old) × TellsNothing K.told sink.old sink.new)
-            ⊎ (LeavesMasters nothing heap.old heap.new
-            × Tells K.told (slot_gone nothing heap.old.heap) sink.old sink.new)) }
+            ⊎ (LeavesMasters nothing heap.old.memory heap.new.memory
+            × Tells K.told (slot_gone nothing heap.old.memory.heap) sink.old sink.new)) }
         ensures idle { IsIdle K.told K.waits sink.new }
         ensures listens { K.listens sink.new ≡ K.listens sink.old }
         ensures host { WantsHost result → IsTrue S.TAKES_HOST
             ⊎ ((heap.new ≡ heap.old) ⊎ (K.listens sink.old ≡ true)) }
-        ensures kept { WantsHost result → KeepsNames heap.old heap.new }
-        ensures lies { heap.new.window ≡ heap.old.window }
+        ensures kept { WantsHost result → KeepsNames heap.old.memory heap.new.memory }
+        ensures lies { heap.new.memory.window ≡ heap.old.memory.window }
     {
         let loading = self.loading;
         let found = self.find_nth(ty, n);
@@ -266,21 +268,21 @@ impl Resources {
         sink: &mut K,
     ) -> Result<Fetched, Unread>
         requires idle { IsIdle K.told K.waits sink.old }
-        ensures answer { IsFetched (noting (rows.load_resource handle) (managers self.old heap.old)) result
-            (managers self.new heap.new) }
+        ensures answer { IsFetched (noting (rows.load_resource handle) (managers self.old heap.old.memory)) result
+            (managers self.new heap.new.memory) }
         ensures told { ¬ (WantsHost result) → K.listens sink.old ≡ true → Tells K.told
-            (gone_for (LoadResource handle) (managers self.old heap.old)) sink.old sink.new }
+            (gone_for (LoadResource handle) (managers self.old heap.old.memory)) sink.old sink.new }
         ensures left { WantsHost result → self.new ≡ self.old }
         ensures untold { WantsHost result → IsTrue S.TAKES_HOST
             ⊎ (((heap.new ≡ heap.old) × TellsNothing K.told sink.old sink.new)
-            ⊎ (LeavesMasters nothing heap.old heap.new
-            × Tells K.told (slot_gone nothing heap.old.heap) sink.old sink.new)) }
+            ⊎ (LeavesMasters nothing heap.old.memory heap.new.memory
+            × Tells K.told (slot_gone nothing heap.old.memory.heap) sink.old sink.new)) }
         ensures idle { IsIdle K.told K.waits sink.new }
         ensures listens { K.listens sink.new ≡ K.listens sink.old }
         ensures host { WantsHost result → IsTrue S.TAKES_HOST
             ⊎ ((heap.new ≡ heap.old) ⊎ (K.listens sink.old ≡ true)) }
-        ensures kept { WantsHost result → KeepsNames heap.old heap.new }
-        ensures lies { heap.new.window ≡ heap.old.window }
+        ensures kept { WantsHost result → KeepsNames heap.old.memory heap.new.memory }
+        ensures lies { heap.new.memory.window ≡ heap.old.memory.window }
     {
         let found = self.find_handle(handle);
         let answer = self.fetch_found(heap, found, true, sink);

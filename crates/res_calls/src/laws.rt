@@ -166,12 +166,12 @@ pub fn a_fetch_reports_what_goes()
 /// zone can be.
 pub fn a_fetch_on_a_heap_reports_what_goes<S: BlockStore>(heap: &Heap<S>)
     ensures goes { (asked : ResourceAsked) (r : Resources) → fetches asked ≡ true
-        → TellsWhatGoes (gone_for asked (managers r heap.now)) heap.now.heap
-        (served asked (managers r heap.now)).after.memory.heap }
+        → TellsWhatGoes (gone_for asked (managers r heap.now.memory)) heap.now.memory.heap
+        (served asked (managers r heap.now.memory)).after.memory.heap }
     ensures purgeable { (asked : ResourceAsked) (r : Resources) → fetches asked ≡ true
-        → TellsOfPurgeable (gone_for asked (managers r heap.now)) heap.now.heap }
+        → TellsOfPurgeable (gone_for asked (managers r heap.now.memory)) heap.now.memory.heap }
     ensures once { (asked : ResourceAsked) (r : Resources) → fetches asked ≡ true
-        → TellsOnce (gone_for asked (managers r heap.now)) }
+        → TellsOnce (gone_for asked (managers r heap.now.memory)) }
 {
     a_heap_tells_what_goes(heap);
 }

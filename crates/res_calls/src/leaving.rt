@@ -50,7 +50,7 @@ fn update_last<S: BlockStore>(
     undo: &mut Vec<Replaced>,
 ) -> Result<OsErr, AllocError>
     requires { 0 < length chain.old.items }
-    ensures answer { IfOk result (λ code. (r : ResourcesValue) → IsLastUpdated heap.now
+    ensures answer { IfOk result (λ code. (r : ResourcesValue) → IsLastUpdated heap.now.memory
         (map view_open chain.old.items) code (stored_in files.old.items chain.old.items r)
         (stored_in files.new.items chain.new.items r)) }
     ensures files { OnErr result (map view_file files.new.items ≡ map view_file files.old.items) }
@@ -75,9 +75,9 @@ fn update_last<S: BlockStore>(
 fn close_last<S: BlockStore>(heap: &mut Heap<S>, chain: &mut Vec<OpenFile>, current: u32) -> u32
     requires { 0 < length chain.old.items }
     ensures closed { (files : List StoredFile) (r : ResourcesValue) → IsLastClosed (map view_open chain.old.items)
-        (managers (standing files chain.old.items current r) heap.old)
-        (managers (standing files chain.new.items result r) heap.new) }
-    ensures lies { heap.new.window ≡ heap.old.window }
+        (managers (standing files chain.old.items current r) heap.old.memory)
+        (managers (standing files chain.new.items result r) heap.new.memory) }
+    ensures lies { heap.new.memory.window ≡ heap.old.memory.window }
 {
     let removed = take_out(chain, 0);
     release_all(heap, &removed.file.map);
@@ -95,11 +95,13 @@ impl Resources {
         alloc: Global,
         heap: &mut Heap<S>,
     ) -> Result<OsErr, AllocError>
-        ensures code { IfOk result (λ code. code ≡ (leaving.leave (managers self.old heap.old)).code) }
-        ensures after { OnOk result (managers self.new heap.new ≡ (leaving.leave (managers self.old heap.old)).after) }
+        ensures code { IfOk result (λ code. code ≡ (leaving.leave (managers self.old heap.old.memory)).code) }
+        ensures after { OnOk result (managers self.new heap.new.memory
+            ≡ (leaving.leave (managers self.old heap.old.memory)).after) }
         ensures files { OnErr result (self.new.files ≡ self.old.files) }
-        ensures stopped { OnErr result (StopsLeaving (managers self.old heap.old) (managers self.new heap.new)) }
-        ensures lies { heap.new.window ≡ heap.old.window }
+        ensures stopped { OnErr result (StopsLeaving (managers self.old heap.old.memory) (managers self.new
+            heap.new.memory)) }
+        ensures lies { heap.new.memory.window ≡ heap.old.memory.window }
     {
         let mut undo = Vec::new(alloc);
         match self.leave_each(alloc, heap, &mut undo) {
@@ -118,11 +120,13 @@ impl Resources {
         heap: &mut Heap<S>,
         undo: &mut Vec<Replaced>,
     ) -> Result<OsErr, AllocError>
-        ensures code { IfOk result (λ code. code ≡ (leaving.leave (managers self.old heap.old)).code) }
-        ensures after { OnOk result (managers self.new heap.new ≡ (leaving.leave (managers self.old heap.old)).after) }
+        ensures code { IfOk result (λ code. code ≡ (leaving.leave (managers self.old heap.old.memory)).code) }
+        ensures after { OnOk result (managers self.new heap.new.memory
+            ≡ (leaving.leave (managers self.old heap.old.memory)).after) }
         ensures undone { undone undo.new.items self.new.files ≡ undone undo.old.items self.old.files }
-        ensures stopped { OnErr result (StopsAmid (managers self.old heap.old) (managers self.new heap.new)) }
-        ensures lies { heap.new.window ≡ heap.old.window }
+        ensures stopped { OnErr result (StopsAmid (managers self.old heap.old.memory) (managers self.new
+            heap.new.memory)) }
+        ensures lies { heap.new.memory.window ≡ heap.old.memory.window }
     {
         let mut code = OsErr::NO_ERR;
         while self.has_own() {
@@ -147,12 +151,13 @@ impl Resources {
         undo: &mut Vec<Replaced>,
     ) -> Result<OsErr, AllocError>
         requires { has_own self.old.chain ≡ true }
-        ensures code { IfOk result (λ code. code ≡ (left_last (managers self.old heap.old)).code) }
-        ensures after { OnOk result (managers self.new heap.new ≡ (left_last (managers self.old heap.old)).after) }
+        ensures code { IfOk result (λ code. code ≡ (left_last (managers self.old heap.old.memory)).code) }
+        ensures after { OnOk result (managers self.new heap.new.memory
+            ≡ (left_last (managers self.old heap.old.memory)).after) }
         ensures undone { undone undo.new.items self.new.files ≡ undone undo.old.items self.old.files }
         ensures kept { OnErr result (self.new ≡ self.old) }
         ensures heap { OnErr result (heap.new ≡ heap.old) }
-        ensures lies { heap.new.window ≡ heap.old.window }
+        ensures lies { heap.new.memory.window ≡ heap.old.memory.window }
     {
         let code = update_last(alloc, heap, &mut self.files, &mut self.chain, undo)?;
         self.current = close_last(heap, &mut self.chain, self.current);

@@ -34,12 +34,12 @@ fn load_into<S: BlockStore>(
     loading: bool,
 ) -> Result<(), AllocError>
     ensures file { OnOk result (file.new ≡ record file.old {
-      references = (loaded_if loading file.old.references heap.old).references;
+      references = (loaded_if loading file.old.references heap.old.memory).references;
     }) }
-    ensures heap { OnOk result (heap.new ≡ (loaded_if loading file.old.references heap.old).memory) }
+    ensures heap { OnOk result (heap.new.memory ≡ (loaded_if loading file.old.references heap.old.memory).memory) }
     ensures kept { OnErr result (file.new ≡ file.old) }
     ensures host { IsErr result → IsTrue S.TAKES_HOST ⊎ (heap.new ≡ heap.old) }
-    ensures lies { heap.new.window ≡ heap.old.window }
+    ensures lies { heap.new.memory.window ≡ heap.old.memory.window }
 {
     if !loading {
         return Ok(());
@@ -60,13 +60,13 @@ fn load_told<S: BlockStore, K: PurgeSink>(
 ) -> Result<bool, AllocError>
     requires idle { IsIdle K.told K.waits sink.old }
     ensures file { result ≡ Ok true → file.new ≡ record file.old {
-      references = (loaded_if loading file.old.references heap.old).references;
+      references = (loaded_if loading file.old.references heap.old.memory).references;
     } }
-    ensures heap { result ≡ Ok true → heap.new ≡ (loaded_if loading file.old.references heap.old).memory }
+    ensures heap { result ≡ Ok true → heap.new.memory ≡ (loaded_if loading file.old.references heap.old.memory).memory }
     ensures told { result ≡ Ok true → K.listens sink.old ≡ true
-        → Tells K.told (load_gone loading file.old.references heap.old) sink.old sink.new }
+        → Tells K.told (load_gone loading file.old.references heap.old.memory) sink.old sink.new }
     ensures stopped { result ≡ Ok false
-        → StopsPreloading K.told S.TAKES_HOST file.old file.new heap.old heap.new sink.old sink.new }
+        → StopsPreloading K.told S.TAKES_HOST file.old file.new heap.old.memory heap.new.memory sink.old sink.new }
     ensures loads { result ≡ Ok false → loading ≡ true }
     ensures hears { result ≡ Ok false → K.listens sink.old ≡ true }
     ensures kept { OnErr result (file.new ≡ file.old) }
@@ -74,7 +74,7 @@ fn load_told<S: BlockStore, K: PurgeSink>(
     ensures host { IsErr result → IsTrue S.TAKES_HOST ⊎ (heap.new ≡ heap.old) }
     ensures idle { IsIdle K.told K.waits sink.new }
     ensures listens { K.listens sink.new ≡ K.listens sink.old }
-    ensures lies { heap.new.window ≡ heap.old.window }
+    ensures lies { heap.new.memory.window ≡ heap.old.memory.window }
 {
     if !sink.listens() {
         load_into(alloc, heap, file, loading)?;
@@ -100,19 +100,20 @@ fn put_first<S: BlockStore, K: PurgeSink>(
 ) -> Result<bool, AllocError>
     requires idle { IsIdle K.told K.waits sink.old }
     ensures chain { result ≡ Ok true → map view_open chain.new.items ≡ with_loaded (loaded_if loading
-        file.map.references heap.old) (view_open file) ∷ map view_open chain.old.items }
-    ensures heap { result ≡ Ok true → heap.new ≡ (loaded_if loading file.map.references heap.old).memory }
+        file.map.references heap.old.memory) (view_open file) ∷ map view_open chain.old.items }
+    ensures heap { result ≡ Ok true → heap.new.memory ≡ (loaded_if loading file.map.references heap.old.memory).memory }
     ensures told { result ≡ Ok true → K.listens sink.old ≡ true
-        → Tells K.told (load_gone loading file.map.references heap.old) sink.old sink.new }
+        → Tells K.told (load_gone loading file.map.references heap.old.memory) sink.old sink.new }
     ensures stopped { result ≡ Ok false → StopsFirst K.told S.TAKES_HOST loading (view_open file)
-        (map view_open chain.old.items) (map view_open chain.new.items) heap.old heap.new sink.old sink.new }
+        (map view_open chain.old.items) (map view_open chain.new.items) heap.old.memory heap.new.memory sink.old
+        sink.new }
     ensures hears { result ≡ Ok false → K.listens sink.old ≡ true }
     ensures kept { OnErr result (chain.new.items ≡ chain.old.items) }
     ensures untold { OnErr result (TellsNothing K.told sink.old sink.new) }
     ensures host { IsErr result → IsTrue S.TAKES_HOST ⊎ (heap.new ≡ heap.old) }
     ensures idle { IsIdle K.told K.waits sink.new }
     ensures listens { K.listens sink.new ≡ K.listens sink.old }
-    ensures lies { heap.new.window ≡ heap.old.window }
+    ensures lies { heap.new.memory.window ≡ heap.old.memory.window }
 {
     chain.reserve(1)?;
     let mut file = file;
@@ -130,11 +131,11 @@ fn load_first<S: BlockStore>(
     chain: &mut Vec<OpenFile>,
     loading: bool,
 ) -> Result<(), AllocError>
-    ensures done { OnOk result (IsLoadedFirst loading (map view_open chain.old.items) heap.old
-        (map view_open chain.new.items) heap.new) }
+    ensures done { OnOk result (IsLoadedFirst loading (map view_open chain.old.items) heap.old.memory
+        (map view_open chain.new.items) heap.new.memory) }
     ensures kept { OnErr result (map view_open chain.new.items ≡ map view_open chain.old.items) }
     ensures host { IsErr result → IsTrue S.TAKES_HOST ⊎ (heap.new ≡ heap.old) }
-    ensures lies { heap.new.window ≡ heap.old.window }
+    ensures lies { heap.new.memory.window ≡ heap.old.memory.window }
 {
     if chain.is_empty() {
         return Ok(());
@@ -152,10 +153,11 @@ impl Resources {
         alloc: Global,
         heap: &mut Heap<S>,
     ) -> Result<(), AllocError>
-        ensures done { OnOk result (managers self.new heap.new ≡ (preloaded (managers self.old heap.old)).0) }
+        ensures done { OnOk result (managers self.new heap.new.memory
+            ≡ (preloaded (managers self.old heap.old.memory)).0) }
         ensures kept { OnErr result (self.new ≡ self.old) }
         ensures host { IsErr result → IsTrue S.TAKES_HOST ⊎ (heap.new ≡ heap.old) }
-        ensures lies { heap.new.window ≡ heap.old.window }
+        ensures lies { heap.new.memory.window ≡ heap.old.memory.window }
     {
         load_first(alloc, heap, &mut self.chain, self.loading)
     }
@@ -180,18 +182,19 @@ impl Resources {
     ) -> Result<u32, Refusal>
         requires idle { IsIdle K.told K.waits sink.old }
         ensures answer { IsAnswered (λ (n : ℕ). n) (noting (rows.open_res_file name.now.0.items)
-            (managers self.old heap.old)) result (managers self.new heap.new) }
+            (managers self.old heap.old.memory)) result (managers self.new heap.new.memory) }
         ensures told { result ≢ Err Refusal.HostMemory → K.listens sink.old ≡ true
-            → Tells K.told (gone_for (OpenResFile name.now.0.items) (managers self.old heap.old)) sink.old sink.new }
+            → Tells K.told (gone_for (OpenResFile name.now.0.items) (managers self.old heap.old.memory)) sink.old
+            sink.new }
         ensures stopped { result ≡ Err Refusal.HostMemory → IsTrue S.TAKES_HOST ⊎ LeavesOpen K.told name.now.0.items
-            (managers self.old heap.old) (managers self.new heap.new) sink.old sink.new }
+            (managers self.old heap.old.memory) (managers self.new heap.new.memory) sink.old sink.new }
         ensures idle { IsIdle K.told K.waits sink.new }
         ensures listens { K.listens sink.new ≡ K.listens sink.old }
         ensures kept { result ≡ Err Refusal.HostMemory → (K.listens sink.old ≡ false) → self.new ≡ self.old }
         ensures files { result ≡ Err Refusal.HostMemory → self.new.files ≡ self.old.files }
         ensures host { result ≡ Err Refusal.HostMemory
             → IsTrue S.TAKES_HOST ⊎ ((heap.new ≡ heap.old) ⊎ (K.listens sink.old ≡ true)) }
-        ensures lies { heap.new.window ≡ heap.old.window }
+        ensures lies { heap.new.memory.window ≡ heap.old.memory.window }
     {
         let answer = self.open_named(alloc, heap, name, sink);
         self.note(answer)
@@ -206,19 +209,20 @@ impl Resources {
         sink: &mut K,
     ) -> Result<u32, Refusal>
         requires idle { IsIdle K.told K.waits sink.old }
-        ensures answer { IsAnswered (λ (n : ℕ). n) (rows.open_res_file name.now.0.items (managers self.old heap.old))
-            result (managers self.new heap.new) }
+        ensures answer { IsAnswered (λ (n : ℕ). n) (rows.open_res_file name.now.0.items (managers self.old
+            heap.old.memory)) result (managers self.new heap.new.memory) }
         ensures told { result ≢ Err Refusal.HostMemory → K.listens sink.old ≡ true
-            → Tells K.told (gone_for (OpenResFile name.now.0.items) (managers self.old heap.old)) sink.old sink.new }
+            → Tells K.told (gone_for (OpenResFile name.now.0.items) (managers self.old heap.old.memory)) sink.old
+            sink.new }
         ensures stopped { result ≡ Err Refusal.HostMemory → IsTrue S.TAKES_HOST ⊎ LeavesOpen K.told name.now.0.items
-            (managers self.old heap.old) (managers self.new heap.new) sink.old sink.new }
+            (managers self.old heap.old.memory) (managers self.new heap.new.memory) sink.old sink.new }
         ensures idle { IsIdle K.told K.waits sink.new }
         ensures listens { K.listens sink.new ≡ K.listens sink.old }
         ensures kept { result ≡ Err Refusal.HostMemory → (K.listens sink.old ≡ false) → self.new ≡ self.old }
         ensures files { result ≡ Err Refusal.HostMemory → self.new.files ≡ self.old.files }
         ensures host { result ≡ Err Refusal.HostMemory
             → IsTrue S.TAKES_HOST ⊎ ((heap.new ≡ heap.old) ⊎ (K.listens sink.old ≡ true)) }
-        ensures lies { heap.new.window ≡ heap.old.window }
+        ensures lies { heap.new.memory.window ≡ heap.old.memory.window }
     {
         let Some(at) = place_called(&self.files, name) else {
             return Err(Refusal::Code(OsErr::FILE_NOT_FOUND));
@@ -240,20 +244,20 @@ impl Resources {
         requires place { at < length self.old.files }
         requires idle { IsIdle K.told K.waits sink.old }
         ensures answer { IfSome (slice_get self.old.files at) (λ f. IsAnswered (λ (n : ℕ). n)
-            (rows.open_fork at f.fork (managers self.old heap.old)) result (managers self.new heap.new)) }
+            (rows.open_fork at f.fork (managers self.old heap.old.memory)) result (managers self.new heap.new.memory)) }
         ensures told { IfSome (slice_get self.old.files at) (λ f. result ≢ Err Refusal.HostMemory
             → K.listens sink.old ≡ true
-            → Tells K.told (fork_gone f.fork (managers self.old heap.old)) sink.old sink.new) }
+            → Tells K.told (fork_gone f.fork (managers self.old heap.old.memory)) sink.old sink.new) }
         ensures stopped { IfSome (slice_get self.old.files at) (λ f. result ≡ Err Refusal.HostMemory
-            → IsTrue S.TAKES_HOST ⊎ LeavesOpened K.told (fork_opens at f.fork (managers self.old heap.old))
-            (managers self.old heap.old) (managers self.new heap.new) sink.old sink.new) }
+            → IsTrue S.TAKES_HOST ⊎ LeavesOpened K.told (fork_opens at f.fork (managers self.old heap.old.memory))
+            (managers self.old heap.old.memory) (managers self.new heap.new.memory) sink.old sink.new) }
         ensures idle { IsIdle K.told K.waits sink.new }
         ensures listens { K.listens sink.new ≡ K.listens sink.old }
         ensures kept { result ≡ Err Refusal.HostMemory → (K.listens sink.old ≡ false) → self.new ≡ self.old }
         ensures files { result ≡ Err Refusal.HostMemory → self.new.files ≡ self.old.files }
         ensures host { result ≡ Err Refusal.HostMemory
             → IsTrue S.TAKES_HOST ⊎ ((heap.new ≡ heap.old) ⊎ (K.listens sink.old ≡ true)) }
-        ensures lies { heap.new.window ≡ heap.old.window }
+        ensures lies { heap.new.memory.window ≡ heap.old.memory.window }
     {
         if self.next > GREATEST_NUMBER {
             return Err(Refusal::Code(OsErr::PROFILE));
@@ -280,19 +284,19 @@ impl Resources {
         requires idle { IsIdle K.told K.waits sink.old }
         ensures answer { IfOk result (λ n. n ≡ self.old.next) }
         ensures after { OnOk result ((rows.open_as (opened self.old.next (Some at) read)
-            (managers self.old heap.old)).after ≡ managers self.new heap.new) }
+            (managers self.old heap.old.memory)).after ≡ managers self.new heap.new.memory) }
         ensures told { OnOk result (K.listens sink.old ≡ true
-            → Tells K.told (load_gone self.old.loading read.references heap.old) sink.old sink.new) }
+            → Tells K.told (load_gone self.old.loading read.references heap.old.memory) sink.old sink.new) }
         ensures stopped { OnErr result (IsTrue S.TAKES_HOST ⊎ LeavesOpened K.told
-            (Some (opened self.old.next (Some at) read)) (managers self.old heap.old) (managers self.new heap.new)
-            sink.old sink.new) }
+            (Some (opened self.old.next (Some at) read)) (managers self.old heap.old.memory) (managers self.new
+            heap.new.memory) sink.old sink.new) }
         ensures idle { IsIdle K.told K.waits sink.new }
         ensures listens { K.listens sink.new ≡ K.listens sink.old }
         ensures kept { OnErr result (K.listens sink.old ≡ false → self.new ≡ self.old) }
         ensures files { OnErr result (self.new.files ≡ self.old.files) }
         ensures host { IsErr result
             → IsTrue S.TAKES_HOST ⊎ ((heap.new ≡ heap.old) ⊎ (K.listens sink.old ≡ true)) }
-        ensures lies { heap.new.window ≡ heap.old.window }
+        ensures lies { heap.new.memory.window ≡ heap.old.memory.window }
     {
         let number = self.next;
         let file = OpenFile {

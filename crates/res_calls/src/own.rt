@@ -80,21 +80,21 @@ impl Resources {
         sink: &mut K,
     ) -> Result<Fetched, Unread>
         requires idle { IsIdle K.told K.waits sink.old }
-        ensures answer { IsFetched (own.fetch_own (big_number 4 ty.0) id (managers self.old heap.old)) result
-            (managers self.new heap.new) }
+        ensures answer { IsFetched (own.fetch_own (big_number 4 ty.0) id (managers self.old heap.old.memory)) result
+            (managers self.new heap.new.memory) }
         ensures told { ¬ (WantsHost result) → K.listens sink.old ≡ true → Tells K.told
-            (own_gone (big_number 4 ty.0) id (managers self.old heap.old)) sink.old sink.new }
+            (own_gone (big_number 4 ty.0) id (managers self.old heap.old.memory)) sink.old sink.new }
         ensures left { WantsHost result → self.new ≡ self.old }
         ensures untold { WantsHost result → IsTrue S.TAKES_HOST
             ⊎ (((heap.new ≡ heap.old) × TellsNothing K.told sink.old sink.new)
-            ⊎ (LeavesMasters nothing heap.old heap.new
-            × Tells K.told (slot_gone nothing heap.old.heap) sink.old sink.new)) }
+            ⊎ (LeavesMasters nothing heap.old.memory heap.new.memory
+            × Tells K.told (slot_gone nothing heap.old.memory.heap) sink.old sink.new)) }
         ensures idle { IsIdle K.told K.waits sink.new }
         ensures listens { K.listens sink.new ≡ K.listens sink.old }
         ensures host { WantsHost result → IsTrue S.TAKES_HOST
             ⊎ ((heap.new ≡ heap.old) ⊎ (K.listens sink.old ≡ true)) }
-        ensures kept { WantsHost result → KeepsNames heap.old heap.new }
-        ensures lies { heap.new.window ≡ heap.old.window }
+        ensures kept { WantsHost result → KeepsNames heap.old.memory heap.new.memory }
+        ensures lies { heap.new.memory.window ≡ heap.old.memory.window }
     {
         let found = self.find_own(ty, id);
         self.fetch_found(heap, found, true, sink)

@@ -24,7 +24,7 @@ const MOST_BYTES: usize = 16_777_215;
 
 /// Reports whether the handle of a number has a block.
 fn is_in_memory<S: BlockStore>(heap: &Heap<S>, number: usize) -> bool
-    ensures { result ≡ partial.is_in_memory (Some number) heap.now.heap }
+    ensures { result ≡ partial.is_in_memory (Some number) heap.now.memory.heap }
 {
     heap.bytes(number).is_some()
 }
@@ -67,7 +67,7 @@ fn size_refusal(files: &[OpenFile], at: Spot, size: usize) -> Option<OsErr>
 /// Returns -188 (resourceInMemory) where the handle of a number has a block.
 fn unless_in_memory<S: BlockStore>(heap: &Heap<S>, number: usize) -> Result<(), Refusal>
     ensures answer { (r : ResourcesValue) → IsAnswered (λ (u : Unit {0}). u)
-        (partial.unless_in_memory (Some number) (managers r heap.now)) result (managers r heap.now) }
+        (partial.unless_in_memory (Some number) (managers r heap.now.memory)) result (managers r heap.now.memory) }
     ensures host { result ≢ Err Refusal.HostMemory }
 {
     if is_in_memory(heap, number) {
@@ -90,8 +90,8 @@ fn write_at<S: BlockStore>(
     requires { is_some (found_at at (map view_open files.old.items)) ≡ true }
     ensures answer { (r : ResourcesValue) (f : Found) → found_at at (map view_open files.old.items) ≡ Some f
         → IsAnswered (λ (u : Unit {0}). u)
-        (write_part_found (Some number) from bytes.now (managers (chained files.old.items r) heap.now) f)
-        result (managers (chained files.new.items r) heap.now) }
+        (write_part_found (Some number) from bytes.now (managers (chained files.old.items r) heap.now.memory) f)
+        result (managers (chained files.new.items r) heap.now.memory) }
     ensures kept { result ≡ Err Refusal.HostMemory → map view_open files.new.items ≡ map view_open files.old.items }
 {
     if let Some(code) = write_refusal(files, at, from, bytes.len()) {
@@ -113,8 +113,8 @@ fn resize_at<S: BlockStore>(
     requires { is_some (found_at at (map view_open files.old.items)) ≡ true }
     ensures answer { (r : ResourcesValue) (f : Found) → found_at at (map view_open files.old.items) ≡ Some f
         → IsAnswered (λ (u : Unit {0}). u)
-        (set_size_found (Some number) size (managers (chained files.old.items r) heap.now) f)
-        result (managers (chained files.new.items r) heap.now) }
+        (set_size_found (Some number) size (managers (chained files.old.items r) heap.now.memory) f)
+        result (managers (chained files.new.items r) heap.now.memory) }
     ensures kept { result ≡ Err Refusal.HostMemory → map view_open files.new.items ≡ map view_open files.old.items }
 {
     if let Some(code) = size_refusal(files, at, size) {
@@ -146,7 +146,7 @@ impl Resources {
         count: u32,
     ) -> Result<(), Refusal>
         ensures answer { IsAnsweredUnseen (noting (partial.read_partial_resource handle offset count)
-            (managers self.old heap.now)) result (managers self.new heap.now) }
+            (managers self.old heap.now.memory)) result (managers self.new heap.now.memory) }
         ensures host { result ≢ Err Refusal.HostMemory }
     {
         let answer = match self.partial(heap, handle, offset, count) {
@@ -166,7 +166,7 @@ impl Resources {
         count: u32,
     ) -> Result<&[u8], Refusal>
         ensures answer { IsAnswered (λ b. b.now) (partial.read_partial_resource handle offset count
-            (managers self.now heap.now)) result (managers self.now heap.now) }
+            (managers self.now heap.now.memory)) result (managers self.now heap.now.memory) }
         ensures host { result ≢ Err Refusal.HostMemory }
     {
         let Some(number) = handle else {
@@ -198,7 +198,7 @@ impl Resources {
         bytes: &[u8],
     ) -> Result<(), Refusal>
         ensures answer { IsAnswered (λ (u : Unit {0}). u) (noting (partial.write_partial_resource handle offset
-            bytes.now) (managers self.old heap.now)) result (managers self.new heap.now) }
+            bytes.now) (managers self.old heap.now.memory)) result (managers self.new heap.now.memory) }
         ensures kept { result ≡ Err Refusal.HostMemory → self.new ≡ self.old }
     {
         let answer = self.write_part(heap, handle, offset, bytes);
@@ -214,7 +214,7 @@ impl Resources {
         bytes: &[u8],
     ) -> Result<(), Refusal>
         ensures answer { IsAnswered (λ (u : Unit {0}). u) (partial.write_partial_resource handle offset bytes.now
-            (managers self.old heap.now)) result (managers self.new heap.now) }
+            (managers self.old heap.now.memory)) result (managers self.new heap.now.memory) }
         ensures kept { result ≡ Err Refusal.HostMemory → self.new ≡ self.old }
     {
         let Some(number) = handle else {
@@ -238,7 +238,7 @@ impl Resources {
         size: u32,
     ) -> Result<(), Refusal>
         ensures answer { IsAnswered (λ (u : Unit {0}). u) (noting (partial.set_resource_size handle size)
-            (managers self.old heap.now)) result (managers self.new heap.now) }
+            (managers self.old heap.now.memory)) result (managers self.new heap.now.memory) }
         ensures kept { result ≡ Err Refusal.HostMemory → self.new ≡ self.old }
     {
         let answer = self.set_size(heap, handle, size);
@@ -253,7 +253,7 @@ impl Resources {
         size: u32,
     ) -> Result<(), Refusal>
         ensures answer { IsAnswered (λ (u : Unit {0}). u) (partial.set_resource_size handle size
-            (managers self.old heap.now)) result (managers self.new heap.now) }
+            (managers self.old heap.now.memory)) result (managers self.new heap.now.memory) }
         ensures kept { result ≡ Err Refusal.HostMemory → self.new ≡ self.old }
     {
         let Some(number) = handle else {

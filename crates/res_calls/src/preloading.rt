@@ -60,9 +60,10 @@ fn make_all<S: BlockStore>(
     heap: &mut Heap<S>,
     file: &ResFile,
 ) -> Result<Vec<Option<usize>>, AllocError>
-    ensures answer { IfOk result (λ v. new_all (wanted_of file.now.references) heap.old ≡ (v.items, heap.new)) }
+    ensures answer { IfOk result (λ v. new_all (wanted_of file.now.references) heap.old.memory
+        ≡ (v.items, heap.new.memory)) }
     ensures host { IsErr result → IsTrue S.TAKES_HOST ⊎ (heap.new ≡ heap.old) }
-    ensures lies { heap.new.window ≡ heap.old.window }
+    ensures lies { heap.new.memory.window ≡ heap.old.memory.window }
 {
     let wanted = gather(alloc, file)?;
     let mut numbers = Vec::new(alloc);
@@ -82,16 +83,18 @@ fn make_told<S: BlockStore, K: PurgeSink>(
     sink: &mut K,
 ) -> Result<bool, AllocError>
     requires idle { IsIdle K.told K.waits sink.old }
-    ensures all { result ≡ Ok true → new_all (wanted_of file.now.references) heap.old ≡ (numbers.new.items, heap.new) }
+    ensures all { result ≡ Ok true → new_all (wanted_of file.now.references) heap.old.memory
+        ≡ (numbers.new.items, heap.new.memory) }
     ensures told { result ≡ Ok true → K.listens sink.old ≡ true
-        → Tells K.told (all_gone (wanted_of file.now.references) heap.old) sink.old sink.new }
-    ensures some { result ≡ Ok false → IsTrue S.TAKES_HOST ⊎ Stops K.told (wanted_of file.now.references) heap.old
-        numbers.new.items heap.new sink.old sink.new }
+        → Tells K.told (all_gone (wanted_of file.now.references) heap.old.memory) sink.old sink.new }
+    ensures some { result ≡ Ok false → IsTrue S.TAKES_HOST
+        ⊎ Stops K.told (wanted_of file.now.references) heap.old.memory
+        numbers.new.items heap.new.memory sink.old sink.new }
     ensures heap { OnErr result (heap.new ≡ heap.old) }
     ensures untold { OnErr result (TellsNothing K.told sink.old sink.new) }
     ensures idle { IsIdle K.told K.waits sink.new }
     ensures listens { K.listens sink.new ≡ K.listens sink.old }
-    ensures lies { heap.new.window ≡ heap.old.window }
+    ensures lies { heap.new.memory.window ≡ heap.old.memory.window }
 {
     let wanted = gather(alloc, file)?;
     Ok(heap.new_resources(&wanted, numbers, sink).is_ok())
@@ -131,12 +134,12 @@ pub fn preload<S: BlockStore>(
     file: &mut ResFile,
 ) -> Result<(), AllocError>
     ensures file { OnOk result (file.new ≡ record file.old {
-      references = (fetch.preload file.old.references heap.old).references;
+      references = (fetch.preload file.old.references heap.old.memory).references;
     }) }
-    ensures heap { OnOk result (heap.new ≡ (fetch.preload file.old.references heap.old).memory) }
+    ensures heap { OnOk result (heap.new.memory ≡ (fetch.preload file.old.references heap.old.memory).memory) }
     ensures kept { OnErr result (file.new ≡ file.old) }
     ensures host { IsErr result → IsTrue S.TAKES_HOST ⊎ (heap.new ≡ heap.old) }
-    ensures lies { heap.new.window ≡ heap.old.window }
+    ensures lies { heap.new.memory.window ≡ heap.old.memory.window }
 {
     // All host memory is allocated before the first handle is made.
     let numbers = make_all(alloc, heap, file)?;
@@ -156,19 +159,19 @@ pub fn preload_told<S: BlockStore, K: PurgeSink>(
 ) -> Result<bool, AllocError>
     requires idle { IsIdle K.told K.waits sink.old }
     ensures file { result ≡ Ok true → file.new ≡ record file.old {
-      references = (fetch.preload file.old.references heap.old).references;
+      references = (fetch.preload file.old.references heap.old.memory).references;
     } }
-    ensures heap { result ≡ Ok true → heap.new ≡ (fetch.preload file.old.references heap.old).memory }
+    ensures heap { result ≡ Ok true → heap.new.memory ≡ (fetch.preload file.old.references heap.old.memory).memory }
     ensures told { result ≡ Ok true → K.listens sink.old ≡ true
-        → Tells K.told (preload_gone file.old.references heap.old) sink.old sink.new }
+        → Tells K.told (preload_gone file.old.references heap.old.memory) sink.old sink.new }
     ensures stopped { result ≡ Ok false
-        → StopsPreloading K.told S.TAKES_HOST file.old file.new heap.old heap.new sink.old sink.new }
+        → StopsPreloading K.told S.TAKES_HOST file.old file.new heap.old.memory heap.new.memory sink.old sink.new }
     ensures kept { OnErr result (file.new ≡ file.old) }
     ensures unfilled { OnErr result (heap.new ≡ heap.old) }
     ensures untold { OnErr result (TellsNothing K.told sink.old sink.new) }
     ensures idle { IsIdle K.told K.waits sink.new }
     ensures listens { K.listens sink.new ≡ K.listens sink.old }
-    ensures lies { heap.new.window ≡ heap.old.window }
+    ensures lies { heap.new.memory.window ≡ heap.old.memory.window }
 {
     let mut numbers = Vec::new(alloc);
     let whole = make_told(alloc, heap, file, &mut numbers, sink)?;

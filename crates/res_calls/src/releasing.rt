@@ -26,10 +26,10 @@ fn release_at<S: BlockStore>(
     requires { is_some (found_at at (map view_open files.old.items)) ≡ true }
     ensures answer { (r : ResourcesValue) (f : Found) → found_at at (map view_open files.old.items) ≡ Some f
         → IsAnswered (λ (u : Unit {0}). u)
-        (release_found (Some number) (managers (chained files.old.items r) heap.old) f)
-        result (managers (chained files.new.items r) heap.new) }
+        (release_found (Some number) (managers (chained files.old.items r) heap.old.memory) f)
+        result (managers (chained files.new.items r) heap.new.memory) }
     ensures host { result ≢ Err Refusal.HostMemory }
-    ensures lies { heap.new.window ≡ heap.old.window }
+    ensures lies { heap.new.memory.window ≡ heap.old.memory.window }
 {
     if heap.is_busy(number) {
         return Err(Refusal::Code(OsErr::LOCKED));
@@ -53,10 +53,10 @@ fn detach_at<S: BlockStore>(
     requires { is_some (found_at at (map view_open files.old.items)) ≡ true }
     ensures answer { (r : ResourcesValue) (f : Found) → found_at at (map view_open files.old.items) ≡ Some f
         → IsAnswered (λ (u : Unit {0}). u)
-        (detach_found (Some number) (managers (chained files.old.items r) heap.old) f)
-        result (managers (chained files.new.items r) heap.new) }
+        (detach_found (Some number) (managers (chained files.old.items r) heap.old.memory) f)
+        result (managers (chained files.new.items r) heap.new.memory) }
     ensures host { result ≢ Err Refusal.HostMemory }
-    ensures lies { heap.new.window ≡ heap.old.window }
+    ensures lies { heap.new.memory.window ≡ heap.old.memory.window }
 {
     if has_bit_at(files, at, Attrs::CHANGED) {
         return Err(Refusal::Code(OsErr::RES_ATTR));
@@ -76,9 +76,9 @@ impl Resources {
         handle: Option<usize>,
     ) -> Result<(), Refusal>
         ensures answer { IsAnswered (λ (u : Unit {0}). u) (noting (rows.release_resource handle)
-            (managers self.old heap.old)) result (managers self.new heap.new) }
+            (managers self.old heap.old.memory)) result (managers self.new heap.new.memory) }
         ensures host { result ≢ Err Refusal.HostMemory }
-        ensures lies { heap.new.window ≡ heap.old.window }
+        ensures lies { heap.new.memory.window ≡ heap.old.memory.window }
     {
         let answer = self.release(heap, handle);
         self.note(answer)
@@ -91,10 +91,10 @@ impl Resources {
         handle: Option<usize>,
     ) -> Result<(), Refusal>
         ensures answer { IsAnswered (λ (u : Unit {0}). u)
-            (rows.release_resource handle (managers self.old heap.old)) result
-            (managers self.new heap.new) }
+            (rows.release_resource handle (managers self.old heap.old.memory)) result
+            (managers self.new heap.new.memory) }
         ensures host { result ≢ Err Refusal.HostMemory }
-        ensures lies { heap.new.window ≡ heap.old.window }
+        ensures lies { heap.new.memory.window ≡ heap.old.memory.window }
     {
         let Some(number) = handle else {
             return Err(Refusal::Code(OsErr::RES_NOT_FOUND));
@@ -114,9 +114,9 @@ impl Resources {
         handle: Option<usize>,
     ) -> Result<(), Refusal>
         ensures answer { IsAnswered (λ (u : Unit {0}). u) (noting (rows.detach_resource handle)
-            (managers self.old heap.old)) result (managers self.new heap.new) }
+            (managers self.old heap.old.memory)) result (managers self.new heap.new.memory) }
         ensures host { result ≢ Err Refusal.HostMemory }
-        ensures lies { heap.new.window ≡ heap.old.window }
+        ensures lies { heap.new.memory.window ≡ heap.old.memory.window }
     {
         let answer = self.detach(heap, handle);
         self.note(answer)
@@ -129,10 +129,10 @@ impl Resources {
         handle: Option<usize>,
     ) -> Result<(), Refusal>
         ensures answer { IsAnswered (λ (u : Unit {0}). u)
-            (rows.detach_resource handle (managers self.old heap.old)) result
-            (managers self.new heap.new) }
+            (rows.detach_resource handle (managers self.old heap.old.memory)) result
+            (managers self.new heap.new.memory) }
         ensures host { result ≢ Err Refusal.HostMemory }
-        ensures lies { heap.new.window ≡ heap.old.window }
+        ensures lies { heap.new.memory.window ≡ heap.old.memory.window }
     {
         let Some(number) = handle else {
             return Err(Refusal::Code(OsErr::RES_NOT_FOUND));

@@ -40,7 +40,7 @@ pub(crate) struct Anew {
 
 /// Returns the bytes of a handle's block, where the handle is present and not empty.
 fn held_bytes<S: BlockStore>(heap: &Heap<S>, handle: Option<usize>) -> Option<&[u8]>
-    ensures { option_map (λ b. b.now) result ≡ bytes_held handle heap.now.heap }
+    ensures { option_map (λ b. b.now) result ≡ bytes_held handle heap.now.memory.heap }
 {
     match handle {
         None => None,
@@ -65,7 +65,7 @@ fn fresh_of<S: BlockStore>(
     heap: &Heap<S>,
     entry: &LentReference<'_>,
 ) -> Result<Option<Vec<u8>>, AllocError>
-    ensures { IfOk result (λ o. view_bytes o ≡ fresh heap.now.heap (view_lent entry.now)) }
+    ensures { IfOk result (λ o. view_bytes o ≡ fresh heap.now.memory.heap (view_lent entry.now)) }
 {
     if entry.stored.attrs.has(Attrs::CHANGED) {
         own_bytes(alloc, held_bytes(heap, entry.handle))
@@ -80,7 +80,7 @@ fn fresh_all<S: BlockStore>(
     heap: &Heap<S>,
     file: &ResFile,
 ) -> Result<Vec<Option<Vec<u8>>>, AllocError>
-    ensures { IfOk result (λ v. view_all v.items ≡ map (fresh heap.now.heap) file.now.references) }
+    ensures { IfOk result (λ v. view_all v.items ≡ map (fresh heap.now.memory.heap) file.now.references) }
 {
     let mut all = Vec::with_capacity(alloc, file.len())?;
     for i in 0..file.len() {
@@ -109,7 +109,7 @@ fn write_with(alloc: Global, file: &ResFile, stored: &[Option<Vec<u8>>]) -> Resu
 /// Returns the stored data and the fork that an update of a resource map makes. Returns -34 (dskFulErr) where the
 /// content does not fit the format of a resource fork.
 fn make_anew<S: BlockStore>(alloc: Global, heap: &Heap<S>, file: &ResFile) -> Result<Anew, Refusal>
-    ensures { IsAnew heap.now.heap file.now result }
+    ensures { IsAnew heap.now.memory.heap file.now result }
 {
     let stored = fresh_all(alloc, heap, file)?;
     match write_with(alloc, file, &stored) {
@@ -196,14 +196,14 @@ pub(crate) fn renew_at<S: BlockStore>(
 ) -> Result<Option<Replaced>, Refusal>
     requires { at < length chain.old.items }
     ensures answer { (r : ResourcesValue) (s : Split OpenFileValue) → at_index at (map view_open chain.old.items) ≡ Some s
-        → IsUpdated (update heap.now.heap s (stored_in files.old.items chain.old.items r)) result
+        → IsUpdated (update heap.now.memory.heap s (stored_in files.old.items chain.old.items r)) result
         (stored_in files.new.items chain.new.items r) }
     ensures files { IsErr result → map view_file files.new.items ≡ map view_file files.old.items }
     ensures chain { IsErr result → map view_open chain.new.items ≡ map view_open chain.old.items }
     ensures length { length chain.new.items ≡ length chain.old.items }
     ensures read_again { OnOk result ((s : Split OpenFileValue) → at_index at (map view_open chain.old.items) ≡ Some s
         → s.here.touched ≡ true
-        → Spells (fork_of heap.now.heap s.here) (clear (content (updated_map heap.now.heap s.here.map)))) }
+        → Spells (fork_of heap.now.memory.heap s.here) (clear (content (updated_map heap.now.memory.heap s.here.map)))) }
     ensures replaced { IfOk result (λ o. undone (option_to_list o) (map view_file files.new.items)
         ≡ map view_file files.old.items) }
 {
@@ -228,14 +228,14 @@ pub(crate) fn update_at<S: BlockStore>(
 ) -> Result<(), Refusal>
     requires { at < length chain.old.items }
     ensures answer { (r : ResourcesValue) (s : Split OpenFileValue) → at_index at (map view_open chain.old.items) ≡ Some s
-        → IsUpdated (update heap.now.heap s (stored_in files.old.items chain.old.items r)) result
+        → IsUpdated (update heap.now.memory.heap s (stored_in files.old.items chain.old.items r)) result
         (stored_in files.new.items chain.new.items r) }
     ensures files { IsErr result → map view_file files.new.items ≡ map view_file files.old.items }
     ensures chain { IsErr result → map view_open chain.new.items ≡ map view_open chain.old.items }
     ensures length { length chain.new.items ≡ length chain.old.items }
     ensures read_again { OnOk result ((s : Split OpenFileValue) → at_index at (map view_open chain.old.items) ≡ Some s
         → s.here.touched ≡ true
-        → Spells (fork_of heap.now.heap s.here) (clear (content (updated_map heap.now.heap s.here.map)))) }
+        → Spells (fork_of heap.now.memory.heap s.here) (clear (content (updated_map heap.now.memory.heap s.here.map)))) }
 {
     match renew_at(alloc, heap, files, chain, at) {
         Ok(_) => {}
@@ -259,11 +259,12 @@ impl Resources {
         number: u32,
     ) -> Result<(), Refusal>
         ensures answer { IsAnswered (λ (u : Unit {0}). u) (noting (rows.update_res_file number)
-            (managers self.old heap.now)) result (managers self.new heap.now) }
+            (managers self.old heap.now.memory)) result (managers self.new heap.now.memory) }
         ensures kept { result ≡ Err Refusal.HostMemory → self.new ≡ self.old }
         ensures read_again { OnOk result ((at : Split OpenFileValue) → number ≢ 0 → file_of number self.old ≡ Some at
             → at.here.touched ≡ true
-            → Spells (fork_of heap.now.heap at.here) (clear (content (updated_map heap.now.heap at.here.map)))) }
+            → Spells (fork_of heap.now.memory.heap at.here) (clear (content (updated_map heap.now.memory.heap
+            at.here.map)))) }
     {
         let answer = self.update(alloc, heap, number);
         self.note(answer)
@@ -276,12 +277,13 @@ impl Resources {
         heap: &Heap<S>,
         number: u32,
     ) -> Result<(), Refusal>
-        ensures answer { IsAnswered (λ (u : Unit {0}). u) (rows.update_res_file number (managers self.old heap.now))
-            result (managers self.new heap.now) }
+        ensures answer { IsAnswered (λ (u : Unit {0}). u) (rows.update_res_file number (managers self.old
+            heap.now.memory)) result (managers self.new heap.now.memory) }
         ensures kept { result ≡ Err Refusal.HostMemory → self.new ≡ self.old }
         ensures read_again { OnOk result ((at : Split OpenFileValue) → number ≢ 0 → file_of number self.old ≡ Some at
             → at.here.touched ≡ true
-            → Spells (fork_of heap.now.heap at.here) (clear (content (updated_map heap.now.heap at.here.map)))) }
+            → Spells (fork_of heap.now.memory.heap at.here) (clear (content (updated_map heap.now.memory.heap
+            at.here.map)))) }
     {
         let Some(at) = place_numbered(&self.chain, number) else {
             return Err(Refusal::Code(OsErr::RES_FILE_NOT_FOUND));

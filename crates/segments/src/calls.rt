@@ -72,22 +72,22 @@ impl JumpTable {
         sink: &mut K,
     ) -> Result<bool, Unloaded>
         requires idle { IsIdle K.told K.waits sink.old }
-        ensures answer { IsLoaded (load_seg segment (program self.old resources.old heap.old)) result
-            (program self.new resources.new heap.new) }
+        ensures answer { IsLoaded (load_seg segment (program self.old resources.old heap.old.memory)) result
+            (program self.new resources.new heap.new.memory) }
         ensures told { ¬ (WantsHost result) → K.listens sink.old ≡ true → Tells K.told
-            (gone_for (LoadSeg segment) (program self.old resources.old heap.old)) sink.old sink.new }
+            (gone_for (LoadSeg segment) (program self.old resources.old heap.old.memory)) sink.old sink.new }
         ensures table { WantsHost result → self.new ≡ self.old }
         ensures left { WantsHost result → resources.new ≡ resources.old }
         ensures untold { WantsHost result → IsTrue S.TAKES_HOST
             ⊎ (((heap.new ≡ heap.old) × TellsNothing K.told sink.old sink.new)
-            ⊎ (LeavesMasters nothing heap.old heap.new
-            × Tells K.told (slot_gone nothing heap.old.heap) sink.old sink.new)) }
+            ⊎ (LeavesMasters nothing heap.old.memory heap.new.memory
+            × Tells K.told (slot_gone nothing heap.old.memory.heap) sink.old sink.new)) }
         ensures idle { IsIdle K.told K.waits sink.new }
         ensures listens { K.listens sink.new ≡ K.listens sink.old }
         ensures host { WantsHost result → IsTrue S.TAKES_HOST
             ⊎ ((heap.new ≡ heap.old) ⊎ (K.listens sink.old ≡ true)) }
-        ensures kept { WantsHost result → KeepsNames heap.old heap.new }
-        ensures lies { heap.new.window ≡ heap.old.window }
+        ensures kept { WantsHost result → KeepsNames heap.old.memory heap.new.memory }
+        ensures lies { heap.new.memory.window ≡ heap.old.memory.window }
     {
         if segment == 0 {
             return Err(Unloaded::with_code(OsErr::SYSTEM_ERROR));
@@ -117,10 +117,10 @@ impl JumpTable {
         resources: &Resources,
         segment: i16,
     ) -> Result<(), OsErr>
-        ensures reply { (unload_seg segment (program self.old resources.now heap.old)).reply ≡ result }
-        ensures after { (unload_seg segment (program self.old resources.now heap.old)).after
-            ≡ program self.new resources.now heap.new }
-        ensures lies { heap.new.window ≡ heap.old.window }
+        ensures reply { (unload_seg segment (program self.old resources.now heap.old.memory)).reply ≡ result }
+        ensures after { (unload_seg segment (program self.old resources.now heap.old.memory)).after
+            ≡ program self.new resources.now heap.new.memory }
+        ensures lies { heap.new.memory.window ≡ heap.old.memory.window }
     {
         let handle = resources.own_handle(CODE, segment);
         loosen_idle(heap, handle)?;
@@ -140,22 +140,22 @@ impl JumpTable {
         sink: &mut K,
     ) -> Result<Called, Unloaded>
         requires idle { IsIdle K.told K.waits sink.old }
-        ensures answer { IsCalled (call_entry index (program self.old resources.old heap.old)) result
-            (program self.new resources.new heap.new) }
+        ensures answer { IsCalled (call_entry index (program self.old resources.old heap.old.memory)) result
+            (program self.new resources.new heap.new.memory) }
         ensures told { ¬ (WantsHost result) → K.listens sink.old ≡ true → Tells K.told
-            (gone_for (CallEntry index) (program self.old resources.old heap.old)) sink.old sink.new }
+            (gone_for (CallEntry index) (program self.old resources.old heap.old.memory)) sink.old sink.new }
         ensures table { WantsHost result → self.new ≡ self.old }
         ensures left { WantsHost result → resources.new ≡ resources.old }
         ensures untold { WantsHost result → IsTrue S.TAKES_HOST
             ⊎ (((heap.new ≡ heap.old) × TellsNothing K.told sink.old sink.new)
-            ⊎ (LeavesMasters nothing heap.old heap.new
-            × Tells K.told (slot_gone nothing heap.old.heap) sink.old sink.new)) }
+            ⊎ (LeavesMasters nothing heap.old.memory heap.new.memory
+            × Tells K.told (slot_gone nothing heap.old.memory.heap) sink.old sink.new)) }
         ensures idle { IsIdle K.told K.waits sink.new }
         ensures listens { K.listens sink.new ≡ K.listens sink.old }
         ensures host { WantsHost result → IsTrue S.TAKES_HOST
             ⊎ ((heap.new ≡ heap.old) ⊎ (K.listens sink.old ≡ true)) }
-        ensures kept { WantsHost result → KeepsNames heap.old heap.new }
-        ensures lies { heap.new.window ≡ heap.old.window }
+        ensures kept { WantsHost result → KeepsNames heap.old.memory heap.new.memory }
+        ensures lies { heap.new.memory.window ≡ heap.old.memory.window }
     {
         let Some(entry) = self.entry(index) else {
             return Err(Unloaded::with_code(OsErr::PROFILE));
@@ -180,22 +180,22 @@ impl JumpTable {
         sink: &mut K,
     ) -> Result<Called, Unloaded>
         requires idle { IsIdle K.told K.waits sink.old }
-        ensures answer { IsCalled (call_loading segment (load_seg segment (program self.old resources.old heap.old)))
-            result (program self.new resources.new heap.new) }
+        ensures answer { IsCalled (call_loading segment (load_seg segment (program self.old resources.old
+            heap.old.memory))) result (program self.new resources.new heap.new.memory) }
         ensures told { ¬ (WantsHost result) → K.listens sink.old ≡ true → Tells K.told
-            (load_gone segment (program self.old resources.old heap.old)) sink.old sink.new }
+            (load_gone segment (program self.old resources.old heap.old.memory)) sink.old sink.new }
         ensures table { WantsHost result → self.new ≡ self.old }
         ensures left { WantsHost result → resources.new ≡ resources.old }
         ensures untold { WantsHost result → IsTrue S.TAKES_HOST
             ⊎ (((heap.new ≡ heap.old) × TellsNothing K.told sink.old sink.new)
-            ⊎ (LeavesMasters nothing heap.old heap.new
-            × Tells K.told (slot_gone nothing heap.old.heap) sink.old sink.new)) }
+            ⊎ (LeavesMasters nothing heap.old.memory heap.new.memory
+            × Tells K.told (slot_gone nothing heap.old.memory.heap) sink.old sink.new)) }
         ensures idle { IsIdle K.told K.waits sink.new }
         ensures listens { K.listens sink.new ≡ K.listens sink.old }
         ensures host { WantsHost result → IsTrue S.TAKES_HOST
             ⊎ ((heap.new ≡ heap.old) ⊎ (K.listens sink.old ≡ true)) }
-        ensures kept { WantsHost result → KeepsNames heap.old heap.new }
-        ensures lies { heap.new.window ≡ heap.old.window }
+        ensures kept { WantsHost result → KeepsNames heap.old.memory heap.new.memory }
+        ensures lies { heap.new.memory.window ≡ heap.old.memory.window }
     {
         match self.load(heap, resources, segment, sink) {
             Ok(read) => Ok(Called { segment, read }),
@@ -210,8 +210,8 @@ fn call_loaded<S: BlockStore>(
     resources: &Resources,
     segment: i16,
 ) -> Result<Called, Unloaded>
-    ensures answer { (table : List Entry) → IsCalled (call_loaded segment (program table resources.now heap.now)) result
-        (program table resources.now heap.now) }
+    ensures answer { (table : List Entry) → IsCalled (call_loaded segment (program table resources.now heap.now.memory))
+        result (program table resources.now heap.now.memory) }
     ensures host { ¬ (WantsHost result) }
 {
     if is_there(heap, resources.own_handle(CODE, segment)) {
@@ -226,7 +226,7 @@ fn call_loaded<S: BlockStore>(
 
 /// Reports whether there is a handle and it has a block.
 fn is_there<S: BlockStore>(heap: &Heap<S>, handle: Option<usize>) -> bool
-    ensures { (r : ResourcesValue) → result ≡ is_there handle (managers r heap.now) }
+    ensures { (r : ResourcesValue) → result ≡ is_there handle (managers r heap.now.memory) }
 {
     match handle {
         None => false,
@@ -237,10 +237,11 @@ fn is_there<S: BlockStore>(heap: &Heap<S>, handle: Option<usize>) -> bool
 /// Unlocks the block of a handle, if there is a handle, and makes the block purgeable; returns -117 (memLockedErr)
 /// where the handle is busy.
 fn loosen_idle<S: BlockStore>(heap: &mut Heap<S>, handle: Option<usize>) -> Result<(), OsErr>
-    ensures reply { result ≡ done_if (bars handle heap.old) }
-    ensures after { (r : ResourcesValue) → managers r heap.new
-        ≡ (if bars handle heap.old then managers r heap.old else let_loose handle (managers r heap.old)) }
-    ensures lies { heap.new.window ≡ heap.old.window }
+    ensures reply { result ≡ done_if (bars handle heap.old.memory) }
+    ensures after { (r : ResourcesValue) → managers r heap.new.memory
+        ≡ (if bars handle heap.old.memory then managers r heap.old.memory else let_loose handle (managers r
+        heap.old.memory)) }
+    ensures lies { heap.new.memory.window ≡ heap.old.memory.window }
 {
     let Some(number) = handle else {
         return Ok(());

@@ -25,7 +25,7 @@ fn numbered_lines<'n, S: BlockStore>(
     alloc: Global,
     heap: &Heap<S>,
 ) -> Result<Vec<BlockLine<'n>>, AllocError>
-    ensures { IfOk result (λ lines. map view_line lines.items ≡ zone_lines numbered heap.now.heap.zone) }
+    ensures { IfOk result (λ lines. map view_line lines.items ≡ zone_lines numbered heap.now.memory.heap.zone) }
 {
     let names = BTreeMap::new(alloc);
     let owners = BTreeMap::new(alloc);

@@ -40,8 +40,8 @@ pub fn seen_in<'a, S: BlockStore>(
     requires names { get nat_cmp names.now no_number ≡ None }
     requires owners { get nat_cmp owners.now no_number ≡ None }
     ensures lines { IfOk result (λ seen. map view_line seen.lines.items
-        ≡ zone_lines (tag_by names.now owners.now) heap.now.heap.zone) }
-    ensures largest { IfOk result (λ seen. seen.largest ≡ largest_of heap.now.heap.zone) }
+        ≡ zone_lines (tag_by names.now owners.now) heap.now.memory.heap.zone) }
+    ensures largest { IfOk result (λ seen. seen.largest ≡ largest_of heap.now.memory.heap.zone) }
 {
     let (store, anchors) = heap.numbered();
     let blocks = blocks_of(alloc, store)?;

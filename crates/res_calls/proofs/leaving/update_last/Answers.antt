@@ -8,14 +8,14 @@ use Rattle.res_calls.proofs.leaving.update_last.Goals as goal
 
 pub returns-in-Ok-clause-answer : goal.returns-in-Ok-clause-answer
 returns-in-Ok-clause-answer g c = λ r.
-    last_updated c.args.heap.now (map view_open c.args.chain.now.items)
+    last_updated c.args.heap.now.memory (map view_open c.args.chain.now.items)
     (stored_in c.args.files.now.items c.args.chain.now.items r)
     (stored_in c.renew_at.new.files.items c.renew_at.new.chain.items r)
     (λ s e. c.in-Ok.ensures.answer r s e)
 
 pub returns-in-Err-Code-clause-answer : goal.returns-in-Err-Code-clause-answer
 returns-in-Err-Code-clause-answer g c = λ r.
-    last_refused c.args.heap.now (map view_open c.args.chain.now.items) c.in-Err-Code.code
+    last_refused c.args.heap.now.memory (map view_open c.args.chain.now.items) c.in-Err-Code.code
     (stored_in c.args.files.now.items c.args.chain.now.items r)
     (stored_in c.renew_at.new.files.items c.renew_at.new.chain.items r)
     (λ s e. rw c.in-Err-Code.field-0-is at c.in-Err-Code.ensures.answer r s e)

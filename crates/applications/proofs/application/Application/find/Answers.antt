@@ -18,7 +18,7 @@ returns-clause-tried g c = are_tried c.answer_resource-tried.result
 pub returns-clause-after : goal.returns-clause-after
 returns-clause-after g c =
     let left : Running = record {
-      memory = c.self-2.inside.heap;
+      memory = c.self-2.inside.heap.memory;
       resources = c.self-2.inside.resources;
       table = c.self-2.inside.table;
       names = c.self-2.inside.names;

@@ -12,7 +12,7 @@ use Rattle.applications.proofs.application.Application.jump.Goals as goal
 pub returns-clause-after : goal.returns-clause-after
 returns-clause-after g c =
     let left : Running = record {
-      memory = c.self-2.inside.heap;
+      memory = c.self-2.inside.heap.memory;
       resources = c.self-2.inside.resources;
       table = c.self-2.inside.table;
       names = c.self-2.inside.names;

@@ -5,6 +5,7 @@ use Rattle.heap_calls.proofs.NewBlocks.Naming.{Ends, masters-ends, served-lookin
 use Rattle.heap_calls.proofs.NewBlocks.NewHandles.{agrees-more, kept-still}
 use Rattle.heap_calls.proofs.NewBlocks.Reserving.{masters_searches-is}
 use Rattle.heap_calls.proofs.Numbering.PurgeTrials.{served_answer}
+use Rattle.heap_calls.proofs.Numbering.Memories.{memory_as}
 use Rattle.heap_calls.proofs.heap.Heap.add_masters.Given.{Over}
 use Rattle.heap_calls.proofs.heap.Heap.add_masters.Goals.{In_ok-room}
 use Rattle.heap_calls.proofs.heap.Heap.add_masters.Goals as goal
@@ -19,9 +20,9 @@ invariant_of-self g c =
 pub returns-in_err-room-clause-kept : goal.returns-in_err-room-clause-kept
 returns-in_err-room-clause-kept g c host =
     let a = c.self.inside in
-    kept-still c.args.self.now (g.S.BlockStore.zone a.store) (g.S.BlockStore.zone c.make_masters.new.store)
+    kept-still c.args.self.now.memory (g.S.BlockStore.zone a.store) (g.S.BlockStore.zone c.make_masters.new.store)
     (g.S.BlockStore.rest a.store) (g.S.BlockStore.rest c.make_masters.new.store)
-    a.names.items a.names.items a.log c.self.view_is refl c.self.invariant c.in_err-room.ensures.kept
+    a.names.items a.names.items a.log (memory_as c.self.view_is) refl c.self.invariant c.in_err-room.ensures.kept
     c.make_masters.ensures.moves
 
 made : (g : Over) (c : In_ok-room g) → Ends add_masters (g.S.BlockStore.zone c.self.inside.store)
@@ -38,9 +39,9 @@ pub returns-clause-answer : goal.returns-clause-answer
 returns-clause-answer g c =
     let a = c.self.inside in
     rw (c.account.ensures.reply, c.account.ensures.counted, c.is_some.ensures)
-    (served-looking add_masters more_masters_searches c.args.self.now (g.S.BlockStore.zone a.store) _
+    (served-looking add_masters more_masters_searches c.args.self.now.memory (g.S.BlockStore.zone a.store) _
     (g.S.BlockStore.rest a.store) (g.S.BlockStore.rest c.make_masters.new.store) a.names.items a.log
-    (is_some c.in_ok-room.room.place) c.self.view_is
+    (is_some c.in_ok-room.room.place) (memory_as c.self.view_is)
     (made g (goal.at.returns-clause-answer g c).In_ok-room) c.in_ok-room.room.searches
     (c.in_ok-room.ensures.searches ∙ sym (masters_searches-is _ _ _ (g.met.S.BlockStore.masters a.store)
     c.self.invariant)) c.make_masters.ensures.moves)

@@ -9,6 +9,7 @@ use Rattle.heap_calls.proofs.Numbering.Changing.{agrees-kept}
 use Rattle.heap_calls.proofs.Sizes.Behind.{hand-none, hand-nowhere}
 use Rattle.heap_calls.proofs.Sizes.Grown.{nothing-grown, grown-done, hand-tells}
 use Rattle.heap_calls.proofs.Numbering.Reserved.{fits-same}
+use Rattle.heap_calls.proofs.Numbering.Memories.{memory_as}
 use Rattle.heap_calls.proofs.heap.Heap.append_handle.Given.{Over}
 use Rattle.heap_calls.proofs.heap.Heap.append_handle.Goals.{In_ok-source}
 use Rattle.heap_calls.proofs.heap.Heap.append_handle.Goals as goal
@@ -23,7 +24,7 @@ returns-in_err-source-clause-answer g c =
     let p = err_from_is_err_and c.from_residual.result c.from_residual.ensures.1 in
     let a = c.self.inside in
     rw (p.1, p.2)
-    (nothing-grown c.args.self.now _ (g.S.BlockStore.rest a.store) a.names.items a.log c.self.view_is
+    (nothing-grown c.args.self.now.memory _ (g.S.BlockStore.rest a.store) a.names.items a.log (memory_as c.self.view_is)
     (hand_and_hand c.args.from c.args.to) (hand_and_hand_searches c.args.from c.args.to)
     (hand_and_hand_moves c.args.from c.args.to) c.in_err-source.field-0.0
     c.args.from _ c.deref.ensures.value c.in_err-source.ensures (hand-none c.args.from c.args.to _))
@@ -37,7 +38,7 @@ returns-in_err-held-clause-answer g c =
     let p = err_from_is_err_and c.from_residual-in_err-held.result c.from_residual-in_err-held.ensures.1 in
     let a = c.self.inside in
     rw (p.1, p.2)
-    (nothing-grown c.args.self.now _ (g.S.BlockStore.rest a.store) a.names.items a.log c.self.view_is
+    (nothing-grown c.args.self.now.memory _ (g.S.BlockStore.rest a.store) a.names.items a.log (memory_as c.self.view_is)
     (hand_and_hand c.args.from c.args.to) (hand_and_hand_searches c.args.from c.args.to)
     (hand_and_hand_moves c.args.from c.args.to) c.in_err-held.field-0.0
     c.args.to _ c.deref-2.ensures.value c.in_err-held.ensures
@@ -53,7 +54,7 @@ returns-clause-answer g c =
     let tells = hand-tells _ rest _ c.self.invariant c.args.from c.args.to c.in_ok-source.source c.in_ok-held.held from
     to c.length_at-more.result c.length_at-more.ensures.is in
     rw (c.account.ensures.reply, c.account.ensures.counted)
-    (grown-done c.args.self.now _ rest _ _ c.self.view_is _ _ _ _ _ _ tells
+    (grown-done c.args.self.now.memory _ rest _ _ (memory_as c.self.view_is) _ _ _ _ _ _ tells
     _ (g.S.BlockStore.rest c.append_block.new.store) c.in_ok-grown.ensures.rest c.in_ok-grown.grown.done
     c.in_ok-grown.grown.searches c.in_ok-grown.ensures.searches c.in_ok-grown.ensures.zone
     c.in_ok-grown.ensures.full c.append_block.ensures.moves)

@@ -8,6 +8,7 @@ use Rattle.heap_calls.proofs.Numbering.Changing.{agrees-kept}
 use Rattle.heap_calls.proofs.Sizes.Behind.{slice-none}
 use Rattle.heap_calls.proofs.Sizes.Grown.{nothing-grown, grown-done, slice-tells}
 use Rattle.heap_calls.proofs.Numbering.Reserved.{fits-same}
+use Rattle.heap_calls.proofs.Numbering.Memories.{memory_as}
 use Rattle.heap_calls.proofs.heap.Heap.append_slice.Goals as goal
 
 pub returns-in_err-held-clause-answer : goal.returns-in_err-held-clause-answer
@@ -16,7 +17,7 @@ returns-in_err-held-clause-answer g c =
     let a = c.self.inside in
     let x = c.args.bytes.now in
     rw (p.1, p.2)
-    (nothing-grown c.args.self.now _ (g.S.BlockStore.rest a.store) a.names.items a.log c.self.view_is
+    (nothing-grown c.args.self.now.memory _ (g.S.BlockStore.rest a.store) a.names.items a.log (memory_as c.self.view_is)
     (pointer_and_hand c.args.handle x) (pointer_and_hand_searches c.args.handle x)
     (pointer_and_hand_moves c.args.handle x) c.in_err-held.field-0.0
     c.args.handle _ c.deref.ensures.value c.in_err-held.ensures (slice-none c.args.handle x _))
@@ -32,7 +33,7 @@ returns-clause-answer g c =
     let there = reached_in (g.S.BlockStore.zone a.store) rest.slots a.names.items _ c.args.handle (Ok held)
     c.deref.ensures.value c.in_ok-held.ensures in
     rw (c.account.ensures.reply, c.account.ensures.counted)
-    (grown-done c.args.self.now _ rest _ _ c.self.view_is _ _ _ _ _ _
+    (grown-done c.args.self.now.memory _ rest _ _ (memory_as c.self.view_is) _ _ _ _ _ _
     (slice-tells _ rest _ c.self.invariant c.args.handle held there c.args.bytes.now)
     _ (g.S.BlockStore.rest c.append_bytes.new.store) c.in_ok-grown.ensures.rest c.in_ok-grown.grown.done
     c.in_ok-grown.grown.searches c.in_ok-grown.ensures.searches c.in_ok-grown.ensures.zone

@@ -2,6 +2,7 @@ use Rattle.std.proofs.Common.{◌≡◌, sym, ◌∙◌, ap, Ok, Err}
 use Rattle.std.proofs.lemmas.Result.{err_from_is_err_and}
 use Rattle.block_store.specs.Block.{content_of}
 use Rattle.heap_calls.proofs.Numbering.Answering.{not_shown_for, on_found, found_in, at_place, content_of-rename}
+use Rattle.heap_calls.proofs.Numbering.Memories.{memory_as}
 use Rattle.heap_calls.proofs.heap.Heap.block_bytes.Goals as goal
 
 pub returns-in_err-place-clause-answer : goal.returns-in_err-place-clause-answer
@@ -11,7 +12,11 @@ returns-in_err-place-clause-answer g c =
     let found = found_in (g.S.BlockStore.zone a.store) (g.S.BlockStore.rest a.store).slots a.names.items _ c.args.handle
     (Err c.in_err-place.field-0.0) c.deref.ensures.value c.in_err-place.ensures in
     rw (p.1, p.2) (not_shown_for c.in_err-place.field-0.0 (g.S.BlockStore.zone a.store) (g.S.BlockStore.rest a.store)
-    a.names.items a.log c.args.handle c.args.self.now c.self.view_is found (λ s k. (Ok (content_of k.at.here), s)))
+    a.names.items a.log c.args.handle c.args.self.now.memory (memory_as c.self.view_is) found (λ s k. (
+      Ok (content_of
+          k.at.here),
+      s,
+    )))
 
 pub returns-clause-answer : goal.returns-clause-answer
 returns-clause-answer g c =
@@ -21,5 +26,5 @@ returns-clause-answer g c =
     let bytes = at_place c.in_ok-place.place (g.S.BlockStore.zone a.store) found.1
     (λ s. c.bytes.result.now ≡ content_of s.here) found.3 c.bytes.ensures in
     on_found (g.S.BlockStore.zone a.store) (g.S.BlockStore.rest a.store) a.names.items a.log c.args.handle
-    c.args.self.now _ c.self.view_is found.2 (λ s k. (Ok (content_of k.at.here), s))
-    ∙ ap (λ l. (Ok l, c.args.self.now)) (content_of-rename _ _ found.1.here ∙ sym bytes)
+    c.args.self.now.memory _ (memory_as c.self.view_is) found.2 (λ s k. (Ok (content_of k.at.here), s))
+    ∙ ap (λ l. (Ok l, c.args.self.now.memory)) (content_of-rename _ _ found.1.here ∙ sym bytes)

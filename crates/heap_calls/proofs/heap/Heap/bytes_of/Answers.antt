@@ -2,6 +2,7 @@ use Rattle.std.proofs.Common.{◌≡◌, length, ap, arith}
 use Rattle.block_store.specs.Block.{content_of}
 use Rattle.heap_calls.proofs.Numbering.Answering.{at_place}
 use Rattle.heap_calls.proofs.Numbering.Pointing.{IsHeld, pointer-held, bytes-told}
+use Rattle.heap_calls.proofs.Numbering.Memories.{memory_as}
 use Rattle.heap_calls.proofs.heap.Heap.bytes_of.Given.{Over}
 use Rattle.heap_calls.proofs.heap.Heap.bytes_of.Goals.{In_ok-target}
 use Rattle.heap_calls.proofs.heap.Heap.bytes_of.Goals as goal
@@ -30,6 +31,7 @@ overflow_cast-result g c =
 pub returns-clause-answer : goal.returns-clause-answer
 returns-clause-answer g c =
     let a = c.self.inside in
-    bytes-told length (g.S.BlockStore.zone a.store) (g.S.BlockStore.rest a.store) a.names.items a.log c.args.self.now
-    c.args.pointer c.in_ok-target.target c.bytes.result.now c.self.view_is
+    bytes-told length (g.S.BlockStore.zone a.store) (g.S.BlockStore.rest a.store) a.names.items a.log
+    c.args.self.now.memory
+    c.args.pointer c.in_ok-target.target c.bytes.result.now (memory_as c.self.view_is)
     (target g (goal.at.returns-clause-answer g c).In_ok-target) c.bytes.ensures

@@ -14,6 +14,7 @@ use Rattle.heap_calls.proofs.Room.Staying.{nonrelocatable-settled, nonrelocatabl
 use Rattle.heap_calls.proofs.Numbering.Largest.{compact_mem-done, settled_stretches-rename}
 use Rattle.heap_calls.proofs.Numbering.PurgeTrials.{searching-done, runs_settled-few}
 use Rattle.heap_calls.proofs.Room.Stretches.{stretches-le}
+use Rattle.heap_calls.proofs.Numbering.Memories.{memory_as, placings_as}
 use Rattle.heap_calls.proofs.heap.Heap.compact_mem.Goals as goal
 
 pub overflow_add-stretches : goal.overflow_add-stretches
@@ -35,26 +36,30 @@ returns-clause-answer g c =
     let rest = g.S.BlockStore.rest a.store in
     let rest' = g.S.BlockStore.rest c.compact-stretches.new.store in
     let es = a.names.items in
-    let searches : compact_mem_searches c.args.size c.args.self.now.heap ≡ c.compact-stretches.result + 1 =
-    ap (λ (m : Memory). compact_mem_searches c.args.size m.heap) (sym c.self.view_is)
+    let searches : compact_mem_searches c.args.size c.args.self.now.memory.heap ≡ c.compact-stretches.result + 1 =
+    ap (λ (m : Memory). compact_mem_searches c.args.size m.heap) (sym (memory_as c.self.view_is))
     ∙ ap (λ k. k + 1) (settled_stretches-rename (handle_number es) (pointer_number es) _ zone
     ∙ ap (λ p. stretches (runs_settled p zone) (runs zone)) (sym c.phys.ensures)
     ∙ sym c.compact-stretches.ensures.runs) in
-    let moves : compact_mem_moves c.args.size c.args.self.now.heap ≡ lowered_in_runs (runs_settled c.phys.result zone)
+    let moves : compact_mem_moves c.args.size c.args.self.now.memory.heap
+    ≡ lowered_in_runs (runs_settled c.phys.result zone)
     (runs zone) =
-    ap (λ (m : Memory). compact_mem_moves c.args.size m.heap) (sym c.self.view_is)
+    ap (λ (m : Memory). compact_mem_moves c.args.size m.heap) (sym (memory_as c.self.view_is))
     ∙ settled_falls-rename (handle_number es) (pointer_number es) _ zone
     ∙ ap (λ p. lowered_in_runs (runs_settled p zone) (runs zone)) (sym c.phys.ensures) in
     moving-done _ _ _ (Ok c.saturating_sub-most.result) zone' rest rest' es c.count.new.self
-    (searching-done _ _ (noting (compact_mem c.args.size) c.args.self.now) (Ok c.saturating_sub-most.result)
+    (searching-done _ _ (noting (compact_mem c.args.size) c.args.self.now.memory) (Ok c.saturating_sub-most.result)
     (memory_of zone' (unmoved rest rest') es (record a.log { code = NO_ERR }))
     (memory_of zone' (unmoved rest rest') es c.count.new.self)
-    (compact_mem-done c.args.self.now c.args.size zone zone' rest (unmoved rest rest') es a.log
+    (compact_mem-done c.args.self.now.memory c.args.size zone zone' rest (unmoved rest rest') es a.log
     c.largest_free.result c.saturating_sub-most.result
-    c.self.view_is (c.compact-stretches.ensures.zone ∙ ap (λ p. compacted p zone) c.phys.ensures)
+    (memory_as c.self.view_is) (c.compact-stretches.ensures.zone ∙ ap (λ p. compacted p zone) c.phys.ensures)
     (unmoved-is rest rest' c.compact-stretches.ensures.rest) c.largest_free.ensures c.saturating_sub-most.ensures)
     searches (ap (memory_of zone' (unmoved rest rest') es) c.count.ensures))
     moves c.compact-stretches.ensures.moves
+
+pub returns-clause-placed : goal.returns-clause-placed
+returns-clause-placed g c = c.compact-stretches.ensures.placed ∙ placings_as c.self.view_is
 
 pub invariant_of-self : goal.invariant_of-self
 invariant_of-self g c =

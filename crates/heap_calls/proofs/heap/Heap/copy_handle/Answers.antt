@@ -26,6 +26,7 @@ use Rattle.heap_calls.proofs.NewBlocks.CopiedHandles.{not_found-still}
 use Rattle.heap_calls.proofs.NewBlocks.Naming.{Names, Copied, copy-names, copied_searches-is, copied_moves-is}
 use Rattle.heap_calls.proofs.NewBlocks.Naming.{named-packing}
 use Rattle.heap_calls.proofs.Room.MoveCounts.{not-moved}
+use Rattle.heap_calls.proofs.Numbering.Memories.{memory_as, placings_as, counted_as}
 use Rattle.heap_calls.proofs.heap.Heap.copy_handle.Given.{Over}
 use Rattle.heap_calls.proofs.heap.Heap.copy_handle.Goals.{After-bytes, In_ok-found, In_ok-made}
 use Rattle.heap_calls.proofs.heap.Heap.copy_handle.Goals as goal
@@ -35,13 +36,14 @@ returns-in_err-found-clause-answer g c =
     let p = err_from_is_err_and c.from_residual.result c.from_residual.ensures.1 in
     let a = c.self.inside in
     rw (p.1, p.2)
-    (not-moved _ _ c.in_err-found.field-0.0 c.args.self.now (g.S.BlockStore.zone a.store) (g.S.BlockStore.rest a.store)
-    a.names.items a.log c.self.view_is
-    (copy-not_found c.args.self.now (g.S.BlockStore.zone a.store) (g.S.BlockStore.rest a.store) a.names.items
-    c.deref.result.now a.log c.args.handle c.in_err-found.field-0.0 c.self.view_is c.deref.ensures.value
+    (not-moved _ _ c.in_err-found.field-0.0 c.args.self.now.memory (g.S.BlockStore.zone a.store) (g.S.BlockStore.rest
+    a.store)
+    a.names.items a.log (memory_as c.self.view_is)
+    (copy-not_found c.args.self.now.memory (g.S.BlockStore.zone a.store) (g.S.BlockStore.rest a.store) a.names.items
+    c.deref.result.now a.log c.args.handle c.in_err-found.field-0.0 (memory_as c.self.view_is) c.deref.ensures.value
     (sym c.slot_of.ensures ∙ c.in_err-found.was))
-    (not_found-still c.args.self.now (g.S.BlockStore.zone a.store) (g.S.BlockStore.rest a.store) a.names.items
-    c.deref.result.now a.log c.args.handle c.in_err-found.field-0.0 c.self.view_is c.deref.ensures.value
+    (not_found-still c.args.self.now.memory (g.S.BlockStore.zone a.store) (g.S.BlockStore.rest a.store) a.names.items
+    c.deref.result.now a.log c.args.handle c.in_err-found.field-0.0 (memory_as c.self.view_is) c.deref.ensures.value
     (sym c.slot_of.ensures ∙ c.in_err-found.was)))
 
 -- the handle's entry
@@ -56,8 +58,8 @@ returns-in_default-clause-answer g c =
     let a = c.self.inside in
     let f = c.in_ok-found.found in
     let is = entry g (goal.at.returns-in_default-clause-answer g c).In_ok-found in
-    copy-emptied c.args.self.now (g.S.BlockStore.zone a.store) (g.S.BlockStore.rest a.store) a.names.items a.log
-    c.args.handle f.number f.slot c.self.view_is is.0 is.1 c.self.invariant
+    copy-emptied c.args.self.now.memory (g.S.BlockStore.zone a.store) (g.S.BlockStore.rest a.store) a.names.items a.log
+    c.args.handle f.number f.slot (memory_as c.self.view_is) is.0 is.1 c.self.invariant
     (omega arith) c.in_default.ensures
 
 -- what is copied
@@ -99,8 +101,9 @@ returns-in_err-reserve-clause-host g c host = inr (inl (rw c.reserve.ensures.ite
 pub returns-in_err-made-clause-kept : goal.returns-in_err-made-clause-kept
 returns-in_err-made-clause-kept g c host =
     let a = c.self.inside in
-    kept-memory c.args.self.now _ _ (g.S.BlockStore.rest a.store) (g.S.BlockStore.rest c.copy_block.new.store)
-    a.names.items _ a.log c.self.view_is c.in_ok-reserve.ensures.items c.self.invariant c.in_err-made.ensures.kept
+    kept-memory c.args.self.now.memory _ _ (g.S.BlockStore.rest a.store) (g.S.BlockStore.rest c.copy_block.new.store)
+    a.names.items _ a.log (memory_as c.self.view_is) c.in_ok-reserve.ensures.items c.self.invariant
+    c.in_err-made.ensures.kept
 
 pub invariant_of-self-in_err-made : goal.invariant_of-self-in_err-made
 invariant_of-self-in_err-made g c = rw c.in_ok-reserve.ensures.items
@@ -113,9 +116,9 @@ returns-clause-answer g c =
     let from = source g (goal.at.returns-clause-answer g c).After-bytes in
     rw (c.name_handle.ensures.number, c.name_handle.ensures.entered, c.in_ok-reserve.ensures.items)
     (named-packing (hand_to_hand c.args.handle) (hand_to_hand_searches c.args.handle) (hand_to_hand_moves c.args.handle)
-    c.args.self.now (g.S.BlockStore.zone a.store) (g.S.BlockStore.zone c.copy_block.new.store)
+    c.args.self.now.memory (g.S.BlockStore.zone a.store) (g.S.BlockStore.zone c.copy_block.new.store)
     (g.S.BlockStore.rest a.store) (g.S.BlockStore.rest c.copy_block.new.store) a.names.items a.log c.count.new.self
-    c.in_ok-made.made.slot c.self.view_is
+    c.in_ok-made.made.slot (memory_as c.self.view_is)
     (made g (goal.at.returns-clause-answer g c).In_ok-made from) c.in_ok-made.made.searches
     (c.in_ok-made.ensures.searches ∙ sym (copied_searches-is _ _ _ masters c.self.invariant c.args.handle
     c.in_ok-found.found _ from)) c.count.ensures
@@ -145,23 +148,25 @@ returns-in_err-made-clause-untold g c host =
     let slots = ap (λ (e : List Anchor). zone_slot_gone e (One f.slot) rest.unused zone)
     (c.deref-2.ensures.value ∙ c.in_ok-reserve.ensures.items)
     ∙ copy_slot_gone-is zone rest es masters c.self.invariant c.args.handle f _ from
-    ∙ ap (λ (m : Memory). copy_slot_gone c.args.handle m.heap) c.self.view_is in
+    ∙ ap (λ (m : Memory). copy_slot_gone c.args.handle m.heap) (memory_as c.self.view_is) in
     elim c.in_err-made.ensures.left [
       | inl takes ↦ inl takes
       | inr left ↦ inr (elim left [
         | inl same ↦ inl (
-          ap (λ z. memory_of z rest' c.reserve.new.self.items a.log) same.0
+          counted_as (ap (λ z. memory_of z rest' c.reserve.new.self.items a.log) same.0
               ∙ ap (λ (l : List Anchor). memory_of zone rest' l a.log) c.in_ok-reserve.ensures.items
-              ∙ memory-same zone rest rest' es a.log same.1 ∙ c.self.view_is,
+              ∙ memory-same zone rest rest' es a.log same.1 ∙ (memory_as c.self.view_is))
+              (same.1.placed ∙ placings_as c.self.view_is),
           same.2,
         )
         | inr slot ↦ inr (
-          kept-still c.args.self.now zone zone' rest rest' es c.reserve.new.self.items a.log c.self.view_is
+          kept-still c.args.self.now.memory zone zone' rest rest' es c.reserve.new.self.items a.log (memory_as
+              c.self.view_is)
               c.in_ok-reserve.ensures.items c.self.invariant slot.1 slot.2
-              ∙ ap (λ z. record c.args.self.now { heap = record c.args.self.now.heap { zone = z } })
+              ∙ ap (λ z. record c.args.self.now.memory { heap = record c.args.self.now.memory.heap { zone = z } })
               (ap (λ (l : List Anchor). rename (handle_number l) (pointer_number l) zone') c.in_ok-reserve.ensures.items
               ∙ sym (copying_zone-is zone rest es masters c.self.invariant c.args.handle f _ from zone' slot.0)
-              ∙ ap (λ (m : Memory). copying_zone (look_up c.args.handle m.heap) m.heap) c.self.view_is),
+              ∙ ap (λ (m : Memory). copying_zone (look_up c.args.handle m.heap) m.heap) (memory_as c.self.view_is)),
           subst (λ (l : List Gone). Tells g.K.PurgeSink.told l c.args.sink.now c.copy_block.new.sink) slots slot.3,
         )
       ])
@@ -178,7 +183,7 @@ returns-clause-told g c some listens =
     let same = ap (λ (e : List Anchor). new_gone e (One f.slot) (length c.bytes.result.now) rest.unused zone)
     (c.deref-2.ensures.value ∙ c.in_ok-reserve.ensures.items)
     ∙ copy_gone-is zone rest es (g.met.S.BlockStore.masters a.store) c.self.invariant c.args.handle f _ from
-    ∙ ap (λ (m : Memory). hand_to_hand_gone c.args.handle m.heap) c.self.view_is in
+    ∙ ap (λ (m : Memory). hand_to_hand_gone c.args.handle m.heap) (memory_as c.self.view_is) in
     subst (λ (l : List Gone). Tells g.K.PurgeSink.told l c.args.sink.now c.copy_block.new.sink) same
     (c.in_ok-made.ensures.told listens)
 
@@ -192,8 +197,8 @@ pub returns-in_err-found-clause-told : goal.returns-in_err-found-clause-told
 returns-in_err-found-clause-told g c some listens =
     let a = c.self.inside in
     tells-none g.K.PurgeSink.told _ c.args.sink.now
-    (copy_gone-none c.args.self.now (g.S.BlockStore.zone a.store) (g.S.BlockStore.rest a.store) a.names.items
-    c.deref.result.now a.log c.args.handle c.in_err-found.field-0.0 c.self.view_is c.deref.ensures.value
+    (copy_gone-none c.args.self.now.memory (g.S.BlockStore.zone a.store) (g.S.BlockStore.rest a.store) a.names.items
+    c.deref.result.now a.log c.args.handle c.in_err-found.field-0.0 (memory_as c.self.view_is) c.deref.ensures.value
     (sym c.slot_of.ensures ∙ c.in_err-found.was))
 
 pub returns-in_default-clause-told : goal.returns-in_default-clause-told
@@ -202,5 +207,7 @@ returns-in_default-clause-told g c some listens =
     let f = c.in_ok-found.found in
     let is = entry g (goal.at.returns-in_default-clause-told g c).In_ok-found in
     tells-none g.K.PurgeSink.told _ c.args.sink.now
-    (copy_gone-nil c.args.self.now (g.S.BlockStore.zone a.store) (g.S.BlockStore.rest a.store) a.names.items a.log
-    c.args.handle f.number f.slot c.self.view_is is.0 is.1 c.self.invariant (omega arith) c.in_default.ensures)
+    (copy_gone-nil c.args.self.now.memory (g.S.BlockStore.zone a.store) (g.S.BlockStore.rest a.store) a.names.items
+    a.log
+    c.args.handle f.number f.slot (memory_as c.self.view_is) is.0 is.1 c.self.invariant (omega arith)
+    c.in_default.ensures)

@@ -4,6 +4,7 @@ use Rattle.heap_calls.specs.State.{Memory}
 use Rattle.heap_calls.specs.Answer.{look_up}
 use Rattle.heap_calls.proofs.Numbering.Answering.{found_in}
 use Rattle.heap_calls.proofs.Gates.Barring.{found-held}
+use Rattle.heap_calls.proofs.Numbering.Memories.{memory_as}
 use Rattle.heap_calls.proofs.heap.Heap.finds_block.Goals as goal
 
 pub returns : goal.returns
@@ -14,4 +15,4 @@ returns g c =
     c.is_ok.ensures.value
     ∙ found-held zone slots a.names.items c.args.handle c.find_block.result
     (found_in zone slots a.names.items _ c.args.handle c.find_block.result c.deref.ensures.value c.find_block.ensures)
-    ∙ ap (λ (m : Memory). is_ok (look_up c.args.handle m.heap)) c.self.view_is
+    ∙ ap (λ (m : Memory). is_ok (look_up c.args.handle m.heap)) (memory_as c.self.view_is)

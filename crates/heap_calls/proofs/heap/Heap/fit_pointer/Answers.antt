@@ -3,6 +3,7 @@ use Rattle.std.proofs.lemmas.Result.{err_from_is_err_and}
 use Rattle.heap_calls.proofs.Numbering.Changing.{agrees-placed}
 use Rattle.heap_calls.proofs.Numbering.Pointing.{IsHeld, pointer-held, target_in}
 use Rattle.heap_calls.proofs.Sizes.PointerSizes.{set_pointer_size-done, no_pointer}
+use Rattle.heap_calls.proofs.Numbering.Memories.{memory_as}
 use Rattle.heap_calls.proofs.heap.Heap.fit_pointer.Given.{Over}
 use Rattle.heap_calls.proofs.heap.Heap.fit_pointer.Goals.{In_ok-target}
 use Rattle.heap_calls.proofs.heap.Heap.fit_pointer.Goals as goal
@@ -21,8 +22,9 @@ returns-in_err-target-clause-answer g c =
     let p = err_from_is_err_and c.from_residual.result c.from_residual.ensures.1 in
     let a = c.self.inside in
     let e = c.in_err-target.field-0.0 in
-    rw (p.1, p.2) (no_pointer c.args.self.now (g.S.BlockStore.zone a.store) (g.S.BlockStore.rest a.store) a.names.items
-    a.log e c.args.pointer c.args.size c.self.view_is
+    rw (p.1, p.2) (no_pointer c.args.self.now.memory (g.S.BlockStore.zone a.store) (g.S.BlockStore.rest a.store)
+    a.names.items
+    a.log e c.args.pointer c.args.size (memory_as c.self.view_is)
     (target_in a.names.items _ c.args.pointer (Err e) c.deref.ensures.value c.in_err-target.ensures))
 
 pub fit_nonrelocatable-requires : goal.fit_nonrelocatable-requires
@@ -48,8 +50,9 @@ pub returns-clause-answer : goal.returns-clause-answer
 returns-clause-answer g c =
     let a = c.self.inside in
     rw (c.account.ensures.reply, c.account.ensures.counted)
-    (set_pointer_size-done c.args.self.now (g.S.BlockStore.zone a.store) (g.S.BlockStore.zone c.fit_nonrelocatable.new.store)
+    (set_pointer_size-done c.args.self.now.memory (g.S.BlockStore.zone a.store) (g.S.BlockStore.zone
+    c.fit_nonrelocatable.new.store)
     (g.S.BlockStore.rest a.store) (g.S.BlockStore.rest c.fit_nonrelocatable.new.store) a.names.items a.log c.args.pointer
-    c.in_ok-target.target c.args.size c.in_ok-grown.grown.searches c.in_ok-grown.grown.done c.self.view_is
+    c.in_ok-target.target c.args.size c.in_ok-grown.grown.searches c.in_ok-grown.grown.done (memory_as c.self.view_is)
     (target g (goal.at.returns-clause-answer g c).In_ok-target) c.self.invariant.lone (omega arith)
     c.fit_nonrelocatable.ensures.rest c.in_ok-grown.ensures.searches c.in_ok-grown.ensures.zone c.in_ok-grown.ensures.full)

@@ -8,6 +8,7 @@ use Rattle.heap_calls.specs.Pointers.{dispose_pointer}
 use Rattle.heap_calls.specs.declared.anchor.Anchor.TheVariants.{Disposed}
 use Rattle.heap_calls.proofs.Numbering.Changing.{kept, silent-done}
 use Rattle.heap_calls.proofs.Numbering.Pointing.{IsHeld, pointer-held, agrees-left, dispose_pointer-done}
+use Rattle.heap_calls.proofs.Numbering.Memories.{memory_as}
 use Rattle.heap_calls.proofs.heap.Heap.free_block.Given.{Over}
 use Rattle.heap_calls.proofs.heap.Heap.free_block.Goals.{In_ok-target}
 use Rattle.heap_calls.proofs.heap.Heap.free_block.Goals as goal
@@ -55,8 +56,8 @@ returns-clause-answer g c =
     let rest' = g.S.BlockStore.rest c.free_at.new.self in
     let es = a.names.items in
     let t = c.in_ok-target.target in
-    silent-done (dispose_pointer c.args.pointer) c.args.self.now zone zone' rest rest' es
-    (slice_set es t.number Disposed) a.log (Ok tt) c.self.view_is
+    silent-done (dispose_pointer c.args.pointer) c.args.self.now.memory zone zone' rest rest' es
+    (slice_set es t.number Disposed) a.log (Ok tt) (memory_as c.self.view_is)
     (dispose_pointer-done zone rest rest' es t.number t.place c.self.invariant there.entry (omega arith)
     (kept rest rest' c.free_at.ensures.rest) c.args.pointer _ there.looked
     ∙ ap (λ (z : List Block). (Ok tt, state_of z rest'.slots (slice_set es t.number Disposed)))

@@ -4,6 +4,7 @@ use Rattle.heap_calls.specs.State.{Memory}
 use Rattle.heap_calls.specs.Answer.{free_mem, noting}
 use Rattle.heap_calls.specs.Inner.Numbered.{memory_of}
 use Rattle.heap_calls.proofs.Numbering.Changing.{free_sum-rename}
+use Rattle.heap_calls.proofs.Numbering.Memories.{memory_as}
 use Rattle.heap_calls.proofs.heap.Heap.free_mem.Goals as goal
 
 pub returns : goal.returns
@@ -18,7 +19,7 @@ returns g c =
     let here : P (memory_of zone rest a.names.items a.log) =
     ap (λ (n : ℕ). (Ok n, record (memory_of zone rest a.names.items a.log) { log = record a.log { code = NO_ERR } }))
     (free_sum-rename _ _ zone ∙ sym c.free_bytes.ensures) in
-    subst P c.self.view_is here ∙ ap (λ (m : Memory). (
+    subst P (memory_as c.self.view_is) here ∙ ap (λ (m : Memory). (
       Ok c.free_bytes.result,
       record m { log = record m.log { code = NO_ERR } },
-    )) (sym c.self.view_is)
+    )) (sym (memory_as c.self.view_is))

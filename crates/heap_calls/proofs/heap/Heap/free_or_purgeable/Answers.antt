@@ -5,6 +5,7 @@ use Rattle.heap_calls.specs.Purging.{purged_all}
 use Rattle.heap_calls.specs.Inner.Numbered.{handle_number, pointer_number}
 use Rattle.heap_calls.proofs.Numbering.Changing.{free_sum-rename}
 use Rattle.heap_calls.proofs.Numbering.PurgeTrials.{purged_all-rename}
+use Rattle.heap_calls.proofs.Numbering.Memories.{memory_as}
 use Rattle.heap_calls.proofs.heap.Heap.free_or_purgeable.Goals as goal
 
 pub returns : goal.returns
@@ -16,4 +17,4 @@ returns g c =
     c.free_if_purged.ensures
     ∙ sym (free_sum-rename f k (purged_all zone))
     ∙ ap free_sum (sym (purged_all-rename f k zone))
-    ∙ ap (λ (m : Memory). free_sum (purged_all m.heap.zone)) c.self.view_is
+    ∙ ap (λ (m : Memory). free_sum (purged_all m.heap.zone)) (memory_as c.self.view_is)

@@ -7,6 +7,7 @@ use Rattle.heap_calls.proofs.Numbering.Rebuilding.{reached_in, not-resized}
 use Rattle.heap_calls.proofs.Numbering.Changing.{agrees-kept}
 use Rattle.heap_calls.proofs.Sizes.Grown.{nothing-grown, grown-done, resize-tells}
 use Rattle.heap_calls.proofs.Numbering.Reserved.{fits-same}
+use Rattle.heap_calls.proofs.Numbering.Memories.{memory_as}
 use Rattle.heap_calls.proofs.heap.Heap.give_size.Goals as goal
 
 pub returns-in_err-held-clause-answer : goal.returns-in_err-held-clause-answer
@@ -14,7 +15,7 @@ returns-in_err-held-clause-answer g c =
     let p = err_from_is_err_and c.from_residual.result c.from_residual.ensures.1 in
     let a = c.self.inside in
     rw (p.1, p.2)
-    (nothing-grown c.args.self.now _ (g.S.BlockStore.rest a.store) a.names.items a.log c.self.view_is
+    (nothing-grown c.args.self.now.memory _ (g.S.BlockStore.rest a.store) a.names.items a.log (memory_as c.self.view_is)
     (set_handle_size c.args.handle c.args.size) (set_handle_size_searches c.args.handle c.args.size)
     (set_handle_size_moves c.args.handle c.args.size) c.in_err-held.field-0.0
     c.args.handle _ c.deref.ensures.value c.in_err-held.ensures (not-resized c.args.handle c.args.size _))
@@ -27,7 +28,7 @@ returns-clause-answer g c =
     let there = reached_in (g.S.BlockStore.zone a.store) rest.slots a.names.items _ c.args.handle (Ok held)
     c.deref.ensures.value c.in_ok-held.ensures in
     rw (c.account.ensures.reply, c.account.ensures.counted)
-    (grown-done c.args.self.now _ rest _ _ c.self.view_is _ _ _ _ _ _
+    (grown-done c.args.self.now.memory _ rest _ _ (memory_as c.self.view_is) _ _ _ _ _ _
     (resize-tells _ rest _ c.self.invariant c.args.handle held there c.args.size)
     _ (g.S.BlockStore.rest c.fit_block.new.store) c.in_ok-grown.ensures.rest c.in_ok-grown.grown.done
     c.in_ok-grown.grown.searches c.in_ok-grown.ensures.searches c.in_ok-grown.ensures.zone

@@ -10,6 +10,7 @@ use Rattle.heap_calls.proofs.Numbering.Hoisting.{seen-at, seen_mover-is, rest-sa
 use Rattle.heap_calls.proofs.Numbering.Hoisting.{hoisted-done, hoisted-none, move_h_hi-emptied, move_h_hi-locked}
 use Rattle.heap_calls.proofs.Numbering.Hoisting.{move_h_hi-done}
 use Rattle.heap_calls.proofs.NewBlocks.CopiedHandles.{slot-in}
+use Rattle.heap_calls.proofs.Numbering.Memories.{memory_as}
 use Rattle.heap_calls.proofs.heap.Heap.hoist_handle.Given.{Over}
 use Rattle.heap_calls.proofs.heap.Heap.hoist_handle.Goals.{In_ok-found, After-can_move}
 use Rattle.heap_calls.proofs.heap.Heap.hoist_handle.Goals as goal
@@ -35,7 +36,8 @@ returns-in_default-clause-answer g c =
     let es = a.names.items in
     let f = c.in_ok-found.found in
     let is = entry g (goal.at.returns-in_default-clause-answer g c).In_ok-found in
-    move_h_hi-emptied c.args.self.now zone rest es a.log c.args.handle f.number f.slot c.self.view_is is.0 is.1
+    move_h_hi-emptied c.args.self.now.memory zone rest es a.log c.args.handle f.number f.slot (memory_as c.self.view_is)
+    is.0 is.1
     c.self.invariant.apart (omega arith) c.in_default.ensures
 
 pub returns-then-not-can_move-clause-answer : goal.returns-then-not-can_move-clause-answer
@@ -49,7 +51,8 @@ returns-then-not-can_move-clause-answer g c =
     let there = c.in-Some.ensures in
     let locked : is_mover there.0.here ≡ false = mover g
     (goal.at.returns-then-not-can_move-clause-answer g c).After-can_move ∙ c.if-not-can_move.true in
-    move_h_hi-locked c.args.self.now zone rest es a.log c.args.handle f.number f.slot c.self.view_is is.0 is.1
+    move_h_hi-locked c.args.self.now.memory zone rest es a.log c.args.handle f.number f.slot (memory_as c.self.view_is)
+    is.0 is.1
     c.self.invariant.apart (omega arith) there.0 there.1 locked
 
 pub returns-in_default-run_of-clause-answer : goal.returns-in_default-run_of-clause-answer
@@ -65,9 +68,10 @@ returns-in_default-run_of-clause-answer g c =
     c).After-can_move ∙ c.if-not-can_move.false in
     let none = run-found (has (is_relocatable f.slot)) zone None
     c.in_default-run_of.ensures in
-    move_h_hi-done c.args.self.now zone rest es a.log c.args.handle f.number f.slot c.self.view_is is.0 is.1
+    move_h_hi-done c.args.self.now.memory zone rest es a.log c.args.handle f.number f.slot (memory_as c.self.view_is)
+    is.0 is.1
     c.self.invariant.apart (omega arith) zone rest there.0 there.1 free (none_placed rest rest (rest-same rest)) (hoisted-none f.slot zone none)
-    ∙ ap (λ m. (Ok tt, m)) c.self.view_is
+    ∙ ap (λ m. (Ok tt, m)) (memory_as c.self.view_is)
 
 pub hoist-requires : goal.hoist-requires
 hoist-requires g c =
@@ -109,7 +113,8 @@ returns-clause-answer g c =
     ∙ c.if-not-can_move.false in
     let found = run-found (has (is_relocatable f.slot)) zone (Some c.in-Some-run_of.run')
     c.in-Some-run_of.ensures in
-    move_h_hi-done c.args.self.now zone rest es a.log c.args.handle f.number f.slot c.self.view_is is.0 is.1
+    move_h_hi-done c.args.self.now.memory zone rest es a.log c.args.handle f.number f.slot (memory_as c.self.view_is)
+    is.0 is.1
     c.self.invariant.apart (omega arith) zone' (g.S.BlockStore.rest c.hoist.new.self) there.0 there.1 free
     (once_placed 1 rest (g.S.BlockStore.rest c.hoist.new.self) c.hoist.ensures.rest)
     (hoisted-done f.slot c.in-Some-run_of.run' zone zone' found c.hoist.ensures.zone)

@@ -3,6 +3,7 @@ use Rattle.block_store.specs.Block.{sizes}
 use Rattle.heap_calls.specs.State.{Memory}
 use Rattle.heap_calls.specs.Inner.Numbered.{handle_number, pointer_number}
 use Rattle.heap_calls.proofs.Numbering.Answering.{sizes-rename}
+use Rattle.heap_calls.proofs.Numbering.Memories.{memory_as}
 use Rattle.heap_calls.proofs.heap.Heap.len.Goals as goal
 
 pub returns : goal.returns
@@ -10,4 +11,4 @@ returns g c =
     let a = c.self.inside in
     c.len.ensures ∙ sym (sizes-rename (handle_number a.names.items) (pointer_number a.names.items)
     (g.S.BlockStore.zone a.store))
-    ∙ ap (λ (m : Memory). sizes m.heap.zone) c.self.view_is
+    ∙ ap (λ (m : Memory). sizes m.heap.zone) (memory_as c.self.view_is)

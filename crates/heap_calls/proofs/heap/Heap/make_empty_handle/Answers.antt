@@ -14,6 +14,7 @@ use Rattle.heap_calls.proofs.NewBlocks.Naming.{Names, empty-names, named-looking
 use Rattle.heap_calls.proofs.NewBlocks.NewHandles.{agrees-more}
 use Rattle.heap_calls.proofs.NewBlocks.Reserving.{empty_searches-is}
 use Rattle.heap_calls.proofs.NewBlocks.NewHandles.{kept-still}
+use Rattle.heap_calls.proofs.Numbering.Memories.{memory_as, placings_as, counted_as}
 use Rattle.heap_calls.proofs.heap.Heap.make_empty_handle.Given.{Over}
 use Rattle.heap_calls.proofs.heap.Heap.make_empty_handle.Goals.{In_ok-taken}
 use Rattle.heap_calls.proofs.heap.Heap.make_empty_handle.Goals as goal
@@ -30,18 +31,20 @@ named g c = empty-names _ _ _ (g.met.S.BlockStore.masters c.self.inside.store) c
 pub returns-in_err-taken-clause-kept : goal.returns-in_err-taken-clause-kept
 returns-in_err-taken-clause-kept g c host =
     let a = c.self.inside in
-    kept-still c.args.self.now _ _ (g.S.BlockStore.rest a.store) (g.S.BlockStore.rest c.make_slot.new.store)
-    a.names.items _ a.log c.self.view_is c.in_ok-reserve.ensures.items c.self.invariant c.in_err-taken.ensures.kept
+    kept-still c.args.self.now.memory _ _ (g.S.BlockStore.rest a.store) (g.S.BlockStore.rest c.make_slot.new.store)
+    a.names.items _ a.log (memory_as c.self.view_is) c.in_ok-reserve.ensures.items c.self.invariant
+    c.in_err-taken.ensures.kept
     c.make_slot.ensures.moves
 
 pub returns-clause-answer : goal.returns-clause-answer
 returns-clause-answer g c =
     let a = c.self.inside in
     rw (c.name_handle.ensures.number, c.name_handle.ensures.entered, c.in_ok-reserve.ensures.items)
-    (named-looking new_empty_handle new_empty_handle_searches (λ _. 0) c.args.self.now (g.S.BlockStore.zone a.store)
+    (named-looking new_empty_handle new_empty_handle_searches (λ _. 0) c.args.self.now.memory (g.S.BlockStore.zone
+    a.store)
     (g.S.BlockStore.zone c.make_slot.new.store) (g.S.BlockStore.rest a.store)
     (g.S.BlockStore.rest c.make_slot.new.store) a.names.items a.log c.count.new.self c.in_ok-taken.taken.slot
-    c.self.view_is (named g (goal.at.returns-clause-answer g c).In_ok-taken) c.in_ok-taken.taken.searches
+    (memory_as c.self.view_is) (named g (goal.at.returns-clause-answer g c).In_ok-taken) c.in_ok-taken.taken.searches
     (c.in_ok-taken.ensures.searches ∙ sym (empty_searches-is _ _ _ (g.met.S.BlockStore.masters a.store)
     c.self.invariant)) c.count.ensures c.make_slot.ensures.moves)
 
@@ -62,9 +65,10 @@ returns-in_err-taken-clause-host g c host =
     let items = c.reserve.new.self.items in
     elim c.in_err-taken.ensures.same [
       | inl takes ↦ inl takes
-      | inr same ↦ inr (ap (λ z. memory_of z rest' items a.log) same.0
+      | inr same ↦ inr (counted_as (ap (λ z. memory_of z rest' items a.log) same.0
           ∙ ap (λ (l : List Anchor). memory_of zone rest' l a.log) c.in_ok-reserve.ensures.items
-          ∙ memory-same zone rest rest' a.names.items a.log same.1 ∙ c.self.view_is)
+          ∙ memory-same zone rest rest' a.names.items a.log same.1 ∙ (memory_as c.self.view_is))
+          (same.1.placed ∙ placings_as c.self.view_is))
     ]
 
 pub returns-clause-told : goal.returns-clause-told
@@ -77,6 +81,6 @@ returns-clause-told g c some listens =
     (c.deref.ensures.value ∙ c.in_ok-reserve.ensures.items)
     ∙ slot_gone-is zone rest es (g.met.S.BlockStore.masters a.store) c.self.invariant nothing Nothing (λ b. refl) refl
     (λ b. refl)
-    ∙ ap (λ (m : Memory). slot_gone nothing m.heap) c.self.view_is in
+    ∙ ap (λ (m : Memory). slot_gone nothing m.heap) (memory_as c.self.view_is) in
     subst (λ (l : List Gone). Tells g.K.PurgeSink.told l c.args.sink.now c.make_slot.new.sink) same
     (c.in_ok-taken.ensures.told listens)

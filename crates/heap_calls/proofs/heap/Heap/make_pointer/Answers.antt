@@ -15,6 +15,7 @@ use Rattle.heap_calls.proofs.NewBlocks.NewHandles.{searched-done}
 use Rattle.heap_calls.proofs.Numbering.Changing.{agrees-placed, slots_kept, memory-same, unplaced, unplaced-is}
 use Rattle.heap_calls.proofs.NewBlocks.NewPointers.{new_pointer-refused, new_pointer-done, new_pointer_searches-is}
 use Rattle.heap_calls.proofs.NewBlocks.NewPointers.{agrees-more}
+use Rattle.heap_calls.proofs.Numbering.Memories.{memory_as}
 use Rattle.heap_calls.proofs.heap.Heap.make_pointer.Given.{Over}
 use Rattle.heap_calls.proofs.heap.Heap.make_pointer.Goals.{After-push_reserved, After-tell_nonrelocatable}
 use Rattle.heap_calls.proofs.heap.Heap.make_pointer.Goals as goal
@@ -32,8 +33,9 @@ returns-in_default-clause-answer g c =
     let es = a.names.items in
     let P : Option ℕ → Type 0 = λ o. IsNewNonrelocatable c.args.size zone o zone' in
     let none : P None = subst P c.in_default.is c.in_ok-room.ensures.put in
-    searched-done (new_pointer c.args.size) (new_pointer_searches c.args.size) c.args.self.now zone zone rest rest es es
-    a.log c.count.new.self (Err MEM_FULL) c.in_ok-room.room.searches c.self.view_is
+    searched-done (new_pointer c.args.size) (new_pointer_searches c.args.size) c.args.self.now.memory zone zone rest
+    rest es es
+    a.log c.count.new.self (Err MEM_FULL) c.in_ok-room.room.searches (memory_as c.self.view_is)
     (new_pointer-refused c.args.size zone rest es none.1) refl refl
     (c.in_ok-room.ensures.searches ∙ sym (new_pointer_searches-is c.args.size zone rest es)) c.count.ensures
     ∙ ap (λ (m : Memory). (Err MEM_FULL, m))
@@ -68,9 +70,9 @@ returns-clause-answer g c =
     let put : P (Some c.in-Some.place) = subst P c.in-Some.is c.in_ok-room.ensures.put in
     let es' = a.names.items ++ Pointer c.in-Some.place ∷ [] in
     let n : length a.names.items ≡ c.len-number.result = omega arith in
-    searched-done (new_pointer c.args.size) (new_pointer_searches c.args.size) c.args.self.now
+    searched-done (new_pointer c.args.size) (new_pointer_searches c.args.size) c.args.self.now.memory
     (g.S.BlockStore.zone a.store) zone' (g.S.BlockStore.rest a.store) rest' a.names.items es' a.log c.count.new.self
-    (Ok c.len-number.result) c.in_ok-room.room.searches c.self.view_is
+    (Ok c.len-number.result) c.in_ok-room.room.searches (memory_as c.self.view_is)
     (new_pointer-done (g.S.BlockStore.zone a.store) zone' (g.S.BlockStore.rest a.store) rest' a.names.items c.args.size
     c.in-Some.place c.self.invariant (slots_kept (g.S.BlockStore.rest a.store) rest' c.add_nonrelocatable.ensures.rest) put
     ∙ ap (λ (k : ℕ). (Ok k, state_of zone' rest'.slots es')) n)
@@ -86,13 +88,13 @@ returns-in_err-tell_nonrelocatable-clause-host g c host = inr (rw c.in_ok-reserv
 -- the sink is told of the blocks of the call's row
 told : (g : Over) (c : After-tell_nonrelocatable g)
     → pointer_gone c.deref.result.now c.args.size (g.S.BlockStore.zone c.self.inside.store)
-    ≡ new_pointer_gone c.args.size c.args.self.now.heap
+    ≡ new_pointer_gone c.args.size c.args.self.now.memory.heap
 told g c =
     let a = c.self.inside in
     let zone = g.S.BlockStore.zone a.store in
     ap (λ (e : List Anchor). pointer_gone e c.args.size zone) (c.deref.ensures.value ∙ c.in_ok-reserve.ensures.items)
     ∙ pointer_gone-is c.args.size zone (g.S.BlockStore.rest a.store).slots a.names.items
-    ∙ ap (λ (m : Memory). new_pointer_gone c.args.size m.heap) c.self.view_is
+    ∙ ap (λ (m : Memory). new_pointer_gone c.args.size m.heap) (memory_as c.self.view_is)
 
 pub returns-in_default-clause-told : goal.returns-in_default-clause-told
 returns-in_default-clause-told g c some listens =

@@ -12,6 +12,7 @@ use Rattle.heap_calls.specs.Inner.Filling.{wanted_as}
 use Rattle.heap_calls.specs.Inner.Numbered.{memory_of}
 use Rattle.heap_calls.proofs.Filled.Several.{stops-first}
 use Rattle.heap_calls.proofs.NewBlocks.NewPointers.{on_err}
+use Rattle.heap_calls.proofs.Numbering.Memories.{memory_as}
 use Rattle.heap_calls.proofs.heap.Heap.new_resources.Goals as goal
 
 -- a memory for whose numbers room was reserved, once the count of reserved numbers is what it was
@@ -32,9 +33,10 @@ returns-clause-answer g c =
     (g.S.BlockStore.rest c.add_resources.new.store) c.add_resources.new.names.items c.add_resources.new.log in
     on_ok_weaker c.add_resources.result
     (subst (λ (m : Memory). new_all (map wanted_as c.args.wanted.now) m ≡ (c.add_resources.new.numbers.items, now))
-    (back (g.S.BlockStore.zone a.store) (g.S.BlockStore.rest a.store) a.names.items a.log c.args.self.now
-    c.reserve-2.new.self c.self.inside.log.reserved _ c.self-2.view_is c.in_ok-reserve-2.ensures.kept
-    (ap (λ (m : Memory). m.log.reserved) c.self.view_is))) c.add_resources.ensures.answer
+    (back (g.S.BlockStore.zone a.store) (g.S.BlockStore.rest a.store) a.names.items a.log c.args.self.now.memory
+    c.reserve-2.new.self.memory c.self.inside.log.reserved _ (memory_as c.self-2.view_is)
+    (memory_as c.in_ok-reserve-2.ensures.kept)
+    (ap (λ (m : Memory). m.log.reserved) (memory_as c.self.view_is)))) c.add_resources.ensures.answer
 
 pub returns-clause-told : goal.returns-clause-told
 returns-clause-told g c =
@@ -42,9 +44,10 @@ returns-clause-told g c =
     on_ok_weaker c.add_resources.result
     (subst (λ (m : Memory). g.K.PurgeSink.listens c.args.sink.now ≡ true
     → Tells g.K.PurgeSink.told (all_gone (map wanted_as c.args.wanted.now) m) c.args.sink.now c.add_resources.new.sink)
-    (back (g.S.BlockStore.zone a.store) (g.S.BlockStore.rest a.store) a.names.items a.log c.args.self.now
-    c.reserve-2.new.self c.self.inside.log.reserved _ c.self-2.view_is c.in_ok-reserve-2.ensures.kept
-    (ap (λ (m : Memory). m.log.reserved) c.self.view_is))) c.add_resources.ensures.told
+    (back (g.S.BlockStore.zone a.store) (g.S.BlockStore.rest a.store) a.names.items a.log c.args.self.now.memory
+    c.reserve-2.new.self.memory c.self.inside.log.reserved _ (memory_as c.self-2.view_is)
+    (memory_as c.in_ok-reserve-2.ensures.kept)
+    (ap (λ (m : Memory). m.log.reserved) (memory_as c.self.view_is)))) c.add_resources.ensures.told
 
 pub returns-clause-untold : goal.returns-clause-untold
 returns-clause-untold g c =
@@ -55,13 +58,14 @@ returns-clause-untold g c =
       | inl takes ↦ inl takes
       | inr stops ↦ inr (subst (λ (m : Memory). Stops g.K.PurgeSink.told (map wanted_as c.args.wanted.now) m
           c.add_resources.new.numbers.items now c.args.sink.now c.add_resources.new.sink)
-          (back (g.S.BlockStore.zone a.store) (g.S.BlockStore.rest a.store) a.names.items a.log c.args.self.now
-          c.reserve-2.new.self c.self.inside.log.reserved _ c.self-2.view_is c.in_ok-reserve-2.ensures.kept
-          (ap (λ (m : Memory). m.log.reserved) c.self.view_is)) stops)
+          (back (g.S.BlockStore.zone a.store) (g.S.BlockStore.rest a.store) a.names.items a.log c.args.self.now.memory
+          c.reserve-2.new.self.memory c.self.inside.log.reserved _ (memory_as c.self-2.view_is)
+          (memory_as c.in_ok-reserve-2.ensures.kept)
+          (ap (λ (m : Memory). m.log.reserved) (memory_as c.self.view_is))) stops)
     ]) c.add_resources.ensures.left
 
 pub returns-in_err-reserve-2-clause-untold : goal.returns-in_err-reserve-2-clause-untold
 returns-in_err-reserve-2-clause-untold g c =
     on_err c.from_residual-in_err-reserve-2.result _ (inr (stops-first g.K.PurgeSink.told c.args.wanted.now
-    c.args.self.now _ c.reserve.new.self.items c.args.sink.now c.in_err-reserve-2.ensures.some
-    (c.in_ok-reserve.ensures.items ∙ c.clear.ensures.items) c.in_err-reserve-2.ensures.unchanged))
+    c.args.self.now.memory _ c.reserve.new.self.items c.args.sink.now c.in_err-reserve-2.ensures.some
+    (c.in_ok-reserve.ensures.items ∙ c.clear.ensures.items) (memory_as c.in_err-reserve-2.ensures.unchanged)))

@@ -1,5 +1,6 @@
 use Rattle.std.proofs.Common.{arith, List, ℕ}
 use Rattle.heap_calls.proofs.Numbering.Pointing.{IsHeld, pointer-held, bytes-told}
+use Rattle.heap_calls.proofs.Numbering.Memories.{memory_as}
 use Rattle.heap_calls.proofs.heap.Heap.pointer_bytes.Given.{Over}
 use Rattle.heap_calls.proofs.heap.Heap.pointer_bytes.Goals.{In_ok-target}
 use Rattle.heap_calls.proofs.heap.Heap.pointer_bytes.Goals as goal
@@ -17,7 +18,7 @@ pub returns-clause-answer : goal.returns-clause-answer
 returns-clause-answer g c =
     let a = c.self.inside in
     bytes-told (λ (x : List ℕ). x) (g.S.BlockStore.zone a.store) (g.S.BlockStore.rest a.store) a.names.items a.log
-    c.args.self.now c.args.pointer c.in_ok-target.target c.bytes.result.now c.self.view_is
+    c.args.self.now.memory c.args.pointer c.in_ok-target.target c.bytes.result.now (memory_as c.self.view_is)
     (target g (goal.at.returns-clause-answer g c).In_ok-target) c.bytes.ensures
 
 pub bytes-requires : goal.bytes-requires

@@ -16,6 +16,7 @@ use Rattle.heap_calls.proofs.Numbering.MoveNames.{purged_moves-rename}
 use Rattle.heap_calls.proofs.Room.Staying.{nonrelocatable-purged, nonrelocatable-settled, nonrelocatable-same, nonrelocatable-then}
 use Rattle.block_store.specs.Rest.{KeepsSlots}
 use Rattle.heap_calls.proofs.Numbering.Changing.{unmoved-is}
+use Rattle.heap_calls.proofs.Numbering.Memories.{memory_as, placings_as}
 use Rattle.heap_calls.proofs.heap.Heap.purge_and_compact.Given.{Over}
 use Rattle.heap_calls.proofs.heap.Heap.purge_and_compact.Goals.{After-compact}
 use Rattle.heap_calls.proofs.heap.Heap.purge_and_compact.Goals as goal
@@ -35,8 +36,8 @@ kept g c =
       window = packed.window ∙ emptied.window;
     }
 
-pub returns : goal.returns
-returns g c =
+pub returns-clause-answer : goal.returns-clause-answer
+returns-clause-answer g c =
     let a = c.self.inside in
     let zone = g.S.BlockStore.zone a.store in
     let all = g.S.BlockStore.zone c.purge.new.self in
@@ -47,17 +48,21 @@ returns g c =
     let emptied = c.purge.ensures.rest in
     let many = c.purgeable-purges.ensures in
     let is = purged_all-is zone all c.purgeable-purges.result (omega (arith, many)) c.purge.ensures.zone in
-    let moves : max_mem_moves c.args.self.now.heap ≡ lowered_in_runs (runs_settled None all) (runs all) =
-    ap (λ (m : Memory). max_mem_moves m.heap) (sym c.self.view_is) ∙ purged_moves-rename (handle_number es)
+    let moves : max_mem_moves c.args.self.now.memory.heap ≡ lowered_in_runs (runs_settled None all) (runs all) =
+    ap (λ (m : Memory). max_mem_moves m.heap) (sym (memory_as c.self.view_is)) ∙ purged_moves-rename (handle_number es)
     (pointer_number es) zone ∙ ap all_moves (sym is)
     ∙ ap (λ k. lowered_in_runs k (runs all)) (sym (least_or_last-none (length (runs all)))) in
     moving-done _ _ _ (Ok c.saturating_sub.result) zone' rest rest' es (record a.log { code = NO_ERR })
-    (max_mem-done c.args.self.now zone all zone' rest (unmoved rest rest') es a.log c.largest_free.result
-    c.saturating_sub.result c.self.view_is is c.compact.ensures.zone
-    (unmoved-is rest rest' (kept g (goal.at.returns g c).After-compact))
+    (max_mem-done c.args.self.now.memory zone all zone' rest (unmoved rest rest') es a.log c.largest_free.result
+    c.saturating_sub.result (memory_as c.self.view_is) is c.compact.ensures.zone
+    (unmoved-is rest rest' (kept g (goal.at.returns-clause-answer g c).After-compact))
     c.largest_free.ensures c.saturating_sub.ensures)
     moves (c.compact.ensures.moves ∙ ap (λ k. counted k (lowered_in_runs (runs_settled None all) (runs all)))
     emptied.moves)
+
+pub returns-clause-placed : goal.returns-clause-placed
+returns-clause-placed g c =
+    c.compact.ensures.placed ∙ c.purge.ensures.rest.placed ∙ placings_as c.self.view_is
 
 pub invariant_of-self : goal.invariant_of-self
 invariant_of-self g c =

@@ -12,6 +12,7 @@ use Rattle.heap_calls.proofs.Numbering.Changing.{agrees-same}
 use Rattle.heap_calls.proofs.Room.Staying.{nonrelocatable-purged, nonrelocatable-same, nonrelocatable-then}
 use Rattle.block_store.specs.Rest.{counted}
 use Rattle.heap_calls.proofs.NewBlocks.Naming.{is-served}
+use Rattle.heap_calls.proofs.Numbering.Memories.{memory_as}
 use Rattle.heap_calls.proofs.heap.Heap.purge_for.Goals as goal
 
 pub overflow_add-purges : goal.overflow_add-purges
@@ -37,12 +38,14 @@ returns-clause-answer g c =
     let many : c.purges_for-purges.result ≡ blocks_purged _ zone =
     c.purges_for-purges.ensures ∙ ap (λ (p : Option ℕ). blocks_purged p zone) c.phys-bytes.ensures in
     rw (c.account.ensures.reply, c.account.ensures.counted) (is-served _ served _
-    (searching-done _ _ (silent (purge_mem n) c.args.self.now) (served_answer served) (memory_of zone' rest' es a.log)
+    (searching-done _ _ (silent (purge_mem n) c.args.self.now.memory) (served_answer served) (memory_of zone' rest' es
+    a.log)
     (memory_of zone' rest' es (record a.log { searches = counted a.log.searches (c.purges_for-purges.result + 1) }))
-    (purge_mem-done c.args.self.now n zone zone' rest rest' es a.log served c.self.view_is
+    (purge_mem-done c.args.self.now.memory n zone zone' rest rest' es a.log served (memory_as c.self.view_is)
     (c.purge.ensures.zone ∙ ap (λ k. purge k nothing zone) many) c.purge.ensures.rest
     (c.has_room-served.ensures ∙ ap (λ (p : Option ℕ). has_room p zone') c.phys-bytes.ensures))
-    (purge_mem_searches-is c.args.self.now n zone rest es a.log c.self.view_is ∙ ap (λ k. k + 1) (sym many)) refl))
+    (purge_mem_searches-is c.args.self.now.memory n zone rest es a.log (memory_as c.self.view_is)
+    ∙ ap (λ k. k + 1) (sym many)) refl))
 
 pub invariant_of-self : goal.invariant_of-self
 invariant_of-self g c =

@@ -18,6 +18,7 @@ use Rattle.block_store.specs.Rest.{counted}
 use Rattle.heap_calls.proofs.NewBlocks.Naming.{is-served}
 use Rattle.heap_calls.proofs.Numbering.PurgeTrials.{served_answer}
 use Rattle.heap_calls.proofs.Numbering.Reserved.{fits-same}
+use Rattle.heap_calls.proofs.Numbering.Memories.{memory_as}
 use Rattle.heap_calls.proofs.heap.Heap.reallocate.Goals as goal
 
 pub returns-in_err-slot-clause-answer : goal.returns-in_err-slot-clause-answer
@@ -29,10 +30,13 @@ returns-in_err-slot-clause-answer g c =
     let es = a.names.items in
     let found = loose_in zone rest.slots es _ c.args.handle (Err c.in_err-slot.field-0.0) c.deref.ensures.value
     c.in_err-slot.ensures in
-    rw (p.1, p.2) (not-moved _ _ c.in_err-slot.field-0.0 c.args.self.now zone rest es a.log c.self.view_is
-    (loose_not_searched c.args.size c.in_err-slot.field-0.0 zone rest es a.log c.args.handle c.args.self.now c.self.view_is
+    rw (p.1, p.2) (not-moved _ _ c.in_err-slot.field-0.0 c.args.self.now.memory zone rest es a.log (memory_as
+    c.self.view_is)
+    (loose_not_searched c.args.size c.in_err-slot.field-0.0 zone rest es a.log c.args.handle c.args.self.now.memory
+    (memory_as c.self.view_is)
     found)
-    (no_moves-loose c.args.handle c.args.size c.in_err-slot.field-0.0 c.args.self.now zone rest es a.log c.self.view_is
+    (no_moves-loose c.args.handle c.args.size c.in_err-slot.field-0.0 c.args.self.now.memory zone rest es a.log
+    (memory_as c.self.view_is)
     found))
 
 pub returns-clause-answer : goal.returns-clause-answer
@@ -43,7 +47,7 @@ returns-clause-answer g c =
     let rest = g.S.BlockStore.rest a.store in
     let rest' = g.S.BlockStore.rest c.renew_block.new.store in
     let made = c.in_ok-room.room in
-    let value = c.args.self.now in
+    let value = c.args.self.now.memory in
     let log : Log = record a.log { searches = counted a.log.searches made.searches } in
     let found = loose_in zone rest.slots a.names.items _ c.args.handle (Ok c.in_ok-slot.slot) c.deref.ensures.value
     c.in_ok-slot.ensures in
@@ -53,11 +57,13 @@ returns-clause-answer g c =
     (served_answer (is_some made.place)) (memory_of zone' (unmoved rest rest') a.names.items a.log)
     (memory_of zone' (unmoved rest rest') a.names.items log)
     (reallocate-told value zone zone' rest rest' a.names.items a.log c.args.handle found.0 c.in_ok-slot.slot c.args.size
-    made c.self.view_is found.2 found.3 c.self.invariant.apart found.4 c.in_ok-room.ensures.answer)
+    made (memory_as c.self.view_is) found.2 found.3 c.self.invariant.apart found.4 c.in_ok-room.ensures.answer)
     (reallocate_searches-is value zone zone' rest rest' a.names.items a.log c.args.handle found.0 c.in_ok-slot.slot
-    c.args.size made c.self.view_is found.2 found.3 c.self.invariant.apart found.4 c.in_ok-room.ensures.answer) refl)
+    c.args.size made (memory_as c.self.view_is) found.2 found.3 c.self.invariant.apart found.4
+    c.in_ok-room.ensures.answer) refl)
     (reallocate_moves-is value zone zone' rest rest' a.names.items a.log c.args.handle found.0 c.in_ok-slot.slot
-    c.args.size made c.self.view_is found.2 found.3 c.self.invariant.apart found.4 c.in_ok-room.ensures.answer)
+    c.args.size made (memory_as c.self.view_is) found.2 found.3 c.self.invariant.apart found.4
+    c.in_ok-room.ensures.answer)
     c.renew_block.ensures.moves))
 
 pub invariant_of-self : goal.invariant_of-self
@@ -88,9 +94,10 @@ returns-in_err-slot-clause-told g c some listens =
     let es = a.names.items in
     let found = loose_in zone rest.slots es _ c.args.handle (Err c.in_err-slot.field-0.0) c.deref.ensures.value
     c.in_err-slot.ensures in
-    tells-none g.K.PurgeSink.told (reallocate_handle_gone c.args.handle c.args.size c.args.self.now.heap) c.args.sink.now
-    (reallocate_gone-none c.args.self.now zone rest es a.log c.args.handle c.args.size c.in_err-slot.field-0.0
-    c.self.view_is found)
+    tells-none g.K.PurgeSink.told (reallocate_handle_gone c.args.handle c.args.size c.args.self.now.memory.heap)
+    c.args.sink.now
+    (reallocate_gone-none c.args.self.now.memory zone rest es a.log c.args.handle c.args.size c.in_err-slot.field-0.0
+    (memory_as c.self.view_is) found)
 
 pub returns-clause-told : goal.returns-clause-told
 returns-clause-told g c some listens =
@@ -101,7 +108,8 @@ returns-clause-told g c some listens =
     let slot = c.in_ok-slot.slot in
     let found = loose_in zone rest.slots es _ c.args.handle (Ok slot) c.deref.ensures.value c.in_ok-slot.ensures in
     let same = ap (λ (e : List Anchor). renewed_gone e slot c.args.size zone) c.deref-2.ensures.value
-    ∙ reallocate_gone-is c.args.self.now zone rest es a.log c.args.handle found.0 slot c.args.size c.self.view_is found.2
+    ∙ reallocate_gone-is c.args.self.now.memory zone rest es a.log c.args.handle found.0 slot c.args.size (memory_as
+    c.self.view_is) found.2
     found.3 c.self.invariant.apart found.4 in
     subst (λ (l : List Gone). Tells g.K.PurgeSink.told l c.args.sink.now c.tell_renewal.new.sink) same
     (c.in_ok-tell_renewal.ensures.told listens)

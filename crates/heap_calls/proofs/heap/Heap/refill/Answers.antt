@@ -21,6 +21,7 @@ use Rattle.heap_calls.proofs.Numbering.Numbers.{is_relocatable-number, handle_nu
 use Rattle.heap_calls.proofs.Numbering.PurgeTrials.{served_answer, searching-done}
 use Rattle.heap_calls.proofs.Numbering.Roles.{entry-of}
 use Rattle.heap_calls.proofs.Room.MoveCounts.{moving-done}
+use Rattle.heap_calls.proofs.Numbering.Memories.{memory_as}
 use Rattle.heap_calls.proofs.heap.Heap.refill.Given.{Over}
 use Rattle.heap_calls.proofs.heap.Heap.refill.Goals.{In_ok-found}
 use Rattle.heap_calls.proofs.heap.Heap.refill.Goals as goal
@@ -36,8 +37,8 @@ refill_block-requires-clause-none g c =
     let a = c.self.inside in
     let at = entry g (goal.at.refill_block-requires-clause-none g c).In_ok-found in
     let small : c.args.number < no_number = omega arith in
-    slot-emptied c.args.self.now (g.S.BlockStore.zone a.store) (g.S.BlockStore.rest a.store) a.names.items a.log
-    c.args.number c.in_ok-found.found.slot c.self.view_is
+    slot-emptied c.args.self.now.memory (g.S.BlockStore.zone a.store) (g.S.BlockStore.rest a.store) a.names.items a.log
+    c.args.number c.in_ok-found.found.slot (memory_as c.self.view_is)
     (is_relocatable-number a.names.items c.args.number c.in_ok-found.found.slot at c.self.invariant.apart small)
     c.requires.emptied
 
@@ -68,7 +69,7 @@ returns-clause-answer g c =
     let flags = c.args.flags in
     let x = c.args.bytes.now in
     let made = c.in_ok-room.room in
-    let value = c.args.self.now in
+    let value = c.args.self.now.memory in
     let log : Log = record a.log { searches = counted a.log.searches made.searches } in
     let at = entry g (goal.at.returns-clause-answer g c).In_ok-found in
     let found = handle_at-by zone rest.slots es (Some h) h slot refl at in
@@ -77,11 +78,13 @@ returns-clause-answer g c =
     (moving-done _ _ _ (served_answer (is_some made.place)) zone' rest rest' es log
     (searching-done _ _ (silent (refill h flags x) value) (served_answer (is_some made.place))
     (memory_of zone' (unmoved rest rest') es a.log) (memory_of zone' (unmoved rest rest') es log)
-    (refill-told value zone zone' rest rest' es a.log h slot flags x made _ refl c.self.view_is found mine
+    (refill-told value zone zone' rest rest' es a.log h slot flags x made _ refl (memory_as c.self.view_is) found mine
     c.in_ok-room.ensures.answer)
-    (refill_searches-is value zone zone' rest rest' es a.log h slot flags x made _ refl c.self.view_is found mine
+    (refill_searches-is value zone zone' rest rest' es a.log h slot flags x made _ refl (memory_as c.self.view_is) found
+    mine
     c.in_ok-room.ensures.answer) refl)
-    (refill_moves-is value zone zone' rest rest' es a.log h slot flags x made _ refl c.self.view_is found mine
+    (refill_moves-is value zone zone' rest rest' es a.log h slot flags x made _ refl (memory_as c.self.view_is) found
+    mine
     c.in_ok-room.ensures.answer) c.refill_block.ensures.moves))
 
 pub same-self : goal.same-self
@@ -94,19 +97,19 @@ pub returns-in_err-found-clause-answer : goal.returns-in_err-found-clause-answer
 returns-in_err-found-clause-answer g c =
     let p = err_from_is_err_and c.from_residual.result c.from_residual.ensures.1 in
     let a = c.self.inside in
-    rw (p.1, p.2) (refill-refused c.args.self.now (g.S.BlockStore.zone a.store) (g.S.BlockStore.rest a.store)
+    rw (p.1, p.2) (refill-refused c.args.self.now.memory (g.S.BlockStore.zone a.store) (g.S.BlockStore.rest a.store)
     a.names.items c.deref.result.now a.log c.args.number c.args.flags c.args.bytes.now c.in_err-found.field-0.0
-    c.self.view_is c.deref.ensures.value (sym c.slot_of.ensures ∙ c.in_err-found.was))
+    (memory_as c.self.view_is) c.deref.ensures.value (sym c.slot_of.ensures ∙ c.in_err-found.was))
 
 pub returns-in_err-found-clause-told : goal.returns-in_err-found-clause-told
 returns-in_err-found-clause-told g c some listens =
     let p = err_from_is_err_and c.from_residual.result c.from_residual.ensures.1 in
     let a = c.self.inside in
     let coded : c.in_err-found.field-0.0 ≢ HostMemory = λ e. some (p.1 ∙ ap Err (p.2 ∙ e)) in
-    tells-none g.K.PurgeSink.told (refill_gone c.args.number (length c.args.bytes.now) c.args.self.now.heap)
+    tells-none g.K.PurgeSink.told (refill_gone c.args.number (length c.args.bytes.now) c.args.self.now.memory.heap)
     c.args.sink.now
-    (refill_gone-none c.args.self.now (g.S.BlockStore.zone a.store) (g.S.BlockStore.rest a.store) a.names.items
-    c.deref.result.now a.log c.args.number (length c.args.bytes.now) c.in_err-found.field-0.0 c.self.view_is
+    (refill_gone-none c.args.self.now.memory (g.S.BlockStore.zone a.store) (g.S.BlockStore.rest a.store) a.names.items
+    c.deref.result.now a.log c.args.number (length c.args.bytes.now) c.in_err-found.field-0.0 (memory_as c.self.view_is)
     c.deref.ensures.value (sym c.slot_of.ensures ∙ c.in_err-found.was) coded)
 
 pub returns-clause-told : goal.returns-clause-told
@@ -118,7 +121,7 @@ returns-clause-told g c some listens =
     let at = entry g (goal.at.returns-clause-told g c).In_ok-found in
     let small : c.args.number < no_number = omega arith in
     let same = ap (λ (e : List Anchor). renewed_gone e slot n zone) c.deref-2.ensures.value
-    ∙ refill_gone-is c.args.self.now zone (g.S.BlockStore.rest a.store) a.names.items a.log c.args.number slot n
-    c.self.view_is at c.self.invariant.apart small c.requires.emptied in
+    ∙ refill_gone-is c.args.self.now.memory zone (g.S.BlockStore.rest a.store) a.names.items a.log c.args.number slot n
+    (memory_as c.self.view_is) at c.self.invariant.apart small c.requires.emptied in
     subst (λ (l : List Gone). Tells g.K.PurgeSink.told l c.args.sink.now c.tell_refilling.new.sink) same
     (c.in_ok-tell_refilling.ensures.told listens)

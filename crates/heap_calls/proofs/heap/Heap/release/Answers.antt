@@ -11,6 +11,7 @@ use Rattle.heap_calls.specs.Inner.Numbered.{state_of, Agrees}
 use Rattle.heap_calls.specs.declared.anchor.Anchor.TheVariants.{Disposed}
 use Rattle.heap_calls.proofs.Numbering.Changing.{agrees-left, without-done}
 use Rattle.heap_calls.proofs.Numbering.Roles.{entry-of, released-is, inside-done}
+use Rattle.heap_calls.proofs.Numbering.Memories.{memory_as}
 use Rattle.heap_calls.proofs.heap.Heap.release.Given.{Over}
 use Rattle.heap_calls.proofs.heap.Heap.release.Goals.{After-give_slot}
 use Rattle.heap_calls.proofs.heap.Heap.release.Goals as goal
@@ -73,8 +74,9 @@ returns g c =
     let rest = g.S.BlockStore.rest a.store in
     let rest' = g.S.BlockStore.rest c.give_slot.new.self in
     let left = slice_set a.names.items h Disposed in
-    inside-done (released h) c.args.self.now zone (g.S.BlockStore.zone c.give_slot.new.self) rest rest' a.names.items
-    left a.log c.self.view_is
+    inside-done (released h) c.args.self.now.memory zone (g.S.BlockStore.zone c.give_slot.new.self) rest rest'
+    a.names.items
+    left a.log (memory_as c.self.view_is)
     (released-is zone rest.slots a.names.items h f.slot at
     ∙ without-done zone rest rest' a.names.items h f.slot c.self.invariant at (omega arith) k.now k.one k.all
     ∙ ap (λ (z : List Block). state_of z rest'.slots left) (sym k.zone_is))

@@ -7,13 +7,14 @@ use Rattle.heap_calls.proofs.NewBlocks.Reserving.{reserve-too_large, reserve_sea
 use Rattle.heap_calls.proofs.Numbering.Changing.{agrees-placed}
 use Rattle.heap_calls.proofs.Numbering.PurgeTrials.{served_answer}
 use Rattle.heap_calls.proofs.Room.Placements.{at_none}
+use Rattle.heap_calls.proofs.Numbering.Memories.{memory_as}
 use Rattle.heap_calls.proofs.heap.Heap.reserve_base.Given.{Over}
 use Rattle.heap_calls.proofs.heap.Heap.reserve_base.Goals.{In_ok-room}
 use Rattle.heap_calls.proofs.heap.Heap.reserve_base.Goals as goal
 
 pub returns-in_default-clause-answer : goal.returns-in_default-clause-answer
 returns-in_default-clause-answer g c =
-    reserve-too_large c.args.size c.args.self.now (sym c.phys.ensures ∙ c.in_default.is)
+    reserve-too_large c.args.size c.args.self.now.memory (sym c.phys.ensures ∙ c.in_default.is)
 
 reserved : (g : Over) (c : In_ok-room g) → Ends (reserve_mem c.args.size) (g.S.BlockStore.zone c.self.inside.store)
     (g.S.BlockStore.rest c.self.inside.store) c.self.inside.names.items
@@ -30,9 +31,9 @@ returns-clause-answer g c =
     let a = c.self.inside in
     let now = c.in_ok-room.ensures in
     rw (c.account.ensures.reply, c.account.ensures.counted, c.is_some.ensures)
-    (served-looking (reserve_mem c.args.size) (reserve_searches (phys c.args.size)) c.args.self.now
+    (served-looking (reserve_mem c.args.size) (reserve_searches (phys c.args.size)) c.args.self.now.memory
     (g.S.BlockStore.zone a.store) _ (g.S.BlockStore.rest a.store) (g.S.BlockStore.rest c.make_base.new.store)
-    a.names.items a.log (is_some c.in_ok-room.room.place) c.self.view_is
+    a.names.items a.log (is_some c.in_ok-room.room.place) (memory_as c.self.view_is)
     (reserved g (goal.at.returns-clause-answer g c).In_ok-room) c.in_ok-room.room.searches
     (now.searches ∙ sym (reserve_searches-is _ _ _ (g.met.S.BlockStore.masters a.store) c.self.invariant c.args.size
     c.in-Some.bytes (sym c.phys.ensures ∙ c.in-Some.is))) now.rest.moves)

@@ -11,6 +11,7 @@ use Rattle.heap_calls.proofs.Numbering.Changing.{spot_at-is, nonrelocatable-at, 
 use Rattle.heap_calls.proofs.Room.Staying.{nonrelocatable-spot, alike-flags, nonrelocatable-same, nonrelocatable-then}
 use Rattle.heap_calls.proofs.Numbering.Hoisting.{flags-none, flags-some, seen-at, rest-same, change_flags-done}
 use Rattle.heap_calls.proofs.Numbering.Reserved.{fits-same}
+use Rattle.heap_calls.proofs.Numbering.Memories.{memory_as}
 use Rattle.heap_calls.proofs.heap.Heap.set_flags.Goals as goal
 
 pub returns-in_err-place-clause-answer : goal.returns-in_err-place-clause-answer
@@ -20,7 +21,7 @@ returns-in_err-place-clause-answer g c =
     let found = found_in (g.S.BlockStore.zone a.store) (g.S.BlockStore.rest a.store).slots a.names.items _ c.args.handle
     (Err c.in_err-place.field-0.0) c.deref.ensures.value c.in_err-place.ensures in
     rw (p.1, p.2) (refused_for c.in_err-place.field-0.0 (g.S.BlockStore.zone a.store) (g.S.BlockStore.rest a.store)
-    a.names.items a.log c.args.handle c.args.self.now c.self.view_is found (λ s k. (
+    a.names.items a.log c.args.handle c.args.self.now.memory (memory_as c.self.view_is) found (λ s k. (
       Ok tt,
       record s {
         zone = k.at.below ++ flagged (flags_with c.args.locked c.args.purgeable) k.at.here ∷ k.at.above;
@@ -38,11 +39,12 @@ returns-in_default-clause-answer g c =
     let none : seen_flags (Some (seen found.1.here)) ≡ None =
     sym (seen-at seen_flags c.in_ok-place.place zone found.1 c.block_at.result found.3 c.block_at.ensures)
     ∙ sym c.flags_of.ensures ∙ c.in_default.is in
-    change_flags-done change c.args.self.now zone zone rest rest a.names.items a.log c.args.handle found.0 found.1
-    c.self.view_is found.2 (rest-same rest)
+    change_flags-done change c.args.self.now.memory zone zone rest rest a.names.items a.log c.args.handle found.0
+    found.1
+    (memory_as c.self.view_is) found.2 (rest-same rest)
     (spot_at-is c.in_ok-place.place zone found.1 found.3 ∙ ap (λ b. found.1.below ++ b ∷ found.1.above)
     (sym (flags-none change found.1.here none)))
-    ∙ ap (λ m. (Ok tt, m)) c.self.view_is
+    ∙ ap (λ m. (Ok tt, m)) (memory_as c.self.view_is)
 
 pub returns-clause-answer : goal.returns-clause-answer
 returns-clause-answer g c =
@@ -63,8 +65,9 @@ returns-clause-answer g c =
     in f) c.unwrap_or-2.ensures in
     let done = at_place c.in_ok-place.place zone found.1 (λ s. zone' ≡ s.below ++ with_flags first s.here ∷ s.above)
     found.3 c.set_flags.ensures.zone in
-    change_flags-done change c.args.self.now zone zone' rest (g.S.BlockStore.rest c.set_flags.new.self) a.names.items
-    a.log c.args.handle found.0 found.1 c.self.view_is found.2 c.set_flags.ensures.rest
+    change_flags-done change c.args.self.now.memory zone zone' rest (g.S.BlockStore.rest c.set_flags.new.self)
+    a.names.items
+    a.log c.args.handle found.0 found.1 (memory_as c.self.view_is) found.2 c.set_flags.ensures.rest
     (done ∙ ap (λ f. found.1.below ++ with_flags f found.1.here ∷ found.1.above) same
     ∙ ap (λ b. found.1.below ++ b ∷ found.1.above) (flags-some change c.in-Some.flags found.1.here flags))
 

@@ -5,6 +5,7 @@ use Rattle.heap_calls.specs.Inside.{cast, owned_as}
 use Rattle.heap_calls.specs.Inner.Numbered.{state_of, role_of, Agrees}
 use Rattle.heap_calls.specs.declared.anchor.Anchor.TheVariants.{Handle}
 use Rattle.heap_calls.proofs.Numbering.Roles.{entry-of, agrees-cast, cast-done, owned-role, inside-done}
+use Rattle.heap_calls.proofs.Numbering.Memories.{memory_as}
 use Rattle.heap_calls.proofs.heap.Heap.set_resource.Goals as goal
 
 pub invariant_of-self : goal.invariant_of-self
@@ -32,8 +33,9 @@ returns g c =
     let rest = g.S.BlockStore.rest a.store in
     let rest' = g.S.BlockStore.rest c.set_resource.new.self in
     let es' = slice_set es h (Handle f.slot false) in
-    inside-done (cast (owned_as c.args.resource) h) c.args.self.now zone (g.S.BlockStore.zone c.set_resource.new.self)
-    rest rest' es es' a.log c.self.view_is
+    inside-done (cast (owned_as c.args.resource) h) c.args.self.now.memory zone (g.S.BlockStore.zone
+    c.set_resource.new.self)
+    rest rest' es es' a.log (memory_as c.self.view_is)
     (cast-done zone rest rest' es h f.slot (Used c.args.resource) false c.self.invariant at refl now.slots now.unused
     now.all (owned_as c.args.resource) (owned-role c.args.resource (role_of (rest.slots f.slot) f.guarded))
     ∙ ap (λ (z : List Block). state_of z rest'.slots es') (sym c.set_resource.ensures.zone))

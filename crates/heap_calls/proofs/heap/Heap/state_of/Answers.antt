@@ -12,6 +12,7 @@ use Rattle.heap_calls.specs.Inner.Numbered.{state_of, handle_number, pointer_num
 use Rattle.heap_calls.proofs.Numbering.Answering.{refused_for, found_in, on_found, held}
 use Rattle.heap_calls.proofs.Numbering.Hoisting.{seen-at}
 use Rattle.heap_calls.proofs.Numbering.Loosening.{bits_answer, role_bit, h_get_state-bits, block_bits-rename}
+use Rattle.heap_calls.proofs.Numbering.Memories.{memory_as}
 use Rattle.heap_calls.proofs.heap.Heap.state_of.Goals.{then-is_resource, else-is_resource}
 use Rattle.heap_calls.proofs.heap.Heap.state_of.Goals as goal
 
@@ -21,13 +22,14 @@ returns-in_err-place-clause-answer g c =
     let a = c.self.inside in
     let zone = g.S.BlockStore.zone a.store in
     let rest = g.S.BlockStore.rest a.store in
-    let value = c.args.self.now in
+    let value = c.args.self.now.memory in
     let e = c.in_err-place.field-0.0 in
     let found = found_in zone rest.slots a.names.items _ c.args.handle (Err e) c.deref.ensures.value
     c.in_err-place.ensures in
     let Q : Result ℕ OsErr × Memory → Type 0 = λ x. IsAnswer x (Err e) value in
-    rw (p.1, p.2) (subst Q (sym (h_get_state-bits c.args.handle value zone rest a.names.items a.log c.self.view_is))
-    (refused_for e zone rest a.names.items a.log c.args.handle value c.self.view_is found (bits_answer _)))
+    rw (p.1, p.2) (subst Q (sym (h_get_state-bits c.args.handle value zone rest a.names.items a.log (memory_as
+    c.self.view_is)))
+    (refused_for e zone rest a.names.items a.log c.args.handle value (memory_as c.self.view_is) found (bits_answer _)))
 
 pub returns-clause-answer : goal.returns-clause-answer
 returns-clause-answer g c =
@@ -35,7 +37,7 @@ returns-clause-answer g c =
     let zone = g.S.BlockStore.zone a.store in
     let rest = g.S.BlockStore.rest a.store in
     let es = a.names.items in
-    let value = c.args.self.now in
+    let value = c.args.self.now.memory in
     let found = found_in zone rest.slots es _ c.args.handle (Ok c.in_ok-place.place) c.deref.ensures.value
     c.in_ok-place.ensures in
     let bits : block_bits (rename_block (handle_number es) (pointer_number es) found.1.here) ≡ c.bits_of-bits.result =
@@ -49,10 +51,10 @@ returns-clause-answer g c =
       | else-is_resource w ↦ w.resource-is ∙ sym (ap (bit 32) w.if-is_resource.false)
     ] in
     let told : c.if-is_resource.resource ≡ more = resource ∙ ap (bit 32) c.is_resource.ensures
-    ∙ sym (ap (λ (m : Memory). role_bit (handle_at c.args.handle m.heap)) c.self.view_is) in
+    ∙ sym (ap (λ (m : Memory). role_bit (handle_at c.args.handle m.heap)) (memory_as c.self.view_is)) in
     let sum : block_bits (rename_block (handle_number es) (pointer_number es) found.1.here) + more
     ≡ c.bits_of-bits.result + c.if-is_resource.resource = omega (arith, bits, told) in
-    h_get_state-bits c.args.handle value zone rest es a.log c.self.view_is
+    h_get_state-bits c.args.handle value zone rest es a.log (memory_as c.self.view_is)
     ∙ on_found zone rest es a.log c.args.handle value (held found.0
-    (rename_spot (handle_number es) (pointer_number es) found.1)) c.self.view_is found.2 (bits_answer more)
+    (rename_spot (handle_number es) (pointer_number es) found.1)) (memory_as c.self.view_is) found.2 (bits_answer more)
     ∙ ap (λ (k : ℕ). (Ok k, value)) sum

@@ -11,6 +11,7 @@ use Rattle.heap_calls.specs.Inner.Reaching.{Reaches}
 use Rattle.heap_calls.specs.Inner.Telling.{fitted_gone}
 use Rattle.heap_calls.proofs.GoneForSizes.{tells-none, not_reached-gone, pointer_and_hand-gone, nothing-appended}
 use Rattle.heap_calls.proofs.Numbering.Rebuilding.{reached_in}
+use Rattle.heap_calls.proofs.Numbering.Memories.{memory_as}
 use Rattle.heap_calls.proofs.heap.Heap.tell_append_slice.Goals as goal
 
 pub returns-in_default-clause-told : goal.returns-in_default-clause-told
@@ -20,7 +21,7 @@ returns-in_default-clause-told g c listens =
     let rest = g.S.BlockStore.rest a.store in
     let P : Result Reached Refusal → Type 0 = λ r. Reaches zone rest.slots c.deref.result.now c.args.handle r in
     tells-none g.K.PurgeSink.told _ c.args.sink.now
-    (not_reached-gone c.args.self.now zone rest a.names.items a.log c.self.view_is
+    (not_reached-gone c.args.self.now.memory zone rest a.names.items a.log (memory_as c.self.view_is)
     (pointer_and_hand_gone c.args.handle c.args.bytes.now) c.in_default.field-0 c.args.handle _ c.deref.ensures.value
     (subst P c.in_default.is c.reach.ensures) (nothing-appended c.args.handle c.args.bytes.now _))
 
@@ -36,7 +37,8 @@ returns-clause-told g c =
     let same = ap (λ (e : List Anchor). fitted_gone e (is_relocatable held.slot) (One held.slot)
     (length_of held.slot zone + length c.args.bytes.now) zone)
     c.deref-2.ensures.value
-    ∙ pointer_and_hand-gone c.args.self.now zone rest a.names.items a.log c.self.view_is c.self.invariant c.args.handle
+    ∙ pointer_and_hand-gone c.args.self.now.memory zone rest a.names.items a.log (memory_as c.self.view_is)
+    c.self.invariant c.args.handle
     held there c.args.bytes.now in
     on_ok_weaker c.tell_longer.result
     (λ told listens. subst (λ (l : List Gone). Tells g.K.PurgeSink.told l c.args.sink.now c.tell_longer.new.sink) same told)

@@ -7,14 +7,15 @@ use Rattle.heap_calls.specs.Gone.{Gone, Tells}
 use Rattle.heap_calls.specs.Inner.Telling.{fitted_gone}
 use Rattle.heap_calls.proofs.GoneForSizes.{tells-none, set_pointer_size-gone, no_pointer-gone}
 use Rattle.heap_calls.proofs.Numbering.Pointing.{pointer-held, target_in}
+use Rattle.heap_calls.proofs.Numbering.Memories.{memory_as}
 use Rattle.heap_calls.proofs.heap.Heap.tell_fit_pointer.Goals as goal
 
 pub returns-in_default-clause-told : goal.returns-in_default-clause-told
 returns-in_default-clause-told g c listens =
     let a = c.self.inside in
     tells-none g.K.PurgeSink.told _ c.args.sink.now
-    (no_pointer-gone c.args.self.now (g.S.BlockStore.zone a.store) (g.S.BlockStore.rest a.store) a.names.items
-    a.log c.in_default.field-0 c.args.pointer c.args.size c.self.view_is
+    (no_pointer-gone c.args.self.now.memory (g.S.BlockStore.zone a.store) (g.S.BlockStore.rest a.store) a.names.items
+    a.log c.in_default.field-0 c.args.pointer c.args.size (memory_as c.self.view_is)
     (target_in a.names.items _ c.args.pointer (Err c.in_default.field-0) c.deref.ensures.value
     (sym c.in_default.is ∙ c.target_of.ensures)))
 
@@ -35,8 +36,8 @@ returns-clause-told g c =
     (omega arith) c.deref.ensures.value (sym c.in-Ok.is ∙ c.target_of.ensures) in
     let same = ap (λ (e : List Anchor). fitted_gone e (is_nonrelocatable c.in-Ok.target.place) Nothing c.args.size zone)
     c.deref-2.ensures.value
-    ∙ set_pointer_size-gone c.args.self.now zone (g.S.BlockStore.rest a.store) a.names.items a.log c.args.pointer
-    c.in-Ok.target c.args.size c.self.view_is there c.self.invariant.lone (omega arith) in
+    ∙ set_pointer_size-gone c.args.self.now.memory zone (g.S.BlockStore.rest a.store) a.names.items a.log c.args.pointer
+    c.in-Ok.target c.args.size (memory_as c.self.view_is) there c.self.invariant.lone (omega arith) in
     on_ok_weaker c.tell_nonrelocatable.result
     (λ told listens. subst (λ (l : List Gone). Tells g.K.PurgeSink.told l c.args.sink.now c.tell_nonrelocatable.new.sink)
     same told)

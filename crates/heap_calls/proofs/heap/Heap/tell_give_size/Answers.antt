@@ -10,6 +10,7 @@ use Rattle.heap_calls.specs.Inner.Reaching.{Reaches}
 use Rattle.heap_calls.specs.Inner.Telling.{fitted_gone}
 use Rattle.heap_calls.proofs.GoneForSizes.{tells-none, not_reached-gone, set_handle_size-gone, nothing-sized}
 use Rattle.heap_calls.proofs.Numbering.Rebuilding.{reached_in}
+use Rattle.heap_calls.proofs.Numbering.Memories.{memory_as}
 use Rattle.heap_calls.proofs.heap.Heap.tell_give_size.Goals as goal
 
 pub returns-in_default-clause-told : goal.returns-in_default-clause-told
@@ -19,7 +20,7 @@ returns-in_default-clause-told g c listens =
     let rest = g.S.BlockStore.rest a.store in
     let P : Result Reached Refusal → Type 0 = λ r. Reaches zone rest.slots c.deref.result.now c.args.handle r in
     tells-none g.K.PurgeSink.told _ c.args.sink.now
-    (not_reached-gone c.args.self.now zone rest a.names.items a.log c.self.view_is
+    (not_reached-gone c.args.self.now.memory zone rest a.names.items a.log (memory_as c.self.view_is)
     (set_handle_size_gone c.args.handle c.args.size) c.in_default.field-0 c.args.handle _ c.deref.ensures.value
     (subst P c.in_default.is c.reach.ensures) (nothing-sized c.args.handle c.args.size _))
 
@@ -34,7 +35,8 @@ returns-clause-told g c =
     (subst P c.in-Ok.is c.reach.ensures) in
     let same = ap (λ (e : List Anchor). fitted_gone e (is_relocatable held.slot) (One held.slot) c.args.size zone)
     c.deref-2.ensures.value
-    ∙ set_handle_size-gone c.args.self.now zone rest a.names.items a.log c.self.view_is c.self.invariant c.args.handle
+    ∙ set_handle_size-gone c.args.self.now.memory zone rest a.names.items a.log (memory_as c.self.view_is)
+    c.self.invariant c.args.handle
     held there c.args.size in
     on_ok_weaker c.tell_fit.result
     (λ told listens. subst (λ (l : List Gone). Tells g.K.PurgeSink.told l c.args.sink.now c.tell_fit.new.sink) same told)

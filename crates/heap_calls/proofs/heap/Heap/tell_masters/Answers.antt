@@ -8,6 +8,7 @@ use Rattle.heap_calls.specs.Answer.{nothing}
 use Rattle.heap_calls.specs.Gone.{Gone, Tells, more_masters_gone}
 use Rattle.heap_calls.specs.Inner.Telling.{base_gone}
 use Rattle.heap_calls.proofs.GoneBlocks.{base_gone-is}
+use Rattle.heap_calls.proofs.Numbering.Memories.{memory_as}
 use Rattle.heap_calls.proofs.heap.Heap.tell_masters.Goals as goal
 
 pub returns-clause-told : goal.returns-clause-told
@@ -19,7 +20,7 @@ returns-clause-told g c =
     let row = base_gone-is zone rest es (g.met.S.BlockStore.masters a.store) c.self.invariant nothing Nothing
     (λ b. refl) refl (λ b. refl) Masters in
     let same = ap (λ (e : List Anchor). base_gone e 272 Nothing zone) c.deref.ensures.value ∙ row
-    ∙ ap (λ (m : Memory). more_masters_gone m.heap) c.self.view_is in
+    ∙ ap (λ (m : Memory). more_masters_gone m.heap) (memory_as c.self.view_is) in
     on_ok_weaker c.tell_masters.result
     (λ told listens. subst (λ (l : List Gone). Tells g.K.PurgeSink.told l c.args.sink.now c.tell_masters.new.sink)
     same (told listens))

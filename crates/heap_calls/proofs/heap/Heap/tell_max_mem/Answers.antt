@@ -9,6 +9,7 @@ use Rattle.heap_calls.specs.declared.anchor.Anchor.{Anchor}
 use Rattle.heap_calls.specs.Inner.Telling.{gone_from, blocks_from}
 use Rattle.heap_calls.proofs.GoneBlocks.{told-all, edge-bottom}
 use Rattle.heap_calls.proofs.Numbering.PurgeTrials.{purgeable-rename}
+use Rattle.heap_calls.proofs.Numbering.Memories.{memory_as}
 use Rattle.heap_calls.proofs.heap.Heap.tell_max_mem.Goals as goal
 
 pub tell-requires-clause-edge : goal.tell-requires-clause-edge
@@ -20,11 +21,12 @@ returns-clause-told g c =
     let zone = g.S.BlockStore.zone a.store in
     let rest = g.S.BlockStore.rest a.store in
     let es = a.names.items in
-    let now = c.args.self.now in
+    let now = c.args.self.now.memory in
     let K = g.K.PurgeSink in
-    let row = ap (λ (m : Memory). purgeable m.heap.zone) (sym c.self.view_is)
+    let row = ap (λ (m : Memory). purgeable m.heap.zone) (sym (memory_as c.self.view_is))
     ∙ purgeable-rename (handle_number es) (pointer_number es) zone in
-    let same = told-all now zone rest es a.log c.purgeable-purges.result (purgeable now.heap.zone) c.self.view_is
+    let same = told-all now zone rest es a.log c.purgeable-purges.result (purgeable now.heap.zone) (memory_as
+    c.self.view_is)
     (c.purgeable-purges.ensures ∙ sym row) in
     on_ok_weaker c.tell.result (λ told listens. subst (λ (l : List Gone). Tells K.told l c.args.sink.now c.tell.new.sink)
     (ap (λ (e : List Anchor). gone_from e Nothing c.purgeable-purges.result (blocks_from 0 zone)) c.deref.ensures.value ∙ same) told)

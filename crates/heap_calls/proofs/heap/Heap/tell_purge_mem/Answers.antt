@@ -7,6 +7,7 @@ use Rattle.heap_calls.specs.declared.anchor.Anchor.{Anchor}
 use Rattle.heap_calls.specs.Inner.Telling.{gone_from, blocks_from}
 use Rattle.heap_calls.proofs.GoneBlocks.{told-all, edge-bottom}
 use Rattle.heap_calls.proofs.Numbering.PurgeTrials.{purge_mem_searches-is}
+use Rattle.heap_calls.proofs.Numbering.Memories.{memory_as}
 use Rattle.heap_calls.proofs.heap.Heap.tell_purge_mem.Goals as goal
 
 pub tell-requires-clause-edge : goal.tell-requires-clause-edge
@@ -18,11 +19,11 @@ returns-clause-told g c =
     let zone = g.S.BlockStore.zone a.store in
     let rest = g.S.BlockStore.rest a.store in
     let es = a.names.items in
-    let now = c.args.self.now in
+    let now = c.args.self.now.memory in
     let K = g.K.PurgeSink in
     let many = c.purges_for-purges.ensures ∙ ap (λ (p : Option ℕ). blocks_purged p zone) c.phys.ensures in
-    let row = purge_mem_searches-is now c.args.size zone rest es a.log c.self.view_is in
-    let same = told-all now zone rest es a.log c.purges_for-purges.result _ c.self.view_is
+    let row = purge_mem_searches-is now c.args.size zone rest es a.log (memory_as c.self.view_is) in
+    let same = told-all now zone rest es a.log c.purges_for-purges.result _ (memory_as c.self.view_is)
     (omega (arith, many, row)) in
     on_ok_weaker c.tell.result (λ told listens. subst (λ (l : List Gone). Tells K.told l c.args.sink.now c.tell.new.sink)
     (ap (λ (e : List Anchor). gone_from e Nothing c.purges_for-purges.result (blocks_from 0 zone)) c.deref.ensures.value ∙ same) told)

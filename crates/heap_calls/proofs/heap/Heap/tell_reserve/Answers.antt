@@ -8,6 +8,7 @@ use Rattle.heap_calls.specs.Answer.{nothing}
 use Rattle.heap_calls.specs.Gone.{Gone, Tells, reserve_gone}
 use Rattle.heap_calls.specs.Inner.Telling.{base_gone}
 use Rattle.heap_calls.proofs.GoneBlocks.{base_gone-is}
+use Rattle.heap_calls.proofs.Numbering.Memories.{memory_as}
 use Rattle.heap_calls.proofs.heap.Heap.tell_reserve.Goals as goal
 
 pub returns-clause-told : goal.returns-clause-told
@@ -19,8 +20,8 @@ returns-clause-told g c =
     let row = base_gone-is zone rest es (g.met.S.BlockStore.masters a.store) c.self.invariant nothing Nothing
     (λ b. refl) refl (λ b. refl) (Free c.in-Some.bytes) in
     let same = ap (λ (e : List Anchor). base_gone e c.in-Some.bytes Nothing zone) c.deref.ensures.value ∙ row
-    ∙ ap (λ (m : Memory). reserve_gone (Some c.in-Some.bytes) m.heap) c.self.view_is in
-    let wanted = ap (λ (p : Option ℕ). reserve_gone p c.args.self.now.heap)
+    ∙ ap (λ (m : Memory). reserve_gone (Some c.in-Some.bytes) m.heap) (memory_as c.self.view_is) in
+    let wanted = ap (λ (p : Option ℕ). reserve_gone p c.args.self.now.memory.heap)
     (sym (c.phys.ensures) ∙ c.in-Some.is) in
     on_ok_weaker c.tell_base.result
     (λ told listens. subst (λ (l : List Gone). Tells g.K.PurgeSink.told l c.args.sink.now c.tell_base.new.sink)

@@ -7,6 +7,7 @@ use Rattle.heap_calls.proofs.Numbering.Answering.{refused_for, found_in, at_plac
 use Rattle.heap_calls.proofs.Numbering.Changing.{written-done, written-outside, agrees-same, nonrelocatable-at}
 use Rattle.heap_calls.proofs.Room.Staying.{nonrelocatable-spot, alike-content, nonrelocatable-same, nonrelocatable-then}
 use Rattle.heap_calls.proofs.Numbering.Reserved.{fits-same}
+use Rattle.heap_calls.proofs.Numbering.Memories.{memory_as}
 use Rattle.heap_calls.proofs.heap.Heap.write_block.Goals as goal
 use Rattle.heap_calls.proofs.heap.Heap.write_block.Goals.{then-bytes-len-via-then-bytes-len}
 use Rattle.heap_calls.proofs.heap.Heap.write_block.Goals.{then-bytes-len-via-else-bytes-len+then-from-len}
@@ -18,7 +19,7 @@ returns-in_err-place-clause-answer g c =
     let found = found_in (g.S.BlockStore.zone a.store) (g.S.BlockStore.rest a.store).slots a.names.items _ c.args.handle
     (Err c.in_err-place.field-0.0) c.deref.ensures.value c.in_err-place.ensures in
     rw (p.1, p.2) (refused_for c.in_err-place.field-0.0 (g.S.BlockStore.zone a.store) (g.S.BlockStore.rest a.store)
-    a.names.items a.log c.args.handle c.args.self.now c.self.view_is found
+    a.names.items a.log c.args.handle c.args.self.now.memory (memory_as c.self.view_is) found
     (λ s k. written_at c.args.from c.args.bytes.now k.at s))
 
 pub returns-then-bytes-len-clause-answer : goal.returns-then-bytes-len-clause-answer
@@ -33,8 +34,9 @@ returns-then-bytes-len-clause-answer g c =
       | then-bytes-len-via-then-bytes-len w ↦ omega arith
       | then-bytes-len-via-else-bytes-len+then-from-len w ↦ omega arith
     ] in
-    written-outside c.args.self.now (g.S.BlockStore.zone a.store) (g.S.BlockStore.rest a.store) a.names.items a.log
-    (look_up c.args.handle) found.0 c.args.from c.args.bytes.now found.1 c.self.view_is found.2 past
+    written-outside c.args.self.now.memory (g.S.BlockStore.zone a.store) (g.S.BlockStore.rest a.store) a.names.items
+    a.log
+    (look_up c.args.handle) found.0 c.args.from c.args.bytes.now found.1 (memory_as c.self.view_is) found.2 past
 
 pub invariant_of-self : goal.invariant_of-self
 invariant_of-self g c =
@@ -67,9 +69,9 @@ returns-clause-answer g c =
     let bytes = at_place c.in_ok-place.place (g.S.BlockStore.zone a.store) found.1
     (λ s. c.bytes-len.result.now ≡ content_of s.here) found.3 c.bytes-len.ensures in
     let n : length c.bytes-len.result.now ≡ length (content_of found.1.here) = ap length bytes in
-    written-done c.args.self.now (g.S.BlockStore.zone a.store) (g.S.BlockStore.zone c.write.new.self)
+    written-done c.args.self.now.memory (g.S.BlockStore.zone a.store) (g.S.BlockStore.zone c.write.new.self)
     (g.S.BlockStore.rest a.store) (g.S.BlockStore.rest c.write.new.self) a.names.items a.log (look_up c.args.handle)
-    found.0 c.args.from c.args.bytes.now found.1 c.self.view_is found.2 c.write.ensures.rest
+    found.0 c.args.from c.args.bytes.now found.1 (memory_as c.self.view_is) found.2 c.write.ensures.rest
     (omega arith) done
 
 pub same-self : goal.same-self

@@ -8,6 +8,7 @@ use Rattle.heap_calls.proofs.Numbering.Answering.{at_place}
 use Rattle.heap_calls.proofs.Numbering.Changing.{written-done, written-outside, agrees-same, nonrelocatable-at}
 use Rattle.heap_calls.proofs.Room.Staying.{nonrelocatable-spot, alike-content, nonrelocatable-same, nonrelocatable-then}
 use Rattle.heap_calls.proofs.Numbering.Pointing.{IsHeld, pointer-held}
+use Rattle.heap_calls.proofs.Numbering.Memories.{memory_as}
 use Rattle.heap_calls.proofs.heap.Heap.write_pointer.Given.{Over}
 use Rattle.heap_calls.proofs.heap.Heap.write_pointer.Goals.{In_ok-target}
 use Rattle.heap_calls.proofs.heap.Heap.write_pointer.Goals as goal
@@ -37,8 +38,10 @@ returns-then-bytes-len-clause-answer g c =
       | then-bytes-len-via-then-bytes-len w ↦ omega arith
       | then-bytes-len-via-else-bytes-len+then-from-len w ↦ omega arith
     ] in
-    written-outside c.args.self.now (g.S.BlockStore.zone a.store) (g.S.BlockStore.rest a.store) a.names.items a.log
-    (pointed_at c.args.pointer) c.in_ok-target.target.number c.args.from c.args.bytes.now there.s c.self.view_is
+    written-outside c.args.self.now.memory (g.S.BlockStore.zone a.store) (g.S.BlockStore.rest a.store) a.names.items
+    a.log
+    (pointed_at c.args.pointer) c.in_ok-target.target.number c.args.from c.args.bytes.now there.s (memory_as
+    c.self.view_is)
     there.looked past
 
 pub write-requires : goal.write-requires
@@ -81,7 +84,7 @@ returns-clause-answer g c =
     let bytes = at_place c.in_ok-target.target.place zone there.s (λ s. c.bytes-len.result.now ≡ content_of s.here)
     there.at c.bytes-len.ensures in
     let n : length c.bytes-len.result.now ≡ length (content_of there.s.here) = ap length bytes in
-    written-done c.args.self.now zone zone' (g.S.BlockStore.rest a.store) (g.S.BlockStore.rest c.write.new.self)
+    written-done c.args.self.now.memory zone zone' (g.S.BlockStore.rest a.store) (g.S.BlockStore.rest c.write.new.self)
     a.names.items a.log (pointed_at c.args.pointer) c.in_ok-target.target.number c.args.from c.args.bytes.now
-    there.s c.self.view_is there.looked c.write.ensures.rest
+    there.s (memory_as c.self.view_is) there.looked c.write.ensures.rest
     (omega arith) done

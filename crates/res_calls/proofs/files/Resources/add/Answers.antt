@@ -21,12 +21,12 @@ returns-clause-answer g c =
     c.self.inside.next c.self.inside.loading c.self.inside.purging c.self.inside.error in
     subst (λ (q : Resources). IsAnswered (λ (u : Unit {0}). u)
     (changing.add_resource c.args.handle (big_number 4 c.args.ty.0) c.args.id c.args.name.now.0.items
-    (managers q c.args.heap.now)) c.add_with.result
-    (managers (chained c.add_with.new.files.items r) c.add_with.new.heap))
+    (managers q c.args.heap.now.memory)) c.add_with.result
+    (managers (chained c.add_with.new.files.items r) c.add_with.new.heap.memory))
     c.self.view_is
     (rw c.in-Some.is (on_role (λ (u : Unit {0}). u) (λ (k : Known). add_found k.role
     (new_reference (big_number 4 c.args.ty.0) c.args.id c.args.name.now.0.items k.number) k.number
-    (managers r c.args.heap.now)) c.in-Some.number (managers r c.args.heap.now) _ _
+    (managers r c.args.heap.now.memory)) c.in-Some.number (managers r c.args.heap.now.memory) _ _
     (sym c.is_handle.ensures ∙ c.if-not-is_handle.false)
     (λ role known. rw id at c.add_with.ensures.answer r role refl known)))
 
@@ -36,13 +36,13 @@ invariant_of-self g c =
     let r : Resources = resources_of c.self.inside.files.items c.self.inside.chain.items c.self.inside.current
     c.self.inside.next c.self.inside.loading c.self.inside.purging c.self.inside.error in
     answered_sound (λ (u : Unit {0}). u) (changing.add_resource (Some c.in-Some.number) (big_number 4 c.args.ty.0)
-    c.args.id c.args.name.now.0.items (managers r c.args.heap.now)) c.add_with.result r
-    (chained c.add_with.new.files.items r) c.add_with.new.heap c.self.invariant
+    c.args.id c.args.name.now.0.items (managers r c.args.heap.now.memory)) c.add_with.result r
+    (chained c.add_with.new.files.items r) c.add_with.new.heap.memory c.self.invariant
     (add_resource_sound (Some c.in-Some.number) (big_number 4 c.args.ty.0) c.args.id c.args.name.now.0.items
-    (managers r c.args.heap.now) c.self.invariant)
+    (managers r c.args.heap.now.memory) c.self.invariant)
     (on_role (λ (u : Unit {0}). u) (λ (k : Known). add_found k.role
     (new_reference (big_number 4 c.args.ty.0) c.args.id c.args.name.now.0.items k.number) k.number
-    (managers r c.args.heap.now)) c.in-Some.number (managers r c.args.heap.now) _ _
+    (managers r c.args.heap.now.memory)) c.in-Some.number (managers r c.args.heap.now.memory) _ _
     (sym c.is_handle.ensures ∙ c.if-not-is_handle.false)
     (λ role known. rw id at c.add_with.ensures.answer r role refl known))
     (λ e. ap (λ (l : List OpenFile). record r { chain = l }) (c.add_with.ensures.kept e))

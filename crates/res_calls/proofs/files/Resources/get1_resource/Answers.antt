@@ -15,11 +15,12 @@ returns-clause-answer g c =
     let id = to_z-of_z w16 c.args.id c.ranges.id in
     subst (λ (r : Resources). IsFetched
     (noting (fetch_wanted (within.Only r.current) (wanted.Id c.args.ty c.args.id) r.loading)
-    (managers c.args.self.now c.args.heap.now)) c.fetch_wanted.result
-    (managers c.fetch_wanted.new.self c.fetch_wanted.new.heap))
+    (managers c.args.self.now c.args.heap.now.memory)) c.fetch_wanted.result
+    (managers c.fetch_wanted.new.self c.fetch_wanted.new.heap.memory))
     c.self.view_is (rw id at c.fetch_wanted.ensures.answer)
 
 pub returns-clause-told : goal.returns-clause-told
 returns-clause-told g c some listens =
     told_current g.K.PurgeSink.told c.args.sink.now c.fetch_wanted.new.sink within.Only (wanted.Id c.args.ty c.args.id) _
-    c.args.self.now c.args.heap.now c.self.view_is (rw (to_z-of_z w16 c.args.id c.ranges.id) at c.fetch_wanted.ensures.told some listens)
+    c.args.self.now c.args.heap.now.memory c.self.view_is (rw (to_z-of_z w16 c.args.id c.ranges.id) at
+    c.fetch_wanted.ensures.told some listens)

@@ -12,11 +12,11 @@ pub returns-clause-answer : goal.returns-clause-answer
 returns-clause-answer g c =
     subst (λ (r : Resources). IsFetched
     (noting (fetch_wanted (within.UpTo r.current) (wanted.Named c.args.ty c.args.name) r.loading)
-    (managers c.args.self.now c.args.heap.now)) c.fetch_wanted.result
-    (managers c.fetch_wanted.new.self c.fetch_wanted.new.heap))
+    (managers c.args.self.now c.args.heap.now.memory)) c.fetch_wanted.result
+    (managers c.fetch_wanted.new.self c.fetch_wanted.new.heap.memory))
     c.self.view_is c.fetch_wanted.ensures.answer
 
 pub returns-clause-told : goal.returns-clause-told
 returns-clause-told g c some listens =
     told_current g.K.PurgeSink.told c.args.sink.now c.fetch_wanted.new.sink within.UpTo (wanted.Named c.args.ty c.args.name) _
-    c.args.self.now c.args.heap.now c.self.view_is (c.fetch_wanted.ensures.told some listens)
+    c.args.self.now c.args.heap.now.memory c.self.view_is (c.fetch_wanted.ensures.told some listens)

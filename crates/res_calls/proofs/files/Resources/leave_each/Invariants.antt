@@ -8,8 +8,8 @@ use Rattle.res_calls.proofs.files.Resources.leave_each.Given as goal
 -- files with what was replaced so far are the files as they were
 abbrev pub invariant-loop-alloc : goal.invariant-loop-alloc
 invariant-loop-alloc g l = record {
-  leaves : Leaves l.code (managers l.self l.heap) (managers l.fn.self l.fn.heap);
-  some : LeftSome (managers l.self l.heap) (managers l.fn.self l.fn.heap);
+  leaves : Leaves l.code (managers l.self l.heap.memory) (managers l.fn.self l.fn.heap.memory);
+  some : LeftSome (managers l.self l.heap.memory) (managers l.fn.self l.fn.heap.memory);
   undone : undone l.undo.items l.self.files ≡ undone l.fn.undo.items l.fn.self.files;
 }
 

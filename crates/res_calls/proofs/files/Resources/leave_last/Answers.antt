@@ -10,10 +10,10 @@ invariant_of-self-2 g c =
     let r : Resources = resources_of c.self.inside.files.items c.self.inside.chain.items c.self.inside.current
     c.self.inside.next c.self.inside.loading c.self.inside.purging c.self.inside.error in
     sound_left_last r c.args.self.now (stored_in c.update_last.new.files.items c.update_last.new.chain.items r)
-    c.args.heap.now c.in_ok-code.code
+    c.args.heap.now.memory c.in_ok-code.code
     (managers (resources_of c.update_last.new.files.items c.close_last-self-inside.new.chain.items
     c.close_last-self-inside.result c.self.inside.next c.self.inside.loading c.self.inside.purging c.self.inside.error)
-    c.close_last-self-inside.new.heap)
+    c.close_last-self-inside.new.heap.memory)
     c.self.view_is c.requires (c.in_ok-code.ensures.answer r)
     (c.close_last-self-inside.ensures.closed c.update_last.new.files.items r) c.self.invariant
 
@@ -22,10 +22,10 @@ returns-clause-code g c =
     let r : Resources = resources_of c.self.inside.files.items c.self.inside.chain.items c.self.inside.current
     c.self.inside.next c.self.inside.loading c.self.inside.purging c.self.inside.error in
     (last_left r c.args.self.now (stored_in c.update_last.new.files.items c.update_last.new.chain.items r)
-    c.args.heap.now c.in_ok-code.code
+    c.args.heap.now.memory c.in_ok-code.code
     (managers (resources_of c.update_last.new.files.items c.close_last-self-inside.new.chain.items
     c.close_last-self-inside.result c.self.inside.next c.self.inside.loading c.self.inside.purging c.self.inside.error)
-    c.close_last-self-inside.new.heap)
+    c.close_last-self-inside.new.heap.memory)
     c.self.view_is c.requires (c.in_ok-code.ensures.answer r)
     (c.close_last-self-inside.ensures.closed c.update_last.new.files.items r)).0
 
@@ -34,9 +34,9 @@ returns-clause-after g c =
     let r : Resources = resources_of c.self.inside.files.items c.self.inside.chain.items c.self.inside.current
     c.self.inside.next c.self.inside.loading c.self.inside.purging c.self.inside.error in
     (last_left r c.args.self.now (stored_in c.update_last.new.files.items c.update_last.new.chain.items r)
-    c.args.heap.now c.in_ok-code.code
+    c.args.heap.now.memory c.in_ok-code.code
     (managers (resources_of c.update_last.new.files.items c.close_last-self-inside.new.chain.items
     c.close_last-self-inside.result c.self.inside.next c.self.inside.loading c.self.inside.purging c.self.inside.error)
-    c.close_last-self-inside.new.heap)
+    c.close_last-self-inside.new.heap.memory)
     c.self.view_is c.requires (c.in_ok-code.ensures.answer r)
     (c.close_last-self-inside.ensures.closed c.update_last.new.files.items r)).1

@@ -9,7 +9,7 @@ use Rattle.res_calls.proofs.files.Resources.open_named.Goals as goal
 
 pub returns-in-Some-place_of_file-clause-answer : goal.returns-in-Some-place_of_file-clause-answer
 returns-in-Some-place_of_file-clause-answer g c = open_already c.args.name.now.0.items c.in-Some.at
-    c.in-Some-place_of_file.open c.args.self.now c.args.heap.now c.deref.result.now c.self.inside.chain.items
+    c.in-Some-place_of_file.open c.args.self.now c.args.heap.now.memory c.deref.result.now c.self.inside.chain.items
     c.index.result.now (ap (map view_file) c.deref.ensures.value ∙ ap (λ (r : Resources). r.files) c.self.view_is)
     (ap (λ (r : Resources). r.chain) c.self.view_is) c.in-Some.ensures.found
     (rw c.deref-2.ensures.value at c.in-Some-place_of_file.ensures.found)
@@ -17,7 +17,7 @@ returns-in-Some-place_of_file-clause-answer g c = open_already c.args.name.now.0
 
 pub returns-in-None-clause-answer : goal.returns-in-None-clause-answer
 returns-in-None-clause-answer g c = open_anew c.args.name.now.0.items c.in-Some.at c.args.self.now
-    c.args.heap.now c.deref.result.now c.self.inside.chain.items _ _
+    c.args.heap.now.memory c.deref.result.now c.self.inside.chain.items _ _
     (ap (map view_file) c.deref.ensures.value ∙ ap (λ (r : Resources). r.files) c.self.view_is)
     (ap (λ (r : Resources). r.chain) c.self.view_is) c.in-Some.ensures.found
     (rw c.deref-2.ensures.value at c.in-None.ensures.found) c.open_at.ensures.answer
@@ -25,17 +25,17 @@ returns-in-None-clause-answer g c = open_anew c.args.name.now.0.items c.in-Some.
 pub returns-in_default-clause-answer : goal.returns-in_default-clause-answer
 returns-in_default-clause-answer g c = name_missing c.args.name.now.0.items c.deref.result.now c.args.self.now
     (ap (map view_file) c.deref.ensures.value ∙ ap (λ (r : Resources). r.files) c.self.view_is)
-    c.in_default.ensures.found c.args.heap.now
+    c.in_default.ensures.found c.args.heap.now.memory
 
 pub returns-in_default-clause-told : goal.returns-in_default-clause-told
 returns-in_default-clause-told g c = λ some listens. gone_missing g.K.PurgeSink.told c.args.sink.now
-    c.args.name.now.0.items c.deref.result.now c.args.self.now c.args.heap.now
+    c.args.name.now.0.items c.deref.result.now c.args.self.now c.args.heap.now.memory
     (ap (map view_file) c.deref.ensures.value ∙ ap (λ (r : Resources). r.files) c.self.view_is)
     c.in_default.ensures.found
 
 pub returns-in-Some-place_of_file-clause-told : goal.returns-in-Some-place_of_file-clause-told
 returns-in-Some-place_of_file-clause-told g c = λ some listens. gone_already g.K.PurgeSink.told c.args.sink.now
-    c.args.name.now.0.items c.in-Some.at c.in-Some-place_of_file.open c.args.self.now c.args.heap.now
+    c.args.name.now.0.items c.in-Some.at c.in-Some-place_of_file.open c.args.self.now c.args.heap.now.memory
     c.deref.result.now c.self.inside.chain.items
     (ap (map view_file) c.deref.ensures.value ∙ ap (λ (r : Resources). r.files) c.self.view_is)
     (ap (λ (r : Resources). r.chain) c.self.view_is) c.in-Some.ensures.found
@@ -43,14 +43,16 @@ returns-in-Some-place_of_file-clause-told g c = λ some listens. gone_already g.
 
 pub returns-in-None-clause-told : goal.returns-in-None-clause-told
 returns-in-None-clause-told g c = gone_anew g.K.PurgeSink.told c.args.sink.now c.open_at.new.sink
-    c.args.name.now.0.items c.in-Some.at c.args.self.now c.args.heap.now c.deref.result.now c.self.inside.chain.items
+    c.args.name.now.0.items c.in-Some.at c.args.self.now c.args.heap.now.memory c.deref.result.now
+    c.self.inside.chain.items
     _ _ (ap (map view_file) c.deref.ensures.value ∙ ap (λ (r : Resources). r.files) c.self.view_is)
     (ap (λ (r : Resources). r.chain) c.self.view_is) c.in-Some.ensures.found
     (rw c.deref-2.ensures.value at c.in-None.ensures.found) c.open_at.ensures.told
 
 pub returns-in-None-clause-stopped : goal.returns-in-None-clause-stopped
 returns-in-None-clause-stopped g c = stopped_anew g.K.PurgeSink.told g.S.BlockStore.TAKES_HOST
-    c.args.name.now.0.items c.in-Some.at c.args.self.now c.args.heap.now c.deref.result.now c.self.inside.chain.items
+    c.args.name.now.0.items c.in-Some.at c.args.self.now c.args.heap.now.memory c.deref.result.now
+    c.self.inside.chain.items
     _ _ c.args.sink.now c.open_at.new.sink
     (ap (map view_file) c.deref.ensures.value ∙ ap (λ (r : Resources). r.files) c.self.view_is)
     (ap (λ (r : Resources). r.chain) c.self.view_is) c.in-Some.ensures.found

@@ -13,6 +13,6 @@ invariant_of-self g c =
     answered_in (λ (u : Unit {0}). u) (Some c.in-Some.number) (release_found (Some c.in-Some.number))
     (release_found_sound (Some c.in-Some.number)) c.self.inside.chain.items
     c.release_at.new.files.items
-    r c.args.self.now c.in-Some-find_handle.at c.args.heap.now
-    c.release_at.new.heap c.release_at.result c.self.invariant c.self.view_is c.in-Some-find_handle.ensures.found
+    r c.args.self.now c.in-Some-find_handle.at c.args.heap.now.memory
+    c.release_at.new.heap.memory c.release_at.result c.self.invariant c.self.view_is c.in-Some-find_handle.ensures.found
     c.in-Some-find_handle.ensures.placed (c.release_at.ensures.answer r) (λ e. absurd (c.release_at.ensures.host e))

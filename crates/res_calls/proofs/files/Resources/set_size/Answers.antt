@@ -12,6 +12,6 @@ invariant_of-self g c =
     c.self.inside.next c.self.inside.loading c.self.inside.purging c.self.inside.error in
     answered_in (λ (u : Unit {0}). u) (Some c.in-Some.number) (set_size_found (Some c.in-Some.number) c.args.size)
     (set_size_found_sound c.args.size (Some c.in-Some.number)) c.self.inside.chain.items
-    c.resize_at.new.files.items r c.args.self.now c.in-Some-find_handle.at c.args.heap.now c.args.heap.now
+    c.resize_at.new.files.items r c.args.self.now c.in-Some-find_handle.at c.args.heap.now.memory c.args.heap.now.memory
     c.resize_at.result c.self.invariant c.self.view_is c.in-Some-find_handle.ensures.found
     c.in-Some-find_handle.ensures.placed (c.resize_at.ensures.answer r) c.resize_at.ensures.kept

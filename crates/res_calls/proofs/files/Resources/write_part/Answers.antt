@@ -18,7 +18,7 @@ invariant_of-self g c =
     answered_in (λ (u : Unit {0}). u) (Some c.in-Some.number)
     (write_part_found (Some c.in-Some.number) c.args.offset c.args.bytes.now)
     (write_part_found_sound c.args.offset c.args.bytes.now (Some c.in-Some.number)) c.self.inside.chain.items
-    c.write_at.new.files.items r c.args.self.now c.in-Some-find_handle.at c.args.heap.now c.args.heap.now
+    c.write_at.new.files.items r c.args.self.now c.in-Some-find_handle.at c.args.heap.now.memory c.args.heap.now.memory
     c.write_at.result c.self.invariant c.self.view_is c.in-Some-find_handle.ensures.found
     c.in-Some-find_handle.ensures.placed (c.write_at.ensures.answer r) c.write_at.ensures.kept
 
@@ -26,7 +26,7 @@ pub returns-clause-answer : goal.returns-clause-answer
 returns-clause-answer g c =
     let r : Resources = resources_of c.self.inside.files.items c.self.inside.chain.items c.self.inside.current
     c.self.inside.next c.self.inside.loading c.self.inside.purging c.self.inside.error in
-    let m : Memory = c.args.heap.now in
+    let m : Memory = c.args.heap.now.memory in
     rw c.in-Some.is (subst (λ (q : Resources). IsAnswered (λ (u : Unit {0}). u)
     (partial.write_partial_resource (Some c.in-Some.number) c.args.offset c.args.bytes.now (managers q m))
     c.write_at.result (managers (chained c.write_at.new.files.items r) m)) c.self.view_is
