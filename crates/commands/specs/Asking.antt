@@ -1,8 +1,10 @@
 use Rattle.std.specs.Prelude.{◌≡◌, ◌⊎◌, ℕ, Option, Some, None, List, [], ◌∷◌, ◌++◌, codes}
 use Rattle.fork_commands.specs.declared.work.ForkWork.{ForkWork}
-use Rattle.fork_commands.specs.declared.work.ForkWork.TheVariants.{Get, Rewrite, Derez, Rez}
+use Rattle.fork_commands.specs.declared.work.ForkWork.TheVariants.{Get, Rewrite, Change, Derez, Rez}
+use Rattle.fork_commands.specs.declared.editing.Edit.{Edit}
+use Rattle.fork_commands.specs.declared.editing.Edit.TheVariants.{Remove, Rename}
 use Rattle.fork_commands.specs.declared.pair.PairWork.{PairWork}
-use Rattle.fork_commands.specs.declared.pair.PairWork.TheVariants.{Set, Diff}
+use Rattle.fork_commands.specs.declared.pair.PairWork.TheVariants.{Set, Diff, RezInto, Wrap, Merge}
 use Rattle.commands.specs.declared.delivering.Target.{Target}
 use Rattle.commands.specs.declared.delivering.Target.TheVariants.{Printed, NewFile}
 use Rattle.commands.specs.declared.tasks.Work.{Work}
@@ -22,11 +24,17 @@ look_word work.Check = codes "check"
 abbrev pub print_word : ForkWork → Option (List ℕ)
 print_word (Get key) = Some (codes "get")
 print_word Derez = Some (codes "derez")
-print_word Rewrite = None
+print_word (Rewrite packaging) = None
+print_word (Change edit packaging) = None
 print_word Rez = None
 
+abbrev pub edit_word : Edit → List ℕ
+edit_word (Remove key) = codes "remove"
+edit_word (Rename key new) = codes "rename"
+
 abbrev pub write_word : ForkWork → Option (List ℕ)
-write_word Rewrite = Some (codes "rewrite")
+write_word (Rewrite packaging) = Some (codes "rewrite")
+write_word (Change edit packaging) = Some (edit_word edit)
 write_word Rez = Some (codes "rez")
 write_word (Get key) = None
 write_word Derez = None
@@ -35,11 +43,17 @@ abbrev pub convert_word : ForkWork → Target → Option (List ℕ)
 convert_word w Printed = print_word w
 convert_word w (NewFile path) = write_word w
 
+abbrev pub word_into : Target → List ℕ → Option (List ℕ)
+word_into Printed word = None
+word_into (NewFile path) word = Some word
+
 abbrev pub combine_word : PairWork → Target → Option (List ℕ)
 combine_word Diff Printed = Some (codes "diff")
 combine_word Diff (NewFile path) = None
-combine_word (Set setting) Printed = None
-combine_word (Set setting) (NewFile path) = Some (codes "set")
+combine_word (Set setting packaging) target = word_into target (codes "set")
+combine_word RezInto target = word_into target (codes "rez")
+combine_word Wrap target = word_into target (codes "wrap")
+combine_word (Merge replaces packaging) target = word_into target (codes "merge")
 
 abbrev pub command_of : Request → Option (List ℕ)
 command_of (Look task) = Some (look_word task.work)
@@ -70,13 +84,18 @@ abbrev pub path_in : Target → List (List ℕ)
 path_in Printed = []
 path_in (NewFile path) = path.now ∷ []
 
+-- The paths of two files, and that of a new file, are named: the file into which a fork is put is the value of `--into`.
+abbrev pub NamesTwo : PairWork → List ℕ → List ℕ → Target → List (List ℕ) → Type 0
+NamesTwo RezInto first second target words = HasValue words (codes "--into") first × StandIn words (second ∷ path_in target)
+NamesTwo _ first second target words = StandIn words (first ∷ second ∷ path_in target)
+
 -- The words after the command's name all that the request names, in the order of the command's arguments.
 abbrev pub Names : Request → List (List ℕ) → Type 0
 Names (Look task) words = StandIn words (task.path.now ∷ [])
 Names (Run errand) words = StandIn words (errand.job.now ∷ errand.out.now ∷ [])
 Names (Show zone) words = HasValue words (codes "--job") zone.job.now × HasValue words (codes "--app") zone.app.now
 Names (Convert c) words = StandIn words (c.path.now ∷ path_in c.target)
-Names (Combine c) words = StandIn words (c.first.now ∷ c.second.now ∷ path_in c.target)
+Names (Combine c) words = NamesTwo c.work c.first.now c.second.now c.target words
 Names (Extract e) words = StandIn words (e.fork.now ∷ e.out.now ∷ [])
 
 -- The words ask for the request.

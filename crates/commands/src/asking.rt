@@ -1,13 +1,14 @@
 //! Whether the words of a command line ask for a request: a test of what the parser of the words answers.
 
 ghost use Rattle.std.specs.Prelude.{◌≡◌, ◌≤◌, ◌++◌, ◌∷◌, [], ℕ, List, map, drop, length, option_map, codes, IsTrue};
-ghost use Rattle.commands.specs.Asking.{look_word, print_word, write_word, convert_word, combine_word, command_of};
-ghost use Rattle.commands.specs.Asking.{StandIn, HasValue, Names, IsAskedBy, path_in};
+ghost use Rattle.commands.specs.Asking.{look_word, print_word, edit_word, write_word, convert_word, combine_word, command_of, word_into};
+ghost use Rattle.commands.specs.Asking.{StandIn, HasValue, Names, NamesTwo, IsAskedBy, path_in};
 
+use crate::combining::Combination;
 use crate::delivering::Target;
 use crate::request::Request;
 use crate::tasks::Work;
-use fork_commands::{ForkWork, PairWork};
+use fork_commands::{Edit, ForkWork, PairWork};
 
 /// Returns the command that prints something of a file.
 fn look_word(work: Work) -> &'static str
@@ -22,23 +23,35 @@ fn look_word(work: Work) -> &'static str
 }
 
 /// Returns the command that prints what a work makes of a file.
-fn print_word(work: ForkWork) -> Option<&'static str>
-    ensures { option_map (λ word. word.now) result ≡ print_word work }
+fn print_word(work: ForkWork<'_>) -> Option<&'static str>
+    ensures { option_map (λ word. word.now) result ≡ print_word work.entry }
 {
     match work {
         ForkWork::Get(_) => Some("get"),
         ForkWork::Derez => Some("derez"),
-        ForkWork::Rewrite => None,
+        ForkWork::Rewrite(_) => None,
+        ForkWork::Change(_, _) => None,
         ForkWork::Rez => None,
     }
 }
 
+/// Returns the command that makes an edit of a fork.
+fn edit_word(edit: Edit<'_>) -> &'static str
+    ensures { result.now ≡ edit_word edit.entry }
+{
+    match edit {
+        Edit::Remove(_) => "remove",
+        Edit::Rename(_, _) => "rename",
+    }
+}
+
 /// Returns the command that writes what a work makes of a file into a new one.
-fn write_word(work: ForkWork) -> Option<&'static str>
-    ensures { option_map (λ word. word.now) result ≡ write_word work }
+fn write_word(work: ForkWork<'_>) -> Option<&'static str>
+    ensures { option_map (λ word. word.now) result ≡ write_word work.entry }
 {
     match work {
-        ForkWork::Rewrite => Some("rewrite"),
+        ForkWork::Rewrite(_) => Some("rewrite"),
+        ForkWork::Change(edit, _) => Some(edit_word(edit)),
         ForkWork::Rez => Some("rez"),
         ForkWork::Get(_) => None,
         ForkWork::Derez => None,
@@ -46,12 +59,22 @@ fn write_word(work: ForkWork) -> Option<&'static str>
 }
 
 /// Returns the command that makes something of a file.
-fn convert_word(work: ForkWork, target: Target<'_>) -> Option<&'static str>
-    ensures { option_map (λ word. word.now) result ≡ convert_word work target.entry }
+fn convert_word(work: ForkWork<'_>, target: Target<'_>) -> Option<&'static str>
+    ensures { option_map (λ word. word.now) result ≡ convert_word work.entry target.entry }
 {
     match target {
         Target::Printed => print_word(work),
         Target::NewFile(_) => write_word(work),
+    }
+}
+
+/// Returns a command that writes into a new file, where what is made goes into one.
+fn in_file(target: Target<'_>, word: &'static str) -> Option<&'static str>
+    ensures { option_map (λ w. w.now) result ≡ word_into target.entry word.now }
+{
+    match target {
+        Target::Printed => None,
+        Target::NewFile(_) => Some(word),
     }
 }
 
@@ -64,10 +87,10 @@ fn combine_word(work: PairWork<'_>, target: Target<'_>) -> Option<&'static str>
             Target::Printed => Some("diff"),
             Target::NewFile(_) => None,
         },
-        PairWork::Set(_) => match target {
-            Target::Printed => None,
-            Target::NewFile(_) => Some("set"),
-        },
+        PairWork::Set(_, _) => in_file(target, "set"),
+        PairWork::RezInto => in_file(target, "rez"),
+        PairWork::Wrap => in_file(target, "wrap"),
+        PairWork::Merge(_, _) => in_file(target, "merge"),
     }
 }
 
@@ -156,6 +179,27 @@ fn both_stand_with(words: &[&str], first: &str, second: &str, target: Target<'_>
     }
 }
 
+/// Reports whether words name the paths of two files, and that of a new file.
+fn name_two(words: &[&str], combination: &Combination<'_>) -> bool
+    ensures { IsTrue result → NamesTwo combination.now.work combination.now.first.now combination.now.second.now
+        combination.now.target (map (λ w. w.now) words.entry.now) }
+{
+    match combination.work {
+        PairWork::RezInto => {
+            has_value(words, "--into", "--into=", combination.first)
+                && stand_with(words, combination.second, combination.target)
+        }
+        PairWork::Set(_, _) | PairWork::Diff | PairWork::Wrap | PairWork::Merge(_, _) => {
+            both_stand_with(
+                words,
+                combination.first,
+                combination.second,
+                combination.target,
+            )
+        }
+    }
+}
+
 /// Reports whether words name all that a request names.
 fn names(words: &[&str], request: &Request<'_>) -> bool
     ensures { IsTrue result → Names request.now (map (λ w. w.now) words.entry.now) }
@@ -168,14 +212,7 @@ fn names(words: &[&str], request: &Request<'_>) -> bool
                 && has_value(words, "--app", "--app=", zone.app)
         }
         Request::Convert(conversion) => stand_with(words, conversion.path, conversion.target),
-        Request::Combine(combination) => {
-            both_stand_with(
-                words,
-                combination.first,
-                combination.second,
-                combination.target,
-            )
-        }
+        Request::Combine(combination) => name_two(words, combination),
         Request::Extract(extraction) => stand_in(words, &[extraction.fork, extraction.out]),
     }
 }

@@ -8,11 +8,11 @@ use crate::converting::Conversion;
 use crate::delivering::Target;
 use crate::extracting::Extraction;
 use crate::fault::ToolFault;
-use crate::parsing::{argument, bad_value, option, value};
+use crate::parsing::{argument, bad_value, flag, mistake, option, value};
 use crate::request::Request;
 use clap::{ArgMatches, Command};
-use fork_commands::{ForkWork, PairWork, ResourceKey, Setting};
-use fork_edits::{read_attrs, read_type};
+use fork_commands::{Edit, ForkWork, Packaging, PairWork, ResourceKey, Setting};
+use fork_edits::{Renaming, read_attrs, read_type};
 use fork_format::RefName;
 use mac_words::Attrs;
 use std::alloc::{AllocError, Global};
@@ -31,12 +31,27 @@ const ID_RULE: &str = "the ID must be -32768 to 32767";
 
 const NEW_FORK_HELP: &str = "File that is made for the fork; it must not exist yet";
 
+const NEW_FILE_HELP: &str = "File that is made; it must not exist yet";
+
+/// The name of the flag for a fork without its wrapper, without its two hyphens.
+const BARE: &str = "bare";
+
+const BARE_HELP: &str = "Write the fork alone, also where FORK has a wrapper";
+
+/// The name of the option for the file into which a fork is put, without its two hyphens.
+const INTO: &str = "into";
+
+const INTO_HELP: &str = "File whose fork is replaced: OUT is this file with the new fork";
+
 const REWRITE_ABOUT: &str = "Writes the canonical fork of what a fork holds";
 
 const REWRITE_EXAMPLES: &str = "Example:
   macmem rewrite examples/OtherForm.rsrc OUT
 
-The canonical fork is the one for which 'macmem check' prints 'canonical'.
+OUT must not exist yet. The canonical fork is the one for which 'macmem check'
+prints 'canonical'. A fork in a wrapper (AppleSingle, AppleDouble, MacBinary) is
+written in it: OUT is FORK with another fork, and all else as it was; with
+--bare it is the fork alone.
 A fork that cannot be read is reported as 'macmem: FORK: fork CODE': -39
 (eofErr) no bytes, -199 (mapReadErr) damaged; so is one whose content fits no
 fork, as -34 (dskFulErr). A file that exists already is reported as
@@ -58,7 +73,7 @@ const EXTRACT_ABOUT: &str = "Writes the bytes of each resource into a file of it
 const EXTRACT_EXAMPLES: &str = "Example:
   macmem extract examples/Document.rsrc OUT
 
-makes the folder OUT with these files:
+makes the folder OUT, which must not exist yet, with these files:
   0001-STR_20-128-Greeting.bin
   0002-STR_20-129.bin
   0003-TEXT-128-Read_20me_20first.bin
@@ -78,9 +93,10 @@ const SET_ABOUT: &str = "Writes a fork in which a resource is replaced or added"
 const SET_EXAMPLES: &str = "Example:
   macmem set examples/Document.rsrc STR 128 FILE OUT --name Greeting --attrs 32
 
-The resource of the type and the ID gets the bytes of FILE, or is added if the
-fork has none. The fork is the canonical one, as of 'macmem rewrite'; FORK stays
-as it is. A resource that is there keeps its place, and its name and attributes
+OUT must not exist yet. The resource of the type and the ID gets the bytes of
+FILE, or is added if the fork has none. The fork is the canonical one, in the
+wrapper of FORK unless --bare is given, as of 'macmem rewrite'; FORK stays as it
+is. A resource that is there keeps its place, and its name and attributes
 if none are given; where two have the type and the ID, the first is replaced. A
 new resource comes after those of its type.
 Attributes are words with commas between them (sysheap, purgeable, locked,
@@ -101,6 +117,22 @@ const NAME_HELP: &str = "Name, of at most 255 bytes";
 /// The rule for a name, which is printed where the word is too long.
 const NAME_RULE: &str = "a name has at most 255 bytes";
 
+/// The name of the flag for no name, without its two hyphens.
+const NO_NAME: &str = "no-name";
+
+const NO_NAME_HELP: &str = "Take the name away";
+
+/// The name of the option for an ID, without its two hyphens.
+const NEW_ID: &str = "id";
+
+const NEW_ID_HELP: &str = "New ID, -32768 to 32767; no other resource of the type may have it";
+
+/// The mistake of a command to rename that gives nothing new.
+const NOTHING_NEW: &str = "one of --id, --name, --no-name and --attrs is required";
+
+/// The mistake of a command to rename that both gives and takes a name.
+const TWO_NAMES: &str = "--name and --no-name exclude each other";
+
 /// The name of the option for attributes, without its two hyphens.
 const ATTRS: &str = "attrs";
 
@@ -109,6 +141,30 @@ const ATTRS_HELP: &str = "Attributes, as purgeable,preload or 36 or $24";
 /// The rule for attributes, which is printed where the word is none.
 const ATTRS_RULE: &str = "attributes are written as purgeable,preload or 36 or $24";
 
+const REMOVE_ABOUT: &str = "Writes a fork from which a resource is taken out";
+
+const REMOVE_EXAMPLES: &str = "Example:
+  macmem remove examples/Document.rsrc STR 129 OUT
+
+OUT must not exist yet. It is the canonical fork of what is left, in the wrapper
+of FORK unless --bare is given, as of 'macmem rewrite'; FORK stays as it is.
+Where two resources have the type and the ID, the first is taken out. A type
+with no resource left goes too. A fork without such a resource is reported as
+'macmem: FORK: fork -192' (resNotFound).";
+
+const RENAME_ABOUT: &str = "Writes a fork in which a resource has another ID or name";
+
+const RENAME_EXAMPLES: &str = "Examples:
+  macmem rename examples/Document.rsrc STR 128 OUT --id 200 --name Welcome
+  macmem rename examples/Document.rsrc STR 128 OUT --no-name --attrs purgeable
+
+OUT must not exist yet. It is the canonical fork, in the wrapper of FORK unless
+--bare is given, as of 'macmem rewrite'; FORK stays as it is. The resource keeps
+its bytes, its place, and what no option names; where two have the type and the
+ID, the first is renamed. A fork without such a resource is reported as
+'macmem: FORK: fork -192' (resNotFound), and an ID that another resource of the
+type has as 'macmem: FORK: another resource of the type has the ID'.";
+
 const DEREZ_ABOUT: &str = "Prints what a fork holds as source of Rez";
 
 const DEREZ_EXAMPLES: &str = "Example:
@@ -116,7 +172,7 @@ const DEREZ_EXAMPLES: &str = "Example:
 
 prints, for the first resource:
   data 'STR ' (128, \"Greeting\", purgeable) {
-  \t$\"0548 656C 6C6F\"                                      /* .Hello */
+  \t$\"0548 656C 6C6F\"                                     /* .Hello */
   };
 
 'macmem rez' reads it again. The attributes of the map and the 240 bytes after
@@ -127,10 +183,12 @@ A fork that cannot be read is reported as 'macmem: FORK: fork CODE': -39
 
 const REZ_ABOUT: &str = "Writes the fork that a source of Rez states";
 
-const REZ_EXAMPLES: &str = "Example:
+const REZ_EXAMPLES: &str = "Examples:
   macmem rez SOURCE OUT
+  macmem rez --into FILE SOURCE OUT
 
-The source has statements 'data' as 'macmem derez' prints them, and the fork is
+OUT must not exist yet. It is the fork alone, or, with --into, FILE with that
+fork in the place of its own, in the wrapper of FILE. The source has statements 'data' as 'macmem derez' prints them, and the fork is
 the canonical one, as of 'macmem rewrite'. A source that cannot be read is
 reported by its first line that is wrong, as
 'macmem: SOURCE: line 3: a semicolon is needed'; one whose resources fit no
@@ -138,6 +196,39 @@ fork as 'macmem: SOURCE: fork -34' (dskFulErr). A file that exists already is
 reported as 'macmem: OUT: cannot write'.";
 
 const SOURCE_HELP: &str = "File with source of Rez, or /dev/stdin; it is only read";
+
+const WRAP_ABOUT: &str = "Writes a file with the fork of another in the place of its own";
+
+const WRAP_EXAMPLES: &str = "Example:
+  macmem wrap LIKE FORK OUT
+
+OUT must not exist yet. It is LIKE (AppleSingle, AppleDouble or MacBinary) with
+the bytes of the fork in FORK in the place of its own; data fork, type, creator,
+dates, name and all else are as they were.
+A fork that cannot be read is reported as 'macmem: FORK: fork CODE': -39
+(eofErr) no bytes, -199 (mapReadErr) damaged. A file that exists already is
+reported as 'macmem: OUT: cannot write'.";
+
+const MERGE_ABOUT: &str = "Writes a fork with the resources of two";
+
+const MERGE_EXAMPLES: &str = "Example:
+  macmem merge examples/Document.rsrc OTHER OUT
+
+OUT must not exist yet. It is the canonical fork, in the wrapper of FORK unless
+--bare is given, as of 'macmem rewrite', of the resources of FORK and, after
+those of each type, of OTHER; attributes of the map and the 240 bytes after the
+header are those of FORK. A resource whose type and ID stand in both is refused,
+as 'macmem: OTHER: 'STR ' 128 stands in both forks'; with --replace that of OTHER
+stands in its place.";
+
+/// The name of the flag for resources that stand in both forks, without its two hyphens.
+const REPLACE: &str = "replace";
+
+const REPLACE_HELP: &str = "Take from OTHER what stands in both";
+
+const OTHER_HELP: &str = "File with the fork whose resources are added; it is only read";
+
+const LIKE_HELP: &str = "File in a wrapper; it is only read";
 
 const DIFF_ABOUT: &str = "Prints how the contents of two forks differ, a line each";
 
@@ -172,7 +263,28 @@ fn rez_command<'a>(alloc: Global) -> Result<Command<'a>, AllocError> {
     Command::new(alloc, "rez")
         .about(REZ_ABOUT)
         .after_help(REZ_EXAMPLES)
+        .arg(option(alloc, INTO, "FILE", INTO_HELP))?
         .arg(argument(alloc, "SOURCE", SOURCE_HELP))?
+        .arg(argument(alloc, "OUT", NEW_FORK_HELP))
+}
+
+fn wrap_command<'a>(alloc: Global) -> Result<Command<'a>, AllocError> {
+    Command::new(alloc, "wrap")
+        .about(WRAP_ABOUT)
+        .after_help(WRAP_EXAMPLES)
+        .arg(argument(alloc, "LIKE", LIKE_HELP))?
+        .arg(argument(alloc, "FORK", FORK_HELP))?
+        .arg(argument(alloc, "OUT", NEW_FILE_HELP))
+}
+
+fn merge_command<'a>(alloc: Global) -> Result<Command<'a>, AllocError> {
+    Command::new(alloc, "merge")
+        .about(MERGE_ABOUT)
+        .after_help(MERGE_EXAMPLES)
+        .arg(flag(alloc, REPLACE, REPLACE_HELP))?
+        .arg(flag(alloc, BARE, BARE_HELP))?
+        .arg(argument(alloc, "FORK", FORK_HELP))?
+        .arg(argument(alloc, "OTHER", OTHER_HELP))?
         .arg(argument(alloc, "OUT", NEW_FORK_HELP))
 }
 
@@ -188,6 +300,7 @@ fn rewrite_command<'a>(alloc: Global) -> Result<Command<'a>, AllocError> {
     Command::new(alloc, "rewrite")
         .about(REWRITE_ABOUT)
         .after_help(REWRITE_EXAMPLES)
+        .arg(flag(alloc, BARE, BARE_HELP))?
         .arg(argument(alloc, "FORK", FORK_HELP))?
         .arg(argument(alloc, "OUT", NEW_FORK_HELP))
 }
@@ -213,12 +326,39 @@ fn set_command<'a>(alloc: Global) -> Result<Command<'a>, AllocError> {
     Command::new(alloc, "set")
         .about(SET_ABOUT)
         .after_help(SET_EXAMPLES)
+        .arg(flag(alloc, BARE, BARE_HELP))?
         .arg(option(alloc, NAME, "NAME", NAME_HELP))?
         .arg(option(alloc, ATTRS, "ATTRS", ATTRS_HELP))?
         .arg(argument(alloc, "FORK", FORK_HELP))?
         .arg(argument(alloc, "TYPE", TYPE_HELP))?
         .arg(argument(alloc, "ID", ID_HELP).allow_negative_numbers(true))?
         .arg(argument(alloc, "FILE", FILE_HELP))?
+        .arg(argument(alloc, "OUT", NEW_FORK_HELP))
+}
+
+fn remove_command<'a>(alloc: Global) -> Result<Command<'a>, AllocError> {
+    Command::new(alloc, "remove")
+        .about(REMOVE_ABOUT)
+        .after_help(REMOVE_EXAMPLES)
+        .arg(flag(alloc, BARE, BARE_HELP))?
+        .arg(argument(alloc, "FORK", FORK_HELP))?
+        .arg(argument(alloc, "TYPE", TYPE_HELP))?
+        .arg(argument(alloc, "ID", ID_HELP).allow_negative_numbers(true))?
+        .arg(argument(alloc, "OUT", NEW_FORK_HELP))
+}
+
+fn rename_command<'a>(alloc: Global) -> Result<Command<'a>, AllocError> {
+    Command::new(alloc, "rename")
+        .about(RENAME_ABOUT)
+        .after_help(RENAME_EXAMPLES)
+        .arg(option(alloc, NEW_ID, "N", NEW_ID_HELP).allow_negative_numbers(true))?
+        .arg(option(alloc, NAME, "NAME", NAME_HELP))?
+        .arg(flag(alloc, NO_NAME, NO_NAME_HELP))?
+        .arg(option(alloc, ATTRS, "ATTRS", ATTRS_HELP))?
+        .arg(flag(alloc, BARE, BARE_HELP))?
+        .arg(argument(alloc, "FORK", FORK_HELP))?
+        .arg(argument(alloc, "TYPE", TYPE_HELP))?
+        .arg(argument(alloc, "ID", ID_HELP).allow_negative_numbers(true))?
         .arg(argument(alloc, "OUT", NEW_FORK_HELP))
 }
 
@@ -241,8 +381,50 @@ fn key_in(
     }
 }
 
+/// Returns how a fork is written: alone where the flag is given, else in the wrapper of the file that it was read from.
+fn packaging_in(matches: &ArgMatches<'_>) -> Packaging {
+    if matches.get_flag(BARE) {
+        Packaging::Bare
+    } else {
+        Packaging::AsRead
+    }
+}
+
+/// Returns the request that the words after `wrap` make.
+fn wrapping<'a>(matches: &ArgMatches<'a>) -> Combination<'a> {
+    Combination {
+        work: PairWork::Wrap,
+        first: value(matches, "LIKE"),
+        second: value(matches, "FORK"),
+        target: Target::NewFile(value(matches, "OUT")),
+    }
+}
+
+/// Returns the request that the words after `merge` make.
+fn merging<'a>(matches: &ArgMatches<'a>) -> Combination<'a> {
+    Combination {
+        work: PairWork::Merge(matches.get_flag(REPLACE), packaging_in(matches)),
+        first: value(matches, "FORK"),
+        second: value(matches, "OTHER"),
+        target: Target::NewFile(value(matches, "OUT")),
+    }
+}
+
+/// Returns the request that the words after `rez` make.
+fn assembling<'a>(matches: &ArgMatches<'a>) -> Request<'a> {
+    match matches.get_str(INTO) {
+        Some(file) => Request::Combine(Combination {
+            work: PairWork::RezInto,
+            first: file,
+            second: value(matches, "SOURCE"),
+            target: Target::NewFile(value(matches, "OUT")),
+        }),
+        None => Request::Convert(into_file(ForkWork::Rez, "SOURCE", matches)),
+    }
+}
+
 /// Returns a conversion into a new file.
-fn into_file<'a>(work: ForkWork, name: &str, matches: &ArgMatches<'a>) -> Conversion<'a> {
+fn into_file<'a>(work: ForkWork<'a>, name: &str, matches: &ArgMatches<'a>) -> Conversion<'a> {
     Conversion {
         work,
         path: value(matches, name),
@@ -295,7 +477,11 @@ fn set_named<'a>(alloc: Global) -> Result<Command<'a>, AllocError> {
 }
 
 /// Returns the name in an option, if it is given.
-fn name_in<'a>(alloc: Global, matches: &ArgMatches<'a>) -> Result<Option<RefName<'a>>, ToolFault>
+fn name_in<'a>(
+    alloc: Global,
+    command: Command<'_>,
+    matches: &ArgMatches<'a>,
+) -> Result<Option<RefName<'a>>, ToolFault>
     ensures { IfErr result (λ fault. IsUsage (message_of fault)) }
 {
     let Some(text) = matches.get_str(NAME) else {
@@ -303,21 +489,23 @@ fn name_in<'a>(alloc: Global, matches: &ArgMatches<'a>) -> Result<Option<RefName
     };
     let bytes = text.as_bytes();
     if bytes.len() > 255 {
-        let command = set_named(alloc)?;
         return Err(bad_value(alloc, command, "NAME", text, NAME_RULE)?);
     }
     Ok(Some(RefName { bytes }))
 }
 
 /// Returns the attributes in an option, if they are given.
-fn attrs_in(alloc: Global, matches: &ArgMatches<'_>) -> Result<Option<Attrs>, ToolFault>
+fn attrs_in(
+    alloc: Global,
+    command: Command<'_>,
+    matches: &ArgMatches<'_>,
+) -> Result<Option<Attrs>, ToolFault>
     ensures { IfErr result (λ fault. IsUsage (message_of fault)) }
 {
     let Some(text) = matches.get_str(ATTRS) else {
         return Ok(None);
     };
     let Some(attrs) = read_attrs(text.as_bytes()) else {
-        let command = set_named(alloc)?;
         return Err(bad_value(alloc, command, "ATTRS", text, ATTRS_RULE)?);
     };
     Ok(Some(attrs.unchanged()))
@@ -328,14 +516,79 @@ fn setting<'a>(alloc: Global, matches: &ArgMatches<'a>) -> Result<Combination<'a
     ensures { IfErr result (λ fault. IsUsage (message_of fault)) }
 {
     let key = key_in(alloc, set_named(alloc)?, matches)?;
-    let name = name_in(alloc, matches)?;
-    let attrs = attrs_in(alloc, matches)?;
+    let name = name_in(alloc, set_named(alloc)?, matches)?;
+    let attrs = attrs_in(alloc, set_named(alloc)?, matches)?;
     Ok(Combination {
-        work: PairWork::Set(Setting { key, name, attrs }),
+        work: PairWork::Set(Setting { key, name, attrs }, packaging_in(matches)),
         first: value(matches, "FORK"),
         second: value(matches, "FILE"),
         target: Target::NewFile(value(matches, "OUT")),
     })
+}
+
+fn remove_named<'a>(alloc: Global) -> Result<Command<'a>, AllocError> {
+    remove_command(alloc)?.bin_name("macmem remove")
+}
+
+fn rename_named<'a>(alloc: Global) -> Result<Command<'a>, AllocError> {
+    rename_command(alloc)?.bin_name("macmem rename")
+}
+
+/// Returns the request that the words after `remove` make.
+fn removing<'a>(alloc: Global, matches: &ArgMatches<'a>) -> Result<Conversion<'a>, ToolFault>
+    ensures { IfErr result (λ fault. IsUsage (message_of fault)) }
+{
+    let key = key_in(alloc, remove_named(alloc)?, matches)?;
+    let work = ForkWork::Change(Edit::Remove(key), packaging_in(matches));
+    Ok(into_file(work, "FORK", matches))
+}
+
+/// Returns the ID in an option, if it is given.
+fn new_id_in(alloc: Global, matches: &ArgMatches<'_>) -> Result<Option<i16>, ToolFault>
+    ensures { IfErr result (λ fault. IsUsage (message_of fault)) }
+{
+    let Some(text) = matches.get_str(NEW_ID) else {
+        return Ok(None);
+    };
+    match text.parse::<i16>() {
+        Ok(id) => Ok(Some(id)),
+        Err(_) => Err(bad_value(alloc, rename_named(alloc)?, "N", text, ID_RULE)?),
+    }
+}
+
+/// Returns the name that a resource gets by the options of a command, no name, or none where it keeps its own.
+fn new_name_in<'a>(
+    alloc: Global,
+    matches: &ArgMatches<'a>,
+) -> Result<Option<Option<RefName<'a>>>, ToolFault>
+    ensures { IfErr result (λ fault. IsUsage (message_of fault)) }
+{
+    let name = name_in(alloc, rename_named(alloc)?, matches)?;
+    if !matches.get_flag(NO_NAME) {
+        return Ok(name.map(Some));
+    }
+    if name.is_some() {
+        return Err(mistake(alloc, rename_named(alloc)?, TWO_NAMES));
+    }
+    Ok(Some(None))
+}
+
+/// Returns the request that the words after `rename` make.
+fn renaming<'a>(alloc: Global, matches: &ArgMatches<'a>) -> Result<Conversion<'a>, ToolFault>
+    ensures { IfErr result (λ fault. IsUsage (message_of fault)) }
+{
+    let key = key_in(alloc, rename_named(alloc)?, matches)?;
+    let id = new_id_in(alloc, matches)?;
+    let name = new_name_in(alloc, matches)?;
+    let attrs = attrs_in(alloc, rename_named(alloc)?, matches)?;
+    if id.is_none() && name.is_none() && attrs.is_none() {
+        return Err(mistake(alloc, rename_named(alloc)?, NOTHING_NEW));
+    }
+    let work = ForkWork::Change(
+        Edit::Rename(key, Renaming { id, name, attrs }),
+        packaging_in(matches),
+    );
+    Ok(into_file(work, "FORK", matches))
 }
 
 /// Adds the commands that make something of forks.
@@ -347,10 +600,14 @@ pub fn with_fork_commands<'a>(
         .subcommand(get_command(alloc)?)?
         .subcommand(extract_command(alloc)?)?
         .subcommand(set_command(alloc)?)?
+        .subcommand(remove_command(alloc)?)?
+        .subcommand(rename_command(alloc)?)?
+        .subcommand(merge_command(alloc)?)?
         .subcommand(diff_command(alloc)?)?
         .subcommand(rewrite_command(alloc)?)?
         .subcommand(derez_command(alloc)?)?
-        .subcommand(rez_command(alloc)?)
+        .subcommand(rez_command(alloc)?)?
+        .subcommand(wrap_command(alloc)?)
 }
 
 /// Returns the request that the words after the name of one of these commands make.
@@ -365,10 +622,17 @@ pub fn fork_request<'a>(
         "get" => Request::Convert(getting(alloc, matches)?),
         "extract" => Request::Extract(extraction(matches)),
         "set" => Request::Combine(setting(alloc, matches)?),
+        "remove" => Request::Convert(removing(alloc, matches)?),
+        "rename" => Request::Convert(renaming(alloc, matches)?),
         "diff" => Request::Combine(comparing(matches)),
-        "rewrite" => Request::Convert(into_file(ForkWork::Rewrite, "FORK", matches)),
+        "rewrite" => {
+            let work = ForkWork::Rewrite(packaging_in(matches));
+            Request::Convert(into_file(work, "FORK", matches))
+        }
+        "wrap" => Request::Combine(wrapping(matches)),
+        "merge" => Request::Combine(merging(matches)),
         "derez" => Request::Convert(printing(matches)),
-        "rez" => Request::Convert(into_file(ForkWork::Rez, "SOURCE", matches)),
+        "rez" => assembling(matches),
         _ => return Ok(None),
     };
     Ok(Some(request))

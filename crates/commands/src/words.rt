@@ -73,7 +73,8 @@ const RUN_ABOUT: &str = "Runs the applications of a job and writes what they lea
 
 const RUN_LONG_ABOUT: &str =
     "Runs a job: several applications in one memory, each in a partition of its own.
-Makes the folder OUT and writes into it what the applications leave.
+Makes the folder OUT, which must not exist yet, and writes into it what the
+applications leave.
 
 Example:
   macmem run examples/job/job OUT

@@ -54,7 +54,7 @@ call up to line TO, with an arrow for each block that moved from one to the
 next.
 Faults are reported as 'macmem script' reports them.
 
-  macmem heap --at 2 --job examples/job/job --app Editor
+  macmem heap --at 2 --job examples/job/job --app editor
 
 shows the zone of an application of a job in the same way: in the partition that
 it is granted there, with its own files, after line 2 of its script, or after

@@ -1,2 +1,4 @@
 pub mod Contents
 pub mod Pairs
+pub mod Wrappers
+pub mod Edits

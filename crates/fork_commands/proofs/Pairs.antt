@@ -7,26 +7,35 @@ use Rattle.fork_edits.specs.Differences.{Difference, Order, differences, found_d
 use Rattle.fork_edits.specs.View.{view_difference}
 use Rattle.fork_commands.specs.declared.fault.WorkFault.{WorkFault}
 use Rattle.fork_commands.specs.declared.fault.WorkFault.TheVariants.{File, HostMemory}
-use Rattle.fork_commands.specs.declared.pair.PairWork.TheVariants.{Set, Diff}
+use Rattle.fork_commands.specs.declared.pair.PairWork.TheVariants.{Set, Diff, Merge}
 use Rattle.fork_commands.specs.declared.pair.Place.TheVariants.{First, Second}
 use Rattle.fork_commands.specs.declared.pair.PairFault.{PairFault}
 use Rattle.fork_commands.specs.declared.pair.Setting.{Setting}
+use Rattle.fork_commands.specs.declared.fault.FileFault.{FileFault}
+use Rattle.fork_commands.specs.declared.packaging.Packaging.{Packaging}
+use Rattle.fork_commands.specs.declared.packaging.Packaging.TheVariants.{AsRead}
 use Rattle.fork_commands.specs.Faults.{Stops}
-use Rattle.fork_commands.specs.Reading.{content_in}
+use Rattle.fork_commands.specs.Packaging.{packed, then_packed}
+use Rattle.fork_commands.specs.Reading.{fork_in, content_in}
 use Rattle.fork_commands.specs.Works.{canonical}
-use Rattle.fork_commands.specs.Pairs.{at, of_bytes, with_setting, fork_set, compared, combined, StopsPair, stopped_at}
+use Rattle.fork_commands.specs.Pairs.{at, of_bytes, with_setting, fork_set, good_fork_in, put_into, compared, combined, StopsPair, stopped_at}
+use Rattle.fork_commands.specs.Pairs.{merged_or_fault, forks_merged}
+use Rattle.fork_commands.specs.declared.pair.Place.{Place}
+use Rattle.fork_edits.specs.Merging.{merged}
 
 -- a resource was set
-pub set_made : (s : Setting) (first second out : List ℕ) → fork_set s first second ≡ Ok out
-    → combined (Set s) first second ≡ Ok (out, false)
-set_made s first second out made = ap (λ r. of_bytes (at First r)) made
+pub set_made : (s : Setting) (p : Packaging) (first second out : List ℕ) → fork_set s p first second ≡ Ok out
+    → combined (Set s p) first second ≡ Ok (out, false)
+set_made s p first second out made = ap (λ r. of_bytes (at First r)) made
 
 -- why no resource was set
-pub set_stopped : (s : Setting) (first second : List ℕ) (fault : WorkFault) (told : PairFault)
-    → told ≡ stopped_at First fault → Stops fault (fork_set s first second) → StopsPair told (combined (Set s) first second)
-set_stopped s first second HostMemory told is stops = subst (λ f. StopsPair f (combined (Set s) first second)) (sym is) tt
-set_stopped s first second (File fault) told is stops =
-    subst (λ f. StopsPair f (combined (Set s) first second)) (sym is) (ap (λ r. of_bytes (at First r)) stops)
+pub set_stopped : (s : Setting) (p : Packaging) (first second : List ℕ) (fault : WorkFault) (told : PairFault)
+    → told ≡ stopped_at First fault → Stops fault (fork_set s p first second)
+    → StopsPair told (combined (Set s p) first second)
+set_stopped s p first second HostMemory told is stops =
+    subst (λ f. StopsPair f (combined (Set s p) first second)) (sym is) tt
+set_stopped s p first second (File fault) told is stops =
+    subst (λ f. StopsPair f (combined (Set s p) first second)) (sym is) (ap (λ r. of_bytes (at First r)) stops)
 
 -- why the first of two forks is not compared
 pub first_stopped : (first second : List ℕ) (fault : WorkFault) (told : PairFault) → told ≡ stopped_at First fault
@@ -63,15 +72,29 @@ pub differs_of : (c d : Content) (xs : List StoredDifference) → map view_diffe
     → not (length xs == 0) ≡ not (same_content c d)
 differs_of c d xs is = some_difference (same_content c d) (found_differences c d) xs is
 
--- a resource was set, and the fork of what came of it was made
-pub setting_made : (s : Setting) (first second out : List ℕ) (c d : Content) → content_in first ≡ Ok c
-    → d ≡ with_setting s second c → canonical d ≡ Ok out → fork_set s first second ≡ Ok out
-setting_made s first second out c d has is made = rw has (ap canonical (sym is) ∙ made)
+-- a resource was set, and the fork of what came of it was written
+pub setting_made : (s : Setting) (p : Packaging) (first second out : List ℕ) (c d : Content) → content_in first ≡ Ok c
+    → d ≡ with_setting s second c → then_packed p first (canonical d) ≡ Ok out → fork_set s p first second ≡ Ok out
+setting_made s p first second out c d has is made =
+    rw has (ap (λ x. then_packed p first (canonical x)) (sym is) ∙ made)
 
--- why that fork was not made
-pub setting_stopped : (s : Setting) (first second : List ℕ) (c d : Content) (fault : WorkFault) → content_in first ≡ Ok c
-    → d ≡ with_setting s second c → Stops fault (canonical d) → Stops fault (fork_set s first second)
-setting_stopped s first second c d fault has is stops = rw has (subst (λ x. Stops fault (canonical x)) is stops)
+-- why that fork was not written
+pub setting_stopped : (s : Setting) (p : Packaging) (first second : List ℕ) (c d : Content) (fault : WorkFault)
+    → content_in first ≡ Ok c → d ≡ with_setting s second c → Stops fault (then_packed p first (canonical d))
+    → Stops fault (fork_set s p first second)
+setting_stopped s p first second c d fault has is stops =
+    rw has (subst (λ x. Stops fault (then_packed p first (canonical x))) is stops)
+
+-- a fork was made of the second file and put into the first
+pub put_made : (first fork out : List ℕ) → packed AsRead first fork ≡ Ok out → put_into first (Ok fork) ≡ Ok (out, false)
+put_made first fork out made = ap (λ r. of_bytes (at First r)) made
+
+-- why it was not put there
+pub put_stopped : (first fork : List ℕ) (fault : WorkFault) (told : PairFault) → told ≡ stopped_at First fault
+    → Stops fault (packed AsRead first fork) → StopsPair told (put_into first (Ok fork))
+put_stopped first fork HostMemory told is stops = subst (λ f. StopsPair f (put_into first (Ok fork))) (sym is) tt
+put_stopped first fork (File fault) told is stops =
+    subst (λ f. StopsPair f (put_into first (Ok fork))) (sym is) (ap (λ r. of_bytes (at First r)) stops)
 
 -- what else is known of a result
 pub also_ok : {X E : Type 0} (P Q : X → Type 0) (r : Result X E) → ((x : X) → P x → Q x) → IfOk r P → IfOk r Q
@@ -82,3 +105,85 @@ also_ok P Q (Err e) next h = tt
 pub also_err : {X E : Type 0} (P Q : E → Type 0) (r : Result X E) → ((e : E) → P e → Q e) → IfErr r P → IfErr r Q
 also_err P Q (Ok x) next h = tt
 also_err P Q (Err e) next h = next e h
+
+-- what was made of the second file was put into the first
+pub put_there : (first fork out : List ℕ) (differs : Bool) (made : Result (List ℕ) FileFault) → made ≡ Ok fork
+    → put_into first (Ok fork) ≡ Ok (out, differs) → put_into first made ≡ Ok (out, differs)
+put_there first fork out differs made is put = ap (put_into first) is ∙ put
+
+-- why it was not put there
+pub put_not : (first fork : List ℕ) (told : PairFault) (made : Result (List ℕ) FileFault) → made ≡ Ok fork
+    → StopsPair told (put_into first (Ok fork)) → StopsPair told (put_into first made)
+put_not first fork told made is stops = subst (λ m. StopsPair told (put_into first m)) (sym is) stops
+
+-- why nothing was made of the second file
+pub put_unmade : (first : List ℕ) (fault : WorkFault) (told : PairFault) (made : Result (List ℕ) FileFault)
+    → told ≡ stopped_at Second fault → Stops fault made → StopsPair told (put_into first made)
+put_unmade first HostMemory told made is stops = subst (λ f. StopsPair f (put_into first made)) (sym is) tt
+put_unmade first (File fault) told made is stops =
+    subst (λ f. StopsPair f (put_into first made)) (sym is) (ap (put_into first) stops)
+
+-- two contents were merged, and the fork was written
+pub merged_there : (replaces : Bool) (p : Packaging) (first out : List ℕ) (c d m : Content)
+    → merged_or_fault (merged replaces c d) ≡ Ok m → then_packed p first (canonical m) ≡ Ok out
+    → forks_merged replaces p first c d ≡ Ok (out, false)
+merged_there replaces p first out c d m has made = rw has (ap (λ r. of_bytes (at First r)) made)
+
+-- why they were not merged
+pub merged_not : (replaces : Bool) (p : Packaging) (first : List ℕ) (c d : Content) (fault : WorkFault) (told : PairFault)
+    → told ≡ stopped_at Second fault → Stops fault (merged_or_fault (merged replaces c d))
+    → StopsPair told (forks_merged replaces p first c d)
+merged_not replaces p first c d HostMemory told is stops =
+    subst (λ f. StopsPair f (forks_merged replaces p first c d)) (sym is) tt
+merged_not replaces p first c d (File fault) told is stops =
+    subst (λ f. StopsPair f (forks_merged replaces p first c d)) (sym is) (rw stops refl)
+
+-- why the fork was not written
+pub merged_unwritten : (replaces : Bool) (p : Packaging) (first : List ℕ) (c d m : Content) (fault : WorkFault) (told : PairFault)
+    → merged_or_fault (merged replaces c d) ≡ Ok m → told ≡ stopped_at First fault
+    → Stops fault (then_packed p first (canonical m)) → StopsPair told (forks_merged replaces p first c d)
+merged_unwritten replaces p first c d m HostMemory told has is stops =
+    subst (λ f. StopsPair f (forks_merged replaces p first c d)) (sym is) tt
+merged_unwritten replaces p first c d m (File fault) told has is stops =
+    subst (λ f. StopsPair f (forks_merged replaces p first c d)) (sym is)
+    (rw has (ap (λ r. of_bytes (at First r)) stops))
+
+-- both forks were read, and merged
+pub both_there : (replaces : Bool) (p : Packaging) (first second : List ℕ) (c d : Content) (made : Result (List ℕ × Bool) (Place × FileFault))
+    → content_in first ≡ Ok c → content_in second ≡ Ok d → forks_merged replaces p first c d ≡ made
+    → combined (Merge replaces p) first second ≡ made
+both_there replaces p first second c d made has too is = rw (has, too) is
+
+-- why the first was not read
+pub merge_first : (replaces : Bool) (p : Packaging) (first second : List ℕ) (fault : WorkFault) (told : PairFault)
+    → told ≡ stopped_at First fault → Stops fault (content_in first)
+    → StopsPair told (combined (Merge replaces p) first second)
+merge_first replaces p first second HostMemory told is stops =
+    subst (λ f. StopsPair f (combined (Merge replaces p) first second)) (sym is) tt
+merge_first replaces p first second (File fault) told is stops =
+    subst (λ f. StopsPair f (combined (Merge replaces p) first second)) (sym is) (rw stops refl)
+
+-- why the second was not
+pub merge_second : (replaces : Bool) (p : Packaging) (first second : List ℕ) (c : Content) (fault : WorkFault) (told : PairFault)
+    → content_in first ≡ Ok c → told ≡ stopped_at Second fault → Stops fault (content_in second)
+    → StopsPair told (combined (Merge replaces p) first second)
+merge_second replaces p first second c HostMemory told has is stops =
+    subst (λ f. StopsPair f (combined (Merge replaces p) first second)) (sym is) tt
+merge_second replaces p first second c (File fault) told has is stops =
+    subst (λ f. StopsPair f (combined (Merge replaces p) first second)) (sym is) (rw (has, stops) refl)
+
+-- why the two were not merged, or not written
+pub both_stopped : (replaces : Bool) (p : Packaging) (first second : List ℕ) (c d : Content) (told : PairFault)
+    → content_in first ≡ Ok c → content_in second ≡ Ok d → StopsPair told (forks_merged replaces p first c d)
+    → StopsPair told (combined (Merge replaces p) first second)
+both_stopped replaces p first second c d told has too stops = rw (has, too) stops
+
+-- a fork that has a content was copied
+pub good_there : (bytes fork : List ℕ) (c : Content) → content_in bytes ≡ Ok c → fork_in bytes ≡ Ok fork
+    → good_fork_in bytes ≡ Ok fork
+good_there bytes fork c has found = rw has found
+
+-- why it was not
+pub good_not : (bytes : List ℕ) (c : Content) (fault : WorkFault) → content_in bytes ≡ Ok c → Stops fault (fork_in bytes)
+    → Stops fault (good_fork_in bytes)
+good_not bytes c fault has stops = rw has stops

@@ -1,4 +1,4 @@
-use Rattle.std.specs.Prelude.{◌≡◌, ℕ, Bool, false, not, option_map, Result, Ok, Err, List}
+use Rattle.std.specs.Prelude.{◌≡◌, ℕ, ℤ, Bool, false, not, option_map, Result, Ok, Err, List}
 use Rattle.std.specs.List.{flat_map}
 use Rattle.byteorder.specs.Endian.{big_number}
 use Rattle.mac_words.specs.declared.attributes.Attrs.{Attrs}
@@ -7,19 +7,25 @@ use Rattle.fork_format.specs.View.{view_name}
 use Rattle.fork_edits.specs.Setting.{with_resource}
 use Rattle.fork_edits.specs.Differences.{differences, same_content}
 use Rattle.fork_edits.specs.Lines.{difference_line}
+use Rattle.fork_edits.specs.Merging.{merged}
 use Rattle.fork_commands.specs.declared.fault.FileFault.{FileFault}
+use Rattle.fork_commands.specs.declared.fault.FileFault.TheVariants.{InBoth}
 use Rattle.fork_commands.specs.declared.fault.WorkFault.{WorkFault}
 use Rattle.fork_commands.specs.declared.fault.WorkFault.TheVariants as work_fault
 use Rattle.fork_commands.specs.declared.pair.Setting.{Setting}
 use Rattle.fork_commands.specs.declared.pair.PairWork.{PairWork}
-use Rattle.fork_commands.specs.declared.pair.PairWork.TheVariants.{Set, Diff}
+use Rattle.fork_commands.specs.declared.pair.PairWork.TheVariants.{Set, Diff, RezInto, Wrap, Merge}
 use Rattle.fork_commands.specs.declared.pair.Place.{Place}
 use Rattle.fork_commands.specs.declared.pair.Place.TheVariants.{First, Second}
 use Rattle.fork_commands.specs.declared.pair.PairFault.{PairFault}
 use Rattle.fork_commands.specs.declared.pair.PairFault.TheVariants as pair_fault
+use Rattle.fork_commands.specs.declared.packaging.Packaging.{Packaging}
+use Rattle.fork_commands.specs.declared.packaging.Packaging.TheVariants.{AsRead}
+use Rattle.fork_commands.specs.declared.work.ForkWork.TheVariants.{Rez}
 use Rattle.fork_commands.specs.Faults.{made_then}
-use Rattle.fork_commands.specs.Reading.{content_in}
-use Rattle.fork_commands.specs.Works.{canonical}
+use Rattle.fork_commands.specs.Packaging.{packed, then_packed}
+use Rattle.fork_commands.specs.Reading.{fork_in, content_in}
+use Rattle.fork_commands.specs.Works.{canonical, made}
 
 -- What the works make of the bytes of two files.
 
@@ -31,9 +37,15 @@ with_setting s bytes c = with_resource (big_number 4 s.key.ty.0) s.key.id (recor
   attrs = option_map (λ (a : Attrs). a.0) s.attrs;
 }) c
 
--- The canonical fork of the content in the first bytes, once a resource in it is set to the second.
-abbrev pub fork_set : Setting → List ℕ → List ℕ → Result (List ℕ) FileFault
-fork_set s first second = made_then (content_in first) (λ c. canonical (with_setting s second c))
+-- The canonical fork of the content in the first bytes, once a resource in it is set to the second, alone or in the
+-- wrapper of the first.
+abbrev pub fork_set : Setting → Packaging → List ℕ → List ℕ → Result (List ℕ) FileFault
+fork_set s packaging first second =
+    then_packed packaging first (made_then (content_in first) (λ c. canonical (with_setting s second c)))
+
+-- The resource fork in the bytes of a file, which has a content.
+abbrev pub good_fork_in : List ℕ → Result (List ℕ) FileFault
+good_fork_in bytes = made_then (content_in bytes) (λ c. fork_in bytes)
 
 -- A result for one of two files: its fault names the file.
 abbrev pub at : {A : Type 0} → Place → Result A FileFault → Result A (Place × FileFault)
@@ -49,13 +61,32 @@ abbrev pub of_bytes : {F : Type 0} → Result (List ℕ) F → Result (List ℕ 
 of_bytes (Ok bytes) = Ok (bytes, false)
 of_bytes (Err fault) = Err fault
 
+-- The first file with a fork that was made of the second in the place of its own.
+abbrev pub put_into : List ℕ → Result (List ℕ) FileFault → Result (List ℕ × Bool) (Place × FileFault)
+put_into first made = of_bytes (made_then (at Second made) (λ fork. at First (packed AsRead first fork)))
+
+-- The content that holds the resources of two, or the first type and ID that stand in both.
+abbrev pub merged_or_fault : Result Content (ℕ × ℤ) → Result Content FileFault
+merged_or_fault (Ok c) = Ok c
+merged_or_fault (Err (kind, id)) = Err (InBoth (record { kind = kind; id = id }))
+
+-- The canonical fork of the content that holds the resources of two, alone or in the wrapper of the first.
+abbrev pub forks_merged : Bool → Packaging → List ℕ → Content → Content → Result (List ℕ × Bool) (Place × FileFault)
+forks_merged replaces packaging first c d = made_then (at Second (merged_or_fault (merged replaces c d))) (λ m.
+    of_bytes (at First (then_packed packaging first (canonical m))))
+
 -- How the contents of two forks differ, in lines, and whether they do.
 abbrev pub compared : Content → Content → List ℕ × Bool
 compared c d = (difference_lines c d, not (same_content c d))
 
 -- What a work makes of the bytes, and whether it finds that what they hold differs.
 abbrev pub combined : PairWork → List ℕ → List ℕ → Result (List ℕ × Bool) (Place × FileFault)
-combined (Set s) first second = of_bytes (at First (fork_set s first second))
+combined (Set s packaging) first second = of_bytes (at First (fork_set s packaging first second))
+combined RezInto first second = put_into first (made Rez second)
+combined Wrap first second = put_into first (good_fork_in second)
+combined (Merge replaces packaging) first second =
+    made_then (at First (content_in first)) (λ c. made_then (at Second (content_in second)) (λ d.
+    forks_merged replaces packaging first c d))
 combined Diff first second =
     made_then (at First (content_in first)) (λ c. made_then (at Second (content_in second)) (λ d. Ok (compared c d)))
 

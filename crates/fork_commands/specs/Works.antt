@@ -11,9 +11,11 @@ use Rattle.rez_text.specs.Reading.{read}
 use Rattle.fork_commands.specs.declared.fault.FileFault.{FileFault}
 use Rattle.fork_commands.specs.declared.fault.FileFault.TheVariants.{Code, Source}
 use Rattle.fork_commands.specs.declared.work.ForkWork.{ForkWork}
-use Rattle.fork_commands.specs.declared.work.ForkWork.TheVariants.{Rewrite, Get, Derez, Rez}
+use Rattle.fork_commands.specs.declared.work.ForkWork.TheVariants.{Rewrite, Get, Derez, Rez, Change}
 use Rattle.fork_commands.specs.declared.work.ResourceKey.{ResourceKey}
+use Rattle.fork_commands.specs.Editing.{edited}
 use Rattle.fork_commands.specs.Faults.{made_then}
+use Rattle.fork_commands.specs.Packaging.{then_packed}
 use Rattle.fork_commands.specs.Reading.{content_in}
 
 -- What the works make of the bytes of one file.
@@ -38,7 +40,9 @@ content_stated (Err (line, kind)) = Err (Source (record { line = line; kind = ki
 
 -- What a work makes of the bytes.
 abbrev pub made : ForkWork → List ℕ → Result (List ℕ) FileFault
-made Rewrite bytes = made_then (content_in bytes) canonical
+made (Rewrite packaging) bytes = then_packed packaging bytes (made_then (content_in bytes) canonical)
+made (Change edit packaging) bytes =
+    then_packed packaging bytes (made_then (made_then (content_in bytes) (edited edit)) canonical)
 made (Get key) bytes = made_then (content_in bytes) (datum_at key)
 made Derez bytes = made_then (content_in bytes) (λ c. Ok (source_of c))
 made Rez bytes = made_then (content_stated (read bytes)) canonical

@@ -4,11 +4,32 @@ ghost use Rattle.std.specs.Prelude.{◌≡◌};
 ghost use Rattle.fork_commands.specs.Faults.{of_code, number_of, line_of};
 ghost use Rattle.fork_commands.specs.declared.fault.WorkFault.TheVariants.{HostMemory};
 
-use fork_wrappers::WrapFault;
+use fork_wrappers::{RewrapFault, WrapFault};
 use mac_words::OsErr;
 use rez_text::TextFault;
 use std::alloc::AllocError;
+use std::{fmt, str};
 use thiserror::Error;
+
+/// The type and the ID of resources that stand in two forks.
+#[derive(Clone, Copy, Debug)]
+pub struct Twin {
+    /// The four bytes of the type, the highest first.
+    pub kind: u32,
+    pub id: i16,
+}
+
+impl fmt::Display for Twin {
+    /// Writes the type in quotes, or in hexadecimal digits where it can't be printed, and the ID.
+    fn fmt<W: fmt::Write>(&self, f: &mut fmt::Formatter<W>) -> fmt::Result {
+        let bytes = self.kind.to_be_bytes();
+        let printable = bytes.iter().all(|byte| *byte >= b' ' && *byte <= b'~');
+        match str::from_utf8(&bytes) {
+            Ok(text) if printable => write!(f, "'{text}' {}", self.id),
+            _ => write!(f, "${:08x} {}", self.kind, self.id),
+        }
+    }
+}
 
 /// What is wrong with the bytes of a file. Its `Display` is the end of the line that is printed for the file.
 #[derive(Clone, Copy, Debug, Error)]
@@ -26,6 +47,21 @@ pub enum FileFault {
         /// Which of them, and how it is damaged.
         fault: WrapFault,
     },
+    /// The fork that was made doesn't fit the wrapper of the file in which it is to stand.
+    #[error("{fault}")]
+    Unfit {
+        /// Which rule of the wrapper it breaks.
+        fault: RewrapFault,
+    },
+    /// Another resource of the type has the ID that a resource is to get.
+    #[error("another resource of the type has the ID")]
+    TakenId,
+    /// A resource of this type and ID stands in both of two forks that are to be merged.
+    #[error("{twin} stands in both forks")]
+    InBoth {
+        /// The type and the ID.
+        twin: Twin,
+    },
     /// The bytes are no source of Rez.
     #[error("{fault}")]
     Source {
@@ -41,7 +77,11 @@ impl FileFault {
     {
         match self {
             FileFault::Code { code } => code.number(),
-            FileFault::Wrapper { .. } | FileFault::Source { .. } => 0,
+            FileFault::Wrapper { .. }
+            | FileFault::Unfit { .. }
+            | FileFault::TakenId
+            | FileFault::InBoth { .. }
+            | FileFault::Source { .. } => 0,
         }
     }
 
@@ -51,7 +91,11 @@ impl FileFault {
     {
         match self {
             FileFault::Source { fault } => fault.line,
-            FileFault::Code { .. } | FileFault::Wrapper { .. } => 0,
+            FileFault::Code { .. }
+            | FileFault::Wrapper { .. }
+            | FileFault::Unfit { .. }
+            | FileFault::TakenId
+            | FileFault::InBoth { .. } => 0,
         }
     }
 }

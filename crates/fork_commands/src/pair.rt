@@ -7,14 +7,18 @@ ghost use Rattle.fork_edits.specs.Lines.{difference_line};
 ghost use Rattle.fork_edits.specs.View.{view_difference};
 ghost use Rattle.fork_format.specs.View.{view};
 ghost use Rattle.fork_commands.specs.Faults.{Stops};
-ghost use Rattle.fork_commands.specs.Pairs.{stopped_at, StopsPair, with_setting, fork_set, difference_lines, combined};
-ghost use Rattle.fork_commands.specs.declared.pair.PairWork.TheVariants.{Set, Diff};
+ghost use Rattle.fork_commands.specs.Pairs.{stopped_at, StopsPair, with_setting, fork_set, good_fork_in};
+ghost use Rattle.fork_commands.specs.Reading.{fork_in};
+ghost use Rattle.fork_commands.specs.Pairs.{put_into, merged_or_fault, forks_merged, difference_lines, combined};
+ghost use Rattle.fork_edits.specs.Merging.{merged};
+ghost use Rattle.fork_commands.specs.declared.pair.PairWork.TheVariants.{Set, Diff, RezInto, Wrap, Merge};
 
-use crate::fault::{FileFault, WorkFault};
-use crate::reading::content_in;
-use crate::work::{ResourceKey, canonical};
-use fork_edits::{Change, Difference, append_difference, diff, set_resource};
-use fork_format::{Content, RefName};
+use crate::fault::{FileFault, Twin, WorkFault};
+use crate::packaging::{Packaging, packed};
+use crate::reading::{content_in, fork_in};
+use crate::work::{ForkWork, ResourceKey, copied, made, written};
+use fork_edits::{Change, Difference, MergeFault, append_difference, diff, merge, set_resource};
+use fork_format::{Content, RefName, kind_of};
 use mac_words::Attrs;
 use std::alloc::{AllocError, Global};
 use thiserror::Error;
@@ -33,10 +37,18 @@ pub struct Setting<'a> {
 #[derive(Clone, Copy)]
 pub enum PairWork<'a> {
     /// The canonical fork of the content that the first file's bytes spell, with a resource set to the second file's
-    /// bytes.
-    Set(Setting<'a>),
+    /// bytes, alone or in the wrapper of the first file.
+    Set(Setting<'a>, Packaging),
     /// How the contents of the two forks differ, in lines.
     Diff,
+    /// The first file, with the canonical fork of the content that the second file's bytes state as source of Rez in the
+    /// place of its own fork.
+    RezInto,
+    /// The first file, with the fork in the second file's bytes in the place of its own.
+    Wrap,
+    /// The canonical fork of the resources of both forks, alone or in the wrapper of the first file. What stands in both
+    /// is refused, or, if so asked, the second fork's resource stands in the place of the first's.
+    Merge(bool, Packaging),
 }
 
 /// What is made of the bytes of two files.
@@ -95,19 +107,84 @@ fn change<'b>(
     set_resource(alloc, content, setting.key.ty, setting.key.id, &change)
 }
 
-/// Returns the canonical fork of a content, once a resource in it is set to the second file's bytes.
+/// Returns the canonical fork of a content, once a resource in it is set to the second file's bytes, alone or in the
+/// wrapper of the first file.
 fn fork_set<'b>(
     alloc: Global,
     setting: Setting<'b>,
+    packaging: Packaging,
     first: &'b [u8],
     second: &'b [u8],
 ) -> Result<Vec<u8>, WorkFault>
-    ensures made { IfOk result (λ out. fork_set setting.entry first.now second.now ≡ Ok out.items) }
-    ensures fault { IfErr result (λ fault. Stops fault (fork_set setting.entry first.now second.now)) }
+    ensures made { IfOk result (λ out. fork_set setting.entry packaging first.now second.now ≡ Ok out.items) }
+    ensures fault { IfErr result (λ fault. Stops fault (fork_set setting.entry packaging first.now second.now)) }
 {
     let mut content = content_in(alloc, first)?;
     change(alloc, &setting, second, &mut content)?;
-    canonical(alloc, &content)
+    written(alloc, packaging, first, &content)
+}
+
+/// Returns a copy of the resource fork in the bytes of a file.
+fn fork_copy(alloc: Global, bytes: &[u8]) -> Result<Vec<u8>, WorkFault>
+    ensures made { IfOk result (λ out. fork_in bytes.now ≡ Ok out.items) }
+    ensures fault { IfErr result (λ fault. Stops fault (fork_in bytes.now)) }
+{
+    match fork_in(bytes) {
+        Ok(found) => match copied(alloc, found.fork) {
+            Ok(copy) => Ok(copy),
+            Err(_) => Err(WorkFault::HostMemory),
+        },
+        Err(fault) => Err(WorkFault::File(fault)),
+    }
+}
+
+/// Returns a copy of the resource fork in the bytes of a file, once it is known to have a content.
+#[tactic(auto, using(crate::proofs::Pairs::good_there, crate::proofs::Pairs::good_not))]
+fn good_fork(alloc: Global, bytes: &[u8]) -> Result<Vec<u8>, WorkFault>
+    ensures made { IfOk result (λ out. good_fork_in bytes.now ≡ Ok out.items) }
+    ensures fault { IfErr result (λ fault. Stops fault (good_fork_in bytes.now)) }
+{
+    let _content = content_in(alloc, bytes)?;
+    fork_copy(alloc, bytes)
+}
+
+/// Returns the first file with a fork that was made of the second in the place of its own.
+#[tactic(auto, using(crate::proofs::Pairs::put_made, crate::proofs::Pairs::put_stopped))]
+fn put_into(alloc: Global, first: &[u8], fork: Vec<u8>) -> Result<PairOutput, PairFault>
+    ensures made { IfOk result (λ made. put_into first.now (Ok fork.items) ≡ Ok (made.out.items, made.differs)) }
+    ensures fault { IfErr result (λ fault. StopsPair fault (put_into first.now (Ok fork.items))) }
+{
+    match packed(alloc, Packaging::AsRead, first, fork) {
+        Ok(out) => Ok(PairOutput {
+            out,
+            differs: false,
+        }),
+        Err(fault) => Err(fault.at(Place::First)),
+    }
+}
+
+/// Puts the canonical fork of what a source of Rez states into the first file.
+#[tactic(auto, using(crate::proofs::Pairs::put_there, crate::proofs::Pairs::put_unmade, crate::proofs::Pairs::put_not))]
+fn rez_put(alloc: Global, first: &[u8], second: &[u8]) -> Result<PairOutput, PairFault>
+    ensures made { IfOk result (λ made. combined RezInto first.now second.now ≡ Ok (made.out.items, made.differs)) }
+    ensures fault { IfErr result (λ fault. StopsPair fault (combined RezInto first.now second.now)) }
+{
+    match made(alloc, ForkWork::Rez, second) {
+        Ok(fork) => put_into(alloc, first, fork),
+        Err(fault) => Err(fault.at(Place::Second)),
+    }
+}
+
+/// Puts the fork in the second file into the first file.
+#[tactic(auto, using(crate::proofs::Pairs::put_there, crate::proofs::Pairs::put_unmade, crate::proofs::Pairs::put_not))]
+fn fork_put(alloc: Global, first: &[u8], second: &[u8]) -> Result<PairOutput, PairFault>
+    ensures made { IfOk result (λ made. combined Wrap first.now second.now ≡ Ok (made.out.items, made.differs)) }
+    ensures fault { IfErr result (λ fault. StopsPair fault (combined Wrap first.now second.now)) }
+{
+    match good_fork(alloc, second) {
+        Ok(fork) => put_into(alloc, first, fork),
+        Err(fault) => Err(fault.at(Place::Second)),
+    }
 }
 
 /// Returns the lines of differences.
@@ -160,19 +237,94 @@ fn forks_compared(alloc: Global, first: &[u8], second: &[u8]) -> Result<PairOutp
     }
 }
 
+/// Returns the content that holds the resources of two.
+fn merged_of<'b>(
+    alloc: Global,
+    replaces: bool,
+    first: &Content<'b>,
+    second: &Content<'b>,
+) -> Result<Content<'b>, WorkFault>
+    ensures made { IfOk result (λ c. merged_or_fault (merged replaces (view first.now) (view second.now)) ≡ Ok (view c)) }
+    ensures fault { IfErr result (λ fault. Stops fault (merged_or_fault (merged replaces (view first.now) (view second.now)))) }
+{
+    match merge(alloc, first, second, replaces) {
+        Ok(both) => Ok(both),
+        Err(MergeFault::InBoth { ty, id }) => {
+            let twin = Twin {
+                kind: kind_of(ty),
+                id,
+            };
+            Err(WorkFault::File(FileFault::InBoth { twin }))
+        }
+        Err(MergeFault::HostMemory) => Err(WorkFault::HostMemory),
+    }
+}
+
+/// Returns the canonical fork of the resources of two contents, alone or in the wrapper of the first file.
+#[tactic(auto, using(crate::proofs::Pairs::merged_there, crate::proofs::Pairs::merged_not, crate::proofs::Pairs::merged_unwritten))]
+fn forks_merged(
+    alloc: Global,
+    replaces: bool,
+    packaging: Packaging,
+    first: &[u8],
+    one: &Content<'_>,
+    other: &Content<'_>,
+) -> Result<PairOutput, PairFault>
+    ensures made { IfOk result (λ made. forks_merged replaces packaging first.now (view one.now) (view other.now)
+        ≡ Ok (made.out.items, made.differs)) }
+    ensures fault { IfErr result (λ fault.
+        StopsPair fault (forks_merged replaces packaging first.now (view one.now) (view other.now))) }
+{
+    let both = match merged_of(alloc, replaces, one, other) {
+        Ok(both) => both,
+        Err(fault) => return Err(fault.at(Place::Second)),
+    };
+    match written(alloc, packaging, first, &both) {
+        Ok(out) => Ok(PairOutput {
+            out,
+            differs: false,
+        }),
+        Err(fault) => Err(fault.at(Place::First)),
+    }
+}
+
+/// Merges the forks in the bytes of two files.
+fn both_merged(
+    alloc: Global,
+    replaces: bool,
+    packaging: Packaging,
+    first: &[u8],
+    second: &[u8],
+) -> Result<PairOutput, PairFault>
+    ensures made { IfOk result (λ made.
+        combined (Merge replaces packaging) first.now second.now ≡ Ok (made.out.items, made.differs)) }
+    ensures fault { IfErr result (λ fault. StopsPair fault (combined (Merge replaces packaging) first.now second.now)) }
+{
+    let one = match content_in(alloc, first) {
+        Ok(content) => content,
+        Err(fault) => return Err(fault.at(Place::First)),
+    };
+    let other = match content_in(alloc, second) {
+        Ok(content) => content,
+        Err(fault) => return Err(fault.at(Place::Second)),
+    };
+    forks_merged(alloc, replaces, packaging, first, &one, &other)
+}
+
 /// Sets a resource in the fork in the first file's bytes.
 #[tactic(auto, using(crate::proofs::Pairs::set_made, crate::proofs::Pairs::set_stopped))]
 fn resource_set<'b>(
     alloc: Global,
     setting: Setting<'b>,
+    packaging: Packaging,
     first: &'b [u8],
     second: &'b [u8],
 ) -> Result<PairOutput, PairFault>
     ensures made { IfOk result (λ made.
-        combined (Set setting.entry) first.now second.now ≡ Ok (made.out.items, made.differs)) }
-    ensures fault { IfErr result (λ fault. StopsPair fault (combined (Set setting.entry) first.now second.now)) }
+        combined (Set setting.entry packaging) first.now second.now ≡ Ok (made.out.items, made.differs)) }
+    ensures fault { IfErr result (λ fault. StopsPair fault (combined (Set setting.entry packaging) first.now second.now)) }
 {
-    match fork_set(alloc, setting, first, second) {
+    match fork_set(alloc, setting, packaging, first, second) {
         Ok(out) => Ok(PairOutput {
             out,
             differs: false,
@@ -196,7 +348,12 @@ pub fn combined(
     ensures fault { IfErr result (λ fault. StopsPair fault (combined work.entry first.now second.now)) }
 {
     match work {
-        PairWork::Set(setting) => resource_set(alloc, setting, first, second),
+        PairWork::Set(setting, packaging) => resource_set(alloc, setting, packaging, first, second),
         PairWork::Diff => forks_compared(alloc, first, second),
+        PairWork::RezInto => rez_put(alloc, first, second),
+        PairWork::Wrap => fork_put(alloc, first, second),
+        PairWork::Merge(replaces, packaging) => both_merged(
+            alloc, replaces, packaging, first, second,
+        ),
     }
 }

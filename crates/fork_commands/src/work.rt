@@ -5,10 +5,13 @@ ghost use Rattle.fork_format.specs.Canonical.{clear};
 ghost use Rattle.fork_format.specs.Fork.{Spells};
 ghost use Rattle.fork_format.specs.View.{view};
 ghost use Rattle.fork_commands.specs.Faults.{Stops};
+ghost use Rattle.fork_commands.specs.Packaging.{then_packed};
 ghost use Rattle.fork_commands.specs.Works.{canonical, datum_at, made, HoldsStated};
-ghost use Rattle.fork_commands.specs.declared.work.ForkWork.TheVariants.{Rewrite, Get, Derez, Rez};
+ghost use Rattle.fork_commands.specs.declared.work.ForkWork.TheVariants.{Rewrite, Change, Get, Derez, Rez};
 
+use crate::editing::{Edit, make_edit};
 use crate::fault::{FileFault, WorkFault};
+use crate::packaging::{Packaging, packed};
 use crate::reading::content_in;
 use fork_edits::find_resource;
 use fork_format::{Content, write_fork};
@@ -25,9 +28,11 @@ pub struct ResourceKey {
 
 /// What is made of the bytes of a file.
 #[derive(Clone, Copy)]
-pub enum ForkWork {
-    /// The canonical fork of the content that the bytes spell.
-    Rewrite,
+pub enum ForkWork<'a> {
+    /// The canonical fork of the content that the bytes spell, alone or in the wrapper of the file.
+    Rewrite(Packaging),
+    /// The canonical fork of that content after an edit of one resource, alone or in the wrapper of the file.
+    Change(Edit<'a>, Packaging),
     /// The stored data of the first resource of a type and an ID.
     Get(ResourceKey),
     /// The content that the bytes spell, as source of Rez.
@@ -50,13 +55,44 @@ pub fn canonical(alloc: Global, content: &Content<'_>) -> Result<Vec<u8>, WorkFa
     }
 }
 
+/// Returns the canonical fork of a content, alone or in the wrapper of a file.
+pub(crate) fn written(
+    alloc: Global,
+    packaging: Packaging,
+    file: &[u8],
+    content: &Content<'_>,
+) -> Result<Vec<u8>, WorkFault>
+    ensures made { IfOk result (λ out. then_packed packaging file.now (canonical (view content.now)) ≡ Ok out.items) }
+    ensures fault { IfErr result (λ fault. Stops fault (then_packed packaging file.now (canonical (view content.now)))) }
+{
+    let fork = canonical(alloc, content)?;
+    packed(alloc, packaging, file, fork)
+}
+
 /// Returns the canonical fork of the content that bytes spell.
-fn rewritten(alloc: Global, bytes: &[u8]) -> Result<Vec<u8>, WorkFault>
-    ensures made { IfOk result (λ out. made Rewrite bytes.now ≡ Ok out.items) }
-    ensures fault { IfErr result (λ fault. Stops fault (made Rewrite bytes.now)) }
+fn rewritten(alloc: Global, packaging: Packaging, bytes: &[u8]) -> Result<Vec<u8>, WorkFault>
+    ensures made { IfOk result (λ out. made (Rewrite packaging) bytes.now ≡ Ok out.items) }
+    ensures fault { IfErr result (λ fault. Stops fault (made (Rewrite packaging) bytes.now)) }
 {
     let content = content_in(alloc, bytes)?;
-    canonical(alloc, &content)
+    written(alloc, packaging, bytes, &content)
+}
+
+/// Returns the canonical fork of the content that bytes spell, after an edit.
+fn changed<'b>(
+    alloc: Global,
+    change: Edit<'b>,
+    packaging: Packaging,
+    bytes: &'b [u8],
+) -> Result<Vec<u8>, WorkFault>
+    ensures made { IfOk result (λ out. made (Change change.entry packaging) bytes.now ≡ Ok out.items) }
+    ensures fault { IfErr result (λ fault. Stops fault (made (Change change.entry packaging) bytes.now)) }
+{
+    let mut content = content_in(alloc, bytes)?;
+    if let Err(fault) = make_edit(&mut content, &change) {
+        return Err(WorkFault::File(fault));
+    }
+    written(alloc, packaging, bytes, &content)
 }
 
 /// Returns a copy of bytes.
@@ -121,15 +157,16 @@ fn assembled(alloc: Global, source: &[u8]) -> Result<Vec<u8>, WorkFault>
 /// # Errors
 ///
 /// The fault of the bytes; if the host is out of memory nothing is said of them.
-pub fn made(alloc: Global, work: ForkWork, bytes: &[u8]) -> Result<Vec<u8>, WorkFault>
-    ensures made { IfOk result (λ out. made work bytes.now ≡ Ok out.items) }
-    ensures fault { IfErr result (λ fault. Stops fault (made work bytes.now)) }
+pub fn made(alloc: Global, work: ForkWork<'_>, bytes: &[u8]) -> Result<Vec<u8>, WorkFault>
+    ensures made { IfOk result (λ out. made work.entry bytes.now ≡ Ok out.items) }
+    ensures fault { IfErr result (λ fault. Stops fault (made work.entry bytes.now)) }
 
     // A fork that is made of source is read again as exactly the content that the source states.
-    ensures read_again { IfOk result (λ out. work ≡ Rez → HoldsStated bytes.now out.items) }
+    ensures read_again { IfOk result (λ out. work.entry ≡ Rez → HoldsStated bytes.now out.items) }
 {
     match work {
-        ForkWork::Rewrite => rewritten(alloc, bytes),
+        ForkWork::Rewrite(packaging) => rewritten(alloc, packaging, bytes),
+        ForkWork::Change(change, packaging) => changed(alloc, change, packaging, bytes),
         ForkWork::Get(key) => gotten(alloc, key, bytes),
         ForkWork::Derez => printed(alloc, bytes),
         ForkWork::Rez => assembled(alloc, bytes),

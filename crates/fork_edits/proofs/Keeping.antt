@@ -8,7 +8,7 @@ use Rattle.std.proofs.lemmas.List.{map-append}
 use Rattle.fork_format.specs.Content.{Ref, Group, Content}
 use Rattle.fork_format.specs.Place.{put}
 use Rattle.fork_edits.specs.Resources.{Row, row, group_rows, rows, has_id, is_at, found, others}
-use Rattle.fork_edits.specs.Setting.{Change, changed, blank, first_changed, row_changed, has_resource, group_changed, replaced}
+use Rattle.fork_edits.specs.Setting.{Change, changed, blank, first_changed, row_changed, has_resource, replaced}
 use Rattle.fork_edits.specs.Setting.{one_group, added, groups_with, with_resource, resource_set}
 use Rattle.fork_edits.proofs.Finding.{find_append}
 
@@ -30,7 +30,7 @@ changed_append {A} p f (x ∷ xs) ys = step (p x) (find p xs) (changed_append p 
     step false None e = ap (λ l. x ∷ l) e
 
 -- an item of a group passes where the group has the resource
-passes_in : (kind k : ℕ) (id : ℤ) (refs : List Ref)
+pub passes_in : (kind k : ℕ) (id : ℤ) (refs : List Ref)
     → is_some (find (is_at kind id) (map (row k) refs)) ≡ (k == kind && is_some (find (has_id id) refs))
 passes_in kind k id [] = none (k == kind)
   where
@@ -47,45 +47,52 @@ passes_in kind k id (r ∷ refs) =
     step true false a b e = e
     step false u a b e = e
 
+-- a resource with its type, changed
+abbrev pub row_by : (Ref → Ref) → Row → Row
+row_by f x = record x { resource = f x.resource }
+
 -- the resources of a group that is changed
-group_changed_rows : (kind k : ℕ) (id : ℤ) (change : Change) (refs : List Ref) → (k == kind) ≡ true
-    → map (row k) (first_changed (has_id id) (changed change) refs)
-    ≡ first_changed (is_at kind id) (row_changed change) (map (row k) refs)
-group_changed_rows kind k id change [] same = refl
-group_changed_rows kind k id change (r ∷ refs) same =
-    step (k == kind) (has_id id r) same (group_changed_rows kind k id change refs same)
+group_changed_rows : (kind k : ℕ) (id : ℤ) (f : Ref → Ref) (refs : List Ref) → (k == kind) ≡ true
+    → map (row k) (first_changed (has_id id) f refs) ≡ first_changed (is_at kind id) (row_by f) (map (row k) refs)
+group_changed_rows kind k id f [] same = refl
+group_changed_rows kind k id f (r ∷ refs) same =
+    step (k == kind) (has_id id r) same (group_changed_rows kind k id f refs same)
   where
     step : (t u : Bool) → t ≡ true
-        → map (row k) (first_changed (has_id id) (changed change) refs)
-        ≡ first_changed (is_at kind id) (row_changed change) (map (row k) refs)
-        → map (row k) (cond u (changed change r ∷ refs) (r ∷ first_changed (has_id id) (changed change) refs))
-        ≡ cond (t && u) (row k (changed change r) ∷ map (row k) refs)
-        (row k r ∷ first_changed (is_at kind id) (row_changed change) (map (row k) refs))
+        → map (row k) (first_changed (has_id id) f refs) ≡ first_changed (is_at kind id) (row_by f) (map (row k) refs)
+        → map (row k) (cond u (f r ∷ refs) (r ∷ first_changed (has_id id) f refs))
+        ≡ cond (t && u) (row k (f r) ∷ map (row k) refs)
+        (row k r ∷ first_changed (is_at kind id) (row_by f) (map (row k) refs))
     step true true h e = refl
     step true false h e = ap (λ l. row k r ∷ l) e
     step false u h e = cc
 
 -- the first resource of the type and the ID is changed in its place
-replaced_rows : (kind : ℕ) (id : ℤ) (change : Change) (groups : List Group)
-    → rows (replaced kind id change groups) ≡ first_changed (is_at kind id) (row_changed change) (rows groups)
-replaced_rows kind id change [] = refl
-replaced_rows kind id change (g ∷ groups) =
-    step (g.kind == kind) (is_some (find (has_id id) g.refs)) refl (replaced_rows kind id change groups)
-    ∙ sym (changed_append (is_at kind id) (row_changed change) (group_rows g) (rows groups)
-    ∙ ap (λ (t : Bool). cond t (first_changed (is_at kind id) (row_changed change) (group_rows g) ++ rows groups)
-    (group_rows g ++ first_changed (is_at kind id) (row_changed change) (rows groups))) (passes_in kind g.kind id g.refs))
+abbrev pub groups_by : ℕ → ℤ → (Ref → Ref) → List Group → List Group
+groups_by kind id f groups =
+    first_changed (has_resource kind id) (λ (g : Group). record g { refs = first_changed (has_id id) f g.refs }) groups
+
+pub changed_rows : (kind : ℕ) (id : ℤ) (f : Ref → Ref) (groups : List Group)
+    → rows (groups_by kind id f groups) ≡ first_changed (is_at kind id) (row_by f) (rows groups)
+changed_rows kind id f [] = refl
+changed_rows kind id f (g ∷ groups) =
+    step (g.kind == kind) (is_some (find (has_id id) g.refs)) refl (changed_rows kind id f groups)
+    ∙ sym (changed_append (is_at kind id) (row_by f) (group_rows g) (rows groups)
+    ∙ ap (λ (t : Bool). cond t (first_changed (is_at kind id) (row_by f) (group_rows g) ++ rows groups)
+    (group_rows g ++ first_changed (is_at kind id) (row_by f) (rows groups))) (passes_in kind g.kind id g.refs))
   where
     step : (t u : Bool) → (g.kind == kind) ≡ t
-        → rows (replaced kind id change groups) ≡ first_changed (is_at kind id) (row_changed change) (rows groups)
-        → rows (cond (t && u) (group_changed id change g ∷ groups) (g ∷ replaced kind id change groups))
-        ≡ cond (t && u) (first_changed (is_at kind id) (row_changed change) (group_rows g) ++ rows groups)
-        (group_rows g ++ first_changed (is_at kind id) (row_changed change) (rows groups))
-    step true true h e = ap (λ l. l ++ rows groups) (group_changed_rows kind g.kind id change g.refs h)
+        → rows (groups_by kind id f groups) ≡ first_changed (is_at kind id) (row_by f) (rows groups)
+        → rows (cond (t && u) (record g { refs = first_changed (has_id id) f g.refs } ∷ groups)
+        (g ∷ groups_by kind id f groups))
+        ≡ cond (t && u) (first_changed (is_at kind id) (row_by f) (group_rows g) ++ rows groups)
+        (group_rows g ++ first_changed (is_at kind id) (row_by f) (rows groups))
+    step true true h e = ap (λ l. l ++ rows groups) (group_changed_rows kind g.kind id f g.refs h)
     step true false h e = ap (λ l. group_rows g ++ l) e
     step false u h e = ap (λ l. group_rows g ++ l) e
 
 -- a resource of the type and the ID is found where a group has it
-found_in : (kind : ℕ) (id : ℤ) (groups : List Group)
+pub found_in : (kind : ℕ) (id : ℤ) (groups : List Group)
     → list_any (has_resource kind id) groups ≡ is_some (find (is_at kind id) (rows groups))
 found_in kind id [] = refl
 found_in kind id (g ∷ groups) =
@@ -161,7 +168,7 @@ only_other p x (z ∷ xs) ys passes none = later (p z) (only_other p x xs ys pas
     later false h e = ap (λ l. z ∷ l) (h e)
 
 -- where none passes all are others
-all_others : {A : Type 0} (p : A → Bool) (xs : List A) → find p xs ≡ None → others p xs ≡ xs
+pub all_others : {A : Type 0} (p : A → Bool) (xs : List A) → find p xs ≡ None → others p xs ≡ xs
 all_others p [] none = refl
 all_others p (x ∷ xs) none = cases (p x) (all_others p xs) none
   where
@@ -203,7 +210,7 @@ there_before kind id change groups is =
   where
     cases : (t : Bool) → t ≡ true → rows (cond t (replaced kind id change groups) (added kind id change groups))
         ≡ first_changed (is_at kind id) (row_changed change) (rows groups)
-    cases true h = replaced_rows kind id change groups
+    cases true h = changed_rows kind id (changed change) groups
     cases false h = cc
 
 not_before : (kind : ℕ) (id : ℤ) (change : Change) (groups : List Group) → find (is_at kind id) (rows groups) ≡ None

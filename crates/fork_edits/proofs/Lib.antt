@@ -1,9 +1,14 @@
 pub mod Changing
+pub mod Doubles
 pub mod Finding
+pub mod Fixing
+pub mod Gathering
 pub mod Keeping
+pub mod Moving
 pub mod Naming
 pub mod Pairing
 pub mod Queues
 pub mod Same
+pub mod Taking
 pub mod Vectors
 pub mod Words

@@ -45,7 +45,7 @@ front [] = []
 front (c ∷ rest) = cond (c == 45) [] (c ∷ front rest)
 
 -- bytes of which each is a decimal digit
-abbrev IsDigits : List ℕ → Type 0
+abbrev pub IsDigits : List ℕ → Type 0
 IsDigits [] = Unit {0}
 IsDigits (d ∷ ds) = (48 ≤ d) × (d ≤ 57) × IsDigits ds
 
@@ -57,7 +57,7 @@ digits-zeros : (k : ℕ) → IsDigits (replicate k 48)
 digits-zeros zero = tt
 digits-zeros (suc k) = (lit≤ tt, lit≤ tt, digits-zeros k)
 
-digits-decimal : (n : ℕ) → n < 2 ^ 64 → IsDigits (decimal n)
+pub digits-decimal : (n : ℕ) → n < 2 ^ 64 → IsDigits (decimal n)
 digits-decimal n small = decimal_by_steps (λ m ds. IsDigits ds) one more n small
   where
     one : (m : ℕ) → m < 10 → IsDigits ((48 + m) ∷ [])
@@ -71,7 +71,7 @@ digits-place n small = digits-append (replicate (4 - length (decimal n)) 48) (de
     (digits-zeros (4 - length (decimal n))) (digits-decimal n small)
 
 -- a digit is no letter and no dash
-digit-lower : (d : ℕ) → d ≤ 57 → to_ascii_lowercase d ≡ d
+pub digit-lower : (d : ℕ) → d ≤ 57 → to_ascii_lowercase d ≡ d
 digit-lower d h = grind (arith, nat_tests)
 
 digit-dash : (d : ℕ) → 48 ≤ d → (d == 45) ≡ false

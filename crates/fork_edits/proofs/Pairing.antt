@@ -32,12 +32,12 @@ same_turned r s =
     (λ h. (Decides-int_eq s.resource.id r.resource.id).1 (sym ((Decides-int_eq r.resource.id s.resource.id).0 h))))
 
 -- where none waits all are alone
-all_alone : (news : List Row) → unmatched news [] ≡ news
+pub all_alone : (news : List Row) → unmatched news [] ≡ news
 all_alone [] = refl
 all_alone (s ∷ news) = ap (λ l. s ∷ l) (all_alone news)
 
 -- a resource that waits takes away its counterpart
-first_taken : (r : Row) (news olds : List Row) → unmatched news (r ∷ olds) ≡ unmatched (others (is_same r) news) olds
+pub first_taken : (r : Row) (news olds : List Row) → unmatched news (r ∷ olds) ≡ unmatched (others (is_same r) news) olds
 first_taken r [] olds = refl
 first_taken r (s ∷ news) olds =
     cases (is_same s r) (is_same r s) (same_turned s r) (first_taken r news (others (is_same s) olds))

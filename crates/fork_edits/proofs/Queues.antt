@@ -64,7 +64,7 @@ apart_test x y h r passes =
     ap (λ k. k == y.0 && int_eq r.resource.id y.1) one ∙ ap (λ i. x.0 == y.0 && int_eq i y.1) two ∙ h
 
 -- the first of those that pass is found
-first_found : {A : Type 0} (p : A → Bool) (xs ys : List A) (y : A) → filter p xs ≡ y ∷ ys → find p xs ≡ Some y
+pub first_found : {A : Type 0} (p : A → Bool) (xs ys : List A) (y : A) → filter p xs ≡ y ∷ ys → find p xs ≡ Some y
 first_found p [] ys y e = cc
 first_found p (x ∷ xs) ys y e = cases (p x) (first_found p xs ys y) e
   where
@@ -73,7 +73,7 @@ first_found p (x ∷ xs) ys y e = cases (p x) (first_found p xs ys y) e
     cases true h e = cc
     cases false h e = h e
 
-none_found : {A : Type 0} (p : A → Bool) (xs : List A) → filter p xs ≡ [] → find p xs ≡ None
+pub none_found : {A : Type 0} (p : A → Bool) (xs : List A) → filter p xs ≡ [] → find p xs ≡ None
 none_found p [] e = refl
 none_found p (x ∷ xs) e = cases (p x) (none_found p xs) e
   where
@@ -83,7 +83,7 @@ none_found p (x ∷ xs) e = cases (p x) (none_found p xs) e
     cases false h e = h e
 
 -- and the others of them are left
-rest_left : {A : Type 0} (p : A → Bool) (xs : List A) → filter p (others p xs) ≡ drop 1 (filter p xs)
+pub rest_left : {A : Type 0} (p : A → Bool) (xs : List A) → filter p (others p xs) ≡ drop 1 (filter p xs)
 rest_left p [] = refl
 rest_left p (x ∷ xs) = cases (p x) refl (rest_left p xs)
   where
@@ -93,7 +93,7 @@ rest_left p (x ∷ xs) = cases (p x) refl (rest_left p xs)
     cases false h e = rw h e
 
 -- as all are that never pass
-apart_left : {A : Type 0} (p q : A → Bool) (xs : List A) → ((x : A) → p x ≡ true → q x ≡ false)
+pub apart_left : {A : Type 0} (p q : A → Bool) (xs : List A) → ((x : A) → p x ≡ true → q x ≡ false)
     → filter q (others p xs) ≡ filter q xs
 apart_left p q [] apart = refl
 apart_left p q (x ∷ xs) apart = cases (p x) refl (apart_left p q xs apart)

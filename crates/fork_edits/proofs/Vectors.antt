@@ -1,11 +1,17 @@
 use Rattle.std.proofs.Common.{◌≡◌, List, [], ◌∷◌, refl, Some, None, codes, replicate}
-use Rattle.std.specs.Prelude.{pos, true, false}
+use Rattle.std.specs.Prelude.{ℤ, pos, true, false, Ok, Err}
 use Rattle.fork_format.specs.Content.{Ref, Content}
 use Rattle.fork_edits.specs.Types.{type_read}
 use Rattle.fork_edits.specs.Texts.{type_text, name_text}
 use Rattle.fork_edits.specs.Attributes.{attrs_read}
 use Rattle.fork_edits.specs.Resources.{row, found}
 use Rattle.fork_edits.specs.Setting.{Change, with_resource}
+use Rattle.fork_edits.specs.Removing.{without_resource}
+use Rattle.fork_edits.specs.Merging.{merged}
+use Rattle.fork_edits.specs.Twins.{twin}
+use Rattle.fork_edits.specs.FixedNames.{fixed_bytes}
+use Rattle.fork_edits.specs.Renaming.{Renaming, with_renamed, refusal}
+use Rattle.fork_edits.specs.declared.renaming.RenameFault.TheVariants.{NotFound, Taken}
 use Rattle.fork_edits.specs.Differences.{Removed, Changed, Added, Order, differences}
 
 -- types as people write them
@@ -92,3 +98,62 @@ one_each = refl
 attributes : differences (of (greeting ∷ [])) (of (record greeting { attrs = 0 } ∷ []))
     ≡ Changed 0x53545220 (pos 128) (record { name = false; attrs = true; datum = false }) ∷ []
 attributes = refl
+
+-- of two resources the first is taken out, and then the second with its type
+abbrev both_strings : Content
+both_strings =
+    record { area = []; attrs = 0; groups = record { kind = 0x53545220; refs = greeting ∷ farewell ∷ [] } ∷ [] }
+
+taken_out : (without_resource 0x53545220 (pos 128) both_strings).groups
+    ≡ record { kind = 0x53545220; refs = farewell ∷ [] } ∷ []
+taken_out = refl
+
+with_its_type : (without_resource 0x53545220 (pos 129) (without_resource 0x53545220 (pos 128) both_strings)).groups ≡ []
+with_its_type = refl
+
+-- a resource gets another ID and no name, and keeps the rest; the ID of another is refused
+abbrev to_id : ℤ → Renaming
+to_id id = record { id = Some id; name = Some None; attrs = None }
+
+moved : (with_renamed 0x53545220 (pos 128) (to_id (pos 130)) both_strings).groups ≡ record {
+  kind = 0x53545220;
+  refs = record { id = pos 130; name = None; attrs = 32; datum = 1 ∷ [] } ∷ farewell ∷ [];
+} ∷ []
+moved = refl
+
+not_taken : (refusal 0x53545220 (pos 128) (to_id (pos 130)) both_strings ≡ None)
+    × (refusal 0x53545220 (pos 128) (to_id (pos 128)) both_strings ≡ None)
+not_taken = (refl, refl)
+
+is_refused : (refusal 0x53545220 (pos 128) (to_id (pos 129)) both_strings ≡ Some Taken)
+    × (refusal 0x53545220 (pos 131) (to_id (pos 132)) both_strings ≡ Some NotFound)
+is_refused = (refl, refl)
+
+-- two contents merged: a type and an ID that stand in both are refused, or the second's resource replaces the first's
+abbrev other_greeting : Ref
+other_greeting = record greeting { datum = 4 ∷ [] }
+
+one_after_another : merged false (of (greeting ∷ [])) (of (farewell ∷ [])) ≡ Ok (of (greeting ∷ farewell ∷ []))
+one_after_another = refl
+
+in_both : merged false (of (farewell ∷ greeting ∷ [])) (of (other_greeting ∷ [])) ≡ Err (0x53545220, pos 128)
+in_both = refl
+
+in_its_place : merged true (of (greeting ∷ farewell ∷ [])) (of (other_greeting ∷ []))
+    ≡ Ok (of (other_greeting ∷ farewell ∷ []))
+in_its_place = refl
+
+-- types in the names of files by type and ID
+capitals : fixed_bytes false (codes "STR ") ≡ codes "STR_20"
+capitals = refl
+
+small_letters : fixed_bytes false (codes "icl8") ≡ codes "+icl8"
+small_letters = refl
+
+both_cases : fixed_bytes false (codes "DaTa") ≡ codes "D+a+T+a"
+both_cases = refl
+
+-- resources of one type and ID
+of_one_id : twin (row 0x53545220 farewell ∷ row 0x53545220 greeting ∷ row 0x53545220 other_greeting ∷ [])
+    ≡ Some (row 0x53545220 greeting)
+of_one_id = refl

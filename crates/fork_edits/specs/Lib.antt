@@ -2,9 +2,16 @@ pub mod Types
 pub mod Texts
 pub mod Resources
 pub mod Setting
+pub mod Removing
+pub mod Renaming
+pub mod Merging
+pub mod MergeFaults
+pub mod Twins
 pub mod Differences
 pub mod Lines
 pub mod Attributes
 pub mod FileNames
+pub mod FixedNames
+pub mod Contents
 pub mod View
 pub mod Waiting

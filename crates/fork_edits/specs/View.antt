@@ -4,12 +4,14 @@ use Rattle.mac_words.specs.declared.attributes.Attrs.{Attrs}
 use Rattle.fork_format.specs.View.{view_name, view_ref}
 use Rattle.fork_edits.specs.declared.resources.Row.{Row as StoredRow}
 use Rattle.fork_edits.specs.declared.setting.Change.{Change as StoredChange}
+use Rattle.fork_edits.specs.declared.renaming.Renaming.{Renaming as StoredRenaming}
 use Rattle.fork_edits.specs.declared.differences.Parts.{Parts as StoredParts}
 use Rattle.fork_edits.specs.declared.differences.Difference.{Difference as StoredDifference}
 use Rattle.fork_edits.specs.declared.differences.Difference.TheVariants as stored
 use Rattle.fork_edits.specs.Differences.{Parts, Difference, Area, MapAttrs, Removed, Changed, Added, Order}
 use Rattle.fork_edits.specs.Resources.{Row}
 use Rattle.fork_edits.specs.Setting.{Change}
+use Rattle.fork_edits.specs.Renaming.{Renaming}
 
 -- A resource with its type as a value, without the places where its name and its stored data lie in memory.
 abbrev pub view_row : StoredRow → Row
@@ -21,6 +23,14 @@ view_change c = record {
   datum = c.datum.now;
   name = view_name c.name;
   attrs = option_map (λ (a : Attrs). a.0) c.attrs;
+}
+
+-- What a resource gets as a value.
+abbrev pub view_renaming : StoredRenaming → Renaming
+view_renaming new = record {
+  id = new.id;
+  name = option_map view_name new.name;
+  attrs = option_map (λ (a : Attrs). a.0) new.attrs;
 }
 
 -- The parts that differ, as a value.

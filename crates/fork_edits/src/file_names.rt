@@ -37,7 +37,7 @@ fn push_digits(text: &mut String, byte: u8) -> Result<(), AllocError>
 }
 
 /// Appends a letter or a digit as it is, and any other byte as `_` and two hexadecimal digits.
-fn push_safe(text: &mut String, byte: u8) -> Result<(), AllocError>
+pub(crate) fn push_safe(text: &mut String, byte: u8) -> Result<(), AllocError>
     ensures { OnOk result (string_bytes text.new ≡ string_bytes text.old ++ safe_byte byte) }
 {
     if is_plain(byte) {
@@ -112,7 +112,7 @@ fn push_type(text: &mut String, ty: OsType) -> Result<(), AllocError>
 }
 
 /// Appends an ID in decimal.
-fn push_number(text: &mut String, id: &i16) -> Result<(), AllocError>
+pub(crate) fn push_number(text: &mut String, id: &i16) -> Result<(), AllocError>
     ensures { OnOk result (string_bytes text.new ≡ string_bytes text.old ++ signed_decimal id.now) }
 {
     text.push_str(Buffer::new().format(*id))?;

@@ -1,11 +1,19 @@
-//! Laws of a content in which a resource is set, and of the names of files.
+//! Laws of a content in which a resource is set, taken out or renamed, of two contents merged, and of the names of files.
 
-ghost use Rattle.std.specs.Prelude.{◌≡◌, ◌<◌, ◌^◌, ℕ, ℤ, Some, true, is_some};
+ghost use Rattle.std.specs.Prelude.{◌≡◌, ◌≢◌, ◌<◌, ◌≤◌, ◌^◌, ◌++◌, ◌∷◌, FitsSigned, ℕ, ℤ, List, Some, None, true, is_some, length, map, option_map, unwrap_or};
+ghost use Rattle.std.specs.List.{filter, list_all};
+ghost use Rattle.std.specs.Int.{w16};
 ghost use Rattle.std.specs.Str.{str_to_ascii_lowercase};
-ghost use Rattle.fork_format.specs.Content.{Content};
+ghost use Rattle.fork_format.specs.Canonical.{has_refs};
+ghost use Rattle.fork_format.specs.Content.{Ref, Group, Content, distinct};
 ghost use Rattle.fork_edits.specs.Resources.{Row, rows, is_at, found, others};
 ghost use Rattle.fork_edits.specs.Setting.{Change, first_changed, row_changed, with_resource, resource_set};
+ghost use Rattle.fork_edits.specs.Removing.{without_resource};
+ghost use Rattle.fork_edits.specs.Renaming.{Renaming, renamed, row_renamed, with_renamed, refusal};
+ghost use Rattle.fork_edits.specs.Merging.{both, with_both, or_other, clash};
 ghost use Rattle.fork_edits.specs.FileNames.{file_name};
+ghost use Rattle.fork_edits.specs.FixedNames.{fixed_name};
+ghost use Rattle.fork_edits.specs.Twins.{twin};
 
 /// States that setting a resource of a type and an ID changes nothing else.
 pub fn setting_a_resource_changes_nothing_else()
@@ -25,6 +33,90 @@ pub fn setting_a_resource_changes_nothing_else()
     // The map's attributes and the 240 bytes after the header stay.
     ensures attrs { (kind : ℕ) (id : ℤ) (change : Change) (c : Content) → (with_resource kind id change c).attrs ≡ c.attrs }
     ensures area { (kind : ℕ) (id : ℤ) (change : Change) (c : Content) → (with_resource kind id change c).area ≡ c.area }
+{}
+
+/// States that taking out a resource of a type and an ID changes nothing else.
+pub fn removing_a_resource_changes_nothing_else()
+    // All others are those that there were, in their order.
+    ensures others { (kind : ℕ) (id : ℤ) (c : Content)
+        → rows (without_resource kind id c).groups ≡ others (is_at kind id) (rows c.groups) }
+
+    // Where there was but one of the type and the ID, none is found any more.
+    ensures gone { (kind : ℕ) (id : ℤ) (c : Content) → length (filter (is_at kind id) (rows c.groups)) ≤ 1
+        → found kind id (without_resource kind id c) ≡ None }
+
+    // Where there was none, the content is as it was.
+    ensures none { (kind : ℕ) (id : ℤ) (c : Content) → found kind id c ≡ None → without_resource kind id c ≡ c }
+
+    // Where each type had a resource, each type that is left has one.
+    ensures types { (kind : ℕ) (id : ℤ) (c : Content) → list_all has_refs c.groups ≡ true
+        → list_all has_refs (without_resource kind id c).groups ≡ true }
+
+    // The map's attributes and the 240 bytes after the header stay.
+    ensures attrs { (kind : ℕ) (id : ℤ) (c : Content) → (without_resource kind id c).attrs ≡ c.attrs }
+    ensures area { (kind : ℕ) (id : ℤ) (c : Content) → (without_resource kind id c).area ≡ c.area }
+{}
+
+/// States that giving a resource of a type and an ID another ID, name and attributes changes nothing else.
+pub fn renaming_a_resource_changes_nothing_else()
+    // The resource stays in its place, and so does each other.
+    ensures places { (kind : ℕ) (id : ℤ) (new : Renaming) (c : Content) → rows (with_renamed kind id new c).groups
+        ≡ first_changed (is_at kind id) (row_renamed new) (rows c.groups) }
+
+    // Where it isn't refused, it is the first one of its type and its new ID.
+    ensures found { (kind : ℕ) (id : ℤ) (new : Renaming) (c : Content) → refusal kind id new c ≡ None
+        → found kind (unwrap_or new.id id) (with_renamed kind id new c) ≡ option_map (renamed new) (found kind id c) }
+
+    // All others are then those that there were, in their order.
+    ensures others { (kind : ℕ) (id : ℤ) (new : Renaming) (c : Content) → refusal kind id new c ≡ None
+        → others (is_at kind (unwrap_or new.id id)) (rows (with_renamed kind id new c).groups)
+        ≡ others (is_at kind id) (rows c.groups) }
+
+    // Its stored data stays.
+    ensures datum { (new : Renaming) (r : Ref) → (renamed new r).datum ≡ r.datum }
+
+    // The map's attributes and the 240 bytes after the header stay.
+    ensures attrs { (kind : ℕ) (id : ℤ) (new : Renaming) (c : Content) → (with_renamed kind id new c).attrs ≡ c.attrs }
+    ensures area { (kind : ℕ) (id : ℤ) (new : Renaming) (c : Content) → (with_renamed kind id new c).area ≡ c.area }
+{}
+
+/// States that two contents merged have the resources of both, and nothing else.
+pub fn merging_keeps_each_resource()
+    // Of each type and ID the second's resource is found, where it has one, or else the first's.
+    ensures found { (kind : ℕ) (id : ℤ) (c d : Content)
+        → found kind id (with_both c d) ≡ or_other (found kind id d) (found kind id c) }
+
+    // Of each type and ID there are the resources of both in their order, and no others.
+    ensures all { (kind : ℕ) (id : ℤ) (c d : Content) → filter (is_at kind id) (rows (with_both c d).groups)
+        ≡ filter (is_at kind id) (both (rows c.groups) (rows d.groups)) }
+
+    // Where no type and ID stand in both, the resources of both are those of the first and then those of the second.
+    ensures apart { (olds news : List Row) → clash olds news ≡ None → both olds news ≡ olds ++ news }
+
+    // Each type stands once, in the order in which the types first occur among the resources of both.
+    ensures types { (c d : Content) → map (λ (g : Group). g.kind) (with_both c d).groups
+        ≡ distinct (map (λ (x : Row). x.kind) (both (rows c.groups) (rows d.groups))) }
+
+    // The map's attributes and the 240 bytes after the header are the first's.
+    ensures attrs { (c d : Content) → (with_both c d).attrs ≡ c.attrs }
+    ensures area { (c d : Content) → (with_both c d).area ≡ c.area }
+{}
+
+/// States that two names of files by type and ID differ where the types or the IDs do, also where letters in either case are
+/// taken for the same.
+pub fn fixed_file_names_are_apart()
+    ensures { (j k : ℕ) (x y : ℤ) → j < 2 ^ 32 → k < 2 ^ 32 → FitsSigned w16 x → FitsSigned w16 y
+        → str_to_ascii_lowercase (fixed_name j x) ≡ str_to_ascii_lowercase (fixed_name k y) → (j ≡ k) × (x ≡ y) }
+{}
+
+/// States that where no two resources have one type and ID, no two have one name of a file by type and ID, also where letters in
+/// either case are taken for the same.
+pub fn files_without_twins_are_apart()
+    ensures { (x y : Row) (before between after : List Row) → x.kind < 2 ^ 32 → y.kind < 2 ^ 32
+        → FitsSigned w16 x.resource.id → FitsSigned w16 y.resource.id
+        → twin (before ++ x ∷ (between ++ y ∷ after)) ≡ None
+        → str_to_ascii_lowercase (fixed_name x.kind x.resource.id)
+        ≢ str_to_ascii_lowercase (fixed_name y.kind y.resource.id) }
 {}
 
 /// States that two names of files with different numbers differ, also where letters in either case are taken for the same.

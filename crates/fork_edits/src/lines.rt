@@ -70,7 +70,7 @@ fn push_parts(text: &mut Vec<u8>, parts: &Parts) -> Result<(), AllocError>
 }
 
 /// Appends a type and an ID, with a blank between.
-fn push_key(text: &mut Vec<u8>, ty: OsType, id: &i16) -> Result<(), AllocError>
+pub(crate) fn push_key(text: &mut Vec<u8>, ty: OsType, id: &i16) -> Result<(), AllocError>
     ensures { OnOk result (text.new.items ≡ text.old.items ++ key_text (big_number 4 ty.0) id.now) }
 {
     append_type(text, ty)?;

@@ -52,7 +52,7 @@ fn find_of<'b>(group: &Group<'b>, key: &Key) -> Option<Ref<'b>>
 }
 
 /// Returns the first resource of the groups that has a type and an ID.
-fn first_of<'b>(groups: &[Group<'b>], key: &Key) -> Option<Ref<'b>>
+pub fn first_of<'b>(groups: &[Group<'b>], key: &Key) -> Option<Ref<'b>>
     ensures { option_map view_ref result ≡ option_map (λ (x : RowValue). x.resource)
         (find (is_at key.now.kind key.now.id) (rows (map view_group groups.now))) }
 {

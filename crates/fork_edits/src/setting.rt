@@ -64,7 +64,7 @@ fn new_ref<'b>(key: &Key, change: &Change<'b>) -> Ref<'b>
 }
 
 /// Returns the index of the first resource that has an ID.
-fn index_of(refs: &[Ref<'_>], key: &Key) -> Option<usize>
+pub fn index_of(refs: &[Ref<'_>], key: &Key) -> Option<usize>
     ensures { result ≡ position (λ (r : StoredRef). has_id key.now.id (view_ref r)) refs.now }
 {
     refs.iter().position(|r| r.id == key.id)
@@ -99,7 +99,7 @@ fn holds(group: &Group<'_>, key: &Key) -> bool
 }
 
 /// Returns the index of the first group that has a resource of a type and an ID.
-fn group_with(groups: &[Group<'_>], key: &Key) -> Option<usize>
+pub fn group_with(groups: &[Group<'_>], key: &Key) -> Option<usize>
     ensures { result ≡ position (λ (g : StoredGroup). has_resource key.now.kind key.now.id (view_group g)) groups.now }
 {
     groups.iter().position(|g| holds(g, key))
@@ -123,7 +123,7 @@ fn replace<'b>(groups: &mut Vec<Group<'b>>, at: usize, key: &Key, change: &Chang
 }
 
 /// Adds a resource to a group.
-fn push_ref<'b>(group: &mut Group<'b>, r: Ref<'b>) -> Result<(), AllocError>
+pub fn push_ref<'b>(group: &mut Group<'b>, r: Ref<'b>) -> Result<(), AllocError>
     ensures joined { OnOk result (view_group group.new ≡ with_one (view_ref r.entry) (view_group group.old)) }
     ensures kept { OnErr result (view_group group.new ≡ view_group group.old) }
 {

@@ -23,7 +23,7 @@ pub(crate) fn push_hex(text: &mut Vec<u8>, byte: u8) -> Result<(), AllocError>
 }
 
 /// Appends the hexadecimal digits of bytes.
-fn push_digits(text: &mut Vec<u8>, bytes: &[u8]) -> Result<(), AllocError>
+pub(crate) fn push_digits(text: &mut Vec<u8>, bytes: &[u8]) -> Result<(), AllocError>
     ensures { OnOk result (text.new.items ≡ text.old.items ++ flat_map hex_byte bytes.now) }
 {
     for byte in bytes {

@@ -4,3 +4,12 @@ pub mod Tests
 pub mod Walking
 pub mod Worked
 pub mod Damaged
+pub mod Pieces
+pub mod Stretches
+pub mod NewHeaders
+pub mod NewEntries
+pub mod FoundAgain
+pub mod Judged
+pub mod Sums
+pub mod Rewraps
+pub mod Keeps

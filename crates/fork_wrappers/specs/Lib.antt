@@ -3,3 +3,4 @@ pub mod Entries
 pub mod MacBinary
 pub mod Unwrapped
 pub mod Made
+pub mod Rewrapped

@@ -59,7 +59,7 @@ fn do_entries_fit(bytes: &[u8], count: usize) -> bool
 }
 
 /// Returns whether the entry at an offset is of the resource fork.
-fn names_fork(bytes: &[u8], at: usize) -> bool
+pub fn names_fork(bytes: &[u8], at: usize) -> bool
     requires { at + 12 ≤ length bytes.now }
     ensures { result ≡ is_fork_entry bytes.now at }
 {
@@ -87,7 +87,7 @@ fn with_entry(bytes: &[u8], at: usize, found: Option<usize>) -> Result<Option<us
 
 /// Returns the entry of the resource fork among `count` entries, if there is one.
 #[tactic(auto, using(crate::proofs::Walking::ends))]
-fn fork_entry_of(bytes: &[u8], count: usize) -> Result<Option<usize>, EntriesFault>
+pub fn fork_entry_of(bytes: &[u8], count: usize) -> Result<Option<usize>, EntriesFault>
     requires room { 26 + 12 * count ≤ length bytes.now }
     requires fits { IsTrue (list_all (entry_fits bytes.now) (offsets 26 12 count)) }
     ensures entry { result ≡ only_entry (filter (is_fork_entry bytes.now) (offsets 26 12 count)) }

@@ -1,5 +1,9 @@
 //! How a wrapper is damaged.
 
+ghost use Rattle.std.specs.Prelude.{◌≡◌};
+ghost use Rattle.fork_wrappers.specs.declared.fault.RewrapFault.TheVariants as rewrap_fault;
+
+use std::alloc::AllocError;
 use thiserror::Error;
 
 /// How an AppleSingle file, or the header file of AppleDouble, is damaged.
@@ -48,4 +52,33 @@ pub enum WrapFault {
     AppleDouble(EntriesFault),
     #[error("MacBinary: {0}")]
     MacBinary(MacBinaryFault),
+}
+
+/// Why a file could not be given another resource fork.
+#[derive(Clone, Copy, Debug, PartialEq, Eq, Error)]
+pub enum RewrapFault {
+    /// The wrapper of the file is damaged.
+    #[error("{0}")]
+    Damaged(WrapFault),
+    /// What an entry of AppleSingle or AppleDouble names has bytes in the resource fork, in the header or in the list of
+    /// entries, or the resource fork has.
+    #[error("an entry overlaps the resource fork or the header")]
+    Overlap,
+    /// A length, an offset or the number of entries does not fit the wrapper.
+    #[error("the resource fork is too long for the wrapper")]
+    TooLong,
+    /// With this fork the file would be taken for one that is wrapped otherwise, or for a bare fork.
+    #[error("with this resource fork the file would be taken for another kind of file")]
+    Unrecognized,
+    /// The host is out of memory.
+    #[error("the host is out of memory")]
+    HostMemory,
+}
+
+impl From<AllocError> for RewrapFault {
+    ghost from_gives = { λ _ e. e ≡ rewrap_fault.HostMemory };
+
+    fn from(_e: AllocError) -> RewrapFault {
+        RewrapFault::HostMemory
+    }
 }

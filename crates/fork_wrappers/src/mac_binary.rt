@@ -72,12 +72,21 @@ fn has_printable_name(bytes: &[u8]) -> bool
 }
 
 /// Returns a length rounded up to a multiple of 128.
-fn padded_of(len: usize) -> usize
+pub fn padded_of(len: usize) -> usize
     requires { len < 2 ^ 32 }
     ensures padded { result ≡ padded len }
     ensures small { result < 2 ^ 33 }
 {
     (len + 127) / 128 * 128
+}
+
+/// Returns where the resource fork begins.
+pub fn fork_place_of(bytes: &[u8]) -> usize
+    requires { 128 ≤ length bytes.now }
+    ensures place { result ≡ fork_place bytes.now }
+    ensures small { result < 2 ^ 34 }
+{
+    128 + padded_of(half(bytes, 120)) + padded_of(word(bytes, 83))
 }
 
 /// Returns the greatest length of a file with a MacBinary header.

@@ -1,0 +1,16 @@
+use Rattle.std.proofs.Common.{◌≡◌, ◌^◌, ◌<◌, true, not, ◌||◌, cond, length, ◌∙◌, ap, arith}
+use Rattle.std.specs.Prelude.{nat_lt, Some, None}
+use Rattle.std.proofs.lemmas.Bool.{le-ltb}
+use Rattle.bin_hex.specs.File.{File, refusal, is_name_length}
+use Rattle.bin_hex.specs.declared.fault.WriteFault.TheVariants as fault
+
+-- a file whose name and forks are not too long can be written
+pub can_be_written : (file : File) → is_name_length (length file.name) ≡ true → length file.data_fork < 2 ^ 32
+    → length file.resource_fork < 2 ^ 32 → refusal file ≡ None
+can_be_written file named low high =
+    ap (λ t. cond (not t) (Some fault.NameLength)
+    (cond (nat_lt 0xFFFFFFFF (length file.data_fork) || nat_lt 0xFFFFFFFF (length file.resource_fork))
+    (Some fault.TooLong) None)) named
+    ∙ ap (λ t. cond (t || nat_lt 0xFFFFFFFF (length file.resource_fork)) (Some fault.TooLong) None)
+    (le-ltb 0xFFFFFFFF (length file.data_fork) (omega arith))
+    ∙ ap (λ t. cond t (Some fault.TooLong) None) (le-ltb 0xFFFFFFFF (length file.resource_fork) (omega arith))

@@ -1,0 +1,14 @@
+pub mod Again
+pub mod ContentsAgain
+pub mod Finding
+pub mod Fitting
+pub mod Holding
+pub mod Literals
+pub mod PackingAgain
+pub mod Pieces
+pub mod Places
+pub mod RunsAgain
+pub mod Sums
+pub mod Taking
+pub mod TextAgain
+pub mod Worked

@@ -1,0 +1,10 @@
+pub mod Alphabet
+pub mod BinHex
+pub mod Checksum
+pub mod Contents
+pub mod Faults
+pub mod File
+pub mod Packing
+pub mod Reader
+pub mod Runs
+pub mod Text

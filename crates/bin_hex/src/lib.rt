@@ -1,0 +1,20 @@
+//! BinHex 4.0: files of the Macintosh as text, read and written.
+#![tactic(auto)]
+
+mod alphabet;
+mod checksum;
+mod fault;
+mod file;
+mod laws;
+mod packing;
+mod reading;
+mod runs;
+mod text;
+mod writing;
+
+pub use fault::{BinHexFault, Damage, Part, WriteFault};
+pub use file::BinHexFile;
+pub use laws::{a_file_is_read_again, a_file_is_read_from_any_lines};
+pub use reading::read;
+pub use text::is_bin_hex;
+pub use writing::write;

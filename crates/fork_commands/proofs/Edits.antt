@@ -1,0 +1,46 @@
+use Rattle.std.proofs.Common.{◌≡◌, true, false, Option, Some, None, Ok, Err, refl, ap, sym}
+use Rattle.std.specs.Prelude.{is_some}
+use Rattle.byteorder.specs.Endian.{big_number}
+use Rattle.mac_words.specs.declared.code.TheConstants.OsErr.{RES_NOT_FOUND}
+use Rattle.fork_format.specs.Content.{Ref, Content}
+use Rattle.fork_edits.specs.declared.renaming.RenameFault.{RenameFault}
+use Rattle.fork_edits.specs.declared.renaming.Renaming.{Renaming}
+use Rattle.fork_edits.specs.Resources.{found}
+use Rattle.fork_edits.specs.Removing.{without_resource}
+use Rattle.fork_edits.specs.Renaming.{with_renamed, refusal}
+use Rattle.fork_edits.specs.View.{view_renaming}
+use Rattle.fork_commands.specs.declared.editing.Edit.TheVariants.{Remove, Rename}
+use Rattle.fork_commands.specs.declared.fault.FileFault.{FileFault}
+use Rattle.fork_commands.specs.declared.fault.FileFault.TheVariants.{Code}
+use Rattle.fork_commands.specs.declared.work.ResourceKey.{ResourceKey}
+use Rattle.fork_commands.specs.Editing.{edited, rename_fault}
+
+-- Edits of one resource of a content.
+
+-- a resource was taken out
+pub removed_there : (key : ResourceKey) (c d : Content) (taken : Option Ref)
+    → taken ≡ found (big_number 4 key.ty.0) key.id c → is_some taken ≡ true
+    → d ≡ without_resource (big_number 4 key.ty.0) key.id c → edited (Remove key) c ≡ Ok d
+unfolding edited
+removed_there key c d taken is some left = rw (← is) (rw some (ap Ok (sym left)))
+
+-- there was none
+pub removed_not : (key : ResourceKey) (c : Content) (taken : Option Ref)
+    → taken ≡ found (big_number 4 key.ty.0) key.id c → is_some taken ≡ false
+    → edited (Remove key) c ≡ Err (Code RES_NOT_FOUND)
+unfolding edited
+removed_not key c taken is none = rw (← is) (rw none refl)
+
+-- a resource was renamed
+pub renamed_there : (key : ResourceKey) (new : Renaming) (c d : Content)
+    → refusal (big_number 4 key.ty.0) key.id (view_renaming new) c ≡ None
+    → d ≡ with_renamed (big_number 4 key.ty.0) key.id (view_renaming new) c → edited (Rename key new) c ≡ Ok d
+unfolding edited
+renamed_there key new c d none is = rw none (ap Ok (sym is))
+
+-- why it was not
+pub renamed_not : (key : ResourceKey) (new : Renaming) (c : Content) (why : RenameFault) (told : FileFault)
+    → refusal (big_number 4 key.ty.0) key.id (view_renaming new) c ≡ Some why → told ≡ rename_fault why
+    → edited (Rename key new) c ≡ Err told
+unfolding edited
+renamed_not key new c why told some is = rw some (ap Err (sym is))

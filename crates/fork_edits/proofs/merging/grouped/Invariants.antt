@@ -1,0 +1,13 @@
+use Rattle.std.proofs.Common.{◌≡◌, [], map, drop}
+use Rattle.fork_format.specs.Place.{ArePlaces}
+use Rattle.fork_format.specs.View.{view_group}
+use Rattle.fork_edits.specs.Merging.{with_rows}
+use Rattle.fork_edits.specs.View.{view_row}
+use Rattle.fork_edits.proofs.merging.grouped.Given as goal
+
+-- the resources to come, put into the groups so far, make the groups of all
+abbrev pub invariant-loop-row : goal.invariant-loop-row
+invariant-loop-row l = record {
+  places : ArePlaces l.places (map view_group l.groups.items);
+  groups : with_rows (map view_row (drop l.row-index l.rows)) (map view_group l.groups.items) ≡ with_rows (map view_row l.rows) [];
+}

@@ -1,0 +1,17 @@
+use Rattle.std.proofs.Common.{map, refl}
+use Rattle.fork_edits.specs.View.{view_row}
+use Rattle.fork_edits.proofs.Gathering.{unmatched_further}
+use Rattle.fork_edits.proofs.merging.push_unmatched.Goals as goal
+
+pub loop-new-init : goal.loop-new-init
+loop-new-init c = (map view_row c.args.olds.now, c.in_ok-waiting.ensures, refl)
+
+pub loop-new-preserved : goal.loop-new-preserved
+loop-new-preserved c =
+    let rest = c.loop-new.invariant.0 in (
+      _,
+      c.in_ok-push_alone.ensures.others rest c.loop-new.invariant.1,
+      unmatched_further c.args.news.now
+          c.loop-new.new-index c.new-item.result rest (map view_row c.loop-new.out.items) _ _ c.loop-new-test.true
+          c.new-item.is (c.in_ok-push_alone.ensures.pushed rest c.loop-new.invariant.1) c.loop-new.invariant.2,
+    )

@@ -1,0 +1,14 @@
+use Rattle.std.proofs.Common.{arith, ◌∙◌, ◌+◌, ◌-◌, ap, ◌++◌}
+use Rattle.std.specs.List.{flat_map}
+use Rattle.fork_format.specs.Fork.{offsets, ref_places}
+use Rattle.fork_rules.proofs.Listing.{next_listed}
+use Rattle.fork_rules.proofs.places.references_of.Goals as goal
+
+pub loop-preserved : goal.loop-preserved
+loop-preserved c = record {
+  place = omega arith;
+  all = ap (λ l. l ++ flat_map (λ type. ref_places type c.args.bytes.now) (offsets (c.loop.at + 8) 8
+      (c.args.count - (c.loop.counter + 1)))) c.in_ok-push_references.ensures
+      ∙ next_listed (λ type. ref_places type c.args.bytes.now) c.loop.places.items c.loop.at 8 c.args.count c.loop.counter _
+      c.loop-test.true c.loop.invariant.all;
+}

@@ -1,0 +1,12 @@
+use Rattle.std.proofs.Common.{◌≡◌, ◌+◌, ◌*◌, ◌-◌, ◌++◌}
+use Rattle.std.specs.List.{flat_map}
+use Rattle.fork_format.specs.Fork.{offsets, ref_places}
+use Rattle.fork_rules.proofs.places.references_of.Given as goal
+
+-- the references of the types so far, with those of the types that are left, are all
+abbrev pub invariant-loop : goal.invariant-loop
+invariant-loop l = record {
+  place : l.at ≡ l.fn.first + 8 * l.counter;
+  all : l.places.items ++ flat_map (λ type. ref_places type l.bytes) (offsets l.at 8 (l.count - l.counter))
+      ≡ flat_map (λ type. ref_places type l.bytes) (offsets l.fn.first 8 l.count);
+}

@@ -1,0 +1,91 @@
+use Rattle.std.proofs.Common.{◌≡◌, ℕ, ◌≤◌, Bool, true, false, ◌&&◌, not, cond, List, length, refl}
+use Rattle.std.specs.Prelude.{◌==◌, nat_le, nat_lt, Result, Ok, Err, is_ok}
+use Rattle.std.specs.List.{list_all}
+use Rattle.std.proofs.lemmas.Bool.{and_parts, leb-true, ltb-false, not-false}
+use Rattle.fork_format.specs.Fork.{number, is_fork}
+use Rattle.fork_wrappers.specs.Entries.{is_apple_single, is_apple_double, is_version_known, entries_end, entry_places}
+use Rattle.fork_wrappers.specs.Entries.{entry_fits, fork_entry, fork_named, fork_in_entries}
+use Rattle.fork_wrappers.specs.MacBinary.{is_header, is_first, is_second, is_third}
+use Rattle.fork_wrappers.specs.Unwrapped.{wrapping_of, is_mac_binary, of_wrapper}
+use Rattle.fork_wrappers.specs.declared.fault.EntriesFault.{EntriesFault}
+use Rattle.fork_wrappers.specs.declared.fault.WrapFault.{WrapFault}
+use Rattle.fork_wrappers.specs.declared.wrapping.Wrapping.TheVariants as wrapping
+
+-- What is known of a file in which a fork was found.
+
+-- a file of AppleSingle or AppleDouble whose fork was found
+pub record IsListed (file : List ℕ) : Type 0 where
+  pub header : 26 ≤ length file
+  pub known : is_version_known file ≡ true
+  pub list : entries_end file ≤ length file
+  pub fits : list_all (entry_fits file) (entry_places file) ≡ true
+  pub fork : List ℕ
+  pub named : fork_named file (fork_entry file) ≡ Ok fork
+
+-- a test that did not refuse
+passed : {F : Type 0} (t : Bool) (why : F) (rest : Result (List ℕ) F) (fork : List ℕ) → cond t (Err why) rest ≡ Ok fork
+    → (t ≡ false) × (rest ≡ Ok fork)
+passed true why rest fork h = cc
+passed false why rest fork h = (refl, h)
+
+pub listed : (file fork : List ℕ) → fork_in_entries file ≡ Ok fork → IsListed file
+listed file fork h =
+    let a = passed (nat_lt (length file) 26) _ _ fork h in
+    let b = passed (not (is_version_known file)) _ _ fork a.1 in
+    let c = passed (nat_lt (length file) (entries_end file)) _ _ fork b.1 in
+    let d = passed (not (list_all (entry_fits file) (entry_places file))) _ _ fork c.1 in
+    record {
+      header = ltb-false (length file) 26 a.0;
+      known = not-false _ b.0;
+      list = ltb-false (length file) (entries_end file) c.0;
+      fits = not-false _ d.0;
+      fork = fork;
+      named = d.1;
+    }
+
+pub listed_if_ok : (wrapper : EntriesFault → WrapFault) (file : List ℕ)
+    → is_ok (of_wrapper wrapper (fork_in_entries file)) ≡ true → IsListed file
+listed_if_ok wrapper file h = cases (fork_in_entries file) refl h
+  where
+    cases : (r : Result (List ℕ) EntriesFault) → fork_in_entries file ≡ r → is_ok (of_wrapper wrapper r) ≡ true
+        → IsListed file
+    cases (Ok fork) e h = listed file fork e
+    cases (Err why) e h = cc
+
+-- a MacBinary file has a header
+header_long : (file : List ℕ) → is_header file ≡ true → 128 ≤ length file
+header_long file h = leb-true 128 (length file)
+    (first (nat_le 128 (length file)) (number 1 0 file == 0) (number 1 74 file == 0) (number 1 82 file == 0)
+    (nat_le 1 (number 1 1 file)) (nat_le (number 1 1 file) 63) h)
+  where
+    first : (a b c d e f : Bool) → (a && b && c && d && e && f) ≡ true → a ≡ true
+    first true b c d e f h = refl
+    first false b c d e f h = cc
+
+third_long : (file : List ℕ) → is_third file ≡ true → 128 ≤ length file
+third_long file h = header_long file (and_parts (is_header file) _ h).0
+
+second_long : (file : List ℕ) → is_second file ≡ true → 128 ≤ length file
+second_long file h = header_long file (and_parts (is_header file) _ (and_parts _ _ h).0).0
+
+first_long : (file : List ℕ) → is_first file ≡ true → 128 ≤ length file
+first_long file h =
+    let old = (and_parts _ _ (and_parts _ _ (and_parts _ _ h).0).0).0 in
+    header_long file (and_parts (is_header file) _ (and_parts _ _ (and_parts _ _ old).0).0).0
+
+pub mac_binary_long : (file : List ℕ) → is_mac_binary (wrapping_of file) ≡ true → 128 ≤ length file
+mac_binary_long file h = cases (is_fork file) (is_apple_single file) (is_apple_double file) (is_third file) (is_second file)
+    (is_first file) (third_long file) (second_long file) (first_long file) h
+  where
+    cases : (a b c d e f : Bool) → (d ≡ true → 128 ≤ length file) → (e ≡ true → 128 ≤ length file)
+        → (f ≡ true → 128 ≤ length file)
+        → is_mac_binary (cond a wrapping.Plain (cond b wrapping.AppleSingle (cond c wrapping.AppleDouble
+        (cond d wrapping.MacBinaryIII (cond e wrapping.MacBinaryII (cond f wrapping.MacBinaryI wrapping.Plain)))))) ≡ true
+        → 128 ≤ length file
+    cases true b c d e f x y z h = cc
+    cases false true c d e f x y z h = cc
+    cases false false true d e f x y z h = cc
+    cases false false false true e f x y z h = x refl
+    cases false false false false true f x y z h = y refl
+    cases false false false false false true x y z h = z refl
+    cases false false false false false false x y z h = cc
