@@ -58,11 +58,17 @@ parts file after =
     ∙ append_assoc opening (58 ∷ (body_of 1 characters ++ 58 ∷ [])) (10 ∷ after)
     ∙ ap (λ rest. opening ++ 58 ∷ rest) (append_assoc (body_of 1 characters) (58 ∷ []) (10 ∷ after))
 
+-- the lines that are written hold the characters
+pub body_dark : (file : File) → refusal file ≡ None → IsOfBytes file
+    → filter is_dark (body_of 1 (map character (groups file))) ≡ map character (groups file)
+body_dark file none all =
+    dark_body 1 (map character (groups file))
+    ∙ all_dark (groups file) (small_groups left.Nothing (compressed (bytes_of file)) tt
+    (compressed_bytes (bytes_of file) (file_bytes file none all)))
+
 pub again : (file : File) (before after : List ℕ) → refusal file ≡ None → IsOfBytes file → is_bin_hex before ≡ false
     → decoded (before ++ (encoded file ++ after)) ≡ Ok file
 again file before after none all no_mark =
-    let small = small_groups left.Nothing (compressed (bytes_of file)) tt
-    (compressed_bytes (bytes_of file) (file_bytes file none all)) in
     ap (λ rest. decoded (before ++ rest)) (parts file after)
     ∙ laid_out file before (codes " with BinHex 4.0)\n\n") (body_of 1 (map character (groups file))) (10 ∷ after) none all
-    no_mark refl (dark_body 1 (map character (groups file)) ∙ all_dark (groups file) small)
+    no_mark refl (body_dark file none all)

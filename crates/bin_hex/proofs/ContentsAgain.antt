@@ -46,7 +46,7 @@ checksum_fits : (bytes : List ℕ) → AreBytes bytes → checksum bytes < 2 ^ 1
 checksum_fits bytes all = bytes_fit bytes 0 (lit< tt) all
 
 -- a piece that is there
-piece_again : (xs rest : List ℕ) (count : ℕ) → length xs ≡ count → piece count (xs ++ rest) ≡ Ok (xs, rest)
+pub piece_again : (xs rest : List ℕ) (count : ℕ) → length xs ≡ count → piece count (xs ++ rest) ≡ Ok (xs, rest)
 piece_again xs rest count size =
     ap (λ n. piece n (xs ++ rest)) (sym size)
     ∙ ap (λ t. cond t (Err damage.CutOff) (Ok (take (length xs) (xs ++ rest), drop (length xs) (xs ++ rest))))
@@ -144,12 +144,12 @@ name_again file =
     ∙ take-append_seam file.name ((0 ∷ []) ++ fields file)
 
 -- what fits the format
-record Writable (file : File) : Type 0 where
-  name : is_name_length (length file.name) ≡ true
-  data_fork : length file.data_fork < 2 ^ 32
-  resource_fork : length file.resource_fork < 2 ^ 32
+pub record Writable (file : File) : Type 0 where
+  pub name : is_name_length (length file.name) ≡ true
+  pub data_fork : length file.data_fork < 2 ^ 32
+  pub resource_fork : length file.resource_fork < 2 ^ 32
 
-writable : (file : File) → refusal file ≡ None → Writable file
+pub writable : (file : File) → refusal file ≡ None → Writable file
 writable file none = judged (is_name_length (length file.name)) refl
   where
     short : (a b : Bool) → cond (a || b) (Some fault.TooLong) None ≡ None → (a ≡ false) × (b ≡ false)

@@ -1,5 +1,6 @@
 pub mod Again
 pub mod ContentsAgain
+pub mod DecodedBytes
 pub mod Finding
 pub mod Fitting
 pub mod Holding
@@ -7,6 +8,7 @@ pub mod Literals
 pub mod PackingAgain
 pub mod Pieces
 pub mod Places
+pub mod PutAgain
 pub mod RunsAgain
 pub mod Sums
 pub mod Taking

@@ -5,11 +5,13 @@ use Rattle.bin_hex.specs.BinHex.{decoded, encoded}
 use Rattle.bin_hex.specs.Checksum.{with_bits, checksum}
 use Rattle.bin_hex.specs.Contents.{header_in, fork_in, file_in}
 use Rattle.bin_hex.specs.File.{File}
+use Rattle.bin_hex.specs.Putting.{with_resource_fork}
 use Rattle.bin_hex.specs.Runs.{expanded, compressed}
 use Rattle.bin_hex.specs.Text.{is_bin_hex}
 use Rattle.bin_hex.specs.declared.alphabet.Role.TheVariants as role
 use Rattle.bin_hex.specs.declared.fault.Damage.TheVariants as damage
 use Rattle.bin_hex.specs.declared.fault.Part.TheVariants as part
+use Rattle.bin_hex.specs.declared.fault.PutFault.TheVariants as fault
 
 -- The files are as the program binhex of macutils 2.0 wrote them, whose line goes on with words of its own.
 
@@ -168,3 +170,22 @@ too_long = refl
 anyhow : decoded (tiny_line ++ codes ":\"(4TERN!\r9%9B\r\n9%e\"3d \t%!N!8&!!!!!\n\n'8BD'9XE'r$BJ!!:") ≡ Ok tiny
 unfolding header_in fork_in file_in with_bits
 anyhow = refl
+
+-- a fork is put into the file Both, which has none here: what that program wrote for the file with the fork, with the text
+-- before and after it as it was
+abbrev bare_text : List ℕ
+bare_text = codes "From: a\n" ++ tiny_line ++ codes ":\"%*[G'J!39\"36(4dH(3!N!8#!*!%J\nXaSDAm-!!!:\nbye: b\n"
+
+fork_put : with_resource_fork bare_text both.resource_fork
+    ≡ Ok (codes "From: a\n" ++ tiny_line ++ codes ":\"%*[G'J!39\"36(4dH(3!N!8#!!!!\"r)VD'Pr$!!!!3#3!!F(1aJ:\nbye: b\n")
+unfolding header_in fork_in file_in with_bits with_resource_fork
+fork_put = refl
+
+-- the fork that a file has, and a file that is damaged
+same_fork : with_resource_fork bare_text [] ≡ Ok bare_text
+unfolding header_in fork_in file_in with_bits with_resource_fork
+same_fork = refl
+
+unread : with_resource_fork (tiny_line ++ codes "::") [] ≡ Err (fault.Damaged damage.CutOff)
+unfolding header_in fork_in file_in with_bits with_resource_fork
+unread = refl

@@ -5,6 +5,7 @@ pub mod Contents
 pub mod Faults
 pub mod File
 pub mod Packing
+pub mod Putting
 pub mod Reader
 pub mod Runs
 pub mod Text

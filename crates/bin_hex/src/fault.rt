@@ -3,6 +3,7 @@
 ghost use Rattle.std.specs.Prelude.{◌≡◌};
 ghost use Rattle.bin_hex.specs.declared.fault.BinHexFault.TheVariants as bin_hex_fault;
 ghost use Rattle.bin_hex.specs.declared.fault.WriteFault.TheVariants as write_fault;
+ghost use Rattle.bin_hex.specs.declared.fault.PutFault.TheVariants as put_fault;
 
 use std::alloc::{AllocError, AllocFailed};
 use std::fmt;
@@ -115,5 +116,27 @@ impl<T: Drop> From<AllocFailed<T>> for WriteFault {
 
     fn from(_e: AllocFailed<T>) -> WriteFault {
         WriteFault::HostMemory
+    }
+}
+
+/// The reason why a BinHex file could not be given another resource fork.
+#[derive(Clone, Copy, Debug, PartialEq, Eq, Error)]
+pub enum PutFault {
+    /// The file is damaged.
+    #[error("BinHex: {0}")]
+    Damaged(Damage),
+    /// The resource fork has 2^32 bytes or more.
+    #[error("BinHex: the resource fork is too long")]
+    TooLong,
+    /// The host is out of memory.
+    #[error("the host is out of memory")]
+    HostMemory,
+}
+
+impl From<AllocError> for PutFault {
+    ghost from_gives = { λ _ e. e ≡ put_fault.HostMemory };
+
+    fn from(_e: AllocError) -> PutFault {
+        PutFault::HostMemory
     }
 }

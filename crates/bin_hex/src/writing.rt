@@ -2,9 +2,10 @@
 
 ghost use Rattle.std.specs.Prelude.{◌≡◌, ◌+◌, ◌≤◌, ◌<◌, ◌^◌, ◌++◌, length, map, IfOk, IfErr, OnOk, None, if◌then◌else◌, ◌==◌, ◌∷◌, []};
 ghost use Rattle.byteorder.specs.Endian.{big_bytes};
-ghost use Rattle.bin_hex.specs.BinHex.{encoded};
+ghost use Rattle.bin_hex.specs.BinHex.{groups, encoded};
 ghost use Rattle.bin_hex.specs.Contents.{named, fields, header, with_checksum, bytes_of as file_bytes};
 ghost use Rattle.bin_hex.specs.File.{view, refusal, Refuses, is_name_length};
+ghost use Rattle.bin_hex.specs.Putting.{encoded_lines};
 ghost use Rattle.bin_hex.specs.Text.{text_of, put_in_line, column_after};
 
 use crate::alphabet::character_of;
@@ -118,18 +119,40 @@ fn push_character(out: &mut Vec<u8>, column: usize, byte: u8) -> Result<usize, A
     }
 }
 
+/// Appends the encoded text of groups of six bits, with the colon that ends it, in lines of 64 characters, the first after a
+/// line that has one.
+pub(crate) fn push_lines(out: &mut Vec<u8>, groups: &[u8]) -> Result<(), AllocError>
+    ensures { OnOk result (out.new.items ≡ out.old.items ++ encoded_lines groups.now) }
+{
+    let mut column = 1;
+    for group in groups {
+        column = push_character(out, column, character_of(*group))?;
+    }
+    push_character(out, column, b':')?;
+    Ok(())
+}
+
 /// Returns the text for groups of six bits.
 fn text_with(alloc: Global, groups: &[u8]) -> Result<Vec<u8>, AllocError>
     ensures { IfOk result (λ out. out.items ≡ text_of groups.now) }
 {
     let mut out = Vec::from_slice(alloc, OPENING)?;
-    let mut column = push_character(&mut out, 0, b':')?;
-    for group in groups {
-        column = push_character(&mut out, column, character_of(*group))?;
-    }
-    push_character(&mut out, column, b':')?;
+    out.push(b':')?;
+    push_lines(&mut out, groups)?;
     out.push(b'\n')?;
     Ok(out)
+}
+
+/// Returns the groups of six bits for a file.
+pub(crate) fn groups_of_file(alloc: Global, file: &BinHexFile) -> Result<Vec<u8>, AllocError>
+    requires name { length file.now.name.items ≤ 63 }
+    requires data_fork { length file.now.data_fork.items < 2 ^ 32 }
+    requires resource_fork { length file.now.resource_fork.items < 2 ^ 32 }
+    ensures { IfOk result (λ out. out.items ≡ groups (view file.now)) }
+{
+    let bytes = bytes_of(alloc, file)?;
+    let packed = compressed_of(alloc, &bytes)?;
+    groups_of_bytes(alloc, &packed)
 }
 
 /// Judges whether a file can be written.
@@ -165,8 +188,6 @@ pub fn write(alloc: Global, file: &BinHexFile) -> Result<Vec<u8>, WriteFault>
     ensures fault { IfErr result (λ fault. Refuses fault (view file.now)) }
 {
     judge(file)?;
-    let bytes = bytes_of(alloc, file)?;
-    let packed = compressed_of(alloc, &bytes)?;
-    let groups = groups_of_bytes(alloc, &packed)?;
+    let groups = groups_of_file(alloc, file)?;
     Ok(text_with(alloc, &groups)?)
 }

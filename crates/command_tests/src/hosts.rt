@@ -30,6 +30,19 @@ impl<'a> Host for Memory<'a> {
         }
     }
 
+    fn is_folder(&mut self, path: &str) -> bool {
+        path == "folder" || path == "closed"
+    }
+
+    fn list(&mut self, alloc: Global, path: &str) -> Result<Vec<String>, ReadError> {
+        if path != "folder" {
+            return Err(ReadError::CannotRead);
+        }
+        let mut files = Vec::new(alloc);
+        files.push(String::from_str(alloc, "file")?)?;
+        Ok(files)
+    }
+
     fn print(&mut self, bytes: &[u8]) -> Result<(), WriteError> {
         if self.prints == 0 {
             return Err(WriteError::CannotWrite);

@@ -3,11 +3,11 @@ use Rattle.std.proofs.Common.{◌≡◌, ◌<◌, ◌+◌, ◌∷◌, ◌++◌, 
 use Rattle.std.proofs.Common.{subst, append_assoc, append-nil, arith}
 use Rattle.std.proofs.lemmas.Grind.{common_steps}
 use Rattle.fork_commands.specs.declared.extracting.ResourceFile.{ResourceFile}
-use Rattle.fork_commands.specs.Extracting.{ToWrite, extracted}
+use Rattle.fork_commands.specs.Extracting.{ToWrite}
 use Rattle.fork_commands.specs.View.{view_file}
 use Rattle.commands.specs.declared.extracting.Extraction.{Extraction}
 use Rattle.commands.specs.Accesses.{Access, Read, Folder, Fails, RefusesFile, StopsAmong, and_then}
-use Rattle.commands.specs.Extracting.{write_in, writes_in, Extracts, IsUnextracted, Faulty, Unwritten}
+use Rattle.commands.specs.Extracting.{to_write, write_in, writes_in, Extracts, IsUnextracted, Faulty, Unwritten}
 use Rattle.commands.specs.Fault.{Message, HostMemory, write_message}
 use Rattle.commands.specs.Tasks.{IsForkFault}
 use Rattle.commands.specs.declared.host.WriteError.{WriteError}
@@ -72,27 +72,27 @@ of_item files i file inside is = grind (arith, common_steps)
 -- the bytes of the file are at fault
 pub faulty : (e : Extraction) (bytes read : List ℕ) (old new : Option (List Access)) (message : Message)
     → new ≡ and_then old (Read e.fork.now read ∷ []) → bytes ≡ read
-    → IsForkFault e.fork.now (extracted e.out.now bytes) message → IsUnextracted e old new message
+    → IsForkFault e.fork.now (to_write e.pieces e.out.now bytes) message → IsUnextracted e old new message
 faulty e bytes read old new message is same fault =
-    Faulty read is (subst (λ b. IsForkFault e.fork.now (extracted e.out.now b) message) same fault)
+    Faulty read is (subst (λ b. IsForkFault e.fork.now (to_write e.pieces e.out.now b) message) same fault)
 
 -- what there was to be written was not written to its end
 pub unwritten : (e : Extraction) (bytes read : List ℕ) (files sent : List ToWrite) (old then new : Option (List Access))
     (message : Message) → then ≡ and_then old (Read e.fork.now read ∷ []) → bytes ≡ read → sent ≡ files
-    → extracted e.out.now bytes ≡ Ok files → StopsAmong (writes_in e.out.now sent) then new message → IsUnextracted e old new message
+    → to_write e.pieces e.out.now bytes ≡ Ok files → StopsAmong (writes_in e.out.now sent) then new message → IsUnextracted e old new message
 unwritten e bytes read files sent old then new message is same all made stops =
-    Unwritten read files (subst (λ b. extracted e.out.now b ≡ Ok files) same made)
+    Unwritten read files (subst (λ b. to_write e.pieces e.out.now b ≡ Ok files) same made)
     (subst (λ x. StopsAmong (writes_in e.out.now x) (and_then old (Read e.fork.now read ∷ [])) new message) all
     (subst (λ a. StopsAmong (writes_in e.out.now sent) a new message) is stops))
 
 -- all was written
 pub extracts : (e : Extraction) (bytes read : List ℕ) (files sent : List ToWrite) (old then new : Option (List Access))
     → then ≡ and_then old (Read e.fork.now read ∷ []) → bytes ≡ read → sent ≡ files
-    → extracted e.out.now bytes ≡ Ok files → new ≡ and_then then (writes_in e.out.now sent) → Extracts e old new
+    → to_write e.pieces e.out.now bytes ≡ Ok files → new ≡ and_then then (writes_in e.out.now sent) → Extracts e old new
 extracts e bytes read files sent old then new is same all made written = (
   read,
   files,
-  subst (λ b. extracted e.out.now b ≡ Ok files) same made,
+  subst (λ b. to_write e.pieces e.out.now b ≡ Ok files) same made,
   subst (λ x. new ≡ and_then (and_then old (Read e.fork.now read ∷ [])) (writes_in e.out.now x)) all
       (subst (λ a. new ≡ and_then a (writes_in e.out.now sent)) is written),
 )

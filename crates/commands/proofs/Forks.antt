@@ -1,20 +1,13 @@
 -- Forks that were read for the lines of a job.
 use Rattle.std.proofs.Common.{◌≡◌, ◌∷◌, ◌∙◌, ℕ, List, [], Option, Result, Ok, Err, IfErr, sym, ap, subst}
 use Rattle.script_text.specs.Script.{Spelled}
-use Rattle.fork_wrappers.specs.declared.wrapping.Wrapping.TheVariants.{Plain}
-use Rattle.fork_wrappers.specs.Unwrapped.{wrapping_of}
-use Rattle.fork_wrappers.specs.Unwrapped as wrappers
-use Rattle.fork_commands.specs.Reading.{fork_in, fork_found}
+use Rattle.fork_commands.specs.Reading.{fork_in}
 use Rattle.commands.specs.Fault.{Message, Usage, CannotRead, Script, Fork, CannotWrite, HostMemory, NotLaunched, message_of}
 use Rattle.commands.specs.declared.fault.ToolFault.{ToolFault}
 use Rattle.commands.specs.Accesses.{Access, Stops, IsUnread, and_then, reads_at}
 use Rattle.commands.specs.Gathering.{fork_told, fork_at, script_at, app_of, app_at, GivenApp, IsStop, Reads, IsGiven}
 use Rattle.commands.specs.Tasks.{IsForkFault}
 use Rattle.commands.proofs.Accesses.{none, stop_then, ends_err, stops_from, unread_given, unread_stops}
-
--- bytes in no wrapper are the fork
-pub plain_fork : (bytes : List ℕ) → Plain ≡ wrapping_of bytes → fork_in bytes ≡ Ok bytes
-plain_fork bytes is = ap (λ how. fork_found (wrappers.fork_in how bytes)) (sym is)
 
 -- the fork that was found at a path
 pub fork_there : (path file fork : List ℕ) (texts : List (List ℕ)) → fork_in file ≡ Ok fork

@@ -7,7 +7,6 @@ pub mod Forks
 mod Inputs
 mod Jobs
 mod JobZones
-pub mod Listed
 mod Numerals
 mod OneFile
 mod Owners
@@ -15,3 +14,8 @@ mod Printing
 pub mod TwoFiles
 mod Wholes
 mod Writes
+mod Surveyed
+mod Described
+mod Checked
+mod Opened
+mod Packed

@@ -8,10 +8,12 @@ use Rattle.commands.specs.Fault.{Message, CannotRead, CannotWrite, HostMemory, m
 
 -- The accesses of the program to its host's files.
 
--- An access: a file was read, a folder was made, a file was written, or the host refused a path: a file was not read, a
--- folder was not made, or a file was not written to its end. The path `-` stands for the standard output.
+-- An access: a file was read, the files below a folder were listed, a folder was made, a file was written, or the host refused
+-- a path: a file was not read, a folder was not listed or not made, or a file was not written to its end. The path `-` stands
+-- for the standard output.
 pub data Access : Type 0 where
   Read : (path : List ℕ) → (bytes : List ℕ) → Access
+  Listed : (path : List ℕ) → (files : List (List ℕ)) → Access
   Folder : (path : List ℕ) → Access
   Write : (path : List ℕ) → (bytes : List ℕ) → Access
   Failed : (path : List ℕ) → Access
@@ -66,6 +68,7 @@ IsPartWritten path bytes old new message =
 -- An access was not done to its end, and that is the fault.
 abbrev pub Fails : Access → Option (List Access) → Option (List Access) → Message → Type 0
 Fails (Read path bytes) old new message = IsUnread path old new message
+Fails (Listed path files) old new message = IsUnread path old new message
 Fails (Folder path) old new message = IsUnwritten path old new message
 Fails (Write path bytes) old new message = IsPartWritten path bytes old new message
 Fails (Failed path) old new message = ⊥
@@ -84,6 +87,7 @@ Ends mid new (Err fault) = Stops mid new (message_of fault)
 -- The path of an access.
 abbrev pub path_of : Access → List ℕ
 path_of (Read path bytes) = path
+path_of (Listed path files) = path
 path_of (Folder path) = path
 path_of (Write path bytes) = path
 path_of (Failed path) = path

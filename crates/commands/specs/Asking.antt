@@ -7,10 +7,13 @@ use Rattle.fork_commands.specs.declared.pair.PairWork.{PairWork}
 use Rattle.fork_commands.specs.declared.pair.PairWork.TheVariants.{Set, Diff, RezInto, Wrap, Merge}
 use Rattle.commands.specs.declared.delivering.Target.{Target}
 use Rattle.commands.specs.declared.delivering.Target.TheVariants.{Printed, NewFile}
+use Rattle.commands.specs.declared.extracting.Pieces.{Pieces}
+use Rattle.commands.specs.declared.extracting.Pieces.TheVariants.{Resources, Forks}
 use Rattle.commands.specs.declared.tasks.Work.{Work}
 use Rattle.commands.specs.declared.tasks.Work.TheVariants as work
+use Rattle.commands.specs.Surveying.{paths_of}
 use Rattle.commands.specs.declared.request.Request.{Request}
-use Rattle.commands.specs.declared.request.Request.TheVariants.{Look, Run, Show, Convert, Combine, Extract}
+use Rattle.commands.specs.declared.request.Request.TheVariants.{Look, Check, Run, Show, Convert, Combine, Extract, Pack}
 
 -- Which words of a command line ask for a request. The first word is the program's name, and the second the command's.
 
@@ -18,12 +21,13 @@ use Rattle.commands.specs.declared.request.Request.TheVariants.{Look, Run, Show,
 abbrev pub look_word : Work → List ℕ
 look_word (work.Script size) = codes "script"
 look_word (work.Heap asked) = codes "heap"
-look_word (work.Map style) = codes "map"
+look_word (work.Map spelling) = codes "map"
+look_word (work.Describe spelling) = codes "map"
 look_word work.Check = codes "check"
 
 abbrev pub print_word : ForkWork → Option (List ℕ)
 print_word (Get key) = Some (codes "get")
-print_word Derez = Some (codes "derez")
+print_word (Derez charset) = Some (codes "derez")
 print_word (Rewrite packaging) = None
 print_word (Change edit packaging) = None
 print_word Rez = None
@@ -37,7 +41,7 @@ write_word (Rewrite packaging) = Some (codes "rewrite")
 write_word (Change edit packaging) = Some (edit_word edit)
 write_word Rez = Some (codes "rez")
 write_word (Get key) = None
-write_word Derez = None
+write_word (Derez charset) = None
 
 abbrev pub convert_word : ForkWork → Target → Option (List ℕ)
 convert_word w Printed = print_word w
@@ -48,20 +52,26 @@ word_into Printed word = None
 word_into (NewFile path) word = Some word
 
 abbrev pub combine_word : PairWork → Target → Option (List ℕ)
-combine_word Diff Printed = Some (codes "diff")
-combine_word Diff (NewFile path) = None
+combine_word (Diff charset) Printed = Some (codes "diff")
+combine_word (Diff charset) (NewFile path) = None
 combine_word (Set setting packaging) target = word_into target (codes "set")
 combine_word RezInto target = word_into target (codes "rez")
 combine_word Wrap target = word_into target (codes "wrap")
 combine_word (Merge replaces packaging) target = word_into target (codes "merge")
 
+abbrev pub extract_word : Pieces → List ℕ
+extract_word Resources = codes "extract"
+extract_word Forks = codes "unwrap"
+
 abbrev pub command_of : Request → Option (List ℕ)
 command_of (Look task) = Some (look_word task.work)
+command_of (Check survey) = Some (codes "check")
 command_of (Run errand) = Some (codes "run")
 command_of (Show zone) = Some (codes "heap")
 command_of (Convert c) = convert_word c.work c.target
 command_of (Combine c) = combine_word c.work c.target
-command_of (Extract e) = Some (codes "extract")
+command_of (Extract e) = Some (extract_word e.pieces)
+command_of (Pack p) = Some (codes "pack")
 
 -- The texts are words of the command line, in this order.
 abbrev pub StandIn : List (List ℕ) → List (List ℕ) → Type 0
@@ -92,11 +102,13 @@ NamesTwo _ first second target words = StandIn words (first ∷ second ∷ path_
 -- The words after the command's name all that the request names, in the order of the command's arguments.
 abbrev pub Names : Request → List (List ℕ) → Type 0
 Names (Look task) words = StandIn words (task.path.now ∷ [])
+Names (Check survey) words = StandIn words (paths_of survey)
 Names (Run errand) words = StandIn words (errand.job.now ∷ errand.out.now ∷ [])
 Names (Show zone) words = HasValue words (codes "--job") zone.job.now × HasValue words (codes "--app") zone.app.now
 Names (Convert c) words = StandIn words (c.path.now ∷ path_in c.target)
 Names (Combine c) words = NamesTwo c.work c.first.now c.second.now c.target words
 Names (Extract e) words = StandIn words (e.fork.now ∷ e.out.now ∷ [])
+Names (Pack p) words = StandIn words (p.folder.now ∷ p.out.now ∷ [])
 
 -- The words ask for the request.
 pub record IsAskedBy (words : List (List ℕ)) (request : Request) : Type 0 where

@@ -1,26 +1,32 @@
-use Rattle.std.specs.Prelude.{◌≡◌, ℕ, Option, List, [], ◌∷◌}
+use Rattle.std.specs.Prelude.{◌≡◌, ◌⊎◌, ℕ, Option, List, [], ◌∷◌}
 use Rattle.commands.specs.declared.ending.Ending.{Ending}
 use Rattle.commands.specs.declared.ending.Ending.TheVariants.{Done}
 use Rattle.commands.specs.declared.tasks.Task.{Task}
 use Rattle.commands.specs.declared.request.Request.{Request}
-use Rattle.commands.specs.declared.request.Request.TheVariants.{Look, Run, Show, Convert, Combine, Extract}
+use Rattle.commands.specs.declared.request.Request.TheVariants.{Look, Check, Run, Show, Convert, Combine, Extract, Pack}
 use Rattle.commands.specs.Fault.{Message, IsUsage}
 use Rattle.commands.specs.Accesses.{Access, Read, and_then, IsUnread}
 use Rattle.commands.specs.Asking.{IsAskedBy}
-use Rattle.commands.specs.Tasks.{Prints, IsRefusal}
+use Rattle.commands.specs.declared.tasks.Work.TheVariants as work
+use Rattle.commands.specs.declared.surveying.Survey.{Survey}
+use Rattle.commands.specs.Surveying.{IsLone, Surveys, IsUnsurveyed}
+use Rattle.commands.specs.Tasks.{Prints, IsRefusal, ending_for}
 use Rattle.commands.specs.Running.{Runs, IsStopped}
 use Rattle.commands.specs.JobZones.{Shows, IsUnshown}
 use Rattle.commands.specs.Converting.{Converts, IsUnconverted}
 use Rattle.commands.specs.Combining.{Combines, IsUncombined}
 use Rattle.commands.specs.Extracting.{Extracts, IsUnextracted}
+use Rattle.commands.specs.Packing.{Packs, IsUnpacked}
 
 -- A request of the command line is done. `p` and `q` are the bytes that have been printed before and after,
 -- `old` and `new` the accesses to files.
 
 -- A task was done: its file was read, and all that the task prints of the file's bytes was printed.
-abbrev pub Looks : Task → Option (List ℕ) → Option (List ℕ) → Option (List Access) → Option (List Access) → Type 0
-Looks task p q old new =
+abbrev pub Looks
+    : Task → Ending → Option (List ℕ) → Option (List ℕ) → Option (List Access) → Option (List Access) → Type 0
+Looks task ending p q old new =
     (bytes : List ℕ) × (new ≡ and_then old (Read task.path.now bytes ∷ [])) × Prints task.work bytes p q
+    × (ending ≡ ending_for task.work bytes)
 
 -- A task was not done, or not to its end: its file can't be read, the bytes are faulty, or printing failed.
 pub data IsUnseen (task : Task) (p q : Option (List ℕ)) (old new : Option (List Access)) (message : Message) : Type 0 where
@@ -28,30 +34,55 @@ pub data IsUnseen (task : Task) (p q : Option (List ℕ)) (old new : Option (Lis
   Refused : (bytes : List ℕ)
       → IsRefusal task.work task.path.now bytes p q (and_then old (Read task.path.now bytes ∷ [])) new message → IsUnseen task p q old new message
 
+-- What a survey asks for was done: the form of the fork in the one file was printed, or the state of each file.
+abbrev pub Checks
+    : Survey → Ending → Option (List ℕ) → Option (List ℕ) → Option (List Access) → Option (List Access) → Type 0
+Checks survey ending p q old new = LooksAtOne survey ending p q old new ⊎ Surveys survey ending p q old new
+  where
+    LooksAtOne
+        : Survey → Ending → Option (List ℕ) → Option (List ℕ) → Option (List Access) → Option (List Access) → Type 0
+    LooksAtOne survey ending p q old new =
+        (task : Task) × (task.work ≡ work.Check) × IsLone survey task.path.now × Looks task ending p q old new
+
+-- It was not done, or not to its end.
+abbrev pub IsUnchecked
+    : Survey → Option (List ℕ) → Option (List ℕ) → Option (List Access) → Option (List Access) → Message → Type 0
+IsUnchecked survey p q old new message = IsUnseenOne survey p q old new message ⊎ IsUnsurveyed survey p q old new message
+  where
+    IsUnseenOne
+        : Survey → Option (List ℕ) → Option (List ℕ) → Option (List Access) → Option (List Access) → Message → Type 0
+    IsUnseenOne survey p q old new message =
+        (task : Task) × (task.work ≡ work.Check) × IsLone survey task.path.now × IsUnseen task p q old new message
+
 -- In what follows `h` and `k` are the reports that the watch has heard before and after; they are said of a job.
 
--- What the request asks for was done: a task, a job was run to its end, the zone of one of its applications was printed, what was
--- made of one file or of two was delivered, or the resources of a fork were written.
+-- What the request asks for was done: a task or a survey, a job was run to its end, the zone of one of its applications was
+-- printed, what was made of one file or of two was delivered, what is in a file was written into a folder, or the fork that a
+-- folder states was written.
 abbrev pub IsDone : Request → Ending → Option (List ℕ) → Option (List ℕ) → Option (List ℕ) → Option (List ℕ)
     → Option (List Access) → Option (List Access) → Type 0
-IsDone (Look task) ending h k p q old new = (ending ≡ Done) × Looks task p q old new
+IsDone (Look task) ending h k p q old new = Looks task ending p q old new
+IsDone (Check survey) ending h k p q old new = Checks survey ending p q old new
 IsDone (Run errand) ending h k p q old new =
     (ending ≡ Done) × (q ≡ p) × Runs errand.job.now errand.out.now errand.watched h k old new
 IsDone (Show zone) ending h k p q old new = (ending ≡ Done) × Shows zone p q old new
 IsDone (Convert conversion) ending h k p q old new = (ending ≡ Done) × Converts conversion p q old new
 IsDone (Combine combination) ending h k p q old new = Combines combination ending p q old new
 IsDone (Extract extraction) ending h k p q old new = (ending ≡ Done) × (q ≡ p) × Extracts extraction old new
+IsDone (Pack packing) ending h k p q old new = (ending ≡ Done) × (q ≡ p) × Packs packing old new
 
 -- What the request asks for was not done, or not to its end.
 abbrev pub IsUndone : Request → Option (List ℕ) → Option (List ℕ) → Option (List ℕ) → Option (List ℕ)
     → Option (List Access) → Option (List Access) → Message → Type 0
 IsUndone (Look task) h k p q old new message = IsUnseen task p q old new message
+IsUndone (Check survey) h k p q old new message = IsUnchecked survey p q old new message
 IsUndone (Run errand) h k p q old new message =
     (q ≡ p) × IsStopped errand.job.now errand.out.now errand.watched h k old new message
 IsUndone (Show zone) h k p q old new message = IsUnshown zone p q old new message
 IsUndone (Convert conversion) h k p q old new message = IsUnconverted conversion p q old new message
 IsUndone (Combine combination) h k p q old new message = IsUncombined combination p q old new message
 IsUndone (Extract extraction) h k p q old new message = (q ≡ p) × IsUnextracted extraction old new message
+IsUndone (Pack packing) h k p q old new message = (q ≡ p) × IsUnpacked packing old new message
 
 -- The words make no request, and nothing was done; or not all was done for which they ask.
 pub data IsNotDone (words : List (List ℕ)) (h k p q : Option (List ℕ)) (old new : Option (List Access)) (message : Message)

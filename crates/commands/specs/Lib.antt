@@ -14,5 +14,7 @@ pub mod Converting
 pub mod Combining
 pub mod JobZones
 pub mod Extracting
+pub mod Packing
+pub mod Surveying
 pub mod Asking
 pub mod Doing

@@ -1,4 +1,4 @@
-use Rattle.std.specs.Prelude.{◌≡◌, ◌⊎◌, ℕ, Option, Result, Err, List, codes}
+use Rattle.std.specs.Prelude.{◌≡◌, ◌⊎◌, ℕ, Bool, true, false, not, Option, Result, Err, List, codes}
 use Rattle.std.specs.Io.KnownBytes.{append_known}
 use Rattle.script_text.specs.declared.fault.FaultKind.{FaultKind}
 use Rattle.script_text.specs.declared.fault.FaultKind.TheVariants as kinds
@@ -6,15 +6,20 @@ use Rattle.script_text.specs.Script.{script_of}
 use Rattle.fork_commands.specs.declared.fault.FileFault.{FileFault}
 use Rattle.fork_commands.specs.declared.fault.WorkFault.{WorkFault}
 use Rattle.fork_commands.specs.declared.fault.WorkFault.TheVariants as work_fault
+use Rattle.fork_commands.specs.Opening.{opened}
 use Rattle.fork_commands.specs.Reading.{content_in}
+use Rattle.fork_commands.specs.States.{has_content}
 use Rattle.commands.specs.Accesses.{Access, IsUnwritten}
+use Rattle.commands.specs.Ending.{ending_of}
 use Rattle.commands.specs.Fault.{Message, Usage, CannotRead, Script, Fork, CannotWrite, HostMemory, NotLaunched}
 use Rattle.fork_format.specs.View.{view}
 use Rattle.commands.specs.Listing.{listing}
 use Rattle.commands.specs.Printing.{PrintsFront}
-use Rattle.commands.specs.Work.{IsTranscriptOf, IsZoneOf, IsListingOf, IsFormText, text_of}
-use Rattle.commands.specs.declared.tasks.Output.{Output}
-use Rattle.commands.specs.declared.tasks.Output.TheVariants as output
+use Rattle.commands.specs.Work.{IsTranscriptOf, IsZoneOf, IsListingOf, IsFormText, IsDescription}
+use Rattle.commands.specs.declared.ending.Ending.{Ending}
+use Rattle.commands.specs.declared.ending.Ending.TheVariants.{Done}
+use Rattle.commands.specs.declared.tasks.Description.{Description}
+use Rattle.commands.specs.declared.tasks.Description.TheVariants as said
 use Rattle.commands.specs.declared.tasks.Work.{Work}
 use Rattle.commands.specs.declared.tasks.Work.TheVariants as work
 
@@ -57,21 +62,34 @@ IsForkFault path made (NotLaunched named app) = ⊥
 abbrev pub IsPrinted : Work → List ℕ → List ℕ → Type 0
 IsPrinted (work.Script size) bytes out = IsTranscriptOf size.bytes bytes out
 IsPrinted (work.Heap asked) bytes out = IsZoneOf asked bytes out
-IsPrinted (work.Map style) bytes out = IsListingOf style bytes out
+IsPrinted (work.Map spelling) bytes out = IsListingOf spelling bytes out
+IsPrinted (work.Describe spelling) bytes out = IsDescription spelling bytes out
 IsPrinted work.Check bytes out = IsFormText bytes out
 
 -- The fault of a file's bytes.
 abbrev pub IsFault : Work → List ℕ → List ℕ → Message → Type 0
 IsFault (work.Script size) path bytes message = IsScriptFault path bytes message
 IsFault (work.Heap asked) path bytes message = IsScriptFault path bytes message
-IsFault (work.Map style) path bytes message = IsForkFault path (content_in bytes) message
+IsFault (work.Map spelling) path bytes message = IsForkFault path (content_in bytes) message
+IsFault (work.Describe spelling) path bytes message = IsForkFault path (opened bytes) message
 IsFault work.Check path bytes message = IsForkFault path (content_in bytes) message
 
--- The text of an output.
-abbrev pub output_text : Output → List ℕ
-output_text (output.Text text) = text.items
-output_text (output.Listing l) = listing l.style l.wrapping (view l.content)
-output_text (output.Form form) = text_of form
+-- What is said of a file, and whether it is its state.
+abbrev pub description_text : Description → List ℕ
+description_text (said.Listing l) = listing l.spelling l.info.items (view l.content)
+description_text (said.State text) = text.items
+
+abbrev pub is_state : Description → Bool
+is_state (said.Listing l) = false
+is_state (said.State text) = true
+
+-- How a task ends: the description of a file that has no fork with a content says so.
+abbrev pub ending_for : Work → List ℕ → Ending
+ending_for (work.Script size) bytes = Done
+ending_for (work.Heap asked) bytes = Done
+ending_for (work.Map spelling) bytes = Done
+ending_for (work.Describe spelling) bytes = ending_of (not (has_content bytes))
+ending_for work.Check bytes = Done
 
 -- All that a task prints of a file's bytes was printed.
 abbrev pub Prints : Work → List ℕ → Option (List ℕ) → Option (List ℕ) → Type 0

@@ -1,18 +1,20 @@
-use Rattle.std.specs.Prelude.{◌≡◌, ℕ, Ok, Some, List, IsTrue, codes}
+use Rattle.std.specs.Prelude.{◌≡◌, ℕ, Bool, true, Result, Ok, Err, Some, List, [], ◌++◌, IsTrue, codes}
 use Rattle.script_text.specs.Script.{ScriptParts, script_of, spelled}
 use Rattle.applications.specs.Alone.{script_alone}
 use Rattle.applications.specs.Trying.{own_resources}
 use Rattle.fork_format.specs.Content.{Content}
 use Rattle.fork_format.specs.Canonical.{canon, fits}
-use Rattle.fork_wrappers.specs.Unwrapped.{wrapping_of}
+use Rattle.fork_commands.specs.Info.{info_text}
 use Rattle.fork_commands.specs.Reading.{content_of_fork, fork_in, content_in}
+use Rattle.fork_commands.specs.States.{state_words}
+use Rattle.fork_commands.specs.declared.fault.FileFault.{FileFault}
 use Rattle.script_text.specs.declared.script.Line.{Line}
 use Rattle.zone_view.specs.Behind.{steps_at}
 use Rattle.zone_view.specs.Sight.{sight_text}
 use Rattle.zone_view.specs.declared.sight.Sight.{Sight}
 use Rattle.zone_view.specs.declared.sight.Sight.TheVariants as sight
 use Rattle.commands.specs.Listing.{listing}
-use Rattle.commands.specs.declared.listing.MapStyle.{MapStyle}
+use Rattle.commands.specs.declared.listing.Spelling.{Spelling}
 use Rattle.commands.specs.declared.work.Form.{Form}
 use Rattle.commands.specs.declared.work.Lines.{Lines}
 use Rattle.commands.specs.declared.work.Lines.TheVariants as lines
@@ -37,8 +39,18 @@ IsZoneOf asked text out = (script : ScriptParts) × (script_of text ≡ Ok (spel
     × (out ≡ sight_text (sight_of asked.lines script.steps) own_resources asked.size.bytes script)
 
 -- The listing of the resource fork in the bytes of a file: that of the content which the fork's bytes spell.
-abbrev pub IsListingOf : MapStyle → List ℕ → List ℕ → Type 0
-IsListingOf style bytes out = (c : Content) × (content_in bytes ≡ Ok c) × (out ≡ listing style (wrapping_of bytes) c)
+abbrev pub IsListingOf : Spelling → List ℕ → List ℕ → Type 0
+IsListingOf spelling bytes out = (c : Content) × (content_in bytes ≡ Ok c) × (out ≡ listing spelling [] c)
+
+-- What is said of a file after the lines of what it is: the listing of its fork, or the state of a file whose fork has no
+-- content.
+abbrev pub described : Spelling → List ℕ → List ℕ → Result Content FileFault → List ℕ
+described spelling info bytes (Ok c) = listing spelling info c
+described spelling info bytes (Err fault) = info ++ codes "state " ++ state_words true bytes ++ codes "\n"
+
+abbrev pub IsDescription : Spelling → List ℕ → List ℕ → Type 0
+IsDescription spelling bytes out = (info : List ℕ) × (info_text bytes ≡ Ok info)
+    × (out ≡ described spelling info bytes (content_in bytes))
 
 -- What bytes are to a content that they spell: its canonical fork, or another fork.
 -- See decision 130 (`check` accepts a fork that cannot be written back).

@@ -1,11 +1,12 @@
 //! Whether the words of a command line ask for a request: a test of what the parser of the words answers.
 
 ghost use Rattle.std.specs.Prelude.{◌≡◌, ◌≤◌, ◌++◌, ◌∷◌, [], ℕ, List, map, drop, length, option_map, codes, IsTrue};
-ghost use Rattle.commands.specs.Asking.{look_word, print_word, edit_word, write_word, convert_word, combine_word, command_of, word_into};
+ghost use Rattle.commands.specs.Asking.{look_word, print_word, edit_word, write_word, convert_word, combine_word, extract_word, command_of, word_into};
 ghost use Rattle.commands.specs.Asking.{StandIn, HasValue, Names, NamesTwo, IsAskedBy, path_in};
 
 use crate::combining::Combination;
 use crate::delivering::Target;
+use crate::extracting::Pieces;
 use crate::request::Request;
 use crate::tasks::Work;
 use fork_commands::{Edit, ForkWork, PairWork};
@@ -17,18 +18,18 @@ fn look_word(work: Work) -> &'static str
     match work {
         Work::Script(_) => "script",
         Work::Heap(_) => "heap",
-        Work::Map(_) => "map",
+        Work::Map(_) | Work::Describe(_) => "map",
         Work::Check => "check",
     }
 }
 
 /// Returns the command that prints what a work makes of a file.
-fn print_word(work: ForkWork<'_>) -> Option<&'static str>
-    ensures { option_map (λ word. word.now) result ≡ print_word work.entry }
+fn print_word(work: ForkWork) -> Option<&'static str>
+    ensures { option_map (λ word. word.now) result ≡ print_word work }
 {
     match work {
         ForkWork::Get(_) => Some("get"),
-        ForkWork::Derez => Some("derez"),
+        ForkWork::Derez(_) => Some("derez"),
         ForkWork::Rewrite(_) => None,
         ForkWork::Change(_, _) => None,
         ForkWork::Rez => None,
@@ -36,8 +37,8 @@ fn print_word(work: ForkWork<'_>) -> Option<&'static str>
 }
 
 /// Returns the command that makes an edit of a fork.
-fn edit_word(edit: Edit<'_>) -> &'static str
-    ensures { result.now ≡ edit_word edit.entry }
+fn edit_word(edit: Edit) -> &'static str
+    ensures { result.now ≡ edit_word edit }
 {
     match edit {
         Edit::Remove(_) => "remove",
@@ -46,21 +47,21 @@ fn edit_word(edit: Edit<'_>) -> &'static str
 }
 
 /// Returns the command that writes what a work makes of a file into a new one.
-fn write_word(work: ForkWork<'_>) -> Option<&'static str>
-    ensures { option_map (λ word. word.now) result ≡ write_word work.entry }
+fn write_word(work: ForkWork) -> Option<&'static str>
+    ensures { option_map (λ word. word.now) result ≡ write_word work }
 {
     match work {
         ForkWork::Rewrite(_) => Some("rewrite"),
         ForkWork::Change(edit, _) => Some(edit_word(edit)),
         ForkWork::Rez => Some("rez"),
         ForkWork::Get(_) => None,
-        ForkWork::Derez => None,
+        ForkWork::Derez(_) => None,
     }
 }
 
 /// Returns the command that makes something of a file.
-fn convert_word(work: ForkWork<'_>, target: Target<'_>) -> Option<&'static str>
-    ensures { option_map (λ word. word.now) result ≡ convert_word work.entry target.entry }
+fn convert_word(work: ForkWork, target: Target<'_>) -> Option<&'static str>
+    ensures { option_map (λ word. word.now) result ≡ convert_word work target.entry }
 {
     match target {
         Target::Printed => print_word(work),
@@ -79,11 +80,11 @@ fn in_file(target: Target<'_>, word: &'static str) -> Option<&'static str>
 }
 
 /// Returns the command that makes something of two files.
-fn combine_word(work: PairWork<'_>, target: Target<'_>) -> Option<&'static str>
-    ensures { option_map (λ word. word.now) result ≡ combine_word work.entry target.entry }
+fn combine_word(work: PairWork, target: Target<'_>) -> Option<&'static str>
+    ensures { option_map (λ word. word.now) result ≡ combine_word work target.entry }
 {
     match work {
-        PairWork::Diff => match target {
+        PairWork::Diff(_) => match target {
             Target::Printed => Some("diff"),
             Target::NewFile(_) => None,
         },
@@ -94,17 +95,29 @@ fn combine_word(work: PairWork<'_>, target: Target<'_>) -> Option<&'static str>
     }
 }
 
+/// Returns the command that writes what is in a file into a folder.
+fn extract_word(pieces: Pieces) -> &'static str
+    ensures { result.now ≡ extract_word pieces }
+{
+    match pieces {
+        Pieces::Resources => "extract",
+        Pieces::Forks => "unwrap",
+    }
+}
+
 /// Returns the command that makes a request, if there is one.
 fn command_of(request: &Request<'_>) -> Option<&'static str>
     ensures { option_map (λ word. word.now) result ≡ command_of request.now }
 {
     match request {
         Request::Look(task) => Some(look_word(task.work)),
+        Request::Check(_) => Some("check"),
         Request::Run(_) => Some("run"),
         Request::Show(_) => Some("heap"),
         Request::Convert(conversion) => convert_word(conversion.work, conversion.target),
         Request::Combine(combination) => combine_word(combination.work, combination.target),
-        Request::Extract(_) => Some("extract"),
+        Request::Extract(extraction) => Some(extract_word(extraction.pieces)),
+        Request::Pack(_) => Some("pack"),
     }
 }
 
@@ -189,7 +202,7 @@ fn name_two(words: &[&str], combination: &Combination<'_>) -> bool
             has_value(words, "--into", "--into=", combination.first)
                 && stand_with(words, combination.second, combination.target)
         }
-        PairWork::Set(_, _) | PairWork::Diff | PairWork::Wrap | PairWork::Merge(_, _) => {
+        PairWork::Set(_, _) | PairWork::Diff(_) | PairWork::Wrap | PairWork::Merge(_, _) => {
             both_stand_with(
                 words,
                 combination.first,
@@ -206,6 +219,7 @@ fn names(words: &[&str], request: &Request<'_>) -> bool
 {
     match request {
         Request::Look(task) => stand_in(words, &[task.path]),
+        Request::Check(survey) => stand_in(words, survey.paths.as_slice()),
         Request::Run(errand) => stand_in(words, &[errand.job, errand.out]),
         Request::Show(zone) => {
             has_value(words, "--job", "--job=", zone.job)
@@ -214,6 +228,7 @@ fn names(words: &[&str], request: &Request<'_>) -> bool
         Request::Convert(conversion) => stand_with(words, conversion.path, conversion.target),
         Request::Combine(combination) => name_two(words, combination),
         Request::Extract(extraction) => stand_in(words, &[extraction.fork, extraction.out]),
+        Request::Pack(packing) => stand_in(words, &[packing.folder, packing.out]),
     }
 }
 

@@ -18,7 +18,7 @@ use std::alloc::{AllocError, Global};
 #[derive(Clone, Copy)]
 pub struct Combination<'a> {
     /// What is made of the files' bytes.
-    pub work: PairWork<'a>,
+    pub work: PairWork,
     /// The path of the file that is read first, as it was given.
     pub first: &'a str,
     /// The path of the file that is read second.

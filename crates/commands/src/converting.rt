@@ -20,7 +20,7 @@ use std::alloc::Global;
 #[derive(Clone, Copy)]
 pub struct Conversion<'a> {
     /// What is made of the file's bytes.
-    pub work: ForkWork<'a>,
+    pub work: ForkWork,
     /// The file's path as it was given.
     pub path: &'a str,
     /// Where it goes.
@@ -29,14 +29,9 @@ pub struct Conversion<'a> {
 
 /// Returns what a work makes of the bytes of the file at a path.
 #[tactic(auto, using(crate::proofs::Faults::fork_stopped))]
-fn made_at(
-    alloc: Global,
-    work: ForkWork<'_>,
-    path: &str,
-    bytes: &[u8],
-) -> Result<Vec<u8>, ToolFault>
-    ensures made { IfOk result (λ out. made work.entry bytes.now ≡ Ok out.items) }
-    ensures fault { IfErr result (λ fault. IsForkFault path.now (made work.entry bytes.now) (message_of fault)) }
+fn made_at(alloc: Global, work: ForkWork, path: &str, bytes: &[u8]) -> Result<Vec<u8>, ToolFault>
+    ensures made { IfOk result (λ out. made work bytes.now ≡ Ok out.items) }
+    ensures fault { IfErr result (λ fault. IsForkFault path.now (made work bytes.now) (message_of fault)) }
 {
     match made(alloc, work, bytes) {
         Ok(out) => Ok(out),

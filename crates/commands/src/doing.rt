@@ -10,8 +10,10 @@ ghost use Rattle.commands.specs.Asking.{IsAskedBy};
 ghost use Rattle.commands.specs.Fault.{message_of};
 ghost use Rattle.commands.specs.Tasks.{IsQuiet};
 ghost use Rattle.commands.specs.Running.{Runs, IsStopped};
+ghost use Rattle.commands.specs.Surveying.{IsLone};
 ghost use Rattle.commands.specs.Extracting.{Extracts, IsUnextracted};
-ghost use Rattle.commands.specs.Doing.{Looks, IsUnseen, IsDone, IsUndone, IsNotDone};
+ghost use Rattle.commands.specs.Packing.{Packs, IsUnpacked};
+ghost use Rattle.commands.specs.Doing.{Looks, IsUnseen, Checks, IsUnchecked, IsDone, IsUndone, IsNotDone};
 
 use crate::combining::combine;
 use crate::converting::convert;
@@ -21,9 +23,11 @@ use crate::fault::ToolFault;
 use crate::host::Host;
 use crate::input::read_input;
 use crate::job_zones::show_in_job;
+use crate::packing::{Packing, pack};
 use crate::request::Request;
 use crate::running::{Errand, run_job};
-use crate::tasks::{Task, do_task};
+use crate::surveying::{Survey, print_survey};
+use crate::tasks::{Task, Work, do_task};
 use crate::words::read_words;
 use applications::Watch;
 use std::alloc::Global;
@@ -35,15 +39,14 @@ fn look<H: Host, W: Watch>(
     task: Task<'_>,
     watch: &mut W,
 ) -> Result<Ending, ToolFault>
-    ensures done { IfOk result (λ ending. (ending ≡ Done) × Looks task.entry (H.printed host.old) (H.printed host.new)
+    ensures done { IfOk result (λ ending. Looks task.entry ending (H.printed host.old) (H.printed host.new)
         (H.accesses host.old) (H.accesses host.new)) }
     ensures undone { IfErr result (λ fault. IsUnseen task.entry (H.printed host.old) (H.printed host.new)
         (H.accesses host.old) (H.accesses host.new) (message_of fault)) }
     ensures quiet { IfErr result (λ fault. IsQuiet (H.printed host.old) (H.printed host.new) (message_of fault)) }
 {
     let bytes = read_input(alloc, host, task.path)?;
-    do_task(alloc, host, task, bytes.as_slice(), watch)?;
-    Ok(Ending::Done)
+    do_task(alloc, host, task, bytes.as_slice(), watch)
 }
 
 /// Runs a job.
@@ -81,6 +84,80 @@ fn write_resources<H: Host>(
     Ok(Ending::Done)
 }
 
+/// Writes the fork that a folder states.
+fn write_packed<H: Host>(
+    alloc: Global,
+    host: &mut H,
+    packing: Packing<'_>,
+) -> Result<Ending, ToolFault>
+    ensures done { IfOk result (λ ending. (ending ≡ Done) × (H.printed host.new ≡ H.printed host.old)
+        × Packs packing.entry (H.accesses host.old) (H.accesses host.new)) }
+    ensures undone { IfErr result (λ fault. (H.printed host.new ≡ H.printed host.old)
+        × IsUnpacked packing.entry (H.accesses host.old) (H.accesses host.new) (message_of fault)) }
+    ensures quiet { IfErr result (λ fault. IsQuiet (H.printed host.old) (H.printed host.new) (message_of fault)) }
+{
+    pack(alloc, host, packing)?;
+    Ok(Ending::Done)
+}
+
+/// Prints the state of the files of a survey.
+#[tactic(auto, using(crate::proofs::Checked::all_checked, crate::proofs::Checked::all_unchecked))]
+fn check_all<H: Host>(alloc: Global, host: &mut H, survey: &Survey<'_>) -> Result<Ending, ToolFault>
+    ensures done { IfOk result (λ ending. Checks survey.now ending (H.printed host.old) (H.printed host.new)
+        (H.accesses host.old) (H.accesses host.new)) }
+    ensures undone { IfErr result (λ fault. IsUnchecked survey.now (H.printed host.old) (H.printed host.new)
+        (H.accesses host.old) (H.accesses host.new) (message_of fault)) }
+    ensures quiet { IfErr result (λ fault. IsQuiet (H.printed host.old) (H.printed host.new) (message_of fault)) }
+{
+    print_survey(alloc, host, survey)
+}
+
+/// Prints the form of the fork in the one file that is given, or the state of the files below the one folder.
+#[tactic(auto, using(crate::proofs::Checked::one_checked, crate::proofs::Checked::one_unchecked))]
+fn check_one<H: Host, W: Watch>(
+    alloc: Global,
+    host: &mut H,
+    survey: &Survey<'_>,
+    path: &str,
+    watch: &mut W,
+) -> Result<Ending, ToolFault>
+    requires { IsLone survey.now path.now }
+    ensures done { IfOk result (λ ending. Checks survey.now ending (H.printed host.old) (H.printed host.new)
+        (H.accesses host.old) (H.accesses host.new)) }
+    ensures undone { IfErr result (λ fault. IsUnchecked survey.now (H.printed host.old) (H.printed host.new)
+        (H.accesses host.old) (H.accesses host.new) (message_of fault)) }
+    ensures quiet { IfErr result (λ fault. IsQuiet (H.printed host.old) (H.printed host.new) (message_of fault)) }
+{
+    if host.is_folder(path) {
+        return check_all(alloc, host, survey);
+    }
+    let task = Task {
+        work: Work::Check,
+        path,
+        watched: false,
+    };
+    look(alloc, host, task, watch)
+}
+
+/// Prints the state of the files of a survey, or the form of the fork in the one file that is given.
+fn check<H: Host, W: Watch>(
+    alloc: Global,
+    host: &mut H,
+    survey: &Survey<'_>,
+    watch: &mut W,
+) -> Result<Ending, ToolFault>
+    ensures done { IfOk result (λ ending. Checks survey.now ending (H.printed host.old) (H.printed host.new)
+        (H.accesses host.old) (H.accesses host.new)) }
+    ensures undone { IfErr result (λ fault. IsUnchecked survey.now (H.printed host.old) (H.printed host.new)
+        (H.accesses host.old) (H.accesses host.new) (message_of fault)) }
+    ensures quiet { IfErr result (λ fault. IsQuiet (H.printed host.old) (H.printed host.new) (message_of fault)) }
+{
+    match survey.lone_path() {
+        Some(path) => check_one(alloc, host, survey, path, watch),
+        None => check_all(alloc, host, survey),
+    }
+}
+
 /// Does what a request asks for.
 fn perform<H: Host, W: Watch>(
     alloc: Global,
@@ -100,7 +177,9 @@ fn perform<H: Host, W: Watch>(
         Request::Show(zone) => show_in_job(alloc, host, zone),
         Request::Convert(conversion) => convert(alloc, host, conversion),
         Request::Combine(combination) => combine(alloc, host, combination),
+        Request::Check(survey) => check(alloc, host, &survey, watch),
         Request::Extract(extraction) => write_resources(alloc, host, extraction),
+        Request::Pack(packing) => write_packed(alloc, host, packing),
     }
 }
 

@@ -1,10 +1,11 @@
-//! The resources of a fork are written into a folder, a file each.
+//! What is in a file is written into a folder: the resources of its fork, a file each, and their list; or its forks.
 
 ghost use Rattle.std.specs.Prelude.{◌≡◌, ◌∷◌, [], map, Ok, OnOk, IfOk, IfErr};
-ghost use Rattle.fork_commands.specs.Extracting.{extracted};
+ghost use Rattle.fork_commands.specs.Faults.{Stops};
+ghost use Rattle.fork_commands.specs.Opening.{bytes_of, IsOpen};
 ghost use Rattle.fork_commands.specs.View.{view_file};
 ghost use Rattle.commands.specs.Accesses.{Folder, and_then, StopsAmong};
-ghost use Rattle.commands.specs.Extracting.{write_in, writes_in, Extracts, IsUnextracted};
+ghost use Rattle.commands.specs.Extracting.{to_write, write_in, writes_in, Extracts, IsUnextracted};
 ghost use Rattle.commands.specs.Fault.{message_of};
 ghost use Rattle.commands.specs.Tasks.{IsForkFault};
 
@@ -12,29 +13,58 @@ use crate::delivering::unwritten;
 use crate::fault::ToolFault;
 use crate::host::Host;
 use crate::input::read_input;
-use crate::tasks::fork_fault;
-use fork_commands::{ResourceFile, extracted};
+use crate::tasks::{fork_fault, opened_at};
+use fork_commands::{OpenFile, ResourceFile, WorkFault, extracted, parts};
 use std::alloc::Global;
 
-/// A request to extract the resources of a fork: its path and the folder for the resources, as they were given.
+/// What is written of a file into a folder.
+#[derive(Clone, Copy)]
+pub enum Pieces {
+    /// The resources of its fork, and their list.
+    Resources,
+    /// Its forks, and what is known of it.
+    Forks,
+}
+
+/// A request to write what is in a file into a folder: the file's path and the folder's, as they were given.
 #[derive(Clone, Copy)]
 pub struct Extraction<'a> {
+    pub pieces: Pieces,
     pub fork: &'a str,
     pub out: &'a str,
 }
 
-/// Returns the files of the resources of the fork in bytes.
+/// Returns the files that are written of a file that was opened.
+fn pieces_of<'f>(
+    alloc: Global,
+    pieces: Pieces,
+    folder: &str,
+    file: &'f OpenFile<'_>,
+) -> Result<Vec<ResourceFile<'f>>, WorkFault>
+    requires { IsOpen file.now }
+    ensures made { IfOk result (λ files. to_write pieces folder.now (bytes_of file.now) ≡ Ok (map view_file files.items)) }
+    ensures fault { IfErr result (λ fault. Stops fault (to_write pieces folder.now (bytes_of file.now))) }
+{
+    match pieces {
+        Pieces::Resources => extracted(alloc, folder, file),
+        Pieces::Forks => parts(alloc, folder, file),
+    }
+}
+
+/// Returns the files that are written of a file that was opened.
 #[tactic(auto, using(crate::proofs::Faults::fork_stopped))]
-fn files_of<'b>(
+fn files_of<'f>(
     alloc: Global,
     extraction: &Extraction<'_>,
-    bytes: &'b [u8],
-) -> Result<Vec<ResourceFile<'b>>, ToolFault>
-    ensures made { IfOk result (λ files. extracted extraction.now.out.now bytes.now ≡ Ok (map view_file files.items)) }
-    ensures fault { IfErr result (λ fault. IsForkFault extraction.now.fork.now (extracted extraction.now.out.now bytes.now)
-        (message_of fault)) }
+    file: &'f OpenFile<'_>,
+) -> Result<Vec<ResourceFile<'f>>, ToolFault>
+    requires { IsOpen file.now }
+    ensures made { IfOk result (λ files. to_write extraction.now.pieces extraction.now.out.now (bytes_of file.now)
+        ≡ Ok (map view_file files.items)) }
+    ensures fault { IfErr result (λ fault. IsForkFault extraction.now.fork.now
+        (to_write extraction.now.pieces extraction.now.out.now (bytes_of file.now)) (message_of fault)) }
 {
-    match extracted(alloc, extraction.out, bytes) {
+    match pieces_of(alloc, extraction.pieces, extraction.out, file) {
         Ok(files) => Ok(files),
         Err(fault) => Err(fork_fault(alloc, extraction.fork, fault)?),
     }
@@ -52,7 +82,7 @@ fn write_file<H: Host>(
     ensures stopped { IfErr result (λ fault. StopsAmong (write_in (view_file file.now) ∷ [])
         (H.accesses host.old) (H.accesses host.new) (message_of fault)) }
 {
-    match host.write(file.path.as_str(), file.datum) {
+    match host.write(file.path.as_str(), file.bytes.as_slice()) {
         Ok(()) => Ok(()),
         Err(error) => Err(unwritten(alloc, file.path.as_str(), error)?),
     }
@@ -107,8 +137,8 @@ fn write_all<H: Host>(
     Ok(())
 }
 
-/// Reads a fork, and writes each of its resources into a file of its own in a new folder. The paths of the files are made
-/// before the folder, so that they need no memory later.
+/// Reads a file, and writes each resource of its fork, or each of its forks, into a file of its own in a new folder. The paths of
+/// the files are made before the folder, so that they need no memory later.
 ///
 /// # Errors
 ///
@@ -131,7 +161,8 @@ pub fn extract<H: Host>(
         (H.accesses host.old) (H.accesses host.new) (message_of fault)) }
 {
     let bytes = read_input(alloc, host, extraction.fork)?;
-    let files = files_of(alloc, &extraction, bytes.as_slice())?;
+    let file = opened_at(alloc, extraction.fork, bytes.as_slice())?;
+    let files = files_of(alloc, &extraction, &file)?;
     write_all(alloc, host, extraction.out, files.as_slice())?;
     Ok(())
 }

@@ -40,6 +40,72 @@ fn read_file<F: OpenFile + Read>(alloc: Global, file: &mut F) -> Result<Vec<u8>,
     }
 }
 
+/// Reports whether a folder lies at a path; a link is followed.
+fn is_folder<R: Files>(rt: &R, path: &str) -> bool {
+    match fs::metadata(rt, path) {
+        Ok(about) => about.is_dir(),
+        Err(_) => false,
+    }
+}
+
+/// Returns the paths of what lies in a folder, the last name first.
+fn paths_in<R: Files + AllocGlobal + Clone + Drop>(
+    rt: &R,
+    alloc: Global,
+    folder: &str,
+) -> Result<Vec<String>, ReadError> {
+    let Ok(entries) = fs::read_dir(rt, folder) else {
+        return Err(ReadError::CannotRead);
+    };
+    let mut paths = Vec::new(alloc);
+    for entry in entries {
+        let Ok(entry) = entry else {
+            return Err(ReadError::CannotRead);
+        };
+        paths.push(String::from_str(alloc, entry.path().as_str())?)?;
+    }
+    paths.sort()?;
+    paths.reverse();
+    Ok(paths)
+}
+
+/// Reports whether a folder lies at a path that was found in a folder; a link is not followed, so that no folder is found twice.
+fn is_folder_found<R: Files>(rt: &R, path: &str) -> bool {
+    match fs::symlink_metadata(rt, path) {
+        Ok(about) => about.is_dir(),
+        Err(_) => false,
+    }
+}
+
+/// The greatest number of files and folders below a folder that is listed.
+const MOST_PATHS: u32 = 1_000_000_000;
+
+/// Returns the paths of all files below a folder, in the order of their names. What is left to look at is taken from the end, and
+/// what lies in a folder is put there. A folder that can't be listed stands among the files.
+fn files_below<R: Files + AllocGlobal + Clone + Drop>(
+    rt: &R,
+    alloc: Global,
+    folder: &str,
+) -> Result<Vec<String>, ReadError> {
+    let mut files = Vec::new(alloc);
+    let mut left = paths_in(rt, alloc, folder)?;
+    for _ in 0..MOST_PATHS {
+        let Some(path) = left.pop() else {
+            return Ok(files);
+        };
+        if is_folder_found(rt, path.as_str()) {
+            match paths_in(rt, alloc, path.as_str()) {
+                Ok(mut inside) => left.append(&mut inside)?,
+                Err(ReadError::CannotRead) => files.push(path)?,
+                Err(ReadError::HostMemory) => return Err(ReadError::HostMemory),
+            }
+        } else {
+            files.push(path)?;
+        }
+    }
+    Err(ReadError::CannotRead)
+}
+
 /// Writes bytes to an open file.
 fn write_file<W: Write>(file: &mut W, bytes: &[u8]) -> Result<(), WriteError> {
     match file.write_all(bytes) {
@@ -68,7 +134,7 @@ impl<'r, R: Eprint> Watch for Progress<'r, R> {
     }
 }
 
-impl<'r, R: Files + Input + Print> Host for HostFiles<'r, R> {
+impl<'r, R: Files + Input + Print + AllocGlobal + Clone + Drop> Host for HostFiles<'r, R> {
     // What a terminal, a pipe or a file has taken is not known, nor what lies at a path.
     ghost printed = { λ _. None };
 
@@ -84,6 +150,15 @@ impl<'r, R: Files + Input + Print> Host for HostFiles<'r, R> {
             Ok(mut file) => read_file(alloc, &mut file),
             Err(_) => Err(ReadError::CannotRead),
         }
+    }
+
+    fn is_folder(&mut self, path: &str) -> bool {
+        is_folder(self.rt, path)
+    }
+
+    /// A folder below that can't be listed is listed as a file, which can't be read either.
+    fn list(&mut self, alloc: Global, path: &str) -> Result<Vec<String>, ReadError> {
+        files_below(self.rt, alloc, path)
     }
 
     fn print(&mut self, bytes: &[u8]) -> Result<(), WriteError> {

@@ -6,15 +6,16 @@ ghost use Rattle.commands.specs.Fault.{message_of, IsUsage};
 use crate::combining::Combination;
 use crate::converting::Conversion;
 use crate::delivering::Target;
-use crate::extracting::Extraction;
+use crate::extracting::{Extraction, Pieces};
 use crate::fault::ToolFault;
+use crate::packing::Packing;
 use crate::parsing::{argument, bad_value, flag, mistake, option, value};
 use crate::request::Request;
 use clap::{ArgMatches, Command};
-use fork_commands::{Edit, ForkWork, Packaging, PairWork, ResourceKey, Setting};
-use fork_edits::{Renaming, read_attrs, read_type};
-use fork_format::RefName;
-use mac_words::Attrs;
+use fork_commands::{Edit, ForkWork, Naming, Packaging, PairWork, ResourceKey, Setting};
+use fork_edits::{NameFault, RomanName, TypeFault, read_attrs, read_type_text};
+use mac_roman::Charset;
+use mac_words::{Attrs, OsType};
 use std::alloc::{AllocError, Global};
 
 pub const FORK_HELP: &str = "File with a resource fork, or /dev/stdin; it is only read";
@@ -49,9 +50,9 @@ const REWRITE_EXAMPLES: &str = "Example:
   macmem rewrite examples/OtherForm.rsrc OUT
 
 OUT must not exist yet. The canonical fork is the one for which 'macmem check'
-prints 'canonical'. A fork in a wrapper (AppleSingle, AppleDouble, MacBinary) is
-written in it: OUT is FORK with another fork, and all else as it was; with
---bare it is the fork alone.
+prints 'canonical'. A fork in a wrapper (AppleSingle, AppleDouble, MacBinary,
+BinHex) is written in it: OUT is FORK with another fork, and all else as it was;
+with --bare it is the fork alone.
 A fork that cannot be read is reported as 'macmem: FORK: fork CODE': -39
 (eofErr) no bytes, -199 (mapReadErr) damaged; so is one whose content fits no
 fork, as -34 (dskFulErr). A file that exists already is reported as
@@ -74,17 +75,55 @@ const EXTRACT_EXAMPLES: &str = "Example:
   macmem extract examples/Document.rsrc OUT
 
 makes the folder OUT, which must not exist yet, with these files:
-  0001-STR_20-128-Greeting.bin
-  0002-STR_20-129.bin
-  0003-TEXT-128-Read_20me_20first.bin
-  0004-SIZE--1.bin
+  STR_20-128.bin
+  STR_20-129.bin
+  TEXT-128.bin
+  SIZE--1.bin
+  contents
 
-A name has the number of the resource in the fork, its type, its ID and, if it
-has a name, at most 48 bytes of that. A byte that is no letter and no digit is
-'_' and two hexadecimal digits.
+A name has the type and the ID, so that it stays as it is when other resources
+are added. A byte of the type that is no letter and no digit is '_' and two
+hexadecimal digits, and '+' stands before a letter in another case than the one
+before it, a capital at first. The file 'contents' lists type, ID, attributes,
+file and name of each resource, in their order; 'macmem pack' makes the fork
+again. Where two resources have one type and ID, each name begins with the
+number of the resource instead.
 A fork that cannot be read is reported as 'macmem: FORK: fork CODE': -39
 (eofErr) no bytes, -199 (mapReadErr) damaged. A folder that exists already is
 reported as 'macmem: OUT: cannot write', and nothing is written then.";
+
+const PACK_ABOUT: &str = "Writes the fork of the files in a folder";
+
+const PACK_EXAMPLES: &str = "Example:
+  macmem pack FOLDER OUT
+
+OUT must not exist yet. FOLDER is one that 'macmem extract' made, or has a file
+'contents' of the same form. A line of that is, for example:
+  'STR ' 128 32 STR_20-128.bin \"Greeting\"
+type, ID, attributes, file and, if there is one, name. Lines 'map N' and
+'area HEX' give the attributes of the map and the 240 bytes after the header;
+empty lines and those that begin with '#' are skipped. OUT is the canonical fork
+of the resources in the order of their lines, each with the bytes of its file.
+A list that cannot be read is reported by its first line that is wrong, as
+'macmem: FOLDER/contents: line 3: the ID can't be read'.";
+
+const FOLDER_HELP: &str = "Folder with the file 'contents' and those that it names";
+
+const UNWRAP_ABOUT: &str = "Writes the forks of a file, and what is known of it";
+
+const UNWRAP_EXAMPLES: &str = "Example:
+  macmem unwrap FILE OUT
+
+makes the folder OUT, which must not exist yet, with the file 'data' (the data
+fork, where FILE has one), 'rsrc' (the resource fork, which may be empty) and
+'info' (wrapper, name, type, creator, flags, dates and lengths, a line each, as
+'macmem map --verbose' prints them).
+FILE is AppleSingle, AppleDouble, MacBinary, BinHex or a bare fork. A wrapper
+that is damaged is reported as, for example,
+'macmem: FILE: BinHex: the checksum of the resource fork is wrong'. A folder that
+exists already is reported as 'macmem: OUT: cannot write'.";
+
+const WRAPPED_HELP: &str = "File in a wrapper, or /dev/stdin; it is only read";
 
 const FILES_HELP: &str = "Folder that is made for the files; it must not exist yet";
 
@@ -112,10 +151,13 @@ const FILE_HELP: &str = "File with the resource's bytes, or /dev/stdin; it is on
 /// The name of the option for a name, without its two hyphens.
 const NAME: &str = "name";
 
-const NAME_HELP: &str = "Name, of at most 255 bytes";
+const NAME_HELP: &str = "Name, of at most 255 characters of Mac OS Roman";
 
 /// The rule for a name, which is printed where the word is too long.
-const NAME_RULE: &str = "a name has at most 255 bytes";
+const NAME_RULE: &str = "a name has at most 255 characters";
+
+/// The rule for characters, which is printed where a word has one that Mac OS Roman has not.
+const ROMAN_RULE: &str = "a character is not one of Mac OS Roman";
 
 /// The name of the flag for no name, without its two hyphens.
 const NO_NAME: &str = "no-name";
@@ -202,8 +244,8 @@ const WRAP_ABOUT: &str = "Writes a file with the fork of another in the place of
 const WRAP_EXAMPLES: &str = "Example:
   macmem wrap LIKE FORK OUT
 
-OUT must not exist yet. It is LIKE (AppleSingle, AppleDouble or MacBinary) with
-the bytes of the fork in FORK in the place of its own; data fork, type, creator,
+OUT must not exist yet. It is LIKE (AppleSingle, AppleDouble, MacBinary or
+BinHex) with the bytes of the fork in FORK in the place of its own; data fork, type, creator,
 dates, name and all else are as they were.
 A fork that cannot be read is reported as 'macmem: FORK: fork CODE': -39
 (eofErr) no bytes, -199 (mapReadErr) damaged. A file that exists already is
@@ -220,6 +262,11 @@ those of each type, of OTHER; attributes of the map and the 240 bytes after the
 header are those of FORK. A resource whose type and ID stand in both is refused,
 as 'macmem: OTHER: 'STR ' 128 stands in both forks'; with --replace that of OTHER
 stands in its place.";
+
+/// The name of the flag for characters beyond ASCII, without its two hyphens.
+pub const UTF8: &str = "utf8";
+
+pub const UTF8_HELP: &str = "Print characters beyond ASCII in UTF-8, and not as \\0x8E";
 
 /// The name of the flag for resources that stand in both forks, without its two hyphens.
 const REPLACE: &str = "replace";
@@ -256,6 +303,7 @@ fn derez_command<'a>(alloc: Global) -> Result<Command<'a>, AllocError> {
     Command::new(alloc, "derez")
         .about(DEREZ_ABOUT)
         .after_help(DEREZ_EXAMPLES)
+        .arg(flag(alloc, UTF8, UTF8_HELP))?
         .arg(argument(alloc, "FORK", FORK_HELP))
 }
 
@@ -292,6 +340,7 @@ fn diff_command<'a>(alloc: Global) -> Result<Command<'a>, AllocError> {
     Command::new(alloc, "diff")
         .about(DIFF_ABOUT)
         .after_help(DIFF_EXAMPLES)
+        .arg(flag(alloc, UTF8, UTF8_HELP))?
         .arg(argument(alloc, "FORK", FIRST_HELP))?
         .arg(argument(alloc, "OTHER", SECOND_HELP))
 }
@@ -319,6 +368,22 @@ fn extract_command<'a>(alloc: Global) -> Result<Command<'a>, AllocError> {
         .about(EXTRACT_ABOUT)
         .after_help(EXTRACT_EXAMPLES)
         .arg(argument(alloc, "FORK", FORK_HELP))?
+        .arg(argument(alloc, "OUT", FILES_HELP))
+}
+
+fn pack_command<'a>(alloc: Global) -> Result<Command<'a>, AllocError> {
+    Command::new(alloc, "pack")
+        .about(PACK_ABOUT)
+        .after_help(PACK_EXAMPLES)
+        .arg(argument(alloc, "FOLDER", FOLDER_HELP))?
+        .arg(argument(alloc, "OUT", NEW_FORK_HELP))
+}
+
+fn unwrap_command<'a>(alloc: Global) -> Result<Command<'a>, AllocError> {
+    Command::new(alloc, "unwrap")
+        .about(UNWRAP_ABOUT)
+        .after_help(UNWRAP_EXAMPLES)
+        .arg(argument(alloc, "FILE", WRAPPED_HELP))?
         .arg(argument(alloc, "OUT", FILES_HELP))
 }
 
@@ -362,6 +427,38 @@ fn rename_command<'a>(alloc: Global) -> Result<Command<'a>, AllocError> {
         .arg(argument(alloc, "OUT", NEW_FORK_HELP))
 }
 
+/// Returns the fault of a word that is no type.
+fn bad_type(
+    alloc: Global,
+    command: Command<'_>,
+    text: &str,
+    fault: TypeFault,
+) -> Result<ToolFault, AllocError>
+    ensures { IfOk result (λ fault. IsUsage (message_of fault)) }
+{
+    match fault {
+        TypeFault::NotAType => bad_value(alloc, command, "TYPE", text, TYPE_RULE),
+        TypeFault::NoCharacter(_) => bad_value(alloc, command, "TYPE", text, ROMAN_RULE),
+        TypeFault::HostMemory => Ok(ToolFault::HostMemory),
+    }
+}
+
+/// Returns the fault of a word that is no name.
+fn bad_name(
+    alloc: Global,
+    command: Command<'_>,
+    text: &str,
+    fault: NameFault,
+) -> Result<ToolFault, AllocError>
+    ensures { IfOk result (λ fault. IsUsage (message_of fault)) }
+{
+    match fault {
+        NameFault::TooLong => bad_value(alloc, command, "NAME", text, NAME_RULE),
+        NameFault::NoCharacter(_) => bad_value(alloc, command, "NAME", text, ROMAN_RULE),
+        NameFault::HostMemory => Ok(ToolFault::HostMemory),
+    }
+}
+
 /// Returns the type and the ID in the arguments of a command.
 fn key_in(
     alloc: Global,
@@ -372,8 +469,9 @@ fn key_in(
 {
     let ty_text = value(matches, "TYPE");
     let id_text = value(matches, "ID");
-    let Some(ty) = read_type(ty_text.as_bytes()) else {
-        return Err(bad_value(alloc, command, "TYPE", ty_text, TYPE_RULE)?);
+    let ty = match read_type_text(alloc, ty_text.as_bytes()) {
+        Ok(ty) => ty,
+        Err(fault) => return Err(bad_type(alloc, command, ty_text, fault)?),
     };
     match id_text.parse::<i16>() {
         Ok(id) => Ok(ResourceKey { ty, id }),
@@ -387,6 +485,15 @@ fn packaging_in(matches: &ArgMatches<'_>) -> Packaging {
         Packaging::Bare
     } else {
         Packaging::AsRead
+    }
+}
+
+/// Returns the characters in which names and types are printed.
+pub fn charset_in(matches: &ArgMatches<'_>) -> Charset {
+    if matches.get_flag(UTF8) {
+        Charset::Utf8
+    } else {
+        Charset::Ascii
     }
 }
 
@@ -424,7 +531,7 @@ fn assembling<'a>(matches: &ArgMatches<'a>) -> Request<'a> {
 }
 
 /// Returns a conversion into a new file.
-fn into_file<'a>(work: ForkWork<'a>, name: &str, matches: &ArgMatches<'a>) -> Conversion<'a> {
+fn into_file<'a>(work: ForkWork, name: &str, matches: &ArgMatches<'a>) -> Conversion<'a> {
     Conversion {
         work,
         path: value(matches, name),
@@ -435,7 +542,7 @@ fn into_file<'a>(work: ForkWork<'a>, name: &str, matches: &ArgMatches<'a>) -> Co
 /// Returns the request that the words after `derez` make.
 fn printing<'a>(matches: &ArgMatches<'a>) -> Conversion<'a> {
     Conversion {
-        work: ForkWork::Derez,
+        work: ForkWork::Derez(charset_in(matches)),
         path: value(matches, "FORK"),
         target: Target::Printed,
     }
@@ -444,17 +551,26 @@ fn printing<'a>(matches: &ArgMatches<'a>) -> Conversion<'a> {
 /// Returns the request that the words after `diff` make.
 fn comparing<'a>(matches: &ArgMatches<'a>) -> Combination<'a> {
     Combination {
-        work: PairWork::Diff,
+        work: PairWork::Diff(charset_in(matches)),
         first: value(matches, "FORK"),
         second: value(matches, "OTHER"),
         target: Target::Printed,
     }
 }
 
-/// Returns the request that the words after `extract` make.
-fn extraction<'a>(matches: &ArgMatches<'a>) -> Extraction<'a> {
+/// Returns the request that the words after `extract` or `unwrap` make.
+fn extraction<'a>(pieces: Pieces, name: &str, matches: &ArgMatches<'a>) -> Extraction<'a> {
     Extraction {
-        fork: value(matches, "FORK"),
+        pieces,
+        fork: value(matches, name),
+        out: value(matches, "OUT"),
+    }
+}
+
+/// Returns the request that the words after `pack` make.
+fn packing<'a>(matches: &ArgMatches<'a>) -> Packing<'a> {
+    Packing {
+        folder: value(matches, "FOLDER"),
         out: value(matches, "OUT"),
     }
 }
@@ -477,21 +593,20 @@ fn set_named<'a>(alloc: Global) -> Result<Command<'a>, AllocError> {
 }
 
 /// Returns the name in an option, if it is given.
-fn name_in<'a>(
+fn name_in(
     alloc: Global,
     command: Command<'_>,
-    matches: &ArgMatches<'a>,
-) -> Result<Option<RefName<'a>>, ToolFault>
+    matches: &ArgMatches<'_>,
+) -> Result<Option<RomanName>, ToolFault>
     ensures { IfErr result (λ fault. IsUsage (message_of fault)) }
 {
     let Some(text) = matches.get_str(NAME) else {
         return Ok(None);
     };
-    let bytes = text.as_bytes();
-    if bytes.len() > 255 {
-        return Err(bad_value(alloc, command, "NAME", text, NAME_RULE)?);
+    match RomanName::read(alloc, text.as_bytes()) {
+        Ok(name) => Ok(Some(name)),
+        Err(fault) => Err(bad_name(alloc, command, text, fault)?),
     }
-    Ok(Some(RefName { bytes }))
 }
 
 /// Returns the attributes in an option, if they are given.
@@ -557,10 +672,10 @@ fn new_id_in(alloc: Global, matches: &ArgMatches<'_>) -> Result<Option<i16>, Too
 }
 
 /// Returns the name that a resource gets by the options of a command, no name, or none where it keeps its own.
-fn new_name_in<'a>(
+fn new_name_in(
     alloc: Global,
-    matches: &ArgMatches<'a>,
-) -> Result<Option<Option<RefName<'a>>>, ToolFault>
+    matches: &ArgMatches<'_>,
+) -> Result<Option<Option<RomanName>>, ToolFault>
     ensures { IfErr result (λ fault. IsUsage (message_of fault)) }
 {
     let name = name_in(alloc, rename_named(alloc)?, matches)?;
@@ -585,7 +700,7 @@ fn renaming<'a>(alloc: Global, matches: &ArgMatches<'a>) -> Result<Conversion<'a
         return Err(mistake(alloc, rename_named(alloc)?, NOTHING_NEW));
     }
     let work = ForkWork::Change(
-        Edit::Rename(key, Renaming { id, name, attrs }),
+        Edit::Rename(key, Naming { id, name, attrs }),
         packaging_in(matches),
     );
     Ok(into_file(work, "FORK", matches))
@@ -599,6 +714,7 @@ pub fn with_fork_commands<'a>(
     command
         .subcommand(get_command(alloc)?)?
         .subcommand(extract_command(alloc)?)?
+        .subcommand(pack_command(alloc)?)?
         .subcommand(set_command(alloc)?)?
         .subcommand(remove_command(alloc)?)?
         .subcommand(rename_command(alloc)?)?
@@ -607,7 +723,8 @@ pub fn with_fork_commands<'a>(
         .subcommand(rewrite_command(alloc)?)?
         .subcommand(derez_command(alloc)?)?
         .subcommand(rez_command(alloc)?)?
-        .subcommand(wrap_command(alloc)?)
+        .subcommand(wrap_command(alloc)?)?
+        .subcommand(unwrap_command(alloc)?)
 }
 
 /// Returns the request that the words after the name of one of these commands make.
@@ -620,7 +737,9 @@ pub fn fork_request<'a>(
 {
     let request = match name {
         "get" => Request::Convert(getting(alloc, matches)?),
-        "extract" => Request::Extract(extraction(matches)),
+        "extract" => Request::Extract(extraction(Pieces::Resources, "FORK", matches)),
+        "unwrap" => Request::Extract(extraction(Pieces::Forks, "FILE", matches)),
+        "pack" => Request::Pack(packing(matches)),
         "set" => Request::Combine(setting(alloc, matches)?),
         "remove" => Request::Convert(removing(alloc, matches)?),
         "rename" => Request::Convert(renaming(alloc, matches)?),

@@ -17,49 +17,21 @@ use crate::host::Host;
 use crate::input::read_input;
 use crate::tasks::{fork_fault, script_fault};
 use desk::{App, AppFile, Job};
-use fork_commands::{WorkFault, copied, fork_in};
-use fork_wrappers::{Unwrapped, Wrapping};
+use fork_commands::fork_bytes;
 use mac_words::{FileName, Label};
 use script_text::{Input, JobText, Script, read_script};
 use std::alloc::{AllocError, Global};
 
-/// Reports whether the bytes of a file are the fork itself, in no wrapper.
-#[tactic(auto, using(crate::proofs::Forks::plain_fork))]
-fn is_plain(bytes: &[u8]) -> bool
-    ensures { IsTrue result → fork_in bytes.now ≡ Ok bytes.now }
-{
-    match fork_in(bytes) {
-        Ok(
-            Unwrapped {
-                wrapping: Wrapping::Plain,
-                ..
-            },
-        ) => true,
-        _ => false,
-    }
-}
-
-/// Returns a copy of the fork in the bytes of a file.
+/// Returns the fork in the bytes of a file: the bytes themselves if they are a fork, else a copy.
 #[tactic(auto, using(crate::proofs::Faults::fork_stopped))]
-fn fork_copied(alloc: Global, path: &str, bytes: &[u8]) -> Result<Vec<u8>, ToolFault>
-    ensures fork { IfOk result (λ fork. fork_in bytes.now ≡ Ok fork.items) }
-    ensures fault { IfErr result (λ fault. IsForkFault path.now (fork_in bytes.now) (message_of fault)) }
-{
-    match fork_in(bytes) {
-        Ok(found) => Ok(copied(alloc, found.fork)?),
-        Err(fault) => Err(fork_fault(alloc, path, WorkFault::File(fault))?),
-    }
-}
-
-/// Returns the fork in the bytes of a file: the bytes themselves if they are in no wrapper, else a copy.
 fn fork_of(alloc: Global, path: &str, bytes: Vec<u8>) -> Result<Vec<u8>, ToolFault>
     ensures fork { IfOk result (λ fork. fork_in bytes.items ≡ Ok fork.items) }
     ensures fault { IfErr result (λ fault. IsForkFault path.now (fork_in bytes.items) (message_of fault)) }
 {
-    if is_plain(bytes.as_slice()) {
-        return Ok(bytes);
+    match fork_bytes(alloc, bytes) {
+        Ok(fork) => Ok(fork),
+        Err(fault) => Err(fork_fault(alloc, path, fault)?),
     }
-    fork_copied(alloc, path, bytes.as_slice())
 }
 
 /// Reads the fork in the file at a path.

@@ -1,13 +1,13 @@
 //! The host: the program's access to files and the standard output.
 
-ghost use Rattle.std.specs.Prelude.{◌≡◌, ℕ, Option, List, ◌∷◌, [], codes, OnOk, IfOk, IfErr};
+ghost use Rattle.std.specs.Prelude.{◌≡◌, ℕ, Option, List, ◌∷◌, [], map, codes, OnOk, IfOk, IfErr, string_bytes};
 ghost use Rattle.std.specs.Io.KnownBytes.{append_known};
-ghost use Rattle.commands.specs.Accesses.{Access, Read, Folder, Write, and_then, RefusesRead, RefusesWrite, RefusesFile};
+ghost use Rattle.commands.specs.Accesses.{Access, Read, Listed, Folder, Write, and_then, RefusesRead, RefusesWrite, RefusesFile};
 ghost use Rattle.commands.specs.Printing.{PrintsFront};
 ghost use Rattle.commands.specs.declared.host.ReadError.TheVariants.{HostMemory};
 ghost use Rattle.commands.specs.declared.host.WriteError.TheVariants as write_error;
 
-use std::alloc::{AllocError, Global};
+use std::alloc::{AllocError, AllocFailed, Global};
 
 /// The reason why a file could not be read.
 #[derive(Clone, Copy, Debug, PartialEq)]
@@ -22,6 +22,14 @@ impl From<AllocError> for ReadError {
     ghost from_gives = { λ _ e. e ≡ HostMemory };
 
     fn from(_e: AllocError) -> ReadError {
+        ReadError::HostMemory
+    }
+}
+
+impl<T: Drop> From<AllocFailed<T>> for ReadError {
+    ghost from_gives = { λ _ e. e ≡ HostMemory };
+
+    fn from(_e: AllocFailed<T>) -> ReadError {
         ReadError::HostMemory
     }
 }
@@ -56,6 +64,21 @@ pub trait Host {
         ensures read { IfOk result (λ bytes. accesses self.new
             ≡ and_then (accesses self.old) (Read path.now bytes.items ∷ [])) }
         ensures unread { IfErr result (λ error. RefusesRead path.now error (accesses self.old) (accesses self.new)) }
+
+        // Nothing is printed.
+        ensures silent { printed self.new ≡ printed self.old };
+
+    /// Reports whether a folder lies at a path. No file is read.
+    fn is_folder(&mut self, path: &str) -> bool
+        ensures files { accesses self.new ≡ accesses self.old }
+        ensures silent { printed self.new ≡ printed self.old };
+
+    /// Returns the paths of all files below a folder, in the order of their names: each begins with that of the folder, as it was
+    /// given, and a slash.
+    fn list(&mut self, alloc: Global, path: &str) -> Result<Vec<String>, ReadError>
+        ensures listed { IfOk result (λ files. accesses self.new
+            ≡ and_then (accesses self.old) (Listed path.now (map string_bytes files.items) ∷ [])) }
+        ensures unlisted { IfErr result (λ error. RefusesRead path.now error (accesses self.old) (accesses self.new)) }
 
         // Nothing is printed.
         ensures silent { printed self.new ≡ printed self.old };

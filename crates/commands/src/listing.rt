@@ -9,17 +9,17 @@ ghost use Rattle.fork_format.specs.Content.{refs_of};
 ghost use Rattle.fork_format.specs.View.{view_name, view_ref, view_group, view};
 ghost use Rattle.commands.specs.Accesses.{RefusesWrite};
 ghost use Rattle.commands.specs.Listing.{type_listed, numbers_listed, name_digits, name_listed, line_of, group_lines};
-ghost use Rattle.commands.specs.Listing.{head_line, wrapper_word, wrapper_line, first_lines};
+ghost use Rattle.commands.specs.Listing.{remark_listed, head_line, first_lines};
 ghost use Rattle.commands.specs.Listing as spec;
 ghost use Rattle.commands.specs.Printing.{PrintsBut, PrintsFront};
 
 use crate::host::{Host, WriteError};
 use byteorder::{BigEndian, ByteOrder};
-use fork_edits::{append_name, append_type};
+use fork_edits::{append_compressed, append_name, append_type};
 use fork_format::{Content, Group, Ref, RefName, kind_of};
-use fork_wrappers::Wrapping;
 use itoa::Buffer;
-use mac_words::{OsType, lower_digit};
+use mac_roman::Charset;
+use mac_words::{Attrs, OsType, lower_digit};
 use std::alloc::{AllocError, Global};
 
 /// The number of bytes of lines that are gathered before they are printed.
@@ -33,24 +33,16 @@ const LONGEST: usize = 1_400;
 pub enum Spelling {
     /// In hexadecimal digits.
     Digits,
-    /// As a person reads them.
-    Readable,
-}
-
-/// How a fork is listed.
-#[derive(Clone, Copy)]
-pub struct MapStyle {
-    pub spelling: Spelling,
-    /// Whether a line above the listing says how the file wraps its fork.
-    pub verbose: bool,
+    /// As a person reads them, in these characters.
+    Readable(Charset),
 }
 
 /// The listing of a content.
 #[derive(Drop)]
 pub struct Listing<'b> {
-    pub style: MapStyle,
-    /// How the file wraps the fork.
-    pub wrapping: Wrapping,
+    pub spelling: Spelling,
+    /// The lines above the listing, which say what the file is.
+    pub info: Vec<u8>,
     pub content: Content<'b>,
 }
 
@@ -109,7 +101,7 @@ fn push_name(
 {
     match spelling {
         Spelling::Digits => push_digits(text, name),
-        Spelling::Readable => append_name(text, name),
+        Spelling::Readable(charset) => append_name(text, charset, name),
     }
 }
 
@@ -122,7 +114,7 @@ fn push_type(text: &mut Vec<u8>, spelling: Spelling, ty: OsType) -> Result<(), A
             text.extend_from_slice(b"$")?;
             text.extend_from_slice(&digits_of(kind_of(ty)))
         }
-        Spelling::Readable => append_type(text, ty),
+        Spelling::Readable(charset) => append_type(text, charset, ty),
     }
 }
 
@@ -136,6 +128,16 @@ fn push_numbers(text: &mut Vec<u8>, resource: &Ref<'_>) -> Result<(), AllocError
     text.extend_from_slice(Buffer::new().format(resource.attrs.0).as_bytes())?;
     text.extend_from_slice(b" ")?;
     text.extend_from_slice(Buffer::new().format(resource.datum.len()).as_bytes())
+}
+
+/// Appends what is said of the attributes of a resource beside their number, where a person reads the listing.
+fn push_remark(text: &mut Vec<u8>, spelling: Spelling, attrs: Attrs) -> Result<(), AllocError>
+    ensures { OnOk result (text.new.items ≡ text.old.items ++ remark_listed spelling attrs.0) }
+{
+    match spelling {
+        Spelling::Digits => Ok(()),
+        Spelling::Readable(_) => append_compressed(text, attrs),
+    }
 }
 
 /// Appends the line of a resource of a type.
@@ -152,6 +154,7 @@ fn push_resource(
     push_numbers(text, resource)?;
     text.extend_from_slice(b" ")?;
     push_name(text, spelling, &resource.name)?;
+    push_remark(text, spelling, resource.attrs)?;
     text.extend_from_slice(b"\n")
 }
 
@@ -179,38 +182,12 @@ fn push_head(text: &mut Vec<u8>, content: &Content<'_>) -> Result<(), AllocError
     text.extend_from_slice(b"\n")
 }
 
-/// Returns the word for how a file wraps its fork.
-fn word_of(wrapping: Wrapping) -> &'static [u8]
-    ensures { result.now ≡ wrapper_word wrapping }
-{
-    match wrapping {
-        Wrapping::Plain => b"none",
-        Wrapping::AppleSingle => b"AppleSingle",
-        Wrapping::AppleDouble => b"AppleDouble",
-        Wrapping::MacBinaryI => b"MacBinary I",
-        Wrapping::MacBinaryII => b"MacBinary II",
-        Wrapping::MacBinaryIII => b"MacBinary III",
-    }
-}
-
-/// Appends the line that says how the file wraps its fork, if the style has it.
-fn push_wrapper(text: &mut Vec<u8>, style: MapStyle, wrapping: Wrapping) -> Result<(), AllocError>
-    ensures { OnOk result (text.new.items ≡ text.old.items ++ wrapper_line style wrapping) }
-{
-    if style.verbose {
-        text.extend_from_slice(b"wrapper ")?;
-        text.extend_from_slice(word_of(wrapping))?;
-        text.extend_from_slice(b"\n")?;
-    }
-    Ok(())
-}
-
 /// Appends the lines that precede the resources.
 fn push_first(text: &mut Vec<u8>, listing: &Listing<'_>) -> Result<(), AllocError>
     ensures { OnOk result (text.new.items ≡ text.old.items
-        ++ first_lines listing.now.style listing.now.wrapping (view listing.now.content)) }
+        ++ first_lines listing.now.info.items (view listing.now.content)) }
 {
-    push_wrapper(text, listing.style, listing.wrapping)?;
+    text.extend_from_slice(listing.info.as_slice())?;
     push_head(text, &listing.content)
 }
 
@@ -272,8 +249,8 @@ fn print_groups<H: Host>(
 
 /// Prints the listing of a content: a line with the map's attributes and the numbers of types and of resources, then a
 /// line for each resource: its type, ID, attributes, length in bytes, and name. Types and names are `$` and
-/// hexadecimal digits in lower case, or as a person reads them; `-` stands for no name. A line above says how the file
-/// wraps the fork, if the style has it.
+/// hexadecimal digits in lower case, or as a person reads them; `-` stands for no name. The lines of the listing's info
+/// stand above.
 ///
 /// The memory in which the lines are gathered is taken before any line is printed, and the lines are printed some
 /// 65,536 bytes at a time.
@@ -283,14 +260,14 @@ pub fn print_listing<H: Host>(
     listing: &Listing<'_>,
 ) -> Result<(), WriteError>
     ensures all { OnOk result (H.printed host.new ≡ append_known (H.printed host.old)
-        (spec.listing listing.now.style listing.now.wrapping (view listing.now.content))) }
-    ensures front { PrintsFront (spec.listing listing.now.style listing.now.wrapping (view listing.now.content))
+        (spec.listing listing.now.spelling listing.now.info.items (view listing.now.content))) }
+    ensures front { PrintsFront (spec.listing listing.now.spelling listing.now.info.items (view listing.now.content))
         (H.printed host.old) (H.printed host.new) }
     ensures files { OnOk result (H.accesses host.new ≡ H.accesses host.old) }
     ensures refused { IfErr result (λ error. RefusesWrite (codes "-") error (H.accesses host.old) (H.accesses host.new)) }
 {
     let mut lines = Vec::with_capacity(alloc, MANY + LONGEST)?;
     push_first(&mut lines, listing)?;
-    print_groups(host, &mut lines, listing.style.spelling, &listing.content)?;
+    print_groups(host, &mut lines, listing.spelling, &listing.content)?;
     host.print(lines.as_slice())
 }

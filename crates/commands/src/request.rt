@@ -4,14 +4,18 @@ use crate::combining::Combination;
 use crate::converting::Conversion;
 use crate::extracting::Extraction;
 use crate::job_zones::JobZone;
+use crate::packing::Packing;
 use crate::running::Errand;
+use crate::surveying::Survey;
 use crate::tasks::Task;
 
 /// A request that the words of a command line make.
-#[derive(Clone, Copy)]
+#[derive(Drop)]
 pub enum Request<'a> {
     /// A file is read, and something is printed of its bytes.
     Look(Task<'a>),
+    /// Files are read, and the state of each is printed.
+    Check(Survey<'a>),
     /// A job is run, and what it leaves is written.
     Run(Errand<'a>),
     /// A job is run, and the zone of one of its applications is printed.
@@ -22,4 +26,6 @@ pub enum Request<'a> {
     Combine(Combination<'a>),
     /// A fork is read, and its resources are written into a folder, a file each.
     Extract(Extraction<'a>),
+    /// The list of a folder and the files that it names are read, and the fork that they state is written.
+    Pack(Packing<'a>),
 }

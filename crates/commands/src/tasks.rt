@@ -1,23 +1,30 @@
 //! A task: what is printed of the bytes of its file.
 
-ghost use Rattle.std.specs.Prelude.{◌≡◌, IfOk, IfErr, OnOk, codes, string_bytes};
-ghost use Rattle.std.specs.Io.KnownBytes.{append_known};
+ghost use Rattle.std.specs.Prelude.{◌≡◌, ◌++◌, Ok, IfOk, IfErr, OnOk, true, not, codes, string_bytes};
+ghost use Rattle.fork_format.specs.View.{view};
+ghost use Rattle.fork_commands.specs.Opening.{opened, bytes_of, IsOpen};
 ghost use Rattle.fork_commands.specs.Reading.{content_in};
-ghost use Rattle.commands.specs.Accesses.{RefusesWrite};
+ghost use Rattle.fork_commands.specs.States.{state_words, has_content};
+ghost use Rattle.commands.specs.declared.delivering.Target.TheVariants.{Printed};
+ghost use Rattle.commands.specs.declared.ending.Ending.TheVariants.{Done};
+ghost use Rattle.commands.specs.declared.tasks.Work.TheVariants as work;
+ghost use Rattle.commands.specs.Delivering.{Delivers, IsUndelivered};
 ghost use Rattle.commands.specs.Fault.{message_of, write_message};
-ghost use Rattle.commands.specs.Work.{IsTranscriptOf, IsZoneOf, IsListingOf, IsFormText};
-ghost use Rattle.commands.specs.Printing.{PrintsFront};
+ghost use Rattle.commands.specs.Listing as spec;
+ghost use Rattle.commands.specs.Work.{IsTranscriptOf, IsZoneOf, IsFormText, IsDescription};
 ghost use Rattle.commands.specs.Tasks.{script_message, fork_message, IsScriptFault, IsForkFault};
-ghost use Rattle.commands.specs.Tasks.{output_text, IsPrinted, IsFault, Prints, IsRefusal};
+ghost use Rattle.commands.specs.Tasks.{Prints, IsRefusal, description_text, is_state, ending_for};
 
-use crate::delivering::STANDARD_OUTPUT;
+use crate::delivering::{STANDARD_OUTPUT, Target, deliver, unwritten};
+use crate::ending::Ending;
 use crate::fault::ToolFault;
 use crate::host::{Host, WriteError};
-use crate::listing::{Listing, MapStyle, print_listing};
+use crate::listing::{Listing, Spelling, print_listing};
 use crate::size::PartitionSize;
-use crate::work::{Form, ZoneView, form_of, listing_of, transcript_of, zone_of};
+use crate::work::{ZoneView, form_of, transcript_of, zone_of};
 use applications::{Unwatched, Watch};
-use fork_commands::WorkFault;
+use fork_commands::{OpenFile, WorkFault, append_state, content_in, info_text, open_file};
+use fork_format::Content;
 use script_text::{FaultKind, ScriptFault};
 use std::alloc::{AllocError, Global};
 
@@ -28,8 +35,10 @@ pub enum Work {
     Script(PartitionSize),
     /// The bytes are run as a script up to a line, and the zone is shown.
     Heap(ZoneView),
-    /// The resource fork in the bytes is listed in this style.
-    Map(MapStyle),
+    /// The resource fork in the bytes is listed in this spelling.
+    Map(Spelling),
+    /// It is said what the file is, and the resource fork in the bytes is listed.
+    Describe(Spelling),
     /// The resource fork in the bytes is compared with the canonical fork of its content.
     Check,
 }
@@ -42,17 +51,6 @@ pub struct Task<'a> {
     pub path: &'a str,
     /// Whether the progress of a script is to be reported.
     pub watched: bool,
-}
-
-/// What a task prints of the bytes of its file.
-#[derive(Drop)]
-pub enum Output<'b> {
-    /// The transcript of a script, or its zone.
-    Text(Vec<u8>),
-    /// The listing of a fork's content, which is made from the fork's bytes as it is printed.
-    Listing(Listing<'b>),
-    /// The line with a fork's form.
-    Form(Form),
 }
 
 /// Returns the fault of a script or of a job, with its path.
@@ -92,107 +90,297 @@ pub fn write_fault(path: String, error: WriteError) -> ToolFault
     }
 }
 
-/// Runs a script and returns its transcript.
-fn script_output<'b, W: Watch>(
+/// Opens the file at a path, whose bytes were read.
+#[tactic(auto, using(crate::proofs::Faults::fork_stopped))]
+pub fn opened_at<'b>(alloc: Global, path: &str, bytes: &'b [u8]) -> Result<OpenFile<'b>, ToolFault>
+    ensures bytes { IfOk result (λ file. bytes_of file ≡ bytes.now) }
+    ensures is_open { IfOk result IsOpen }
+    ensures fault { IfErr result (λ fault. IsForkFault path.now (opened bytes.now) (message_of fault)) }
+{
+    match open_file(alloc, bytes) {
+        Ok(file) => Ok(file),
+        Err(fault) => Err(fork_fault(alloc, path, fault)?),
+    }
+}
+
+/// Runs a script and returns its transcript. The progress is reported to the watch if that is asked for.
+fn transcript_at<W: Watch>(
     alloc: Global,
     size: PartitionSize,
-    path: &str,
-    text: &'b [u8],
+    task: Task<'_>,
+    text: &[u8],
     watch: &mut W,
-) -> Result<Output<'b>, ToolFault>
-    ensures output { IfOk result (λ output. IsTranscriptOf size.bytes text.now (output_text output)) }
-    ensures fault { IfErr result (λ fault. IsScriptFault path.now text.now (message_of fault)) }
+) -> Result<Vec<u8>, ToolFault>
+    ensures transcript { IfOk result (λ out. IsTranscriptOf size.bytes text.now out.items) }
+    ensures fault { IfErr result (λ fault. IsScriptFault task.entry.path.now text.now (message_of fault)) }
 {
-    match transcript_of(alloc, size, text, watch) {
-        Ok(transcript) => Ok(Output::Text(transcript)),
-        Err(fault) => Err(script_fault(alloc, path, fault)?),
+    let transcript = if task.watched {
+        transcript_of(alloc, size, text, watch)
+    } else {
+        transcript_of(alloc, size, text, &mut Unwatched)
+    };
+    match transcript {
+        Ok(transcript) => Ok(transcript),
+        Err(fault) => Err(script_fault(alloc, task.path, fault)?),
     }
+}
+
+/// Runs a script, and prints its transcript.
+#[tactic(auto, using(crate::proofs::Described::refused_print, crate::proofs::Described::refused_bytes))]
+fn print_transcript<H: Host, W: Watch>(
+    alloc: Global,
+    host: &mut H,
+    size: PartitionSize,
+    task: Task<'_>,
+    text: &[u8],
+    watch: &mut W,
+) -> Result<Ending, ToolFault>
+    ensures printed { OnOk result (Prints (work.Script size) text.now (H.printed host.old) (H.printed host.new)) }
+    ensures ending { IfOk result (λ ending. ending ≡ Done) }
+    ensures fault { IfErr result (λ fault. IsRefusal (work.Script size) task.entry.path.now text.now
+        (H.printed host.old) (H.printed host.new) (H.accesses host.old) (H.accesses host.new) (message_of fault)) }
+    ensures files { OnOk result (H.accesses host.new ≡ H.accesses host.old) }
+{
+    let out = transcript_at(alloc, size, task, text, watch)?;
+    deliver(alloc, host, Target::Printed, out.as_slice())?;
+    Ok(Ending::Done)
 }
 
 /// Runs a script up to a line and returns the zone as it then lies.
-fn heap_output<'b>(
-    alloc: Global,
-    asked: ZoneView,
-    path: &str,
-    text: &'b [u8],
-) -> Result<Output<'b>, ToolFault>
-    ensures output { IfOk result (λ output. IsZoneOf asked text.now (output_text output)) }
+fn zone_at(alloc: Global, asked: ZoneView, path: &str, text: &[u8]) -> Result<Vec<u8>, ToolFault>
+    ensures zone { IfOk result (λ out. IsZoneOf asked text.now out.items) }
     ensures fault { IfErr result (λ fault. IsScriptFault path.now text.now (message_of fault)) }
 {
     match zone_of(alloc, asked, text) {
-        Ok(shown) => Ok(Output::Text(shown)),
+        Ok(shown) => Ok(shown),
         Err(fault) => Err(script_fault(alloc, path, fault)?),
     }
 }
 
-/// Returns the listing of the resource fork in the bytes of a file.
-#[tactic(auto, using(crate::proofs::Faults::fork_stopped))]
-fn map_output<'b>(
+/// Runs a script up to a line, and prints the zone as it then lies.
+#[tactic(auto, using(crate::proofs::Described::refused_print, crate::proofs::Described::refused_bytes))]
+fn print_zone<H: Host>(
     alloc: Global,
-    style: MapStyle,
+    host: &mut H,
+    asked: ZoneView,
     path: &str,
-    bytes: &'b [u8],
-) -> Result<Output<'b>, ToolFault>
-    ensures output { IfOk result (λ output. IsListingOf style bytes.now (output_text output)) }
-    ensures fault { IfErr result (λ fault. IsForkFault path.now (content_in bytes.now) (message_of fault)) }
+    text: &[u8],
+) -> Result<Ending, ToolFault>
+    ensures printed { OnOk result (Prints (work.Heap asked) text.now (H.printed host.old) (H.printed host.new)) }
+    ensures ending { IfOk result (λ ending. ending ≡ Done) }
+    ensures fault { IfErr result (λ fault. IsRefusal (work.Heap asked) path.now text.now
+        (H.printed host.old) (H.printed host.new) (H.accesses host.old) (H.accesses host.new) (message_of fault)) }
+    ensures files { OnOk result (H.accesses host.new ≡ H.accesses host.old) }
 {
-    match listing_of(alloc, style, bytes) {
-        Ok(listing) => Ok(Output::Listing(listing)),
-        Err(fault) => Err(fork_fault(alloc, path, fault)?),
-    }
+    let out = zone_at(alloc, asked, path, text)?;
+    deliver(alloc, host, Target::Printed, out.as_slice())?;
+    Ok(Ending::Done)
 }
 
-/// Returns the form of a resource fork: whether it is the canonical fork of its content.
+/// Returns the line with the form of a resource fork: whether it is the canonical fork of its content.
 #[tactic(auto, using(crate::proofs::Faults::fork_stopped))]
-fn check_output<'b>(alloc: Global, path: &str, bytes: &'b [u8]) -> Result<Output<'b>, ToolFault>
-    ensures output { IfOk result (λ output. IsFormText bytes.now (output_text output)) }
+fn form_at(alloc: Global, path: &str, bytes: &[u8]) -> Result<&'static [u8], ToolFault>
+    ensures form { IfOk result (λ out. IsFormText bytes.now out.now) }
     ensures fault { IfErr result (λ fault. IsForkFault path.now (content_in bytes.now) (message_of fault)) }
 {
     match form_of(alloc, bytes) {
-        Ok(form) => Ok(Output::Form(form)),
+        Ok(form) => Ok(form.text()),
         Err(fault) => Err(fork_fault(alloc, path, fault)?),
     }
 }
 
-/// Returns what a task prints of the bytes of its file. The progress of a script is reported to the watch if the task
-/// asks for that.
-///
-/// # Errors
-///
-/// The fault of the bytes, with the file's path. If the host is out of memory nothing is said of the bytes.
-pub fn output_of<'b, W: Watch>(
+/// Prints the form of a resource fork.
+#[tactic(auto, using(crate::proofs::Described::refused_print, crate::proofs::Described::refused_bytes))]
+fn print_form<H: Host>(
     alloc: Global,
-    task: Task<'_>,
-    bytes: &'b [u8],
-    watch: &mut W,
-) -> Result<Output<'b>, ToolFault>
-    // A script's transcript or its zone, a fork's listing, or the line with a fork's form.
-    ensures output { IfOk result (λ output. IsPrinted task.entry.work bytes.now (output_text output)) }
-
-    // The script's first faulty line, or the result code of bytes that are no fork.
-    ensures fault { IfErr result (λ fault. IsFault task.entry.work task.entry.path.now bytes.now (message_of fault)) }
+    host: &mut H,
+    path: &str,
+    bytes: &[u8],
+) -> Result<Ending, ToolFault>
+    ensures printed { OnOk result (Prints work.Check bytes.now (H.printed host.old) (H.printed host.new)) }
+    ensures ending { IfOk result (λ ending. ending ≡ Done) }
+    ensures fault { IfErr result (λ fault. IsRefusal work.Check path.now bytes.now
+        (H.printed host.old) (H.printed host.new) (H.accesses host.old) (H.accesses host.new) (message_of fault)) }
+    ensures files { OnOk result (H.accesses host.new ≡ H.accesses host.old) }
 {
-    match task.work {
-        Work::Script(size) if task.watched => script_output(alloc, size, task.path, bytes, watch),
-        Work::Script(size) => script_output(alloc, size, task.path, bytes, &mut Unwatched),
-        Work::Heap(asked) => heap_output(alloc, asked, task.path, bytes),
-        Work::Map(style) => map_output(alloc, style, task.path, bytes),
-        Work::Check => check_output(alloc, task.path, bytes),
+    let out = form_at(alloc, path, bytes)?;
+    deliver(alloc, host, Target::Printed, out)?;
+    Ok(Ending::Done)
+}
+
+/// Prints a listing.
+fn deliver_listing<H: Host>(
+    alloc: Global,
+    host: &mut H,
+    listing: &Listing<'_>,
+) -> Result<(), ToolFault>
+    ensures delivered { OnOk result (Delivers Printed
+        (spec.listing listing.now.spelling listing.now.info.items (view listing.now.content))
+        (H.printed host.old) (H.printed host.new) (H.accesses host.old) (H.accesses host.new)) }
+    ensures undelivered { IfErr result (λ fault. IsUndelivered Printed
+        (spec.listing listing.now.spelling listing.now.info.items (view listing.now.content))
+        (H.printed host.old) (H.printed host.new) (H.accesses host.old) (H.accesses host.new) (message_of fault)) }
+{
+    match print_listing(alloc, host, listing) {
+        Ok(()) => Ok(()),
+        Err(error) => Err(unwritten(alloc, STANDARD_OUTPUT, error)?),
     }
 }
 
-/// Prints an output: a listing in pieces, and any other output as a whole.
-fn print_output<H: Host>(alloc: Global, host: &mut H, output: &Output<'_>) -> Result<(), WriteError>
-    ensures all { OnOk result (H.printed host.new ≡ append_known (H.printed host.old) (output_text output.now)) }
-    ensures front { PrintsFront (output_text output.now) (H.printed host.old) (H.printed host.new) }
-    ensures files { OnOk result (H.accesses host.new ≡ H.accesses host.old) }
-    ensures refused { IfErr result (λ error. RefusesWrite (codes "-") error (H.accesses host.old) (H.accesses host.new)) }
+/// Returns the content of the resource fork in a file that was opened.
+#[tactic(auto, using(crate::proofs::Faults::fork_stopped))]
+fn content_at<'f>(
+    alloc: Global,
+    path: &str,
+    file: &'f OpenFile<'_>,
+) -> Result<Content<'f>, ToolFault>
+    requires { IsOpen file.now }
+    ensures content { IfOk result (λ c. content_in (bytes_of file.now) ≡ Ok (view c)) }
+    ensures fault { IfErr result (λ fault. IsForkFault path.now (content_in (bytes_of file.now)) (message_of fault)) }
 {
-    match output {
-        Output::Text(text) => host.print(text.as_slice()),
-        Output::Listing(listing) => print_listing(alloc, host, listing),
-        Output::Form(form) => host.print(form.text()),
+    match content_in(alloc, file) {
+        Ok(content) => Ok(content),
+        Err(fault) => Err(fork_fault(alloc, path, fault)?),
     }
+}
+
+/// Prints the listing of the resource fork in a file that was opened.
+#[tactic(auto, using(crate::proofs::Described::refused_print, crate::proofs::Described::refused_bytes))]
+fn print_opened<H: Host>(
+    alloc: Global,
+    host: &mut H,
+    spelling: Spelling,
+    path: &str,
+    file: &OpenFile<'_>,
+) -> Result<Ending, ToolFault>
+    requires { IsOpen file.now }
+    ensures printed { OnOk result (Prints (work.Map spelling) (bytes_of file.now) (H.printed host.old) (H.printed host.new)) }
+    ensures ending { IfOk result (λ ending. ending ≡ Done) }
+    ensures fault { IfErr result (λ fault. IsRefusal (work.Map spelling) path.now (bytes_of file.now)
+        (H.printed host.old) (H.printed host.new) (H.accesses host.old) (H.accesses host.new) (message_of fault)) }
+    ensures files { OnOk result (H.accesses host.new ≡ H.accesses host.old) }
+{
+    let content = content_at(alloc, path, file)?;
+    let listing = Listing {
+        spelling,
+        info: Vec::new(alloc),
+        content,
+    };
+    deliver_listing(alloc, host, &listing)?;
+    Ok(Ending::Done)
+}
+
+/// Prints the listing of the resource fork in the bytes of a file.
+#[tactic(auto, using(crate::proofs::Described::refused_bytes, crate::proofs::Opened::unlisted))]
+fn print_map<H: Host>(
+    alloc: Global,
+    host: &mut H,
+    spelling: Spelling,
+    path: &str,
+    bytes: &[u8],
+) -> Result<Ending, ToolFault>
+    ensures printed { OnOk result (Prints (work.Map spelling) bytes.now (H.printed host.old) (H.printed host.new)) }
+    ensures ending { IfOk result (λ ending. ending ≡ Done) }
+    ensures fault { IfErr result (λ fault. IsRefusal (work.Map spelling) path.now bytes.now
+        (H.printed host.old) (H.printed host.new) (H.accesses host.old) (H.accesses host.new) (message_of fault)) }
+    ensures files { OnOk result (H.accesses host.new ≡ H.accesses host.old) }
+{
+    let file = opened_at(alloc, path, bytes)?;
+    print_opened(alloc, host, spelling, path, &file)
+}
+
+/// What a file is, and the listing of its resource fork; or the state of a file whose fork has no content.
+#[derive(Drop)]
+enum Description<'f> {
+    Listing(Listing<'f>),
+    State(Vec<u8>),
+}
+
+/// Returns a text with the line of the state of a file after it.
+fn with_state(alloc: Global, info: Vec<u8>, bytes: &[u8]) -> Result<Vec<u8>, AllocError>
+    ensures { IfOk result (λ text. text.items
+        ≡ info.items ++ codes "state " ++ state_words true bytes.now ++ codes "\n") }
+{
+    let mut text = info;
+    text.extend_from_slice(b"state ")?;
+    let _ = append_state(alloc, &mut text, true, bytes)?;
+    text.extend_from_slice(b"\n")?;
+    Ok(text)
+}
+
+/// Returns what is said of a file that was opened.
+#[tactic(auto, using(crate::proofs::Described::of_content, crate::proofs::Described::of_fault, crate::proofs::Described::has_one, crate::proofs::Described::has_none))]
+fn description_of<'f>(
+    alloc: Global,
+    spelling: Spelling,
+    bytes: &[u8],
+    file: &'f OpenFile<'_>,
+) -> Result<Description<'f>, AllocError>
+    requires is_open { IsOpen file.now }
+    requires bytes { bytes_of file.now ≡ bytes.now }
+    ensures text { IfOk result (λ d. IsDescription spelling bytes.now (description_text d)) }
+    ensures state { IfOk result (λ d. is_state d ≡ not (has_content bytes.now)) }
+{
+    let info = info_text(alloc, file)?;
+    match content_in(alloc, file) {
+        Ok(content) => Ok(Description::Listing(Listing {
+            spelling,
+            info,
+            content,
+        })),
+        Err(WorkFault::File(_)) => Ok(Description::State(with_state(alloc, info, bytes)?)),
+        Err(WorkFault::HostMemory) => Err(AllocError),
+    }
+}
+
+impl Description<'_> {
+    /// Reports whether this is the state of a file whose fork has no content.
+    fn is_state(&self) -> bool
+        ensures { result ≡ is_state self.now }
+    {
+        match self {
+            Description::Listing(_) => false,
+            Description::State(_) => true,
+        }
+    }
+}
+
+/// Prints what is said of a file.
+fn deliver_description<H: Host>(
+    alloc: Global,
+    host: &mut H,
+    description: &Description<'_>,
+) -> Result<(), ToolFault>
+    ensures delivered { OnOk result (Delivers Printed (description_text description.now)
+        (H.printed host.old) (H.printed host.new) (H.accesses host.old) (H.accesses host.new)) }
+    ensures undelivered { IfErr result (λ fault. IsUndelivered Printed (description_text description.now)
+        (H.printed host.old) (H.printed host.new) (H.accesses host.old) (H.accesses host.new) (message_of fault)) }
+{
+    match description {
+        Description::Listing(listing) => deliver_listing(alloc, host, listing),
+        Description::State(text) => deliver(alloc, host, Target::Printed, text.as_slice()),
+    }
+}
+
+/// Prints what a file is, and the listing of its resource fork, or the state of the file.
+#[tactic(auto, using(crate::proofs::Described::refused_print, crate::proofs::Described::refused_bytes))]
+fn print_description<H: Host>(
+    alloc: Global,
+    host: &mut H,
+    spelling: Spelling,
+    path: &str,
+    bytes: &[u8],
+) -> Result<Ending, ToolFault>
+    ensures printed { OnOk result (Prints (work.Describe spelling) bytes.now (H.printed host.old) (H.printed host.new)) }
+    ensures ending { IfOk result (λ ending. ending ≡ ending_for (work.Describe spelling) bytes.now) }
+    ensures fault { IfErr result (λ fault. IsRefusal (work.Describe spelling) path.now bytes.now
+        (H.printed host.old) (H.printed host.new) (H.accesses host.old) (H.accesses host.new) (message_of fault)) }
+    ensures files { OnOk result (H.accesses host.new ≡ H.accesses host.old) }
+{
+    let file = opened_at(alloc, path, bytes)?;
+    let said = description_of(alloc, spelling, bytes, &file)?;
+    deliver_description(alloc, host, &said)?;
+    Ok(Ending::of(said.is_state()))
 }
 
 /// Does a task: prints what it prints of the bytes of its file. Nothing is printed before the bytes are known to have
@@ -208,9 +396,12 @@ pub fn do_task<H: Host, W: Watch>(
     task: Task<'_>,
     bytes: &[u8],
     watch: &mut W,
-) -> Result<(), ToolFault>
+) -> Result<Ending, ToolFault>
     // A script's transcript or its zone, a fork's listing, or the line with a fork's form is printed, and nothing else.
     ensures printed { OnOk result (Prints task.entry.work bytes.now (H.printed host.old) (H.printed host.new)) }
+
+    // The ending says whether a file that is described has a fork with a content.
+    ensures ending { IfOk result (λ ending. ending ≡ ending_for task.entry.work bytes.now) }
 
     // The bytes are faulty and nothing is printed, or printing failed.
     ensures fault { IfErr result (λ fault. IsRefusal task.entry.work task.entry.path.now bytes.now
@@ -219,12 +410,11 @@ pub fn do_task<H: Host, W: Watch>(
     // No file is read or written.
     ensures files { OnOk result (H.accesses host.new ≡ H.accesses host.old) }
 {
-    let output = output_of(alloc, task, bytes, watch)?;
-    match print_output(alloc, host, &output) {
-        Ok(()) => Ok(()),
-        Err(error) => {
-            let path = String::from_str(alloc, STANDARD_OUTPUT)?;
-            Err(write_fault(path, error))
-        }
+    match task.work {
+        Work::Script(size) => print_transcript(alloc, host, size, task, bytes, watch),
+        Work::Heap(asked) => print_zone(alloc, host, asked, task.path, bytes),
+        Work::Map(spelling) => print_map(alloc, host, spelling, task.path, bytes),
+        Work::Describe(spelling) => print_description(alloc, host, spelling, task.path, bytes),
+        Work::Check => print_form(alloc, host, task.path, bytes),
     }
 }

@@ -7,14 +7,15 @@ ghost use Rattle.commands.specs.Fault.{message_of, IsUsage};
 
 use crate::asking::is_asked;
 use crate::fault::ToolFault;
-use crate::fork_words::{FORK_HELP, fork_request, with_fork_commands};
-use crate::listing::{MapStyle, Spelling};
+use crate::fork_words::{FORK_HELP, UTF8, UTF8_HELP, charset_in, fork_request, with_fork_commands};
+use crate::listing::Spelling;
 use crate::parsing::{
     SCRIPT_HELP, SIZE_HELP, SIZE_RULE, argument, bad_value, flag, mistake, usage, value,
 };
 use crate::request::Request;
 use crate::running::Errand;
 use crate::size::PartitionSize;
+use crate::surveying::Survey;
 use crate::tasks::{Task, Work};
 use crate::zone_words::{heap_command, heap_request};
 use clap::{ArgMatches, Command};
@@ -40,7 +41,8 @@ Managers. 'macmem COMMAND --help' says more of a command; 'macmem script --help'
 lists the calls and the result codes.
 A word that begins with '-' is an option; after the word '--' it is an argument.
 Status: 0 done; 1 not done, with one line on the standard error, or 'diff' found
-that two forks differ; 2 usage, help or version.";
+that two forks differ, or 'check' or 'map' a file whose fork has no content;
+2 usage, help or version.";
 
 const SCRIPT_ABOUT: &str = "Runs a script of toolbox calls and prints its transcript";
 
@@ -129,7 +131,14 @@ const TEXT_HELP: &str = "Print types as 'STR ' and names as \"Greeting\"";
 /// The name of the flag for a line above the listing, without its two hyphens.
 const VERBOSE: &str = "verbose";
 
-const VERBOSE_HELP: &str = "Print a line above the listing that names the wrapper";
+const VERBOSE_HELP: &str = "Print above the listing what the file is, a line each";
+
+/// The name of the flag for what differs, or is damaged, without its two hyphens.
+const WHY: &str = "why";
+
+const WHY_HELP: &str = "Print what differs from the canonical fork, and what is damaged";
+
+const FORKS_HELP: &str = "Files, or folders whose files are checked; they are only read";
 
 const MAP_ABOUT: &str = "Lists the resources of a fork, a line each";
 
@@ -151,11 +160,16 @@ prints the first resource as:
   'STR ' 128 32 6 \"Greeting\"
 
 A type or a name with a character that cannot be printed is spelled out.
-A fork may be wrapped as AppleSingle, AppleDouble or MacBinary; so may each that
-another command reads. With --verbose the line above the listing is 'wrapper'
-and one of: none, AppleSingle, AppleDouble, MacBinary I, MacBinary II, MacBinary
-III. A wrapper that is damaged is reported as, for example,
-'macmem: FORK: AppleSingle: the header is cut off'.
+With --utf8 such a character of a name or a type is printed in UTF-8. The word
+'compressed' after a name says that the data is: attributes have the bit 1.
+A fork may be wrapped as AppleSingle, AppleDouble, MacBinary or BinHex; so may
+each that another command reads. With --verbose the lines above the listing are
+'wrapper' and one of none, AppleSingle, AppleDouble, MacBinary I, MacBinary II,
+MacBinary III and BinHex, and then name, type, creator, flags, created, changed,
+data and resource, each if the wrapper has it: the last two are lengths in
+bytes. Where the fork has no content, the line 'state' says why, in place of a
+listing, and the status is 1. A wrapper that is damaged is else reported as, for
+example, 'macmem: FORK: AppleSingle: the header is cut off'.
 A fork that cannot be read is reported as 'macmem: FORK: fork CODE': -39
 (eofErr) no bytes, -199 (mapReadErr) damaged.";
 
@@ -165,9 +179,21 @@ const CHECK_EXAMPLES: &str = "Examples:
   macmem check examples/Document.rsrc     prints 'canonical'
   macmem check examples/OtherForm.rsrc    prints 'accepted': the content is the
                                           same, but the map has no header copy
+  macmem check --why examples/*.rsrc      prints a line for each: its path, a
+                                          tab, and its state
 
 The canonical fork of a content is the one that this program writes.
-A fork that cannot be read is reported as 'macmem: FORK: fork CODE': -39
+With several paths, with a folder, or with --why, each file has a line, and so
+has each file below a folder, in the order of names. Its state is one of:
+  canonical           the canonical fork
+  accepted            another fork; with --why what differs, after a colon
+  damaged             no fork; with --why which rule it breaks, and where
+  no fork             an empty file, or a wrapper with no resource fork
+  wrapper damaged     with --why how
+  not a fork          neither a fork nor one that was damaged
+  cannot read         the file cannot be read
+The status is 0 if all are canonical or accepted, else 1.
+A single fork that cannot be read is reported as 'macmem: FORK: fork CODE': -39
 (eofErr) no bytes, -199 (mapReadErr) damaged.";
 
 fn script_command<'a>(alloc: Global) -> Result<Command<'a>, AllocError> {
@@ -194,6 +220,7 @@ fn map_command<'a>(alloc: Global) -> Result<Command<'a>, AllocError> {
         .about(MAP_ABOUT)
         .after_help(MAP_EXAMPLES)
         .arg(flag(alloc, TEXT, TEXT_HELP))?
+        .arg(flag(alloc, UTF8, UTF8_HELP))?
         .arg(flag(alloc, VERBOSE, VERBOSE_HELP))?
         .arg(argument(alloc, "FORK", FORK_HELP))
 }
@@ -202,7 +229,8 @@ fn check_command<'a>(alloc: Global) -> Result<Command<'a>, AllocError> {
     Command::new(alloc, "check")
         .about(CHECK_ABOUT)
         .after_help(CHECK_EXAMPLES)
-        .arg(argument(alloc, "FORK", FORK_HELP))
+        .arg(flag(alloc, WHY, WHY_HELP))?
+        .arg(argument(alloc, "FORK", FORKS_HELP).num_args(1..))
 }
 
 fn program<'a>(alloc: Global) -> Result<Command<'a>, AllocError> {
@@ -266,16 +294,30 @@ fn fork_task<'a>(work: Work, matches: &ArgMatches<'a>) -> Task<'a> {
     }
 }
 
-/// Returns the style of a listing.
-fn style_in(matches: &ArgMatches<'_>) -> MapStyle {
-    MapStyle {
-        spelling: if matches.get_flag(TEXT) {
-            Spelling::Readable
-        } else {
-            Spelling::Digits
-        },
-        verbose: matches.get_flag(VERBOSE),
+/// Returns the spelling of a listing.
+fn spelling_in(matches: &ArgMatches<'_>) -> Spelling {
+    if matches.get_flag(TEXT) || matches.get_flag(UTF8) {
+        Spelling::Readable(charset_in(matches))
+    } else {
+        Spelling::Digits
     }
+}
+
+/// Returns the work that the words after `map` ask for.
+fn listing_in(matches: &ArgMatches<'_>) -> Work {
+    if matches.get_flag(VERBOSE) {
+        Work::Describe(spelling_in(matches))
+    } else {
+        Work::Map(spelling_in(matches))
+    }
+}
+
+/// Returns the survey that the words after `check` ask for.
+fn survey_in<'a>(alloc: Global, matches: &ArgMatches<'a>) -> Result<Survey<'a>, AllocError> {
+    Ok(Survey {
+        paths: Vec::from_slice(alloc, matches.get_strs("FORK").unwrap_or(&[]))?,
+        why: matches.get_flag(WHY),
+    })
 }
 
 /// Returns the request that the words after the program's name make.
@@ -290,8 +332,8 @@ fn asked<'a>(alloc: Global, matches: &ArgMatches<'a>) -> Result<Request<'a>, Too
             out: value(inner, "OUT"),
             watched: inner.get_flag(PROGRESS),
         })),
-        Some(("map", inner)) => Ok(Request::Look(fork_task(Work::Map(style_in(inner)), inner))),
-        Some(("check", inner)) => Ok(Request::Look(fork_task(Work::Check, inner))),
+        Some(("map", inner)) => Ok(Request::Look(fork_task(listing_in(inner), inner))),
+        Some(("check", inner)) => Ok(Request::Check(survey_in(alloc, inner)?)),
         Some((name, inner)) => match fork_request(alloc, name, inner)? {
             Some(request) => Ok(request),
             None => Err(mistake(alloc, program(alloc)?, NO_COMMAND)),
@@ -319,9 +361,10 @@ pub fn read_words<'a>(alloc: Global, words: &'a [&'a str]) -> Result<Request<'a>
     ensures asked { IfOk result (λ request. IsAskedBy (map (λ word. word.now) words.entry.now) request) }
     ensures fault { IfErr result (λ fault. IsUsage (message_of fault)) }
 {
-    match parsed(alloc, words) {
-        Ok(request) if is_asked(words, &request) => Ok(request),
-        Ok(_) => Err(mistake(alloc, program(alloc)?, NOT_ASKED)),
-        Err(fault) => Err(fault),
+    let request = parsed(alloc, words)?;
+    if is_asked(words, &request) {
+        Ok(request)
+    } else {
+        Err(mistake(alloc, program(alloc)?, NOT_ASKED))
     }
 }

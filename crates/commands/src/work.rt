@@ -6,17 +6,16 @@ ghost use Rattle.script_text.specs.Reading.{FailsAt};
 ghost use Rattle.fork_format.specs.Canonical.{canon, fits};
 ghost use Rattle.fork_format.specs.View.{view};
 ghost use Rattle.fork_commands.specs.Faults.{Stops};
+ghost use Rattle.fork_commands.specs.Opening.{bytes_of, IsOpen};
 ghost use Rattle.fork_commands.specs.Reading.{content_of_fork, content_in};
-ghost use Rattle.commands.specs.Listing.{listing};
-ghost use Rattle.commands.specs.Work.{IsTranscriptOf, IsZoneOf, IsListingOf, IsForkForm, IsFormOf, TellsForm, text_of};
+ghost use Rattle.commands.specs.Work.{IsTranscriptOf, IsZoneOf, IsForkForm, IsFormOf, TellsForm, text_of};
 ghost use Rattle.commands.specs.Work.{sight_of};
 
-use crate::listing::{Listing, MapStyle};
 use crate::showing::show_script;
 use crate::size::PartitionSize;
 use applications::Watch;
 use desk::run_script;
-use fork_commands::{WorkFault, content_of_fork, fork_in};
+use fork_commands::{OpenFile, WorkFault, content_of_fork, fork_in, open_file};
 use fork_format::{Content, WriteFault, write_fork};
 use raw_region::Region;
 use script_text::{FaultKind, Script, ScriptFault, read_script};
@@ -126,32 +125,6 @@ pub fn zone_of(alloc: Global, asked: ZoneView, text: &[u8]) -> Result<Vec<u8>, S
     }
 }
 
-/// Returns the listing of the resource fork in the bytes of a file.
-#[tactic(auto, using(crate::proofs::Listed::listed_there, fork_commands::proofs::Contents::stopped_there))]
-pub fn listing_of<'b>(
-    alloc: Global,
-    style: MapStyle,
-    bytes: &'b [u8],
-) -> Result<Listing<'b>, WorkFault>
-    // The listing is that of the content which the fork's bytes spell.
-    ensures listing { IfOk result (λ l. IsListingOf style bytes.now (listing l.style l.wrapping (view l.content))) }
-
-    // The fault is why there is no such content.
-    ensures fault { IfErr result (λ fault. Stops fault (content_in bytes.now)) }
-{
-    match fork_in(bytes) {
-        Ok(found) => {
-            let content = content_of_fork(alloc, found.fork)?;
-            Ok(Listing {
-                style,
-                wrapping: found.wrapping,
-                content,
-            })
-        }
-        Err(fault) => Err(WorkFault::File(fault)),
-    }
-}
-
 /// Reports whether bytes are the canonical fork of a content.
 fn is_canonical(alloc: Global, content: &Content<'_>, bytes: &[u8]) -> Result<bool, AllocError>
     ensures { IfOk result (λ b. IsTrue b ↔ (IsTrue (fits (view content.now))
@@ -184,8 +157,21 @@ fn fork_form(alloc: Global, fork: &[u8]) -> Result<Form, WorkFault>
     Ok(form_for(alloc, &content, fork)?)
 }
 
-/// Returns the form of the resource fork in the bytes of a file.
+/// Returns the form of the resource fork in a file that was opened.
 #[tactic(auto, using(fork_commands::proofs::Contents::stopped_there))]
+fn form_in(alloc: Global, file: &OpenFile<'_>) -> Result<Form, WorkFault>
+    requires { IsOpen file.now }
+    ensures form { IfOk result (λ form. IsFormOf (bytes_of file.now) form) }
+    ensures fault { IfErr result (λ fault. Stops fault (content_in (bytes_of file.now))) }
+{
+    match fork_in(file) {
+        Ok(found) => fork_form(alloc, found.fork),
+        Err(fault) => Err(WorkFault::File(fault)),
+    }
+}
+
+/// Returns the form of the resource fork in the bytes of a file.
+#[tactic(auto, using(fork_commands::proofs::Opens::no_content))]
 pub fn form_of(alloc: Global, bytes: &[u8]) -> Result<Form, WorkFault>
     // The form is what the fork's bytes are to the content that they spell.
     ensures form { IfOk result (λ form. IsFormOf bytes.now form) }
@@ -193,8 +179,6 @@ pub fn form_of(alloc: Global, bytes: &[u8]) -> Result<Form, WorkFault>
     // The fault is why there is no such content.
     ensures fault { IfErr result (λ fault. Stops fault (content_in bytes.now)) }
 {
-    match fork_in(bytes) {
-        Ok(found) => fork_form(alloc, found.fork),
-        Err(fault) => Err(WorkFault::File(fault)),
-    }
+    let file = open_file(alloc, bytes)?;
+    form_in(alloc, &file)
 }

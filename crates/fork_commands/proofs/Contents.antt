@@ -3,6 +3,7 @@ use Rattle.mac_words.specs.declared.code.TheConstants.OsErr.{END_OF_FILE, MAP_RE
 use Rattle.fork_format.specs.declared.fault.ForkFault.{ForkFault}
 use Rattle.fork_format.specs.declared.fault.ForkFault.TheVariants as fork_fault
 use Rattle.fork_format.specs.Code.{read_code}
+use Rattle.mac_roman.specs.declared.charset.Charset.{Charset}
 use Rattle.fork_format.specs.Content.{Content}
 use Rattle.fork_format.specs.Fork.{Spells, IsUnspelled}
 use Rattle.fork_format.proofs.Codes.{spelled as has_content, refused as has_code}
@@ -68,6 +69,6 @@ pub stopped_of : (source : List ℕ) (c : Content) (fault : WorkFault) → read 
 stopped_of source c fault stated stops = rw stated stops
 
 -- the source of what a fork holds
-pub printed_of : (bytes source : List ℕ) (c : Content) → content_in bytes ≡ Ok c → source ≡ source_of c
-    → made Derez bytes ≡ Ok source
-printed_of bytes source c has is = rw has (ap Ok (sym is))
+pub printed_of : (charset : Charset) (bytes source : List ℕ) (c : Content) → content_in bytes ≡ Ok c → source ≡ source_of charset c
+    → made (Derez charset) bytes ≡ Ok source
+printed_of charset bytes source c has is = rw has (ap Ok (sym is))

@@ -1,19 +1,18 @@
-use Rattle.std.proofs.Common.{◌≡◌, true, false, Option, Some, None, Ok, Err, refl, ap, sym}
+use Rattle.std.proofs.Common.{◌≡◌, true, false, Option, Some, None, Ok, Err, refl, ap, sym, ◌∙◌}
 use Rattle.std.specs.Prelude.{is_some}
 use Rattle.byteorder.specs.Endian.{big_number}
 use Rattle.mac_words.specs.declared.code.TheConstants.OsErr.{RES_NOT_FOUND}
 use Rattle.fork_format.specs.Content.{Ref, Content}
 use Rattle.fork_edits.specs.declared.renaming.RenameFault.{RenameFault}
-use Rattle.fork_edits.specs.declared.renaming.Renaming.{Renaming}
 use Rattle.fork_edits.specs.Resources.{found}
 use Rattle.fork_edits.specs.Removing.{without_resource}
-use Rattle.fork_edits.specs.Renaming.{with_renamed, refusal}
-use Rattle.fork_edits.specs.View.{view_renaming}
+use Rattle.fork_edits.specs.Renaming.{Renaming, with_renamed, refusal}
+use Rattle.fork_commands.specs.declared.editing.Naming.{Naming}
 use Rattle.fork_commands.specs.declared.editing.Edit.TheVariants.{Remove, Rename}
 use Rattle.fork_commands.specs.declared.fault.FileFault.{FileFault}
 use Rattle.fork_commands.specs.declared.fault.FileFault.TheVariants.{Code}
 use Rattle.fork_commands.specs.declared.work.ResourceKey.{ResourceKey}
-use Rattle.fork_commands.specs.Editing.{edited, rename_fault}
+use Rattle.fork_commands.specs.Editing.{edited, rename_fault, view_naming}
 
 -- Edits of one resource of a content.
 
@@ -32,15 +31,21 @@ unfolding edited
 removed_not key c taken is none = rw (← is) (rw none refl)
 
 -- a resource was renamed
-pub renamed_there : (key : ResourceKey) (new : Renaming) (c d : Content)
-    → refusal (big_number 4 key.ty.0) key.id (view_renaming new) c ≡ None
-    → d ≡ with_renamed (big_number 4 key.ty.0) key.id (view_renaming new) c → edited (Rename key new) c ≡ Ok d
+pub renamed_there : (key : ResourceKey) (new : Naming) (gets : Renaming) (c d : Content) → gets ≡ view_naming new
+    → refusal (big_number 4 key.ty.0) key.id gets c ≡ None
+    → d ≡ with_renamed (big_number 4 key.ty.0) key.id gets c → edited (Rename key new) c ≡ Ok d
 unfolding edited
-renamed_there key new c d none is = rw none (ap Ok (sym is))
+renamed_there key new gets c d given none is =
+    let free : refusal (big_number 4 key.ty.0) key.id (view_naming new) c ≡ None =
+    ap (λ g. refusal (big_number 4 key.ty.0) key.id g c) (sym given) ∙ none in
+    rw free (ap Ok (sym (is ∙ ap (λ g. with_renamed (big_number 4 key.ty.0) key.id g c) given)))
 
 -- why it was not
-pub renamed_not : (key : ResourceKey) (new : Renaming) (c : Content) (why : RenameFault) (told : FileFault)
-    → refusal (big_number 4 key.ty.0) key.id (view_renaming new) c ≡ Some why → told ≡ rename_fault why
+pub renamed_not : (key : ResourceKey) (new : Naming) (gets : Renaming) (c : Content) (why : RenameFault) (told : FileFault)
+    → gets ≡ view_naming new → refusal (big_number 4 key.ty.0) key.id gets c ≡ Some why → told ≡ rename_fault why
     → edited (Rename key new) c ≡ Err told
 unfolding edited
-renamed_not key new c why told some is = rw some (ap Err (sym is))
+renamed_not key new gets c why told given some is =
+    let refused : refusal (big_number 4 key.ty.0) key.id (view_naming new) c ≡ Some why =
+    ap (λ g. refusal (big_number 4 key.ty.0) key.id g c) (sym given) ∙ some in
+    rw refused (ap Err (sym is))

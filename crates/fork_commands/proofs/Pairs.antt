@@ -1,8 +1,11 @@
 use Rattle.std.proofs.Common.{◌≡◌, ◌∷◌, ◌∙◌, ℕ, Bool, true, false, List, [], Result, Ok, Err, IfOk, IfErr, refl, sym, ap, subst, map, length, arith}
 use Rattle.std.specs.Prelude.{not, ◌==◌, if◌then◌else◌}
 use Rattle.std.proofs.lemmas.Bool.{ne_eqb}
+use Rattle.mac_roman.specs.declared.charset.Charset.{Charset}
+use Rattle.byteorder.specs.Endian.{big_number}
 use Rattle.fork_format.specs.Content.{Content}
 use Rattle.fork_edits.specs.declared.differences.Difference.{Difference as StoredDifference}
+use Rattle.fork_edits.specs.Setting.{Change, with_resource}
 use Rattle.fork_edits.specs.Differences.{Difference, Order, differences, found_differences, or_order, same_content}
 use Rattle.fork_edits.specs.View.{view_difference}
 use Rattle.fork_commands.specs.declared.fault.WorkFault.{WorkFault}
@@ -10,18 +13,25 @@ use Rattle.fork_commands.specs.declared.fault.WorkFault.TheVariants.{File, HostM
 use Rattle.fork_commands.specs.declared.pair.PairWork.TheVariants.{Set, Diff, Merge}
 use Rattle.fork_commands.specs.declared.pair.Place.TheVariants.{First, Second}
 use Rattle.fork_commands.specs.declared.pair.PairFault.{PairFault}
+use Rattle.fork_commands.specs.declared.pair.PairFault.TheVariants as pair_fault
 use Rattle.fork_commands.specs.declared.pair.Setting.{Setting}
 use Rattle.fork_commands.specs.declared.fault.FileFault.{FileFault}
 use Rattle.fork_commands.specs.declared.packaging.Packaging.{Packaging}
 use Rattle.fork_commands.specs.declared.packaging.Packaging.TheVariants.{AsRead}
-use Rattle.fork_commands.specs.Faults.{Stops}
+use Rattle.fork_commands.specs.Faults.{made_then, Stops}
 use Rattle.fork_commands.specs.Packaging.{packed, then_packed}
 use Rattle.fork_commands.specs.Reading.{fork_in, content_in}
 use Rattle.fork_commands.specs.Works.{canonical}
-use Rattle.fork_commands.specs.Pairs.{at, of_bytes, with_setting, fork_set, good_fork_in, put_into, compared, combined, StopsPair, stopped_at}
+use Rattle.fork_commands.specs.Pairs.{at, of_bytes, setting_change, with_setting, fork_set, good_fork_in, put_into, compared, combined, StopsPair, stopped_at}
 use Rattle.fork_commands.specs.Pairs.{merged_or_fault, forks_merged}
 use Rattle.fork_commands.specs.declared.pair.Place.{Place}
 use Rattle.fork_edits.specs.Merging.{merged}
+
+-- a content with a resource set
+pub set_there : (s : Setting) (bytes : List ℕ) (gets : Change) (c d : Content) → gets ≡ setting_change s bytes
+    → d ≡ with_resource (big_number 4 s.key.ty.0) s.key.id gets c → d ≡ with_setting s bytes c
+unfolding with_setting
+set_there s bytes gets c d given is = is ∙ ap (λ g. with_resource (big_number 4 s.key.ty.0) s.key.id g c) given
 
 -- a resource was set
 pub set_made : (s : Setting) (p : Packaging) (first second out : List ℕ) → fork_set s p first second ≡ Ok out
@@ -37,27 +47,36 @@ set_stopped s p first second HostMemory told is stops =
 set_stopped s p first second (File fault) told is stops =
     subst (λ f. StopsPair f (combined (Set s p) first second)) (sym is) (ap (λ r. of_bytes (at First r)) stops)
 
+-- a fault of the first of two files, and of the second
+pub stopped_first : (place : Place) (made : Result Content FileFault) (fault : WorkFault) (told : PairFault)
+    → told ≡ stopped_at place fault → Stops fault made → StopsPair told (at place made)
+stopped_first place made HostMemory told is stops = subst (λ f. StopsPair f (at place made)) (sym is) tt
+stopped_first place made (File fault) told is stops =
+    subst (λ f. StopsPair f (at place made)) (sym is) (ap (at place) stops)
+
+-- what follows something of which nothing was made
+then_stops : {A B F : Type 0} (made : Result A F) (next : A → Result B F) (fault : F) → made ≡ Err fault
+    → made_then made next ≡ Err fault
+then_stops made next fault is = ap (λ r. made_then r next) is
+
 -- why the first of two forks is not compared
-pub first_stopped : (first second : List ℕ) (fault : WorkFault) (told : PairFault) → told ≡ stopped_at First fault
-    → Stops fault (content_in first) → StopsPair told (combined Diff first second)
-first_stopped first second HostMemory told is stops = subst (λ f. StopsPair f (combined Diff first second)) (sym is) tt
-first_stopped first second (File fault) told is stops =
-    subst (λ f. StopsPair f (combined Diff first second)) (sym is) (rw stops refl)
+pub first_stopped : (charset : Charset) (first second : List ℕ) (told : PairFault) → StopsPair told (at First (content_in first))
+    → StopsPair told (combined (Diff charset) first second)
+first_stopped charset first second pair_fault.HostMemory stops = tt
+first_stopped charset first second (pair_fault.File place fault) stops = then_stops (at First (content_in first)) _ (place, fault) stops
 
 -- why the second is not
-pub second_stopped : (first second : List ℕ) (c : Content) (fault : WorkFault) (told : PairFault)
-    → content_in first ≡ Ok c → told ≡ stopped_at Second fault → Stops fault (content_in second)
-    → StopsPair told (combined Diff first second)
-second_stopped first second c HostMemory told has is stops =
-    subst (λ f. StopsPair f (combined Diff first second)) (sym is) tt
-second_stopped first second c (File fault) told has is stops =
-    subst (λ f. StopsPair f (combined Diff first second)) (sym is) (rw (has, stops) refl)
+pub second_stopped : (charset : Charset) (first second : List ℕ) (c : Content) (told : PairFault) → content_in first ≡ Ok c
+    → StopsPair told (at Second (content_in second)) → StopsPair told (combined (Diff charset) first second)
+second_stopped charset first second c pair_fault.HostMemory has stops = tt
+second_stopped charset first second c (pair_fault.File place fault) has stops =
+    rw has (then_stops (at Second (content_in second)) (λ d. Ok (compared charset c d)) (place, fault) stops)
 
 -- two forks were compared
-pub both_compared : (first second : List ℕ) (c d : Content) (out : List ℕ) (differs : Bool) → content_in first ≡ Ok c
-    → content_in second ≡ Ok d → out ≡ (compared c d).0 → differs ≡ (compared c d).1
-    → combined Diff first second ≡ Ok (out, differs)
-both_compared first second c d out differs has too lines is = rw (has, too, lines, is) refl
+pub both_compared : (charset : Charset) (first second : List ℕ) (c d : Content) (out : List ℕ) (differs : Bool) → content_in first ≡ Ok c
+    → content_in second ≡ Ok d → out ≡ (compared charset c d).0 → differs ≡ (compared charset c d).1
+    → combined (Diff charset) first second ≡ Ok (out, differs)
+both_compared charset first second c d out differs has too lines is = rw (has, too, lines, is) refl
 
 -- there are differences where the contents are not the same
 some_difference : (same : Bool) (ds : List Difference) (xs : List StoredDifference)
@@ -155,22 +174,19 @@ pub both_there : (replaces : Bool) (p : Packaging) (first second : List ℕ) (c 
 both_there replaces p first second c d made has too is = rw (has, too) is
 
 -- why the first was not read
-pub merge_first : (replaces : Bool) (p : Packaging) (first second : List ℕ) (fault : WorkFault) (told : PairFault)
-    → told ≡ stopped_at First fault → Stops fault (content_in first)
-    → StopsPair told (combined (Merge replaces p) first second)
-merge_first replaces p first second HostMemory told is stops =
-    subst (λ f. StopsPair f (combined (Merge replaces p) first second)) (sym is) tt
-merge_first replaces p first second (File fault) told is stops =
-    subst (λ f. StopsPair f (combined (Merge replaces p) first second)) (sym is) (rw stops refl)
+pub merge_first : (replaces : Bool) (p : Packaging) (first second : List ℕ) (told : PairFault)
+    → StopsPair told (at First (content_in first)) → StopsPair told (combined (Merge replaces p) first second)
+merge_first replaces p first second pair_fault.HostMemory stops = tt
+merge_first replaces p first second (pair_fault.File place fault) stops =
+    then_stops (at First (content_in first)) _ (place, fault) stops
 
 -- why the second was not
-pub merge_second : (replaces : Bool) (p : Packaging) (first second : List ℕ) (c : Content) (fault : WorkFault) (told : PairFault)
-    → content_in first ≡ Ok c → told ≡ stopped_at Second fault → Stops fault (content_in second)
+pub merge_second : (replaces : Bool) (p : Packaging) (first second : List ℕ) (c : Content) (told : PairFault)
+    → content_in first ≡ Ok c → StopsPair told (at Second (content_in second))
     → StopsPair told (combined (Merge replaces p) first second)
-merge_second replaces p first second c HostMemory told has is stops =
-    subst (λ f. StopsPair f (combined (Merge replaces p) first second)) (sym is) tt
-merge_second replaces p first second c (File fault) told has is stops =
-    subst (λ f. StopsPair f (combined (Merge replaces p) first second)) (sym is) (rw (has, stops) refl)
+merge_second replaces p first second c pair_fault.HostMemory has stops = tt
+merge_second replaces p first second c (pair_fault.File place fault) has stops =
+    rw has (then_stops (at Second (content_in second)) (λ d. forks_merged replaces p first c d) (place, fault) stops)
 
 -- why the two were not merged, or not written
 pub both_stopped : (replaces : Bool) (p : Packaging) (first second : List ℕ) (c d : Content) (told : PairFault)

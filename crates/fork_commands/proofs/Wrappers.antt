@@ -1,11 +1,17 @@
-use Rattle.std.proofs.Common.{◌≡◌, ℕ, Ok, List, refl, ap, sym, subst}
+use Rattle.std.proofs.Common.{◌≡◌, ℕ, Bool, true, false, cond, List, Result, Ok, Err, refl, ap, sym, subst, ◌∙◌}
+use Rattle.bin_hex.specs.Putting.{with_resource_fork, Prevents}
+use Rattle.bin_hex.specs.declared.fault.PutFault.{PutFault}
+use Rattle.bin_hex.specs.declared.fault.PutFault.TheVariants as put_fault
 use Rattle.fork_wrappers.specs.declared.fault.RewrapFault.{RewrapFault}
 use Rattle.fork_wrappers.specs.declared.fault.RewrapFault.TheVariants as fault
 use Rattle.fork_wrappers.specs.Rewrapped.{rewrapped, Refuses}
+use Rattle.fork_commands.specs.declared.fault.FileFault.{FileFault}
+use Rattle.fork_commands.specs.declared.fault.FileFault.TheVariants.{Unfit}
 use Rattle.fork_commands.specs.declared.fault.WorkFault.{WorkFault}
 use Rattle.fork_commands.specs.Faults.{Stops}
+use Rattle.fork_commands.specs.Opening.{is_encoded}
 use Rattle.fork_commands.specs.declared.packaging.Packaging.TheVariants.{Bare, AsRead}
-use Rattle.fork_commands.specs.Packaging.{packed, of_rewrap, wrapped_or_fault}
+use Rattle.fork_commands.specs.Packaging.{packed, of_rewrap, of_put, wrapped_or_fault, put_or_fault, recognized}
 
 -- How a fork that was made is written.
 
@@ -14,22 +20,58 @@ pub packed_bare : (file fork : List ℕ) → packed Bare file fork ≡ Ok fork
 unfolding packed
 packed_bare file fork = refl
 
--- a fork is written in a wrapper
-pub packed_there : (file fork out : List ℕ) → rewrapped file fork ≡ Ok out → packed AsRead file fork ≡ Ok out
-unfolding packed
-packed_there file fork out made = ap wrapped_or_fault made
-
 -- why a fork is not written in a wrapper
-stops_there : (file fork : List ℕ) (why : RewrapFault) → Refuses why (rewrapped file fork)
-    → Stops (of_rewrap why) (packed AsRead file fork)
-unfolding packed
-stops_there file fork fault.HostMemory refuses = tt
-stops_there file fork (fault.Damaged how) refuses = ap wrapped_or_fault refuses
-stops_there file fork fault.Overlap refuses = ap wrapped_or_fault refuses
-stops_there file fork fault.TooLong refuses = ap wrapped_or_fault refuses
-stops_there file fork fault.Unrecognized refuses = ap wrapped_or_fault refuses
+stops_there : (made : Result (List ℕ) RewrapFault) (why : RewrapFault) → Refuses why made
+    → Stops (of_rewrap why) (wrapped_or_fault made)
+stops_there made fault.HostMemory refuses = tt
+stops_there made (fault.Damaged how) refuses = ap wrapped_or_fault refuses
+stops_there made fault.Overlap refuses = ap wrapped_or_fault refuses
+stops_there made fault.TooLong refuses = ap wrapped_or_fault refuses
+stops_there made fault.Unrecognized refuses = ap wrapped_or_fault refuses
 
-pub packed_not : (file fork : List ℕ) (why : RewrapFault) (told : WorkFault) → told ≡ of_rewrap why
-    → Refuses why (rewrapped file fork) → Stops told (packed AsRead file fork)
-packed_not file fork why told is refuses =
-    subst (λ f. Stops f (packed AsRead file fork)) (sym is) (stops_there file fork why refuses)
+pub unwrapped_not : (made : Result (List ℕ) RewrapFault) (why : RewrapFault) (told : WorkFault) → told ≡ of_rewrap why
+    → Refuses why made → Stops told (wrapped_or_fault made)
+unwrapped_not made why told is refuses =
+    subst (λ f. Stops f (wrapped_or_fault made)) (sym is) (stops_there made why refuses)
+
+-- why a fork is not put into a BinHex file
+put_stops : (made : Result (List ℕ) PutFault) (why : PutFault) → Prevents why made → Stops (of_put why) (put_or_fault made)
+put_stops made put_fault.HostMemory prevents = tt
+put_stops made (put_fault.Damaged damage) prevents = ap put_or_fault prevents
+put_stops made put_fault.TooLong prevents = ap put_or_fault prevents
+
+pub put_not : (made : Result (List ℕ) PutFault) (why : PutFault) (told : WorkFault) → told ≡ of_put why
+    → Prevents why made → Stops told (put_or_fault made)
+put_not made why told is prevents =
+    subst (λ f. Stops f (put_or_fault made)) (sym is) (put_stops made why prevents)
+
+-- a file is taken for a BinHex file, or not
+pub is_recognized : (file : List ℕ) → is_encoded file ≡ true → recognized file ≡ Ok file
+is_recognized file is = rw is refl
+
+pub not_recognized : (file : List ℕ) → is_encoded file ≡ false → recognized file ≡ Err (Unfit fault.Unrecognized)
+not_recognized file is = rw is refl
+
+-- a fork is put into a BinHex file
+pub packed_encoded : (file fork : List ℕ) (made : Result (List ℕ) FileFault) → is_encoded file ≡ true
+    → put_or_fault (with_resource_fork file fork) ≡ made → packed AsRead file fork ≡ made
+unfolding packed
+packed_encoded file fork made is has =
+    ap (λ t. cond t (put_or_fault (with_resource_fork file fork)) (wrapped_or_fault (rewrapped file fork))) is ∙ has
+
+pub stopped_encoded : (file fork : List ℕ) (told : WorkFault) → is_encoded file ≡ true
+    → Stops told (put_or_fault (with_resource_fork file fork)) → Stops told (packed AsRead file fork)
+stopped_encoded file fork told is stops =
+    subst (Stops told) (sym (packed_encoded file fork (put_or_fault (with_resource_fork file fork)) is refl)) stops
+
+-- or into another file
+pub packed_wrapped : (file fork : List ℕ) (made : Result (List ℕ) FileFault) → is_encoded file ≡ false
+    → wrapped_or_fault (rewrapped file fork) ≡ made → packed AsRead file fork ≡ made
+unfolding packed
+packed_wrapped file fork made is has =
+    ap (λ t. cond t (put_or_fault (with_resource_fork file fork)) (wrapped_or_fault (rewrapped file fork))) is ∙ has
+
+pub stopped_wrapped : (file fork : List ℕ) (told : WorkFault) → is_encoded file ≡ false
+    → Stops told (wrapped_or_fault (rewrapped file fork)) → Stops told (packed AsRead file fork)
+stopped_wrapped file fork told is stops =
+    subst (Stops told) (sym (packed_wrapped file fork (wrapped_or_fault (rewrapped file fork)) is refl)) stops

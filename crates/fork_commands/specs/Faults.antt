@@ -1,7 +1,7 @@
 use Rattle.std.specs.Prelude.{◌≡◌, ℕ, ℤ, pos, Option, Some, None, Result, Ok, Err}
 use Rattle.mac_words.specs.declared.code.OsErr.{OsErr}
 use Rattle.fork_commands.specs.declared.fault.FileFault.{FileFault}
-use Rattle.fork_commands.specs.declared.fault.FileFault.TheVariants.{Code, Wrapper, Unfit, TakenId, InBoth, Source}
+use Rattle.fork_commands.specs.declared.fault.FileFault.TheVariants.{Code, Wrapper, BinHex, Unfit, TakenId, InBoth, Source, Contents}
 use Rattle.fork_commands.specs.declared.fault.WorkFault.{WorkFault}
 use Rattle.fork_commands.specs.declared.fault.WorkFault.TheVariants.{File, HostMemory}
 
@@ -16,19 +16,23 @@ of_code (Some code) = File (Code code)
 abbrev pub number_of : FileFault → ℤ
 number_of (Code code) = code.0
 number_of (Wrapper fault) = pos 0
+number_of (BinHex fault) = pos 0
 number_of (Unfit fault) = pos 0
 number_of TakenId = pos 0
 number_of (InBoth twin) = pos 0
 number_of (Source fault) = pos 0
+number_of (Contents line why) = pos 0
 
 -- The line of a source that can't be read.
 abbrev pub line_of : FileFault → ℕ
 line_of (Code code) = 0
 line_of (Wrapper fault) = 0
+line_of (BinHex fault) = 0
 line_of (Unfit fault) = 0
 line_of TakenId = 0
 line_of (InBoth twin) = 0
 line_of (Source fault) = fault.line
+line_of (Contents line why) = line
 
 -- What follows something that was made; a fault stays.
 abbrev pub made_then : {A B F : Type 0} → Result A F → (A → Result B F) → Result B F

@@ -1,8 +1,14 @@
 pub mod Faults
+pub mod Opening
 pub mod Reading
 pub mod Packaging
 pub mod Editing
 pub mod Works
 pub mod Pairs
 pub mod Extracting
+pub mod Packing
 pub mod View
+pub mod States
+pub mod Dates
+pub mod Info
+pub mod Parts

@@ -3,8 +3,9 @@ use Rattle.std.specs.List.{flat_map}
 use Rattle.byteorder.specs.Endian.{big_number}
 use Rattle.mac_words.specs.declared.attributes.Attrs.{Attrs}
 use Rattle.fork_format.specs.Content.{Content}
-use Rattle.fork_format.specs.View.{view_name}
-use Rattle.fork_edits.specs.Setting.{with_resource}
+use Rattle.mac_roman.specs.declared.charset.Charset.{Charset}
+use Rattle.fork_edits.specs.RomanNames.{name_bytes}
+use Rattle.fork_edits.specs.Setting.{Change, with_resource}
 use Rattle.fork_edits.specs.Differences.{differences, same_content}
 use Rattle.fork_edits.specs.Lines.{difference_line}
 use Rattle.fork_edits.specs.Merging.{merged}
@@ -29,13 +30,17 @@ use Rattle.fork_commands.specs.Works.{canonical, made}
 
 -- What the works make of the bytes of two files.
 
--- The content with a resource set to bytes.
-abbrev pub with_setting : Setting → List ℕ → Content → Content
-with_setting s bytes c = with_resource (big_number 4 s.key.ty.0) s.key.id (record {
+-- What a resource is set to: bytes, and a name and attributes if they are given.
+abbrev pub setting_change : Setting → List ℕ → Change
+setting_change s bytes = record {
   datum = bytes;
-  name = view_name s.name;
+  name = option_map name_bytes s.name;
   attrs = option_map (λ (a : Attrs). a.0) s.attrs;
-}) c
+}
+
+-- The content with a resource set to bytes.
+unfoldable pub with_setting : Setting → List ℕ → Content → Content
+with_setting s bytes c = with_resource (big_number 4 s.key.ty.0) s.key.id (setting_change s bytes) c
 
 -- The canonical fork of the content in the first bytes, once a resource in it is set to the second, alone or in the
 -- wrapper of the first.
@@ -53,8 +58,8 @@ at place (Ok made) = Ok made
 at place (Err fault) = Err (place, fault)
 
 -- The lines of the differences of two contents.
-abbrev pub difference_lines : Content → Content → List ℕ
-difference_lines c d = flat_map difference_line (differences c d)
+abbrev pub difference_lines : Charset → Content → Content → List ℕ
+difference_lines charset c d = flat_map (difference_line charset) (differences c d)
 
 -- A work makes bytes, and may say that what was compared differs.
 abbrev pub of_bytes : {F : Type 0} → Result (List ℕ) F → Result (List ℕ × Bool) F
@@ -76,8 +81,8 @@ forks_merged replaces packaging first c d = made_then (at Second (merged_or_faul
     of_bytes (at First (then_packed packaging first (canonical m))))
 
 -- How the contents of two forks differ, in lines, and whether they do.
-abbrev pub compared : Content → Content → List ℕ × Bool
-compared c d = (difference_lines c d, not (same_content c d))
+abbrev pub compared : Charset → Content → Content → List ℕ × Bool
+compared charset c d = (difference_lines charset c d, not (same_content c d))
 
 -- What a work makes of the bytes, and whether it finds that what they hold differs.
 abbrev pub combined : PairWork → List ℕ → List ℕ → Result (List ℕ × Bool) (Place × FileFault)
@@ -87,8 +92,8 @@ combined Wrap first second = put_into first (good_fork_in second)
 combined (Merge replaces packaging) first second =
     made_then (at First (content_in first)) (λ c. made_then (at Second (content_in second)) (λ d.
     forks_merged replaces packaging first c d))
-combined Diff first second =
-    made_then (at First (content_in first)) (λ c. made_then (at Second (content_in second)) (λ d. Ok (compared c d)))
+combined (Diff charset) first second =
+    made_then (at First (content_in first)) (λ c. made_then (at Second (content_in second)) (λ d. Ok (compared charset c d)))
 
 -- The fault is what stands in place of a result; nothing is said if the host is out of memory.
 abbrev pub StopsPair : {A : Type 0} → PairFault → Result A (Place × FileFault) → Type 0

@@ -1,5 +1,6 @@
-use Rattle.std.specs.Prelude.{ℕ, Result, Ok, Err, List}
+use Rattle.std.specs.Prelude.{ℕ, Option, Some, None, Result, Ok, Err, List}
 use Rattle.mac_words.specs.declared.code.OsErr.{OsErr}
+use Rattle.bin_hex.specs.File.{File}
 use Rattle.fork_format.specs.Code.{content_or_code}
 use Rattle.fork_format.specs.Content.{Content}
 use Rattle.fork_wrappers.specs.declared.fault.WrapFault.{WrapFault}
@@ -7,6 +8,7 @@ use Rattle.fork_wrappers.specs.Unwrapped.{unwrapped}
 use Rattle.fork_commands.specs.declared.fault.FileFault.{FileFault}
 use Rattle.fork_commands.specs.declared.fault.FileFault.TheVariants.{Code, Wrapper}
 use Rattle.fork_commands.specs.Faults.{made_then}
+use Rattle.fork_commands.specs.Opening.{opened}
 
 -- What a resource fork in the bytes of a file holds.
 
@@ -24,9 +26,15 @@ abbrev pub fork_found : Result (List ℕ) WrapFault → Result (List ℕ) FileFa
 fork_found (Ok fork) = Ok fork
 fork_found (Err fault) = Err (Wrapper fault)
 
--- The resource fork in the bytes of a file: the bytes as they stand, or what AppleSingle, AppleDouble or MacBinary wrap.
-abbrev pub fork_in : List ℕ → Result (List ℕ) FileFault
-fork_in bytes = fork_found (unwrapped bytes)
+-- The resource fork in the bytes of a file that stand for a file of the Macintosh, or for themselves: then it is the bytes
+-- as they are, or what AppleSingle, AppleDouble or MacBinary wrap.
+abbrev pub fork_within : List ℕ → Option File → Result (List ℕ) FileFault
+fork_within bytes None = fork_found (unwrapped bytes)
+fork_within bytes (Some file) = Ok file.resource_fork
+
+-- The resource fork in the bytes of a file, or how the file is damaged.
+unfoldable pub fork_in : List ℕ → Result (List ℕ) FileFault
+fork_in bytes = made_then (opened bytes) (fork_within bytes)
 
 -- The content of the resource fork in the bytes of a file, or why there is none.
 abbrev pub content_in : List ℕ → Result Content FileFault

@@ -44,7 +44,7 @@ made (Rewrite packaging) bytes = then_packed packaging bytes (made_then (content
 made (Change edit packaging) bytes =
     then_packed packaging bytes (made_then (made_then (content_in bytes) (edited edit)) canonical)
 made (Get key) bytes = made_then (content_in bytes) (datum_at key)
-made Derez bytes = made_then (content_in bytes) (λ c. Ok (source_of c))
+made (Derez charset) bytes = made_then (content_in bytes) (λ c. Ok (source_of charset c))
 made Rez bytes = made_then (content_stated (read bytes)) canonical
 
 -- The bytes are a resource fork that holds what a source of Rez states.

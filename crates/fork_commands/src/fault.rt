@@ -4,6 +4,8 @@ ghost use Rattle.std.specs.Prelude.{◌≡◌};
 ghost use Rattle.fork_commands.specs.Faults.{of_code, number_of, line_of};
 ghost use Rattle.fork_commands.specs.declared.fault.WorkFault.TheVariants.{HostMemory};
 
+use bin_hex::Damage;
+use fork_edits::LineFault;
 use fork_wrappers::{RewrapFault, WrapFault};
 use mac_words::OsErr;
 use rez_text::TextFault;
@@ -47,6 +49,12 @@ pub enum FileFault {
         /// Which of them, and how it is damaged.
         fault: WrapFault,
     },
+    /// The bytes are a BinHex file that is damaged.
+    #[error("BinHex: {fault}")]
+    BinHex {
+        /// How it is damaged.
+        fault: Damage,
+    },
     /// The fork that was made doesn't fit the wrapper of the file in which it is to stand.
     #[error("{fault}")]
     Unfit {
@@ -61,6 +69,14 @@ pub enum FileFault {
     InBoth {
         /// The type and the ID.
         twin: Twin,
+    },
+    /// The bytes are no list of the files of a folder.
+    #[error("line {line}: {why}")]
+    Contents {
+        /// The number of the first line that can't be read, from 1.
+        line: usize,
+        /// What of it can't be read.
+        why: LineFault,
     },
     /// The bytes are no source of Rez.
     #[error("{fault}")]
@@ -78,21 +94,25 @@ impl FileFault {
         match self {
             FileFault::Code { code } => code.number(),
             FileFault::Wrapper { .. }
+            | FileFault::BinHex { .. }
             | FileFault::Unfit { .. }
             | FileFault::TakenId
             | FileFault::InBoth { .. }
+            | FileFault::Contents { .. }
             | FileFault::Source { .. } => 0,
         }
     }
 
-    /// Returns the line of a source that can't be read, or 0 for another fault.
+    /// Returns the line of a source or of a list that can't be read, or 0 for another fault.
     pub fn line(self) -> usize
         ensures { result ≡ line_of self }
     {
         match self {
             FileFault::Source { fault } => fault.line,
+            FileFault::Contents { line, .. } => line,
             FileFault::Code { .. }
             | FileFault::Wrapper { .. }
+            | FileFault::BinHex { .. }
             | FileFault::Unfit { .. }
             | FileFault::TakenId
             | FileFault::InBoth { .. } => 0,

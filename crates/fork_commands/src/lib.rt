@@ -1,18 +1,32 @@
 //! What the commands make of the bytes of resource forks.
 #![tactic(auto)]
 
+mod dates;
 mod editing;
 mod extracting;
 mod fault;
+mod info;
+mod laws;
+mod opening;
 mod packaging;
+mod packing;
 mod pair;
+mod parting;
 mod reading;
+mod states;
 mod work;
 
-pub use editing::Edit;
-pub use extracting::{ResourceFile, extracted};
+pub use dates::{Moment, a_moment_has_one_number, append_moment, moment_of};
+pub use editing::{Edit, Naming};
+pub use extracting::{FileBytes, ResourceFile, extracted, path_within};
 pub use fault::{FileFault, WorkFault};
+pub use info::info_text;
+pub use laws::a_fork_that_was_put_is_found;
+pub use opening::{Container, OpenFile, open_file};
 pub use packaging::Packaging;
+pub use packing::{list_in, listed_paths, packed_fork};
 pub use pair::{PairFault, PairOutput, PairWork, Place, Setting, combined};
-pub use reading::{content_in, content_of_fork, fork_in};
-pub use work::{ForkWork, ResourceKey, copied, made};
+pub use parting::parts;
+pub use reading::{ForkFound, content_in, content_of_fork, copied, fork_bytes, fork_in};
+pub use states::append_state;
+pub use work::{ForkWork, ResourceKey, made};

@@ -11,13 +11,15 @@ ghost use Rattle.fork_commands.specs.declared.work.ForkWork.TheVariants.{Rewrite
 
 use crate::editing::{Edit, make_edit};
 use crate::fault::{FileFault, WorkFault};
+use crate::opening::open_file;
 use crate::packaging::{Packaging, packed};
-use crate::reading::content_in;
+use crate::reading::{content_in, copied};
 use fork_edits::find_resource;
 use fork_format::{Content, write_fork};
+use mac_roman::Charset;
 use mac_words::{OsErr, OsType};
 use rez_text::{SourceFault, read_source, write_source};
-use std::alloc::{AllocError, Global};
+use std::alloc::Global;
 
 /// The type and the ID of a resource.
 #[derive(Clone, Copy)]
@@ -28,15 +30,15 @@ pub struct ResourceKey {
 
 /// What is made of the bytes of a file.
 #[derive(Clone, Copy)]
-pub enum ForkWork<'a> {
+pub enum ForkWork {
     /// The canonical fork of the content that the bytes spell, alone or in the wrapper of the file.
     Rewrite(Packaging),
     /// The canonical fork of that content after an edit of one resource, alone or in the wrapper of the file.
-    Change(Edit<'a>, Packaging),
+    Change(Edit, Packaging),
     /// The stored data of the first resource of a type and an ID.
     Get(ResourceKey),
-    /// The content that the bytes spell, as source of Rez.
-    Derez,
+    /// The content that the bytes spell, as source of Rez, whose comments beside data are in a set of characters.
+    Derez(Charset),
     /// The canonical fork of the content that the bytes state as source of Rez.
     Rez,
 }
@@ -74,34 +76,27 @@ fn rewritten(alloc: Global, packaging: Packaging, bytes: &[u8]) -> Result<Vec<u8
     ensures made { IfOk result (λ out. made (Rewrite packaging) bytes.now ≡ Ok out.items) }
     ensures fault { IfErr result (λ fault. Stops fault (made (Rewrite packaging) bytes.now)) }
 {
-    let content = content_in(alloc, bytes)?;
+    let file = open_file(alloc, bytes)?;
+    let content = content_in(alloc, &file)?;
     written(alloc, packaging, bytes, &content)
 }
 
 /// Returns the canonical fork of the content that bytes spell, after an edit.
 fn changed<'b>(
     alloc: Global,
-    change: Edit<'b>,
+    change: &'b Edit,
     packaging: Packaging,
     bytes: &'b [u8],
 ) -> Result<Vec<u8>, WorkFault>
-    ensures made { IfOk result (λ out. made (Change change.entry packaging) bytes.now ≡ Ok out.items) }
-    ensures fault { IfErr result (λ fault. Stops fault (made (Change change.entry packaging) bytes.now)) }
+    ensures made { IfOk result (λ out. made (Change change.now packaging) bytes.now ≡ Ok out.items) }
+    ensures fault { IfErr result (λ fault. Stops fault (made (Change change.now packaging) bytes.now)) }
 {
-    let mut content = content_in(alloc, bytes)?;
-    if let Err(fault) = make_edit(&mut content, &change) {
+    let file = open_file(alloc, bytes)?;
+    let mut content = content_in(alloc, &file)?;
+    if let Err(fault) = make_edit(&mut content, change) {
         return Err(WorkFault::File(fault));
     }
     written(alloc, packaging, bytes, &content)
-}
-
-/// Returns a copy of bytes.
-pub fn copied(alloc: Global, bytes: &[u8]) -> Result<Vec<u8>, AllocError>
-    ensures { IfOk result (λ copy. copy.items ≡ bytes.now) }
-{
-    let mut copy = Vec::with_capacity(alloc, bytes.len())?;
-    copy.extend_from_slice(bytes)?;
-    Ok(copy)
 }
 
 /// Returns a copy of the stored data of the first resource of a type and an ID.
@@ -120,18 +115,20 @@ fn gotten(alloc: Global, key: ResourceKey, bytes: &[u8]) -> Result<Vec<u8>, Work
     ensures made { IfOk result (λ out. made (Get key) bytes.now ≡ Ok out.items) }
     ensures fault { IfErr result (λ fault. Stops fault (made (Get key) bytes.now)) }
 {
-    let content = content_in(alloc, bytes)?;
+    let file = open_file(alloc, bytes)?;
+    let content = content_in(alloc, &file)?;
     datum_at(alloc, key, &content)
 }
 
 /// Returns the content that bytes spell, as source of Rez.
 #[tactic(auto, using(crate::proofs::Contents::printed_of))]
-fn printed(alloc: Global, bytes: &[u8]) -> Result<Vec<u8>, WorkFault>
-    ensures made { IfOk result (λ out. made Derez bytes.now ≡ Ok out.items) }
-    ensures fault { IfErr result (λ fault. Stops fault (made Derez bytes.now)) }
+fn printed(alloc: Global, charset: Charset, bytes: &[u8]) -> Result<Vec<u8>, WorkFault>
+    ensures made { IfOk result (λ out. made (Derez charset) bytes.now ≡ Ok out.items) }
+    ensures fault { IfErr result (λ fault. Stops fault (made (Derez charset) bytes.now)) }
 {
-    let content = content_in(alloc, bytes)?;
-    let source = write_source(alloc, &content)?;
+    let file = open_file(alloc, bytes)?;
+    let content = content_in(alloc, &file)?;
+    let source = write_source(alloc, charset, &content)?;
     Ok(source)
 }
 
@@ -157,18 +154,18 @@ fn assembled(alloc: Global, source: &[u8]) -> Result<Vec<u8>, WorkFault>
 /// # Errors
 ///
 /// The fault of the bytes; if the host is out of memory nothing is said of them.
-pub fn made(alloc: Global, work: ForkWork<'_>, bytes: &[u8]) -> Result<Vec<u8>, WorkFault>
-    ensures made { IfOk result (λ out. made work.entry bytes.now ≡ Ok out.items) }
-    ensures fault { IfErr result (λ fault. Stops fault (made work.entry bytes.now)) }
+pub fn made(alloc: Global, work: ForkWork, bytes: &[u8]) -> Result<Vec<u8>, WorkFault>
+    ensures made { IfOk result (λ out. made work bytes.now ≡ Ok out.items) }
+    ensures fault { IfErr result (λ fault. Stops fault (made work bytes.now)) }
 
     // A fork that is made of source is read again as exactly the content that the source states.
-    ensures read_again { IfOk result (λ out. work.entry ≡ Rez → HoldsStated bytes.now out.items) }
+    ensures read_again { IfOk result (λ out. work ≡ Rez → HoldsStated bytes.now out.items) }
 {
     match work {
         ForkWork::Rewrite(packaging) => rewritten(alloc, packaging, bytes),
-        ForkWork::Change(change, packaging) => changed(alloc, change, packaging, bytes),
+        ForkWork::Change(change, packaging) => changed(alloc, &change, packaging, bytes),
         ForkWork::Get(key) => gotten(alloc, key, bytes),
-        ForkWork::Derez => printed(alloc, bytes),
+        ForkWork::Derez(charset) => printed(alloc, charset, bytes),
         ForkWork::Rez => assembled(alloc, bytes),
     }
 }

@@ -6,9 +6,12 @@ pub mod Gathering
 pub mod Keeping
 pub mod Moving
 pub mod Naming
+mod PlainWords
 pub mod Pairing
 pub mod Queues
 pub mod Same
 pub mod Taking
 pub mod Vectors
 pub mod Words
+mod Spelling
+mod Lining

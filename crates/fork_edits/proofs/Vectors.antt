@@ -2,6 +2,7 @@ use Rattle.std.proofs.Common.{◌≡◌, List, [], ◌∷◌, refl, Some, None, 
 use Rattle.std.specs.Prelude.{ℤ, pos, true, false, Ok, Err}
 use Rattle.fork_format.specs.Content.{Ref, Content}
 use Rattle.fork_edits.specs.Types.{type_read}
+use Rattle.mac_roman.specs.declared.charset.Charset.TheVariants.{Ascii, Utf8}
 use Rattle.fork_edits.specs.Texts.{type_text, name_text}
 use Rattle.fork_edits.specs.Attributes.{attrs_read}
 use Rattle.fork_edits.specs.Resources.{row, found}
@@ -28,17 +29,30 @@ five_bytes : type_read (codes "STR  ") ≡ None
 five_bytes = refl
 
 -- types and names as a person reads them
-shown : type_text 0x53545220 ≡ codes "'STR '"
+shown : type_text Ascii 0x53545220 ≡ codes "'STR '"
+unfolding lib.Utf8.encode
 shown = refl
 
-shown_digits : type_text 0x53545200 ≡ codes "$53545200"
+shown_digits : type_text Utf8 0x53545200 ≡ codes "$53545200"
 shown_digits = refl
 
-a_quote : name_text (Some (34 ∷ 7 ∷ [])) ≡ codes "\"\\\"\\0x07\""
+a_quote : name_text Utf8 (Some (34 ∷ 7 ∷ [])) ≡ codes "\"\\\"\\0x07\""
 a_quote = refl
 
-no_name : name_text None ≡ codes "-"
+no_name : name_text Ascii None ≡ codes "-"
 no_name = refl
+
+-- a bullet and what it stands beside, in both sets of characters
+a_bullet : (name_text Ascii (Some (65 ∷ 0xA5 ∷ [])) ≡ codes "\"A\\0xA5\"")
+    × (name_text Utf8 (Some (65 ∷ 0xA5 ∷ [])) ≡ 34 ∷ 65 ∷ 0xE2 ∷ 0x80 ∷ 0xA2 ∷ 34 ∷ [])
+unfolding lib.Utf8.encode
+a_bullet = (refl, refl)
+
+-- a type with a florin, in both
+a_florin : (type_text Ascii 0x414243C4 ≡ codes "$414243C4")
+    × (type_text Utf8 0x414243C4 ≡ 39 ∷ 65 ∷ 66 ∷ 67 ∷ 0xC6 ∷ 0x92 ∷ 39 ∷ [])
+unfolding lib.Utf8.encode
+a_florin = (refl, refl)
 
 -- attributes as people write them
 in_words : attrs_read (codes "sysheap,locked") ≡ Some 80

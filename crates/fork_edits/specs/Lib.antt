@@ -12,6 +12,13 @@ pub mod Lines
 pub mod Attributes
 pub mod FileNames
 pub mod FixedNames
+pub mod Filed
 pub mod Contents
+pub mod Numbers
+pub mod Quoted
+pub mod Listing
+pub mod Packing
 pub mod View
 pub mod Waiting
+pub mod RomanNames
+pub mod RomanTypes

@@ -3,39 +3,37 @@ use Rattle.std.specs.Prelude.{if◌then◌else◌, codes}
 use Rattle.std.specs.List.{flat_map, list_all}
 use Rattle.byteorder.specs.Endian.{big_bytes}
 use Rattle.mac_words.specs.Digits.{upper_digit}
-use Rattle.fork_edits.specs.Types.{is_between}
+use Rattle.mac_roman.specs.declared.charset.Charset.{Charset}
+use Rattle.mac_roman.specs.Charset.{prints, character}
 
--- Types and names as a person reads them.
+-- Types and names as a person reads them, in the characters of a set.
 
 -- The two hexadecimal digits of a byte, in upper case.
 abbrev pub hex_byte : ℕ → List ℕ
 hex_byte b = upper_digit (b / 16) ∷ upper_digit (b % 16) ∷ []
 
--- The byte is a printable character of ASCII; so is a blank.
-abbrev pub is_printable : ℕ → Bool
-is_printable b = is_between 32 126 b
-
 -- A byte that may stand between single quotes.
-abbrev pub is_clear : ℕ → Bool
-is_clear b = is_printable b && not (b == 39)
+abbrev pub is_clear : Charset → ℕ → Bool
+is_clear charset b = prints charset b && not (b == 39)
 
--- The four bytes of a type in single quotes, as 'STR '; a dollar sign and eight digits where one of them may not stand
--- between quotes.
-abbrev pub four_text : List ℕ → List ℕ
-four_text bytes = if list_all is_clear bytes then codes "'" ++ bytes ++ codes "'" else codes "$" ++ flat_map hex_byte bytes
+-- The four characters of a type in single quotes, as 'STR '; a dollar sign and eight digits where one of its bytes may not
+-- stand between quotes.
+abbrev pub four_text : Charset → List ℕ → List ℕ
+four_text charset bytes = if list_all (is_clear charset) bytes then codes "'" ++ flat_map character bytes ++ codes "'"
+    else codes "$" ++ flat_map hex_byte bytes
 
 -- A type as a person reads it.
-abbrev pub type_text : ℕ → List ℕ
-type_text kind = four_text (big_bytes 4 kind)
+abbrev pub type_text : Charset → ℕ → List ℕ
+type_text charset kind = four_text charset (big_bytes 4 kind)
 
--- A byte of a name: a quote and a backslash stand after a backslash, and a byte that isn't printable is \0x and two
--- digits.
-abbrev pub char_text : ℕ → List ℕ
-char_text b = if b == 34 || b == 92 then 92 ∷ b ∷ []
-    else if is_printable b then b ∷ []
+-- A byte of a name: a quote and a backslash stand after a backslash, and a byte that isn't printed as a character is \0x and
+-- two digits.
+abbrev pub char_text : Charset → ℕ → List ℕ
+char_text charset b = if b == 34 || b == 92 then 92 ∷ b ∷ []
+    else if prints charset b then character b
     else codes "\\0x" ++ hex_byte b
 
 -- A name as a person reads it: in double quotes, and - for no name.
-abbrev pub name_text : Option (List ℕ) → List ℕ
-name_text None = codes "-"
-name_text (Some name) = codes "\"" ++ flat_map char_text name ++ codes "\""
+abbrev pub name_text : Charset → Option (List ℕ) → List ℕ
+name_text charset None = codes "-"
+name_text charset (Some name) = codes "\"" ++ flat_map (char_text charset) name ++ codes "\""

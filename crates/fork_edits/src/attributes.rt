@@ -10,7 +10,7 @@ use crate::types::byte_value_of;
 use mac_words::Attrs;
 
 /// Reports whether a byte is a decimal digit.
-fn is_digit(byte: u8) -> bool
+pub(crate) fn is_digit(byte: u8) -> bool
     ensures { result ≡ is_between 48 57 byte }
 {
     b'0' <= byte && byte <= b'9'

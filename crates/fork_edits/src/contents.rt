@@ -4,20 +4,21 @@
 ghost use Rattle.std.specs.Prelude.{◌≡◌, ◌++◌, ◌==◌, OnOk, codes, decimal, map};
 ghost use Rattle.std.specs.List.{flat_map, list_all};
 ghost use Rattle.byteorder.specs.Endian.{big_number};
+ghost use Rattle.mac_roman.specs.declared.charset.Charset.TheVariants.{Ascii};
 ghost use Rattle.fork_format.specs.View.{view_name, view};
-ghost use Rattle.fork_edits.specs.Contents.{name_field, entry_line, attrs_line, area_line, contents_text};
-ghost use Rattle.fork_edits.specs.FixedNames.{fixed_name};
+ghost use Rattle.fork_edits.specs.Contents.{name_field, entry, entry_line, attrs_line, area_line, listed, listed_text};
 ghost use Rattle.fork_edits.specs.Lines.{key_text};
-ghost use Rattle.fork_edits.specs.View.{view_row};
+ghost use Rattle.fork_edits.specs.View.{view_row, view_filed};
 
-use crate::fixed_names::append_fixed_name;
+use crate::filed::FiledRow;
 use crate::lines::push_key;
-use crate::resources::{Row, rows_of};
+use crate::resources::Row;
 use crate::texts::{append_name, push_digits};
 use fork_format::{Content, RefName};
 use itoa::Buffer;
+use mac_roman::Charset;
 use mac_words::OsType;
-use std::alloc::{AllocError, Global};
+use std::alloc::AllocError;
 
 /// Appends a number in decimal.
 fn push_decimal(text: &mut Vec<u8>, number: u16) -> Result<(), AllocError>
@@ -26,33 +27,23 @@ fn push_decimal(text: &mut Vec<u8>, number: u16) -> Result<(), AllocError>
     text.extend_from_slice(Buffer::new().format(number).as_bytes())
 }
 
-/// Appends the name of the file of a resource.
-fn push_file(alloc: Global, text: &mut Vec<u8>, ty: OsType, id: &i16) -> Result<(), AllocError>
-    ensures { OnOk result (text.new.items ≡ text.old.items ++ fixed_name (big_number 4 ty.0) id.now) }
-{
-    let mut name = String::new(alloc);
-    append_fixed_name(&mut name, ty, id)?;
-    text.extend_from_slice(name.as_bytes())?;
-    Ok(())
-}
-
 /// Appends the name of a resource that has one.
 fn push_name_field(text: &mut Vec<u8>, name: &Option<RefName<'_>>) -> Result<(), AllocError>
     ensures { OnOk result (text.new.items ≡ text.old.items ++ name_field (view_name name.now)) }
 {
     if name.is_some() {
         text.push(b' ')?;
-        append_name(text, name)?;
+        append_name(text, Charset::Ascii, name)?;
     }
     Ok(())
 }
 
 /// Appends the type, the ID and the attributes of a resource, with a blank after each.
 fn push_head(text: &mut Vec<u8>, row: &Row<'_>) -> Result<(), AllocError>
-    ensures { OnOk result (text.new.items ≡ text.old.items ++ (key_text (view_row row.now).kind (view_row row.now).resource.id
+    ensures { OnOk result (text.new.items ≡ text.old.items ++ (key_text Ascii (view_row row.now).kind (view_row row.now).resource.id
         ++ codes " " ++ decimal (view_row row.now).resource.attrs ++ codes " ")) }
 {
-    push_key(text, row.ty, &row.resource.id)?;
+    push_key(text, Charset::Ascii, row.ty, &row.resource.id)?;
     text.push(b' ')?;
     push_decimal(text, row.resource.attrs.0 as u16)?;
     text.push(b' ')?;
@@ -60,22 +51,22 @@ fn push_head(text: &mut Vec<u8>, row: &Row<'_>) -> Result<(), AllocError>
 }
 
 /// Appends the line of a resource.
-fn push_entry(alloc: Global, text: &mut Vec<u8>, row: &Row<'_>) -> Result<(), AllocError>
-    ensures { OnOk result (text.new.items ≡ text.old.items ++ entry_line (view_row row.now)) }
+fn push_entry(text: &mut Vec<u8>, filed: &FiledRow<'_>) -> Result<(), AllocError>
+    ensures { OnOk result (text.new.items ≡ text.old.items ++ entry_line (entry (view_filed filed.now))) }
 {
-    push_head(text, row)?;
-    push_file(alloc, text, row.ty, &row.resource.id)?;
-    push_name_field(text, &row.resource.name)?;
+    push_head(text, &filed.row)?;
+    text.extend_from_slice(filed.file.as_bytes())?;
+    push_name_field(text, &filed.row.resource.name)?;
     text.push(b'\n')?;
     Ok(())
 }
 
 /// Appends the lines of resources.
-fn push_entries(alloc: Global, text: &mut Vec<u8>, rows: &[Row<'_>]) -> Result<(), AllocError>
-    ensures { OnOk result (text.new.items ≡ text.old.items ++ flat_map entry_line (map view_row rows.now)) }
+fn push_entries(text: &mut Vec<u8>, files: &[FiledRow<'_>]) -> Result<(), AllocError>
+    ensures { OnOk result (text.new.items ≡ text.old.items ++ flat_map entry_line (map entry (map view_filed files.now))) }
 {
-    for row in rows {
-        push_entry(alloc, text, row)?;
+    for filed in files {
+        push_entry(text, filed)?;
     }
     Ok(())
 }
@@ -119,17 +110,17 @@ fn push_area_line(text: &mut Vec<u8>, area: &[u8]) -> Result<(), AllocError>
 /// Appends the list of what a fork holds that stands beside the files of its resources, a line for each: `map` and the
 /// attributes of the map in decimal, if they are not 0; `area` and the 240 bytes after the header in hexadecimal, if they are
 /// not all 0; and for each resource, in the order of the fork, its type, its ID, its attributes in decimal, the name of its file
-/// (`append_fixed_name`) and its name, if it has one, as in `'STR ' 128 32 STR_20-128.bin "Greeting"`.
+/// (`filed_rows`) and its name, if it has one, as in `'STR ' 128 32 STR_20-128.bin "Greeting"`.
 pub fn append_contents(
-    alloc: Global,
     text: &mut Vec<u8>,
     content: &Content<'_>,
+    files: &[FiledRow<'_>],
 ) -> Result<(), AllocError>
-    ensures { OnOk result (text.new.items ≡ text.old.items ++ contents_text (view content.now)) }
+    ensures { OnOk result (text.new.items
+        ≡ text.old.items ++ listed_text (listed (view content.now) (map view_filed files.now))) }
 {
-    let rows = rows_of(alloc, content)?;
     push_attrs_line(text, content.attrs)?;
     push_area_line(text, &content.area)?;
-    push_entries(alloc, text, rows.as_slice())?;
+    push_entries(text, files)?;
     Ok(())
 }

@@ -1,7 +1,8 @@
-//! Laws of a content in which a resource is set, taken out or renamed, of two contents merged, and of the names of files.
+//! Laws of a content in which a resource is set, taken out or renamed, of two contents merged, and of the names of files and
+//! resources.
 
-ghost use Rattle.std.specs.Prelude.{◌≡◌, ◌≢◌, ◌<◌, ◌≤◌, ◌^◌, ◌++◌, ◌∷◌, FitsSigned, ℕ, ℤ, List, Some, None, true, is_some, length, map, option_map, unwrap_or};
-ghost use Rattle.std.specs.List.{filter, list_all};
+ghost use Rattle.std.specs.Prelude.{◌≡◌, ◌≢◌, ◌<◌, ◌≤◌, ◌^◌, ◌++◌, ◌∷◌, FitsSigned, ℕ, ℤ, List, Some, None, Ok, true, is_some, length, map, option_map, unwrap_or};
+ghost use Rattle.std.specs.List.{AllByRecursion, filter, list_all};
 ghost use Rattle.std.specs.Int.{w16};
 ghost use Rattle.std.specs.Str.{str_to_ascii_lowercase};
 ghost use Rattle.fork_format.specs.Canonical.{has_refs};
@@ -14,6 +15,9 @@ ghost use Rattle.fork_edits.specs.Merging.{both, with_both, or_other, clash};
 ghost use Rattle.fork_edits.specs.FileNames.{file_name};
 ghost use Rattle.fork_edits.specs.FixedNames.{fixed_name};
 ghost use Rattle.fork_edits.specs.Twins.{twin};
+ghost use Rattle.fork_edits.specs.Types.{type_read};
+ghost use Rattle.fork_edits.specs.RomanNames.{name_read};
+ghost use Rattle.fork_edits.specs.RomanTypes.{some_type, type_text_read};
 
 /// States that setting a resource of a type and an ID changes nothing else.
 pub fn setting_a_resource_changes_nothing_else()
@@ -123,4 +127,11 @@ pub fn files_without_twins_are_apart()
 pub fn file_names_are_apart()
     ensures { (m n : ℕ) (x y : Row) → m < 2 ^ 64 → n < 2 ^ 64
         → str_to_ascii_lowercase (file_name m x) ≡ str_to_ascii_lowercase (file_name n y) → m ≡ n }
+{}
+
+/// States that names and types of ASCII are taken as they are.
+pub fn ascii_words_are_taken_as_they_are()
+    ensures names { (text : List ℕ) → AllByRecursion (λ b. b < 128) text → length text ≤ 255 → name_read text ≡ Ok text }
+    ensures types { (text : List ℕ) → AllByRecursion (λ b. b < 128) text
+        → type_text_read text ≡ some_type (type_read text) }
 {}

@@ -5,6 +5,7 @@ ghost use Rattle.std.specs.Prelude.{◌≡◌, ◌++◌, OnOk};
 ghost use Rattle.byteorder.specs.Endian.{big_number};
 ghost use Rattle.fork_format.specs.View.{view_ref};
 ghost use Rattle.fork_edits.specs.Lines.{numbers_text, row_text, row_line, word_if, parts_text, key_text, changed_line, difference_line};
+ghost use Rattle.fork_edits.specs.Lines.{compressed_text};
 ghost use Rattle.fork_edits.specs.View.{view_row, view_parts, view_difference};
 
 use crate::differences::{Difference, Parts};
@@ -12,8 +13,12 @@ use crate::resources::Row;
 use crate::texts::{append_name, append_type, push_id};
 use fork_format::Ref;
 use itoa::Buffer;
-use mac_words::OsType;
+use mac_roman::Charset;
+use mac_words::{Attrs, OsType};
 use std::alloc::AllocError;
+
+/// The attribute `resCompressed` of a resource whose stored data is compressed.
+const COMPRESSED: u8 = 1;
 
 /// Appends the ID, the attributes and the length of a resource, with a blank before each.
 fn push_numbers(text: &mut Vec<u8>, resource: &Ref<'_>) -> Result<(), AllocError>
@@ -29,22 +34,27 @@ fn push_numbers(text: &mut Vec<u8>, resource: &Ref<'_>) -> Result<(), AllocError
 
 /// Appends a resource as a person reads it: its type, its ID, its attributes in decimal, the length of its stored data in
 /// bytes, and its name.
-pub fn append_row(text: &mut Vec<u8>, row: &Row<'_>) -> Result<(), AllocError>
-    ensures { OnOk result (text.new.items ≡ text.old.items ++ row_text (view_row row.now)) }
+pub fn append_row(text: &mut Vec<u8>, charset: Charset, row: &Row<'_>) -> Result<(), AllocError>
+    ensures { OnOk result (text.new.items ≡ text.old.items ++ row_text charset (view_row row.now)) }
 {
-    append_type(text, row.ty)?;
+    append_type(text, charset, row.ty)?;
     push_numbers(text, &row.resource)?;
     text.push(b' ')?;
-    append_name(text, &row.resource.name)
+    append_name(text, charset, &row.resource.name)
 }
 
 /// Appends a line of a resource, with a sign and a blank before it.
-fn push_line(text: &mut Vec<u8>, sign: u8, row: &Row<'_>) -> Result<(), AllocError>
-    ensures { OnOk result (text.new.items ≡ text.old.items ++ row_line sign (view_row row.now)) }
+fn push_line(
+    text: &mut Vec<u8>,
+    charset: Charset,
+    sign: u8,
+    row: &Row<'_>,
+) -> Result<(), AllocError>
+    ensures { OnOk result (text.new.items ≡ text.old.items ++ row_line charset sign (view_row row.now)) }
 {
     text.push(sign)?;
     text.push(b' ')?;
-    append_row(text, row)?;
+    append_row(text, charset, row)?;
     text.push(b'\n')?;
     Ok(())
 }
@@ -70,22 +80,33 @@ fn push_parts(text: &mut Vec<u8>, parts: &Parts) -> Result<(), AllocError>
 }
 
 /// Appends a type and an ID, with a blank between.
-pub(crate) fn push_key(text: &mut Vec<u8>, ty: OsType, id: &i16) -> Result<(), AllocError>
-    ensures { OnOk result (text.new.items ≡ text.old.items ++ key_text (big_number 4 ty.0) id.now) }
+pub(crate) fn push_key(
+    text: &mut Vec<u8>,
+    charset: Charset,
+    ty: OsType,
+    id: &i16,
+) -> Result<(), AllocError>
+    ensures { OnOk result (text.new.items ≡ text.old.items ++ key_text charset (big_number 4 ty.0) id.now) }
 {
-    append_type(text, ty)?;
+    append_type(text, charset, ty)?;
     text.push(b' ')?;
     push_id(text, id)?;
     Ok(())
 }
 
 /// Appends the line of a resource of which some parts differ.
-fn push_changed(text: &mut Vec<u8>, ty: OsType, id: &i16, parts: &Parts) -> Result<(), AllocError>
+fn push_changed(
+    text: &mut Vec<u8>,
+    charset: Charset,
+    ty: OsType,
+    id: &i16,
+    parts: &Parts,
+) -> Result<(), AllocError>
     ensures { OnOk result (text.new.items
-        ≡ text.old.items ++ changed_line (big_number 4 ty.0) id.now (view_parts parts.now)) }
+        ≡ text.old.items ++ changed_line charset (big_number 4 ty.0) id.now (view_parts parts.now)) }
 {
     text.extend_from_slice(b"~ ")?;
-    push_key(text, ty, id)?;
+    push_key(text, charset, ty, id)?;
     push_parts(text, parts)?;
     text.push(b'\n')?;
     Ok(())
@@ -96,16 +117,28 @@ fn push_changed(text: &mut Vec<u8>, ty: OsType, id: &i16, parts: &Parts) -> Resu
 /// `order`.
 pub fn append_difference(
     text: &mut Vec<u8>,
+    charset: Charset,
     difference: &Difference<'_, '_>,
 ) -> Result<(), AllocError>
-    ensures { OnOk result (text.new.items ≡ text.old.items ++ difference_line (view_difference difference.now)) }
+    ensures { OnOk result (text.new.items ≡ text.old.items ++ difference_line charset (view_difference difference.now)) }
 {
     match difference {
         Difference::Area => text.extend_from_slice(b"~ area\n"),
         Difference::MapAttrs => text.extend_from_slice(b"~ map attributes\n"),
-        Difference::Removed(old) => push_line(text, b'-', old),
-        Difference::Changed { ty, id, parts } => push_changed(text, *ty, id, parts),
-        Difference::Added(new) => push_line(text, b'+', new),
+        Difference::Removed(old) => push_line(text, charset, b'-', old),
+        Difference::Changed { ty, id, parts } => push_changed(text, charset, *ty, id, parts),
+        Difference::Added(new) => push_line(text, charset, b'+', new),
         Difference::Order => text.extend_from_slice(b"~ order\n"),
     }
+}
+
+/// Appends ` compressed` for a resource whose stored data is compressed (`resCompressed`), and nothing for another: the word
+/// stands after the resource's name. The data is never expanded.
+pub fn append_compressed(text: &mut Vec<u8>, attrs: Attrs) -> Result<(), AllocError>
+    ensures { OnOk result (text.new.items ≡ text.old.items ++ compressed_text attrs.0) }
+{
+    if attrs.0 & COMPRESSED != 0 {
+        text.extend_from_slice(b" compressed")?;
+    }
+    Ok(())
 }

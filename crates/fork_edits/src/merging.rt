@@ -177,7 +177,7 @@ fn put_row<'b>(
 }
 
 /// Returns resources by type.
-fn grouped<'b>(alloc: Global, rows: &[Row<'b>]) -> Result<Vec<Group<'b>>, AllocError>
+pub(crate) fn grouped<'b>(alloc: Global, rows: &[Row<'b>]) -> Result<Vec<Group<'b>>, AllocError>
     ensures { IfOk result (λ v. map view_group v.items ≡ with_rows (map view_row rows.now) []) }
 {
     let mut groups = Vec::new(alloc);

@@ -102,7 +102,7 @@ said : (why_text hi_fork ≡ codes "canonical")
     × (why_text (set hi_fork 287 49) ≡ codes "damaged: the type list lies outside the map, at 286")
     × (why_text (set note_fork 304 5) ≡ codes "damaged: the name of 'TEXT' 129 lies outside the map, at 303")
     × (why_text (set hi_fork 311 1) ≡ codes "accepted: handles to resources")
-unfolding digits
+unfolding digits lib.Utf8.encode
 said = (refl, refl, refl, refl)
 
 said_of_sharing : why_text shared

@@ -3,6 +3,7 @@ use Rattle.std.specs.List.{flat_map}
 use Rattle.std.specs.Fmt.{signed_decimal}
 use Rattle.byteorder.specs.Endian.{big_number}
 use Rattle.mac_words.specs.declared.name.OsType.{OsType}
+use Rattle.mac_roman.specs.declared.charset.Charset.TheVariants.{Ascii}
 use Rattle.fork_format.specs.Canonical.{canon, fits}
 use Rattle.fork_format.specs.Content.{Content}
 use Rattle.fork_format.specs.Fork.{content_of}
@@ -20,7 +21,7 @@ use Rattle.fork_rules.specs.Regions.{differences}
 
 -- A type.
 abbrev pub kind_text : OsType → List ℕ
-kind_text ty = type_text (big_number 4 ty.0)
+kind_text ty = type_text Ascii (big_number 4 ty.0)
 
 -- A type and an ID.
 abbrev pub resource_text : ResourceKey → List ℕ

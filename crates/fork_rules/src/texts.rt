@@ -15,6 +15,7 @@ use crate::rules::{Broken, ResourceKey, Rule};
 use fork_edits::append_type;
 use fork_format::{Content, ForkFault, WriteFault, read_fork};
 use itoa::Buffer;
+use mac_roman::Charset;
 use mac_words::OsType;
 use std::alloc::{AllocError, Global};
 
@@ -28,7 +29,7 @@ fn push_around(
     ensures { OnOk result (text.new.items ≡ text.old.items ++ (before.now ++ kind_text ty ++ after.now)) }
 {
     text.extend_from_slice(before)?;
-    append_type(text, ty)?;
+    append_type(text, Charset::Ascii, ty)?;
     text.extend_from_slice(after)?;
     Ok(())
 }
@@ -44,7 +45,7 @@ fn push_id(text: &mut Vec<u8>, id: &i16) -> Result<(), AllocError>
 fn push_resource(text: &mut Vec<u8>, key: &ResourceKey) -> Result<(), AllocError>
     ensures { OnOk result (text.new.items ≡ text.old.items ++ resource_text key.now) }
 {
-    append_type(text, key.ty)?;
+    append_type(text, Charset::Ascii, key.ty)?;
     text.push(b' ')?;
     push_id(text, &key.id)?;
     Ok(())

@@ -13,3 +13,5 @@ pub mod Judged
 pub mod Sums
 pub mod Rewraps
 pub mod Keeps
+pub mod Informed
+pub mod Firsts

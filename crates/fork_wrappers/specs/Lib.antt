@@ -4,3 +4,4 @@ pub mod MacBinary
 pub mod Unwrapped
 pub mod Made
 pub mod Rewrapped
+pub mod Info

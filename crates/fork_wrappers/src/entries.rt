@@ -35,7 +35,7 @@ fn has_known_version(bytes: &[u8]) -> bool
 }
 
 /// Returns whether what the entry at an offset names lies in the file.
-fn does_entry_fit(bytes: &[u8], at: usize) -> bool
+pub fn does_entry_fit(bytes: &[u8], at: usize) -> bool
     requires { at + 12 ≤ length bytes.now }
     ensures { result ≡ entry_fits bytes.now at }
 {
@@ -107,7 +107,7 @@ pub fn fork_entry_of(bytes: &[u8], count: usize) -> Result<Option<usize>, Entrie
 }
 
 /// Returns what the entry at an offset names.
-fn entry_part_of<'b>(bytes: &'b [u8], at: usize) -> &'b [u8]
+pub fn entry_part_of<'b>(bytes: &'b [u8], at: usize) -> &'b [u8]
     requires room { at + 12 ≤ length bytes.now }
     requires fits { IsTrue (entry_fits bytes.now at) }
     ensures { result.now ≡ entry_part bytes.now at }

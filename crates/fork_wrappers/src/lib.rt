@@ -4,6 +4,7 @@
 mod checksum;
 mod entries;
 mod fault;
+mod file_info;
 mod finding;
 mod laws;
 mod mac_binary;
@@ -14,6 +15,7 @@ mod rewrapping;
 mod wrapping;
 
 pub use fault::{EntriesFault, MacBinaryFault, RewrapFault, WrapFault};
+pub use file_info::{FileInfo, data_fork, info};
 pub use finding::unwrap;
 pub use laws::{
     a_damaged_fork_is_no_old_mac_binary, a_file_with_its_own_fork_stays,

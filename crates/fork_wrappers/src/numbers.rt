@@ -67,6 +67,18 @@ pub fn bytes_from<'b>(bytes: &'b [u8], from: usize) -> &'b [u8]
     }
 }
 
+/// Returns the bytes at an offset, as far as there are any.
+pub fn part_within<'b>(bytes: &'b [u8], at: usize, size: usize) -> &'b [u8]
+    ensures { result.now ≡ part size at bytes.now }
+{
+    let rest = bytes_from(bytes, at);
+    if size <= rest.len() {
+        &rest[..size]
+    } else {
+        rest
+    }
+}
+
 /// Writes a number of four bytes.
 pub fn put_word(out: &mut Vec<u8>, number: u32) -> Result<(), AllocError>
     ensures { OnOk result (out.new.items ≡ out.old.items ++ big_bytes 4 number) }

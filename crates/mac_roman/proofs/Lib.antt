@@ -1,3 +1,4 @@
 pub mod Encoding
 pub mod Lookups
+pub mod PlainText
 pub mod Worked

@@ -1,3 +1,4 @@
 pub mod Table
 pub mod Roman
 pub mod Fault
+pub mod Charset

@@ -1,9 +1,12 @@
 -- The lines of a resource's data: what is printed is read again.
-use Rattle.std.proofs.Common.{◌≡◌, ◌≤◌, ◌==◌, ℕ, zero, suc, ◌+◌, ◌-◌, ◌*◌, ◌/◌, false, Ok, List, [], ◌∷◌, ◌++◌, map}
+use Rattle.std.proofs.Common.{◌≡◌, ◌≤◌, ◌==◌, ℕ, zero, suc, ◌+◌, ◌-◌, ◌*◌, ◌/◌, ◌<◌, Bool, true, false, ◌&&◌, Ok, List, [], ◌∷◌, ◌++◌}
 use Rattle.std.proofs.Common.{length, take, drop, codes, refl, ap, ◌∙◌, sym, arith, append_assoc, append-nil}
 use Rattle.std.proofs.Math.Seq.{take-add}
 use Rattle.std.proofs.lemmas.Bool.{agree_below_at}
-use Rattle.std.specs.List.{AllByRecursion}
+use Rattle.std.specs.Prelude.{not}
+use Rattle.std.specs.List.{AllByRecursion, flat_map, list_all}
+use Rattle.mac_roman.specs.declared.charset.Charset.{Charset}
+use Rattle.mac_roman.specs.declared.charset.Charset.TheVariants.{Ascii, Utf8}
 use Rattle.fork_format.specs.Content.{Ref, Content}
 use Rattle.rez_text.specs.declared.mode.Mode.TheVariants as mode
 use Rattle.rez_text.specs.declared.mode.Place.{Place}
@@ -34,10 +37,33 @@ comment_run (b ∷ text) p g k d c clear =
     (comment_run text p (g ++ b ∷ []) k d c clear.1
     ∙ ap (λ l. Ok (at mode.Comment p l k d c)) (append_assoc g (b ∷ []) text))
 
-shown_no_star : (bytes : List ℕ) → AreBytes bytes → NoStar (map shown bytes)
-shown_no_star [] small = tt
-shown_no_star (b ∷ bytes) small =
-    (agree_below_at (λ n. shown n == 42) (λ _. false) 256 b refl small.0, shown_no_star bytes small.1)
+parts : (b : ℕ) (t rest : Bool) → (b == 42) ≡ t → (not t && rest) ≡ true → ((b == 42) ≡ false) × (rest ≡ true)
+parts b true rest e h = cc
+parts b false rest e h = (e, h)
+
+no_star : (text : List ℕ) → list_all (λ (b : ℕ). not (b == 42)) text ≡ true → NoStar text
+no_star [] h = tt
+no_star (b ∷ text) h =
+    let p = parts b (b == 42) (list_all (λ (d : ℕ). not (d == 42)) text) refl h in
+    (p.0, no_star text p.1)
+
+no_star_either : (xs ys : List ℕ) → NoStar xs → NoStar ys → NoStar (xs ++ ys)
+no_star_either [] ys one other = other
+no_star_either (x ∷ xs) ys one other = (one.0, no_star_either xs ys one.1 other)
+
+-- in either set no byte is shown as a `*`
+one_no_star : (charset : Charset) (b : ℕ) → b < 256 → NoStar (shown charset b)
+unfolding lib.Utf8.encode
+one_no_star Ascii b small = no_star (shown Ascii b)
+    (agree_below_at (λ n. list_all (λ (d : ℕ). not (d == 42)) (shown Ascii n)) (λ _. true) 256 b refl small)
+one_no_star Utf8 b small = no_star (shown Utf8 b)
+    (agree_below_at (λ n. list_all (λ (d : ℕ). not (d == 42)) (shown Utf8 n)) (λ _. true) 256 b refl small)
+
+shown_no_star : (charset : Charset) (bytes : List ℕ) → AreBytes bytes → NoStar (flat_map (shown charset) bytes)
+shown_no_star charset [] small = tt
+shown_no_star charset (b ∷ bytes) small =
+    no_star_either (shown charset b) (flat_map (shown charset) bytes) (one_no_star charset b small.0)
+    (shown_no_star charset bytes small.1)
 
 comment_opens : (k : ℕ) (d : Ref) (c : Content)
     → run (Ok (at mode.Between place.Data [] k d c)) (codes "/* ") ≡ Ok (at mode.Comment place.Data (32 ∷ []) k d c)
@@ -49,16 +75,16 @@ comment_closes : (g : List ℕ) (k : ℕ) (d : Ref) (c : Content)
 unfolding step between in_comment star comment
 comment_closes g k d c = refl
 
-text_column_run : (bytes : List ℕ) (k : ℕ) (d : Ref) (c : Content) → AreBytes bytes
-    → run (Ok (at mode.Between place.Data [] k d c)) (text_column bytes) ≡ Ok (at mode.Between place.Data [] k d c)
-text_column_run bytes k d c small =
+text_column_run : (charset : Charset) (bytes : List ℕ) (k : ℕ) (d : Ref) (c : Content) → AreBytes bytes
+    → run (Ok (at mode.Between place.Data [] k d c)) (text_column charset bytes) ≡ Ok (at mode.Between place.Data [] k d c)
+text_column_run charset bytes k d c small =
     let s = at mode.Between place.Data [] k d c in
     let t = at mode.Comment place.Data (32 ∷ []) k d c in
-    let u = at mode.Comment place.Data (32 ∷ [] ++ map shown bytes) k d c in
-    after s u _ (codes "/* " ++ map shown bytes) (codes " */\n")
-    (after s t _ (codes "/* ") (map shown bytes) (comment_opens k d c)
-    (comment_run (map shown bytes) place.Data (32 ∷ []) k d c (shown_no_star bytes small)))
-    (comment_closes (32 ∷ [] ++ map shown bytes) k d c)
+    let u = at mode.Comment place.Data (32 ∷ [] ++ flat_map (shown charset) bytes) k d c in
+    after s u _ (codes "/* " ++ flat_map (shown charset) bytes) (codes " */\n")
+    (after s t _ (codes "/* ") (flat_map (shown charset) bytes) (comment_opens k d c)
+    (comment_run (flat_map (shown charset) bytes) place.Data (32 ∷ []) k d c (shown_no_star charset bytes small)))
+    (comment_closes (32 ∷ [] ++ flat_map (shown charset) bytes) k d c)
 
 -- a resource with more data
 abbrev pub with_datum : Ref → List ℕ → Ref
@@ -85,16 +111,16 @@ hex_column_run bytes k d c small =
     (after s t _ (9 ∷ 36 ∷ 34 ∷ []) (grouped 0 bytes) (string_opens k d c) (grouped_run bytes 0 [] k d c small))
     (string_closes bytes k d c)
 
-data_line_run : (bytes : List ℕ) (k : ℕ) (d : Ref) (c : Content) → AreBytes bytes
-    → run (Ok (at mode.Between place.Data [] k d c)) (data_line bytes)
+data_line_run : (charset : Charset) (bytes : List ℕ) (k : ℕ) (d : Ref) (c : Content) → AreBytes bytes
+    → run (Ok (at mode.Between place.Data [] k d c)) (data_line charset bytes)
     ≡ Ok (at mode.Between place.Data [] k (with_datum d bytes) c)
-data_line_run bytes k d c small =
+data_line_run charset bytes k d c small =
     let s = at mode.Between place.Data [] k d c in
     let t = at mode.Between place.Data [] k (with_datum d bytes) c in
-    after s t _ (hex_column bytes ++ margin (length bytes)) (text_column bytes)
+    after s t _ (hex_column bytes ++ margin (length bytes)) (text_column charset bytes)
     (after s t _ (hex_column bytes) (margin (length bytes)) (hex_column_run bytes k d c small)
     (blanks (54 - (3 + 2 * length bytes + (length bytes - 1) / 2)) place.Data [] k (with_datum d bytes) c))
-    (text_column_run bytes k (with_datum d bytes) c small)
+    (text_column_run charset bytes k (with_datum d bytes) c small)
 
 pub bytes_take : (n : ℕ) (bytes : List ℕ) → AreBytes bytes → AreBytes (take n bytes)
 bytes_take zero bytes small = tt
@@ -115,19 +141,19 @@ twice d xs ys zs e =
 nothing_more : (d : Ref) → d ≡ with_datum d []
 nothing_more d = ap (λ l. record { id = d.id; name = d.name; attrs = d.attrs; datum = l }) (sym (append-nil d.datum))
 
-lines_run : (n : ℕ) (bytes : List ℕ) (k : ℕ) (d : Ref) (c : Content) → AreBytes bytes
-    → run (Ok (at mode.Between place.Data [] k d c)) (data_lines n bytes)
+lines_run : (charset : Charset) (n : ℕ) (bytes : List ℕ) (k : ℕ) (d : Ref) (c : Content) → AreBytes bytes
+    → run (Ok (at mode.Between place.Data [] k d c)) (data_lines charset n bytes)
     ≡ Ok (at mode.Between place.Data [] k (with_datum d (take (16 * n) bytes)) c)
-lines_run zero bytes k d c small = ap (λ r. Ok (at mode.Between place.Data [] k r c)) (nothing_more d)
-lines_run (suc n) bytes k d c small =
+lines_run charset zero bytes k d c small = ap (λ r. Ok (at mode.Between place.Data [] k r c)) (nothing_more d)
+lines_run charset (suc n) bytes k d c small =
     let s = at mode.Between place.Data [] k d c in
     let t = at mode.Between place.Data [] k (with_datum d (take 16 bytes)) c in
     let grown : 16 + 16 * n ≡ 16 * suc n = omega arith in
     let whole : take 16 bytes ++ take (16 * n) (drop 16 bytes) ≡ take (16 * suc n) bytes =
     sym (take-add 16 (16 * n) bytes) ∙ ap (λ m. take m bytes) grown in
-    after s t _ (data_line (take 16 bytes)) (data_lines n (drop 16 bytes))
-    (data_line_run (take 16 bytes) k d c (bytes_take 16 bytes small))
-    (lines_run n (drop 16 bytes) k (with_datum d (take 16 bytes)) c (bytes_drop 16 bytes small)
+    after s t _ (data_line charset (take 16 bytes)) (data_lines charset n (drop 16 bytes))
+    (data_line_run charset (take 16 bytes) k d c (bytes_take 16 bytes small))
+    (lines_run charset n (drop 16 bytes) k (with_datum d (take 16 bytes)) c (bytes_drop 16 bytes small)
     ∙ ap (λ r. Ok (at mode.Between place.Data [] k r c)) (twice d (take 16 bytes) _ _ whole))
 
 take_all : (n : ℕ) (bytes : List ℕ) → length bytes ≤ n → take n bytes ≡ bytes
@@ -141,9 +167,9 @@ pub all_lines : (bytes : List ℕ) → take (16 * line_count bytes) bytes ≡ by
 all_lines bytes = take_all (16 * line_count bytes) bytes (omega arith)
 
 -- the data of a resource of which no data is stated yet
-pub data_run : (bytes : List ℕ) (k : ℕ) (d : Ref) (c : Content) → AreBytes bytes
-    → run (Ok (at mode.Between place.Data [] k d c)) (data_lines (line_count bytes) bytes)
+pub data_run : (charset : Charset) (bytes : List ℕ) (k : ℕ) (d : Ref) (c : Content) → AreBytes bytes
+    → run (Ok (at mode.Between place.Data [] k d c)) (data_lines charset (line_count bytes) bytes)
     ≡ Ok (at mode.Between place.Data [] k (with_datum d bytes) c)
-data_run bytes k d c small =
-    lines_run (line_count bytes) bytes k d c small
+data_run charset bytes k d c small =
+    lines_run charset (line_count bytes) bytes k d c small
     ∙ ap (λ l. Ok (at mode.Between place.Data [] k (with_datum d l) c)) (all_lines bytes)

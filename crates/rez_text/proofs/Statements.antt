@@ -2,6 +2,7 @@
 use Rattle.std.proofs.Common.{◌≡◌, ◌<◌, ◌^◌, ℕ, Ok, codes, List, [], ◌∷◌, ◌++◌, refl}
 use Rattle.std.specs.List.{AllByRecursion, flat_map}
 use Rattle.std.specs.Fmt.{signed_decimal}
+use Rattle.mac_roman.specs.declared.charset.Charset.{Charset}
 use Rattle.fork_format.specs.Content.{Ref, Group, Content, IsRef, IsGroup}
 use Rattle.rez_text.specs.declared.mode.Mode.TheVariants as mode
 use Rattle.rez_text.specs.declared.mode.Place.TheVariants as place
@@ -80,18 +81,18 @@ head_run kind r c small limits bytes =
     (after attrs.0 s7 _ (41 ∷ []) (32 ∷ 123 ∷ 10 ∷ []) attrs.2.close (brace_run kind d c))
 
 -- a whole statement
-statement_run : (kind : ℕ) (r : Ref) (area : List ℕ) (attrs : ℕ) (groups : List Group) → kind < 2 ^ 32 → IsRef r
+statement_run : (charset : Charset) (kind : ℕ) (r : Ref) (area : List ℕ) (attrs : ℕ) (groups : List Group) → kind < 2 ^ 32 → IsRef r
     → HasBytes r
-    → run (Ok (outside area attrs groups)) (statement kind r) ≡ Ok (outside area attrs (with_ref kind r groups))
-statement_run kind r area attrs groups small limits bytes =
+    → run (Ok (outside area attrs groups)) (statement charset kind r) ≡ Ok (outside area attrs (with_ref kind r groups))
+statement_run charset kind r area attrs groups small limits bytes =
     let c : Content = record { area = area; attrs = attrs; groups = groups } in
     let d : Ref = record { id = r.id; name = r.name; attrs = r.attrs; datum = [] } in
     let s = outside area attrs groups in
     let t = at mode.Between place.Data [] kind d c in
     let u = at mode.Between place.Data [] kind r c in
-    after s u _ (statement_head kind r ++ data_lines (line_count r.datum) r.datum) (codes "};\n\n")
-    (after s t _ (statement_head kind r) (data_lines (line_count r.datum) r.datum)
-    (head_run kind r c small limits bytes) (data_run r.datum kind d c bytes.datum))
+    after s u _ (statement_head kind r ++ data_lines charset (line_count r.datum) r.datum) (codes "};\n\n")
+    (after s t _ (statement_head kind r) (data_lines charset (line_count r.datum) r.datum)
+    (head_run kind r c small limits bytes) (data_run charset r.datum kind d c bytes.datum))
     (statement_closes kind r area attrs groups)
 
 -- resources of a type, each put where it belongs
@@ -103,24 +104,24 @@ abbrev pub with_groups : List Group → List Group → List Group
 with_groups [] groups = groups
 with_groups (g ∷ more) groups = with_groups more (with_all g.kind g.refs groups)
 
-refs_run : (refs : List Ref) (kind : ℕ) (area : List ℕ) (attrs : ℕ) (groups : List Group) → kind < 2 ^ 32
+refs_run : (charset : Charset) (refs : List Ref) (kind : ℕ) (area : List ℕ) (attrs : ℕ) (groups : List Group) → kind < 2 ^ 32
     → AllByRecursion IsRef refs → AllByRecursion HasBytes refs
-    → run (Ok (outside area attrs groups)) (flat_map (statement kind) refs)
+    → run (Ok (outside area attrs groups)) (flat_map (statement charset kind) refs)
     ≡ Ok (outside area attrs (with_all kind refs groups))
-refs_run [] kind area attrs groups small limits bytes = refl
-refs_run (r ∷ refs) kind area attrs groups small limits bytes =
-    after (outside area attrs groups) (outside area attrs (with_ref kind r groups)) _ (statement kind r)
-    (flat_map (statement kind) refs) (statement_run kind r area attrs groups small limits.0 bytes.0)
-    (refs_run refs kind area attrs (with_ref kind r groups) small limits.1 bytes.1)
+refs_run charset [] kind area attrs groups small limits bytes = refl
+refs_run charset (r ∷ refs) kind area attrs groups small limits bytes =
+    after (outside area attrs groups) (outside area attrs (with_ref kind r groups)) _ (statement charset kind r)
+    (flat_map (statement charset kind) refs) (statement_run charset kind r area attrs groups small limits.0 bytes.0)
+    (refs_run charset refs kind area attrs (with_ref kind r groups) small limits.1 bytes.1)
 
 -- all statements
-pub groups_run : (more : List Group) (area : List ℕ) (attrs : ℕ) (groups : List Group) → AllByRecursion IsGroup more
+pub groups_run : (charset : Charset) (more : List Group) (area : List ℕ) (attrs : ℕ) (groups : List Group) → AllByRecursion IsGroup more
     → AllByRecursion (λ (g : Group). AllByRecursion HasBytes g.refs) more
-    → run (Ok (outside area attrs groups)) (flat_map group_statements more)
+    → run (Ok (outside area attrs groups)) (flat_map (group_statements charset) more)
     ≡ Ok (outside area attrs (with_groups more groups))
-groups_run [] area attrs groups limits bytes = refl
-groups_run (g ∷ more) area attrs groups limits bytes =
-    after (outside area attrs groups) (outside area attrs (with_all g.kind g.refs groups)) _ (group_statements g)
-    (flat_map group_statements more)
-    (refs_run g.refs g.kind area attrs groups limits.0.kind limits.0.refs bytes.0)
-    (groups_run more area attrs (with_all g.kind g.refs groups) limits.1 bytes.1)
+groups_run charset [] area attrs groups limits bytes = refl
+groups_run charset (g ∷ more) area attrs groups limits bytes =
+    after (outside area attrs groups) (outside area attrs (with_all g.kind g.refs groups)) _ (group_statements charset g)
+    (flat_map (group_statements charset) more)
+    (refs_run charset g.refs g.kind area attrs groups limits.0.kind limits.0.refs bytes.0)
+    (groups_run charset more area attrs (with_all g.kind g.refs groups) limits.1 bytes.1)

@@ -1,6 +1,7 @@
 -- Worked sources, on the definitions alone.
 use Rattle.std.proofs.Common.{◌≡◌, ℕ, ℤ, pos, negsuc, Option, Some, None, Ok, Err, List, [], ◌∷◌, ◌++◌, replicate, codes, refl}
 use Rattle.std.specs.Fmt.{digits}
+use Rattle.mac_roman.specs.declared.charset.Charset.TheVariants.{Ascii, Utf8}
 use Rattle.fork_format.specs.Content.{Ref, Group, Content}
 use Rattle.rez_text.specs.declared.fault.FaultKind.TheVariants as faults
 use Rattle.rez_text.specs.Tokens.{word, type_token, number, name, datum, mark}
@@ -23,27 +24,36 @@ abbrev str : ℕ
 str = 0x53545220
 
 -- a name, a word for the attributes, and more than one line of data
-greeting : source_of (of_groups (record {
+greeting : source_of Ascii (of_groups (record {
   kind = str;
   refs = a_ref (pos 128) (Some (codes "Greeting")) 32 (codes "Hi there, this is") ∷ [];
 } ∷ []))
     ≡ codes "data 'STR ' (128, \"Greeting\", purgeable) {\n\t$\"4869 2074 6865 7265 2C20 7468 6973 2069\"            /* Hi there, this i */\n\t$\"73\"                                                 /* s */\n};\n\n"
-unfolding source_of statement_head type_literal digits
+unfolding source_of statement_head type_literal digits lib.Utf8.encode
 greeting = refl
 
 -- bytes that are escaped, attributes that have no word, no data; a name of no bytes, all words, and a `*` as text
-escapes : source_of (of_groups (record {
+escapes : source_of Utf8 (of_groups (record {
   kind = 0x41274280;
   refs =
       a_ref (negsuc 32767) (Some (codes "q\"\\" ++ 13 ∷ [])) 129 [] ∷
       a_ref (pos 0) (Some []) 92 (42 ∷ 47 ∷ []) ∷ [];
 } ∷ []))
     ≡ codes "data 'A\\'B\\0x80' (-32768, \"q\\\"\\\\\\0x0D\", $81) {\n};\n\ndata 'A\\'B\\0x80' (0, \"\", sysheap, locked, protected, preload) {\n\t$\"2A2F\"                                               /* ./ */\n};\n\n"
-unfolding source_of statement_head type_literal digits
+unfolding source_of statement_head type_literal digits lib.Utf8.encode
 escapes = refl
 
+-- a bullet and a control character as text, in both sets of characters
+in_utf8 : (source_of Ascii (of_groups (record { kind = str; refs = a_ref (pos 1) None 0 (65 ∷ 0xA5 ∷ 127 ∷ []) ∷ [] } ∷ []))
+    ≡ codes "data 'STR ' (1) {\n\t$\"41A5 7F\"" ++ replicate 44 32 ++ codes "/* A.. */\n};\n\n")
+    × (source_of Utf8 (of_groups (record { kind = str; refs = a_ref (pos 1) None 0 (65 ∷ 0xA5 ∷ 127 ∷ []) ∷ [] } ∷ []))
+    ≡ codes "data 'STR ' (1) {\n\t$\"41A5 7F\"" ++ replicate 44 32 ++ codes "/* A" ++ (0xE2 ∷ 0x80 ∷ 0xA2 ∷ [])
+    ++ codes ". */\n};\n\n")
+unfolding source_of statement_head type_literal digits lib.Utf8.encode
+in_utf8 = (refl, refl)
+
 -- the attributes of the map, and a first byte behind the header
-remarks : source_of (record { area = 255 ∷ replicate 239 0; attrs = 128; groups = [] })
+remarks : source_of Ascii (record { area = 255 ∷ replicate 239 0; attrs = 128; groups = [] })
     ≡ codes "/* map attributes $0080 */\n/* header bytes\n\tFF00 0000 0000 0000 0000 0000 0000 0000\n\t0000 0000 0000 0000 0000 0000 0000 0000\n\t0000 0000 0000 0000 0000 0000 0000 0000\n\t0000 0000 0000 0000 0000 0000 0000 0000\n\t0000 0000 0000 0000 0000 0000 0000 0000\n\t0000 0000 0000 0000 0000 0000 0000 0000\n\t0000 0000 0000 0000 0000 0000 0000 0000\n\t0000 0000 0000 0000 0000 0000 0000 0000\n\t0000 0000 0000 0000 0000 0000 0000 0000\n\t0000 0000 0000 0000 0000 0000 0000 0000\n\t0000 0000 0000 0000 0000 0000 0000 0000\n\t0000 0000 0000 0000 0000 0000 0000 0000\n\t0000 0000 0000 0000 0000 0000 0000 0000\n\t0000 0000 0000 0000 0000 0000 0000 0000\n\t0000 0000 0000 0000 0000 0000 0000 0000\n*/\n"
 unfolding source_of
 remarks = refl

@@ -1,10 +1,12 @@
 use Rattle.std.specs.Prelude.{ℕ, ℤ, zero, suc, ◌+◌, ◌-◌, ◌*◌, ◌/◌, ◌%◌, ◌==◌, nat_le, nat_lt, Bool, not, ◌&&◌}
-use Rattle.std.specs.Prelude.{Option, Some, None, List, [], ◌∷◌, ◌++◌, map, length, take, drop, replicate, codes}
+use Rattle.std.specs.Prelude.{Option, Some, None, List, [], ◌∷◌, ◌++◌, length, take, drop, replicate, codes}
 use Rattle.std.specs.Prelude.{bit_and, if◌then◌else◌}
 use Rattle.std.specs.List.{flat_map, list_all}
 use Rattle.std.specs.Fmt.{signed_decimal}
 use Rattle.byteorder.specs.Endian.{big_bytes}
 use Rattle.mac_words.specs.Digits.{upper_digit}
+use Rattle.mac_roman.specs.declared.charset.Charset.{Charset}
+use Rattle.mac_roman.specs.Charset.{prints, character}
 use Rattle.fork_format.specs.Content.{Ref, Group, Content}
 
 -- The content of a resource fork as source of Rez, in the form that DeRez prints.
@@ -26,10 +28,10 @@ grouped n (b ∷ bytes) = gap n ++ byte_hex b ++ grouped (n + 1) bytes
 abbrev pub is_printable : ℕ → Bool
 is_printable b = nat_le 32 b && nat_le b 126
 
--- A byte beside its hexadecimal digits: `.` for each byte that is not printable ASCII, and for `*`, so that no comment
--- ends early.
-abbrev pub shown : ℕ → ℕ
-shown b = if is_printable b && not (b == 42) then b else 46
+-- A byte beside its hexadecimal digits, in the characters of a set: `.` for each byte that is not printed as a character, and
+-- for `*`, so that no comment ends early.
+abbrev pub shown : Charset → ℕ → List ℕ
+shown charset b = if prints charset b && not (b == 42) then character b else 46 ∷ []
 
 -- The blanks between the hexadecimal string of n bytes and the comment, which begins at the 54th place after the tab.
 abbrev pub margin : ℕ → List ℕ
@@ -40,17 +42,17 @@ abbrev pub hex_column : List ℕ → List ℕ
 hex_column bytes = 9 ∷ 36 ∷ 34 ∷ [] ++ grouped 0 bytes ++ 34 ∷ []
 
 -- Bytes as the text of a comment, at the end of a line.
-abbrev pub text_column : List ℕ → List ℕ
-text_column bytes = codes "/* " ++ map shown bytes ++ codes " */\n"
+abbrev pub text_column : Charset → List ℕ → List ℕ
+text_column charset bytes = codes "/* " ++ flat_map (shown charset) bytes ++ codes " */\n"
 
 -- A line of at most 16 bytes of data, and beside it the bytes as text.
-abbrev pub data_line : List ℕ → List ℕ
-data_line bytes = hex_column bytes ++ margin (length bytes) ++ text_column bytes
+abbrev pub data_line : Charset → List ℕ → List ℕ
+data_line charset bytes = hex_column bytes ++ margin (length bytes) ++ text_column charset bytes
 
 -- n lines of 16 bytes each, the last of which may have fewer.
-abbrev pub data_lines : ℕ → List ℕ → List ℕ
-data_lines zero bytes = []
-data_lines (suc n) bytes = data_line (take 16 bytes) ++ data_lines n (drop 16 bytes)
+abbrev pub data_lines : Charset → ℕ → List ℕ → List ℕ
+data_lines charset zero bytes = []
+data_lines charset (suc n) bytes = data_line charset (take 16 bytes) ++ data_lines charset n (drop 16 bytes)
 
 -- How many lines bytes have.
 abbrev pub line_count : List ℕ → ℕ
@@ -102,12 +104,13 @@ unfoldable pub statement_head : ℕ → Ref → List ℕ
 statement_head kind r = opening kind r.id ++ name_argument r.name ++ attributes_argument r.attrs ++ codes ") {\n"
 
 -- A resource as a statement, and an empty line.
-abbrev pub statement : ℕ → Ref → List ℕ
-statement kind r = statement_head kind r ++ data_lines (line_count r.datum) r.datum ++ codes "};\n\n"
+abbrev pub statement : Charset → ℕ → Ref → List ℕ
+statement charset kind r =
+    statement_head kind r ++ data_lines charset (line_count r.datum) r.datum ++ codes "};\n\n"
 
 -- The resources of a type.
-abbrev pub group_statements : Group → List ℕ
-group_statements g = flat_map (statement g.kind) g.refs
+abbrev pub group_statements : Charset → Group → List ℕ
+group_statements charset g = flat_map (statement charset g.kind) g.refs
 
 -- The attributes of the map as a comment.
 abbrev pub attributes_comment : ℕ → List ℕ
@@ -135,6 +138,7 @@ area_comment area = codes "/* header bytes" ++ area_lines (line_count area) area
 abbrev pub area_remark : List ℕ → List ℕ
 area_remark area = if list_all (λ b. b == 0) area then [] else area_comment area
 
--- A content as source.
-unfoldable pub source_of : Content → List ℕ
-source_of c = attributes_remark c.attrs ++ area_remark c.area ++ flat_map group_statements c.groups
+-- A content as source. Only the comments beside data are in the characters of the set; all else is ASCII.
+unfoldable pub source_of : Charset → Content → List ℕ
+source_of charset c =
+    attributes_remark c.attrs ++ area_remark c.area ++ flat_map (group_statements charset) c.groups

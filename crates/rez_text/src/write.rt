@@ -14,6 +14,7 @@ ghost use Rattle.rez_text.specs.Printing.{area_remark, source_of};
 use byteorder::{BigEndian, ByteOrder};
 use fork_format::{Content, Group, Ref, RefName, kind_of};
 use itoa::Buffer;
+use mac_roman::{Charset, append_character};
 use mac_words::{Attrs, upper_digit};
 use std::alloc::{AllocError, Global};
 
@@ -58,14 +59,16 @@ fn is_printable(byte: u8) -> bool
     32 <= byte && byte <= 126
 }
 
-fn shown_as(byte: u8) -> u8
-    ensures { result ≡ shown byte }
+/// Appends a byte as it is shown.
+fn push_shown_byte(out: &mut Vec<u8>, charset: Charset, byte: u8) -> Result<(), AllocError>
+    ensures { OnOk result (out.new.items ≡ out.old.items ++ shown charset byte) }
 {
-    if is_printable(byte) && byte != b'*' {
-        byte
+    if charset.prints(byte) && byte != b'*' {
+        append_character(out, byte)?;
     } else {
-        b'.'
+        out.push(b'.')?;
     }
+    Ok(())
 }
 
 /// Appends blanks.
@@ -97,33 +100,33 @@ fn push_hex_column(out: &mut Vec<u8>, bytes: &[u8]) -> Result<(), AllocError>
 }
 
 /// Appends bytes as they are shown.
-fn push_shown(out: &mut Vec<u8>, bytes: &[u8]) -> Result<(), AllocError>
-    ensures { OnOk result (out.new.items ≡ out.old.items ++ map shown bytes.now) }
+fn push_shown(out: &mut Vec<u8>, charset: Charset, bytes: &[u8]) -> Result<(), AllocError>
+    ensures { OnOk result (out.new.items ≡ out.old.items ++ flat_map (shown charset) bytes.now) }
 {
     for byte in bytes {
-        out.push(shown_as(*byte))?;
+        push_shown_byte(out, charset, *byte)?;
     }
     Ok(())
 }
 
 /// Appends bytes as the text of a comment.
-fn push_text_column(out: &mut Vec<u8>, bytes: &[u8]) -> Result<(), AllocError>
-    ensures { OnOk result (out.new.items ≡ out.old.items ++ text_column bytes.now) }
+fn push_text_column(out: &mut Vec<u8>, charset: Charset, bytes: &[u8]) -> Result<(), AllocError>
+    ensures { OnOk result (out.new.items ≡ out.old.items ++ text_column charset bytes.now) }
 {
     out.extend_from_slice(b"/* ")?;
-    push_shown(out, bytes)?;
+    push_shown(out, charset, bytes)?;
     out.extend_from_slice(b" */\n")?;
     Ok(())
 }
 
 /// Appends a line of data.
-fn push_data_line(out: &mut Vec<u8>, bytes: &[u8]) -> Result<(), AllocError>
+fn push_data_line(out: &mut Vec<u8>, charset: Charset, bytes: &[u8]) -> Result<(), AllocError>
     requires { length bytes.now ≤ 16 }
-    ensures { OnOk result (out.new.items ≡ out.old.items ++ data_line bytes.now) }
+    ensures { OnOk result (out.new.items ≡ out.old.items ++ data_line charset bytes.now) }
 {
     push_hex_column(out, bytes)?;
     push_margin(out, bytes.len())?;
-    push_text_column(out, bytes)
+    push_text_column(out, charset, bytes)
 }
 
 /// Returns the first 16 bytes, or all that there are, and the bytes after them.
@@ -144,13 +147,13 @@ fn first_line(bytes: &[u8]) -> (&[u8], &[u8])
 }
 
 /// Appends the lines of a resource's data.
-fn push_data(out: &mut Vec<u8>, datum: &[u8]) -> Result<(), AllocError>
-    ensures { OnOk result (out.new.items ≡ out.old.items ++ data_lines (line_count datum.now) datum.now) }
+fn push_data(out: &mut Vec<u8>, charset: Charset, datum: &[u8]) -> Result<(), AllocError>
+    ensures { OnOk result (out.new.items ≡ out.old.items ++ data_lines charset (line_count datum.now) datum.now) }
 {
     let mut rest = datum;
     while !rest.is_empty() {
         let (line, more) = first_line(rest);
-        push_data_line(out, line)?;
+        push_data_line(out, charset, line)?;
         rest = more;
     }
     Ok(())
@@ -286,33 +289,38 @@ fn push_head(out: &mut Vec<u8>, kind: u32, r: &Ref<'_>) -> Result<(), AllocError
 }
 
 /// Appends a resource as a statement.
-fn push_statement(out: &mut Vec<u8>, kind: u32, r: &Ref<'_>) -> Result<(), AllocError>
-    ensures { OnOk result (out.new.items ≡ out.old.items ++ statement kind (view_ref r.now)) }
+fn push_statement(
+    out: &mut Vec<u8>,
+    charset: Charset,
+    kind: u32,
+    r: &Ref<'_>,
+) -> Result<(), AllocError>
+    ensures { OnOk result (out.new.items ≡ out.old.items ++ statement charset kind (view_ref r.now)) }
 {
     push_head(out, kind, r)?;
-    push_data(out, r.datum)?;
+    push_data(out, charset, r.datum)?;
     out.extend_from_slice(b"};\n\n")?;
     Ok(())
 }
 
 /// Appends the resources of a type.
-fn push_group(out: &mut Vec<u8>, group: &Group<'_>) -> Result<(), AllocError>
-    ensures { OnOk result (out.new.items ≡ out.old.items ++ group_statements (view_group group.now)) }
+fn push_group(out: &mut Vec<u8>, charset: Charset, group: &Group<'_>) -> Result<(), AllocError>
+    ensures { OnOk result (out.new.items ≡ out.old.items ++ group_statements charset (view_group group.now)) }
 {
     let kind = kind_of(group.ty);
     for r in &group.refs {
-        push_statement(out, kind, r)?;
+        push_statement(out, charset, kind, r)?;
     }
     Ok(())
 }
 
 /// Appends all resources.
-fn push_groups(out: &mut Vec<u8>, groups: &[Group<'_>]) -> Result<(), AllocError>
+fn push_groups(out: &mut Vec<u8>, charset: Charset, groups: &[Group<'_>]) -> Result<(), AllocError>
     ensures { OnOk result (out.new.items
-        ≡ out.old.items ++ flat_map group_statements (map view_group groups.now)) }
+        ≡ out.old.items ++ flat_map (group_statements charset) (map view_group groups.now)) }
 {
     for group in groups {
-        push_group(out, group)?;
+        push_group(out, charset, group)?;
     }
     Ok(())
 }
@@ -406,14 +414,20 @@ fn room_for(groups: &[Group<'_>]) -> usize {
 }
 
 /// Prints a content as source of Rez: a statement `data` for each resource, in order of types and resources. The
-/// attributes of the map and the 240 bytes after the header stand before them as comments, where they aren't 0.
+/// attributes of the map and the 240 bytes after the header stand before them as comments, where they aren't 0. Beside data
+/// stands a comment with the characters of its bytes: a period for a byte that isn't printed as a character
+/// (`Charset::prints`), and for an asterisk.
 #[tactic(auto, unfolding(crate::specs::Printing::source_of))]
-pub fn write_source(alloc: Global, content: &Content<'_>) -> Result<Vec<u8>, AllocError>
-    ensures { IfOk result (λ source. source.items ≡ source_of (view content.now)) }
+pub fn write_source(
+    alloc: Global,
+    charset: Charset,
+    content: &Content<'_>,
+) -> Result<Vec<u8>, AllocError>
+    ensures { IfOk result (λ source. source.items ≡ source_of charset (view content.now)) }
 {
     let mut out = Vec::with_capacity(alloc, room_for(content.groups.as_slice()))?;
     push_map_attributes(&mut out, content.attrs)?;
     push_area(&mut out, &content.area)?;
-    push_groups(&mut out, content.groups.as_slice())?;
+    push_groups(&mut out, charset, content.groups.as_slice())?;
     Ok(out)
 }

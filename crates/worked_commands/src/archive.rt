@@ -38,6 +38,14 @@ impl Command {
     }
 }
 
+/// Reports whether a path is that of a file in the folder of another path.
+fn is_below(path: &str, folder: &str) -> bool {
+    match path.strip_prefix(folder) {
+        Some(rest) => rest.starts_with("/"),
+        None => false,
+    }
+}
+
 /// Files, and commands that read the files.
 #[derive(Drop)]
 pub struct Archive {
@@ -51,16 +59,31 @@ impl Archive {
         part_of(&self.files, path)
     }
 
-    /// Reports whether the archive has a file of this path, or one in the folder of this path.
-    pub fn has(&self, path: &str) -> bool {
+    /// Reports whether the archive has a file in the folder of this path.
+    pub fn is_folder(&self, path: &str) -> bool {
         for file in &self.files {
-            if let Some(rest) = file.name.as_str().strip_prefix(path) {
-                if rest.is_empty() || rest.starts_with("/") {
-                    return true;
-                }
+            if is_below(file.name.as_str(), path) {
+                return true;
             }
         }
         false
+    }
+
+    /// Reports whether the archive has a file of this path, or one in the folder of this path.
+    pub fn has(&self, path: &str) -> bool {
+        self.file(path).is_some() || self.is_folder(path)
+    }
+
+    /// Returns the paths of the files in the folder of this path, in order.
+    pub fn files_below(&self, alloc: Global, path: &str) -> Result<Vec<String>, AllocError> {
+        let mut files = Vec::new(alloc);
+        for file in &self.files {
+            if is_below(file.name.as_str(), path) {
+                files.push(String::from_str(alloc, file.name.as_str())?)?;
+            }
+        }
+        files.sort()?;
+        Ok(files)
     }
 }
 

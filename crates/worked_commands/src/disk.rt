@@ -68,6 +68,18 @@ impl Host for Disk<'_> {
         }
     }
 
+    /// A folder is a path with which the path of a file begins, and a slash.
+    fn is_folder(&mut self, path: &str) -> bool {
+        self.archive.is_folder(path)
+    }
+
+    fn list(&mut self, alloc: Global, path: &str) -> Result<Vec<String>, ReadError> {
+        if !self.works("list", path)? {
+            return Err(ReadError::CannotRead);
+        }
+        Ok(self.archive.files_below(alloc, path)?)
+    }
+
     fn print(&mut self, bytes: &[u8]) -> Result<(), WriteError> {
         if !self.works("print", "-")? {
             return Err(WriteError::CannotWrite);

@@ -3,11 +3,19 @@ use Rattle.byteorder.specs.Endian.{big_number}
 use Rattle.fork_format.specs.View.{view}
 use Rattle.fork_edits.specs.Renaming.{refusal}
 use Rattle.fork_edits.specs.View.{view_renaming}
-use Rattle.fork_commands.proofs.Edits.{renamed_not}
+use Rattle.fork_commands.proofs.Edits.{renamed_there, renamed_not}
 use Rattle.fork_commands.proofs.editing.rename.Goals as goal
+
+pub returns-in-Ok-clause-made : goal.returns-in-Ok-clause-made
+returns-in-Ok-clause-made c =
+    let gets = view_renaming c.lent-gets.result in
+    renamed_there c.args.key c.args.new.now gets (view c.args.content.now) (view c.rename_resource.new.content)
+    c.lent-gets.ensures (search rules) (search rules)
 
 pub returns-in-Err-clause-fault : goal.returns-in-Err-clause-fault
 returns-in-Err-clause-fault c =
-    let why : refusal (big_number 4 c.args.key.ty.0) c.args.key.id (view_renaming c.args.new.now) (view c.args.content.now)
-    ≡ Some c.in-Err.fault = search rules in
-    renamed_not c.args.key c.args.new.now (view c.args.content.now) c.in-Err.fault c.of_rename.result why c.of_rename.ensures
+    let gets = view_renaming c.lent-gets.result in
+    let why : refusal (big_number 4 c.args.key.ty.0) c.args.key.id gets (view c.args.content.now) ≡ Some c.in-Err.fault =
+    search rules in
+    renamed_not c.args.key c.args.new.now gets (view c.args.content.now) c.in-Err.fault c.of_rename.result c.lent-gets.ensures why
+    c.of_rename.ensures

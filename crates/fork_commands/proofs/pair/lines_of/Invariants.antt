@@ -7,5 +7,5 @@ use Rattle.fork_commands.proofs.pair.lines_of.Given as goal
 -- the lines so far, with those of the differences to come, are all
 abbrev pub invariant-loop-difference : goal.invariant-loop-difference
 invariant-loop-difference l =
-    l.out.items ++ flat_map difference_line (map view_difference (drop l.difference-index l.found))
-    ≡ flat_map difference_line (map view_difference l.found)
+    l.out.items ++ flat_map (difference_line l.charset) (map view_difference (drop l.difference-index l.found))
+    ≡ flat_map (difference_line l.charset) (map view_difference l.found)

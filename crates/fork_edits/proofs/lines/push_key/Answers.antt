@@ -10,7 +10,7 @@ returns c =
     let out : List ℕ = c.args.text.now.items in
     let one : List ℕ = c.append_type.new.text.items in
     let two : List ℕ = c.push.new.self.items in
-    let a : List ℕ = type_text (big_number 4 c.args.ty.0) in
+    let a : List ℕ = type_text c.args.charset (big_number 4 c.args.ty.0) in
     let b : List ℕ = codes " " in
     put-two out two c.push_id.new.text.items (a ++ b) (signed_decimal c.args.id.now)
     (put-two out one two a b c.in_ok-append_type.ensures c.in_ok-push.ensures.items) c.in_ok-push_id.ensures

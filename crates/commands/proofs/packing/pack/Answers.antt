@@ -1,0 +1,34 @@
+use Rattle.std.proofs.Common.{◌≡◌, ◌∙◌, Err, rules, subst, map, sym}
+use Rattle.fork_edits.specs.View.{view_list}
+use Rattle.commands.specs.declared.fault.ToolFault.TheVariants.{HostMemory as NoMemory}
+use Rattle.commands.proofs.Accesses.{told_err, also_err}
+use Rattle.commands.proofs.Packed.{no_paths, files_unread, all_read, unfit, unwritten}
+use Rattle.commands.proofs.packing.pack.Goals as goal
+
+pub returns-in_err-paths-clause-stopped : goal.returns-in_err-paths-clause-stopped
+returns-in_err-paths-clause-stopped g c =
+    let said = c.in_ok-list.ensures.list in
+    let same : c.from_residual-in_err-paths.result ≡ Err NoMemory = search rules in
+    told_err _ _ NoMemory same (no_paths c.args.packing said.0 (view_list c.in_ok-list.list) _ _ said.1 said.2)
+
+pub returns-in_err-files-clause-stopped : goal.returns-in_err-files-clause-stopped
+returns-in_err-files-clause-stopped g c =
+    let said = c.in_ok-list.ensures.list in
+    let same : c.from_residual-in_err-files.result ≡ Err c.in_err-files.field-0.0 = search rules in
+    let stops = c.in_err-files.ensures.stopped in
+    told_err _ _ _ same (files_unread c.args.packing said.0 (view_list c.in_ok-list.list) _ stops.0 _ _ _ _ said.1 said.2 (search rules) stops.1)
+
+pub returns-in_err-fork-clause-stopped : goal.returns-in_err-fork-clause-stopped
+returns-in_err-fork-clause-stopped g c =
+    let said = c.in_ok-list.ensures.list in
+    let same : c.from_residual-in_err-fork.result ≡ Err c.in_err-fork.field-0.0 = search rules in
+    told_err _ _ _ same (unfit c.args.packing said.0 (view_list c.in_ok-list.list) _ _ _ _ _ said.1
+    (all_read c.args.packing said.0 (view_list c.in_ok-list.list) _ _ _ _ _ said.2 (search rules) c.in_ok-files.ensures.read) (search rules)
+    c.in_err-fork.ensures.fault)
+
+pub returns-clause-stopped : goal.returns-clause-stopped
+returns-clause-stopped g c =
+    let said = c.in_ok-list.ensures.list in
+    also_err _ _ c.deliver.result (λ fault h. unwritten c.args.packing said.0 (view_list c.in_ok-list.list) _ _ _ _ _ _ _ _ said.1
+    (all_read c.args.packing said.0 (view_list c.in_ok-list.list) _ _ _ _ _ said.2 (search rules) c.in_ok-files.ensures.read) (search rules)
+    c.in_ok-fork.ensures.made (search rules) h.1) c.deliver.ensures.undelivered

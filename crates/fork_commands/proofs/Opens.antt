@@ -1,0 +1,107 @@
+use Rattle.std.proofs.Common.{◌≡◌, ℕ, Bool, true, false, cond, List, Option, Some, None, Result, Ok, Err, refl, sym, ap, ◌∙◌, subst}
+use Rattle.bin_hex.specs.BinHex.{decoded}
+use Rattle.bin_hex.specs.File.{File}
+use Rattle.bin_hex.specs.declared.fault.Damage.{Damage}
+use Rattle.fork_format.specs.Fork.{is_fork}
+use Rattle.fork_wrappers.specs.Unwrapped.{wrapping_of, unwrapped, fork_in as fork_wrapped}
+use Rattle.fork_wrappers.specs.declared.fault.WrapFault.{WrapFault}
+use Rattle.fork_wrappers.specs.declared.wrapping.Wrapping.{Wrapping}
+use Rattle.fork_wrappers.specs.declared.wrapping.Wrapping.TheVariants as wrapping
+use Rattle.fork_commands.specs.declared.fault.FileFault.{FileFault}
+use Rattle.fork_commands.specs.declared.fault.FileFault.TheVariants as fault
+use Rattle.fork_commands.specs.declared.fault.WorkFault.{WorkFault}
+use Rattle.fork_commands.specs.declared.fault.WorkFault.TheVariants.{File as FileAt, HostMemory}
+use Rattle.fork_commands.specs.Faults.{made_then, Stops}
+use Rattle.fork_commands.specs.Reading.{fork_found, fork_within, fork_in, content_of_fork, content_in}
+use Rattle.fork_commands.specs.Opening.{is_unwrapped, is_encoded, opened, decoded_or_fault, container_of}
+use Rattle.fork_commands.specs.declared.opening.Container.TheVariants as container
+
+-- What the bytes of a file stand for.
+
+-- only a wrapper is damaged
+damaged : (how : Wrapping) (bytes : List ℕ) (why : WrapFault) → fork_wrapped how bytes ≡ Err why → is_unwrapped how ≡ false
+damaged wrapping.Plain bytes why is = cc
+damaged _ bytes why is = refl
+
+pub damaged_wrapper : (bytes : List ℕ) (why : WrapFault) → unwrapped bytes ≡ Err why
+    → is_unwrapped (wrapping_of bytes) ≡ false
+damaged_wrapper bytes why is = damaged (wrapping_of bytes) bytes why is
+
+-- what an encoded file stands for
+pub encoded_there : (bytes : List ℕ) (file : File) → is_encoded bytes ≡ true → decoded bytes ≡ Ok file
+    → opened bytes ≡ Ok (Some file)
+unfolding opened
+encoded_there bytes file is has = rw is (rw has refl)
+
+-- how it is damaged
+pub encoded_damaged : (bytes : List ℕ) (damage : Damage) → is_encoded bytes ≡ true → decoded bytes ≡ Err damage
+    → opened bytes ≡ Err (fault.BinHex damage)
+unfolding opened
+encoded_damaged bytes damage is has = rw is (rw has refl)
+
+-- a file that is not encoded
+pub plain_there : (bytes : List ℕ) → is_encoded bytes ≡ false → opened bytes ≡ Ok None
+unfolding opened
+plain_there bytes is = rw is refl
+
+-- the fork in a file that stands for itself
+pub plain_fork : (bytes : List ℕ) (found : Result (List ℕ) FileFault) → opened bytes ≡ Ok None
+    → fork_found (unwrapped bytes) ≡ found → fork_in bytes ≡ found
+unfolding fork_in
+plain_fork bytes found is has = rw is has
+
+-- the fork in what a file stands for
+pub decoded_fork : (bytes : List ℕ) (file : File) → opened bytes ≡ Ok (Some file) → fork_in bytes ≡ Ok file.resource_fork
+unfolding fork_in
+decoded_fork bytes file is = rw is refl
+
+-- whether a file is encoded is known by what it stands for
+not_encoded : (encoded : Bool) (file : Result File Damage) → cond encoded (decoded_or_fault file) (Ok None) ≡ Ok None
+    → encoded ≡ false
+not_encoded false file is = refl
+not_encoded true (Ok file) is = cc
+not_encoded true (Err damage) is = cc
+
+pub has_encoded : (encoded : Bool) (read : Result File Damage) (file : File)
+    → cond encoded (decoded_or_fault read) (Ok None) ≡ Ok (Some file) → encoded ≡ true
+has_encoded false read file is = cc
+has_encoded true read file is = refl
+
+pub plain_container : (bytes : List ℕ) → opened bytes ≡ Ok None
+    → container_of bytes ≡ container.Wrapped (wrapping_of bytes)
+unfolding opened container_of
+plain_container bytes is = rw (not_encoded (is_encoded bytes) (decoded bytes) is) refl
+
+pub decoded_container : (bytes : List ℕ) (file : File) → opened bytes ≡ Ok (Some file)
+    → container_of bytes ≡ container.BinHex
+unfolding opened container_of
+decoded_container bytes file is = rw (has_encoded (is_encoded bytes) (decoded bytes) file is) refl
+
+-- why there is no fork, and no content, in a BinHex file that is damaged
+pub no_fork_in : (bytes : List ℕ) (damage : Damage) → is_encoded bytes ≡ true → decoded bytes ≡ Err damage
+    → fork_in bytes ≡ Err (fault.BinHex damage)
+unfolding fork_in
+no_fork_in bytes damage is has = ap (λ read. made_then read (fork_within bytes)) (encoded_damaged bytes damage is has)
+
+pub no_content_in : (bytes : List ℕ) (damage : Damage) → is_encoded bytes ≡ true → decoded bytes ≡ Err damage
+    → content_in bytes ≡ Err (fault.BinHex damage)
+no_content_in bytes damage is has = ap (λ fork. made_then fork content_of_fork) (no_fork_in bytes damage is has)
+
+-- why there is no fork in a file that is not opened
+pub no_fork : (bytes : List ℕ) (fault : WorkFault) → Stops fault (opened bytes) → Stops fault (fork_in bytes)
+unfolding fork_in
+no_fork bytes HostMemory stops = tt
+no_fork bytes (FileAt fault) stops = rw stops refl
+
+-- why it has no content
+pub no_content : (bytes : List ℕ) (fault : WorkFault) → Stops fault (opened bytes) → Stops fault (content_in bytes)
+unfolding fork_in
+no_content bytes HostMemory stops = tt
+no_content bytes (FileAt fault) stops = rw stops refl
+
+-- a fork is its own file
+pub bare_fork : (bytes : List ℕ) → is_fork bytes ≡ true → fork_in bytes ≡ Ok bytes
+unfolding is_encoded
+bare_fork bytes is =
+    let plain : wrapping_of bytes ≡ wrapping.Plain = rw is refl in
+    plain_fork bytes (Ok bytes) (plain_there bytes (rw (plain, is) refl)) (rw plain refl)

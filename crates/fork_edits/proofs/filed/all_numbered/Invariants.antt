@@ -1,0 +1,9 @@
+use Rattle.std.proofs.Common.{◌≡◌, ◌++◌, ◌+◌, drop, map}
+use Rattle.fork_edits.specs.Filed.{numbered_from}
+use Rattle.fork_edits.specs.View.{view_row, view_filed}
+use Rattle.fork_edits.proofs.filed.all_numbered.Given as goal
+
+-- the files so far, with those of the resources to come, are all
+abbrev pub invariant-loop-i : goal.invariant-loop-i
+invariant-loop-i l = map view_filed l.files.items ++ numbered_from (l.i + 1) (map view_row (drop l.i l.rows))
+    ≡ numbered_from 1 (map view_row l.rows)

@@ -1,0 +1,8 @@
+use Rattle.std.proofs.Common.{◌≡◌, ◌++◌, drop}
+use Rattle.std.specs.List.{flat_map}
+use Rattle.mac_roman.specs.Charset.{character}
+use Rattle.fork_edits.proofs.texts.push_characters.Given as goal
+
+abbrev pub invariant-loop-byte : goal.invariant-loop-byte
+invariant-loop-byte l =
+    l.text.items ++ flat_map character (drop l.byte-index l.bytes) ≡ l.fn.text.items ++ flat_map character l.bytes
