@@ -5,7 +5,7 @@ use Rattle.byteorder.specs.Endian.{big_bytes}
 use Rattle.script_text.specs.Transcript.{hex}
 use Rattle.fork_format.specs.Content.{Ref, Group, Content, refs_of}
 use Rattle.fork_edits.specs.Texts.{type_text, name_text}
-use Rattle.fork_edits.specs.Attributes.{compressed_text}
+use Rattle.fork_edits.specs.Lines.{compressed_text}
 use Rattle.commands.specs.declared.listing.Spelling.{Spelling}
 use Rattle.commands.specs.declared.listing.Spelling.TheVariants.{Digits, Readable}
 

@@ -1,7 +1,8 @@
 //! From the words of the command line to what is printed or written: the words name a task, whose file is read and
-//! whose bytes are worked on, for a job to be run or shown, for something to be made of one file or of two, or for the
-//! resources of a fork to be written. Between the words and the host stand only `tasks::do_task`, `running::run_job`,
-//! `job_zones::show_in_job`, `converting::convert`, `combining::combine` and `extracting::extract`.
+//! whose bytes are worked on, a survey of several files, or a job to be run or shown; or something is made of one file or
+//! of two, what is in a file is written into a folder, or a folder is packed into a fork. Between the words and the host
+//! stand only `tasks::do_task`, `surveying::print_survey`, `running::run_job`, `job_zones::show_in_job`,
+//! `converting::convert`, `combining::combine`, `extracting::extract` and `packing::pack`.
 
 ghost use Rattle.std.specs.Prelude.{◌≡◌, map, IfErr, IfOk};
 ghost use Rattle.commands.specs.declared.request.Request.{Request};

@@ -1,6 +1,6 @@
 //! The words of the commands that make something of resource forks.
 
-ghost use Rattle.std.specs.Prelude.{IfErr};
+ghost use Rattle.std.specs.Prelude.{IfErr, IfOk};
 ghost use Rattle.commands.specs.Fault.{message_of, IsUsage};
 
 use crate::combining::Combination;

@@ -140,6 +140,18 @@ fn push_remark(text: &mut Vec<u8>, spelling: Spelling, attrs: Attrs) -> Result<(
     }
 }
 
+/// Appends the end of the line of a resource, after its numbers.
+fn push_ending(text: &mut Vec<u8>, spelling: Spelling, resource: &Ref<'_>) -> Result<(), AllocError>
+    ensures { OnOk result (text.new.items ≡ text.old.items ++ (codes " "
+        ++ name_listed spelling (view_ref resource.now).name
+        ++ remark_listed spelling (view_ref resource.now).attrs ++ codes "\n")) }
+{
+    text.extend_from_slice(b" ")?;
+    push_name(text, spelling, &resource.name)?;
+    push_remark(text, spelling, resource.attrs)?;
+    text.extend_from_slice(b"\n")
+}
+
 /// Appends the line of a resource of a type.
 fn push_resource(
     text: &mut Vec<u8>,
@@ -152,10 +164,7 @@ fn push_resource(
 {
     push_type(text, spelling, ty)?;
     push_numbers(text, resource)?;
-    text.extend_from_slice(b" ")?;
-    push_name(text, spelling, &resource.name)?;
-    push_remark(text, spelling, resource.attrs)?;
-    text.extend_from_slice(b"\n")
+    push_ending(text, spelling, resource)
 }
 
 /// Returns the number of resources.

@@ -108,11 +108,7 @@ fn read_list<H: Host>(
 ///
 /// The list, or a file that it names, can't be read; the list is at fault; the fork is too large; or it can't be written, or not
 /// to its end.
-pub fn pack<H: Host>(
-    alloc: Global,
-    host: &mut H,
-    packing: Packing<'_>,
-) -> Result<(), ToolFault>
+pub fn pack<H: Host>(alloc: Global, host: &mut H, packing: Packing<'_>) -> Result<(), ToolFault>
     // Nothing is printed.
     ensures silent { H.printed host.new ≡ H.printed host.old }
 
@@ -127,10 +123,5 @@ pub fn pack<H: Host>(
     let paths = listed_paths(alloc, packing.folder, &list)?;
     let files = read_files(alloc, host, paths.as_slice())?;
     let fork = fork_at(alloc, packing.folder, &list, files.as_slice())?;
-    deliver(
-        alloc,
-        host,
-        Target::NewFile(packing.out),
-        fork.as_slice(),
-    )
+    deliver(alloc, host, Target::NewFile(packing.out), fork.as_slice())
 }

@@ -158,7 +158,6 @@ fn fork_form(alloc: Global, fork: &[u8]) -> Result<Form, WorkFault>
 }
 
 /// Returns the form of the resource fork in a file that was opened.
-#[tactic(auto, using(fork_commands::proofs::Contents::stopped_there))]
 fn form_in(alloc: Global, file: &OpenFile<'_>) -> Result<Form, WorkFault>
     requires { IsOpen file.now }
     ensures form { IfOk result (λ form. IsFormOf (bytes_of file.now) form) }

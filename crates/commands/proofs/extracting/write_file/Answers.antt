@@ -10,12 +10,12 @@ use Rattle.commands.proofs.extracting.write_file.Goals as goal
 pub returns-in_err-unwritten-in-Err-clause-stopped : goal.returns-in_err-unwritten-in-Err-clause-stopped
 returns-in_err-unwritten-in-Err-clause-stopped g c =
     let same : c.from_residual.result ≡ Err HostMemory = search rules in
-    told_err _ _ _ same (not_reported (view_file c.args.file.now) c.as_str.result.now c.args.file.now.datum.now
+    told_err _ _ _ same (not_reported (view_file c.args.file.now) c.as_str.result.now c.as_slice.result.now
     c.in-Err.error _ _ c.in-Err.ensures.front (search rules) (search rules))
 
 pub returns-in_ok-unwritten-in-Err-clause-stopped : goal.returns-in_ok-unwritten-in-Err-clause-stopped
 returns-in_ok-unwritten-in-Err-clause-stopped g c =
     let path : c.as_str-in-Err.result.now ≡ (view_file c.args.file.now).path = search rules in
-    not_written (view_file c.args.file.now) c.as_str.result.now c.args.file.now.datum.now c.in-Err.error _ _ _
+    not_written (view_file c.args.file.now) c.as_str.result.now c.as_slice.result.now c.in-Err.error _ _ _
     c.in-Err.ensures.front (search rules) (search rules)
     (c.in_ok-unwritten-in-Err.ensures ∙ ap (λ p. write_message p c.in-Err.error) path)
