@@ -17,15 +17,15 @@ use Rattle.fork_edits.proofs.Repacking.{packed_again}
 use Rattle.fork_edits.proofs.Wording.{all_joined}
 
 -- the limits of a resource and its type
-record IsStated (x : Row) : Type 0 where
-  kind : x.kind < 2 ^ 32
-  ref : IsRef x.resource
+pub record IsStated (x : Row) : Type 0 where
+  pub kind : x.kind < 2 ^ 32
+  pub ref : IsRef x.resource
 
 refs_stated : (k : ℕ) (refs : List Ref) → k < 2 ^ 32 → AllByRecursion IsRef refs → AllByRecursion IsStated (map (row k) refs)
 refs_stated k [] low h = tt
 refs_stated k (r ∷ refs) low h = (record { kind = low; ref = h.0 }, refs_stated k refs low h.1)
 
-rows_stated : (groups : List Group) → AllByRecursion IsGroup groups → AllByRecursion IsStated (rows groups)
+pub rows_stated : (groups : List Group) → AllByRecursion IsGroup groups → AllByRecursion IsStated (rows groups)
 rows_stated [] h = tt
 rows_stated (g ∷ groups) h =
     all_joined IsStated (group_rows g) (rows groups) (refs_stated g.kind g.refs h.0.kind h.0.refs) (rows_stated groups h.1)

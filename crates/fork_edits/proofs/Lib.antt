@@ -22,4 +22,5 @@ mod Filing
 mod Relisting
 mod Extracting
 mod Listable
+mod Folders
 mod Lining

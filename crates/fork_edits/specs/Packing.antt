@@ -1,4 +1,4 @@
-use Rattle.std.specs.Prelude.{◌≡◌, ◌<◌, ◌^◌, ℕ, true, List, [], ◌∷◌, IfSome, length, map}
+use Rattle.std.specs.Prelude.{◌≡◌, ◌<◌, ◌^◌, ℕ, true, List, [], ◌∷◌, IfSome, bytes_eq, if◌then◌else◌, length, map}
 use Rattle.std.specs.List.{AllByRecursion, list_all}
 use Rattle.fork_format.specs.Canonical.{are_distinct, has_refs}
 use Rattle.fork_format.specs.Content.{Content, Group, IsContent}
@@ -30,6 +30,11 @@ named_files folder l = map (λ (e : Entry). folder e.file) l.entries
 -- The folder has the files to which resources are written: under each name the stored data of the resource.
 abbrev pub HasFiles : (List ℕ → List ℕ) → List Filed → Type 0
 HasFiles folder files = AllByRecursion (λ (f : Filed). folder f.file ≡ f.row.resource.datum) files
+
+-- The bytes of a file in a folder in which the files of resources were written; none where no file has the name.
+abbrev pub file_bytes : List Filed → List ℕ → List ℕ
+file_bytes [] name = []
+file_bytes (f ∷ files) name = if bytes_eq f.file name then f.row.resource.datum else file_bytes files name
 
 -- The name of a resource, if it has one, is bytes.
 abbrev pub HasByteName : Row → Type 0

@@ -15,9 +15,9 @@ ghost use Rattle.fork_edits.specs.Renaming.{Renaming, renamed, row_renamed, with
 ghost use Rattle.fork_edits.specs.Merging.{both, with_both, or_other, clash};
 ghost use Rattle.fork_edits.specs.Contents.{Listed, listed, contents_text};
 ghost use Rattle.fork_edits.specs.FileNames.{file_name};
-ghost use Rattle.fork_edits.specs.Filed.{filed};
+ghost use Rattle.fork_edits.specs.Filed.{filed, AreApart};
 ghost use Rattle.fork_edits.specs.Listing.{contents_read};
-ghost use Rattle.fork_edits.specs.Packing.{packed_content, named_files, HasFiles, IsListable};
+ghost use Rattle.fork_edits.specs.Packing.{packed_content, named_files, file_bytes, HasFiles, IsListable};
 ghost use Rattle.fork_edits.specs.FixedNames.{fixed_name};
 ghost use Rattle.fork_edits.specs.Twins.{twin};
 ghost use Rattle.fork_edits.specs.Types.{type_read};
@@ -134,6 +134,11 @@ pub fn file_names_are_apart()
         → str_to_ascii_lowercase (file_name m x) ≡ str_to_ascii_lowercase (file_name n y) → m ≡ n }
 {}
 
+/// States that no two files of the resources of a content have one name, also where letters in either case are taken for the same.
+pub fn files_are_apart()
+    ensures { (c : Content) → IsListable c → AreApart (filed (rows c.groups)) }
+{}
+
 /// States that names and types of ASCII are taken as they are.
 pub fn ascii_words_are_taken_as_they_are()
     ensures names { (text : List ℕ) → AllByRecursion (λ b. b < 128) text → length text ≤ 255 → name_read text ≡ Ok text }
@@ -150,6 +155,9 @@ pub fn a_content_is_packed_again()
 
     // The list says what it is written for.
     ensures list { (c : Content) → IsListable c → contents_read (contents_text c) ≡ Ok (listed c (filed (rows c.groups))) }
+
+    // A folder in which its files are written has them.
+    ensures folder { (c : Content) → IsListable c → HasFiles (file_bytes (filed (rows c.groups))) (filed (rows c.groups)) }
 
     // What the list states, with the files that it names, is the content.
     ensures content { (c : Content) (folder : List ℕ → List ℕ) (l : Listed) → IsListable c
