@@ -1,4 +1,4 @@
-use Rattle.std.proofs.Common.{◌≡◌, ℕ, Bool, true, false, cond, List, Option, Some, None, Result, Ok, Err, refl, sym, ap, ◌∙◌, subst}
+use Rattle.std.proofs.Common.{◌≡◌, ℕ, Bool, true, false, cond, List, Some, None, Result, Ok, Err, refl, ap}
 use Rattle.bin_hex.specs.BinHex.{decoded}
 use Rattle.bin_hex.specs.File.{File}
 use Rattle.bin_hex.specs.declared.fault.Damage.{Damage}
