@@ -1,9 +1,7 @@
-use Rattle.std.proofs.Common.{◌≡◌, ℕ, Bool, true, false, not, ◌&&◌, cond, List, Option, Some, None, Result, Ok, Err, refl, ap, sym, subst, ◌∙◌}
-use Rattle.std.proofs.lemmas.Bool.{and_left}
+use Rattle.std.proofs.Common.{◌≡◌, ℕ, Bool, true, false, cond, List, Some, None, Result, Ok, Err, refl, ap, sym, subst, ◌∙◌}
 use Rattle.bin_hex.specs.BinHex.{decoded}
 use Rattle.bin_hex.specs.File.{File, AreBytes}
 use Rattle.bin_hex.specs.Putting.{with_resource_fork, with_fork}
-use Rattle.bin_hex.specs.Text.{is_bin_hex}
 use Rattle.bin_hex.specs.declared.fault.Damage.{Damage}
 use Rattle.bin_hex.specs.declared.fault.PutFault.{PutFault}
 use Rattle.bin_hex.specs.declared.fault.PutFault.TheVariants as put_fault
@@ -12,29 +10,32 @@ use Rattle.fork_format.specs.Fork.{is_fork}
 use Rattle.fork_wrappers.specs.Rewrapped.{rewrapped}
 use Rattle.fork_wrappers.specs.Unwrapped.{wrapping_of, unwrapped, fork_in as fork_wrapped}
 use Rattle.fork_wrappers.specs.declared.fault.RewrapFault.{RewrapFault}
+use Rattle.fork_wrappers.specs.declared.fault.RewrapFault.TheVariants as rewrap_fault
 use Rattle.fork_wrappers.specs.declared.wrapping.Wrapping.{Wrapping}
 use Rattle.fork_wrappers.specs.declared.wrapping.Wrapping.TheVariants as wrapping
-use Rattle.fork_wrappers.proofs.Rewraps.{wrapped_alike, found_rewrapped}
-use Rattle.fork_commands.specs.declared.fault.FileFault.{FileFault}
+use Rattle.fork_wrappers.proofs.Rewraps.{found_rewrapped}
+use Rattle.fork_commands.specs.declared.fault.FileFault.TheVariants.{Unfit}
 use Rattle.fork_commands.specs.declared.packaging.Packaging.TheVariants.{AsRead}
 use Rattle.fork_commands.specs.Opening.{is_unwrapped, is_encoded, opened, decoded_or_fault}
-use Rattle.fork_commands.specs.Packaging.{packed, wrapped_or_fault, put_or_fault, recognized}
+use Rattle.fork_commands.specs.Packaging.{packed, wrapped_or_fault, put_or_fault}
 use Rattle.fork_commands.specs.Reading.{fork_found, fork_in}
 use Rattle.fork_commands.proofs.Opens.{encoded_there, plain_there, plain_fork, decoded_fork, bare_fork, has_encoded}
 use Rattle.fork_commands.proofs.Wrappers.{packed_encoded, packed_wrapped}
 
 -- A fork that was put into a file is found in it.
 
+-- a file that is taken for a BinHex file is one
+was_recognized : (t : Bool) (file new : List ℕ) (made : Result (List ℕ) PutFault) → is_encoded file ≡ t → made ≡ Ok file
+    → cond t (Ok file) (Err (Unfit rewrap_fault.Unrecognized)) ≡ Ok new → (made ≡ Ok new) × (is_encoded new ≡ true)
+was_recognized true file new made encoded put is =
+    let same : file ≡ new = cc in
+    (put ∙ ap Ok same, subst (λ xs. is_encoded xs ≡ true) same encoded)
+was_recognized false file new made other put is = cc
+
 -- what was made of a BinHex file is one
 was_put : (put : Result (List ℕ) PutFault) (new : List ℕ) → put_or_fault put ≡ Ok new
     → (put ≡ Ok new) × (is_encoded new ≡ true)
-was_put (Ok file) new is = judged (is_encoded file) refl
-  where
-    judged : (t : Bool) → is_encoded file ≡ t → (Ok file ≡ Ok new) × (is_encoded new ≡ true)
-    judged true encoded =
-        let found : Ok file ≡ Ok new = sym (ap (λ t. cond t (Ok file) (Err _)) encoded) ∙ is in
-        (found, subst (λ xs. is_encoded xs ≡ true) (let e : file ≡ new = cc in e) encoded)
-    judged false other = let bad = sym (ap (λ t. cond t (Ok file) (Err _)) other) ∙ is in cc
+was_put (Ok file) new is = was_recognized (is_encoded file) file new (Ok file) refl refl is
 was_put (Err (put_fault.Damaged damage)) new is = cc
 was_put (Err put_fault.TooLong) new is = cc
 was_put (Err put_fault.HostMemory) new is = cc

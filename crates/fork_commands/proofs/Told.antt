@@ -1,4 +1,4 @@
-use Rattle.std.proofs.Common.{◌≡◌, ℕ, List, Option, Some, None, Result, Ok, Err, refl, sym, ap, ◌∙◌}
+use Rattle.std.proofs.Common.{◌≡◌, ℕ, List, Option, Some, None, Ok, Err, refl, sym, ap, ◌∙◌}
 use Rattle.bin_hex.specs.File.{File}
 use Rattle.fork_wrappers.specs.Info.{Info, info_of, data_fork_in}
 use Rattle.fork_wrappers.specs.declared.fault.WrapFault.{WrapFault}
@@ -6,7 +6,6 @@ use Rattle.fork_commands.specs.declared.fault.FileFault.{FileFault}
 use Rattle.fork_commands.specs.declared.fault.FileFault.TheVariants.{Wrapper}
 use Rattle.fork_commands.specs.declared.opening.Container.TheVariants as container
 use Rattle.fork_commands.specs.Extracting.{ToWrite}
-use Rattle.fork_commands.specs.Faults.{made_then}
 use Rattle.fork_commands.specs.Info.{decoded_info, info_lines, info_within, info_text}
 use Rattle.fork_commands.specs.Opening.{opened}
 use Rattle.fork_commands.specs.Parts.{data_found, data_in, part_files, parted}

@@ -1,4 +1,4 @@
-use Rattle.std.proofs.Common.{◌≡◌, ℕ, Bool, true, false, cond, List, Result, Ok, Err, refl, ap, sym, subst, ◌∙◌}
+use Rattle.std.proofs.Common.{◌≡◌, ℕ, true, false, cond, List, Result, Ok, Err, refl, ap, sym, subst, ◌∙◌}
 use Rattle.bin_hex.specs.Putting.{with_resource_fork, Prevents}
 use Rattle.bin_hex.specs.declared.fault.PutFault.{PutFault}
 use Rattle.bin_hex.specs.declared.fault.PutFault.TheVariants as put_fault

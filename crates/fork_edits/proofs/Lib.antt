@@ -14,4 +14,13 @@ pub mod Taking
 pub mod Vectors
 pub mod Words
 mod Spelling
+mod Decimals
+mod Wording
+mod Quoting
+mod Repacking
+mod Filing
+mod Relisting
+mod Extracting
+mod Listable
+mod Folders
 mod Lining

@@ -1,6 +1,6 @@
 -- A line that can't be read ends the reading of a list.
 use Rattle.std.proofs.Common.{◌≡◌, ℕ, ◌+◌, ◌<◌, List, ◌∷◌, Result, map, length, drop, get_or, sym, ap, subst, ◌∙◌}
-use Rattle.std.specs.Prelude.{Bor}
+use Rattle.std.specs.Borrow.{Bor}
 use Rattle.std.proofs.lemmas.List.{drop_more}
 use Rattle.fork_edits.specs.declared.entries.LineFault.{LineFault}
 use Rattle.fork_edits.specs.declared.entries.LineStop.{LineStop}

@@ -66,7 +66,7 @@ digits-decimal n small = decimal_by_steps (λ m ds. IsDigits ds) one more n smal
     more : (m : ℕ) (ds : List ℕ) → 10 ≤ m → IsDigits ds → IsDigits (ds ++ (48 + m % 10) ∷ [])
     more m ds h e = digits-append ds ((48 + m % 10) ∷ []) e (omega arith, omega arith, tt)
 
-digits-place : (n : ℕ) → n < 2 ^ 64 → IsDigits (place_text n)
+pub digits-place : (n : ℕ) → n < 2 ^ 64 → IsDigits (place_text n)
 digits-place n small = digits-append (replicate (4 - length (decimal n)) 48) (decimal n)
     (digits-zeros (4 - length (decimal n))) (digits-decimal n small)
 

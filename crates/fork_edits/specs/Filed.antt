@@ -1,4 +1,6 @@
-use Rattle.std.specs.Prelude.{ℕ, ◌+◌, Bool, is_some, List, [], ◌∷◌, map, if◌then◌else◌}
+use Rattle.std.specs.Prelude.{◌≢◌, ℕ, ◌+◌, Bool, is_some, List, [], ◌∷◌, map, if◌then◌else◌}
+use Rattle.std.specs.List.{AllByRecursion}
+use Rattle.std.specs.Str.{str_to_ascii_lowercase}
 use Rattle.fork_edits.specs.FileNames.{file_name}
 use Rattle.fork_edits.specs.FixedNames.{fixed_name}
 use Rattle.fork_edits.specs.Resources.{Row}
@@ -31,3 +33,11 @@ filed_by numbered xs = if numbered then numbered_from 1 xs else map filed_fixed 
 -- By type and ID, unless two of them have one type and ID: then all by number.
 abbrev pub filed : List Row → List Filed
 filed xs = filed_by (is_some (twin xs)) xs
+
+-- No file has the name of another one, also where letters in either case are taken for the same.
+abbrev pub HasNoName : Filed → List Filed → Type 0
+HasNoName f files = AllByRecursion (λ (g : Filed). str_to_ascii_lowercase f.file ≢ str_to_ascii_lowercase g.file) files
+
+abbrev pub AreApart : List Filed → Type 0
+AreApart [] = Unit {0}
+AreApart (f ∷ files) = HasNoName f files × AreApart files

@@ -5,14 +5,19 @@ ghost use Rattle.std.specs.Prelude.{◌≡◌, ◌≢◌, ◌<◌, ◌≤◌, �
 ghost use Rattle.std.specs.List.{AllByRecursion, filter, list_all};
 ghost use Rattle.std.specs.Int.{w16};
 ghost use Rattle.std.specs.Str.{str_to_ascii_lowercase};
-ghost use Rattle.fork_format.specs.Canonical.{has_refs};
+ghost use Rattle.fork_format.specs.Canonical.{canon, has_refs};
 ghost use Rattle.fork_format.specs.Content.{Ref, Group, Content, distinct};
+ghost use Rattle.fork_format.specs.Fork.{Spells};
 ghost use Rattle.fork_edits.specs.Resources.{Row, rows, is_at, found, others};
 ghost use Rattle.fork_edits.specs.Setting.{Change, first_changed, row_changed, with_resource, resource_set};
 ghost use Rattle.fork_edits.specs.Removing.{without_resource};
 ghost use Rattle.fork_edits.specs.Renaming.{Renaming, renamed, row_renamed, with_renamed, refusal};
 ghost use Rattle.fork_edits.specs.Merging.{both, with_both, or_other, clash};
+ghost use Rattle.fork_edits.specs.Contents.{Listed, listed, contents_text};
 ghost use Rattle.fork_edits.specs.FileNames.{file_name};
+ghost use Rattle.fork_edits.specs.Filed.{filed, AreApart};
+ghost use Rattle.fork_edits.specs.Listing.{contents_read};
+ghost use Rattle.fork_edits.specs.Packing.{packed_content, named_files, file_bytes, HasFiles, IsListable};
 ghost use Rattle.fork_edits.specs.FixedNames.{fixed_name};
 ghost use Rattle.fork_edits.specs.Twins.{twin};
 ghost use Rattle.fork_edits.specs.Types.{type_read};
@@ -129,9 +134,38 @@ pub fn file_names_are_apart()
         → str_to_ascii_lowercase (file_name m x) ≡ str_to_ascii_lowercase (file_name n y) → m ≡ n }
 {}
 
+/// States that no two files of the resources of a content have one name, also where letters in either case are taken for the same.
+pub fn files_are_apart()
+    ensures { (c : Content) → IsListable c → AreApart (filed (rows c.groups)) }
+{}
+
 /// States that names and types of ASCII are taken as they are.
 pub fn ascii_words_are_taken_as_they_are()
     ensures names { (text : List ℕ) → AllByRecursion (λ b. b < 128) text → length text ≤ 255 → name_read text ≡ Ok text }
     ensures types { (text : List ℕ) → AllByRecursion (λ b. b < 128) text
         → type_text_read text ≡ some_type (type_read text) }
+{}
+
+/// States that a content is packed again from what is written for it: the list of what it holds and the files of its resources.
+///
+/// *More Macintosh Toolbox*, chapter 1, "Resource Files".
+pub fn a_content_is_packed_again()
+    // What bytes spell can be listed.
+    ensures spelled { (bytes : List ℕ) (c : Content) → AllByRecursion (λ b. b < 256) bytes → Spells bytes c → IsListable c }
+
+    // The list says what it is written for.
+    ensures list { (c : Content) → IsListable c → contents_read (contents_text c) ≡ Ok (listed c (filed (rows c.groups))) }
+
+    // A folder in which its files are written has them.
+    ensures folder { (c : Content) → IsListable c → HasFiles (file_bytes (filed (rows c.groups))) (filed (rows c.groups)) }
+
+    // What the list states, with the files that it names, is the content.
+    ensures content { (c : Content) (folder : List ℕ → List ℕ) (l : Listed) → IsListable c
+        → HasFiles folder (filed (rows c.groups)) → contents_read (contents_text c) ≡ Ok l
+        → packed_content l (named_files folder l) ≡ c }
+
+    // So is its canonical fork that of the content.
+    ensures fork { (c : Content) (folder : List ℕ → List ℕ) (l : Listed) → IsListable c
+        → HasFiles folder (filed (rows c.groups)) → contents_read (contents_text c) ≡ Ok l
+        → canon (packed_content l (named_files folder l)) ≡ canon c }
 {}

@@ -36,10 +36,10 @@ pub use file_names::append_file_name;
 pub use filed::{FiledRow, filed_rows};
 pub use fixed_names::append_fixed_name;
 pub use laws::{
-    ascii_words_are_taken_as_they_are, file_names_are_apart, files_without_twins_are_apart,
-    fixed_file_names_are_apart, merging_keeps_each_resource,
-    removing_a_resource_changes_nothing_else, renaming_a_resource_changes_nothing_else,
-    setting_a_resource_changes_nothing_else,
+    a_content_is_packed_again, ascii_words_are_taken_as_they_are, file_names_are_apart,
+    files_are_apart, files_without_twins_are_apart, fixed_file_names_are_apart,
+    merging_keeps_each_resource, removing_a_resource_changes_nothing_else,
+    renaming_a_resource_changes_nothing_else, setting_a_resource_changes_nothing_else,
 };
 pub use lines::{append_compressed, append_difference, append_row};
 pub use listing::read_contents;

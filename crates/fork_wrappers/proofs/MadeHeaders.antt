@@ -34,7 +34,7 @@ record Says (bytes contents fork : List ℕ) : Type 0 where
   no_secondary : secondary_length bytes ≡ 0
   fork_bytes : drop (128 + padded (length contents)) bytes ≡ fork
 
--- the padded data fork, and the resource fork behind it
+-- the padded data fork, and the resource fork after it
 abbrev padding : List ℕ → List ℕ
 padding contents = replicate (padded (length contents) - length contents) 0
 

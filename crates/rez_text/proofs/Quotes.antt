@@ -28,7 +28,7 @@ plain_step : (q : Quote) (b : ℕ) (p : Place) (g : List ℕ) (k : ℕ) (d : Ref
 unfolding step quoted
 plain_step q b p g k d c e f h = rw (e, f, h) refl
 
--- a quote behind a `\`
+-- a quote after a `\`
 quote_run : (q : Quote) (p : Place) (g : List ℕ) (k : ℕ) (d : Ref) (c : Content)
     → run (Ok (at (mode.Quoted q) p g k d c)) (92 ∷ quote_byte q ∷ [])
     ≡ Ok (at (mode.Quoted q) p (g ++ quote_byte q ∷ []) k d c)
@@ -36,7 +36,7 @@ unfolding step quoted escape
 quote_run quotes.Name p g k d c = refl
 quote_run quotes.Type p g k d c = refl
 
--- a `\` behind a `\`
+-- a `\` after a `\`
 stroke_run : (q : Quote) (p : Place) (g : List ℕ) (k : ℕ) (d : Ref) (c : Content)
     → run (Ok (at (mode.Quoted q) p g k d c)) (92 ∷ 92 ∷ []) ≡ Ok (at (mode.Quoted q) p (g ++ 92 ∷ []) k d c)
 unfolding step quoted escape

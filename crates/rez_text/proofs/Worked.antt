@@ -52,7 +52,7 @@ in_utf8 : (source_of Ascii (of_groups (record { kind = str; refs = a_ref (pos 1)
 unfolding source_of statement_head type_literal digits lib.Utf8.encode
 in_utf8 = (refl, refl)
 
--- the attributes of the map, and a first byte behind the header
+-- the attributes of the map, and a first byte after the header
 remarks : source_of Ascii (record { area = 255 ∷ replicate 239 0; attrs = 128; groups = [] })
     ≡ codes "/* map attributes $0080 */\n/* header bytes\n\tFF00 0000 0000 0000 0000 0000 0000 0000\n\t0000 0000 0000 0000 0000 0000 0000 0000\n\t0000 0000 0000 0000 0000 0000 0000 0000\n\t0000 0000 0000 0000 0000 0000 0000 0000\n\t0000 0000 0000 0000 0000 0000 0000 0000\n\t0000 0000 0000 0000 0000 0000 0000 0000\n\t0000 0000 0000 0000 0000 0000 0000 0000\n\t0000 0000 0000 0000 0000 0000 0000 0000\n\t0000 0000 0000 0000 0000 0000 0000 0000\n\t0000 0000 0000 0000 0000 0000 0000 0000\n\t0000 0000 0000 0000 0000 0000 0000 0000\n\t0000 0000 0000 0000 0000 0000 0000 0000\n\t0000 0000 0000 0000 0000 0000 0000 0000\n\t0000 0000 0000 0000 0000 0000 0000 0000\n\t0000 0000 0000 0000 0000 0000 0000 0000\n*/\n"
 unfolding source_of

@@ -10,9 +10,9 @@ ghost use Rattle.rez_text.specs.Bytes.{IsOfBytes};
 ghost use Rattle.rez_text.specs.Printing.{source_of};
 ghost use Rattle.rez_text.specs.Reading.{read};
 
-/// States that, whatever characters its comments have, each content whose parts keep their limits, and whose types stand once each and have resources, is read
-/// again from the source that is printed for it, without the bits that no stored fork has; a content that has none of
-/// them, as `read_fork` ensures of every content, is read again as it is.
+/// States that, whatever characters its comments have, each content whose parts keep their limits, and whose types stand
+/// once each and have resources, is read again from the source that is printed for it, without the bits that no stored fork
+/// has; a content that has none of them, as `read_fork` ensures of every content, is read again as it is.
 pub fn a_source_is_read_again()
     ensures again { (charset : Charset) (c : Content) → IsContent c → IsOfBytes c → list_all has_refs c.groups ≡ true
         → are_distinct (map (λ (g : Group). g.kind) c.groups) ≡ true → read (source_of charset c) ≡ Ok (clear c) }

@@ -1,9 +1,11 @@
-use Rattle.std.proofs.Common.{◌≡◌, ◌++◌, ◌*◌, drop, take}
+use Rattle.std.proofs.Common.{◌≡◌, ◌++◌, ◌*◌, drop, length, take}
 use Rattle.std.specs.Prelude.{option_map}
 use Rattle.fork_edits.specs.Types.{bytes_spelled}
 use Rattle.fork_edits.proofs.listing.spelled.Given as goal
 
 -- the bytes so far, with those that the digits to come spell, are all
 abbrev pub invariant-loop-i : goal.invariant-loop-i
-invariant-loop-i l =
-    option_map (λ rest. take l.i l.bytes ++ rest) (bytes_spelled (drop (2 * l.i) l.text)) ≡ bytes_spelled l.text
+invariant-loop-i l = record {
+  room : length l.bytes ≡ 240;
+  told : option_map (λ rest. take l.i l.bytes ++ rest) (bytes_spelled (drop (2 * l.i) l.text)) ≡ bytes_spelled l.text;
+}

@@ -5,7 +5,7 @@ use Rattle.fork_wrappers.proofs.Walking.{goes_on, stops}
 use Rattle.fork_wrappers.proofs.entries.fork_entry_of.Goals.{In-loop}
 use Rattle.fork_wrappers.proofs.entries.fork_entry_of.Goals as goal
 
--- the next entry fits, and so do those behind it
+-- the next entry fits, and so do those after it
 fitting : (c : In-loop) → GoesOn (entry_fits c.args.bytes.now) c.loop.at 12 c.args.count c.loop.counter
 fitting c = all_goes_on (entry_fits c.args.bytes.now) c.loop.at 12 c.args.count c.loop.counter c.loop-test.true
     c.loop.invariant.fits
