@@ -1,5 +1,5 @@
 -- What is said of a file, by whether its fork has a content.
-use Rattle.std.proofs.Common.{◌≡◌, ◌++◌, ◌∙◌, ℕ, Bool, true, false, not, List, Ok, Err, Option, inl, inr, refl, sym, ap}
+use Rattle.std.proofs.Common.{◌≡◌, ◌++◌, ◌∙◌, ℕ, Bool, true, false, not, List, Ok, Err, Option, inl, inr, refl, sym, ap, subst}
 use Rattle.std.specs.Prelude.{is_ok, codes}
 use Rattle.fork_format.specs.Content.{Content}
 use Rattle.fork_commands.specs.declared.fault.FileFault.{FileFault}
@@ -67,3 +67,11 @@ refused_bytes w path bytes p old (CannotRead named) h = (h, refl, refl)
 refused_bytes w path bytes p old (Script named line kind) h = (h, refl, refl)
 refused_bytes w path bytes p old (Fork named fault) h = (h, refl, refl)
 refused_bytes w path bytes p old (NotLaunched named app) h = (h, refl, refl)
+
+-- what was to be printed, as it was sent
+pub refused_sent : (w : Work) (path bytes out sent : List ℕ) (p q : Option (List ℕ)) (old new : Option (List Access))
+    (message : Message) → IsPrinted w bytes out → sent ≡ out → IsUndelivered Printed sent p q old new message
+    → IsRefusal w path bytes p q old new message
+refused_sent w path bytes out sent p q old new message is same h =
+    refused_print w path bytes out p q old new message is
+    (subst (λ b. IsUndelivered Printed b p q old new message) same h)

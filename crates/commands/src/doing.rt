@@ -102,7 +102,7 @@ fn write_packed<H: Host>(
 }
 
 /// Prints the state of the files of a survey.
-#[tactic(auto, using(crate::proofs::Checked::all_checked, crate::proofs::Checked::all_unchecked))]
+#[tactic(auto, using(crate::proofs::Checked::all_checked))]
 fn check_all<H: Host>(alloc: Global, host: &mut H, survey: &Survey<'_>) -> Result<Ending, ToolFault>
     ensures done { IfOk result (λ ending. Checks survey.now ending (H.printed host.old) (H.printed host.new)
         (H.accesses host.old) (H.accesses host.new)) }
@@ -114,7 +114,6 @@ fn check_all<H: Host>(alloc: Global, host: &mut H, survey: &Survey<'_>) -> Resul
 }
 
 /// Prints the form of the fork in the one file that is given, or the state of the files below the one folder.
-#[tactic(auto, using(crate::proofs::Checked::one_checked, crate::proofs::Checked::one_unchecked))]
 fn check_one<H: Host, W: Watch>(
     alloc: Global,
     host: &mut H,

@@ -1,23 +1,22 @@
-use Rattle.std.proofs.Common.{◌≡◌, ◌∙◌, ℕ, List, Err, subst, rules}
-use Rattle.commands.specs.Fault.{Message, message_of}
+use Rattle.std.proofs.Common.{◌≡◌, ℕ, List, subst, rules}
+use Rattle.commands.specs.Fault.{message_of}
 use Rattle.commands.specs.Tasks.{IsRefusal}
 use Rattle.commands.specs.Doing.{Refused}
-use Rattle.commands.proofs.Accesses.{told_err}
+use Rattle.commands.proofs.Accesses.{also_err}
 use Rattle.commands.proofs.doing.look.Goals as goal
 
 -- the file was read, and then the task was refused
-pub returns-in_err-do_task-clause-undone : goal.returns-in_err-do_task-clause-undone
-returns-in_err-do_task-clause-undone g c =
-    let message : Message = message_of c.in_err-do_task.field-0.0 in
+pub returns-clause-undone : goal.returns-clause-undone
+returns-clause-undone g c =
     let read : List ℕ = c.in_ok-bytes.bytes.items in
-    let same : c.from_residual-in_err-do_task.result ≡ Err c.in_err-do_task.field-0.0 = search rules in
     let bytes : c.as_slice.result.now ≡ read = search rules in
-    told_err _ _ _ same (Refused read
+    also_err _ _ c.do_task.result (λ fault h. Refused read
     (subst (λ a. IsRefusal c.args.task.work c.args.task.path.now read (g.H.Host.printed c.args.host.now)
-    (g.H.Host.printed c.do_task.new.host) a (g.H.Host.accesses c.do_task.new.host) message) c.in_ok-bytes.ensures.read
+    (g.H.Host.printed c.do_task.new.host) a (g.H.Host.accesses c.do_task.new.host) (message_of fault))
+    c.in_ok-bytes.ensures.read
     (subst (λ p. IsRefusal c.args.task.work c.args.task.path.now read p (g.H.Host.printed c.do_task.new.host)
-    (g.H.Host.accesses c.read_input.new.host) (g.H.Host.accesses c.do_task.new.host) message)
+    (g.H.Host.accesses c.read_input.new.host) (g.H.Host.accesses c.do_task.new.host) (message_of fault))
     c.in_ok-bytes.ensures.silent
     (subst (λ b. IsRefusal c.args.task.work c.args.task.path.now b (g.H.Host.printed c.read_input.new.host)
     (g.H.Host.printed c.do_task.new.host) (g.H.Host.accesses c.read_input.new.host)
-    (g.H.Host.accesses c.do_task.new.host) message) bytes c.in_err-do_task.ensures.fault))))
+    (g.H.Host.accesses c.do_task.new.host) (message_of fault)) bytes h)))) c.do_task.ensures.fault

@@ -20,3 +20,12 @@ returns-in-Extract-clause-undone g c =
     (g.H.Host.printed c.args.host.now) (g.H.Host.printed c.write_resources.new.host)
     (g.H.Host.accesses c.args.host.now) (g.H.Host.accesses c.write_resources.new.host) (message_of fault)))
     (sym c.in-Extract.is) c.write_resources.ensures.undone
+
+-- the fork that a folder states was not written
+pub returns-in-Pack-clause-undone : goal.returns-in-Pack-clause-undone
+returns-in-Pack-clause-undone g c =
+    subst (λ request. IfErr c.write_packed.result (λ fault. IsUndone request
+    (g.W.Watch.heard c.args.watch.now) (g.W.Watch.heard c.args.watch.now)
+    (g.H.Host.printed c.args.host.now) (g.H.Host.printed c.write_packed.new.host)
+    (g.H.Host.accesses c.args.host.now) (g.H.Host.accesses c.write_packed.new.host) (message_of fault)))
+    (sym c.in-Pack.is) c.write_packed.ensures.undone
