@@ -91,8 +91,8 @@ fn write_kept<H: Host>(
 ) -> Result<(), WriteError>
     ensures silent { H.printed host.new ≡ H.printed host.old }
     ensures written { OnOk result (H.accesses host.new ≡ and_then (H.accesses host.old)
-        (Write path.now (kept (option_map (λ bytes. bytes.now) source) fork.now) ∷ [])) }
-    ensures front { IfErr result (λ error. RefusesFile path.now (kept (option_map (λ bytes. bytes.now) source) fork.now)
+        (Write path.now (kept (option_map (λ bytes. bytes.now) source.entry) fork.now) ∷ [])) }
+    ensures front { IfErr result (λ error. RefusesFile path.now (kept (option_map (λ bytes. bytes.now) source.entry) fork.now)
         error (H.accesses host.old) (H.accesses host.new)) }
 {
     let Some(file) = source else {
