@@ -11,9 +11,10 @@ it is to leave:
 
 - Commands other than `run` leave nothing.
 - `run` leaves nothing while it reads its input, and then just what has happened until the refusal: all that a job of the launches,
-  steps and quits before it leaves, but for the lines `fork` of desk.log. These shorter jobs are run without a refusal, and their logs
-  are to be fronts, by whole lines, of those of the whole run. Which events had happened is told by a run without a refusal, by
-  --progress: it says after each event that it has happened, and as it says so the allocations until then are counted.
+  steps and quits before it leaves with --bare, but for the lines `fork` of desk.log. These shorter jobs are run without a refusal, and
+  their logs are to be fronts, by whole lines, of those of the whole run. Which events had happened is told by a run without a refusal, by
+  --progress: it says after each event that it has happened, and as it says so the allocations until then are counted. Where all had
+  happened, as a fork is put into its file, it may leave the first of the whole run's files, in the order in which they are written.
 
 With --counts a line for each input has the number of its allocations, and how many refusals the program did not notice. Of an input
 of more than 2000 allocations each seventh is refused, and each of the last 500; with --all each.
@@ -73,11 +74,13 @@ def repeated(line, first):
 def bytes_of_word(word, number):
     """The bytes of a word: `%`, COUNT*WORD, a text in quotes, or hexadecimal digits."""
     count, star, rest = word.partition("*")
+    if word.startswith('"'):
+        return word.strip('"').encode()
     if word == "%":
         return number.to_bytes(2, "big")
     if star:
         return bytes_of_word(rest, number) * int(count)
-    return word.strip('"').encode() if word.startswith('"') else bytes.fromhex(word)
+    return bytes.fromhex(word)
 
 
 def bytes_of_words(text):
@@ -286,7 +289,7 @@ def moments_of(number, whole, head, events):
     """The moments of a job by what is left at them; and of each run for that what was wrong with it, None where nothing was."""
     moments, wrong = {}, []
     for moment in range(len(events) + 1):
-        run = place.run(number, {}, head + b"".join(events[:moment]))
+        run = place.run(number, {}, head + b"".join(events[:moment]), ["--bare"])
         left = without_forks(run.files or {})
         right = run[:3] == (0, b"", b"") and is_front(left, without_forks(whole.files))
         wrong.append(None if right else f"the first {moment} events leave no front of what all leave: {ending(run)}")
@@ -322,6 +325,16 @@ def parts_told(files, moments):
     return ", ".join(parts) or "an empty folder"
 
 
+def is_begun(files, whole):
+    """Whether the files that a run left are the logs of the whole run and the first of its forks, in the order of desk.log."""
+    logs = {os.path.basename(path): path for path in whole if path.endswith(".log")}
+    lines = [line.split() for line in whole[logs["desk.log"]].splitlines()] if "desk.log" in logs else []
+    forks = [f"app-{words[1].decode()}-{words[2].decode()}.rsrc" for words in lines if words[0] == b"fork"]
+    there = {os.path.basename(path) for path in files}
+    same = all(whole.get(path) == content for path, content in files.items())
+    return same and there == {*logs, *forks[:len(there) - len(logs)]}
+
+
 def judge_left(known, run, number):
     """Judges what a run left that was stopped."""
     happened = sum(until < number for until in known.until)
@@ -330,6 +343,8 @@ def judge_left(known, run, number):
         return Verdict(None if may else f"nothing is left, though {happened} events had happened", False)
     if number <= known.must:
         return Verdict("files are left, though the input was not read yet", True)
+    if happened == len(known.until) and is_begun(run.files, known.whole.files):
+        return Verdict(None, True)
     span = known.moments.get(key_of(run.files))
     if not span:
         return Verdict(f"what is left is of no one moment: {parts_told(run.files, known.moments)}", True)

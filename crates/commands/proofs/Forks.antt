@@ -5,21 +5,21 @@ use Rattle.fork_commands.specs.Reading.{fork_in}
 use Rattle.commands.specs.Fault.{Message, Usage, CannotRead, Script, Fork, CannotWrite, HostMemory, NotLaunched, message_of}
 use Rattle.commands.specs.declared.fault.ToolFault.{ToolFault}
 use Rattle.commands.specs.Accesses.{Access, Stops, IsUnread, and_then, reads_at}
-use Rattle.commands.specs.Gathering.{fork_told, fork_at, script_at, app_of, app_at, GivenApp, IsStop, Reads, IsGiven}
+use Rattle.commands.specs.Gathering.{Found, source_of, fork_told, fork_at, script_at, app_of, app_at, GivenApp, IsStop, Reads, IsGiven}
 use Rattle.commands.specs.Tasks.{IsForkFault}
 use Rattle.commands.proofs.Accesses.{none, stop_then, ends_err, stops_from, unread_given, unread_stops}
 
--- the fork that was found at a path
-pub fork_there : (path file fork : List ℕ) (texts : List (List ℕ)) → fork_in file ≡ Ok fork
-    → fork_at path (file ∷ texts) ≡ Ok fork
-fork_there path file fork texts found = ap (fork_told path) found
+-- a fork that was found, with its source
+pub told_found : (path bytes fork : List ℕ) (source : Option (List ℕ)) → fork_in bytes ≡ Ok fork → source ≡ source_of bytes
+    → fork_told path bytes (fork_in bytes) ≡ Ok (fork, source)
+told_found path bytes fork source found is = ap (fork_told path bytes) found ∙ ap (λ s. Ok (fork, s)) (sym is)
 
 -- a wrapper that is damaged
 pub fork_stop : (path file : List ℕ) (message : Message) → IsForkFault path (fork_in file) message
     → IsStop (fork_at path (file ∷ [])) message
 fork_stop path file HostMemory is = tt
 fork_stop path file (Fork named fault) is =
-    ap (fork_told path) is.1 ∙ ap (λ p. Err (Fork p fault)) (sym is.0)
+    ap (fork_told path file) is.1 ∙ ap (λ p. Err (Fork p fault)) (sym is.0)
 fork_stop path file (Usage text) is = absurd is
 fork_stop path file (CannotRead named) is = absurd is
 fork_stop path file (Script named line kind) is = absurd is
@@ -48,19 +48,19 @@ script_unread view path old new result fault is unread =
     )
 
 -- an application's script stops it, after its fork
-pub app_stop : (name fork script file bytes : List ℕ) (texts : List (List ℕ)) (message : Message) → fork_in file ≡ Ok bytes
-    → IsStop (script_at script texts) message → IsStop (app_at name fork script (file ∷ texts)) message
-app_stop name fork script file bytes texts message found stops =
-    subst (λ r. IsStop (app_of name r (script_at script texts)) message) (sym (fork_there fork file bytes texts found))
+pub app_stop : (name fork script file : List ℕ) (found : Found (List ℕ)) (texts : List (List ℕ)) (message : Message)
+    → fork_told fork file (fork_in file) ≡ Ok found → IsStop (script_at script texts) message
+    → IsStop (app_at name fork script (file ∷ texts)) message
+app_stop name fork script file found texts message told stops =
+    subst (λ r. IsStop (app_of name r (script_at script texts)) message) (sym told)
     (stop_then (script_at script texts) _ message stops)
 
 -- an application, with the fork and the script that were read
-pub app_there : (name fork script file bytes : List ℕ) (texts : List (List ℕ)) (spelled : Spelled) (app : GivenApp)
-    → fork_in file ≡ Ok bytes → script_at script texts ≡ Ok spelled → app_of name (Ok bytes) (Ok spelled) ≡ Ok app
-    → app_at name fork script (file ∷ texts) ≡ Ok app
-app_there name fork script file bytes texts spelled app found reads is =
-    ap (λ r. app_of name r (script_at script texts)) (fork_there fork file bytes texts found)
-    ∙ ap (λ r. app_of name (Ok bytes) r) reads ∙ is
+pub app_there : (name fork script file : List ℕ) (found : Found (List ℕ)) (texts : List (List ℕ)) (spelled : Spelled)
+    (app : Found GivenApp) → fork_told fork file (fork_in file) ≡ Ok found → script_at script texts ≡ Ok spelled
+    → app_of name (Ok found) (Ok spelled) ≡ Ok app → app_at name fork script (file ∷ texts) ≡ Ok app
+app_there name fork script file found texts spelled app told reads is =
+    ap (λ r. app_of name r (script_at script texts)) told ∙ ap (λ r. app_of name (Ok found) r) reads ∙ is
 
 -- an application's fork stops it
 pub app_unread : (name fork script : List ℕ) (old new : Option (List Access)) (message : Message) (texts : List (List ℕ))
@@ -68,9 +68,9 @@ pub app_unread : (name fork script : List ℕ) (old new : Option (List Access)) 
     → (read : List (List ℕ)) × Stops (and_then old (reads_at (fork ∷ script ∷ []) read)) new message
     × IsStop (app_at name fork script read) message
 app_unread name fork script old new message [] reads stops =
-    ([], reads, stop_then (fork_at fork []) (λ bytes. app_of name (Ok bytes) (script_at script [])) message stops)
+    ([], reads, stop_then (fork_at fork []) (λ found. app_of name (Ok found) (script_at script [])) message stops)
 app_unread name fork script old new message (file ∷ texts) reads stops = (
   file ∷ [],
   reads,
-  stop_then (fork_at fork (file ∷ [])) (λ bytes. app_of name (Ok bytes) (script_at script [])) message stops,
+  stop_then (fork_at fork (file ∷ [])) (λ found. app_of name (Ok found) (script_at script [])) message stops,
 )

@@ -1,9 +1,10 @@
 -- A job is read, and then it is run.
-use Rattle.std.proofs.Common.{◌≡◌, ◌∷◌, ◌∙◌, ℕ, Bool, List, [], Option, ap, subst}
+use Rattle.std.proofs.Common.{◌≡◌, ◌∷◌, ◌∙◌, ℕ, List, [], Option, ap, subst}
 use Rattle.commands.specs.Fault.{Message}
 use Rattle.commands.specs.Accesses.{Access, Read, and_then, Stops}
 use Rattle.commands.specs.Gathering.{nothing_given, with_inputs, reads_of, system_path, IsStop}
-use Rattle.commands.specs.Running.{Stated, Taken, reads_for, Leaves, IsUnleft, Runs, IsStopped, Ungathered, Unleft}
+use Rattle.commands.specs.declared.running.Errand.{Errand}
+use Rattle.commands.specs.Running.{Stated, Taken, reads_for, sources_for, Leaves, IsUnleft, Runs, IsStopped, Ungathered, Unleft}
 use Rattle.commands.proofs.Accesses.{one_more, stops_from}
 
 -- the job's text was read, and then what its lines name
@@ -18,27 +19,29 @@ pub all_read : (path : List ℕ) (stated : Stated) (texts : List (List (List ℕ
     → d ≡ and_then a (reads_for path stated texts)
 all_read path stated texts a b d first second = second ∙ both_read path stated texts a b first
 
-pub ungathered : (path folder : List ℕ) (watched : Bool) (h k : Option (List ℕ)) (stated : Stated)
-    (texts : List (List (List ℕ))) (a b d : Option (List Access)) (message : Message) → k ≡ h
-    → b ≡ and_then a (Read path stated.text ∷ [])
+pub ungathered : (errand : Errand) (h k : Option (List ℕ)) (stated : Stated) (texts : List (List (List ℕ)))
+    (a b d : Option (List Access)) (message : Message) → k ≡ h → b ≡ and_then a (Read errand.job.now stated.text ∷ [])
     → Stops (and_then b (reads_of stated.lines.inputs texts)) d message
-    → IsStop (with_inputs nothing_given stated.lines.inputs texts) message → IsStopped path folder watched h k a d message
-ungathered path folder watched h k stated texts a b d message silent first second stops =
-    Ungathered stated texts silent (stops_from _ _ d message (both_read path stated texts a b first) second) stops
+    → IsStop (with_inputs nothing_given stated.lines.inputs texts) message → IsStopped errand h k a d message
+ungathered errand h k stated texts a b d message silent first second stops =
+    Ungathered stated texts silent (stops_from _ _ d message (both_read errand.job.now stated texts a b first) second) stops
 
-pub unleft : (path folder system : List ℕ) (watched : Bool) (h k : Option (List ℕ)) (t : Taken)
-    (a b d e : Option (List Access)) (message : Message)
-    → system ≡ system_path t.stated.lines.inputs → b ≡ and_then a (Read path t.stated.text ∷ [])
-    → d ≡ and_then b (reads_of t.stated.lines.inputs t.texts) → IsUnleft system folder watched t.job h k d e message
-    → IsStopped path folder watched h k a e message
-unleft path folder system watched h k t a b d e message is first second u =
-    let before : Option (List Access) = and_then a (reads_for path t.stated t.texts) in
-    Unleft t (subst (λ s. IsUnleft s folder watched t.job h k before e message) is
-    (subst (λ x. IsUnleft system folder watched t.job h k x e message) (all_read path t.stated t.texts a b d first second) u))
+pub unleft : (errand : Errand) (system : List ℕ) (h k : Option (List ℕ)) (t : Taken) (a b d e : Option (List Access))
+    (message : Message) → system ≡ system_path t.stated.lines.inputs
+    → b ≡ and_then a (Read errand.job.now t.stated.text ∷ []) → d ≡ and_then b (reads_of t.stated.lines.inputs t.texts)
+    → IsUnleft system errand.out.now errand.watched t.job (sources_for errand t) h k d e message
+    → IsStopped errand h k a e message
+unleft errand system h k t a b d e message is first second u =
+    let before : Option (List Access) = and_then a (reads_for errand.job.now t.stated t.texts) in
+    Unleft t (subst (λ s. IsUnleft s errand.out.now errand.watched t.job (sources_for errand t) h k before e message) is
+    (subst (λ x. IsUnleft system errand.out.now errand.watched t.job (sources_for errand t) h k x e message)
+    (all_read errand.job.now t.stated t.texts a b d first second) u))
 
-pub runs : (path folder : List ℕ) (watched : Bool) (h k : Option (List ℕ)) (t : Taken)
-    (a b d e : Option (List Access))
-    → b ≡ and_then a (Read path t.stated.text ∷ []) → d ≡ and_then b (reads_of t.stated.lines.inputs t.texts)
-    → Leaves folder watched t.job h k d e → Runs path folder watched h k a e
-runs path folder watched h k t a b d e first second left =
-    (t, subst (λ x. Leaves folder watched t.job h k x e) (all_read path t.stated t.texts a b d first second) left)
+pub runs : (errand : Errand) (h k : Option (List ℕ)) (t : Taken) (a b d e : Option (List Access))
+    → b ≡ and_then a (Read errand.job.now t.stated.text ∷ []) → d ≡ and_then b (reads_of t.stated.lines.inputs t.texts)
+    → Leaves errand.out.now errand.watched t.job (sources_for errand t) h k d e → Runs errand h k a e
+runs errand h k t a b d e first second left = (
+  t,
+  subst (λ x. Leaves errand.out.now errand.watched t.job (sources_for errand t) h k x e)
+      (all_read errand.job.now t.stated t.texts a b d first second) left,
+)

@@ -4,6 +4,8 @@ mod Digits
 mod Extracted
 pub mod Faults
 pub mod Forks
+pub mod Kept
+mod Sources
 mod Inputs
 mod Jobs
 mod JobZones

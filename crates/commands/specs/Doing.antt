@@ -64,7 +64,7 @@ abbrev pub IsDone : Request → Ending → Option (List ℕ) → Option (List �
 IsDone (Look task) ending h k p q old new = Looks task ending p q old new
 IsDone (Check survey) ending h k p q old new = Checks survey ending p q old new
 IsDone (Run errand) ending h k p q old new =
-    (ending ≡ Done) × (q ≡ p) × Runs errand.job.now errand.out.now errand.watched h k old new
+    (ending ≡ Done) × (q ≡ p) × Runs errand h k old new
 IsDone (Show zone) ending h k p q old new = (ending ≡ Done) × Shows zone p q old new
 IsDone (Convert conversion) ending h k p q old new = (ending ≡ Done) × Converts conversion p q old new
 IsDone (Combine combination) ending h k p q old new = Combines combination ending p q old new
@@ -77,7 +77,7 @@ abbrev pub IsUndone : Request → Option (List ℕ) → Option (List ℕ) → Op
 IsUndone (Look task) h k p q old new message = IsUnseen task p q old new message
 IsUndone (Check survey) h k p q old new message = IsUnchecked survey p q old new message
 IsUndone (Run errand) h k p q old new message =
-    (q ≡ p) × IsStopped errand.job.now errand.out.now errand.watched h k old new message
+    (q ≡ p) × IsStopped errand h k old new message
 IsUndone (Show zone) h k p q old new message = IsUnshown zone p q old new message
 IsUndone (Convert conversion) h k p q old new message = IsUnconverted conversion p q old new message
 IsUndone (Combine combination) h k p q old new message = IsUncombined combination p q old new message

@@ -1,15 +1,20 @@
 use Rattle.std.specs.Prelude.{◌≡◌, ℕ, zero, suc, nat_lt, Bool, true, Option, Some, None, option_map, Result, Ok, Err}
-use Rattle.std.specs.Prelude.{List, [], ◌∷◌, ◌++◌, map, drop}
+use Rattle.std.specs.Prelude.{List, [], ◌∷◌, ◌++◌, length, map, drop, if◌then◌else◌}
 use Rattle.script_text.specs.declared.fault.FaultKind.{FaultKind}
 use Rattle.script_text.specs.Job.{Input, System, App as AppLine, File}
 use Rattle.script_text.specs.Script.{Spelled, script_of, spelled}
 use Rattle.fork_commands.specs.declared.fault.FileFault.{FileFault}
 use Rattle.fork_commands.specs.Reading.{fork_in}
+use Rattle.fork_format.specs.Fork.{is_fork}
 use Rattle.desk.specs.declared.job.App.{App}
 use Rattle.desk.specs.declared.job.AppFile.{AppFile}
 use Rattle.desk.specs.declared.job.Job.{Job}
 use Rattle.commands.specs.declared.fault.ToolFault.{ToolFault}
+use Rattle.commands.specs.declared.gathering.FoundApp.{FoundApp}
+use Rattle.commands.specs.declared.gathering.FoundFile.{FoundFile}
+use Rattle.commands.specs.declared.gathering.FoundFork.{FoundFork}
 use Rattle.commands.specs.declared.gathering.Gathered.{Gathered}
+use Rattle.commands.specs.declared.gathering.Source.{Source}
 use Rattle.commands.specs.Fault.{Message, CannotRead, Script, Fork, HostMemory, message_of}
 use Rattle.commands.specs.Accesses.{Access, and_then, reads_at, Ends}
 
@@ -46,14 +51,25 @@ pub record GivenApp : Type 0 where
   pub files : List GivenFile
   pub script : Spelled
 
--- The System file's fork, if a line names it, and the applications in the order of their lines.
+-- The source of a fork: the bytes of the file in which it was read, unless they are a fork themselves.
+abbrev pub source_of : List ℕ → Option (List ℕ)
+source_of bytes = if is_fork bytes then None else Some bytes
+
+-- The source of a fork of an application, with the application's place.
+pub record GivenSource : Type 0 where
+  pub app : ℕ
+  pub file : Option (List ℕ)
+
+-- The System file's fork, if a line names it; the applications in the order of their lines; and the sources of their forks,
+-- an application's own and those of its other files, in the order of all these lines.
 pub record Given : Type 0 where
   pub system : Option (List ℕ)
   pub apps : List GivenApp
+  pub sources : List GivenSource
 
 -- What is given before the first line.
 abbrev pub nothing_given : Given
-nothing_given = record { system = None; apps = [] }
+nothing_given = record { system = None; apps = []; sources = [] }
 
 -- A further file of the `n`-th application, from 0.
 abbrev pub with_file : ℕ → GivenFile → List GivenApp → List GivenApp
@@ -66,15 +82,19 @@ abbrev pub given_then : {A B : Type 0} → Result A Message → (A → Result B 
 given_then (Ok given) next = next given
 given_then (Err fault) next = Err fault
 
+-- What was found with the source of its fork.
+abbrev pub Found : Type 0 → Type 0
+Found A = A × Option (List ℕ)
+
 -- A fork that was found in a file, or how the file's wrapper is damaged.
-abbrev pub fork_told : List ℕ → Result (List ℕ) FileFault → Result (List ℕ) Message
-fork_told path (Ok fork) = Ok fork
-fork_told path (Err fault) = Err (Fork path fault)
+abbrev pub fork_told : List ℕ → List ℕ → Result (List ℕ) FileFault → Result (Found (List ℕ)) Message
+fork_told path bytes (Ok fork) = Ok (fork, source_of bytes)
+fork_told path bytes (Err fault) = Err (Fork path fault)
 
 -- The first of these texts is a file with a fork. Without a text the path can't be read.
-abbrev pub fork_at : List ℕ → List (List ℕ) → Result (List ℕ) Message
+abbrev pub fork_at : List ℕ → List (List ℕ) → Result (Found (List ℕ)) Message
 fork_at path [] = Err (CannotRead path)
-fork_at path (bytes ∷ texts) = fork_told path (fork_in bytes)
+fork_at path (bytes ∷ texts) = fork_told path bytes (fork_in bytes)
 
 -- A script that was read, or its first faulty line.
 abbrev pub script_told : List ℕ → Result Spelled (ℕ × FaultKind) → Result Spelled Message
@@ -87,29 +107,48 @@ script_at path [] = Err (CannotRead path)
 script_at path (text ∷ texts) = script_told path (script_of text)
 
 -- An application, with its fork and its script.
-abbrev pub app_of : List ℕ → Result (List ℕ) Message → Result Spelled Message → Result GivenApp Message
+abbrev pub app_of : List ℕ → Result (Found (List ℕ)) Message → Result Spelled Message → Result (Found GivenApp) Message
 app_of name fork script =
-    given_then fork (λ bytes. given_then script (λ spelled.
-    Ok (record { name = name; fork = bytes; files = []; script = spelled })))
+    given_then fork (λ found. given_then script (λ spelled.
+    Ok (record { name = name; fork = found.0; files = []; script = spelled }, found.1)))
 
 -- An application, from the texts at the paths of its fork and its script.
-abbrev pub app_at : List ℕ → List ℕ → List ℕ → List (List ℕ) → Result GivenApp Message
+abbrev pub app_at : List ℕ → List ℕ → List ℕ → List (List ℕ) → Result (Found GivenApp) Message
 app_at name fork script texts = app_of name (fork_at fork texts) (script_at script (drop 1 texts))
 
 -- A file of an application, from the text at its path.
-abbrev pub file_at : List ℕ → List ℕ → List (List ℕ) → Result GivenFile Message
-file_at name path texts = given_then (fork_at path texts) (λ bytes. Ok (record { name = name; fork = bytes }))
+abbrev pub file_at : List ℕ → List ℕ → List (List ℕ) → Result (Found GivenFile) Message
+file_at name path texts =
+    given_then (fork_at path texts) (λ found. Ok (record { name = name; fork = found.0 }, found.1))
+
+-- A further source of a fork of the `n`-th application.
+abbrev pub with_source : ℕ → Option (List ℕ) → List GivenSource → List GivenSource
+with_source n file sources = sources ++ record { app = n; file = file } ∷ []
+
+-- What is given with the System file's fork, with a further application, and with a further file of the `n`-th application.
+abbrev pub with_system : Found (List ℕ) → Given → Given
+with_system found given = record given { system = Some found.0 }
+
+abbrev pub with_app : Found GivenApp → Given → Given
+with_app found given = record given {
+  apps = given.apps ++ found.0 ∷ [];
+  sources = with_source (length given.apps) found.1 given.sources;
+}
+
+abbrev pub with_app_file : ℕ → Found GivenFile → Given → Given
+with_app_file n found given = record given {
+  apps = with_file n found.0 given.apps;
+  sources = with_source n found.1 given.sources;
+}
 
 -- What a line adds, with the texts at its paths, or its first path that can't be read, or its script's fault.
 abbrev pub with_input : Given → Input → List (List ℕ) → Result Given Message
 with_input given (System path) texts =
-    given_then (fork_at path texts) (λ bytes. Ok (record { system = Some bytes; apps = given.apps }))
+    given_then (fork_at path texts) (λ found. Ok (with_system found given))
 with_input given (AppLine name fork script) texts =
-    given_then (app_at name fork script texts) (λ app.
-    Ok (record { system = given.system; apps = given.apps ++ app ∷ [] }))
+    given_then (app_at name fork script texts) (λ found. Ok (with_app found given))
 with_input given (File app name path) texts =
-    given_then (file_at name path texts) (λ file.
-    Ok (record { system = given.system; apps = with_file app file given.apps }))
+    given_then (file_at name path texts) (λ found. Ok (with_app_file app found given))
 
 -- What the lines add, each with the texts at its paths, or what stops them.
 abbrev pub with_inputs : Given → List Input → List (List (List ℕ)) → Result Given Message
@@ -164,8 +203,28 @@ app_given app = record {
   script = spelled app.script;
 }
 
-abbrev pub gathered : Gathered → Given
-gathered g = record { system = option_map (λ fork. fork.items) g.system; apps = map app_given g.apps.items }
+abbrev pub fork_found : FoundFork → Found (List ℕ)
+fork_found f = (f.fork.items, option_map (λ bytes. bytes.items) f.source)
 
-abbrev pub job_given : Job → Given
-job_given job = record { system = option_map (λ fork. fork.items) job.system; apps = map app_given job.apps.items }
+abbrev pub app_found : FoundApp → Found GivenApp
+app_found f = (app_given f.app, option_map (λ bytes. bytes.items) f.source)
+
+abbrev pub file_found : FoundFile → Found GivenFile
+file_found f = (file_given f.file, option_map (λ bytes. bytes.items) f.source)
+
+abbrev pub source_given : Source → GivenSource
+source_given s = record { app = s.app; file = option_map (λ bytes. bytes.items) s.file }
+
+abbrev pub gathered : Gathered → Given
+gathered g = record {
+  system = option_map (λ fork. fork.items) g.system;
+  apps = map app_given g.apps.items;
+  sources = map source_given g.sources.items;
+}
+
+abbrev pub job_given : Job → List GivenSource → Given
+job_given job sources = record {
+  system = option_map (λ fork. fork.items) job.system;
+  apps = map app_given job.apps.items;
+  sources = sources;
+}

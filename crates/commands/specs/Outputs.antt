@@ -1,9 +1,14 @@
-use Rattle.std.specs.Prelude.{ℕ, ◌+◌, ◌≤◌, length, Option, Some, None, List, [], ◌∷◌, ◌++◌, codes, decimal}
-use Rattle.std.specs.Prelude.{if◌then◌else◌}
+use Rattle.std.specs.Prelude.{ℕ, ◌+◌, ◌-◌, ◌≤◌, ◌==◌, Bool, length, Option, Some, None, Result, Ok, Err, List, [], ◌∷◌, ◌++◌}
+use Rattle.std.specs.Prelude.{map, codes, decimal, if◌then◌else◌}
 use Rattle.std.specs.List.{flat_map}
 use Rattle.std.specs.Str.{encode_utf8_all}
 use Rattle.res_calls.specs.Files.{File}
 use Rattle.desk.specs.Outcome.{Launched, AppResult, Outcome}
+use Rattle.fork_commands.specs.Packaging.{packed}
+use Rattle.fork_commands.specs.declared.fault.FileFault.{FileFault}
+use Rattle.fork_commands.specs.declared.packaging.Packaging.TheVariants.{AsRead}
+use Rattle.commands.specs.declared.outputs.Owner.{Owner}
+use Rattle.commands.specs.Gathering.{GivenSource, source_given}
 use Rattle.commands.specs.declared.paths.TheConstants.{LONGEST_NAME}
 
 -- The files that a run leaves in a folder.
@@ -40,29 +45,60 @@ log_left folder t = of_launched t.launched
     of_launched None = []
     of_launched (Some l) = record { path = log_within folder t.name; bytes = l.transcript } ∷ []
 
--- The forks that were written of an application's files, from its `k`-th file on.
-abbrev pub forks_within : List ℕ → List ℕ → ℕ → List File → List Written
-forks_within folder name k [] = []
-forks_within folder name k (f ∷ files) =
-    (if f.written then record { path = fork_within folder name k; bytes = f.fork } ∷ [] else [])
-    ++ forks_within folder name (k + 1) files
+-- The file in which the fork of the `n`-th application's `k`-th file was read, unless it was read alone: its lines are in
+-- the order of its files.
+abbrev pub source_at : ℕ → List GivenSource → ℕ → Option (List ℕ)
+source_at n [] k = None
+source_at n (s ∷ sources) k =
+    if s.app == n then (if k == 0 then s.file else source_at n sources (k - 1)) else source_at n sources k
+
+-- A file with a fork in the place of its own; or the fork alone, where it doesn't fit the file.
+abbrev pub file_or : List ℕ → Result (List ℕ) FileFault → List ℕ
+file_or fork (Ok file) = file
+file_or fork (Err fault) = fork
+
+-- A fork as it is written: in the file in which it was read, with all else that the file holds; or alone, where it was read
+-- alone.
+-- See decision 203 (a fork is written in the wrapper of its file).
+abbrev pub kept : Option (List ℕ) → List ℕ → List ℕ
+kept None fork = fork
+kept (Some file) fork = file_or fork (packed AsRead file fork)
+
+-- The forks that were written of an application's files, from its `k`-th file on; `source` is where each was read.
+abbrev pub forks_within : List ℕ → List ℕ → (ℕ → Option (List ℕ)) → ℕ → List File → List Written
+forks_within folder name source k [] = []
+forks_within folder name source k (f ∷ files) =
+    (if f.written then record { path = fork_within folder name k; bytes = kept (source k) f.fork } ∷ [] else [])
+    ++ forks_within folder name source (k + 1) files
 
 -- The forks that were written of an application that was launched.
-abbrev pub forks_left : List ℕ → AppResult → List Written
-forks_left folder t = of_launched t.launched
+abbrev pub forks_left : List ℕ → (ℕ → Option (List ℕ)) → AppResult → List Written
+forks_left folder source t = of_launched t.launched
   where
     of_launched : Option Launched → List Written
     of_launched None = []
-    of_launched (Some l) = forks_within folder t.name 0 l.files
+    of_launched (Some l) = forks_within folder t.name source 0 l.files
 
--- The files that a run leaves, in order: the desk's log, the logs of the applications, and their forks.
+-- Where the forks of an application were read.
+abbrev pub owner_source : Owner → ℕ → Option (List ℕ)
+owner_source owner = source_at owner.place (map source_given owner.sources.now)
+
+-- The forks that were written of the applications, from the `n`-th on.
+abbrev pub all_forks_left : List ℕ → List GivenSource → ℕ → List AppResult → List Written
+all_forks_left folder sources n [] = []
+all_forks_left folder sources n (t ∷ apps) =
+    forks_left folder (source_at n sources) t ++ all_forks_left folder sources (n + 1) apps
+
+-- The files that forks are put into: none where the forks are to be written alone.
+abbrev pub sources_unless : Bool → List GivenSource → List GivenSource
+sources_unless alone sources = if alone then [] else sources
+
+-- The files that a run leaves, in order: the desk's log, the logs of the applications, and their forks. Those of a run that
+-- stopped are written alone, since the host has no memory to put them into files.
 -- See decision 162 (the files of a run are written in a fixed order).
 abbrev pub logs_left : List ℕ → List AppResult → List Written
 logs_left folder apps = flat_map (log_left folder) apps
 
-abbrev pub all_forks_left : List ℕ → List AppResult → List Written
-all_forks_left folder apps = flat_map (forks_left folder) apps
-
-abbrev pub left_by : List ℕ → Outcome → List Written
-left_by folder o =
-    record { path = desk_within folder; bytes = o.log } ∷ logs_left folder o.apps ++ all_forks_left folder o.apps
+abbrev pub left_by : List ℕ → List GivenSource → Outcome → List Written
+left_by folder sources o = record { path = desk_within folder; bytes = o.log }
+    ∷ logs_left folder o.apps ++ all_forks_left folder (sources_unless o.stopped sources) 0 o.apps

@@ -8,8 +8,9 @@ use Rattle.fork_commands.specs.declared.fault.FileFault.TheVariants.{Code}
 use Rattle.desk.specs.Whole.{system_of, LeftByRun}
 use Rattle.commands.specs.Fault.{Message, Script, Fork, HostMemory}
 use Rattle.commands.specs.Accesses.{Access, Read, Folder, Write, and_then, IsUnread, Stops, StopsAmong}
-use Rattle.commands.specs.Gathering.{nothing_given, with_inputs, reads_of, system_path, job_given, IsStop}
-use Rattle.commands.specs.Outputs.{Written, left_by}
+use Rattle.commands.specs.declared.running.Errand.{Errand}
+use Rattle.commands.specs.Gathering.{GivenSource, nothing_given, with_inputs, reads_of, system_path, job_given, IsStop}
+use Rattle.commands.specs.Outputs.{Written, sources_unless, left_by}
 
 -- A job is read and run, and what it leaves is written.
 
@@ -19,14 +20,16 @@ pub record Stated : Type 0 where
   pub lines : TextJob
   pub states : job_of text ≡ Ok lines
 
--- A job with all that its lines name: the texts at the paths of each line, and the job that they give.
+-- A job with all that its lines name: the texts at the paths of each line, and the job and the sources of its forks that they
+-- give.
 pub record Taken : Type 0 where
   pub stated : Stated
   pub texts : List (List (List ℕ))
   pub job : Job
+  pub sources : List GivenSource
   pub memory : job.memory ≡ stated.lines.memory
   pub events : job.events.items ≡ stated.lines.events
-  pub given : with_inputs nothing_given stated.lines.inputs texts ≡ Ok (job_given job)
+  pub given : with_inputs nothing_given stated.lines.inputs texts ≡ Ok (job_given job sources)
 
 -- The files that are read for a job: its own, at its path, and those that its lines name, in their order.
 abbrev pub reads_for : List ℕ → Stated → List (List (List ℕ)) → List Access
@@ -36,8 +39,8 @@ reads_for path stated texts = Read path stated.text ∷ reads_of stated.lines.in
 abbrev pub write_of : Written → Access
 write_of file = Write file.path file.bytes
 
-abbrev pub writes_for : List ℕ → Outcome → List Access
-writes_for folder outcome = Folder folder ∷ map write_of (left_by folder outcome)
+abbrev pub writes_for : List ℕ → List GivenSource → Outcome → List Access
+writes_for folder sources outcome = Folder folder ∷ map write_of (left_by folder sources outcome)
 
 -- The fault of a job's text is its first faulty line.
 abbrev pub IsJobFault : List ℕ → List ℕ → Message → Type 0
@@ -61,52 +64,57 @@ Hears false job done h k = k ≡ h
 -- files.
 
 -- What a run leaves that did not stop was written into a folder.
-abbrev pub Leaves : List ℕ → Bool → Job → Option (List ℕ) → Option (List ℕ) → Option (List Access) → Option (List Access)
-    → Type 0
-Leaves folder watched job h k old new =
+abbrev pub Leaves : List ℕ → Bool → Job → List GivenSource → Option (List ℕ) → Option (List ℕ)
+    → Option (List Access) → Option (List Access) → Type 0
+Leaves folder watched job sources h k old new =
     (outcome : Outcome) × (outcome.stopped ≡ false) × LeftByRun job outcome × Hears watched job outcome.done h k
-    × (new ≡ and_then old (writes_for folder outcome))
+    × (new ≡ and_then old (writes_for folder sources outcome))
 
 -- All that a run leaves was written, and the run stopped, which is a fault of the host's memory; or what it leaves was not
 -- written to its end.
-pub data IsUnwell (folder : List ℕ) (outcome : Outcome) (old new : Option (List Access)) (message : Message)
-    : Type 0 where
-  Halted : outcome.stopped ≡ true → new ≡ and_then old (writes_for folder outcome) → message ≡ HostMemory
-      → IsUnwell folder outcome old new message
-  NotWritten : StopsAmong (writes_for folder outcome) old new message → IsUnwell folder outcome old new message
+pub data IsUnwell (folder : List ℕ) (sources : List GivenSource) (outcome : Outcome) (old new : Option (List Access))
+    (message : Message) : Type 0 where
+  Halted : outcome.stopped ≡ true → new ≡ and_then old (writes_for folder sources outcome) → message ≡ HostMemory
+      → IsUnwell folder sources outcome old new message
+  NotWritten : StopsAmong (writes_for folder sources outcome) old new message
+      → IsUnwell folder sources outcome old new message
 
 -- A run did not begin, and the watch has heard nothing; or it stopped, and what it leaves was written all the same; or
 -- what it leaves was not written to its end.
-pub data IsUnleft (system folder : List ℕ) (watched : Bool) (job : Job) (h k : Option (List ℕ))
-    (old new : Option (List Access)) (message : Message) : Type 0 where
-  NotRun : k ≡ h → new ≡ old → IsRunFault system job message → IsUnleft system folder watched job h k old new message
+pub data IsUnleft (system folder : List ℕ) (watched : Bool) (job : Job) (sources : List GivenSource)
+    (h k : Option (List ℕ)) (old new : Option (List Access)) (message : Message) : Type 0 where
+  NotRun : k ≡ h → new ≡ old → IsRunFault system job message
+      → IsUnleft system folder watched job sources h k old new message
   Run : (outcome : Outcome) → LeftByRun job outcome → Hears watched job outcome.done h k
-      → IsUnwell folder outcome old new message → IsUnleft system folder watched job h k old new message
+      → IsUnwell folder sources outcome old new message → IsUnleft system folder watched job sources h k old new message
+
+-- The files that the forks of a job are put into, as the words ask.
+abbrev pub sources_for : Errand → Taken → List GivenSource
+sources_for errand t = sources_unless errand.bare t.sources
 
 -- A job was run to its end: all input was read, then all that it leaves was written, and no other file was read or
 -- written.
-abbrev pub Runs : List ℕ → List ℕ → Bool → Option (List ℕ) → Option (List ℕ) → Option (List Access) → Option (List Access)
-    → Type 0
-Runs path folder watched h k old new =
-    (t : Taken) × Leaves folder watched t.job h k (and_then old (reads_for path t.stated t.texts)) new
+abbrev pub Runs : Errand → Option (List ℕ) → Option (List ℕ) → Option (List Access) → Option (List Access) → Type 0
+Runs errand h k old new =
+    (t : Taken) × Leaves errand.out.now errand.watched t.job (sources_for errand t) h k
+    (and_then old (reads_for errand.job.now t.stated t.texts)) new
 
 -- Why a job was not run to its end, and what was read and written before. If the host is out of memory, the job may
 -- stop anywhere; a run that stops within its events leaves what was completed, and that is written.
-pub data IsStopped (path folder : List ℕ) (watched : Bool) (h k : Option (List ℕ)) (old new : Option (List Access))
-    (message : Message) : Type 0 where
+pub data IsStopped (errand : Errand) (h k : Option (List ℕ)) (old new : Option (List Access)) (message : Message)
+    : Type 0 where
   -- the job can't be read
-  Unread : k ≡ h → IsUnread path old new message → IsStopped path folder watched h k old new message
+  Unread : k ≡ h → IsUnread errand.job.now old new message → IsStopped errand h k old new message
   -- its text is faulty
-  Misstated : (text : List ℕ) → k ≡ h → new ≡ and_then old (Read path text ∷ []) → IsJobFault path text message
-      → IsStopped path folder watched h k old new message
+  Misstated : (text : List ℕ) → k ≡ h → new ≡ and_then old (Read errand.job.now text ∷ [])
+      → IsJobFault errand.job.now text message → IsStopped errand h k old new message
   -- a file that a line names can't be read, or the text of a script is faulty
   Ungathered : (stated : Stated) (texts : List (List (List ℕ))) → k ≡ h
-      → Stops (and_then old (reads_for path stated texts)) new message
-      → IsStop (with_inputs nothing_given stated.lines.inputs texts) message
-      → IsStopped path folder watched h k old new message
+      → Stops (and_then old (reads_for errand.job.now stated texts)) new message
+      → IsStop (with_inputs nothing_given stated.lines.inputs texts) message → IsStopped errand h k old new message
   -- all input was read, and the System file's fork is no fork, or the run stopped and all that it leaves was written, or
   -- the folder can't be made, or a file can't be written
   Unleft : (t : Taken)
-      → IsUnleft (system_path t.stated.lines.inputs) folder watched t.job h k
-      (and_then old (reads_for path t.stated t.texts)) new message
-      → IsStopped path folder watched h k old new message
+      → IsUnleft (system_path t.stated.lines.inputs) errand.out.now errand.watched t.job (sources_for errand t) h k
+      (and_then old (reads_for errand.job.now t.stated t.texts)) new message
+      → IsStopped errand h k old new message

@@ -58,11 +58,10 @@ fn run<H: Host, W: Watch>(
     watch: &mut W,
 ) -> Result<Ending, ToolFault>
     ensures done { IfOk result (λ ending. (ending ≡ Done) × (H.printed host.new ≡ H.printed host.old)
-        × Runs errand.entry.job.now errand.entry.out.now errand.entry.watched (W.heard watch.old) (W.heard watch.new)
-        (H.accesses host.old) (H.accesses host.new)) }
+        × Runs errand.entry (W.heard watch.old) (W.heard watch.new) (H.accesses host.old) (H.accesses host.new)) }
     ensures undone { IfErr result (λ fault. (H.printed host.new ≡ H.printed host.old)
-        × IsStopped errand.entry.job.now errand.entry.out.now errand.entry.watched
-        (W.heard watch.old) (W.heard watch.new) (H.accesses host.old) (H.accesses host.new) (message_of fault)) }
+        × IsStopped errand.entry (W.heard watch.old) (W.heard watch.new)
+        (H.accesses host.old) (H.accesses host.new) (message_of fault)) }
     ensures quiet { IfErr result (λ fault. IsQuiet (H.printed host.old) (H.printed host.new) (message_of fault)) }
 {
     run_job(alloc, host, errand, watch)?;

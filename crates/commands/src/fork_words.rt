@@ -35,7 +35,7 @@ const NEW_FORK_HELP: &str = "File that is made for the fork; it must not exist y
 const NEW_FILE_HELP: &str = "File that is made; it must not exist yet";
 
 /// The name of the flag for a fork without its wrapper, without its two hyphens.
-const BARE: &str = "bare";
+pub const BARE: &str = "bare";
 
 const BARE_HELP: &str = "Write the fork alone, also where FORK has a wrapper";
 

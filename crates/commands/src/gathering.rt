@@ -1,6 +1,6 @@
 //! The inputs that the lines of a job name are read, in the order of the lines.
 
-ghost use Rattle.std.specs.Prelude.{◌≡◌, ◌<◌, ◌++◌, ◌∷◌, [], ℕ, List, Ok, map, length, OnOk, IfOk, IfErr, IsTrue};
+ghost use Rattle.std.specs.Prelude.{◌≡◌, ◌<◌, ◌++◌, ◌∷◌, [], ℕ, List, Ok, map, length, option_map, OnOk, IfOk, IfErr, IsTrue};
 ghost use Rattle.script_text.specs.Job.{System, App as AppLine, File, input_seen, app_names};
 ghost use Rattle.script_text.specs.JobFacts.{AreInOrder};
 ghost use Rattle.script_text.specs.Script.{spelled};
@@ -8,43 +8,90 @@ ghost use Rattle.fork_commands.specs.Reading.{fork_in};
 ghost use Rattle.commands.specs.Accesses.{Read, and_then};
 ghost use Rattle.commands.specs.Fault.{message_of};
 ghost use Rattle.commands.specs.Tasks.{IsForkFault};
-ghost use Rattle.commands.specs.Gathering.{name_of, owner_is_in, system_path, nothing_given, with_file};
+ghost use Rattle.commands.specs.Gathering.{name_of, owner_is_in, system_path, nothing_given, with_file, source_of, with_source};
 ghost use Rattle.commands.specs.Gathering.{fork_at, script_at, IsStop, app_at, file_at, with_input, with_inputs, paths_of, Reads, ReadsOf};
-ghost use Rattle.commands.specs.Gathering.{IsGiven, file_given, app_given, gathered, job_given};
+ghost use Rattle.commands.specs.Gathering.{IsGiven, file_given, app_given, gathered, job_given, fork_told};
+ghost use Rattle.commands.specs.Gathering.{fork_found, app_found, file_found, source_given};
 
 use crate::fault::ToolFault;
 use crate::host::Host;
 use crate::input::read_input;
 use crate::tasks::{fork_fault, script_fault};
 use desk::{App, AppFile, Job};
-use fork_commands::fork_bytes;
+use fork_commands::{copied, fork_bytes};
+use fork_format::is_resource_fork;
 use mac_words::{FileName, Label};
 use script_text::{Input, JobText, Script, read_script};
 use std::alloc::{AllocError, Global};
 
-/// Returns the fork in the bytes of a file: the bytes themselves if they are a fork, else a copy.
-#[tactic(auto, using(crate::proofs::Faults::fork_stopped))]
-fn fork_of(alloc: Global, path: &str, bytes: Vec<u8>) -> Result<Vec<u8>, ToolFault>
-    ensures fork { IfOk result (λ fork. fork_in bytes.items ≡ Ok fork.items) }
+/// A fork that was found in a file.
+#[derive(Drop)]
+struct FoundFork {
+    fork: Vec<u8>,
+    /// The bytes of the file, unless they are the fork.
+    source: Option<Vec<u8>>,
+}
+
+/// An application that was read.
+#[derive(Drop)]
+struct FoundApp {
+    app: App,
+    /// The bytes of the file in which its fork was found, unless they are the fork.
+    source: Option<Vec<u8>>,
+}
+
+/// A file of an application that was read.
+#[derive(Drop)]
+struct FoundFile {
+    file: AppFile,
+    /// The bytes of the file in which its fork was found, unless they are the fork.
+    source: Option<Vec<u8>>,
+}
+
+/// Where the fork of a file of an application was read.
+#[derive(Drop)]
+pub struct Source {
+    /// The place of the application, from 0.
+    pub app: usize,
+    /// The bytes of the file in which the fork was found, unless they are a fork themselves.
+    pub file: Option<Vec<u8>>,
+}
+
+/// Returns a copy of the bytes of a file, unless they are a fork.
+fn source_of(alloc: Global, bytes: &[u8]) -> Result<Option<Vec<u8>>, AllocError>
+    ensures { IfOk result (λ file. option_map (λ copy. copy.items) file ≡ source_of bytes.now) }
+{
+    if is_resource_fork(bytes) {
+        return Ok(None);
+    }
+    Ok(Some(copied(alloc, bytes)?))
+}
+
+/// Returns the fork in the bytes of a file, and the bytes themselves, unless they are the fork.
+#[tactic(auto, using(crate::proofs::Faults::fork_stopped, crate::proofs::Forks::told_found))]
+fn fork_of(alloc: Global, path: &str, bytes: Vec<u8>) -> Result<FoundFork, ToolFault>
+    ensures fork { IfOk result (λ found. fork_told path.now bytes.items (fork_in bytes.items) ≡ Ok (fork_found found)) }
     ensures fault { IfErr result (λ fault. IsForkFault path.now (fork_in bytes.items) (message_of fault)) }
 {
+    let source = source_of(alloc, bytes.as_slice())?;
     match fork_bytes(alloc, bytes) {
-        Ok(fork) => Ok(fork),
+        Ok(fork) => Ok(FoundFork { fork, source }),
         Err(fault) => Err(fork_fault(alloc, path, fault)?),
     }
 }
 
 /// Reads the fork in the file at a path.
-fn fork_at<H: Host>(alloc: Global, host: &mut H, path: &str) -> Result<Vec<u8>, ToolFault>
+fn fork_at<H: Host>(alloc: Global, host: &mut H, path: &str) -> Result<FoundFork, ToolFault>
     ensures silent { H.printed host.new ≡ H.printed host.old }
-    ensures fork { IfOk result (λ fork. (bytes : List ℕ) × (H.accesses host.new
-        ≡ and_then (H.accesses host.old) (Read path.now bytes ∷ [])) × (fork_in bytes ≡ Ok fork.items)) }
+    ensures fork { IfOk result (λ found. (bytes : List ℕ) × (H.accesses host.new
+        ≡ and_then (H.accesses host.old) (Read path.now bytes ∷ []))
+        × (fork_told path.now bytes (fork_in bytes) ≡ Ok (fork_found found))) }
     ensures stop { IfErr result (λ fault. Reads (path.now ∷ []) (H.accesses host.old) (H.accesses host.new) result (λ texts.
         IsStop (fork_at path.now texts) (message_of fault))) }
 {
     let bytes = read_input(alloc, host, path)?;
     match fork_of(alloc, path, bytes) {
-        Ok(fork) => Ok(fork),
+        Ok(found) => Ok(found),
         Err(fault) => Err(fault),
     }
 }
@@ -83,19 +130,23 @@ fn app_at<H: Host>(
     name: &Label,
     fork: &str,
     script: &str,
-) -> Result<App, ToolFault>
+) -> Result<FoundApp, ToolFault>
     ensures silent { H.printed host.new ≡ H.printed host.old }
-    ensures name { IfOk result (λ app. app.name.0.items ≡ name.now.0.items) }
+    ensures name { IfOk result (λ found. found.app.name.0.items ≡ name.now.0.items) }
     ensures app { Reads (fork.now ∷ script.now ∷ []) (H.accesses host.old) (H.accesses host.new) result (λ texts.
-        IsGiven app_given (app_at name.now.0.items fork.now script.now texts) result) }
+        IsGiven app_found (app_at name.now.0.items fork.now script.now texts) result) }
 {
     let bytes = fork_at(alloc, host, fork)?;
     let script = script_at(alloc, host, script)?;
-    Ok(App {
+    let app = App {
         name: label_copy(name)?,
-        fork: bytes,
+        fork: bytes.fork,
         files: Vec::new(alloc),
         script,
+    };
+    Ok(FoundApp {
+        app,
+        source: bytes.source,
     })
 }
 
@@ -105,15 +156,19 @@ fn file_at<H: Host>(
     host: &mut H,
     name: &FileName,
     path: &str,
-) -> Result<AppFile, ToolFault>
+) -> Result<FoundFile, ToolFault>
     ensures silent { H.printed host.new ≡ H.printed host.old }
     ensures file { Reads (path.now ∷ []) (H.accesses host.old) (H.accesses host.new) result (λ texts.
-        IsGiven file_given (file_at name.now.0.items path.now texts) result) }
+        IsGiven file_found (file_at name.now.0.items path.now texts) result) }
 {
     let fork = fork_at(alloc, host, path)?;
-    Ok(AppFile {
+    let file = AppFile {
         name: name_copy(name)?,
-        fork,
+        fork: fork.fork,
+    };
+    Ok(FoundFile {
+        file,
+        source: fork.source,
     })
 }
 
@@ -136,6 +191,19 @@ fn push_file(apps: &mut Vec<App>, i: usize, file: AppFile) -> Result<(), AllocEr
     Ok(())
 }
 
+/// Adds the source of a fork of application `app`.
+fn push_source(
+    sources: &mut Vec<Source>,
+    app: usize,
+    file: Option<Vec<u8>>,
+) -> Result<(), AllocError>
+    ensures { OnOk result (map source_given sources.new.items
+        ≡ with_source app (option_map (λ bytes. bytes.items) file) (map source_given sources.old.items)) }
+{
+    sources.push(Source { app, file })?;
+    Ok(())
+}
+
 /// The inputs that the lines of a job name.
 #[derive(Drop)]
 struct Gathered {
@@ -143,6 +211,8 @@ struct Gathered {
     system: Option<Vec<u8>>,
     /// The applications, each with its files.
     apps: Vec<App>,
+    /// The sources of the forks of the applications, in the order of the lines.
+    sources: Vec<Source>,
 }
 
 /// Reads the System file's fork.
@@ -157,7 +227,8 @@ fn add_system<H: Host>(
     ensures given { Reads (path.now ∷ []) (H.accesses host.old) (H.accesses host.new) result (λ texts.
         IsGiven (λ _. gathered inputs.new) (with_input (gathered inputs.old) (System path.now) texts) result) }
 {
-    inputs.system = Some(fork_at(alloc, host, path)?);
+    let found = fork_at(alloc, host, path)?;
+    inputs.system = Some(found.fork);
     Ok(())
 }
 
@@ -177,8 +248,10 @@ fn add_app<H: Host>(
         IsGiven (λ _. gathered inputs.new)
         (with_input (gathered inputs.old) (AppLine name.now.0.items fork.now script.now) texts) result) }
 {
-    let app = app_at(alloc, host, name, fork, script)?;
-    push_app(&mut inputs.apps, app)?;
+    let place = inputs.apps.len();
+    let found = app_at(alloc, host, name, fork, script)?;
+    push_app(&mut inputs.apps, found.app)?;
+    push_source(&mut inputs.sources, place, found.source)?;
     Ok(())
 }
 
@@ -198,8 +271,9 @@ fn add_file<H: Host>(
         IsGiven (λ _. gathered inputs.new)
         (with_input (gathered inputs.old) (File app name.now.0.items path.now) texts) result) }
 {
-    let file = file_at(alloc, host, name, path)?;
-    push_file(&mut inputs.apps, app, file)?;
+    let found = file_at(alloc, host, name, path)?;
+    push_file(&mut inputs.apps, app, found.file)?;
+    push_source(&mut inputs.sources, app, found.source)?;
     Ok(())
 }
 
@@ -243,6 +317,7 @@ fn read_inputs<H: Host>(
     let mut all = Gathered {
         system: None,
         apps: Vec::new(alloc),
+        sources: Vec::new(alloc),
     };
     for input in inputs {
         add(alloc, host, input, &mut all)?;
@@ -262,29 +337,47 @@ pub fn system_path<'t>(inputs: &[Input<'t>]) -> &'t str
     ""
 }
 
+/// A job, and where the forks of its applications were read.
+#[derive(Drop)]
+pub struct GatheredJob {
+    pub job: Job,
+    /// One for the own fork of each application, and one for each of its other files, in the order of their lines.
+    pub sources: Vec<Source>,
+}
+
 /// Reads a job with all that its lines name.
 ///
 /// # Errors
 ///
 /// The first input that can't be read, or the first script that is faulty, in the order of the lines; an application's
 /// fork precedes its script.
-pub fn gather<H: Host>(alloc: Global, host: &mut H, text: JobText<'_>) -> Result<Job, ToolFault>
+pub fn gather<H: Host>(
+    alloc: Global,
+    host: &mut H,
+    text: JobText<'_>,
+) -> Result<GatheredJob, ToolFault>
     requires order { AreInOrder (map input_seen text.inputs.items) }
     ensures silent { H.printed host.new ≡ H.printed host.old }
-    ensures memory { IfOk result (λ job. job.memory ≡ text.entry.memory) }
-    ensures events { IfOk result (λ job. job.events.items ≡ text.entry.events.items) }
-    ensures names { IfOk result (λ job. map name_of job.apps.items ≡ app_names (map input_seen text.entry.inputs.items)) }
+    ensures memory { IfOk result (λ g. g.job.memory ≡ text.entry.memory) }
+    ensures events { IfOk result (λ g. g.job.events.items ≡ text.entry.events.items) }
+    ensures names { IfOk result (λ g. map name_of g.job.apps.items ≡ app_names (map input_seen text.entry.inputs.items)) }
 
-    // The job has what its lines give, with the bytes at their paths, which are read in the order of the lines; or the
-    // first path that can't be read, or the first script that is faulty, stops it. No other file is read.
+    // The job and its sources are what the lines give, with the bytes at their paths, which are read in the order of the
+    // lines; or the first path that can't be read, or the first script that is faulty, stops it. No other file is read.
     ensures given { ReadsOf (map input_seen text.entry.inputs.items) (H.accesses host.old) (H.accesses host.new)
-        result (λ texts. IsGiven job_given (with_inputs nothing_given (map input_seen text.entry.inputs.items) texts) result) }
+        result (λ texts. IsGiven (λ g. job_given g.job (map source_given g.sources.items))
+        (with_inputs nothing_given (map input_seen text.entry.inputs.items) texts) result) }
 {
-    let Gathered { system, apps } = read_inputs(alloc, host, &text.inputs)?;
-    Ok(Job {
+    let Gathered {
+        system,
+        apps,
+        sources,
+    } = read_inputs(alloc, host, &text.inputs)?;
+    let job = Job {
         memory: text.memory,
         system,
         apps,
         events: text.events,
-    })
+    };
+    Ok(GatheredJob { job, sources })
 }

@@ -211,8 +211,8 @@ fn see<H: Host>(alloc: Global, host: &mut H, asked: JobZone<'_>) -> Result<Vec<u
     let bytes = read_input(alloc, host, asked.job)?;
     let text = job_text(alloc, asked.job, &bytes)?;
     let system = system_path(&text.inputs);
-    let job = gather(alloc, host, text)?;
-    match zone_of_job(alloc, &job, system, asked) {
+    let gathered = gather(alloc, host, text)?;
+    match zone_of_job(alloc, &gathered.job, system, asked) {
         Ok(text) => Ok(text),
         Err(fault) => Err(fault),
     }

@@ -36,7 +36,7 @@ pub use doing::tool;
 pub use ending::Ending;
 pub use fault::ToolFault;
 pub use files::{HostFiles, Progress};
-pub use gathering::gather;
+pub use gathering::{GatheredJob, Source, gather};
 pub use host::{Host, ReadError, WriteError};
 pub use outputs::write_outcome;
 pub use paths::room_for_paths;

@@ -7,14 +7,15 @@ ghost use Rattle.desk.specs.View.{outcome_seen};
 ghost use Rattle.desk.specs.Whole.{LeftByRun, IsOutcome, EachLaunched, IsAlone};
 ghost use Rattle.commands.specs.Fault.{message_of};
 ghost use Rattle.commands.specs.Accesses.{and_then, StopsAmong};
-ghost use Rattle.commands.specs.Outputs.{HasRoom};
+ghost use Rattle.commands.specs.Gathering.{source_given};
+ghost use Rattle.commands.specs.Outputs.{sources_unless, HasRoom};
 ghost use Rattle.commands.specs.Running.{writes_for, IsJobFault, IsRunFault, Hears, Leaves, IsUnwell, IsUnleft, Runs, IsStopped};
 
 use crate::fault::ToolFault;
-use crate::gathering::{gather, system_path};
+use crate::gathering::{GatheredJob, Source, gather, system_path};
 use crate::host::Host;
 use crate::input::read_input;
-use crate::outputs::write_outcome;
+use crate::outputs::{sources_unless, write_outcome};
 use crate::paths::room_for_paths;
 use crate::tasks::{script_fault, write_fault};
 use applications::{Unwatched, Watch};
@@ -24,12 +25,13 @@ use raw_region::Region;
 use script_text::{JobText, read_job};
 use std::alloc::Global;
 
-/// A request to run a job: its path and the folder for what it leaves, as they were given, and whether the
-/// progress of the job is to be reported.
+/// A request to run a job: its path and the folder for what it leaves, as they were given, whether forks are to be written
+/// alone, and whether the progress of the job is to be reported.
 #[derive(Clone, Copy)]
 pub struct Errand<'a> {
     pub job: &'a str,
     pub out: &'a str,
+    pub bare: bool,
     pub watched: bool,
 }
 
@@ -129,20 +131,23 @@ pub fn outcome_of<W: Watch>(
 
 /// Writes what a run leaves into a new folder. The text has room for the paths of the files, and goes into the fault.
 fn write_all<H: Host>(
+    alloc: Global,
     host: &mut H,
     folder: &str,
+    sources: &[Source],
     outcome: &Outcome,
     room: String,
 ) -> Result<(), ToolFault>
     requires { HasRoom folder.now (string_capacity room) }
     ensures silent { H.printed host.new ≡ H.printed host.old }
-    ensures written { OnOk result (H.accesses host.new
-        ≡ and_then (H.accesses host.old) (writes_for folder.now (outcome_seen outcome.now))) }
-    ensures stopped { IfErr result (λ fault. StopsAmong (writes_for folder.now (outcome_seen outcome.now))
+    ensures written { OnOk result (H.accesses host.new ≡ and_then (H.accesses host.old)
+        (writes_for folder.now (map source_given sources.now) (outcome_seen outcome.now))) }
+    ensures stopped { IfErr result (λ fault. StopsAmong
+        (writes_for folder.now (map source_given sources.now) (outcome_seen outcome.now))
         (H.accesses host.old) (H.accesses host.new) (message_of fault)) }
 {
     let mut path = room;
-    match write_outcome(host, folder, outcome, &mut path) {
+    match write_outcome(alloc, host, folder, sources, outcome, &mut path) {
         Ok(()) => Ok(()),
         Err(error) => Err(write_fault(path, error)),
     }
@@ -150,20 +155,22 @@ fn write_all<H: Host>(
 
 /// Writes what a run leaves into a new folder. A run that stopped is a fault once all that it leaves is written.
 fn written<H: Host>(
+    alloc: Global,
     host: &mut H,
     folder: &str,
+    sources: &[Source],
     outcome: &Outcome,
     room: String,
 ) -> Result<(), ToolFault>
     requires { HasRoom folder.now (string_capacity room) }
     ensures silent { H.printed host.new ≡ H.printed host.old }
     ensures whole { OnOk result (outcome.now.stopped ≡ false) }
-    ensures written { OnOk result (H.accesses host.new
-        ≡ and_then (H.accesses host.old) (writes_for folder.now (outcome_seen outcome.now))) }
-    ensures unwell { IfErr result (λ fault. IsUnwell folder.now (outcome_seen outcome.now)
+    ensures written { OnOk result (H.accesses host.new ≡ and_then (H.accesses host.old)
+        (writes_for folder.now (map source_given sources.now) (outcome_seen outcome.now))) }
+    ensures unwell { IfErr result (λ fault. IsUnwell folder.now (map source_given sources.now) (outcome_seen outcome.now)
         (H.accesses host.old) (H.accesses host.new) (message_of fault)) }
 {
-    write_all(host, folder, outcome, room)?;
+    write_all(alloc, host, folder, sources, outcome, room)?;
     if outcome.stopped {
         return Err(ToolFault::HostMemory);
     }
@@ -175,22 +182,25 @@ fn written<H: Host>(
 fn leave<H: Host, W: Watch>(
     alloc: Global,
     host: &mut H,
-    job: &Job,
+    gathered: &GatheredJob,
     system: &str,
     errand: Errand<'_>,
     watch: &mut W,
 ) -> Result<(), ToolFault>
-    requires memory { IsMemory job.now.memory }
-    requires few { length job.now.apps.items ≤ 64 }
+    requires memory { IsMemory gathered.now.job.memory }
+    requires few { length gathered.now.job.apps.items ≤ 64 }
     ensures silent { H.printed host.new ≡ H.printed host.old }
-    ensures left { OnOk result (Leaves errand.entry.out.now errand.entry.watched job.now
+    ensures left { OnOk result (Leaves errand.entry.out.now errand.entry.watched gathered.now.job
+        (sources_unless errand.entry.bare (map source_given gathered.now.sources.items))
         (W.heard watch.old) (W.heard watch.new) (H.accesses host.old) (H.accesses host.new)) }
-    ensures unleft { IfErr result (λ fault. IsUnleft system.now errand.entry.out.now errand.entry.watched job.now
+    ensures unleft { IfErr result (λ fault. IsUnleft system.now errand.entry.out.now errand.entry.watched gathered.now.job
+        (sources_unless errand.entry.bare (map source_given gathered.now.sources.items))
         (W.heard watch.old) (W.heard watch.new) (H.accesses host.old) (H.accesses host.new) (message_of fault)) }
 {
     let room = room_for_paths(alloc, errand.out)?;
-    let outcome = outcome_of(alloc, job, system, errand.watched, watch)?;
-    written(host, errand.out, &outcome, room)?;
+    let outcome = outcome_of(alloc, &gathered.job, system, errand.watched, watch)?;
+    let sources = sources_unless(errand.bare, &gathered.sources);
+    written(alloc, host, errand.out, sources, &outcome, room)?;
     Ok(())
 }
 
@@ -202,7 +212,7 @@ fn leave<H: Host, W: Watch>(
 /// A file that can't be read, the first faulty line of the job or of a script, or a System file that is no resource
 /// fork: then nothing is written. A folder that exists already, or a file that can't be written: then no other file is
 /// written after it. Or the host is out of memory: before the first event nothing is written; within an event the run
-/// stops, and what was completed is written.
+/// stops, and what was completed is written; where a fork is put into a file, no other file is written after it.
 pub fn run_job<H: Host, W: Watch>(
     alloc: Global,
     host: &mut H,
@@ -214,19 +224,19 @@ pub fn run_job<H: Host, W: Watch>(
 
     // The job and all that its lines name are read; then the folder is made, and the files that the run leaves, by the
     // definition of the desk, are written, in their order. No other file is read or written.
-    ensures runs { OnOk result (Runs errand.entry.job.now errand.entry.out.now errand.entry.watched
-        (W.heard watch.old) (W.heard watch.new) (H.accesses host.old) (H.accesses host.new)) }
+    ensures runs { OnOk result (Runs errand.entry (W.heard watch.old) (W.heard watch.new)
+        (H.accesses host.old) (H.accesses host.new)) }
 
     // The fault is the first in that order, and nothing is read or written after it; but a run that stops, since the host
     // is out of memory, has its fault after all that it leaves is written. The watch has heard nothing of a run that did
     // not begin.
-    ensures stopped { IfErr result (λ fault. IsStopped errand.entry.job.now errand.entry.out.now errand.entry.watched
-        (W.heard watch.old) (W.heard watch.new) (H.accesses host.old) (H.accesses host.new) (message_of fault)) }
+    ensures stopped { IfErr result (λ fault. IsStopped errand.entry (W.heard watch.old) (W.heard watch.new)
+        (H.accesses host.old) (H.accesses host.new) (message_of fault)) }
 {
     let bytes = read_input(alloc, host, errand.job)?;
     let text = job_text(alloc, errand.job, &bytes)?;
     let system = system_path(&text.inputs);
-    let job = gather(alloc, host, text)?;
-    leave(alloc, host, &job, system, errand, watch)?;
+    let gathered = gather(alloc, host, text)?;
+    leave(alloc, host, &gathered, system, errand, watch)?;
     Ok(())
 }

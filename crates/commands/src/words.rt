@@ -7,7 +7,9 @@ ghost use Rattle.commands.specs.Fault.{message_of, IsUsage};
 
 use crate::asking::is_asked;
 use crate::fault::ToolFault;
-use crate::fork_words::{FORK_HELP, UTF8, UTF8_HELP, charset_in, fork_request, with_fork_commands};
+use crate::fork_words::{
+    BARE, FORK_HELP, UTF8, UTF8_HELP, charset_in, fork_request, with_fork_commands,
+};
 use crate::listing::Spelling;
 use crate::parsing::{
     SCRIPT_HELP, SIZE_HELP, SIZE_RULE, argument, bad_value, flag, mistake, usage, value,
@@ -76,7 +78,9 @@ const RUN_ABOUT: &str = "Runs the applications of a job and writes what they lea
 const RUN_LONG_ABOUT: &str =
     "Runs a job: several applications in one memory, each in a partition of its own.
 Makes the folder OUT, which must not exist yet, and writes into it what the
-applications leave.
+applications leave: their transcripts, and each fork that was written, in the
+wrapper of the file in which it was read, with all else that this file holds
+(--bare writes the forks alone).
 
 Example:
   macmem run examples/job/job OUT
@@ -107,7 +111,11 @@ The folder OUT then holds:
   app-NAME.log               the transcript of each application that was
                              launched
   app-NAME-K.rsrc            each fork that was written; K is the file's place
-                             among the application's files, from 0
+                             among the application's files, from 0. A fork
+                             that was read in AppleSingle, AppleDouble,
+                             MacBinary or BinHex is written in it; alone with
+                             --bare, where it doesn't fit the wrapper, and
+                             where the run stopped with 'no host memory'
 
 Nothing is written before all input is read. A faulty line of the job or of a
 script is reported as 'macmem: PATH: line N: fault K', as by 'macmem script'; a
@@ -117,6 +125,8 @@ that exists already as 'macmem: OUT: cannot write'.";
 const JOB_HELP: &str = "File with the job's lines, or /dev/stdin";
 
 const OUT_HELP: &str = "Folder that is made; it must not exist yet";
+
+const RUN_BARE_HELP: &str = "Write each fork alone, also where its file has a wrapper";
 
 /// The name of the flag, without its two hyphens.
 const PROGRESS: &str = "progress";
@@ -210,6 +220,7 @@ fn run_command<'a>(alloc: Global) -> Result<Command<'a>, AllocError> {
     Command::new(alloc, "run")
         .about(RUN_ABOUT)
         .long_about(RUN_LONG_ABOUT)
+        .arg(flag(alloc, BARE, RUN_BARE_HELP))?
         .arg(flag(alloc, PROGRESS, PROGRESS_HELP))?
         .arg(argument(alloc, "JOB", JOB_HELP))?
         .arg(argument(alloc, "OUT", OUT_HELP))
@@ -330,6 +341,7 @@ fn asked<'a>(alloc: Global, matches: &ArgMatches<'a>) -> Result<Request<'a>, Too
         Some(("run", inner)) => Ok(Request::Run(Errand {
             job: value(inner, "JOB"),
             out: value(inner, "OUT"),
+            bare: inner.get_flag(BARE),
             watched: inner.get_flag(PROGRESS),
         })),
         Some(("map", inner)) => Ok(Request::Look(fork_task(listing_in(inner), inner))),

@@ -23,7 +23,7 @@ pub use fault::{FileFault, WorkFault};
 pub use info::info_text;
 pub use laws::a_fork_that_was_put_is_found;
 pub use opening::{Container, OpenFile, open_file};
-pub use packaging::Packaging;
+pub use packaging::{Packaging, with_fork};
 pub use packing::{list_in, listed_paths, packed_fork};
 pub use pair::{PairFault, PairOutput, PairWork, Place, Setting, combined};
 pub use parting::parts;

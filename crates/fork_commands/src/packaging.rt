@@ -85,8 +85,12 @@ fn encoded(alloc: Global, file: &[u8], fork: &[u8]) -> Result<Vec<u8>, WorkFault
 }
 
 /// Returns a file with a fork in the place of its own.
+///
+/// # Errors
+///
+/// The file is damaged, or the fork doesn't fit its wrapper.
 #[tactic(auto, using(crate::proofs::Wrappers::packed_encoded, crate::proofs::Wrappers::stopped_encoded, crate::proofs::Wrappers::packed_wrapped, crate::proofs::Wrappers::stopped_wrapped))]
-fn with_fork(alloc: Global, file: &[u8], fork: &[u8]) -> Result<Vec<u8>, WorkFault>
+pub fn with_fork(alloc: Global, file: &[u8], fork: &[u8]) -> Result<Vec<u8>, WorkFault>
     ensures made { IfOk result (λ out. packed AsRead file.now fork.now ≡ Ok out.items) }
     ensures fault { IfErr result (λ fault. Stops fault (packed AsRead file.now fork.now)) }
 {

@@ -17,6 +17,10 @@ fn once(alloc: Global, word: &str) -> Result<Vec<u8>> {
 
 /// Appends the bytes of a word.
 fn push_word(alloc: Global, bytes: &mut Vec<u8>, word: &str) -> Result<()> {
+    if word.starts_with("\"") {
+        bytes.extend_from_slice(&once(alloc, word)?)?;
+        return Ok(());
+    }
     match word.split_once('*') {
         Some((count, word)) => {
             let piece = once(alloc, word)?;

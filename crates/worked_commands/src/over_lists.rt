@@ -9,14 +9,14 @@ use crate::comparing::{compare, compare_files};
 use crate::disk::Disk;
 use applications::Unwatched;
 use block_store::{GREATEST_ZONE, LEAST_ZONE, ListZones};
-use commands::{gather, room_for_paths, write_outcome};
+use commands::{GatheredJob, Source, gather, room_for_paths, write_outcome};
 use desk::{Job, Outcome, RunFault, run, run_with};
 use raw_region::Region;
 use script_text::read_job;
 use std::alloc::{AllocError, Global};
 
 /// Returns the job of this path with all files that its lines name, or `None` where a file cannot be read or is faulty.
-fn job_at(alloc: Global, archive: &Archive, path: &str) -> Option<Job> {
+fn job_at(alloc: Global, archive: &Archive, path: &str) -> Option<GatheredJob> {
     let bytes = archive.file(path)?;
     let mut disk = Disk::new(alloc, archive, 0);
     match read_job(alloc, bytes) {
@@ -83,12 +83,13 @@ fn compare_written(
     text: &mut String,
     archive: &Archive,
     command: &Command,
+    sources: &[Source],
     outcome: &Outcome,
     out: &str,
 ) -> Result<(), AllocError> {
     let mut disk = Disk::new(alloc, archive, 0);
     let mut path = room_for_paths(alloc, out)?;
-    match write_outcome(&mut disk, out, outcome, &mut path) {
+    match write_outcome(alloc, &mut disk, out, sources, outcome, &mut path) {
         Ok(()) => compare_files(text, command, &disk.written),
         Err(_) => writeln!(text, "    {path} is not written"),
     }
@@ -102,6 +103,7 @@ fn compare_job(
     archive: &Archive,
     command: &Command,
     job: &Job,
+    sources: &[Source],
     done: Option<&str>,
 ) -> Result<(), AllocError> {
     let Some(ends) = ends_of(alloc, job) else {
@@ -111,7 +113,9 @@ fn compare_job(
     let in_lists = text_of(alloc, &ends.in_lists)?;
     compare(text, "outcome", in_region.as_bytes(), in_lists.as_bytes())?;
     match (&ends.in_lists, done) {
-        (Ok(outcome), Some(out)) => compare_written(alloc, text, archive, command, outcome, out),
+        (Ok(outcome), Some(out)) => {
+            compare_written(alloc, text, archive, command, sources, outcome, out)
+        }
         _ => Ok(()),
     }
 }
@@ -133,8 +137,12 @@ pub fn compare_in_lists(
     };
     let mut found = String::new(alloc);
     let done = if is_done { Some(*out) } else { None };
+    let bare = words.iter().any(|word| *word == "--bare");
     match job_at(alloc, archive, path) {
-        Some(job) => compare_job(alloc, &mut found, archive, command, &job, done)?,
+        Some(gathered) => {
+            let sources: &[Source] = if bare { &[] } else { &gathered.sources };
+            compare_job(alloc, &mut found, archive, command, &gathered.job, sources, done)?
+        }
         None if is_done => writeln!(found, "    the job isn't read")?,
         None => {}
     }

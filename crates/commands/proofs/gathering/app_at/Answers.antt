@@ -3,7 +3,7 @@ use Rattle.script_text.specs.Script.{spelled}
 use Rattle.commands.specs.declared.fault.ToolFault.TheVariants.{HostMemory}
 use Rattle.commands.specs.Fault.{message_of}
 use Rattle.commands.specs.Accesses.{Access, Read, and_then, reads_at}
-use Rattle.commands.specs.Gathering.{app_given}
+use Rattle.commands.specs.Gathering.{fork_found, app_found}
 use Rattle.commands.proofs.Accesses.{one_more, ends_err, stops_from, stop_given}
 use Rattle.commands.proofs.Forks.{app_unread, app_stop, app_there}
 use Rattle.commands.proofs.gathering.app_at.Goals as goal
@@ -19,7 +19,7 @@ returns-in_err-bytes-clause-app g c =
     let same : c.from_residual.result ≡ Err c.in_err-bytes.field-0.0 = search rules in
     let found = c.in_err-bytes.ensures.stop in
     let h = app_unread c.args.name.now.0.items c.args.fork.now c.args.script.now _ _ _ found.0 found.1 found.2 in
-    (h.0, ends_err _ _ _ _ same h.1, stop_given app_given _ _ _ same h.2)
+    (h.0, ends_err _ _ _ _ same h.1, stop_given app_found _ _ _ same h.2)
 
 pub returns-in_err-script-clause-app : goal.returns-in_err-script-clause-app
 returns-in_err-script-clause-app g c =
@@ -28,8 +28,8 @@ returns-in_err-script-clause-app g c =
     let same : c.from_residual-in_err-script.result ≡ Err c.in_err-script.field-0.0 = search rules in (
       found.0 ∷ h.0,
       ends_err _ _ _ _ same (stops_from _ _ _ _ (both _ _ c.args.fork.now c.args.script.now found.0 h.0 found.1) h.1),
-      stop_given app_given _ _ _ same (app_stop c.args.name.now.0.items c.args.fork.now c.args.script.now found.0
-          c.in_ok-bytes.bytes.items h.0 (message_of c.in_err-script.field-0.0) found.2 h.2),
+      stop_given app_found _ _ _ same (app_stop c.args.name.now.0.items c.args.fork.now c.args.script.now found.0
+          (fork_found c.in_ok-bytes.bytes) h.0 (message_of c.in_err-script.field-0.0) found.2 h.2),
     )
 
 pub returns-in_err-label_copy-clause-app : goal.returns-in_err-label_copy-clause-app
@@ -39,7 +39,7 @@ returns-in_err-label_copy-clause-app g c =
     let same : c.from_residual-in_err-label_copy.result ≡ Err HostMemory = search rules in (
       found.0 ∷ h.0,
       ends_err _ _ _ _ same (h.1 ∙ both _ _ c.args.fork.now c.args.script.now found.0 h.0 found.1),
-      stop_given app_given _ _ _ same tt,
+      stop_given app_found _ _ _ same tt,
     )
 
 pub returns-clause-app : goal.returns-clause-app
@@ -48,6 +48,6 @@ returns-clause-app g c =
     let h = c.in_ok-script.ensures.script in (
       found.0 ∷ h.0,
       h.1 ∙ both _ _ c.args.fork.now c.args.script.now found.0 h.0 found.1,
-      app_there c.args.name.now.0.items c.args.fork.now c.args.script.now found.0 c.in_ok-bytes.bytes.items h.0
+      app_there c.args.name.now.0.items c.args.fork.now c.args.script.now found.0 (fork_found c.in_ok-bytes.bytes) h.0
           (spelled c.in_ok-script.script) _ found.2 h.2 (search rules),
     )

@@ -1,7 +1,7 @@
 use Rattle.std.proofs.Common.{◌≡◌, Ok, Err, map, subst, rules}
 use Rattle.script_text.specs.Job.{job_seen, job_of, input_seen}
 use Rattle.commands.specs.Fault.{message_of}
-use Rattle.commands.specs.Gathering.{system_path}
+use Rattle.commands.specs.Gathering.{system_path, source_given}
 use Rattle.commands.specs.Running.{Stated, Taken, IsJobFault}
 use Rattle.commands.specs.JobZones.{Misstated}
 use Rattle.commands.proofs.Accesses.{told_err}
@@ -16,13 +16,13 @@ returns-in_err-text-clause-unseen g c =
     told_err _ _ _ same (Misstated c.in_ok-bytes.bytes.items c.in_ok-bytes.ensures.read
     (subst (λ t. IsJobFault c.args.asked.job.now t (message_of fault)) text c.in_err-text.ensures.fault))
 
-pub returns-in_err-job-clause-unseen : goal.returns-in_err-job-clause-unseen
-returns-in_err-job-clause-unseen g c =
-    let same : c.from_residual-in_err-job.result ≡ Err c.in_err-job.field-0.0 = search rules in
+pub returns-in_err-gathered-clause-unseen : goal.returns-in_err-gathered-clause-unseen
+returns-in_err-gathered-clause-unseen g c =
+    let same : c.from_residual-in_err-gathered.result ≡ Err c.in_err-gathered.field-0.0 = search rules in
     let states : job_of c.in_ok-bytes.bytes.items ≡ Ok (job_seen c.in_ok-text.text) = search rules in
     let stated : Stated =
     record { text = c.in_ok-bytes.bytes.items; lines = job_seen c.in_ok-text.text; states = states } in
-    let h = c.in_err-job.ensures.given in
+    let h = c.in_err-gathered.ensures.given in
     told_err _ _ _ same (ungathered_zone c.args.asked stated h.0 _ _ _ _ c.in_ok-bytes.ensures.read h.1 h.2)
 
 pub returns-clause-unseen : goal.returns-clause-unseen
@@ -30,13 +30,14 @@ returns-clause-unseen g c =
     let states : job_of c.in_ok-bytes.bytes.items ≡ Ok (job_seen c.in_ok-text.text) = search rules in
     let system : c.system_path-system.result.now ≡ system_path (map input_seen c.in_ok-text.text.inputs.items) =
     search rules in
-    let h = c.in_ok-job.ensures.given in
+    let h = c.in_ok-gathered.ensures.given in
     let taken : Taken = record {
       stated = record { text = c.in_ok-bytes.bytes.items; lines = job_seen c.in_ok-text.text; states = states };
       texts = h.0;
-      job = c.in_ok-job.job;
-      memory = c.in_ok-job.ensures.memory;
-      events = c.in_ok-job.ensures.events;
+      job = c.in_ok-gathered.gathered.job;
+      sources = map source_given c.in_ok-gathered.gathered.sources.items;
+      memory = c.in_ok-gathered.ensures.memory;
+      events = c.in_ok-gathered.ensures.events;
       given = h.2;
     } in
     not_there c.args.asked _ taken _ _ _ (message_of c.in-Err.fault) system c.in_ok-bytes.ensures.read h.1
@@ -45,13 +46,14 @@ returns-clause-unseen g c =
 pub returns-in-Ok-clause-sees : goal.returns-in-Ok-clause-sees
 returns-in-Ok-clause-sees g c =
     let states : job_of c.in_ok-bytes.bytes.items ≡ Ok (job_seen c.in_ok-text.text) = search rules in
-    let h = c.in_ok-job.ensures.given in
+    let h = c.in_ok-gathered.ensures.given in
     let taken : Taken = record {
       stated = record { text = c.in_ok-bytes.bytes.items; lines = job_seen c.in_ok-text.text; states = states };
       texts = h.0;
-      job = c.in_ok-job.job;
-      memory = c.in_ok-job.ensures.memory;
-      events = c.in_ok-job.ensures.events;
+      job = c.in_ok-gathered.gathered.job;
+      sources = map source_given c.in_ok-gathered.gathered.sources.items;
+      memory = c.in_ok-gathered.ensures.memory;
+      events = c.in_ok-gathered.ensures.events;
       given = h.2;
     } in
     sees c.args.asked c.in-Ok.text.items taken _ _ _ c.in_ok-bytes.ensures.read h.1 c.in-Ok.ensures.zone

@@ -1,11 +1,13 @@
 use Rattle.std.proofs.Common.{◌≡◌, ◌∙◌, Err, rules}
+use Rattle.commands.specs.Outputs.{owner_source}
 use Rattle.commands.proofs.Accesses.{told_err}
 use Rattle.commands.proofs.Writes.{further, stopped, of_file}
 use Rattle.commands.proofs.outputs.write_forks_within.Goals as goal
 
 pub loop-k-preserved : goal.loop-k-preserved
 loop-k-preserved g c =
-    let come = of_file c.args.folder.now c.args.name.now.0.items c.args.files.now c.loop-k.k c.index-files-k.result
+    let come = of_file c.args.folder.now c.args.owner.name.now.0.items (owner_source c.args.owner)
+    c.args.files.now c.loop-k.k c.index-files-k.result
     c.loop-k-test.true c.index-files-k.is in
     record {
       silent = c.in_ok-write_fork.ensures.silent ∙ c.loop-k.invariant.silent;
@@ -15,7 +17,8 @@ loop-k-preserved g c =
 
 pub returns-in_err-write_fork-clause-stopped : goal.returns-in_err-write_fork-clause-stopped
 returns-in_err-write_fork-clause-stopped g c =
-    let come = of_file c.args.folder.now c.args.name.now.0.items c.args.files.now c.loop-k.k c.index-files-k.result
+    let come = of_file c.args.folder.now c.args.owner.name.now.0.items (owner_source c.args.owner)
+    c.args.files.now c.loop-k.k c.index-files-k.result
     c.loop-k-test.true c.index-files-k.is in
     let same : c.from_residual.result ≡ Err c.in_err-write_fork.field-0.0 = search rules in
     told_err _ _ _ same (stopped _ _ _ _ _ _ _ _ _ come c.loop-k.invariant.made c.in_err-write_fork.ensures.stopped)

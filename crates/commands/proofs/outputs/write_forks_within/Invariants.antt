@@ -1,7 +1,7 @@
 use Rattle.std.proofs.Common.{◌≡◌, drop, map}
 use Rattle.std.specs.Prelude.{string_capacity}
 use Rattle.res_calls.specs.View.{view_file}
-use Rattle.commands.specs.Outputs.{forks_within, HasRoom}
+use Rattle.commands.specs.Outputs.{owner_source, forks_within, HasRoom}
 use Rattle.commands.specs.Running.{write_of}
 use Rattle.commands.proofs.Writes.{Made}
 use Rattle.commands.proofs.outputs.write_forks_within.Given as goal
@@ -10,8 +10,10 @@ use Rattle.commands.proofs.outputs.write_forks_within.Given as goal
 abbrev pub invariant-loop-k : goal.invariant-loop-k
 invariant-loop-k g l = record {
   silent : g.H.Host.printed l.host ≡ g.H.Host.printed l.fn.host;
-  made : Made (map write_of (forks_within l.folder l.name.0.items 0 (map view_file l.files)))
-      (map write_of (forks_within l.folder l.name.0.items l.k (map view_file (drop l.k l.files))))
+  made : Made (map write_of (forks_within l.folder l.owner.name.now.0.items (owner_source l.owner) 0
+      (map view_file l.files)))
+      (map write_of (forks_within l.folder l.owner.name.now.0.items (owner_source l.owner) l.k
+      (map view_file (drop l.k l.files))))
       (g.H.Host.accesses l.fn.host) (g.H.Host.accesses l.host);
   room : HasRoom l.folder (string_capacity l.path);
 }

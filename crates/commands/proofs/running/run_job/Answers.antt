@@ -1,7 +1,7 @@
 use Rattle.std.proofs.Common.{◌≡◌, Ok, Err, map, refl, subst, rules}
 use Rattle.script_text.specs.Job.{job_seen, job_of, input_seen}
 use Rattle.commands.specs.Fault.{message_of}
-use Rattle.commands.specs.Gathering.{system_path}
+use Rattle.commands.specs.Gathering.{system_path, source_given}
 use Rattle.commands.specs.Running.{Stated, Taken, IsJobFault, Misstated}
 use Rattle.commands.proofs.Accesses.{told_err}
 use Rattle.commands.proofs.Jobs.{ungathered, unleft, runs}
@@ -15,14 +15,14 @@ returns-in_err-text-clause-stopped g c =
     told_err _ _ _ same (Misstated c.in_ok-bytes.bytes.items refl c.in_ok-bytes.ensures.read
     (subst (λ t. IsJobFault c.args.errand.job.now t (message_of fault)) text c.in_err-text.ensures.fault))
 
-pub returns-in_err-job-clause-stopped : goal.returns-in_err-job-clause-stopped
-returns-in_err-job-clause-stopped g c =
-    let same : c.from_residual-in_err-job.result ≡ Err c.in_err-job.field-0.0 = search rules in
+pub returns-in_err-gathered-clause-stopped : goal.returns-in_err-gathered-clause-stopped
+returns-in_err-gathered-clause-stopped g c =
+    let same : c.from_residual-in_err-gathered.result ≡ Err c.in_err-gathered.field-0.0 = search rules in
     let states : job_of c.in_ok-bytes.bytes.items ≡ Ok (job_seen c.in_ok-text.text) = search rules in
     let stated : Stated =
     record { text = c.in_ok-bytes.bytes.items; lines = job_seen c.in_ok-text.text; states = states } in
-    let h = c.in_err-job.ensures.given in
-    told_err _ _ _ same (ungathered _ _ _ _ _ stated h.0 _ _ _ _ refl c.in_ok-bytes.ensures.read h.1 h.2)
+    let h = c.in_err-gathered.ensures.given in
+    told_err _ _ _ same (ungathered _ _ _ stated h.0 _ _ _ _ refl c.in_ok-bytes.ensures.read h.1 h.2)
 
 pub returns-in_err-leave-clause-stopped : goal.returns-in_err-leave-clause-stopped
 returns-in_err-leave-clause-stopped g c =
@@ -30,28 +30,30 @@ returns-in_err-leave-clause-stopped g c =
     let states : job_of c.in_ok-bytes.bytes.items ≡ Ok (job_seen c.in_ok-text.text) = search rules in
     let system : c.system_path-system.result.now ≡ system_path (map input_seen c.in_ok-text.text.inputs.items) =
     search rules in
-    let h = c.in_ok-job.ensures.given in
+    let h = c.in_ok-gathered.ensures.given in
     let taken : Taken = record {
       stated = record { text = c.in_ok-bytes.bytes.items; lines = job_seen c.in_ok-text.text; states = states };
       texts = h.0;
-      job = c.in_ok-job.job;
-      memory = c.in_ok-job.ensures.memory;
-      events = c.in_ok-job.ensures.events;
+      job = c.in_ok-gathered.gathered.job;
+      sources = map source_given c.in_ok-gathered.gathered.sources.items;
+      memory = c.in_ok-gathered.ensures.memory;
+      events = c.in_ok-gathered.ensures.events;
       given = h.2;
     } in
     told_err _ _ _ same
-    (unleft _ _ _ _ _ _ taken _ _ _ _ _ system c.in_ok-bytes.ensures.read h.1 c.in_err-leave.ensures.unleft)
+    (unleft _ _ _ _ taken _ _ _ _ _ system c.in_ok-bytes.ensures.read h.1 c.in_err-leave.ensures.unleft)
 
 pub returns-clause-runs : goal.returns-clause-runs
 returns-clause-runs g c =
     let states : job_of c.in_ok-bytes.bytes.items ≡ Ok (job_seen c.in_ok-text.text) = search rules in
-    let h = c.in_ok-job.ensures.given in
+    let h = c.in_ok-gathered.ensures.given in
     let taken : Taken = record {
       stated = record { text = c.in_ok-bytes.bytes.items; lines = job_seen c.in_ok-text.text; states = states };
       texts = h.0;
-      job = c.in_ok-job.job;
-      memory = c.in_ok-job.ensures.memory;
-      events = c.in_ok-job.ensures.events;
+      job = c.in_ok-gathered.gathered.job;
+      sources = map source_given c.in_ok-gathered.gathered.sources.items;
+      memory = c.in_ok-gathered.ensures.memory;
+      events = c.in_ok-gathered.ensures.events;
       given = h.2;
     } in
-    runs _ _ _ _ _ taken _ _ _ _ c.in_ok-bytes.ensures.read h.1 c.in_ok-leave.ensures.left
+    runs _ _ _ taken _ _ _ _ c.in_ok-bytes.ensures.read h.1 c.in_ok-leave.ensures.left
