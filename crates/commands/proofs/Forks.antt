@@ -7,7 +7,7 @@ use Rattle.commands.specs.declared.fault.ToolFault.{ToolFault}
 use Rattle.commands.specs.Accesses.{Access, Stops, IsUnread, and_then, reads_at}
 use Rattle.commands.specs.Gathering.{Found, source_of, fork_told, fork_at, script_at, app_of, app_at, GivenApp, IsStop, Reads, IsGiven}
 use Rattle.commands.specs.Tasks.{IsForkFault}
-use Rattle.commands.proofs.Accesses.{none, stop_then, ends_err, stops_from, unread_given, unread_stops}
+use Rattle.commands.proofs.Accesses.{none, stop_then, stops_from, unread_given, unread_stops}
 
 -- a fork that was found, with its source
 pub told_found : (path bytes fork : List ℕ) (source : Option (List ℕ)) → fork_in bytes ≡ Ok fork → source ≡ source_of bytes

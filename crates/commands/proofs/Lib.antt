@@ -5,7 +5,6 @@ mod Extracted
 pub mod Faults
 pub mod Forks
 pub mod Kept
-mod Sources
 mod Inputs
 mod Jobs
 mod JobZones

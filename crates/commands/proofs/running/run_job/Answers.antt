@@ -22,7 +22,7 @@ returns-in_err-gathered-clause-stopped g c =
     let stated : Stated =
     record { text = c.in_ok-bytes.bytes.items; lines = job_seen c.in_ok-text.text; states = states } in
     let h = c.in_err-gathered.ensures.given in
-    told_err _ _ _ same (ungathered _ _ _ stated h.0 _ _ _ _ refl c.in_ok-bytes.ensures.read h.1 h.2)
+    told_err _ _ _ same (ungathered c.args.errand _ _ stated h.0 _ _ _ _ refl c.in_ok-bytes.ensures.read h.1 h.2)
 
 pub returns-in_err-leave-clause-stopped : goal.returns-in_err-leave-clause-stopped
 returns-in_err-leave-clause-stopped g c =
@@ -41,7 +41,7 @@ returns-in_err-leave-clause-stopped g c =
       given = h.2;
     } in
     told_err _ _ _ same
-    (unleft _ _ _ _ taken _ _ _ _ _ system c.in_ok-bytes.ensures.read h.1 c.in_err-leave.ensures.unleft)
+    (unleft c.args.errand _ _ _ taken _ _ _ _ _ system c.in_ok-bytes.ensures.read h.1 c.in_err-leave.ensures.unleft)
 
 pub returns-clause-runs : goal.returns-clause-runs
 returns-clause-runs g c =
@@ -56,4 +56,4 @@ returns-clause-runs g c =
       events = c.in_ok-gathered.ensures.events;
       given = h.2;
     } in
-    runs _ _ _ taken _ _ _ _ c.in_ok-bytes.ensures.read h.1 c.in_ok-leave.ensures.left
+    runs c.args.errand _ _ taken _ _ _ _ c.in_ok-bytes.ensures.read h.1 c.in_ok-leave.ensures.left
