@@ -9,7 +9,9 @@ use Rattle.fork_wrappers.specs.declared.wrapping.Wrapping.{Wrapping}
 use Rattle.fork_wrappers.specs.declared.wrapping.Wrapping.TheVariants as wrapping
 use Rattle.fork_commands.specs.declared.fault.FileFault.{FileFault}
 use Rattle.fork_commands.specs.declared.fault.FileFault.TheVariants as fault
-use Rattle.fork_commands.specs.Faults.{made_then}
+use Rattle.fork_commands.specs.declared.fault.WorkFault.{WorkFault}
+use Rattle.fork_commands.specs.declared.fault.WorkFault.TheVariants.{File as FileAt, HostMemory}
+use Rattle.fork_commands.specs.Faults.{made_then, Stops}
 use Rattle.fork_commands.specs.Reading.{fork_found, fork_within, fork_in, content_of_fork, content_in}
 use Rattle.fork_commands.specs.Opening.{is_unwrapped, is_encoded, opened, decoded_or_fault, container_of}
 use Rattle.fork_commands.specs.declared.opening.Container.TheVariants as container
@@ -84,6 +86,18 @@ no_fork_in bytes damage is has = ap (λ read. made_then read (fork_within bytes)
 pub no_content_in : (bytes : List ℕ) (damage : Damage) → is_encoded bytes ≡ true → decoded bytes ≡ Err damage
     → content_in bytes ≡ Err (fault.BinHex damage)
 no_content_in bytes damage is has = ap (λ fork. made_then fork content_of_fork) (no_fork_in bytes damage is has)
+
+-- why there is no fork in a file that is not opened
+pub no_fork : (bytes : List ℕ) (fault : WorkFault) → Stops fault (opened bytes) → Stops fault (fork_in bytes)
+unfolding fork_in
+no_fork bytes HostMemory stops = tt
+no_fork bytes (FileAt fault) stops = rw stops refl
+
+-- why it has no content
+pub no_content : (bytes : List ℕ) (fault : WorkFault) → Stops fault (opened bytes) → Stops fault (content_in bytes)
+unfolding fork_in
+no_content bytes HostMemory stops = tt
+no_content bytes (FileAt fault) stops = rw stops refl
 
 -- a fork is its own file
 pub bare_fork : (bytes : List ℕ) → is_fork bytes ≡ true → fork_in bytes ≡ Ok bytes
