@@ -120,6 +120,12 @@ fn compare_job(
     }
 }
 
+/// Returns the files that forks are put into: none where the forks are to be written alone.
+fn sources_unless(alone: bool, sources: &[Source]) -> &[Source] {
+    let count = if alone { 0 } else { sources.len() };
+    &sources[..count]
+}
+
 /// Runs the job of a command line once more over each maker of zones, and appends the differences between the outcomes,
 /// and between the files that they leave and those that the command is to write, where it is done. The paths of the job
 /// and of the folder are the last two words that are no options.
@@ -140,8 +146,16 @@ pub fn compare_in_lists(
     let bare = words.iter().any(|word| *word == "--bare");
     match job_at(alloc, archive, path) {
         Some(gathered) => {
-            let sources: &[Source] = if bare { &[] } else { &gathered.sources };
-            compare_job(alloc, &mut found, archive, command, &gathered.job, sources, done)?
+            let sources = sources_unless(bare, &gathered.sources);
+            compare_job(
+                alloc,
+                &mut found,
+                archive,
+                command,
+                &gathered.job,
+                sources,
+                done,
+            )?
         }
         None if is_done => writeln!(found, "    the job isn't read")?,
         None => {}
