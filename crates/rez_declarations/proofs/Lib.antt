@@ -1,0 +1,5 @@
+pub mod Readings
+pub mod Judged
+pub mod Whole
+pub mod Worked
+pub mod WorkedStatements

@@ -1,0 +1,15 @@
+use Rattle.std.proofs.Common.{◌∙◌, ℕ, sym, rules, tests}
+use Rattle.std.proofs.lemmas.Iterator.{YieldsList-from_slice}
+use Rattle.std.proofs.lemmas.Iterator.Search.{any_from_yields_List}
+use Rattle.std.specs.Prelude.{Vec}
+use Rattle.std.specs.declared.alloc.Global.{Global}
+use Rattle.rez_declarations.specs.Sound.{is_name}
+use Rattle.rez_types.proofs.Mapped.{any_map}
+use Rattle.rez_declarations.proofs.drafting.is_among.Goals as goal
+
+pub returns : goal.returns
+returns c =
+    let xs = c.args.names.now in
+    let by_call = any_from_yields_List (λ (n : Vec ℕ Global). is_name c.args.name.now n.items) _ _ _ c.any.ensures.ran
+    (YieldsList-from_slice xs cc) (λ x b q k. search (rules, tests)) in
+    by_call ∙ sym (any_map (λ (n : Vec ℕ Global). n.items) (is_name c.args.name.now) xs)

@@ -1,0 +1,10 @@
+use Rattle.std.proofs.Common.{◌≡◌, ◌-◌, [], map}
+use Rattle.rez_types.specs.View.{number_of}
+use Rattle.rez_declarations.specs.Parses.{parsing_of}
+use Rattle.rez_declarations.specs.Declaring.{numbers_named}
+use Rattle.rez_declarations.proofs.parser.Parser.take_numbers.Given as goal
+
+-- the names to come lead to what all lead to
+abbrev pub invariant-loop-i : goal.invariant-loop-i
+invariant-loop-i l = numbers_named (256 - l.i) l.width.bits l.following (map number_of l.constants.items) (parsing_of l.self)
+    ≡ numbers_named 256 l.width.bits 0 [] (parsing_of l.fn.self)

@@ -1,0 +1,10 @@
+use Rattle.std.proofs.Common.{◌≡◌, ◌-◌, [], map}
+use Rattle.rez_types.specs.View.{text_of}
+use Rattle.rez_declarations.specs.Parses.{parsing_of}
+use Rattle.rez_declarations.specs.Declaring.{texts_named}
+use Rattle.rez_declarations.proofs.parser.Parser.take_texts.Given as goal
+
+-- the names to come lead to what all lead to
+abbrev pub invariant-loop-i : goal.invariant-loop-i
+invariant-loop-i l = texts_named (256 - l.i) (map text_of l.constants.items) (parsing_of l.self)
+    ≡ texts_named 256 [] (parsing_of l.fn.self)

@@ -1,0 +1,16 @@
+use Rattle.std.proofs.Common.{◌∙◌, not, sym, rules, tests}
+use Rattle.std.proofs.lemmas.Iterator.{YieldsList-from_slice}
+use Rattle.std.proofs.lemmas.Iterator.Search.{any_from_yields_List}
+use Rattle.rez_types.specs.declared.declaration.NamedText.{NamedText as Held}
+use Rattle.rez_types.specs.Fields.{NamedText}
+use Rattle.rez_types.specs.View.{text_of}
+use Rattle.rez_declarations.specs.Sound.{is_text}
+use Rattle.rez_types.proofs.Mapped.{any_map}
+use Rattle.rez_declarations.proofs.plain.has_wrong.Goals as goal
+
+pub returns : goal.returns
+returns c =
+    let xs = c.args.constants.now in
+    let by_call = any_from_yields_List (λ (n : Held). not (is_text c.args.end n.text.items)) _ _ _ c.any.ensures.ran
+    (YieldsList-from_slice xs cc) (λ x b q k. search (rules, tests)) in
+    by_call ∙ sym (any_map text_of (λ (n : NamedText). not (is_text c.args.end n.text)) xs)

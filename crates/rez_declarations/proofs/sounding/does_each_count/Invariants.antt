@@ -1,0 +1,10 @@
+use Rattle.std.proofs.Common.{◌≡◌}
+use Rattle.rez_types.specs.View.{fields_of}
+use Rattle.rez_declarations.specs.Sound.{each_counts}
+use Rattle.rez_declarations.proofs.sounding.does_each_count.Given as goal
+
+abbrev pub invariant-loop-left : goal.invariant-loop-left
+invariant-loop-left l = each_counts l.left (fields_of l.fields) ≡ each_counts l.counts (fields_of l.fields)
+
+abbrev pub decreases-loop-left : goal.decreases-loop-left
+decreases-loop-left l = l.left

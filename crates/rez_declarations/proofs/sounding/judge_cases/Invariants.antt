@@ -1,0 +1,10 @@
+use Rattle.std.proofs.Common.{◌≡◌, drop, map}
+use Rattle.rez_types.specs.View.{blocks_of, place_of, case_of}
+use Rattle.rez_declarations.specs.Sound.{cases_judged}
+use Rattle.rez_declarations.proofs.sounding.judge_cases.Given as goal
+
+-- the cases to come are judged as all are
+abbrev pub invariant-loop-case : goal.invariant-loop-case
+invariant-loop-case l =
+    cases_judged (blocks_of l.blocks) l.shapes (place_of l.place) (map case_of (drop l.case-index l.cases)) l.judged
+    ≡ cases_judged (blocks_of l.blocks) l.shapes (place_of l.place) (map case_of l.cases) l.fn.shape

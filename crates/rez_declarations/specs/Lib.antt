@@ -1,0 +1,9 @@
+pub mod View
+pub mod Results
+pub mod Sound
+pub mod Judging
+pub mod Drafting
+pub mod Drafts
+pub mod Parsing
+pub mod Declaring
+pub mod Parses
