@@ -1,0 +1,15 @@
+use Rattle.std.proofs.Common.{◌∙◌, sym, rules, tests}
+use Rattle.std.proofs.lemmas.Iterator.{YieldsList-from_slice}
+use Rattle.std.proofs.lemmas.Iterator.Search.{position_from_yields_List}
+use Rattle.rez_types.specs.declared.declaration.Case.{Case as Held}
+use Rattle.rez_types.specs.View.{case_of}
+use Rattle.rez_types.proofs.Mapped.{position_map}
+use Rattle.rez_values.specs.Taken.{is_case_named}
+use Rattle.rez_values.proofs.naming.place_of_case.Goals as goal
+
+pub returns : goal.returns
+returns c =
+    let xs = c.args.cases.now in
+    let by_call = position_from_yields_List (λ (d : Held). is_case_named c.args.word.now (case_of d)) _ _ _ c.position.ensures.ran
+    (YieldsList-from_slice xs cc) (λ x b q k. search (rules, tests)) in
+    by_call ∙ sym (position_map case_of (is_case_named c.args.word.now) xs)

@@ -1,0 +1,15 @@
+use Rattle.std.proofs.Common.{◌∙◌, sym, rules, tests}
+use Rattle.std.proofs.lemmas.Iterator.{YieldsList-from_slice}
+use Rattle.std.proofs.lemmas.Iterator.Search.{position_from_yields_List}
+use Rattle.rez_types.specs.declared.declaration.NamedText.{NamedText as Held}
+use Rattle.rez_types.specs.View.{text_of}
+use Rattle.rez_types.proofs.Mapped.{position_map}
+use Rattle.rez_values.specs.Stating.{is_text_named}
+use Rattle.rez_values.proofs.naming.place_of_text.Goals as goal
+
+pub returns : goal.returns
+returns c =
+    let xs = c.args.constants.now in
+    let by_call = position_from_yields_List (λ (d : Held). is_text_named c.args.word.now (text_of d)) _ _ _ c.position.ensures.ran
+    (YieldsList-from_slice xs cc) (λ x b q k. search (rules, tests)) in
+    by_call ∙ sym (position_map text_of (is_text_named c.args.word.now) xs)

@@ -1,0 +1,4 @@
+pub mod Taking
+pub mod Stating
+pub mod Taken
+pub mod View
