@@ -1,0 +1,58 @@
+-- One more turn of a loop that counts.
+use Rattle.std.proofs.Common.{◌≡◌, ℕ, suc, ◌+◌, ◌-◌, ◌<◌, ◌≤◌, Option, Some, List, [], if◌then◌else◌, length, get_or}
+use Rattle.std.proofs.Common.{refl, ap, ◌∙◌, arith}
+use Rattle.std.specs.Prelude.{slice_get, option_map}
+use Rattle.std.proofs.lemmas.Option.{slice_get-map, slice_get_read, slice_get_past}
+use Rattle.rez_types.specs.declared.declaration.Block.{Block}
+use Rattle.rez_types.specs.View.{block_of, blocks_of}
+use Rattle.rez_types.specs.Fields.{Field}
+use Rattle.rez_types.specs.Options.{◌>>=◌}
+use Rattle.rez_types.specs.Encoding.{more_in}
+use Rattle.rez_printing.specs.declared.layout.Layout.TheVariants as layout
+use Rattle.rez_printing.specs.declared.layout.Gap.{Gap}
+use Rattle.rez_printing.specs.Pieces.{signed_number}
+use Rattle.rez_printing.specs.Showing.{Showing, next_number, next_of, stated, with_gap, shown_numbers, shown_elements, shown_fields, shown_block}
+use Rattle.rez_printing.specs.TypeText.{block_text, fields_from, fields_text}
+
+-- what is left of n turns before the i-th
+left : (n i : ℕ) → i < n → n - i ≡ suc (n - (i + 1))
+left n i h = omega arith
+
+-- a number above 0
+above : (n : ℕ) → 0 < n → n ≡ suc (n - 1)
+above n h = omega arith
+
+pub numbers_on : (n i : ℕ) (s : Showing) → i < n → shown_numbers (n - i) s
+    ≡ (next_number 16 s >>= λ (here, t). shown_numbers (n - (i + 1)) (stated (signed_number 16 here) layout.Flat t))
+numbers_on n i s h = ap (λ k. shown_numbers k s) (left n i h)
+
+pub elements_on : (element : Showing → Option Showing) (next : Gap) (n i : ℕ) (s : Showing) → i < n
+    → shown_elements element next (n - i) s
+    ≡ (next_of more_in s
+    >>= λ (more, t).
+    if more then (element t >>= λ u. shown_elements element next (n - (i + 1)) (with_gap next u)) else Some t)
+elements_on element next n i s h = ap (λ k. shown_elements element next k s) (left n i h)
+
+pub block_on : (depth : ℕ) (blocks : List (List Field)) (block : ℕ) (s : Showing) → 0 < depth
+    → shown_block depth blocks block s
+    ≡ (slice_get blocks block >>= λ fields. shown_fields (shown_block (depth - 1) blocks) layout.Flat fields s)
+block_on depth blocks block s h = ap (λ k. shown_block k blocks block s) (above depth h)
+
+block_text_on : (depth : ℕ) (blocks : List (List Field)) (block : ℕ) → 0 < depth
+    → block_text depth blocks block ≡ fields_text (block_text (depth - 1) blocks) (slice_get blocks block)
+block_text_on depth blocks block h = ap (λ k. block_text k blocks block) (above depth h)
+
+-- a block that is there, and one that is not
+pub block_there : (depth : ℕ) (bs : List Block) (k : ℕ) (b : Block) → 0 < depth → k < length bs → b ≡ get_or bs k b
+    → block_text depth (blocks_of bs) k
+    ≡ fields_from (block_text (depth - 1) (blocks_of bs)) (block_of b) 0 (block_of b)
+block_there depth bs k b deep inside here =
+    block_text_on depth (blocks_of bs) k deep
+    ∙ ap (fields_text (block_text (depth - 1) (blocks_of bs)))
+    (slice_get-map block_of bs k ∙ ap (option_map block_of) (slice_get_read bs (length bs) k b refl inside here))
+
+pub block_absent : (depth : ℕ) (bs : List Block) (k : ℕ) → 0 < depth → length bs ≤ k → block_text depth (blocks_of bs) k ≡ []
+block_absent depth bs k deep past =
+    block_text_on depth (blocks_of bs) k deep
+    ∙ ap (fields_text (block_text (depth - 1) (blocks_of bs)))
+    (slice_get-map block_of bs k ∙ ap (option_map block_of) (slice_get_past bs k past))

@@ -1,0 +1,8 @@
+use Rattle.std.proofs.Common.{◌≡◌, ◌++◌, drop}
+use Rattle.std.specs.List.{flat_map}
+use Rattle.rez_printing.specs.Pieces.{byte_hex}
+use Rattle.rez_printing.proofs.pieces.push_digits.Given as goal
+
+-- the bytes so far, with those to come, are all
+abbrev pub invariant-loop-byte : goal.invariant-loop-byte
+invariant-loop-byte l = l.out.items ++ flat_map byte_hex (drop l.byte-index l.bytes) ≡ l.fn.out.items ++ flat_map byte_hex l.bytes

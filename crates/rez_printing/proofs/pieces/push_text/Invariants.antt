@@ -1,0 +1,12 @@
+use Rattle.std.proofs.Common.{◌≡◌, drop, map}
+use Rattle.rez_types.specs.View.{text_of}
+use Rattle.rez_printing.specs.Pieces.{named_text}
+use Rattle.rez_printing.proofs.pieces.push_text.Given as goal
+
+-- no name so far stands for the string, and nothing is written
+abbrev pub invariant-loop-constant : goal.invariant-loop-constant
+invariant-loop-constant l = record {
+  rest : named_text l.is_hex (map text_of (drop l.constant-index l.constants)) l.bytes
+      ≡ named_text l.is_hex (map text_of l.constants) l.bytes;
+  same : l.out.items ≡ l.fn.out.items;
+}

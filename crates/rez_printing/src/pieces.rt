@@ -1,0 +1,348 @@
+//! Numbers and strings, as the language of Rez writes them.
+
+ghost use Rattle.std.specs.Prelude.{◌≡◌, ◌≤◌, ◌∷◌, ◌++◌, OnOk, map, decimal, bytes_eq};
+ghost use Rattle.std.specs.List.{flat_map, list_all};
+ghost use Rattle.byteorder.specs.Endian.{big_bytes};
+ghost use Rattle.rez_types.specs.View.{number_of, text_of};
+ghost use Rattle.rez_types.specs.Decoding.{is_zero as is_zero_of};
+ghost use Rattle.rez_printing.specs.Pieces as spec;
+
+use itoa::Buffer;
+use mac_words::upper_digit;
+use rez_types::{Form, Integer, NamedText, Width, power};
+use std::alloc::{AllocError, Global};
+
+/// Appends a byte in hexadecimal.
+fn push_hex(out: &mut Vec<u8>, byte: u8) -> Result<(), AllocError>
+    ensures { OnOk result (out.new.items ≡ out.old.items ++ spec.byte_hex byte) }
+{
+    out.extend_from_slice(&[upper_digit(byte / 16), upper_digit(byte % 16)])?;
+    Ok(())
+}
+
+fn is_printable(byte: u8) -> bool
+    ensures { result ≡ spec.is_printable byte }
+{
+    32 <= byte && byte <= 126
+}
+
+/// Appends a byte that isn't written as it is.
+fn push_code(out: &mut Vec<u8>, byte: u8) -> Result<(), AllocError>
+    ensures { OnOk result (out.new.items ≡ out.old.items ++ 92 ∷ 48 ∷ 120 ∷ spec.byte_hex byte) }
+{
+    out.extend_from_slice(&[
+        b'\\',
+        b'0',
+        b'x',
+        upper_digit(byte / 16),
+        upper_digit(byte % 16),
+    ])?;
+    Ok(())
+}
+
+/// Appends a byte that stands between quotes.
+fn push_escaped(out: &mut Vec<u8>, quote: u8, byte: u8) -> Result<(), AllocError>
+    ensures { OnOk result (out.new.items ≡ out.old.items ++ spec.escaped quote byte) }
+{
+    if byte == quote {
+        out.extend_from_slice(&[b'\\', byte])?;
+    } else if byte == b'\\' {
+        out.extend_from_slice(b"\\\\")?;
+    } else if byte == b'\r' {
+        out.extend_from_slice(b"\\n")?;
+    } else if byte == b'\t' {
+        out.extend_from_slice(b"\\t")?;
+    } else if is_printable(byte) {
+        out.push(byte)?;
+    } else {
+        push_code(out, byte)?;
+    }
+    Ok(())
+}
+
+/// Appends bytes that stand between quotes.
+fn push_all_escaped(out: &mut Vec<u8>, quote: u8, bytes: &[u8]) -> Result<(), AllocError>
+    ensures { OnOk result (out.new.items ≡ out.old.items ++ flat_map (spec.escaped quote) bytes.now) }
+{
+    for byte in bytes {
+        push_escaped(out, quote, *byte)?;
+    }
+    Ok(())
+}
+
+/// Appends bytes between quotes.
+#[tactic(auto, unfolding(crate::specs::Pieces::in_quotes))]
+pub(crate) fn push_quoted(out: &mut Vec<u8>, quote: u8, bytes: &[u8]) -> Result<(), AllocError>
+    ensures { OnOk result (out.new.items ≡ out.old.items ++ spec.in_quotes quote bytes.now) }
+{
+    out.push(quote)?;
+    push_all_escaped(out, quote, bytes)?;
+    out.push(quote)?;
+    Ok(())
+}
+
+/// Goes on with another string on the next line after a CR, where bytes follow.
+fn push_line_break(out: &mut Vec<u8>, byte: u8, rest: &[u8]) -> Result<(), AllocError>
+    ensures { OnOk result (out.new.items ≡ out.old.items ++ spec.line_break byte rest.now) }
+{
+    if byte == b'\r' && !rest.is_empty() {
+        out.extend_from_slice(b"\"\n\t\t\"")?;
+    }
+    Ok(())
+}
+
+/// Appends the bytes of a string.
+fn push_lines(out: &mut Vec<u8>, bytes: &[u8]) -> Result<(), AllocError>
+    ensures { OnOk result (out.new.items ≡ out.old.items ++ spec.in_lines bytes.now) }
+{
+    let mut rest = bytes;
+    while let [byte, more @ ..] = rest {
+        push_escaped(out, b'"', *byte)?;
+        push_line_break(out, *byte, more)?;
+        rest = more;
+    }
+    Ok(())
+}
+
+/// Appends a string.
+#[tactic(auto, unfolding(crate::specs::Pieces::string_text))]
+fn push_string(out: &mut Vec<u8>, bytes: &[u8]) -> Result<(), AllocError>
+    ensures { OnOk result (out.new.items ≡ out.old.items ++ spec.string_text bytes.now) }
+{
+    out.push(b'"')?;
+    push_lines(out, bytes)?;
+    out.push(b'"')?;
+    Ok(())
+}
+
+/// Appends what stands before the byte at a place of a hexadecimal string.
+fn push_hex_break(out: &mut Vec<u8>, place: usize) -> Result<(), AllocError>
+    ensures { OnOk result (out.new.items ≡ out.old.items ++ spec.hex_break place) }
+{
+    if place == 0 {
+        return Ok(());
+    }
+    if place % 16 == 0 {
+        out.extend_from_slice(b"\"\n\t\t$\"")?;
+    } else if place % 2 == 0 {
+        out.push(b' ')?;
+    }
+    Ok(())
+}
+
+/// Appends the bytes of a hexadecimal string.
+fn push_hex_bytes(out: &mut Vec<u8>, bytes: &[u8]) -> Result<(), AllocError>
+    ensures { OnOk result (out.new.items ≡ out.old.items ++ spec.hex_from 0 bytes.now) }
+{
+    for i in 0..bytes.len() {
+        push_hex_break(out, i)?;
+        push_hex(out, bytes[i])?;
+    }
+    Ok(())
+}
+
+/// Appends a hexadecimal string.
+#[tactic(auto, unfolding(crate::specs::Pieces::hex_text))]
+fn push_hex_string(out: &mut Vec<u8>, bytes: &[u8]) -> Result<(), AllocError>
+    ensures { OnOk result (out.new.items ≡ out.old.items ++ spec.hex_text bytes.now) }
+{
+    out.extend_from_slice(b"$\"")?;
+    push_hex_bytes(out, bytes)?;
+    out.push(b'"')?;
+    Ok(())
+}
+
+/// Appends a string in its form.
+fn push_bytes(out: &mut Vec<u8>, is_hex: bool, bytes: &[u8]) -> Result<(), AllocError>
+    ensures { OnOk result (out.new.items ≡ out.old.items ++ spec.bytes_text is_hex bytes.now) }
+{
+    if is_hex {
+        push_hex_string(out, bytes)
+    } else {
+        push_string(out, bytes)
+    }
+}
+
+/// Reports whether a name stands for a string.
+fn is_text(constant: &NamedText, bytes: &[u8]) -> bool
+    ensures { result ≡ bytes_eq (text_of constant.now).text bytes.now }
+{
+    constant.text.as_slice() == bytes
+}
+
+/// Appends a string, by its first name if it has one.
+pub(crate) fn push_text(
+    out: &mut Vec<u8>,
+    is_hex: bool,
+    constants: &[NamedText],
+    bytes: &[u8],
+) -> Result<(), AllocError>
+    ensures { OnOk result (out.new.items ≡ out.old.items ++ spec.named_text is_hex (map text_of constants.now) bytes.now) }
+{
+    for constant in constants {
+        if is_text(constant, bytes) {
+            out.extend_from_slice(constant.name.as_slice())?;
+            return Ok(());
+        }
+    }
+    push_bytes(out, is_hex, bytes)
+}
+
+fn is_zero(byte: u8) -> bool
+    ensures { result ≡ is_zero_of byte }
+{
+    byte == 0
+}
+
+/// Reports whether all bytes are 0.
+fn are_zero(bytes: &[u8]) -> bool
+    ensures { result ≡ list_all is_zero_of bytes.now }
+{
+    bytes.iter().all(|b| is_zero(*b))
+}
+
+/// Appends bytes in hexadecimal, side by side.
+fn push_digits(out: &mut Vec<u8>, bytes: &[u8]) -> Result<(), AllocError>
+    ensures { OnOk result (out.new.items ≡ out.old.items ++ flat_map spec.byte_hex bytes.now) }
+{
+    for byte in bytes {
+        push_hex(out, *byte)?;
+    }
+    Ok(())
+}
+
+/// Appends the comment of a fill.
+#[tactic(auto, unfolding(crate::specs::Pieces::fill_comment))]
+fn push_comment(out: &mut Vec<u8>, bytes: &[u8]) -> Result<(), AllocError>
+    ensures { OnOk result (out.new.items ≡ out.old.items ++ spec.fill_comment bytes.now) }
+{
+    out.extend_from_slice(b" /* fill $")?;
+    push_digits(out, bytes)?;
+    out.extend_from_slice(b" */")?;
+    Ok(())
+}
+
+/// Appends the bytes of a fill or an alignment, where they aren't all 0.
+#[tactic(auto, unfolding(crate::specs::Pieces::fill_text))]
+pub(crate) fn push_fill(out: &mut Vec<u8>, bytes: &[u8]) -> Result<(), AllocError>
+    ensures { OnOk result (out.new.items ≡ out.old.items ++ spec.fill_text bytes.now) }
+{
+    if !are_zero(bytes) {
+        push_comment(out, bytes)?;
+    }
+    Ok(())
+}
+
+/// Appends the bits of a fill as so many bytes, where they aren't all 0.
+pub(crate) fn push_fill_number(out: &mut Vec<u8>, count: u8, number: u32) -> Result<(), AllocError>
+    requires { count ≤ 4 }
+    ensures { OnOk result (out.new.items ≡ out.old.items ++ spec.fill_text (big_bytes count number)) }
+{
+    let bytes = number.to_be_bytes();
+    push_fill(out, &bytes[4 - count as usize..])
+}
+
+/// Appends a number in decimal.
+pub(crate) fn push_decimal(out: &mut Vec<u8>, number: u64) -> Result<(), AllocError>
+    ensures { OnOk result (out.new.items ≡ out.old.items ++ decimal number) }
+{
+    out.extend_from_slice(Buffer::new().format(number).as_bytes())?;
+    Ok(())
+}
+
+/// Appends a number in hexadecimal.
+#[tactic(auto, unfolding(crate::specs::Pieces::hex_number))]
+pub(crate) fn push_hex_number(out: &mut Vec<u8>, number: u32) -> Result<(), AllocError>
+    ensures { OnOk result (out.new.items ≡ out.old.items ++ spec.hex_number number) }
+{
+    let digits = format!(in *out.allocator(); "{number:X}")?;
+    out.extend_from_slice(b"0x")?;
+    out.extend_from_slice(digits.as_bytes())?;
+    Ok(())
+}
+
+/// Appends a number in binary.
+#[tactic(auto, unfolding(crate::specs::Pieces::binary_number))]
+fn push_binary_number(out: &mut Vec<u8>, number: u32) -> Result<(), AllocError>
+    ensures { OnOk result (out.new.items ≡ out.old.items ++ spec.binary_number number) }
+{
+    let digits = format!(in *out.allocator(); "{number:b}")?;
+    out.extend_from_slice(b"0b")?;
+    out.extend_from_slice(digits.as_bytes())?;
+    Ok(())
+}
+
+/// Appends a number of so many bits, the highest of which is its sign.
+pub(crate) fn push_signed(out: &mut Vec<u8>, width: Width, number: u32) -> Result<(), AllocError>
+    ensures { OnOk result (out.new.items ≡ out.old.items ++ spec.signed_number width.bits number) }
+{
+    if (number as u64) < power(width.bits - 1) {
+        return push_decimal(out, number as u64);
+    }
+    out.push(b'-')?;
+    push_decimal(out, power(width.bits).saturating_sub(number as u64))
+}
+
+/// Appends the characters of a number of so many bytes.
+fn push_characters(out: &mut Vec<u8>, count: u8, number: u32) -> Result<(), AllocError>
+    requires { count ≤ 4 }
+    ensures { OnOk result (out.new.items ≡ out.old.items ++ spec.in_quotes 39 (big_bytes count number)) }
+{
+    let bytes = number.to_be_bytes();
+    push_quoted(out, b'\'', &bytes[4 - count as usize..])
+}
+
+/// Appends a number as characters, where it is whole bytes.
+fn push_literal(out: &mut Vec<u8>, width: Width, number: u32) -> Result<(), AllocError>
+    ensures { OnOk result (out.new.items ≡ out.old.items ++ spec.literal_number width.bits number) }
+{
+    if width.bits % 8 == 0 {
+        push_characters(out, width.bits / 8, number)
+    } else {
+        push_decimal(out, number as u64)
+    }
+}
+
+/// Appends whether a number isn't 0.
+fn push_truth(out: &mut Vec<u8>, number: u32) -> Result<(), AllocError>
+    ensures { OnOk result (out.new.items ≡ out.old.items ++ spec.truth number) }
+{
+    if number == 0 {
+        out.extend_from_slice(b"false")?;
+    } else {
+        out.extend_from_slice(b"true")?;
+    }
+    Ok(())
+}
+
+/// Appends a number in a form.
+fn push_number(out: &mut Vec<u8>, form: Form, width: Width, number: u32) -> Result<(), AllocError>
+    ensures { OnOk result (out.new.items ≡ out.old.items ++ spec.number_text form width.bits number) }
+{
+    match form {
+        Form::Signed => push_signed(out, width, number),
+        Form::Unsigned => push_decimal(out, number as u64),
+        Form::Hex => push_hex_number(out, number),
+        Form::Binary => push_binary_number(out, number),
+        Form::Literal => push_literal(out, width, number),
+        Form::Boolean => push_truth(out, number),
+    }
+}
+
+/// Appends an integer, by its first name if it has one.
+pub(crate) fn push_integer(
+    out: &mut Vec<u8>,
+    integer: &Integer,
+    number: u32,
+) -> Result<(), AllocError>
+    ensures { OnOk result (out.new.items ≡ out.old.items
+        ++ spec.integer_text integer.now.form integer.now.width.bits (map number_of integer.now.constants.items) number) }
+{
+    for constant in &integer.constants {
+        if constant.pattern == number {
+            out.extend_from_slice(constant.name.as_slice())?;
+            return Ok(());
+        }
+    }
+    push_number(out, integer.form, integer.width, number)
+}
