@@ -12,7 +12,9 @@ use crate::packing::Packing;
 use crate::parsing::{argument, bad_value, flag, mistake, option, value};
 use crate::request::Request;
 use clap::{ArgMatches, Command};
-use fork_commands::{Edit, ForkWork, Naming, Packaging, PairWork, ResourceKey, Setting};
+use fork_commands::{
+    Edit, ForkWork, Naming, Packaging, PairWork, ResourceKey, Setting, SourceForm, Statements,
+};
 use fork_edits::{NameFault, RomanName, TypeFault, read_attrs, read_type_text};
 use mac_roman::Charset;
 use mac_words::{Attrs, OsType};
@@ -213,15 +215,29 @@ const DEREZ_EXAMPLES: &str = "Example:
   macmem derez examples/Document.rsrc
 
 prints, for the first resource:
+  type 'STR ' { pstring; };
+
+  resource 'STR ' (128, \"Greeting\", purgeable) {
+  \t\"Hello\"
+  };
+
+A resource stands by its values where the program knows its type and the values
+state its very bytes; the type is declared before it is used. All others, and
+with --data each resource, stand by their bytes:
   data 'STR ' (128, \"Greeting\", purgeable) {
   \t$\"0548 656C 6C6F\"                                     /* .Hello */
   };
 
-'macmem rez' reads it again. The attributes of the map and the 240 bytes after
+'macmem rez' reads both again. The attributes of the map and the 240 bytes after
 the header stand above the statements, as comments of a form that 'macmem rez'
 reads too, where they aren't 0.
 A fork that cannot be read is reported as 'macmem: FORK: fork CODE': -39
 (eofErr) no bytes, -199 (mapReadErr) damaged.";
+
+/// The name of the flag for statements `data` alone, without its two hyphens.
+const DATA: &str = "data";
+
+const DATA_HELP: &str = "Print the bytes of each resource, and no values";
 
 const REZ_ABOUT: &str = "Writes the fork that a source of Rez states";
 
@@ -230,8 +246,10 @@ const REZ_EXAMPLES: &str = "Examples:
   macmem rez --into FILE SOURCE OUT
 
 OUT must not exist yet. It is the fork alone, or, with --into, FILE with that
-fork in the place of its own, in the wrapper of FILE. The source has statements 'data' as 'macmem derez' prints them, and the fork is
-the canonical one, as of 'macmem rewrite'. A source that cannot be read is
+fork in the place of its own, in the wrapper of FILE. The source has statements
+'type', 'resource' and 'data', as 'macmem derez' prints them or as a person
+writes them; types that the program knows need no declaration. The fork is the
+canonical one, as of 'macmem rewrite'. A source that cannot be read is
 reported by its first line that is wrong, as
 'macmem: SOURCE: line 3: a semicolon is needed'; one whose resources fit no
 fork as 'macmem: SOURCE: fork -34' (dskFulErr). A file that exists already is
@@ -303,6 +321,7 @@ fn derez_command<'a>(alloc: Global) -> Result<Command<'a>, AllocError> {
     Command::new(alloc, "derez")
         .about(DEREZ_ABOUT)
         .after_help(DEREZ_EXAMPLES)
+        .arg(flag(alloc, DATA, DATA_HELP))?
         .arg(flag(alloc, UTF8, UTF8_HELP))?
         .arg(argument(alloc, "FORK", FORK_HELP))
 }
@@ -539,10 +558,23 @@ fn into_file<'a>(work: ForkWork, name: &str, matches: &ArgMatches<'a>) -> Conver
     }
 }
 
+/// Returns how a fork is to be printed as source.
+fn source_form_in(matches: &ArgMatches<'_>) -> SourceForm {
+    let statements = if matches.get_flag(DATA) {
+        Statements::Data
+    } else {
+        Statements::Typed
+    };
+    SourceForm {
+        charset: charset_in(matches),
+        statements,
+    }
+}
+
 /// Returns the request that the words after `derez` make.
 fn printing<'a>(matches: &ArgMatches<'a>) -> Conversion<'a> {
     Conversion {
-        work: ForkWork::Derez(charset_in(matches)),
+        work: ForkWork::Derez(source_form_in(matches)),
         path: value(matches, "FORK"),
         target: Target::Printed,
     }

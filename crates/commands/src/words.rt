@@ -26,8 +26,8 @@ use std::alloc::{AllocError, Global};
 
 const ABOUT: &str = "Replays what a classic Mac OS heap did, and reads and writes resource forks";
 
-/// The crate's version.
-const VERSION: &str = "0.1.0";
+/// The version of the program, and that of its table of types (types/types.r).
+const VERSION: &str = "0.1.0 (table of types 1)";
 
 const PROGRAM_EXAMPLES: &str = "Examples:
   macmem script 1024 examples/first.script    run a script in 1024 bytes

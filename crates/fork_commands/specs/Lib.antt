@@ -12,3 +12,4 @@ pub mod States
 pub mod Dates
 pub mod Info
 pub mod Parts
+pub mod BuiltIn

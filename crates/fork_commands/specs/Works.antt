@@ -6,8 +6,14 @@ use Rattle.fork_format.specs.Canonical.{canon, fits}
 use Rattle.fork_format.specs.Fork.{Spells}
 use Rattle.fork_edits.specs.Resources.{found}
 use Rattle.rez_text.specs.declared.fault.FaultKind.{FaultKind}
+use Rattle.mac_roman.specs.declared.charset.Charset.{Charset}
 use Rattle.rez_text.specs.Printing.{source_of}
 use Rattle.rez_text.specs.Reading.{read}
+use Rattle.rez_typed.specs.Source.{typed_source}
+use Rattle.fork_commands.specs.BuiltIn.{built_in}
+use Rattle.fork_commands.specs.declared.source_form.SourceForm.{SourceForm}
+use Rattle.fork_commands.specs.declared.source_form.Statements.{Statements}
+use Rattle.fork_commands.specs.declared.source_form.Statements.TheVariants.{Typed, Data}
 use Rattle.fork_commands.specs.declared.fault.FileFault.{FileFault}
 use Rattle.fork_commands.specs.declared.fault.FileFault.TheVariants.{Code, Source}
 use Rattle.fork_commands.specs.declared.work.ForkWork.{ForkWork}
@@ -38,15 +44,23 @@ abbrev pub content_stated : Result Content (ℕ × FaultKind) → Result Content
 content_stated (Ok c) = Ok c
 content_stated (Err (line, kind)) = Err (Source (record { line = line; kind = kind }))
 
+-- A content as source: with typed statements by the types of the table, or with statements `data` alone.
+abbrev pub source_in : Statements → Charset → Content → List ℕ
+source_in Typed charset c = typed_source charset built_in c
+source_in Data charset c = source_of charset c
+
+abbrev pub source_by : SourceForm → Content → List ℕ
+source_by form c = source_in form.statements form.charset c
+
 -- What a work makes of the bytes.
 abbrev pub made : ForkWork → List ℕ → Result (List ℕ) FileFault
 made (Rewrite packaging) bytes = then_packed packaging bytes (made_then (content_in bytes) canonical)
 made (Change edit packaging) bytes =
     then_packed packaging bytes (made_then (made_then (content_in bytes) (edited edit)) canonical)
 made (Get key) bytes = made_then (content_in bytes) (datum_at key)
-made (Derez charset) bytes = made_then (content_in bytes) (λ c. Ok (source_of charset c))
-made Rez bytes = made_then (content_stated (read bytes)) canonical
+made (Derez form) bytes = made_then (content_in bytes) (λ c. Ok (source_by form c))
+made Rez bytes = made_then (content_stated (read built_in bytes)) canonical
 
 -- The bytes are a resource fork that holds what a source of Rez states.
 abbrev pub HoldsStated : List ℕ → List ℕ → Type 0
-HoldsStated source fork = (c : Content) → read source ≡ Ok c → Spells fork c
+HoldsStated source fork = (c : Content) → read built_in source ≡ Ok c → Spells fork c

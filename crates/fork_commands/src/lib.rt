@@ -1,6 +1,7 @@
 //! What the commands make of the bytes of resource forks.
 #![tactic(auto)]
 
+mod built_in;
 mod dates;
 mod editing;
 mod extracting;
@@ -13,6 +14,7 @@ mod packing;
 mod pair;
 mod parting;
 mod reading;
+mod source_form;
 mod states;
 mod work;
 
@@ -28,5 +30,6 @@ pub use packing::{list_in, listed_paths, packed_fork};
 pub use pair::{PairFault, PairOutput, PairWork, Place, Setting, combined};
 pub use parting::parts;
 pub use reading::{ForkFound, content_in, content_of_fork, copied, fork_bytes, fork_in};
+pub use source_form::{SourceForm, Statements};
 pub use states::append_state;
 pub use work::{ForkWork, ResourceKey, made};

@@ -6,20 +6,22 @@ ghost use Rattle.fork_format.specs.Fork.{Spells};
 ghost use Rattle.fork_format.specs.View.{view};
 ghost use Rattle.fork_commands.specs.Faults.{Stops};
 ghost use Rattle.fork_commands.specs.Packaging.{then_packed};
-ghost use Rattle.fork_commands.specs.Works.{canonical, datum_at, made, HoldsStated};
+ghost use Rattle.fork_commands.specs.Works.{canonical, datum_at, made, source_by, HoldsStated};
 ghost use Rattle.fork_commands.specs.declared.work.ForkWork.TheVariants.{Rewrite, Change, Get, Derez, Rez};
 
+use crate::built_in::built_in;
 use crate::editing::{Edit, make_edit};
 use crate::fault::{FileFault, WorkFault};
 use crate::opening::open_file;
 use crate::packaging::{Packaging, packed};
 use crate::reading::{content_in, copied};
+use crate::source_form::{SourceForm, Statements};
 use fork_edits::find_resource;
 use fork_format::{Content, write_fork};
-use mac_roman::Charset;
 use mac_words::{OsErr, OsType};
 use rez_text::{SourceFault, read_source, write_source};
-use std::alloc::Global;
+use rez_typed::write_typed_source;
+use std::alloc::{AllocError, Global};
 
 /// The type and the ID of a resource.
 #[derive(Clone, Copy)]
@@ -37,9 +39,9 @@ pub enum ForkWork {
     Change(Edit, Packaging),
     /// The stored data of the first resource of a type and an ID.
     Get(ResourceKey),
-    /// The content that the bytes spell, as source of Rez, whose comments beside data are in a set of characters.
-    Derez(Charset),
-    /// The canonical fork of the content that the bytes state as source of Rez.
+    /// The content that the bytes spell, as source of Rez.
+    Derez(SourceForm),
+    /// The canonical fork of the content that the bytes state as source of Rez, where the types of the table are declared.
     Rez,
 }
 
@@ -120,15 +122,25 @@ fn gotten(alloc: Global, key: ResourceKey, bytes: &[u8]) -> Result<Vec<u8>, Work
     datum_at(alloc, key, &content)
 }
 
+/// Returns a content as source of Rez.
+fn source_by(alloc: Global, form: SourceForm, content: &Content<'_>) -> Result<Vec<u8>, AllocError>
+    ensures { IfOk result (λ source. source.items ≡ source_by form (view content.now)) }
+{
+    match form.statements {
+        Statements::Typed => { write_typed_source(alloc, form.charset, &built_in(alloc)?, content) }
+        Statements::Data => write_source(alloc, form.charset, content),
+    }
+}
+
 /// Returns the content that bytes spell, as source of Rez.
 #[tactic(auto, using(crate::proofs::Contents::printed_of))]
-fn printed(alloc: Global, charset: Charset, bytes: &[u8]) -> Result<Vec<u8>, WorkFault>
-    ensures made { IfOk result (λ out. made (Derez charset) bytes.now ≡ Ok out.items) }
-    ensures fault { IfErr result (λ fault. Stops fault (made (Derez charset) bytes.now)) }
+fn printed(alloc: Global, form: SourceForm, bytes: &[u8]) -> Result<Vec<u8>, WorkFault>
+    ensures made { IfOk result (λ out. made (Derez form) bytes.now ≡ Ok out.items) }
+    ensures fault { IfErr result (λ fault. Stops fault (made (Derez form) bytes.now)) }
 {
     let file = open_file(alloc, bytes)?;
     let content = content_in(alloc, &file)?;
-    let source = write_source(alloc, charset, &content)?;
+    let source = source_by(alloc, form, &content)?;
     Ok(source)
 }
 
@@ -139,7 +151,7 @@ fn assembled(alloc: Global, source: &[u8]) -> Result<Vec<u8>, WorkFault>
     ensures fault { IfErr result (λ fault. Stops fault (made Rez source.now)) }
     ensures read_again { IfOk result (λ out. HoldsStated source.now out.items) }
 {
-    match read_source(alloc, source) {
+    match read_source(alloc, built_in(alloc)?, source) {
         Ok(stated) => {
             let content = stated.content(alloc)?;
             canonical(alloc, &content)
@@ -165,7 +177,7 @@ pub fn made(alloc: Global, work: ForkWork, bytes: &[u8]) -> Result<Vec<u8>, Work
         ForkWork::Rewrite(packaging) => rewritten(alloc, packaging, bytes),
         ForkWork::Change(change, packaging) => changed(alloc, &change, packaging, bytes),
         ForkWork::Get(key) => gotten(alloc, key, bytes),
-        ForkWork::Derez(charset) => printed(alloc, charset, bytes),
+        ForkWork::Derez(form) => printed(alloc, form, bytes),
         ForkWork::Rez => assembled(alloc, bytes),
     }
 }

@@ -10,5 +10,7 @@ pub mod Ids
 pub mod Statements
 pub mod Joined
 pub mod Remarked
+pub mod Gathered
+pub mod Typed
 pub mod Again
 pub mod Worked

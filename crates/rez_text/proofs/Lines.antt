@@ -7,7 +7,8 @@ use Rattle.std.specs.Prelude.{not}
 use Rattle.std.specs.List.{AllByRecursion, flat_map, list_all}
 use Rattle.mac_roman.specs.declared.charset.Charset.{Charset}
 use Rattle.mac_roman.specs.declared.charset.Charset.TheVariants.{Ascii, Utf8}
-use Rattle.fork_format.specs.Content.{Ref, Content}
+use Rattle.fork_format.specs.Content.{Ref}
+use Rattle.rez_text.specs.State.{Said}
 use Rattle.rez_text.specs.declared.mode.Mode.TheVariants as mode
 use Rattle.rez_text.specs.declared.mode.Place.{Place}
 use Rattle.rez_text.specs.declared.mode.Place.TheVariants as place
@@ -23,12 +24,12 @@ use Rattle.rez_text.proofs.Digits.{grouped_run}
 abbrev pub NoStar : List ℕ → Type 0
 NoStar text = AllByRecursion (λ (b : ℕ). (b == 42) ≡ false) text
 
-comment_step : (b : ℕ) (p : Place) (g : List ℕ) (k : ℕ) (d : Ref) (c : Content) → (b == 42) ≡ false
+comment_step : (b : ℕ) (p : Place) (g : List ℕ) (k : ℕ) (d : Ref) (c : Said) → (b == 42) ≡ false
     → step b (at mode.Comment p g k d c) ≡ Ok (at mode.Comment p (g ++ b ∷ []) k d c)
 unfolding step in_comment
 comment_step b p g k d c e = rw e refl
 
-pub comment_run : (text : List ℕ) (p : Place) (g : List ℕ) (k : ℕ) (d : Ref) (c : Content) → NoStar text
+pub comment_run : (text : List ℕ) (p : Place) (g : List ℕ) (k : ℕ) (d : Ref) (c : Said) → NoStar text
     → run (Ok (at mode.Comment p g k d c)) text ≡ Ok (at mode.Comment p (g ++ text) k d c)
 comment_run [] p g k d c clear = ap (λ l. Ok (at mode.Comment p l k d c)) (sym (append-nil g))
 comment_run (b ∷ text) p g k d c clear =
@@ -65,17 +66,17 @@ shown_no_star charset (b ∷ bytes) small =
     no_star_either (shown charset b) (flat_map (shown charset) bytes) (one_no_star charset b small.0)
     (shown_no_star charset bytes small.1)
 
-comment_opens : (k : ℕ) (d : Ref) (c : Content)
+comment_opens : (k : ℕ) (d : Ref) (c : Said)
     → run (Ok (at mode.Between place.Data [] k d c)) (codes "/* ") ≡ Ok (at mode.Comment place.Data (32 ∷ []) k d c)
 unfolding step between slash in_comment
 comment_opens k d c = refl
 
-comment_closes : (g : List ℕ) (k : ℕ) (d : Ref) (c : Content)
+comment_closes : (g : List ℕ) (k : ℕ) (d : Ref) (c : Said)
     → run (Ok (at mode.Comment place.Data g k d c)) (codes " */\n") ≡ Ok (at mode.Between place.Data [] k d c)
 unfolding step between in_comment star comment
 comment_closes g k d c = refl
 
-text_column_run : (charset : Charset) (bytes : List ℕ) (k : ℕ) (d : Ref) (c : Content) → AreBytes bytes
+text_column_run : (charset : Charset) (bytes : List ℕ) (k : ℕ) (d : Ref) (c : Said) → AreBytes bytes
     → run (Ok (at mode.Between place.Data [] k d c)) (text_column charset bytes) ≡ Ok (at mode.Between place.Data [] k d c)
 text_column_run charset bytes k d c small =
     let s = at mode.Between place.Data [] k d c in
@@ -90,17 +91,17 @@ text_column_run charset bytes k d c small =
 abbrev pub with_datum : Ref → List ℕ → Ref
 with_datum d bytes = record { id = d.id; name = d.name; attrs = d.attrs; datum = d.datum ++ bytes }
 
-string_opens : (k : ℕ) (d : Ref) (c : Content)
+string_opens : (k : ℕ) (d : Ref) (c : Said)
     → run (Ok (at mode.Between place.Data [] k d c)) (9 ∷ 36 ∷ 34 ∷ []) ≡ Ok (at mode.HexString place.Data [] k d c)
 unfolding step between dollar
 string_opens k d c = refl
 
-string_closes : (g : List ℕ) (k : ℕ) (d : Ref) (c : Content)
+string_closes : (g : List ℕ) (k : ℕ) (d : Ref) (c : Said)
     → run (Ok (at mode.HexString place.Data g k d c)) (34 ∷ []) ≡ Ok (at mode.Between place.Data [] k (with_datum d g) c)
 unfolding step hex_string datum
 string_closes g k d c = refl
 
-hex_column_run : (bytes : List ℕ) (k : ℕ) (d : Ref) (c : Content) → AreBytes bytes
+hex_column_run : (bytes : List ℕ) (k : ℕ) (d : Ref) (c : Said) → AreBytes bytes
     → run (Ok (at mode.Between place.Data [] k d c)) (hex_column bytes)
     ≡ Ok (at mode.Between place.Data [] k (with_datum d bytes) c)
 hex_column_run bytes k d c small =
@@ -111,7 +112,7 @@ hex_column_run bytes k d c small =
     (after s t _ (9 ∷ 36 ∷ 34 ∷ []) (grouped 0 bytes) (string_opens k d c) (grouped_run bytes 0 [] k d c small))
     (string_closes bytes k d c)
 
-data_line_run : (charset : Charset) (bytes : List ℕ) (k : ℕ) (d : Ref) (c : Content) → AreBytes bytes
+data_line_run : (charset : Charset) (bytes : List ℕ) (k : ℕ) (d : Ref) (c : Said) → AreBytes bytes
     → run (Ok (at mode.Between place.Data [] k d c)) (data_line charset bytes)
     ≡ Ok (at mode.Between place.Data [] k (with_datum d bytes) c)
 data_line_run charset bytes k d c small =
@@ -141,7 +142,7 @@ twice d xs ys zs e =
 nothing_more : (d : Ref) → d ≡ with_datum d []
 nothing_more d = ap (λ l. record { id = d.id; name = d.name; attrs = d.attrs; datum = l }) (sym (append-nil d.datum))
 
-lines_run : (charset : Charset) (n : ℕ) (bytes : List ℕ) (k : ℕ) (d : Ref) (c : Content) → AreBytes bytes
+lines_run : (charset : Charset) (n : ℕ) (bytes : List ℕ) (k : ℕ) (d : Ref) (c : Said) → AreBytes bytes
     → run (Ok (at mode.Between place.Data [] k d c)) (data_lines charset n bytes)
     ≡ Ok (at mode.Between place.Data [] k (with_datum d (take (16 * n) bytes)) c)
 lines_run charset zero bytes k d c small = ap (λ r. Ok (at mode.Between place.Data [] k r c)) (nothing_more d)
@@ -167,7 +168,7 @@ pub all_lines : (bytes : List ℕ) → take (16 * line_count bytes) bytes ≡ by
 all_lines bytes = take_all (16 * line_count bytes) bytes (omega arith)
 
 -- the data of a resource of which no data is stated yet
-pub data_run : (charset : Charset) (bytes : List ℕ) (k : ℕ) (d : Ref) (c : Content) → AreBytes bytes
+pub data_run : (charset : Charset) (bytes : List ℕ) (k : ℕ) (d : Ref) (c : Said) → AreBytes bytes
     → run (Ok (at mode.Between place.Data [] k d c)) (data_lines charset (line_count bytes) bytes)
     ≡ Ok (at mode.Between place.Data [] k (with_datum d bytes) c)
 data_run charset bytes k d c small =

@@ -1,80 +1,91 @@
 -- Names and types between quotes: what is printed is read again.
-use Rattle.std.proofs.Common.{◌≡◌, ◌<◌, ◌≤◌, ◌==◌, ◌^◌, ◌&&◌, ℕ, ◌/◌, ◌%◌, Bool, true, false, cond, nat_lt, Ok, Some}
+use Rattle.std.proofs.Common.{◌≡◌, ◌<◌, ◌≤◌, ◌==◌, ◌^◌, ◌&&◌, ℕ, ◌+◌, ◌*◌, ◌/◌, ◌%◌, Bool, true, false, cond, nat_lt, Ok, Some}
 use Rattle.std.proofs.Common.{List, [], ◌∷◌, ◌++◌, length, refl, ap, ◌∙◌, sym, subst, arith, append_assoc, append-nil, eqb-true, le-ltb, rules}
 use Rattle.std.proofs.lemmas.Bool.{agree_below_at}
 use Rattle.std.specs.List.{flat_map}
 use Rattle.byteorder.specs.Endian.{big_number, big_bytes}
 use Rattle.byteorder.specs.Numbers.{big_number-reads_back}
-use Rattle.fork_format.specs.Content.{Ref, Content}
+use Rattle.fork_format.specs.Content.{Ref}
 use Rattle.mac_words.specs.Digits.{upper_digit}
 use Rattle.rez_text.specs.declared.mode.Quote.{Quote}
 use Rattle.rez_text.specs.declared.mode.Quote.TheVariants as quotes
+use Rattle.rez_text.specs.declared.mode.Radix.TheVariants as radix
 use Rattle.rez_text.specs.declared.mode.Mode.TheVariants as mode
 use Rattle.rez_text.specs.declared.mode.Place.{Place}
 use Rattle.rez_text.specs.declared.mode.Place.TheVariants as place
-use Rattle.rez_text.specs.State.{State}
-use Rattle.rez_text.specs.Tokens.{name, type_token}
-use Rattle.rez_text.specs.Remarks.{hex_value, byte_of}
-use Rattle.rez_text.specs.Lexing.{step, between, quoted, escape, escape_zero, escape_high, escape_low, quote_byte, ends_line}
+use Rattle.rez_text.specs.State.{Said, State}
+use Rattle.rez_text.specs.Tokens.{string, type_token}
+use Rattle.rez_text.specs.Lexing.{step, between, quoted, escape, escape_zero, escape_number}
+use Rattle.rez_text.specs.Ascii.{quote_byte, digit_in, ends_line}
 use Rattle.rez_text.specs.Bytes.{AreBytes}
 use Rattle.rez_text.specs.Printing.{byte_hex, is_printable, escaped, in_quotes, type_literal}
 use Rattle.rez_text.proofs.Steps.{at, run, after}
-use Rattle.rez_text.proofs.Digits.{digit_value, halves}
+use Rattle.rez_text.proofs.Digits.{digit_read}
 
 -- a byte that stands for itself
-plain_step : (q : Quote) (b : ℕ) (p : Place) (g : List ℕ) (k : ℕ) (d : Ref) (c : Content) → (b == quote_byte q) ≡ false
+plain_step : (q : Quote) (b : ℕ) (p : Place) (g : List ℕ) (k : ℕ) (d : Ref) (c : Said) → (b == quote_byte q) ≡ false
     → (b == 92) ≡ false → ends_line b ≡ false
     → step b (at (mode.Quoted q) p g k d c) ≡ Ok (at (mode.Quoted q) p (g ++ b ∷ []) k d c)
 unfolding step quoted
 plain_step q b p g k d c e f h = rw (e, f, h) refl
 
 -- a quote after a `\`
-quote_run : (q : Quote) (p : Place) (g : List ℕ) (k : ℕ) (d : Ref) (c : Content)
+quote_run : (q : Quote) (p : Place) (g : List ℕ) (k : ℕ) (d : Ref) (c : Said)
     → run (Ok (at (mode.Quoted q) p g k d c)) (92 ∷ quote_byte q ∷ [])
     ≡ Ok (at (mode.Quoted q) p (g ++ quote_byte q ∷ []) k d c)
 unfolding step quoted escape
-quote_run quotes.Name p g k d c = refl
-quote_run quotes.Type p g k d c = refl
+quote_run quotes.Double p g k d c = refl
+quote_run quotes.Single p g k d c = refl
 
 -- a `\` after a `\`
-stroke_run : (q : Quote) (p : Place) (g : List ℕ) (k : ℕ) (d : Ref) (c : Content)
+stroke_run : (q : Quote) (p : Place) (g : List ℕ) (k : ℕ) (d : Ref) (c : Said)
     → run (Ok (at (mode.Quoted q) p g k d c)) (92 ∷ 92 ∷ []) ≡ Ok (at (mode.Quoted q) p (g ++ 92 ∷ []) k d c)
 unfolding step quoted escape
-stroke_run quotes.Name p g k d c = refl
-stroke_run quotes.Type p g k d c = refl
+stroke_run quotes.Double p g k d c = refl
+stroke_run quotes.Single p g k d c = refl
 
 -- what begins a byte by its digits
-number_opens : (q : Quote) (p : Place) (g : List ℕ) (k : ℕ) (d : Ref) (c : Content)
-    → run (Ok (at (mode.Quoted q) p g k d c)) (92 ∷ 48 ∷ 120 ∷ []) ≡ Ok (at (mode.EscapeHigh q) p g k d c)
+number_opens : (q : Quote) (p : Place) (g : List ℕ) (k : ℕ) (d : Ref) (c : Said)
+    → run (Ok (at (mode.Quoted q) p g k d c)) (92 ∷ 48 ∷ 120 ∷ [])
+    ≡ Ok (at (mode.EscapeNumber q radix.Hexadecimal 2 0) p g k d c)
 unfolding step quoted escape escape_zero
-number_opens quotes.Name p g k d c = refl
-number_opens quotes.Type p g k d c = refl
+number_opens quotes.Double p g k d c = refl
+number_opens quotes.Single p g k d c = refl
 
-high_step : (q : Quote) (x h : ℕ) (p : Place) (g : List ℕ) (k : ℕ) (d : Ref) (c : Content) → hex_value x ≡ Some h
-    → step x (at (mode.EscapeHigh q) p g k d c) ≡ Ok (at (mode.EscapeLow q h) p g k d c)
-unfolding step escape_high
-high_step q x h p g k d c v = rw v refl
+high_step : (q : Quote) (x h : ℕ) (p : Place) (g : List ℕ) (k : ℕ) (d : Ref) (c : Said)
+    → digit_in radix.Hexadecimal x ≡ Some h → nat_lt 255 (16 * 0 + h) ≡ false
+    → step x (at (mode.EscapeNumber q radix.Hexadecimal 2 0) p g k d c)
+    ≡ Ok (at (mode.EscapeNumber q radix.Hexadecimal 1 (16 * 0 + h)) p g k d c)
+unfolding step escape_number
+high_step q x h p g k d c v small = rw (v, small) refl
 
-low_step : (q : Quote) (x h l : ℕ) (p : Place) (g : List ℕ) (k : ℕ) (d : Ref) (c : Content) → hex_value x ≡ Some l
-    → step x (at (mode.EscapeLow q h) p g k d c) ≡ Ok (at (mode.Quoted q) p (g ++ byte_of h l ∷ []) k d c)
-unfolding step escape_low
-low_step q x h l p g k d c v = rw v refl
+low_step : (q : Quote) (x h l : ℕ) (p : Place) (g : List ℕ) (k : ℕ) (d : Ref) (c : Said)
+    → digit_in radix.Hexadecimal x ≡ Some l → nat_lt 255 (16 * h + l) ≡ false
+    → step x (at (mode.EscapeNumber q radix.Hexadecimal 1 h) p g k d c)
+    ≡ Ok (at (mode.Quoted q) p (g ++ (16 * h + l) ∷ []) k d c)
+unfolding step escape_number
+low_step q x h l p g k d c v small = rw (v, small) refl
 
 -- a byte by its digits
-number_run : (q : Quote) (b : ℕ) (p : Place) (g : List ℕ) (k : ℕ) (d : Ref) (c : Content) → b < 256
+number_run : (q : Quote) (b : ℕ) (p : Place) (g : List ℕ) (k : ℕ) (d : Ref) (c : Said) → b < 256
     → run (Ok (at (mode.Quoted q) p g k d c)) (92 ∷ 48 ∷ 120 ∷ byte_hex b)
     ≡ Ok (at (mode.Quoted q) p (g ++ b ∷ []) k d c)
 number_run q b p g k d c small =
     let high : b / 16 < 16 = omega arith in
     let low : b % 16 < 16 = omega arith in
+    let first : 16 * 0 + b / 16 ≡ b / 16 = omega arith in
+    let begun : 16 * 0 + b / 16 ≤ 255 = omega arith in
+    let whole : 16 * (b / 16) + b % 16 ≡ b = omega arith in
+    let fits : 16 * (b / 16) + b % 16 ≤ 255 = omega arith in
     let s = at (mode.Quoted q) p g k d c in
-    let t = at (mode.EscapeHigh q) p g k d c in
-    let u = at (mode.EscapeLow q (b / 16)) p g k d c in
-    let second = low_step q (upper_digit (b % 16)) (b / 16) (b % 16) p g k d c (digit_value _ low)
-    ∙ ap (λ n. Ok (at (mode.Quoted q) p (g ++ n ∷ []) k d c)) (halves b small) in
+    let t = at (mode.EscapeNumber q radix.Hexadecimal 2 0) p g k d c in
+    let u = at (mode.EscapeNumber q radix.Hexadecimal 1 (b / 16)) p g k d c in
     after s t _ (92 ∷ 48 ∷ 120 ∷ []) (byte_hex b) (number_opens q p g k d c)
     (after t u _ (upper_digit (b / 16) ∷ []) (upper_digit (b % 16) ∷ [])
-    (high_step q (upper_digit (b / 16)) (b / 16) p g k d c (digit_value _ high)) second)
+    (high_step q (upper_digit (b / 16)) (b / 16) p g k d c (digit_read _ high) (le-ltb 255 _ begun)
+    ∙ ap (λ n. Ok (at (mode.EscapeNumber q radix.Hexadecimal 1 n) p g k d c)) first)
+    (low_step q (upper_digit (b % 16)) (b / 16) (b % 16) p g k d c (digit_read _ low) (le-ltb 255 _ fits)
+    ∙ ap (λ n. Ok (at (mode.Quoted q) p (g ++ n ∷ []) k d c)) whole))
 
 printable_no_end : (b : ℕ) → b < 256 → is_printable b ≡ true → ends_line b ≡ false
 printable_no_end b small h =
@@ -83,7 +94,7 @@ printable_no_end b small h =
     sym (ap (λ v. v && ends_line b) h) ∙ both
 
 -- any byte
-escaped_run : (q : Quote) (b : ℕ) (p : Place) (g : List ℕ) (k : ℕ) (d : Ref) (c : Content) → b < 256
+escaped_run : (q : Quote) (b : ℕ) (p : Place) (g : List ℕ) (k : ℕ) (d : Ref) (c : Said) → b < 256
     → run (Ok (at (mode.Quoted q) p g k d c)) (escaped (quote_byte q) b)
     ≡ Ok (at (mode.Quoted q) p (g ++ b ∷ []) k d c)
 escaped_run q b p g k d c small =
@@ -115,7 +126,7 @@ escaped_run q b p g k d c small =
     ] in
     by_quote (b == quote_byte q) refl
 
-pub escaped_all : (bytes : List ℕ) (q : Quote) (p : Place) (g : List ℕ) (k : ℕ) (d : Ref) (c : Content)
+pub escaped_all : (bytes : List ℕ) (q : Quote) (p : Place) (g : List ℕ) (k : ℕ) (d : Ref) (c : Said)
     → AreBytes bytes
     → run (Ok (at (mode.Quoted q) p g k d c)) (flat_map (escaped (quote_byte q)) bytes)
     ≡ Ok (at (mode.Quoted q) p (g ++ bytes) k d c)
@@ -130,37 +141,37 @@ escaped_all (b ∷ bytes) q p g k d c small =
 abbrev pub with_name : Ref → List ℕ → Ref
 with_name d text = record { id = d.id; name = Some text; attrs = d.attrs; datum = d.datum }
 
-name_opens : (k : ℕ) (d : Ref) (c : Content)
+name_opens : (k : ℕ) (d : Ref) (c : Said)
     → run (Ok (at mode.Between place.NameOrAttribute [] k d c)) (34 ∷ [])
-    ≡ Ok (at (mode.Quoted quotes.Name) place.NameOrAttribute [] k d c)
+    ≡ Ok (at (mode.Quoted quotes.Double) place.NameOrAttribute [] k d c)
 unfolding step between
 name_opens k d c = refl
 
-name_closes : (g : List ℕ) (k : ℕ) (d : Ref) (c : Content) → nat_lt 255 (length g) ≡ false
-    → run (Ok (at (mode.Quoted quotes.Name) place.NameOrAttribute g k d c)) (34 ∷ [])
+name_closes : (g : List ℕ) (k : ℕ) (d : Ref) (c : Said) → nat_lt 255 (length g) ≡ false
+    → run (Ok (at (mode.Quoted quotes.Double) place.NameOrAttribute g k d c)) (34 ∷ [])
     ≡ Ok (at mode.Between place.AfterArgument [] k (with_name d g) c)
-unfolding step quoted name
+unfolding step quoted string
 name_closes g k d c e = rw e refl
 
-pub name_run : (text : List ℕ) (k : ℕ) (d : Ref) (c : Content) → AreBytes text → length text ≤ 255
+pub name_run : (text : List ℕ) (k : ℕ) (d : Ref) (c : Said) → AreBytes text → length text ≤ 255
     → run (Ok (at mode.Between place.NameOrAttribute [] k d c)) (in_quotes 34 text)
     ≡ Ok (at mode.Between place.AfterArgument [] k (with_name d text) c)
 name_run text k d c small short =
     let s = at mode.Between place.NameOrAttribute [] k d c in
-    let t = at (mode.Quoted quotes.Name) place.NameOrAttribute [] k d c in
-    let u = at (mode.Quoted quotes.Name) place.NameOrAttribute text k d c in
+    let t = at (mode.Quoted quotes.Double) place.NameOrAttribute [] k d c in
+    let u = at (mode.Quoted quotes.Double) place.NameOrAttribute text k d c in
     after s u _ (34 ∷ [] ++ flat_map (escaped 34) text) (34 ∷ [])
     (after s t _ (34 ∷ []) (flat_map (escaped 34) text) (name_opens k d c)
-    (escaped_all text quotes.Name place.NameOrAttribute [] k d c small))
+    (escaped_all text quotes.Double place.NameOrAttribute [] k d c small))
     (name_closes text k d c (le-ltb 255 (length text) short))
 
-type_opens : (d : Ref) (c : Content)
-    → run (Ok (at mode.Between place.Type [] 0 d c)) (39 ∷ []) ≡ Ok (at (mode.Quoted quotes.Type) place.Type [] 0 d c)
+type_opens : (d : Ref) (c : Said)
+    → run (Ok (at mode.Between place.Type [] 0 d c)) (39 ∷ []) ≡ Ok (at (mode.Quoted quotes.Single) place.Type [] 0 d c)
 unfolding step between
 type_opens d c = refl
 
-type_closes : (g : List ℕ) (d : Ref) (c : Content) → (length g == 4) ≡ true
-    → run (Ok (at (mode.Quoted quotes.Type) place.Type g 0 d c)) (39 ∷ [])
+type_closes : (g : List ℕ) (d : Ref) (c : Said) → (length g == 4) ≡ true
+    → run (Ok (at (mode.Quoted quotes.Single) place.Type g 0 d c)) (39 ∷ [])
     ≡ Ok (at mode.Between place.Parenthesis [] (big_number 4 g) d c)
 unfolding step quoted type_token
 type_closes g d c e = rw e refl
@@ -172,16 +183,16 @@ kind_again : (kind : ℕ) → kind < 2 ^ 32 → big_number 4 (big_bytes 4 kind) 
 kind_again kind small =
     ap (big_number 4) (sym (append-nil (big_bytes 4 kind))) ∙ big_number-reads_back 4 kind [] small
 
-pub type_run : (kind : ℕ) (d : Ref) (c : Content) → kind < 2 ^ 32
+pub type_run : (kind : ℕ) (d : Ref) (c : Said) → kind < 2 ^ 32
     → run (Ok (at mode.Between place.Type [] 0 d c)) (type_literal kind)
     ≡ Ok (at mode.Between place.Parenthesis [] kind d c)
 unfolding type_literal
 type_run kind d c small =
     let text = big_bytes 4 kind in
     let s = at mode.Between place.Type [] 0 d c in
-    let t = at (mode.Quoted quotes.Type) place.Type [] 0 d c in
-    let u = at (mode.Quoted quotes.Type) place.Type text 0 d c in
+    let t = at (mode.Quoted quotes.Single) place.Type [] 0 d c in
+    let u = at (mode.Quoted quotes.Single) place.Type text 0 d c in
     after s u _ (39 ∷ [] ++ flat_map (escaped 39) text) (39 ∷ [])
     (after s t _ (39 ∷ []) (flat_map (escaped 39) text) (type_opens d c)
-    (escaped_all text quotes.Type place.Type [] 0 d c (kind_bytes kind)))
+    (escaped_all text quotes.Single place.Type [] 0 d c (kind_bytes kind)))
     (type_closes text d c refl ∙ ap (λ n. Ok (at mode.Between place.Parenthesis [] n d c)) (kind_again kind small))

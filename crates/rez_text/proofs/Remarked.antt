@@ -8,9 +8,10 @@ use Rattle.std.specs.List.{list_all}
 use Rattle.byteorder.specs.Endian.{big_number}
 use Rattle.fork_format.specs.Content.{Group, Content}
 use Rattle.mac_words.specs.Digits.{upper_digit}
+use Rattle.rez_statements.specs.Types.{Declared}
 use Rattle.rez_text.specs.declared.mode.Mode.TheVariants as mode
 use Rattle.rez_text.specs.declared.mode.Place.TheVariants as place
-use Rattle.rez_text.specs.State.{State, no_ref}
+use Rattle.rez_text.specs.State.{Said, State, no_ref, with_content}
 use Rattle.rez_text.specs.Bytes.{AreBytes}
 use Rattle.rez_text.specs.Remarks.{is_blank, hex_value, byte_of, hex_from, begins, bytes_after, stated}
 use Rattle.rez_text.specs.Remarks.{remarked, comment, with_area, with_map_attributes}
@@ -20,7 +21,7 @@ use Rattle.rez_text.specs.Printing.{area_lines, area_remark}
 use Rattle.rez_text.proofs.Steps.{at, run, after}
 use Rattle.rez_text.proofs.Digits.{digit_value, digit_no_blank, digit_no_star, halves}
 use Rattle.rez_text.proofs.Lines.{NoStar, comment_run, bytes_take, bytes_drop, all_lines}
-use Rattle.rez_text.proofs.Statements.{outside}
+use Rattle.rez_text.proofs.Statements.{saying, outside}
 
 -- Hexadecimal digits in a comment.
 
@@ -147,37 +148,43 @@ area_stated area rest c count read =
 
 -- The comments, as they are read.
 
-attributes_opens : (c : Content)
+attributes_opens : (c : Said)
     → run (Ok (at mode.Between place.Outside [] 0 no_ref c)) (codes "/* map attributes $")
     ≡ Ok (at mode.Comment place.Outside (codes " map attributes $") 0 no_ref c)
 unfolding step between slash in_comment
 attributes_opens c = refl
 
-area_opens : (c : Content)
+area_opens : (c : Said)
     → run (Ok (at mode.Between place.Outside [] 0 no_ref c)) (codes "/* header bytes")
     ≡ Ok (at mode.Comment place.Outside (codes " header bytes") 0 no_ref c)
 unfolding step between slash in_comment
 area_opens c = refl
 
-attributes_closes : (g : List ℕ) (c d : Content) → remarked (g ++ 32 ∷ []) c ≡ Ok d
+attributes_closes : (g : List ℕ) (c : Said) (d : Content) → remarked (g ++ 32 ∷ []) c.content ≡ Ok d
     → run (Ok (at mode.Comment place.Outside g 0 no_ref c)) (codes " */\n")
-    ≡ Ok (at mode.Between place.Outside [] 0 no_ref d)
+    ≡ Ok (at mode.Between place.Outside [] 0 no_ref (with_content d c))
 unfolding step between in_comment star comment
 attributes_closes g c d stated = rw stated refl
 
-area_closes : (g : List ℕ) (c d : Content) → remarked (g ++ 10 ∷ []) c ≡ Ok d
+area_closes : (g : List ℕ) (c : Said) (d : Content) → remarked (g ++ 10 ∷ []) c.content ≡ Ok d
     → run (Ok (at mode.Comment place.Outside g 0 no_ref c)) (codes "\n*/\n")
-    ≡ Ok (at mode.Between place.Outside [] 0 no_ref d)
+    ≡ Ok (at mode.Between place.Outside [] 0 no_ref (with_content d c))
 unfolding step between in_comment star comment
 area_closes g c d stated = rw stated refl
 
--- a state by its content
-abbrev there : Content → State
+-- a state by what is said
+abbrev there : Said → State
 there c = at mode.Between place.Outside [] 0 no_ref c
 
-attributes_comment_run : (attrs : ℕ) (c : Content) → attrs < 65536
-    → run (Ok (there c)) (attributes_comment attrs)
-    ≡ Ok (there (record { area = c.area; attrs = attrs; groups = c.groups }))
+-- what is said, with other attributes, and with other bytes after the header
+abbrev with_attrs : ℕ → Said → Said
+with_attrs attrs c = with_content (record { area = c.content.area; attrs = attrs; groups = c.content.groups }) c
+
+abbrev with_bytes : List ℕ → Said → Said
+with_bytes area c = with_content (record { area = area; attrs = c.content.attrs; groups = c.content.groups }) c
+
+attributes_comment_run : (attrs : ℕ) (c : Said) → attrs < 65536
+    → run (Ok (there c)) (attributes_comment attrs) ≡ Ok (there (with_attrs attrs c))
 attributes_comment_run attrs c small =
     let high : ℕ = attrs / 256 in
     let low : ℕ = attrs % 256 in
@@ -191,8 +198,8 @@ attributes_comment_run attrs c small =
     let text : ((words ++ byte_hex high) ++ byte_hex low) ++ 32 ∷ [] ≡ words ++ (byte_hex high ++ (byte_hex low ++ 32 ∷ [])) =
     append_assoc (words ++ byte_hex high) (byte_hex low) (32 ∷ [])
     ∙ append_assoc words (byte_hex high) (byte_hex low ++ 32 ∷ []) in
-    let stated = ap (λ l. remarked l c) text ∙ attributes_stated high low c first second
-    ∙ ap (λ n. Ok (record { area = c.area; attrs = n; groups = c.groups })) whole in
+    let stated = ap (λ l. remarked l c.content) text ∙ attributes_stated high low c.content first second
+    ∙ ap (λ n. Ok (record { area = c.content.area; attrs = n; groups = c.content.groups })) whole in
     after (there c) t3 _ (codes "/* map attributes $" ++ byte_hex high ++ byte_hex low) (codes " */\n")
     (after (there c) t2 _ (codes "/* map attributes $" ++ byte_hex high) (byte_hex low)
     (after (there c) t1 _ (codes "/* map attributes $") (byte_hex high) (attributes_opens c)
@@ -200,22 +207,22 @@ attributes_comment_run attrs c small =
     (comment_run (byte_hex low) place.Outside (words ++ byte_hex high) 0 no_ref c (byte_no_star low second)))
     (attributes_closes ((words ++ byte_hex high) ++ byte_hex low) c _ stated)
 
-pub attributes_remark_run : (attrs : ℕ) (area : List ℕ) (groups : List Group) → attrs < 65536
-    → run (Ok (outside area 0 groups)) (attributes_remark attrs) ≡ Ok (outside area attrs groups)
-attributes_remark_run attrs area groups small =
-    let c : Content = record { area = area; attrs = 0; groups = groups } in
+pub attributes_remark_run : (attrs : ℕ) (area : List ℕ) (groups : List Group) (types : List Declared) → attrs < 65536
+    → run (Ok (outside area 0 groups types)) (attributes_remark attrs) ≡ Ok (outside area attrs groups types)
+attributes_remark_run attrs area groups types small =
+    let c = saying area 0 groups types in
     let go : (v : Bool) → (attrs == 0) ≡ v
-    → run (Ok (outside area 0 groups)) (cond v [] (attributes_comment attrs)) ≡ Ok (outside area attrs groups) =
+    → run (Ok (outside area 0 groups types)) (cond v [] (attributes_comment attrs)) ≡ Ok (outside area attrs groups types) =
     λ v. elim v as (λ w. (attrs == 0) ≡ w
-    → run (Ok (outside area 0 groups)) (cond w [] (attributes_comment attrs)) ≡ Ok (outside area attrs groups)) [
-      | true ↦ λ h. ap (λ n. Ok (outside area n groups)) (sym (eqb-true attrs 0 h))
+    → run (Ok (outside area 0 groups types)) (cond w [] (attributes_comment attrs)) ≡ Ok (outside area attrs groups types)) [
+      | true ↦ λ h. ap (λ n. Ok (outside area n groups types)) (sym (eqb-true attrs 0 h))
       | false ↦ λ h. attributes_comment_run attrs c small
     ] in
     go (attrs == 0) refl
 
-area_comment_run : (area : List ℕ) (c : Content) → AreBytes area → length area ≡ 240
+area_comment_run : (area : List ℕ) (c : Said) → AreBytes area → length area ≡ 240
     → run (Ok (there c)) (codes "/* header bytes" ++ area_lines (line_count area) area ++ codes "\n*/\n")
-    ≡ Ok (there (record { area = area; attrs = c.attrs; groups = c.groups }))
+    ≡ Ok (there (with_bytes area c))
 area_comment_run area c small count =
     let lines = area_lines (line_count area) area in
     let words = codes " header bytes" in
@@ -223,8 +230,8 @@ area_comment_run area c small count =
     let t2 = at mode.Comment place.Outside (words ++ lines) 0 no_ref c in
     let read : hex_from None [] (lines ++ 10 ∷ []) ≡ Some area =
     lines_from (line_count area) area [] (10 ∷ []) small ∙ ap (λ l. Some l) (all_lines area) in
-    let stated = ap (λ l. remarked l c) (append_assoc words lines (10 ∷ []))
-    ∙ area_stated area (lines ++ 10 ∷ []) c count read in
+    let stated = ap (λ l. remarked l c.content) (append_assoc words lines (10 ∷ []))
+    ∙ area_stated area (lines ++ 10 ∷ []) c.content count read in
     after (there c) t2 _ (codes "/* header bytes" ++ lines) (codes "\n*/\n")
     (after (there c) t1 _ (codes "/* header bytes") lines (area_opens c)
     (comment_run lines place.Outside words 0 no_ref c (lines_no_star (line_count area) area small)))
@@ -236,16 +243,16 @@ all_zero (b ∷ area) h =
     let parts = and_parts (b == 0) (list_all (λ x. x == 0) area) h in
     ap (λ n. n ∷ area) (eqb-true b 0 parts.0) ∙ ap (λ l. 0 ∷ l) (all_zero area parts.1)
 
-pub area_remark_run : (area : List ℕ) (attrs : ℕ) (groups : List Group) → AreBytes area → length area ≡ 240
-    → run (Ok (outside (replicate 240 0) attrs groups)) (area_remark area) ≡ Ok (outside area attrs groups)
-area_remark_run area attrs groups small count =
-    let c : Content = record { area = replicate 240 0; attrs = attrs; groups = groups } in
+pub area_remark_run : (area : List ℕ) (attrs : ℕ) (groups : List Group) (types : List Declared) → AreBytes area
+    → length area ≡ 240 → run (Ok (outside (replicate 240 0) attrs groups types)) (area_remark area) ≡ Ok (outside area attrs groups types)
+area_remark_run area attrs groups types small count =
+    let c = saying (replicate 240 0) attrs groups types in
     let text = codes "/* header bytes" ++ area_lines (line_count area) area ++ codes "\n*/\n" in
     let go : (v : Bool) → list_all (λ b. b == 0) area ≡ v
-    → run (Ok (outside (replicate 240 0) attrs groups)) (cond v [] text) ≡ Ok (outside area attrs groups) =
+    → run (Ok (outside (replicate 240 0) attrs groups types)) (cond v [] text) ≡ Ok (outside area attrs groups types) =
     λ v. elim v as (λ w. list_all (λ b. b == 0) area ≡ w
-    → run (Ok (outside (replicate 240 0) attrs groups)) (cond w [] text) ≡ Ok (outside area attrs groups)) [
-      | true ↦ λ h. ap (λ l. Ok (outside l attrs groups))
+    → run (Ok (outside (replicate 240 0) attrs groups types)) (cond w [] text) ≡ Ok (outside area attrs groups types)) [
+      | true ↦ λ h. ap (λ l. Ok (outside l attrs groups types))
           (sym (all_zero area h ∙ ap (λ n. replicate n 0) count))
       | false ↦ λ h. area_comment_run area c small count
     ] in

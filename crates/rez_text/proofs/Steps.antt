@@ -1,18 +1,18 @@
 -- Runs of steps over stretches of a text.
 use Rattle.std.proofs.Common.{◌≡◌, ℕ, Result, Ok, Err, List, [], ◌∷◌, ◌++◌, replicate, zero, suc, refl, ap, ◌∙◌}
-use Rattle.fork_format.specs.Content.{Ref, Content}
+use Rattle.fork_format.specs.Content.{Ref}
 use Rattle.rez_text.specs.declared.fault.FaultKind.{FaultKind}
 use Rattle.rez_text.specs.declared.mode.Mode.{Mode}
 use Rattle.rez_text.specs.declared.mode.Mode.TheVariants as mode
 use Rattle.rez_text.specs.declared.mode.Place.{Place}
-use Rattle.rez_text.specs.State.{State, ◌>>=◌}
+use Rattle.rez_text.specs.State.{Said, State, ◌>>=◌}
 use Rattle.rez_text.specs.Lexing.{step, between}
 use Rattle.rez_text.specs.declared.line.Lines.{Lines}
 use Rattle.rez_text.specs.Reading.{finish, at_line, lines_at, read_from}
 
 -- a state by its parts
-abbrev pub at : Mode → Place → List ℕ → ℕ → Ref → Content → State
-at m p g k d c = record { mode = m; place = p; gathered = g; kind = k; draft = d; content = c }
+abbrev pub at : Mode → Place → List ℕ → ℕ → Ref → Said → State
+at m p g k d c = record { mode = m; place = p; gathered = g; kind = k; draft = d; said = c }
 
 -- where a stretch of text leads
 abbrev pub run : Result State FaultKind → List ℕ → Result State FaultKind
@@ -33,21 +33,21 @@ run-failed fault [] = refl
 run-failed fault (x ∷ xs) = run-failed fault xs
 
 -- what a run leads to is read, on whatever lines it stands
-pub read_run : (text : List ℕ) (s t : State) (c : Content) (lines : Lines) → run (Ok s) text ≡ Ok t
-    → finish t ≡ Ok c → read_from lines s text ≡ Ok c
-read_run [] s t c lines e f =
+pub read_run : (text : List ℕ) (s t u : State) (lines : Lines) → run (Ok s) text ≡ Ok t → finish t ≡ Ok u
+    → read_from lines s text ≡ Ok u
+read_run [] s t u lines e f =
     let same : s ≡ t = cc in
     ap (λ r. at_line lines r (λ x. Ok x)) (ap finish same ∙ f)
-read_run (b ∷ rest) s t c lines e f =
+read_run (b ∷ rest) s t u lines e f =
     let now = lines_at s.mode b lines in
-    let go : (r : Result State FaultKind) → run r rest ≡ Ok t → at_line now r (λ u. read_from now u rest) ≡ Ok c =
-    λ r. elim r as (λ v. run v rest ≡ Ok t → at_line now v (λ u. read_from now u rest) ≡ Ok c) [
-      | Ok u ↦ λ k. read_run rest u t c now k f
+    let go : (r : Result State FaultKind) → run r rest ≡ Ok t → at_line now r (λ x. read_from now x rest) ≡ Ok u =
+    λ r. elim r as (λ v. run v rest ≡ Ok t → at_line now v (λ x. read_from now x rest) ≡ Ok u) [
+      | Ok x ↦ λ k. read_run rest x t u now k f
       | Err fault ↦ λ k. let failed = run-failed fault rest in absurd (cc)
     ] in
     go (step b s) e
 
-pub blanks : (n : ℕ) (p : Place) (g : List ℕ) (k : ℕ) (d : Ref) (c : Content)
+pub blanks : (n : ℕ) (p : Place) (g : List ℕ) (k : ℕ) (d : Ref) (c : Said)
     → run (Ok (at mode.Between p g k d c)) (replicate n 32) ≡ Ok (at mode.Between p g k d c)
 unfolding step between
 blanks zero p g k d c = refl

@@ -1,15 +1,26 @@
 -- Worked sources, on the definitions alone.
-use Rattle.std.proofs.Common.{◌≡◌, ℕ, ℤ, pos, negsuc, Option, Some, None, Ok, Err, List, [], ◌∷◌, ◌++◌, replicate, codes, refl}
+use Rattle.std.proofs.Common.{◌≡◌, ℕ, ℤ, true, false, pos, negsuc, Option, Some, None, Ok, Err, List, [], ◌∷◌, ◌++◌, replicate, codes, refl, ap}
 use Rattle.std.specs.Fmt.{digits}
 use Rattle.mac_roman.specs.declared.charset.Charset.TheVariants.{Ascii, Utf8}
 use Rattle.fork_format.specs.Content.{Ref, Group, Content}
+use Rattle.rez_statements.specs.declared.fault.StatementFault.{StatementFault}
+use Rattle.rez_statements.specs.Types.{Declared, with_type}
 use Rattle.rez_text.specs.declared.fault.FaultKind.TheVariants as faults
-use Rattle.rez_text.specs.Tokens.{word, type_token, number, name, datum, mark}
+use Rattle.rez_text.specs.Scopes.{inside, outside, keeps, ends_last, scope_step}
+use Rattle.rez_text.specs.declared.fault.Unread.TheVariants as unread
+use Rattle.rez_text.specs.Tokens.{word, type_token, number, string, datum, type_statement, resource_body, mark}
 use Rattle.rez_text.specs.Remarks.{bytes_after, remarked, comment}
-use Rattle.rez_text.specs.Lexing.{step, between, slash, in_comment, star, line_comment, in_word, decimal, dollar}
-use Rattle.rez_text.specs.Lexing.{hexadecimal, hex_string, hex_half, quoted, escape, escape_zero, escape_high, escape_low}
-use Rattle.rez_text.specs.Reading.{finish, read}
+use Rattle.rez_text.specs.Lexing.{step, between, slash, in_comment, star, line_comment, declaring, body, in_word, after_zero, prefixed, in_number}
+use Rattle.rez_text.specs.Lexing.{dollar, hex_string, hex_half, quoted, escape, escape_zero, escape_number}
+use Rattle.rez_text.specs.Reading.{finish, read, read_declarations, read_from, at_line, sought}
 use Rattle.rez_text.specs.Printing.{type_literal, statement_head, source_of}
+use Rattle.rez_text.specs.declared.line.Lines.{Lines}
+use Rattle.rez_text.specs.declared.mode.Form.TheVariants as forms
+use Rattle.rez_text.specs.declared.mode.Mode.TheVariants as mode
+use Rattle.rez_text.specs.declared.mode.Place.TheVariants as place
+use Rattle.rez_text.specs.State.{State, no_ref, no_content, come_to, with_types}
+use Rattle.rez_text.specs.Tokens.{of_text}
+use Rattle.fork_format.specs.Canonical.{clear}
 
 -- a content of these groups
 abbrev of_groups : List Group → Content
@@ -59,7 +70,7 @@ unfolding source_of
 remarks = refl
 
 -- a source as a person writes it: comments, ends of lines, words in another order, digits apart, two types by turns
-written : read (codes "// by hand\r\ndata 'STR ' ($80, \"a\", preload, purgeable) /* here */ {\r$\"01 2\n3\" $\"45\"};\ndata 'TEXT'(16,$C1){};data 'STR '(-1){};")
+written : read [] (codes "// by hand\r\ndata 'STR ' ($80, \"a\", preload, purgeable) /* here */ {\r$\"01 2\n3\" $\"45\"};\ndata 'TEXT'(16,$C1){};data 'STR '(-1){};")
     ≡ Ok (of_groups (
     record {
       kind = str;
@@ -68,79 +79,209 @@ written : read (codes "// by hand\r\ndata 'STR ' ($80, \"a\", preload, purgeable
     } ∷
     record { kind = 0x54455854; refs = a_ref (pos 16) None 193 [] ∷ [] } ∷ []
     ))
-unfolding read finish step between slash in_comment star line_comment in_word decimal dollar hexadecimal hex_string
-    hex_half quoted escape escape_zero escape_high escape_low word type_token number name datum mark comment remarked
-    bytes_after
+unfolding read read_declarations finish step between slash in_comment star line_comment declaring body in_word
+    after_zero prefixed in_number dollar hex_string hex_half quoted escape escape_zero escape_number word type_token
+    number string datum type_statement resource_body mark comment remarked bytes_after
 written = refl
 
+-- words in any case, and words of opposites, which state no bit
+words : (read [] (codes "DATA 'STR ' (1, APPHEAP, Purgeable, nonPreload) {};") ≡ Ok (of_groups (record {
+  kind = str;
+  refs = a_ref (pos 1) None 32 [] ∷ [];
+} ∷ [])))
+    × (read [] (codes "Data 'STR ' (1, locked, appheap, nonpurgeable, unlocked, unprotected, nonpreload, unchanged) {};")
+    ≡ Ok (of_groups (record { kind = str; refs = a_ref (pos 1) None 16 [] ∷ [] } ∷ [])))
+unfolding read read_declarations finish step between slash in_comment star line_comment declaring body in_word
+    after_zero prefixed in_number dollar hex_string hex_half quoted escape escape_zero escape_number word type_token
+    number string datum type_statement resource_body mark comment remarked bytes_after
+words = (refl, refl)
+
+-- numbers in each radix; zeros before a decimal number
+numbers : (read [] (codes "data 'STR ' (0x7f, 0b100100) {};") ≡ Ok (of_groups (record {
+  kind = str;
+  refs = a_ref (pos 127) None 36 [] ∷ [];
+} ∷ [])))
+    × (read [] (codes "data 'STR ' (-0X8000, 0) {};data 'STR ' (0, 0B1) {};data 'STR ' (010, $04) {};") ≡ Ok (of_groups (record {
+      kind = str;
+      refs =
+          a_ref (negsuc 32767) None 0 [] ∷
+          a_ref (pos 0) None 1 [] ∷
+          a_ref (pos 10) None 4 [] ∷ [];
+    } ∷ [])))
+unfolding read read_declarations finish step between slash in_comment star line_comment declaring body in_word
+    after_zero prefixed in_number dollar hex_string hex_half quoted escape escape_zero escape_number word type_token
+    number string datum type_statement resource_body mark comment remarked bytes_after
+numbers = (refl, refl)
+
+-- strings are data too, and those side by side are one
+strings : read [] (codes "data 'STR ' (128) { \"\\0x05\" \"Hello\"$\"0d\" \"\"};") ≡ Ok (of_groups (record {
+  kind = str;
+  refs = a_ref (pos 128) None 0 (5 ∷ codes "Hello" ++ 13 ∷ []) ∷ [];
+} ∷ []))
+unfolding read read_declarations finish step between slash in_comment star line_comment declaring body in_word
+    after_zero prefixed in_number dollar hex_string hex_half quoted escape escape_zero escape_number word type_token
+    number string datum type_statement resource_body mark comment remarked bytes_after
+strings = refl
+
+-- each escape, in a name, and in a type
+all_escapes : read [] (codes "data '\\n\\'\\0x80\\?' (1, \"\\n\\r\\t\\b\\f\\v\\?\\\"\\'\\\\\\0xFE\\0X0b\\$1c\\0b00001101\\0d255\\017\\377\") {};")
+    ≡ Ok (of_groups (record {
+      kind = 0x0D27807F;
+      refs =
+          a_ref (pos 1)
+          (Some (13 ∷ 10 ∷ 9 ∷ 8 ∷ 12 ∷ 11 ∷ 127 ∷ 34 ∷ 39 ∷ 92 ∷ 254 ∷ 11 ∷ 28 ∷ 13 ∷ 255 ∷ 15 ∷ 255 ∷ [])) 0 [] ∷ [];
+    } ∷ []))
+unfolding read read_declarations finish step between slash in_comment star line_comment declaring body in_word
+    after_zero prefixed in_number dollar hex_string hex_half quoted escape escape_zero escape_number word type_token
+    number string datum type_statement resource_body mark comment remarked bytes_after
+all_escapes = refl
+
 -- comments that state the attributes of the map, and one that states nothing
-attributes : (read (codes "/* map attributes $0080 */") ≡ Ok (record { area = replicate 240 0; attrs = 128; groups = [] }))
-    × (read (codes "/*map attributes $00 80*/") ≡ Ok (record { area = replicate 240 0; attrs = 128; groups = [] }))
-    × (read (codes "/* attributes $0080 */") ≡ Ok (of_groups []))
-unfolding read finish step between slash in_comment star line_comment in_word decimal dollar hexadecimal hex_string
-    hex_half quoted escape escape_zero escape_high escape_low word type_token number name datum mark comment remarked
-    bytes_after
+attributes : (read [] (codes "/* map attributes $0080 */") ≡ Ok (record { area = replicate 240 0; attrs = 128; groups = [] }))
+    × (read [] (codes "/*map attributes $00 80*/") ≡ Ok (record { area = replicate 240 0; attrs = 128; groups = [] }))
+    × (read [] (codes "/* attributes $0080 */") ≡ Ok (of_groups []))
+unfolding read read_declarations finish step between slash in_comment star line_comment declaring body in_word
+    after_zero prefixed in_number dollar hex_string hex_half quoted escape escape_zero escape_number word type_token
+    number string datum type_statement resource_body mark comment remarked bytes_after
 attributes = (refl, refl, refl)
 
 -- bits that no stored fork has: resChanged of a resource, mapCompact and mapChanged of the map
-cleared : (read (codes "data 'STR ' (1, 2) {};") ≡ Ok (of_groups (record {
+cleared : (read [] (codes "data 'STR ' (1, 2) {};") ≡ Ok (of_groups (record {
   kind = str;
   refs = a_ref (pos 1) None 0 [] ∷ [];
 } ∷ [])))
-    × (read (codes "/* map attributes $00E0 */") ≡ Ok (record { area = replicate 240 0; attrs = 128; groups = [] }))
-unfolding read finish step between slash in_comment star line_comment in_word decimal dollar hexadecimal hex_string
-    hex_half quoted escape escape_zero escape_high escape_low word type_token number name datum mark comment remarked
-    bytes_after
+    × (read [] (codes "/* map attributes $00E0 */") ≡ Ok (record { area = replicate 240 0; attrs = 128; groups = [] }))
+unfolding read read_declarations finish step between slash in_comment star line_comment declaring body in_word
+    after_zero prefixed in_number dollar hex_string hex_half quoted escape escape_zero escape_number word type_token
+    number string datum type_statement resource_body mark comment remarked bytes_after
 cleared = (refl, refl)
 
 -- comments that begin as those which count, and are not them; within a statement no comment counts
-remarks_refused : (read (codes "\n/* map attributes 0080 */") ≡ Err (2, faults.NotMapAttributes))
-    × (read (codes "/* map attributes $080 */") ≡ Err (1, faults.NotMapAttributes))
-    × (read (codes "/*\nheader bytes\n00\n*/") ≡ Err (1, faults.NotHeaderBytes))
-    × (read (codes "data 'STR ' /* map attributes */ (1) {};") ≡ Ok (of_groups (record {
+remarks_refused : (read [] (codes "\n/* map attributes 0080 */") ≡ Err (2, faults.NotMapAttributes))
+    × (read [] (codes "/* map attributes $080 */") ≡ Err (1, faults.NotMapAttributes))
+    × (read [] (codes "/*\nheader bytes\n00\n*/") ≡ Err (1, faults.NotHeaderBytes))
+    × (read [] (codes "data 'STR ' /* map attributes */ (1) {};") ≡ Ok (of_groups (record {
       kind = str;
       refs = a_ref (pos 1) None 0 [] ∷ [];
     } ∷ [])))
-unfolding read finish step between slash in_comment star line_comment in_word decimal dollar hexadecimal hex_string
-    hex_half quoted escape escape_zero escape_high escape_low word type_token number name datum mark comment remarked
-    bytes_after
+unfolding read read_declarations finish step between slash in_comment star line_comment declaring body in_word
+    after_zero prefixed in_number dollar hex_string hex_half quoted escape escape_zero escape_number word type_token
+    number string datum type_statement resource_body mark comment remarked bytes_after
 remarks_refused = (refl, refl, refl, refl)
 
 -- each fault, with its line
-statements_refused : (read (codes "data 'STR ' (1) {};\r\nresource") ≡ Err (2, faults.NotAStatement))
-    × (read (codes "data 'STR'") ≡ Err (1, faults.TypeNeeded))
-    × (read (codes "data 'STR ' 1") ≡ Err (1, faults.ParenthesisNeeded))
-    × (read (codes "data 'STR ' (\"a\"") ≡ Err (1, faults.IdNeeded))
-    × (read (codes "data 'STR ' (32768)") ≡ Err (1, faults.IdOutOfRange))
-    × (read (codes "data 'STR ' (-32769)") ≡ Err (1, faults.IdOutOfRange))
-    × (read (codes "data 'STR ' (1 2)") ≡ Err (1, faults.EndOfArgumentsNeeded))
-    × (read (codes "data 'STR ' (1, fixed)") ≡ Err (1, faults.NameOrAttributeNeeded))
-    × (read (codes "data 'STR ' (1, locked,\n \"a\")") ≡ Err (2, faults.AttributeNeeded))
-    × (read (codes "data 'STR ' (1, $100)") ≡ Err (1, faults.AttributesOutOfRange))
-    × (read (codes "data 'STR ' (1);") ≡ Err (1, faults.BraceNeeded))
-    × (read (codes "data 'STR ' (1) {\n1") ≡ Err (2, faults.DataNeeded))
-    × (read (codes "data 'STR ' (1) {}\n") ≡ Err (1, faults.SemicolonNeeded))
-unfolding read finish step between slash in_comment star line_comment in_word decimal dollar hexadecimal hex_string
-    hex_half quoted escape escape_zero escape_high escape_low word type_token number name datum mark comment remarked
-    bytes_after
-statements_refused = (refl, refl, refl, refl, refl, refl, refl, refl, refl, refl, refl, refl, refl)
+statements_refused : (read [] (codes "data 'STR ' (1) {};\r\nresources") ≡ Err (2, faults.NotAStatement))
+    × (read [] (codes "data 'STR'") ≡ Err (1, faults.TypeNeeded))
+    × (read [] (codes "data 'STR ' 1") ≡ Err (1, faults.ParenthesisNeeded))
+    × (read [] (codes "data 'STR ' (\"a\"") ≡ Err (1, faults.IdNeeded))
+    × (read [] (codes "data 'STR ' (32768)") ≡ Err (1, faults.IdOutOfRange))
+    × (read [] (codes "data 'STR ' (-32769)") ≡ Err (1, faults.IdOutOfRange))
+    × (read [] (codes "data 'STR ' (70000)") ≡ Err (1, faults.IdOutOfRange))
+    × (read [] (codes "data 'STR ' (1, 70000)") ≡ Err (1, faults.AttributesOutOfRange))
+    × (read [] (codes "data 'STR ' (1 2)") ≡ Err (1, faults.EndOfArgumentsNeeded))
+    × (read [] (codes "data 'STR ' (1, fixed)") ≡ Err (1, faults.NameOrAttributeNeeded))
+    × (read [] (codes "data 'STR ' (1, locked,\n \"a\")") ≡ Err (2, faults.AttributeNeeded))
+    × (read [] (codes "data 'STR ' (1, $100)") ≡ Err (1, faults.AttributesOutOfRange))
+    × (read [] (codes "data 'STR ' (1);") ≡ Err (1, faults.BraceNeeded))
+    × (read [] (codes "data 'STR ' (1) {\n1") ≡ Err (2, faults.DataNeeded))
+    × (read [] (codes "data 'STR ' (1) {}\n") ≡ Err (1, faults.SemicolonNeeded))
+unfolding read read_declarations finish step between slash in_comment star line_comment declaring body in_word
+    after_zero prefixed in_number dollar hex_string hex_half quoted escape escape_zero escape_number word type_token
+    number string datum type_statement resource_body mark comment remarked bytes_after
+statements_refused = (refl, refl, refl, refl, refl, refl, refl, refl, refl, refl, refl, refl, refl, refl, refl)
 
-tokens_refused : (read (codes "data 'STR ' (65536") ≡ Err (1, faults.NumberOutOfRange))
-    × (read (codes "data 'STR ' ($)") ≡ Err (1, faults.HexadecimalNeeded))
-    × (read (codes "data 'STR ' (1) { $\"0G\"") ≡ Err (1, faults.NotADigit))
-    × (read (codes "data 'STR ' (1) { $\"012\"") ≡ Err (1, faults.OddDigits))
-    × (read (codes "data 'STR ' (1, \"a\n") ≡ Err (1, faults.OpenString))
-    × (read (codes "data 'STR ' (1) {\r\n$\"01\r\n\r\n") ≡ Err (2, faults.OpenString))
-    × (read (codes "data 'STR ' (1, \"\\n\"") ≡ Err (1, faults.NotAnEscape))
-    × (read (codes "\n/* a\n\n") ≡ Err (2, faults.OpenComment))
-unfolding read finish step between slash in_comment star line_comment in_word decimal dollar hexadecimal hex_string
-    hex_half quoted escape escape_zero escape_high escape_low word type_token number name datum mark comment remarked
-    bytes_after
-tokens_refused = (refl, refl, refl, refl, refl, refl, refl, refl)
+tokens_refused : (read [] (codes "data 'STR ' (4294967296") ≡ Err (1, faults.NumberOutOfRange))
+    × (read [] (codes "data 'STR ' (0x)") ≡ Err (1, faults.DigitNeeded))
+    × (read [] (codes "data 'STR ' (1, 0b2)") ≡ Err (1, faults.DigitNeeded))
+    × (read [] (codes "data 'STR ' ($)") ≡ Err (1, faults.HexadecimalNeeded))
+    × (read [] (codes "data 'STR ' (1) { $\"0G\"") ≡ Err (1, faults.NotADigit))
+    × (read [] (codes "data 'STR ' (1) { $\"012\"") ≡ Err (1, faults.OddDigits))
+    × (read [] (codes "data 'STR ' (1, \"a\n") ≡ Err (1, faults.OpenString))
+    × (read [] (codes "data 'STR ' (1) {\r\n$\"01\r\n\r\n") ≡ Err (2, faults.OpenString))
+    × (read [] (codes "data 'STR ' (1, \"\\z\"") ≡ Err (1, faults.NotAnEscape))
+    × (read [] (codes "data 'STR ' (1, \"\\12\"") ≡ Err (1, faults.NotAnEscape))
+    × (read [] (codes "data 'STR ' (1, \"\\0b2\"") ≡ Err (1, faults.NotAnEscape))
+    × (read [] (codes "data 'STR ' (1) {\n\"\\400\"") ≡ Err (2, faults.EscapeOutOfRange))
+    × (read [] (codes "data 'ST\\0d256") ≡ Err (1, faults.EscapeOutOfRange))
+    × (read [] (codes "\n/* a\n\n") ≡ Err (2, faults.OpenComment))
+unfolding read read_declarations finish step between slash in_comment star line_comment declaring body in_word
+    after_zero prefixed in_number dollar hex_string hex_half quoted escape escape_zero escape_number word type_token
+    number string datum type_statement resource_body mark comment remarked bytes_after
+tokens_refused = (refl, refl, refl, refl, refl, refl, refl, refl, refl, refl, refl, refl, refl, refl)
+
+-- statements and directives of Rez that are not read
+unread_refused : (read [] (codes "change 'STR '") ≡ Err (1, faults.NotRead unread.Change))
+    × (read [] (codes "data 'STR ' (1) {};\nDelete 'STR ';") ≡ Err (2, faults.NotRead unread.Delete))
+    × (read [] (codes "enum {}") ≡ Err (1, faults.NotRead unread.Enum))
+    × (read [] (codes "include \"a\";") ≡ Err (1, faults.NotRead unread.Include))
+    × (read [] (codes "read 'STR ' (1) \"a\";") ≡ Err (1, faults.NotRead unread.Read))
+    × (read [] (codes "#define A 1") ≡ Err (1, faults.NotRead unread.Define))
+    × (read [] (codes "#else") ≡ Err (1, faults.NotRead unread.Else))
+    × (read [] (codes "#endif") ≡ Err (1, faults.NotRead unread.EndIf))
+    × (read [] (codes "#if 1") ≡ Err (1, faults.NotRead unread.If))
+    × (read [] (codes "#ifdef A") ≡ Err (1, faults.NotRead unread.IfDefined))
+    × (read [] (codes "#ifndef A") ≡ Err (1, faults.NotRead unread.IfNotDefined))
+    × (read [] (codes "\n#include \"Types.r\"") ≡ Err (2, faults.NotRead unread.IncludeText))
+    × (read [] (codes "#undef A") ≡ Err (1, faults.NotRead unread.Undefine))
+    × (read [] (codes "#pragma") ≡ Err (1, faults.NotAStatement))
+unfolding read read_declarations finish step between slash in_comment star line_comment declaring body in_word
+    after_zero prefixed in_number dollar hex_string hex_half quoted escape escape_zero escape_number word type_token
+    number string datum type_statement resource_body mark comment remarked bytes_after
+unread_refused = (refl, refl, refl, refl, refl, refl, refl, refl, refl, refl, refl, refl, refl, refl)
 
 -- a name of 256 bytes
-long_name : read (codes "data 'STR ' (1, \"" ++ replicate 256 97 ++ codes "\")") ≡ Err (1, faults.LongName)
-unfolding read finish step between slash in_comment star line_comment in_word decimal dollar hexadecimal hex_string
-    hex_half quoted escape escape_zero escape_high escape_low word type_token number name datum mark comment remarked
-    bytes_after
+long_name : read [] (codes "data 'STR ' (1, \"" ++ replicate 256 97 ++ codes "\")") ≡ Err (1, faults.LongName)
+unfolding read read_declarations finish step between slash in_comment star line_comment declaring body in_word
+    after_zero prefixed in_number dollar hex_string hex_half quoted escape escape_zero escape_number word type_token
+    number string datum type_statement resource_body mark comment remarked bytes_after
 long_name = refl
+
+-- The text of a statement, and what it means.
+
+-- where a text ends: braces, semicolons and quotes in strings and comments do not count, and a hexadecimal string may go over lines
+scopes : (keeps 125 1 inside (codes " { \"}\\\"}\", '}' }; /* } */ $\"0}\n\" // }\n") ≡ true)
+    × (keeps 125 1 inside (codes "{ 1; };") ≡ true)
+    × (keeps 125 1 inside (codes "}") ≡ false)
+    × (keeps 125 1 inside (codes "{") ≡ false)
+    × (keeps 125 1 inside (codes "\"") ≡ false)
+    × (keeps 125 1 inside (codes "\"\n") ≡ true)
+    × (ends_last 59 0 outside (codes " 'A' { byte = ';'; /* ; */ char $\";\n\"; \";\" };") ≡ true)
+    × (ends_last 59 0 outside (codes " 'A' as 'B'; ") ≡ false)
+    × (ends_last 59 0 outside (codes " 'A' { byte; }") ≡ false)
+unfolding scope_step
+scopes = (refl, refl, refl, refl, refl, refl, refl, refl, refl)
+
+-- statements that do not end; among declarations no other statement may stand
+statements_unended : (read [] (codes "\ntype 'STR ' {\n;\n") ≡ Err (2, faults.OpenStatement))
+    × (read [] (codes "type") ≡ Err (1, faults.OpenStatement))
+    × (read [] (codes "resource 'STR '\n(1) {\n{}") ≡ Err (2, faults.OpenStatement))
+    × (read_declarations [] (codes "type 'STR ' { \"") ≡ Err (1, faults.OpenStatement))
+    × (read_declarations [] (codes "\ndata 'STR '") ≡ Err (2, faults.OnlyDeclarations))
+    × (read_declarations [] (codes "resource 'STR '") ≡ Err (1, faults.OnlyDeclarations))
+    × (read_declarations [] (codes "#include \"a\"") ≡ Err (1, faults.NotRead unread.IncludeText))
+    × (read_declarations [] (codes "types") ≡ Err (1, faults.NotAStatement))
+    × (read_declarations [] (codes "/* map attributes */") ≡ Ok [])
+unfolding read read_declarations finish step between slash in_comment star line_comment declaring body in_word
+    after_zero prefixed in_number dollar hex_string hex_half quoted escape escape_zero escape_number word type_token
+    number string datum type_statement resource_body mark comment remarked bytes_after scope_step
+statements_unended = (refl, refl, refl, refl, refl, refl, refl, refl, refl)
+
+-- a fault in the text of a statement has its line there
+within_text : (types : List Declared) (fault : StatementFault) → with_type (codes "type 'B'\n;") types ≡ Err (2, fault)
+    → read types (codes "\ntype 'B'\n;") ≡ Err (3, faults.Within 2 fault)
+unfolding read read_declarations finish step between slash in_comment star line_comment declaring body in_word
+    after_zero prefixed in_number dollar hex_string hex_half quoted escape escape_zero escape_number word type_token
+    number string datum type_statement resource_body mark comment remarked bytes_after scope_step
+within_text types fault e =
+    let at : Lines = record { line = 3; last = 59; begun = 2 } in
+    let s : State = record {
+      mode = mode.Between;
+      place = place.Outside;
+      gathered = codes "type 'B'\n;";
+      kind = 0;
+      draft = no_ref;
+      said = record { content = no_content; types = types; form = forms.Data };
+    } in
+    ap (λ r. sought (λ t. clear t.said.content) (at_line at
+    (of_text r (λ more. come_to place.Outside (record s { said = with_types more s.said })))
+    (λ t. read_from at t []))) e

@@ -2,8 +2,10 @@ pub mod View
 pub mod State
 pub mod Tokens
 pub mod Remarks
+pub mod Ascii
 pub mod Lexing
 pub mod Reading
 pub mod Printing
 pub mod Bytes
 pub mod Groups
+pub mod Scopes

@@ -1,5 +1,6 @@
-use Rattle.std.specs.Prelude.{◌≡◌, ℕ, ◌+◌, ◌==◌, Bool, true, false, ◌&&◌, ◌||◌, not, Option, Some, None, Result, Ok, Err, List, [], ◌∷◌, if◌then◌else◌}
+use Rattle.std.specs.Prelude.{◌≡◌, ℕ, ◌+◌, ◌-◌, min, ◌==◌, Bool, true, false, ◌&&◌, ◌||◌, not, Option, Some, None, Result, Ok, Err, List, [], ◌∷◌, if◌then◌else◌}
 use Rattle.fork_format.specs.Content.{Content}
+use Rattle.rez_statements.specs.Types.{Declared}
 use Rattle.fork_format.specs.Canonical.{clear}
 use Rattle.rez_text.specs.declared.fault.FaultKind.{FaultKind}
 use Rattle.rez_text.specs.declared.fault.FaultKind.TheVariants as faults
@@ -18,21 +19,23 @@ use Rattle.rez_text.specs.Lexing.{step}
 
 -- The whole text of a source.
 
--- What is wrong where a text ends within a statement; else the content that it states: without resChanged, mapCompact and
--- mapChanged, which no stored fork has.
-abbrev pub ended_in : Place → State → Result Content FaultKind
-ended_in place.Outside s = Ok (clear s.content)
+-- What is wrong where a text ends within a statement.
+abbrev pub ended_in : Place → State → Result State FaultKind
+ended_in place.Outside s = Ok s
+ended_in place.Declaration s = Ok s
 ended_in p s = Err (needed p)
 
 -- The same where a text may end within a token.
-abbrev pub ended : Mode → State → Result Content FaultKind
+abbrev pub ended : Mode → State → Result State FaultKind
 ended mode.Between s = ended_in s.place s
 ended mode.Comment s = Err faults.OpenComment
 ended mode.Star s = Err faults.OpenComment
+ended (mode.Declaring at) s = Err faults.OpenStatement
+ended (mode.Body at) s = Err faults.OpenStatement
 ended m s = Err faults.OpenString
 
--- The content at the end of a text, which ends the last line.
-unfoldable pub finish : State → Result Content FaultKind
+-- What has been read at the end of a text, which ends the last line.
+unfoldable pub finish : State → Result State FaultKind
 finish s = step 10 s >>= λ t. ended t.mode t
 
 -- The number of the line on which a byte stands, from that of the byte before it: CR, LF, and CR with LF, each end a line.
@@ -52,17 +55,19 @@ lines_at m b at = record {
   begun = begun_on m (line_of at.line at.last b) at.begun;
 }
 
--- A fault of a string or of a comment as a whole.
+-- A fault of a string, of a comment or of a statement as a whole.
 abbrev pub is_whole : FaultKind → Bool
 is_whole faults.OpenString = true
 is_whole faults.OpenComment = true
+is_whole faults.OpenStatement = true
 is_whole faults.NotMapAttributes = true
 is_whole faults.NotHeaderBytes = true
 is_whole kind = false
 
--- The number of the line of a fault: the line on which a string or a comment begins that is wrong as a whole, else the line
--- of the last byte that was taken.
+-- The number of the line of a fault: the line on which a string, a comment or a statement begins that is wrong as a whole; the line
+-- of the fault in the text of a statement, which begins there; else the line of the last byte that was taken.
 abbrev pub fault_line : FaultKind → Lines → ℕ
+fault_line (faults.Within line fault) at = min (at.begun + (line - 1)) at.line
 fault_line kind at = if is_whole kind then at.begun else at.line
 
 -- A fault with the number of its line.
@@ -70,30 +75,33 @@ abbrev pub at_line : {A B : Type 0} → Lines → Result A FaultKind → (A → 
 at_line at (Ok x) go_on = go_on x
 at_line at (Err kind) go_on = Err (fault_line kind at, kind)
 
--- What a text states from here on.
-abbrev pub read_from : Lines → State → List ℕ → Result Content (ℕ × FaultKind)
-read_from at s [] = at_line at (finish s) (λ c. Ok c)
+-- What has been read at the end of a text, of which this much is still to be read.
+abbrev pub read_from : Lines → State → List ℕ → Result State (ℕ × FaultKind)
+read_from at s [] = at_line at (finish s) (λ t. Ok t)
 read_from at s (b ∷ rest) = at_line (lines_at s.mode b at) (step b s) (λ t. read_from (lines_at s.mode b at) t rest)
 
 -- Before the first byte of a text, on its first line.
 abbrev pub first_line : Lines
 first_line = record { line = 1; last = 0; begun = 1 }
 
--- The content that a text states, or the number of the line where it can't go on, and what is wrong there.
-unfoldable pub read : List ℕ → Result Content (ℕ × FaultKind)
-read text = read_from first_line start text
+-- What is sought of that which has been read.
+abbrev pub sought : {A : Type 0} → (State → A) → Result State (ℕ × FaultKind) → Result A (ℕ × FaultKind)
+sought f (Ok s) = Ok (f s)
+sought f (Err e) = Err e
+
+-- The content that a text states, where these types are declared before it, or the number of the line where it can't go on, and what
+-- is wrong there. The content is without resChanged, mapCompact and mapChanged, which no stored fork has.
+unfoldable pub read : List Declared → List ℕ → Result Content (ℕ × FaultKind)
+read types text = sought (λ s. clear s.said.content) (read_from first_line (start place.Outside types) text)
+
+-- The types that are declared after a text of declarations.
+unfoldable pub read_declarations : List Declared → List ℕ → Result (List Declared) (ℕ × FaultKind)
+read_declarations types text = sought (λ s. s.said.types) (read_from first_line (start place.Declaration types) text)
 
 -- What a function found to be wrong at the end of a text, if anything is.
 abbrev pub Ends : Option FaultKind → State → Type 0
-Ends None s = ended s.mode s ≡ Ok (clear s.content)
+Ends None s = ended s.mode s ≡ Ok s
 Ends (Some kind) s = ended s.mode s ≡ Err kind
-
--- A function has led to the state whose content is read, or has the fault; where the host is out of memory, nothing is
--- said about the text.
-abbrev pub Finishes : {A : Type 0} → Result A StepFault → State → Result Content FaultKind → Type 0
-Finishes (Ok x) new finished = finished ≡ Ok (clear new.content)
-Finishes (Err step_faults.Memory) new finished = Unit {0}
-Finishes (Err (step_faults.Wrong kind)) new finished = finished ≡ Err kind
 
 -- A fault with the number of its line.
 abbrev pub fault_at : Lines → StepFault → SourceFault

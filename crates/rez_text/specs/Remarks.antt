@@ -6,7 +6,7 @@ use Rattle.rez_text.specs.declared.fault.FaultKind.{FaultKind}
 use Rattle.rez_text.specs.declared.fault.FaultKind.TheVariants as faults
 use Rattle.rez_text.specs.declared.mode.Place.{Place}
 use Rattle.rez_text.specs.declared.mode.Place.TheVariants as place
-use Rattle.rez_text.specs.State.{State, come_to, ◌>>=◌}
+use Rattle.rez_text.specs.State.{State, come_to, with_content, ◌>>=◌}
 
 -- Hexadecimal digits, and the comments that state what no statement of Rez does.
 
@@ -84,7 +84,8 @@ remarked text c = stated (after_blanks text) c
 -- A comment. Only between statements it may state something.
 abbrev pub comment_at : Place → State → Result State FaultKind
 comment_at place.Outside s =
-    remarked s.gathered s.content >>= λ c. Ok (come_to place.Outside (record s { content = c }))
+    remarked s.gathered s.said.content
+    >>= λ c. Ok (come_to place.Outside (record s { said = with_content c s.said }))
 comment_at p s = Ok (come_to p s)
 
 unfoldable pub comment : State → Result State FaultKind

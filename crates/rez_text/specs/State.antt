@@ -2,40 +2,64 @@ use Rattle.std.specs.Prelude.{◌≡◌, ℕ, pos, ◌==◌, None, Result, Ok, E
 use Rattle.std.specs.Prelude.{replicate}
 use Rattle.byteorder.specs.Endian.{big_number}
 use Rattle.fork_format.specs.Content.{Ref, Group, Content}
+use Rattle.rez_statements.specs.declared.fault.TypesFault.{TypesFault}
+use Rattle.rez_statements.specs.declared.fault.TypesFault.TheVariants as types_fault
+use Rattle.rez_statements.specs.Types.{Declared}
+use Rattle.rez_statements.specs.View.{types_of}
 use Rattle.rez_text.specs.declared.fault.FaultKind.{FaultKind}
+use Rattle.rez_text.specs.declared.fault.FaultKind.TheVariants as faults
 use Rattle.rez_text.specs.declared.fault.StepFault.{StepFault}
 use Rattle.rez_text.specs.declared.fault.StepFault.TheVariants.{Memory, Wrong}
+use Rattle.rez_text.specs.declared.mode.Form.{Form}
+use Rattle.rez_text.specs.declared.mode.Form.TheVariants as forms
 use Rattle.rez_text.specs.declared.mode.Mode.{Mode}
 use Rattle.rez_text.specs.declared.mode.Mode.TheVariants as mode
 use Rattle.rez_text.specs.declared.mode.Place.{Place}
-use Rattle.rez_text.specs.declared.mode.Place.TheVariants as place
 use Rattle.rez_text.specs.declared.reader.Reader.{Reader}
 use Rattle.rez_text.specs.View.{ref_said, content_said}
 
+-- What statements have said: the content and the types that are declared before the statement in which the text stands, and the
+-- form of that statement.
+pub record Said : Type 0 where
+  pub content : Content
+  pub types : List Declared
+  pub form : Form
+
 -- What has been read of a source: where the text stands within a token and within a statement, the bytes of the token
--- so far, the type and the resource of the statement so far, and the content of the statements before it.
+-- so far, the type and the resource of the statement so far, and what statements have said.
 pub record State : Type 0 where
   pub mode : Mode
   pub place : Place
   pub gathered : List ℕ
   pub kind : ℕ
   pub draft : Ref
-  pub content : Content
+  pub said : Said
 
 -- A resource of which nothing is stated yet.
 abbrev pub no_ref : Ref
 no_ref = record { id = pos 0; name = None; attrs = 0; datum = [] }
 
--- Before the first byte: no bytes after the header but 0, no attributes of the map, no resources.
-abbrev pub start : State
-start = record {
+-- No bytes after the header but 0, no attributes of the map, no resources.
+abbrev pub no_content : Content
+no_content = record { area = replicate 240 0; attrs = 0; groups = [] }
+
+-- Before the first byte of a text, where these types are declared.
+abbrev pub start : Place → List Declared → State
+start p types = record {
   mode = mode.Between;
-  place = place.Outside;
+  place = p;
   gathered = [];
   kind = 0;
   draft = no_ref;
-  content = record { area = replicate 240 0; attrs = 0; groups = [] };
+  said = record { content = no_content; types = types; form = forms.Data };
 }
+
+-- The same types and form with another content, and the same content and form with other types.
+abbrev pub with_content : Content → Said → Said
+with_content c said = record { content = c; types = said.types; form = said.form }
+
+abbrev pub with_types : List Declared → Said → Said
+with_types types said = record { content = said.content; types = types; form = said.form }
 
 -- The text stands elsewhere within a token.
 abbrev pub in_mode : Mode → State → State
@@ -69,8 +93,13 @@ state_of r = record {
   gathered = r.gathered.items;
   kind = big_number 4 r.ty.0;
   draft = ref_said r.draft;
-  content = content_said r.source;
+  said = record { content = content_said r.source; types = types_of r.types; form = r.form };
 }
+
+-- The fault of the text of a statement.
+abbrev pub within_text : TypesFault → StepFault
+within_text (types_fault.Wrong e) = Wrong (faults.Within e.line e.kind)
+within_text types_fault.HostMemory = Memory
 
 -- A function has led to what a definition gives, or has the fault that it gives; where the host is out of memory, nothing
 -- is said about the text.

@@ -2,9 +2,55 @@
 
 ghost use Rattle.std.specs.Prelude.{◌≡◌};
 ghost use Rattle.rez_text.specs.declared.fault.StepFault.TheVariants.{Memory};
+ghost use Rattle.rez_text.specs.State.{within_text};
 
+use rez_statements::{StatementFault, TypesFault};
 use std::alloc::{AllocError, AllocFailed};
 use thiserror::Error;
+
+/// A statement of Rez, or a directive, that is not read.
+#[derive(Clone, Copy, Debug, PartialEq, Eq, Error)]
+pub enum Unread {
+    /// Attributes, the name, the type or the ID of resources of the file are changed.
+    #[error("change")]
+    Change,
+    /// Resources of the file are deleted.
+    #[error("delete")]
+    Delete,
+    /// Names of numbers are declared.
+    #[error("enum")]
+    Enum,
+    /// Resources of another file are put in.
+    #[error("include")]
+    Include,
+    /// The bytes of another file are the data of a resource.
+    #[error("read")]
+    Read,
+    /// A name is defined.
+    #[error("#define")]
+    Define,
+    /// What follows is read where the condition does not hold.
+    #[error("#else")]
+    Else,
+    /// A condition ends.
+    #[error("#endif")]
+    EndIf,
+    /// What follows is read on a condition.
+    #[error("#if")]
+    If,
+    /// What follows is read where a name is defined.
+    #[error("#ifdef")]
+    IfDefined,
+    /// What follows is read where a name is not defined.
+    #[error("#ifndef")]
+    IfNotDefined,
+    /// Source of another file is put in.
+    #[error("#include")]
+    IncludeText,
+    /// A name is defined no longer.
+    #[error("#undef")]
+    Undefine,
+}
 
 /// What is wrong at a place of a source.
 #[derive(Clone, Copy, Debug, PartialEq, Eq, Error)]
@@ -12,6 +58,23 @@ pub enum FaultKind {
     /// Between statements stands something other than `data`, a blank or a comment.
     #[error("not a statement")]
     NotAStatement,
+    /// Between statements stands a statement of Rez, or a directive, that is not read.
+    #[error("'{0}' is not read")]
+    NotRead(Unread),
+    /// Among declarations of types stands `data` or `resource`.
+    #[error("only declarations of types may stand here")]
+    OnlyDeclarations,
+    /// In the text of a statement `type`, or between the braces of a statement `resource`, something is wrong.
+    #[error("{fault}")]
+    Within {
+        /// The number of the line in that text, from 1 on.
+        line: usize,
+        /// What is wrong there.
+        fault: StatementFault,
+    },
+    /// A statement `type` has no semicolon, or a statement `resource` no closing brace.
+    #[error("a statement does not end")]
+    OpenStatement,
     /// After `data` no type of four characters stands.
     #[error("a type of four characters is needed")]
     TypeNeeded,
@@ -42,15 +105,18 @@ pub enum FaultKind {
     /// After `)` no `{` stands.
     #[error("an opening brace is needed")]
     BraceNeeded,
-    /// In the braces stands neither a hexadecimal string nor `}`.
-    #[error("a hexadecimal string or a closing brace is needed")]
+    /// In the braces stands neither a string nor `}`.
+    #[error("a string or a closing brace is needed")]
     DataNeeded,
     /// After `}` no `;` stands.
     #[error("a semicolon is needed")]
     SemicolonNeeded,
-    /// A number is above 65,535.
+    /// A number is above 2^32 - 1.
     #[error("a number out of range")]
     NumberOutOfRange,
+    /// After `0x` or `0b` no digit stands.
+    #[error("a digit is needed")]
+    DigitNeeded,
     /// After `$` stands neither a hexadecimal digit nor `"`.
     #[error("a hexadecimal number or string is needed")]
     HexadecimalNeeded,
@@ -63,9 +129,12 @@ pub enum FaultKind {
     /// A string, or a type, has no closing quote on its line; a hexadecimal string has none in the text.
     #[error("a string does not end")]
     OpenString,
-    /// After `\` stand neither a quote, a `\`, nor `0x` and two hexadecimal digits.
+    /// After a `\` between quotes stands no escape.
     #[error("not an escape")]
     NotAnEscape,
+    /// A byte that an escape states by its number is above 255.
+    #[error("an escape out of range")]
+    EscapeOutOfRange,
     /// A comment has no `*/`.
     #[error("a comment does not end")]
     OpenComment,
@@ -82,8 +151,8 @@ pub enum FaultKind {
 #[error("line {line}: {kind}")]
 pub struct TextFault {
     /// The number of the line, from 1 on: the line of the byte at which the text can't go on, or of its last byte; of a
-    /// string or a comment that does not end, and of a comment that is wrong, the line on which it begins. CR, LF, and CR
-    /// with LF, each end a line.
+    /// string, a comment or a statement that does not end, and of a comment that is wrong, the line on which it begins. CR,
+    /// LF, and CR with LF, each end a line.
     pub line: usize,
     /// What is wrong there.
     pub kind: FaultKind,
@@ -107,6 +176,21 @@ pub(crate) enum StepFault {
     Wrong(FaultKind),
     /// The host is out of memory.
     Memory,
+}
+
+impl StepFault {
+    /// Returns the fault of the text of a statement.
+    pub fn within(fault: TypesFault) -> StepFault
+        ensures { result ≡ within_text fault }
+    {
+        match fault {
+            TypesFault::Wrong(at) => StepFault::Wrong(FaultKind::Within {
+                line: at.line,
+                fault: at.kind,
+            }),
+            TypesFault::HostMemory => StepFault::Memory,
+        }
+    }
 }
 
 impl From<AllocError> for StepFault {

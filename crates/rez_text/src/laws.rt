@@ -6,18 +6,19 @@ ghost use Rattle.mac_roman.specs.declared.charset.Charset.{Charset};
 ghost use Rattle.fork_format.specs.Content.{Group, Content, IsContent};
 ghost use Rattle.fork_format.specs.Canonical.{are_distinct, clear, has_refs};
 ghost use Rattle.fork_format.specs.Fork.{Spells};
+ghost use Rattle.rez_statements.specs.Types.{Declared};
 ghost use Rattle.rez_text.specs.Bytes.{IsOfBytes};
 ghost use Rattle.rez_text.specs.Printing.{source_of};
 ghost use Rattle.rez_text.specs.Reading.{read};
 
-/// States that, whatever characters its comments have, each content whose parts keep their limits, and whose types stand
+/// States that, whatever types are declared before it, and whatever characters its comments have, each content whose parts keep their limits, and whose types stand
 /// once each and have resources, is read again from the source that is printed for it, without the bits that no stored fork
 /// has; a content that has none of them, as `read_fork` ensures of every content, is read again as it is.
 pub fn a_source_is_read_again()
-    ensures again { (charset : Charset) (c : Content) → IsContent c → IsOfBytes c → list_all has_refs c.groups ≡ true
-        → are_distinct (map (λ (g : Group). g.kind) c.groups) ≡ true → read (source_of charset c) ≡ Ok (clear c) }
-    ensures same { (charset : Charset) (c : Content) → IsContent c → IsOfBytes c → list_all has_refs c.groups ≡ true
-        → are_distinct (map (λ (g : Group). g.kind) c.groups) ≡ true → clear c ≡ c → read (source_of charset c) ≡ Ok c }
-    ensures spelled { (charset : Charset) (bytes : List ℕ) (c : Content) → IsContent c → IsOfBytes c → Spells bytes c
-        → read (source_of charset c) ≡ Ok c }
+    ensures again { (types : List Declared) (charset : Charset) (c : Content) → IsContent c → IsOfBytes c → list_all has_refs c.groups ≡ true
+        → are_distinct (map (λ (g : Group). g.kind) c.groups) ≡ true → read types (source_of charset c) ≡ Ok (clear c) }
+    ensures same { (types : List Declared) (charset : Charset) (c : Content) → IsContent c → IsOfBytes c → list_all has_refs c.groups ≡ true
+        → are_distinct (map (λ (g : Group). g.kind) c.groups) ≡ true → clear c ≡ c → read types (source_of charset c) ≡ Ok c }
+    ensures spelled { (types : List Declared) (charset : Charset) (bytes : List ℕ) (c : Content) → IsContent c → IsOfBytes c → Spells bytes c
+        → read types (source_of charset c) ≡ Ok c }
 {}

@@ -1,6 +1,7 @@
 //! The content of a resource fork as source of Rez: printing and reading.
 #![tactic(auto)]
 
+mod ascii;
 mod fault;
 mod groups;
 mod laws;
@@ -8,14 +9,22 @@ mod lexing;
 mod line;
 mod mode;
 mod name;
+mod numbers;
 mod read;
 mod reader;
 mod remarks;
+mod scope;
 mod source;
+mod strings;
+mod words;
 mod write;
 
-pub use fault::{FaultKind, SourceFault, TextFault};
+pub use fault::{FaultKind, SourceFault, TextFault, Unread};
 pub use laws::a_source_is_read_again;
-pub use read::read_source;
+pub use read::{read_source, read_types};
+pub use scope::{Scope, ends_last, keeps};
 pub use source::Source;
-pub use write::write_source;
+pub use write::{
+    push_area, push_attributes, push_id, push_map_attributes, push_name, push_statement, push_type,
+    write_source,
+};

@@ -31,7 +31,7 @@ fn line_of(line: usize, last: u8, byte: u8) -> usize
 }
 
 impl FaultKind {
-    /// Reports whether a string or a comment as a whole is at fault.
+    /// Reports whether a string, a comment or a statement as a whole is at fault.
     fn is_whole(self) -> bool
         ensures { result ≡ is_whole self }
     {
@@ -39,6 +39,7 @@ impl FaultKind {
             self,
             FaultKind::OpenString
                 | FaultKind::OpenComment
+                | FaultKind::OpenStatement
                 | FaultKind::NotMapAttributes
                 | FaultKind::NotHeaderBytes
         )
@@ -79,10 +80,18 @@ impl Lines {
     fn of_fault(self, kind: FaultKind) -> usize
         ensures { result ≡ fault_line kind self }
     {
-        if kind.is_whole() {
-            self.begun
-        } else {
-            self.line
+        match kind {
+            FaultKind::Within { line, .. } => self
+                .begun
+                .saturating_add(line.saturating_sub(1))
+                .min(self.line),
+            _ => {
+                if kind.is_whole() {
+                    self.begun
+                } else {
+                    self.line
+                }
+            }
         }
     }
 }

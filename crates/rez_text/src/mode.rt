@@ -2,17 +2,18 @@
 
 ghost use Rattle.std.specs.Prelude.{◌≡◌};
 ghost use Rattle.rez_text.specs.Tokens.{needed};
-ghost use Rattle.rez_text.specs.Lexing.{quote_byte};
+ghost use Rattle.rez_text.specs.Ascii.{quote_byte, base};
 
 use crate::fault::FaultKind;
+use crate::scope::Scope;
 
-/// The quotes of a name or a type.
+/// Quotes.
 #[derive(Clone, Copy)]
-pub(crate) enum Quote {
-    /// The double quotes of a name.
-    Name,
+pub enum Quote {
+    /// The double quotes of a string.
+    Double,
     /// The single quotes of a type.
-    Type,
+    Single,
 }
 
 impl Quote {
@@ -21,8 +22,31 @@ impl Quote {
         ensures { result ≡ quote_byte self }
     {
         match self {
-            Quote::Name => b'"',
-            Quote::Type => b'\'',
+            Quote::Double => b'"',
+            Quote::Single => b'\'',
+        }
+    }
+}
+
+/// How a number is written.
+#[derive(Clone, Copy)]
+pub(crate) enum Radix {
+    Binary,
+    Octal,
+    Decimal,
+    Hexadecimal,
+}
+
+impl Radix {
+    /// Returns how many digits there are.
+    pub fn base(self) -> u8
+        ensures { result ≡ base self }
+    {
+        match self {
+            Radix::Binary => 2,
+            Radix::Octal => 8,
+            Radix::Decimal => 10,
+            Radix::Hexadecimal => 16,
         }
     }
 }
@@ -42,26 +66,39 @@ pub(crate) enum Mode {
     LineComment,
     /// In a word.
     Word,
-    /// In a decimal number, with what its digits write so far.
-    Decimal(u16),
+    /// In the text of a statement `type`.
+    Declaring(Scope),
+    /// In the text between the braces of a statement `resource`.
+    Body(Scope),
+    /// After a 0 with which a number begins.
+    Zero,
+    /// After `0x` or `0b`.
+    Prefixed(Radix),
+    /// In a number, with what its digits write so far.
+    Number(Radix, u32),
     /// After a `$`.
     Dollar,
-    /// In a hexadecimal number, with what its digits write so far.
-    Hexadecimal(u16),
     /// In a hexadecimal string, between bytes.
     HexString,
     /// In a hexadecimal string, after the high digit of a byte.
     HexHalf(u8),
-    /// In a name or a type.
+    /// Between quotes.
     Quoted(Quote),
     /// There, after a `\`.
     Escape(Quote),
     /// There, after `\0`.
     EscapeZero(Quote),
-    /// There, after `\0x`.
-    EscapeHigh(Quote),
-    /// There, after `\0x` and the high digit.
-    EscapeLow(Quote, u8),
+    /// There, in an escape by a number: how many digits are to come, and what those before them write.
+    EscapeNumber(Quote, Radix, u8, u8),
+}
+
+/// How a statement states a resource.
+#[derive(Clone, Copy)]
+pub(crate) enum Form {
+    /// By the bytes of its data, after `data`.
+    Data,
+    /// By values of its type, after `resource`.
+    Resource,
 }
 
 /// Where a reader stands within a statement, by what may stand next.
@@ -69,6 +106,8 @@ pub(crate) enum Mode {
 pub(crate) enum Place {
     /// A statement.
     Outside,
+    /// A statement `type`, where no other may stand.
+    Declaration,
     /// A type.
     Type,
     /// An opening parenthesis.
@@ -87,7 +126,7 @@ pub(crate) enum Place {
     Attribute,
     /// An opening brace.
     Brace,
-    /// A hexadecimal string, or a closing brace.
+    /// A string, or a closing brace.
     Data,
     /// A semicolon.
     Semicolon,
@@ -99,7 +138,7 @@ impl Place {
         ensures { result ≡ needed self }
     {
         match self {
-            Place::Outside => FaultKind::NotAStatement,
+            Place::Outside | Place::Declaration => FaultKind::NotAStatement,
             Place::Type => FaultKind::TypeNeeded,
             Place::Parenthesis => FaultKind::ParenthesisNeeded,
             Place::Id | Place::Negative => FaultKind::IdNeeded,

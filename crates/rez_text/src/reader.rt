@@ -5,21 +5,25 @@ ghost use Rattle.std.specs.List.{position};
 ghost use Rattle.byteorder.specs.Endian.{big_number};
 ghost use Rattle.rez_text.specs.declared.mode.Place.TheVariants as places;
 ghost use Rattle.rez_text.specs.declared.fault.StepFault.TheVariants.{Wrong};
+ghost use Rattle.rez_statements.specs.View.{types_of};
 ghost use Rattle.rez_text.specs.View.{ref_said, group_said};
 ghost use Rattle.rez_text.specs.Groups.{is_of};
 ghost use Rattle.rez_text.specs.State.{start, state_of, no_ref, Leads, with_ref};
 ghost use Rattle.rez_text.specs.State.{in_mode, gather as gathered, come_to as came_to};
-ghost use Rattle.rez_text.specs.Tokens.{refused, attribute, needed, with_attributes as attributed, word, type_token};
-ghost use Rattle.rez_text.specs.Tokens.{name, datum, mark, number as number_of, with_id as identified, attributes_in};
-ghost use Rattle.rez_text.specs.Tokens.{with_statement};
+ghost use Rattle.rez_text.specs.Tokens.{refused, attribute, needed, with_attributes as attributed, statement_begun, word};
+ghost use Rattle.rez_text.specs.Tokens.{type_token, number as number_of, with_id as identified, attributes_in, named, with_data};
+ghost use Rattle.rez_text.specs.Tokens.{string, datum, mark, with_statement, form_begun, declaration_begun, type_statement, resource_body, opened};
 
 use crate::fault::{FaultKind, StepFault};
 use crate::groups::SourceGroups;
-use crate::mode::{Mode, Place, Quote};
+use crate::mode::{Form, Mode, Place};
 use crate::name::SourceName;
+use crate::scope::Scope;
 use crate::source::{Source, SourceGroup, SourceRef};
+use crate::words::{attribute_of, no_statement};
 use fork_format::kind_of;
-use mac_words::{Attrs, OsType};
+use mac_words::OsType;
+use rez_statements::Types;
 use std::alloc::{AllocError, Global};
 use std::collections::BTreeMap;
 use std::mem::replace;
@@ -37,6 +41,10 @@ pub(crate) struct Reader {
     pub draft: SourceRef,
     /// The content of the statements before.
     pub source: Source,
+    /// The types that are declared before.
+    pub types: Types,
+    /// The form of the statement.
+    pub form: Form,
     pub alloc: Global,
 }
 
@@ -104,33 +112,14 @@ impl SourceGroups {
     }
 }
 
-/// Returns the attribute that a word states, by its bit.
-fn attribute_of(word: &[u8]) -> Option<u8>
-    ensures { result ≡ attribute word.now }
-{
-    if word == b"sysheap".as_slice() {
-        Some(Attrs::SYSTEM_HEAP)
-    } else if word == b"purgeable".as_slice() {
-        Some(Attrs::PURGEABLE)
-    } else if word == b"locked".as_slice() {
-        Some(Attrs::LOCKED)
-    } else if word == b"protected".as_slice() {
-        Some(Attrs::PROTECTED)
-    } else if word == b"preload".as_slice() {
-        Some(Attrs::PRELOAD)
-    } else {
-        None
-    }
-}
-
 impl Reader {
-    /// Makes a reader before the first byte of a source.
-    pub fn new(alloc: Global) -> Reader
-        ensures { state_of result ≡ start }
+    /// Makes a reader before the first byte of a text, where types are declared.
+    pub fn new(alloc: Global, place: Place, types: Types) -> Reader
+        ensures { state_of result ≡ start place (types_of types) }
     {
         Reader {
             mode: Mode::Between,
-            place: Place::Outside,
+            place,
             gathered: Vec::new(alloc),
             ty: OsType([0; 4]),
             draft: no_draft(alloc),
@@ -139,6 +128,8 @@ impl Reader {
                 attrs: 0,
                 groups: SourceGroups::new(alloc),
             },
+            types,
+            form: Form::Data,
             alloc,
         }
     }
@@ -196,20 +187,56 @@ impl Reader {
         }
     }
 
+    /// Begins a statement `data` or `resource`.
+    fn begin_form(&mut self, form: Form)
+        ensures { state_of self.new ≡ form_begun form (state_of self.old) }
+    {
+        self.form = form;
+        self.come_to(Place::Type);
+    }
+
+    /// Takes a word with which a statement begins.
+    fn begin_statement(&mut self) -> Result<(), StepFault>
+        ensures { Leads result (state_of self.new) (statement_begun (state_of self.old)) }
+    {
+        if self.gathered.as_slice() == b"data".as_slice() {
+            self.begin_form(Form::Data);
+            Ok(())
+        } else if self.gathered.as_slice() == b"resource".as_slice() {
+            self.begin_form(Form::Resource);
+            Ok(())
+        } else if self.gathered.as_slice() == b"type".as_slice() {
+            self.go_on(Mode::Declaring(Scope::OUTSIDE));
+            Ok(())
+        } else {
+            Err(StepFault::Wrong(no_statement(self.gathered.as_slice())))
+        }
+    }
+
+    /// Takes a word with which a statement begins, where only declarations may stand.
+    fn begin_declaration(&mut self) -> Result<(), StepFault>
+        ensures { Leads result (state_of self.new) (declaration_begun (state_of self.old)) }
+    {
+        if self.gathered.as_slice() == b"type".as_slice() {
+            self.go_on(Mode::Declaring(Scope::OUTSIDE));
+            Ok(())
+        } else if self.gathered.as_slice() == b"data".as_slice() {
+            Err(StepFault::Wrong(FaultKind::OnlyDeclarations))
+        } else if self.gathered.as_slice() == b"resource".as_slice() {
+            Err(StepFault::Wrong(FaultKind::OnlyDeclarations))
+        } else {
+            Err(StepFault::Wrong(no_statement(self.gathered.as_slice())))
+        }
+    }
+
     /// Takes a word.
     #[tactic(auto, unfolding(crate::specs::Tokens::word))]
     pub fn take_word(&mut self) -> Result<(), StepFault>
         ensures { Leads result (state_of self.new) (word (state_of self.old)) }
     {
         match self.place {
-            Place::Outside => {
-                if self.gathered.as_slice() == b"data".as_slice() {
-                    self.come_to(Place::Type);
-                    Ok(())
-                } else {
-                    Err(self.refuse())
-                }
-            }
+            Place::Outside => self.begin_statement(),
+            Place::Declaration => self.begin_declaration(),
             Place::NameOrAttribute => self.take_attribute(),
             Place::Attribute => self.take_attribute(),
             _ => Err(self.refuse()),
@@ -240,7 +267,7 @@ impl Reader {
     }
 
     /// Takes a number as attributes.
-    pub fn take_bits(&mut self, number: u16) -> Result<(), StepFault>
+    pub fn take_bits(&mut self, number: u32) -> Result<(), StepFault>
         ensures { Leads result (state_of self.new) (attributes_in number (state_of self.old)) }
     {
         if number > 255 {
@@ -252,7 +279,7 @@ impl Reader {
 
     /// Takes a number.
     #[tactic(auto, unfolding(crate::specs::Tokens::number))]
-    pub fn take_number(&mut self, number: u16) -> Result<(), StepFault>
+    pub fn take_number(&mut self, number: u32) -> Result<(), StepFault>
         ensures { Leads result (state_of self.new) (number_of number (state_of self.old)) }
     {
         match self.place {
@@ -267,7 +294,7 @@ impl Reader {
                 if number > 32_768 {
                     return Err(StepFault::Wrong(FaultKind::IdOutOfRange));
                 }
-                self.take_id((-(number as i32)) as i16);
+                self.take_id((-(number as i64)) as i16);
                 Ok(())
             }
             Place::NameOrAttribute => self.take_bits(number),
@@ -276,21 +303,38 @@ impl Reader {
         }
     }
 
-    /// Takes a name.
-    #[tactic(auto, unfolding(crate::specs::Tokens::name))]
-    pub fn take_name(&mut self) -> Result<(), StepFault>
-        ensures { Leads result (state_of self.new) (name (state_of self.old)) }
+    /// Takes a string as the name of the resource.
+    fn take_name(&mut self) -> Result<(), StepFault>
+        ensures { Leads result (state_of self.new) (named (state_of self.old)) }
+    {
+        if self.gathered.len() > 255 {
+            return Err(StepFault::Wrong(FaultKind::LongName));
+        }
+        let bytes = replace(&mut self.gathered, Vec::new(self.alloc));
+        self.draft.name = Some(SourceName { bytes });
+        self.come_to(Place::AfterArgument);
+        Ok(())
+    }
+
+    /// Takes a string as more data of the resource.
+    fn take_data(&mut self) -> Result<(), StepFault>
+        ensures { Leads result (state_of self.new) (Ok (with_data (state_of self.old))) }
+    {
+        self.draft
+            .datum
+            .extend_from_slice(self.gathered.as_slice())?;
+        self.come_to(Place::Data);
+        Ok(())
+    }
+
+    /// Takes a string.
+    #[tactic(auto, unfolding(crate::specs::Tokens::string))]
+    pub fn take_string(&mut self) -> Result<(), StepFault>
+        ensures { Leads result (state_of self.new) (string (state_of self.old)) }
     {
         match self.place {
-            Place::NameOrAttribute => {
-                if self.gathered.len() > 255 {
-                    return Err(StepFault::Wrong(FaultKind::LongName));
-                }
-                let bytes = replace(&mut self.gathered, Vec::new(self.alloc));
-                self.draft.name = Some(SourceName { bytes });
-                self.come_to(Place::AfterArgument);
-                Ok(())
-            }
+            Place::NameOrAttribute => self.take_name(),
+            Place::Data => self.take_data(),
             _ => Err(self.refuse()),
         }
     }
@@ -301,13 +345,7 @@ impl Reader {
         ensures { Leads result (state_of self.new) (datum (state_of self.old)) }
     {
         match self.place {
-            Place::Data => {
-                self.draft
-                    .datum
-                    .extend_from_slice(self.gathered.as_slice())?;
-                self.come_to(Place::Data);
-                Ok(())
-            }
+            Place::Data => self.take_data(),
             _ => Err(self.refuse()),
         }
     }
@@ -319,8 +357,48 @@ impl Reader {
         let resource = replace(&mut self.draft, no_draft(self.alloc));
         self.source.groups.add(self.alloc, self.ty, resource)?;
         self.ty = OsType([0; 4]);
+        self.form = Form::Data;
         self.come_to(Place::Outside);
         Ok(())
+    }
+
+    /// Takes the text of a statement `type`, which has ended.
+    #[tactic(auto, unfolding(crate::specs::Tokens::type_statement))]
+    pub fn take_declaration(&mut self) -> Result<(), StepFault>
+        ensures { Leads result (state_of self.new) (type_statement (state_of self.old)) }
+    {
+        match self.types.declare(self.gathered.as_slice()) {
+            Ok(()) => {
+                self.come_to(self.place);
+                Ok(())
+            }
+            Err(fault) => Err(StepFault::within(fault)),
+        }
+    }
+
+    /// Takes the text between the braces of a statement `resource`, which has ended.
+    #[tactic(auto, unfolding(crate::specs::Tokens::resource_body))]
+    pub fn take_body(&mut self) -> Result<(), StepFault>
+        ensures { Leads result (state_of self.new) (resource_body (state_of self.old)) }
+    {
+        match self.types.datum(self.ty.0, self.gathered.as_slice()) {
+            Ok(bytes) => {
+                self.draft.datum = bytes;
+                self.come_to(Place::Semicolon);
+                Ok(())
+            }
+            Err(fault) => Err(StepFault::within(fault)),
+        }
+    }
+
+    /// Takes an opening brace.
+    fn open(&mut self)
+        ensures { state_of self.new ≡ opened self.old.form (state_of self.old) }
+    {
+        match self.form {
+            Form::Data => self.come_to(Place::Data),
+            Form::Resource => self.go_on(Mode::Body(Scope::INSIDE)),
+        }
     }
 
     /// Takes a mark where it is the one that is needed, and comes to a place.
@@ -359,7 +437,14 @@ impl Reader {
             Place::Id => self.take_one(byte == b'-', Place::Negative),
             Place::AfterId => self.take_end(byte, Place::NameOrAttribute),
             Place::AfterArgument => self.take_end(byte, Place::Attribute),
-            Place::Brace => self.take_one(byte == b'{', Place::Data),
+            Place::Brace => {
+                if byte == b'{' {
+                    self.open();
+                    Ok(())
+                } else {
+                    Err(self.refuse())
+                }
+            }
             Place::Data => self.take_one(byte == b'}', Place::Semicolon),
             Place::Semicolon => {
                 if byte == b';' {

@@ -7,8 +7,8 @@ ghost use Rattle.rez_text.specs.Remarks.{hex_from, after_blanks, begins, bytes_a
 ghost use Rattle.rez_text.specs.Remarks.{with_area, with_map_attributes};
 ghost use Rattle.rez_text.specs.View.{content_said};
 
+use crate::ascii::{byte_of, hex_value, is_blank};
 use crate::fault::{FaultKind, StepFault};
-use crate::lexing::{byte_of, hex_value, is_blank};
 use crate::mode::Place;
 use crate::reader::Reader;
 use crate::source::Source;

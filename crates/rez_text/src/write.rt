@@ -202,7 +202,7 @@ fn push_quoted(out: &mut Vec<u8>, quote: u8, bytes: &[u8]) -> Result<(), AllocEr
 }
 
 /// Appends a name after a comma, where there is one.
-fn push_name(out: &mut Vec<u8>, name: &Option<RefName<'_>>) -> Result<(), AllocError>
+pub fn push_name(out: &mut Vec<u8>, name: &Option<RefName<'_>>) -> Result<(), AllocError>
     ensures { OnOk result (out.new.items ≡ out.old.items ++ name_argument (view_name name.now)) }
 {
     if let Some(name) = name {
@@ -235,7 +235,7 @@ fn push_words(out: &mut Vec<u8>, attrs: u8) -> Result<(), AllocError>
 }
 
 /// Appends attributes by their words, or as a number.
-fn push_attributes(out: &mut Vec<u8>, attrs: u8) -> Result<(), AllocError>
+pub fn push_attributes(out: &mut Vec<u8>, attrs: u8) -> Result<(), AllocError>
     ensures { OnOk result (out.new.items ≡ out.old.items ++ attributes_argument attrs) }
 {
     if attrs & 131 == 0 {
@@ -248,7 +248,7 @@ fn push_attributes(out: &mut Vec<u8>, attrs: u8) -> Result<(), AllocError>
 
 /// Appends a type between quotes.
 #[tactic(auto, unfolding(crate::specs::Printing::type_literal))]
-fn push_type(out: &mut Vec<u8>, kind: u32) -> Result<(), AllocError>
+pub fn push_type(out: &mut Vec<u8>, kind: u32) -> Result<(), AllocError>
     ensures { OnOk result (out.new.items ≡ out.old.items ++ type_literal kind) }
 {
     let mut bytes = [0; 4];
@@ -257,7 +257,7 @@ fn push_type(out: &mut Vec<u8>, kind: u32) -> Result<(), AllocError>
 }
 
 /// Appends an ID.
-fn push_id(out: &mut Vec<u8>, id: i16) -> Result<(), AllocError>
+pub fn push_id(out: &mut Vec<u8>, id: i16) -> Result<(), AllocError>
     ensures { OnOk result (out.new.items ≡ out.old.items ++ signed_decimal id) }
 {
     out.extend_from_slice(Buffer::new().format(id).as_bytes())?;
@@ -289,7 +289,7 @@ fn push_head(out: &mut Vec<u8>, kind: u32, r: &Ref<'_>) -> Result<(), AllocError
 }
 
 /// Appends a resource as a statement.
-fn push_statement(
+pub fn push_statement(
     out: &mut Vec<u8>,
     charset: Charset,
     kind: u32,
@@ -337,7 +337,7 @@ fn push_attributes_comment(out: &mut Vec<u8>, attrs: u16) -> Result<(), AllocErr
 }
 
 /// Appends the attributes of the map, where they aren't 0.
-fn push_map_attributes(out: &mut Vec<u8>, attrs: u16) -> Result<(), AllocError>
+pub fn push_map_attributes(out: &mut Vec<u8>, attrs: u16) -> Result<(), AllocError>
     ensures { OnOk result (out.new.items ≡ out.old.items ++ attributes_remark attrs) }
 {
     if attrs != 0 {
@@ -391,7 +391,7 @@ fn are_zero(bytes: &[u8]) -> bool
 }
 
 /// Appends the bytes after the header, where they aren't all 0.
-fn push_area(out: &mut Vec<u8>, area: &[u8]) -> Result<(), AllocError>
+pub fn push_area(out: &mut Vec<u8>, area: &[u8]) -> Result<(), AllocError>
     ensures { OnOk result (out.new.items ≡ out.old.items ++ area_remark area.now) }
 {
     if !are_zero(area) {

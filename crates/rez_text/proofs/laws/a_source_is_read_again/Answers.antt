@@ -10,6 +10,6 @@ pub returns-clause-same : goal.returns-clause-same
 returns-clause-same c = same_again
 
 pub returns-clause-spelled : goal.returns-clause-spelled
-returns-clause-spelled c = λ charset bytes x limits of_bytes spells.
-    same_again charset x limits of_bytes (spelled_references bytes x spells) (spelled_types bytes x spells)
+returns-clause-spelled c = λ types charset bytes x limits of_bytes spells.
+    same_again types charset x limits of_bytes (spelled_references bytes x spells) (spelled_types bytes x spells)
     (spelled_clear bytes x spells)

@@ -1,11 +1,12 @@
 use Rattle.std.proofs.Common.{◌≡◌, ◌+◌, ◌≤◌, drop}
 use Rattle.rez_text.specs.State.{state_of}
-use Rattle.rez_text.specs.Reading.{read_from, read}
-use Rattle.rez_text.proofs.read.read_source.Given as goal
+use Rattle.rez_text.specs.Reading.{first_line, read_from}
+use Rattle.rez_text.proofs.read.read_whole.Given as goal
 
 -- what is still to be read gives, from here on, what the whole text gives
 abbrev pub invariant-loop-byte : goal.invariant-loop-byte
 invariant-loop-byte l = record {
   counted : l.lines.line ≤ l.byte-index + 1;
-  rest : read_from l.lines (state_of l.reader) (drop l.byte-index l.source) ≡ read l.source;
+  rest : read_from l.lines (state_of l.reader) (drop l.byte-index l.text)
+      ≡ read_from first_line (state_of l.fn.start) l.text;
 }

@@ -1,0 +1,113 @@
+-- Statements `type` and `resource`: what a text of them says, as it is read.
+use Rattle.std.proofs.Common.{◌≡◌, ◌<◌, ◌^◌, ℕ, true, Ok, codes, List, [], ◌∷◌, ◌++◌, refl, ◌∙◌}
+use Rattle.std.specs.Fmt.{signed_decimal}
+use Rattle.fork_format.specs.Content.{Ref, Group, IsRef}
+use Rattle.rez_statements.specs.Types.{Declared, with_type, datum_stated}
+use Rattle.rez_text.specs.declared.mode.Form.TheVariants as forms
+use Rattle.rez_text.specs.declared.mode.Mode.TheVariants as mode
+use Rattle.rez_text.specs.declared.mode.Place.TheVariants as place
+use Rattle.rez_text.specs.declared.scope.Scope.{Scope}
+use Rattle.rez_text.specs.State.{Said, no_ref, with_ref}
+use Rattle.rez_text.specs.Tokens.{word, mark, type_statement, resource_body}
+use Rattle.rez_text.specs.Scopes.{inside, keeps, ends_last, scope_after, scope_step}
+use Rattle.rez_text.specs.Scopes.{outside as unbraced}
+use Rattle.rez_text.specs.Lexing.{step, between, in_word, declaring}
+use Rattle.rez_text.specs.Bytes.{HasBytes}
+use Rattle.rez_text.specs.Printing.{type_literal, name_argument, attributes_argument}
+use Rattle.rez_text.proofs.Steps.{at, run, after}
+use Rattle.rez_text.proofs.Statements.{outside, saying, headed, arguments_run}
+use Rattle.rez_text.proofs.Gathered.{body_run, body_closes, declaring_run}
+
+-- what is said within a statement `resource`
+abbrev in_resource : List ℕ → ℕ → List Group → List Declared → Said
+in_resource area attrs groups types =
+    record { content = record { area = area; attrs = attrs; groups = groups }; types = types; form = forms.Resource }
+
+resource_opens : (area : List ℕ) (attrs : ℕ) (groups : List Group) (types : List Declared)
+    → run (Ok (outside area attrs groups types)) (codes "resource ")
+    ≡ Ok (at mode.Between place.Type [] 0 no_ref (in_resource area attrs groups types))
+unfolding step between in_word word
+resource_opens area attrs groups types = refl
+
+body_opens : (k : ℕ) (d : Ref) (area : List ℕ) (attrs : ℕ) (groups : List Group) (types : List Declared)
+    → run (Ok (at mode.Between place.Brace [] k d (in_resource area attrs groups types))) (32 ∷ 123 ∷ [])
+    ≡ Ok (at (mode.Body inside) place.Brace [] k d (in_resource area attrs groups types))
+unfolding step between mark
+body_opens k d area attrs groups types = refl
+
+-- a resource with its datum
+abbrev with_bytes : Ref → List ℕ → Ref
+with_bytes d bytes = record { id = d.id; name = d.name; attrs = d.attrs; datum = bytes }
+
+body_stated : (at_end : Scope) (text bytes : List ℕ) (k : ℕ) (d : Ref) (c : Said) → datum_stated k text c.types ≡ Ok bytes
+    → resource_body (at (mode.Body at_end) place.Brace text k d c)
+    ≡ Ok (at mode.Between place.Semicolon [] k (with_bytes d bytes) c)
+unfolding resource_body
+body_stated at_end text bytes k d c e = rw e refl
+
+resource_closes : (k : ℕ) (d : Ref) (area : List ℕ) (attrs : ℕ) (groups : List Group) (types : List Declared)
+    → run (Ok (at mode.Between place.Semicolon [] k d (in_resource area attrs groups types))) (codes ";\n\n")
+    ≡ Ok (outside area attrs (with_ref k d groups) types)
+unfolding step between mark
+resource_closes k d area attrs groups types = refl
+
+-- a whole statement `resource`, of which the text between the braces states the bytes of the resource
+pub resource_run : (kind : ℕ) (r : Ref) (text area : List ℕ) (attrs : ℕ) (groups : List Group) (types : List Declared)
+    → kind < 2 ^ 32 → IsRef r → HasBytes r → keeps 125 1 inside text ≡ true → datum_stated kind text types ≡ Ok r.datum
+    → run (Ok (outside area attrs groups types))
+    (codes "resource " ++ type_literal kind ++ codes " (" ++ signed_decimal r.id ++ name_argument r.name
+    ++ attributes_argument r.attrs ++ codes ") {" ++ text ++ codes "};\n\n")
+    ≡ Ok (outside area attrs (with_ref kind r groups) types)
+resource_run kind r text area attrs groups types small limits bytes kept stated =
+    let c = in_resource area attrs groups types in
+    let s = outside area attrs groups types in
+    let t = at mode.Between place.Brace [] kind (headed r) c in
+    let u = at (mode.Body inside) place.Brace [] kind (headed r) c in
+    let v = at (mode.Body (scope_after inside text)) place.Brace text kind (headed r) c in
+    let w = at mode.Between place.Semicolon [] kind r c in
+    let x = codes "resource " ++ type_literal kind ++ codes " (" ++ signed_decimal r.id ++ name_argument r.name
+    ++ attributes_argument r.attrs in
+    let head = arguments_run (codes "resource ") s kind r c (resource_opens area attrs groups types) small limits bytes in
+    after s v _ (x ++ codes ") {" ++ text) (codes "};\n\n")
+    (after s u _ (x ++ codes ") {") text
+    (after s head.0 _ x (codes ") {") head.1
+    (after head.0 t _ (41 ∷ []) (32 ∷ 123 ∷ []) head.2.close (body_opens kind (headed r) area attrs groups types)))
+    (body_run text inside place.Brace [] kind (headed r) c kept))
+    (after v w _ (125 ∷ []) (codes ";\n\n")
+    (body_closes text inside place.Brace text kind (headed r) c kept
+    ∙ body_stated (scope_after inside text) text r.datum kind (headed r) c stated)
+    (resource_closes kind r area attrs groups types))
+
+type_opens : (c : Said)
+    → run (Ok (at mode.Between place.Outside [] 0 no_ref c)) (codes "type ")
+    ≡ Ok (at (mode.Declaring unbraced) place.Outside (codes "type ") 0 no_ref c)
+unfolding step between in_word word declaring scope_step
+type_opens c = refl
+
+type_stated : (text area : List ℕ) (attrs : ℕ) (groups : List Group) (types more : List Declared)
+    → with_type text types ≡ Ok more
+    → type_statement (at mode.Between place.Outside text 0 no_ref (saying area attrs groups types))
+    ≡ Ok (outside area attrs groups more)
+unfolding type_statement
+type_stated text area attrs groups types more e = rw e refl
+
+lines_between : (area : List ℕ) (attrs : ℕ) (groups : List Group) (types : List Declared)
+    → run (Ok (outside area attrs groups types)) (codes "\n\n") ≡ Ok (outside area attrs groups types)
+unfolding step between
+lines_between area attrs groups types = refl
+
+-- a whole statement `type`, and an empty line
+pub type_run : (text area : List ℕ) (attrs : ℕ) (groups : List Group) (types more : List Declared)
+    → ends_last 59 0 unbraced text ≡ true → with_type (codes "type " ++ text) types ≡ Ok more
+    → run (Ok (outside area attrs groups types)) (codes "type " ++ text ++ codes "\n\n")
+    ≡ Ok (outside area attrs groups more)
+type_run text area attrs groups types more kept declared =
+    let c = saying area attrs groups types in
+    let s = outside area attrs groups types in
+    let t = at (mode.Declaring unbraced) place.Outside (codes "type ") 0 no_ref c in
+    let u = outside area attrs groups more in
+    after s u _ (codes "type " ++ text) (codes "\n\n")
+    (after s t _ (codes "type ") text (type_opens c)
+    (declaring_run text unbraced place.Outside (codes "type ") 0 no_ref c kept
+    ∙ type_stated (codes "type " ++ text) area attrs groups types more declared))
+    (lines_between area attrs groups more)

@@ -1,0 +1,3 @@
+pub mod Chosen
+pub mod Runs
+pub mod TypedAgain

@@ -1,0 +1,10 @@
+use Rattle.std.proofs.Common.{◌≡◌, ◌-◌, length}
+use Rattle.rez_typed.specs.Forms.{chosen_below}
+use Rattle.rez_typed.specs.View.{forms_in}
+use Rattle.rez_typed.proofs.body.chosen_by.Given as goal
+
+-- no form from here on has a text
+abbrev pub invariant-loop-i : goal.invariant-loop-i
+invariant-loop-i l =
+    chosen_below (length l.fn.forms - l.i) (forms_in l.fn.forms) l.fn.datum
+    ≡ chosen_below (length l.fn.forms) (forms_in l.fn.forms) l.fn.datum

@@ -1,0 +1,12 @@
+use Rattle.std.proofs.Common.{◌≡◌, ◌++◌, drop, map}
+use Rattle.std.specs.List.{flat_map}
+use Rattle.fork_format.specs.View.{view_group}
+use Rattle.rez_statements.specs.View.{types_of}
+use Rattle.rez_typed.specs.Source.{typed_group}
+use Rattle.rez_typed.proofs.source.push_groups.Given as goal
+
+-- the statements so far, with those to come, are all
+abbrev pub invariant-loop-group : goal.invariant-loop-group
+invariant-loop-group l =
+    l.out.items ++ flat_map (typed_group l.charset (types_of l.types)) (map view_group (drop l.group-index l.groups))
+    ≡ l.fn.out.items ++ flat_map (typed_group l.charset (types_of l.types)) (map view_group l.groups)

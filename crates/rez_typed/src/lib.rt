@@ -1,0 +1,10 @@
+//! The content of a resource fork as source of Rez with typed statements.
+#![tactic(auto)]
+
+mod body;
+mod form;
+mod laws;
+mod source;
+
+pub use laws::a_typed_source_is_read_again;
+pub use source::write_typed_source;
