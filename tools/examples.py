@@ -3,7 +3,7 @@
 
 usage: tools/examples.py PROGRAM PAGE..
 
-An example is a block of a page (indented by four spaces, or between fences) of one of three forms:
+An example is a block of a page (indented by four spaces, or between fences) of one of four forms:
 
 - Its first line begins with `$ `. Such a line is a command, and the lines after it, up to the next one or to the end of the block,
   are what it prints. Commands are run by bash, one block after another in a folder of the page's own that has `examples/`, with
@@ -12,6 +12,8 @@ An example is a block of a page (indented by four spaces, or between fences) of 
   lines of its transcript without the first and the last; a third column is a remark.
 - Its fence is followed by `script SIZE`, and the fence of the next block by `transcript`: the first is a script, and the second its
   transcript.
+- Its fence is followed by `rez`: it is a source, of which `macmem rez` makes a fork. Where the fence of the next block is followed by
+  `bytes`, that block is what the first resource of the fork holds, in hexadecimal.
 
 The last line is 'N passed, M failed', of blocks.
 """
@@ -70,8 +72,19 @@ def run(size, lines, transcript):
     return "macmem script %s /dev/stdin <<'END'\n%s\nEND" % (size, "\n".join(lines)), "".join(it + "\n" for it in transcript)
 
 
+def source(lines, digits):
+    """The command that makes a fork of the lines of a block, and what it is to print: of a resource, where its digits are told."""
+    made = "fork=$(mktemp -u ./XXXXXX)\nmacmem rez /dev/stdin $fork <<'END'\n%s\nEND" % "\n".join(lines)
+    if not digits:
+        return made, ""
+    got = "set -- $(macmem map $fork | sed -n 2p); macmem get $fork $1 $2 | od -An -v -tx1 | tr -d ' \\n'; echo"
+    return f"{made}\n{got}", "".join("".join(digits).split()).lower() + "\n"
+
+
 def examples(words, lines, next_words, next_lines):
     """The commands of a block, with what each is to print; none where the block is no example."""
+    if words == ["rez"]:
+        return [source(lines, next_lines if next_words == ["bytes"] else [])]
     if words[:1] == ["script"]:
         return [run(words[1], lines, next_lines) if next_words == ["transcript"] else columns(words[1], lines)]
     return commands(lines) if lines[0].startswith("$ ") else []
