@@ -1,0 +1,6 @@
+pub mod Lines
+pub mod Script
+pub mod Hunks
+pub mod Difference
+pub mod View
+pub mod Written
