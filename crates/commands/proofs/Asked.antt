@@ -1,11 +1,11 @@
 -- Words that ask for a request.
-use Rattle.std.proofs.Common.{◌≡◌, ◌<◌, ◌≤◌, ◌+◌, ◌-◌, ◌∷◌, ◌++◌, ◌∙◌, ℕ, true, List, [], take, drop, get_or, length, map, inl, inr, ap, sym, arith}
+use Rattle.std.proofs.Common.{◌≡◌, ◌<◌, ◌≤◌, ◌+◌, ◌-◌, ◌∷◌, ◌++◌, ◌∙◌, ℕ, true, List, [], take, drop, get_or, length, map, inl, inr, refl, ap, sym, arith}
 use Rattle.std.proofs.lemmas.List.{take-append-drop, map-append}
 use Rattle.std.specs.Prelude.{bytes_eq, codes}
 use Rattle.std.proofs.lemmas.Slice.Eq.{bytes_eq-Decides}
 use Rattle.std.proofs.lemmas.Grind.{common_steps}
 use Rattle.std.specs.Borrow.{Bor}
-use Rattle.commands.specs.Asking.{StandIn, HasValue}
+use Rattle.commands.specs.Asking.{StandIn, HasValue, IsGiven, HasValues}
 
 -- what stands among words does so with a word before them
 pub skip : (word : List ℕ) (words texts : List (List ℕ)) → StandIn words texts → StandIn (word ∷ words) texts
@@ -76,4 +76,29 @@ beside_at words i d option value inside first second = inl (
       ∷ map (λ (x : Bor (List ℕ)). x.now) (drop (i + 1 + 1) words)) first
       ∙ ap (λ w. map (λ (x : Bor (List ℕ)). x.now) (take i words) ++ option ∷ w
       ∷ map (λ (x : Bor (List ℕ)). x.now) (drop (i + 1 + 1) words)) second,
+)
+
+-- values that are given among words are so with a word before them
+pub skip_values : (word : List ℕ) (words : List (List ℕ)) (option : List ℕ) (values : List (List ℕ))
+    → HasValues words option values → HasValues (word ∷ words) option values
+skip_values word words option [] given = tt
+skip_values word words option (value ∷ values) (before, first, rest, is, gives, more) =
+    (word ∷ before, first, rest, ap (λ l. word ∷ l) is, gives, more)
+
+-- the next value is given by the word before them
+pub next_value : (word : List ℕ) (words : List (List ℕ)) (option value : List ℕ) (values : List (List ℕ))
+    → IsGiven option value word words → HasValues words option values → HasValues (word ∷ words) option (value ∷ values)
+next_value word words option value values gives more = ([], word, words, refl, gives, more)
+
+-- by one word, or by it and the one after it
+pub given_within : (option begin value word : List ℕ) (rest : List (List ℕ)) → begin ≡ option ++ codes "="
+    → word ≡ begin ++ value → IsGiven option value word rest
+given_within option begin value word rest is same = inl (same ∙ ap (λ b. b ++ value) is)
+
+pub given_beside : (option value word : List ℕ) (rest : List (Bor (List ℕ))) (d : Bor (List ℕ)) → 1 ≤ length rest
+    → word ≡ option → (get_or rest 0 d).now ≡ value → IsGiven option value word (map (λ (x : Bor (List ℕ)). x.now) rest)
+given_beside option value word rest d long first second = inr (
+  first,
+  map (λ (x : Bor (List ℕ)). x.now) (drop 1 rest),
+  split_or rest 0 d long ∙ ap (λ w. w ∷ map (λ (x : Bor (List ℕ)). x.now) (drop 1 rest)) second,
 )

@@ -1,5 +1,7 @@
 mod Accesses
 mod Asked
+mod Assembled
+mod Declared
 mod Digits
 mod Extracted
 pub mod Faults
@@ -12,6 +14,7 @@ mod Numerals
 mod OneFile
 mod Owners
 mod Printing
+mod SourcePrinted
 pub mod TwoFiles
 mod Wholes
 mod Writes

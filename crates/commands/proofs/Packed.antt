@@ -1,58 +1,94 @@
 -- The list of a folder, and the files that it names, read one after the other.
-use Rattle.std.proofs.Common.{◌≡◌, ◌+◌, ◌∷◌, ◌++◌, ◌∙◌, ℕ, List, [], Option, Result, Ok, Err, IfErr, OnOk, inl, inr, refl, sym, ap, subst}
-use Rattle.std.proofs.Common.{append_assoc, append-nil, length}
+use Rattle.std.proofs.Common.{◌≡◌, ◌∷◌, ◌++◌, ◌∙◌, ℕ, suc, List, [], Option, Ok, refl, sym, ap, subst}
+use Rattle.std.proofs.Common.{append_assoc, append-nil, length, length-append, arith}
 use Rattle.fork_edits.specs.Contents.{Listed}
 use Rattle.fork_commands.specs.Packing.{listed_in, listed_paths, fork_of_files}
-use Rattle.commands.specs.declared.delivering.Target.TheVariants.{NewFile}
 use Rattle.commands.specs.declared.packing.Packing.{Packing}
-use Rattle.commands.specs.Accesses.{Access, Read, Write, and_then, reads_at, Stops, IsUnread, IsPartWritten}
-use Rattle.commands.specs.Fault.{Message, HostMemory}
+use Rattle.commands.specs.Accesses.{Access, Read, Write, and_then, reads_at, IsUnread, IsNextUnread, StopsReading, IsPartWritten}
+use Rattle.commands.specs.Fault.{Message, HostMemory, Usage, CannotRead, Script, Fork, CannotWrite, NotLaunched}
 use Rattle.commands.specs.Packing.{list_path, reads_listed, Packs, IsUnpacked, ListUnread, ListFaulty, FileUnread, Unfit, Unwritten}
 use Rattle.commands.specs.Tasks.{IsForkFault}
-use Rattle.commands.proofs.Accesses.{none, one_more, unread_stops}
+use Rattle.commands.proofs.Accesses.{none, one_more}
 
 -- Of these paths all but the rest are read.
 pub record Came (paths rest files : List (List ℕ)) (old new : Option (List Access)) : Type 0 where
-  pub reads : (more : List (List ℕ)) → and_then new (reads_at rest more) ≡ and_then old (reads_at paths (files ++ more))
+  pub first : List (List ℕ)
+  pub split : paths ≡ first ++ rest
+  pub count : length files ≡ length first
+  pub reads : new ≡ and_then old (reads_at first files)
 
 pub begun : (paths : List (List ℕ)) (a : Option (List Access)) → Came paths paths [] a a
-begun paths a = record { reads = λ more. refl }
+begun paths a = record { first = []; split = refl; count = refl; reads = none a }
+
+-- one path more is read
+one_read : (first files : List (List ℕ)) (x text : List ℕ) → length files ≡ length first
+    → reads_at first files ++ Read x text ∷ [] ≡ reads_at (first ++ x ∷ []) (files ++ text ∷ [])
+one_read [] [] x text same = refl
+one_read [] (file ∷ files) x text same = absurd (let no : suc (length files) ≡ 0 = same in cc)
+one_read (path ∷ first) [] x text same = absurd (let no : 0 ≡ suc (length first) = same in cc)
+one_read (path ∷ first) (file ∷ files) x text same =
+    ap (λ l. Read path file ∷ l) (one_read first files x text (let k = same in omega (arith, k)))
 
 pub further : (paths rest files : List (List ℕ)) (x text : List ℕ) (old mid new : Option (List Access))
     → Came paths (x ∷ rest) files old mid → new ≡ and_then mid (Read x text ∷ [])
     → Came paths rest (files ++ text ∷ []) old new
 further paths rest files x text old mid new came read = record {
-  reads = λ more. ap (λ a. and_then a (reads_at rest more)) read
-      ∙ one_more mid (Read x text ∷ []) (reads_at rest more)
-      ∙ came.reads (text ∷ more)
-      ∙ ap (λ fs. and_then old (reads_at paths fs)) (sym (append_assoc files (text ∷ []) more));
+  first = came.first ++ x ∷ [];
+  split = came.split ∙ sym (append_assoc came.first (x ∷ []) rest);
+  count = let l = length-append files (text ∷ []) in let r = length-append came.first (x ∷ []) in let k = came.count in
+      omega (arith, l, r, k);
+  reads = read ∙ ap (λ a. and_then a (Read x text ∷ [])) came.reads ∙ one_more old (reads_at came.first files) (Read x text ∷ [])
+      ∙ ap (λ l. and_then old l) (one_read came.first files x text came.count);
 }
 
-nothing_at : (rest : List (List ℕ)) → reads_at rest [] ≡ []
-nothing_at [] = refl
-nothing_at (x ∷ rest) = refl
-
-pub so_far : (paths rest files : List (List ℕ)) (old mid : Option (List Access)) → Came paths rest files old mid
-    → mid ≡ and_then old (reads_at paths files)
-so_far paths rest files old mid came =
-    none mid ∙ ap (λ l. and_then mid l) (sym (nothing_at rest)) ∙ came.reads []
-    ∙ ap (λ fs. and_then old (reads_at paths fs)) (append-nil files)
+-- all are read
+pub all_came : (paths files : List (List ℕ)) (old new : Option (List Access)) → Came paths [] files old new
+    → new ≡ and_then old (reads_at paths files)
+all_came paths files old new came =
+    came.reads ∙ ap (λ l. and_then old (reads_at l files)) (sym (came.split ∙ append-nil came.first))
 
 -- a file is not read
+next_unread : (x : List ℕ) (rest : List (List ℕ)) (old new : Option (List Access)) (message : Message)
+    → IsUnread x old new message → IsNextUnread (x ∷ rest) old new message
+next_unread x rest old new HostMemory unread = unread
+next_unread x rest old new (Usage text) unread = unread
+next_unread x rest old new (CannotRead named) unread = unread
+next_unread x rest old new (Script named line kind) unread = unread
+next_unread x rest old new (Fork named fault) unread = unread
+next_unread x rest old new (CannotWrite named) unread = unread
+next_unread x rest old new (NotLaunched named app) unread = unread
+
+no_memory : (rest : List (List ℕ)) (old new : Option (List Access)) → new ≡ old → IsNextUnread rest old new HostMemory
+no_memory [] old new same = same
+no_memory (x ∷ rest) old new same = same
+
 pub unread_file : (paths rest files : List (List ℕ)) (x : List ℕ) (old mid new : Option (List Access)) (message : Message)
-    → Came paths (x ∷ rest) files old mid → IsUnread x mid new message
-    → (read : List (List ℕ)) × Stops (and_then old (reads_at paths read)) new message
-unread_file paths rest files x old mid new message came unread = (
-  files,
-  subst (λ a. Stops a new message) (so_far paths (x ∷ rest) files old mid came) (unread_stops x mid new message unread),
-)
+    → Came paths (x ∷ rest) files old mid → IsUnread x mid new message → StopsReading paths old new message
+unread_file paths rest files x old mid new message came unread = record {
+  first = came.first;
+  rest = x ∷ rest;
+  split = came.split;
+  texts = files;
+  count = came.count;
+  stops = subst (λ a. IsNextUnread (x ∷ rest) a new message) came.reads (next_unread x rest mid new message unread);
+}
 
 -- there is no memory for a file that was read
 pub unkept_file : (paths rest files : List (List ℕ)) (x text : List ℕ) (old mid new : Option (List Access))
-    → Came paths (x ∷ rest) files old mid → new ≡ and_then mid (Read x text ∷ [])
-    → (read : List (List ℕ)) × Stops (and_then old (reads_at paths read)) new HostMemory
+    → Came paths (x ∷ rest) files old mid → new ≡ and_then mid (Read x text ∷ []) → StopsReading paths old new HostMemory
 unkept_file paths rest files x text old mid new came read =
-    (files ++ text ∷ [], so_far paths rest (files ++ text ∷ []) old new (further paths rest files x text old mid new came read))
+    let more = further paths rest files x text old mid new came read in record {
+      first = more.first;
+      rest = rest;
+      split = more.split;
+      texts = files ++ text ∷ [];
+      count = more.count;
+      stops = no_memory rest _ new more.reads;
+    }
+
+-- nothing is read
+pub none_read : (paths : List (List ℕ)) (a : Option (List Access)) → StopsReading paths a a HostMemory
+none_read paths a = record { first = []; rest = paths; split = refl; texts = []; count = refl; stops = no_memory paths _ a (none a) }
 
 -- the list is at fault
 pub list_faulty : (p : Packing) (path text read : List ℕ) (old new : Option (List Access)) (message : Message)
@@ -70,18 +106,16 @@ list_unread p path old new message is unread = ListUnread (subst (λ x. IsUnread
 -- there is no memory for the paths of the files
 pub no_paths : (p : Packing) (text : List ℕ) (l : Listed) (old new : Option (List Access)) → listed_in text ≡ Ok l
     → new ≡ and_then old (Read (list_path p) text ∷ []) → IsUnpacked p old new HostMemory
-no_paths p text l old new has made = FileUnread text l [] has
-    (made ∙ none _ ∙ ap (λ xs. and_then (and_then old (Read (list_path p) text ∷ [])) xs)
-    (sym (nothing_at (listed_paths p.folder.now l))))
+no_paths p text l old new has made = FileUnread text l has
+    (subst (λ a. StopsReading (listed_paths p.folder.now l) a new HostMemory) made (none_read (listed_paths p.folder.now l) new))
 
 -- what was read of the files
-pub files_unread : (p : Packing) (text : List ℕ) (l : Listed) (paths files : List (List ℕ)) (old mid new : Option (List Access))
+pub files_unread : (p : Packing) (text : List ℕ) (l : Listed) (paths : List (List ℕ)) (old mid new : Option (List Access))
     (message : Message) → listed_in text ≡ Ok l → mid ≡ and_then old (Read (list_path p) text ∷ [])
-    → paths ≡ listed_paths p.folder.now l → Stops (and_then mid (reads_at paths files)) new message
-    → IsUnpacked p old new message
-files_unread p text l paths files old mid new message has made is stops = FileUnread text l files has
-    (subst (λ ps. Stops (and_then (and_then old (Read (list_path p) text ∷ [])) (reads_at ps files)) new message) is
-    (subst (λ a. Stops (and_then a (reads_at paths files)) new message) made stops))
+    → paths ≡ listed_paths p.folder.now l → StopsReading paths mid new message → IsUnpacked p old new message
+files_unread p text l paths old mid new message has made is stops = FileUnread text l has
+    (subst (λ ps. StopsReading ps (and_then old (Read (list_path p) text ∷ [])) new message) is
+    (subst (λ a. StopsReading paths a new message) made stops))
 
 pub all_read : (p : Packing) (text : List ℕ) (l : Listed) (paths files : List (List ℕ)) (old mid new : Option (List Access))
     → mid ≡ and_then old (Read (list_path p) text ∷ []) → paths ≡ listed_paths p.folder.now l

@@ -1,14 +1,14 @@
 -- Two files that were read, and what was made of them.
-use Rattle.std.proofs.Common.{◌≡◌, ◌∷◌, ◌∙◌, ℕ, Bool, List, [], Option, Result, Ok, refl, sym, ap, subst}
+use Rattle.std.proofs.Common.{◌≡◌, ◌∷◌, ◌∙◌, ℕ, Bool, List, [], Option, Result, refl, sym, ap, subst}
 use Rattle.fork_commands.specs.declared.fault.FileFault.{FileFault}
 use Rattle.fork_commands.specs.declared.pair.Place.{Place}
 use Rattle.fork_commands.specs.declared.pair.PairFault.{PairFault}
 use Rattle.fork_commands.specs.declared.pair.PairFault.TheVariants as pair_fault
-use Rattle.fork_commands.specs.Pairs.{combined, StopsPair}
+use Rattle.fork_commands.specs.Pairs.{Gives, combined, StopsPair}
 use Rattle.commands.specs.declared.combining.Combination.{Combination}
 use Rattle.commands.specs.declared.ending.Ending.{Ending}
 use Rattle.commands.specs.Accesses.{Access, Read, and_then, IsUnread}
-use Rattle.commands.specs.Combining.{IsPairFault, pair_message, reads_both, Combines, IsUncombined}
+use Rattle.commands.specs.Combining.{IsPairFault, pair_message, names_of, reads_both, Combines, IsUncombined}
 use Rattle.commands.specs.Combining.{SecondUnread, Unmade, Undelivered}
 use Rattle.commands.specs.Delivering.{Delivers, IsUndelivered}
 use Rattle.commands.specs.Ending.{ending_of}
@@ -50,16 +50,16 @@ unmade c a b first second p q old new message silent is one two fault =
 
 -- what was made is made of the bytes that were read
 made_of : (c : Combination) (a b first second out : List ℕ) (differs : Bool) → a ≡ first → b ≡ second
-    → combined c.work a b ≡ Ok (out, differs) → combined c.work first second ≡ Ok (out, differs)
+    → Gives (names_of c) (combined c.work a b) out differs → Gives (names_of c) (combined c.work first second) out differs
 made_of c a b first second out differs one two is =
-    subst (λ x. combined c.work first x ≡ Ok (out, differs)) two
-    (subst (λ x. combined c.work x b ≡ Ok (out, differs)) one is)
+    subst (λ x. Gives (names_of c) (combined c.work first x) out differs) two
+    (subst (λ x. Gives (names_of c) (combined c.work x b) out differs) one is)
 
 -- what was made of them was not delivered
 pub undelivered : (c : Combination) (a b first second out sent : List ℕ) (differs : Bool) (p mid q : Option (List ℕ))
     (old then new : Option (List Access)) (message : Message) → mid ≡ p
     → then ≡ and_then old (reads_both c first second) → a ≡ first → b ≡ second → sent ≡ out
-    → combined c.work a b ≡ Ok (out, differs) → IsUndelivered c.target sent mid q then new message
+    → Gives (names_of c) (combined c.work a b) out differs → IsUndelivered c.target sent mid q then new message
     → IsUncombined c p q old new message
 undelivered c a b first second out sent differs p mid q old then new message silent is one two all made_so h =
     Undelivered first second out differs (made_of c a b first second out differs one two made_so)
@@ -71,7 +71,7 @@ undelivered c a b first second out sent differs p mid q old then new message sil
 pub combines : (c : Combination) (ending : Ending) (a b first second out sent : List ℕ) (differs : Bool)
     (p mid q : Option (List ℕ)) (old then new : Option (List Access)) → mid ≡ p
     → then ≡ and_then old (reads_both c first second) → a ≡ first → b ≡ second → sent ≡ out
-    → combined c.work a b ≡ Ok (out, differs) → ending ≡ ending_of differs → Delivers c.target sent mid q then new
+    → Gives (names_of c) (combined c.work a b) out differs → ending ≡ ending_of differs → Delivers c.target sent mid q then new
     → Combines c ending p q old new
 combines c ending a b first second out sent differs p mid q old then new silent is one two all made_so end h = (
   first,

@@ -1,4 +1,4 @@
-use Rattle.std.specs.Prelude.{◌≡◌, ◌⊎◌, ℕ, Option, Some, None, Result, Ok, Err, List, [], ◌∷◌, ◌++◌}
+use Rattle.std.specs.Prelude.{◌≡◌, ◌⊎◌, ℕ, Option, Some, None, Result, Ok, Err, List, [], ◌∷◌, ◌++◌, length}
 use Rattle.commands.specs.declared.fault.ToolFault.{ToolFault}
 use Rattle.commands.specs.declared.host.ReadError.{ReadError}
 use Rattle.commands.specs.declared.host.ReadError.TheVariants as read_error
@@ -72,6 +72,21 @@ Fails (Listed path files) old new message = IsUnread path old new message
 Fails (Folder path) old new message = IsUnwritten path old new message
 Fails (Write path bytes) old new message = IsPartWritten path bytes old new message
 Fails (Failed path) old new message = ⊥
+
+-- The file at the first of these paths was not read: the host refused the path, and that is the fault, or is out of memory.
+abbrev pub IsNextUnread : List (List ℕ) → Option (List Access) → Option (List Access) → Message → Type 0
+IsNextUnread paths old new HostMemory = new ≡ old
+IsNextUnread [] old new message = ⊥
+IsNextUnread (path ∷ paths) old new message = IsUnread path old new message
+
+-- Of the files at these paths the first were read, the next one was not, and no other was asked for.
+pub record StopsReading (paths : List (List ℕ)) (old new : Option (List Access)) (message : Message) : Type 0 where
+  pub first : List (List ℕ)
+  pub rest : List (List ℕ)
+  pub split : paths ≡ first ++ rest
+  pub texts : List (List ℕ)
+  pub count : length texts ≡ length first
+  pub stops : IsNextUnread rest (and_then old (reads_at first texts)) new message
 
 -- What stops the reading of several files: the host refused the path that the fault names, and is asked for nothing
 -- after it; where the fault is another, it refused nothing.

@@ -1,19 +1,24 @@
 use Rattle.std.specs.Prelude.{◌≡◌, ◌⊎◌, ℕ, Option, Some, None, List, [], ◌∷◌, ◌++◌, codes}
+use Rattle.std.specs.Borrow.{Bor}
 use Rattle.fork_commands.specs.declared.work.ForkWork.{ForkWork}
-use Rattle.fork_commands.specs.declared.work.ForkWork.TheVariants.{Get, Rewrite, Change, Derez, Rez}
+use Rattle.fork_commands.specs.declared.work.ForkWork.TheVariants.{Get, Rewrite, Change}
 use Rattle.fork_commands.specs.declared.editing.Edit.{Edit}
 use Rattle.fork_commands.specs.declared.editing.Edit.TheVariants.{Remove, Rename}
 use Rattle.fork_commands.specs.declared.pair.PairWork.{PairWork}
-use Rattle.fork_commands.specs.declared.pair.PairWork.TheVariants.{Set, Diff, RezInto, Wrap, Merge}
+use Rattle.fork_commands.specs.declared.pair.PairWork.TheVariants.{Set, SetStated, Diff, DiffText, Wrap, Merge}
 use Rattle.commands.specs.declared.delivering.Target.{Target}
 use Rattle.commands.specs.declared.delivering.Target.TheVariants.{Printed, NewFile}
 use Rattle.commands.specs.declared.extracting.Pieces.{Pieces}
 use Rattle.commands.specs.declared.extracting.Pieces.TheVariants.{Resources, Forks}
+use Rattle.commands.specs.declared.source_printing.Part.{Part}
+use Rattle.commands.specs.declared.source_printing.Part.TheVariants.{Whole, Selected}
+use Rattle.commands.specs.SourcePrinting as printing
+use Rattle.commands.specs.Assembling as assembling
 use Rattle.commands.specs.declared.tasks.Work.{Work}
 use Rattle.commands.specs.declared.tasks.Work.TheVariants as work
 use Rattle.commands.specs.Surveying.{paths_of}
 use Rattle.commands.specs.declared.request.Request.{Request}
-use Rattle.commands.specs.declared.request.Request.TheVariants.{Look, Check, Run, Show, Convert, Combine, Extract, Pack}
+use Rattle.commands.specs.declared.request.Request.TheVariants.{Look, Check, Run, Show, Convert, Combine, Extract, Pack, Print, Assemble}
 
 -- Which words of a command line ask for a request. The first word is the program's name, and the second the command's.
 
@@ -27,10 +32,8 @@ look_word work.Check = codes "check"
 
 abbrev pub print_word : ForkWork → Option (List ℕ)
 print_word (Get key) = Some (codes "get")
-print_word (Derez charset) = Some (codes "derez")
 print_word (Rewrite packaging) = None
 print_word (Change edit packaging) = None
-print_word Rez = None
 
 abbrev pub edit_word : Edit → List ℕ
 edit_word (Remove key) = codes "remove"
@@ -39,9 +42,7 @@ edit_word (Rename key new) = codes "rename"
 abbrev pub write_word : ForkWork → Option (List ℕ)
 write_word (Rewrite packaging) = Some (codes "rewrite")
 write_word (Change edit packaging) = Some (edit_word edit)
-write_word Rez = Some (codes "rez")
 write_word (Get key) = None
-write_word (Derez charset) = None
 
 abbrev pub convert_word : ForkWork → Target → Option (List ℕ)
 convert_word w Printed = print_word w
@@ -54,14 +55,20 @@ word_into (NewFile path) word = Some word
 abbrev pub combine_word : PairWork → Target → Option (List ℕ)
 combine_word (Diff charset) Printed = Some (codes "diff")
 combine_word (Diff charset) (NewFile path) = None
+combine_word (DiffText form) Printed = Some (codes "diff")
+combine_word (DiffText form) (NewFile path) = None
 combine_word (Set setting packaging) target = word_into target (codes "set")
-combine_word RezInto target = word_into target (codes "rez")
+combine_word (SetStated setting packaging) target = word_into target (codes "set")
 combine_word Wrap target = word_into target (codes "wrap")
 combine_word (Merge replaces packaging) target = word_into target (codes "merge")
 
 abbrev pub extract_word : Pieces → List ℕ
 extract_word Resources = codes "extract"
 extract_word Forks = codes "unwrap"
+
+abbrev pub part_word : Part → List ℕ
+part_word Whole = codes "derez"
+part_word (Selected selection) = codes "show"
 
 abbrev pub command_of : Request → Option (List ℕ)
 command_of (Look task) = Some (look_word task.work)
@@ -72,6 +79,8 @@ command_of (Convert c) = convert_word c.work c.target
 command_of (Combine c) = combine_word c.work c.target
 command_of (Extract e) = Some (extract_word e.pieces)
 command_of (Pack p) = Some (codes "pack")
+command_of (Print r) = Some (part_word r.part)
+command_of (Assemble a) = Some (codes "rez")
 
 -- The texts are words of the command line, in this order.
 abbrev pub StandIn : List (List ℕ) → List (List ℕ) → Type 0
@@ -89,15 +98,28 @@ HasValue words option value = StandsAfter words ⊎ StandsWithin words
     StandsWithin : List (List ℕ) → Type 0
     StandsWithin words = StandIn words ((option ++ codes "=" ++ value) ∷ [])
 
+-- An option has these values, in this order: each is given by a word, or by a word and the one after it; the words that follow give
+-- it the others.
+abbrev pub IsGiven : List ℕ → List ℕ → List ℕ → List (List ℕ) → Type 0
+IsGiven option value word rest = (word ≡ option ++ codes "=" ++ value) ⊎ StandsBeside option value word rest
+  where
+    StandsBeside : List ℕ → List ℕ → List ℕ → List (List ℕ) → Type 0
+    StandsBeside option value word rest = (word ≡ option) × (more : List (List ℕ)) × (rest ≡ value ∷ more)
+
+abbrev pub HasValues : List (List ℕ) → List ℕ → List (List ℕ) → Type 0
+HasValues words option [] = Unit {0}
+HasValues words option (value ∷ values) = (before : List (List ℕ)) × (word : List ℕ) × (rest : List (List ℕ))
+    × (words ≡ before ++ word ∷ rest) × IsGiven option value word rest × HasValues rest option values
+
+-- An option has this value, if there is one.
+abbrev pub MayHaveValue : List (List ℕ) → List ℕ → Option (Bor (List ℕ)) → Type 0
+MayHaveValue words option None = Unit {0}
+MayHaveValue words option (Some value) = HasValue words option value.now
+
 -- The path of a new file, if what is made goes into one.
 abbrev pub path_in : Target → List (List ℕ)
 path_in Printed = []
 path_in (NewFile path) = path.now ∷ []
-
--- The paths of two files, and that of a new file, are named: the file into which a fork is put is the value of `--into`.
-abbrev pub NamesTwo : PairWork → List ℕ → List ℕ → Target → List (List ℕ) → Type 0
-NamesTwo RezInto first second target words = HasValue words (codes "--into") first × StandIn words (second ∷ path_in target)
-NamesTwo _ first second target words = StandIn words (first ∷ second ∷ path_in target)
 
 -- The words after the command's name all that the request names, in the order of the command's arguments.
 abbrev pub Names : Request → List (List ℕ) → Type 0
@@ -106,9 +128,12 @@ Names (Check survey) words = StandIn words (paths_of survey)
 Names (Run errand) words = StandIn words (errand.job.now ∷ errand.out.now ∷ [])
 Names (Show zone) words = HasValue words (codes "--job") zone.job.now × HasValue words (codes "--app") zone.app.now
 Names (Convert c) words = StandIn words (c.path.now ∷ path_in c.target)
-Names (Combine c) words = NamesTwo c.work c.first.now c.second.now c.target words
+Names (Combine c) words = StandIn words (c.first.now ∷ c.second.now ∷ path_in c.target)
 Names (Extract e) words = StandIn words (e.fork.now ∷ e.out.now ∷ [])
 Names (Pack p) words = StandIn words (p.folder.now ∷ p.out.now ∷ [])
+Names (Print r) words = HasValues words (codes "--types") (printing.types_read r) × StandIn words (r.fork.now ∷ [])
+Names (Assemble a) words = HasValues words (codes "--types") (assembling.types_read a) × MayHaveValue words (codes "--into") a.into
+    × StandIn words (a.source.now ∷ a.out.now ∷ [])
 
 -- The words ask for the request.
 pub record IsAskedBy (words : List (List ℕ)) (request : Request) : Type 0 where

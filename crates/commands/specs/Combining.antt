@@ -1,10 +1,10 @@
-use Rattle.std.specs.Prelude.{◌≡◌, ℕ, Bool, Option, Result, Ok, Err, List, [], ◌∷◌}
+use Rattle.std.specs.Prelude.{◌≡◌, ℕ, Bool, Option, Result, Err, List, [], ◌∷◌}
 use Rattle.fork_commands.specs.declared.fault.FileFault.{FileFault}
 use Rattle.fork_commands.specs.declared.pair.Place.{Place}
 use Rattle.fork_commands.specs.declared.pair.Place.TheVariants.{First, Second}
 use Rattle.fork_commands.specs.declared.pair.PairFault.{PairFault}
 use Rattle.fork_commands.specs.declared.pair.PairFault.TheVariants as pair_fault
-use Rattle.fork_commands.specs.Pairs.{combined}
+use Rattle.fork_commands.specs.Pairs.{Gives, Names, combined}
 use Rattle.commands.specs.declared.combining.Combination.{Combination}
 use Rattle.commands.specs.Accesses.{Access, Read, and_then, IsUnread}
 use Rattle.commands.specs.declared.ending.Ending.{Ending}
@@ -36,6 +36,10 @@ IsPairFault first second made (Script named line kind) = ⊥
 IsPairFault first second made (CannotWrite named) = ⊥
 IsPairFault first second made (NotLaunched named app) = ⊥
 
+-- The names of the files in what is made: their paths as they were given.
+abbrev pub names_of : Combination → Names
+names_of c = record { first = c.first.now; second = c.second.now }
+
 -- The files were read, one after the other.
 abbrev pub reads_both : Combination → List ℕ → List ℕ → List Access
 reads_both c first second = Read c.first.now first ∷ Read c.second.now second ∷ []
@@ -46,7 +50,7 @@ abbrev pub Combines
     : Combination → Ending → Option (List ℕ) → Option (List ℕ) → Option (List Access) → Option (List Access) → Type 0
 Combines c ending p q old new =
     (first : List ℕ) × (second : List ℕ) × (out : List ℕ) × (differs : Bool)
-    × (combined c.work first second ≡ Ok (out, differs)) × (ending ≡ ending_of differs)
+    × Gives (names_of c) (combined c.work first second) out differs × (ending ≡ ending_of differs)
     × Delivers c.target out p q (and_then old (reads_both c first second)) new
 
 -- A file can't be read, nothing is made of the bytes, or what was made of them was not delivered to its end.
@@ -57,6 +61,6 @@ pub data IsUncombined
       → IsUnread c.second.now (and_then old (Read c.first.now first ∷ [])) new message → IsUncombined c p q old new message
   Unmade : (first second : List ℕ) → q ≡ p → new ≡ and_then old (reads_both c first second)
       → IsPairFault c.first.now c.second.now (combined c.work first second) message → IsUncombined c p q old new message
-  Undelivered : (first second out : List ℕ) (differs : Bool) → combined c.work first second ≡ Ok (out, differs)
+  Undelivered : (first second out : List ℕ) (differs : Bool) → Gives (names_of c) (combined c.work first second) out differs
       → IsUndelivered c.target out p q (and_then old (reads_both c first second)) new message
       → IsUncombined c p q old new message

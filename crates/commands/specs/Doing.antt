@@ -3,7 +3,7 @@ use Rattle.commands.specs.declared.ending.Ending.{Ending}
 use Rattle.commands.specs.declared.ending.Ending.TheVariants.{Done}
 use Rattle.commands.specs.declared.tasks.Task.{Task}
 use Rattle.commands.specs.declared.request.Request.{Request}
-use Rattle.commands.specs.declared.request.Request.TheVariants.{Look, Check, Run, Show, Convert, Combine, Extract, Pack}
+use Rattle.commands.specs.declared.request.Request.TheVariants.{Look, Check, Run, Show, Convert, Combine, Extract, Pack, Print, Assemble}
 use Rattle.commands.specs.Fault.{Message, IsUsage}
 use Rattle.commands.specs.Accesses.{Access, Read, and_then, IsUnread}
 use Rattle.commands.specs.Asking.{IsAskedBy}
@@ -17,6 +17,8 @@ use Rattle.commands.specs.Converting.{Converts, IsUnconverted}
 use Rattle.commands.specs.Combining.{Combines, IsUncombined}
 use Rattle.commands.specs.Extracting.{Extracts, IsUnextracted}
 use Rattle.commands.specs.Packing.{Packs, IsUnpacked}
+use Rattle.commands.specs.SourcePrinting.{PrintsSource, IsSourceUnprinted}
+use Rattle.commands.specs.Assembling.{Assembles, IsUnassembled}
 
 -- A request of the command line is done. `p` and `q` are the bytes that have been printed before and after,
 -- `old` and `new` the accesses to files.
@@ -57,8 +59,8 @@ IsUnchecked survey p q old new message = IsUnseenOne survey p q old new message 
 -- In what follows `h` and `k` are the reports that the watch has heard before and after; they are said of a job.
 
 -- What the request asks for was done: a task or a survey, a job was run to its end, the zone of one of its applications was
--- printed, what was made of one file or of two was delivered, what is in a file was written into a folder, or the fork that a
--- folder states was written.
+-- printed, what was made of one file or of two was delivered, what is in a file was written into a folder, the fork that a
+-- folder states was written, a fork was printed as source, or the fork that a source states was written.
 abbrev pub IsDone : Request → Ending → Option (List ℕ) → Option (List ℕ) → Option (List ℕ) → Option (List ℕ)
     → Option (List Access) → Option (List Access) → Type 0
 IsDone (Look task) ending h k p q old new = Looks task ending p q old new
@@ -70,6 +72,8 @@ IsDone (Convert conversion) ending h k p q old new = (ending ≡ Done) × Conver
 IsDone (Combine combination) ending h k p q old new = Combines combination ending p q old new
 IsDone (Extract extraction) ending h k p q old new = (ending ≡ Done) × (q ≡ p) × Extracts extraction old new
 IsDone (Pack packing) ending h k p q old new = (ending ≡ Done) × (q ≡ p) × Packs packing old new
+IsDone (Print printing) ending h k p q old new = (ending ≡ Done) × PrintsSource printing p q old new
+IsDone (Assemble assembly) ending h k p q old new = (ending ≡ Done) × Assembles assembly p q old new
 
 -- What the request asks for was not done, or not to its end.
 abbrev pub IsUndone : Request → Option (List ℕ) → Option (List ℕ) → Option (List ℕ) → Option (List ℕ)
@@ -83,6 +87,8 @@ IsUndone (Convert conversion) h k p q old new message = IsUnconverted conversion
 IsUndone (Combine combination) h k p q old new message = IsUncombined combination p q old new message
 IsUndone (Extract extraction) h k p q old new message = (q ≡ p) × IsUnextracted extraction old new message
 IsUndone (Pack packing) h k p q old new message = (q ≡ p) × IsUnpacked packing old new message
+IsUndone (Print printing) h k p q old new message = IsSourceUnprinted printing p q old new message
+IsUndone (Assemble assembly) h k p q old new message = IsUnassembled assembly p q old new message
 
 -- The words make no request, and nothing was done; or not all was done for which they ask.
 pub data IsNotDone (words : List (List ℕ)) (h k p q : Option (List ℕ)) (old new : Option (List Access)) (message : Message)

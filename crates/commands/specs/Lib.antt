@@ -16,5 +16,8 @@ pub mod JobZones
 pub mod Extracting
 pub mod Packing
 pub mod Surveying
+pub mod Declaring
+pub mod SourcePrinting
+pub mod Assembling
 pub mod Asking
 pub mod Doing

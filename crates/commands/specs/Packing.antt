@@ -1,10 +1,10 @@
-use Rattle.std.specs.Prelude.{◌≡◌, ℕ, Option, Result, Ok, List, [], ◌∷◌, length, codes}
+use Rattle.std.specs.Prelude.{◌≡◌, ℕ, Option, Ok, List, [], ◌∷◌, length, codes}
 use Rattle.fork_edits.specs.Contents.{Listed}
 use Rattle.fork_commands.specs.Extracting.{within}
 use Rattle.fork_commands.specs.Packing.{listed_in, listed_paths, fork_of_files}
 use Rattle.commands.specs.declared.packing.Packing.{Packing}
-use Rattle.commands.specs.Accesses.{Access, Read, Write, and_then, reads_at, Stops, IsUnread, IsPartWritten}
-use Rattle.commands.specs.Fault.{Message, HostMemory}
+use Rattle.commands.specs.Accesses.{Access, Read, Write, and_then, reads_at, StopsReading, IsUnread, IsPartWritten}
+use Rattle.commands.specs.Fault.{Message}
 use Rattle.commands.specs.Tasks.{IsForkFault}
 
 -- The fork that a folder states: its list is read, and the files that the list names; then the fork is written. `old` and `new`
@@ -31,8 +31,9 @@ pub data IsUnpacked (p : Packing) (old new : Option (List Access)) (message : Me
   ListUnread : IsUnread (list_path p) old new message → IsUnpacked p old new message
   ListFaulty : (text : List ℕ) → new ≡ and_then old (Read (list_path p) text ∷ [])
       → IsForkFault (list_path p) (listed_in text) message → IsUnpacked p old new message
-  FileUnread : (text : List ℕ) (l : Listed) (files : List (List ℕ)) → listed_in text ≡ Ok l
-      → Stops (reads_listed p text l files old) new message → IsUnpacked p old new message
+  FileUnread : (text : List ℕ) (l : Listed) → listed_in text ≡ Ok l
+      → StopsReading (listed_paths p.folder.now l) (and_then old (Read (list_path p) text ∷ [])) new message
+      → IsUnpacked p old new message
   Unfit : (text : List ℕ) (l : Listed) (files : List (List ℕ)) → listed_in text ≡ Ok l
       → new ≡ reads_listed p text l files old → IsForkFault p.folder.now (fork_of_files l files) message
       → IsUnpacked p old new message

@@ -1,13 +1,15 @@
 //! Whether the words of a command line ask for a request: a test of what the parser of the words answers.
 
 ghost use Rattle.std.specs.Prelude.{◌≡◌, ◌≤◌, ◌++◌, ◌∷◌, [], ℕ, List, map, drop, length, option_map, codes, IsTrue};
-ghost use Rattle.commands.specs.Asking.{look_word, print_word, edit_word, write_word, convert_word, combine_word, extract_word, command_of, word_into};
-ghost use Rattle.commands.specs.Asking.{StandIn, HasValue, Names, NamesTwo, IsAskedBy, path_in};
+ghost use Rattle.commands.specs.Asking.{look_word, print_word, edit_word, write_word, convert_word, combine_word, extract_word, part_word, command_of, word_into};
+ghost use Rattle.commands.specs.declared.request.Request.TheVariants.{Print, Assemble};
+ghost use Rattle.commands.specs.Asking.{StandIn, HasValue, IsGiven, HasValues, MayHaveValue, Names, IsAskedBy, path_in};
 
-use crate::combining::Combination;
+use crate::assembling::Assembly;
 use crate::delivering::Target;
 use crate::extracting::Pieces;
 use crate::request::Request;
+use crate::source_printing::{Part, Printing};
 use crate::tasks::Work;
 use fork_commands::{Edit, ForkWork, PairWork};
 
@@ -29,10 +31,8 @@ fn print_word(work: ForkWork) -> Option<&'static str>
 {
     match work {
         ForkWork::Get(_) => Some("get"),
-        ForkWork::Derez(_) => Some("derez"),
         ForkWork::Rewrite(_) => None,
         ForkWork::Change(_, _) => None,
-        ForkWork::Rez => None,
     }
 }
 
@@ -53,9 +53,7 @@ fn write_word(work: ForkWork) -> Option<&'static str>
     match work {
         ForkWork::Rewrite(_) => Some("rewrite"),
         ForkWork::Change(edit, _) => Some(edit_word(edit)),
-        ForkWork::Rez => Some("rez"),
         ForkWork::Get(_) => None,
-        ForkWork::Derez(_) => None,
     }
 }
 
@@ -84,12 +82,11 @@ fn combine_word(work: PairWork, target: Target<'_>) -> Option<&'static str>
     ensures { option_map (λ word. word.now) result ≡ combine_word work target.entry }
 {
     match work {
-        PairWork::Diff(_) => match target {
+        PairWork::Diff(_) | PairWork::DiffText(_) => match target {
             Target::Printed => Some("diff"),
             Target::NewFile(_) => None,
         },
-        PairWork::Set(_, _) => in_file(target, "set"),
-        PairWork::RezInto => in_file(target, "rez"),
+        PairWork::Set(_, _) | PairWork::SetStated(_, _) => in_file(target, "set"),
         PairWork::Wrap => in_file(target, "wrap"),
         PairWork::Merge(_, _) => in_file(target, "merge"),
     }
@@ -102,6 +99,16 @@ fn extract_word(pieces: Pieces) -> &'static str
     match pieces {
         Pieces::Resources => "extract",
         Pieces::Forks => "unwrap",
+    }
+}
+
+/// Returns the command that prints a part of a fork as source.
+fn part_word(part: Part) -> &'static str
+    ensures { result.now ≡ part_word part }
+{
+    match part {
+        Part::Whole => "derez",
+        Part::Selected(_) => "show",
     }
 }
 
@@ -118,6 +125,8 @@ fn command_of(request: &Request<'_>) -> Option<&'static str>
         Request::Combine(combination) => combine_word(combination.work, combination.target),
         Request::Extract(extraction) => Some(extract_word(extraction.pieces)),
         Request::Pack(_) => Some("pack"),
+        Request::Print(printing) => Some(part_word(printing.part)),
+        Request::Assemble(_) => Some("rez"),
     }
 }
 
@@ -171,6 +180,82 @@ fn has_value(words: &[&str], option: &str, begin: &str, value: &str) -> bool
     false
 }
 
+/// Reports whether a word gives an option a value, alone or with the word after it; `begin` is the option with `=` after it.
+fn gives(word: &str, rest: &[&str], option: &str, begin: &str, value: &str) -> bool
+    requires { begin.now ≡ option.now ++ codes "=" }
+    ensures { IsTrue result → IsGiven option.now value.now word.now (map (λ w. w.now) rest.entry.now) }
+{
+    if ends_in(word, begin, value) {
+        return true;
+    }
+    match rest {
+        [next, ..] => word == option && *next == value,
+        [] => false,
+    }
+}
+
+/// Returns how many of the values are found with a further word, of which so many are found before it.
+fn given_with(
+    word: &str,
+    rest: &[&str],
+    option: &str,
+    begin: &str,
+    values: &[&str],
+    found: usize,
+) -> usize
+    requires few { found ≤ length values.now }
+    requires begin { begin.now ≡ option.now ++ codes "=" }
+    ensures few { result ≤ length values.entry.now }
+    ensures so_far { HasValues (map (λ w. w.now) rest.entry.now) option.now (map (λ v. v.now) (drop result values.entry.now))
+        → HasValues (word.now ∷ map (λ w. w.now) rest.entry.now) option.now (map (λ v. v.now) (drop found values.entry.now)) }
+{
+    if found < values.len() && gives(word, rest, option, begin, values[found]) {
+        return found + 1;
+    }
+    found
+}
+
+/// Reports whether an option has values, in their order; `begin` is the option with `=` after it.
+fn has_values(words: &[&str], option: &str, begin: &str, values: &[&str]) -> bool
+    requires { begin.now ≡ option.now ++ codes "=" }
+    ensures { IsTrue result
+        → HasValues (map (λ w. w.now) words.entry.now) option.now (map (λ v. v.now) values.entry.now) }
+{
+    let mut found = 0;
+    for i in 0..words.len() {
+        found = given_with(words[i], &words[i + 1..], option, begin, values, found);
+    }
+    found == values.len()
+}
+
+/// Reports whether an option has a value, if there is one; `begin` is the option with `=` after it.
+fn may_have_value(words: &[&str], option: &str, begin: &str, value: Option<&str>) -> bool
+    requires { begin.now ≡ option.now ++ codes "=" }
+    ensures { IsTrue result → MayHaveValue (map (λ w. w.now) words.entry.now) option.now value.entry }
+{
+    match value {
+        Some(value) => has_value(words, option, begin, value),
+        None => true,
+    }
+}
+
+/// Reports whether words name the paths of what a request prints.
+fn name_printed(words: &[&str], printing: &Printing<'_>) -> bool
+    ensures { IsTrue result → Names (Print printing.now) (map (λ w. w.now) words.entry.now) }
+{
+    has_values(words, "--types", "--types=", printing.types.as_slice())
+        && stand_in(words, &[printing.fork])
+}
+
+/// Reports whether words name the paths of what a request assembles.
+fn name_assembled(words: &[&str], assembly: &Assembly<'_>) -> bool
+    ensures { IsTrue result → Names (Assemble assembly.now) (map (λ w. w.now) words.entry.now) }
+{
+    has_values(words, "--types", "--types=", assembly.types.as_slice())
+        && may_have_value(words, "--into", "--into=", assembly.into)
+        && stand_in(words, &[assembly.source, assembly.out])
+}
+
 /// Reports whether a path and that of a new file, if what is made goes into one, are words, in this order.
 fn stand_with(words: &[&str], path: &str, target: Target<'_>) -> bool
     ensures { IsTrue result → StandIn (map (λ w. w.now) words.entry.now) (path.now ∷ path_in target.entry) }
@@ -192,27 +277,6 @@ fn both_stand_with(words: &[&str], first: &str, second: &str, target: Target<'_>
     }
 }
 
-/// Reports whether words name the paths of two files, and that of a new file.
-fn name_two(words: &[&str], combination: &Combination<'_>) -> bool
-    ensures { IsTrue result → NamesTwo combination.now.work combination.now.first.now combination.now.second.now
-        combination.now.target (map (λ w. w.now) words.entry.now) }
-{
-    match combination.work {
-        PairWork::RezInto => {
-            has_value(words, "--into", "--into=", combination.first)
-                && stand_with(words, combination.second, combination.target)
-        }
-        PairWork::Set(_, _) | PairWork::Diff(_) | PairWork::Wrap | PairWork::Merge(_, _) => {
-            both_stand_with(
-                words,
-                combination.first,
-                combination.second,
-                combination.target,
-            )
-        }
-    }
-}
-
 /// Reports whether words name all that a request names.
 fn names(words: &[&str], request: &Request<'_>) -> bool
     ensures { IsTrue result → Names request.now (map (λ w. w.now) words.entry.now) }
@@ -226,9 +290,16 @@ fn names(words: &[&str], request: &Request<'_>) -> bool
                 && has_value(words, "--app", "--app=", zone.app)
         }
         Request::Convert(conversion) => stand_with(words, conversion.path, conversion.target),
-        Request::Combine(combination) => name_two(words, combination),
+        Request::Combine(combination) => both_stand_with(
+            words,
+            combination.first,
+            combination.second,
+            combination.target,
+        ),
         Request::Extract(extraction) => stand_in(words, &[extraction.fork, extraction.out]),
         Request::Pack(packing) => stand_in(words, &[packing.folder, packing.out]),
+        Request::Print(printing) => name_printed(words, printing),
+        Request::Assemble(assembly) => name_assembled(words, assembly),
     }
 }
 

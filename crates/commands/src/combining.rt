@@ -1,8 +1,8 @@
 //! Requests for two files: what a work makes of their bytes is printed, or written into a new file.
 
-ghost use Rattle.std.specs.Prelude.{◌≡◌, Ok, IfOk, IfErr};
-ghost use Rattle.fork_commands.specs.Pairs.{combined};
-ghost use Rattle.commands.specs.Combining.{pair_message, IsPairFault, Combines, IsUncombined};
+ghost use Rattle.std.specs.Prelude.{◌≡◌, IfOk, IfErr};
+ghost use Rattle.fork_commands.specs.Pairs.{Gives, combined};
+ghost use Rattle.commands.specs.Combining.{pair_message, names_of, IsPairFault, Combines, IsUncombined};
 ghost use Rattle.commands.specs.Fault.{message_of};
 ghost use Rattle.commands.specs.Tasks.{IsQuiet};
 
@@ -11,7 +11,7 @@ use crate::ending::Ending;
 use crate::fault::ToolFault;
 use crate::host::Host;
 use crate::input::read_input;
-use fork_commands::{PairFault, PairOutput, PairWork, Place, combined};
+use fork_commands::{PairFault, PairNames, PairOutput, PairWork, Place, combined};
 use std::alloc::{AllocError, Global};
 
 /// A request for two files.
@@ -57,12 +57,16 @@ fn combined_at(
     first: &[u8],
     second: &[u8],
 ) -> Result<PairOutput, ToolFault>
-    ensures made { IfOk result (λ made. combined combination.now.work first.now second.now
-        ≡ Ok (made.out.items, made.differs)) }
+    ensures made { IfOk result (λ made. Gives (names_of combination.now) (combined combination.now.work first.now second.now)
+        made.out.items made.differs) }
     ensures fault { IfErr result (λ fault. IsPairFault combination.now.first.now combination.now.second.now
         (combined combination.now.work first.now second.now) (message_of fault)) }
 {
-    match combined(alloc, combination.work, first, second) {
+    let names = PairNames {
+        first: combination.first,
+        second: combination.second,
+    };
+    match combined(alloc, combination.work, names, first, second) {
         Ok(made) => Ok(made),
         Err(fault) => { Err(pair_fault(alloc, combination.first, combination.second, fault)?) }
     }

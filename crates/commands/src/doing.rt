@@ -1,8 +1,9 @@
 //! From the words of the command line to what is printed or written: the words name a task, whose file is read and
 //! whose bytes are worked on, a survey of several files, or a job to be run or shown; or something is made of one file or
-//! of two, what is in a file is written into a folder, or a folder is packed into a fork. Between the words and the host
-//! stand only `tasks::do_task`, `surveying::print_survey`, `running::run_job`, `job_zones::show_in_job`,
-//! `converting::convert`, `combining::combine`, `extracting::extract` and `packing::pack`.
+//! of two, what is in a file is written into a folder, a folder is packed into a fork, a fork is printed as source, or the fork of a
+//! source is written. Between the words and the host stand only `tasks::do_task`, `surveying::print_survey`, `running::run_job`, `job_zones::show_in_job`,
+//! `converting::convert`, `combining::combine`, `extracting::extract`, `packing::pack`,
+//! `source_printing::print_source` and `assembling::assemble`.
 
 ghost use Rattle.std.specs.Prelude.{◌≡◌, map, IfErr, IfOk};
 ghost use Rattle.commands.specs.declared.request.Request.{Request};
@@ -16,6 +17,7 @@ ghost use Rattle.commands.specs.Extracting.{Extracts, IsUnextracted};
 ghost use Rattle.commands.specs.Packing.{Packs, IsUnpacked};
 ghost use Rattle.commands.specs.Doing.{Looks, IsUnseen, Checks, IsUnchecked, IsDone, IsUndone, IsNotDone};
 
+use crate::assembling::assemble;
 use crate::combining::combine;
 use crate::converting::convert;
 use crate::ending::Ending;
@@ -27,6 +29,7 @@ use crate::job_zones::show_in_job;
 use crate::packing::{Packing, pack};
 use crate::request::Request;
 use crate::running::{Errand, run_job};
+use crate::source_printing::print_source;
 use crate::surveying::{Survey, print_survey};
 use crate::tasks::{Task, Work, do_task};
 use crate::words::read_words;
@@ -179,6 +182,8 @@ fn perform<H: Host, W: Watch>(
         Request::Check(survey) => check(alloc, host, &survey, watch),
         Request::Extract(extraction) => write_resources(alloc, host, extraction),
         Request::Pack(packing) => write_packed(alloc, host, packing),
+        Request::Print(printing) => print_source(alloc, host, &printing),
+        Request::Assemble(assembly) => assemble(alloc, host, &assembly),
     }
 }
 

@@ -11,28 +11,30 @@ use crate::fault::ToolFault;
 use crate::packing::Packing;
 use crate::parsing::{argument, bad_value, flag, mistake, option, value};
 use crate::request::Request;
+use crate::source_words::{derez_command, rez_command, show_command, source_request, style_in};
 use clap::{ArgMatches, Command};
 use fork_commands::{
-    Edit, ForkWork, Naming, Packaging, PairWork, ResourceKey, Setting, SourceForm, Statements,
+    Edit, ForkWork, Naming, Packaging, PairWork, ResourceKey, Setting, SourceForm,
 };
 use fork_edits::{NameFault, RomanName, TypeFault, read_attrs, read_type_text};
 use mac_roman::Charset;
 use mac_words::{Attrs, OsType};
+use rez_printing::Numbering;
 use std::alloc::{AllocError, Global};
 
 pub const FORK_HELP: &str = "File with a resource fork, or /dev/stdin; it is only read";
 
-const TYPE_HELP: &str = "Type of the resource, as STR, 'STR ' or $53545220";
+pub const TYPE_HELP: &str = "Type of the resource, as STR, 'STR ' or $53545220";
 
 /// The rule for a type, which is printed where the word is no type.
 const TYPE_RULE: &str = "a type is written as STR, 'STR ' or $53545220";
 
-const ID_HELP: &str = "ID of the resource, -32768 to 32767";
+pub const ID_HELP: &str = "ID of the resource, -32768 to 32767";
 
 /// The rule for an ID, which is printed where the word is no ID.
 const ID_RULE: &str = "the ID must be -32768 to 32767";
 
-const NEW_FORK_HELP: &str = "File that is made for the fork; it must not exist yet";
+pub const NEW_FORK_HELP: &str = "File that is made for the fork; it must not exist yet";
 
 const NEW_FILE_HELP: &str = "File that is made; it must not exist yet";
 
@@ -40,11 +42,6 @@ const NEW_FILE_HELP: &str = "File that is made; it must not exist yet";
 pub const BARE: &str = "bare";
 
 const BARE_HELP: &str = "Write the fork alone, also where FORK has a wrapper";
-
-/// The name of the option for the file into which a fork is put, without its two hyphens.
-const INTO: &str = "into";
-
-const INTO_HELP: &str = "File whose fork is replaced: OUT is this file with the new fork";
 
 const REWRITE_ABOUT: &str = "Writes the canonical fork of what a fork holds";
 
@@ -131,8 +128,9 @@ const FILES_HELP: &str = "Folder that is made for the files; it must not exist y
 
 const SET_ABOUT: &str = "Writes a fork in which a resource is replaced or added";
 
-const SET_EXAMPLES: &str = "Example:
+const SET_EXAMPLES: &str = "Examples:
   macmem set examples/Document.rsrc STR 128 FILE OUT --name Greeting --attrs 32
+  macmem set examples/Document.rsrc STR 128 SOURCE OUT --rez
 
 OUT must not exist yet. The resource of the type and the ID gets the bytes of
 FILE, or is added if the fork has none. The fork is the canonical one, in the
@@ -143,12 +141,22 @@ new resource comes after those of its type.
 Attributes are words with commas between them (sysheap, purgeable, locked,
 protected, preload), a number from 0 to 255, or $ and two hexadecimal digits; 2
 (changed) is not stored.
+With --rez the file is source of Rez, as 'macmem show' prints it, with a
+statement of the type and the ID: the resource gets its bytes, its name, or
+none, and its attributes, where --name and --attrs give no others. A source that
+cannot be read is reported as 'macmem: SOURCE: line 3: a semicolon is needed',
+and one without such a statement as 'macmem: SOURCE: fork -192' (resNotFound).
 A fork that cannot be read is reported as 'macmem: FORK: fork CODE': -39
 (eofErr) no bytes, -199 (mapReadErr) damaged; so is one that would be too large,
 as -34 (dskFulErr). A file that exists already is reported as
 'macmem: OUT: cannot write'.";
 
 const FILE_HELP: &str = "File with the resource's bytes, or /dev/stdin; it is only read";
+
+/// The name of the flag for a file that is source of Rez, without its two hyphens.
+const REZ: &str = "rez";
+
+const REZ_HELP: &str = "Take FILE as source of Rez that states the resource";
 
 /// The name of the option for a name, without its two hyphens.
 const NAME: &str = "name";
@@ -209,54 +217,6 @@ ID, the first is renamed. A fork without such a resource is reported as
 'macmem: FORK: fork -192' (resNotFound), and an ID that another resource of the
 type has as 'macmem: FORK: another resource of the type has the ID'.";
 
-const DEREZ_ABOUT: &str = "Prints what a fork holds as source of Rez";
-
-const DEREZ_EXAMPLES: &str = "Example:
-  macmem derez examples/Document.rsrc
-
-prints, for the first resource:
-  type 'STR ' { pstring; };
-
-  resource 'STR ' (128, \"Greeting\", purgeable) {
-  \t\"Hello\"
-  };
-
-A resource stands by its values where the program knows its type and the values
-state its very bytes; the type is declared before it is used. All others, and
-with --data each resource, stand by their bytes:
-  data 'STR ' (128, \"Greeting\", purgeable) {
-  \t$\"0548 656C 6C6F\"                                     /* .Hello */
-  };
-
-'macmem rez' reads both again. The attributes of the map and the 240 bytes after
-the header stand above the statements, as comments of a form that 'macmem rez'
-reads too, where they aren't 0.
-A fork that cannot be read is reported as 'macmem: FORK: fork CODE': -39
-(eofErr) no bytes, -199 (mapReadErr) damaged.";
-
-/// The name of the flag for statements `data` alone, without its two hyphens.
-const DATA: &str = "data";
-
-const DATA_HELP: &str = "Print the bytes of each resource, and no values";
-
-const REZ_ABOUT: &str = "Writes the fork that a source of Rez states";
-
-const REZ_EXAMPLES: &str = "Examples:
-  macmem rez SOURCE OUT
-  macmem rez --into FILE SOURCE OUT
-
-OUT must not exist yet. It is the fork alone, or, with --into, FILE with that
-fork in the place of its own, in the wrapper of FILE. The source has statements
-'type', 'resource' and 'data', as 'macmem derez' prints them or as a person
-writes them; types that the program knows need no declaration. The fork is the
-canonical one, as of 'macmem rewrite'. A source that cannot be read is
-reported by its first line that is wrong, as
-'macmem: SOURCE: line 3: a semicolon is needed'; one whose resources fit no
-fork as 'macmem: SOURCE: fork -34' (dskFulErr). A file that exists already is
-reported as 'macmem: OUT: cannot write'.";
-
-const SOURCE_HELP: &str = "File with source of Rez, or /dev/stdin; it is only read";
-
 const WRAP_ABOUT: &str = "Writes a file with the fork of another in the place of its own";
 
 const WRAP_EXAMPLES: &str = "Example:
@@ -310,30 +270,21 @@ prints nothing: both hold the same, in two forms.
   ~ order                          only the order of the resources differs
 
 The status is 0 if the contents are alike, and 1 if they differ.
+  macmem diff --text examples/Document.rsrc OTHER
+
+prints what differs between what 'macmem derez' prints of both, in the form of
+'diff -u': removed lines begin with '-', added ones with '+'.
 A fork that cannot be read is reported as 'macmem: FORK: fork CODE', with status
 1 and no line on the standard output.";
+
+/// The name of the flag for a comparison of sources, without its two hyphens.
+const SOURCES: &str = "text";
+
+const SOURCES_HELP: &str = "Compare both as source of Rez, and print as 'diff -u' does";
 
 const FIRST_HELP: &str = "File with the first fork; it is only read";
 
 const SECOND_HELP: &str = "File with the second fork; it is only read";
-
-fn derez_command<'a>(alloc: Global) -> Result<Command<'a>, AllocError> {
-    Command::new(alloc, "derez")
-        .about(DEREZ_ABOUT)
-        .after_help(DEREZ_EXAMPLES)
-        .arg(flag(alloc, DATA, DATA_HELP))?
-        .arg(flag(alloc, UTF8, UTF8_HELP))?
-        .arg(argument(alloc, "FORK", FORK_HELP))
-}
-
-fn rez_command<'a>(alloc: Global) -> Result<Command<'a>, AllocError> {
-    Command::new(alloc, "rez")
-        .about(REZ_ABOUT)
-        .after_help(REZ_EXAMPLES)
-        .arg(option(alloc, INTO, "FILE", INTO_HELP))?
-        .arg(argument(alloc, "SOURCE", SOURCE_HELP))?
-        .arg(argument(alloc, "OUT", NEW_FORK_HELP))
-}
 
 fn wrap_command<'a>(alloc: Global) -> Result<Command<'a>, AllocError> {
     Command::new(alloc, "wrap")
@@ -359,6 +310,7 @@ fn diff_command<'a>(alloc: Global) -> Result<Command<'a>, AllocError> {
     Command::new(alloc, "diff")
         .about(DIFF_ABOUT)
         .after_help(DIFF_EXAMPLES)
+        .arg(flag(alloc, SOURCES, SOURCES_HELP))?
         .arg(flag(alloc, UTF8, UTF8_HELP))?
         .arg(argument(alloc, "FORK", FIRST_HELP))?
         .arg(argument(alloc, "OTHER", SECOND_HELP))
@@ -413,6 +365,7 @@ fn set_command<'a>(alloc: Global) -> Result<Command<'a>, AllocError> {
         .arg(flag(alloc, BARE, BARE_HELP))?
         .arg(option(alloc, NAME, "NAME", NAME_HELP))?
         .arg(option(alloc, ATTRS, "ATTRS", ATTRS_HELP))?
+        .arg(flag(alloc, REZ, REZ_HELP))?
         .arg(argument(alloc, "FORK", FORK_HELP))?
         .arg(argument(alloc, "TYPE", TYPE_HELP))?
         .arg(argument(alloc, "ID", ID_HELP).allow_negative_numbers(true))?
@@ -478,8 +431,18 @@ fn bad_name(
     }
 }
 
+/// Returns the type that a word spells.
+pub fn type_in(alloc: Global, command: Command<'_>, text: &str) -> Result<OsType, ToolFault>
+    ensures { IfErr result (λ fault. IsUsage (message_of fault)) }
+{
+    match read_type_text(alloc, text.as_bytes()) {
+        Ok(ty) => Ok(ty),
+        Err(fault) => Err(bad_type(alloc, command, text, fault)?),
+    }
+}
+
 /// Returns the type and the ID in the arguments of a command.
-fn key_in(
+pub fn key_in(
     alloc: Global,
     command: Command<'_>,
     matches: &ArgMatches<'_>,
@@ -536,19 +499,6 @@ fn merging<'a>(matches: &ArgMatches<'a>) -> Combination<'a> {
     }
 }
 
-/// Returns the request that the words after `rez` make.
-fn assembling<'a>(matches: &ArgMatches<'a>) -> Request<'a> {
-    match matches.get_str(INTO) {
-        Some(file) => Request::Combine(Combination {
-            work: PairWork::RezInto,
-            first: file,
-            second: value(matches, "SOURCE"),
-            target: Target::NewFile(value(matches, "OUT")),
-        }),
-        None => Request::Convert(into_file(ForkWork::Rez, "SOURCE", matches)),
-    }
-}
-
 /// Returns a conversion into a new file.
 fn into_file<'a>(work: ForkWork, name: &str, matches: &ArgMatches<'a>) -> Conversion<'a> {
     Conversion {
@@ -558,32 +508,19 @@ fn into_file<'a>(work: ForkWork, name: &str, matches: &ArgMatches<'a>) -> Conver
     }
 }
 
-/// Returns how a fork is to be printed as source.
-fn source_form_in(matches: &ArgMatches<'_>) -> SourceForm {
-    let statements = if matches.get_flag(DATA) {
-        Statements::Data
+/// Returns how two forks are compared: their contents, or their sources.
+fn comparison_in(matches: &ArgMatches<'_>) -> PairWork {
+    if matches.get_flag(SOURCES) {
+        PairWork::DiffText(SourceForm::Typed(style_in(Numbering::None, matches)))
     } else {
-        Statements::Typed
-    };
-    SourceForm {
-        charset: charset_in(matches),
-        statements,
-    }
-}
-
-/// Returns the request that the words after `derez` make.
-fn printing<'a>(matches: &ArgMatches<'a>) -> Conversion<'a> {
-    Conversion {
-        work: ForkWork::Derez(source_form_in(matches)),
-        path: value(matches, "FORK"),
-        target: Target::Printed,
+        PairWork::Diff(charset_in(matches))
     }
 }
 
 /// Returns the request that the words after `diff` make.
 fn comparing<'a>(matches: &ArgMatches<'a>) -> Combination<'a> {
     Combination {
-        work: PairWork::Diff(charset_in(matches)),
+        work: comparison_in(matches),
         first: value(matches, "FORK"),
         second: value(matches, "OTHER"),
         target: Target::Printed,
@@ -658,6 +595,15 @@ fn attrs_in(
     Ok(Some(attrs.unchanged()))
 }
 
+/// Returns how a resource is set: to the bytes of a file, or to what a source states.
+fn set_work(setting: Setting, matches: &ArgMatches<'_>) -> PairWork {
+    if matches.get_flag(REZ) {
+        PairWork::SetStated(setting, packaging_in(matches))
+    } else {
+        PairWork::Set(setting, packaging_in(matches))
+    }
+}
+
 /// Returns the request that the words after `set` make.
 fn setting<'a>(alloc: Global, matches: &ArgMatches<'a>) -> Result<Combination<'a>, ToolFault>
     ensures { IfErr result (λ fault. IsUsage (message_of fault)) }
@@ -666,7 +612,7 @@ fn setting<'a>(alloc: Global, matches: &ArgMatches<'a>) -> Result<Combination<'a
     let name = name_in(alloc, set_named(alloc)?, matches)?;
     let attrs = attrs_in(alloc, set_named(alloc)?, matches)?;
     Ok(Combination {
-        work: PairWork::Set(Setting { key, name, attrs }, packaging_in(matches)),
+        work: set_work(Setting { key, name, attrs }, matches),
         first: value(matches, "FORK"),
         second: value(matches, "FILE"),
         target: Target::NewFile(value(matches, "OUT")),
@@ -754,6 +700,7 @@ pub fn with_fork_commands<'a>(
         .subcommand(diff_command(alloc)?)?
         .subcommand(rewrite_command(alloc)?)?
         .subcommand(derez_command(alloc)?)?
+        .subcommand(show_command(alloc)?)?
         .subcommand(rez_command(alloc)?)?
         .subcommand(wrap_command(alloc)?)?
         .subcommand(unwrap_command(alloc)?)
@@ -782,9 +729,7 @@ pub fn fork_request<'a>(
         }
         "wrap" => Request::Combine(wrapping(matches)),
         "merge" => Request::Combine(merging(matches)),
-        "derez" => Request::Convert(printing(matches)),
-        "rez" => assembling(matches),
-        _ => return Ok(None),
+        _ => return source_request(alloc, name, matches),
     };
     Ok(Some(request))
 }

@@ -2,8 +2,10 @@
 #![tactic(auto)]
 
 mod asking;
+mod assembling;
 mod combining;
 mod converting;
+mod declaring;
 mod delivering;
 mod doing;
 mod ending;
@@ -25,6 +27,8 @@ mod request;
 mod running;
 mod showing;
 mod size;
+mod source_printing;
+mod source_words;
 mod surveying;
 mod tasks;
 mod words;

@@ -4,7 +4,7 @@ ghost use Rattle.std.specs.Prelude.{◌≡◌, ◌∷◌, ◌++◌, [], ℕ, Lis
 ghost use Rattle.fork_edits.specs.Contents.{Listed};
 ghost use Rattle.fork_edits.specs.View.{view_list};
 ghost use Rattle.fork_commands.specs.Packing.{listed_in, fork_of_files};
-ghost use Rattle.commands.specs.Accesses.{Read, and_then, reads_at, Stops, IsUnread};
+ghost use Rattle.commands.specs.Accesses.{Read, and_then, reads_at, StopsReading, IsUnread};
 ghost use Rattle.commands.specs.Fault.{message_of};
 ghost use Rattle.commands.specs.Packing.{list_path, Packs, IsUnpacked};
 ghost use Rattle.commands.specs.Tasks.{IsForkFault};
@@ -46,7 +46,7 @@ fn push_file(files: &mut Vec<Vec<u8>>, file: Vec<u8>) -> Result<(), AllocError>
 }
 
 /// Reads files, in their order.
-fn read_files<H: Host>(
+pub fn read_files<H: Host>(
     alloc: Global,
     host: &mut H,
     paths: &[String],
@@ -55,8 +55,8 @@ fn read_files<H: Host>(
     ensures count { IfOk result (λ files. length files.items ≡ length paths.now) }
     ensures read { IfOk result (λ files. H.accesses host.new ≡ and_then (H.accesses host.old)
         (reads_at (map string_bytes paths.now) (map (λ file. file.items) files.items))) }
-    ensures stopped { IfErr result (λ fault. (files : List (List ℕ)) × Stops (and_then (H.accesses host.old)
-        (reads_at (map string_bytes paths.now) files)) (H.accesses host.new) (message_of fault)) }
+    ensures stopped { IfErr result (λ fault. StopsReading (map string_bytes paths.now)
+        (H.accesses host.old) (H.accesses host.new) (message_of fault)) }
 {
     let mut files = Vec::new(alloc);
     for path in paths {

@@ -1,11 +1,13 @@
 //! Requests: what the words of a command line make.
 
+use crate::assembling::Assembly;
 use crate::combining::Combination;
 use crate::converting::Conversion;
 use crate::extracting::Extraction;
 use crate::job_zones::JobZone;
 use crate::packing::Packing;
 use crate::running::Errand;
+use crate::source_printing::Printing;
 use crate::surveying::Survey;
 use crate::tasks::Task;
 
@@ -28,4 +30,8 @@ pub enum Request<'a> {
     Extract(Extraction<'a>),
     /// The list of a folder and the files that it names are read, and the fork that they state is written.
     Pack(Packing<'a>),
+    /// Files of declarations and a fork are read, and the fork is printed as source of Rez.
+    Print(Printing<'a>),
+    /// Files of declarations, a source and what belongs to it are read, and the fork that the source states is written.
+    Assemble(Assembly<'a>),
 }

@@ -1,4 +1,4 @@
-use Rattle.std.proofs.Common.{◌≡◌, ◌≢◌, ◌↔◌, ℕ, IsTrue, Result, Ok, Err, List, [], refl, sym, ap, subst, ◌∙◌}
+use Rattle.std.proofs.Common.{◌≡◌, ◌≢◌, ◌↔◌, ℕ, IsTrue, Result, Ok, Err, List, [], refl, sym, ap}
 use Rattle.mac_words.specs.declared.code.TheConstants.OsErr.{END_OF_FILE, MAP_READ}
 use Rattle.fork_format.specs.declared.fault.ForkFault.{ForkFault}
 use Rattle.fork_format.specs.declared.fault.ForkFault.TheVariants as fork_fault
@@ -8,14 +8,9 @@ use Rattle.fork_format.specs.Fork.{Spells, IsUnspelled}
 use Rattle.fork_format.proofs.Codes.{spelled as has_content, refused as has_code}
 use Rattle.fork_commands.specs.declared.fault.WorkFault.{WorkFault}
 use Rattle.fork_commands.specs.Faults.{of_code, Stops}
-use Rattle.fork_format.specs.Canonical.{canon, clear, fits}
-use Rattle.fork_format.proofs.Clear.{clear_clear}
+use Rattle.fork_format.specs.Canonical.{canon, fits}
 use Rattle.fork_commands.specs.Reading.{content_or_fault, content_of_fork, fork_in, content_in}
-use Rattle.rez_text.specs.Reading.{read}
-use Rattle.fork_commands.specs.declared.work.ForkWork.TheVariants.{Derez, Rez}
-use Rattle.fork_commands.specs.declared.source_form.SourceForm.{SourceForm}
-use Rattle.fork_commands.specs.BuiltIn.{built_in}
-use Rattle.fork_commands.specs.Works.{canonical, made, source_by, HoldsStated}
+use Rattle.fork_commands.specs.Works.{canonical}
 
 -- The content of a fork.
 
@@ -49,26 +44,3 @@ content_there bytes fork c found has = rw found has
 pub stopped_there : (bytes fork : List ℕ) (fault : WorkFault) → fork_in bytes ≡ Ok fork
     → Stops fault (content_of_fork fork) → Stops fault (content_in bytes)
 stopped_there bytes fork fault found stops = rw found stops
-
--- what a source states is made into its fork
-pub assembled_of : (source fork : List ℕ) (c : Content) → read built_in source ≡ Ok c → canonical c ≡ Ok fork
-    → made Rez source ≡ Ok fork
-assembled_of source fork c stated has = rw stated has
-
--- what a source states is clear, and so is read again from its fork
-pub stated_again : (source fork : List ℕ) (said d : Content) → read built_in source ≡ Ok (clear said) → d ≡ clear said
-    → Spells fork (clear d) → HoldsStated source fork
-stated_again source fork said d stated has again = λ c is.
-    let both : Ok (clear said) ≡ Ok c = sym stated ∙ is in
-    let same : clear said ≡ c = cc in
-    subst (Spells fork) (ap clear has ∙ clear_clear said ∙ same) again
-
--- why there is no fork of what a source states
-pub stopped_of : (source : List ℕ) (c : Content) (fault : WorkFault) → read built_in source ≡ Ok c → Stops fault (canonical c)
-    → Stops fault (made Rez source)
-stopped_of source c fault stated stops = rw stated stops
-
--- the source of what a fork holds
-pub printed_of : (form : SourceForm) (bytes source : List ℕ) (c : Content) → content_in bytes ≡ Ok c → source ≡ source_by form c
-    → made (Derez form) bytes ≡ Ok source
-printed_of form bytes source c has is = rw has (ap Ok (sym is))

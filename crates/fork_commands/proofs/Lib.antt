@@ -9,3 +9,8 @@ pub mod Counting
 pub mod Calendar
 pub mod Days
 pub mod Told
+pub mod Sources
+pub mod OfBytes
+pub mod Selected
+pub mod PrintedAgain
+pub mod StatedSet

@@ -1,16 +1,22 @@
-use Rattle.std.proofs.Common.{◌≡◌, ◌∷◌, ◌∙◌, ℕ, Bool, true, false, List, [], Result, Ok, Err, IfOk, IfErr, refl, sym, ap, subst, map, length, arith}
+use Rattle.std.proofs.Common.{◌≡◌, ◌∷◌, ◌∙◌, ℕ, ℤ, Bool, true, false, List, [], None, Some, Result, Ok, Err, IfOk, IfErr, refl, sym, ap, subst, map, length, arith}
 use Rattle.std.specs.Prelude.{not, ◌==◌, if◌then◌else◌}
 use Rattle.std.proofs.lemmas.Bool.{ne_eqb}
+use Rattle.std.proofs.lemmas.Bool.Decides.{Decides-int_eq}
+use Rattle.std.specs.Ordering.{int_eq}
+use Rattle.fork_edits.proofs.Keeping.{set_found}
 use Rattle.mac_roman.specs.declared.charset.Charset.{Charset}
 use Rattle.byteorder.specs.Endian.{big_number}
-use Rattle.fork_format.specs.Content.{Content}
+use Rattle.fork_format.specs.Content.{Ref, Content}
 use Rattle.fork_edits.specs.declared.differences.Difference.{Difference as StoredDifference}
+use Rattle.fork_edits.specs.declared.renaming.RenameFault.{RenameFault}
 use Rattle.fork_edits.specs.Setting.{Change, with_resource}
 use Rattle.fork_edits.specs.Differences.{Difference, Order, differences, found_differences, or_order, same_content}
 use Rattle.fork_edits.specs.View.{view_difference}
+use Rattle.fork_edits.specs.Renaming.{Renaming, with_renamed, refusal}
+use Rattle.text_diff.specs.Difference.{IsDifference}
 use Rattle.fork_commands.specs.declared.fault.WorkFault.{WorkFault}
 use Rattle.fork_commands.specs.declared.fault.WorkFault.TheVariants.{File, HostMemory}
-use Rattle.fork_commands.specs.declared.pair.PairWork.TheVariants.{Set, Diff, Merge}
+use Rattle.fork_commands.specs.declared.pair.PairWork.TheVariants.{Diff, DiffText}
 use Rattle.fork_commands.specs.declared.pair.Place.TheVariants.{First, Second}
 use Rattle.fork_commands.specs.declared.pair.PairFault.{PairFault}
 use Rattle.fork_commands.specs.declared.pair.PairFault.TheVariants as pair_fault
@@ -18,12 +24,15 @@ use Rattle.fork_commands.specs.declared.pair.Setting.{Setting}
 use Rattle.fork_commands.specs.declared.fault.FileFault.{FileFault}
 use Rattle.fork_commands.specs.declared.packaging.Packaging.{Packaging}
 use Rattle.fork_commands.specs.declared.packaging.Packaging.TheVariants.{AsRead}
+use Rattle.fork_commands.specs.declared.source_form.SourceForm.{SourceForm}
 use Rattle.fork_commands.specs.Faults.{made_then, Stops}
 use Rattle.fork_commands.specs.Packaging.{packed, then_packed}
 use Rattle.fork_commands.specs.Reading.{fork_in, content_in}
-use Rattle.fork_commands.specs.Works.{canonical}
-use Rattle.fork_commands.specs.Pairs.{at, of_bytes, setting_change, with_setting, fork_set, good_fork_in, put_into, compared, combined, StopsPair, stopped_at}
-use Rattle.fork_commands.specs.Pairs.{merged_or_fault, forks_merged}
+use Rattle.fork_commands.specs.Works.{canonical, resource_at}
+use Rattle.fork_commands.specs.Pairs.{Names, Made, Bytes, Gives, at, of_bytes, setting_change, with_setting, fork_set, set_in}
+use Rattle.fork_commands.specs.Pairs.{good_fork_in, put_into, difference_lines, compared, combined, StopsPair, stopped_at}
+use Rattle.fork_commands.specs.Pairs.{bytes_alone, stated_naming, with_stated, stated_set, set_by, set_from, source_stated, stated_in}
+use Rattle.fork_commands.specs.Pairs.{merged_or_fault, forks_merged, of_both, text_of, texts_compared}
 use Rattle.fork_commands.specs.declared.pair.Place.{Place}
 use Rattle.fork_edits.specs.Merging.{merged}
 
@@ -35,20 +44,20 @@ set_there s bytes gets c d given is = is ∙ ap (λ g. with_resource (big_number
 
 -- a resource was set
 pub set_made : (s : Setting) (p : Packaging) (first second out : List ℕ) → fork_set s p first second ≡ Ok out
-    → combined (Set s p) first second ≡ Ok (out, false)
+    → set_in s p first second ≡ Ok (Bytes out false)
 set_made s p first second out made = ap (λ r. of_bytes (at First r)) made
 
 -- why no resource was set
 pub set_stopped : (s : Setting) (p : Packaging) (first second : List ℕ) (fault : WorkFault) (told : PairFault)
     → told ≡ stopped_at First fault → Stops fault (fork_set s p first second)
-    → StopsPair told (combined (Set s p) first second)
+    → StopsPair told (set_in s p first second)
 set_stopped s p first second HostMemory told is stops =
-    subst (λ f. StopsPair f (combined (Set s p) first second)) (sym is) tt
+    subst (λ f. StopsPair f (set_in s p first second)) (sym is) tt
 set_stopped s p first second (File fault) told is stops =
-    subst (λ f. StopsPair f (combined (Set s p) first second)) (sym is) (ap (λ r. of_bytes (at First r)) stops)
+    subst (λ f. StopsPair f (set_in s p first second)) (sym is) (ap (λ r. of_bytes (at First r)) stops)
 
 -- a fault of the first of two files, and of the second
-pub stopped_first : (place : Place) (made : Result Content FileFault) (fault : WorkFault) (told : PairFault)
+pub stopped_first : {A : Type 0} (place : Place) (made : Result A FileFault) (fault : WorkFault) (told : PairFault)
     → told ≡ stopped_at place fault → Stops fault made → StopsPair told (at place made)
 stopped_first place made HostMemory told is stops = subst (λ f. StopsPair f (at place made)) (sym is) tt
 stopped_first place made (File fault) told is stops =
@@ -59,24 +68,57 @@ then_stops : {A B F : Type 0} (made : Result A F) (next : A → Result B F) (fau
     → made_then made next ≡ Err fault
 then_stops made next fault is = ap (λ r. made_then r next) is
 
--- why the first of two forks is not compared
-pub first_stopped : (charset : Charset) (first second : List ℕ) (told : PairFault) → StopsPair told (at First (content_in first))
-    → StopsPair told (combined (Diff charset) first second)
-first_stopped charset first second pair_fault.HostMemory stops = tt
-first_stopped charset first second (pair_fault.File place fault) stops = then_stops (at First (content_in first)) _ (place, fault) stops
+-- what follows the contents of two forks
+abbrev Next : Type 0
+Next = Content → Content → Result Made (Place × FileFault)
 
--- why the second is not
-pub second_stopped : (charset : Charset) (first second : List ℕ) (c : Content) (told : PairFault) → content_in first ≡ Ok c
-    → StopsPair told (at Second (content_in second)) → StopsPair told (combined (Diff charset) first second)
-second_stopped charset first second c pair_fault.HostMemory has stops = tt
-second_stopped charset first second c (pair_fault.File place fault) has stops =
-    rw has (then_stops (at Second (content_in second)) (λ d. Ok (compared charset c d)) (place, fault) stops)
+-- why the first of two forks has none
+pub first_stopped : (next : Next) (first second : List ℕ) (told : PairFault) → StopsPair told (at First (content_in first))
+    → StopsPair told (of_both first second next)
+unfolding of_both
+first_stopped next first second pair_fault.HostMemory stops = tt
+first_stopped next first second (pair_fault.File place fault) stops = then_stops (at First (content_in first)) _ (place, fault) stops
+
+-- why the second has none
+pub second_stopped : (next : Next) (first second : List ℕ) (c : Content) (told : PairFault) → content_in first ≡ Ok c
+    → StopsPair told (at Second (content_in second)) → StopsPair told (of_both first second next)
+unfolding of_both
+second_stopped next first second c pair_fault.HostMemory has stops = tt
+second_stopped next first second c (pair_fault.File place fault) has stops =
+    rw has (then_stops (at Second (content_in second)) (λ d. next c d) (place, fault) stops)
+
+-- both were read
+pub both_there : (next : Next) (first second : List ℕ) (c d : Content) (made : Result Made (Place × FileFault))
+    → content_in first ≡ Ok c → content_in second ≡ Ok d → next c d ≡ made → of_both first second next ≡ made
+unfolding of_both
+both_there next first second c d made has too is = rw (has, too) is
+
+-- why nothing was made of them
+pub both_stopped : (next : Next) (first second : List ℕ) (c d : Content) (told : PairFault)
+    → content_in first ≡ Ok c → content_in second ≡ Ok d → StopsPair told (next c d)
+    → StopsPair told (of_both first second next)
+unfolding of_both
+both_stopped next first second c d told has too stops = rw (has, too) stops
 
 -- two forks were compared
-pub both_compared : (charset : Charset) (first second : List ℕ) (c d : Content) (out : List ℕ) (differs : Bool) → content_in first ≡ Ok c
-    → content_in second ≡ Ok d → out ≡ (compared charset c d).0 → differs ≡ (compared charset c d).1
-    → combined (Diff charset) first second ≡ Ok (out, differs)
-both_compared charset first second c d out differs has too lines is = rw (has, too, lines, is) refl
+pub both_compared : (charset : Charset) (first second : List ℕ) (c d : Content) (out : List ℕ) (differs : Bool)
+    → content_in first ≡ Ok c → content_in second ≡ Ok d → out ≡ difference_lines charset c d → differs ≡ not (same_content c d)
+    → combined (Diff charset) first second ≡ Ok (Bytes out differs)
+both_compared charset first second c d out differs has too lines is =
+    both_there (λ c d. Ok (compared charset c d)) first second c d (Ok (Bytes out differs)) has too (rw (lines, is) refl)
+
+-- so were their sources
+pub both_texts : (form : SourceForm) (names : Names) (first second : List ℕ) (c d : Content) (out : List ℕ) (differs : Bool)
+    → content_in first ≡ Ok c → content_in second ≡ Ok d
+    → IsDifference names.first names.second (text_of form c) (text_of form d) out → differs ≡ not (same_content c d)
+    → Gives names (combined (DiffText form) first second) out differs
+both_texts form names first second c d out differs has too text is = subst (λ r. Gives names r out differs)
+    (sym (both_there (λ c d. Ok (texts_compared form c d)) first second c d (Ok (texts_compared form c d)) has too refl)) (text, is)
+
+-- bytes that were made are what is made
+pub gives : (names : Names) (made : Result Made (Place × FileFault)) (out : List ℕ) (differs : Bool) → made ≡ Ok (Bytes out differs)
+    → Gives names made out differs
+gives names made out differs is = subst (λ r. Gives names r out differs) (sym is) (refl, refl)
 
 -- there are differences where the contents are not the same
 some_difference : (same : Bool) (ds : List Difference) (xs : List StoredDifference)
@@ -105,7 +147,7 @@ setting_stopped s p first second c d fault has is stops =
     rw has (subst (λ x. Stops fault (then_packed p first (canonical x))) is stops)
 
 -- a fork was made of the second file and put into the first
-pub put_made : (first fork out : List ℕ) → packed AsRead first fork ≡ Ok out → put_into first (Ok fork) ≡ Ok (out, false)
+pub put_made : (first fork out : List ℕ) → packed AsRead first fork ≡ Ok out → put_into first (Ok fork) ≡ Ok (Bytes out false)
 put_made first fork out made = ap (λ r. of_bytes (at First r)) made
 
 -- why it was not put there
@@ -127,7 +169,7 @@ also_err P Q (Err e) next h = next e h
 
 -- what was made of the second file was put into the first
 pub put_there : (first fork out : List ℕ) (differs : Bool) (made : Result (List ℕ) FileFault) → made ≡ Ok fork
-    → put_into first (Ok fork) ≡ Ok (out, differs) → put_into first made ≡ Ok (out, differs)
+    → put_into first (Ok fork) ≡ Ok (Bytes out differs) → put_into first made ≡ Ok (Bytes out differs)
 put_there first fork out differs made is put = ap (put_into first) is ∙ put
 
 -- why it was not put there
@@ -145,7 +187,7 @@ put_unmade first (File fault) told made is stops =
 -- two contents were merged, and the fork was written
 pub merged_there : (replaces : Bool) (p : Packaging) (first out : List ℕ) (c d m : Content)
     → merged_or_fault (merged replaces c d) ≡ Ok m → then_packed p first (canonical m) ≡ Ok out
-    → forks_merged replaces p first c d ≡ Ok (out, false)
+    → forks_merged replaces p first c d ≡ Ok (Bytes out false)
 merged_there replaces p first out c d m has made = rw has (ap (λ r. of_bytes (at First r)) made)
 
 -- why they were not merged
@@ -167,32 +209,91 @@ merged_unwritten replaces p first c d m (File fault) told has is stops =
     subst (λ f. StopsPair f (forks_merged replaces p first c d)) (sym is)
     (rw has (ap (λ r. of_bytes (at First r)) stops))
 
--- both forks were read, and merged
-pub both_there : (replaces : Bool) (p : Packaging) (first second : List ℕ) (c d : Content) (made : Result (List ℕ × Bool) (Place × FileFault))
-    → content_in first ≡ Ok c → content_in second ≡ Ok d → forks_merged replaces p first c d ≡ made
-    → combined (Merge replaces p) first second ≡ made
-both_there replaces p first second c d made has too is = rw (has, too) is
+-- the resource that is set is there, and has its own ID, so that it is not refused a name and attributes
+pub not_refused : (kind : ℕ) (id : ℤ) (change : Change) (new : Renaming) (c : Content) → new.id ≡ None
+    → refusal kind id new (with_resource kind id change c) ≡ None
+not_refused kind id change new c own =
+    let there = set_found kind id change c in
+    let same : int_eq id id ≡ true = (Decides-int_eq id id).1 refl in
+    rw (own, there, same) refl
 
--- why the first was not read
-pub merge_first : (replaces : Bool) (p : Packaging) (first second : List ℕ) (told : PairFault)
-    → StopsPair told (at First (content_in first)) → StopsPair told (combined (Merge replaces p) first second)
-merge_first replaces p first second pair_fault.HostMemory stops = tt
-merge_first replaces p first second (pair_fault.File place fault) stops =
-    then_stops (at First (content_in first)) _ (place, fault) stops
+pub no_refusal : (kind : ℕ) (id : ℤ) (change : Change) (new : Renaming) (c d : Content) (fault : RenameFault) → new.id ≡ None
+    → d ≡ with_resource kind id change c → refusal kind id new d ≡ Some fault → ⊥
+no_refusal kind id change new c d fault own set refused =
+    let both : None ≡ Some fault = sym (not_refused kind id change new c own) ∙ ap (refusal kind id new) (sym set) ∙ refused in cc
 
--- why the second was not
-pub merge_second : (replaces : Bool) (p : Packaging) (first second : List ℕ) (c : Content) (told : PairFault)
-    → content_in first ≡ Ok c → StopsPair told (at Second (content_in second))
-    → StopsPair told (combined (Merge replaces p) first second)
-merge_second replaces p first second c pair_fault.HostMemory has stops = tt
-merge_second replaces p first second c (pair_fault.File place fault) has stops =
-    rw has (then_stops (at Second (content_in second)) (λ d. forks_merged replaces p first c d) (place, fault) stops)
+-- a resource is set to one that is stated
+pub stated_there : (s : Setting) (r : Ref) (gets : Renaming) (c d e : Content) → gets ≡ stated_naming s r
+    → d ≡ with_resource (big_number 4 s.key.ty.0) s.key.id (bytes_alone r) c
+    → e ≡ with_renamed (big_number 4 s.key.ty.0) s.key.id gets d → e ≡ with_stated s r c
+unfolding with_stated
+stated_there s r gets c d e given set is =
+    is ∙ ap (λ g. with_renamed (big_number 4 s.key.ty.0) s.key.id g d) given
+    ∙ ap (with_renamed (big_number 4 s.key.ty.0) s.key.id (stated_naming s r)) set
 
--- why the two were not merged, or not written
-pub both_stopped : (replaces : Bool) (p : Packaging) (first second : List ℕ) (c d : Content) (told : PairFault)
-    → content_in first ≡ Ok c → content_in second ≡ Ok d → StopsPair told (forks_merged replaces p first c d)
-    → StopsPair told (combined (Merge replaces p) first second)
-both_stopped replaces p first second c d told has too stops = rw (has, too) stops
+-- the fork of what came of it was written
+pub stated_made : (s : Setting) (p : Packaging) (first out : List ℕ) (r : Ref) (c d : Content) → d ≡ with_stated s r c
+    → then_packed p first (canonical d) ≡ Ok out → stated_set s p first c r ≡ Ok (Bytes out false)
+stated_made s p first out r c d is made = ap (λ x. of_bytes (at First (then_packed p first (canonical x)))) (sym is)
+    ∙ ap (λ x. of_bytes (at First x)) made
+
+-- why it was not
+pub stated_stopped : (s : Setting) (p : Packaging) (first : List ℕ) (r : Ref) (c d : Content) (fault : WorkFault) (told : PairFault)
+    → d ≡ with_stated s r c → told ≡ stopped_at First fault → Stops fault (then_packed p first (canonical d))
+    → StopsPair told (stated_set s p first c r)
+stated_stopped s p first r c d HostMemory told is tells stops =
+    subst (λ f. StopsPair f (stated_set s p first c r)) (sym tells) tt
+stated_stopped s p first r c d (File fault) told is tells stops = subst (λ f. StopsPair f (stated_set s p first c r)) (sym tells)
+    (ap (λ x. of_bytes (at First (then_packed p first (canonical x)))) (sym is) ∙ ap (λ x. of_bytes (at First x)) stops)
+
+-- the resource is stated
+pub by_made : (s : Setting) (p : Packaging) (first : List ℕ) (r : Ref) (c stated : Content) (made : Result Made (Place × FileFault))
+    → resource_at s.key stated ≡ Ok r → stated_set s p first c r ≡ made → set_by s p first c stated ≡ made
+by_made s p first r c stated made has is = rw has is
+
+pub by_stopped : (s : Setting) (p : Packaging) (first : List ℕ) (r : Ref) (c stated : Content) (told : PairFault)
+    → resource_at s.key stated ≡ Ok r → StopsPair told (stated_set s p first c r) → StopsPair told (set_by s p first c stated)
+by_stopped s p first r c stated told has stops = rw has stops
+
+-- it is not
+pub by_missing : (s : Setting) (p : Packaging) (first : List ℕ) (c stated : Content) (fault : WorkFault) (told : PairFault)
+    → told ≡ stopped_at Second fault → Stops fault (resource_at s.key stated) → StopsPair told (set_by s p first c stated)
+by_missing s p first c stated HostMemory told is stops =
+    subst (λ f. StopsPair f (set_by s p first c stated)) (sym is) tt
+by_missing s p first c stated (File fault) told is stops =
+    subst (λ f. StopsPair f (set_by s p first c stated)) (sym is) (rw stops refl)
+
+-- the source was read
+pub from_made : (s : Setting) (p : Packaging) (first second : List ℕ) (c stated : Content) (made : Result Made (Place × FileFault))
+    → source_stated second ≡ Ok stated → set_by s p first c stated ≡ made → set_from s p first second c ≡ made
+from_made s p first second c stated made says is = rw says is
+
+pub from_stopped : (s : Setting) (p : Packaging) (first second : List ℕ) (c stated : Content) (told : PairFault)
+    → source_stated second ≡ Ok stated → StopsPair told (set_by s p first c stated) → StopsPair told (set_from s p first second c)
+from_stopped s p first second c stated told says stops = rw says stops
+
+-- why it was not
+pub from_unread : (s : Setting) (p : Packaging) (first second : List ℕ) (c : Content) (told : PairFault)
+    → StopsPair told (at Second (source_stated second)) → StopsPair told (set_from s p first second c)
+from_unread s p first second c pair_fault.HostMemory stops = tt
+from_unread s p first second c (pair_fault.File place fault) stops =
+    then_stops (at Second (source_stated second)) (set_by s p first c) (place, fault) stops
+
+-- the fork was read
+pub in_made : (s : Setting) (p : Packaging) (first second : List ℕ) (c : Content) (made : Result Made (Place × FileFault))
+    → content_in first ≡ Ok c → set_from s p first second c ≡ made → stated_in s p first second ≡ made
+in_made s p first second c made has is = rw has is
+
+pub in_stopped : (s : Setting) (p : Packaging) (first second : List ℕ) (c : Content) (told : PairFault)
+    → content_in first ≡ Ok c → StopsPair told (set_from s p first second c) → StopsPair told (stated_in s p first second)
+in_stopped s p first second c told has stops = rw has stops
+
+-- why it was not
+pub in_unread : (s : Setting) (p : Packaging) (first second : List ℕ) (told : PairFault) → StopsPair told (at First (content_in first))
+    → StopsPair told (stated_in s p first second)
+in_unread s p first second pair_fault.HostMemory stops = tt
+in_unread s p first second (pair_fault.File place fault) stops =
+    then_stops (at First (content_in first)) (set_from s p first second) (place, fault) stops
 
 -- a fork that has a content was copied
 pub good_there : (bytes fork : List ℕ) (c : Content) → content_in bytes ≡ Ok c → fork_in bytes ≡ Ok fork

@@ -1,7 +1,7 @@
 use Rattle.std.specs.Prelude.{◌≡◌, ℕ, ℤ, pos, Option, Some, None, Result, Ok, Err}
 use Rattle.mac_words.specs.declared.code.OsErr.{OsErr}
 use Rattle.fork_commands.specs.declared.fault.FileFault.{FileFault}
-use Rattle.fork_commands.specs.declared.fault.FileFault.TheVariants.{Code, Wrapper, BinHex, Unfit, TakenId, InBoth, Source, Contents}
+use Rattle.fork_commands.specs.declared.fault.FileFault.TheVariants.{Code, Wrapper, BinHex, Unfit, TakenId, InBoth, Source, ReadsFiles, Contents}
 use Rattle.fork_commands.specs.declared.fault.WorkFault.{WorkFault}
 use Rattle.fork_commands.specs.declared.fault.WorkFault.TheVariants.{File, HostMemory}
 
@@ -21,6 +21,7 @@ number_of (Unfit fault) = pos 0
 number_of TakenId = pos 0
 number_of (InBoth twin) = pos 0
 number_of (Source fault) = pos 0
+number_of ReadsFiles = pos 0
 number_of (Contents line why) = pos 0
 
 -- The line of a source that can't be read.
@@ -32,6 +33,7 @@ line_of (Unfit fault) = 0
 line_of TakenId = 0
 line_of (InBoth twin) = 0
 line_of (Source fault) = fault.line
+line_of ReadsFiles = 0
 line_of (Contents line why) = line
 
 -- What follows something that was made; a fault stays.

@@ -4,6 +4,8 @@ pub mod Reading
 pub mod Packaging
 pub mod Editing
 pub mod Works
+pub mod BuiltIn
+pub mod Sources
 pub mod Pairs
 pub mod Extracting
 pub mod Packing
@@ -12,4 +14,3 @@ pub mod States
 pub mod Dates
 pub mod Info
 pub mod Parts
-pub mod BuiltIn

@@ -19,7 +19,7 @@ use Rattle.fork_wrappers.specs.declared.fault.MacBinaryFault.TheVariants as mac_
 use Rattle.fork_wrappers.specs.declared.fault.WrapFault.{WrapFault}
 use Rattle.fork_wrappers.specs.declared.fault.WrapFault.TheVariants as wrapper
 use Rattle.fork_commands.specs.declared.fault.FileFault.{FileFault}
-use Rattle.fork_commands.specs.declared.fault.FileFault.TheVariants.{Code, Wrapper, BinHex, Unfit, TakenId, InBoth, Source, Contents}
+use Rattle.fork_commands.specs.declared.fault.FileFault.TheVariants.{Code, Wrapper, BinHex, Unfit, TakenId, InBoth, Source, ReadsFiles, Contents}
 use Rattle.fork_commands.specs.declared.opening.Container.{Container}
 use Rattle.fork_commands.specs.declared.opening.Container.TheVariants.{Wrapped, BinHex as InBinHex}
 use Rattle.fork_commands.specs.Opening.{is_unwrapped, container_of}
@@ -138,6 +138,7 @@ fault_why (Unfit fault) = []
 fault_why TakenId = []
 fault_why (InBoth twin) = []
 fault_why (Source fault) = []
+fault_why ReadsFiles = []
 fault_why (Contents line why) = []
 
 -- The words for a file in which no fork is found, and why, if that is asked for.

@@ -1,23 +1,13 @@
-use Rattle.std.specs.Prelude.{◌≡◌, ℕ, Option, Some, None, Result, Ok, Err, List, if◌then◌else◌}
+use Rattle.std.specs.Prelude.{ℕ, Option, Some, None, Result, Ok, Err, List, if◌then◌else◌}
 use Rattle.byteorder.specs.Endian.{big_number}
 use Rattle.mac_words.specs.declared.code.TheConstants.OsErr.{DISK_FULL, RES_NOT_FOUND}
 use Rattle.fork_format.specs.Content.{Ref, Content}
 use Rattle.fork_format.specs.Canonical.{canon, fits}
-use Rattle.fork_format.specs.Fork.{Spells}
 use Rattle.fork_edits.specs.Resources.{found}
-use Rattle.rez_text.specs.declared.fault.FaultKind.{FaultKind}
-use Rattle.mac_roman.specs.declared.charset.Charset.{Charset}
-use Rattle.rez_text.specs.Printing.{source_of}
-use Rattle.rez_text.specs.Reading.{read}
-use Rattle.rez_typed.specs.Source.{typed_source}
-use Rattle.fork_commands.specs.BuiltIn.{built_in}
-use Rattle.fork_commands.specs.declared.source_form.SourceForm.{SourceForm}
-use Rattle.fork_commands.specs.declared.source_form.Statements.{Statements}
-use Rattle.fork_commands.specs.declared.source_form.Statements.TheVariants.{Typed, Data}
 use Rattle.fork_commands.specs.declared.fault.FileFault.{FileFault}
-use Rattle.fork_commands.specs.declared.fault.FileFault.TheVariants.{Code, Source}
+use Rattle.fork_commands.specs.declared.fault.FileFault.TheVariants.{Code}
 use Rattle.fork_commands.specs.declared.work.ForkWork.{ForkWork}
-use Rattle.fork_commands.specs.declared.work.ForkWork.TheVariants.{Rewrite, Get, Derez, Rez, Change}
+use Rattle.fork_commands.specs.declared.work.ForkWork.TheVariants.{Rewrite, Get, Change}
 use Rattle.fork_commands.specs.declared.work.ResourceKey.{ResourceKey}
 use Rattle.fork_commands.specs.Editing.{edited}
 use Rattle.fork_commands.specs.Faults.{made_then}
@@ -30,27 +20,18 @@ use Rattle.fork_commands.specs.Reading.{content_in}
 abbrev pub canonical : Content → Result (List ℕ) FileFault
 canonical c = if fits c then Ok (canon c) else Err (Code DISK_FULL)
 
--- The stored data of a resource that was found, or -192 (resNotFound).
-abbrev pub datum_of : Option Ref → Result (List ℕ) FileFault
-datum_of None = Err (Code RES_NOT_FOUND)
-datum_of (Some r) = Ok r.datum
+-- A resource that was found, or -192 (resNotFound).
+abbrev pub found_or_fault : Option Ref → Result Ref FileFault
+found_or_fault None = Err (Code RES_NOT_FOUND)
+found_or_fault (Some r) = Ok r
 
--- The stored data of the first resource of a type and an ID.
+-- The first resource of a type and an ID.
+abbrev pub resource_at : ResourceKey → Content → Result Ref FileFault
+resource_at key c = found_or_fault (found (big_number 4 key.ty.0) key.id c)
+
+-- Its stored data.
 abbrev pub datum_at : ResourceKey → Content → Result (List ℕ) FileFault
-datum_at key c = datum_of (found (big_number 4 key.ty.0) key.id c)
-
--- The content that a source of Rez states, or the line that can't be read.
-abbrev pub content_stated : Result Content (ℕ × FaultKind) → Result Content FileFault
-content_stated (Ok c) = Ok c
-content_stated (Err (line, kind)) = Err (Source (record { line = line; kind = kind }))
-
--- A content as source: with typed statements by the types of the table, or with statements `data` alone.
-abbrev pub source_in : Statements → Charset → Content → List ℕ
-source_in Typed charset c = typed_source charset built_in c
-source_in Data charset c = source_of charset c
-
-abbrev pub source_by : SourceForm → Content → List ℕ
-source_by form c = source_in form.statements form.charset c
+datum_at key c = made_then (resource_at key c) (λ r. Ok r.datum)
 
 -- What a work makes of the bytes.
 abbrev pub made : ForkWork → List ℕ → Result (List ℕ) FileFault
@@ -58,9 +39,3 @@ made (Rewrite packaging) bytes = then_packed packaging bytes (made_then (content
 made (Change edit packaging) bytes =
     then_packed packaging bytes (made_then (made_then (content_in bytes) (edited edit)) canonical)
 made (Get key) bytes = made_then (content_in bytes) (datum_at key)
-made (Derez form) bytes = made_then (content_in bytes) (λ c. Ok (source_by form c))
-made Rez bytes = made_then (content_stated (read built_in bytes)) canonical
-
--- The bytes are a resource fork that holds what a source of Rez states.
-abbrev pub HoldsStated : List ℕ → List ℕ → Type 0
-HoldsStated source fork = (c : Content) → read built_in source ≡ Ok c → Spells fork c

@@ -84,6 +84,9 @@ pub enum FileFault {
         /// The line that can't be read, and why.
         fault: TextFault,
     },
+    /// A source of Rez that is read alone has a statement `read`, whose data stand in another file.
+    #[error("a statement 'read' is not read here")]
+    ReadsFiles,
 }
 
 impl FileFault {
@@ -99,7 +102,8 @@ impl FileFault {
             | FileFault::TakenId
             | FileFault::InBoth { .. }
             | FileFault::Contents { .. }
-            | FileFault::Source { .. } => 0,
+            | FileFault::Source { .. }
+            | FileFault::ReadsFiles => 0,
         }
     }
 
@@ -115,7 +119,8 @@ impl FileFault {
             | FileFault::BinHex { .. }
             | FileFault::Unfit { .. }
             | FileFault::TakenId
-            | FileFault::InBoth { .. } => 0,
+            | FileFault::InBoth { .. }
+            | FileFault::ReadsFiles => 0,
         }
     }
 }

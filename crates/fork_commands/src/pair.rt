@@ -1,32 +1,41 @@
 //! The works on two files: from their bytes to what is printed or written of them.
 
-ghost use Rattle.std.specs.Prelude.{◌≡◌, Ok, OnOk, IfOk, IfErr, map, not};
+ghost use Rattle.std.specs.Prelude.{◌≡◌, Ok, OnOk, IfOk, IfErr, false, map, not};
 ghost use Rattle.std.specs.List.{flat_map};
+ghost use Rattle.text_diff.specs.Difference.{IsDifference};
 ghost use Rattle.fork_edits.specs.Differences.{same_content};
 ghost use Rattle.fork_edits.specs.Lines.{difference_line};
-ghost use Rattle.fork_edits.specs.View.{view_change, view_difference};
-ghost use Rattle.fork_format.specs.View.{view};
+ghost use Rattle.fork_edits.specs.Merging.{merged};
+ghost use Rattle.fork_edits.specs.View.{view_change, view_difference, view_renaming};
+ghost use Rattle.fork_format.specs.View.{view, view_ref};
 ghost use Rattle.fork_commands.specs.Faults.{Stops};
 ghost use Rattle.fork_commands.specs.Opening.{bytes_of, IsOpen};
-ghost use Rattle.fork_commands.specs.Pairs.{at, stopped_at, StopsPair, setting_change, with_setting, fork_set};
+ghost use Rattle.fork_commands.specs.Pairs as spec;
+ghost use Rattle.fork_commands.specs.Pairs.{Bytes, at, stopped_at, Gives, StopsPair, names_of, combined};
+ghost use Rattle.rez_text.specs.View.{content_stated};
 ghost use Rattle.fork_commands.specs.Reading.{content_in};
-ghost use Rattle.fork_commands.specs.Pairs.{good_fork_in, put_into, merged_or_fault, forks_merged, difference_lines, combined};
-ghost use Rattle.fork_edits.specs.Merging.{merged};
-ghost use Rattle.fork_commands.specs.declared.pair.PairWork.TheVariants.{Set, Diff, RezInto, Wrap, Merge};
+ghost use Rattle.fork_commands.specs.declared.pair.PairFault.TheVariants as pair_fault;
+ghost use Rattle.fork_commands.specs.declared.pair.Place.TheVariants.{Second};
+ghost use Rattle.fork_commands.specs.declared.pair.PairWork.TheVariants.{Set, SetStated, Diff, DiffText, Wrap, Merge};
 
 use crate::fault::{FileFault, Twin, WorkFault};
+use crate::known_types::built_in;
 use crate::opening::{OpenFile, open_file};
 use crate::packaging::{Packaging, packed};
+use crate::printing::source_with;
 use crate::reading::{content_in, fork_out};
-use crate::work::{ForkWork, ResourceKey, made, written};
+use crate::source_form::SourceForm;
+use crate::work::{ResourceKey, resource_at, written};
 use fork_edits::{
-    Change, Difference, MergeFault, RomanName, append_difference, diff, lend_name, merge,
-    set_resource,
+    Change, Difference, MergeFault, Renaming, RomanName, append_difference, diff, lend_name, merge,
+    rename_resource, set_resource,
 };
-use fork_format::{Content, kind_of};
+use fork_format::{Content, Ref, kind_of};
 use mac_roman::Charset;
 use mac_words::Attrs;
+use rez_text::{Source, SourceFault, read_source};
 use std::alloc::{AllocError, Global};
+use text_diff::unified;
 use thiserror::Error;
 
 /// The resource that is set in a fork.
@@ -45,16 +54,27 @@ pub enum PairWork {
     /// The canonical fork of the content that the first file's bytes spell, with a resource set to the second file's
     /// bytes, alone or in the wrapper of the first file.
     Set(Setting, Packaging),
+    /// The canonical fork of that content, with a resource set to the one of its type and ID that the second file states as source of
+    /// Rez by the types of the table: to its bytes, and to its name and attributes where no others are given. One that is stated
+    /// without a name has none then.
+    SetStated(Setting, Packaging),
     /// How the contents of the two forks differ, in lines in a set of characters.
     Diff(Charset),
-    /// The first file, with the canonical fork of the content that the second file's bytes state as source of Rez in the
-    /// place of its own fork.
-    RezInto,
+    /// How the sources of the two forks differ, as `diff -u` prints it. Statements are printed by the types of the table, and by the
+    /// templates of each fork.
+    DiffText(SourceForm),
     /// The first file, with the fork in the second file's bytes in the place of its own.
     Wrap,
     /// The canonical fork of the resources of both forks, alone or in the wrapper of the first file. What stands in both
     /// is refused, or, if so asked, the second fork's resource stands in the place of the first's.
     Merge(bool, Packaging),
+}
+
+/// The names of two files, as they are printed.
+#[derive(Clone, Copy)]
+pub struct PairNames<'n> {
+    pub first: &'n str,
+    pub second: &'n str,
 }
 
 /// What is made of the bytes of two files.
@@ -82,6 +102,14 @@ pub enum PairFault {
     /// The host is out of memory.
     #[error("the host is out of memory")]
     HostMemory,
+}
+
+impl From<AllocError> for PairFault {
+    ghost from_gives = { λ _ e. e ≡ pair_fault.HostMemory };
+
+    fn from(_e: AllocError) -> PairFault {
+        PairFault::HostMemory
+    }
 }
 
 impl WorkFault {
@@ -128,7 +156,7 @@ fn content_at<'f>(
 
 /// Returns what a resource is set to, with the name lent.
 fn change_to<'b>(setting: &'b Setting, bytes: &'b [u8]) -> Change<'b>
-    ensures { view_change result ≡ setting_change setting.now bytes.now }
+    ensures { view_change result ≡ spec.setting_change setting.now bytes.now }
 {
     Change {
         datum: bytes,
@@ -145,7 +173,7 @@ fn change<'b>(
     bytes: &'b [u8],
     content: &mut Content<'b>,
 ) -> Result<(), AllocError>
-    ensures { OnOk result (view content.new ≡ with_setting setting.now bytes.now (view content.old)) }
+    ensures { OnOk result (view content.new ≡ spec.with_setting setting.now bytes.now (view content.old)) }
 {
     let change = change_to(setting, bytes);
     set_resource(alloc, content, setting.key.ty, setting.key.id, &change)?;
@@ -161,8 +189,8 @@ fn fork_set<'b>(
     first: &'b [u8],
     second: &'b [u8],
 ) -> Result<Vec<u8>, WorkFault>
-    ensures made { IfOk result (λ out. fork_set setting.now packaging first.now second.now ≡ Ok out.items) }
-    ensures fault { IfErr result (λ fault. Stops fault (fork_set setting.now packaging first.now second.now)) }
+    ensures made { IfOk result (λ out. spec.fork_set setting.now packaging first.now second.now ≡ Ok out.items) }
+    ensures fault { IfErr result (λ fault. Stops fault (spec.fork_set setting.now packaging first.now second.now)) }
 {
     let file = open_file(alloc, first)?;
     let mut content = content_in(alloc, &file)?;
@@ -173,8 +201,8 @@ fn fork_set<'b>(
 /// Returns a copy of the resource fork in the bytes of a file, once it is known to have a content.
 #[tactic(auto, using(crate::proofs::Pairs::good_there, crate::proofs::Pairs::good_not))]
 fn good_fork(alloc: Global, bytes: &[u8]) -> Result<Vec<u8>, WorkFault>
-    ensures made { IfOk result (λ out. good_fork_in bytes.now ≡ Ok out.items) }
-    ensures fault { IfErr result (λ fault. Stops fault (good_fork_in bytes.now)) }
+    ensures made { IfOk result (λ out. spec.good_fork_in bytes.now ≡ Ok out.items) }
+    ensures fault { IfErr result (λ fault. Stops fault (spec.good_fork_in bytes.now)) }
 {
     let file = open_file(alloc, bytes)?;
     content_in(alloc, &file)?;
@@ -184,8 +212,8 @@ fn good_fork(alloc: Global, bytes: &[u8]) -> Result<Vec<u8>, WorkFault>
 /// Returns the first file with a fork that was made of the second in the place of its own.
 #[tactic(auto, using(crate::proofs::Pairs::put_made, crate::proofs::Pairs::put_stopped))]
 fn put_into(alloc: Global, first: &[u8], fork: Vec<u8>) -> Result<PairOutput, PairFault>
-    ensures made { IfOk result (λ made. put_into first.now (Ok fork.items) ≡ Ok (made.out.items, made.differs)) }
-    ensures fault { IfErr result (λ fault. StopsPair fault (put_into first.now (Ok fork.items))) }
+    ensures made { IfOk result (λ made. spec.put_into first.now (Ok fork.items) ≡ Ok (Bytes made.out.items made.differs)) }
+    ensures fault { IfErr result (λ fault. StopsPair fault (spec.put_into first.now (Ok fork.items))) }
 {
     match packed(alloc, Packaging::AsRead, first, fork) {
         Ok(out) => Ok(PairOutput {
@@ -196,22 +224,10 @@ fn put_into(alloc: Global, first: &[u8], fork: Vec<u8>) -> Result<PairOutput, Pa
     }
 }
 
-/// Puts the canonical fork of what a source of Rez states into the first file.
-#[tactic(auto, using(crate::proofs::Pairs::put_there, crate::proofs::Pairs::put_unmade, crate::proofs::Pairs::put_not))]
-fn rez_put(alloc: Global, first: &[u8], second: &[u8]) -> Result<PairOutput, PairFault>
-    ensures made { IfOk result (λ made. combined RezInto first.now second.now ≡ Ok (made.out.items, made.differs)) }
-    ensures fault { IfErr result (λ fault. StopsPair fault (combined RezInto first.now second.now)) }
-{
-    match made(alloc, ForkWork::Rez, second) {
-        Ok(fork) => put_into(alloc, first, fork),
-        Err(fault) => Err(fault.at(Place::Second)),
-    }
-}
-
 /// Puts the fork in the second file into the first file.
 #[tactic(auto, using(crate::proofs::Pairs::put_there, crate::proofs::Pairs::put_unmade, crate::proofs::Pairs::put_not))]
 fn fork_put(alloc: Global, first: &[u8], second: &[u8]) -> Result<PairOutput, PairFault>
-    ensures made { IfOk result (λ made. combined Wrap first.now second.now ≡ Ok (made.out.items, made.differs)) }
+    ensures made { IfOk result (λ made. combined Wrap first.now second.now ≡ Ok (Bytes made.out.items made.differs)) }
     ensures fault { IfErr result (λ fault. StopsPair fault (combined Wrap first.now second.now)) }
 {
     match good_fork(alloc, second) {
@@ -243,7 +259,7 @@ fn compared(
     first: &Content<'_>,
     second: &Content<'_>,
 ) -> Result<PairOutput, AllocError>
-    ensures lines { IfOk result (λ made. made.out.items ≡ difference_lines charset (view first.now) (view second.now)) }
+    ensures lines { IfOk result (λ made. made.out.items ≡ spec.difference_lines charset (view first.now) (view second.now)) }
     ensures differs { IfOk result (λ made. made.differs ≡ not (same_content (view first.now) (view second.now))) }
 {
     let differences = diff(alloc, first, second)?;
@@ -263,17 +279,76 @@ fn forks_compared(
     first: &[u8],
     second: &[u8],
 ) -> Result<PairOutput, PairFault>
-    ensures made { IfOk result (λ made. combined (Diff charset) first.now second.now ≡ Ok (made.out.items, made.differs)) }
+    ensures made { IfOk result (λ made. combined (Diff charset) first.now second.now ≡ Ok (Bytes made.out.items made.differs)) }
     ensures fault { IfErr result (λ fault. StopsPair fault (combined (Diff charset) first.now second.now)) }
 {
     let first_file = opened_at(alloc, Place::First, first)?;
     let one = content_at(alloc, Place::First, &first_file)?;
     let second_file = opened_at(alloc, Place::Second, second)?;
     let other = content_at(alloc, Place::Second, &second_file)?;
-    match compared(alloc, charset, &one, &other) {
-        Ok(made) => Ok(made),
-        Err(_) => Err(PairFault::HostMemory),
-    }
+    Ok(compared(alloc, charset, &one, &other)?)
+}
+
+/// Returns whether two contents differ.
+#[tactic(auto, using(crate::proofs::Pairs::differs_of))]
+fn differ(alloc: Global, first: &Content<'_>, second: &Content<'_>) -> Result<bool, AllocError>
+    ensures { IfOk result (λ differs. differs ≡ not (same_content (view first.now) (view second.now))) }
+{
+    let differences = diff(alloc, first, second)?;
+    let found = differences.as_slice();
+    Ok(!found.is_empty())
+}
+
+/// Returns a content as source, by the types of the table and its own templates.
+fn text_of(alloc: Global, form: SourceForm, content: &Content<'_>) -> Result<Vec<u8>, AllocError>
+    ensures { IfOk result (λ text. text.items ≡ spec.text_of form (view content.now)) }
+{
+    source_with(alloc, form, built_in(alloc)?, content, content)
+}
+
+/// Returns how the sources of two contents differ, and whether the contents do.
+fn texts_compared(
+    alloc: Global,
+    form: SourceForm,
+    names: PairNames<'_>,
+    first: &Content<'_>,
+    second: &Content<'_>,
+) -> Result<PairOutput, AllocError>
+    ensures text { IfOk result (λ made. IsDifference names.entry.first.now names.entry.second.now
+        (spec.text_of form (view first.now)) (spec.text_of form (view second.now)) made.out.items) }
+    ensures differs { IfOk result (λ made. made.differs ≡ not (same_content (view first.now) (view second.now))) }
+{
+    let differs = differ(alloc, first, second)?;
+    let old = text_of(alloc, form, first)?;
+    let new = text_of(alloc, form, second)?;
+    let out = unified(
+        alloc,
+        names.first.as_bytes(),
+        names.second.as_bytes(),
+        old.as_slice(),
+        new.as_slice(),
+    )?;
+    Ok(PairOutput { out, differs })
+}
+
+/// Returns how the sources of two forks differ.
+#[tactic(auto, using(crate::proofs::Pairs::first_stopped, crate::proofs::Pairs::second_stopped))]
+fn sources_compared(
+    alloc: Global,
+    form: SourceForm,
+    names: PairNames<'_>,
+    first: &[u8],
+    second: &[u8],
+) -> Result<PairOutput, PairFault>
+    ensures made { IfOk result (λ made.
+        Gives (names_of names.entry) (combined (DiffText form) first.now second.now) made.out.items made.differs) }
+    ensures fault { IfErr result (λ fault. StopsPair fault (combined (DiffText form) first.now second.now)) }
+{
+    let first_file = opened_at(alloc, Place::First, first)?;
+    let one = content_at(alloc, Place::First, &first_file)?;
+    let second_file = opened_at(alloc, Place::Second, second)?;
+    let other = content_at(alloc, Place::Second, &second_file)?;
+    Ok(texts_compared(alloc, form, names, &one, &other)?)
 }
 
 /// Returns the content that holds the resources of two.
@@ -283,8 +358,8 @@ fn merged_of<'b>(
     first: &Content<'b>,
     second: &Content<'b>,
 ) -> Result<Content<'b>, WorkFault>
-    ensures made { IfOk result (λ c. merged_or_fault (merged replaces (view first.now) (view second.now)) ≡ Ok (view c)) }
-    ensures fault { IfErr result (λ fault. Stops fault (merged_or_fault (merged replaces (view first.now) (view second.now)))) }
+    ensures made { IfOk result (λ c. spec.merged_or_fault (merged replaces (view first.now) (view second.now)) ≡ Ok (view c)) }
+    ensures fault { IfErr result (λ fault. Stops fault (spec.merged_or_fault (merged replaces (view first.now) (view second.now)))) }
 {
     match merge(alloc, first, second, replaces) {
         Ok(both) => Ok(both),
@@ -309,10 +384,10 @@ fn forks_merged(
     one: &Content<'_>,
     other: &Content<'_>,
 ) -> Result<PairOutput, PairFault>
-    ensures made { IfOk result (λ made. forks_merged replaces packaging first.now (view one.now) (view other.now)
-        ≡ Ok (made.out.items, made.differs)) }
+    ensures made { IfOk result (λ made. spec.forks_merged replaces packaging first.now (view one.now) (view other.now)
+        ≡ Ok (Bytes made.out.items made.differs)) }
     ensures fault { IfErr result (λ fault.
-        StopsPair fault (forks_merged replaces packaging first.now (view one.now) (view other.now))) }
+        StopsPair fault (spec.forks_merged replaces packaging first.now (view one.now) (view other.now))) }
 {
     let both = match merged_of(alloc, replaces, one, other) {
         Ok(both) => both,
@@ -328,7 +403,7 @@ fn forks_merged(
 }
 
 /// Merges the forks in the bytes of two files.
-#[tactic(auto, using(crate::proofs::Pairs::merge_first, crate::proofs::Pairs::merge_second, crate::proofs::Pairs::both_there, crate::proofs::Pairs::both_stopped))]
+#[tactic(auto, using(crate::proofs::Pairs::first_stopped, crate::proofs::Pairs::second_stopped, crate::proofs::Pairs::both_there, crate::proofs::Pairs::both_stopped))]
 fn both_merged(
     alloc: Global,
     replaces: bool,
@@ -337,7 +412,7 @@ fn both_merged(
     second: &[u8],
 ) -> Result<PairOutput, PairFault>
     ensures made { IfOk result (λ made.
-        combined (Merge replaces packaging) first.now second.now ≡ Ok (made.out.items, made.differs)) }
+        combined (Merge replaces packaging) first.now second.now ≡ Ok (Bytes made.out.items made.differs)) }
     ensures fault { IfErr result (λ fault. StopsPair fault (combined (Merge replaces packaging) first.now second.now)) }
 {
     let first_file = opened_at(alloc, Place::First, first)?;
@@ -357,8 +432,8 @@ fn resource_set<'b>(
     second: &'b [u8],
 ) -> Result<PairOutput, PairFault>
     ensures made { IfOk result (λ made.
-        combined (Set setting.now packaging) first.now second.now ≡ Ok (made.out.items, made.differs)) }
-    ensures fault { IfErr result (λ fault. StopsPair fault (combined (Set setting.now packaging) first.now second.now)) }
+        spec.set_in setting.now packaging first.now second.now ≡ Ok (Bytes made.out.items made.differs)) }
+    ensures fault { IfErr result (λ fault. StopsPair fault (spec.set_in setting.now packaging first.now second.now)) }
 {
     match fork_set(alloc, setting, packaging, first, second) {
         Ok(out) => Ok(PairOutput {
@@ -369,7 +444,159 @@ fn resource_set<'b>(
     }
 }
 
-/// Returns what a work makes of the bytes of two files.
+/// Returns the name and the attributes that are given, else those of a resource that is stated.
+fn stated_naming<'b>(setting: &'b Setting, stated: &Ref<'b>) -> Renaming<'b>
+    ensures { view_renaming result ≡ spec.stated_naming setting.now (view_ref stated.now) }
+{
+    let name = match &setting.name {
+        Some(name) => Some(name.lent()),
+        None => stated.name,
+    };
+    let attrs = match setting.attrs {
+        Some(attrs) => attrs,
+        None => stated.attrs,
+    };
+    Renaming {
+        id: None,
+        name: Some(name),
+        attrs: Some(attrs),
+    }
+}
+
+/// Sets a resource of a content to one that is stated.
+#[tactic(auto, unfolding(crate::specs::Pairs::with_stated))]
+fn change_stated<'b>(
+    alloc: Global,
+    setting: &'b Setting,
+    stated: &Ref<'b>,
+    content: &mut Content<'b>,
+) -> Result<(), AllocError>
+    ensures { OnOk result (view content.new ≡ spec.with_stated setting.now (view_ref stated.now) (view content.old)) }
+{
+    let bytes_alone = Change {
+        datum: stated.datum,
+        name: None,
+        attrs: None,
+    };
+    set_resource(alloc, content, setting.key.ty, setting.key.id, &bytes_alone)?;
+    let naming = stated_naming(setting, stated);
+    match rename_resource(content, setting.key.ty, setting.key.id, &naming) {
+        Ok(()) => Ok(()),
+        Err(_) => unreachable!(),
+    }
+}
+
+/// Reads a source by the types of the table.
+fn source_in(alloc: Global, source: &[u8]) -> Result<Source, WorkFault>
+    ensures content { IfOk result (λ s. spec.source_stated source.now ≡ Ok (content_stated s)) }
+    ensures fault { IfErr result (λ fault. Stops fault (spec.source_stated source.now)) }
+{
+    match read_source(alloc, built_in(alloc)?, Vec::new(alloc), source) {
+        Ok(stated) => Ok(stated),
+        Err(SourceFault::Text(fault)) => Err(WorkFault::File(FileFault::Source { fault })),
+        Err(SourceFault::Files(_)) => Err(WorkFault::File(FileFault::ReadsFiles)),
+        Err(SourceFault::HostMemory) => Err(WorkFault::HostMemory),
+    }
+}
+
+/// Reads a source, the second of two files.
+#[tactic(auto, using(crate::proofs::Pairs::stopped_first))]
+fn source_at(alloc: Global, source: &[u8]) -> Result<Source, PairFault>
+    ensures content { IfOk result (λ s. spec.source_stated source.now ≡ Ok (content_stated s)) }
+    ensures fault { IfErr result (λ fault. StopsPair fault (at Second (spec.source_stated source.now))) }
+{
+    match source_in(alloc, source) {
+        Ok(stated) => Ok(stated),
+        Err(fault) => Err(fault.at(Place::Second)),
+    }
+}
+
+/// Sets a resource in the content of the first file's fork to one that is stated, and writes the fork.
+#[tactic(auto, using(crate::proofs::Pairs::stated_made, crate::proofs::Pairs::stated_stopped))]
+fn stated_set<'b>(
+    alloc: Global,
+    setting: &'b Setting,
+    packaging: Packaging,
+    first: &'b [u8],
+    content: Content<'b>,
+    stated: &Ref<'b>,
+) -> Result<PairOutput, PairFault>
+    ensures made { IfOk result (λ made. spec.stated_set setting.now packaging first.now (view content.entry) (view_ref stated.now)
+        ≡ Ok (Bytes made.out.items made.differs)) }
+    ensures fault { IfErr result (λ fault.
+        StopsPair fault (spec.stated_set setting.now packaging first.now (view content.entry) (view_ref stated.now))) }
+{
+    let mut new = content;
+    change_stated(alloc, setting, stated, &mut new)?;
+    match written(alloc, packaging, first, &new) {
+        Ok(out) => Ok(PairOutput {
+            out,
+            differs: false,
+        }),
+        Err(fault) => Err(fault.at(Place::First)),
+    }
+}
+
+/// Sets a resource in the content of the first file's fork to the one of its type and ID in a content that the second file states.
+#[tactic(auto, using(crate::proofs::Pairs::by_made, crate::proofs::Pairs::by_stopped, crate::proofs::Pairs::by_missing))]
+fn set_by<'b>(
+    alloc: Global,
+    setting: &'b Setting,
+    packaging: Packaging,
+    first: &'b [u8],
+    content: Content<'b>,
+    stated: &Content<'b>,
+) -> Result<PairOutput, PairFault>
+    ensures made { IfOk result (λ made. spec.set_by setting.now packaging first.now (view content.entry) (view stated.now)
+        ≡ Ok (Bytes made.out.items made.differs)) }
+    ensures fault { IfErr result (λ fault.
+        StopsPair fault (spec.set_by setting.now packaging first.now (view content.entry) (view stated.now))) }
+{
+    match resource_at(setting.key, stated) {
+        Ok(resource) => stated_set(alloc, setting, packaging, first, content, &resource),
+        Err(fault) => Err(fault.at(Place::Second)),
+    }
+}
+
+/// Sets a resource in the content of the first file's fork to the one that a source in the second file states.
+#[tactic(auto, using(crate::proofs::Pairs::from_made, crate::proofs::Pairs::from_stopped, crate::proofs::Pairs::from_unread))]
+fn set_from<'b>(
+    alloc: Global,
+    setting: &'b Setting,
+    packaging: Packaging,
+    first: &'b [u8],
+    content: Content<'b>,
+    second: &'b [u8],
+) -> Result<PairOutput, PairFault>
+    ensures made { IfOk result (λ made. spec.set_from setting.now packaging first.now second.now (view content.entry)
+        ≡ Ok (Bytes made.out.items made.differs)) }
+    ensures fault { IfErr result (λ fault.
+        StopsPair fault (spec.set_from setting.now packaging first.now second.now (view content.entry))) }
+{
+    let source = source_at(alloc, second)?;
+    let stated = source.content(alloc)?;
+    set_by(alloc, setting, packaging, first, content, &stated)
+}
+
+/// Sets a resource in the fork in the first file to the one that a source in the second file states.
+#[tactic(auto, using(crate::proofs::Pairs::in_made, crate::proofs::Pairs::in_stopped, crate::proofs::Pairs::in_unread))]
+fn source_set<'b>(
+    alloc: Global,
+    setting: &'b Setting,
+    packaging: Packaging,
+    first: &'b [u8],
+    second: &'b [u8],
+) -> Result<PairOutput, PairFault>
+    ensures made { IfOk result (λ made. spec.stated_in setting.now packaging first.now second.now
+        ≡ Ok (Bytes made.out.items made.differs)) }
+    ensures fault { IfErr result (λ fault. StopsPair fault (spec.stated_in setting.now packaging first.now second.now)) }
+{
+    let file = opened_at(alloc, Place::First, first)?;
+    let content = content_at(alloc, Place::First, &file)?;
+    set_from(alloc, setting, packaging, first, content, second)
+}
+
+/// Returns what a work makes of the bytes of two files. A text of differences names the files so.
 ///
 /// # Errors
 ///
@@ -377,18 +604,23 @@ fn resource_set<'b>(
 pub fn combined(
     alloc: Global,
     work: PairWork,
+    names: PairNames<'_>,
     first: &[u8],
     second: &[u8],
 ) -> Result<PairOutput, PairFault>
-    ensures made { IfOk result (λ made. combined work first.now second.now ≡ Ok (made.out.items, made.differs)) }
+    ensures made { IfOk result (λ made.
+        Gives (names_of names.entry) (combined work first.now second.now) made.out.items made.differs) }
     ensures fault { IfErr result (λ fault. StopsPair fault (combined work first.now second.now)) }
 {
     match work {
         PairWork::Set(setting, packaging) => resource_set(
             alloc, &setting, packaging, first, second,
         ),
+        PairWork::SetStated(setting, packaging) => source_set(
+            alloc, &setting, packaging, first, second,
+        ),
         PairWork::Diff(charset) => forks_compared(alloc, charset, first, second),
-        PairWork::RezInto => rez_put(alloc, first, second),
+        PairWork::DiffText(form) => sources_compared(alloc, form, names, first, second),
         PairWork::Wrap => fork_put(alloc, first, second),
         PairWork::Merge(replaces, packaging) => both_merged(
             alloc, replaces, packaging, first, second,

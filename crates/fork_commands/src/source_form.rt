@@ -1,21 +1,14 @@
 //! How a content is printed as source of Rez.
 
 use mac_roman::Charset;
-
-/// The statements that state resources.
-#[derive(Clone, Copy)]
-pub enum Statements {
-    /// `resource` where a type of the table states the bytes, else `data`. Each type is declared before it is used.
-    Typed,
-    /// `data` alone.
-    Data,
-}
+use rez_typed::SourceStyle;
 
 /// How a content is printed.
 #[derive(Clone, Copy)]
-pub struct SourceForm {
-    /// The characters of the comments beside data.
-    pub charset: Charset,
-    /// The statements.
-    pub statements: Statements,
+pub enum SourceForm {
+    /// With a statement `resource` where a declaration of the type states the bytes, else `data`. Each type is declared before it is
+    /// used.
+    Typed(SourceStyle),
+    /// With statements `data` alone, and comments beside data in the characters of a set.
+    Data(Charset),
 }

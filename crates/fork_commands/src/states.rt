@@ -407,7 +407,8 @@ fn append_fault_why(text: &mut Vec<u8>, fault: &FileFault) -> Result<(), AllocEr
         | FileFault::TakenId
         | FileFault::InBoth { .. }
         | FileFault::Contents { .. }
-        | FileFault::Source { .. } => Ok(()),
+        | FileFault::Source { .. }
+        | FileFault::ReadsFiles => Ok(()),
     }
 }
 

@@ -267,7 +267,7 @@ impl<'a> Parser<'a> {
         self.read_integer(draft, modified, Width { bits: bits as u8 })
     }
 
-    /// Adds a case with a name and fields, whose key tells where the keys stand if it is the first.
+    /// Adds a case with a name and fields. All keys stand where that of the first case stands.
     fn add_case(
         &mut self,
         switch: &mut SwitchDraft,

@@ -33,7 +33,7 @@ pub enum Unsound {
     #[error("a count that is not the count of one array after it")]
     CountWithoutArray,
     /// Neither a length, a count, a constant after it, nor the end of the resource ends an array.
-    #[error("an array whose end nothing tells")]
+    #[error("an array without an end: give it a length, a count or a constant after it, or put it last")]
     EndlessArray,
     /// The constant that ends an array has more bytes than an element may have.
     #[error("a constant after an array that is longer than an element may be")]

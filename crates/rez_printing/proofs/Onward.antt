@@ -1,7 +1,7 @@
 -- One more turn of a loop that counts.
 use Rattle.std.proofs.Common.{◌≡◌, ℕ, suc, ◌+◌, ◌-◌, ◌<◌, ◌≤◌, Option, Some, List, [], if◌then◌else◌, length, get_or}
-use Rattle.std.proofs.Common.{refl, ap, ◌∙◌, arith}
-use Rattle.std.specs.Prelude.{slice_get, option_map}
+use Rattle.std.proofs.Common.{refl, ap, ◌∙◌, sym, append_assoc, arith}
+use Rattle.std.specs.Prelude.{◌++◌, take, drop, slice_get, option_map}
 use Rattle.std.proofs.lemmas.Option.{slice_get-map, slice_get_read, slice_get_past}
 use Rattle.rez_types.specs.declared.declaration.Block.{Block}
 use Rattle.rez_types.specs.View.{block_of, blocks_of}
@@ -9,9 +9,10 @@ use Rattle.rez_types.specs.Fields.{Field}
 use Rattle.rez_types.specs.Options.{◌>>=◌}
 use Rattle.rez_types.specs.Encoding.{more_in}
 use Rattle.rez_printing.specs.declared.layout.Layout.TheVariants as layout
-use Rattle.rez_printing.specs.declared.layout.Gap.{Gap}
-use Rattle.rez_printing.specs.Pieces.{signed_number}
-use Rattle.rez_printing.specs.Showing.{Showing, next_number, next_of, stated, with_gap, shown_numbers, shown_elements, shown_fields, shown_block}
+use Rattle.rez_printing.specs.declared.layout.Layout.{Layout}
+use Rattle.rez_printing.specs.Layouts.{gap_next}
+use Rattle.rez_printing.specs.Pieces.{signed_number, row_text, more_rows}
+use Rattle.rez_printing.specs.Showing.{Showing, next_number, next_of, stated, with_gap, numbered, shown_numbers, shown_elements, shown_fields, shown_block}
 use Rattle.rez_printing.specs.TypeText.{block_text, fields_from, fields_text}
 
 -- what is left of n turns before the i-th
@@ -26,12 +27,30 @@ pub numbers_on : (n i : ℕ) (s : Showing) → i < n → shown_numbers (n - i) s
     ≡ (next_number 16 s >>= λ (here, t). shown_numbers (n - (i + 1)) (stated (signed_number 16 here) layout.Flat t))
 numbers_on n i s h = ap (λ k. shown_numbers k s) (left n i h)
 
-pub elements_on : (element : Showing → Option Showing) (next : Gap) (n i : ℕ) (s : Showing) → i < n
-    → shown_elements element next (n - i) s
+pub elements_on : (element : Showing → Option Showing) (l : Layout) (n i : ℕ) (s : Showing) → i < n
+    → shown_elements element l i (n - i) s
     ≡ (next_of more_in s
-    >>= λ (more, t).
-    if more then (element t >>= λ u. shown_elements element next (n - (i + 1)) (with_gap next u)) else Some t)
-elements_on element next n i s h = ap (λ k. shown_elements element next k s) (left n i h)
+    >>= λ (more, t). if more
+    then (element (numbered l i t)
+    >>= λ u. shown_elements element l (i + 1) (n - (i + 1)) (with_gap (gap_next l) u))
+    else Some (i, t))
+elements_on element l n i s h = ap (λ k. shown_elements element l i k s) (left n i h)
+
+pub rows_on : (before : List ℕ) (row n i : ℕ) (bytes : List ℕ) → i < n
+    → more_rows before row (n - i) bytes
+    ≡ before ++ row_text (take row bytes) ++ more_rows before row (n - (i + 1)) (drop row bytes)
+rows_on before row n i bytes h = ap (λ k. more_rows before row k bytes) (left n i h)
+
+-- one more row
+pub row_more : (before out extended pushed here rest more all : List ℕ) (row n i : ℕ) → i < n → extended ≡ out ++ before
+    → pushed ≡ extended ++ row_text here → here ≡ take row rest → more ≡ drop row rest
+    → out ++ more_rows before row (n - i) rest ≡ all → pushed ++ more_rows before row (n - (i + 1)) more ≡ all
+row_more before out extended pushed here rest more all row n i less e p h m so_far =
+    let rows = more_rows before row (n - (i + 1)) (drop row rest) in
+    let points = row_text (take row rest) in
+    rw (p, e, h, m)
+    (ap (λ l. l ++ rows) (append_assoc out before points) ∙ append_assoc out (before ++ points) rows
+    ∙ ap (λ l. out ++ l) (sym (rows_on before row n i rest less)) ∙ so_far)
 
 pub block_on : (depth : ℕ) (blocks : List (List Field)) (block : ℕ) (s : Showing) → 0 < depth
     → shown_block depth blocks block s

@@ -8,11 +8,20 @@ use Rattle.rez_types.specs.Fields.{NamedNumber, Integer, Constant, Count, FillBi
 use Rattle.rez_types.specs.Fields.{Field, Run, Fill, Align, Text, Point, Rect, Array, Switch, Declaration}
 use Rattle.rez_types.specs.Values as value
 use Rattle.rez_types.specs.Values.{Value}
-use Rattle.rez_printing.specs.Pieces.{in_quotes, string_text, hex_text, fill_text, fill_comment, hex_number, binary_number}
-use Rattle.rez_printing.specs.Showing.{next_value, next_number, opened, closed, shown_integer, shown_bits, passed_count}
+use Rattle.rez_printing.specs.declared.style.Numbering.TheVariants as numbering
+use Rattle.rez_printing.specs.declared.style.Letters.TheVariants as letter
+use Rattle.rez_printing.specs.declared.style.Pictures.TheVariants as picture
+use Rattle.rez_printing.specs.declared.style.Style.{Style}
+use Rattle.rez_printing.specs.Pieces.{in_quotes, string_text, hex_text, points, row_text, picture_text, fill_comment, array_comment, element_comment}
+use Rattle.rez_printing.specs.Pieces.{hex_number, binary_number}
+use Rattle.rez_printing.specs.Showing.{next_value, next_number, opened, closed, commented, filled, counted_at, shown_integer, shown_bits, passed_count}
 use Rattle.rez_printing.specs.Showing.{shown_fill, shown_text, shown_coordinates, shown_array, shown_switch, shown}
 use Rattle.rez_printing.specs.TypeText.{in_brackets, constant_named, count_head, count_text, fixed_text, string_word}
-use Rattle.rez_printing.specs.TypeText.{array_word, case_word, array_text, switch_text, type_word, declared_text}
+use Rattle.rez_printing.specs.TypeText.{array_word, case_word, array_text, switch_text, type_word, open_text, declared_text, tailed_text}
+
+-- without numbers and pictures, in ASCII
+abbrev plain : Style
+plain = record { numbering = numbering.None; letters = letter.Ascii; pictures = picture.None }
 
 -- a declaration without blocks
 abbrev of_fields : List Field → Declaration
@@ -22,14 +31,18 @@ of_fields fields = record { fields = fields; blocks = [] }
 abbrev strings : Declaration
 strings = of_fields (Text end.Pascal false [] ∷ [])
 
-one_string : shown strings (value.Text (codes "Don't \"quit\"\n\tnow" ++ 13 ∷ 65 ∷ 13 ∷ []) ∷ [])
+one_string : shown plain strings (value.Text (codes "Don't \"quit\"\n\tnow" ++ 13 ∷ 65 ∷ 13 ∷ []) ∷ [])
     ≡ Some (codes "\t\"Don't \\\"quit\\\"\\0x0A\\tnow\\n\"\n\t\t\"A\\n\"\n")
 unfolding shown shown_text next_value opened string_text
 one_string = refl
 
 string_declared : declared_text 0x53545220 strings ≡ codes "type 'STR ' { pstring; };"
-unfolding declared_text type_word in_quotes string_word
+unfolding declared_text open_text type_word in_quotes string_word
 string_declared = refl
+
+string_tailed : tailed_text 0x53545220 strings ≡ codes "type 'STR ' { pstring; hex string; };"
+unfolding tailed_text open_text type_word in_quotes string_word
+string_tailed = refl
 
 -- several strings, and none
 abbrev list : Declaration
@@ -38,19 +51,29 @@ list = record {
   blocks = (Text end.Pascal false [] ∷ []) ∷ [];
 }
 
-two_strings : shown list
+two_strings : shown plain list
     (value.Count 2 ∷ value.Element ∷ value.Text (codes "Disk full") ∷ value.Element ∷ value.Text [] ∷ value.NoElement ∷ [])
     ≡ Some (codes "\t{\n\t\t\"Disk full\";\n\t\t\"\"\n\t}\n")
 unfolding shown shown_array shown_text passed_count next_value opened closed string_text
 two_strings = refl
 
-no_strings : shown list (value.Count 0 ∷ value.NoElement ∷ []) ≡ Some (codes "\t{\n\t}\n")
+-- the same with numbers, in Mac Roman
+abbrev numbered_roman : Style
+numbered_roman = record { numbering = numbering.Elements; letters = letter.Roman; pictures = picture.None }
+
+two_numbered : shown numbered_roman list
+    (value.Count 2 ∷ value.Element ∷ value.Text (codes "Caf" ++ 142 ∷ []) ∷ value.Element ∷ value.Text [] ∷ value.NoElement ∷ [])
+    ≡ Some (codes "\t{\t/* array StringArray: 2 elements */\n\t\t/* [1] */\n\t\t\"Caf" ++ 142 ∷ codes "\";\n\t\t/* [2] */\n\t\t\"\"\n\t}\n")
+unfolding shown shown_array shown_text passed_count next_value opened closed counted_at array_comment element_comment string_text digits
+two_numbered = refl
+
+no_strings : shown plain list (value.Count 0 ∷ value.NoElement ∷ []) ≡ Some (codes "\t{\n\t}\n")
 unfolding shown shown_array passed_count next_value opened closed
 no_strings = refl
 
 list_declared : declared_text 0x53545223 list
     ≡ codes "type 'STR#' { integer = $$CountOf(StringArray); array StringArray { pstring; }; };"
-unfolding declared_text type_word in_quotes count_text count_head array_text array_word string_word
+unfolding declared_text open_text type_word in_quotes count_text count_head array_text array_word string_word
 list_declared = refl
 
 -- items of a dialog: a button and an icon
@@ -75,7 +98,7 @@ items = record {
       ) ∷ [];
 }
 
-two_items : shown items (
+two_items : shown plain items (
     value.Count 2 ∷ value.Element ∷ value.Filled (0 ∷ 0 ∷ 0 ∷ 0 ∷ []) ∷
     value.Number 10 ∷ value.Number 65526 ∷ value.Number 30 ∷ value.Number 80 ∷
     value.Case 0 ∷ value.Number 0 ∷ value.Text (codes "Hi") ∷ value.Filled (107 ∷ []) ∷
@@ -83,13 +106,13 @@ two_items : shown items (
     value.Number 0 ∷ value.Number 0 ∷ value.Number 32 ∷ value.Number 32 ∷
     value.Case 1 ∷ value.Number 1 ∷ value.Number 128 ∷ value.Filled [] ∷ value.NoElement ∷ []
     )
-    ≡ Some (codes "\t{\n\t\t{10, -10, 30, 80}, Button { enabled, \"Hi\" } /* fill $6B */ /* fill $00000001 */;\n\t\t{0, 0, 32, 32}, Icon { disabled, 128 }\n\t}\n")
-unfolding shown shown_array shown_switch shown_coordinates shown_fill shown_integer shown_text passed_count next_number next_value opened closed digits string_text fill_text fill_comment
+    ≡ Some (codes "\t{\n\t\t{10, -10, 30, 80}, Button { enabled, \"Hi\" } /* fill $6B */;\n\t\t/* fill $00000001 */ {0, 0, 32, 32}, Icon { disabled, 128 }\n\t}\n")
+unfolding shown shown_array shown_switch shown_coordinates shown_fill shown_integer shown_text passed_count next_number next_value opened closed digits string_text commented fill_comment filled
 two_items = refl
 
 items_declared : declared_text 0x4449544C items
     ≡ codes "type 'DITL' { integer = $$CountOf(DITLarray) - 1; array DITLarray { fill byte[4]; rect; switch { case Button: boolean enabled = 0, disabled = 1; key bitstring[7] = 0x4; pstring; case Icon: boolean enabled = 0, disabled = 1; key bitstring[7] = 0x20; byte = 0x2; integer; }; align word; }; };"
-unfolding declared_text type_word in_quotes count_text count_head fixed_text string_word constant_named in_brackets array_word case_word array_text switch_text hex_number digits
+unfolding declared_text open_text type_word in_quotes count_text count_head fixed_text string_word constant_named in_brackets array_word case_word array_text switch_text hex_number digits
 items_declared = refl
 
 -- an item of a menu: named numbers, characters, and bits of a fill that are not all 0
@@ -102,17 +125,17 @@ entry = of_fields (
     Run 1 (FillBits 1 ∷ Integer 7 form.Unsigned [] ∷ []) ∷ []
     )
 
-one_entry : shown entry (
+one_entry : shown plain entry (
     value.Number 0x7FFFFFFF ∷ value.Number 1 ∷ value.Text (codes "Quit") ∷ value.Number 255 ∷ value.Text (81 ∷ []) ∷
     value.Number 1 ∷ value.Number 64 ∷ []
     )
     ≡ Some (codes "\tallEnabled,\n\ttrue,\n\t\"Quit\",\n\tlast,\n\t\"Q\" /* fill $01 */,\n\t64\n")
-unfolding shown shown_integer shown_bits shown_text next_number next_value opened digits string_text fill_text fill_comment
+unfolding shown shown_integer shown_bits shown_text next_number next_value opened digits string_text commented fill_comment filled
 one_entry = refl
 
 entry_declared : declared_text 0x4D454E55 entry
     ≡ codes "type 'MENU' { hex bitstring[31] allEnabled = 0x7FFFFFFF; boolean; pstring; byte none = 0, last = -1; char; fill bit[1]; unsigned bitstring[7]; };"
-unfolding declared_text type_word in_quotes string_word constant_named in_brackets hex_number digits
+unfolding declared_text open_text type_word in_quotes string_word constant_named in_brackets hex_number digits
 entry_declared = refl
 
 -- every other form; a hexadecimal string of more than one line, and one without bytes
@@ -127,18 +150,18 @@ forms = of_fields (
     Text end.Resource true (record { name = codes "empty"; text = [] } ∷ []) ∷ []
     )
 
-all_forms : shown forms (
+all_forms : shown plain forms (
     value.Number 0x61270009 ∷ value.Number 10 ∷ value.Number 6 ∷ value.Number 0xAB ∷ value.Number 65535 ∷ value.Number 32768 ∷
     value.Text (0 ∷ 1 ∷ 2 ∷ 3 ∷ 4 ∷ 5 ∷ 6 ∷ 7 ∷ 8 ∷ 9 ∷ 10 ∷ 11 ∷ 12 ∷ 13 ∷ 14 ∷ 15 ∷ 16 ∷ 17 ∷ []) ∷
     value.Filled (0 ∷ []) ∷ value.Text [] ∷ []
     )
     ≡ Some (codes "\t'a\\'\\0x00\\t',\n\t10,\n\t0b110,\n\t0xAB,\n\t{-1, -32768},\n\t$\"0001 0203 0405 0607 0809 0A0B 0C0D 0E0F\"\n\t\t$\"1011\",\n\tempty\n")
-unfolding shown shown_integer shown_coordinates shown_fill shown_text next_number next_value opened closed digits in_quotes hex_number binary_number hex_text fill_text
+unfolding shown shown_integer shown_coordinates shown_fill shown_text next_number next_value opened closed digits in_quotes hex_number binary_number hex_text filled
 all_forms = refl
 
 forms_declared : declared_text 0x54455354 forms
     ≡ codes "type 'TEST' { literal longint; literal bitstring[4]; binary bitstring[4]; hex integer; point; hex string[18]; align long; hex string empty = \"\"; };"
-unfolding declared_text type_word in_quotes string_word constant_named in_brackets digits
+unfolding declared_text open_text type_word in_quotes string_word constant_named in_brackets digits
 forms_declared = refl
 
 -- an array in an element, with elements and without
@@ -150,7 +173,7 @@ grid = record {
       (Run 1 (Count 8 false ∷ []) ∷ Array (codes "Row") (Counted 0) 0 ∷ []) ∷ [];
 }
 
-two_rows : shown grid (
+two_rows : shown plain grid (
     value.Element ∷ value.Count 2 ∷ value.Element ∷ value.Number 1 ∷ value.Number 2 ∷
     value.Element ∷ value.Number 3 ∷ value.Number 254 ∷ value.NoElement ∷
     value.Element ∷ value.Count 0 ∷ value.NoElement ∷ value.NoElement ∷ []
@@ -161,26 +184,45 @@ two_rows = refl
 
 grid_declared : declared_text 0x54455354 grid
     ≡ codes "type 'TEST' { array [2] { byte = $$CountOf(Row); array Row { unsigned byte; byte; }; }; };"
-unfolding declared_text type_word in_quotes count_text count_head array_word array_text in_brackets digits
+unfolding declared_text open_text type_word in_quotes count_text count_head array_word array_text in_brackets digits
 grid_declared = refl
 
+rows_numbered : shown numbered_roman grid (
+    value.Element ∷ value.Count 2 ∷ value.Element ∷ value.Number 1 ∷ value.Number 2 ∷
+    value.Element ∷ value.Number 3 ∷ value.Number 254 ∷ value.NoElement ∷
+    value.Element ∷ value.Count 0 ∷ value.NoElement ∷ value.NoElement ∷ []
+    )
+    ≡ Some (codes "\t{\t/* array: 2 elements */\n\t\t/* [1] */\n\t\t{ /* array Row: 2 elements */ /* [1] */ 1, 2; /* [2] */ 3, -2 };\n\t\t/* [2] */\n\t\t{ /* array Row: 0 elements */ }\n\t}\n")
+unfolding shown shown_array shown_integer passed_count next_number next_value opened closed counted_at array_comment element_comment digits
+rows_numbered = refl
+
+-- a pattern as a picture, and a string that is none
+abbrev pictured : Style
+pictured = record { numbering = numbering.None; letters = letter.Ascii; pictures = picture.OneBit }
+
+one_pattern : shown pictured (of_fields (Text (end.Fixed 8) true [] ∷ Text (end.Fixed 2) true [] ∷ []))
+    (value.Text (0 ∷ 255 ∷ 1 ∷ 128 ∷ 0x55 ∷ 0xAA ∷ 0x3C ∷ 0xC3 ∷ []) ∷ value.Text (1 ∷ 2 ∷ []) ∷ [])
+    ≡ Some (codes "\t$\"00\" /* ........ */\n\t$\"FF\" /* ######## */\n\t$\"01\" /* .......# */\n\t$\"80\" /* #....... */\n\t$\"55\" /* .#.#.#.# */\n\t$\"AA\" /* #.#.#.#. */\n\t$\"3C\" /* ..####.. */\n\t$\"C3\" /* ##....## */,\n\t$\"0102\"\n")
+unfolding shown shown_text next_value opened hex_text points row_text picture_text
+one_pattern = refl
+
 -- nothing is stated; and values of another kind, too few of them, a number that is too wide
-blank : shown (of_fields (Fill 2 ∷ [])) (value.Filled (0 ∷ 0 ∷ []) ∷ []) ≡ Some []
-unfolding shown shown_fill next_value fill_text
+blank : shown plain (of_fields (Fill 2 ∷ [])) (value.Filled (0 ∷ 0 ∷ []) ∷ []) ≡ Some []
+unfolding shown shown_fill next_value filled
 blank = refl
 
-other_kind : shown strings (value.Number 1 ∷ []) ≡ None
+other_kind : shown plain strings (value.Number 1 ∷ []) ≡ None
 unfolding shown shown_text next_value
 other_kind = refl
 
-too_few : shown strings [] ≡ None
+too_few : shown plain strings [] ≡ None
 unfolding shown shown_text next_value
 too_few = refl
 
-too_many : shown strings (value.Text [] ∷ value.Text [] ∷ []) ≡ None
+too_many : shown plain strings (value.Text [] ∷ value.Text [] ∷ []) ≡ None
 unfolding shown shown_text next_value opened
 too_many = refl
 
-too_wide : shown (of_fields (Run 1 (Integer 8 form.Unsigned [] ∷ []) ∷ [])) (value.Number 256 ∷ []) ≡ None
+too_wide : shown plain (of_fields (Run 1 (Integer 8 form.Unsigned [] ∷ []) ∷ [])) (value.Number 256 ∷ []) ≡ None
 unfolding shown shown_integer next_number next_value
 too_wide = refl

@@ -177,15 +177,15 @@ abbrev pub field_text : (ℕ → List ℕ) → List Field → ℕ → Field → 
 field_text inner all counts (Run bytes parts) = parts_text all counts parts
 field_text inner all counts f = whole_text inner f ++ codes "; "
 
-abbrev pub counts_behind : Field → ℕ → ℕ
-counts_behind (Run bytes parts) counts = counts_past parts counts
-counts_behind f counts = counts
+abbrev pub counts_after_field : Field → ℕ → ℕ
+counts_after_field (Run bytes parts) counts = counts_past parts counts
+counts_after_field f counts = counts
 
 -- Fields in turn.
 abbrev pub fields_from : (ℕ → List ℕ) → List Field → ℕ → List Field → List ℕ
 fields_from inner all counts [] = []
 fields_from inner all counts (f ∷ fields) =
-    field_text inner all counts f ++ fields_from inner all (counts_behind f counts) fields
+    field_text inner all counts f ++ fields_from inner all (counts_after_field f counts) fields
 
 -- The fields of a block, where there is one.
 abbrev pub fields_text : (ℕ → List ℕ) → Option (List Field) → List ℕ
@@ -201,6 +201,14 @@ block_text (suc depth) blocks block = fields_text (block_text depth blocks) (sli
 unfoldable pub type_word : ℕ → List ℕ
 type_word ty = codes "type " ++ in_quotes 39 (big_bytes 4 ty) ++ codes " { "
 
--- The declaration of a type, with blocks at most 8 deep.
+-- The declaration of a type, with blocks at most 8 deep, up to its closing brace.
+unfoldable pub open_text : ℕ → Declaration → List ℕ
+open_text ty d = type_word ty ++ fields_from (block_text 8 d.blocks) d.fields 0 d.fields
+
+-- The declaration of a type.
 unfoldable pub declared_text : ℕ → Declaration → List ℕ
-declared_text ty d = type_word ty ++ fields_from (block_text 8 d.blocks) d.fields 0 d.fields ++ codes "};"
+declared_text ty d = open_text ty d ++ codes "};"
+
+-- The same with one field more, at the end: a hexadecimal string up to the end of the resource.
+unfoldable pub tailed_text : ℕ → Declaration → List ℕ
+tailed_text ty d = open_text ty d ++ codes "hex string; };"

@@ -50,6 +50,26 @@ impl Gap {
         }
     }
 
+    /// Returns what stands before the comment of a fill.
+    pub fn before_fill(self) -> &'static [u8]
+        ensures { result.now ≡ spec.fill_gap self }
+    {
+        match self {
+            Gap::Semicolon | Gap::FirstLine | Gap::FirstRow | Gap::NextRow => self.text(),
+            _ => b" ",
+        }
+    }
+
+    /// Returns what stands before a value after the comment of a fill.
+    pub fn after_fill(self) -> Gap
+        ensures { result ≡ spec.gap_filled self }
+    {
+        match self {
+            Gap::Semicolon | Gap::FirstLine | Gap::FirstRow | Gap::NextRow => Gap::Blank,
+            _ => self,
+        }
+    }
+
     /// Returns the end of the last line, where no other value follows.
     pub fn last_line(self) -> &'static [u8]
         ensures { result.now ≡ spec.last_line self }
@@ -82,6 +102,16 @@ impl Layout {
         }
     }
 
+    /// Returns what stands between the brace that opens it and the comment that says how many elements it has.
+    pub fn array_gap(self) -> &'static [u8]
+        ensures { result.now ≡ spec.array_gap self }
+    {
+        match self {
+            Layout::Lines => b"\t",
+            Layout::Flat => b" ",
+        }
+    }
+
     /// Returns what stands before each other element.
     pub fn next(self) -> Gap
         ensures { result ≡ spec.gap_next self }
@@ -89,6 +119,16 @@ impl Layout {
         match self {
             Layout::Lines => Gap::NextRow,
             Layout::Flat => Gap::Semicolon,
+        }
+    }
+
+    /// Returns what stands between two rows of a picture among such values.
+    pub fn row_break(self) -> &'static [u8]
+        ensures { result.now ≡ spec.row_break self }
+    {
+        match self {
+            Layout::Lines => b"\n\t",
+            Layout::Flat => b"\n\t\t",
         }
     }
 

@@ -5,7 +5,9 @@ mod layout;
 mod pieces;
 mod printer;
 mod showing;
+mod style;
 mod type_text;
 
 pub use showing::show;
-pub use type_text::declaration_text;
+pub use style::{Letters, Numbering, Pictures, Style};
+pub use type_text::{declaration_text, tailed_declaration_text};

@@ -1,15 +1,18 @@
 //! Numbers and strings, as the language of Rez writes them.
 
-ghost use Rattle.std.specs.Prelude.{◌≡◌, ◌≤◌, ◌∷◌, ◌++◌, OnOk, map, decimal, bytes_eq};
+ghost use Rattle.std.specs.Prelude.{◌≡◌, ◌≤◌, ◌<◌, ◌^◌, ◌∷◌, ◌++◌, OnOk, IfSome, take, drop, map, decimal, bytes_eq};
 ghost use Rattle.std.specs.List.{flat_map, list_all};
 ghost use Rattle.byteorder.specs.Endian.{big_bytes};
 ghost use Rattle.rez_types.specs.View.{number_of, text_of};
 ghost use Rattle.rez_types.specs.Decoding.{is_zero as is_zero_of};
+ghost use Rattle.rez_printing.specs.declared.style.Letters.TheVariants as letter;
 ghost use Rattle.rez_printing.specs.Pieces as spec;
 
+use crate::layout::Layout;
+use crate::style::{Letters, Pictures, Style};
 use itoa::Buffer;
 use mac_words::upper_digit;
-use rez_types::{Form, Integer, NamedText, Width, power};
+use rez_types::{Form, Integer, NamedText, Text, Width, power};
 use std::alloc::{AllocError, Global};
 
 /// Appends a byte in hexadecimal.
@@ -24,6 +27,16 @@ fn is_printable(byte: u8) -> bool
     ensures { result ≡ spec.is_printable byte }
 {
     32 <= byte && byte <= 126
+}
+
+/// Reports whether a byte stands for a letter as it is, beside printable ASCII.
+fn is_letter(letters: Letters, byte: u8) -> bool
+    ensures { result ≡ spec.is_letter letters byte }
+{
+    match letters {
+        Letters::Ascii => false,
+        Letters::Roman => 128 <= byte,
+    }
 }
 
 /// Appends a byte that isn't written as it is.
@@ -41,8 +54,8 @@ fn push_code(out: &mut Vec<u8>, byte: u8) -> Result<(), AllocError>
 }
 
 /// Appends a byte that stands between quotes.
-fn push_escaped(out: &mut Vec<u8>, quote: u8, byte: u8) -> Result<(), AllocError>
-    ensures { OnOk result (out.new.items ≡ out.old.items ++ spec.escaped quote byte) }
+fn push_escaped(out: &mut Vec<u8>, letters: Letters, quote: u8, byte: u8) -> Result<(), AllocError>
+    ensures { OnOk result (out.new.items ≡ out.old.items ++ spec.escaped letters quote byte) }
 {
     if byte == quote {
         out.extend_from_slice(&[b'\\', byte])?;
@@ -52,7 +65,7 @@ fn push_escaped(out: &mut Vec<u8>, quote: u8, byte: u8) -> Result<(), AllocError
         out.extend_from_slice(b"\\n")?;
     } else if byte == b'\t' {
         out.extend_from_slice(b"\\t")?;
-    } else if is_printable(byte) {
+    } else if is_printable(byte) || is_letter(letters, byte) {
         out.push(byte)?;
     } else {
         push_code(out, byte)?;
@@ -60,17 +73,17 @@ fn push_escaped(out: &mut Vec<u8>, quote: u8, byte: u8) -> Result<(), AllocError
     Ok(())
 }
 
-/// Appends bytes that stand between quotes.
+/// Appends bytes that stand between quotes, in ASCII.
 fn push_all_escaped(out: &mut Vec<u8>, quote: u8, bytes: &[u8]) -> Result<(), AllocError>
-    ensures { OnOk result (out.new.items ≡ out.old.items ++ flat_map (spec.escaped quote) bytes.now) }
+    ensures { OnOk result (out.new.items ≡ out.old.items ++ flat_map (spec.escaped letter.Ascii quote) bytes.now) }
 {
     for byte in bytes {
-        push_escaped(out, quote, *byte)?;
+        push_escaped(out, Letters::Ascii, quote, *byte)?;
     }
     Ok(())
 }
 
-/// Appends bytes between quotes.
+/// Appends bytes between quotes, in ASCII.
 #[tactic(auto, unfolding(crate::specs::Pieces::in_quotes))]
 pub(crate) fn push_quoted(out: &mut Vec<u8>, quote: u8, bytes: &[u8]) -> Result<(), AllocError>
     ensures { OnOk result (out.new.items ≡ out.old.items ++ spec.in_quotes quote bytes.now) }
@@ -92,12 +105,12 @@ fn push_line_break(out: &mut Vec<u8>, byte: u8, rest: &[u8]) -> Result<(), Alloc
 }
 
 /// Appends the bytes of a string.
-fn push_lines(out: &mut Vec<u8>, bytes: &[u8]) -> Result<(), AllocError>
-    ensures { OnOk result (out.new.items ≡ out.old.items ++ spec.in_lines bytes.now) }
+fn push_lines(out: &mut Vec<u8>, letters: Letters, bytes: &[u8]) -> Result<(), AllocError>
+    ensures { OnOk result (out.new.items ≡ out.old.items ++ spec.in_lines letters bytes.now) }
 {
     let mut rest = bytes;
     while let [byte, more @ ..] = rest {
-        push_escaped(out, b'"', *byte)?;
+        push_escaped(out, letters, b'"', *byte)?;
         push_line_break(out, *byte, more)?;
         rest = more;
     }
@@ -106,11 +119,11 @@ fn push_lines(out: &mut Vec<u8>, bytes: &[u8]) -> Result<(), AllocError>
 
 /// Appends a string.
 #[tactic(auto, unfolding(crate::specs::Pieces::string_text))]
-fn push_string(out: &mut Vec<u8>, bytes: &[u8]) -> Result<(), AllocError>
-    ensures { OnOk result (out.new.items ≡ out.old.items ++ spec.string_text bytes.now) }
+fn push_string(out: &mut Vec<u8>, letters: Letters, bytes: &[u8]) -> Result<(), AllocError>
+    ensures { OnOk result (out.new.items ≡ out.old.items ++ spec.string_text letters bytes.now) }
 {
     out.push(b'"')?;
-    push_lines(out, bytes)?;
+    push_lines(out, letters, bytes)?;
     out.push(b'"')?;
     Ok(())
 }
@@ -152,14 +165,148 @@ fn push_hex_string(out: &mut Vec<u8>, bytes: &[u8]) -> Result<(), AllocError>
     Ok(())
 }
 
+/// Returns what a bit of a picture is shown as.
+fn point(bits: u8) -> u8
+    ensures { result ≡ spec.point bits }
+{
+    if bits % 2 == 0 { b'.' } else { b'#' }
+}
+
+/// Appends the points of a byte.
+#[tactic(auto, unfolding(crate::specs::Pieces::points))]
+fn push_points(out: &mut Vec<u8>, byte: u8) -> Result<(), AllocError>
+    ensures { OnOk result (out.new.items ≡ out.old.items ++ spec.points byte) }
+{
+    out.extend_from_slice(&[
+        point(byte / 128),
+        point(byte / 64),
+        point(byte / 32),
+        point(byte / 16),
+        point(byte / 8),
+        point(byte / 4),
+        point(byte / 2),
+        point(byte),
+    ])?;
+    Ok(())
+}
+
+/// Appends the points of bytes.
+fn push_all_points(out: &mut Vec<u8>, bytes: &[u8]) -> Result<(), AllocError>
+    ensures { OnOk result (out.new.items ≡ out.old.items ++ flat_map spec.points bytes.now) }
+{
+    for byte in bytes {
+        push_points(out, *byte)?;
+    }
+    Ok(())
+}
+
+/// Appends a row of a picture.
+#[tactic(auto, unfolding(crate::specs::Pieces::row_text))]
+fn push_row(out: &mut Vec<u8>, bytes: &[u8]) -> Result<(), AllocError>
+    ensures { OnOk result (out.new.items ≡ out.old.items ++ spec.row_text bytes.now) }
+{
+    push_hex_string(out, bytes)?;
+    out.extend_from_slice(b" /* ")?;
+    push_all_points(out, bytes)?;
+    out.extend_from_slice(b" */")?;
+    Ok(())
+}
+
+/// Returns the bytes of a row, or all that there are, and those after them.
+fn first_row(row: usize, bytes: &[u8]) -> (&[u8], &[u8])
+    ensures first { result.0.now ≡ take row bytes.now }
+    ensures rest { result.1.now ≡ drop row bytes.now }
+{
+    bytes.split_at(row.min(bytes.len()))
+}
+
+/// Appends so many more rows of a picture.
+fn push_more_rows(
+    out: &mut Vec<u8>,
+    before: &[u8],
+    row: usize,
+    count: usize,
+    bytes: &[u8],
+) -> Result<(), AllocError>
+    ensures { OnOk result (out.new.items ≡ out.old.items ++ spec.more_rows before.now row count bytes.now) }
+{
+    let mut rest = bytes;
+    for i in 0..count {
+        let (here, more) = first_row(row, rest);
+        out.extend_from_slice(before)?;
+        push_row(out, here)?;
+        rest = more;
+    }
+    Ok(())
+}
+
+/// Appends a picture by its rows.
+#[tactic(auto, unfolding(crate::specs::Pieces::picture_text))]
+fn push_picture(
+    out: &mut Vec<u8>,
+    before: &[u8],
+    row: usize,
+    bytes: &[u8],
+) -> Result<(), AllocError>
+    requires { 0 < row }
+    ensures { OnOk result (out.new.items ≡ out.old.items ++ spec.picture_text before.now row bytes.now) }
+{
+    let (here, more) = first_row(row, bytes);
+    push_row(out, here)?;
+    push_more_rows(
+        out,
+        before,
+        row,
+        (bytes.len() / row).saturating_sub(1),
+        more,
+    )
+}
+
+/// Returns the bytes of a row, by those of a picture.
+fn row_bytes(length: usize) -> Option<usize>
+    ensures bytes { result ≡ spec.row_bytes length }
+    ensures some { IfSome result (λ row. 0 < row) }
+{
+    match length {
+        8 => Some(1),
+        24 | 32 => Some(2),
+        128 => Some(4),
+        _ => None,
+    }
+}
+
+/// Appends a hexadecimal string, by its rows if it is a picture.
+fn push_hex_value(
+    out: &mut Vec<u8>,
+    pictures: Pictures,
+    layout: Layout,
+    bytes: &[u8],
+) -> Result<(), AllocError>
+    ensures { OnOk result (out.new.items ≡ out.old.items ++ spec.hex_value pictures layout bytes.now) }
+{
+    match pictures {
+        Pictures::None => push_hex_string(out, bytes),
+        Pictures::OneBit => match row_bytes(bytes.len()) {
+            None => push_hex_string(out, bytes),
+            Some(row) => push_picture(out, layout.row_break(), row, bytes),
+        },
+    }
+}
+
 /// Appends a string in its form.
-fn push_bytes(out: &mut Vec<u8>, is_hex: bool, bytes: &[u8]) -> Result<(), AllocError>
-    ensures { OnOk result (out.new.items ≡ out.old.items ++ spec.bytes_text is_hex bytes.now) }
+fn push_bytes(
+    out: &mut Vec<u8>,
+    style: Style,
+    layout: Layout,
+    is_hex: bool,
+    bytes: &[u8],
+) -> Result<(), AllocError>
+    ensures { OnOk result (out.new.items ≡ out.old.items ++ spec.bytes_text style layout is_hex bytes.now) }
 {
     if is_hex {
-        push_hex_string(out, bytes)
+        push_hex_value(out, style.pictures, layout, bytes)
     } else {
-        push_string(out, bytes)
+        push_string(out, style.letters, bytes)
     }
 }
 
@@ -173,19 +320,21 @@ fn is_text(constant: &NamedText, bytes: &[u8]) -> bool
 /// Appends a string, by its first name if it has one.
 pub(crate) fn push_text(
     out: &mut Vec<u8>,
-    is_hex: bool,
-    constants: &[NamedText],
+    style: Style,
+    layout: Layout,
+    text: &Text,
     bytes: &[u8],
 ) -> Result<(), AllocError>
-    ensures { OnOk result (out.new.items ≡ out.old.items ++ spec.named_text is_hex (map text_of constants.now) bytes.now) }
+    ensures { OnOk result (out.new.items ≡ out.old.items
+        ++ spec.named_text style layout text.now.is_hex (map text_of text.now.constants.items) bytes.now) }
 {
-    for constant in constants {
+    for constant in &text.constants {
         if is_text(constant, bytes) {
             out.extend_from_slice(constant.name.as_slice())?;
             return Ok(());
         }
     }
-    push_bytes(out, is_hex, bytes)
+    push_bytes(out, style, layout, text.is_hex, bytes)
 }
 
 fn is_zero(byte: u8) -> bool
@@ -195,7 +344,7 @@ fn is_zero(byte: u8) -> bool
 }
 
 /// Reports whether all bytes are 0.
-fn are_zero(bytes: &[u8]) -> bool
+pub(crate) fn are_zero(bytes: &[u8]) -> bool
     ensures { result ≡ list_all is_zero_of bytes.now }
 {
     bytes.iter().all(|b| is_zero(*b))
@@ -213,33 +362,13 @@ fn push_digits(out: &mut Vec<u8>, bytes: &[u8]) -> Result<(), AllocError>
 
 /// Appends the comment of a fill.
 #[tactic(auto, unfolding(crate::specs::Pieces::fill_comment))]
-fn push_comment(out: &mut Vec<u8>, bytes: &[u8]) -> Result<(), AllocError>
+pub(crate) fn push_fill_comment(out: &mut Vec<u8>, bytes: &[u8]) -> Result<(), AllocError>
     ensures { OnOk result (out.new.items ≡ out.old.items ++ spec.fill_comment bytes.now) }
 {
-    out.extend_from_slice(b" /* fill $")?;
+    out.extend_from_slice(b"/* fill $")?;
     push_digits(out, bytes)?;
     out.extend_from_slice(b" */")?;
     Ok(())
-}
-
-/// Appends the bytes of a fill or an alignment, where they aren't all 0.
-#[tactic(auto, unfolding(crate::specs::Pieces::fill_text))]
-pub(crate) fn push_fill(out: &mut Vec<u8>, bytes: &[u8]) -> Result<(), AllocError>
-    ensures { OnOk result (out.new.items ≡ out.old.items ++ spec.fill_text bytes.now) }
-{
-    if !are_zero(bytes) {
-        push_comment(out, bytes)?;
-    }
-    Ok(())
-}
-
-/// Appends the bits of a fill as so many bytes, where they aren't all 0.
-pub(crate) fn push_fill_number(out: &mut Vec<u8>, count: u8, number: u32) -> Result<(), AllocError>
-    requires { count ≤ 4 }
-    ensures { OnOk result (out.new.items ≡ out.old.items ++ spec.fill_text (big_bytes count number)) }
-{
-    let bytes = number.to_be_bytes();
-    push_fill(out, &bytes[4 - count as usize..])
 }
 
 /// Appends a number in decimal.
@@ -247,6 +376,46 @@ pub(crate) fn push_decimal(out: &mut Vec<u8>, number: u64) -> Result<(), AllocEr
     ensures { OnOk result (out.new.items ≡ out.old.items ++ decimal number) }
 {
     out.extend_from_slice(Buffer::new().format(number).as_bytes())?;
+    Ok(())
+}
+
+/// Appends the name of an array after a blank, where it has one.
+fn push_after_blank(out: &mut Vec<u8>, name: &[u8]) -> Result<(), AllocError>
+    ensures { OnOk result (out.new.items ≡ out.old.items ++ spec.after_blank name.now) }
+{
+    if !name.is_empty() {
+        out.push(b' ')?;
+        out.extend_from_slice(name)?;
+    }
+    Ok(())
+}
+
+/// Appends how many elements an array has.
+#[tactic(auto, unfolding(crate::specs::Pieces::array_comment))]
+pub(crate) fn push_array_comment(
+    out: &mut Vec<u8>,
+    name: &[u8],
+    count: usize,
+) -> Result<(), AllocError>
+    ensures { OnOk result (out.new.items ≡ out.old.items ++ spec.array_comment name.now count) }
+{
+    out.extend_from_slice(b"/* array")?;
+    push_after_blank(out, name)?;
+    out.extend_from_slice(b": ")?;
+    push_decimal(out, count as u64)?;
+    out.extend_from_slice(b" elements */")?;
+    Ok(())
+}
+
+/// Appends the number of an element that so many others precede.
+#[tactic(auto, unfolding(crate::specs::Pieces::element_comment))]
+pub(crate) fn push_element_comment(out: &mut Vec<u8>, count: usize) -> Result<(), AllocError>
+    requires { count < 2 ^ 63 }
+    ensures { OnOk result (out.new.items ≡ out.old.items ++ spec.element_comment count) }
+{
+    out.extend_from_slice(b"/* [")?;
+    push_decimal(out, count as u64 + 1)?;
+    out.extend_from_slice(b"] */")?;
     Ok(())
 }
 

@@ -1,6 +1,6 @@
 //! A printer of values: the fields that hold no others.
 
-ghost use Rattle.std.specs.Prelude.{◌≡◌, ◌≤◌, ◌+◌, ◌/◌, map, Some, None, IfSome, IfNone, OnOk};
+ghost use Rattle.std.specs.Prelude.{◌≡◌, ◌≤◌, ◌<◌, ◌^◌, map, drop, Some, None, IfSome, IfNone, IfOk, OnOk};
 ghost use Rattle.byteorder.specs.Endian.{big_bytes};
 ghost use Rattle.rez_types.specs.declared.declaration.Part.TheVariants as parts;
 ghost use Rattle.rez_types.specs.View.{case_of, part_of, number_of, text_of, value_of, values_of};
@@ -8,11 +8,15 @@ ghost use Rattle.rez_types.specs.Leads.{LeadsTo, Gives, same, flag};
 ghost use Rattle.rez_types.specs.Encoding.{more_in, case_in};
 ghost use Rattle.rez_printing.specs.declared.layout.Layout.TheVariants as layouts;
 ghost use Rattle.rez_printing.specs.Leads.{showing_of};
-ghost use Rattle.rez_printing.specs.Pieces.{integer_text, named_text, signed_number, fill_text};
+ghost use Rattle.rez_printing.specs.Pieces.{integer_text, named_text, signed_number};
 ghost use Rattle.rez_printing.specs.Showing as spec;
 
 use crate::layout::{Gap, Layout};
-use crate::pieces::{push_fill, push_fill_number, push_integer, push_signed, push_text};
+use crate::pieces::{
+    are_zero, push_array_comment, push_element_comment, push_fill_comment, push_integer,
+    push_signed, push_text,
+};
+use crate::style::{Numbering, Style};
 use rez_types::{Case, CodingFault, Integer, Part, Text, Value, Width, power};
 use std::alloc::{AllocError, Global};
 
@@ -22,6 +26,8 @@ const COORDINATE: Width = Width { bits: 16 };
 /// A printer of values.
 #[derive(Drop)]
 pub(crate) struct Printer<'a> {
+    /// In which style they are printed.
+    pub style: Style,
     /// The values that are still to be printed.
     pub values: &'a [Value],
     /// The text so far.
@@ -30,12 +36,23 @@ pub(crate) struct Printer<'a> {
     pub gap: Gap,
 }
 
+/// Returns the bytes from a place on.
+fn bytes_after(alloc: Global, text: &[u8], place: usize) -> Result<Vec<u8>, AllocError>
+    ensures { IfOk result (λ bytes. bytes.items ≡ drop place text.now) }
+{
+    match text.get(place..) {
+        Some(bytes) => bytes.to_vec(alloc),
+        None => Ok(Vec::new(alloc)),
+    }
+}
+
 impl<'a> Printer<'a> {
     /// Returns a printer before the first of the values.
-    pub fn new(alloc: Global, values: &'a [Value]) -> Printer<'a>
-        ensures { showing_of result ≡ spec.unshown (values_of values.now) }
+    pub fn new(alloc: Global, style: Style, values: &'a [Value]) -> Printer<'a>
+        ensures { showing_of result ≡ spec.unshown style (values_of values.now) }
     {
         Printer {
+            style,
             values,
             text: Vec::new(alloc),
             gap: Gap::FirstLine,
@@ -157,16 +174,11 @@ impl<'a> Printer<'a> {
     #[tactic(auto, unfolding(crate::specs::Showing::opened))]
     fn state_text(&mut self, layout: Layout, text: &Text, bytes: &[u8]) -> Result<(), AllocError>
         ensures { OnOk result (showing_of self.new ≡ spec.stated
-            (named_text text.now.is_hex (map text_of text.now.constants.items) bytes.now)
+            (named_text self.old.style layout text.now.is_hex (map text_of text.now.constants.items) bytes.now)
             layout (showing_of self.old)) }
     {
         self.text.extend_from_slice(self.gap.text())?;
-        push_text(
-            &mut self.text,
-            text.is_hex,
-            text.constants.as_slice(),
-            bytes,
-        )?;
+        push_text(&mut self.text, self.style, layout, text, bytes)?;
         self.gap = layout.between();
         Ok(())
     }
@@ -183,12 +195,87 @@ impl<'a> Printer<'a> {
         Ok(())
     }
 
-    /// Prints the bits of a fill.
-    fn print_fill_number(&mut self, width: Width, number: u32) -> Result<(), AllocError>
-        ensures { OnOk result (showing_of self.new ≡ spec.with_text
-            (fill_text (big_bytes ((width.bits + 7) / 8) number)) (showing_of self.old)) }
+    /// Prints the bytes of a fill or an alignment as a comment.
+    #[tactic(auto, unfolding(crate::specs::Showing::commented))]
+    fn comment(&mut self, bytes: &[u8]) -> Result<(), AllocError>
+        ensures { OnOk result (showing_of self.new ≡ spec.commented bytes.now (showing_of self.old)) }
     {
-        push_fill_number(&mut self.text, (width.bits + 7) / 8, number)
+        self.text.extend_from_slice(self.gap.before_fill())?;
+        push_fill_comment(&mut self.text, bytes)?;
+        self.gap = self.gap.after_fill();
+        Ok(())
+    }
+
+    /// Prints the bytes of a fill or an alignment, where they aren't all 0.
+    #[tactic(auto, unfolding(crate::specs::Showing::filled))]
+    fn fill(&mut self, bytes: &[u8]) -> Result<(), AllocError>
+        ensures { OnOk result (showing_of self.new ≡ spec.filled bytes.now (showing_of self.old)) }
+    {
+        if are_zero(bytes) {
+            return Ok(());
+        }
+        self.comment(bytes)
+    }
+
+    /// Prints the bits of a fill as so many bytes.
+    fn fill_number(&mut self, count: u8, number: u32) -> Result<(), AllocError>
+        requires { count ≤ 4 }
+        ensures { OnOk result (showing_of self.new ≡ spec.filled (big_bytes count number) (showing_of self.old)) }
+    {
+        let bytes = number.to_be_bytes();
+        self.fill(&bytes[4 - count as usize..])
+    }
+
+    /// Prints the number of an element that so many others precede, where elements are numbered.
+    #[tactic(auto, unfolding(crate::specs::Showing::opened))]
+    pub fn number(&mut self, layout: Layout, count: usize) -> Result<(), AllocError>
+        requires { count < 2 ^ 63 }
+        ensures { OnOk result (showing_of self.new ≡ spec.numbered layout count (showing_of self.old)) }
+    {
+        match self.style.numbering {
+            Numbering::None => {}
+            Numbering::Elements => {
+                self.text.extend_from_slice(self.gap.text())?;
+                push_element_comment(&mut self.text, count)?;
+                self.gap = layout.first();
+            }
+        }
+        Ok(())
+    }
+
+    /// Says after the brace that opens an array, at a place of the text, how many elements it has.
+    #[tactic(auto, unfolding(crate::specs::Showing::counted_at))]
+    fn count_at(
+        &mut self,
+        layout: Layout,
+        name: &[u8],
+        place: usize,
+        count: usize,
+    ) -> Result<(), AllocError>
+        ensures { OnOk result (showing_of self.new ≡ spec.counted_at layout name.now place count (showing_of self.old)) }
+    {
+        let after = bytes_after(*self.text.allocator(), self.text.as_slice(), place)?;
+        self.text.truncate(place);
+        self.text.extend_from_slice(layout.array_gap())?;
+        push_array_comment(&mut self.text, name, count)?;
+        self.text.extend_from_slice(after.as_slice())?;
+        Ok(())
+    }
+
+    /// Says this where elements are numbered.
+    pub fn count(
+        &mut self,
+        layout: Layout,
+        name: &[u8],
+        place: usize,
+        count: usize,
+    ) -> Result<(), AllocError>
+        ensures { OnOk result (showing_of self.new ≡ spec.counted layout name.now place count (showing_of self.old)) }
+    {
+        match self.style.numbering {
+            Numbering::None => Ok(()),
+            Numbering::Elements => self.count_at(layout, name, place, count),
+        }
     }
 
     /// Prints the next integer.
@@ -208,7 +295,7 @@ impl<'a> Printer<'a> {
         ensures { LeadsTo result (showing_of self.new) (spec.shown_bits width.bits (showing_of self.old)) }
     {
         let number = self.next_number(width)?;
-        self.print_fill_number(width, number)?;
+        self.fill_number((width.bits + 7) / 8, number)?;
         Ok(())
     }
 
@@ -261,7 +348,7 @@ impl<'a> Printer<'a> {
         let Value::Filled(bytes) = value else {
             return Err(CodingFault::Misfit);
         };
-        push_fill(&mut self.text, bytes.as_slice())?;
+        self.fill(bytes.as_slice())?;
         Ok(())
     }
 

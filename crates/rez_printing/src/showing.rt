@@ -2,12 +2,13 @@
 
 ghost use Rattle.std.specs.Prelude.{◌≡◌, map};
 ghost use Rattle.rez_types.specs.View.{fields_of, field_of, blocks_of, case_of, declaration_of, values_of};
-ghost use Rattle.rez_types.specs.Leads.{LeadsTo, Returns, bytes_in};
+ghost use Rattle.rez_types.specs.Leads.{Gives, LeadsTo, Returns, bytes_in, same};
 ghost use Rattle.rez_printing.specs.Leads.{showing_of};
 ghost use Rattle.rez_printing.specs.Showing as spec;
 
-use crate::layout::{Gap, Layout};
+use crate::layout::Layout;
 use crate::printer::Printer;
+use crate::style::Style;
 use rez_types::{Block, Case, CodingFault, Declaration, Field, Value};
 use std::alloc::Global;
 
@@ -68,7 +69,9 @@ impl<'a> Printer<'a> {
             Field::Text(text) => self.print_text(layout, text),
             Field::Point => self.print_coordinates(layout, 2),
             Field::Rect => self.print_coordinates(layout, 4),
-            Field::Array(array) => self.print_array(depth, blocks, layout, array.block),
+            Field::Array(array) => {
+                self.print_array(depth, blocks, layout, array.name.as_slice(), array.block)
+            }
             Field::Switch(switch) => {
                 self.print_switch(depth, blocks, layout, switch.cases.as_slice())
             }
@@ -83,37 +86,41 @@ impl<'a> Printer<'a> {
         depth: u8,
         blocks: &[Block],
         layout: Layout,
+        name: &[u8],
         block: usize,
     ) -> Result<(), CodingFault>
         ensures { LeadsTo result (showing_of self.new)
-            (spec.shown_array (spec.shown_block depth (blocks_of blocks.now) block) layout (showing_of self.old)) }
+            (spec.shown_array (spec.shown_block depth (blocks_of blocks.now) block) name.now layout (showing_of self.old)) }
     {
         self.open(b"{", layout.first())?;
-        self.print_elements(depth, blocks, layout.next(), block)?;
+        let place = self.text.len();
+        let count = self.print_elements(depth, blocks, layout, block)?;
+        self.count(layout, name, place, count)?;
         self.close(layout.array_end(), layout)?;
         Ok(())
     }
 
-    /// Prints the elements of an array, with a gap before each but the first one.
+    /// Prints the elements of an array, with a gap before each but the first one, and returns how many they are.
     #[cycle(print)]
     #[tactic(auto, using(crate::proofs::Onward::elements_on))]
     fn print_elements(
         &mut self,
         depth: u8,
         blocks: &[Block],
-        next: Gap,
+        layout: Layout,
         block: usize,
-    ) -> Result<(), CodingFault>
-        ensures { LeadsTo result (showing_of self.new)
-            (spec.all_elements (spec.shown_block depth (blocks_of blocks.now) block) next (showing_of self.old)) }
+    ) -> Result<usize, CodingFault>
+        ensures { Gives same result (showing_of self.new)
+            (spec.all_elements (spec.shown_block depth (blocks_of blocks.now) block) layout (showing_of self.old)) }
     {
         let most = self.values.len();
         for count in 0..most {
             if !self.next_more()? {
-                return Ok(());
+                return Ok(count);
             }
+            self.number(layout, count)?;
             self.print_block(depth, blocks, block)?;
-            self.gap = next;
+            self.gap = layout.next();
         }
         Err(CodingFault::Misfit)
     }
@@ -142,7 +149,7 @@ impl<'a> Printer<'a> {
     }
 }
 
-/// Returns the text of a resource's values, by a declaration: what stands between the braces of a statement `resource`.
+/// Returns the text of a resource's values, by a declaration and in a style: what stands between the braces of a statement `resource`.
 ///
 /// # Errors
 ///
@@ -150,13 +157,14 @@ impl<'a> Printer<'a> {
 #[tactic(auto, unfolding(crate::specs::Showing::shown))]
 pub fn show(
     alloc: Global,
+    style: Style,
     declaration: &Declaration,
     values: &[Value],
 ) -> Result<Vec<u8>, CodingFault>
     ensures { Returns bytes_in result
-        (spec.shown (declaration_of declaration.now) (values_of values.now)) }
+        (spec.shown style (declaration_of declaration.now) (values_of values.now)) }
 {
-    let mut printer = Printer::new(alloc, values);
+    let mut printer = Printer::new(alloc, style, values);
     printer.print_fields(
         MOST_DEPTH,
         declaration.blocks.as_slice(),

@@ -517,7 +517,7 @@ fn push_field(
 ) -> Result<usize, AllocError>
     ensures text { OnOk result (out.new.items ≡ out.old.items
         ++ spec.field_text (spec.block_text depth (blocks_of blocks.now)) (fields_of all.now) counts (field_of field.now)) }
-    ensures counts { IfOk result (λ n. n ≡ spec.counts_behind (field_of field.now) counts) }
+    ensures counts { IfOk result (λ n. n ≡ spec.counts_after_field (field_of field.now) counts) }
 {
     match field {
         Field::Run(run) => push_parts(out, all, counts, run.parts.as_slice()),
@@ -578,6 +578,23 @@ fn push_type(out: &mut Vec<u8>, ty: u32) -> Result<(), AllocError>
     Ok(())
 }
 
+/// Returns the declaration of a type up to its closing brace.
+#[tactic(auto, unfolding(crate::specs::TypeText::open_text))]
+fn open_text(alloc: Global, ty: [u8; 4], declaration: &Declaration) -> Result<Vec<u8>, AllocError>
+    ensures { IfOk result (λ text. text.items
+        ≡ spec.open_text (big_number 4 ty) (declaration_of declaration.now)) }
+{
+    let mut out = Vec::new(alloc);
+    push_type(&mut out, BigEndian::read_u32(&ty))?;
+    push_fields(
+        &mut out,
+        MOST_DEPTH,
+        declaration.blocks.as_slice(),
+        declaration.fields.as_slice(),
+    )?;
+    Ok(out)
+}
+
 /// Returns the declaration of a type as a statement `type` on one line, without the end of the line. What no statement can
 /// state, as a count without an array, is written as another text, which is refused or has another meaning.
 #[tactic(auto, unfolding(crate::specs::TypeText::declared_text))]
@@ -589,14 +606,22 @@ pub fn declaration_text(
     ensures { IfOk result (λ text. text.items
         ≡ spec.declared_text (big_number 4 ty) (declaration_of declaration.now)) }
 {
-    let mut out = Vec::new(alloc);
-    push_type(&mut out, BigEndian::read_u32(&ty))?;
-    push_fields(
-        &mut out,
-        MOST_DEPTH,
-        declaration.blocks.as_slice(),
-        declaration.fields.as_slice(),
-    )?;
+    let mut out = open_text(alloc, ty, declaration)?;
     out.extend_from_slice(b"};")?;
+    Ok(out)
+}
+
+/// Returns the same with one field more, at the end: a hexadecimal string up to the end of the resource.
+#[tactic(auto, unfolding(crate::specs::TypeText::tailed_text))]
+pub fn tailed_declaration_text(
+    alloc: Global,
+    ty: [u8; 4],
+    declaration: &Declaration,
+) -> Result<Vec<u8>, AllocError>
+    ensures { IfOk result (λ text. text.items
+        ≡ spec.tailed_text (big_number 4 ty) (declaration_of declaration.now)) }
+{
+    let mut out = open_text(alloc, ty, declaration)?;
+    out.extend_from_slice(b"hex string; };")?;
     Ok(out)
 }

@@ -11,7 +11,7 @@ use Rattle.rez_statements.specs.Places.{last_place}
 use Rattle.rez_statements.specs.Types.{in_force}
 use Rattle.rez_statements.specs.View.{declared_of, shared}
 
--- what the order of two numbers tells of their equality
+-- two numbers are equal where their order is that of equal ones
 is_eq-nat_cmp : (k q : ℕ) → is_eq (nat_cmp k q) ≡ (k == q)
 is_eq-nat_cmp k q = cases (nat_lt k q) (k == q) (λ less. apart (ltb-true k q less) (eqb_tells k q))
   where

@@ -1,4 +1,4 @@
-use Rattle.std.specs.Prelude.{ℕ, ◌==◌, Bool, true, false, filter, Option, Some, None, Result, Ok, Err, List, [], ◌∷◌, ◌++◌, if◌then◌else◌}
+use Rattle.std.specs.Prelude.{ℕ, ◌==◌, Bool, true, false, filter, Option, Some, None, is_some, Result, Ok, Err, List, [], ◌∷◌, ◌++◌, if◌then◌else◌}
 use Rattle.rez_types.specs.Fields.{Declaration}
 use Rattle.rez_types.specs.Values.{Value}
 use Rattle.rez_types.specs.Encoding.{datum_of_values}
@@ -40,6 +40,10 @@ in_force kind (t ∷ types) =
       | None ↦ if t.kind == kind then Some t.declaration else None
       | Some d ↦ Some d
     ]
+
+-- A type is declared.
+abbrev pub is_declared : ℕ → List Declared → Bool
+is_declared kind types = is_some (in_force kind types)
 
 -- The tokens of a text.
 abbrev pub of_text : Result (List Token) (ℕ × TokenFault) → Result (List Token) Fault

@@ -1,6 +1,6 @@
 //! Declaring types, and resources of declared types.
 
-ghost use Rattle.std.specs.Prelude.{◌≡◌, ℕ, [], ◌∷◌, ◌++◌, OnOk, OnErr, map};
+ghost use Rattle.std.specs.Prelude.{◌≡◌, ℕ, [], ◌∷◌, ◌++◌, IfOk, OnOk, OnErr, map};
 ghost use Rattle.std.specs.Option.{option_map};
 ghost use Rattle.byteorder.specs.Endian.{big_number};
 ghost use Rattle.rez_declarations.specs.Parses.{stated_of};
@@ -58,6 +58,13 @@ impl Types {
         }
     }
 
+    /// Reports whether a type is declared.
+    pub fn is_declared(&self, ty: [u8; 4]) -> bool
+        ensures { result ≡ spec.is_declared (big_number 4 ty) (types_of self.now) }
+    {
+        self.in_force(BigEndian::read_u32(&ty)).is_some()
+    }
+
     /// Returns the declaration of a type that is in force. The type has to be declared.
     fn needed(&self, kind: u32) -> Result<&Rc<Declaration>, TypesFault>
         ensures { Gives lent result (spec.needed kind (spec.in_force kind (types_of self.now))) }
@@ -93,6 +100,17 @@ impl Types {
                 Err(AllocError)
             }
         }
+    }
+
+    /// Returns a copy of the types, which shares their declarations.
+    pub fn copied(&self) -> Result<Types, AllocError>
+        ensures { IfOk result (λ copy. types_of copy ≡ types_of self.now) }
+    {
+        let mut copy = Types::new(self.alloc);
+        for declared in &self.list {
+            copy.add(declared.kind, declared.declaration.clone()?)?;
+        }
+        Ok(copy)
     }
 
     /// Declares a type by the text of a statement `type`, from the word `type` to the semicolon.

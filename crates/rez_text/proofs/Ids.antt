@@ -7,6 +7,7 @@ use Rattle.std.proofs.lemmas.Fmt.{decimal_by_steps}
 use Rattle.std.specs.Int.{w16}
 use Rattle.std.specs.Fmt.{decimal as in_decimal, digits, signed_decimal}
 use Rattle.fork_format.specs.Content.{Ref}
+use Rattle.rez_text.specs.declared.lettering.Lettering.{Lettering}
 use Rattle.rez_text.specs.declared.mode.Radix.TheVariants as radix
 use Rattle.rez_text.specs.declared.mode.Mode.TheVariants as mode
 use Rattle.rez_text.specs.declared.mode.Place.{Place}
@@ -185,16 +186,16 @@ blank_run : (k : ℕ) (d : Ref) (c : Said)
 unfolding step between
 blank_run k d c = refl
 
-pub named_run : (name : Option (List ℕ)) (id : ℤ) (s : State) (k : ℕ) (c : Said)
+pub named_run : (lettering : Lettering) (name : Option (List ℕ)) (id : ℤ) (s : State) (k : ℕ) (c : Said)
     → IfSome name (λ text. length text ≤ 255) → IfSome name AreBytes → Named s k (only_id id) c
-    → Argues s (name_argument name) k (named id name) c
-named_run None id s k c short small waits = (s, refl, record { comma = inl waits.comma; close = waits.close })
-named_run (Some text) id s k c short small waits =
+    → Argues s (name_argument lettering name) k (named id name) c
+named_run lettering None id s k c short small waits = (s, refl, record { comma = inl waits.comma; close = waits.close })
+named_run lettering (Some text) id s k c short small waits =
     let t = at mode.Between place.NameOrAttribute [] k (only_id id) c in
     let u = at mode.Between place.AfterArgument [] k (named id (Some text)) c in (
       u,
-      after s t _ (44 ∷ []) (32 ∷ [] ++ in_quotes 34 text) waits.comma
-          (after t t _ (32 ∷ []) (in_quotes 34 text) (blank_run k (only_id id) c)
-          (name_run text k (only_id id) c small short)),
+      after s t _ (44 ∷ []) (32 ∷ [] ++ in_quotes lettering 34 text) waits.comma
+          (after t t _ (32 ∷ []) (in_quotes lettering 34 text) (blank_run k (only_id id) c)
+          (name_run lettering text k (only_id id) c small short)),
       record { comma = inr (behind_comma k (named id (Some text)) c); close = behind_close k (named id (Some text)) c },
     )

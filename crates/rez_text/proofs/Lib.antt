@@ -12,5 +12,12 @@ pub mod Joined
 pub mod Remarked
 pub mod Gathered
 pub mod Typed
+pub mod Plain
+pub mod Printed
+pub mod Decoding
+pub mod Lacked
+pub mod Later
+pub mod Coded
+pub mod Enough
 pub mod Again
 pub mod Worked

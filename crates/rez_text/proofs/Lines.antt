@@ -5,7 +5,8 @@ use Rattle.std.proofs.Math.Seq.{take-add}
 use Rattle.std.proofs.lemmas.Bool.{agree_below_at}
 use Rattle.std.specs.Prelude.{not}
 use Rattle.std.specs.List.{AllByRecursion, flat_map, list_all}
-use Rattle.mac_roman.specs.declared.charset.Charset.{Charset}
+use Rattle.rez_text.specs.declared.lettering.Lettering.{Lettering}
+use Rattle.rez_text.specs.declared.lettering.Lettering.TheVariants.{Plain, Roman}
 use Rattle.mac_roman.specs.declared.charset.Charset.TheVariants.{Ascii, Utf8}
 use Rattle.fork_format.specs.Content.{Ref}
 use Rattle.rez_text.specs.State.{Said}
@@ -52,19 +53,21 @@ no_star_either : (xs ys : List ℕ) → NoStar xs → NoStar ys → NoStar (xs +
 no_star_either [] ys one other = other
 no_star_either (x ∷ xs) ys one other = (one.0, no_star_either xs ys one.1 other)
 
--- in either set no byte is shown as a `*`
-one_no_star : (charset : Charset) (b : ℕ) → b < 256 → NoStar (shown charset b)
+-- in no lettering a byte is shown as a `*`
+one_no_star : (lettering : Lettering) (b : ℕ) → b < 256 → NoStar (shown lettering b)
 unfolding lib.Utf8.encode
-one_no_star Ascii b small = no_star (shown Ascii b)
-    (agree_below_at (λ n. list_all (λ (d : ℕ). not (d == 42)) (shown Ascii n)) (λ _. true) 256 b refl small)
-one_no_star Utf8 b small = no_star (shown Utf8 b)
-    (agree_below_at (λ n. list_all (λ (d : ℕ). not (d == 42)) (shown Utf8 n)) (λ _. true) 256 b refl small)
+one_no_star (Plain Ascii) b small = no_star (shown (Plain Ascii) b)
+    (agree_below_at (λ n. list_all (λ (d : ℕ). not (d == 42)) (shown (Plain Ascii) n)) (λ _. true) 256 b refl small)
+one_no_star (Plain Utf8) b small = no_star (shown (Plain Utf8) b)
+    (agree_below_at (λ n. list_all (λ (d : ℕ). not (d == 42)) (shown (Plain Utf8) n)) (λ _. true) 256 b refl small)
+one_no_star Roman b small = no_star (shown Roman b)
+    (agree_below_at (λ n. list_all (λ (d : ℕ). not (d == 42)) (shown Roman n)) (λ _. true) 256 b refl small)
 
-shown_no_star : (charset : Charset) (bytes : List ℕ) → AreBytes bytes → NoStar (flat_map (shown charset) bytes)
-shown_no_star charset [] small = tt
-shown_no_star charset (b ∷ bytes) small =
-    no_star_either (shown charset b) (flat_map (shown charset) bytes) (one_no_star charset b small.0)
-    (shown_no_star charset bytes small.1)
+shown_no_star : (lettering : Lettering) (bytes : List ℕ) → AreBytes bytes → NoStar (flat_map (shown lettering) bytes)
+shown_no_star lettering [] small = tt
+shown_no_star lettering (b ∷ bytes) small =
+    no_star_either (shown lettering b) (flat_map (shown lettering) bytes) (one_no_star lettering b small.0)
+    (shown_no_star lettering bytes small.1)
 
 comment_opens : (k : ℕ) (d : Ref) (c : Said)
     → run (Ok (at mode.Between place.Data [] k d c)) (codes "/* ") ≡ Ok (at mode.Comment place.Data (32 ∷ []) k d c)
@@ -76,16 +79,16 @@ comment_closes : (g : List ℕ) (k : ℕ) (d : Ref) (c : Said)
 unfolding step between in_comment star comment
 comment_closes g k d c = refl
 
-text_column_run : (charset : Charset) (bytes : List ℕ) (k : ℕ) (d : Ref) (c : Said) → AreBytes bytes
-    → run (Ok (at mode.Between place.Data [] k d c)) (text_column charset bytes) ≡ Ok (at mode.Between place.Data [] k d c)
-text_column_run charset bytes k d c small =
+text_column_run : (lettering : Lettering) (bytes : List ℕ) (k : ℕ) (d : Ref) (c : Said) → AreBytes bytes
+    → run (Ok (at mode.Between place.Data [] k d c)) (text_column lettering bytes) ≡ Ok (at mode.Between place.Data [] k d c)
+text_column_run lettering bytes k d c small =
     let s = at mode.Between place.Data [] k d c in
     let t = at mode.Comment place.Data (32 ∷ []) k d c in
-    let u = at mode.Comment place.Data (32 ∷ [] ++ flat_map (shown charset) bytes) k d c in
-    after s u _ (codes "/* " ++ flat_map (shown charset) bytes) (codes " */\n")
-    (after s t _ (codes "/* ") (flat_map (shown charset) bytes) (comment_opens k d c)
-    (comment_run (flat_map (shown charset) bytes) place.Data (32 ∷ []) k d c (shown_no_star charset bytes small)))
-    (comment_closes (32 ∷ [] ++ flat_map (shown charset) bytes) k d c)
+    let u = at mode.Comment place.Data (32 ∷ [] ++ flat_map (shown lettering) bytes) k d c in
+    after s u _ (codes "/* " ++ flat_map (shown lettering) bytes) (codes " */\n")
+    (after s t _ (codes "/* ") (flat_map (shown lettering) bytes) (comment_opens k d c)
+    (comment_run (flat_map (shown lettering) bytes) place.Data (32 ∷ []) k d c (shown_no_star lettering bytes small)))
+    (comment_closes (32 ∷ [] ++ flat_map (shown lettering) bytes) k d c)
 
 -- a resource with more data
 abbrev pub with_datum : Ref → List ℕ → Ref
@@ -112,16 +115,16 @@ hex_column_run bytes k d c small =
     (after s t _ (9 ∷ 36 ∷ 34 ∷ []) (grouped 0 bytes) (string_opens k d c) (grouped_run bytes 0 [] k d c small))
     (string_closes bytes k d c)
 
-data_line_run : (charset : Charset) (bytes : List ℕ) (k : ℕ) (d : Ref) (c : Said) → AreBytes bytes
-    → run (Ok (at mode.Between place.Data [] k d c)) (data_line charset bytes)
+data_line_run : (lettering : Lettering) (bytes : List ℕ) (k : ℕ) (d : Ref) (c : Said) → AreBytes bytes
+    → run (Ok (at mode.Between place.Data [] k d c)) (data_line lettering bytes)
     ≡ Ok (at mode.Between place.Data [] k (with_datum d bytes) c)
-data_line_run charset bytes k d c small =
+data_line_run lettering bytes k d c small =
     let s = at mode.Between place.Data [] k d c in
     let t = at mode.Between place.Data [] k (with_datum d bytes) c in
-    after s t _ (hex_column bytes ++ margin (length bytes)) (text_column charset bytes)
+    after s t _ (hex_column bytes ++ margin (length bytes)) (text_column lettering bytes)
     (after s t _ (hex_column bytes) (margin (length bytes)) (hex_column_run bytes k d c small)
     (blanks (54 - (3 + 2 * length bytes + (length bytes - 1) / 2)) place.Data [] k (with_datum d bytes) c))
-    (text_column_run charset bytes k (with_datum d bytes) c small)
+    (text_column_run lettering bytes k (with_datum d bytes) c small)
 
 pub bytes_take : (n : ℕ) (bytes : List ℕ) → AreBytes bytes → AreBytes (take n bytes)
 bytes_take zero bytes small = tt
@@ -142,19 +145,19 @@ twice d xs ys zs e =
 nothing_more : (d : Ref) → d ≡ with_datum d []
 nothing_more d = ap (λ l. record { id = d.id; name = d.name; attrs = d.attrs; datum = l }) (sym (append-nil d.datum))
 
-lines_run : (charset : Charset) (n : ℕ) (bytes : List ℕ) (k : ℕ) (d : Ref) (c : Said) → AreBytes bytes
-    → run (Ok (at mode.Between place.Data [] k d c)) (data_lines charset n bytes)
+lines_run : (lettering : Lettering) (n : ℕ) (bytes : List ℕ) (k : ℕ) (d : Ref) (c : Said) → AreBytes bytes
+    → run (Ok (at mode.Between place.Data [] k d c)) (data_lines lettering n bytes)
     ≡ Ok (at mode.Between place.Data [] k (with_datum d (take (16 * n) bytes)) c)
-lines_run charset zero bytes k d c small = ap (λ r. Ok (at mode.Between place.Data [] k r c)) (nothing_more d)
-lines_run charset (suc n) bytes k d c small =
+lines_run lettering zero bytes k d c small = ap (λ r. Ok (at mode.Between place.Data [] k r c)) (nothing_more d)
+lines_run lettering (suc n) bytes k d c small =
     let s = at mode.Between place.Data [] k d c in
     let t = at mode.Between place.Data [] k (with_datum d (take 16 bytes)) c in
     let grown : 16 + 16 * n ≡ 16 * suc n = omega arith in
     let whole : take 16 bytes ++ take (16 * n) (drop 16 bytes) ≡ take (16 * suc n) bytes =
     sym (take-add 16 (16 * n) bytes) ∙ ap (λ m. take m bytes) grown in
-    after s t _ (data_line charset (take 16 bytes)) (data_lines charset n (drop 16 bytes))
-    (data_line_run charset (take 16 bytes) k d c (bytes_take 16 bytes small))
-    (lines_run charset n (drop 16 bytes) k (with_datum d (take 16 bytes)) c (bytes_drop 16 bytes small)
+    after s t _ (data_line lettering (take 16 bytes)) (data_lines lettering n (drop 16 bytes))
+    (data_line_run lettering (take 16 bytes) k d c (bytes_take 16 bytes small))
+    (lines_run lettering n (drop 16 bytes) k (with_datum d (take 16 bytes)) c (bytes_drop 16 bytes small)
     ∙ ap (λ r. Ok (at mode.Between place.Data [] k r c)) (twice d (take 16 bytes) _ _ whole))
 
 take_all : (n : ℕ) (bytes : List ℕ) → length bytes ≤ n → take n bytes ≡ bytes
@@ -168,9 +171,9 @@ pub all_lines : (bytes : List ℕ) → take (16 * line_count bytes) bytes ≡ by
 all_lines bytes = take_all (16 * line_count bytes) bytes (omega arith)
 
 -- the data of a resource of which no data is stated yet
-pub data_run : (charset : Charset) (bytes : List ℕ) (k : ℕ) (d : Ref) (c : Said) → AreBytes bytes
-    → run (Ok (at mode.Between place.Data [] k d c)) (data_lines charset (line_count bytes) bytes)
+pub data_run : (lettering : Lettering) (bytes : List ℕ) (k : ℕ) (d : Ref) (c : Said) → AreBytes bytes
+    → run (Ok (at mode.Between place.Data [] k d c)) (data_lines lettering (line_count bytes) bytes)
     ≡ Ok (at mode.Between place.Data [] k (with_datum d bytes) c)
-data_run charset bytes k d c small =
-    lines_run charset (line_count bytes) bytes k d c small
+data_run lettering bytes k d c small =
+    lines_run lettering (line_count bytes) bytes k d c small
     ∙ ap (λ l. Ok (at mode.Between place.Data [] k (with_datum d l) c)) (all_lines bytes)

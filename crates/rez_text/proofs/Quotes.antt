@@ -7,6 +7,9 @@ use Rattle.byteorder.specs.Endian.{big_number, big_bytes}
 use Rattle.byteorder.specs.Numbers.{big_number-reads_back}
 use Rattle.fork_format.specs.Content.{Ref}
 use Rattle.mac_words.specs.Digits.{upper_digit}
+use Rattle.mac_roman.specs.declared.charset.Charset.TheVariants.{Ascii}
+use Rattle.rez_text.specs.declared.lettering.Lettering.{Lettering}
+use Rattle.rez_text.specs.declared.lettering.Lettering.TheVariants.{Plain, Roman}
 use Rattle.rez_text.specs.declared.mode.Quote.{Quote}
 use Rattle.rez_text.specs.declared.mode.Quote.TheVariants as quotes
 use Rattle.rez_text.specs.declared.mode.Radix.TheVariants as radix
@@ -18,7 +21,7 @@ use Rattle.rez_text.specs.Tokens.{string, type_token}
 use Rattle.rez_text.specs.Lexing.{step, between, quoted, escape, escape_zero, escape_number}
 use Rattle.rez_text.specs.Ascii.{quote_byte, digit_in, ends_line}
 use Rattle.rez_text.specs.Bytes.{AreBytes}
-use Rattle.rez_text.specs.Printing.{byte_hex, is_printable, escaped, in_quotes, type_literal}
+use Rattle.rez_text.specs.Printing.{byte_hex, stands, escaped, in_quotes, type_literal}
 use Rattle.rez_text.proofs.Steps.{at, run, after}
 use Rattle.rez_text.proofs.Digits.{digit_read}
 
@@ -87,54 +90,55 @@ number_run q b p g k d c small =
     (low_step q (upper_digit (b % 16)) (b / 16) (b % 16) p g k d c (digit_read _ low) (le-ltb 255 _ fits)
     ∙ ap (λ n. Ok (at (mode.Quoted q) p (g ++ n ∷ []) k d c)) whole))
 
-printable_no_end : (b : ℕ) → b < 256 → is_printable b ≡ true → ends_line b ≡ false
-printable_no_end b small h =
-    let both : (is_printable b && ends_line b) ≡ false =
-    agree_below_at (λ n. is_printable n && ends_line n) (λ _. false) 256 b refl small in
-    sym (ap (λ v. v && ends_line b) h) ∙ both
+standing_no_end : (lettering : Lettering) (b : ℕ) → b < 256 → stands lettering b ≡ true → ends_line b ≡ false
+standing_no_end lettering b small h = sym (ap (λ v. v && ends_line b) h) ∙ both lettering
+  where
+    both : (lettering : Lettering) → (stands lettering b && ends_line b) ≡ false
+    both (Plain set) = agree_below_at (λ n. stands (Plain set) n && ends_line n) (λ _. false) 256 b refl small
+    both Roman = agree_below_at (λ n. stands Roman n && ends_line n) (λ _. false) 256 b refl small
 
 -- any byte
-escaped_run : (q : Quote) (b : ℕ) (p : Place) (g : List ℕ) (k : ℕ) (d : Ref) (c : Said) → b < 256
-    → run (Ok (at (mode.Quoted q) p g k d c)) (escaped (quote_byte q) b)
+escaped_run : (lettering : Lettering) (q : Quote) (b : ℕ) (p : Place) (g : List ℕ) (k : ℕ) (d : Ref) (c : Said) → b < 256
+    → run (Ok (at (mode.Quoted q) p g k d c)) (escaped lettering (quote_byte q) b)
     ≡ Ok (at (mode.Quoted q) p (g ++ b ∷ []) k d c)
-escaped_run q b p g k d c small =
+escaped_run lettering q b p g k d c small =
     let s = at (mode.Quoted q) p g k d c in
     let t : ℕ → State = λ n. at (mode.Quoted q) p (g ++ n ∷ []) k d c in
-    let by_print : (v : Bool) → is_printable b ≡ v → (b == quote_byte q) ≡ false → (b == 92) ≡ false
+    let by_print : (v : Bool) → stands lettering b ≡ v → (b == quote_byte q) ≡ false → (b == 92) ≡ false
     → run (Ok s) (cond v (b ∷ []) (92 ∷ 48 ∷ 120 ∷ byte_hex b)) ≡ Ok (t b) =
-    λ v. elim v as (λ w. is_printable b ≡ w → (b == quote_byte q) ≡ false → (b == 92) ≡ false
+    λ v. elim v as (λ w. stands lettering b ≡ w → (b == quote_byte q) ≡ false → (b == 92) ≡ false
     → run (Ok s) (cond w (b ∷ []) (92 ∷ 48 ∷ 120 ∷ byte_hex b)) ≡ Ok (t b)) [
-      | true ↦ λ h e f. plain_step q b p g k d c e f (printable_no_end b small h)
+      | true ↦ λ h e f. plain_step q b p g k d c e f (standing_no_end lettering b small h)
       | false ↦ λ h e f. number_run q b p g k d c small
     ] in
     let by_stroke : (v : Bool) → (b == 92) ≡ v → (b == quote_byte q) ≡ false
-    → run (Ok s) (cond v (92 ∷ 92 ∷ []) (cond (is_printable b) (b ∷ []) (92 ∷ 48 ∷ 120 ∷ byte_hex b))) ≡ Ok (t b) =
+    → run (Ok s) (cond v (92 ∷ 92 ∷ []) (cond (stands lettering b) (b ∷ []) (92 ∷ 48 ∷ 120 ∷ byte_hex b))) ≡ Ok (t b) =
     λ v. elim v as (λ w. (b == 92) ≡ w → (b == quote_byte q) ≡ false
-    → run (Ok s) (cond w (92 ∷ 92 ∷ []) (cond (is_printable b) (b ∷ []) (92 ∷ 48 ∷ 120 ∷ byte_hex b))) ≡ Ok (t b)) [
+    → run (Ok s) (cond w (92 ∷ 92 ∷ []) (cond (stands lettering b) (b ∷ []) (92 ∷ 48 ∷ 120 ∷ byte_hex b))) ≡ Ok (t b)) [
       | true ↦ λ h e. stroke_run q p g k d c ∙ ap (λ n. Ok (t n)) (sym (eqb-true b 92 h))
-      | false ↦ λ h e. by_print (is_printable b) refl e h
+      | false ↦ λ h e. by_print (stands lettering b) refl e h
     ] in
     let by_quote : (v : Bool) → (b == quote_byte q) ≡ v
     → run (Ok s) (cond v (92 ∷ b ∷ [])
-    (cond (b == 92) (92 ∷ 92 ∷ []) (cond (is_printable b) (b ∷ []) (92 ∷ 48 ∷ 120 ∷ byte_hex b)))) ≡ Ok (t b) =
+    (cond (b == 92) (92 ∷ 92 ∷ []) (cond (stands lettering b) (b ∷ []) (92 ∷ 48 ∷ 120 ∷ byte_hex b)))) ≡ Ok (t b) =
     λ v. elim v as (λ w. (b == quote_byte q) ≡ w
     → run (Ok s) (cond w (92 ∷ b ∷ [])
-    (cond (b == 92) (92 ∷ 92 ∷ []) (cond (is_printable b) (b ∷ []) (92 ∷ 48 ∷ 120 ∷ byte_hex b)))) ≡ Ok (t b)) [
+    (cond (b == 92) (92 ∷ 92 ∷ []) (cond (stands lettering b) (b ∷ []) (92 ∷ 48 ∷ 120 ∷ byte_hex b)))) ≡ Ok (t b)) [
       | true ↦ λ h. subst (λ n. run (Ok s) (92 ∷ n ∷ []) ≡ Ok (t n)) (sym (eqb-true b (quote_byte q) h))
           (quote_run q p g k d c)
       | false ↦ λ h. by_stroke (b == 92) refl h
     ] in
     by_quote (b == quote_byte q) refl
 
-pub escaped_all : (bytes : List ℕ) (q : Quote) (p : Place) (g : List ℕ) (k : ℕ) (d : Ref) (c : Said)
+pub escaped_all : (lettering : Lettering) (bytes : List ℕ) (q : Quote) (p : Place) (g : List ℕ) (k : ℕ) (d : Ref) (c : Said)
     → AreBytes bytes
-    → run (Ok (at (mode.Quoted q) p g k d c)) (flat_map (escaped (quote_byte q)) bytes)
+    → run (Ok (at (mode.Quoted q) p g k d c)) (flat_map (escaped lettering (quote_byte q)) bytes)
     ≡ Ok (at (mode.Quoted q) p (g ++ bytes) k d c)
-escaped_all [] q p g k d c small = ap (λ l. Ok (at (mode.Quoted q) p l k d c)) (sym (append-nil g))
-escaped_all (b ∷ bytes) q p g k d c small =
-    after (at (mode.Quoted q) p g k d c) (at (mode.Quoted q) p (g ++ b ∷ []) k d c) _ (escaped (quote_byte q) b)
-    (flat_map (escaped (quote_byte q)) bytes) (escaped_run q b p g k d c small.0)
-    (escaped_all bytes q p (g ++ b ∷ []) k d c small.1
+escaped_all lettering [] q p g k d c small = ap (λ l. Ok (at (mode.Quoted q) p l k d c)) (sym (append-nil g))
+escaped_all lettering (b ∷ bytes) q p g k d c small =
+    after (at (mode.Quoted q) p g k d c) (at (mode.Quoted q) p (g ++ b ∷ []) k d c) _ (escaped lettering (quote_byte q) b)
+    (flat_map (escaped lettering (quote_byte q)) bytes) (escaped_run lettering q b p g k d c small.0)
+    (escaped_all lettering bytes q p (g ++ b ∷ []) k d c small.1
     ∙ ap (λ l. Ok (at (mode.Quoted q) p l k d c)) (append_assoc g (b ∷ []) bytes))
 
 -- a resource with another name
@@ -153,16 +157,16 @@ name_closes : (g : List ℕ) (k : ℕ) (d : Ref) (c : Said) → nat_lt 255 (leng
 unfolding step quoted string
 name_closes g k d c e = rw e refl
 
-pub name_run : (text : List ℕ) (k : ℕ) (d : Ref) (c : Said) → AreBytes text → length text ≤ 255
-    → run (Ok (at mode.Between place.NameOrAttribute [] k d c)) (in_quotes 34 text)
+pub name_run : (lettering : Lettering) (text : List ℕ) (k : ℕ) (d : Ref) (c : Said) → AreBytes text → length text ≤ 255
+    → run (Ok (at mode.Between place.NameOrAttribute [] k d c)) (in_quotes lettering 34 text)
     ≡ Ok (at mode.Between place.AfterArgument [] k (with_name d text) c)
-name_run text k d c small short =
+name_run lettering text k d c small short =
     let s = at mode.Between place.NameOrAttribute [] k d c in
     let t = at (mode.Quoted quotes.Double) place.NameOrAttribute [] k d c in
     let u = at (mode.Quoted quotes.Double) place.NameOrAttribute text k d c in
-    after s u _ (34 ∷ [] ++ flat_map (escaped 34) text) (34 ∷ [])
-    (after s t _ (34 ∷ []) (flat_map (escaped 34) text) (name_opens k d c)
-    (escaped_all text quotes.Double place.NameOrAttribute [] k d c small))
+    after s u _ (34 ∷ [] ++ flat_map (escaped lettering 34) text) (34 ∷ [])
+    (after s t _ (34 ∷ []) (flat_map (escaped lettering 34) text) (name_opens k d c)
+    (escaped_all lettering text quotes.Double place.NameOrAttribute [] k d c small))
     (name_closes text k d c (le-ltb 255 (length text) short))
 
 type_opens : (d : Ref) (c : Said)
@@ -176,7 +180,7 @@ type_closes : (g : List ℕ) (d : Ref) (c : Said) → (length g == 4) ≡ true
 unfolding step quoted type_token
 type_closes g d c e = rw e refl
 
-kind_bytes : (kind : ℕ) → AreBytes (big_bytes 4 kind)
+pub kind_bytes : (kind : ℕ) → AreBytes (big_bytes 4 kind)
 kind_bytes kind = search (rules, arith)
 
 kind_again : (kind : ℕ) → kind < 2 ^ 32 → big_number 4 (big_bytes 4 kind) ≡ kind
@@ -192,7 +196,7 @@ type_run kind d c small =
     let s = at mode.Between place.Type [] 0 d c in
     let t = at (mode.Quoted quotes.Single) place.Type [] 0 d c in
     let u = at (mode.Quoted quotes.Single) place.Type text 0 d c in
-    after s u _ (39 ∷ [] ++ flat_map (escaped 39) text) (39 ∷ [])
-    (after s t _ (39 ∷ []) (flat_map (escaped 39) text) (type_opens d c)
-    (escaped_all text quotes.Single place.Type [] 0 d c (kind_bytes kind)))
+    after s u _ (39 ∷ [] ++ flat_map (escaped (Plain Ascii) 39) text) (39 ∷ [])
+    (after s t _ (39 ∷ []) (flat_map (escaped (Plain Ascii) 39) text) (type_opens d c)
+    (escaped_all (Plain Ascii) text quotes.Single place.Type [] 0 d c (kind_bytes kind)))
     (type_closes text d c refl ∙ ap (λ n. Ok (at mode.Between place.Parenthesis [] n d c)) (kind_again kind small))

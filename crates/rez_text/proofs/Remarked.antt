@@ -11,7 +11,7 @@ use Rattle.mac_words.specs.Digits.{upper_digit}
 use Rattle.rez_statements.specs.Types.{Declared}
 use Rattle.rez_text.specs.declared.mode.Mode.TheVariants as mode
 use Rattle.rez_text.specs.declared.mode.Place.TheVariants as place
-use Rattle.rez_text.specs.State.{Said, State, no_ref, with_content}
+use Rattle.rez_text.specs.State.{Said, State, Files, no_ref, with_content}
 use Rattle.rez_text.specs.Bytes.{AreBytes}
 use Rattle.rez_text.specs.Remarks.{is_blank, hex_value, byte_of, hex_from, begins, bytes_after, stated}
 use Rattle.rez_text.specs.Remarks.{remarked, comment, with_area, with_map_attributes}
@@ -207,15 +207,15 @@ attributes_comment_run attrs c small =
     (comment_run (byte_hex low) place.Outside (words ++ byte_hex high) 0 no_ref c (byte_no_star low second)))
     (attributes_closes ((words ++ byte_hex high) ++ byte_hex low) c _ stated)
 
-pub attributes_remark_run : (attrs : ℕ) (area : List ℕ) (groups : List Group) (types : List Declared) → attrs < 65536
-    → run (Ok (outside area 0 groups types)) (attributes_remark attrs) ≡ Ok (outside area attrs groups types)
-attributes_remark_run attrs area groups types small =
-    let c = saying area 0 groups types in
+pub attributes_remark_run : (attrs : ℕ) (area : List ℕ) (groups : List Group) (types : List Declared) (files : Files) → attrs < 65536
+    → run (Ok (outside area 0 groups types files)) (attributes_remark attrs) ≡ Ok (outside area attrs groups types files)
+attributes_remark_run attrs area groups types files small =
+    let c = saying area 0 groups types files in
     let go : (v : Bool) → (attrs == 0) ≡ v
-    → run (Ok (outside area 0 groups types)) (cond v [] (attributes_comment attrs)) ≡ Ok (outside area attrs groups types) =
+    → run (Ok (outside area 0 groups types files)) (cond v [] (attributes_comment attrs)) ≡ Ok (outside area attrs groups types files) =
     λ v. elim v as (λ w. (attrs == 0) ≡ w
-    → run (Ok (outside area 0 groups types)) (cond w [] (attributes_comment attrs)) ≡ Ok (outside area attrs groups types)) [
-      | true ↦ λ h. ap (λ n. Ok (outside area n groups types)) (sym (eqb-true attrs 0 h))
+    → run (Ok (outside area 0 groups types files)) (cond w [] (attributes_comment attrs)) ≡ Ok (outside area attrs groups types files)) [
+      | true ↦ λ h. ap (λ n. Ok (outside area n groups types files)) (sym (eqb-true attrs 0 h))
       | false ↦ λ h. attributes_comment_run attrs c small
     ] in
     go (attrs == 0) refl
@@ -243,16 +243,16 @@ all_zero (b ∷ area) h =
     let parts = and_parts (b == 0) (list_all (λ x. x == 0) area) h in
     ap (λ n. n ∷ area) (eqb-true b 0 parts.0) ∙ ap (λ l. 0 ∷ l) (all_zero area parts.1)
 
-pub area_remark_run : (area : List ℕ) (attrs : ℕ) (groups : List Group) (types : List Declared) → AreBytes area
-    → length area ≡ 240 → run (Ok (outside (replicate 240 0) attrs groups types)) (area_remark area) ≡ Ok (outside area attrs groups types)
-area_remark_run area attrs groups types small count =
-    let c = saying (replicate 240 0) attrs groups types in
+pub area_remark_run : (area : List ℕ) (attrs : ℕ) (groups : List Group) (types : List Declared) (files : Files) → AreBytes area
+    → length area ≡ 240 → run (Ok (outside (replicate 240 0) attrs groups types files)) (area_remark area) ≡ Ok (outside area attrs groups types files)
+area_remark_run area attrs groups types files small count =
+    let c = saying (replicate 240 0) attrs groups types files in
     let text = codes "/* header bytes" ++ area_lines (line_count area) area ++ codes "\n*/\n" in
     let go : (v : Bool) → list_all (λ b. b == 0) area ≡ v
-    → run (Ok (outside (replicate 240 0) attrs groups types)) (cond v [] text) ≡ Ok (outside area attrs groups types) =
+    → run (Ok (outside (replicate 240 0) attrs groups types files)) (cond v [] text) ≡ Ok (outside area attrs groups types files) =
     λ v. elim v as (λ w. list_all (λ b. b == 0) area ≡ w
-    → run (Ok (outside (replicate 240 0) attrs groups types)) (cond w [] text) ≡ Ok (outside area attrs groups types)) [
-      | true ↦ λ h. ap (λ l. Ok (outside l attrs groups types))
+    → run (Ok (outside (replicate 240 0) attrs groups types files)) (cond w [] text) ≡ Ok (outside area attrs groups types files)) [
+      | true ↦ λ h. ap (λ l. Ok (outside l attrs groups types files))
           (sym (all_zero area h ∙ ap (λ n. replicate n 0) count))
       | false ↦ λ h. area_comment_run area c small count
     ] in

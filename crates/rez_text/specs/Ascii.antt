@@ -1,4 +1,4 @@
-use Rattle.std.specs.Prelude.{ℕ, ◌==◌, nat_le, nat_lt, Bool, ◌&&◌, ◌||◌, Option, Some, None, if◌then◌else◌}
+use Rattle.std.specs.Prelude.{ℕ, ◌+◌, ◌==◌, nat_le, nat_lt, Bool, not, ◌&&◌, ◌||◌, Option, Some, None, if◌then◌else◌}
 use Rattle.rez_text.specs.declared.mode.Quote.{Quote}
 use Rattle.rez_text.specs.declared.mode.Quote.TheVariants as quotes
 use Rattle.rez_text.specs.declared.mode.Radix.{Radix}
@@ -9,6 +9,10 @@ use Rattle.rez_text.specs.Remarks.{hex_value}
 
 abbrev pub ends_line : ℕ → Bool
 ends_line b = b == 10 || b == 13
+
+-- The number of the line on which a byte stands, from that of the byte before it: CR, LF, and CR with LF, each end a line.
+abbrev pub line_of : ℕ → ℕ → ℕ → ℕ
+line_of line before b = if before == 10 || (before == 13 && not (b == 10)) then line + 1 else line
 
 abbrev pub is_digit : ℕ → Bool
 is_digit b = nat_le 48 b && nat_le b 57

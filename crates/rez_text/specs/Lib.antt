@@ -9,3 +9,4 @@ pub mod Printing
 pub mod Bytes
 pub mod Groups
 pub mod Scopes
+pub mod Coding

@@ -16,14 +16,20 @@ use Rattle.rez_text.specs.declared.mode.Mode.{Mode}
 use Rattle.rez_text.specs.declared.mode.Mode.TheVariants as mode
 use Rattle.rez_text.specs.declared.mode.Place.{Place}
 use Rattle.rez_text.specs.declared.reader.Reader.{Reader}
-use Rattle.rez_text.specs.View.{ref_said, content_said}
+use Rattle.rez_text.specs.View.{ref_said, content_said, files_of, names_of}
 
--- What statements have said: the content and the types that are declared before the statement in which the text stands, and the
--- form of that statement.
+-- The files whose bytes statements `read` take: the bytes of those that are given, and the names that the statements have stated.
+pub record Files : Type 0 where
+  pub given : List (List ℕ)
+  pub named : List (List ℕ)
+
+-- What statements have said: the content and the types that are declared before the statement in which the text stands, the form of
+-- that statement, and the files.
 pub record Said : Type 0 where
   pub content : Content
   pub types : List Declared
   pub form : Form
+  pub files : Files
 
 -- What has been read of a source: where the text stands within a token and within a statement, the bytes of the token
 -- so far, the type and the resource of the statement so far, and what statements have said.
@@ -43,23 +49,27 @@ no_ref = record { id = pos 0; name = None; attrs = 0; datum = [] }
 abbrev pub no_content : Content
 no_content = record { area = replicate 240 0; attrs = 0; groups = [] }
 
--- Before the first byte of a text, where these types are declared.
-abbrev pub start : Place → List Declared → State
-start p types = record {
+-- These files, none of which is named yet.
+abbrev pub unnamed : List (List ℕ) → Files
+unnamed files = record { given = files; named = [] }
+
+-- Before the first byte of a text, where these types are declared and these files are given.
+abbrev pub start : Place → List Declared → List (List ℕ) → State
+start p types files = record {
   mode = mode.Between;
   place = p;
   gathered = [];
   kind = 0;
   draft = no_ref;
-  said = record { content = no_content; types = types; form = forms.Data };
+  said = record { content = no_content; types = types; form = forms.Data; files = unnamed files };
 }
 
--- The same types and form with another content, and the same content and form with other types.
+-- The same with another content, and with other types.
 abbrev pub with_content : Content → Said → Said
-with_content c said = record { content = c; types = said.types; form = said.form }
+with_content c said = record { content = c; types = said.types; form = said.form; files = said.files }
 
 abbrev pub with_types : List Declared → Said → Said
-with_types types said = record { content = said.content; types = types; form = said.form }
+with_types types said = record { content = said.content; types = types; form = said.form; files = said.files }
 
 -- The text stands elsewhere within a token.
 abbrev pub in_mode : Mode → State → State
@@ -93,7 +103,12 @@ state_of r = record {
   gathered = r.gathered.items;
   kind = big_number 4 r.ty.0;
   draft = ref_said r.draft;
-  said = record { content = content_said r.source; types = types_of r.types; form = r.form };
+  said = record {
+    content = content_said r.source;
+    types = types_of r.types;
+    form = r.form;
+    files = record { given = files_of r.files.items; named = names_of r.named.items };
+  };
 }
 
 -- The fault of the text of a statement.

@@ -1,5 +1,5 @@
 use Rattle.std.specs.Prelude.{ℕ, ℤ, pos, neg_ℤ, ◌==◌, nat_lt, bytes_eq, codes, length, Option, Some, None, Result, Ok, Err}
-use Rattle.std.specs.Prelude.{List, ◌++◌, if◌then◌else◌, bit_or}
+use Rattle.std.specs.Prelude.{List, [], ◌∷◌, ◌++◌, if◌then◌else◌, bit_or, slice_get}
 use Rattle.byteorder.specs.Endian.{big_number}
 use Rattle.rez_statements.specs.declared.fault.StatementFault.{StatementFault}
 use Rattle.rez_statements.specs.Types.{with_type, datum_stated}
@@ -18,27 +18,34 @@ use Rattle.rez_text.specs.Scopes.{outside, inside}
 -- The statements of a source, token by token: what each token means at each place of a statement
 --   data TYPE ( ID [, NAME] [, ATTRIBUTE]... ) { [STRING]... } ;
 --   resource TYPE ( ID [, NAME] [, ATTRIBUTE]... ) { TEXT } ;
+--   read TYPE ( ID [, NAME] [, ATTRIBUTE]... ) FILE ;
 --   type TEXT ;
 
+-- What is wrong where after the arguments of a statement something else stands than what states its data.
+abbrev pub data_needed : Form → FaultKind
+data_needed forms.Data = faults.BraceNeeded
+data_needed forms.Resource = faults.BraceNeeded
+data_needed forms.Read = faults.FileNeeded
+
 -- What is wrong where none of the tokens stands that may stand at a place.
-abbrev pub needed : Place → FaultKind
-needed place.Outside = faults.NotAStatement
-needed place.Declaration = faults.NotAStatement
-needed place.Type = faults.TypeNeeded
-needed place.Parenthesis = faults.ParenthesisNeeded
-needed place.Id = faults.IdNeeded
-needed place.Negative = faults.IdNeeded
-needed place.AfterId = faults.EndOfArgumentsNeeded
-needed place.NameOrAttribute = faults.NameOrAttributeNeeded
-needed place.AfterArgument = faults.EndOfArgumentsNeeded
-needed place.Attribute = faults.AttributeNeeded
-needed place.Brace = faults.BraceNeeded
-needed place.Data = faults.DataNeeded
-needed place.Semicolon = faults.SemicolonNeeded
+abbrev pub needed : Form → Place → FaultKind
+needed f place.Outside = faults.NotAStatement
+needed f place.Declaration = faults.NotAStatement
+needed f place.Type = faults.TypeNeeded
+needed f place.Parenthesis = faults.ParenthesisNeeded
+needed f place.Id = faults.IdNeeded
+needed f place.Negative = faults.IdNeeded
+needed f place.AfterId = faults.EndOfArgumentsNeeded
+needed f place.NameOrAttribute = faults.NameOrAttributeNeeded
+needed f place.AfterArgument = faults.EndOfArgumentsNeeded
+needed f place.Attribute = faults.AttributeNeeded
+needed f place.Brace = data_needed f
+needed f place.Data = faults.DataNeeded
+needed f place.Semicolon = faults.SemicolonNeeded
 
 -- The token may not stand here.
 abbrev pub refused : State → Result State FaultKind
-refused s = Err (needed s.place)
+refused s = Err (needed s.said.form s.place)
 
 -- The word of an opposite states no bit.
 abbrev pub opposite : List ℕ → Option ℕ
@@ -81,7 +88,6 @@ unread_statement word =
     else if bytes_eq word (codes "delete") then Some unread.Delete
     else if bytes_eq word (codes "enum") then Some unread.Enum
     else if bytes_eq word (codes "include") then Some unread.Include
-    else if bytes_eq word (codes "read") then Some unread.Read
     else None
 
 abbrev pub unread_directive : List ℕ → Option Unread
@@ -104,10 +110,10 @@ abbrev pub no_statement : Option Unread → FaultKind
 no_statement None = faults.NotAStatement
 no_statement (Some u) = faults.NotRead u
 
--- A statement `data` begins, or a statement `resource`.
+-- A statement `data` begins, or a statement `resource` or `read`.
 abbrev pub form_begun : Form → State → State
 form_begun f s = come_to place.Type (record s {
-  said = record { content = s.said.content; types = s.said.types; form = f };
+  said = record { content = s.said.content; types = s.said.types; form = f; files = s.said.files };
 })
 
 -- A word with which a statement begins.
@@ -115,6 +121,7 @@ abbrev pub statement_begun : State → Result State FaultKind
 statement_begun s =
     if bytes_eq s.gathered (codes "data") then Ok (form_begun forms.Data s)
     else if bytes_eq s.gathered (codes "resource") then Ok (form_begun forms.Resource s)
+    else if bytes_eq s.gathered (codes "read") then Ok (form_begun forms.Read s)
     else if bytes_eq s.gathered (codes "type") then Ok (in_mode (mode.Declaring outside) s)
     else Err (no_statement (unread_word s.gathered))
 
@@ -124,6 +131,7 @@ declaration_begun s =
     if bytes_eq s.gathered (codes "type") then Ok (in_mode (mode.Declaring outside) s)
     else if bytes_eq s.gathered (codes "data") then Err faults.OnlyDeclarations
     else if bytes_eq s.gathered (codes "resource") then Err faults.OnlyDeclarations
+    else if bytes_eq s.gathered (codes "read") then Err faults.OnlyDeclarations
     else Err (no_statement (unread_word s.gathered))
 
 -- A word.
@@ -187,9 +195,37 @@ with_data s = come_to place.Data (record s {
   };
 })
 
--- A string: a name, or data.
+-- The bytes of a file, or none where it is not given.
+abbrev pub bytes_given : Option (List ℕ) → List ℕ
+bytes_given None = []
+bytes_given (Some bytes) = bytes
+
+-- The name of a file, whose bytes are the datum: the n-th statement `read` takes those of the n-th file that is given.
+abbrev pub with_file : State → State
+with_file s = come_to place.Semicolon (record s {
+  draft = record {
+    id = s.draft.id;
+    name = s.draft.name;
+    attrs = s.draft.attrs;
+    datum = bytes_given (slice_get s.said.files.given (length s.said.files.named));
+  };
+  said = record {
+    content = s.said.content;
+    types = s.said.types;
+    form = s.said.form;
+    files = record { given = s.said.files.given; named = s.said.files.named ++ s.gathered ∷ [] };
+  };
+})
+
+-- A string after the arguments of a statement: only after those of a statement `read`.
+abbrev pub file_named : Form → State → Result State FaultKind
+file_named forms.Read s = Ok (with_file s)
+file_named f s = refused s
+
+-- A string: a name, data, or the name of a file.
 abbrev pub string_at : Place → State → Result State FaultKind
 string_at place.NameOrAttribute s = named s
+string_at place.Brace s = file_named s.said.form s
 string_at place.Data s = Ok (with_data s)
 string_at p s = refused s
 
@@ -226,9 +262,10 @@ unfoldable pub resource_body : State → Result State FaultKind
 resource_body s = of_text (datum_stated s.kind s.gathered s.said.types) (λ bytes. with_datum bytes s)
 
 -- An opening brace.
-abbrev pub opened : Form → State → State
-opened forms.Data s = come_to place.Data s
-opened forms.Resource s = in_mode (mode.Body inside) s
+abbrev pub opened : Form → State → Result State FaultKind
+opened forms.Data s = Ok (come_to place.Data s)
+opened forms.Resource s = Ok (in_mode (mode.Body inside) s)
+opened forms.Read s = refused s
 
 -- A statement ends: its resource is one more of the content.
 abbrev pub with_statement : State → State
@@ -243,6 +280,7 @@ with_statement s = come_to place.Outside (record s {
     };
     types = s.said.types;
     form = forms.Data;
+    files = s.said.files;
   };
 })
 
@@ -258,7 +296,7 @@ mark_at place.AfterArgument b s =
     if b == 44 then Ok (come_to place.Attribute s)
     else if b == 41 then Ok (come_to place.Brace s)
     else refused s
-mark_at place.Brace b s = if b == 123 then Ok (opened s.said.form s) else refused s
+mark_at place.Brace b s = if b == 123 then opened s.said.form s else refused s
 mark_at place.Data b s = if b == 125 then Ok (come_to place.Semicolon s) else refused s
 mark_at place.Semicolon b s = if b == 59 then Ok (with_statement s) else refused s
 mark_at p b s = refused s

@@ -8,60 +8,57 @@ use rez_statements::{StatementFault, TypesFault};
 use std::alloc::{AllocError, AllocFailed};
 use thiserror::Error;
 
-/// A statement of Rez, or a directive, that is not read.
+/// A statement of Rez, or a directive, that is not read. `Display` says so, and what there is in its place.
 #[derive(Clone, Copy, Debug, PartialEq, Eq, Error)]
 pub enum Unread {
     /// Attributes, the name, the type or the ID of resources of the file are changed.
-    #[error("change")]
+    #[error("'change' is not read")]
     Change,
     /// Resources of the file are deleted.
-    #[error("delete")]
+    #[error("'delete' is not read")]
     Delete,
     /// Names of numbers are declared.
-    #[error("enum")]
+    #[error("'enum' is not read")]
     Enum,
     /// Resources of another file are put in.
-    #[error("include")]
+    #[error("'include' is not read: macmem merge puts two forks into one")]
     Include,
-    /// The bytes of another file are the data of a resource.
-    #[error("read")]
-    Read,
     /// A name is defined.
-    #[error("#define")]
+    #[error("'#define' is not read")]
     Define,
     /// What follows is read where the condition does not hold.
-    #[error("#else")]
+    #[error("'#else' is not read")]
     Else,
     /// A condition ends.
-    #[error("#endif")]
+    #[error("'#endif' is not read")]
     EndIf,
     /// What follows is read on a condition.
-    #[error("#if")]
+    #[error("'#if' is not read")]
     If,
     /// What follows is read where a name is defined.
-    #[error("#ifdef")]
+    #[error("'#ifdef' is not read")]
     IfDefined,
     /// What follows is read where a name is not defined.
-    #[error("#ifndef")]
+    #[error("'#ifndef' is not read")]
     IfNotDefined,
     /// Source of another file is put in.
-    #[error("#include")]
+    #[error("'#include' is not read: give the file with --types")]
     IncludeText,
     /// A name is defined no longer.
-    #[error("#undef")]
+    #[error("'#undef' is not read")]
     Undefine,
 }
 
 /// What is wrong at a place of a source.
 #[derive(Clone, Copy, Debug, PartialEq, Eq, Error)]
 pub enum FaultKind {
-    /// Between statements stands something other than `data`, a blank or a comment.
+    /// Between statements stands something that begins none.
     #[error("not a statement")]
     NotAStatement,
     /// Between statements stands a statement of Rez, or a directive, that is not read.
-    #[error("'{0}' is not read")]
+    #[error("{0}")]
     NotRead(Unread),
-    /// Among declarations of types stands `data` or `resource`.
+    /// Among declarations of types stands `data`, `resource` or `read`.
     #[error("only declarations of types may stand here")]
     OnlyDeclarations,
     /// In the text of a statement `type`, or between the braces of a statement `resource`, something is wrong.
@@ -75,7 +72,7 @@ pub enum FaultKind {
     /// A statement `type` has no semicolon, or a statement `resource` no closing brace.
     #[error("a statement does not end")]
     OpenStatement,
-    /// After `data` no type of four characters stands.
+    /// After `data`, `resource` or `read` no type of four characters stands.
     #[error("a type of four characters is needed")]
     TypeNeeded,
     /// After a type no `(` stands.
@@ -105,6 +102,9 @@ pub enum FaultKind {
     /// After `)` no `{` stands.
     #[error("an opening brace is needed")]
     BraceNeeded,
+    /// In a statement `read`, after `)` no string stands.
+    #[error("the name of a file is needed")]
+    FileNeeded,
     /// In the braces stands neither a string nor `}`.
     #[error("a string or a closing brace is needed")]
     DataNeeded,
@@ -144,6 +144,12 @@ pub enum FaultKind {
     /// Between statements stands a comment that begins as the one of the bytes after the header, and is not it.
     #[error("header bytes must be 480 hexadecimal digits")]
     NotHeaderBytes,
+    /// A text that says that it is in UTF-8 is not.
+    #[error("not UTF-8")]
+    NotUtf8,
+    /// A text in UTF-8 has a character that no byte of Mac OS Roman stands for.
+    #[error("Mac OS Roman has no character '{0}'")]
+    NoCharacter(char),
 }
 
 /// The first place where a source can't go on.
@@ -158,14 +164,22 @@ pub struct TextFault {
     pub kind: FaultKind,
 }
 
+/// The name of a file, as a statement `read` states it.
+#[derive(Debug, Drop)]
+pub struct FileName {
+    /// The name in Mac OS Roman.
+    pub bytes: Vec<u8>,
+}
+
 /// The reason why a source could not be read.
-#[derive(Clone, Copy, Debug, PartialEq, Eq, Error)]
+#[derive(Debug, Drop)]
 pub enum SourceFault {
     /// The text can't go on at a place.
-    #[error("{0}")]
     Text(TextFault),
+    /// Nothing is wrong in the text, but files are not given whose bytes its statements `read` take: their names, in the order of the
+    /// statements, each as often as it is named.
+    Files(Vec<FileName>),
     /// The host is out of memory. This fault says nothing about the text.
-    #[error("the host is out of memory")]
     HostMemory,
 }
 

@@ -2,9 +2,11 @@
 #![tactic(auto)]
 
 mod ascii;
+mod coding;
 mod fault;
 mod groups;
 mod laws;
+mod lettering;
 mod lexing;
 mod line;
 mod mode;
@@ -19,12 +21,15 @@ mod strings;
 mod words;
 mod write;
 
-pub use fault::{FaultKind, SourceFault, TextFault, Unread};
-pub use laws::a_source_is_read_again;
+pub use fault::{FaultKind, FileName, SourceFault, TextFault, Unread};
+pub use laws::{
+    a_coded_source_is_read_as_its_bytes, a_source_is_read_again, files_that_are_named_are_enough,
+};
+pub use lettering::Lettering;
 pub use read::{read_source, read_types};
 pub use scope::{Scope, ends_last, keeps};
 pub use source::Source;
 pub use write::{
-    push_area, push_attributes, push_id, push_map_attributes, push_name, push_statement, push_type,
-    write_source,
+    push_area, push_attributes, push_coding, push_id, push_map_attributes, push_name,
+    push_statement, push_type, write_source,
 };

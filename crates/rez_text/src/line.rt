@@ -1,7 +1,8 @@
 //! The lines of a text.
 
 ghost use Rattle.std.specs.Prelude.{◌≡◌, ◌<◌, ◌≤◌, ◌+◌, ◌-◌, ◌^◌};
-ghost use Rattle.rez_text.specs.Reading.{line_of as line_of_byte, lines_at, is_whole, fault_line, first_line, fault_at};
+ghost use Rattle.rez_text.specs.Ascii.{line_of as line_of_byte};
+ghost use Rattle.rez_text.specs.Reading.{lines_at, is_whole, fault_line, first_line, fault_at};
 
 use crate::fault::{FaultKind, SourceFault, StepFault, TextFault};
 use crate::mode::Mode;
@@ -18,7 +19,7 @@ pub(crate) struct Lines {
 }
 
 /// Returns the number of the line on which a byte stands, from the line of the byte before it.
-fn line_of(line: usize, last: u8, byte: u8) -> usize
+pub(crate) fn line_of(line: usize, last: u8, byte: u8) -> usize
     requires { line < 2 ^ 64 - 1 }
     ensures line { result ≡ line_of_byte line last byte }
     ensures small { result ≤ line + 1 }

@@ -1,7 +1,7 @@
 //! Where a reader stands: within a token, and within a statement.
 
 ghost use Rattle.std.specs.Prelude.{◌≡◌};
-ghost use Rattle.rez_text.specs.Tokens.{needed};
+ghost use Rattle.rez_text.specs.Tokens.{data_needed, needed};
 ghost use Rattle.rez_text.specs.Ascii.{quote_byte, base};
 
 use crate::fault::FaultKind;
@@ -99,6 +99,20 @@ pub(crate) enum Form {
     Data,
     /// By values of its type, after `resource`.
     Resource,
+    /// By the name of a file that has its data, after `read`.
+    Read,
+}
+
+impl Form {
+    /// Returns what is wrong where after the arguments something else stands than what states the data.
+    fn data_needed(self) -> FaultKind
+        ensures { result ≡ data_needed self }
+    {
+        match self {
+            Form::Data | Form::Resource => FaultKind::BraceNeeded,
+            Form::Read => FaultKind::FileNeeded,
+        }
+    }
 }
 
 /// Where a reader stands within a statement, by what may stand next.
@@ -124,7 +138,7 @@ pub(crate) enum Place {
     AfterArgument,
     /// An attribute.
     Attribute,
-    /// An opening brace.
+    /// What states the data: an opening brace; in a statement `read` the name of a file.
     Brace,
     /// A string, or a closing brace.
     Data,
@@ -133,9 +147,9 @@ pub(crate) enum Place {
 }
 
 impl Place {
-    /// Returns what is wrong where something else stands.
-    pub fn needed(self) -> FaultKind
-        ensures { result ≡ needed self }
+    /// Returns what is wrong where something else stands, in a statement of a form.
+    pub fn needed(self, form: Form) -> FaultKind
+        ensures { result ≡ needed form self }
     {
         match self {
             Place::Outside | Place::Declaration => FaultKind::NotAStatement,
@@ -145,7 +159,7 @@ impl Place {
             Place::AfterId | Place::AfterArgument => FaultKind::EndOfArgumentsNeeded,
             Place::NameOrAttribute => FaultKind::NameOrAttributeNeeded,
             Place::Attribute => FaultKind::AttributeNeeded,
-            Place::Brace => FaultKind::BraceNeeded,
+            Place::Brace => form.data_needed(),
             Place::Data => FaultKind::DataNeeded,
             Place::Semicolon => FaultKind::SemicolonNeeded,
         }

@@ -1,20 +1,21 @@
 //! Reading a source byte by byte.
 
-ghost use Rattle.std.specs.Prelude.{◌≡◌, ◌==◌, [], length, Some, None, Ok, Err, OnOk, map, if◌then◌else◌};
+ghost use Rattle.std.specs.Prelude.{◌≡◌, ◌==◌, [], length, Some, None, Ok, Err, OnOk, IfOk, map, slice_get, if◌then◌else◌};
 ghost use Rattle.std.specs.List.{position};
 ghost use Rattle.byteorder.specs.Endian.{big_number};
 ghost use Rattle.rez_text.specs.declared.mode.Place.TheVariants as places;
 ghost use Rattle.rez_text.specs.declared.fault.StepFault.TheVariants.{Wrong};
 ghost use Rattle.rez_statements.specs.View.{types_of};
-ghost use Rattle.rez_text.specs.View.{ref_said, group_said};
+ghost use Rattle.rez_text.specs.View.{ref_said, group_said, files_of, names_of};
 ghost use Rattle.rez_text.specs.Groups.{is_of};
 ghost use Rattle.rez_text.specs.State.{start, state_of, no_ref, Leads, with_ref};
 ghost use Rattle.rez_text.specs.State.{in_mode, gather as gathered, come_to as came_to};
 ghost use Rattle.rez_text.specs.Tokens.{refused, attribute, needed, with_attributes as attributed, statement_begun, word};
 ghost use Rattle.rez_text.specs.Tokens.{type_token, number as number_of, with_id as identified, attributes_in, named, with_data};
 ghost use Rattle.rez_text.specs.Tokens.{string, datum, mark, with_statement, form_begun, declaration_begun, type_statement, resource_body, opened};
+ghost use Rattle.rez_text.specs.Tokens.{bytes_given, with_file, file_named};
 
-use crate::fault::{FaultKind, StepFault};
+use crate::fault::{FaultKind, FileName, StepFault};
 use crate::groups::SourceGroups;
 use crate::mode::{Form, Mode, Place};
 use crate::name::SourceName;
@@ -45,6 +46,10 @@ pub(crate) struct Reader {
     pub types: Types,
     /// The form of the statement.
     pub form: Form,
+    /// The bytes of the files that statements `read` take.
+    pub files: Vec<Vec<u8>>,
+    /// The names of files that statements `read` have stated.
+    pub named: Vec<FileName>,
     pub alloc: Global,
 }
 
@@ -113,9 +118,9 @@ impl SourceGroups {
 }
 
 impl Reader {
-    /// Makes a reader before the first byte of a text, where types are declared.
-    pub fn new(alloc: Global, place: Place, types: Types) -> Reader
-        ensures { state_of result ≡ start place (types_of types) }
+    /// Makes a reader before the first byte of a text, where types are declared and files are given.
+    pub fn new(alloc: Global, place: Place, types: Types, files: Vec<Vec<u8>>) -> Reader
+        ensures { state_of result ≡ start place (types_of types) (files_of files.items) }
     {
         Reader {
             mode: Mode::Between,
@@ -130,15 +135,17 @@ impl Reader {
             },
             types,
             form: Form::Data,
+            files,
+            named: Vec::new(alloc),
             alloc,
         }
     }
 
     /// Returns the fault of a token that may not stand here.
     pub fn refuse(&self) -> StepFault
-        ensures { result ≡ Wrong (needed self.now.place) }
+        ensures { result ≡ Wrong (needed self.now.form self.now.place) }
     {
-        StepFault::Wrong(self.place.needed())
+        StepFault::Wrong(self.place.needed(self.form))
     }
 
     /// Goes on with another part of a token.
@@ -187,7 +194,7 @@ impl Reader {
         }
     }
 
-    /// Begins a statement `data` or `resource`.
+    /// Begins a statement of a form.
     fn begin_form(&mut self, form: Form)
         ensures { state_of self.new ≡ form_begun form (state_of self.old) }
     {
@@ -204,6 +211,9 @@ impl Reader {
             Ok(())
         } else if self.gathered.as_slice() == b"resource".as_slice() {
             self.begin_form(Form::Resource);
+            Ok(())
+        } else if self.gathered.as_slice() == b"read".as_slice() {
+            self.begin_form(Form::Read);
             Ok(())
         } else if self.gathered.as_slice() == b"type".as_slice() {
             self.go_on(Mode::Declaring(Scope::OUTSIDE));
@@ -223,6 +233,8 @@ impl Reader {
         } else if self.gathered.as_slice() == b"data".as_slice() {
             Err(StepFault::Wrong(FaultKind::OnlyDeclarations))
         } else if self.gathered.as_slice() == b"resource".as_slice() {
+            Err(StepFault::Wrong(FaultKind::OnlyDeclarations))
+        } else if self.gathered.as_slice() == b"read".as_slice() {
             Err(StepFault::Wrong(FaultKind::OnlyDeclarations))
         } else {
             Err(StepFault::Wrong(no_statement(self.gathered.as_slice())))
@@ -327,6 +339,39 @@ impl Reader {
         Ok(())
     }
 
+    /// Returns a copy of the bytes of the file that the statement names, or none where it is not given.
+    fn file_bytes(&self) -> Result<Vec<u8>, AllocError>
+        ensures { IfOk result (λ bytes. bytes.items
+            ≡ bytes_given (slice_get (files_of self.now.files.items) (length (names_of self.now.named.items)))) }
+    {
+        let mut bytes = Vec::new(self.alloc);
+        if let Some(file) = self.files.get(self.named.len()) {
+            bytes.extend_from_slice(file.as_slice())?;
+        }
+        Ok(bytes)
+    }
+
+    /// Takes a string as the name of the file that has the data of the resource.
+    fn take_file(&mut self) -> Result<(), StepFault>
+        ensures { Leads result (state_of self.new) (Ok (with_file (state_of self.old))) }
+    {
+        self.draft.datum = self.file_bytes()?;
+        let bytes = replace(&mut self.gathered, Vec::new(self.alloc));
+        self.named.push(FileName { bytes })?;
+        self.come_to(Place::Semicolon);
+        Ok(())
+    }
+
+    /// Takes a string after the arguments of a statement.
+    fn take_file_name(&mut self) -> Result<(), StepFault>
+        ensures { Leads result (state_of self.new) (file_named self.old.form (state_of self.old)) }
+    {
+        match self.form {
+            Form::Read => self.take_file(),
+            _ => Err(self.refuse()),
+        }
+    }
+
     /// Takes a string.
     #[tactic(auto, unfolding(crate::specs::Tokens::string))]
     pub fn take_string(&mut self) -> Result<(), StepFault>
@@ -334,6 +379,7 @@ impl Reader {
     {
         match self.place {
             Place::NameOrAttribute => self.take_name(),
+            Place::Brace => self.take_file_name(),
             Place::Data => self.take_data(),
             _ => Err(self.refuse()),
         }
@@ -392,12 +438,19 @@ impl Reader {
     }
 
     /// Takes an opening brace.
-    fn open(&mut self)
-        ensures { state_of self.new ≡ opened self.old.form (state_of self.old) }
+    fn open(&mut self) -> Result<(), StepFault>
+        ensures { Leads result (state_of self.new) (opened self.old.form (state_of self.old)) }
     {
         match self.form {
-            Form::Data => self.come_to(Place::Data),
-            Form::Resource => self.go_on(Mode::Body(Scope::INSIDE)),
+            Form::Data => {
+                self.come_to(Place::Data);
+                Ok(())
+            }
+            Form::Resource => {
+                self.go_on(Mode::Body(Scope::INSIDE));
+                Ok(())
+            }
+            Form::Read => Err(self.refuse()),
         }
     }
 
@@ -439,8 +492,7 @@ impl Reader {
             Place::AfterArgument => self.take_end(byte, Place::Attribute),
             Place::Brace => {
                 if byte == b'{' {
-                    self.open();
-                    Ok(())
+                    self.open()
                 } else {
                     Err(self.refuse())
                 }

@@ -40,7 +40,7 @@ fn hex_bytes(alloc: Global, text: &[u8]) -> Result<Option<Vec<u8>>, AllocError>
 }
 
 /// Returns a text without the blanks with which it begins.
-fn without_blanks(text: &[u8]) -> &[u8]
+pub(crate) fn without_blanks(text: &[u8]) -> &[u8]
     ensures { result.now ≡ after_blanks text.now }
 {
     let mut rest = text;
@@ -54,7 +54,7 @@ fn without_blanks(text: &[u8]) -> &[u8]
 }
 
 /// Reports whether a text begins with words.
-fn begins_with(text: &[u8], words: &[u8]) -> bool
+pub(crate) fn begins_with(text: &[u8], words: &[u8]) -> bool
     ensures { result ≡ begins words.now text.now }
 {
     words.len() <= text.len() && &text[..words.len()] == words

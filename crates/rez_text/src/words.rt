@@ -61,8 +61,6 @@ fn statement_of(word: &[u8]) -> Option<Unread>
         Some(Unread::Enum)
     } else if word == b"include".as_slice() {
         Some(Unread::Include)
-    } else if word == b"read".as_slice() {
-        Some(Unread::Read)
     } else {
         None
     }

@@ -4,13 +4,17 @@ ghost use Rattle.std.specs.Prelude.{◌≡◌, ◌<◌, ◌≤◌, ◌==◌, ◌
 ghost use Rattle.std.specs.List.{flat_map, list_all};
 ghost use Rattle.std.specs.Fmt.{signed_decimal};
 ghost use Rattle.fork_format.specs.View.{view_name, view_ref, view_group, view};
-ghost use Rattle.rez_text.specs.Printing.{byte_hex, gap, grouped, is_printable as is_printable_of, shown};
+ghost use Rattle.rez_text.specs.declared.lettering.Lettering.TheVariants.{Plain, Roman};
+ghost use Rattle.mac_roman.specs.declared.charset.Charset.TheVariants.{Ascii};
+ghost use Rattle.rez_text.specs.Coding.{coding_comment};
+ghost use Rattle.rez_text.specs.Printing.{byte_hex, gap, grouped, shown};
 ghost use Rattle.rez_text.specs.Printing.{margin, hex_column, text_column, data_line, data_lines, line_count, escaped};
 ghost use Rattle.rez_text.specs.Printing.{in_quotes, name_argument, word_for, attribute_words, attributes_argument};
 ghost use Rattle.rez_text.specs.Printing.{type_literal, opening, statement_head, statement, group_statements};
 ghost use Rattle.rez_text.specs.Printing.{attributes_comment, attributes_remark, area_line, area_lines, area_comment};
 ghost use Rattle.rez_text.specs.Printing.{area_remark, source_of};
 
+use crate::lettering::Lettering;
 use byteorder::{BigEndian, ByteOrder};
 use fork_format::{Content, Group, Ref, RefName, kind_of};
 use itoa::Buffer;
@@ -53,22 +57,38 @@ fn push_grouped(out: &mut Vec<u8>, bytes: &[u8]) -> Result<(), AllocError>
     Ok(())
 }
 
-fn is_printable(byte: u8) -> bool
-    ensures { result ≡ is_printable_of byte }
+/// Appends a byte as it is shown in the characters of a set.
+fn push_character(out: &mut Vec<u8>, set: Charset, byte: u8) -> Result<(), AllocError>
+    ensures { OnOk result (out.new.items ≡ out.old.items ++ shown (Plain set) byte) }
 {
-    32 <= byte && byte <= 126
-}
-
-/// Appends a byte as it is shown.
-fn push_shown_byte(out: &mut Vec<u8>, charset: Charset, byte: u8) -> Result<(), AllocError>
-    ensures { OnOk result (out.new.items ≡ out.old.items ++ shown charset byte) }
-{
-    if charset.prints(byte) && byte != b'*' {
+    if set.prints(byte) && byte != b'*' {
         append_character(out, byte)?;
     } else {
         out.push(b'.')?;
     }
     Ok(())
+}
+
+/// Appends a byte as it is shown in Mac OS Roman.
+fn push_roman(out: &mut Vec<u8>, byte: u8) -> Result<(), AllocError>
+    ensures { OnOk result (out.new.items ≡ out.old.items ++ shown Roman byte) }
+{
+    if Charset::Utf8.prints(byte) && byte != b'*' {
+        out.push(byte)?;
+    } else {
+        out.push(b'.')?;
+    }
+    Ok(())
+}
+
+/// Appends a byte as it is shown.
+fn push_shown_byte(out: &mut Vec<u8>, lettering: Lettering, byte: u8) -> Result<(), AllocError>
+    ensures { OnOk result (out.new.items ≡ out.old.items ++ shown lettering byte) }
+{
+    match lettering {
+        Lettering::Plain(set) => push_character(out, set, byte),
+        Lettering::Roman => push_roman(out, byte),
+    }
 }
 
 /// Appends blanks.
@@ -100,33 +120,33 @@ fn push_hex_column(out: &mut Vec<u8>, bytes: &[u8]) -> Result<(), AllocError>
 }
 
 /// Appends bytes as they are shown.
-fn push_shown(out: &mut Vec<u8>, charset: Charset, bytes: &[u8]) -> Result<(), AllocError>
-    ensures { OnOk result (out.new.items ≡ out.old.items ++ flat_map (shown charset) bytes.now) }
+fn push_shown(out: &mut Vec<u8>, lettering: Lettering, bytes: &[u8]) -> Result<(), AllocError>
+    ensures { OnOk result (out.new.items ≡ out.old.items ++ flat_map (shown lettering) bytes.now) }
 {
     for byte in bytes {
-        push_shown_byte(out, charset, *byte)?;
+        push_shown_byte(out, lettering, *byte)?;
     }
     Ok(())
 }
 
 /// Appends bytes as the text of a comment.
-fn push_text_column(out: &mut Vec<u8>, charset: Charset, bytes: &[u8]) -> Result<(), AllocError>
-    ensures { OnOk result (out.new.items ≡ out.old.items ++ text_column charset bytes.now) }
+fn push_text_column(out: &mut Vec<u8>, lettering: Lettering, bytes: &[u8]) -> Result<(), AllocError>
+    ensures { OnOk result (out.new.items ≡ out.old.items ++ text_column lettering bytes.now) }
 {
     out.extend_from_slice(b"/* ")?;
-    push_shown(out, charset, bytes)?;
+    push_shown(out, lettering, bytes)?;
     out.extend_from_slice(b" */\n")?;
     Ok(())
 }
 
 /// Appends a line of data.
-fn push_data_line(out: &mut Vec<u8>, charset: Charset, bytes: &[u8]) -> Result<(), AllocError>
+fn push_data_line(out: &mut Vec<u8>, lettering: Lettering, bytes: &[u8]) -> Result<(), AllocError>
     requires { length bytes.now ≤ 16 }
-    ensures { OnOk result (out.new.items ≡ out.old.items ++ data_line charset bytes.now) }
+    ensures { OnOk result (out.new.items ≡ out.old.items ++ data_line lettering bytes.now) }
 {
     push_hex_column(out, bytes)?;
     push_margin(out, bytes.len())?;
-    push_text_column(out, charset, bytes)
+    push_text_column(out, lettering, bytes)
 }
 
 /// Returns the first 16 bytes, or all that there are, and the bytes after them.
@@ -147,27 +167,32 @@ fn first_line(bytes: &[u8]) -> (&[u8], &[u8])
 }
 
 /// Appends the lines of a resource's data.
-fn push_data(out: &mut Vec<u8>, charset: Charset, datum: &[u8]) -> Result<(), AllocError>
-    ensures { OnOk result (out.new.items ≡ out.old.items ++ data_lines charset (line_count datum.now) datum.now) }
+fn push_data(out: &mut Vec<u8>, lettering: Lettering, datum: &[u8]) -> Result<(), AllocError>
+    ensures { OnOk result (out.new.items ≡ out.old.items ++ data_lines lettering (line_count datum.now) datum.now) }
 {
     let mut rest = datum;
     while !rest.is_empty() {
         let (line, more) = first_line(rest);
-        push_data_line(out, charset, line)?;
+        push_data_line(out, lettering, line)?;
         rest = more;
     }
     Ok(())
 }
 
 /// Appends a byte that stands between quotes.
-fn push_escaped(out: &mut Vec<u8>, quote: u8, byte: u8) -> Result<(), AllocError>
-    ensures { OnOk result (out.new.items ≡ out.old.items ++ escaped quote byte) }
+fn push_escaped(
+    out: &mut Vec<u8>,
+    lettering: Lettering,
+    quote: u8,
+    byte: u8,
+) -> Result<(), AllocError>
+    ensures { OnOk result (out.new.items ≡ out.old.items ++ escaped lettering quote byte) }
 {
     if byte == quote {
         out.extend_from_slice(&[b'\\', byte])?;
     } else if byte == b'\\' {
         out.extend_from_slice(b"\\\\")?;
-    } else if is_printable(byte) {
+    } else if lettering.stands(byte) {
         out.push(byte)?;
     } else {
         out.extend_from_slice(&[
@@ -182,32 +207,46 @@ fn push_escaped(out: &mut Vec<u8>, quote: u8, byte: u8) -> Result<(), AllocError
 }
 
 /// Appends bytes that stand between quotes.
-fn push_all_escaped(out: &mut Vec<u8>, quote: u8, bytes: &[u8]) -> Result<(), AllocError>
-    ensures { OnOk result (out.new.items ≡ out.old.items ++ flat_map (escaped quote) bytes.now) }
+fn push_all_escaped(
+    out: &mut Vec<u8>,
+    lettering: Lettering,
+    quote: u8,
+    bytes: &[u8],
+) -> Result<(), AllocError>
+    ensures { OnOk result (out.new.items ≡ out.old.items ++ flat_map (escaped lettering quote) bytes.now) }
 {
     for byte in bytes {
-        push_escaped(out, quote, *byte)?;
+        push_escaped(out, lettering, quote, *byte)?;
     }
     Ok(())
 }
 
 /// Appends bytes between quotes.
-fn push_quoted(out: &mut Vec<u8>, quote: u8, bytes: &[u8]) -> Result<(), AllocError>
-    ensures { OnOk result (out.new.items ≡ out.old.items ++ in_quotes quote bytes.now) }
+fn push_quoted(
+    out: &mut Vec<u8>,
+    lettering: Lettering,
+    quote: u8,
+    bytes: &[u8],
+) -> Result<(), AllocError>
+    ensures { OnOk result (out.new.items ≡ out.old.items ++ in_quotes lettering quote bytes.now) }
 {
     out.push(quote)?;
-    push_all_escaped(out, quote, bytes)?;
+    push_all_escaped(out, lettering, quote, bytes)?;
     out.push(quote)?;
     Ok(())
 }
 
 /// Appends a name after a comma, where there is one.
-pub fn push_name(out: &mut Vec<u8>, name: &Option<RefName<'_>>) -> Result<(), AllocError>
-    ensures { OnOk result (out.new.items ≡ out.old.items ++ name_argument (view_name name.now)) }
+pub fn push_name(
+    out: &mut Vec<u8>,
+    lettering: Lettering,
+    name: &Option<RefName<'_>>,
+) -> Result<(), AllocError>
+    ensures { OnOk result (out.new.items ≡ out.old.items ++ name_argument lettering (view_name name.now)) }
 {
     if let Some(name) = name {
         out.extend_from_slice(b", ")?;
-        push_quoted(out, b'"', name.bytes)?;
+        push_quoted(out, lettering, b'"', name.bytes)?;
     }
     Ok(())
 }
@@ -253,7 +292,7 @@ pub fn push_type(out: &mut Vec<u8>, kind: u32) -> Result<(), AllocError>
 {
     let mut bytes = [0; 4];
     BigEndian::write_u32(&mut bytes, kind);
-    push_quoted(out, b'\'', &bytes)
+    push_quoted(out, Lettering::Plain(Charset::Ascii), b'\'', &bytes)
 }
 
 /// Appends an ID.
@@ -278,11 +317,16 @@ fn push_type_and_id(out: &mut Vec<u8>, kind: u32, id: i16) -> Result<(), AllocEr
 
 /// Appends what stands before the data of a resource.
 #[tactic(auto, unfolding(crate::specs::Printing::statement_head))]
-fn push_head(out: &mut Vec<u8>, kind: u32, r: &Ref<'_>) -> Result<(), AllocError>
-    ensures { OnOk result (out.new.items ≡ out.old.items ++ statement_head kind (view_ref r.now)) }
+fn push_head(
+    out: &mut Vec<u8>,
+    lettering: Lettering,
+    kind: u32,
+    r: &Ref<'_>,
+) -> Result<(), AllocError>
+    ensures { OnOk result (out.new.items ≡ out.old.items ++ statement_head lettering kind (view_ref r.now)) }
 {
     push_type_and_id(out, kind, r.id)?;
-    push_name(out, &r.name)?;
+    push_name(out, lettering, &r.name)?;
     push_attributes(out, r.attrs.0)?;
     out.extend_from_slice(b") {\n")?;
     Ok(())
@@ -291,37 +335,49 @@ fn push_head(out: &mut Vec<u8>, kind: u32, r: &Ref<'_>) -> Result<(), AllocError
 /// Appends a resource as a statement.
 pub fn push_statement(
     out: &mut Vec<u8>,
-    charset: Charset,
+    lettering: Lettering,
     kind: u32,
     r: &Ref<'_>,
 ) -> Result<(), AllocError>
-    ensures { OnOk result (out.new.items ≡ out.old.items ++ statement charset kind (view_ref r.now)) }
+    ensures { OnOk result (out.new.items ≡ out.old.items ++ statement lettering kind (view_ref r.now)) }
 {
-    push_head(out, kind, r)?;
-    push_data(out, charset, r.datum)?;
+    push_head(out, lettering, kind, r)?;
+    push_data(out, lettering, r.datum)?;
     out.extend_from_slice(b"};\n\n")?;
     Ok(())
 }
 
 /// Appends the resources of a type.
-fn push_group(out: &mut Vec<u8>, charset: Charset, group: &Group<'_>) -> Result<(), AllocError>
-    ensures { OnOk result (out.new.items ≡ out.old.items ++ group_statements charset (view_group group.now)) }
+fn push_group(out: &mut Vec<u8>, lettering: Lettering, group: &Group<'_>) -> Result<(), AllocError>
+    ensures { OnOk result (out.new.items ≡ out.old.items ++ group_statements lettering (view_group group.now)) }
 {
     let kind = kind_of(group.ty);
     for r in &group.refs {
-        push_statement(out, charset, kind, r)?;
+        push_statement(out, lettering, kind, r)?;
     }
     Ok(())
 }
 
 /// Appends all resources.
-fn push_groups(out: &mut Vec<u8>, charset: Charset, groups: &[Group<'_>]) -> Result<(), AllocError>
+fn push_groups(
+    out: &mut Vec<u8>,
+    lettering: Lettering,
+    groups: &[Group<'_>],
+) -> Result<(), AllocError>
     ensures { OnOk result (out.new.items
-        ≡ out.old.items ++ flat_map (group_statements charset) (map view_group groups.now)) }
+        ≡ out.old.items ++ flat_map (group_statements lettering) (map view_group groups.now)) }
 {
     for group in groups {
-        push_group(out, charset, group)?;
+        push_group(out, lettering, group)?;
     }
+    Ok(())
+}
+
+/// Appends the comment that says that a text is in UTF-8. It comes first in the text.
+pub fn push_coding(out: &mut Vec<u8>) -> Result<(), AllocError>
+    ensures { OnOk result (out.new.items ≡ out.old.items ++ coding_comment) }
+{
+    out.extend_from_slice(b"/* -*- coding: utf-8 -*- */\n")?;
     Ok(())
 }
 
@@ -428,6 +484,10 @@ pub fn write_source(
     let mut out = Vec::with_capacity(alloc, room_for(content.groups.as_slice()))?;
     push_map_attributes(&mut out, content.attrs)?;
     push_area(&mut out, &content.area)?;
-    push_groups(&mut out, charset, content.groups.as_slice())?;
+    push_groups(
+        &mut out,
+        Lettering::Plain(charset),
+        content.groups.as_slice(),
+    )?;
     Ok(out)
 }

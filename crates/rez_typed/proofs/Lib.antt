@@ -1,3 +1,4 @@
 pub mod Chosen
+pub mod Plain
 pub mod Runs
 pub mod TypedAgain

@@ -1,3 +1,4 @@
+pub mod Styles
 pub mod Forms
 pub mod Source
 pub mod View

@@ -7,7 +7,7 @@ use Rattle.rez_typed.specs.Forms.{Form, Choice}
 -- The forms and the choices of the code.
 
 abbrev pub form_in : HeldForm → Form
-form_in f = record { text = f.text.items; declaration = declaration_of f.declaration }
+form_in f = record { text = f.text.items; declaration = declaration_of f.declaration; tail = f.tail }
 
 abbrev pub forms_in : List HeldForm → List Form
 forms_in forms = map form_in forms

@@ -98,7 +98,7 @@ const UNSOUND: [(&str, &str); 32] = [
     ),
     (
         "type 'TEST' { array { pstring ; } ; integer ; } ;",
-        "line 1: an array whose end nothing tells",
+        "line 1: an array without an end: give it a length, a count or a constant after it, or put it last",
     ),
     (
         "type 'TEST' { array { byte ; } ; integer = 0 ; } ;",

@@ -3,7 +3,7 @@
 use crate::words::bytes_of;
 use anyhow::{Context, Result, bail};
 use rez_declarations::TypeStated;
-use rez_printing::{declaration_text, show};
+use rez_printing::{Style, declaration_text, show};
 use rez_statements::{DeclaringStatement, datum_by, read_declaring};
 use rez_types::{Declaration, decode};
 use std::alloc::Global;
@@ -35,7 +35,7 @@ const ROWS: [Row; 12] = [
             case Icon: boolean enabled, disabled; key bitstring[7] = 32; byte = 2; integer;
             }; align word; }; };",
         bytes: "0001 00000000000a0014001e0050 04024f4b 00000001fff6000000200020 a0020080",
-        text: "\t{\n\t\t{10, 20, 30, 80}, Button { enabled, \"OK\" } /* fill $00000001 */;\n\t\t{-10, 0, 32, 32}, Icon { disabled, 128 }\n\t}\n",
+        text: "\t{\n\t\t{10, 20, 30, 80}, Button { enabled, \"OK\" };\n\t\t/* fill $00000001 */ {-10, 0, 32, 32}, Icon { disabled, 128 }\n\t}\n",
         statement: "type 'DITL' { integer = $$CountOf(DITLarray) - 1; array DITLarray { fill byte[4]; rect; switch { case Button: boolean enabled = 0, disabled = 1; key bitstring[7] = 0x4; pstring; case Icon: boolean enabled = 0, disabled = 1; key bitstring[7] = 0x20; byte = 0x2; integer; }; align word; }; };",
     },
     Row {
@@ -55,7 +55,7 @@ const ROWS: [Row; 12] = [
     Row {
         declared: "type 'TEST' { fill nibble; hex bitstring[4]; align long; hex string; };",
         bytes: "2b000100",
-        text: " /* fill $02 */\t0xB /* fill $000100 */,\n\t$\"\"\n",
+        text: "\t/* fill $02 */ 0xB /* fill $000100 */,\n\t$\"\"\n",
         statement: "type 'TEST' { fill bit[4]; hex bitstring[4]; align long; hex string; };",
     },
     Row {
@@ -108,7 +108,7 @@ fn declared(alloc: Global, text: &str) -> Result<([u8; 4], Declaration)> {
 /// Returns the text of a resource's values.
 fn shown(alloc: Global, declaration: &Declaration, bytes: &[u8]) -> Result<Vec<u8>> {
     let values = decode(alloc, declaration, bytes).context("no values")?;
-    Ok(show(alloc, declaration, values.as_slice())?)
+    Ok(show(alloc, Style::PLAIN, declaration, values.as_slice())?)
 }
 
 /// Returns the text of the declaration that the text of a statement states.

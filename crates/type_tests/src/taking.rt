@@ -3,7 +3,7 @@
 use crate::words::{bytes_of, words_of};
 use anyhow::{Context, Result, bail};
 use rez_declarations::{TypeStated, read_type};
-use rez_printing::show;
+use rez_printing::{Style, show};
 use rez_tokens::tokens;
 use rez_types::{Declaration, decode, encode};
 use rez_values::take;
@@ -259,7 +259,7 @@ fn printed_values_are_taken_again(rt: HostRuntime) -> Result<()> {
         let declaration = declaration_of(alloc, declared).context("a declaration")?;
         let bytes = bytes_of(alloc, digits)?;
         let values = decode(alloc, &declaration, bytes.as_slice()).context("values")?;
-        let text = show(alloc, &declaration, values.as_slice()).context("a text")?;
+        let text = show(alloc, Style::PLAIN, &declaration, values.as_slice()).context("a text")?;
         let tokens = tokens(alloc, text.as_slice())?;
         let again = take(alloc, &declaration, tokens.as_slice())?;
         let written = encode(alloc, &declaration, again.as_slice())?;

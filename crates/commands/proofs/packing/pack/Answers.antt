@@ -17,8 +17,8 @@ pub returns-in_err-files-clause-stopped : goal.returns-in_err-files-clause-stopp
 returns-in_err-files-clause-stopped g c =
     let said = c.in_ok-list.ensures.list in
     let same : c.from_residual-in_err-files.result ≡ Err c.in_err-files.field-0.0 = search rules in
-    let stops = c.in_err-files.ensures.stopped in
-    told_err _ _ _ same (files_unread c.args.packing said.0 (view_list c.in_ok-list.list) _ stops.0 _ _ _ _ said.1 said.2 (search rules) stops.1)
+    told_err _ _ _ same (files_unread c.args.packing said.0 (view_list c.in_ok-list.list) _ _ _ _ _ said.1 said.2 (search rules)
+    c.in_err-files.ensures.stopped)
 
 pub returns-in_err-fork-clause-stopped : goal.returns-in_err-fork-clause-stopped
 returns-in_err-fork-clause-stopped g c =

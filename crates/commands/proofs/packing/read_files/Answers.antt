@@ -1,11 +1,34 @@
 use Rattle.std.proofs.Common.{◌≡◌, ◌+◌, ◌∷◌, [], ℕ, List, Err, drop, map, string_bytes, subst, arith, rules}
+use Rattle.std.proofs.Common.{◌∙◌, ap, length, length-append, sym}
+use Rattle.std.proofs.lemmas.List.{map-append}
 use Rattle.std.proofs.lemmas.Grind.{common_steps}
 use Rattle.commands.specs.Accesses.{Read, and_then, IsUnread}
 use Rattle.commands.specs.Fault.{message_of}
 use Rattle.commands.specs.declared.fault.ToolFault.TheVariants.{HostMemory as NoMemory}
 use Rattle.commands.proofs.Accesses.{told_err}
-use Rattle.commands.proofs.Packed.{Came, so_far, unread_file, unkept_file}
+use Rattle.commands.proofs.Packed.{Came, further, all_came, unread_file, unkept_file}
 use Rattle.commands.proofs.packing.read_files.Goals as goal
+
+pub loop-path-preserved : goal.loop-path-preserved
+loop-path-preserved g c =
+    let i : ℕ = c.loop-path.path-index in
+    let x : List ℕ = string_bytes c.path-item.result in
+    let more : List (List ℕ) = map string_bytes (drop (i + 1) c.args.paths.now) in
+    let split : map string_bytes (drop i c.args.paths.now) ≡ x ∷ more = grind (arith, common_steps) in
+    let came = subst (λ l. Came (map string_bytes c.args.paths.now) l (map (λ file. file.items) c.loop-path.files.items)
+    (g.H.Host.accesses c.args.host.now) (g.H.Host.accesses c.loop-path.host)) split c.loop-path.invariant.came in
+    let read = subst (λ p. g.H.Host.accesses c.read_input.new.host ≡ and_then (g.H.Host.accesses c.loop-path.host)
+    (Read p c.in_ok-file.file.items ∷ [])) c.as_str.ensures.value c.in_ok-file.ensures.read in
+    let grown = ap (map (λ file. file.items)) c.in_ok-push_file.ensures
+    ∙ map-append (λ file. file.items) c.loop-path.files.items (c.in_ok-file.file ∷ []) in
+    let one = ap length c.in_ok-push_file.ensures ∙ length-append c.loop-path.files.items (c.in_ok-file.file ∷ []) in
+    let so_far = c.loop-path.invariant.count in
+    record {
+      silent = c.in_ok-file.ensures.silent ∙ c.loop-path.invariant.silent;
+      count = omega (arith, one, so_far);
+      came = subst (λ l. Came (map string_bytes c.args.paths.now) more l (g.H.Host.accesses c.args.host.now)
+          (g.H.Host.accesses c.read_input.new.host)) (sym grown) (further _ more _ x _ _ _ _ came read);
+    }
 
 pub returns-in_err-file-clause-stopped : goal.returns-in_err-file-clause-stopped
 returns-in_err-file-clause-stopped g c =
@@ -36,5 +59,5 @@ returns-in_err-push_file-clause-stopped g c =
 pub returns-clause-read : goal.returns-clause-read
 returns-clause-read g c =
     let none : map string_bytes (drop c.loop-path.path-index c.args.paths.now) ≡ [] = grind (arith, common_steps) in
-    so_far _ [] _ _ _ (subst (λ l. Came (map string_bytes c.args.paths.now) l (map (λ file. file.items) c.loop-path.files.items)
+    all_came _ _ _ _ (subst (λ l. Came (map string_bytes c.args.paths.now) l (map (λ file. file.items) c.loop-path.files.items)
     (g.H.Host.accesses c.args.host.now) (g.H.Host.accesses c.loop-path.host)) none c.loop-path.invariant.came)

@@ -6,7 +6,7 @@ use Rattle.rez_printing.proofs.pieces.push_text.Given as goal
 -- no name so far stands for the string, and nothing is written
 abbrev pub invariant-loop-constant : goal.invariant-loop-constant
 invariant-loop-constant l = record {
-  rest : named_text l.is_hex (map text_of (drop l.constant-index l.constants)) l.bytes
-      ≡ named_text l.is_hex (map text_of l.constants) l.bytes;
+  rest : named_text l.style l.layout l.text.is_hex (map text_of (drop l.constant-index l.text.constants.items)) l.bytes
+      ≡ named_text l.style l.layout l.text.is_hex (map text_of l.text.constants.items) l.bytes;
   same : l.out.items ≡ l.fn.out.items;
 }

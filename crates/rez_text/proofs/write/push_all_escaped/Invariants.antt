@@ -5,5 +5,5 @@ use Rattle.rez_text.proofs.write.push_all_escaped.Given as goal
 
 -- the bytes so far, with those to come, are all
 abbrev pub invariant-loop-byte : goal.invariant-loop-byte
-invariant-loop-byte l = l.out.items ++ flat_map (escaped l.quote) (drop l.byte-index l.bytes)
-    ≡ l.fn.out.items ++ flat_map (escaped l.quote) l.bytes
+invariant-loop-byte l = l.out.items ++ flat_map (escaped l.lettering l.quote) (drop l.byte-index l.bytes)
+    ≡ l.fn.out.items ++ flat_map (escaped l.lettering l.quote) l.bytes

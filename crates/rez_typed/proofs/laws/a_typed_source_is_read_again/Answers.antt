@@ -10,6 +10,6 @@ pub returns-clause-same : goal.returns-clause-same
 returns-clause-same c = typed_same_again
 
 pub returns-clause-spelled : goal.returns-clause-spelled
-returns-clause-spelled c = λ types tried charset bytes x limits of_bytes spells.
-    typed_same_again types tried charset x limits of_bytes (spelled_references bytes x spells) (spelled_types bytes x spells)
+returns-clause-spelled c = λ types tried files style bytes x limits of_bytes spells.
+    typed_same_again types tried files style x limits of_bytes (spelled_references bytes x spells) (spelled_types bytes x spells)
     (spelled_clear bytes x spells)

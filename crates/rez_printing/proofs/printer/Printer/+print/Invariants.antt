@@ -31,5 +31,5 @@ invariant-print_fields-loop-field l =
 -- the elements to come lead to what all lead to
 abbrev pub invariant-print_elements-loop-count : goal.invariant-print_elements-loop-count
 invariant-print_elements-loop-count l =
-    shown_elements (shown_block l.depth (blocks_of l.blocks) l.block) l.next (l.most - l.count) (showing_of l.self)
-    ≡ shown_elements (shown_block l.depth (blocks_of l.blocks) l.block) l.next (length l.fn.self.values.now) (showing_of l.fn.self)
+    shown_elements (shown_block l.depth (blocks_of l.blocks) l.block) l.layout l.count (l.most - l.count) (showing_of l.self)
+    ≡ shown_elements (shown_block l.depth (blocks_of l.blocks) l.block) l.layout 0 (length l.fn.self.values.now) (showing_of l.fn.self)

@@ -1,0 +1,8 @@
+use Rattle.std.proofs.Common.{◌≡◌, ◌++◌, drop}
+use Rattle.std.specs.List.{flat_map}
+use Rattle.rez_printing.specs.Pieces.{points}
+use Rattle.rez_printing.proofs.pieces.push_all_points.Given as goal
+
+-- the points so far, with those to come, are all
+abbrev pub invariant-loop-byte : goal.invariant-loop-byte
+invariant-loop-byte l = l.out.items ++ flat_map points (drop l.byte-index l.bytes) ≡ l.fn.out.items ++ flat_map points l.bytes

@@ -1,0 +1,9 @@
+use Rattle.std.proofs.Common.{◌≡◌, drop, map}
+use Rattle.fork_format.specs.View.{view_group}
+use Rattle.rez_templates.specs.Templates.{refs_of_type}
+use Rattle.rez_templates.proofs.declaring.refs_of_type.Given as goal
+
+-- those of the groups to come are those of all
+abbrev pub invariant-loop-group : goal.invariant-loop-group
+invariant-loop-group l =
+    refs_of_type l.kind (map view_group (drop l.group-index l.groups)) ≡ refs_of_type l.kind (map view_group l.groups)
