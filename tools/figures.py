@@ -514,6 +514,63 @@ def roomy():
     return fork(data, lists, names_at=28 + len(lists))
 
 
+def holding(groups):
+    """a fork with resources from 1 on of types, by the bytes of each, and perhaps its name"""
+    data, lists, references, names = b"", struct.pack(">H", len(groups) - 1), b"", b""
+    at = 2 + 8 * len(groups)
+    for kind, listed in groups:
+        lists += type_entry(kind, len(listed), at)
+        at += 12 * len(listed)
+        for number, (datum, name) in enumerate(listed, 1):
+            references += reference(number, len(names) if name else 0xFFFF, len(data))
+            names += bytes([len(name)]) + name if name else b""
+            data += struct.pack(">I", len(datum)) + datum
+    lists += references
+    return fork(data, lists + names, names_at=28 + len(lists))
+
+
+STRING_LIST, STRING, TEMPLATE = 0x53545223, 0x53545220, 0x544D504C
+
+
+def strings_from(first, count, step=1):
+    """lists of so many strings in all, at most 1,000 each"""
+    texts = [b"%d" % number for number in range(first, first + step * count, step)]
+    lists = [texts[at:at + 1000] for at in range(0, count, 1000)]
+    return [(struct.pack(">H", len(it)) + b"".join(bytes([len(text)]) + text for text in it), None) for it in lists]
+
+
+def listed(count):
+    """strings in lists"""
+    return holding([(STRING_LIST, strings_from(0, count))])
+
+
+def tailed(count):
+    """strings with 16 bytes after them"""
+    return holding([(STRING, [(b"\1x" + bytes(16), None)] * count)])
+
+
+def templates(count):
+    """templates of 1,000 items each, for types of which each has a resource of 500 bytes"""
+    items = [(b"\0PSTR" * 500 + b"\0DBYT" * 500, b"T%03d" % number) for number in range(count)]
+    kinds = [(int.from_bytes(name, "big"), [(bytes(1000), None)]) for _, name in items]
+    return holding([(TEMPLATE, items), *kinds])
+
+
+def compared(change):
+    """strings in two forks, of which the second has others"""
+    def make(count):
+        first = put("unlucky.rsrc", holding([(STRING_LIST, strings_from(0, count))]))
+        return ["diff", "--text", first, put("unlucky-other.rsrc", holding([(STRING_LIST, change(count))]))]
+    return make
+
+
+def files_named(count):
+    """statements that read the same file of 100 bytes"""
+    put("unlucky-bytes", bytes(100))
+    lines = b"".join(b"read 'T%03d' (%d) \"unlucky-bytes\";\n" % (at % 1000, at // 1000) for at in range(count))
+    return ["rez", put("unlucky.r", lines), OUT + ".rsrc"]
+
+
 def read_by(word, make, damaged=False):
     return lambda count: [word, put("unlucky.rsrc", make(count, damaged) if damaged else make(count))]
 
@@ -665,12 +722,21 @@ UNLUCKY = [
     ("times stored data gets 16,777,215 bytes, and none again", 50,
      repeated(b"SetResourceSize h 16777215\nSetResourceSize h 0\n", EMPTIED)),
     ("resources that get 16,777,215 bytes each", 20, enlarged),
+    ("strings in lists: `derez`", 250000, read_by("derez", listed)),
+    ("strings with 16 bytes after them: `derez`", 2500, read_by("derez", tailed)),
+    ("templates of 1,000 items: `derez`", 200, read_by("derez", templates)),
+    ("strings, all of them others: `diff --text`", 50000, compared(lambda count: strings_from(count, count))),
+    ("strings, with one before all others: `diff --text`", 50000, compared(lambda count: strings_from(-1, count))),
+    ("strings in the opposite order: `diff --text`", 50000, compared(lambda count: strings_from(count - 1, count, -1))),
+    ("statements that read one file: `rez`", 2000, files_named),
 ]
 
 
 def attempt(words):
     """Seconds and kilobytes of a run, whose folder is made anew; None where it took too long"""
     shutil.rmtree(OUT, ignore_errors=True)
+    if os.path.exists(OUT + ".rsrc"):
+        os.remove(OUT + ".rsrc")
     return measure([PROGRAM] + words)
 
 

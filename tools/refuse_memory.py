@@ -4,7 +4,7 @@
 usage: tools/refuse_memory.py [--counts] [--all] PROGRAM [ARCHIVE..]
 
 The inputs are the scripts and the forks of examples/, and the commands of the archives (crates/worked_commands) that are done and
-have neither options nor absolute paths. Each is run whole, and compared with its archive. Then its N-th allocation is refused, for
+have no absolute paths; with options those that print or take source, and those that compare. Each is run whole, and compared with its archive. Then its N-th allocation is refused, for
 each N until a run meets no refusal: once that allocation alone, and once each from that one on. A run passes where it is like the
 whole one, or where its status is 1, it prints nothing, its standard error is the line 'macmem: no host memory', and it leaves what
 it is to leave:
@@ -17,7 +17,8 @@ it is to leave:
   happened, as a fork is put into its file, it may leave the first of the whole run's files, in the order in which they are written.
 
 With --counts a line for each input has the number of its allocations, and how many refusals the program did not notice. Of an input
-of more than 2000 allocations each seventh is refused, and each of the last 500; with --all each.
+of more than 2000 allocations each thirty-first is refused, of each input others, and each of the last 500; with --all each. (Most of
+them are those of the table of types, which each command on sources reads first.)
 The last line is 'N passed, M failed', of runs; each that failed has a line.
 """
 import collections
@@ -33,21 +34,24 @@ import sys
 import tempfile
 
 SECONDS = 20
-MOST, EACH, LAST = 2000, 7, 500
+MOST, EACH, LAST = 2000, 31, 500
 RUNS_OF_A_TASK = 40
 NO_MEMORY = b"macmem: no host memory\n"
 MODES = {"REFUSE_AT": "allocation {} refused", "REFUSE_FROM": "allocation {} and all later ones refused"}
 OPTIONS = {"--counts", "--all"}
 # What the library counts: allocations, refusals, writes to the standard error, and the allocations before each of these.
 COUNTS = struct.Struct("131Q")
-COMMANDS = ["script"], ["heap"], ["run"], ["map"], ["check"], ["get"], ["extract"], ["set"], ["diff"], ["rewrite"], ["derez"], ["rez"]
+COMMANDS = "script", "heap", "run", "map", "check", "get", "extract", "set", "diff", "rewrite", "derez", "show", "rez"
+# Commands that are tried with options too, but for those that are words alone.
+WITH_OPTIONS = "derez", "show", "rez"
+NAMED_OPTIONS = {"--rez", "--text", "--name", "--attrs"}
 EVENTS = (b"launch", b"step", b"turn", b"quit", b"rest")
 INPUTS = (b"system", b"app", b"file")
 # Parts of an archive that say what its command does; a command with one of the first is not done, or is not compared here.
-OTHERS = ("stderr", "stderr has", "stdout has", "status", "progress")
-WANTED = ("stdout", "asked", "each may fail", *OTHERS)
+OTHERS = ("stderr", "stderr has", "stdout has", "progress")
+WANTED = ("stdout", "asked", "status", "each may fail", *OTHERS)
 
-# A command, with the files that it reads; and what it is to print, and which files it is to write, where an archive says that.
+# A command, with the files that it reads; and its status, what it is to print, and which files it is to write, where an archive says that.
 Input = collections.namedtuple("Input", "name words files wanted")
 # What a run did: its status, a text where there is none; what it printed; the files that it wrote, None where it wrote none; the
 # numbers of its allocations and of its refusals; and the number of its allocations before each write to the standard error.
@@ -119,15 +123,23 @@ def read_archive(path):
     return files, commands
 
 
+def is_input(words, parts):
+    """Whether a command is done, and is tried here."""
+    if words[0] not in COMMANDS or any(it.startswith("/") for it in words) or any(it in parts for it in OTHERS):
+        return False
+    is_plain = words[0] in WITH_OPTIONS or all(not it.startswith("-") or it in NAMED_OPTIONS for it in words)
+    return is_plain and int(parts.get("status", b"0")) == (words[0] == "diff" and bool(parts.get("stdout")))
+
+
 def inputs_of_archive(path):
     files, commands = read_archive(path)
     files = {path: content for path, content in files.items() if not path.startswith("/")}
     for line, parts in commands:
         words = [quoted or plain for quoted, plain in re.findall(r'"([^"]*)"|(\S+)', line)][1:]
-        if words[:1] not in COMMANDS or any(it.startswith(("-", "/")) for it in words) or any(it in parts for it in OTHERS):
-            continue
-        left = {os.path.normpath(name[2:]): content for name, content in parts.items() if name.startswith("> ")}
-        yield Input(f"{os.path.basename(path)}: {line}", words, files, (parts.get("stdout", b""), left or None))
+        if is_input(words, parts):
+            left = {os.path.normpath(name[2:]): content for name, content in parts.items() if name.startswith("> ")}
+            wanted = int(parts.get("status", b"0")), parts.get("stdout", b""), left or None
+            yield Input(f"{os.path.basename(path)}: {line}", words, files, wanted)
 
 
 def inputs_of_examples(top):
@@ -379,7 +391,8 @@ def in_order(verdicts):
 def prepared(number):
     """What is known of an input; and of each run for that what was wrong with it, None where nothing was."""
     it, whole = place.inputs[number], place.run(number, {})
-    right = whole.status == 0 and whole.error == b"" and whole.met and it.wanted in (None, (whole.out, whole.files))
+    is_wanted = whole.status == 0 if it.wanted is None else it.wanted == (whole.status, whole.out, whole.files)
+    right = is_wanted and whole.error == b"" and whole.met
     wrong = [None if right else f"the whole run is not as it is to be: {ending(whole)}, {whole.met} allocations"]
     if it.words[0] != "run" or not right:
         return Known(whole, {}, [], 0, 0), wrong
@@ -397,18 +410,18 @@ def swept(task):
     return number, mode, [(it, judge(known, place.run(number, {mode: str(it)}), it)) for it in numbers]
 
 
-def numbers_of(whole, options):
-    """The allocations of a whole run that are refused, and the number behind the last, at which none is."""
+def numbers_of(place_of, whole, options):
+    """The allocations of a whole run that are refused, and the number behind the last, at which none is; those of the input at a place."""
     numbers = range(1, whole.met + 2)
     if whole.met <= MOST or "--all" in options:
         return list(numbers)
-    return [number for number in numbers if number % EACH == 0 or number > whole.met - LAST]
+    return [number for number in numbers if (number + place_of) % EACH == 0 or number > whole.met - LAST]
 
 
 def tasks_of(known, options):
     """The runs of each input whose whole run is right, in tasks."""
     for number, (it, wrong) in enumerate(known):
-        numbers = [] if wrong[0] else numbers_of(it.whole, options)
+        numbers = [] if wrong[0] else numbers_of(number, it.whole, options)
         for mode in MODES:
             for start in range(0, len(numbers), RUNS_OF_A_TASK):
                 yield number, mode, numbers[start:start + RUNS_OF_A_TASK], it

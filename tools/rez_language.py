@@ -217,7 +217,7 @@ class Block:
 
     def stand_alone(self):
         """No part of a run stands here."""
-        require(not self.waiting, Unsound("an array whose end nothing tells"))
+        require(not self.waiting, Unsound("an array without an end: give it a length, a count or a constant after it, or put it last"))
         require(not self.parts, Unsound("bits that are not one to four whole bytes"))
 
     def put(self, field):
@@ -227,7 +227,7 @@ class Block:
     def put_part(self, part):
         if self.waiting:
             is_end = isinstance(part, Constant) and part.width % 8 == 0
-            require(is_end, Unsound("an array whose end nothing tells"))
+            require(is_end, Unsound("an array without an end: give it a length, a count or a constant after it, or put it last"))
             name, fields = self.waiting
             self.fields.append(Array(name, ("before", part.number.to_bytes(part.width // 8, "big")), fields))
             self.waiting = None

@@ -1,18 +1,23 @@
 """Random sources with types in the language of Rez, and the resources that they state. For tests of the program.
 
-`random_fields(chance)` returns the fields of a sound declaration, `random_values(chance, fields)` values of them, and
-`random_source(chance)` a source, with the resources that it states, `table_source(chance, types)` one of declared types, and
-`damaged_source(chance)` one with a few other words; `chance` is a `random.Random`. The self-test, by
+`random_fields(chance)` returns the fields of a sound declaration, and `random_values(chance, fields)` values of them. A `Source` has a
+text, the files that its statements `read` name, a text of declarations that are to be read before it, and the resources that it
+states: `random_source(chance)` returns one, `table_source(chance, types)` one of declared types, and `damaged_source(chance)` one with a
+few other words. One in five says by a comment that it is UTF-8. `chance` is a `random.Random`. The self-test, by
 `tools/rez_types.py --selftest [COUNT]`, reads types/types.r, the examples of docs/types.md, worked statements, faults, and COUNT
 sources (300) that are made at random.
 """
+import collections
 import os
 import random
 import re
 
 from rez_language import (Align, Array, Bits, Case, Constant, Corners, Count, Fill, Number, Run, Switch, Text, Unsound, Wrong, declaration,
                           judged, key_of)
-from rez_types import ATTRIBUTES, Misfit, Resource, body, decode, encode, read_source
+from rez_types import ATTRIBUTES, CODING, MARK, Misfit, Resource, body, decode, encode, read_source
+
+# `found` is the list of the resources; of a text that can't be read the words that name its first fault; or None, where this tool can't tell.
+Source = collections.namedtuple("Source", "text found files types")
 
 # ---- Random declarations and values ----
 
@@ -369,33 +374,43 @@ def quote_of_head(text, quote):
 
 
 def head_words(chance, word, one):
-    """A statement up to its opening brace."""
+    """A statement up to its closing parenthesis."""
     words = [word, quote_of_head(one.kind, b"'"), b"(", b"%d" % one.identifier]
     words += [b",", quote_of_head(one.name, b'"')] if one.name is not None else []
     named = [name for name, bit in ATTRIBUTES.items() if one.attributes & bit]
     if sum(ATTRIBUTES[it] for it in named) != one.attributes or chance.random() < 0.3:
         named = [chance.choice([b"%d", b"$%02X"]) % one.attributes] * bool(one.attributes)
-    return words + sum(([b",", it] for it in named), []) + [b")", b"{"]
+    return words + sum(([b",", it] for it in named), []) + [b")"]
 
 
-def random_resource(chance, kind, fields):
+def plain_words(chance, one, files):
+    """A statement `data` or `read`; the file that it names is put to the others."""
+    if chance.random() < 0.5:
+        return [*head_words(chance, b"data", one), b"{", b'$"%s"' % one.data.hex().encode(), b"}", b";"]
+    name = chance.choice([it for it in files if files[it] == one.data] or [b"file%d" % len(files), b"below/file \x8e%d" % len(files)])
+    files[name] = one.data
+    return [*head_words(chance, any_case(chance, b"read"), one), quote_of_head(name, b'"'), b";"]
+
+
+def random_resource(chance, kind, fields, files):
     """A resource of a type, and the words of its statement; none where the values have no bytes."""
     name = chance.choice([None, None, b"", b"Name", random_bytes(chance, 5)])
     one = Resource(kind, chance.choice([128, -1, chance.randrange(-32768, 32768)]), name, chance.choice([0, 0, 32, 36, 1, 0xfd]), None)
     if fields is None:
-        data = chance.randbytes(chance.randrange(20))
-        return one._replace(data=data), [*head_words(chance, b"data", one), b'$"%s"' % data.hex().encode(), b"}", b";"]
+        one = one._replace(data=chance.randbytes(chance.randrange(20)))
+        return one, plain_words(chance, one, files)
     values = random_values(chance, fields)
     try:
         one = one._replace(data=encode(fields, values))
     except Misfit:
         return None, []
-    return one, [*head_words(chance, b"resource", one), *values_words(chance, fields, values), b"}", b";"]
+    return one, [*head_words(chance, b"resource", one), b"{", *values_words(chance, fields, values), b"}", b";"]
 
 
 def random_statements(chance):
-    """The words of statements `type`, `resource` and `data`, and the resources that they state, in their order."""
-    types, statements, found = {}, [], []
+    """The words of statements `type`, `resource`, `data` and `read`, the resources that they state, in their order, and the files that
+    they name."""
+    types, statements, found, files = {}, [], [], {}
     for _ in range(chance.choice([1, 2, 3, 6])):
         kind = chance.choice(KINDS)
         like = chance.choice(list(types)) if types and chance.random() < 0.2 else None
@@ -404,17 +419,30 @@ def random_statements(chance):
         statements.append([b"type", quote_of_head(kind, b"'"), *stated, b";"])
         for _ in range(chance.choice([0, 1, 2])):
             kind = chance.choice(list(types))
-            one, words = random_resource(chance, kind, types[kind] if chance.random() < 0.9 else None)
+            one, words = random_resource(chance, kind, types[kind] if chance.random() < 0.8 else None, files)
             if one:
                 found.append(one)
                 statements.append(words)
-    return statements, found
+    return statements, found, files
+
+
+def coded(chance, text):
+    """A text, or the same in UTF-8, after the comment for that."""
+    if chance.random() < 0.8:
+        return text
+    mark, blanks = chance.choice([b"", b"", MARK]), chance.choice([b"", b"", b"\n", b" \r\n\t"])
+    comment = chance.choice([CODING, CODING, b""] if mark else [CODING])
+    return mark + blanks + comment + b"\n" + text.decode("mac_roman").encode()
 
 
 def random_source(chance):
-    """A source with statements `type`, `resource` and `data`, and the resources that it states, in their order."""
-    statements, found = random_statements(chance)
-    return joined(chance, sum(statements, [])), found
+    """A source with statements `type`, `resource`, `data` and `read`. Where each type is declared once, the declarations may stand apart."""
+    statements, found, files = random_statements(chance)
+    declared = [it for it in statements if it[0] == b"type"]
+    is_apart = chance.random() < 0.5 and len({it[1] for it in declared}) == len(declared)
+    apart = coded(chance, joined(chance, sum(declared, []))) if is_apart else None
+    text = joined(chance, sum((it for it in statements if not (is_apart and it[0] == b"type")), []))
+    return Source(coded(chance, text), found, files, apart)
 
 
 def table_of_types():
@@ -426,10 +454,10 @@ def table_of_types():
 
 
 def table_source(chance, types):
-    """A source with statements `resource` of declared types, and the resources that it states, in their order."""
-    made = [random_resource(chance, kind, types[kind]) for kind in chance.choices(list(types), k=chance.choice([1, 2, 3, 6]))]
+    """A source with statements `resource` of declared types."""
+    made = [random_resource(chance, kind, types[kind], {}) for kind in chance.choices(list(types), k=chance.choice([1, 2, 3, 6]))]
     made = [(one, words) for one, words in made if one]
-    return joined(chance, sum((words for _, words in made), [])), [one for one, _ in made]
+    return Source(coded(chance, joined(chance, sum((words for _, words in made), []))), [one for one, _ in made], {}, None)
 
 
 ODD_WORDS = [b"0", b"1", b"-", b"70000", b"4294967296", b"abc", b'"x"', b'""', b'"\\q"', b"'ab'", b"'abcde'", b'$"00"', b'$"0"',
@@ -437,10 +465,13 @@ ODD_WORDS = [b"0", b"1", b"-", b"70000", b"4294967296", b"abc", b'"x"', b'""', b
              b"key", b"case", b"byte", b"boolean", b"string", b"fill", b"align", b"word", b"array", b"switch"]
 
 
+# What no text in UTF-8 with characters of Mac OS Roman has.
+ODD_CHARACTERS = ["\u0141".encode(), "e\u0301".encode(), b"\x8e", b"\xff", b"\xc3"]
+
+
 def damaged_source(chance):
-    """A source of which a few words between the braces of a statement `type` or `resource` are others; and the resources that it
-    states, or the line of the error that names its first fault, or None, where this tool can't tell."""
-    statements, _ = random_statements(chance)
+    """A source of which a few words between the braces of a statement `type` or `resource` are others, or which has an odd character."""
+    statements, _, files = random_statements(chance)
     words = chance.choice([it for it in statements if b"{" in it and it[0] != b"data"])
     for _ in range(chance.choice([1, 1, 2])):
         places = [it for it in range(words.index(b"{") + 1, len(words) - 2) if words[it] not in (b"{", b"}")]
@@ -448,13 +479,17 @@ def damaged_source(chance):
             place = chance.choice(places)
             more = chance.choice([[], [words[chance.choice(places)]], [chance.choice(ODD_WORDS)]])
             words[place:place + chance.randrange(2)] = more
-    text = joined(chance, sum(statements, []))
+    text = coded(chance, joined(chance, sum(statements, [])))
+    if text.lstrip().startswith((CODING, MARK)) and chance.random() < 0.5:
+        front = max(text.find(CODING) + len(CODING), len(MARK))
+        at = chance.choice([it for it in range(front, len(text) + 1) if text[it:it + 1] < b"\x80"])
+        text = text[:at] + chance.choice(ODD_CHARACTERS) + text[at:]
     try:
-        return text, read_source(text, {})
+        return Source(text, read_source(text, {}, files), files, None)
     except Wrong as fault:
-        return text, "line %d: %s" % fault.args
+        return Source(text, "line %d: %s" % fault.args, files, None)
     except Misfit:
-        return text, None
+        return Source(text, None, files, None)
 
 
 # ---- The self-test ----
@@ -489,7 +524,7 @@ FAULTS = [
     (None, b"type 'Test' { byte a, A; };", "line 1: two constants, cases or arrays of one name"),
     (None, b"type 'Test' { fill word; align word; };", "line 1: two fills with nothing stated between them"),
     (None, b"type 'Test' { array { align word; }; };", "line 1: elements that may have no bytes"),
-    (None, b"type 'Test' { array { pstring; };\r\n integer; };", "line 2: an array whose end nothing tells"),
+    (None, b"type 'Test' { array { pstring; };\r\n integer; };", "line 2: an array without an end: give it a length, a count or a constant after it, or put it last"),
     (None, b"type 'Test' { integer = $$CountOf(Nothing); };", "line 1: a count that is not the count of one array after it"),
     (None, b"type 'Test' { switch { case A: key byte = 1; case B: key byte = 1; }; };", "line 1: two cases of one key"),
     (None, b"type 'Test' {" + b"array {" * 9 + b" byte;" + b" };" * 9 + b" };", "line 1: arrays and switches more than 8 deep"),
@@ -546,8 +581,9 @@ def wrong_of_source(number):
         return "the bytes are others"
     if data is not None and encode(fields, decode(fields, data)) != data:
         return "the bytes of their values are others"
-    source, found = random_source(chance)
-    return None if read_source(source, {}) == found else "the resources are others"
+    source, types = random_source(chance), {}
+    read_source(source.types or b"", types)
+    return None if read_source(source.text, types, source.files) == source.found else "the resources are others"
 
 
 def main(words):

@@ -5,9 +5,11 @@ usage: tools/rez_types.py --selftest [COUNT]
 
 The language is that of docs/types.md; a text is bytes, and so is what a resource holds.
 
-- `read_source(text, types)` returns the resources that a source states, and `body(fields, text)` the bytes that the text between the
-  braces of one statement `resource` states. A text that can't be read raises `Wrong`, with the line and the words of the program;
-  values that have no bytes raise `Misfit`.
+- `read_source(text, types, files)` returns the resources that a source states, and `body(fields, text)` the bytes that the text between
+  the braces of one statement `resource` states. A text that can't be read raises `Wrong`, with the line and the words of the program;
+  values that have no bytes raise `Misfit`. `files` has the bytes of each file that a statement `read` names; a text that names another
+  one raises `KeyError`.
+- `plain_text(text)` returns a text in the bytes of Mac OS Roman, also one that says by a comment that it is UTF-8.
 - `decode(fields, data)` returns the values of bytes, or raises `Misfit`; `encode(fields, values)` is the inverse.
 
 Values are a list with one value for each field: of a run a list for its parts (a number; None of a constant and of a count), of a
@@ -20,7 +22,7 @@ import collections
 import sys
 
 from rez_language import (Align, Array, Bits, Constant, Corners, Count, Declaring, Fill, Number, Run, Text, Tokens, Wrong, MOST_BYTES, fits,
-                          require, tokens_of)
+                          line_at, require, tokens_of)
 
 # A resource, as a source states it.
 Resource = collections.namedtuple("Resource", "kind identifier name attributes data")
@@ -348,6 +350,24 @@ def body(fields, text):
 
 # ---- Whole sources ----
 
+CODING = b"/* -*- coding: utf-8 -*- */"
+MARK = "\ufeff".encode()
+
+
+def plain_text(text):
+    """A text in the bytes of Mac OS Roman. It is UTF-8 where it begins with a byte order mark, or, after blanks, with the comment for that."""
+    if not text.startswith(MARK) and not text.lstrip(b" \t\r\n").startswith(CODING):
+        return text
+    text = text[len(MARK):] if text.startswith(MARK) else text
+    try:
+        return text.decode("utf-8").encode("mac_roman")
+    except UnicodeDecodeError as fault:
+        raise Wrong(line_at(text, fault.start), "not UTF-8") from None
+    except UnicodeEncodeError as fault:
+        other = fault.object[fault.start].encode()
+        raise Wrong(line_at(text, text.index(other)), f"Mac OS Roman has no character '{other.decode()}'") from None
+
+
 def statements(text):
     """The tokens of each statement of a source."""
     depth, tokens = 0, []
@@ -362,7 +382,7 @@ def statements(text):
 
 
 def head_of(statement):
-    """The type, ID, name and attributes of a statement, up to its opening brace."""
+    """The type, ID, name and attributes of a statement, up to its closing parenthesis."""
     def must(holds):
         return holds or statement.refuse("not a statement")
     kind = must(statement.next().kind == "literal") and statement.take()
@@ -379,14 +399,33 @@ def head_of(statement):
         attributes |= value if kind_of_token == "number" else ATTRIBUTES.get(value, 0)
         statement.skip()
     statement.take_mark(b")", "not a statement")
-    statement.take_mark(b"{", "not a statement")
     return Resource(kind, identifier, name, attributes & ~2, None)
 
 
-def read_source(text, types):
-    """The resources that a source states. `types` has the fields of each type, and gets those that the source declares."""
+def named_file(tokens, statement):
+    """The name of the file of a statement `read`, after whose head stands just that."""
+    inside = [it for it in tokens[statement.at:-1] if it.kind != "filled"]
+    require(len(inside) == 1 and inside[0].kind == "text", Wrong(tokens[0].line, "not a statement"))
+    return inside[0].value
+
+
+def stated_data(word, tokens, statement, kind, types):
+    """The data of a statement `data` or `resource`."""
+    statement.take_mark(b"{", "not a statement")
+    inside, begun = tokens[statement.at:-2], tokens[statement.at - 1].line
+    if word == b"data":
+        odd = [it.line for it in inside if it.kind not in ("text", "hex", "filled")]
+        require(not odd, Wrong(odd and odd[0], "a string or a closing brace is needed"))
+        return b"".join(it.value for it in inside if it.kind != "filled")
+    require(kind in types, Wrong(tokens[0].line, "a type that is declared is needed"))
+    return encode(types[kind], taken(types[kind], inside, begun))
+
+
+def read_source(text, types, files=()):
+    """The resources that a source states. `types` has the fields of each type, and gets those that the source declares; `files` has the
+    bytes of the files that statements `read` name."""
     found = []
-    for tokens in statements(text):
+    for tokens in statements(plain_text(text)):
         word = tokens[0].value.lower() if tokens[0].kind == "word" else None
         if word == b"type":
             kind, fields = Declaring([it for it in tokens if it.kind != "filled"]).statement()
@@ -395,16 +434,9 @@ def read_source(text, types):
             continue
         statement = Tokens(tokens)
         statement.skip()
-        require(word in (b"data", b"resource"), Wrong(tokens[0].line, "not a statement"))
+        require(word in (b"data", b"resource", b"read"), Wrong(tokens[0].line, "not a statement"))
         head = head_of(statement)
-        inside = tokens[statement.at:-2]
-        if word == b"data":
-            odd = [it.line for it in inside if it.kind not in ("text", "hex", "filled")]
-            require(not odd, Wrong(odd and odd[0], "a string or a closing brace is needed"))
-            data = b"".join(it.value for it in inside if it.kind != "filled")
-        else:
-            require(head.kind in types, Wrong(tokens[0].line, "a type that is declared is needed"))
-            data = encode(types[head.kind], taken(types[head.kind], inside, tokens[statement.at - 1].line))
+        data = dict(files)[named_file(tokens, statement)] if word == b"read" else stated_data(word, tokens, statement, head.kind, types)
         found.append(head._replace(data=data))
     return found
 
