@@ -1,12 +1,13 @@
-use Rattle.std.proofs.Common.{◌≡◌, ◌∙◌, Bool, true, Result, Ok, Err, List, sym, ap, subst}
-use Rattle.std.specs.Prelude.{IfOk, OnOk}
+use Rattle.std.proofs.Common.{◌≡◌, ◌∙◌, Bool, true, false, Result, Ok, Err, List, sym, ap, subst}
+use Rattle.std.specs.Prelude.{IfOk, OnOk, IsOk}
 use Rattle.std.specs.declared.alloc.AllocError.{AllocError}
 use Rattle.mac_words.specs.Told.{Told}
 use Rattle.mac_words.specs.declared.resource_call.ResourceCall.{ResourceCall}
 use Rattle.res_calls.specs.Fetch.{Managers, Answer}
 use Rattle.res_calls.specs.Asked.{Served, served, telling}
 use Rattle.res_calls.specs.Fetching.{fetches}
-use Rattle.heap_calls.specs.Gone.{Gone, Tells}
+use Rattle.heap_calls.specs.Gone.{Gone, Hears}
+use Rattle.heap_calls.proofs.Hearing.{hears-as}
 use Rattle.res_calls.specs.Gone.{gone_for}
 use Rattle.applications.specs.Trying.{resource_asked}
 use Rattle.applications.specs.Names.{Bindings}
@@ -61,12 +62,13 @@ arm_after tell (Ok tried) P a after call x names s says is table called =
     ∙ ap (λ (c : ResourceCall). (served (resource_asked c names) s).after) (sym called)
 
 -- and what the sink is told of it
-pub arm_purged : {K W : Type 0} (result : Result Tried AllocError) (call x : ResourceCall) (names : Bindings)
-    (s : Managers) (listens : K → Bool) (told : K → List Gone → Type 0) (old new : K) (gone : List Gone)
-    → OnOk result (W → ⊥) → ((W → ⊥) → listens old ≡ true → Tells told gone old new)
+pub arm_hears : {K W : Type 0} (result : Result Tried AllocError) (call x : ResourceCall) (names : Bindings)
+    (s : Managers) (told waits : K → List Gone → Type 0) (listens : K → Bool) (old new : K) (gone : List Gone)
+    → OnOk result (W → ⊥) → Hears told waits listens (W → ⊥) gone old new
     → gone ≡ gone_for (resource_asked x names) s → call ≡ x
-    → OnOk result (listens old ≡ true → Tells told (gone_for (resource_asked call names) s) old new)
-arm_purged (Err e) call x names s listens told old new gone host tells table called = tt
-arm_purged (Ok tried) call x names s listens told old new gone host tells table called = λ on.
-    subst (λ (purged : List Gone). Tells told purged old new)
-    (table ∙ ap (λ (c : ResourceCall). gone_for (resource_asked c names) s) (sym called)) (tells host on)
+    → Hears told waits listens (IsOk result) (gone_for (resource_asked call names) s) old new
+arm_hears (Err e) call x names s told waits listens old new gone host hears table called =
+    record { tells = λ ok on. let not : false ≡ true = ok in cc; rests = hears.rests }
+arm_hears (Ok tried) call x names s told waits listens old new gone host hears table called =
+    hears-as told waits listens _ _ gone _ old new (λ ok. host)
+    (table ∙ ap (λ (c : ResourceCall). gone_for (resource_asked c names) s) (sym called)) hears

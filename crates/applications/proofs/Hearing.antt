@@ -1,15 +1,26 @@
 -- What a sink of resources hears of a try, and what is stored of it.
 use Rattle.std.proofs.Common.{◌≡◌, Bool, true, false, List, [], Result, Ok, Err, refl, sym, ap, subst, ◌∙◌}
-use Rattle.std.specs.Prelude.{OnOk, OnErr}
+use Rattle.std.specs.Prelude.{OnOk, OnErr, IsOk}
 use Rattle.std.proofs.lemmas.List.{append-nil}
-use Rattle.heap_calls.specs.Gone.{Gone, Tells}
+use Rattle.heap_calls.specs.Gone.{Gone, Tells, IsIdle, Hears}
+use Rattle.heap_calls.proofs.Hearing.{hears-none}
 use Rattle.res_calls.specs.Files.{Resources}
 use Rattle.res_calls.specs.Purging.{PurgesValue, heard, stored_gone}
 use Rattle.applications.specs.Trying.{Running, storing}
 
 -- a try that purges nothing tells nothing
-pub told_nothing : {A : Type 0} (told : A → List Gone → Type 0) (sink : A) → Tells told [] sink sink
-told_nothing told sink before is = subst (told sink) (sym (append-nil before)) is
+pub hears_nothing : {A : Type 0} (told waits : A → List Gone → Type 0) (listens : A → Bool) (done : Type 0) (sink : A)
+    → IsIdle told waits sink → Hears told waits listens done [] sink sink
+hears_nothing told waits listens done sink idle = hears-none told waits listens done [] sink idle refl
+
+-- a try whose call was done tells what the call purges
+pub hears_tried : {A T E : Type 0} (told waits : A → List Gone → Type 0) (listens : A → Bool) (result : Result T E)
+    (done : Type 0) (blocks : List Gone) (sink heard : A) → OnOk result done
+    → Hears told waits listens done blocks sink heard → Hears told waits listens (IsOk result) blocks sink heard
+hears_tried told waits listens (Ok value) done blocks sink heard was hears =
+    record { tells = λ ok. hears.tells was; rests = hears.rests }
+hears_tried told waits listens (Err fault) done blocks sink heard was hears =
+    record { tells = λ ok. let not : false ≡ true = ok in cc; rests = hears.rests }
 
 -- what a sink of resources was told
 abbrev pub HasHeard : PurgesValue → List Gone → Type 0
@@ -34,13 +45,13 @@ stores-purged on gone stored old new r after begins listens told stored_is after
 -- so it is with a try, whose outcome is stored
 pub stores-tried : {T E : Type 0} (result : Result T E) (on : Bool) (gone stored : List Gone) (old new : PurgesValue)
     (left after : Running) → old ≡ record { on = on; told = []; offered = [] } → new.on ≡ old.on
-    → OnOk result (old.on ≡ true → Tells HasHeard gone old new) → stored ≡ heard new.on new.told
+    → (IsOk result → old.on ≡ true → Tells HasHeard gone old new) → stored ≡ heard new.on new.told
     → OnOk result (left ≡ after)
     → OnOk result (record left { resources = stored_gone stored left.resources } ≡ storing on gone after)
 stores-tried (Err e) on gone stored old new left after begins listens told stored_is went = tt
 stores-tried (Ok x) on gone stored old new left after begins listens told stored_is went =
     ap (λ (q : Resources). record left { resources = q })
-    (stores-purged on gone stored old new left.resources (stored_gone stored left.resources) begins listens told stored_is refl)
+    (stores-purged on gone stored old new left.resources (stored_gone stored left.resources) begins listens (told refl) stored_is refl)
     ∙ ap (storing on gone) went
 
 -- what holds where a try was done, and where it was not, of something else

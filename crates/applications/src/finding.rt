@@ -1,7 +1,7 @@
 //! One try of a call of the Resource Manager.
 
-ghost use Rattle.std.specs.Prelude.{◌≡◌, true, option_map, IfOk, OnOk, OnErr};
-ghost use Rattle.heap_calls.specs.Gone.{Tells, IsIdle};
+ghost use Rattle.std.specs.Prelude.{◌≡◌, option_map, IfOk, OnOk, OnErr, IsOk};
+ghost use Rattle.heap_calls.specs.Gone.{IsIdle, Hears};
 ghost use Rattle.res_calls.specs.Asked as finds;
 ghost use Rattle.res_calls.specs.Fetching.{fetches};
 ghost use Rattle.res_calls.specs.Given.{managers};
@@ -51,9 +51,8 @@ impl<'s, S: BlockStore> Application<'s, S> {
             (managers_of self.old)) (fetches (resource_asked call.now self.old.names))) }
         ensures after { OnOk result (self.new ≡ (resource_tried (finds.served (resource_asked call.now self.old.names)
             (managers_of self.old)) self.old).after) }
-        ensures purged { OnOk result (K.listens sink.old ≡ true → Tells K.told
-            (gone_for (resource_asked call.now self.old.names) (managers_of self.old)) sink.old sink.new) }
-        ensures listens { K.listens sink.new ≡ K.listens sink.old }
+        ensures hears { Hears K.told K.waits K.listens (IsOk result) (gone_for (resource_asked call.now self.old.names)
+            (managers_of self.old)) sink.old sink.new }
         ensures files { OnErr result (self.new.resources.files ≡ self.old.resources.files) }
         ensures lies { self.new.memory.window ≡ self.old.memory.window }
     {
@@ -91,7 +90,7 @@ pub(crate) fn shown_in<'a, S: BlockStore>(
 
 /// Answers a call of the Resource Manager in `resources` and `heap`; the names of the call are bound as `names` says. The
 /// blocks that the call purges are offered to the sink, if it listens.
-#[tactic(auto, using(crate::proofs::Hearing::told_nothing))]
+#[tactic(auto, using(crate::proofs::Hearing::hears_nothing, crate::proofs::Hearing::hears_tried))]
 fn answered<S: BlockStore, K: PurgeSink>(
     alloc: Global,
     resources: &mut Resources,
@@ -105,9 +104,8 @@ fn answered<S: BlockStore, K: PurgeSink>(
         (managers resources.old heap.old.memory)) (fetches (resource_asked call.now names.now))) }
     ensures after { OnOk result (managers resources.new heap.new.memory
         ≡ (finds.served (resource_asked call.now names.now) (managers resources.old heap.old.memory)).after) }
-    ensures purged { OnOk result (K.listens sink.old ≡ true → Tells K.told
-        (gone_for (resource_asked call.now names.now) (managers resources.old heap.old.memory)) sink.old sink.new) }
-    ensures listens { K.listens sink.new ≡ K.listens sink.old }
+    ensures hears { Hears K.told K.waits K.listens (IsOk result) (gone_for (resource_asked call.now names.now) (managers
+        resources.old heap.old.memory)) sink.old sink.new }
     ensures files { OnErr result (resources.new.files ≡ resources.old.files) }
     ensures lies { heap.new.memory.window ≡ heap.old.memory.window }
 {

@@ -1,12 +1,12 @@
 //! One try of a call on a segment.
 
-ghost use Rattle.std.specs.Prelude.{◌≡◌, None, true, false, IfOk, OnOk, OnErr};
+ghost use Rattle.std.specs.Prelude.{◌≡◌, None, false, IfOk, OnOk, OnErr, IsOk};
 ghost use Rattle.mac_words.specs.Told.{Done};
 ghost use Rattle.res_calls.specs.Fetch as fetch;
 ghost use Rattle.segments.specs.Calls.{Program, Answer};
 ghost use Rattle.segments.specs.Calls as calls;
 ghost use Rattle.segments.specs.Given.{IsLoaded, IsCalled, WantsHost, shown_as};
-ghost use Rattle.heap_calls.specs.Gone.{Tells, IsIdle};
+ghost use Rattle.heap_calls.specs.Gone.{IsIdle, Hears};
 ghost use Rattle.segments.specs.Gone.{gone_for};
 ghost use Rattle.segments.specs.Asked.{served, telling, tell_loaded, tell_called, tell_shown};
 ghost use Rattle.applications.specs.Trying.{Running, segment_tried, storing, program_of, is_fatal};
@@ -134,7 +134,7 @@ impl<'s, S: BlockStore> Application<'s, S> {
 
     /// Tries a call of the Segment Manager, or a call through the jump table. The blocks that the call purges are
     /// offered to the sink, if it listens.
-    #[tactic(auto, using(crate::proofs::Hearing::told_nothing))]
+    #[tactic(auto, using(crate::proofs::Hearing::hears_nothing, crate::proofs::Hearing::hears_tried))]
     fn answer_segment<K: PurgeSink>(
         &mut self,
         call: &SegmentCall,
@@ -145,9 +145,8 @@ impl<'s, S: BlockStore> Application<'s, S> {
             self.old)) }
         ensures after { OnOk result (self.new ≡ (segment_tried (served call.now (program_of self.old))
             self.old).after) }
-        ensures purged { OnOk result (K.listens sink.old ≡ true → Tells K.told
-            (gone_for call.now (program_of self.old)) sink.old sink.new) }
-        ensures listens { K.listens sink.new ≡ K.listens sink.old }
+        ensures hears { Hears K.told K.waits K.listens (IsOk result) (gone_for call.now (program_of self.old)) sink.old
+            sink.new }
         ensures files { OnErr result (self.new.resources.files ≡ self.old.resources.files) }
         ensures lies { self.new.memory.window ≡ self.old.memory.window }
     {

@@ -8,6 +8,7 @@ ghost use Rattle.mac_words.specs.declared.name.OsType.{OsType as Type4};
 ghost use Rattle.res_calls.specs.Fetch.{Managers, Answer};
 ghost use Rattle.res_calls.specs.Fetch as fetch;
 ghost use Rattle.res_calls.specs.Rows as rows;
+ghost use Rattle.heap_calls.specs.Asked.{told_as};
 ghost use Rattle.res_calls.specs.Asked.{telling, tell_fetched, tell_info};
 ghost use Rattle.mac_words.specs.declared.attributes.Attrs.{Attrs as StoredAttrs};
 ghost use Rattle.res_calls.specs.Given.{IsAnswered, IsAnsweredUnseen, IsFetched};
@@ -88,19 +89,27 @@ pub fn given(answer: Result<usize, Refusal>) -> Result<Tried, AllocError>
 }
 
 /// Returns the try of a call that shows bytes, without the bytes.
-pub fn shown(answer: Result<&[u8], Refusal>) -> Result<Tried, AllocError>
-    ensures tried { IfOk result (λ tried. (told : Told) → GivenAs (λ bytes. Bytes bytes.now) answer.entry told
-        → TellsTold tried told) }
+pub fn shown(answer: Result<&[u8], OsErr>) -> Tried
+    ensures { TellsTold result (told_as (λ bytes. Bytes bytes.now) answer.entry) }
 {
     match answer {
-        Ok(_) => Ok(Tried::told(Reply::of(OsErr::NO_ERR))),
-        Err(Refusal::Code(code)) => Ok(Tried::told(Reply::of(code))),
-        Err(Refusal::HostMemory) => Err(AllocError),
+        Ok(_) => Tried::told(Reply::of(OsErr::NO_ERR)),
+        Err(code) => Tried::told(Reply::of(code)),
     }
 }
 
 /// Returns the try of a call that returns no value.
-pub fn done(answer: Result<(), Refusal>) -> Result<Tried, AllocError>
+pub fn done(answer: Result<(), OsErr>) -> Tried
+    ensures { TellsTold result (told_as (λ _. Done) answer) }
+{
+    match answer {
+        Ok(()) => Tried::told(Reply::of(OsErr::NO_ERR)),
+        Err(code) => Tried::told(Reply::of(code)),
+    }
+}
+
+/// Returns the try of a call that returns no value, and may find the host out of memory.
+pub fn completed(answer: Result<(), Refusal>) -> Result<Tried, AllocError>
     ensures tried { IfOk result (λ tried. (told : Told) → GivenAs (λ _. Done) answer told → TellsTold tried told) }
     ensures host { OnOk result (answer ≢ Err Refusal.HostMemory) }
 {
@@ -112,7 +121,17 @@ pub fn done(answer: Result<(), Refusal>) -> Result<Tried, AllocError>
 }
 
 /// Returns the try of a call that returns a number.
-pub fn number(answer: Result<u32, Refusal>) -> Result<Tried, AllocError>
+pub fn number(answer: Result<u32, OsErr>) -> Tried
+    ensures { TellsTold result (told_as Number answer) }
+{
+    match answer {
+        Ok(number) => Tried::told(Reply::number(number)),
+        Err(code) => Tried::told(Reply::of(code)),
+    }
+}
+
+/// Returns the try of a call that returns a number, and may find the host out of memory.
+pub fn measured(answer: Result<u32, Refusal>) -> Result<Tried, AllocError>
     ensures tried { IfOk result (λ tried. (told : Told) → GivenAs Number answer told → TellsTold tried told) }
     ensures host { OnOk result (answer ≢ Err Refusal.HostMemory) }
 {
@@ -124,13 +143,12 @@ pub fn number(answer: Result<u32, Refusal>) -> Result<Tried, AllocError>
 }
 
 /// Returns the try of a call that returns the flags of a handle.
-pub fn state(answer: Result<u8, Refusal>) -> Result<Tried, AllocError>
-    ensures tried { IfOk result (λ tried. (told : Told) → GivenAs Number answer told → TellsTold tried told) }
+pub fn state(answer: Result<u8, OsErr>) -> Tried
+    ensures { TellsTold result (told_as Number answer) }
 {
     match answer {
-        Ok(state) => Ok(Tried::told(Reply::number(state as u32))),
-        Err(Refusal::Code(code)) => Ok(Tried::told(Reply::of(code))),
-        Err(Refusal::HostMemory) => Err(AllocError),
+        Ok(state) => Tried::told(Reply::number(state as u32)),
+        Err(code) => Tried::told(Reply::of(code)),
     }
 }
 

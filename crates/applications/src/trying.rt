@@ -1,9 +1,9 @@
 //! One try of a call.
 
-ghost use Rattle.std.specs.Prelude.{◌≡◌, [], true, false, IfOk, OnOk, OnErr};
+ghost use Rattle.std.specs.Prelude.{◌≡◌, [], true, false, IfOk, OnOk, OnErr, IsOk};
 ghost use Rattle.std.specs.Option.{option_map};
 ghost use Rattle.heap_calls.specs.Busy.{served};
-ghost use Rattle.heap_calls.specs.Gone.{Tells, IsIdle};
+ghost use Rattle.heap_calls.specs.Gone.{IsIdle, Hears};
 ghost use Rattle.heap_calls.specs.GoneBy.{gone_in};
 ghost use Rattle.applications.specs.Trying.{asked, once, storing, control_tried};
 ghost use Rattle.applications.specs.Step.{deed_of};
@@ -15,7 +15,7 @@ use crate::application::Application;
 use crate::finding::shown_in as found_in;
 use crate::names::Names;
 use crate::naming::named;
-use crate::tried::{Tried, done, given, number, shown, space, state};
+use crate::tried::{Tried, completed, done, given, measured, number, shown, space, state};
 use block_store::BlockStore;
 use heap_calls::{Heap, PurgeSink};
 use mac_words::{Call, ControlCall, HeapCall, OsErr, Reply};
@@ -102,7 +102,7 @@ fn shown_in<'a, S: BlockStore>(
 
 /// Answers a call of the Memory Manager in `heap`; the names of the call are bound as `names` says. The blocks
 /// that the call purges are offered to the sink, if it listens.
-#[tactic(auto, using(crate::proofs::Hearing::told_nothing))]
+#[tactic(auto, using(crate::proofs::Hearing::hears_nothing, crate::proofs::Hearing::hears_tried))]
 fn answered<S: BlockStore, K: PurgeSink>(
     heap: &mut Heap<S>,
     names: &Names,
@@ -112,48 +112,49 @@ fn answered<S: BlockStore, K: PurgeSink>(
     requires idle { IsIdle K.told K.waits sink.old }
     ensures told { IfOk result (λ tried. TellsTold tried (served (asked call.now names.now) heap.old.memory).0) }
     ensures after { OnOk result (heap.new.memory ≡ (served (asked call.now names.now) heap.old.memory).1) }
-    ensures purged { OnOk result (K.listens sink.old ≡ true
-        → Tells K.told (gone_in (asked call.now names.now) heap.old.memory) sink.old sink.new) }
-    ensures listens { K.listens sink.new ≡ K.listens sink.old }
+    ensures hears { Hears K.told K.waits K.listens (IsOk result) (gone_in (asked call.now names.now) heap.old.memory)
+        sink.old sink.new }
     ensures lies { heap.new.memory.window ≡ heap.old.memory.window }
 {
     let (first, second) = named(call, names);
     match call {
         HeapCall::NewHandle(_, size) => given(heap.new_handle(*size, sink)),
         HeapCall::NewEmptyHandle(_) => given(heap.new_empty_handle(sink)),
-        HeapCall::DisposeHandle(_) => done(heap.dispose_handle(first)),
-        HeapCall::GetHandleSize(_) => number(heap.get_handle_size(first)),
-        HeapCall::SetHandleSize(_, size) => done(heap.set_handle_size(first, *size, sink)),
-        HeapCall::ReallocateHandle(_, size) => done(heap.reallocate_handle(first, *size, sink)),
-        HeapCall::EmptyHandle(_) => done(heap.empty_handle(first)),
-        HeapCall::HLock(_) => done(heap.h_lock(first)),
-        HeapCall::HUnlock(_) => done(heap.h_unlock(first)),
-        HeapCall::HPurge(_) => done(heap.h_purge(first)),
-        HeapCall::HNoPurge(_) => done(heap.h_no_purge(first)),
-        HeapCall::HGetState(_) => state(heap.h_get_state(first)),
-        HeapCall::HSetState(_, state) => done(heap.h_set_state(first, *state)),
-        HeapCall::MoveHHi(_) => done(heap.move_h_hi(first)),
-        HeapCall::HLockHi(_) => done(heap.h_lock_hi(first)),
+        HeapCall::DisposeHandle(_) => Ok(done(heap.dispose_handle(first))),
+        HeapCall::GetHandleSize(_) => Ok(number(heap.get_handle_size(first))),
+        HeapCall::SetHandleSize(_, size) => completed(heap.set_handle_size(first, *size, sink)),
+        HeapCall::ReallocateHandle(_, size) => completed(heap.reallocate_handle(
+            first, *size, sink,
+        )),
+        HeapCall::EmptyHandle(_) => Ok(done(heap.empty_handle(first))),
+        HeapCall::HLock(_) => Ok(done(heap.h_lock(first))),
+        HeapCall::HUnlock(_) => Ok(done(heap.h_unlock(first))),
+        HeapCall::HPurge(_) => Ok(done(heap.h_purge(first))),
+        HeapCall::HNoPurge(_) => Ok(done(heap.h_no_purge(first))),
+        HeapCall::HGetState(_) => Ok(state(heap.h_get_state(first))),
+        HeapCall::HSetState(_, state) => Ok(done(heap.h_set_state(first, *state))),
+        HeapCall::MoveHHi(_) => Ok(done(heap.move_h_hi(first))),
+        HeapCall::HLockHi(_) => Ok(done(heap.h_lock_hi(first))),
         HeapCall::HandToHand(..) => given(heap.hand_to_hand(first, sink)),
-        HeapCall::HandAndHand(..) => done(heap.hand_and_hand(first, second, sink)),
-        HeapCall::PtrAndHand(_, bytes) => done(heap.pointer_and_hand(first, bytes, sink)),
+        HeapCall::HandAndHand(..) => completed(heap.hand_and_hand(first, second, sink)),
+        HeapCall::PtrAndHand(_, bytes) => completed(heap.pointer_and_hand(first, bytes, sink)),
         HeapCall::NewPtr(_, size) => given(heap.new_pointer(*size, sink)),
-        HeapCall::DisposePtr(_) => done(heap.dispose_pointer(first)),
-        HeapCall::GetPtrSize(_) => number(heap.get_pointer_size(first)),
-        HeapCall::SetPtrSize(_, size) => done(heap.set_pointer_size(first, *size, sink)),
+        HeapCall::DisposePtr(_) => Ok(done(heap.dispose_pointer(first))),
+        HeapCall::GetPtrSize(_) => Ok(number(heap.get_pointer_size(first))),
+        HeapCall::SetPtrSize(_, size) => completed(heap.set_pointer_size(first, *size, sink)),
         HeapCall::FreeMem => Ok(Tried::told(Reply::number(heap.free_mem()))),
         HeapCall::MaxBlock => Ok(Tried::told(Reply::number(heap.max_block()))),
         HeapCall::PurgeSpace => Ok(space(heap.purge_space())),
         HeapCall::CompactMem(size) => Ok(Tried::told(Reply::number(heap.compact_mem(*size)))),
-        HeapCall::PurgeMem(size) => done(heap.purge_mem(*size, sink)),
-        HeapCall::MaxMem => number(heap.max_mem(sink)),
-        HeapCall::ReserveMem(size) => done(heap.reserve_mem(*size, sink)),
-        HeapCall::MoreMasters => done(heap.more_masters(sink)),
+        HeapCall::PurgeMem(size) => completed(heap.purge_mem(*size, sink)),
+        HeapCall::MaxMem => measured(heap.max_mem(sink)),
+        HeapCall::ReserveMem(size) => completed(heap.reserve_mem(*size, sink)),
+        HeapCall::MoreMasters => completed(heap.more_masters(sink)),
         HeapCall::MemError => Ok(Tried::told(Reply::telling(heap.mem_error()))),
-        HeapCall::Put(_, from, bytes) => done(heap.put(first, *from, bytes)),
-        HeapCall::Show(_) => shown(heap.show(first)),
-        HeapCall::PutPtr(_, from, bytes) => done(heap.put_pointer(first, *from, bytes)),
-        HeapCall::ShowPtr(_) => shown(heap.show_pointer(first)),
-        HeapCall::Where(_) => number(heap.place_of(first)),
+        HeapCall::Put(_, from, bytes) => Ok(done(heap.put(first, *from, bytes))),
+        HeapCall::Show(_) => Ok(shown(heap.show(first))),
+        HeapCall::PutPtr(_, from, bytes) => Ok(done(heap.put_pointer(first, *from, bytes))),
+        HeapCall::ShowPtr(_) => Ok(shown(heap.show_pointer(first))),
+        HeapCall::Where(_) => Ok(number(heap.place_of(first))),
     }
 }

@@ -7,7 +7,7 @@ use arrayvec::ArrayVec;
 use block_store::ListStore;
 use commands::tool;
 use desk::run_script;
-use heap_calls::{Heap, NoSink};
+use heap_calls::{Heap, NoSink, Refusal};
 use mac_words::{FileName, OsType};
 use raw_region::Region;
 use res_calls::{File, Resources};
@@ -28,7 +28,10 @@ fn a_resource_is_read_into_a_heap(rt: HostRuntime) -> Result<(), Fail> {
     let mut resources = Resources::new(alloc, vec![in alloc; own]?, &empty_content(alloc))?;
     let mut heap = Heap::new(alloc, ListStore::new(alloc, 1024)?);
     let found = resources.get_resource(&mut heap, OsType(*b"SIZE"), -1, &mut NoSink)?;
-    assert_eq!(rt; heap.show(Some(found.handle))?, sizes.as_slice());
+    assert_eq!(rt;
+        heap.show(Some(found.handle)).map_err(Refusal::Code)?,
+        sizes.as_slice()
+    );
     Ok(())
 }
 

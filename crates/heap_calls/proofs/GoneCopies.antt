@@ -1,12 +1,10 @@
 use Rattle.std.proofs.Common.{◌≡◌, ℕ, ◌*◌, List, refl, sym, ◌∙◌, ap, Option, Some, None, Ok, Err, [], ◌<◌, Bool, slice_get}
 use Rattle.mac_words.specs.declared.code.OsErr.{OsErr}
-use Rattle.mac_words.specs.declared.code.TheConstants.OsErr.{NIL_HANDLE, WRONG_ZONE}
+use Rattle.mac_words.specs.declared.code.TheConstants.OsErr.{NIL_HANDLE}
 use Rattle.block_store.specs.Room.{spot}
 use Rattle.heap_calls.specs.declared.anchor.Anchor.TheVariants as entry
 use Rattle.heap_calls.specs.declared.log.Log.{Log}
-use Rattle.heap_calls.specs.declared.refusal.Refusal.{Refusal}
-use Rattle.heap_calls.specs.declared.refusal.Refusal.TheVariants.{Code}
-use Rattle.heap_calls.specs.Inner.Given.{slot_of, slot_at}
+use Rattle.heap_calls.specs.Inner.Given.{slot_of}
 use Rattle.block_store.specs.Room.{rename_spot}
 use Rattle.block_store.specs.Block.{Block, count, is_masters, is_relocatable, content_of, rename, rename_block}
 use Rattle.block_store.specs.Rest.{Rest}
@@ -67,17 +65,6 @@ module _ (zone : List Block) (rest : Rest) (es : List Anchor) (masters : rest.al
         (λ b. refl) zone' ready
 
 -- a name that is no handle's, and a handle whose block was emptied
-refused-code : (handle : Option ℕ) (es : List Anchor) (e : Refusal) → slot_of handle es ≡ Err e
-    → (code : OsErr) × (e ≡ Code code)
-refused-code None es e is = (NIL_HANDLE, cc)
-refused-code (Some h) es e is = by_entry (slice_get es h) is
-  where
-    by_entry : (o : Option Anchor) → slot_at h o ≡ Err e → (code : OsErr) × (e ≡ Code code)
-    by_entry None is = (NIL_HANDLE, cc)
-    by_entry (Some (entry.Handle slot guarded)) is = cc
-    by_entry (Some (entry.Pointer place)) is = (WRONG_ZONE, cc)
-    by_entry (Some entry.Disposed) is = (WRONG_ZONE, cc)
-
 copy_gone-refused : (value : Memory) (zone : List Block) (rest : Rest) (es : List Anchor) (log : Log)
     (handle : Option ℕ) (code : OsErr) → memory_of zone rest es log ≡ value
     → look_up handle (state_of zone rest.slots es) ≡ Err code → hand_to_hand_gone handle value.heap ≡ []
@@ -87,13 +74,12 @@ copy_gone-refused value zone rest es log handle code is none =
     (state_of zone rest.slots es))) none
 
 pub copy_gone-none : (value : Memory) (zone : List Block) (rest : Rest) (es copy : List Anchor) (log : Log)
-    (handle : Option ℕ) (e : Refusal) → memory_of zone rest es log ≡ value → copy ≡ es → slot_of handle copy ≡ Err e
+    (handle : Option ℕ) (code : OsErr) → memory_of zone rest es log ≡ value → copy ≡ es
+    → slot_of handle copy ≡ Err code
     → hand_to_hand_gone handle value.heap ≡ []
-copy_gone-none value zone rest es copy log handle e is same refused =
-    let named = ap (slot_of handle) (sym same) ∙ refused in
-    let code = refused-code handle es e named in
-    copy_gone-refused value zone rest es log handle code.0 is
-    (look_up-refused zone rest.slots es handle code.0 (named ∙ ap Err code.1))
+copy_gone-none value zone rest es copy log handle code is same refused =
+    copy_gone-refused value zone rest es log handle code is
+    (look_up-refused zone rest.slots es handle code (ap (slot_of handle) (sym same) ∙ refused))
 
 pub copy_gone-nil : (value : Memory) (zone : List Block) (rest : Rest) (es : List Anchor) (log : Log)
     (handle : Option ℕ) (h source : ℕ) {guarded : Bool} → memory_of zone rest es log ≡ value → handle ≡ Some h

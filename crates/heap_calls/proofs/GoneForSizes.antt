@@ -1,5 +1,5 @@
 use Rattle.std.proofs.Common.{◌≡◌, ℕ, ◌+◌, ◌-◌, ◌≤◌, ◌<◌, zero, suc, nat_le, Bool, true, false, List, [], ◌∷◌, ◌++◌, length}
-use Rattle.std.proofs.Common.{refl, sym, ◌∙◌, ap, cond, arith, map, subst, Option, Some, None, is_some, Ok, Err, slice_get}
+use Rattle.std.proofs.Common.{refl, sym, ◌∙◌, ap, cond, arith, map, subst, Option, Some, None, is_some, Ok, Err}
 use Rattle.std.proofs.lemmas.Bool.{cond-true, cond-false, lt-leb}
 use Rattle.std.proofs.lemmas.List.{append-nil, length-map}
 use Rattle.std.specs.Option.{option_map, IfSome}
@@ -24,8 +24,6 @@ use Rattle.heap_calls.specs.declared.anchor.Anchor.{Anchor}
 use Rattle.heap_calls.specs.declared.anchor.Anchor.TheVariants as entry
 use Rattle.heap_calls.specs.declared.anchor.Target.{Target}
 use Rattle.heap_calls.specs.declared.log.Log.{Log}
-use Rattle.heap_calls.specs.declared.refusal.Refusal.{Refusal}
-use Rattle.heap_calls.specs.declared.refusal.Refusal.TheVariants.{Code, HostMemory}
 use Rattle.heap_calls.specs.State.{State, Memory}
 use Rattle.heap_calls.specs.Answer.{Held, look_up, nothing}
 use Rattle.heap_calls.specs.Gone.{Gone, Tells, gone, room_gone, in_place_gone, growth_gone, size_gone, found_gone}
@@ -39,7 +37,7 @@ use Rattle.heap_calls.specs.Inner.Numbered.{Agrees}
 use Rattle.heap_calls.specs.Inner.Appending.{bytes_of, length_of}
 use Rattle.heap_calls.specs.Inner.Reaching.{Reaches}
 use Rattle.heap_calls.specs.declared.reaching.Reached.{Reached}
-use Rattle.heap_calls.specs.Inner.Pointing.{target_of, target_at}
+use Rattle.heap_calls.specs.Inner.Pointing.{target_of}
 use Rattle.heap_calls.specs.Inner.Telling.{gone_named, gone_from, blocks_from, try_gone, still_gone, grown_gone, fitted_gone}
 use Rattle.heap_calls.specs.Inner.Telling.{OpensNone}
 use Rattle.heap_calls.proofs.GoneBlocks.{gone-spared, from-behind, from-bottom}
@@ -274,22 +272,14 @@ set_pointer_size-gone value zone rest es log pointer t n is there lone small =
     ∙ ap (λ (m : Memory). set_pointer_size_gone pointer n m.heap) is
 
 -- nothing where the name is no pointer's
-pub no_pointer-gone : (value : Memory) (zone : List Block) (rest : Rest) (es : List Anchor) (log : Log) (e : Refusal)
-    (pointer : Option ℕ) (n : ℕ) → memory_of zone rest es log ≡ value → target_of pointer es ≡ Err e
+pub no_pointer-gone : (value : Memory) (zone : List Block) (rest : Rest) (es : List Anchor) (log : Log) (code : OsErr)
+    (pointer : Option ℕ) (n : ℕ) → memory_of zone rest es log ≡ value → target_of pointer es ≡ Err code
     → set_pointer_size_gone pointer n value.heap ≡ []
-no_pointer-gone value zone rest es log (Code code) pointer n is found =
+no_pointer-gone value zone rest es log code pointer n is found =
     ap (λ (m : Memory). set_pointer_size_gone pointer n m.heap) (sym is)
     ∙ ap (λ r. found_gone r (λ (k : Held). size_gone (length (map (name_of rest.slots) es))
     (is_nonrelocatable k.number) nothing n (rename (handle_number es) (pointer_number es) zone)))
     (pointed_at-refused zone rest.slots es pointer code found)
-no_pointer-gone value zone rest es log HostMemory None n is found = cc
-no_pointer-gone value zone rest es log HostMemory (Some p) n is found = cases (slice_get es p) found
-  where
-    cases : (o : Option Anchor) → target_at p o ≡ Err HostMemory → set_pointer_size_gone (Some p) n value.heap ≡ []
-    cases None e = cc
-    cases (Some (entry.Handle slot guarded)) e = cc
-    cases (Some (entry.Pointer place)) e = cc
-    cases (Some entry.Disposed) e = cc
 
 -- no call purges anything for a handle that has no block
 pub nothing-sized : (handle : Option ℕ) (n : ℕ) (s : State) (code : OsErr) → look_up handle s ≡ Err code
@@ -323,16 +313,13 @@ module _ (value : Memory) (zone : List Block) (rest : Rest) (es : List Anchor) (
     (is : memory_of zone rest es log ≡ value)
   where
     -- nothing where the handle has no block
-    pub not_reached-gone : (row : State → List Gone) (e : Refusal) (handle : Option ℕ) (es' : List Anchor) → es' ≡ es
-        → Reaches zone rest.slots es' handle (Err e)
+    pub not_reached-gone : (row : State → List Gone) (code : OsErr) (handle : Option ℕ) (es' : List Anchor) → es' ≡ es
+        → Reaches zone rest.slots es' handle (Err code)
         → ((code : OsErr) → look_up handle (state_of zone rest.slots es) ≡ Err code
         → row (state_of zone rest.slots es) ≡ []) → row value.heap ≡ []
-    not_reached-gone row e handle es' same none none_row =
-        cases e (reached_in zone rest.slots es es' handle (Err e) same none)
-      where
-        cases : (e : Refusal) → Reaches zone rest.slots es handle (Err e) → row value.heap ≡ []
-        cases (Code code) looked = ap (λ (m : Memory). row m.heap) (sym is) ∙ none_row code looked
-        cases HostMemory looked = absurd looked
+    not_reached-gone row code handle es' same none none_row =
+        ap (λ (m : Memory). row m.heap) (sym is)
+        ∙ none_row code (reached_in zone rest.slots es es' handle (Err code) same none)
 
     module _ (agrees : Agrees zone rest es)
       where

@@ -22,8 +22,6 @@ use Rattle.block_store.proofs.Renamed.Renaming.{is_purgeable-rename, place-renam
 use Rattle.heap_calls.specs.declared.anchor.Anchor.{Anchor}
 use Rattle.heap_calls.specs.declared.anchor.Anchor.TheVariants.{Handle}
 use Rattle.heap_calls.specs.declared.log.Log.{Log}
-use Rattle.heap_calls.specs.declared.refusal.Refusal.{Refusal}
-use Rattle.heap_calls.specs.declared.refusal.Refusal.TheVariants.{Code, HostMemory}
 use Rattle.heap_calls.specs.State.{State, Memory}
 use Rattle.heap_calls.specs.Answer.{Known, handle_at, nothing}
 use Rattle.heap_calls.specs.Purging.{is_loose}
@@ -234,13 +232,12 @@ reallocate_gone-is value zone rest es log handle h slot n is found at apart smal
 
 -- nothing where the handle isn't found, or has a locked block
 pub reallocate_gone-none : (value : Memory) (zone : List Block) (rest : Rest) (es : List Anchor) (log : Log)
-    (handle : Option ℕ) (n : ℕ) (e : Refusal) → memory_of zone rest es log ≡ value
-    → FindsLoose zone rest.slots es handle (Err e) → reallocate_handle_gone handle n value.heap ≡ []
-reallocate_gone-none value zone rest es log handle n (Code code) is found =
+    (handle : Option ℕ) (n : ℕ) (code : OsErr) → memory_of zone rest es log ≡ value
+    → FindsLoose zone rest.slots es handle (Err code) → reallocate_handle_gone handle n value.heap ≡ []
+reallocate_gone-none value zone rest es log handle n code is found =
     let s : State = state_of zone rest.slots es in
     ap (λ (m : Memory). reallocate_handle_gone handle n m.heap) (sym is) ∙ reallocate_gone-loose handle n s
     ∙ ap (λ r. found_gone r (λ k. put_gone (length s.names) k.number n (freed (is_relocatable k.number) s.zone))) found
-reallocate_gone-none value zone rest es log handle n HostMemory is found = absurd found
 
 -- as many bytes as are wanted, or no block can have either number
 pub renewed_gone-sized : (entries : List Anchor) (slot wanted n : ℕ) (zone : List Block) → IsSizeOf wanted n
@@ -266,14 +263,13 @@ refill_gone-is value zone rest es log h slot n {guarded} is at apart small empti
 
 -- nothing where there is no such handle
 pub refill_gone-none : (value : Memory) (zone : List Block) (rest : Rest) (es copy : List Anchor) (log : Log)
-    (h n : ℕ) (e : Refusal) → memory_of zone rest es log ≡ value → copy ≡ es → slot_of (Some h) copy ≡ Err e
-    → e ≢ HostMemory → refill_gone h n value.heap ≡ []
-refill_gone-none value zone rest es copy log h n (Code code) is same e some =
+    (h n : ℕ) (code : OsErr) → memory_of zone rest es log ≡ value → copy ≡ es → slot_of (Some h) copy ≡ Err code
+    → refill_gone h n value.heap ≡ []
+refill_gone-none value zone rest es copy log h n code is same e =
     ap (λ (m : Memory). refill_gone h n m.heap) (sym is)
     ∙ ap (λ r. found_gone r (λ k. put_gone (length (state_of zone rest.slots es).names) k.number n
     (state_of zone rest.slots es).zone))
     (handle_at-refused zone rest.slots es (Some h) code (ap (slot_of (Some h)) (sym same) ∙ e))
-refill_gone-none value zone rest es copy log h n HostMemory is same e some = absurd (some refl)
 
 module _ (zone : List Block) (rest : Rest) (es : List Anchor) (masters : rest.all ≡ 64 * count is_masters zone)
     (agrees : Agrees zone rest es) (sp : Block → Bool) (sparing : Sparing)

@@ -12,4 +12,5 @@ pub mod GoneBlocks
 pub mod GoneForSizes
 pub mod GonePlaces
 pub mod GoneCopies
+pub mod Hearing
 mod Worked

@@ -1,4 +1,4 @@
-use Rattle.std.specs.Prelude.{ℕ, ◌-◌, ◌+◌, Bool, ◌||◌, Option, Some, None, is_some, Result, Ok, Err, List, [], ◌∷◌}
+use Rattle.std.specs.Prelude.{◌≡◌, ℕ, ◌-◌, ◌+◌, Bool, ◌||◌, Option, Some, None, is_some, Result, Ok, Err, List, [], ◌∷◌, true}
 use Rattle.std.specs.Prelude.{◌++◌, length, replicate, nat_lt, nat_le, if◌then◌else◌, zero, suc}
 use Rattle.mac_words.specs.Size.{phys}
 use Rattle.mac_words.specs.declared.code.OsErr.{OsErr}
@@ -189,3 +189,14 @@ TellsNothing told old new = (before : List Gone) → told old before → told ne
 -- A sink was offered nothing that it did not commit; `waits` says what it would then have committed.
 abbrev pub IsIdle : {A : Type 0} → (A → List Gone → Type 0) → (A → List Gone → Type 0) → A → Type 0
 IsIdle told waits sink = (before : List Gone) → told sink before → waits sink before
+
+-- After a call that was lent a sink nothing waits to be committed, and the sink listens as it did.
+pub record Rests {A : Type 0} (told waits : A → List Gone → Type 0) (listens : A → Bool) (old new : A) : Type 0 where
+  pub idle : IsIdle told waits new
+  pub same : listens new ≡ listens old
+
+-- What a sink hears of a call to which it was lent: once the call is done, these blocks, if it listens.
+pub record Hears {A : Type 0} (told waits : A → List Gone → Type 0) (listens : A → Bool) (done : Type 0)
+    (blocks : List Gone) (old new : A) : Type 0 where
+  pub tells : done → listens old ≡ true → Tells told blocks old new
+  pub rests : Rests told waits listens old new

@@ -18,6 +18,7 @@ pub mod FewSearches
 pub mod Lowering
 pub mod Emptying
 pub mod Refused
+pub mod Left
 pub mod Busy
 pub mod Naming
 pub mod Shown

@@ -19,7 +19,7 @@ LeavesUnmade told old new before after =
 -- The first k of the resources were made, and no more: these are their numbers; the memory is the one that they leave,
 -- and what was purged for them was reported to the sink, or the zone has an unused master pointer besides, and what was
 -- purged for that was then reported to the sink.
-pub record StopsAfter {A : Type 0} (told : A → List Gone → Type 0) (k : ℕ) (wanted : List (Flags × List ℕ))
+pub record MadeFirst {A : Type 0} (told : A → List Gone → Type 0) (k : ℕ) (wanted : List (Flags × List ℕ))
     (old : Memory) (numbers : List (Option ℕ)) (new : Memory) (before after : A) : Type 0 where
   pub some : k < length wanted
   pub made : numbers ≡ (new_all (take k wanted) old).0
@@ -29,6 +29,6 @@ pub record StopsAfter {A : Type 0} (told : A → List Gone → Type 0) (k : ℕ)
       × Tells told (all_gone (take k wanted) old ++ slot_gone nothing (new_all (take k wanted) old).1.heap) before after)
 
 -- Some of the resources were made, but not all.
-abbrev pub Stops : {A : Type 0} → (A → List Gone → Type 0) → List (Flags × List ℕ) → Memory → List (Option ℕ) → Memory
+abbrev pub MadeSome : {A : Type 0} → (A → List Gone → Type 0) → List (Flags × List ℕ) → Memory → List (Option ℕ) → Memory
     → A → A → Type 0
-Stops told wanted old numbers new before after = (k : ℕ) × StopsAfter told k wanted old numbers new before after
+MadeSome told wanted old numbers new before after = (k : ℕ) × MadeFirst told k wanted old numbers new before after

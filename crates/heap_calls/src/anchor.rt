@@ -5,7 +5,6 @@ ghost use Rattle.heap_calls.specs.Inner.Given.{slot_of};
 ghost use Rattle.heap_calls.specs.Inner.Naming.{entered, number_of};
 ghost use Rattle.heap_calls.specs.Inner.Pointing.{target_of};
 
-use crate::refusal::Refusal;
 use mac_words::OsErr;
 
 /// What the number of a handle or a pointer stands for in a store.
@@ -37,52 +36,52 @@ pub struct Target {
 
 /// Returns the number and the slot of the handle that a name is bound to: -109 (nilHandleErr) where the name is
 /// unbound or the number was never given, -111 (memWZErr) where the number is a pointer's or was disposed of.
-pub fn slot_of(names: &[Anchor], handle: Option<usize>) -> Result<Found, Refusal>
+pub fn slot_of(names: &[Anchor], handle: Option<usize>) -> Result<Found, OsErr>
     ensures { result ≡ slot_of handle names.now }
 {
     let Some(number) = handle else {
-        return Err(Refusal::Code(OsErr::NIL_HANDLE));
+        return Err(OsErr::NIL_HANDLE);
     };
     match names.get(number) {
-        None => Err(Refusal::Code(OsErr::NIL_HANDLE)),
+        None => Err(OsErr::NIL_HANDLE),
         Some(Anchor::Handle { slot, guarded }) => Ok(Found {
             number,
             slot: *slot,
             guarded: *guarded,
         }),
-        Some(_) => Err(Refusal::Code(OsErr::WRONG_ZONE)),
+        Some(_) => Err(OsErr::WRONG_ZONE),
     }
 }
 
 /// Returns the number of the pointer that a name is bound to, and the place of its block: -109 (nilHandleErr) where
 /// the name is unbound or the number was never given, -111 (memWZErr) where the number is a handle's or was disposed
 /// of.
-pub fn target_of(names: &[Anchor], pointer: Option<usize>) -> Result<Target, Refusal>
+pub fn target_of(names: &[Anchor], pointer: Option<usize>) -> Result<Target, OsErr>
     ensures { result ≡ target_of pointer names.now }
 {
     let Some(number) = pointer else {
-        return Err(Refusal::Code(OsErr::NIL_HANDLE));
+        return Err(OsErr::NIL_HANDLE);
     };
     match names.get(number) {
-        None => Err(Refusal::Code(OsErr::NIL_HANDLE)),
+        None => Err(OsErr::NIL_HANDLE),
         Some(Anchor::Pointer(place)) => Ok(Target {
             number,
             place: *place,
         }),
-        Some(Anchor::Handle { .. } | Anchor::Disposed) => Err(Refusal::Code(OsErr::WRONG_ZONE)),
+        Some(Anchor::Handle { .. } | Anchor::Disposed) => Err(OsErr::WRONG_ZONE),
     }
 }
 
 /// Enters the handle of `slot`, unguarded, under the next number, for which `names` has room, and returns the number;
 /// -108 (memFullErr) where there is no slot.
-pub fn name_handle(names: &mut Vec<Anchor>, slot: Option<u32>) -> Result<usize, Refusal>
+pub fn name_handle(names: &mut Vec<Anchor>, slot: Option<u32>) -> Result<usize, OsErr>
     requires { vec_len names.old < vec_capacity names.old }
     ensures number { result ≡ number_of slot names.old.items }
     ensures entered { names.new.items ≡ entered slot names.old.items }
     ensures capacity { vec_capacity names.new ≡ vec_capacity names.old }
 {
     let Some(slot) = slot else {
-        return Err(Refusal::Code(OsErr::MEM_FULL));
+        return Err(OsErr::MEM_FULL);
     };
     let number = names.len();
     names.push_reserved(Anchor::Handle {

@@ -1,7 +1,7 @@
 //! Bytes appended to a handle's block.
 
 ghost use Rattle.std.specs.Prelude.{◌≡◌, ◌≢◌, ◌⊎◌, ◌≤◌, ◌+◌, ◌||◌, Some, Err, true, false, length, take, IsSome};
-ghost use Rattle.std.specs.Prelude.{IsSomeAnd, IsTrue, IsErr, IfOk, OnOk, OnErr};
+ghost use Rattle.std.specs.Prelude.{IsSomeAnd, IsTrue, IsErr, IfOk, OnOk, OnErr, IsOk, None};
 ghost use Rattle.block_store.specs.Block.{is_relocatable, content_of};
 ghost use Rattle.block_store.specs.Find.{FindsLowest};
 ghost use Rattle.block_store.specs.Sparing.{spared};
@@ -22,6 +22,8 @@ ghost use Rattle.heap_calls.specs.Inner.Packed.{Packs};
 ghost use Rattle.heap_calls.specs.Inner.Telling.{fitted_gone};
 ghost use Rattle.heap_calls.specs.Searches.{size_searches, hand_and_hand_searches, pointer_and_hand_searches};
 ghost use Rattle.block_store.specs.declared.measures.TheConstants.{GREATEST_ZONE};
+ghost use Rattle.heap_calls.specs.Gone.{Hears, Rests};
+ghost use Rattle.heap_calls.specs.Left.{Stops};
 
 use crate::anchor::Anchor;
 use crate::growing_in_place::Grown;
@@ -50,23 +52,18 @@ impl<S: BlockStore> Heap<S> {
         requires idle { IsIdle K.told K.waits sink.old }
         ensures answer { IsAnswer (unless (both_barred from to self.old.memory) (packing (hand_and_hand_moves from to)
             (hand_and_hand_searches from to) (hand_and_hand from to)) self.old.memory) result self.new.memory }
-        ensures told { result ≢ Err Refusal.HostMemory → K.listens sink.old ≡ true → Tells K.told
-            (gone_unless (both_barred from to self.old.memory) (hand_and_hand_gone from to self.old.memory.heap))
-            sink.old sink.new }
-        ensures untold { result ≡ Err Refusal.HostMemory → IsTrue S.TAKES_HOST
-            ⊎ ((self.new ≡ self.old) × TellsNothing K.told sink.old sink.new) }
-        ensures idle { IsIdle K.told K.waits sink.new }
-        ensures listens { K.listens sink.new ≡ K.listens sink.old }
-        ensures host { result ≡ Err Refusal.HostMemory → IsTrue S.TAKES_HOST ⊎ (K.listens sink.old ≡ true) }
-        ensures kept { result ≡ Err Refusal.HostMemory → KeepsNames self.old.memory self.new.memory }
+        ensures hears { Hears K.told K.waits K.listens (result ≢ Err Refusal.HostMemory) (gone_unless (both_barred from
+            to self.old.memory) (hand_and_hand_gone from to self.old.memory.heap)) sink.old sink.new }
+        ensures stops { result ≡ Err Refusal.HostMemory → Stops S.TAKES_HOST K.told K.listens KeepsNames ⊥ None self.old
+            self.new sink.old sink.new }
         ensures lies { self.new.memory.window ≡ self.old.memory.window }
     {
         if let Some(code) = self.both_barred(from, to) {
-            return self.refuse(code);
+            return Ok(self.refuse(code)?);
         }
         self.tell_append_handle(from, to, sink)?;
         let answer = self.append_handle(from, to);
-        self.note(answer)
+        self.note_refusal(answer)
     }
 
     /// `PtrAndHand`: appends bytes to the block of a handle. Returns -108 (memFullErr) where there is no room, and
@@ -86,23 +83,18 @@ impl<S: BlockStore> Heap<S> {
         ensures answer { IsAnswer (unless (change_barred handle self.old.memory)
             (packing (pointer_and_hand_moves handle bytes.now) (pointer_and_hand_searches handle bytes.now)
             (pointer_and_hand handle bytes.now)) self.old.memory) result self.new.memory }
-        ensures told { result ≢ Err Refusal.HostMemory → K.listens sink.old ≡ true → Tells K.told
-            (gone_unless (change_barred handle self.old.memory) (pointer_and_hand_gone handle bytes.now
-            self.old.memory.heap)) sink.old sink.new }
-        ensures untold { result ≡ Err Refusal.HostMemory → IsTrue S.TAKES_HOST
-            ⊎ ((self.new ≡ self.old) × TellsNothing K.told sink.old sink.new) }
-        ensures idle { IsIdle K.told K.waits sink.new }
-        ensures listens { K.listens sink.new ≡ K.listens sink.old }
-        ensures host { result ≡ Err Refusal.HostMemory → IsTrue S.TAKES_HOST ⊎ (K.listens sink.old ≡ true) }
-        ensures kept { result ≡ Err Refusal.HostMemory → KeepsNames self.old.memory self.new.memory }
+        ensures hears { Hears K.told K.waits K.listens (result ≢ Err Refusal.HostMemory) (gone_unless (change_barred
+            handle self.old.memory) (pointer_and_hand_gone handle bytes.now self.old.memory.heap)) sink.old sink.new }
+        ensures stops { result ≡ Err Refusal.HostMemory → Stops S.TAKES_HOST K.told K.listens KeepsNames ⊥ None self.old
+            self.new sink.old sink.new }
         ensures lies { self.new.memory.window ≡ self.old.memory.window }
     {
         if let Some(code) = self.change_barred(handle) {
-            return self.refuse(code);
+            return Ok(self.refuse(code)?);
         }
         self.tell_append_slice(handle, bytes, sink)?;
         let answer = self.append_slice(handle, bytes);
-        self.note(answer)
+        self.note_refusal(answer)
     }
 
     /// Reports to a sink, if it listens, the blocks that `HandAndHand` is to purge.
@@ -113,11 +105,9 @@ impl<S: BlockStore> Heap<S> {
         sink: &mut K,
     ) -> Result<(), AllocError>
         requires idle { IsIdle K.told K.waits sink.old }
-        ensures told { OnOk result (K.listens sink.old ≡ true
-            → Tells K.told (hand_and_hand_gone from to self.now.memory.heap) sink.old sink.new) }
+        ensures hears { Hears K.told K.waits K.listens (IsOk result) (hand_and_hand_gone from to self.now.memory.heap)
+            sink.old sink.new }
         ensures untold { OnErr result (TellsNothing K.told sink.old sink.new) }
-        ensures idle { IsIdle K.told K.waits sink.new }
-        ensures listens { K.listens sink.new ≡ K.listens sink.old }
         ensures host { IsErr result → K.listens sink.old ≡ true }
     {
         if !sink.listens() {
@@ -150,11 +140,9 @@ impl<S: BlockStore> Heap<S> {
         sink: &mut K,
     ) -> Result<(), AllocError>
         requires idle { IsIdle K.told K.waits sink.old }
-        ensures told { OnOk result (K.listens sink.old ≡ true
-            → Tells K.told (pointer_and_hand_gone handle bytes.now self.now.memory.heap) sink.old sink.new) }
+        ensures hears { Hears K.told K.waits K.listens (IsOk result) (pointer_and_hand_gone handle bytes.now
+            self.now.memory.heap) sink.old sink.new }
         ensures untold { OnErr result (TellsNothing K.told sink.old sink.new) }
-        ensures idle { IsIdle K.told K.waits sink.new }
-        ensures listens { K.listens sink.new ≡ K.listens sink.old }
         ensures host { IsErr result → K.listens sink.old ≡ true }
     {
         if !sink.listens() {
@@ -188,7 +176,7 @@ impl<S: BlockStore> Heap<S> {
         let held = reach(&self.store, &self.names, to)?;
         let more = length_at(&self.store, source.slot, source.place);
         let grown = append_block(&mut self.store, source.slot, more, held.slot, held.place)?;
-        self.account(grown)
+        Ok(self.account(grown)?)
     }
 
     /// Appends bytes to a handle's block, and counts the searches for room.
@@ -202,7 +190,7 @@ impl<S: BlockStore> Heap<S> {
     {
         let held = reach(&self.store, &self.names, handle)?;
         let grown = append_bytes(&mut self.store, held.slot, held.place, bytes)?;
-        self.account(grown)
+        Ok(self.account(grown)?)
     }
 }
 
@@ -280,8 +268,7 @@ fn tell_longer<S: BlockStore, K: PurgeSink>(
     ensures told { OnOk result (Tells K.told (fitted_gone names.now (is_relocatable slot) sparing
         (length_of slot (S.zone store.now) + more) (S.zone store.now)) sink.old sink.new) }
     ensures untold { OnErr result (TellsNothing K.told sink.old sink.new) }
-    ensures idle { IsIdle K.told K.waits sink.new }
-    ensures listens { K.listens sink.new ≡ K.listens sink.old }
+    ensures rests { Rests K.told K.waits K.listens sink.old sink.new }
     ensures host { IsErr result → K.listens sink.old ≡ true }
 {
     let len = length_at(store, slot, place);

@@ -7,10 +7,11 @@ ghost use Rattle.block_store.specs.Run.{run_spot, has_free};
 ghost use Rattle.heap_calls.specs.Inner.Base.{IsBaseAt, base, base_searches};
 ghost use Rattle.heap_calls.specs.Inner.Numbered.{KeepsNonrelocatable};
 ghost use Rattle.heap_calls.specs.Inner.NewSlot.{HasMore, IsMade, TakesSlot, zone_searches};
-ghost use Rattle.heap_calls.specs.Gone.{Tells, TellsNothing, IsIdle};
+ghost use Rattle.heap_calls.specs.Gone.{Tells, TellsNothing, IsIdle, Hears, Rests};
 ghost use Rattle.heap_calls.specs.Inner.Packed.{KeepsAllButPlaced, PacksNone};
 ghost use Rattle.heap_calls.specs.Inner.Telling.{base_gone, zone_slot_gone};
 ghost use Rattle.block_store.specs.declared.measures.TheConstants.{GREATEST_ZONE, MASTERS_SIZE};
+ghost use Rattle.std.specs.Prelude.{IsOk};
 
 use crate::anchor::Anchor;
 use crate::least::{Searched, count_for_run};
@@ -84,8 +85,7 @@ pub fn tell_base<S: BlockStore, K: PurgeSink>(
     requires idle { IsIdle K.told K.waits sink.old }
     ensures told { OnOk result (Tells K.told (base_gone names.now bytes sparing (S.zone store.now)) sink.old sink.new) }
     ensures untold { OnErr result (TellsNothing K.told sink.old sink.new) }
-    ensures idle { IsIdle K.told K.waits sink.new }
-    ensures listens { K.listens sink.new ≡ K.listens sink.old }
+    ensures rests { Rests K.told K.waits K.listens sink.old sink.new }
     ensures host { IsErr result → K.listens sink.old ≡ true }
 {
     let counted = count_for_base(store, bytes, sparing);
@@ -131,11 +131,9 @@ pub fn tell_masters<S: BlockStore, K: PurgeSink>(
     sink: &mut K,
 ) -> Result<(), AllocError>
     requires idle { IsIdle K.told K.waits sink.old }
-    ensures told { OnOk result (K.listens sink.old ≡ true
-        → Tells K.told (base_gone names.now MASTERS_SIZE sparing (S.zone store.now)) sink.old sink.new) }
+    ensures hears { Hears K.told K.waits K.listens (IsOk result) (base_gone names.now MASTERS_SIZE sparing (S.zone
+        store.now)) sink.old sink.new }
     ensures untold { OnErr result (TellsNothing K.told sink.old sink.new) }
-    ensures idle { IsIdle K.told K.waits sink.new }
-    ensures listens { K.listens sink.new ≡ K.listens sink.old }
     ensures host { IsErr result → K.listens sink.old ≡ true }
 {
     if !sink.listens() {
@@ -153,13 +151,11 @@ pub fn make_slot<S: BlockStore, K: PurgeSink>(
     sink: &mut K,
 ) -> Result<Taken, AllocError>
     requires idle { IsIdle K.told K.waits sink.old }
-    ensures told { OnOk result (K.listens sink.old ≡ true → Tells K.told
-        (zone_slot_gone names.now sparing (S.rest store.old).unused (S.zone store.old)) sink.old sink.new) }
+    ensures hears { Hears K.told K.waits K.listens (IsOk result) (zone_slot_gone names.now sparing (S.rest
+        store.old).unused (S.zone store.old)) sink.old sink.new }
     ensures untold { OnErr result (IsTrue S.TAKES_HOST ⊎ TellsNothing K.told sink.old sink.new) }
     ensures same { OnErr result (IsTrue S.TAKES_HOST
         ⊎ ((S.zone store.new ≡ S.zone store.old) × IsRest (S.rest store.old) (S.rest store.new))) }
-    ensures idle { IsIdle K.told K.waits sink.new }
-    ensures listens { K.listens sink.new ≡ K.listens sink.old }
     ensures slot { IfOk result (λ r. TakesSlot sparing (S.zone store.old) (S.rest store.old) r.slot (S.zone store.new)
         (S.rest store.new)) }
     ensures nonrelocatable { KeepsNonrelocatable (S.zone store.old) (S.zone store.new) }

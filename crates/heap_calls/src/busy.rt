@@ -7,7 +7,6 @@ ghost use Rattle.heap_calls.specs.Busy.{barred, change_barred, pointer_barred, e
 
 use crate::anchor::{slot_of, target_of};
 use crate::heap::{Heap, find_block};
-use crate::refusal::Refusal;
 use block_store::BlockStore;
 use mac_words::OsErr;
 
@@ -104,11 +103,11 @@ impl<S: BlockStore> Heap<S> {
     }
 
     /// Refuses a call with a code, and sets the code that `MemError` returns.
-    pub(crate) fn refuse<T>(&mut self, code: OsErr) -> Result<T, Refusal>
-        ensures answer { result ≡ Err (Refusal.Code code) }
+    pub(crate) fn refuse<T>(&mut self, code: OsErr) -> Result<T, OsErr>
+        ensures answer { result ≡ Err code }
         ensures noted { self.new.memory ≡ keep_code code self.old.memory }
     {
         self.keep_code(code);
-        Err(Refusal::Code(code))
+        Err(code)
     }
 }

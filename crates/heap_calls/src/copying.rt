@@ -20,6 +20,9 @@ ghost use Rattle.heap_calls.specs.Moves.{hand_to_hand_moves};
 ghost use Rattle.heap_calls.specs.Inner.Numbered.{KeepsNonrelocatable};
 ghost use Rattle.heap_calls.specs.Inner.Packed.{Packs, new_moves};
 ghost use Rattle.heap_calls.specs.Searches.{hand_to_hand_searches};
+ghost use Rattle.heap_calls.specs.Gone.{Hears};
+ghost use Rattle.heap_calls.specs.Left.{Stops, Unreserved, copy_step};
+ghost use Rattle.std.specs.Prelude.{IsOk, Some};
 
 use crate::anchor::{Anchor, name_handle, slot_of};
 use crate::base::Taken;
@@ -45,29 +48,19 @@ impl<S: BlockStore> Heap<S> {
         sink: &mut K,
     ) -> Result<usize, Refusal>
         requires idle { IsIdle K.told K.waits sink.old }
-        ensures told { result ≢ Err Refusal.HostMemory → K.listens sink.old ≡ true → Tells K.told
-            (gone_unless (barred handle self.old.memory) (hand_to_hand_gone handle self.old.memory.heap)) sink.old
-            sink.new }
-        ensures untold { result ≡ Err Refusal.HostMemory → IsTrue S.TAKES_HOST
-            ⊎ (((self.new ≡ self.old) × TellsNothing K.told sink.old sink.new)
-            ⊎ (LeavesCopying handle self.old.memory self.new.memory
-            × Tells K.told (copy_slot_gone handle self.old.memory.heap) sink.old sink.new)) }
-        ensures idle { IsIdle K.told K.waits sink.new }
-        ensures listens { K.listens sink.new ≡ K.listens sink.old }
+        ensures hears { Hears K.told K.waits K.listens (result ≢ Err Refusal.HostMemory) (gone_unless (barred handle
+            self.old.memory) (hand_to_hand_gone handle self.old.memory.heap)) sink.old sink.new }
+        ensures stops { result ≡ Err Refusal.HostMemory → Stops S.TAKES_HOST K.told K.listens KeepsNames (Unreserved
+            self.old.memory) (Some (copy_step handle self.old.memory.heap)) self.old self.new sink.old sink.new }
         ensures answer { IsAnswer (unless (barred handle self.old.memory) (packing (hand_to_hand_moves handle)
             (hand_to_hand_searches handle) (hand_to_hand handle)) self.old.memory) result self.new.memory }
-        ensures host { result ≡ Err Refusal.HostMemory
-            → IsTrue S.TAKES_HOST ⊎ ((self.new ≡ self.old) ⊎ (K.listens sink.old ≡ true)) }
-        ensures reserved { result ≡ Err Refusal.HostMemory → IsTrue S.TAKES_HOST
-            ⊎ ((self.old.memory.log.reserved ≤ length self.old.memory.heap.names) ⊎ (K.listens sink.old ≡ true)) }
-        ensures kept { result ≡ Err Refusal.HostMemory → KeepsNames self.old.memory self.new.memory }
         ensures lies { self.new.memory.window ≡ self.old.memory.window }
     {
         if let Some(code) = self.barred(handle) {
-            return self.refuse(code);
+            return Ok(self.refuse(code)?);
         }
         let answer = self.copy_handle(handle, sink);
-        self.note(answer)
+        self.note_refusal(answer)
     }
 
     /// Makes a new handle with a copy of the bytes of another handle's block, counts the searches for room, and reports
@@ -78,22 +71,13 @@ impl<S: BlockStore> Heap<S> {
         sink: &mut K,
     ) -> Result<usize, Refusal>
         requires idle { IsIdle K.told K.waits sink.old }
-        ensures told { result ≢ Err Refusal.HostMemory → K.listens sink.old ≡ true
-            → Tells K.told (hand_to_hand_gone handle self.old.memory.heap) sink.old sink.new }
-        ensures untold { result ≡ Err Refusal.HostMemory → IsTrue S.TAKES_HOST
-            ⊎ (((self.new ≡ self.old) × TellsNothing K.told sink.old sink.new)
-            ⊎ (LeavesCopying handle self.old.memory self.new.memory
-            × Tells K.told (copy_slot_gone handle self.old.memory.heap) sink.old sink.new)) }
-        ensures idle { IsIdle K.told K.waits sink.new }
-        ensures listens { K.listens sink.new ≡ K.listens sink.old }
+        ensures hears { Hears K.told K.waits K.listens (result ≢ Err Refusal.HostMemory) (hand_to_hand_gone handle
+            self.old.memory.heap) sink.old sink.new }
+        ensures stops { result ≡ Err Refusal.HostMemory → Stops S.TAKES_HOST K.told K.listens KeepsNames (Unreserved
+            self.old.memory) (Some (copy_step handle self.old.memory.heap)) self.old self.new sink.old sink.new }
         ensures answer { IsAnswer (moving (hand_to_hand_moves handle self.old.memory.heap)
             (searching (hand_to_hand_searches handle self.old.memory.heap) (silent (hand_to_hand handle)
             self.old.memory))) result self.new.memory }
-        ensures host { result ≡ Err Refusal.HostMemory
-            → IsTrue S.TAKES_HOST ⊎ ((self.new ≡ self.old) ⊎ (K.listens sink.old ≡ true)) }
-        ensures reserved { result ≡ Err Refusal.HostMemory → IsTrue S.TAKES_HOST
-            ⊎ ((self.old.memory.log.reserved ≤ length self.old.memory.heap.names) ⊎ (K.listens sink.old ≡ true)) }
-        ensures kept { result ≡ Err Refusal.HostMemory → KeepsNames self.old.memory self.new.memory }
         ensures lies { self.new.memory.window ≡ self.old.memory.window }
     {
         let found = slot_of(&self.names, handle)?;
@@ -104,7 +88,7 @@ impl<S: BlockStore> Heap<S> {
         self.names.reserve(1)?;
         let made = copy_block(&mut self.store, &self.names, found.slot, size, sink)?;
         self.log.count(made.searches);
-        name_handle(&mut self.names, made.slot)
+        Ok(name_handle(&mut self.names, made.slot)?)
     }
 }
 
@@ -130,12 +114,10 @@ fn copy_block<S: BlockStore, K: PurgeSink>(
         (S.zone store.old)) }
     ensures moves { IfOk result (λ _. Packs (new_moves (One source) size (S.rest store.old).unused (S.zone store.old))
         (S.rest store.old) (S.rest store.new)) }
-    ensures told { OnOk result (K.listens sink.old ≡ true → Tells K.told
-        (new_gone names.now (One source) size (S.rest store.old).unused (S.zone store.old)) sink.old sink.new) }
+    ensures hears { Hears K.told K.waits K.listens (IsOk result) (new_gone names.now (One source) size (S.rest
+        store.old).unused (S.zone store.old)) sink.old sink.new }
     ensures left { OnErr result (IsTrue S.TAKES_HOST ⊎ LeavesSlot K.told names.now (One source) (S.zone store.old)
         (S.rest store.old) (S.zone store.new) (S.rest store.new) sink.old sink.new) }
-    ensures idle { IsIdle K.told K.waits sink.new }
-    ensures listens { K.listens sink.new ≡ K.listens sink.old }
     ensures host { IsErr result → IsTrue S.TAKES_HOST ⊎ (K.listens sink.old ≡ true) }
 {
     let made = new_block(store, names, size, Sparing::One(source), sink)?;

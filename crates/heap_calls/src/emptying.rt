@@ -1,8 +1,8 @@
 //! Empty handles.
 
-ghost use Rattle.std.specs.Prelude.{◌≡◌, ◌≢◌, ◌⊎◌, true, Err, IsTrue, IsErr, OnOk, OnErr};
+ghost use Rattle.std.specs.Prelude.{◌≡◌, ◌≢◌, ◌⊎◌, true, Err, IsTrue, IsErr, OnOk, OnErr, IsOk, None};
 ghost use Rattle.heap_calls.specs.Busy.{barred, change_barred, unless};
-ghost use Rattle.heap_calls.specs.Gone.{Tells, TellsNothing, IsIdle, gone_unless, reallocate_handle_gone};
+ghost use Rattle.heap_calls.specs.Gone.{Tells, TellsNothing, IsIdle, gone_unless, reallocate_handle_gone, Hears};
 ghost use Rattle.heap_calls.specs.Inner.Telling.{renewed_gone};
 ghost use Rattle.heap_calls.specs.Inner.Given.{IsAnswer, KeepsNames};
 ghost use Rattle.heap_calls.specs.Asked.{packing};
@@ -14,6 +14,7 @@ ghost use Rattle.heap_calls.specs.Inner.Loose.{FindsLoose, IsRenewed, renewed_mo
 ghost use Rattle.heap_calls.specs.Moves.{reallocate_handle_moves};
 ghost use Rattle.heap_calls.specs.Inner.Packed.{Packs};
 ghost use Rattle.block_store.specs.Slot.{is_used};
+ghost use Rattle.heap_calls.specs.Left.{Stops};
 
 use crate::anchor::{Anchor, slot_of};
 use crate::growing_in_place::Grown;
@@ -29,10 +30,9 @@ use std::alloc::AllocError;
 impl<S: BlockStore> Heap<S> {
     /// `EmptyHandle`: frees the block of a handle, and leaves the handle empty. An empty handle stays as it is.
     /// Returns -112 (memPurErr) where the block is locked.
-    pub fn empty_handle(&mut self, handle: Option<usize>) -> Result<(), Refusal>
-        ensures answer { IsAnswer (unless (barred handle self.old.memory) (noting (empty_handle handle))
-            self.old.memory) result self.new.memory }
-        ensures host { result ≢ Err Refusal.HostMemory }
+    pub fn empty_handle(&mut self, handle: Option<usize>) -> Result<(), OsErr>
+        ensures answer { unless (barred handle self.old.memory) (noting (empty_handle handle)) self.old.memory
+            ≡ (result, self.new.memory) }
         ensures lies { self.new.memory.window ≡ self.old.memory.window }
     {
         if let Some(code) = self.barred(handle) {
@@ -59,28 +59,22 @@ impl<S: BlockStore> Heap<S> {
             handle size)
             (reallocate_handle_searches handle size) (reallocate_handle handle size)) self.old.memory) result
             self.new.memory }
-        ensures told { result ≢ Err Refusal.HostMemory → K.listens sink.old ≡ true
-            → Tells K.told (gone_unless (change_barred handle self.old.memory) (reallocate_handle_gone handle size
-            self.old.memory.heap)) sink.old sink.new }
-        ensures untold { result ≡ Err Refusal.HostMemory → IsTrue S.TAKES_HOST
-            ⊎ ((self.new ≡ self.old) × TellsNothing K.told sink.old sink.new) }
-        ensures idle { IsIdle K.told K.waits sink.new }
-        ensures listens { K.listens sink.new ≡ K.listens sink.old }
-        ensures host { result ≡ Err Refusal.HostMemory → IsTrue S.TAKES_HOST ⊎ (K.listens sink.old ≡ true) }
-        ensures kept { result ≡ Err Refusal.HostMemory → KeepsNames self.old.memory self.new.memory }
+        ensures hears { Hears K.told K.waits K.listens (result ≢ Err Refusal.HostMemory) (gone_unless (change_barred
+            handle self.old.memory) (reallocate_handle_gone handle size self.old.memory.heap)) sink.old sink.new }
+        ensures stops { result ≡ Err Refusal.HostMemory → Stops S.TAKES_HOST K.told K.listens KeepsNames ⊥ None self.old
+            self.new sink.old sink.new }
         ensures lies { self.new.memory.window ≡ self.old.memory.window }
     {
         if let Some(code) = self.change_barred(handle) {
-            return self.refuse(code);
+            return Ok(self.refuse(code)?);
         }
         let answer = self.reallocate(handle, size, sink);
-        self.note(answer)
+        self.note_refusal(answer)
     }
 
     /// Frees the block of a handle, and leaves the handle empty.
-    fn empty(&mut self, handle: Option<usize>) -> Result<(), Refusal>
-        ensures answer { IsAnswer (silent (empty_handle handle) self.old.memory) result self.new.memory }
-        ensures host { result ≢ Err Refusal.HostMemory }
+    fn empty(&mut self, handle: Option<usize>) -> Result<(), OsErr>
+        ensures answer { silent (empty_handle handle) self.old.memory ≡ (result, self.new.memory) }
         ensures lies { self.new.memory.window ≡ self.old.memory.window }
     {
         let slot = loose_slot(&self.store, &self.names, handle)?;
@@ -100,23 +94,20 @@ impl<S: BlockStore> Heap<S> {
         ensures answer { IsAnswer (moving (reallocate_handle_moves handle size self.old.memory.heap)
             (searching (reallocate_handle_searches handle size self.old.memory.heap)
             (silent (reallocate_handle handle size) self.old.memory))) result self.new.memory }
-        ensures told { result ≢ Err Refusal.HostMemory → K.listens sink.old ≡ true
-            → Tells K.told (reallocate_handle_gone handle size self.old.memory.heap) sink.old sink.new }
-        ensures untold { result ≡ Err Refusal.HostMemory → IsTrue S.TAKES_HOST
-            ⊎ ((self.new ≡ self.old) × TellsNothing K.told sink.old sink.new) }
-        ensures idle { IsIdle K.told K.waits sink.new }
-        ensures listens { K.listens sink.new ≡ K.listens sink.old }
-        ensures host { result ≡ Err Refusal.HostMemory → IsTrue S.TAKES_HOST ⊎ (K.listens sink.old ≡ true) }
-        ensures kept { result ≡ Err Refusal.HostMemory → KeepsNames self.old.memory self.new.memory }
+        ensures hears { Hears K.told K.waits K.listens (result ≢ Err Refusal.HostMemory) (reallocate_handle_gone handle
+            size self.old.memory.heap) sink.old sink.new }
+        ensures stops { result ≡ Err Refusal.HostMemory → Stops S.TAKES_HOST K.told K.listens KeepsNames ⊥ None self.old
+            self.new sink.old sink.new }
         ensures lies { self.new.memory.window ≡ self.old.memory.window }
     {
         let slot = loose_slot(&self.store, &self.names, handle)?;
         tell_renewal(&self.store, &self.names, slot, size, sink)?;
         let room = renew_block(&mut self.store, slot, size)?;
-        self.account(Grown {
+        let grown = Grown {
             done: room.place.is_some(),
             searches: room.searches,
-        })
+        };
+        Ok(self.account(grown)?)
     }
 }
 
@@ -125,7 +116,7 @@ fn loose_slot<S: BlockStore>(
     store: &S,
     names: &[Anchor],
     handle: Option<usize>,
-) -> Result<u32, Refusal>
+) -> Result<u32, OsErr>
     requires { Agrees (S.zone store.now) (S.rest store.now) names.now }
     ensures { FindsLoose (S.zone store.now) (S.rest store.now).slots names.now handle result }
 {
@@ -134,7 +125,7 @@ fn loose_slot<S: BlockStore>(
         return Ok(found.slot);
     };
     if !can_move(store.block_at(place)) {
-        return Err(Refusal::Code(OsErr::PURGED));
+        return Err(OsErr::PURGED);
     }
     Ok(found.slot)
 }
@@ -149,11 +140,9 @@ pub fn tell_renewal<S: BlockStore, K: PurgeSink>(
     sink: &mut K,
 ) -> Result<(), AllocError>
     requires idle { IsIdle K.told K.waits sink.old }
-    ensures told { OnOk result (K.listens sink.old ≡ true
-        → Tells K.told (renewed_gone names.now slot size (S.zone store.now)) sink.old sink.new) }
+    ensures hears { Hears K.told K.waits K.listens (IsOk result) (renewed_gone names.now slot size (S.zone store.now))
+        sink.old sink.new }
     ensures untold { OnErr result (TellsNothing K.told sink.old sink.new) }
-    ensures idle { IsIdle K.told K.waits sink.new }
-    ensures listens { K.listens sink.new ≡ K.listens sink.old }
     ensures host { IsErr result → K.listens sink.old ≡ true }
 {
     if !sink.listens() {

@@ -1,7 +1,7 @@
 //! New blocks with given properties and bytes.
 
 ghost use Rattle.std.specs.Prelude.{◌≡◌, ◌≢◌, ◌⊎◌, ◌+◌, ◌<◌, ◌≤◌, true, false, Err, [], map, length, IfOk, OnOk, OnErr, IsErr};
-ghost use Rattle.std.specs.Prelude.{IsTrue};
+ghost use Rattle.std.specs.Prelude.{IsTrue, IsOk, Some, None};
 ghost use Rattle.std.specs.Prelude.{vec_len, vec_capacity};
 ghost use Rattle.heap_calls.specs.State.{Plain};
 ghost use Rattle.heap_calls.specs.Inside.{inside, has_block, new_inside, new_empty_inside, refill_inside};
@@ -9,7 +9,7 @@ ghost use Rattle.heap_calls.specs.Inside.{resource_role, new_all};
 ghost use Rattle.heap_calls.specs.Answer.{nothing};
 ghost use Rattle.heap_calls.specs.Refused.{LeavesMasters};
 ghost use Rattle.heap_calls.specs.Gone.{Tells, TellsNothing, IsIdle, slot_gone, made_gone, all_gone, refill_gone};
-ghost use Rattle.heap_calls.specs.Preloaded.{LeavesUnmade, Stops};
+ghost use Rattle.heap_calls.specs.Preloaded.{LeavesUnmade, MadeSome};
 ghost use Rattle.heap_calls.specs.Inner.Telling.{new_gone, renewed_gone, LeavesSlot};
 ghost use Rattle.heap_calls.specs.Inner.Given.{IsAnswer, KeepsMoves, KeepsNames};
 ghost use Rattle.heap_calls.specs.Inner.Filling.{IsSizeOf, IsFresh, IsReplaced, IsFilling, IsRefilled, refilled_moves};
@@ -24,6 +24,8 @@ ghost use Rattle.block_store.specs.Rest.{IsRest};
 ghost use Rattle.block_store.specs.Run.{has};
 ghost use Rattle.block_store.specs.Slot.{is_used};
 ghost use Rattle.block_store.specs.declared.sparing.Sparing.TheVariants.{Nothing};
+ghost use Rattle.heap_calls.specs.Gone.{Hears, Rests};
+ghost use Rattle.heap_calls.specs.Left.{Stops, Unreserved, slot_step};
 
 use crate::anchor::{Anchor, name_handle, slot_of};
 use crate::base::Taken;
@@ -64,19 +66,10 @@ impl<S: BlockStore> Heap<S> {
         requires idle { IsIdle K.told K.waits sink.old }
         ensures answer { IsAnswer (new_inside (resource_role guarded) flags bytes.now self.old.memory) result
             self.new.memory }
-        ensures told { result ≢ Err Refusal.HostMemory → K.listens sink.old ≡ true
-            → Tells K.told (made_gone nothing bytes.now self.old.memory.heap) sink.old sink.new }
-        ensures untold { result ≡ Err Refusal.HostMemory → IsTrue S.TAKES_HOST
-            ⊎ (((self.new ≡ self.old) × TellsNothing K.told sink.old sink.new)
-            ⊎ (LeavesMasters nothing self.old.memory self.new.memory
-            × Tells K.told (slot_gone nothing self.old.memory.heap) sink.old sink.new)) }
-        ensures idle { IsIdle K.told K.waits sink.new }
-        ensures listens { K.listens sink.new ≡ K.listens sink.old }
-        ensures host { result ≡ Err Refusal.HostMemory
-            → IsTrue S.TAKES_HOST ⊎ ((self.new ≡ self.old) ⊎ (K.listens sink.old ≡ true)) }
-        ensures reserved { result ≡ Err Refusal.HostMemory → IsTrue S.TAKES_HOST
-            ⊎ ((self.old.memory.log.reserved ≤ length self.old.memory.heap.names) ⊎ (K.listens sink.old ≡ true)) }
-        ensures kept { result ≡ Err Refusal.HostMemory → KeepsNames self.old.memory self.new.memory }
+        ensures hears { Hears K.told K.waits K.listens (result ≢ Err Refusal.HostMemory) (made_gone nothing bytes.now
+            self.old.memory.heap) sink.old sink.new }
+        ensures stops { result ≡ Err Refusal.HostMemory → Stops S.TAKES_HOST K.told K.listens KeepsNames (Unreserved
+            self.old.memory) (Some (slot_step nothing self.old.memory.heap)) self.old self.new sink.old sink.new }
         ensures lies { self.new.memory.window ≡ self.old.memory.window }
     {
         let answer = self.fill_handle(bytes, flags, sink);
@@ -94,16 +87,10 @@ impl<S: BlockStore> Heap<S> {
     ) -> Result<usize, Refusal>
         requires idle { IsIdle K.told K.waits sink.old }
         ensures answer { IsAnswer (new_empty_inside (resource_role guarded) self.old.memory) result self.new.memory }
-        ensures told { result ≢ Err Refusal.HostMemory → K.listens sink.old ≡ true
-            → Tells K.told (slot_gone nothing self.old.memory.heap) sink.old sink.new }
-        ensures untold { result ≡ Err Refusal.HostMemory
-            → IsTrue S.TAKES_HOST ⊎ TellsNothing K.told sink.old sink.new }
-        ensures idle { IsIdle K.told K.waits sink.new }
-        ensures listens { K.listens sink.new ≡ K.listens sink.old }
-        ensures host { result ≡ Err Refusal.HostMemory → IsTrue S.TAKES_HOST ⊎ (self.new ≡ self.old) }
-        ensures reserved { result ≡ Err Refusal.HostMemory → IsTrue S.TAKES_HOST
-            ⊎ ((self.old.memory.log.reserved ≤ length self.old.memory.heap.names) ⊎ (K.listens sink.old ≡ true)) }
-        ensures kept { result ≡ Err Refusal.HostMemory → KeepsMoves self.old.memory self.new.memory }
+        ensures hears { Hears K.told K.waits K.listens (result ≢ Err Refusal.HostMemory) (slot_gone nothing
+            self.old.memory.heap) sink.old sink.new }
+        ensures stops { result ≡ Err Refusal.HostMemory → Stops S.TAKES_HOST K.told K.listens KeepsMoves (Unreserved
+            self.old.memory) None self.old self.new sink.old sink.new }
         ensures lies { self.new.memory.window ≡ self.old.memory.window }
     {
         let answer = self.make_empty_handle(sink);
@@ -125,13 +112,11 @@ impl<S: BlockStore> Heap<S> {
         requires idle { IsIdle K.told K.waits sink.old }
         ensures answer { OnOk result (new_all (map wanted_as wanted.now) self.old.memory
             ≡ (numbers.new.items, self.new.memory)) }
-        ensures told { OnOk result (K.listens sink.old ≡ true
-            → Tells K.told (all_gone (map wanted_as wanted.now) self.old.memory) sink.old sink.new) }
+        ensures hears { Hears K.told K.waits K.listens (IsOk result) (all_gone (map wanted_as wanted.now)
+            self.old.memory) sink.old sink.new }
         ensures untold { OnErr result (IsTrue S.TAKES_HOST
-            ⊎ Stops K.told (map wanted_as wanted.now) self.old.memory numbers.new.items self.new.memory sink.old
+            ⊎ MadeSome K.told (map wanted_as wanted.now) self.old.memory numbers.new.items self.new.memory sink.old
             sink.new) }
-        ensures idle { IsIdle K.told K.waits sink.new }
-        ensures listens { K.listens sink.new ≡ K.listens sink.old }
         ensures host { IsErr result
             → IsTrue S.TAKES_HOST ⊎ ((self.new ≡ self.old) ⊎ (K.listens sink.old ≡ true)) }
         ensures lies { self.new.memory.window ≡ self.old.memory.window }
@@ -166,23 +151,20 @@ impl<S: BlockStore> Heap<S> {
         requires emptied { has_block number self.old.memory.heap ≡ false }
         requires idle { IsIdle K.told K.waits sink.old }
         ensures answer { IsAnswer (refill_inside number flags bytes.now self.old.memory) result self.new.memory }
-        ensures told { result ≢ Err Refusal.HostMemory → K.listens sink.old ≡ true
-            → Tells K.told (refill_gone number (length bytes.now) self.old.memory.heap) sink.old sink.new }
-        ensures untold { result ≡ Err Refusal.HostMemory → IsTrue S.TAKES_HOST
-            ⊎ ((self.new ≡ self.old) × TellsNothing K.told sink.old sink.new) }
-        ensures idle { IsIdle K.told K.waits sink.new }
-        ensures listens { K.listens sink.new ≡ K.listens sink.old }
-        ensures host { result ≡ Err Refusal.HostMemory → IsTrue S.TAKES_HOST ⊎ (K.listens sink.old ≡ true) }
-        ensures kept { result ≡ Err Refusal.HostMemory → KeepsNames self.old.memory self.new.memory }
+        ensures hears { Hears K.told K.waits K.listens (result ≢ Err Refusal.HostMemory) (refill_gone number (length
+            bytes.now) self.old.memory.heap) sink.old sink.new }
+        ensures stops { result ≡ Err Refusal.HostMemory → Stops S.TAKES_HOST K.told K.listens KeepsNames ⊥ None self.old
+            self.new sink.old sink.new }
         ensures lies { self.new.memory.window ≡ self.old.memory.window }
     {
         let found = slot_of(&self.names, Some(number))?;
         tell_refilling(&self.store, &self.names, found.slot, bytes, sink)?;
         let room = refill_block(&mut self.store, found.slot, bytes, flags)?;
-        self.account(Grown {
+        let grown = Grown {
             done: room.place.is_some(),
             searches: room.searches,
-        })
+        };
+        Ok(self.account(grown)?)
     }
 
     /// Makes a new handle, an application's own, with a block of these bytes and properties, counts the searches for
@@ -195,25 +177,16 @@ impl<S: BlockStore> Heap<S> {
     ) -> Result<usize, Refusal>
         requires idle { IsIdle K.told K.waits sink.old }
         ensures answer { IsAnswer (new_inside Plain flags bytes.now self.old.memory) result self.new.memory }
-        ensures told { result ≢ Err Refusal.HostMemory → K.listens sink.old ≡ true
-            → Tells K.told (made_gone nothing bytes.now self.old.memory.heap) sink.old sink.new }
-        ensures untold { result ≡ Err Refusal.HostMemory → IsTrue S.TAKES_HOST
-            ⊎ (((self.new ≡ self.old) × TellsNothing K.told sink.old sink.new)
-            ⊎ (LeavesMasters nothing self.old.memory self.new.memory
-            × Tells K.told (slot_gone nothing self.old.memory.heap) sink.old sink.new)) }
-        ensures idle { IsIdle K.told K.waits sink.new }
-        ensures listens { K.listens sink.new ≡ K.listens sink.old }
-        ensures host { result ≡ Err Refusal.HostMemory
-            → IsTrue S.TAKES_HOST ⊎ ((self.new ≡ self.old) ⊎ (K.listens sink.old ≡ true)) }
-        ensures reserved { result ≡ Err Refusal.HostMemory → IsTrue S.TAKES_HOST
-            ⊎ ((self.old.memory.log.reserved ≤ length self.old.memory.heap.names) ⊎ (K.listens sink.old ≡ true)) }
-        ensures kept { result ≡ Err Refusal.HostMemory → KeepsNames self.old.memory self.new.memory }
+        ensures hears { Hears K.told K.waits K.listens (result ≢ Err Refusal.HostMemory) (made_gone nothing bytes.now
+            self.old.memory.heap) sink.old sink.new }
+        ensures stops { result ≡ Err Refusal.HostMemory → Stops S.TAKES_HOST K.told K.listens KeepsNames (Unreserved
+            self.old.memory) (Some (slot_step nothing self.old.memory.heap)) self.old self.new sink.old sink.new }
         ensures lies { self.new.memory.window ≡ self.old.memory.window }
     {
         self.names.reserve(1)?;
         let made = fill_block(&mut self.store, &self.names, bytes, flags, sink)?;
         self.log.count(made.searches);
-        name_handle(&mut self.names, made.slot)
+        Ok(name_handle(&mut self.names, made.slot)?)
     }
 
     /// Makes the handle of an answer, where one was made, a resource's, and returns the answer.
@@ -263,12 +236,10 @@ fn new_block_for<S: BlockStore, K: PurgeSink>(
     sink: &mut K,
 ) -> Result<Taken, AllocError>
     requires idle { IsIdle K.told K.waits sink.old }
-    ensures told { OnOk result (K.listens sink.old ≡ true → Tells K.told
-        (new_gone names.now Nothing (length bytes.now) (S.rest store.old).unused (S.zone store.old)) sink.old sink.new) }
+    ensures hears { Hears K.told K.waits K.listens (IsOk result) (new_gone names.now Nothing (length bytes.now) (S.rest
+        store.old).unused (S.zone store.old)) sink.old sink.new }
     ensures left { OnErr result (IsTrue S.TAKES_HOST ⊎ LeavesSlot K.told names.now Nothing (S.zone store.old)
         (S.rest store.old) (S.zone store.new) (S.rest store.new) sink.old sink.new) }
-    ensures idle { IsIdle K.told K.waits sink.new }
-    ensures listens { K.listens sink.new ≡ K.listens sink.old }
     ensures answer { IfOk result (λ r. IsNewBlock Nothing (length bytes.now) (S.zone store.old) (S.rest store.old)
         r.slot (S.zone store.new) (S.rest store.new)) }
     ensures kept { OnErr result (HasMore (S.rest store.old) (S.rest store.new)) }
@@ -295,12 +266,10 @@ pub fn fill_block<S: BlockStore, K: PurgeSink>(
     sink: &mut K,
 ) -> Result<Taken, AllocError>
     requires idle { IsIdle K.told K.waits sink.old }
-    ensures told { OnOk result (K.listens sink.old ≡ true → Tells K.told
-        (new_gone names.now Nothing (length bytes.now) (S.rest store.old).unused (S.zone store.old)) sink.old sink.new) }
+    ensures hears { Hears K.told K.waits K.listens (IsOk result) (new_gone names.now Nothing (length bytes.now) (S.rest
+        store.old).unused (S.zone store.old)) sink.old sink.new }
     ensures left { OnErr result (IsTrue S.TAKES_HOST ⊎ LeavesSlot K.told names.now Nothing (S.zone store.old)
         (S.rest store.old) (S.zone store.new) (S.rest store.new) sink.old sink.new) }
-    ensures idle { IsIdle K.told K.waits sink.new }
-    ensures listens { K.listens sink.new ≡ K.listens sink.old }
     ensures answer { IfOk result (λ r. IsFilling flags bytes.now (S.zone store.old) (S.rest store.old) r.slot
         (S.zone store.new) (S.rest store.new)) }
     ensures kept { OnErr result (HasMore (S.rest store.old) (S.rest store.new)) }
@@ -348,11 +317,9 @@ fn tell_refilling<S: BlockStore, K: PurgeSink>(
     sink: &mut K,
 ) -> Result<(), AllocError>
     requires idle { IsIdle K.told K.waits sink.old }
-    ensures told { OnOk result (K.listens sink.old ≡ true
-        → Tells K.told (renewed_gone names.now slot (length bytes.now) (S.zone store.now)) sink.old sink.new) }
+    ensures hears { Hears K.told K.waits K.listens (IsOk result) (renewed_gone names.now slot (length bytes.now) (S.zone
+        store.now)) sink.old sink.new }
     ensures untold { OnErr result (TellsNothing K.told sink.old sink.new) }
-    ensures idle { IsIdle K.told K.waits sink.new }
-    ensures listens { K.listens sink.new ≡ K.listens sink.old }
     ensures host { IsErr result → K.listens sink.old ≡ true }
 {
     let size = size_of(bytes);
@@ -400,11 +367,10 @@ fn add_resource<S: BlockStore, K: PurgeSink>(
     requires idle { IsIdle K.told K.waits sink.old }
     ensures told { OnOk result (K.listens sink.old ≡ true → Tells K.told (made_gone nothing bytes.now
         (memory_of (S.zone store.old) (S.rest store.old) names.old.items log.old).heap) sink.old sink.new) }
+    ensures rests { Rests K.told K.waits K.listens sink.old sink.new }
     ensures left { OnErr result (IsTrue S.TAKES_HOST ⊎ LeavesUnmade K.told
         (memory_of (S.zone store.old) (S.rest store.old) names.old.items log.old)
         (memory_of (S.zone store.new) (S.rest store.new) names.new.items log.new) sink.old sink.new) }
-    ensures idle { IsIdle K.told K.waits sink.new }
-    ensures listens { K.listens sink.new ≡ K.listens sink.old }
     ensures agrees { Agrees (S.zone store.new) (S.rest store.new) names.new.items }
     ensures next { IfOk result (λ number. IsNext flags bytes.now
         (memory_of (S.zone store.old) (S.rest store.old) names.old.items log.old) number
@@ -446,11 +412,10 @@ fn add_resources<S: BlockStore, K: PurgeSink>(
     requires idle { IsIdle K.told K.waits sink.old }
     ensures told { OnOk result (K.listens sink.old ≡ true → Tells K.told (all_gone (map wanted_as wanted.now)
         (memory_of (S.zone store.old) (S.rest store.old) names.old.items log.old)) sink.old sink.new) }
-    ensures left { OnErr result (IsTrue S.TAKES_HOST ⊎ Stops K.told (map wanted_as wanted.now)
+    ensures rests { Rests K.told K.waits K.listens sink.old sink.new }
+    ensures left { OnErr result (IsTrue S.TAKES_HOST ⊎ MadeSome K.told (map wanted_as wanted.now)
         (memory_of (S.zone store.old) (S.rest store.old) names.old.items log.old) numbers.new.items
         (memory_of (S.zone store.new) (S.rest store.new) names.new.items log.new) sink.old sink.new) }
-    ensures idle { IsIdle K.told K.waits sink.new }
-    ensures listens { K.listens sink.new ≡ K.listens sink.old }
     ensures agrees { Agrees (S.zone store.new) (S.rest store.new) names.new.items }
     ensures answer { OnOk result (new_all (map wanted_as wanted.now)
         (memory_of (S.zone store.old) (S.rest store.old) names.old.items log.old)

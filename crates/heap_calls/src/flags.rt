@@ -1,22 +1,21 @@
 //! The properties of relocatable blocks: locked, purgeable.
 
-ghost use Rattle.std.specs.Prelude.{◌≡◌, ◌≢◌};
+ghost use Rattle.std.specs.Prelude.{◌≡◌};
 ghost use Rattle.heap_calls.specs.Busy.{barred, unless};
-ghost use Rattle.heap_calls.specs.Inner.Given.{IsAnswer, seen_flags};
+ghost use Rattle.heap_calls.specs.Inner.Given.{seen_flags};
 ghost use Rattle.heap_calls.specs.Answer.{change_flags, noting, silent};
 ghost use Rattle.heap_calls.specs.Purging.{h_purge, h_no_purge, h_get_state, h_set_state};
 ghost use Rattle.heap_calls.specs.Inner.Loose.{flags_with, bits_of};
 
 use crate::heap::{Heap, find_block};
-use crate::refusal::Refusal;
 use block_store::{BlockStore, Flags, Seen};
+use mac_words::OsErr;
 
 impl<S: BlockStore> Heap<S> {
     /// `HPurge`: makes the block of a handle purgeable, so that the block may be purged while unlocked.
-    pub fn h_purge(&mut self, handle: Option<usize>) -> Result<(), Refusal>
-        ensures answer { IsAnswer (unless (barred handle self.old.memory) (noting (h_purge handle)) self.old.memory)
-            result self.new.memory }
-        ensures host { result ≢ Err Refusal.HostMemory }
+    pub fn h_purge(&mut self, handle: Option<usize>) -> Result<(), OsErr>
+        ensures answer { unless (barred handle self.old.memory) (noting (h_purge handle)) self.old.memory
+            ≡ (result, self.new.memory) }
         ensures lies { self.new.memory.window ≡ self.old.memory.window }
     {
         if let Some(code) = self.barred(handle) {
@@ -27,10 +26,9 @@ impl<S: BlockStore> Heap<S> {
     }
 
     /// `HNoPurge`: makes the block of a handle unpurgeable, so that the block is not purged.
-    pub fn h_no_purge(&mut self, handle: Option<usize>) -> Result<(), Refusal>
-        ensures answer { IsAnswer (unless (barred handle self.old.memory) (noting (h_no_purge handle)) self.old.memory)
-            result self.new.memory }
-        ensures host { result ≢ Err Refusal.HostMemory }
+    pub fn h_no_purge(&mut self, handle: Option<usize>) -> Result<(), OsErr>
+        ensures answer { unless (barred handle self.old.memory) (noting (h_no_purge handle)) self.old.memory
+            ≡ (result, self.new.memory) }
         ensures lies { self.new.memory.window ≡ self.old.memory.window }
     {
         if let Some(code) = self.barred(handle) {
@@ -42,10 +40,9 @@ impl<S: BlockStore> Heap<S> {
 
     /// `HGetState`: returns the properties of a handle's block as bits of a byte: 128 where the block is locked, 64
     /// where it is purgeable, 32 where the handle is a resource's.
-    pub fn h_get_state(&mut self, handle: Option<usize>) -> Result<u8, Refusal>
-        ensures answer { IsAnswer (unless (barred handle self.old.memory) (noting (h_get_state handle)) self.old.memory)
-            result self.new.memory }
-        ensures host { result ≢ Err Refusal.HostMemory }
+    pub fn h_get_state(&mut self, handle: Option<usize>) -> Result<u8, OsErr>
+        ensures answer { unless (barred handle self.old.memory) (noting (h_get_state handle)) self.old.memory
+            ≡ (result, self.new.memory) }
         ensures lies { self.new.memory.window ≡ self.old.memory.window }
     {
         if let Some(code) = self.barred(handle) {
@@ -58,10 +55,9 @@ impl<S: BlockStore> Heap<S> {
     /// `HSetState`: locks or unlocks the block of a handle by bit 128 of `byte`, and makes the block purgeable or
     /// unpurgeable by bit 64, as `HGetState` returns them. The other bits have no effect: a resource's handle stays a
     /// resource's.
-    pub fn h_set_state(&mut self, handle: Option<usize>, byte: u8) -> Result<(), Refusal>
-        ensures answer { IsAnswer (unless (barred handle self.old.memory) (noting (h_set_state handle byte))
-            self.old.memory) result self.new.memory }
-        ensures host { result ≢ Err Refusal.HostMemory }
+    pub fn h_set_state(&mut self, handle: Option<usize>, byte: u8) -> Result<(), OsErr>
+        ensures answer { unless (barred handle self.old.memory) (noting (h_set_state handle byte)) self.old.memory
+            ≡ (result, self.new.memory) }
         ensures lies { self.new.memory.window ≡ self.old.memory.window }
     {
         if let Some(code) = self.barred(handle) {
@@ -79,10 +75,9 @@ impl<S: BlockStore> Heap<S> {
         handle: Option<usize>,
         locked: Option<bool>,
         purgeable: Option<bool>,
-    ) -> Result<(), Refusal>
-        ensures answer { IsAnswer (silent (change_flags (flags_with locked purgeable) handle) self.old.memory) result
-            self.new.memory }
-        ensures host { result ≢ Err Refusal.HostMemory }
+    ) -> Result<(), OsErr>
+        ensures answer { silent (change_flags (flags_with locked purgeable) handle) self.old.memory
+            ≡ (result, self.new.memory) }
         ensures lies { self.new.memory.window ≡ self.old.memory.window }
     {
         let place = find_block(&self.store, &self.names, handle)?;
@@ -98,9 +93,8 @@ impl<S: BlockStore> Heap<S> {
     }
 
     /// Returns the properties of a handle's block as bits of a byte.
-    fn state_of(&self, handle: Option<usize>) -> Result<u8, Refusal>
-        ensures answer { IsAnswer (silent (h_get_state handle) self.now.memory) result self.now.memory }
-        ensures host { result ≢ Err Refusal.HostMemory }
+    fn state_of(&self, handle: Option<usize>) -> Result<u8, OsErr>
+        ensures { silent (h_get_state handle) self.now.memory ≡ (result, self.now.memory) }
     {
         let place = find_block(&self.store, &self.names, handle)?;
         let bits = bits_of(flags_of(self.store.block_at(place)));

@@ -16,7 +16,7 @@ ghost use Rattle.block_store.specs.Fewest.{smaller};
 ghost use Rattle.heap_calls.specs.Inner.Numbered.{KeepsNonrelocatable};
 ghost use Rattle.heap_calls.specs.Inner.Packed.{Packs};
 ghost use Rattle.heap_calls.specs.Inner.Telling.{try_gone};
-ghost use Rattle.heap_calls.specs.Gone.{Tells, TellsNothing, IsIdle};
+ghost use Rattle.heap_calls.specs.Gone.{Tells, TellsNothing, IsIdle, Rests};
 ghost use Rattle.heap_calls.specs.Searches.{room_searches};
 ghost use Rattle.block_store.specs.declared.measures.TheConstants.{GREATEST_ZONE};
 
@@ -300,8 +300,7 @@ pub fn tell_growth<S: BlockStore, K: PurgeSink>(
     ensures told { OnOk result (Tells K.told (try_gone names.now (grow_mover (is_relocatable slot)
         (grown bytes (spot (is_relocatable slot) (S.zone store.now)))) sparing (S.zone store.now)) sink.old sink.new) }
     ensures untold { OnErr result (TellsNothing K.told sink.old sink.new) }
-    ensures idle { IsIdle K.told K.waits sink.new }
-    ensures listens { K.listens sink.new ≡ K.listens sink.old }
+    ensures rests { Rests K.told K.waits K.listens sink.old sink.new }
     ensures host { IsErr result → K.listens sink.old ≡ true }
 {
     let Some(takes) = phys(bytes) else {

@@ -14,7 +14,7 @@ ghost use Rattle.heap_calls.specs.Inner.SearchLaws.{above-rises, above-ends};
 ghost use Rattle.heap_calls.specs.Inner.Least.{IsMost, enough_above};
 ghost use Rattle.heap_calls.specs.Inner.Numbered.{KeepsNonrelocatable};
 ghost use Rattle.heap_calls.specs.Inner.Telling.{OpensNone, still_gone};
-ghost use Rattle.heap_calls.specs.Gone.{Tells, TellsNothing, IsIdle};
+ghost use Rattle.heap_calls.specs.Gone.{Tells, TellsNothing, IsIdle, Rests};
 ghost use Rattle.heap_calls.specs.Searches.{room_searches, in_place_searches};
 ghost use Rattle.block_store.specs.declared.measures.TheConstants.{GREATEST_ZONE};
 ghost use Rattle.heap_calls.specs.Inner.Packed.{KeepsAllButPlaced};
@@ -107,8 +107,7 @@ pub fn tell_in_place<S: BlockStore, K: PurgeSink>(
     ensures told { OnOk result (IfSome (spot_at place (S.zone store.now))
         (λ s. Tells K.told (still_gone names.now sparing (resized bytes s.here) s) sink.old sink.new)) }
     ensures untold { OnErr result (TellsNothing K.told sink.old sink.new) }
-    ensures idle { IsIdle K.told K.waits sink.new }
-    ensures listens { K.listens sink.new ≡ K.listens sink.old }
+    ensures rests { Rests K.told K.waits K.listens sink.old sink.new }
     ensures host { IsErr result → K.listens sink.old ≡ true }
 {
     let taken = bytes_at(store, place);

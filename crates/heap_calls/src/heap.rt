@@ -1,6 +1,6 @@
 //! The heap of an application.
 
-ghost use Rattle.heap_calls.specs.Gone.{Tells, TellsNothing, IsIdle, new_handle_gone, slot_gone};
+ghost use Rattle.heap_calls.specs.Gone.{Tells, TellsNothing, IsIdle, new_handle_gone, slot_gone, Hears};
 ghost use Rattle.heap_calls.specs.Refused.{LeavesMasters};
 ghost use Rattle.std.specs.Prelude.{◌≡◌, ◌≢◌, ◌⊎◌, ◌≤◌, ◌<◌, ◌+◌, true, Err, IsTrue, OnOk, OnErr, length, max, vec_capacity};
 ghost use Rattle.block_store.specs.Block.{fresh, sizes};
@@ -10,12 +10,14 @@ ghost use Rattle.heap_calls.specs.Inner.Given.{IsAnswer, IsShown, KeepsNames, Fi
 ghost use Rattle.heap_calls.specs.Inner.Numbered.{Agrees};
 ghost use Rattle.heap_calls.specs.State.{fresh_memory};
 ghost use Rattle.heap_calls.specs.Answer.{nothing, dispose_handle, get_handle_size, free_mem, put, show, noting, searching};
-ghost use Rattle.heap_calls.specs.Answer.{silent, moving};
+ghost use Rattle.heap_calls.specs.Answer.{silent, moving, code_of};
 ghost use Rattle.heap_calls.specs.Slots.{new_handle};
 ghost use Rattle.heap_calls.specs.Moves.{new_handle_moves};
 ghost use Rattle.heap_calls.specs.Searches.{new_handle_searches};
 ghost use Rattle.heap_calls.specs.Pointers.{place_of};
 ghost use Rattle.block_store.specs.declared.measures.TheConstants.{SLOTS_A_BLOCK};
+ghost use Rattle.heap_calls.specs.Left.{Stops, Unreserved, slot_step};
+ghost use Rattle.std.specs.Prelude.{Some};
 
 use crate::anchor::{Anchor, name_handle, slot_of};
 use crate::log::Log;
@@ -118,33 +120,23 @@ impl<S: BlockStore> Heap<S> {
     /// the host out of memory after a new master pointer block was made, which then stays.
     pub fn new_handle<K: PurgeSink>(&mut self, size: u32, sink: &mut K) -> Result<usize, Refusal>
         requires idle { IsIdle K.told K.waits sink.old }
-        ensures told { result ≢ Err Refusal.HostMemory → K.listens sink.old ≡ true
-            → Tells K.told (new_handle_gone size self.old.memory.heap) sink.old sink.new }
-        ensures untold { result ≡ Err Refusal.HostMemory → IsTrue S.TAKES_HOST
-            ⊎ (((self.new ≡ self.old) × TellsNothing K.told sink.old sink.new)
-            ⊎ (LeavesMasters nothing self.old.memory self.new.memory
-            × Tells K.told (slot_gone nothing self.old.memory.heap) sink.old sink.new)) }
-        ensures idle { IsIdle K.told K.waits sink.new }
-        ensures listens { K.listens sink.new ≡ K.listens sink.old }
+        ensures hears { Hears K.told K.waits K.listens (result ≢ Err Refusal.HostMemory) (new_handle_gone size
+            self.old.memory.heap) sink.old sink.new }
+        ensures stops { result ≡ Err Refusal.HostMemory → Stops S.TAKES_HOST K.told K.listens KeepsNames (Unreserved
+            self.old.memory) (Some (slot_step nothing self.old.memory.heap)) self.old self.new sink.old sink.new }
         ensures answer { IsAnswer (packing (new_handle_moves size) (new_handle_searches size) (new_handle size)
             self.old.memory) result self.new.memory }
-        ensures host { result ≡ Err Refusal.HostMemory
-            → IsTrue S.TAKES_HOST ⊎ ((self.new ≡ self.old) ⊎ (K.listens sink.old ≡ true)) }
-        ensures reserved { result ≡ Err Refusal.HostMemory → IsTrue S.TAKES_HOST
-            ⊎ ((self.old.memory.log.reserved ≤ length self.old.memory.heap.names) ⊎ (K.listens sink.old ≡ true)) }
-        ensures kept { result ≡ Err Refusal.HostMemory → KeepsNames self.old.memory self.new.memory }
         ensures lies { self.new.memory.window ≡ self.old.memory.window }
     {
         let answer = self.make_handle(size, sink);
-        self.note(answer)
+        self.note_refusal(answer)
     }
 
     /// `DisposeHandle`: disposes of a handle. Its block, locked or not, becomes free, and its master pointer is
     /// unused again. Returns -30001 (profileErr) where the handle is a resource's.
-    pub fn dispose_handle(&mut self, handle: Option<usize>) -> Result<(), Refusal>
-        ensures answer { IsAnswer (unless (barred handle self.old.memory) (noting (dispose_handle handle))
-            self.old.memory) result self.new.memory }
-        ensures host { result ≢ Err Refusal.HostMemory }
+    pub fn dispose_handle(&mut self, handle: Option<usize>) -> Result<(), OsErr>
+        ensures answer { unless (barred handle self.old.memory) (noting (dispose_handle handle)) self.old.memory
+            ≡ (result, self.new.memory) }
         ensures lies { self.new.memory.window ≡ self.old.memory.window }
     {
         if let Some(code) = self.barred(handle) {
@@ -155,10 +147,9 @@ impl<S: BlockStore> Heap<S> {
     }
 
     /// `GetHandleSize`: returns the logical size in bytes of the block of a handle.
-    pub fn get_handle_size(&mut self, handle: Option<usize>) -> Result<u32, Refusal>
-        ensures answer { IsAnswer (unless (barred handle self.old.memory) (noting (get_handle_size handle))
-            self.old.memory) result self.new.memory }
-        ensures host { result ≢ Err Refusal.HostMemory }
+    pub fn get_handle_size(&mut self, handle: Option<usize>) -> Result<u32, OsErr>
+        ensures answer { unless (barred handle self.old.memory) (noting (get_handle_size handle)) self.old.memory
+            ≡ (result, self.new.memory) }
         ensures lies { self.new.memory.window ≡ self.old.memory.window }
     {
         if let Some(code) = self.barred(handle) {
@@ -211,39 +202,36 @@ impl<S: BlockStore> Heap<S> {
     /// `Put`: writes bytes into the block of a handle, from the offset `from` on. Returns -30001 (profileErr) where
     /// the bytes would end past the block's content, or where the handle is a System resource's. The call does not
     /// set the code that `MemError` returns.
-    pub fn put(&mut self, handle: Option<usize>, from: u32, bytes: &[u8]) -> Result<(), Refusal>
-        ensures answer { IsAnswer (unless_silent (change_barred handle self.old.memory) (silent (put handle from
-            bytes.now)) self.old.memory) result self.new.memory }
-        ensures host { result ≢ Err Refusal.HostMemory }
+    pub fn put(&mut self, handle: Option<usize>, from: u32, bytes: &[u8]) -> Result<(), OsErr>
+        ensures answer { unless_silent (change_barred handle self.old.memory) (silent (put handle from bytes.now))
+            self.old.memory ≡ (result, self.new.memory) }
         ensures lies { self.new.memory.window ≡ self.old.memory.window }
     {
         if let Some(code) = self.change_barred(handle) {
-            return Err(Refusal::Code(code));
+            return Err(code);
         }
         self.write_block(handle, from, bytes)
     }
 
     /// `Show`: returns the bytes of the block of a handle. The call does not set the code that `MemError` returns.
-    pub fn show(&self, handle: Option<usize>) -> Result<&[u8], Refusal>
-        ensures answer { IsShown (unless_silent (barred handle self.now.memory) (silent (show handle)) self.now.memory)
+    pub fn show(&self, handle: Option<usize>) -> Result<&[u8], OsErr>
+        ensures { IsShown (unless_silent (barred handle self.now.memory) (silent (show handle)) self.now.memory)
             result self.now.memory }
-        ensures host { result ≢ Err Refusal.HostMemory }
     {
         if let Some(code) = self.barred(handle) {
-            return Err(Refusal::Code(code));
+            return Err(code);
         }
         self.block_bytes(handle)
     }
 
     /// `Where`: returns the offset, from the start of the zone, of the content of the block of a handle or a pointer.
     /// The call does not set the code that `MemError` returns.
-    pub fn place_of(&self, name: Option<usize>) -> Result<u32, Refusal>
-        ensures answer { IsAnswer (unless_silent (either_barred name self.now.memory) (silent (place_of name))
-            self.now.memory) result self.now.memory }
-        ensures host { result ≢ Err Refusal.HostMemory }
+    pub fn place_of(&self, name: Option<usize>) -> Result<u32, OsErr>
+        ensures { unless_silent (either_barred name self.now.memory) (silent (place_of name)) self.now.memory
+            ≡ (result, self.now.memory) }
     {
         if let Some(code) = self.either_barred(name) {
-            return Err(Refusal::Code(code));
+            return Err(code);
         }
         self.bytes_place(name)
     }
@@ -252,89 +240,92 @@ impl<S: BlockStore> Heap<S> {
     /// that are purged to a sink, if it listens.
     fn make_handle<K: PurgeSink>(&mut self, size: u32, sink: &mut K) -> Result<usize, Refusal>
         requires idle { IsIdle K.told K.waits sink.old }
-        ensures told { result ≢ Err Refusal.HostMemory → K.listens sink.old ≡ true
-            → Tells K.told (new_handle_gone size self.old.memory.heap) sink.old sink.new }
-        ensures untold { result ≡ Err Refusal.HostMemory → IsTrue S.TAKES_HOST
-            ⊎ (((self.new ≡ self.old) × TellsNothing K.told sink.old sink.new)
-            ⊎ (LeavesMasters nothing self.old.memory self.new.memory
-            × Tells K.told (slot_gone nothing self.old.memory.heap) sink.old sink.new)) }
-        ensures idle { IsIdle K.told K.waits sink.new }
-        ensures listens { K.listens sink.new ≡ K.listens sink.old }
+        ensures hears { Hears K.told K.waits K.listens (result ≢ Err Refusal.HostMemory) (new_handle_gone size
+            self.old.memory.heap) sink.old sink.new }
+        ensures stops { result ≡ Err Refusal.HostMemory → Stops S.TAKES_HOST K.told K.listens KeepsNames (Unreserved
+            self.old.memory) (Some (slot_step nothing self.old.memory.heap)) self.old self.new sink.old sink.new }
         ensures answer { IsAnswer (moving (new_handle_moves size self.old.memory.heap)
             (searching (new_handle_searches size self.old.memory.heap) (silent (new_handle size) self.old.memory)))
             result self.new.memory }
-        ensures host { result ≡ Err Refusal.HostMemory
-            → IsTrue S.TAKES_HOST ⊎ ((self.new ≡ self.old) ⊎ (K.listens sink.old ≡ true)) }
-        ensures reserved { result ≡ Err Refusal.HostMemory → IsTrue S.TAKES_HOST
-            ⊎ ((self.old.memory.log.reserved ≤ length self.old.memory.heap.names) ⊎ (K.listens sink.old ≡ true)) }
-        ensures kept { result ≡ Err Refusal.HostMemory → KeepsNames self.old.memory self.new.memory }
         ensures lies { self.new.memory.window ≡ self.old.memory.window }
     {
         self.names.reserve(1)?;
         let made = new_block(&mut self.store, &self.names, size, Sparing::Nothing, sink)?;
         self.log.count(made.searches);
-        name_handle(&mut self.names, made.slot)
+        Ok(name_handle(&mut self.names, made.slot)?)
     }
 
     /// Disposes of a handle and its block; returns -30001 (profileErr) where the handle is a resource's.
-    fn dispose(&mut self, handle: Option<usize>) -> Result<(), Refusal>
-        ensures answer { IsAnswer (silent (dispose_handle handle) self.old.memory) result self.new.memory }
-        ensures host { result ≢ Err Refusal.HostMemory }
+    fn dispose(&mut self, handle: Option<usize>) -> Result<(), OsErr>
+        ensures answer { silent (dispose_handle handle) self.old.memory ≡ (result, self.new.memory) }
         ensures lies { self.new.memory.window ≡ self.old.memory.window }
     {
         let found = slot_of(&self.names, handle)?;
         if self.store.is_resource(found.slot) {
-            return Err(Refusal::Code(OsErr::PROFILE));
+            return Err(OsErr::PROFILE);
         }
         self.release(found.number);
         Ok(())
     }
 
     /// Returns the logical size in bytes of the block of a handle.
-    fn size_of(&self, handle: Option<usize>) -> Result<u32, Refusal>
-        ensures answer { IsAnswer (silent (get_handle_size handle) self.now.memory) result self.now.memory }
-        ensures host { result ≢ Err Refusal.HostMemory }
+    fn size_of(&self, handle: Option<usize>) -> Result<u32, OsErr>
+        ensures { silent (get_handle_size handle) self.now.memory ≡ (result, self.now.memory) }
     {
         let place = find_block(&self.store, &self.names, handle)?;
         Ok(self.store.bytes(place).len() as u32)
     }
 
     /// Writes bytes into the block of a handle, from the offset `from` on.
-    fn write_block(&mut self, handle: Option<usize>, from: u32, bytes: &[u8]) -> Result<(), Refusal>
-        ensures answer { IsAnswer (silent (put handle from bytes.now) self.old.memory) result self.new.memory }
-        ensures host { result ≢ Err Refusal.HostMemory }
+    fn write_block(&mut self, handle: Option<usize>, from: u32, bytes: &[u8]) -> Result<(), OsErr>
+        ensures answer { silent (put handle from bytes.now) self.old.memory ≡ (result, self.new.memory) }
         ensures lies { self.new.memory.window ≡ self.old.memory.window }
     {
         let place = find_block(&self.store, &self.names, handle)?;
         let len = self.store.bytes(place).len();
         if bytes.len() > len || from as usize > len - bytes.len() {
-            return Err(Refusal::Code(OsErr::PROFILE));
+            return Err(OsErr::PROFILE);
         }
         self.store.write(place, from, bytes);
         Ok(())
     }
 
     /// Returns the bytes of the block of a handle, whether the handle is busy or not.
-    pub(crate) fn block_bytes(&self, handle: Option<usize>) -> Result<&[u8], Refusal>
-        ensures answer { IsShown (silent (show handle) self.now.memory) result self.now.memory }
-        ensures host { result ≢ Err Refusal.HostMemory }
+    pub(crate) fn block_bytes(&self, handle: Option<usize>) -> Result<&[u8], OsErr>
+        ensures { IsShown (silent (show handle) self.now.memory) result self.now.memory }
     {
         let place = find_block(&self.store, &self.names, handle)?;
         Ok(self.store.bytes(place))
     }
 
     /// Returns the offset of the content of the block of a handle or a pointer, whether it is busy or not.
-    fn bytes_place(&self, name: Option<usize>) -> Result<u32, Refusal>
-        ensures answer { IsAnswer (silent (place_of name) self.now.memory) result self.now.memory }
-        ensures host { result ≢ Err Refusal.HostMemory }
+    fn bytes_place(&self, name: Option<usize>) -> Result<u32, OsErr>
+        ensures { silent (place_of name) self.now.memory ≡ (result, self.now.memory) }
     {
         let place = find_named(&self.store, &self.names, name)?;
         Ok(place + HEADER_SIZE)
     }
 
+    /// Sets the code that `MemError` returns to that of a call's answer, and returns the answer.
+    pub(crate) fn note<T>(&mut self, answer: Result<T, OsErr>) -> Result<T, OsErr>
+        ensures answer { result ≡ answer }
+        ensures noted { self.new ≡ record self.old {
+          memory = record self.old.memory {
+            log = record self.old.memory.log
+                { code = code_of answer };
+          };
+        } }
+    {
+        match &answer {
+            Ok(_) => self.log.code = OsErr::NO_ERR,
+            Err(code) => self.log.code = *code,
+        }
+        answer
+    }
+
     /// Sets the code that `MemError` returns to that of a call's answer, and returns the answer. Where the host was
     /// out of memory, the code stays as it was.
-    pub(crate) fn note<T>(&mut self, answer: Result<T, Refusal>) -> Result<T, Refusal>
+    pub(crate) fn note_refusal<T>(&mut self, answer: Result<T, Refusal>) -> Result<T, Refusal>
         ensures answer { result ≡ answer }
         ensures noted { self.new ≡ record self.old {
           memory = record self.old.memory {
@@ -357,7 +348,7 @@ pub(crate) fn find_block<S: BlockStore>(
     store: &S,
     names: &[Anchor],
     handle: Option<usize>,
-) -> Result<u32, Refusal>
+) -> Result<u32, OsErr>
     requires { Agrees (S.zone store.now) (S.rest store.now) names.now }
     ensures { FindsBlock (S.zone store.now) (S.rest store.now).slots names.now handle result }
 {

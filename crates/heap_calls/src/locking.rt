@@ -1,22 +1,20 @@
 //! Locking handles, and moving their blocks to the top of a run.
 
-ghost use Rattle.std.specs.Prelude.{◌≡◌, ◌≢◌};
+ghost use Rattle.std.specs.Prelude.{◌≡◌};
 ghost use Rattle.heap_calls.specs.Busy.{barred, unless};
-ghost use Rattle.heap_calls.specs.Inner.Given.{IsAnswer, seen_mover};
+ghost use Rattle.heap_calls.specs.Inner.Given.{seen_mover};
 ghost use Rattle.heap_calls.specs.Answer.{h_lock, h_unlock, move_h_hi, h_lock_hi, noting, silent};
 
 use crate::anchor::slot_of;
 use crate::heap::Heap;
-use crate::refusal::Refusal;
 use block_store::{BlockStore, Seen};
 use mac_words::OsErr;
 
 impl<S: BlockStore> Heap<S> {
     /// `HLock`: locks the block of a handle, so that the block is neither moved nor purged.
-    pub fn h_lock(&mut self, handle: Option<usize>) -> Result<(), Refusal>
-        ensures answer { IsAnswer (unless (barred handle self.old.memory) (noting (h_lock handle)) self.old.memory)
-            result self.new.memory }
-        ensures host { result ≢ Err Refusal.HostMemory }
+    pub fn h_lock(&mut self, handle: Option<usize>) -> Result<(), OsErr>
+        ensures answer { unless (barred handle self.old.memory) (noting (h_lock handle)) self.old.memory
+            ≡ (result, self.new.memory) }
         ensures lies { self.new.memory.window ≡ self.old.memory.window }
     {
         if let Some(code) = self.barred(handle) {
@@ -27,10 +25,9 @@ impl<S: BlockStore> Heap<S> {
     }
 
     /// `HUnlock`: unlocks the block of a handle, so that the block may be moved.
-    pub fn h_unlock(&mut self, handle: Option<usize>) -> Result<(), Refusal>
-        ensures answer { IsAnswer (unless (barred handle self.old.memory) (noting (h_unlock handle)) self.old.memory)
-            result self.new.memory }
-        ensures host { result ≢ Err Refusal.HostMemory }
+    pub fn h_unlock(&mut self, handle: Option<usize>) -> Result<(), OsErr>
+        ensures answer { unless (barred handle self.old.memory) (noting (h_unlock handle)) self.old.memory
+            ≡ (result, self.new.memory) }
         ensures lies { self.new.memory.window ≡ self.old.memory.window }
     {
         if let Some(code) = self.barred(handle) {
@@ -42,10 +39,9 @@ impl<S: BlockStore> Heap<S> {
 
     /// `MoveHHi`: moves the block of a handle to the top of its run of movable blocks. Returns -117 (memLockedErr)
     /// where the block is locked.
-    pub fn move_h_hi(&mut self, handle: Option<usize>) -> Result<(), Refusal>
-        ensures answer { IsAnswer (unless (barred handle self.old.memory) (noting (move_h_hi handle)) self.old.memory)
-            result self.new.memory }
-        ensures host { result ≢ Err Refusal.HostMemory }
+    pub fn move_h_hi(&mut self, handle: Option<usize>) -> Result<(), OsErr>
+        ensures answer { unless (barred handle self.old.memory) (noting (move_h_hi handle)) self.old.memory
+            ≡ (result, self.new.memory) }
         ensures lies { self.new.memory.window ≡ self.old.memory.window }
     {
         if let Some(code) = self.barred(handle) {
@@ -57,10 +53,9 @@ impl<S: BlockStore> Heap<S> {
 
     /// `HLockHi`: moves the block of a handle to the top of its run of movable blocks, as `MoveHHi` does, and locks
     /// the block there. Returns -117 (memLockedErr) where the block is locked already.
-    pub fn h_lock_hi(&mut self, handle: Option<usize>) -> Result<(), Refusal>
-        ensures answer { IsAnswer (unless (barred handle self.old.memory) (noting (h_lock_hi handle)) self.old.memory)
-            result self.new.memory }
-        ensures host { result ≢ Err Refusal.HostMemory }
+    pub fn h_lock_hi(&mut self, handle: Option<usize>) -> Result<(), OsErr>
+        ensures answer { unless (barred handle self.old.memory) (noting (h_lock_hi handle)) self.old.memory
+            ≡ (result, self.new.memory) }
         ensures lies { self.new.memory.window ≡ self.old.memory.window }
     {
         if let Some(code) = self.barred(handle) {
@@ -71,17 +66,16 @@ impl<S: BlockStore> Heap<S> {
     }
 
     /// Hoists the block of a handle: moves the block to the top of its run.
-    fn hoist_handle(&mut self, handle: Option<usize>) -> Result<(), Refusal>
-        ensures answer { IsAnswer (silent (move_h_hi handle) self.old.memory) result self.new.memory }
-        ensures host { result ≢ Err Refusal.HostMemory }
+    fn hoist_handle(&mut self, handle: Option<usize>) -> Result<(), OsErr>
+        ensures answer { silent (move_h_hi handle) self.old.memory ≡ (result, self.new.memory) }
         ensures lies { self.new.memory.window ≡ self.old.memory.window }
     {
         let found = slot_of(&self.names, handle)?;
         let Some(place) = self.store.place_of(found.slot) else {
-            return Err(Refusal::Code(OsErr::NIL_HANDLE));
+            return Err(OsErr::NIL_HANDLE);
         };
         if !can_move(self.store.block_at(place)) {
-            return Err(Refusal::Code(OsErr::LOCKED));
+            return Err(OsErr::LOCKED);
         }
         let Some(run) = self.store.run_of(found.slot, 0) else {
             return Ok(());
@@ -91,9 +85,8 @@ impl<S: BlockStore> Heap<S> {
     }
 
     /// Hoists the block of a handle, and locks the block there.
-    pub(crate) fn hoist_and_lock(&mut self, handle: Option<usize>) -> Result<(), Refusal>
-        ensures answer { IsAnswer (silent (h_lock_hi handle) self.old.memory) result self.new.memory }
-        ensures host { result ≢ Err Refusal.HostMemory }
+    pub(crate) fn hoist_and_lock(&mut self, handle: Option<usize>) -> Result<(), OsErr>
+        ensures answer { silent (h_lock_hi handle) self.old.memory ≡ (result, self.new.memory) }
         ensures lies { self.new.memory.window ≡ self.old.memory.window }
     {
         self.hoist_handle(handle)?;

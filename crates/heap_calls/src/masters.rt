@@ -1,6 +1,6 @@
 //! Master pointers for handles to come, and room at the base of a run.
 
-ghost use Rattle.std.specs.Prelude.{◌≡◌, ◌≢◌, ◌⊎◌, ◌≤◌, true, Err, IsTrue, IsErr, OnOk, OnErr, length};
+ghost use Rattle.std.specs.Prelude.{◌≡◌, ◌≢◌, ◌⊎◌, ◌≤◌, true, Err, IsTrue, IsErr, OnOk, OnErr, length, IsOk, None};
 ghost use Rattle.mac_words.specs.Size.{phys as physical_size};
 ghost use Rattle.heap_calls.specs.Inner.Given.{IsAnswer, KeepsMoves};
 ghost use Rattle.heap_calls.specs.Answer.{noting, searching, silent};
@@ -8,6 +8,8 @@ ghost use Rattle.heap_calls.specs.Gone.{Tells, TellsNothing, IsIdle, more_master
 ghost use Rattle.heap_calls.specs.Slots.{new_empty_handle};
 ghost use Rattle.heap_calls.specs.Pointers.{add_masters, reserve_mem};
 ghost use Rattle.heap_calls.specs.Searches.{new_empty_handle_searches, more_masters_searches, reserve_searches};
+ghost use Rattle.heap_calls.specs.Gone.{Hears};
+ghost use Rattle.heap_calls.specs.Left.{Stops, Unreserved};
 
 use crate::anchor::name_handle;
 use crate::base::{make_base, make_masters, make_slot, tell_base, tell_masters};
@@ -28,20 +30,14 @@ impl<S: BlockStore> Heap<S> {
         requires idle { IsIdle K.told K.waits sink.old }
         ensures answer { IsAnswer (searching (new_empty_handle_searches self.old.memory.heap)
             (noting new_empty_handle self.old.memory)) result self.new.memory }
-        ensures told { result ≢ Err Refusal.HostMemory → K.listens sink.old ≡ true
-            → Tells K.told (new_empty_handle_gone self.old.memory.heap) sink.old sink.new }
-        ensures untold { result ≡ Err Refusal.HostMemory
-            → IsTrue S.TAKES_HOST ⊎ TellsNothing K.told sink.old sink.new }
-        ensures idle { IsIdle K.told K.waits sink.new }
-        ensures listens { K.listens sink.new ≡ K.listens sink.old }
-        ensures host { result ≡ Err Refusal.HostMemory → IsTrue S.TAKES_HOST ⊎ (self.new ≡ self.old) }
-        ensures reserved { result ≡ Err Refusal.HostMemory → IsTrue S.TAKES_HOST
-            ⊎ ((self.old.memory.log.reserved ≤ length self.old.memory.heap.names) ⊎ (K.listens sink.old ≡ true)) }
-        ensures kept { result ≡ Err Refusal.HostMemory → KeepsMoves self.old.memory self.new.memory }
+        ensures hears { Hears K.told K.waits K.listens (result ≢ Err Refusal.HostMemory) (new_empty_handle_gone
+            self.old.memory.heap) sink.old sink.new }
+        ensures stops { result ≡ Err Refusal.HostMemory → Stops S.TAKES_HOST K.told K.listens KeepsMoves (Unreserved
+            self.old.memory) None self.old self.new sink.old sink.new }
         ensures lies { self.new.memory.window ≡ self.old.memory.window }
     {
         let answer = self.make_empty_handle(sink);
-        self.note(answer)
+        self.note_refusal(answer)
     }
 
     /// `MoreMasters`: allocates a block of 64 master pointers at the base of a run. Returns -108 (memFullErr) where
@@ -52,19 +48,15 @@ impl<S: BlockStore> Heap<S> {
         requires idle { IsIdle K.told K.waits sink.old }
         ensures answer { IsAnswer (searching (more_masters_searches self.old.memory.heap) (noting add_masters
             self.old.memory)) result self.new.memory }
-        ensures told { result ≢ Err Refusal.HostMemory → K.listens sink.old ≡ true
-            → Tells K.told (more_masters_gone self.old.memory.heap) sink.old sink.new }
-        ensures untold { result ≡ Err Refusal.HostMemory → IsTrue S.TAKES_HOST
-            ⊎ ((self.new ≡ self.old) × TellsNothing K.told sink.old sink.new) }
-        ensures idle { IsIdle K.told K.waits sink.new }
-        ensures listens { K.listens sink.new ≡ K.listens sink.old }
-        ensures host { result ≡ Err Refusal.HostMemory → IsTrue S.TAKES_HOST ⊎ (K.listens sink.old ≡ true) }
-        ensures kept { result ≡ Err Refusal.HostMemory → KeepsMoves self.old.memory self.new.memory }
+        ensures hears { Hears K.told K.waits K.listens (result ≢ Err Refusal.HostMemory) (more_masters_gone
+            self.old.memory.heap) sink.old sink.new }
+        ensures stops { result ≡ Err Refusal.HostMemory → Stops S.TAKES_HOST K.told K.listens KeepsMoves ⊥ None self.old
+            self.new sink.old sink.new }
         ensures lies { self.new.memory.window ≡ self.old.memory.window }
     {
         self.tell_masters(sink)?;
         let answer = self.add_masters();
-        self.note(answer)
+        self.note_refusal(answer)
     }
 
     /// `ReserveMem`: makes room for a block of `size` bytes of content as low in the zone as can be, at the base of a
@@ -75,53 +67,41 @@ impl<S: BlockStore> Heap<S> {
         requires idle { IsIdle K.told K.waits sink.old }
         ensures answer { IsAnswer (searching (reserve_searches (physical_size size) self.old.memory.heap)
             (noting (reserve_mem size) self.old.memory)) result self.new.memory }
-        ensures told { result ≢ Err Refusal.HostMemory → K.listens sink.old ≡ true
-            → Tells K.told (reserve_gone (physical_size size) self.old.memory.heap) sink.old sink.new }
-        ensures untold { result ≡ Err Refusal.HostMemory → IsTrue S.TAKES_HOST
-            ⊎ ((self.new ≡ self.old) × TellsNothing K.told sink.old sink.new) }
-        ensures idle { IsIdle K.told K.waits sink.new }
-        ensures listens { K.listens sink.new ≡ K.listens sink.old }
-        ensures host { result ≡ Err Refusal.HostMemory → IsTrue S.TAKES_HOST ⊎ (K.listens sink.old ≡ true) }
-        ensures kept { result ≡ Err Refusal.HostMemory → KeepsMoves self.old.memory self.new.memory }
+        ensures hears { Hears K.told K.waits K.listens (result ≢ Err Refusal.HostMemory) (reserve_gone (physical_size
+            size) self.old.memory.heap) sink.old sink.new }
+        ensures stops { result ≡ Err Refusal.HostMemory → Stops S.TAKES_HOST K.told K.listens KeepsMoves ⊥ None self.old
+            self.new sink.old sink.new }
         ensures lies { self.new.memory.window ≡ self.old.memory.window }
     {
         self.tell_reserve(size, sink)?;
         let answer = self.reserve_base(size);
-        self.note(answer)
+        self.note_refusal(answer)
     }
 
     /// Makes a new handle with no block, counts the searches for room, and reports the blocks that are purged to a
     /// sink, if it listens.
     pub(crate) fn make_empty_handle<K: PurgeSink>(&mut self, sink: &mut K) -> Result<usize, Refusal>
         requires idle { IsIdle K.told K.waits sink.old }
-        ensures told { result ≢ Err Refusal.HostMemory → K.listens sink.old ≡ true
-            → Tells K.told (new_empty_handle_gone self.old.memory.heap) sink.old sink.new }
-        ensures untold { result ≡ Err Refusal.HostMemory
-            → IsTrue S.TAKES_HOST ⊎ TellsNothing K.told sink.old sink.new }
-        ensures idle { IsIdle K.told K.waits sink.new }
-        ensures listens { K.listens sink.new ≡ K.listens sink.old }
+        ensures hears { Hears K.told K.waits K.listens (result ≢ Err Refusal.HostMemory) (new_empty_handle_gone
+            self.old.memory.heap) sink.old sink.new }
+        ensures stops { result ≡ Err Refusal.HostMemory → Stops S.TAKES_HOST K.told K.listens KeepsMoves (Unreserved
+            self.old.memory) None self.old self.new sink.old sink.new }
         ensures answer { IsAnswer (searching (new_empty_handle_searches self.old.memory.heap)
             (silent new_empty_handle self.old.memory)) result self.new.memory }
-        ensures host { result ≡ Err Refusal.HostMemory → IsTrue S.TAKES_HOST ⊎ (self.new ≡ self.old) }
-        ensures reserved { result ≡ Err Refusal.HostMemory → IsTrue S.TAKES_HOST
-            ⊎ ((self.old.memory.log.reserved ≤ length self.old.memory.heap.names) ⊎ (K.listens sink.old ≡ true)) }
-        ensures kept { result ≡ Err Refusal.HostMemory → KeepsMoves self.old.memory self.new.memory }
         ensures lies { self.new.memory.window ≡ self.old.memory.window }
     {
         self.names.reserve(1)?;
         let taken = make_slot(&mut self.store, &self.names, Sparing::Nothing, sink)?;
         self.log.count(taken.searches);
-        name_handle(&mut self.names, taken.slot)
+        Ok(name_handle(&mut self.names, taken.slot)?)
     }
 
     /// Reports to a sink, if it listens, the blocks that `MoreMasters` is to purge.
     fn tell_masters<K: PurgeSink>(&self, sink: &mut K) -> Result<(), AllocError>
         requires idle { IsIdle K.told K.waits sink.old }
-        ensures told { OnOk result (K.listens sink.old ≡ true
-            → Tells K.told (more_masters_gone self.now.memory.heap) sink.old sink.new) }
+        ensures hears { Hears K.told K.waits K.listens (IsOk result) (more_masters_gone self.now.memory.heap) sink.old
+            sink.new }
         ensures untold { OnErr result (TellsNothing K.told sink.old sink.new) }
-        ensures idle { IsIdle K.told K.waits sink.new }
-        ensures listens { K.listens sink.new ≡ K.listens sink.old }
         ensures host { IsErr result → K.listens sink.old ≡ true }
     {
         tell_masters(&self.store, &self.names, Sparing::Nothing, sink)
@@ -130,11 +110,9 @@ impl<S: BlockStore> Heap<S> {
     /// Reports to a sink, if it listens, the blocks that `ReserveMem` is to purge.
     fn tell_reserve<K: PurgeSink>(&self, size: u32, sink: &mut K) -> Result<(), AllocError>
         requires idle { IsIdle K.told K.waits sink.old }
-        ensures told { OnOk result (K.listens sink.old ≡ true
-            → Tells K.told (reserve_gone (physical_size size) self.now.memory.heap) sink.old sink.new) }
+        ensures hears { Hears K.told K.waits K.listens (IsOk result) (reserve_gone (physical_size size)
+            self.now.memory.heap) sink.old sink.new }
         ensures untold { OnErr result (TellsNothing K.told sink.old sink.new) }
-        ensures idle { IsIdle K.told K.waits sink.new }
-        ensures listens { K.listens sink.new ≡ K.listens sink.old }
         ensures host { IsErr result → K.listens sink.old ≡ true }
     {
         if !sink.listens() {
@@ -155,10 +133,11 @@ impl<S: BlockStore> Heap<S> {
         ensures lies { self.new.memory.window ≡ self.old.memory.window }
     {
         let room = make_masters(&mut self.store, Sparing::Nothing)?;
-        self.account(Grown {
+        let grown = Grown {
             done: room.place.is_some(),
             searches: room.searches,
-        })
+        };
+        Ok(self.account(grown)?)
     }
 
     /// Makes room for a block at the base of a run, and counts the searches for room.
@@ -173,9 +152,10 @@ impl<S: BlockStore> Heap<S> {
             return Err(Refusal::Code(OsErr::MEM_FULL));
         };
         let room = make_base(&mut self.store, bytes, Sparing::Nothing)?;
-        self.account(Grown {
+        let grown = Grown {
             done: room.place.is_some(),
             searches: room.searches,
-        })
+        };
+        Ok(self.account(grown)?)
     }
 }

@@ -1,8 +1,8 @@
 //! New relocatable blocks.
 
 ghost use Rattle.heap_calls.specs.Inner.Numbered.{KeepsNonrelocatable};
-ghost use Rattle.std.specs.Prelude.{◌≡◌, ◌⊎◌, ◌≤◌, ◌+◌, true, false, IfOk, OnOk, OnErr, IsErr, IsTrue};
-ghost use Rattle.heap_calls.specs.Gone.{Tells, TellsNothing, IsIdle};
+ghost use Rattle.std.specs.Prelude.{◌≡◌, ◌⊎◌, ◌≤◌, ◌+◌, true, false, IfOk, OnOk, OnErr, IsErr, IsTrue, IsOk};
+ghost use Rattle.heap_calls.specs.Gone.{Tells, TellsNothing, IsIdle, Hears};
 ghost use Rattle.heap_calls.specs.Inner.Telling.{fresh_gone, new_gone, LeavesSlot};
 ghost use Rattle.block_store.specs.Block.{is_relocatable};
 ghost use Rattle.block_store.specs.Rest.{KeepsSlots};
@@ -73,11 +73,9 @@ fn tell_block<S: BlockStore, K: PurgeSink>(
     sink: &mut K,
 ) -> Result<(), AllocError>
     requires idle { IsIdle K.told K.waits sink.old }
-    ensures told { OnOk result (K.listens sink.old ≡ true
-        → Tells K.told (fresh_gone names.now sparing size (S.zone store.now)) sink.old sink.new) }
+    ensures hears { Hears K.told K.waits K.listens (IsOk result) (fresh_gone names.now sparing size (S.zone store.now))
+        sink.old sink.new }
     ensures untold { OnErr result (TellsNothing K.told sink.old sink.new) }
-    ensures idle { IsIdle K.told K.waits sink.new }
-    ensures listens { K.listens sink.new ≡ K.listens sink.old }
     ensures host { IsErr result → K.listens sink.old ≡ true }
 {
     if !sink.listens() {
@@ -100,12 +98,10 @@ pub fn new_block<S: BlockStore, K: PurgeSink>(
     sink: &mut K,
 ) -> Result<Taken, AllocError>
     requires idle { IsIdle K.told K.waits sink.old }
-    ensures told { OnOk result (K.listens sink.old ≡ true → Tells K.told
-        (new_gone names.now sparing size (S.rest store.old).unused (S.zone store.old)) sink.old sink.new) }
+    ensures hears { Hears K.told K.waits K.listens (IsOk result) (new_gone names.now sparing size (S.rest
+        store.old).unused (S.zone store.old)) sink.old sink.new }
     ensures left { OnErr result (IsTrue S.TAKES_HOST ⊎ LeavesSlot K.told names.now sparing (S.zone store.old)
         (S.rest store.old) (S.zone store.new) (S.rest store.new) sink.old sink.new) }
-    ensures idle { IsIdle K.told K.waits sink.new }
-    ensures listens { K.listens sink.new ≡ K.listens sink.old }
     ensures answer { IfOk result (λ r. IsNewBlock sparing size (S.zone store.old) (S.rest store.old) r.slot
         (S.zone store.new) (S.rest store.new)) }
     ensures kept { OnErr result (HasMore (S.rest store.old) (S.rest store.new)) }

@@ -6,7 +6,7 @@ ghost use Rattle.block_store.specs.Find.{FindsLowest};
 ghost use Rattle.heap_calls.specs.Asked.{seeking};
 ghost use Rattle.heap_calls.specs.Busy.{pointer_barred, unless};
 ghost use Rattle.heap_calls.specs.Answer.{nothing, noting, searching, silent};
-ghost use Rattle.heap_calls.specs.Gone.{Tells, TellsNothing, IsIdle, gone_unless, set_pointer_size_gone};
+ghost use Rattle.heap_calls.specs.Gone.{Tells, TellsNothing, IsIdle, gone_unless, set_pointer_size_gone, Hears, Rests};
 ghost use Rattle.heap_calls.specs.Inner.Given.{IsAnswer, KeepsMoves};
 ghost use Rattle.heap_calls.specs.Inner.Growing.{fitted};
 ghost use Rattle.heap_calls.specs.Inner.GrowingInPlace.{made_zone};
@@ -15,6 +15,8 @@ ghost use Rattle.heap_calls.specs.Inner.Telling.{fitted_gone};
 ghost use Rattle.heap_calls.specs.Pointers.{set_pointer_size};
 ghost use Rattle.heap_calls.specs.Searches.{size_searches, set_pointer_size_searches};
 ghost use Rattle.heap_calls.specs.Inner.Packed.{KeepsAllButPlaced};
+ghost use Rattle.heap_calls.specs.Left.{Stops};
+ghost use Rattle.std.specs.Prelude.{IsOk, None};
 
 use crate::anchor::{Anchor, target_of};
 use crate::growing_in_place::{Grown, bytes_at, grow_in_place, tell_in_place};
@@ -42,23 +44,18 @@ impl<S: BlockStore> Heap<S> {
         ensures answer { IsAnswer (unless (pointer_barred pointer self.old.memory)
             (seeking (set_pointer_size_searches pointer size) (set_pointer_size pointer size)) self.old.memory) result
             self.new.memory }
-        ensures told { result ≢ Err Refusal.HostMemory → K.listens sink.old ≡ true → Tells K.told
-            (gone_unless (pointer_barred pointer self.old.memory) (set_pointer_size_gone pointer size
-            self.old.memory.heap)) sink.old sink.new }
-        ensures untold { result ≡ Err Refusal.HostMemory → IsTrue S.TAKES_HOST
-            ⊎ ((self.new ≡ self.old) × TellsNothing K.told sink.old sink.new) }
-        ensures idle { IsIdle K.told K.waits sink.new }
-        ensures listens { K.listens sink.new ≡ K.listens sink.old }
-        ensures host { result ≡ Err Refusal.HostMemory → IsTrue S.TAKES_HOST ⊎ (K.listens sink.old ≡ true) }
-        ensures kept { result ≡ Err Refusal.HostMemory → KeepsMoves self.old.memory self.new.memory }
+        ensures hears { Hears K.told K.waits K.listens (result ≢ Err Refusal.HostMemory) (gone_unless (pointer_barred
+            pointer self.old.memory) (set_pointer_size_gone pointer size self.old.memory.heap)) sink.old sink.new }
+        ensures stops { result ≡ Err Refusal.HostMemory → Stops S.TAKES_HOST K.told K.listens KeepsMoves ⊥ None self.old
+            self.new sink.old sink.new }
         ensures lies { self.new.memory.window ≡ self.old.memory.window }
     {
         if let Some(code) = self.pointer_barred(pointer) {
-            return self.refuse(code);
+            return Ok(self.refuse(code)?);
         }
         self.tell_fit_pointer(pointer, size, sink)?;
         let answer = self.fit_pointer(pointer, size);
-        self.note(answer)
+        self.note_refusal(answer)
     }
 
     /// Reports to a sink, if it listens, the blocks that `SetPtrSize` is to purge.
@@ -69,11 +66,9 @@ impl<S: BlockStore> Heap<S> {
         sink: &mut K,
     ) -> Result<(), AllocError>
         requires idle { IsIdle K.told K.waits sink.old }
-        ensures told { OnOk result (K.listens sink.old ≡ true
-            → Tells K.told (set_pointer_size_gone pointer size self.now.memory.heap) sink.old sink.new) }
+        ensures hears { Hears K.told K.waits K.listens (IsOk result) (set_pointer_size_gone pointer size
+            self.now.memory.heap) sink.old sink.new }
         ensures untold { OnErr result (TellsNothing K.told sink.old sink.new) }
-        ensures idle { IsIdle K.told K.waits sink.new }
-        ensures listens { K.listens sink.new ≡ K.listens sink.old }
         ensures host { IsErr result → K.listens sink.old ≡ true }
     {
         if !sink.listens() {
@@ -95,7 +90,7 @@ impl<S: BlockStore> Heap<S> {
     {
         let target = target_of(&self.names, pointer)?;
         let grown = fit_nonrelocatable(&mut self.store, target.place, size)?;
-        self.account(grown)
+        Ok(self.account(grown)?)
     }
 }
 
@@ -146,8 +141,7 @@ fn tell_nonrelocatable<S: BlockStore, K: PurgeSink>(
     ensures told { OnOk result (Tells K.told
         (fitted_gone names.now (is_nonrelocatable place) Sparing.Nothing size (S.zone store.now)) sink.old sink.new) }
     ensures untold { OnErr result (TellsNothing K.told sink.old sink.new) }
-    ensures idle { IsIdle K.told K.waits sink.new }
-    ensures listens { K.listens sink.new ≡ K.listens sink.old }
+    ensures rests { Rests K.told K.waits K.listens sink.old sink.new }
     ensures host { IsErr result → K.listens sink.old ≡ true }
 {
     let Some(bytes) = phys(size) else {

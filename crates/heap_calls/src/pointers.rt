@@ -5,7 +5,7 @@ ghost use Rattle.heap_calls.specs.Busy.{pointer_barred, unless, unless_silent};
 ghost use Rattle.heap_calls.specs.Inner.Given.{IsAnswer, IsShown, KeepsMoves};
 ghost use Rattle.heap_calls.specs.Answer.{noting, searching, silent};
 ghost use Rattle.heap_calls.specs.Inner.NewPointer.{IsNewNonrelocatable, nonrelocatable_searches};
-ghost use Rattle.heap_calls.specs.Gone.{Tells, TellsNothing, IsIdle, new_pointer_gone};
+ghost use Rattle.heap_calls.specs.Gone.{Tells, TellsNothing, IsIdle, new_pointer_gone, Hears};
 ghost use Rattle.heap_calls.specs.Inner.Telling.{pointer_gone};
 ghost use Rattle.heap_calls.specs.Searches.{new_pointer_searches};
 ghost use Rattle.heap_calls.specs.Pointers.{new_pointer, dispose_pointer, get_pointer_size, show_pointer, put_pointer};
@@ -13,6 +13,8 @@ ghost use Rattle.heap_calls.specs.Pointers.{block_named};
 ghost use Rattle.heap_calls.specs.Inner.Pointing.{FindsHeld};
 ghost use Rattle.heap_calls.specs.Inner.Numbered.{Agrees, KeepsNonrelocatable, state_of};
 ghost use Rattle.heap_calls.specs.Inner.Packed.{KeepsAllButPlaced};
+ghost use Rattle.heap_calls.specs.Left.{Stops, Unreserved};
+ghost use Rattle.std.specs.Prelude.{IsOk, None};
 
 use crate::anchor::{Anchor, target_of};
 use crate::base::{make_base, tell_base};
@@ -33,27 +35,20 @@ impl<S: BlockStore> Heap<S> {
         requires idle { IsIdle K.told K.waits sink.old }
         ensures answer { IsAnswer (searching (new_pointer_searches size self.old.memory.heap)
             (noting (new_pointer size) self.old.memory)) result self.new.memory }
-        ensures told { result ≢ Err Refusal.HostMemory → K.listens sink.old ≡ true
-            → Tells K.told (new_pointer_gone size self.old.memory.heap) sink.old sink.new }
-        ensures untold { result ≡ Err Refusal.HostMemory
-            → IsTrue S.TAKES_HOST ⊎ TellsNothing K.told sink.old sink.new }
-        ensures idle { IsIdle K.told K.waits sink.new }
-        ensures listens { K.listens sink.new ≡ K.listens sink.old }
-        ensures host { result ≡ Err Refusal.HostMemory → IsTrue S.TAKES_HOST ⊎ (self.new ≡ self.old) }
-        ensures reserved { result ≡ Err Refusal.HostMemory → IsTrue S.TAKES_HOST
-            ⊎ ((self.old.memory.log.reserved ≤ length self.old.memory.heap.names) ⊎ (K.listens sink.old ≡ true)) }
-        ensures kept { result ≡ Err Refusal.HostMemory → KeepsMoves self.old.memory self.new.memory }
+        ensures hears { Hears K.told K.waits K.listens (result ≢ Err Refusal.HostMemory) (new_pointer_gone size
+            self.old.memory.heap) sink.old sink.new }
+        ensures stops { result ≡ Err Refusal.HostMemory → Stops S.TAKES_HOST K.told K.listens KeepsMoves (Unreserved
+            self.old.memory) None self.old self.new sink.old sink.new }
         ensures lies { self.new.memory.window ≡ self.old.memory.window }
     {
         let answer = self.make_pointer(size, sink);
-        self.note(answer)
+        self.note_refusal(answer)
     }
 
     /// `DisposePtr`: disposes of a pointer. Its block becomes free.
-    pub fn dispose_pointer(&mut self, pointer: Option<usize>) -> Result<(), Refusal>
-        ensures answer { IsAnswer (unless (pointer_barred pointer self.old.memory) (noting (dispose_pointer pointer))
-            self.old.memory) result self.new.memory }
-        ensures host { result ≢ Err Refusal.HostMemory }
+    pub fn dispose_pointer(&mut self, pointer: Option<usize>) -> Result<(), OsErr>
+        ensures answer { unless (pointer_barred pointer self.old.memory) (noting (dispose_pointer pointer))
+            self.old.memory ≡ (result, self.new.memory) }
         ensures lies { self.new.memory.window ≡ self.old.memory.window }
     {
         if let Some(code) = self.pointer_barred(pointer) {
@@ -64,10 +59,9 @@ impl<S: BlockStore> Heap<S> {
     }
 
     /// `GetPtrSize`: returns the logical size in bytes of the block of a pointer.
-    pub fn get_pointer_size(&mut self, pointer: Option<usize>) -> Result<u32, Refusal>
-        ensures answer { IsAnswer (unless (pointer_barred pointer self.old.memory) (noting (get_pointer_size pointer))
-            self.old.memory) result self.new.memory }
-        ensures host { result ≢ Err Refusal.HostMemory }
+    pub fn get_pointer_size(&mut self, pointer: Option<usize>) -> Result<u32, OsErr>
+        ensures answer { unless (pointer_barred pointer self.old.memory) (noting (get_pointer_size pointer))
+            self.old.memory ≡ (result, self.new.memory) }
         ensures lies { self.new.memory.window ≡ self.old.memory.window }
     {
         if let Some(code) = self.pointer_barred(pointer) {
@@ -84,27 +78,25 @@ impl<S: BlockStore> Heap<S> {
         pointer: Option<usize>,
         from: u32,
         bytes: &[u8],
-    ) -> Result<(), Refusal>
-        ensures answer { IsAnswer (unless_silent (pointer_barred pointer self.old.memory)
-            (silent (put_pointer pointer from bytes.now)) self.old.memory) result self.new.memory }
-        ensures host { result ≢ Err Refusal.HostMemory }
+    ) -> Result<(), OsErr>
+        ensures answer { unless_silent (pointer_barred pointer self.old.memory)
+            (silent (put_pointer pointer from bytes.now)) self.old.memory ≡ (result, self.new.memory) }
         ensures lies { self.new.memory.window ≡ self.old.memory.window }
     {
         if let Some(code) = self.pointer_barred(pointer) {
-            return Err(Refusal::Code(code));
+            return Err(code);
         }
         self.write_pointer(pointer, from, bytes)
     }
 
     /// `ShowPtr`: returns the bytes of the block of a pointer. The call does not set the code that `MemError`
     /// returns.
-    pub fn show_pointer(&self, pointer: Option<usize>) -> Result<&[u8], Refusal>
-        ensures answer { IsShown (unless_silent (pointer_barred pointer self.now.memory) (silent (show_pointer pointer))
+    pub fn show_pointer(&self, pointer: Option<usize>) -> Result<&[u8], OsErr>
+        ensures { IsShown (unless_silent (pointer_barred pointer self.now.memory) (silent (show_pointer pointer))
             self.now.memory) result self.now.memory }
-        ensures host { result ≢ Err Refusal.HostMemory }
     {
         if let Some(code) = self.pointer_barred(pointer) {
-            return Err(Refusal::Code(code));
+            return Err(code);
         }
         self.pointer_bytes(pointer)
     }
@@ -115,16 +107,10 @@ impl<S: BlockStore> Heap<S> {
         requires idle { IsIdle K.told K.waits sink.old }
         ensures answer { IsAnswer (searching (new_pointer_searches size self.old.memory.heap)
             (silent (new_pointer size) self.old.memory)) result self.new.memory }
-        ensures told { result ≢ Err Refusal.HostMemory → K.listens sink.old ≡ true
-            → Tells K.told (new_pointer_gone size self.old.memory.heap) sink.old sink.new }
-        ensures untold { result ≡ Err Refusal.HostMemory
-            → IsTrue S.TAKES_HOST ⊎ TellsNothing K.told sink.old sink.new }
-        ensures idle { IsIdle K.told K.waits sink.new }
-        ensures listens { K.listens sink.new ≡ K.listens sink.old }
-        ensures host { result ≡ Err Refusal.HostMemory → IsTrue S.TAKES_HOST ⊎ (self.new ≡ self.old) }
-        ensures reserved { result ≡ Err Refusal.HostMemory → IsTrue S.TAKES_HOST
-            ⊎ ((self.old.memory.log.reserved ≤ length self.old.memory.heap.names) ⊎ (K.listens sink.old ≡ true)) }
-        ensures kept { result ≡ Err Refusal.HostMemory → KeepsMoves self.old.memory self.new.memory }
+        ensures hears { Hears K.told K.waits K.listens (result ≢ Err Refusal.HostMemory) (new_pointer_gone size
+            self.old.memory.heap) sink.old sink.new }
+        ensures stops { result ≡ Err Refusal.HostMemory → Stops S.TAKES_HOST K.told K.listens KeepsMoves (Unreserved
+            self.old.memory) None self.old self.new sink.old sink.new }
         ensures lies { self.new.memory.window ≡ self.old.memory.window }
     {
         self.names.reserve(1)?;
@@ -140,9 +126,8 @@ impl<S: BlockStore> Heap<S> {
     }
 
     /// Disposes of a pointer and its block.
-    fn free_block(&mut self, pointer: Option<usize>) -> Result<(), Refusal>
-        ensures answer { IsAnswer (silent (dispose_pointer pointer) self.old.memory) result self.new.memory }
-        ensures host { result ≢ Err Refusal.HostMemory }
+    fn free_block(&mut self, pointer: Option<usize>) -> Result<(), OsErr>
+        ensures answer { silent (dispose_pointer pointer) self.old.memory ≡ (result, self.new.memory) }
         ensures lies { self.new.memory.window ≡ self.old.memory.window }
     {
         let target = target_of(&self.names, pointer)?;
@@ -157,33 +142,30 @@ impl<S: BlockStore> Heap<S> {
         pointer: Option<usize>,
         from: u32,
         bytes: &[u8],
-    ) -> Result<(), Refusal>
-        ensures answer { IsAnswer (silent (put_pointer pointer from bytes.now) self.old.memory) result self.new.memory }
-        ensures host { result ≢ Err Refusal.HostMemory }
+    ) -> Result<(), OsErr>
+        ensures answer { silent (put_pointer pointer from bytes.now) self.old.memory ≡ (result, self.new.memory) }
         ensures lies { self.new.memory.window ≡ self.old.memory.window }
     {
         let target = target_of(&self.names, pointer)?;
         let len = self.store.bytes(target.place).len();
         if bytes.len() > len || from as usize > len - bytes.len() {
-            return Err(Refusal::Code(OsErr::PROFILE));
+            return Err(OsErr::PROFILE);
         }
         self.store.write(target.place, from, bytes);
         Ok(())
     }
 
     /// Returns the bytes of the block of a pointer, whether the pointer is busy or not.
-    fn pointer_bytes(&self, pointer: Option<usize>) -> Result<&[u8], Refusal>
-        ensures answer { IsShown (silent (show_pointer pointer) self.now.memory) result self.now.memory }
-        ensures host { result ≢ Err Refusal.HostMemory }
+    fn pointer_bytes(&self, pointer: Option<usize>) -> Result<&[u8], OsErr>
+        ensures { IsShown (silent (show_pointer pointer) self.now.memory) result self.now.memory }
     {
         let target = target_of(&self.names, pointer)?;
         Ok(self.store.bytes(target.place))
     }
 
     /// Returns the logical size in bytes of the block of a pointer.
-    fn bytes_of(&self, pointer: Option<usize>) -> Result<u32, Refusal>
-        ensures answer { IsAnswer (silent (get_pointer_size pointer) self.now.memory) result self.now.memory }
-        ensures host { result ≢ Err Refusal.HostMemory }
+    fn bytes_of(&self, pointer: Option<usize>) -> Result<u32, OsErr>
+        ensures { silent (get_pointer_size pointer) self.now.memory ≡ (result, self.now.memory) }
     {
         let target = target_of(&self.names, pointer)?;
         Ok(self.store.bytes(target.place).len() as u32)
@@ -195,7 +177,7 @@ pub(crate) fn find_named<S: BlockStore>(
     store: &S,
     names: &[Anchor],
     name: Option<usize>,
-) -> Result<u32, Refusal>
+) -> Result<u32, OsErr>
     requires { Agrees (S.zone store.now) (S.rest store.now) names.now }
     ensures { FindsHeld (block_named name (state_of (S.zone store.now) (S.rest store.now).slots names.now))
         (S.zone store.now) names.now result }
@@ -239,11 +221,9 @@ fn tell_nonrelocatable<S: BlockStore, K: PurgeSink>(
     sink: &mut K,
 ) -> Result<(), AllocError>
     requires idle { IsIdle K.told K.waits sink.old }
-    ensures told { OnOk result (K.listens sink.old ≡ true
-        → Tells K.told (pointer_gone names.now size (S.zone store.now)) sink.old sink.new) }
+    ensures hears { Hears K.told K.waits K.listens (IsOk result) (pointer_gone names.now size (S.zone store.now))
+        sink.old sink.new }
     ensures untold { OnErr result (TellsNothing K.told sink.old sink.new) }
-    ensures idle { IsIdle K.told K.waits sink.new }
-    ensures listens { K.listens sink.new ≡ K.listens sink.old }
     ensures host { IsErr result → K.listens sink.old ≡ true }
 {
     if !sink.listens() {

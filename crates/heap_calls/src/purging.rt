@@ -1,18 +1,19 @@
 //! Purging.
 
-ghost use Rattle.std.specs.Prelude.{◌≡◌, ◌≢◌, ◌<◌, true, Err, OnOk, OnErr, IsErr, IfSome};
+ghost use Rattle.std.specs.Prelude.{false, ◌≡◌, ◌≢◌, ◌<◌, true, Err, OnOk, OnErr, IsErr, IfSome, IsOk, None};
 ghost use Rattle.block_store.specs.Block.{free_sum};
 ghost use Rattle.block_store.specs.Compact.{has_room};
 ghost use Rattle.block_store.specs.Sparing.{purged, most_purges};
 ghost use Rattle.block_store.specs.declared.sparing.Sparing.TheVariants.{Nothing};
 ghost use Rattle.heap_calls.specs.Inner.SearchLaws.{room-ends};
 ghost use Rattle.block_store.proofs.Purged.Rising.{has_room-rises};
-ghost use Rattle.heap_calls.specs.Inner.Given.{IsAnswer};
+ghost use Rattle.heap_calls.specs.Inner.Given.{IsAnswer, KeepsNames};
 ghost use Rattle.heap_calls.specs.Answer.{noting, silent, searching, moving};
 ghost use Rattle.heap_calls.specs.Purging.{blocks_purged, purged_all, purge_mem, purge_space, max_mem};
-ghost use Rattle.heap_calls.specs.Gone.{Tells, TellsNothing, IsIdle, purge_mem_gone, max_mem_gone};
+ghost use Rattle.heap_calls.specs.Gone.{Tells, TellsNothing, IsIdle, purge_mem_gone, max_mem_gone, Hears};
 ghost use Rattle.heap_calls.specs.Moves.{max_mem_moves};
 ghost use Rattle.heap_calls.specs.Searches.{purge_mem_searches};
+ghost use Rattle.heap_calls.specs.Left.{Stops};
 
 use crate::compaction::{compact, has_room};
 use crate::growing_in_place::Grown;
@@ -43,18 +44,15 @@ impl<S: BlockStore> Heap<S> {
         requires idle { IsIdle K.told K.waits sink.old }
         ensures answer { IsAnswer (searching (purge_mem_searches size self.old.memory.heap) (noting (purge_mem size)
             self.old.memory)) result self.new.memory }
-        ensures told { result ≢ Err Refusal.HostMemory → K.listens sink.old ≡ true
-            → Tells K.told (purge_mem_gone size self.old.memory.heap) sink.old sink.new }
-        ensures untold { result ≡ Err Refusal.HostMemory → TellsNothing K.told sink.old sink.new }
-        ensures idle { IsIdle K.told K.waits sink.new }
-        ensures listens { K.listens sink.new ≡ K.listens sink.old }
-        ensures host { result ≡ Err Refusal.HostMemory → K.listens sink.old ≡ true }
-        ensures kept { result ≡ Err Refusal.HostMemory → self.new ≡ self.old }
+        ensures hears { Hears K.told K.waits K.listens (result ≢ Err Refusal.HostMemory) (purge_mem_gone size
+            self.old.memory.heap) sink.old sink.new }
+        ensures stops { result ≡ Err Refusal.HostMemory → Stops false K.told K.listens KeepsNames ⊥ None self.old
+            self.new sink.old sink.new }
         ensures lies { self.new.memory.window ≡ self.old.memory.window }
     {
         self.tell_purge_mem(size, sink)?;
         let answer = self.purge_for(size);
-        self.note(answer)
+        Ok(self.note(answer)?)
     }
 
     /// `PurgeSpace`: returns what could be allocated if every block that may be purged were purged; nothing is
@@ -87,13 +85,10 @@ impl<S: BlockStore> Heap<S> {
         requires idle { IsIdle K.told K.waits sink.old }
         ensures answer { IsAnswer (moving (max_mem_moves self.old.memory.heap) (noting max_mem self.old.memory)) result
             self.new.memory }
-        ensures told { result ≢ Err Refusal.HostMemory → K.listens sink.old ≡ true
-            → Tells K.told (max_mem_gone self.old.memory.heap) sink.old sink.new }
-        ensures untold { result ≡ Err Refusal.HostMemory → TellsNothing K.told sink.old sink.new }
-        ensures idle { IsIdle K.told K.waits sink.new }
-        ensures listens { K.listens sink.new ≡ K.listens sink.old }
-        ensures host { result ≡ Err Refusal.HostMemory → K.listens sink.old ≡ true }
-        ensures kept { result ≡ Err Refusal.HostMemory → self.new ≡ self.old }
+        ensures hears { Hears K.told K.waits K.listens (result ≢ Err Refusal.HostMemory) (max_mem_gone
+            self.old.memory.heap) sink.old sink.new }
+        ensures stops { result ≡ Err Refusal.HostMemory → Stops false K.told K.listens KeepsNames ⊥ None self.old
+            self.new sink.old sink.new }
         ensures placed { self.new.placings ≡ self.old.placings }
         ensures lies { self.new.memory.window ≡ self.old.memory.window }
     {
@@ -104,11 +99,9 @@ impl<S: BlockStore> Heap<S> {
     /// Reports to a sink, if it listens, the blocks that `PurgeMem` is to purge.
     fn tell_purge_mem<K: PurgeSink>(&self, size: u32, sink: &mut K) -> Result<(), AllocError>
         requires idle { IsIdle K.told K.waits sink.old }
-        ensures told { OnOk result (K.listens sink.old ≡ true
-            → Tells K.told (purge_mem_gone size self.now.memory.heap) sink.old sink.new) }
+        ensures hears { Hears K.told K.waits K.listens (IsOk result) (purge_mem_gone size self.now.memory.heap) sink.old
+            sink.new }
         ensures untold { OnErr result (TellsNothing K.told sink.old sink.new) }
-        ensures idle { IsIdle K.told K.waits sink.new }
-        ensures listens { K.listens sink.new ≡ K.listens sink.old }
         ensures host { IsErr result → K.listens sink.old ≡ true }
     {
         if !sink.listens() {
@@ -121,11 +114,9 @@ impl<S: BlockStore> Heap<S> {
     /// Reports to a sink, if it listens, the blocks that `MaxMem` is to purge.
     fn tell_max_mem<K: PurgeSink>(&self, sink: &mut K) -> Result<(), AllocError>
         requires idle { IsIdle K.told K.waits sink.old }
-        ensures told { OnOk result (K.listens sink.old ≡ true
-            → Tells K.told (max_mem_gone self.now.memory.heap) sink.old sink.new) }
+        ensures hears { Hears K.told K.waits K.listens (IsOk result) (max_mem_gone self.now.memory.heap) sink.old
+            sink.new }
         ensures untold { OnErr result (TellsNothing K.told sink.old sink.new) }
-        ensures idle { IsIdle K.told K.waits sink.new }
-        ensures listens { K.listens sink.new ≡ K.listens sink.old }
         ensures host { IsErr result → K.listens sink.old ≡ true }
     {
         if !sink.listens() {
@@ -151,10 +142,9 @@ impl<S: BlockStore> Heap<S> {
 
     /// Purges blocks, lowest first, until a block of `size` bytes of content has room, and counts the searches for
     /// room.
-    fn purge_for(&mut self, size: u32) -> Result<(), Refusal>
-        ensures answer { IsAnswer (searching (purge_mem_searches size self.old.memory.heap) (silent (purge_mem size)
-            self.old.memory)) result self.new.memory }
-        ensures host { result ≢ Err Refusal.HostMemory }
+    fn purge_for(&mut self, size: u32) -> Result<(), OsErr>
+        ensures answer { searching (purge_mem_searches size self.old.memory.heap) (silent (purge_mem size)
+            self.old.memory) ≡ (result, self.new.memory) }
         ensures lies { self.new.memory.window ≡ self.old.memory.window }
     {
         let bytes = phys(size);

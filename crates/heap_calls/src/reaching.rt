@@ -4,7 +4,6 @@ ghost use Rattle.heap_calls.specs.Inner.Numbered.{Agrees};
 ghost use Rattle.heap_calls.specs.Inner.Reaching.{Reaches};
 
 use crate::anchor::{Anchor, slot_of};
-use crate::refusal::Refusal;
 use block_store::BlockStore;
 use mac_words::OsErr;
 
@@ -22,13 +21,13 @@ pub fn reach<S: BlockStore>(
     store: &S,
     names: &[Anchor],
     handle: Option<usize>,
-) -> Result<Reached, Refusal>
+) -> Result<Reached, OsErr>
     requires { Agrees (S.zone store.now) (S.rest store.now) names.now }
     ensures { Reaches (S.zone store.now) (S.rest store.now).slots names.now handle result }
 {
     let found = slot_of(names, handle)?;
     let Some(place) = store.place_of(found.slot) else {
-        return Err(Refusal::Code(OsErr::NIL_HANDLE));
+        return Err(OsErr::NIL_HANDLE);
     };
     Ok(Reached {
         number: found.number,

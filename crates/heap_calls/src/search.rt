@@ -7,7 +7,7 @@ ghost use Rattle.block_store.specs.Run.{has};
 ghost use Rattle.block_store.specs.Room.{place};
 ghost use Rattle.block_store.specs.Sparing.{opened, purged};
 ghost use Rattle.block_store.specs.Rest.{KeepsSlots};
-ghost use Rattle.heap_calls.specs.Gone.{Tells, TellsNothing, IsIdle};
+ghost use Rattle.heap_calls.specs.Gone.{Tells, TellsNothing, IsIdle, Rests};
 ghost use Rattle.heap_calls.specs.Moves.{place_moves};
 ghost use Rattle.heap_calls.specs.Inner.Growing.{SameBlocks};
 ghost use Rattle.heap_calls.specs.Inner.Numbered.{KeepsNonrelocatable};
@@ -124,8 +124,7 @@ pub fn tell_placement<S: BlockStore, K: PurgeSink>(
     ensures told { OnOk result (Tells K.told (placement_gone names.now bytes sparing (S.zone store.now)) sink.old
         sink.new) }
     ensures untold { OnErr result (TellsNothing K.told sink.old sink.new) }
-    ensures idle { IsIdle K.told K.waits sink.new }
-    ensures listens { K.listens sink.new ≡ K.listens sink.old }
+    ensures rests { Rests K.told K.waits K.listens sink.old sink.new }
     ensures host { IsErr result → K.listens sink.old ≡ true }
 {
     let found = count_for_placement(store, bytes, sparing);

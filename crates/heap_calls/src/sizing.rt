@@ -14,12 +14,14 @@ ghost use Rattle.heap_calls.specs.Inner.Numbered.{KeepsNonrelocatable};
 ghost use Rattle.heap_calls.specs.Inner.Given.{IsAnswer, KeepsNames};
 ghost use Rattle.heap_calls.specs.Answer.{set_handle_size, silent, searching, moving};
 ghost use Rattle.heap_calls.specs.Moves.{size_moves, set_handle_size_moves};
-ghost use Rattle.heap_calls.specs.Gone.{Tells, TellsNothing, IsIdle, gone_unless, set_handle_size_gone};
+ghost use Rattle.heap_calls.specs.Gone.{Tells, TellsNothing, IsIdle, gone_unless, set_handle_size_gone, Hears, Rests};
 ghost use Rattle.heap_calls.specs.Inner.Packed.{Packs};
 ghost use Rattle.heap_calls.specs.Inner.Telling.{fitted_gone};
 ghost use Rattle.heap_calls.specs.Searches.{size_searches, set_handle_size_searches};
 ghost use Rattle.heap_calls.specs.Inner.Growing.{Spares, Stays, fitted};
 ghost use Rattle.block_store.specs.Sparing.{spared};
+ghost use Rattle.heap_calls.specs.Left.{Stops};
+ghost use Rattle.std.specs.Prelude.{IsOk, None};
 
 use crate::anchor::Anchor;
 use crate::growing::{bytes_of, grow_movable, tell_growth};
@@ -51,23 +53,18 @@ impl<S: BlockStore> Heap<S> {
         ensures answer { IsAnswer (unless (change_barred handle self.old.memory) (packing (set_handle_size_moves handle
             size) (set_handle_size_searches handle size) (set_handle_size handle size)) self.old.memory) result
             self.new.memory }
-        ensures told { result ≢ Err Refusal.HostMemory → K.listens sink.old ≡ true → Tells K.told
-            (gone_unless (change_barred handle self.old.memory) (set_handle_size_gone handle size self.old.memory.heap))
-            sink.old sink.new }
-        ensures untold { result ≡ Err Refusal.HostMemory → IsTrue S.TAKES_HOST
-            ⊎ ((self.new ≡ self.old) × TellsNothing K.told sink.old sink.new) }
-        ensures idle { IsIdle K.told K.waits sink.new }
-        ensures listens { K.listens sink.new ≡ K.listens sink.old }
-        ensures host { result ≡ Err Refusal.HostMemory → IsTrue S.TAKES_HOST ⊎ (K.listens sink.old ≡ true) }
-        ensures kept { result ≡ Err Refusal.HostMemory → KeepsNames self.old.memory self.new.memory }
+        ensures hears { Hears K.told K.waits K.listens (result ≢ Err Refusal.HostMemory) (gone_unless (change_barred
+            handle self.old.memory) (set_handle_size_gone handle size self.old.memory.heap)) sink.old sink.new }
+        ensures stops { result ≡ Err Refusal.HostMemory → Stops S.TAKES_HOST K.told K.listens KeepsNames ⊥ None self.old
+            self.new sink.old sink.new }
         ensures lies { self.new.memory.window ≡ self.old.memory.window }
     {
         if let Some(code) = self.change_barred(handle) {
-            return self.refuse(code);
+            return Ok(self.refuse(code)?);
         }
         self.tell_give_size(handle, size, sink)?;
         let answer = self.give_size(handle, size);
-        self.note(answer)
+        self.note_refusal(answer)
     }
 
     /// Reports to a sink, if it listens, the blocks that `SetHandleSize` is to purge.
@@ -78,11 +75,9 @@ impl<S: BlockStore> Heap<S> {
         sink: &mut K,
     ) -> Result<(), AllocError>
         requires idle { IsIdle K.told K.waits sink.old }
-        ensures told { OnOk result (K.listens sink.old ≡ true
-            → Tells K.told (set_handle_size_gone handle size self.now.memory.heap) sink.old sink.new) }
+        ensures hears { Hears K.told K.waits K.listens (IsOk result) (set_handle_size_gone handle size
+            self.now.memory.heap) sink.old sink.new }
         ensures untold { OnErr result (TellsNothing K.told sink.old sink.new) }
-        ensures idle { IsIdle K.told K.waits sink.new }
-        ensures listens { K.listens sink.new ≡ K.listens sink.old }
         ensures host { IsErr result → K.listens sink.old ≡ true }
     {
         if !sink.listens() {
@@ -114,12 +109,12 @@ impl<S: BlockStore> Heap<S> {
         let held = reach(&self.store, &self.names, handle)?;
         let sparing = Sparing::One(held.slot);
         let grown = fit_block(&mut self.store, held.slot, held.place, size, sparing)?;
-        self.account(grown)
+        Ok(self.account(grown)?)
     }
 
     /// Counts the searches for room that were made for a block, and returns -108 (memFullErr) where there was no
     /// room.
-    pub(crate) fn account(&mut self, grown: Grown) -> Result<(), Refusal>
+    pub(crate) fn account(&mut self, grown: Grown) -> Result<(), OsErr>
         ensures reply { result ≡ sized_reply grown.done }
         ensures counted { self.new.memory ≡ record self.old.memory {
           log = record self.old.memory.log
@@ -130,7 +125,7 @@ impl<S: BlockStore> Heap<S> {
         if grown.done {
             Ok(())
         } else {
-            Err(Refusal::Code(OsErr::MEM_FULL))
+            Err(OsErr::MEM_FULL)
         }
     }
 }
@@ -225,8 +220,7 @@ pub fn tell_fit<S: BlockStore, K: PurgeSink>(
     ensures told { OnOk result (Tells K.told (fitted_gone names.now (is_relocatable slot) sparing size (S.zone store.now))
         sink.old sink.new) }
     ensures untold { OnErr result (TellsNothing K.told sink.old sink.new) }
-    ensures idle { IsIdle K.told K.waits sink.new }
-    ensures listens { K.listens sink.new ≡ K.listens sink.old }
+    ensures rests { Rests K.told K.waits K.listens sink.old sink.new }
     ensures host { IsErr result → K.listens sink.old ≡ true }
 {
     let Some(bytes) = phys(size) else {

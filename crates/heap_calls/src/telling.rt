@@ -3,7 +3,7 @@
 ghost use Rattle.std.specs.Prelude.{◌≡◌, ◌++◌, true, List, OnOk, OnErr, IsErr, IfSome, IsSome};
 ghost use Rattle.block_store.specs.Find.{IsEdge};
 ghost use Rattle.block_store.specs.Room.{spot_at};
-ghost use Rattle.heap_calls.specs.Gone.{Gone, Tells, TellsNothing, IsIdle};
+ghost use Rattle.heap_calls.specs.Gone.{Gone, Tells, TellsNothing, IsIdle, Rests};
 ghost use Rattle.heap_calls.specs.Inner.Numbered.{leads_to};
 ghost use Rattle.heap_calls.specs.Inner.Telling.{IsNumberOf, gone_named, gone_from, blocks_from};
 
@@ -105,8 +105,7 @@ pub fn tell<S: BlockStore, K: PurgeSink>(
     ensures told { OnOk result (Tells K.told
         (gone_from names.now sparing purges (blocks_from from (S.zone store.now))) sink.old sink.new) }
     ensures untold { OnErr result (TellsNothing K.told sink.old sink.new) }
-    ensures idle { IsIdle K.told K.waits sink.new }
-    ensures listens { K.listens sink.new ≡ K.listens sink.old }
+    ensures rests { Rests K.told K.waits K.listens sink.old sink.new }
     ensures host { IsErr result → K.listens sink.old ≡ true }
 {
     let offered = offer_blocks(store, names, from, purges, sparing, sink);

@@ -4,7 +4,7 @@ use crate::forks::{NOTE, joined};
 use arrayvec::ArrayVec;
 use block_store::{BlockStore, ListStore};
 use fork_format::{Content, read_fork, write_fork};
-use heap_calls::{Heap, NoSink};
+use heap_calls::{Heap, NoSink, Refusal};
 use mac_words::{Attrs, Name, OsErr, OsType, phys};
 use partitions::Grants;
 use res_map::ResFile;
@@ -49,9 +49,12 @@ fn a_heap_is_opened_over_a_list(rt: HostRuntime) -> Result<(), Fail> {
     let alloc = rt.alloc();
     let mut heap = Heap::new(alloc, ListStore::new(alloc, 1024)?);
     let handle = Some(heap.new_handle(5, &mut NoSink)?);
-    heap.put(handle, 0, b"Hello")?;
-    assert_eq!(rt; heap.show(handle)?, b"Hello".as_slice());
-    heap.dispose_handle(handle)?;
+    heap.put(handle, 0, b"Hello").map_err(Refusal::Code)?;
+    assert_eq!(rt;
+        heap.show(handle).map_err(Refusal::Code)?,
+        b"Hello".as_slice()
+    );
+    heap.dispose_handle(handle).map_err(Refusal::Code)?;
     let store = heap.into_store();
     assert_eq!(rt; store.free_bytes(), 752);
     Ok(())

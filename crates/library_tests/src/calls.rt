@@ -143,13 +143,13 @@ fn answer_to(heap: &mut Heap<ListStore>, call: Call) -> Answer {
     match call {
         Call::NewHandle(size) => made(heap.new_handle(size, &mut NoSink)),
         Call::NewEmptyHandle => made(heap.new_empty_handle(&mut NoSink)),
-        Call::DisposeHandle(handle) => done(heap.dispose_handle(handle)),
-        Call::GetHandleSize(handle) => number(heap.get_handle_size(handle)),
+        Call::DisposeHandle(handle) => done(heap.dispose_handle(handle).map_err(Refusal::Code)),
+        Call::GetHandleSize(handle) => number(heap.get_handle_size(handle).map_err(Refusal::Code)),
         Call::SetHandleSize(handle, size) => done(heap.set_handle_size(handle, size, &mut NoSink)),
-        Call::EmptyHandle(handle) => done(heap.empty_handle(handle)),
-        Call::HLock(handle) => done(heap.h_lock(handle)),
-        Call::HPurge(handle) => done(heap.h_purge(handle)),
-        Call::MoveHHi(handle) => done(heap.move_h_hi(handle)),
+        Call::EmptyHandle(handle) => done(heap.empty_handle(handle).map_err(Refusal::Code)),
+        Call::HLock(handle) => done(heap.h_lock(handle).map_err(Refusal::Code)),
+        Call::HPurge(handle) => done(heap.h_purge(handle).map_err(Refusal::Code)),
+        Call::MoveHHi(handle) => done(heap.move_h_hi(handle).map_err(Refusal::Code)),
         Call::HandAndHand(from, to) => done(heap.hand_and_hand(from, to, &mut NoSink)),
         Call::NewPointer(size) => made(heap.new_pointer(size, &mut NoSink)),
         Call::CompactMem(size) => Answer::Number(u64::from(heap.compact_mem(size))),
@@ -163,7 +163,7 @@ fn answer_to(heap: &mut Heap<ListStore>, call: Call) -> Answer {
             guard(heap, number);
             Answer::Done
         }
-        Call::Put(handle, bytes) => done(heap.put(handle, 0, bytes)),
+        Call::Put(handle, bytes) => done(heap.put(handle, 0, bytes).map_err(Refusal::Code)),
         Call::NewEmptyHandles(count) => new_empty_handles(heap, count),
         Call::Ask(question) => answer_about(heap, question),
     }

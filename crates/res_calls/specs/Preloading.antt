@@ -3,7 +3,7 @@ use Rattle.std.specs.Prelude.{if◌then◌else◌}
 use Rattle.std.specs.Option.{option_or}
 use Rattle.block_store.specs.declared.flags.Flags.{Flags}
 use Rattle.heap_calls.specs.Gone.{Gone}
-use Rattle.heap_calls.specs.Preloaded.{Stops}
+use Rattle.heap_calls.specs.Preloaded.{MadeSome}
 use Rattle.heap_calls.specs.State.{Memory}
 use Rattle.res_map.specs.Map.{Reference, Map, is_preload, with_handle}
 use Rattle.res_calls.specs.Fetch.{flags_of}
@@ -46,7 +46,7 @@ pub record StopsPreloading {A : Type 0} (told : A → List Gone → Type 0) (tak
     (old new : Memory) (before after : A) : Type 0 where
   pub numbers : List (Option ℕ)
   pub given : file ≡ with_handles numbers start
-  pub stops : IsTrue takes ⊎ Stops told (wanted_of start.references) old numbers new before after
+  pub stops : IsTrue takes ⊎ MadeSome told (wanted_of start.references) old numbers new before after
 
 -- The same of a file that was put before the other open files; the preloading was on.
 pub record StopsFirst {A : Type 0} (told : A → List Gone → Type 0) (takes loading : Bool) (f : OpenFile)

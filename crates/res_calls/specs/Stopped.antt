@@ -1,10 +1,13 @@
 use Rattle.std.specs.Prelude.{ℕ, ◌≡◌, ◌⊎◌, ◌+◌, true, nat_lt, Option, Some, None, Result, Ok, Err, List, ◌∷◌, take}
-use Rattle.std.specs.Prelude.{if◌then◌else◌}
+use Rattle.std.specs.Prelude.{if◌then◌else◌, Bool, IsTrue, false, ⊤}
 use Rattle.mac_words.specs.declared.code.OsErr.{OsErr}
 use Rattle.heap_calls.specs.Gone.{Gone, TellsNothing}
 use Rattle.heap_calls.specs.Inside.{new_all}
-use Rattle.heap_calls.specs.Preloaded.{StopsAfter}
-use Rattle.heap_calls.specs.State.{Memory}
+use Rattle.heap_calls.specs.Preloaded.{MadeFirst}
+use Rattle.heap_calls.specs.State.{Memory, CountedMemory}
+use Rattle.heap_calls.specs.Answer.{nothing}
+use Rattle.heap_calls.specs.Left.{Stops, slot_step}
+use Rattle.heap_calls.specs.Inner.Given.{KeepsNames}
 use Rattle.res_map.specs.Split.{Split, place}
 use Rattle.res_map.specs.Map.{Reference, Map}
 use Rattle.res_calls.specs.Fetch.{Managers}
@@ -36,7 +39,7 @@ pub record StopsOpening {A : Type 0} (told : A → List Gone → Type 0) (f : Op
   pub loading : old.resources.loading ≡ true
   pub opens :
       new.resources ≡ opened_with_handles (first_handles k f.map.references old.memory) f old.resources
-  pub stops : StopsAfter told k (wanted_of f.map.references) old.memory
+  pub stops : MadeFirst told k (wanted_of f.map.references) old.memory
       (first_handles k f.map.references old.memory) new.memory before after
 
 -- Nothing changed, and nothing was reported to the sink; or, for some k, the given file was opened and its preloading
@@ -70,3 +73,20 @@ newly_opened name s = named_opens (file_named name s.resources) s
 -- The same for the file that OpenResFile opens.
 abbrev pub LeavesOpen : {A : Type 0} → (A → List Gone → Type 0) → List ℕ → Managers → Managers → A → A → Type 0
 LeavesOpen told name old new before after = LeavesOpened told (newly_opened name old) old new before after
+
+-- What OpenResFile leaves where the host is out of memory. The files are as they were; where the sink does not listen, all
+-- the resources are, and over a store that takes no host memory the heap is.
+pub record StopsOpeningFile {A : Type 0} (takes : Bool) (told : A → List Gone → Type 0) (listens : A → Bool)
+    (name : List ℕ) (old new : Resources) (heap left : CountedMemory) (sink heard : A) : Type 0 where
+  pub files : new.files ≡ old.files
+  pub unheard : listens sink ≡ false → new ≡ old
+  pub same : IsTrue takes ⊎ ((left ≡ heap) ⊎ (listens sink ≡ true))
+  pub opens : IsTrue takes ⊎ LeavesOpen told name (record { memory = heap.memory; resources = old })
+      (record { memory = left.memory; resources = new }) sink heard
+
+-- What a call that fetches a resource leaves where the host is out of memory: all else is as it was (`untouched`), and the
+-- heap is left as NewHandle leaves it that the host stops; the host may have had no memory for the bytes of the resource.
+pub record StopsFetching {A : Type 0} (takes : Bool) (told : A → List Gone → Type 0) (listens : A → Bool)
+    (untouched : Type 0) (old new : CountedMemory) (sink heard : A) : Type 0 where
+  pub rest : untouched
+  pub heap : Stops takes told listens KeepsNames ⊤ (Some (slot_step nothing old.memory.heap)) old new sink heard

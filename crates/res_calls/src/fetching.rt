@@ -2,10 +2,9 @@
 //!
 //! *More Macintosh Toolbox*, chapter 1, "Reading Resources into Memory".
 
-ghost use Rattle.std.specs.Prelude.{◌≡◌, ◌≢◌, ◌⊎◌, IsTrue, map, is_some, true, Some, None, Err};
+ghost use Rattle.std.specs.Prelude.{◌≡◌, ◌≢◌, map, is_some, true, Some, None, Err, ⊤};
 ghost use Rattle.heap_calls.specs.Answer.{nothing};
-ghost use Rattle.heap_calls.specs.Gone.{Tells, TellsNothing, IsIdle, slot_gone};
-ghost use Rattle.heap_calls.specs.Refused.{LeavesMasters};
+ghost use Rattle.heap_calls.specs.Gone.{Tells, IsIdle, Hears, Rests};
 ghost use Rattle.heap_calls.specs.Inner.Given.{IsAnswer, KeepsNames};
 ghost use Rattle.res_map.specs.View.{view_lent};
 ghost use Rattle.res_calls.specs.Files.{Found, Resources as ResourcesValue};
@@ -19,6 +18,8 @@ ghost use Rattle.res_calls.specs.Places.{last_fetched, handle_gone};
 ghost use Rattle.res_calls.specs.Places.{WantsHost};
 ghost use Rattle.res_calls.specs.View.{view_open};
 ghost use Rattle.res_calls.specs.Rows.{fetched_as};
+ghost use Rattle.heap_calls.specs.Left.{Stops, slot_step};
+ghost use Rattle.res_calls.specs.Stopped.{StopsFetching};
 
 use crate::fetched::{Fetched, Unread};
 use crate::files::{OpenFile, Resources};
@@ -51,17 +52,10 @@ fn make_handle<S: BlockStore, K: PurgeSink>(
 ) -> Result<usize, Refusal>
     requires idle { IsIdle K.told K.waits sink.old }
     ensures answer { IsAnswer (made_for loading guarded (view_lent entry.now) heap.old.memory) result heap.new.memory }
-    ensures told { result ≢ Err Refusal.HostMemory → K.listens sink.old ≡ true
-        → Tells K.told (handle_gone loading (view_lent entry.now) heap.old.memory) sink.old sink.new }
-    ensures untold { result ≡ Err Refusal.HostMemory → IsTrue S.TAKES_HOST
-        ⊎ (((heap.new ≡ heap.old) × TellsNothing K.told sink.old sink.new)
-        ⊎ (LeavesMasters nothing heap.old.memory heap.new.memory
-        × Tells K.told (slot_gone nothing heap.old.memory.heap) sink.old sink.new)) }
-    ensures idle { IsIdle K.told K.waits sink.new }
-    ensures listens { K.listens sink.new ≡ K.listens sink.old }
-    ensures host { result ≡ Err Refusal.HostMemory
-        → IsTrue S.TAKES_HOST ⊎ ((heap.new ≡ heap.old) ⊎ (K.listens sink.old ≡ true)) }
-    ensures kept { result ≡ Err Refusal.HostMemory → KeepsNames heap.old.memory heap.new.memory }
+    ensures hears { Hears K.told K.waits K.listens (result ≢ Err Refusal.HostMemory) (handle_gone loading (view_lent
+        entry.now) heap.old.memory) sink.old sink.new }
+    ensures stops { result ≡ Err Refusal.HostMemory → Stops S.TAKES_HOST K.told K.listens KeepsNames ⊤ (Some (slot_step
+        nothing heap.old.memory.heap)) heap.old heap.new sink.old sink.new }
     ensures lies { heap.new.memory.window ≡ heap.old.memory.window }
 {
     if loading {
@@ -88,16 +82,9 @@ fn fetch_new<S: BlockStore, K: PurgeSink>(
     ensures told { (r : ResourcesValue) (f : Found) → found_at at (map view_open files.old.items) ≡ Some f
         → ¬ (WantsHost result) → K.listens sink.old ≡ true → Tells K.told
         (fetch_gone_as loading f None (managers (chained files.old.items r) heap.old.memory)) sink.old sink.new }
-    ensures left { WantsHost result → map view_open files.new.items ≡ map view_open files.old.items }
-    ensures untold { WantsHost result → IsTrue S.TAKES_HOST
-        ⊎ (((heap.new ≡ heap.old) × TellsNothing K.told sink.old sink.new)
-        ⊎ (LeavesMasters nothing heap.old.memory heap.new.memory
-        × Tells K.told (slot_gone nothing heap.old.memory.heap) sink.old sink.new)) }
-    ensures idle { IsIdle K.told K.waits sink.new }
-    ensures listens { K.listens sink.new ≡ K.listens sink.old }
-    ensures host { WantsHost result → IsTrue S.TAKES_HOST
-        ⊎ ((heap.new ≡ heap.old) ⊎ (K.listens sink.old ≡ true)) }
-    ensures kept { WantsHost result → KeepsNames heap.old.memory heap.new.memory }
+    ensures stops { WantsHost result → StopsFetching S.TAKES_HOST K.told K.listens (map view_open files.new.items ≡ map
+        view_open files.old.items) heap.old heap.new sink.old sink.new }
+    ensures rests { Rests K.told K.waits K.listens sink.old sink.new }
     ensures lies { heap.new.memory.window ≡ heap.old.memory.window }
 {
     let guarded = number_at(files, at) == 0;
@@ -133,15 +120,9 @@ fn fetch_again<S: BlockStore, K: PurgeSink>(
     ensures told { (r : ResourcesValue) (f : Found) → f.reference.here ≡ view_lent entry.now
         → ¬ (WantsHost result) → K.listens sink.old ≡ true → Tells K.told
         (fetch_gone_as loading f (Some handle) (managers r heap.old.memory)) sink.old sink.new }
-    ensures untold { WantsHost result → IsTrue S.TAKES_HOST
-        ⊎ (((heap.new ≡ heap.old) × TellsNothing K.told sink.old sink.new)
-        ⊎ (LeavesMasters nothing heap.old.memory heap.new.memory
-        × Tells K.told (slot_gone nothing heap.old.memory.heap) sink.old sink.new)) }
-    ensures idle { IsIdle K.told K.waits sink.new }
-    ensures listens { K.listens sink.new ≡ K.listens sink.old }
-    ensures host { WantsHost result → IsTrue S.TAKES_HOST
-        ⊎ ((heap.new ≡ heap.old) ⊎ (K.listens sink.old ≡ true)) }
-    ensures kept { WantsHost result → KeepsNames heap.old.memory heap.new.memory }
+    ensures stops { WantsHost result → Stops S.TAKES_HOST K.told K.listens KeepsNames ⊤ (Some (slot_step nothing
+        heap.old.memory.heap)) heap.old heap.new sink.old sink.new }
+    ensures rests { Rests K.told K.waits K.listens sink.old sink.new }
     ensures lies { heap.new.memory.window ≡ heap.old.memory.window }
 {
     if !loading || heap.has_block(handle) {
@@ -176,16 +157,9 @@ fn fetch_in<S: BlockStore, K: PurgeSink>(
         → ¬ (WantsHost result) → K.listens sink.old ≡ true → Tells K.told
         (fetch_gone_as loading f f.reference.here.handle (managers (chained files.old.items r) heap.old.memory))
         sink.old sink.new }
-    ensures left { WantsHost result → map view_open files.new.items ≡ map view_open files.old.items }
-    ensures untold { WantsHost result → IsTrue S.TAKES_HOST
-        ⊎ (((heap.new ≡ heap.old) × TellsNothing K.told sink.old sink.new)
-        ⊎ (LeavesMasters nothing heap.old.memory heap.new.memory
-        × Tells K.told (slot_gone nothing heap.old.memory.heap) sink.old sink.new)) }
-    ensures idle { IsIdle K.told K.waits sink.new }
-    ensures listens { K.listens sink.new ≡ K.listens sink.old }
-    ensures host { WantsHost result → IsTrue S.TAKES_HOST
-        ⊎ ((heap.new ≡ heap.old) ⊎ (K.listens sink.old ≡ true)) }
-    ensures kept { WantsHost result → KeepsNames heap.old.memory heap.new.memory }
+    ensures stops { WantsHost result → StopsFetching S.TAKES_HOST K.told K.listens (map view_open files.new.items ≡ map
+        view_open files.old.items) heap.old heap.new sink.old sink.new }
+    ensures rests { Rests K.told K.waits K.listens sink.old sink.new }
     ensures lies { heap.new.memory.window ≡ heap.old.memory.window }
 {
     let entry = entry_at(files, at);
@@ -212,18 +186,10 @@ impl Resources {
         requires idle { IsIdle K.told K.waits sink.old }
         ensures answer { IsFetched (fetched_as loading (found_from found self.old.chain) (managers self.old
             heap.old.memory)) result (managers self.new heap.new.memory) }
-        ensures told { ¬ (WantsHost result) → K.listens sink.old ≡ true → Tells K.told
-            (fetch_gone loading (found_from found self.old.chain) (managers self.old heap.old.memory)) sink.old sink.new }
-        ensures left { WantsHost result → self.new ≡ self.old }
-        ensures untold { WantsHost result → IsTrue S.TAKES_HOST
-            ⊎ (((heap.new ≡ heap.old) × TellsNothing K.told sink.old sink.new)
-            ⊎ (LeavesMasters nothing heap.old.memory heap.new.memory
-            × Tells K.told (slot_gone nothing heap.old.memory.heap) sink.old sink.new)) }
-        ensures idle { IsIdle K.told K.waits sink.new }
-        ensures listens { K.listens sink.new ≡ K.listens sink.old }
-        ensures host { WantsHost result → IsTrue S.TAKES_HOST
-            ⊎ ((heap.new ≡ heap.old) ⊎ (K.listens sink.old ≡ true)) }
-        ensures kept { WantsHost result → KeepsNames heap.old.memory heap.new.memory }
+        ensures hears { Hears K.told K.waits K.listens (¬ (WantsHost result)) (fetch_gone loading (found_from found
+            self.old.chain) (managers self.old heap.old.memory)) sink.old sink.new }
+        ensures stops { WantsHost result → StopsFetching S.TAKES_HOST K.told K.listens (self.new ≡ self.old) heap.old
+            heap.new sink.old sink.new }
         ensures lies { heap.new.memory.window ≡ heap.old.memory.window }
     {
         match found {

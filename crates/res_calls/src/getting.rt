@@ -1,11 +1,8 @@
 //! The calls that find a resource and fetch the resource.
 
-ghost use Rattle.std.specs.Prelude.{◌≡◌, ◌⊎◌, ◌==◌, IsTrue, is_some, map, true};
+ghost use Rattle.std.specs.Prelude.{◌≡◌, ◌==◌, is_some, map, true};
 ghost use Rattle.byteorder.specs.Endian.{big_number};
-ghost use Rattle.heap_calls.specs.Answer.{nothing};
-ghost use Rattle.heap_calls.specs.Gone.{Tells, TellsNothing, IsIdle, slot_gone};
-ghost use Rattle.heap_calls.specs.Refused.{LeavesMasters};
-ghost use Rattle.heap_calls.specs.Inner.Given.{KeepsNames};
+ghost use Rattle.heap_calls.specs.Gone.{IsIdle, Hears};
 ghost use Rattle.res_map.specs.Split.{split};
 ghost use Rattle.res_calls.specs.Asked.{GetResource, Get1Resource, GetNamedResource};
 ghost use Rattle.res_calls.specs.Asked.{Get1NamedResource, Get1IndResource, LoadResource};
@@ -16,6 +13,7 @@ ghost use Rattle.res_calls.specs.Rows.{noting};
 ghost use Rattle.res_calls.specs.Given.{IsFetched, managers};
 ghost use Rattle.res_calls.specs.Places.{WantsHost, found_from, fetch_wanted, is_searched, is_wanted};
 ghost use Rattle.res_calls.specs.View.{view_open};
+ghost use Rattle.res_calls.specs.Stopped.{StopsFetching};
 
 use crate::chain::place_numbered;
 use crate::fetched::{Fetched, Unread};
@@ -60,19 +58,10 @@ impl Resources {
         requires idle { IsIdle K.told K.waits sink.old }
         ensures answer { IsFetched (noting (fetch_wanted within wanted.entry loading) (managers self.old
             heap.old.memory)) result (managers self.new heap.new.memory) }
-        ensures told { ¬ (WantsHost result) → K.listens sink.old ≡ true → Tells K.told
-            (fetch_gone loading (find (is_searched within) (is_wanted wanted.entry) self.old.chain)
-            (managers self.old heap.old.memory)) sink.old sink.new }
-        ensures left { WantsHost result → self.new ≡ self.old }
-        ensures untold { WantsHost result → IsTrue S.TAKES_HOST
-            ⊎ (((heap.new ≡ heap.old) × TellsNothing K.told sink.old sink.new)
-            ⊎ (LeavesMasters nothing heap.old.memory heap.new.memory
-            × Tells K.told (slot_gone nothing heap.old.memory.heap) sink.old sink.new)) }
-        ensures idle { IsIdle K.told K.waits sink.new }
-        ensures listens { K.listens sink.new ≡ K.listens sink.old }
-        ensures host { WantsHost result → IsTrue S.TAKES_HOST
-            ⊎ ((heap.new ≡ heap.old) ⊎ (K.listens sink.old ≡ true)) }
-        ensures kept { WantsHost result → KeepsNames heap.old.memory heap.new.memory }
+        ensures hears { Hears K.told K.waits K.listens (¬ (WantsHost result)) (fetch_gone loading (find (is_searched
+            within) (is_wanted wanted.entry) self.old.chain) (managers self.old heap.old.memory)) sink.old sink.new }
+        ensures stops { WantsHost result → StopsFetching S.TAKES_HOST K.told K.listens (self.new ≡ self.old) heap.old
+            heap.new sink.old sink.new }
         ensures lies { heap.new.memory.window ≡ heap.old.memory.window }
     {
         let found = self.find(within, wanted);
@@ -94,18 +83,10 @@ impl Resources {
         requires idle { IsIdle K.told K.waits sink.old }
         ensures answer { IsFetched (noting (rows.get_resource (big_number 4 ty.0) id) (managers self.old
             heap.old.memory)) result (managers self.new heap.new.memory) }
-        ensures told { ¬ (WantsHost result) → K.listens sink.old ≡ true → Tells K.told
-            (gone_for (GetResource (big_number 4 ty.0) id) (managers self.old heap.old.memory)) sink.old sink.new }
-        ensures left { WantsHost result → self.new ≡ self.old }
-        ensures untold { WantsHost result → IsTrue S.TAKES_HOST
-            ⊎ (((heap.new ≡ heap.old) × TellsNothing K.told sink.old sink.new)
-            ⊎ (LeavesMasters nothing heap.old.memory heap.new.memory
-            × Tells K.told (slot_gone nothing heap.old.memory.heap) sink.old sink.new)) }
-        ensures idle { IsIdle K.told K.waits sink.new }
-        ensures listens { K.listens sink.new ≡ K.listens sink.old }
-        ensures host { WantsHost result → IsTrue S.TAKES_HOST
-            ⊎ ((heap.new ≡ heap.old) ⊎ (K.listens sink.old ≡ true)) }
-        ensures kept { WantsHost result → KeepsNames heap.old.memory heap.new.memory }
+        ensures hears { Hears K.told K.waits K.listens (¬ (WantsHost result)) (gone_for (GetResource (big_number 4 ty.0)
+            id) (managers self.old heap.old.memory)) sink.old sink.new }
+        ensures stops { WantsHost result → StopsFetching S.TAKES_HOST K.told K.listens (self.new ≡ self.old) heap.old
+            heap.new sink.old sink.new }
         ensures lies { heap.new.memory.window ≡ heap.old.memory.window }
     {
         let (current, load) = (self.current, self.loading);
@@ -126,18 +107,10 @@ impl Resources {
         requires idle { IsIdle K.told K.waits sink.old }
         ensures answer { IsFetched (noting (rows.get1_resource (big_number 4 ty.0) id) (managers self.old
             heap.old.memory)) result (managers self.new heap.new.memory) }
-        ensures told { ¬ (WantsHost result) → K.listens sink.old ≡ true → Tells K.told
-            (gone_for (Get1Resource (big_number 4 ty.0) id) (managers self.old heap.old.memory)) sink.old sink.new }
-        ensures left { WantsHost result → self.new ≡ self.old }
-        ensures untold { WantsHost result → IsTrue S.TAKES_HOST
-            ⊎ (((heap.new ≡ heap.old) × TellsNothing K.told sink.old sink.new)
-            ⊎ (LeavesMasters nothing heap.old.memory heap.new.memory
-            × Tells K.told (slot_gone nothing heap.old.memory.heap) sink.old sink.new)) }
-        ensures idle { IsIdle K.told K.waits sink.new }
-        ensures listens { K.listens sink.new ≡ K.listens sink.old }
-        ensures host { WantsHost result → IsTrue S.TAKES_HOST
-            ⊎ ((heap.new ≡ heap.old) ⊎ (K.listens sink.old ≡ true)) }
-        ensures kept { WantsHost result → KeepsNames heap.old.memory heap.new.memory }
+        ensures hears { Hears K.told K.waits K.listens (¬ (WantsHost result)) (gone_for (Get1Resource (big_number 4
+            ty.0) id) (managers self.old heap.old.memory)) sink.old sink.new }
+        ensures stops { WantsHost result → StopsFetching S.TAKES_HOST K.told K.listens (self.new ≡ self.old) heap.old
+            heap.new sink.old sink.new }
         ensures lies { heap.new.memory.window ≡ heap.old.memory.window }
     {
         let (current, load) = (self.current, self.loading);
@@ -158,19 +131,10 @@ impl Resources {
         requires idle { IsIdle K.told K.waits sink.old }
         ensures answer { IsFetched (noting (rows.get_named_resource (big_number 4 ty.0) name.now)
             (managers self.old heap.old.memory)) result (managers self.new heap.new.memory) }
-        ensures told { ¬ (WantsHost result) → K.listens sink.old ≡ true → Tells K.told
-            (gone_for (GetNamedResource (big_number 4 ty.0) name.now) (managers self.old heap.old.memory)) sink.old
-            sink.new }
-        ensures left { WantsHost result → self.new ≡ self.old }
-        ensures untold { WantsHost result → IsTrue S.TAKES_HOST
-            ⊎ (((heap.new ≡ heap.old) × TellsNothing K.told sink.old sink.new)
-            ⊎ (LeavesMasters nothing heap.old.memory heap.new.memory
-            × Tells K.told (slot_gone nothing heap.old.memory.heap) sink.old sink.new)) }
-        ensures idle { IsIdle K.told K.waits sink.new }
-        ensures listens { K.listens sink.new ≡ K.listens sink.old }
-        ensures host { WantsHost result → IsTrue S.TAKES_HOST
-            ⊎ ((heap.new ≡ heap.old) ⊎ (K.listens sink.old ≡ true)) }
-        ensures kept { WantsHost result → KeepsNames heap.old.memory heap.new.memory }
+        ensures hears { Hears K.told K.waits K.listens (¬ (WantsHost result)) (gone_for (GetNamedResource (big_number 4
+            ty.0) name.now) (managers self.old heap.old.memory)) sink.old sink.new }
+        ensures stops { WantsHost result → StopsFetching S.TAKES_HOST K.told K.listens (self.new ≡ self.old) heap.old
+            heap.new sink.old sink.new }
         ensures lies { heap.new.memory.window ≡ heap.old.memory.window }
     {
         let (current, load) = (self.current, self.loading);
@@ -197,19 +161,10 @@ impl Resources {
         requires idle { IsIdle K.told K.waits sink.old }
         ensures answer { IsFetched (noting (rows.get1_named_resource (big_number 4 ty.0) name.now)
             (managers self.old heap.old.memory)) result (managers self.new heap.new.memory) }
-        ensures told { ¬ (WantsHost result) → K.listens sink.old ≡ true → Tells K.told
-            (gone_for (Get1NamedResource (big_number 4 ty.0) name.now) (managers self.old heap.old.memory)) sink.old
-            sink.new }
-        ensures left { WantsHost result → self.new ≡ self.old }
-        ensures untold { WantsHost result → IsTrue S.TAKES_HOST
-            ⊎ (((heap.new ≡ heap.old) × TellsNothing K.told sink.old sink.new)
-            ⊎ (LeavesMasters nothing heap.old.memory heap.new.memory
-            × Tells K.told (slot_gone nothing heap.old.memory.heap) sink.old sink.new)) }
-        ensures idle { IsIdle K.told K.waits sink.new }
-        ensures listens { K.listens sink.new ≡ K.listens sink.old }
-        ensures host { WantsHost result → IsTrue S.TAKES_HOST
-            ⊎ ((heap.new ≡ heap.old) ⊎ (K.listens sink.old ≡ true)) }
-        ensures kept { WantsHost result → KeepsNames heap.old.memory heap.new.memory }
+        ensures hears { Hears K.told K.waits K.listens (¬ (WantsHost result)) (gone_for (Get1NamedResource (big_number 4
+            ty.0) name.now) (managers self.old heap.old.memory)) sink.old sink.new }
+        ensures stops { WantsHost result → StopsFetching S.TAKES_HOST K.told K.listens (self.new ≡ self.old) heap.old
+            heap.new sink.old sink.new }
         ensures lies { heap.new.memory.window ≡ heap.old.memory.window }
     {
         let (current, load) = (self.current, self.loading);
@@ -237,18 +192,10 @@ impl Resources {
         requires idle { IsIdle K.told K.waits sink.old }
         ensures answer { IsFetched (noting (rows.get1_ind_resource (big_number 4 ty.0) n)
             (managers self.old heap.old.memory)) result (managers self.new heap.new.memory) }
-        ensures told { ¬ (WantsHost result) → K.listens sink.old ≡ true → Tells K.told
-            (gone_for (Get1IndResource (big_number 4 ty.0) n) (managers self.old heap.old.memory)) sink.old sink.new }
-        ensures left { WantsHost result → self.new ≡ self.old }
-        ensures untold { WantsHost result → IsTrue S.TAKES_HOST
-            ⊎ (((heap.new ≡ heap.old) × TellsNothing K.told sink.old sink.new)
-            ⊎ (LeavesMasters nothing heap.old.memory heap.new.memory
-            × Tells K.told (slot_gone nothing heap.old.memory.heap) sink.old sink.new)) }
-        ensures idle { IsIdle K.told K.waits sink.new }
-        ensures listens { K.listens sink.new ≡ K.listens sink.old }
-        ensures host { WantsHost result → IsTrue S.TAKES_HOST
-            ⊎ ((heap.new ≡ heap.old) ⊎ (K.listens sink.old ≡ true)) }
-        ensures kept { WantsHost result → KeepsNames heap.old.memory heap.new.memory }
+        ensures hears { Hears K.told K.waits K.listens (¬ (WantsHost result)) (gone_for (Get1IndResource (big_number 4
+            ty.0) n) (managers self.old heap.old.memory)) sink.old sink.new }
+        ensures stops { WantsHost result → StopsFetching S.TAKES_HOST K.told K.listens (self.new ≡ self.old) heap.old
+            heap.new sink.old sink.new }
         ensures lies { heap.new.memory.window ≡ heap.old.memory.window }
     {
         let loading = self.loading;
@@ -270,18 +217,10 @@ impl Resources {
         requires idle { IsIdle K.told K.waits sink.old }
         ensures answer { IsFetched (noting (rows.load_resource handle) (managers self.old heap.old.memory)) result
             (managers self.new heap.new.memory) }
-        ensures told { ¬ (WantsHost result) → K.listens sink.old ≡ true → Tells K.told
-            (gone_for (LoadResource handle) (managers self.old heap.old.memory)) sink.old sink.new }
-        ensures left { WantsHost result → self.new ≡ self.old }
-        ensures untold { WantsHost result → IsTrue S.TAKES_HOST
-            ⊎ (((heap.new ≡ heap.old) × TellsNothing K.told sink.old sink.new)
-            ⊎ (LeavesMasters nothing heap.old.memory heap.new.memory
-            × Tells K.told (slot_gone nothing heap.old.memory.heap) sink.old sink.new)) }
-        ensures idle { IsIdle K.told K.waits sink.new }
-        ensures listens { K.listens sink.new ≡ K.listens sink.old }
-        ensures host { WantsHost result → IsTrue S.TAKES_HOST
-            ⊎ ((heap.new ≡ heap.old) ⊎ (K.listens sink.old ≡ true)) }
-        ensures kept { WantsHost result → KeepsNames heap.old.memory heap.new.memory }
+        ensures hears { Hears K.told K.waits K.listens (¬ (WantsHost result)) (gone_for (LoadResource handle) (managers
+            self.old heap.old.memory)) sink.old sink.new }
+        ensures stops { WantsHost result → StopsFetching S.TAKES_HOST K.told K.listens (self.new ≡ self.old) heap.old
+            heap.new sink.old sink.new }
         ensures lies { heap.new.memory.window ≡ heap.old.memory.window }
     {
         let found = self.find_handle(handle);

@@ -1,8 +1,8 @@
 //! The call that opens a file, and the preloading of an application's resources.
 
 ghost use Rattle.std.specs.Prelude.{◌≡◌, ◌<◌, ◌≤◌, ◌⊎◌, ◌∷◌, IsTrue, IsErr, IfOk, OnOk, OnErr, IfSome, map, length};
-ghost use Rattle.std.specs.Prelude.{◌≢◌, slice_get, Some, Ok, Err, ℕ, true, false};
-ghost use Rattle.heap_calls.specs.Gone.{Tells, TellsNothing, IsIdle};
+ghost use Rattle.std.specs.Prelude.{◌≢◌, slice_get, Some, Ok, Err, ℕ, true, false, IsOk};
+ghost use Rattle.heap_calls.specs.Gone.{Tells, TellsNothing, IsIdle, Hears, Rests};
 ghost use Rattle.res_calls.specs.Asked.{OpenResFile};
 ghost use Rattle.res_calls.specs.Files.{opened};
 ghost use Rattle.res_calls.specs.Given.{IsAnswered, IsLoadedFirst, managers};
@@ -10,7 +10,7 @@ ghost use Rattle.res_calls.specs.Gone.{gone_for, fork_gone, load_gone};
 ghost use Rattle.res_calls.specs.Preloading.{StopsFirst, StopsPreloading};
 ghost use Rattle.res_calls.specs.Rows as rows;
 ghost use Rattle.res_calls.specs.Rows.{noting, loaded_if, with_loaded, map_in, preloaded};
-ghost use Rattle.res_calls.specs.Stopped.{LeavesOpen, LeavesOpened, fork_opens};
+ghost use Rattle.res_calls.specs.Stopped.{StopsOpeningFile, LeavesOpened, fork_opens};
 ghost use Rattle.res_calls.specs.View.{view_open};
 
 use crate::chain::{place_called, place_of_file};
@@ -63,17 +63,15 @@ fn load_told<S: BlockStore, K: PurgeSink>(
       references = (loaded_if loading file.old.references heap.old.memory).references;
     } }
     ensures heap { result ≡ Ok true → heap.new.memory ≡ (loaded_if loading file.old.references heap.old.memory).memory }
-    ensures told { result ≡ Ok true → K.listens sink.old ≡ true
-        → Tells K.told (load_gone loading file.old.references heap.old.memory) sink.old sink.new }
+    ensures hears { Hears K.told K.waits K.listens (result ≡ Ok true) (load_gone loading file.old.references
+        heap.old.memory) sink.old sink.new }
     ensures stopped { result ≡ Ok false
         → StopsPreloading K.told S.TAKES_HOST file.old file.new heap.old.memory heap.new.memory sink.old sink.new }
     ensures loads { result ≡ Ok false → loading ≡ true }
-    ensures hears { result ≡ Ok false → K.listens sink.old ≡ true }
+    ensures listened { result ≡ Ok false → K.listens sink.old ≡ true }
     ensures kept { OnErr result (file.new ≡ file.old) }
     ensures untold { OnErr result (TellsNothing K.told sink.old sink.new) }
     ensures host { IsErr result → IsTrue S.TAKES_HOST ⊎ (heap.new ≡ heap.old) }
-    ensures idle { IsIdle K.told K.waits sink.new }
-    ensures listens { K.listens sink.new ≡ K.listens sink.old }
     ensures lies { heap.new.memory.window ≡ heap.old.memory.window }
 {
     if !sink.listens() {
@@ -102,17 +100,15 @@ fn put_first<S: BlockStore, K: PurgeSink>(
     ensures chain { result ≡ Ok true → map view_open chain.new.items ≡ with_loaded (loaded_if loading
         file.map.references heap.old.memory) (view_open file) ∷ map view_open chain.old.items }
     ensures heap { result ≡ Ok true → heap.new.memory ≡ (loaded_if loading file.map.references heap.old.memory).memory }
-    ensures told { result ≡ Ok true → K.listens sink.old ≡ true
-        → Tells K.told (load_gone loading file.map.references heap.old.memory) sink.old sink.new }
+    ensures hears { Hears K.told K.waits K.listens (result ≡ Ok true) (load_gone loading file.map.references
+        heap.old.memory) sink.old sink.new }
     ensures stopped { result ≡ Ok false → StopsFirst K.told S.TAKES_HOST loading (view_open file)
         (map view_open chain.old.items) (map view_open chain.new.items) heap.old.memory heap.new.memory sink.old
         sink.new }
-    ensures hears { result ≡ Ok false → K.listens sink.old ≡ true }
+    ensures listened { result ≡ Ok false → K.listens sink.old ≡ true }
     ensures kept { OnErr result (chain.new.items ≡ chain.old.items) }
     ensures untold { OnErr result (TellsNothing K.told sink.old sink.new) }
     ensures host { IsErr result → IsTrue S.TAKES_HOST ⊎ (heap.new ≡ heap.old) }
-    ensures idle { IsIdle K.told K.waits sink.new }
-    ensures listens { K.listens sink.new ≡ K.listens sink.old }
     ensures lies { heap.new.memory.window ≡ heap.old.memory.window }
 {
     chain.reserve(1)?;
@@ -183,17 +179,10 @@ impl Resources {
         requires idle { IsIdle K.told K.waits sink.old }
         ensures answer { IsAnswered (λ (n : ℕ). n) (noting (rows.open_res_file name.now.0.items)
             (managers self.old heap.old.memory)) result (managers self.new heap.new.memory) }
-        ensures told { result ≢ Err Refusal.HostMemory → K.listens sink.old ≡ true
-            → Tells K.told (gone_for (OpenResFile name.now.0.items) (managers self.old heap.old.memory)) sink.old
-            sink.new }
-        ensures stopped { result ≡ Err Refusal.HostMemory → IsTrue S.TAKES_HOST ⊎ LeavesOpen K.told name.now.0.items
-            (managers self.old heap.old.memory) (managers self.new heap.new.memory) sink.old sink.new }
-        ensures idle { IsIdle K.told K.waits sink.new }
-        ensures listens { K.listens sink.new ≡ K.listens sink.old }
-        ensures kept { result ≡ Err Refusal.HostMemory → (K.listens sink.old ≡ false) → self.new ≡ self.old }
-        ensures files { result ≡ Err Refusal.HostMemory → self.new.files ≡ self.old.files }
-        ensures host { result ≡ Err Refusal.HostMemory
-            → IsTrue S.TAKES_HOST ⊎ ((heap.new ≡ heap.old) ⊎ (K.listens sink.old ≡ true)) }
+        ensures hears { Hears K.told K.waits K.listens (result ≢ Err Refusal.HostMemory) (gone_for (OpenResFile
+            name.now.0.items) (managers self.old heap.old.memory)) sink.old sink.new }
+        ensures stops { result ≡ Err Refusal.HostMemory → StopsOpeningFile S.TAKES_HOST K.told K.listens
+            name.now.0.items self.old self.new heap.old heap.new sink.old sink.new }
         ensures lies { heap.new.memory.window ≡ heap.old.memory.window }
     {
         let answer = self.open_named(alloc, heap, name, sink);
@@ -211,17 +200,10 @@ impl Resources {
         requires idle { IsIdle K.told K.waits sink.old }
         ensures answer { IsAnswered (λ (n : ℕ). n) (rows.open_res_file name.now.0.items (managers self.old
             heap.old.memory)) result (managers self.new heap.new.memory) }
-        ensures told { result ≢ Err Refusal.HostMemory → K.listens sink.old ≡ true
-            → Tells K.told (gone_for (OpenResFile name.now.0.items) (managers self.old heap.old.memory)) sink.old
-            sink.new }
-        ensures stopped { result ≡ Err Refusal.HostMemory → IsTrue S.TAKES_HOST ⊎ LeavesOpen K.told name.now.0.items
-            (managers self.old heap.old.memory) (managers self.new heap.new.memory) sink.old sink.new }
-        ensures idle { IsIdle K.told K.waits sink.new }
-        ensures listens { K.listens sink.new ≡ K.listens sink.old }
-        ensures kept { result ≡ Err Refusal.HostMemory → (K.listens sink.old ≡ false) → self.new ≡ self.old }
-        ensures files { result ≡ Err Refusal.HostMemory → self.new.files ≡ self.old.files }
-        ensures host { result ≡ Err Refusal.HostMemory
-            → IsTrue S.TAKES_HOST ⊎ ((heap.new ≡ heap.old) ⊎ (K.listens sink.old ≡ true)) }
+        ensures hears { Hears K.told K.waits K.listens (result ≢ Err Refusal.HostMemory) (gone_for (OpenResFile
+            name.now.0.items) (managers self.old heap.old.memory)) sink.old sink.new }
+        ensures stops { result ≡ Err Refusal.HostMemory → StopsOpeningFile S.TAKES_HOST K.told K.listens
+            name.now.0.items self.old self.new heap.old heap.new sink.old sink.new }
         ensures lies { heap.new.memory.window ≡ heap.old.memory.window }
     {
         let Some(at) = place_called(&self.files, name) else {
@@ -251,8 +233,7 @@ impl Resources {
         ensures stopped { IfSome (slice_get self.old.files at) (λ f. result ≡ Err Refusal.HostMemory
             → IsTrue S.TAKES_HOST ⊎ LeavesOpened K.told (fork_opens at f.fork (managers self.old heap.old.memory))
             (managers self.old heap.old.memory) (managers self.new heap.new.memory) sink.old sink.new) }
-        ensures idle { IsIdle K.told K.waits sink.new }
-        ensures listens { K.listens sink.new ≡ K.listens sink.old }
+        ensures rests { Rests K.told K.waits K.listens sink.old sink.new }
         ensures kept { result ≡ Err Refusal.HostMemory → (K.listens sink.old ≡ false) → self.new ≡ self.old }
         ensures files { result ≡ Err Refusal.HostMemory → self.new.files ≡ self.old.files }
         ensures host { result ≡ Err Refusal.HostMemory
@@ -285,13 +266,11 @@ impl Resources {
         ensures answer { IfOk result (λ n. n ≡ self.old.next) }
         ensures after { OnOk result ((rows.open_as (opened self.old.next (Some at) read)
             (managers self.old heap.old.memory)).after ≡ managers self.new heap.new.memory) }
-        ensures told { OnOk result (K.listens sink.old ≡ true
-            → Tells K.told (load_gone self.old.loading read.references heap.old.memory) sink.old sink.new) }
+        ensures hears { Hears K.told K.waits K.listens (IsOk result) (load_gone self.old.loading read.references
+            heap.old.memory) sink.old sink.new }
         ensures stopped { OnErr result (IsTrue S.TAKES_HOST ⊎ LeavesOpened K.told
             (Some (opened self.old.next (Some at) read)) (managers self.old heap.old.memory) (managers self.new
             heap.new.memory) sink.old sink.new) }
-        ensures idle { IsIdle K.told K.waits sink.new }
-        ensures listens { K.listens sink.new ≡ K.listens sink.old }
         ensures kept { OnErr result (K.listens sink.old ≡ false → self.new ≡ self.old) }
         ensures files { OnErr result (self.new.files ≡ self.old.files) }
         ensures host { IsErr result

@@ -2,18 +2,16 @@
 //!
 //! *Processes*, chapter 7, "The Segment Manager".
 
-ghost use Rattle.std.specs.Prelude.{◌≡◌, ◌⊎◌, IsTrue, is_some, option_map, true};
+ghost use Rattle.std.specs.Prelude.{◌≡◌, is_some, option_map, true};
 ghost use Rattle.byteorder.specs.Endian.{big_number};
-ghost use Rattle.heap_calls.specs.Answer.{nothing};
-ghost use Rattle.heap_calls.specs.Gone.{Tells, TellsNothing, IsIdle, slot_gone};
-ghost use Rattle.heap_calls.specs.Refused.{LeavesMasters};
-ghost use Rattle.heap_calls.specs.Inner.Given.{KeepsNames};
+ghost use Rattle.heap_calls.specs.Gone.{IsIdle, Hears};
 ghost use Rattle.res_map.specs.View.{view_lent};
 ghost use Rattle.res_calls.specs.Files.{Found};
 ghost use Rattle.res_calls.specs.Gone.{own_gone};
 ghost use Rattle.res_calls.specs.Own as own;
 ghost use Rattle.res_calls.specs.Given.{IsFetched, managers};
 ghost use Rattle.res_calls.specs.Places.{WantsHost, found_from};
+ghost use Rattle.res_calls.specs.Stopped.{StopsFetching};
 
 use crate::fetched::{Fetched, Unread};
 use crate::files::Resources;
@@ -82,18 +80,10 @@ impl Resources {
         requires idle { IsIdle K.told K.waits sink.old }
         ensures answer { IsFetched (own.fetch_own (big_number 4 ty.0) id (managers self.old heap.old.memory)) result
             (managers self.new heap.new.memory) }
-        ensures told { ¬ (WantsHost result) → K.listens sink.old ≡ true → Tells K.told
-            (own_gone (big_number 4 ty.0) id (managers self.old heap.old.memory)) sink.old sink.new }
-        ensures left { WantsHost result → self.new ≡ self.old }
-        ensures untold { WantsHost result → IsTrue S.TAKES_HOST
-            ⊎ (((heap.new ≡ heap.old) × TellsNothing K.told sink.old sink.new)
-            ⊎ (LeavesMasters nothing heap.old.memory heap.new.memory
-            × Tells K.told (slot_gone nothing heap.old.memory.heap) sink.old sink.new)) }
-        ensures idle { IsIdle K.told K.waits sink.new }
-        ensures listens { K.listens sink.new ≡ K.listens sink.old }
-        ensures host { WantsHost result → IsTrue S.TAKES_HOST
-            ⊎ ((heap.new ≡ heap.old) ⊎ (K.listens sink.old ≡ true)) }
-        ensures kept { WantsHost result → KeepsNames heap.old.memory heap.new.memory }
+        ensures hears { Hears K.told K.waits K.listens (¬ (WantsHost result)) (own_gone (big_number 4 ty.0) id (managers
+            self.old heap.old.memory)) sink.old sink.new }
+        ensures stops { WantsHost result → StopsFetching S.TAKES_HOST K.told K.listens (self.new ≡ self.old) heap.old
+            heap.new sink.old sink.new }
         ensures lies { heap.new.memory.window ≡ heap.old.memory.window }
     {
         let found = self.find_own(ty, id);

@@ -4,10 +4,10 @@
 
 ghost use Rattle.std.specs.Prelude.{◌≡◌, ◌⊎◌, ◌<◌, IsTrue, IsErr, IfOk, OnOk, OnErr, Ok, true, false, map, drop};
 ghost use Rattle.std.specs.Prelude.{length};
-ghost use Rattle.heap_calls.specs.Gone.{Tells, TellsNothing, IsIdle, all_gone};
+ghost use Rattle.heap_calls.specs.Gone.{TellsNothing, IsIdle, all_gone, Hears};
 ghost use Rattle.heap_calls.specs.Inside.{new_all};
 ghost use Rattle.heap_calls.specs.Inner.Filling.{wanted_as};
-ghost use Rattle.heap_calls.specs.Preloaded.{Stops};
+ghost use Rattle.heap_calls.specs.Preloaded.{MadeSome};
 ghost use Rattle.res_map.specs.Map.{is_preload};
 ghost use Rattle.res_map.specs.View.{view_lent};
 ghost use Rattle.res_calls.specs.Fetch as fetch;
@@ -85,15 +85,13 @@ fn make_told<S: BlockStore, K: PurgeSink>(
     requires idle { IsIdle K.told K.waits sink.old }
     ensures all { result ≡ Ok true → new_all (wanted_of file.now.references) heap.old.memory
         ≡ (numbers.new.items, heap.new.memory) }
-    ensures told { result ≡ Ok true → K.listens sink.old ≡ true
-        → Tells K.told (all_gone (wanted_of file.now.references) heap.old.memory) sink.old sink.new }
+    ensures hears { Hears K.told K.waits K.listens (result ≡ Ok true) (all_gone (wanted_of file.now.references)
+        heap.old.memory) sink.old sink.new }
     ensures some { result ≡ Ok false → IsTrue S.TAKES_HOST
-        ⊎ Stops K.told (wanted_of file.now.references) heap.old.memory
+        ⊎ MadeSome K.told (wanted_of file.now.references) heap.old.memory
         numbers.new.items heap.new.memory sink.old sink.new }
     ensures heap { OnErr result (heap.new ≡ heap.old) }
     ensures untold { OnErr result (TellsNothing K.told sink.old sink.new) }
-    ensures idle { IsIdle K.told K.waits sink.new }
-    ensures listens { K.listens sink.new ≡ K.listens sink.old }
     ensures lies { heap.new.memory.window ≡ heap.old.memory.window }
 {
     let wanted = gather(alloc, file)?;
@@ -162,15 +160,13 @@ pub fn preload_told<S: BlockStore, K: PurgeSink>(
       references = (fetch.preload file.old.references heap.old.memory).references;
     } }
     ensures heap { result ≡ Ok true → heap.new.memory ≡ (fetch.preload file.old.references heap.old.memory).memory }
-    ensures told { result ≡ Ok true → K.listens sink.old ≡ true
-        → Tells K.told (preload_gone file.old.references heap.old.memory) sink.old sink.new }
+    ensures hears { Hears K.told K.waits K.listens (result ≡ Ok true) (preload_gone file.old.references heap.old.memory)
+        sink.old sink.new }
     ensures stopped { result ≡ Ok false
         → StopsPreloading K.told S.TAKES_HOST file.old file.new heap.old.memory heap.new.memory sink.old sink.new }
     ensures kept { OnErr result (file.new ≡ file.old) }
     ensures unfilled { OnErr result (heap.new ≡ heap.old) }
     ensures untold { OnErr result (TellsNothing K.told sink.old sink.new) }
-    ensures idle { IsIdle K.told K.waits sink.new }
-    ensures listens { K.listens sink.new ≡ K.listens sink.old }
     ensures lies { heap.new.memory.window ≡ heap.old.memory.window }
 {
     let mut numbers = Vec::new(alloc);

@@ -2,12 +2,9 @@
 //!
 //! *Inside Macintosh: Processes*, chapter 7, "Segment Manager Routines".
 
-ghost use Rattle.std.specs.Prelude.{◌≡◌, ◌⊎◌, ◌↔◌, ℕ, ℤ, List, IsTrue, Ok, Err, true, if◌then◌else◌};
+ghost use Rattle.std.specs.Prelude.{◌≡◌, ◌↔◌, ℕ, ℤ, List, Ok, Err, if◌then◌else◌};
 ghost use Rattle.mac_words.specs.declared.segment_call.SegmentCall.TheVariants.{LoadSeg, CallEntry};
-ghost use Rattle.heap_calls.specs.Answer.{nothing};
-ghost use Rattle.heap_calls.specs.Gone.{Tells, TellsNothing, IsIdle, slot_gone};
-ghost use Rattle.heap_calls.specs.Refused.{LeavesMasters};
-ghost use Rattle.heap_calls.specs.Inner.Given.{KeepsNames};
+ghost use Rattle.heap_calls.specs.Gone.{IsIdle, Hears};
 ghost use Rattle.res_calls.specs.Fetch.{Managers};
 ghost use Rattle.res_calls.specs.Files.{Resources as ResourcesValue};
 ghost use Rattle.res_calls.specs.Given.{managers, IsUnread};
@@ -17,6 +14,7 @@ ghost use Rattle.segments.specs.Calls.{is_there, let_loose};
 ghost use Rattle.segments.specs.Gone.{gone_for, load_gone};
 ghost use Rattle.segments.specs.Given.{program, Fetch, IsUnloaded, IsLoaded, IsCalled, WantsHost, done_if};
 ghost use Rattle.segments.specs.Table.{Entry};
+ghost use Rattle.res_calls.specs.Stopped.{StopsFetching};
 
 use crate::loaded::{Called, Unloaded};
 use crate::table::JumpTable;
@@ -74,19 +72,10 @@ impl JumpTable {
         requires idle { IsIdle K.told K.waits sink.old }
         ensures answer { IsLoaded (load_seg segment (program self.old resources.old heap.old.memory)) result
             (program self.new resources.new heap.new.memory) }
-        ensures told { ¬ (WantsHost result) → K.listens sink.old ≡ true → Tells K.told
-            (gone_for (LoadSeg segment) (program self.old resources.old heap.old.memory)) sink.old sink.new }
-        ensures table { WantsHost result → self.new ≡ self.old }
-        ensures left { WantsHost result → resources.new ≡ resources.old }
-        ensures untold { WantsHost result → IsTrue S.TAKES_HOST
-            ⊎ (((heap.new ≡ heap.old) × TellsNothing K.told sink.old sink.new)
-            ⊎ (LeavesMasters nothing heap.old.memory heap.new.memory
-            × Tells K.told (slot_gone nothing heap.old.memory.heap) sink.old sink.new)) }
-        ensures idle { IsIdle K.told K.waits sink.new }
-        ensures listens { K.listens sink.new ≡ K.listens sink.old }
-        ensures host { WantsHost result → IsTrue S.TAKES_HOST
-            ⊎ ((heap.new ≡ heap.old) ⊎ (K.listens sink.old ≡ true)) }
-        ensures kept { WantsHost result → KeepsNames heap.old.memory heap.new.memory }
+        ensures hears { Hears K.told K.waits K.listens (¬ (WantsHost result)) (gone_for (LoadSeg segment) (program
+            self.old resources.old heap.old.memory)) sink.old sink.new }
+        ensures stops { WantsHost result → StopsFetching S.TAKES_HOST K.told K.listens ((self.new ≡ self.old)
+            × (resources.new ≡ resources.old)) heap.old heap.new sink.old sink.new }
         ensures lies { heap.new.memory.window ≡ heap.old.memory.window }
     {
         if segment == 0 {
@@ -142,19 +131,10 @@ impl JumpTable {
         requires idle { IsIdle K.told K.waits sink.old }
         ensures answer { IsCalled (call_entry index (program self.old resources.old heap.old.memory)) result
             (program self.new resources.new heap.new.memory) }
-        ensures told { ¬ (WantsHost result) → K.listens sink.old ≡ true → Tells K.told
-            (gone_for (CallEntry index) (program self.old resources.old heap.old.memory)) sink.old sink.new }
-        ensures table { WantsHost result → self.new ≡ self.old }
-        ensures left { WantsHost result → resources.new ≡ resources.old }
-        ensures untold { WantsHost result → IsTrue S.TAKES_HOST
-            ⊎ (((heap.new ≡ heap.old) × TellsNothing K.told sink.old sink.new)
-            ⊎ (LeavesMasters nothing heap.old.memory heap.new.memory
-            × Tells K.told (slot_gone nothing heap.old.memory.heap) sink.old sink.new)) }
-        ensures idle { IsIdle K.told K.waits sink.new }
-        ensures listens { K.listens sink.new ≡ K.listens sink.old }
-        ensures host { WantsHost result → IsTrue S.TAKES_HOST
-            ⊎ ((heap.new ≡ heap.old) ⊎ (K.listens sink.old ≡ true)) }
-        ensures kept { WantsHost result → KeepsNames heap.old.memory heap.new.memory }
+        ensures hears { Hears K.told K.waits K.listens (¬ (WantsHost result)) (gone_for (CallEntry index) (program
+            self.old resources.old heap.old.memory)) sink.old sink.new }
+        ensures stops { WantsHost result → StopsFetching S.TAKES_HOST K.told K.listens ((self.new ≡ self.old)
+            × (resources.new ≡ resources.old)) heap.old heap.new sink.old sink.new }
         ensures lies { heap.new.memory.window ≡ heap.old.memory.window }
     {
         let Some(entry) = self.entry(index) else {
@@ -182,19 +162,10 @@ impl JumpTable {
         requires idle { IsIdle K.told K.waits sink.old }
         ensures answer { IsCalled (call_loading segment (load_seg segment (program self.old resources.old
             heap.old.memory))) result (program self.new resources.new heap.new.memory) }
-        ensures told { ¬ (WantsHost result) → K.listens sink.old ≡ true → Tells K.told
-            (load_gone segment (program self.old resources.old heap.old.memory)) sink.old sink.new }
-        ensures table { WantsHost result → self.new ≡ self.old }
-        ensures left { WantsHost result → resources.new ≡ resources.old }
-        ensures untold { WantsHost result → IsTrue S.TAKES_HOST
-            ⊎ (((heap.new ≡ heap.old) × TellsNothing K.told sink.old sink.new)
-            ⊎ (LeavesMasters nothing heap.old.memory heap.new.memory
-            × Tells K.told (slot_gone nothing heap.old.memory.heap) sink.old sink.new)) }
-        ensures idle { IsIdle K.told K.waits sink.new }
-        ensures listens { K.listens sink.new ≡ K.listens sink.old }
-        ensures host { WantsHost result → IsTrue S.TAKES_HOST
-            ⊎ ((heap.new ≡ heap.old) ⊎ (K.listens sink.old ≡ true)) }
-        ensures kept { WantsHost result → KeepsNames heap.old.memory heap.new.memory }
+        ensures hears { Hears K.told K.waits K.listens (¬ (WantsHost result)) (load_gone segment (program self.old
+            resources.old heap.old.memory)) sink.old sink.new }
+        ensures stops { WantsHost result → StopsFetching S.TAKES_HOST K.told K.listens ((self.new ≡ self.old)
+            × (resources.new ≡ resources.old)) heap.old heap.new sink.old sink.new }
         ensures lies { heap.new.memory.window ≡ heap.old.memory.window }
     {
         match self.load(heap, resources, segment, sink) {

@@ -22,9 +22,7 @@ use Rattle.heap_calls.specs.declared.search.Room.{Room}
 use Rattle.heap_calls.specs.State.{State, Memory}
 use Rattle.heap_calls.specs.Answer.{Answer, Known, nothing, for_found, rebuilt, refused, silent, searching, moving, handle_at}
 use Rattle.heap_calls.specs.Inside.{has_block, refill, refill_searches, refill_moves, refill_inside, for_known}
-use Rattle.heap_calls.specs.Inner.Given.{IsAnswer, slot_of}
-use Rattle.heap_calls.specs.declared.refusal.Refusal.{Refusal}
-use Rattle.heap_calls.specs.declared.refusal.Refusal.TheVariants.{Code, HostMemory}
+use Rattle.heap_calls.specs.Inner.Given.{slot_of}
 use Rattle.heap_calls.specs.Moves.{put_moves}
 use Rattle.heap_calls.specs.Searches.{room_searches}
 use Rattle.heap_calls.specs.Inner.Filling.{IsFresh, IsReplaced, IsRefilling, refilled, refilled_searches}
@@ -38,7 +36,7 @@ use Rattle.heap_calls.proofs.Numbering.Changing.{silent-kept, unmoved, unmoved-i
 use Rattle.heap_calls.proofs.Numbering.Answering.{handle_at-refused}
 use Rattle.heap_calls.proofs.Numbering.Looking.{room_searches-rename}
 use Rattle.heap_calls.proofs.Numbering.MoveNames.{put_moves-rename}
-use Rattle.heap_calls.proofs.Numbering.PurgeTrials.{served_answer}
+use Rattle.heap_calls.specs.Inner.Reaching.{sized_reply}
 
 -- A block for an empty handle.
 
@@ -186,21 +184,21 @@ module _ (value : Memory) (zone zone' : List Block) (rest rest' : Rest) (es : Li
 
     -- by whether there was room
     pub refill-told : silent (refill h flags x) value
-        ≡ (served_answer (is_some made.place), memory_of zone' (unmoved rest rest') es log)
+        ≡ (sized_reply (is_some made.place), memory_of zone' (unmoved rest rest') es log)
     refill-told = cases made.place done.none
       where
         cases : (o : Option ℕ) → MatchOption o ((refilled slot flags x zone ≡ None) × (zone' ≡ zone))
             (λ _. refilled slot flags x zone ≡ Some zone') → silent (refill h flags x) value
-            ≡ (served_answer (is_some o), memory_of zone' (unmoved rest rest') es log)
+            ≡ (sized_reply (is_some o), memory_of zone' (unmoved rest rest') es log)
         cases None m = row (Err MEM_FULL) None m.0
             (ap (λ z. (Err MEM_FULL, record state { zone = rename f g z })) (sym m.1))
         cases (Some p) m = row (Ok tt) (Some zone') m refl
 
 -- a name that is no handle's
 pub refill-refused : (value : Memory) (zone : List Block) (rest : Rest) (es copy : List Anchor) (log : Log) (h : ℕ)
-    (flags : Flags) (x : List ℕ) (e : Refusal) → memory_of zone rest es log ≡ value → copy ≡ es
-    → slot_of (Some h) copy ≡ Err e → IsAnswer (refill_inside h flags x value) (Err e) value
-refill-refused value zone rest es copy log h flags x (Code code) is copied e =
+    (flags : Flags) (x : List ℕ) (code : OsErr) → memory_of zone rest es log ≡ value → copy ≡ es
+    → slot_of (Some h) copy ≡ Err code → refill_inside h flags x value ≡ (Err code, value)
+refill-refused value zone rest es copy log h flags x code is copied e =
     let none : handle_at (Some h) value.heap ≡ Err code = ap (λ (m : Memory). handle_at (Some h) m.heap) (sym is)
     ∙ handle_at-refused zone rest.slots es (Some h) code (ap (slot_of (Some h)) (sym copied) ∙ e) in
     let row : State → Result Known OsErr → Answer (Unit {0}) = λ s r. for_found r s
@@ -211,4 +209,3 @@ refill-refused value zone rest es copy log h flags x (Code code) is copied e =
     ∙ ap (λ k. (Err code, record value { log = record value.log { searches = k }; moves = counted value.moves 0 }))
     (counted-none value.log.searches)
     ∙ ap (λ k. (Err code, record value { moves = k })) (counted-none value.moves)
-refill-refused value zone rest es copy log h flags x HostMemory is copied e = tt

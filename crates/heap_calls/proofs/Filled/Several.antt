@@ -8,7 +8,7 @@ use Rattle.heap_calls.specs.Answer.{nothing}
 use Rattle.heap_calls.specs.Gone.{Gone, Tells, slot_gone, made_gone, all_gone}
 use Rattle.heap_calls.specs.Inside.{new_inside, new_all, number_if}
 use Rattle.heap_calls.specs.Refused.{LeavesMasters}
-use Rattle.heap_calls.specs.Preloaded.{LeavesUnmade, Stops}
+use Rattle.heap_calls.specs.Preloaded.{LeavesUnmade, MadeSome}
 use Rattle.heap_calls.specs.Inner.Filling.{IsNext, wanted_as}
 use Rattle.heap_calls.specs.declared.filling.Filling.{Filling}
 
@@ -71,7 +71,7 @@ module _ {A : Type 0} (told : A → List Gone → Type 0) (listens : Bool) (k : 
         }
 
     stops-there : k < length ws → listens ≡ true → (new : Memory) (after : A) → LeavesUnmade told mid new s after
-        → Stops told ws old numbers new before after
+        → MadeSome told ws old numbers new before after
     stops-there less is new after left = (
       k,
       record {
@@ -110,14 +110,14 @@ module _ {A : Type 0} (told : A → List Gone → Type 0) (listens : Bool) (k : 
 
     -- the next could not be made
     pub stops-here : listens ≡ true → (new : Memory) (after : A) → LeavesUnmade told mid new s after
-        → Stops told (map wanted_as wanted) old numbers new before after
+        → MadeSome told (map wanted_as wanted) old numbers new before after
     stops-here is new after left = stops-there told listens k (map wanted_as wanted) old numbers mid before s made within
         is new after left
 
 -- none was made, where there is no room to note them
 pub stops-first : {A : Type 0} (told : A → List Gone → Type 0) (wanted : List Filling) (old new : Memory)
     (numbers : List (Option ℕ)) (sink : A) → 0 < length wanted → numbers ≡ [] → new ≡ old
-    → Stops told (map wanted_as wanted) old numbers new sink sink
+    → MadeSome told (map wanted_as wanted) old numbers new sink sink
 stops-first told wanted old new numbers sink some none same = (
   0,
   record {

@@ -7,14 +7,11 @@ use Rattle.heap_calls.specs.Answer.{Held, look_up}
 use Rattle.heap_calls.specs.Inner.Given.{FindsBlock}
 use Rattle.heap_calls.specs.Inner.Numbered.{state_of}
 use Rattle.heap_calls.specs.declared.anchor.Anchor.{Anchor}
-use Rattle.heap_calls.specs.declared.refusal.Refusal.{Refusal}
-use Rattle.heap_calls.specs.declared.refusal.Refusal.TheVariants.{Code, HostMemory}
 
 -- What bars a call, as a store's names and slots say it.
 
 -- a handle has a block where its block was found
-pub found-held : (zone : List Block) (slots : ℕ → Slot) (es : List Anchor) (handle : Option ℕ) (r : Result ℕ Refusal)
+pub found-held : (zone : List Block) (slots : ℕ → Slot) (es : List Anchor) (handle : Option ℕ) (r : Result ℕ OsErr)
     → FindsBlock zone slots es handle r → is_ok r ≡ is_ok (look_up handle (state_of zone slots es))
 found-held zone slots es handle (Ok place) found = sym (ap (λ (o : Result Held OsErr). is_ok o) found.2)
-found-held zone slots es handle (Err (Code code)) found = sym (ap (λ (o : Result Held OsErr). is_ok o) found)
-found-held zone slots es handle (Err HostMemory) found = absurd found
+found-held zone slots es handle (Err code) found = sym (ap (λ (o : Result Held OsErr). is_ok o) found)

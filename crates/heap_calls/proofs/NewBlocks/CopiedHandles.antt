@@ -39,9 +39,7 @@ use Rattle.block_store.proofs.Plain.Counters.{counted-none}
 use Rattle.block_store.proofs.Plain.Trials.{least-map}
 use Rattle.heap_calls.proofs.Numbering.Answering.{slot_of-ok, look_up-by, look_up-refused, held, content_of-rename}
 use Rattle.heap_calls.proofs.Numbering.Answering.{place-small, header-fits}
-use Rattle.heap_calls.specs.Inner.Given.{slot_of, IsAnswer}
-use Rattle.heap_calls.specs.declared.refusal.Refusal.{Refusal}
-use Rattle.heap_calls.specs.declared.refusal.Refusal.TheVariants.{Code, HostMemory}
+use Rattle.heap_calls.specs.Inner.Given.{slot_of}
 use Rattle.heap_calls.specs.declared.anchor.Found.{Found}
 use Rattle.heap_calls.proofs.Numbering.Changing.{agrees-now, block-given, agrees-kept, kept}
 use Rattle.heap_calls.proofs.NewBlocks.Reserving.{IsRefused}
@@ -104,13 +102,12 @@ copy-refused value zone rest es log handle code is none =
 
 -- a name that is no handle's
 pub copy-not_found : (value : Memory) (zone : List Block) (rest : Rest) (es copy : List Anchor) (log : Log)
-    (handle : Option ℕ) (e : Refusal) → memory_of zone rest es log ≡ value → copy ≡ es
-    → slot_of handle copy ≡ Err e → IsAnswer (searching (hand_to_hand_searches handle value.heap)
-    (silent (hand_to_hand handle) value)) (Err e) value
-copy-not_found value zone rest es copy log handle (Code code) is same e =
+    (handle : Option ℕ) (code : OsErr) → memory_of zone rest es log ≡ value → copy ≡ es
+    → slot_of handle copy ≡ Err code → searching (hand_to_hand_searches handle value.heap)
+    (silent (hand_to_hand handle) value) ≡ (Err code, value)
+copy-not_found value zone rest es copy log handle code is same e =
     copy-refused value zone rest es log handle code is (look_up-refused zone rest.slots es handle code
     (ap (slot_of handle) (sym same) ∙ e))
-copy-not_found value zone rest es copy log handle HostMemory is same e = tt
 
 -- nothing is moved for it
 pub copy-still : (value : Memory) (zone : List Block) (rest : Rest) (es : List Anchor) (log : Log) (handle : Option ℕ)
@@ -125,11 +122,11 @@ copy-still value zone rest es log handle code is none =
     s = state_of zone rest.slots es
 
 pub not_found-still : (value : Memory) (zone : List Block) (rest : Rest) (es copy : List Anchor) (log : Log)
-    (handle : Option ℕ) (e : Refusal) → memory_of zone rest es log ≡ value → copy ≡ es → slot_of handle copy ≡ Err e
-    → (code : OsErr) → e ≡ Code code → hand_to_hand_moves handle value.heap ≡ 0
-not_found-still value zone rest es copy log handle e is same found code code_is =
+    (handle : Option ℕ) (code : OsErr) → memory_of zone rest es log ≡ value → copy ≡ es
+    → slot_of handle copy ≡ Err code → hand_to_hand_moves handle value.heap ≡ 0
+not_found-still value zone rest es copy log handle code is same found =
     copy-still value zone rest es log handle code is (look_up-refused zone rest.slots es handle code
-    (ap (slot_of handle) (sym same) ∙ found ∙ ap Err code_is))
+    (ap (slot_of handle) (sym same) ∙ found))
 
 -- a handle whose block was emptied
 pub copy-nil : (zone : List Block) (rest : Rest) (es : List Anchor) (handle : Option ℕ) (h source : ℕ) {guarded : Bool}
@@ -149,9 +146,9 @@ pub copy-emptied : (value : Memory) (zone : List Block) (rest : Rest) (es : List
     (silent (hand_to_hand handle) value)) ≡ (Err NIL_HANDLE, value)
 copy-emptied value zone rest es log handle h source is bound at agrees small none =
     let nil = copy-nil zone rest es handle h source bound at agrees small none in
-    not-moved _ _ (Code NIL_HANDLE) value zone rest es log is
+    not-moved _ _ NIL_HANDLE value zone rest es log is
     (copy-refused value zone rest es log handle NIL_HANDLE is nil)
-    (λ code e. copy-still value zone rest es log handle NIL_HANDLE is nil)
+    (copy-still value zone rest es log handle NIL_HANDLE is nil)
 
 -- the handle of a slot that was looked up in a copy of the entries
 pub slot-in : (es copy : List Anchor) (handle : Option ℕ) (f : Found) → copy ≡ es → slot_of handle copy ≡ Ok f

@@ -1,8 +1,7 @@
-use Rattle.std.proofs.Common.{Bool, true, false, is_some}
-use Rattle.std.proofs.Common.{◌≡◌, ℕ, ◌*◌, ◌≤◌, ◌<◌, slice_get, List, length, Option, Some, None, Result, Ok, Err}
+use Rattle.std.proofs.Common.{Bool, is_some}
+use Rattle.std.proofs.Common.{◌≡◌, ℕ, ◌*◌, ◌≤◌, ◌<◌, slice_get, List, length, Option, Some, None, Result}
 use Rattle.std.proofs.Common.{refl, sym, ◌∙◌, ap}
 use Rattle.mac_words.specs.declared.code.OsErr.{OsErr}
-use Rattle.mac_words.specs.declared.code.TheConstants.OsErr.{MEM_FULL}
 use Rattle.block_store.specs.Block.{Block, is_masters, count, is_relocatable, content_of}
 use Rattle.block_store.specs.Rest.{Rest, counted}
 use Rattle.block_store.specs.Room.{Spot, spot}
@@ -18,7 +17,6 @@ use Rattle.heap_calls.specs.Copying.{hand_to_hand}
 use Rattle.heap_calls.specs.Moves.{hand_to_hand_moves}
 use Rattle.heap_calls.specs.Searches.{hand_to_hand_searches}
 use Rattle.heap_calls.specs.Inner.Copied.{IsCopy}
-use Rattle.heap_calls.specs.Inner.Given.{IsAnswer}
 use Rattle.heap_calls.specs.declared.anchor.Found.{Found}
 use Rattle.heap_calls.specs.declared.anchor.Anchor.TheVariants.{Handle}
 use Rattle.heap_calls.specs.Inner.Naming.{entered, number_of}
@@ -37,15 +35,9 @@ use Rattle.heap_calls.proofs.NewBlocks.Reserving.{reserve-none, reserve-done}
 use Rattle.heap_calls.proofs.NewBlocks.CopiedHandles.{copy-none, copy-agrees, copy-window, copied-done}
 use Rattle.heap_calls.proofs.NewBlocks.CopiedHandles.{copy_searches-is, copy_moves-is}
 use Rattle.heap_calls.proofs.Numbering.Changing.{unmoved}
-use Rattle.heap_calls.proofs.Numbering.PurgeTrials.{served_answer}
 use Rattle.heap_calls.proofs.Room.MoveCounts.{moving-done}
 
 -- Calls that give a handle a new number.
-
--- what is told of a slot, if one was had
-abbrev pub told : Option ℕ → List Anchor → Result ℕ OsErr
-told None es = Err MEM_FULL
-told (Some slot) es = Ok (length es)
 
 -- the heap that a call leaves which searches for room
 pub record Ends {T : Type 0} (row : State → Answer T) (zone : List Block) (rest : Rest) (es : List Anchor)
@@ -56,17 +48,7 @@ pub record Ends {T : Type 0} (row : State → Answer T) (zone : List Block) (res
 
 -- of one that gives a handle a number, if a slot was had
 abbrev pub Names : (State → Answer ℕ) → List Block → Rest → List Anchor → Option ℕ → List Block → Rest → Type 0
-Names row zone rest es slot zone' rest' = Ends row zone rest es (told slot es) zone' rest' (entered slot es)
-
-is-told : (a : Result ℕ OsErr × Memory) (slot : Option ℕ) (es : List Anchor) (after : Memory)
-    → a ≡ (told slot es, after) → IsAnswer a (number_of slot es) after
-is-told a None es after e = e
-is-told a (Some slot) es after e = e
-
-pub is-served : (a : Result (Unit {0}) OsErr × Memory) (done : Bool) (after : Memory) → a ≡ (served_answer done, after)
-    → IsAnswer a (sized_reply done) after
-is-served a true after e = e
-is-served a false after e = e
+Names row zone rest es slot zone' rest' = Ends row zone rest es (number_of slot es) zone' rest' (entered slot es)
 
 module _ {T : Type 0} (row : State → Answer T) (looks moves : State → ℕ) (value : Memory) (zone zone' : List Block)
     (rest rest' : Rest) (es es' : List Anchor) (log log' : Log) (r : Result T OsErr)
@@ -95,26 +77,25 @@ module _ (row : State → Answer ℕ) (looks moves : State → ℕ) (value : Mem
     (now : log' ≡ record log { searches = counted log.searches n })
   where
     pub named-looking : rest'.moves ≡ rest.moves
-        → IsAnswer (searching (looks value.heap) (silent row value)) (number_of slot es)
-        (memory_of zone' rest' (entered slot es) log')
-    named-looking same = is-told _ slot es _ (ended-looking row looks moves value zone zone' rest rest' es
-        (entered slot es) log log' (told slot es) is names n looked now same)
+        → searching (looks value.heap) (silent row value)
+        ≡ (number_of slot es, memory_of zone' rest' (entered slot es) log')
+    named-looking same = ended-looking row looks moves value zone zone' rest rest' es (entered slot es) log log'
+        (number_of slot es) is names n looked now same
 
     pub named-packing : (m : ℕ) → moves (state_of zone rest.slots es) ≡ m → Packs m rest rest'
-        → IsAnswer (moving (moves value.heap) (searching (looks value.heap) (silent row value))) (number_of slot es)
-        (memory_of zone' rest' (entered slot es) log')
-    named-packing m moved packed = is-told _ slot es _ (ended-packing row looks moves value zone zone' rest rest' es
-        (entered slot es) log log' (told slot es) is names n looked now m moved packed)
+        → moving (moves value.heap) (searching (looks value.heap) (silent row value))
+        ≡ (number_of slot es, memory_of zone' rest' (entered slot es) log')
+    named-packing m moved packed = ended-packing row looks moves value zone zone' rest rest' es (entered slot es) log
+        log' (number_of slot es) is names n looked now m moved packed
 
 -- a call that only wants room, and leaves the names
 pub served-looking : (row : State → Answer (Unit {0})) (looks : State → ℕ) (value : Memory) (zone zone' : List Block)
     (rest rest' : Rest) (es : List Anchor) (log : Log) (done : Bool) → memory_of zone rest es log ≡ value
-    → Ends row zone rest es (served_answer done) zone' rest' es → (n : ℕ) → n ≡ looks (state_of zone rest.slots es)
-    → rest'.moves ≡ rest.moves → IsAnswer (searching (looks value.heap) (silent row value)) (sized_reply done)
-    (memory_of zone' rest' es (record log { searches = counted log.searches n }))
-served-looking row looks value zone zone' rest rest' es log done is ends n looked same = is-served _ done _
-    (ended-looking row looks looks value zone zone' rest rest' es es log _
-    (served_answer done) is ends n looked refl same)
+    → Ends row zone rest es (sized_reply done) zone' rest' es → (n : ℕ) → n ≡ looks (state_of zone rest.slots es)
+    → rest'.moves ≡ rest.moves → searching (looks value.heap) (silent row value)
+    ≡ (sized_reply done, memory_of zone' rest' es (record log { searches = counted log.searches n }))
+served-looking row looks value zone zone' rest rest' es log done is ends n looked same =
+    ended-looking row looks looks value zone zone' rest rest' es es log _ (sized_reply done) is ends n looked refl same
 
 module _ (zone : List Block) (rest : Rest) (es : List Anchor) (masters : rest.all ≡ 64 * count is_masters zone)
     (agrees : Agrees zone rest es) (zone' : List Block) (rest' : Rest) (nonrelocatable : KeepsNonrelocatable zone zone')
@@ -182,7 +163,7 @@ module _ (zone : List Block) (rest : Rest) (es : List Anchor) (masters : rest.al
     (agrees : Agrees zone rest es) (zone' : List Block) (rest' : Rest) (nonrelocatable : KeepsNonrelocatable zone zone')
   where
     pub masters-ends : (place : Option ℕ) → IsMade sparing.Nothing zone rest place zone' rest'
-        → Ends add_masters zone rest es (served_answer (is_some place)) zone' rest' es
+        → Ends add_masters zone rest es (sized_reply (is_some place)) zone' rest' es
     masters-ends None h = let r = masters-refused zone rest es masters agrees zone' rest' nonrelocatable h in
         record { answer = r.0; agrees = r.1; window = r.2 }
     masters-ends (Some place) h = let r = masters-done zone rest es masters agrees zone' rest' nonrelocatable place h in
@@ -190,7 +171,7 @@ module _ (zone : List Block) (rest : Rest) (es : List Anchor) (masters : rest.al
 
     pub reserve-ends : (n p : ℕ) → phys n ≡ Some p → KeepsAllButPlaced rest rest' → (place : Option ℕ)
         → IsBaseAt p (base p sparing.Nothing zone) zone' place → (place ≡ None → zone' ≡ zone)
-        → Ends (reserve_mem n) zone rest es (served_answer (is_some place)) zone' rest' es
+        → Ends (reserve_mem n) zone rest es (sized_reply (is_some place)) zone' rest' es
     reserve-ends n p fits now None h same =
         let r = reserve-none zone rest es masters agrees zone' rest' nonrelocatable n p fits now (same refl) h in
         record { answer = r.0; agrees = r.1; window = r.2 }

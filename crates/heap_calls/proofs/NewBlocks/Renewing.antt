@@ -41,7 +41,7 @@ use Rattle.heap_calls.proofs.Numbering.Loosening.{known, renewed_answer, realloc
 use Rattle.heap_calls.proofs.Numbering.Loosening.{reallocate_searches-loose, reallocate_moves-loose}
 use Rattle.heap_calls.proofs.Numbering.Looking.{tries-same, room_searches-rename}
 use Rattle.heap_calls.proofs.Numbering.MoveNames.{put_moves-rename}
-use Rattle.heap_calls.proofs.Numbering.PurgeTrials.{served_answer}
+use Rattle.heap_calls.specs.Inner.Reaching.{sized_reply}
 
 -- A new block for a handle, for which its old one counts as Free.
 
@@ -251,10 +251,10 @@ module _ (value : Memory) (zone zone' : List Block) (rest rest' : Rest) (es : Li
 
     -- both, by whether there was room
     pub reallocate-told : silent (reallocate_handle handle n) value
-        ≡ (served_answer (is_some made.place), memory_of zone' (unmoved rest rest') es log)
+        ≡ (sized_reply (is_some made.place), memory_of zone' (unmoved rest rest') es log)
     reallocate-told = cases (is_some made.place) refl
       where
         cases : (t : Bool) → is_some made.place ≡ t → silent (reallocate_handle handle n) value
-            ≡ (served_answer t, memory_of zone' (unmoved rest rest') es log)
+            ≡ (sized_reply t, memory_of zone' (unmoved rest rest') es log)
         cases true some = reallocate-some some
         cases false none = reallocate-none none

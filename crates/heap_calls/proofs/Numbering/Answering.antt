@@ -17,10 +17,8 @@ use Rattle.block_store.proofs.Zone.Totals.{total-append}
 use Rattle.heap_calls.specs.State.{State, Memory}
 use Rattle.heap_calls.specs.Answer.{Answer, Held, look_up, held_at, handle_at, known_as, for_found, on_block, noting}
 use Rattle.heap_calls.specs.Answer.{silent, code_of}
-use Rattle.heap_calls.specs.Inner.Given.{slot_at, slot_of, found, FindsBlock, IsAnswer, IsShown, last_after}
+use Rattle.heap_calls.specs.Inner.Given.{slot_at, slot_of, found, FindsBlock}
 use Rattle.heap_calls.specs.Inner.Pointing.{FindsHeld}
-use Rattle.heap_calls.specs.declared.refusal.Refusal.{Refusal}
-use Rattle.heap_calls.specs.declared.refusal.Refusal.TheVariants.{Code, HostMemory}
 use Rattle.heap_calls.specs.declared.anchor.Found.{Found}
 use Rattle.heap_calls.specs.declared.anchor.Anchor.{Anchor}
 use Rattle.heap_calls.specs.declared.anchor.Anchor.TheVariants.{Handle, Pointer, Disposed}
@@ -28,16 +26,12 @@ use Rattle.heap_calls.specs.Inner.Numbered.{state_of, memory_of, name_of, handle
 use Rattle.heap_calls.proofs.Numbering.Numbers.{Apart, is_relocatable-number}
 
 -- a call that was noted: the code of its answer is kept
-pub noted : {T : Type 0} (call : State → Answer T) (old mid new : Memory) (r : Result T Refusal)
-    → IsAnswer (silent call old) r mid → new ≡ record mid { log = record mid.log { code = last_after r mid.log.code } }
-    → IsAnswer (noting call old) r new
-noted {T = T} call old mid new (Ok value) is e =
+pub noted : {T : Type 0} (call : State → Answer T) (old mid new : Memory) (r : Result T OsErr)
+    → silent call old ≡ (r, mid) → new ≡ record mid { log = record mid.log { code = code_of r } }
+    → noting call old ≡ (r, new)
+noted {T = T} call old mid new r is e =
     (λ i. ((is i).0, record ((is i).1) { log = record ((is i).1.log) { code = code_of {T = T} ((is i).0) } }))
-    ∙ ap (λ (m : Memory). (Ok value, m)) (sym e)
-noted {T = T} call old mid new (Err (Code code)) is e =
-    (λ i. ((is i).0, record ((is i).1) { log = record ((is i).1.log) { code = code_of {T = T} ((is i).0) } }))
-    ∙ ap (λ (m : Memory). (Err code, m)) (sym e)
-noted call old mid new (Err HostMemory) is e = tt
+    ∙ ap (λ (m : Memory). (r, m)) (sym e)
 
 -- a slot was found where the entry is its handle's
 slot_at-ok : (h : ℕ) (o : Option Anchor) (f : Found) → slot_at h o ≡ Ok f
@@ -71,19 +65,19 @@ look_up-by zone slots es handle h slot is at apart small =
 
 -- a name that is no handle's
 pub handle_at-refused : (zone : List Block) (slots : ℕ → Slot) (es : List Anchor) (handle : Option ℕ) (code : OsErr)
-    → slot_of handle es ≡ Err (Code code) → handle_at handle (state_of zone slots es) ≡ Err code
+    → slot_of handle es ≡ Err code → handle_at handle (state_of zone slots es) ≡ Err code
 handle_at-refused zone slots es None code e = let same : NIL_HANDLE ≡ code = cc in ap Err same
 handle_at-refused zone slots es (Some h) code e = ap (known_as h) (slice_get-map (name_of slots) es h)
     ∙ cases (slice_get es h) e
   where
-    cases : (o : Option Anchor) → slot_at h o ≡ Err (Code code) → known_as h (option_map (name_of slots) o) ≡ Err code
+    cases : (o : Option Anchor) → slot_at h o ≡ Err code → known_as h (option_map (name_of slots) o) ≡ Err code
     cases None e = let same : NIL_HANDLE ≡ code = cc in ap Err same
     cases (Some (Handle slot guarded)) e = cc
     cases (Some (Pointer p)) e = let same : WRONG_ZONE ≡ code = cc in ap Err same
     cases (Some Disposed) e = let same : WRONG_ZONE ≡ code = cc in ap Err same
 
 pub look_up-refused : (zone : List Block) (slots : ℕ → Slot) (es : List Anchor) (handle : Option ℕ) (code : OsErr)
-    → slot_of handle es ≡ Err (Code code) → look_up handle (state_of zone slots es) ≡ Err code
+    → slot_of handle es ≡ Err code → look_up handle (state_of zone slots es) ≡ Err code
 look_up-refused zone slots es handle code e = ap (λ k. held_at k (state_of zone slots es))
     (handle_at-refused zone slots es handle code e)
 
@@ -119,22 +113,20 @@ header-fits slot Masters e = cc
 header-fits slot (Relocatable id flags content) e = omega arith
 
 -- what was found for a handle, as it is looked up
-pub finds-block : (zone : List Block) (slots : ℕ → Slot) (es : List Anchor) (handle : Option ℕ) (r : Result ℕ Refusal)
+pub finds-block : (zone : List Block) (slots : ℕ → Slot) (es : List Anchor) (handle : Option ℕ) (r : Result ℕ OsErr)
     → FindsBlock zone slots es handle r → FindsHeld (look_up handle (state_of zone slots es)) zone es r
 finds-block zone slots es handle (Ok place) found = found
-finds-block zone slots es handle (Err (Code code)) found = found
-finds-block zone slots es handle (Err HostMemory) found = found
+finds-block zone slots es handle (Err code) found = found
 
 -- a call that is refused for what was looked up
-pub refused_by : {T : Type 0} (look : State → Result Held OsErr) (e : Refusal) (zone : List Block) (rest : Rest)
+pub refused_by : {T : Type 0} (look : State → Result Held OsErr) (code : OsErr) (zone : List Block) (rest : Rest)
     (es : List Anchor) (log : Log) (value : Memory) → memory_of zone rest es log ≡ value
-    → FindsHeld (look (state_of zone rest.slots es)) zone es (Err e) → (answer : State → Held → Answer T)
-    → IsAnswer (silent (λ s. for_found (look s) s (answer s)) value) (Err e) value
-refused_by {T = T} look (Code code) zone rest es log value is found answer =
+    → FindsHeld (look (state_of zone rest.slots es)) zone es (Err code) → (answer : State → Held → Answer T)
+    → silent (λ s. for_found (look s) s (answer s)) value ≡ (Err code, value)
+refused_by {T = T} look code zone rest es log value is found answer =
     let P : Memory → Type 0 = λ m. silent {T = T} (λ s. for_found (look s) s (answer s)) m ≡ (Err code, m) in
     subst P is (ap (λ r. let a : Answer T = for_found r (state_of zone rest.slots es)
     (answer (state_of zone rest.slots es)) in (a.0, record (memory_of zone rest es log) { heap = a.1 })) found)
-refused_by look HostMemory zone rest es log value is found answer = tt
 
 -- what a call answers at the block that was looked up
 pub on_held : {T : Type 0} (look : State → Result Held OsErr) (zone : List Block) (rest : Rest) (es : List Anchor)
@@ -152,21 +144,12 @@ on_held {T = T} look zone rest es log value k is found answer =
     (answer (state_of zone rest.slots es)) in (a.0, record (memory_of zone rest es log) { heap = a.1 })) found)
 
 -- the same for what was found for a handle
-pub refused_for : {T : Type 0} (e : Refusal) (zone : List Block) (rest : Rest) (es : List Anchor) (log : Log)
+pub refused_for : {T : Type 0} (code : OsErr) (zone : List Block) (rest : Rest) (es : List Anchor) (log : Log)
     (handle : Option ℕ) (value : Memory) → memory_of zone rest es log ≡ value
-    → FindsBlock zone rest.slots es handle (Err e) → (answer : State → Held → Answer T)
-    → IsAnswer (silent (λ s. on_block handle s (answer s)) value) (Err e) value
-refused_for e zone rest es log handle value is found answer =
-    refused_by (look_up handle) e zone rest es log value is (finds-block zone rest.slots es handle (Err e) found) answer
-
--- the same where bytes are lent
-pub not_shown_for : (e : Refusal) (zone : List Block) (rest : Rest) (es : List Anchor) (log : Log) (handle : Option ℕ)
-    (value : Memory) → memory_of zone rest es log ≡ value
-    → FindsBlock zone rest.slots es handle (Err e) → (answer : State → Held → Answer (List ℕ))
-    → IsShown (silent (λ s. on_block handle s (answer s)) value) (Err e) value
-not_shown_for (Code code) zone rest es log handle value is found answer =
-    refused_for (Code code) zone rest es log handle value is found answer
-not_shown_for HostMemory zone rest es log handle value is found answer = tt
+    → FindsBlock zone rest.slots es handle (Err code) → (answer : State → Held → Answer T)
+    → silent (λ s. on_block handle s (answer s)) value ≡ (Err code, value)
+refused_for code zone rest es log handle value is found answer =
+    refused_by (look_up handle) code zone rest es log value is found answer
 
 -- what a call answers at the block that was found for a handle
 pub on_found : {T : Type 0} (zone : List Block) (rest : Rest) (es : List Anchor) (log : Log) (handle : Option ℕ)
@@ -186,7 +169,7 @@ pub at_place : (place : ℕ) (zone : List Block) (s : Spot) (P : Spot → Type 0
 at_place place zone s P is holds = let Q : Option Spot → Type 0 = λ o. IfSome o P in subst Q is holds
 
 -- the same for a copy of the entries
-pub found_in : (zone : List Block) (slots : ℕ → Slot) (es es' : List Anchor) (handle : Option ℕ) (r : Result ℕ Refusal)
+pub found_in : (zone : List Block) (slots : ℕ → Slot) (es es' : List Anchor) (handle : Option ℕ) (r : Result ℕ OsErr)
     → es' ≡ es → FindsBlock zone slots es' handle r → FindsBlock zone slots es handle r
 found_in zone slots es es' handle r same found = let P : List Anchor → Type 0 = λ l. FindsBlock zone slots l handle r in
     subst P same found

@@ -18,7 +18,7 @@ use Rattle.heap_calls.specs.declared.log.Log.{Log}
 use Rattle.heap_calls.specs.State.{State, Memory}
 use Rattle.heap_calls.specs.Answer.{Answer, Known, Held, handle_at, known_as, held_at, for_found, on_block, refused}
 use Rattle.heap_calls.specs.Answer.{rebuilt, silent, searching}
-use Rattle.heap_calls.specs.Inner.Given.{IsAnswer, seen_flags}
+use Rattle.heap_calls.specs.Inner.Given.{seen_flags}
 use Rattle.heap_calls.specs.Purging.{bit, is_resource, block_bits, h_get_state, is_loose, emptied_at, empty_handle}
 use Rattle.heap_calls.specs.Purging.{reallocated, reallocate_handle}
 use Rattle.heap_calls.specs.Inside.{is_owned}
@@ -27,8 +27,6 @@ use Rattle.heap_calls.specs.Moves.{reallocate_handle_moves}
 use Rattle.heap_calls.specs.Inner.Loose.{FindsLoose, bits_of, loose, loose_at, renewed, renewed_searches, renewed_moves}
 use Rattle.heap_calls.specs.Inner.Numbered.{state_of, memory_of, name_of, role_of, handle_number, pointer_number}
 use Rattle.heap_calls.specs.Inner.Numbered.{no_number}
-use Rattle.heap_calls.specs.declared.refusal.Refusal.{Refusal}
-use Rattle.heap_calls.specs.declared.refusal.Refusal.TheVariants.{Code, HostMemory}
 use Rattle.heap_calls.specs.declared.anchor.Anchor.{Anchor}
 use Rattle.heap_calls.specs.declared.anchor.Anchor.TheVariants.{Handle}
 use Rattle.heap_calls.proofs.Numbering.Numbers.{Apart, is_relocatable-number}
@@ -153,12 +151,10 @@ pub reallocate_moves-loose : (handle : Option ℕ) (n : ℕ) (s : State)
 reallocate_moves-loose handle n s = loose-counted (λ k. renewed_moves k.number n s.zone) handle s
 
 -- none where the handle isn't loose
-pub no_moves-loose : (handle : Option ℕ) (n : ℕ) (e : Refusal) (value : Memory) (zone : List Block) (rest : Rest)
-    (es : List Anchor) (log : Log) → memory_of zone rest es log ≡ value → FindsLoose zone rest.slots es handle (Err e)
-    → (code : OsErr) → e ≡ Code code → reallocate_handle_moves handle n value.heap ≡ 0
-no_moves-loose handle n e value zone rest es log is found code code_is =
-    let P : Refusal → Type 0 = λ e. FindsLoose zone rest.slots es handle (Err e) in
-    let none : P (Code code) = subst P code_is found in
+pub no_moves-loose : (handle : Option ℕ) (n : ℕ) (code : OsErr) (value : Memory) (zone : List Block) (rest : Rest)
+    (es : List Anchor) (log : Log) → memory_of zone rest es log ≡ value → FindsLoose zone rest.slots es handle (Err code)
+    → reallocate_handle_moves handle n value.heap ≡ 0
+no_moves-loose handle n code value zone rest es log is none =
     ap (λ (m : Memory). reallocate_handle_moves handle n m.heap) (sym is)
     ∙ reallocate_moves-loose handle n (state_of zone rest.slots es)
     ∙ ap (λ r. found_searches r (λ k. renewed_moves k.number n (state_of zone rest.slots es).zone)) none
@@ -200,52 +196,50 @@ h_get_state-bits handle value zone rest es log is =
     (h_get_state-by handle (state_of zone rest.slots es)))
 
 -- the same for a copy of the entries
-pub loose_in : (zone : List Block) (slots : ℕ → Slot) (es es' : List Anchor) (handle : Option ℕ) (r : Result ℕ Refusal)
+pub loose_in : (zone : List Block) (slots : ℕ → Slot) (es es' : List Anchor) (handle : Option ℕ) (r : Result ℕ OsErr)
     → es' ≡ es → FindsLoose zone slots es' handle r → FindsLoose zone slots es handle r
 loose_in zone slots es es' handle r same found = let P : List Anchor → Type 0 = λ l. FindsLoose zone slots l handle r in
     subst P same found
 
 -- a call that is refused, since its handle isn't loose
-pub loose_refused : {T : Type 0} (row : State → Answer T) (e : Refusal) (zone : List Block) (rest : Rest)
+pub loose_refused : {T : Type 0} (row : State → Answer T) (code : OsErr) (zone : List Block) (rest : Rest)
     (es : List Anchor) (log : Log) (handle : Option ℕ) (value : Memory) (answer : Known → Answer T)
     → memory_of zone rest es log ≡ value
-    → FindsLoose zone rest.slots es handle (Err e) → row (state_of zone rest.slots es)
+    → FindsLoose zone rest.slots es handle (Err code) → row (state_of zone rest.slots es)
     ≡ for_found (loose_at handle (state_of zone rest.slots es)) (state_of zone rest.slots es) answer
-    → IsAnswer (silent row value) (Err e) value
-loose_refused row (Code code) zone rest es log handle value answer is found by =
+    → silent row value ≡ (Err code, value)
+loose_refused row code zone rest es log handle value answer is found by =
     silent-refused row value zone rest es log code is (by ∙ ap (λ r. for_found r (state_of zone rest.slots es) answer)
     found)
-loose_refused row HostMemory zone rest es log handle value answer is found by = tt
 
 -- EmptyHandle, at what was found in a copy of the entries
-pub not_emptied : (handle : Option ℕ) (e : Refusal) (zone : List Block) (rest : Rest) (es copy : List Anchor)
+pub not_emptied : (handle : Option ℕ) (code : OsErr) (zone : List Block) (rest : Rest) (es copy : List Anchor)
     (log : Log) (value : Memory) → tidy zone ≡ zone → memory_of zone rest es log ≡ value → copy ≡ es
-    → FindsLoose zone rest.slots copy handle (Err e) → IsAnswer (silent (empty_handle handle) value) (Err e) value
-not_emptied handle e zone rest es copy log value tidied is same found =
+    → FindsLoose zone rest.slots copy handle (Err code) → silent (empty_handle handle) value ≡ (Err code, value)
+not_emptied handle code zone rest es copy log value tidied is same found =
     let state : State = state_of zone rest.slots es in
     let f : ℕ → ℕ = handle_number es in
     let g : ℕ → ℕ = pointer_number es in
-    loose_refused (empty_handle handle) e zone rest es log handle value (emptied_answer state) is
-    (loose_in zone rest.slots es copy handle (Err e) same found)
+    loose_refused (empty_handle handle) code zone rest es log handle value (emptied_answer state) is
+    (loose_in zone rest.slots es copy handle (Err code) same found)
     (empty_handle-loose handle state (tidy-rename f g zone ∙ ap (rename f g) tidied))
 
 -- the same for a call that searches for room
-pub loose_not_searched : (n : ℕ) (e : Refusal) (zone : List Block) (rest : Rest) (es : List Anchor) (log : Log)
+pub loose_not_searched : (n : ℕ) (code : OsErr) (zone : List Block) (rest : Rest) (es : List Anchor) (log : Log)
     (handle : Option ℕ) (value : Memory) → memory_of zone rest es log ≡ value
-    → FindsLoose zone rest.slots es handle (Err e) → IsAnswer (searching
-    (reallocate_handle_searches handle n value.heap) (silent (reallocate_handle handle n) value)) (Err e) value
-loose_not_searched n (Code code) zone rest es log handle value is found =
+    → FindsLoose zone rest.slots es handle (Err code) → searching (reallocate_handle_searches handle n value.heap)
+    (silent (reallocate_handle handle n) value) ≡ (Err code, value)
+loose_not_searched n code zone rest es log handle value is found =
     let state : State = state_of zone rest.slots es in
     let none : reallocate_handle_searches handle n value.heap ≡ 0 =
     ap (λ (m : Memory). reallocate_handle_searches handle n m.heap) (sym is) ∙ reallocate_searches-loose handle n state
     ∙ ap (λ r. found_searches r (λ k. renewed_searches k.number n state.zone)) found in
     ap (searching (reallocate_handle_searches handle n value.heap))
-    (loose_refused (reallocate_handle handle n) (Code code) zone rest es log handle value (renewed_answer n state)
+    (loose_refused (reallocate_handle handle n) code zone rest es log handle value (renewed_answer n state)
     is found (reallocate_handle-loose handle n state))
     ∙ ap (λ k. searching k (Err code, value)) none
     ∙ ap (λ k. (Err code, record value { log = record value.log { searches = k } }))
     (counted-none value.log.searches)
-loose_not_searched n HostMemory zone rest es log handle value is found = tt
 
 -- the answer of EmptyHandle, where the block of its slot was released
 pub empty_handle-done : (value : Memory) (zone zone' : List Block) (rest rest' : Rest) (es : List Anchor) (log : Log)

@@ -1,5 +1,6 @@
-use Rattle.std.proofs.Common.{◌≡◌, ◌∙◌, ap}
-use Rattle.heap_calls.specs.State.{CountedMemory}
+use Rattle.std.proofs.Common.{◌≡◌, ◌∙◌, ap, Result}
+use Rattle.mac_words.specs.declared.code.OsErr.{OsErr}
+use Rattle.heap_calls.specs.State.{Memory, CountedMemory}
 
 -- A heap's memory, where the heap is known with the count of its placings.
 
@@ -13,3 +14,8 @@ pub counted_as : {held value : CountedMemory} → held.memory ≡ value.memory �
 counted_as {held} {value} same placed =
     ap (λ m. let h : CountedMemory = record { memory = m; placings = held.placings } in h) same
     ∙ ap (λ n. let h : CountedMemory = record { memory = value.memory; placings = n } in h) placed
+
+-- the same answer, where the reply is known
+pub reply-as : {T : Type 0} {answer : Result T OsErr × Memory} {reply known : Result T OsErr} {after : Memory}
+    → answer ≡ (reply, after) → reply ≡ known → answer ≡ (known, after)
+reply-as {after = after} is same = is ∙ ap (λ r. (r, after)) same

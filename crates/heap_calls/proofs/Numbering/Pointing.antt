@@ -23,13 +23,11 @@ use Rattle.block_store.proofs.Renamed.Renaming.{spot-rename, freed-rename, tidy-
 use Rattle.block_store.proofs.Zone.Tidy.{has-tidy, has-freed, spot-passes, spot-is}
 use Rattle.block_store.proofs.Zone.Totals.{total-append}
 use Rattle.block_store.proofs.Nonrelocatable.Counts.{not_nonrelocatable-other}
-use Rattle.heap_calls.specs.State.{State, Memory, Meaning, uses_slot}
+use Rattle.heap_calls.specs.State.{State, Memory, uses_slot}
 use Rattle.heap_calls.specs.State as names
 use Rattle.heap_calls.specs.Answer.{Held, look_up, for_found, silent}
 use Rattle.heap_calls.specs.Pointers.{pointed, pointed_at, named_block, block_named, dispose_pointer}
 use Rattle.heap_calls.specs.Inner.Pointing.{target, target_at, target_of, FindsHeld}
-use Rattle.heap_calls.specs.declared.refusal.Refusal.{Refusal}
-use Rattle.heap_calls.specs.declared.refusal.Refusal.TheVariants.{Code}
 use Rattle.heap_calls.specs.declared.log.Log.{Log}
 use Rattle.heap_calls.specs.declared.anchor.Target.{Target}
 use Rattle.heap_calls.specs.declared.anchor.Anchor.{Anchor}
@@ -150,12 +148,12 @@ target_of-ok (Some p) es t e = let r = target_at-ok p (slice_get es p) t e in
 
 -- a name that is no pointer's
 pub pointed_at-refused : (zone : List Block) (slots : ℕ → Slot) (es : List Anchor) (pointer : Option ℕ) (code : OsErr)
-    → target_of pointer es ≡ Err (Code code) → pointed_at pointer (state_of zone slots es) ≡ Err code
+    → target_of pointer es ≡ Err code → pointed_at pointer (state_of zone slots es) ≡ Err code
 pointed_at-refused zone slots es None code e = let same : NIL_HANDLE ≡ code = cc in ap Err same
 pointed_at-refused zone slots es (Some p) code e = ap (λ o. pointed p o (state_of zone slots es))
     (slice_get-map (name_of slots) es p) ∙ cases (slice_get es p) e
   where
-    cases : (o : Option Anchor) → target_at p o ≡ Err (Code code)
+    cases : (o : Option Anchor) → target_at p o ≡ Err code
         → pointed p (option_map (name_of slots) o) (state_of zone slots es) ≡ Err code
     cases None e = let same : NIL_HANDLE ≡ code = cc in ap Err same
     cases (Some (Handle slot guarded)) e = let same : WRONG_ZONE ≡ code = cc in ap Err same
@@ -184,7 +182,7 @@ header-fits place Masters e = absurd (false≢true e)
 header-fits place (Relocatable id flags content) e = absurd (false≢true e)
 
 -- a copy of the entries
-pub target_in : (es es' : List Anchor) (pointer : Option ℕ) (r : Result Target Refusal) → es' ≡ es
+pub target_in : (es es' : List Anchor) (pointer : Option ℕ) (r : Result Target OsErr) → es' ≡ es
     → r ≡ target_of pointer es' → target_of pointer es ≡ r
 target_in es es' pointer r same is = ap (target_of pointer) (sym same) ∙ sym is
 
@@ -237,16 +235,16 @@ sparing-pointer zone slots es (Some n) t e = ap (λ o. named_block n o state) at
     at : slice_get (map (name_of slots) es) n ≡ Some names.Pointer
     at = slice_get-map (name_of slots) es n ∙ ap (option_map (name_of slots)) (target_at-ok n (slice_get es n) t e).0
 
-pub sparing-other : (zone : List Block) (slots : ℕ → Slot) (es : List Anchor) (name : Option ℕ) (e : Refusal)
-    → target_of name es ≡ Err e → block_named name (state_of zone slots es) ≡ look_up name (state_of zone slots es)
-sparing-other zone slots es None e is = refl
-sparing-other zone slots es (Some n) e is = ap (λ o. named_block n o state) (slice_get-map (name_of slots) es n)
+pub sparing-other : (zone : List Block) (slots : ℕ → Slot) (es : List Anchor) (name : Option ℕ) (code : OsErr)
+    → target_of name es ≡ Err code → block_named name (state_of zone slots es) ≡ look_up name (state_of zone slots es)
+sparing-other zone slots es None code is = refl
+sparing-other zone slots es (Some n) code is = ap (λ o. named_block n o state) (slice_get-map (name_of slots) es n)
     ∙ cases (slice_get es n) is
   where
     state : State
     state = state_of zone slots es
 
-    cases : (o : Option Anchor) → target_at n o ≡ Err e → named_block n (option_map (name_of slots) o) state
+    cases : (o : Option Anchor) → target_at n o ≡ Err code → named_block n (option_map (name_of slots) o) state
         ≡ look_up (Some n) state
     cases None is = refl
     cases (Some (Handle slot guarded)) is = refl
@@ -254,7 +252,7 @@ sparing-other zone slots es (Some n) e is = ap (λ o. named_block n o state) (sl
     cases (Some Disposed) is = refl
 
 -- what was found for a search that is the same
-pub finds-same : (looked looked' : Result Held OsErr) (zone : List Block) (es : List Anchor) (r : Result ℕ Refusal)
+pub finds-same : (looked looked' : Result Held OsErr) (zone : List Block) (es : List Anchor) (r : Result ℕ OsErr)
     → looked' ≡ looked → FindsHeld looked zone es r → FindsHeld looked' zone es r
 finds-same looked looked' zone es r same found = let P : Result Held OsErr → Type 0 = λ l. FindsHeld l zone es r in
     subst P (sym same) found
@@ -275,7 +273,7 @@ finds-pointer zone slots es pointer t fits there = (
 
 -- the same for a copy of the entries
 pub found_by : (look : State → Result Held OsErr) (zone : List Block) (slots : ℕ → Slot) (es es' : List Anchor)
-    (r : Result ℕ Refusal) → es' ≡ es → FindsHeld (look (state_of zone slots es')) zone es' r
+    (r : Result ℕ OsErr) → es' ≡ es → FindsHeld (look (state_of zone slots es')) zone es' r
     → FindsHeld (look (state_of zone slots es)) zone es r
 found_by look zone slots es es' r same found = let P : List Anchor
     → Type 0 = λ l. FindsHeld (look (state_of zone slots l)) zone l r in subst P same found

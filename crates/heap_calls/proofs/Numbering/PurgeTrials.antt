@@ -1,8 +1,8 @@
 use Rattle.std.proofs.Common.{◌≡◌, ℕ, ◌+◌, ◌-◌, ◌≤◌, Bool, List, length, refl, sym, ◌∙◌, ap, cond, arith, Option}
-use Rattle.std.proofs.Common.{None, Result, Ok, Err, subst}
+use Rattle.std.proofs.Common.{None, Result, Ok, subst}
 use Rattle.mac_words.specs.Size.{phys}
 use Rattle.mac_words.specs.declared.code.OsErr.{OsErr}
-use Rattle.mac_words.specs.declared.code.TheConstants.OsErr.{NO_ERR, MEM_FULL}
+use Rattle.mac_words.specs.declared.code.TheConstants.OsErr.{NO_ERR}
 use Rattle.block_store.specs.Block.{Block, sizes, free_sum, rename}
 use Rattle.block_store.specs.Run.{runs}
 use Rattle.block_store.specs.Room.{purge, may_be_purged}
@@ -25,6 +25,7 @@ use Rattle.block_store.proofs.Regroup.Settling.{runs-few}
 use Rattle.heap_calls.proofs.Numbering.Largest.{has_room-rename, largest_free-rename, runs-rename, settled-rename}
 use Rattle.heap_calls.proofs.Numbering.Changing.{silent-kept, free_sum-rename}
 use Rattle.heap_calls.proofs.Numbering.Largest.{told_most, most-told}
+use Rattle.heap_calls.specs.Inner.Reaching.{sized_reply}
 use Rattle.std.proofs.lemmas.List.{length-map}
 
 -- Purging sees no names.
@@ -83,22 +84,18 @@ pub searching-done : {T : Type 0} (n m : ℕ) (a : Result T OsErr × Memory) (r 
 searching-done n m a r mid new is same e = ap (searching n) is ∙ ap (λ k. searching k (r, mid)) same
     ∙ ap (λ (m : Memory). (r, m)) (sym e)
 
--- what PurgeMem tells
-abbrev pub served_answer : Bool → Result (Unit {0}) OsErr
-served_answer t = cond t (Ok tt) (Err MEM_FULL)
-
 -- the answer of PurgeMem, where so many blocks were emptied
 pub purge_mem-done : (value : Memory) (n : ℕ) (zone zone' : List Block) (rest rest' : Rest) (es : List Anchor)
     (log : Log) (served : Bool) → memory_of zone rest es log ≡ value
     → zone' ≡ purge (blocks_purged (phys n) zone) nothing zone
     → IsRest rest rest' → served ≡ has_room (phys n) zone' → silent (purge_mem n) value
-    ≡ (served_answer served, memory_of zone' rest' es log)
+    ≡ (sized_reply served, memory_of zone' rest' es log)
 purge_mem-done value n zone zone' rest rest' es log served is done now room =
     let state : State = state_of zone rest.slots es in
-    silent-kept (purge_mem n) value zone zone' rest rest' es log (served_answer served) is
-    (ap (λ z. (served_answer (has_room (phys n) z), record state { zone = z }))
+    silent-kept (purge_mem n) value zone zone' rest rest' es log (sized_reply served) is
+    (ap (λ z. (sized_reply (has_room (phys n) z), record state { zone = z }))
     (purged_for-rename f g (phys n) zone ∙ ap (rename f g) (sym done))
-    ∙ ap (λ t. (served_answer t, record state { zone = rename f g zone' }))
+    ∙ ap (λ t. (sized_reply t, record state { zone = rename f g zone' }))
     (has_room-rename f g (phys n) zone' ∙ sym room)) now
   where
     f : ℕ → ℕ

@@ -15,12 +15,9 @@ use Rattle.block_store.specs.Rest.{Rest, counted, IsRest}
 use Rattle.block_store.proofs.Plain.Counters.{counted-none}
 use Rattle.heap_calls.specs.declared.log.Log.{Log}
 use Rattle.heap_calls.specs.declared.anchor.Anchor.{Anchor}
-use Rattle.heap_calls.specs.declared.refusal.Refusal.{Refusal}
-use Rattle.heap_calls.specs.declared.refusal.Refusal.TheVariants.{Code, HostMemory}
 use Rattle.heap_calls.specs.State.{State, Memory}
 use Rattle.heap_calls.specs.Answer.{Answer, Held, look_up, for_found, refused, set_handle_size, rebuilt, silent}
 use Rattle.heap_calls.specs.Answer.{searching}
-use Rattle.heap_calls.specs.Inner.Given.{IsAnswer}
 use Rattle.heap_calls.specs.Inner.Reaching.{Reaches, sized_reply}
 use Rattle.heap_calls.specs.Inner.GrowingInPlace.{made_zone}
 use Rattle.heap_calls.specs.Inner.Numbered.{state_of, memory_of, handle_number, pointer_number}
@@ -30,7 +27,7 @@ use Rattle.heap_calls.proofs.Numbering.Changing.{memory-same}
 
 -- the same for a copy of the entries
 pub reached_in : (zone : List Block) (slots : ℕ → Slot) (es es' : List Anchor) (handle : Option ℕ)
-    (r : Result Reached Refusal) → es' ≡ es → Reaches zone slots es' handle r → Reaches zone slots es handle r
+    (r : Result Reached OsErr) → es' ≡ es → Reaches zone slots es' handle r → Reaches zone slots es handle r
 reached_in zone slots es es' handle r same found = let P : List Anchor → Type 0 = λ l. Reaches zone slots l handle r in
     subst P same found
 
@@ -100,11 +97,10 @@ module _ (value : Memory) (zone : List Block) (rest : Rest) (es : List Anchor) (
         (counted-none log.searches) ∙ ap (λ (m : Memory). (Err code, m)) is
 
     -- a call whose handle has no block
-    pub not-reached : (e : Refusal) (handle : Option ℕ) → Reaches zone rest.slots es handle (Err e)
+    pub not-reached : (code : OsErr) (handle : Option ℕ) → Reaches zone rest.slots es handle (Err code)
         → ((code : OsErr) → look_up handle state ≡ Err code → (row state ≡ (Err code, state)) × (looks state ≡ 0))
-        → IsAnswer (searching (looks value.heap) (silent row value)) (Err e) value
-    not-reached (Code code) handle none tells = let t = tells code none in not-looked code t.0 t.1
-    not-reached HostMemory handle none tells = tt
+        → searching (looks value.heap) (silent row value) ≡ (Err code, value)
+    not-reached code handle none tells = let t = tells code none in not-looked code t.0 t.1
 
     -- a call that came to a zone or found no room for it
     module _ (zone' : List Block) (rest' : Rest) (now : IsRest rest rest') (k : ℕ) (looked : looks state ≡ k)
@@ -121,8 +117,7 @@ module _ (value : Memory) (zone : List Block) (rest : Rest) (es : List Anchor) (
         pub rebuilt-reply : (done : Bool) (o : Option (List Block))
             → row state ≡ rebuilt (option_map (rename (handle_number es) (pointer_number es)) o) state
             → o ≡ made_zone done zone' → (done ≡ false → zone' ≡ zone)
-            → IsAnswer (searching (looks value.heap) (silent row value)) (sized_reply done)
-            (memory_of zone' rest' es log')
+            → searching (looks value.heap) (silent row value) ≡ (sized_reply done, memory_of zone' rest' es log')
         rebuilt-reply true o e made full = ended (Ok tt) (e ∙ ap
             (λ o. rebuilt (option_map (rename (handle_number es) (pointer_number es)) o) state) made)
         rebuilt-reply false o e made full =

@@ -15,7 +15,7 @@ use Rattle.block_store.specs.Slot.{Slot, NoSlot, Unused, Used, set_slot, AreSlot
 use Rattle.block_store.specs.Rest.{Rest}
 use Rattle.block_store.proofs.Renamed.Renaming.{has-rename}
 use Rattle.block_store.proofs.Regroup.Settling.{has-spot}
-use Rattle.heap_calls.specs.State.{State, Memory, Meaning, Role, Plain, Resource, SystemResource, uses_slot}
+use Rattle.heap_calls.specs.State.{State, Memory, Meaning, Role, uses_slot}
 use Rattle.heap_calls.specs.State as names
 use Rattle.heap_calls.specs.Answer.{without}
 use Rattle.heap_calls.specs.Inside.{inside, cast, cast_as, owned_as, guarded_as, released, released_as}
@@ -23,7 +23,7 @@ use Rattle.heap_calls.specs.Inner.Given.{slot_of, slot_at}
 use Rattle.heap_calls.specs.Inner.Numbered.{state_of, memory_of, name_of, handle_number, pointer_number, number_from}
 use Rattle.heap_calls.specs.Inner.Numbered.{leads_to, points_to, no_number, role_of, Agrees}
 use Rattle.heap_calls.specs.declared.log.Log.{Log}
-use Rattle.heap_calls.specs.declared.refusal.Refusal.{Refusal}
+use Rattle.mac_words.specs.declared.code.OsErr.{OsErr}
 use Rattle.heap_calls.specs.declared.anchor.Found.{Found}
 use Rattle.heap_calls.specs.declared.anchor.Anchor.{Anchor}
 use Rattle.heap_calls.specs.declared.anchor.Anchor.TheVariants.{Handle, Pointer, Disposed}
@@ -86,11 +86,11 @@ block-there zone slots es h slot place at apart small lowest = sym (
     by_place (Some p) there = ap is_some there.1
 
 -- a number that is no handle's has none
-pub block-none : (zone : List Block) (slots : ℕ → Slot) (es : List Anchor) (h : ℕ) (e : Refusal)
-    → slot_of (Some h) es ≡ Err e → h < no_number → has (is_relocatable h) (state_of zone slots es).zone ≡ false
-block-none zone slots es h e is small = over zone
+pub block-none : (zone : List Block) (slots : ℕ → Slot) (es : List Anchor) (h : ℕ) (code : OsErr)
+    → slot_of (Some h) es ≡ Err code → h < no_number → has (is_relocatable h) (state_of zone slots es).zone ≡ false
+block-none zone slots es h code is small = over zone
   where
-    no_handle : (o : Option Anchor) (slot : ℕ) (guarded : Bool) → slot_at h o ≡ Err e
+    no_handle : (o : Option Anchor) (slot : ℕ) (guarded : Bool) → slot_at h o ≡ Err code
         → o ≡ Some (Handle slot guarded) → ⊥
     no_handle None slot guarded f at = cc
     no_handle (Some (Handle s g)) slot guarded f at = cc

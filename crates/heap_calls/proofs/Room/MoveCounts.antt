@@ -1,5 +1,5 @@
 use Rattle.std.proofs.Common.{◌≡◌, ℕ, ◌+◌, ◌-◌, ◌≤◌, ◌<◌, Bool, true, false, ◌&&◌, List, refl, sym, ◌∙◌, ap, subst}
-use Rattle.std.proofs.Common.{cond, arith, Option, Some, None, Result, Ok, Err, is_some}
+use Rattle.std.proofs.Common.{cond, arith, Option, Some, None, Result, Err, is_some}
 use Rattle.std.proofs.lemmas.Option.{none-some}
 use Rattle.std.proofs.lemmas.Bool.{cond-true, cond-false, le-leb, lt-leb}
 use Rattle.std.specs.Option.{option_map, option_or, IfSome}
@@ -16,13 +16,10 @@ use Rattle.block_store.specs.declared.sparing.Sparing.{Sparing}
 use Rattle.heap_calls.specs.declared.growing.Growth.TheVariants as grows
 use Rattle.heap_calls.specs.declared.log.Log.{Log}
 use Rattle.heap_calls.specs.declared.anchor.Anchor.{Anchor}
-use Rattle.heap_calls.specs.declared.refusal.Refusal.{Refusal}
-use Rattle.heap_calls.specs.declared.refusal.Refusal.TheVariants.{Code, HostMemory}
 use Rattle.heap_calls.specs.declared.search.Placement.{Placement}
 use Rattle.heap_calls.specs.declared.search.Placement.TheVariants as see
 use Rattle.heap_calls.specs.State.{State, Memory}
 use Rattle.heap_calls.specs.Answer.{look_up, moving}
-use Rattle.heap_calls.specs.Inner.Given.{IsAnswer}
 use Rattle.heap_calls.specs.Inner.Growing.{FindsGrowth, Stays, grown, growing_searches}
 use Rattle.heap_calls.specs.Moves.{run_moves, as_it_is, place_moves, mover_moves, grow_moves, room_moves, growth_moves}
 use Rattle.heap_calls.specs.Moves.{size_moves}
@@ -235,31 +232,17 @@ moving-done m n a r zone rest rest' es log is same now =
     ∙ ap (λ (k : ℕ). (r, record (memory_of zone rest' es log) { moves = k })) (sym now)
 
 -- a call that was refused before it packed
-pub not-moved : {T : Type 0} (m : ℕ) (a : Result T OsErr × Memory) (e : Refusal) (value : Memory) (zone : List Block)
+pub not-moved : {T : Type 0} (m : ℕ) (a : Result T OsErr × Memory) (code : OsErr) (value : Memory) (zone : List Block)
     (rest : Rest) (es : List Anchor) (log : Log) → memory_of zone rest es log ≡ value
-    → IsAnswer a (Err e) value → ((code : OsErr) → e ≡ Code code → m ≡ 0) → IsAnswer (moving m a) (Err e) value
-not-moved m a (Code code) value zone rest es log is answer none =
-    ap (moving m) answer ∙ ap (λ (k : ℕ). (Err code, record value { moves = counted value.moves k })) (none code refl)
+    → a ≡ (Err code, value) → m ≡ 0 → moving m a ≡ (Err code, value)
+not-moved m a code value zone rest es log is answer none =
+    ap (moving m) answer ∙ ap (λ (k : ℕ). (Err code, record value { moves = counted value.moves k })) none
     ∙ ap (λ (k : ℕ). (Err code, record value { moves = k })) (counted-none value.moves)
-not-moved m a HostMemory value zone rest es log is answer none = tt
-
--- the same, told as it is given back
-pub moving-answer : {T : Type 0} (m n : ℕ) (a : Result T OsErr × Memory) (r : Result T Refusal) (zone : List Block)
-    (rest rest' : Rest) (es : List Anchor) (log : Log)
-    → IsAnswer a r (memory_of zone (unmoved rest rest') es log) → m ≡ n → Packs n rest rest'
-    → IsAnswer (moving m a) r (memory_of zone rest' es log)
-moving-answer m n a (Ok value) zone rest rest' es log is same now =
-    moving-done m n a (Ok value) zone rest rest' es log is same now
-moving-answer m n a (Err (Code code)) zone rest rest' es log is same now =
-    moving-done m n a (Err code) zone rest rest' es log is same now
-moving-answer m n a (Err HostMemory) zone rest rest' es log is same now = tt
 
 -- none is moved for a handle that has no block
-pub none-reached : (of : State → ℕ) (e : Refusal) (handle : Option ℕ) (value : Memory) (zone : List Block) (rest : Rest)
-    (es : List Anchor) (log : Log) → memory_of zone rest es log ≡ value → Reaches zone rest.slots es handle (Err e)
+pub none-reached : (of : State → ℕ) (code : OsErr) (handle : Option ℕ) (value : Memory) (zone : List Block) (rest : Rest)
+    (es : List Anchor) (log : Log) → memory_of zone rest es log ≡ value → Reaches zone rest.slots es handle (Err code)
     → ((code : OsErr) → look_up handle (state_of zone rest.slots es) ≡ Err code → of (state_of zone rest.slots es) ≡ 0)
-    → (code : OsErr) → e ≡ Code code → of value.heap ≡ 0
-none-reached of e handle value zone rest es log is found tells code code_is =
-    let P : Refusal → Type 0 = λ e. Reaches zone rest.slots es handle (Err e) in
-    let none : P (Code code) = subst P code_is found in
+    → of value.heap ≡ 0
+none-reached of code handle value zone rest es log is none tells =
     ap (λ (m : Memory). of m.heap) (sym is) ∙ tells code none

@@ -10,7 +10,6 @@ use Rattle.block_store.specs.declared.sparing.Sparing.TheVariants as sparing
 use Rattle.heap_calls.specs.declared.anchor.Anchor.{Anchor}
 use Rattle.heap_calls.specs.declared.log.Log.{Log}
 use Rattle.heap_calls.specs.declared.reaching.Reached.{Reached}
-use Rattle.heap_calls.specs.declared.refusal.Refusal.{Refusal}
 use Rattle.heap_calls.specs.State.{State, Memory}
 use Rattle.heap_calls.specs.Answer.{Answer, Held, look_up, rebuilt, silent, searching, moving, set_handle_size}
 use Rattle.heap_calls.specs.Copying.{hand_and_hand, pointer_and_hand}
@@ -18,7 +17,6 @@ use Rattle.heap_calls.specs.Moves.{size_moves, set_handle_size_moves, hand_and_h
 use Rattle.heap_calls.specs.Searches.{found_searches, size_searches, set_handle_size_searches, hand_and_hand_searches}
 use Rattle.heap_calls.specs.Searches.{pointer_and_hand_searches}
 use Rattle.heap_calls.specs.Inner.Appending.{lengthened, bytes_of, length_of}
-use Rattle.heap_calls.specs.Inner.Given.{IsAnswer}
 use Rattle.heap_calls.specs.Inner.Growing.{fitted}
 use Rattle.heap_calls.specs.Inner.GrowingInPlace.{made_zone}
 use Rattle.heap_calls.specs.Inner.Numbered.{Agrees, state_of, memory_of, handle_number, pointer_number}
@@ -30,7 +28,7 @@ use Rattle.heap_calls.proofs.Numbering.Looking.{size_searches-rename, fitted-ren
 use Rattle.heap_calls.proofs.Numbering.MoveNames.{size_moves-rename}
 use Rattle.heap_calls.proofs.Numbering.Numbers.{is_relocatable-number}
 use Rattle.heap_calls.proofs.Numbering.Rebuilding.{TellsNone, not-reached, rebuilt-reply, reached_in, resize-row}
-use Rattle.heap_calls.proofs.Room.MoveCounts.{not-moved, moving-answer, none-reached}
+use Rattle.heap_calls.proofs.Room.MoveCounts.{not-moved, moving-done, none-reached}
 use Rattle.heap_calls.proofs.Sizes.Behind.{either, lengthened-rename, hand-row, hand-searches, hand-moves, slice-row}
 use Rattle.heap_calls.proofs.Sizes.Behind.{slice-searches, slice-moves}
 
@@ -48,26 +46,28 @@ module _ (value : Memory) (zone : List Block) (rest : Rest) (es : List Anchor) (
     (is : memory_of zone rest es log ≡ value) (row : State → Answer (Unit {0})) (looks moves : State → ℕ)
   where
     -- the handle has no block
-    pub nothing-grown : (e : Refusal) (handle : Option ℕ) (es' : List Anchor) → es' ≡ es
-        → Reaches zone rest.slots es' handle (Err e)
+    pub nothing-grown : (code : OsErr) (handle : Option ℕ) (es' : List Anchor) → es' ≡ es
+        → Reaches zone rest.slots es' handle (Err code)
         → ((code : OsErr) → look_up handle (state_of zone rest.slots es) ≡ Err code
         → TellsNone (state_of zone rest.slots es) row looks moves code)
-        → IsAnswer (moving (moves value.heap) (searching (looks value.heap) (silent row value))) (Err e) value
-    nothing-grown e handle es' same none' tells =
-        let none = reached_in zone rest.slots es es' handle (Err e) same none' in
-        not-moved (moves value.heap) (searching (looks value.heap) (silent row value)) e value zone rest es log is
-        (not-reached value zone rest es log is row looks e handle none
+        → moving (moves value.heap) (searching (looks value.heap) (silent row value)) ≡ (Err code, value)
+    nothing-grown code handle es' same none' tells =
+        let none = reached_in zone rest.slots es es' handle (Err code) same none' in
+        not-moved (moves value.heap) (searching (looks value.heap) (silent row value)) code value zone rest es log is
+        (not-reached value zone rest es log is row looks code handle none
         (λ code is. let t = tells code is in (t.row_is, t.searches_is)))
-        (none-reached moves e handle value zone rest es log is none (λ code is. (tells code is).moves_is))
+        (none-reached moves code handle value zone rest es log is none (λ code is. (tells code is).moves_is))
 
     -- the block got the size, or there was no room for it
     pub grown-done : (made : Option (List Block)) (k n : ℕ) → Tells zone rest es row looks moves made k n
         → (zone' : List Block) (rest' : Rest) → KeepsSlots rest rest' → (done : Bool) (seen : ℕ) → seen ≡ k
         → made ≡ made_zone done zone' → (done ≡ false → zone' ≡ zone) → Packs n rest rest'
-        → IsAnswer (moving (moves value.heap) (searching (looks value.heap) (silent row value))) (sized_reply done)
-        (memory_of zone' rest' es (record log { searches = counted log.searches seen }))
+        → moving (moves value.heap) (searching (looks value.heap) (silent row value)) ≡ (
+          sized_reply done,
+          memory_of zone' rest' es (record log { searches = counted log.searches seen }),
+        )
     grown-done made k n tells zone' rest' kept done seen seen_is made_is full packed =
-        moving-answer (moves value.heap) n (searching (looks value.heap) (silent row value)) (sized_reply done) zone'
+        moving-done (moves value.heap) n (searching (looks value.heap) (silent row value)) (sized_reply done) zone'
         rest rest' es (record log { searches = counted log.searches seen })
         (rebuilt-reply value zone rest es log is row looks zone' (unmoved rest rest') (unmoved-is rest rest' kept) seen
         (tells.searches_is ∙ sym seen_is) done made tells.row_is made_is full)

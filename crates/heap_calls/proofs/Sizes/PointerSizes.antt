@@ -4,6 +4,7 @@ use Rattle.std.proofs.lemmas.List.{length-append, length-take, length-replicate}
 use Rattle.std.specs.Option.{IfSome}
 use Rattle.std.specs.Result.{IfOk}
 use Rattle.mac_words.specs.Size.{phys, padded}
+use Rattle.mac_words.specs.declared.code.OsErr.{OsErr}
 use Rattle.mac_words.specs.declared.code.TheConstants.OsErr.{MEM_FULL}
 use Rattle.block_store.specs.Block.{Block, Free, Nonrelocatable, Masters, Relocatable, size, is_nonrelocatable, is_mover, resized}
 use Rattle.block_store.specs.Block.{rename, rename_block}
@@ -14,7 +15,6 @@ use Rattle.block_store.specs.Rest.{Rest, counted}
 use Rattle.heap_calls.specs.Inner.Packed.{KeepsAllButPlaced}
 use Rattle.heap_calls.specs.State.{State, Memory}
 use Rattle.heap_calls.specs.Answer.{Held, nothing, rebuilt, refused, for_found, silent, searching}
-use Rattle.heap_calls.specs.Inner.Given.{IsAnswer}
 use Rattle.heap_calls.specs.Inner.Growing.{fitted}
 use Rattle.heap_calls.specs.Inner.GrowingInPlace.{made_zone}
 use Rattle.heap_calls.specs.Pointers.{pointed_at, set_pointer_size}
@@ -23,8 +23,6 @@ use Rattle.heap_calls.specs.Searches.{size_searches, found_searches, set_pointer
 use Rattle.heap_calls.specs.declared.growing_in_place.Grown.{Grown}
 use Rattle.heap_calls.specs.declared.log.Log.{Log}
 use Rattle.heap_calls.specs.declared.anchor.Anchor.{Anchor}
-use Rattle.heap_calls.specs.declared.refusal.Refusal.{Refusal}
-use Rattle.heap_calls.specs.declared.refusal.Refusal.TheVariants.{Code, HostMemory}
 use Rattle.heap_calls.specs.Inner.Numbered.{state_of, memory_of, handle_number, pointer_number, no_number}
 use Rattle.heap_calls.specs.Inner.Reaching.{sized_reply}
 use Rattle.heap_calls.specs.declared.anchor.Target.{Target}
@@ -87,8 +85,8 @@ pub set_pointer_size-done : (value : Memory) (zone zone' : List Block) (rest res
     → IsHeld zone rest.slots es pointer t → Lone es → t.number < no_number → KeepsAllButPlaced rest rest'
     → searches ≡ size_searches (is_nonrelocatable t.place) nothing n zone
     → fitted (is_nonrelocatable t.place) nothing n zone ≡ made_zone done zone' → (done ≡ false → zone' ≡ zone)
-    → IsAnswer (searching (set_pointer_size_searches pointer n value.heap) (silent (set_pointer_size pointer n) value))
-    (sized_reply done) (memory_of zone' rest' es (record log { searches = counted log.searches searches }))
+    → searching (set_pointer_size_searches pointer n value.heap) (silent (set_pointer_size pointer n) value)
+    ≡ (sized_reply done, memory_of zone' rest' es (record log { searches = counted log.searches searches }))
 set_pointer_size-done value zone zone' rest rest' es log pointer t n searches done is there lone small now looks made
     full =
     rebuilt-reply value zone rest es log is (set_pointer_size pointer n) (set_pointer_size_searches pointer n) zone'
@@ -112,15 +110,14 @@ set_pointer_size-done value zone zone' rest rest' es log pointer t n searches do
     same = is_nonrelocatable-number es t.number t.place there.entry lone small
 
 -- what it answers for a name that is no pointer's
-pub no_pointer : (value : Memory) (zone : List Block) (rest : Rest) (es : List Anchor) (log : Log) (e : Refusal)
-    (pointer : Option ℕ) (n : ℕ) → memory_of zone rest es log ≡ value → target_of pointer es ≡ Err e
-    → IsAnswer (searching (set_pointer_size_searches pointer n value.heap) (silent (set_pointer_size pointer n) value))
-    (Err e) value
-no_pointer value zone rest es log (Code code) pointer n is found =
+pub no_pointer : (value : Memory) (zone : List Block) (rest : Rest) (es : List Anchor) (log : Log) (code : OsErr)
+    (pointer : Option ℕ) (n : ℕ) → memory_of zone rest es log ≡ value → target_of pointer es ≡ Err code
+    → searching (set_pointer_size_searches pointer n value.heap) (silent (set_pointer_size pointer n) value)
+    ≡ (Err code, value)
+no_pointer value zone rest es log code pointer n is found =
     let s = state_of zone rest.slots es in
     let none = pointed_at-refused zone rest.slots es pointer code found in
     not-looked value zone rest es log is (set_pointer_size pointer n) (set_pointer_size_searches pointer n) code
     (ap (λ r. for_found r s (λ (held : Held). cond (is_some (phys n))
     (rebuilt (grow (is_nonrelocatable held.number) nothing n s.zone) s) (refused MEM_FULL s))) none)
     (ap (λ r. found_searches r (λ (held : Held). size_searches (is_nonrelocatable held.number) nothing n s.zone)) none)
-no_pointer value zone rest es log HostMemory pointer n is found = tt

@@ -26,12 +26,10 @@ IsAnswer answer (Ok value) after = answer ≡ (Ok value, after)
 IsAnswer answer (Err (Code code)) after = answer ≡ (Err code, after)
 IsAnswer answer (Err HostMemory) after = Unit {0}
 
--- The result of a method that lends bytes and the state after it are the answer of a definition; nothing is said
--- where the host was out of memory.
-abbrev pub IsShown : {S : Type 0} → Result (List ℕ) OsErr × S → Result (Bor (List ℕ)) Refusal → S → Type 0
+-- The result of a method that lends bytes and the state after it are the answer of a definition.
+abbrev pub IsShown : {S : Type 0} → Result (List ℕ) OsErr × S → Result (Bor (List ℕ)) OsErr → S → Type 0
 IsShown answer (Ok bytes) after = answer ≡ (Ok bytes.now, after)
-IsShown answer (Err (Code code)) after = answer ≡ (Err code, after)
-IsShown answer (Err HostMemory) after = Unit {0}
+IsShown answer (Err code) after = answer ≡ (Err code, after)
 
 -- All but the blocks of the zone and the count of moves is what it was.
 abbrev pub KeepsNames : Memory → Memory → Type 0
@@ -54,26 +52,25 @@ found number slot guarded = record { number = number; slot = slot; guarded = gua
 
 -- The slot of a handle's entry; -109 (nilHandleErr) where the number was never given, -111 (memWZErr) where it is a
 -- pointer's or was disposed of.
-abbrev pub slot_at : ℕ → Option Anchor → Result Found Refusal
-slot_at h None = Err (Code NIL_HANDLE)
+abbrev pub slot_at : ℕ → Option Anchor → Result Found OsErr
+slot_at h None = Err NIL_HANDLE
 slot_at h (Some (entry.Handle slot guarded)) = Ok (found h slot guarded)
-slot_at h (Some (entry.Pointer place)) = Err (Code WRONG_ZONE)
-slot_at h (Some entry.Disposed) = Err (Code WRONG_ZONE)
+slot_at h (Some (entry.Pointer place)) = Err WRONG_ZONE
+slot_at h (Some entry.Disposed) = Err WRONG_ZONE
 
 -- The slot of the handle that a name is bound to; -109 (nilHandleErr) where the name is unbound.
-abbrev pub slot_of : Option ℕ → List Anchor → Result Found Refusal
-slot_of None es = Err (Code NIL_HANDLE)
+abbrev pub slot_of : Option ℕ → List Anchor → Result Found OsErr
+slot_of None es = Err NIL_HANDLE
 slot_of (Some h) es = slot_at h (slice_get es h)
 
 -- The store's place of the block of a handle, or the code that says why there is none.
-abbrev pub FindsBlock : List Block → (ℕ → Slot) → List Anchor → Option ℕ → Result ℕ Refusal → Type 0
+abbrev pub FindsBlock : List Block → (ℕ → Slot) → List Anchor → Option ℕ → Result ℕ OsErr → Type 0
 FindsBlock zone slots es handle (Ok place) =
     (h : ℕ) × (s : Spot) × (look_up handle (state_of zone slots es)
     ≡ Ok (record { number = h; at = rename_spot (handle_number es) (pointer_number es) s }))
     × (spot_at place zone ≡ Some s) × (sizes s.below ≡ place)
     × (place + HEADER_SIZE + length (content_of s.here) ≤ GREATEST_ZONE)
-FindsBlock zone slots es handle (Err (Code code)) = look_up handle (state_of zone slots es) ≡ Err code
-FindsBlock zone slots es handle (Err HostMemory) = ⊥
+FindsBlock zone slots es handle (Err code) = look_up handle (state_of zone slots es) ≡ Err code
 
 -- The flags of a block, as it is seen; `None` unless it is a relocatable block.
 abbrev pub seen_flags : Option Seen → Option Flags

@@ -16,8 +16,6 @@ use Rattle.heap_calls.specs.Moves.{put_moves}
 use Rattle.heap_calls.specs.Searches.{room_searches}
 use Rattle.heap_calls.specs.Inner.Numbered.{no_number, role_of, state_of}
 use Rattle.heap_calls.specs.declared.search.Room.{Room}
-use Rattle.heap_calls.specs.declared.refusal.Refusal.{Refusal}
-use Rattle.heap_calls.specs.declared.refusal.Refusal.TheVariants.{Code, HostMemory}
 use Rattle.heap_calls.specs.declared.anchor.Anchor.{Anchor}
 use Rattle.heap_calls.specs.declared.anchor.Anchor.TheVariants as entry
 
@@ -44,13 +42,12 @@ abbrev pub loose_at : Option ℕ → State → Result Known OsErr
 loose_at handle s = loose (handle_at handle s) s.zone
 
 -- The slot of that handle, or the code that says why there is none.
-abbrev pub FindsLoose : List Block → (ℕ → Slot) → List Anchor → Option ℕ → Result ℕ Refusal → Type 0
+abbrev pub FindsLoose : List Block → (ℕ → Slot) → List Anchor → Option ℕ → Result ℕ OsErr → Type 0
 FindsLoose zone slots es handle (Ok slot) =
     (h : ℕ) × (guarded : Bool)
     × (loose_at handle (state_of zone slots es) ≡ Ok (record { number = h; role = role_of (slots slot) guarded }))
     × (slice_get es h ≡ Some (entry.Handle slot guarded)) × (h < no_number)
-FindsLoose zone slots es handle (Err (Code code)) = loose_at handle (state_of zone slots es) ≡ Err code
-FindsLoose zone slots es handle (Err HostMemory) = ⊥
+FindsLoose zone slots es handle (Err code) = loose_at handle (state_of zone slots es) ≡ Err code
 
 -- The zone with a new block of n bytes, all 0, in place of the block of a name; `None` where there is no room or no
 -- block can have that size.

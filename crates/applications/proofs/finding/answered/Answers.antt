@@ -16,7 +16,7 @@ use Rattle.res_calls.specs.Asked.{GetResInfo}
 use Rattle.res_calls.specs.Places.{seen_info}
 use Rattle.res_calls.proofs.Walks.Laws.{served-files}
 use Rattle.applications.proofs.Filing.{answered_keeps, on_any_err}
-use Rattle.applications.proofs.Arms.{by_three, arm_told, arm_after, arm_purged}
+use Rattle.applications.proofs.Arms.{by_three, arm_told, arm_after, arm_hears}
 use Rattle.applications.proofs.finding.answered.Goals as goal
 
 pub returns-in-CreateResFile-clause-told : goal.returns-in-CreateResFile-clause-told
@@ -246,23 +246,24 @@ returns-in-GetResInfo-clause-files g c =
     (served-files (GetResInfo c.number-in-GetResInfo.result) (managers c.args.resources.now c.args.heap.now.memory)
     refl))
 
-pub returns-in-GetResource-clause-purged : goal.returns-in-GetResource-clause-purged
-returns-in-GetResource-clause-purged g c =
+pub returns-in-GetResource-clause-hears : goal.returns-in-GetResource-clause-hears
+returns-in-GetResource-clause-hears g c =
     let fits : FitsSigned w16 c.in-GetResource.id = search rules in
-    arm_purged c.fetched.result c.args.call.now _ c.args.names.now (managers c.args.resources.now
+    arm_hears c.fetched.result c.args.call.now _ c.args.names.now (managers c.args.resources.now
     c.args.heap.now.memory)
-    g.K.PurgeSink.listens g.K.PurgeSink.told c.args.sink.now c.get_resource.new.sink _ c.fetched.ensures.host
-    c.get_resource.ensures.told
+    g.K.PurgeSink.told g.K.PurgeSink.waits g.K.PurgeSink.listens c.args.sink.now c.get_resource.new.sink _
+    c.fetched.ensures.host c.get_resource.ensures.hears
     (ap (λ (i : ℤ). gone_for (asks.GetResource (big_number 4 c.in-GetResource.ty.0) i)
     (managers c.args.resources.now c.args.heap.now.memory)) (to_z-of_z w16 c.in-GetResource.id fits))
     c.in-GetResource.is
 
-pub returns-in-Get1Resource-clause-purged : goal.returns-in-Get1Resource-clause-purged
-returns-in-Get1Resource-clause-purged g c =
+pub returns-in-Get1Resource-clause-hears : goal.returns-in-Get1Resource-clause-hears
+returns-in-Get1Resource-clause-hears g c =
     let fits : FitsSigned w16 c.in-Get1Resource.id = search rules in
-    arm_purged c.fetched-in-Get1Resource.result c.args.call.now _ c.args.names.now
-    (managers c.args.resources.now c.args.heap.now.memory) g.K.PurgeSink.listens g.K.PurgeSink.told c.args.sink.now
-    c.get1_resource.new.sink _ c.fetched-in-Get1Resource.ensures.host c.get1_resource.ensures.told
+    arm_hears c.fetched-in-Get1Resource.result c.args.call.now _ c.args.names.now
+    (managers c.args.resources.now c.args.heap.now.memory) g.K.PurgeSink.told g.K.PurgeSink.waits
+    g.K.PurgeSink.listens c.args.sink.now c.get1_resource.new.sink _ c.fetched-in-Get1Resource.ensures.host
+    c.get1_resource.ensures.hears
     (ap (λ (i : ℤ). gone_for (asks.Get1Resource (big_number 4 c.in-Get1Resource.ty.0) i)
     (managers c.args.resources.now c.args.heap.now.memory)) (to_z-of_z w16 c.in-Get1Resource.id fits))
     c.in-Get1Resource.is

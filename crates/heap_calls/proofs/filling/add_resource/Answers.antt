@@ -5,7 +5,6 @@ use Rattle.heap_calls.specs.Gone.{Tells, made_gone}
 use Rattle.heap_calls.specs.Inside.{new_filled, new_inside}
 use Rattle.heap_calls.specs.Searches.{new_handle_searches}
 use Rattle.heap_calls.specs.Moves.{new_handle_moves}
-use Rattle.heap_calls.specs.Inner.Given.{IsAnswer}
 use Rattle.heap_calls.specs.Inner.Naming.{entered, number_of}
 use Rattle.heap_calls.specs.Inner.Numbered.{memory_of}
 use Rattle.heap_calls.proofs.Filled.Named.{filled-names}
@@ -36,11 +35,13 @@ made g c o is =
 
 -- the answer, with no role as yet
 plain : (g : Over) (c : After-count g) (o : Option ℕ) → c.in_ok-made.made.slot ≡ o
-    → IsAnswer (new_inside Plain c.args.flags c.args.bytes.now
+    → new_inside Plain c.args.flags c.args.bytes.now
     (memory_of (g.S.BlockStore.zone c.args.store.now) (g.S.BlockStore.rest c.args.store.now) c.args.names.now.items
-    c.args.log.now)) (number_of o c.args.names.now.items)
-    (memory_of (g.S.BlockStore.zone c.fill_block.new.store) (g.S.BlockStore.rest c.fill_block.new.store)
-    (entered o c.args.names.now.items) c.count.new.self)
+    c.args.log.now) ≡ (
+      number_of o c.args.names.now.items,
+      memory_of (g.S.BlockStore.zone c.fill_block.new.store) (g.S.BlockStore.rest c.fill_block.new.store)
+          (entered o c.args.names.now.items) c.count.new.self,
+    )
 plain g c o is =
     let store = c.args.store.now in
     let zone = g.S.BlockStore.zone store in
@@ -107,7 +108,7 @@ tells g c listens =
     made-told g.K.PurgeSink.told _ (g.S.BlockStore.zone c.args.store.now) (g.S.BlockStore.rest c.args.store.now)
     c.args.names.now.items c.deref.result.now c.args.log.now (g.met.S.BlockStore.masters c.args.store.now) refl
     c.requires.agrees c.deref.ensures.value c.args.sink.now c.fill_block.new.sink c.args.bytes.now
-    (c.in_ok-made.ensures.told listens)
+    (c.in_ok-made.ensures.hears.tells refl listens)
 
 pub returns-in_default-clause-told : goal.returns-in_default-clause-told
 returns-in_default-clause-told g c = tells g (goal.at.returns-in_default-clause-told g c).After-count

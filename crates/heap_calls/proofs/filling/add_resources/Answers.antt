@@ -36,8 +36,8 @@ loop-filling-preserved g c =
         c.push_reserved.ensures.len,
         c.push_reserved.ensures.capacity,
       );
-      idle = c.add_resource.ensures.idle;
-      listens = c.add_resource.ensures.listens ∙ l.invariant.listens;
+      idle = c.add_resource.ensures.rests.idle;
+      listens = c.add_resource.ensures.rests.same ∙ l.invariant.listens;
       lies = c.add_resource.ensures.lies ∙ l.invariant.lies;
       capacity = c.add_resource.ensures.capacity ∙ l.invariant.capacity;
       reserved = c.add_resource.ensures.reserved ∙ l.invariant.reserved;

@@ -11,6 +11,10 @@ returns-clause-heap g c all = loaded_memory c.args.file.now.references c.args.he
     c.make_told.new.heap.memory
     c.make_told.new.numbers.items (c.in_ok-whole.ensures.all all)
 
-pub returns-clause-told : goal.returns-clause-told
-returns-clause-told g c all listens = tells_loaded g.K.PurgeSink.told c.args.file.now.references c.args.heap.now.memory
-    c.args.sink.now c.make_told.new.sink (c.in_ok-whole.ensures.told all listens)
+pub returns-clause-hears : goal.returns-clause-hears
+returns-clause-hears g c = record {
+  tells = λ all listens.
+      tells_loaded g.K.PurgeSink.told c.args.file.now.references c.args.heap.now.memory
+      c.args.sink.now c.make_told.new.sink (c.in_ok-whole.ensures.hears.tells all listens);
+  rests = c.in_ok-whole.ensures.hears.rests;
+}

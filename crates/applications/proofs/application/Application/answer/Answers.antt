@@ -33,7 +33,7 @@ returns-clause-after g c =
     (record r { memory = c.answered-tried.new.heap.memory })
     (record r { memory = (served (asked c.args.call.now r.names) r.memory).1 })
     (c.new-purges.ensures ∙ ap (λ on. record { on = on; told = []; offered = [] }) c.purging.ensures)
-    c.answered-tried.ensures.listens c.answered-tried.ensures.purged c.into_told.ensures
+    c.answered-tried.ensures.hears.rests.same c.answered-tried.ensures.hears.tells c.into_told.ensures
     (on_ok-ap c.answered-tried.result (λ m. record r { memory = m }) _ _ c.answered-tried.ensures.after)))
 
 pub returns-clause-files : goal.returns-clause-files

@@ -28,7 +28,7 @@ returns-clause-after g c =
     (segment_tried (served c.args.call.now (program_of c.args.self.now)) c.args.self.now).after
     (c.new-purges.ensures ∙ ap (λ on. record { on = on; told = []; offered = [] })
     (c.purging.ensures ∙ ap (λ (r : Running). r.resources.purging) c.self.view_is))
-    c.answer_segment-tried.ensures.listens c.answer_segment-tried.ensures.purged c.into_told.ensures
+    c.answer_segment-tried.ensures.hears.rests.same c.answer_segment-tried.ensures.hears.tells c.into_told.ensures
     (subst (λ (x : Running). OnOk c.answer_segment-tried.result (x ≡ (segment_tried (served c.args.call.now (program_of c.args.self.now)) c.args.self.now).after)) (sym c.self-2.view_is) c.answer_segment-tried.ensures.after))
 
 pub returns-clause-files : goal.returns-clause-files

@@ -1,13 +1,15 @@
-use Rattle.std.proofs.Common.{is_some, sym, ◌∙◌, refl}
+use Rattle.std.proofs.Common.{◌≡◌, is_some, sym, ◌∙◌, refl}
+use Rattle.std.proofs.lemmas.Result.{err_from_is_err_and}
+use Rattle.heap_calls.specs.Answer.{silent, searching}
 use Rattle.heap_calls.specs.Pointers.{add_masters}
 use Rattle.heap_calls.specs.Searches.{more_masters_searches}
 use Rattle.heap_calls.proofs.NewBlocks.Naming.{Ends, masters-ends, served-looking}
 use Rattle.heap_calls.proofs.NewBlocks.NewHandles.{agrees-more, kept-still}
 use Rattle.heap_calls.proofs.NewBlocks.Reserving.{masters_searches-is}
-use Rattle.heap_calls.proofs.Numbering.PurgeTrials.{served_answer}
-use Rattle.heap_calls.proofs.Numbering.Memories.{memory_as}
+use Rattle.heap_calls.proofs.Numbering.Memories.{memory_as, reply-as}
+use Rattle.heap_calls.specs.Inner.Reaching.{sized_reply}
 use Rattle.heap_calls.proofs.heap.Heap.add_masters.Given.{Over}
-use Rattle.heap_calls.proofs.heap.Heap.add_masters.Goals.{In_ok-room}
+use Rattle.heap_calls.proofs.heap.Heap.add_masters.Goals.{In_ok-room, After-account}
 use Rattle.heap_calls.proofs.heap.Heap.add_masters.Goals as goal
 
 pub invariant_of-self : goal.invariant_of-self
@@ -27,7 +29,7 @@ returns-in_err-room-clause-kept g c host =
 
 made : (g : Over) (c : In_ok-room g) → Ends add_masters (g.S.BlockStore.zone c.self.inside.store)
     (g.S.BlockStore.rest c.self.inside.store) c.self.inside.names.items
-    (served_answer (is_some c.in_ok-room.room.place)) (g.S.BlockStore.zone c.make_masters.new.store)
+    (sized_reply (is_some c.in_ok-room.room.place)) (g.S.BlockStore.zone c.make_masters.new.store)
     (g.S.BlockStore.rest c.make_masters.new.store) c.self.inside.names.items
 made g c = masters-ends _ _ _ (g.met.S.BlockStore.masters c.self.inside.store) c.self.invariant _ _
     c.make_masters.ensures.nonrelocatable c.in_ok-room.room.place c.in_ok-room.ensures.made
@@ -35,13 +37,31 @@ made g c = masters-ends _ _ _ (g.met.S.BlockStore.masters c.self.inside.store) c
 pub invariant_of-self-2 : goal.invariant_of-self-2
 invariant_of-self-2 g c = (made g (goal.at.invariant_of-self-2 g c).In_ok-room).agrees
 
-pub returns-clause-answer : goal.returns-clause-answer
-returns-clause-answer g c =
+-- what the call answers where the host has memory
+told : (g : Over) (c : After-account g) → Ends add_masters (g.S.BlockStore.zone c.self.inside.store)
+    (g.S.BlockStore.rest c.self.inside.store) c.self.inside.names.items
+    (sized_reply (is_some c.in_ok-room.room.place)) (g.S.BlockStore.zone c.make_masters.new.store)
+    (g.S.BlockStore.rest c.make_masters.new.store) c.self.inside.names.items
+    → searching (more_masters_searches c.args.self.now.memory.heap) (silent add_masters c.args.self.now.memory)
+    ≡ (c.account.result, c.account.new.self.memory)
+told g c ends =
     let a = c.self.inside in
     rw (c.account.ensures.reply, c.account.ensures.counted, c.is_some.ensures)
     (served-looking add_masters more_masters_searches c.args.self.now.memory (g.S.BlockStore.zone a.store) _
     (g.S.BlockStore.rest a.store) (g.S.BlockStore.rest c.make_masters.new.store) a.names.items a.log
     (is_some c.in_ok-room.room.place) (memory_as c.self.view_is)
-    (made g (goal.at.returns-clause-answer g c).In_ok-room) c.in_ok-room.room.searches
+    ends c.in_ok-room.room.searches
     (c.in_ok-room.ensures.searches ∙ sym (masters_searches-is _ _ _ (g.met.S.BlockStore.masters a.store)
     c.self.invariant)) c.make_masters.ensures.moves)
+
+pub returns-in_err-account-clause-answer : goal.returns-in_err-account-clause-answer
+returns-in_err-account-clause-answer g c =
+    let p = err_from_is_err_and c.from_residual-in_err-account.result c.from_residual-in_err-account.ensures.1 in
+    rw (p.1, p.2) (reply-as (told g (goal.at.returns-in_err-account-clause-answer g c).After-account
+    (made g (goal.at.returns-in_err-account-clause-answer g c).In_ok-room))
+    c.in_err-account.was)
+
+pub returns-clause-answer : goal.returns-clause-answer
+returns-clause-answer g c =
+    reply-as (told g (goal.at.returns-clause-answer g c).After-account
+    (made g (goal.at.returns-clause-answer g c).In_ok-room)) c.in_ok-account.was

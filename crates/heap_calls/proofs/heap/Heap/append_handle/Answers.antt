@@ -1,5 +1,6 @@
-use Rattle.std.proofs.Common.{Ok}
+use Rattle.std.proofs.Common.{◌≡◌, Ok}
 use Rattle.std.proofs.lemmas.Result.{err_from_is_err_and}
+use Rattle.heap_calls.specs.Answer.{silent, searching, moving}
 use Rattle.heap_calls.specs.Copying.{hand_and_hand}
 use Rattle.heap_calls.specs.Inner.Reaching.{Reaches}
 use Rattle.heap_calls.specs.Moves.{hand_and_hand_moves}
@@ -9,9 +10,9 @@ use Rattle.heap_calls.proofs.Numbering.Changing.{agrees-kept}
 use Rattle.heap_calls.proofs.Sizes.Behind.{hand-none, hand-nowhere}
 use Rattle.heap_calls.proofs.Sizes.Grown.{nothing-grown, grown-done, hand-tells}
 use Rattle.heap_calls.proofs.Numbering.Reserved.{fits-same}
-use Rattle.heap_calls.proofs.Numbering.Memories.{memory_as}
+use Rattle.heap_calls.proofs.Numbering.Memories.{memory_as, reply-as}
 use Rattle.heap_calls.proofs.heap.Heap.append_handle.Given.{Over}
-use Rattle.heap_calls.proofs.heap.Heap.append_handle.Goals.{In_ok-source}
+use Rattle.heap_calls.proofs.heap.Heap.append_handle.Goals.{In_ok-source, After-account}
 use Rattle.heap_calls.proofs.heap.Heap.append_handle.Goals as goal
 
 -- where the bytes come from
@@ -44,11 +45,15 @@ returns-in_err-held-clause-answer g c =
     c.args.to _ c.deref-2.ensures.value c.in_err-held.ensures
     (λ code. hand-nowhere c.args.from c.args.to _ _ code from.1))
 
-pub returns-clause-answer : goal.returns-clause-answer
-returns-clause-answer g c =
+-- what the call answers where both handles have a block
+told : (g : Over) (c : After-account g) → Reaches (g.S.BlockStore.zone c.self.inside.store)
+    (g.S.BlockStore.rest c.self.inside.store).slots c.self.inside.names.items c.args.from (Ok c.in_ok-source.source)
+    → moving (hand_and_hand_moves c.args.from c.args.to c.args.self.now.memory.heap)
+    (searching (hand_and_hand_searches c.args.from c.args.to c.args.self.now.memory.heap) (silent (hand_and_hand c.args.from c.args.to) c.args.self.now.memory))
+    ≡ (c.account.result, c.account.new.self.memory)
+told g c from =
     let a = c.self.inside in
     let rest = g.S.BlockStore.rest a.store in
-    let from = source g (goal.at.returns-clause-answer g c).In_ok-source in
     let to = reached_in (g.S.BlockStore.zone a.store) rest.slots a.names.items _ c.args.to (Ok c.in_ok-held.held)
     c.deref-2.ensures.value c.in_ok-held.ensures in
     let tells = hand-tells _ rest _ c.self.invariant c.args.from c.args.to c.in_ok-source.source c.in_ok-held.held from
@@ -58,6 +63,18 @@ returns-clause-answer g c =
     _ (g.S.BlockStore.rest c.append_block.new.store) c.in_ok-grown.ensures.rest c.in_ok-grown.grown.done
     c.in_ok-grown.grown.searches c.in_ok-grown.ensures.searches c.in_ok-grown.ensures.zone
     c.in_ok-grown.ensures.full c.append_block.ensures.moves)
+
+pub returns-in_err-account-clause-answer : goal.returns-in_err-account-clause-answer
+returns-in_err-account-clause-answer g c =
+    let p = err_from_is_err_and c.from_residual-in_err-account.result c.from_residual-in_err-account.ensures.1 in
+    rw (p.1, p.2) (reply-as (told g (goal.at.returns-in_err-account-clause-answer g c).After-account
+    (source g (goal.at.returns-in_err-account-clause-answer g c).In_ok-source))
+    c.in_err-account.was)
+
+pub returns-clause-answer : goal.returns-clause-answer
+returns-clause-answer g c =
+    reply-as (told g (goal.at.returns-clause-answer g c).After-account
+    (source g (goal.at.returns-clause-answer g c).In_ok-source)) c.in_ok-account.was
 
 pub invariant_of-self-2 : goal.invariant_of-self-2
 invariant_of-self-2 g c = agrees-kept _ _ _ _ _ c.self.invariant c.append_block.ensures.nonrelocatable

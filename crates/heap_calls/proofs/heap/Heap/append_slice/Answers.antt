@@ -1,5 +1,6 @@
-use Rattle.std.proofs.Common.{Ok}
+use Rattle.std.proofs.Common.{◌≡◌, Ok}
 use Rattle.std.proofs.lemmas.Result.{err_from_is_err_and}
+use Rattle.heap_calls.specs.Answer.{silent, searching, moving}
 use Rattle.heap_calls.specs.Copying.{pointer_and_hand}
 use Rattle.heap_calls.specs.Moves.{pointer_and_hand_moves}
 use Rattle.heap_calls.specs.Searches.{pointer_and_hand_searches}
@@ -8,7 +9,9 @@ use Rattle.heap_calls.proofs.Numbering.Changing.{agrees-kept}
 use Rattle.heap_calls.proofs.Sizes.Behind.{slice-none}
 use Rattle.heap_calls.proofs.Sizes.Grown.{nothing-grown, grown-done, slice-tells}
 use Rattle.heap_calls.proofs.Numbering.Reserved.{fits-same}
-use Rattle.heap_calls.proofs.Numbering.Memories.{memory_as}
+use Rattle.heap_calls.proofs.Numbering.Memories.{memory_as, reply-as}
+use Rattle.heap_calls.proofs.heap.Heap.append_slice.Given.{Over}
+use Rattle.heap_calls.proofs.heap.Heap.append_slice.Goals.{After-account}
 use Rattle.heap_calls.proofs.heap.Heap.append_slice.Goals as goal
 
 pub returns-in_err-held-clause-answer : goal.returns-in_err-held-clause-answer
@@ -25,8 +28,11 @@ returns-in_err-held-clause-answer g c =
 pub invariant_of-self : goal.invariant_of-self
 invariant_of-self g c = agrees-kept _ _ _ _ _ c.self.invariant c.append_bytes.ensures.nonrelocatable c.append_bytes.ensures.rest
 
-pub returns-clause-answer : goal.returns-clause-answer
-returns-clause-answer g c =
+-- what the call answers where the handle has a block
+told : (g : Over) (c : After-account g) → moving (pointer_and_hand_moves c.args.handle c.args.bytes.now c.args.self.now.memory.heap)
+    (searching (pointer_and_hand_searches c.args.handle c.args.bytes.now c.args.self.now.memory.heap) (silent (pointer_and_hand c.args.handle c.args.bytes.now) c.args.self.now.memory))
+    ≡ (c.account.result, c.account.new.self.memory)
+told g c =
     let a = c.self.inside in
     let rest = g.S.BlockStore.rest a.store in
     let held = c.in_ok-held.held in
@@ -38,6 +44,16 @@ returns-clause-answer g c =
     _ (g.S.BlockStore.rest c.append_bytes.new.store) c.in_ok-grown.ensures.rest c.in_ok-grown.grown.done
     c.in_ok-grown.grown.searches c.in_ok-grown.ensures.searches c.in_ok-grown.ensures.zone
     c.in_ok-grown.ensures.full c.append_bytes.ensures.moves)
+
+pub returns-in_err-account-clause-answer : goal.returns-in_err-account-clause-answer
+returns-in_err-account-clause-answer g c =
+    let p = err_from_is_err_and c.from_residual-in_err-account.result c.from_residual-in_err-account.ensures.1 in
+    rw (p.1, p.2) (reply-as (told g (goal.at.returns-in_err-account-clause-answer g c).After-account)
+    c.in_err-account.was)
+
+pub returns-clause-answer : goal.returns-clause-answer
+returns-clause-answer g c =
+    reply-as (told g (goal.at.returns-clause-answer g c).After-account) c.in_ok-account.was
 
 pub invariant_of-self-2 : goal.invariant_of-self-2
 invariant_of-self-2 g c = agrees-kept _ _ _ _ _ c.self.invariant c.append_bytes.ensures.nonrelocatable

@@ -1,25 +1,25 @@
 use Rattle.std.proofs.Common.{◌≡◌, sym, ◌∙◌, ap, Ok, Err}
 use Rattle.std.proofs.lemmas.Result.{err_from_is_err_and}
 use Rattle.block_store.specs.Block.{content_of}
-use Rattle.heap_calls.proofs.Numbering.Answering.{not_shown_for, on_found, found_in, at_place, content_of-rename}
+use Rattle.heap_calls.proofs.Numbering.Answering.{refused_for, on_found, found_in, at_place, content_of-rename}
 use Rattle.heap_calls.proofs.Numbering.Memories.{memory_as}
 use Rattle.heap_calls.proofs.heap.Heap.block_bytes.Goals as goal
 
-pub returns-in_err-place-clause-answer : goal.returns-in_err-place-clause-answer
-returns-in_err-place-clause-answer g c =
+pub returns-in_err-place : goal.returns-in_err-place
+returns-in_err-place g c =
     let p = err_from_is_err_and c.from_residual.result c.from_residual.ensures.1 in
     let a = c.self.inside in
     let found = found_in (g.S.BlockStore.zone a.store) (g.S.BlockStore.rest a.store).slots a.names.items _ c.args.handle
     (Err c.in_err-place.field-0.0) c.deref.ensures.value c.in_err-place.ensures in
-    rw (p.1, p.2) (not_shown_for c.in_err-place.field-0.0 (g.S.BlockStore.zone a.store) (g.S.BlockStore.rest a.store)
+    rw (p.1, p.2) (refused_for c.in_err-place.field-0.0 (g.S.BlockStore.zone a.store) (g.S.BlockStore.rest a.store)
     a.names.items a.log c.args.handle c.args.self.now.memory (memory_as c.self.view_is) found (λ s k. (
       Ok (content_of
           k.at.here),
       s,
     )))
 
-pub returns-clause-answer : goal.returns-clause-answer
-returns-clause-answer g c =
+pub returns : goal.returns
+returns g c =
     let a = c.self.inside in
     let found = found_in (g.S.BlockStore.zone a.store) (g.S.BlockStore.rest a.store).slots a.names.items _ c.args.handle
     (Ok c.in_ok-place.place) c.deref.ensures.value c.in_ok-place.ensures in

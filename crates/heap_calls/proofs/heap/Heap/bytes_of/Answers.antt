@@ -28,10 +28,10 @@ overflow_cast-result g c =
     let n : length c.bytes.result.now ≡ length (content_of there.s.here) = ap length bytes in
     omega (arith, there.few, g.met.S.BlockStore.small store)
 
-pub returns-clause-answer : goal.returns-clause-answer
-returns-clause-answer g c =
+pub returns : goal.returns
+returns g c =
     let a = c.self.inside in
     bytes-told length (g.S.BlockStore.zone a.store) (g.S.BlockStore.rest a.store) a.names.items a.log
     c.args.self.now.memory
     c.args.pointer c.in_ok-target.target c.bytes.result.now (memory_as c.self.view_is)
-    (target g (goal.at.returns-clause-answer g c).In_ok-target) c.bytes.ensures
+    (target g (goal.at.returns g c).In_ok-target) c.bytes.ensures

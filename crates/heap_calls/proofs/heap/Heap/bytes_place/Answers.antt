@@ -8,8 +8,8 @@ use Rattle.block_store.specs.Block.{sizes}
 use Rattle.heap_calls.proofs.Numbering.Memories.{memory_as}
 use Rattle.heap_calls.proofs.heap.Heap.bytes_place.Goals as goal
 
-pub returns-in_err-place-clause-answer : goal.returns-in_err-place-clause-answer
-returns-in_err-place-clause-answer g c =
+pub returns-in_err-place : goal.returns-in_err-place
+returns-in_err-place g c =
     let p = err_from_is_err_and c.from_residual.result c.from_residual.ensures.1 in
     let a = c.self.inside in
     let found = found_by (block_named c.args.name) (g.S.BlockStore.zone a.store) (g.S.BlockStore.rest a.store).slots
@@ -18,8 +18,8 @@ returns-in_err-place-clause-answer g c =
     (g.S.BlockStore.rest a.store) a.names.items a.log c.args.self.now.memory (memory_as c.self.view_is) found
     (λ s k. (Ok (sizes k.at.below + 16), s)))
 
-pub returns-clause-answer : goal.returns-clause-answer
-returns-clause-answer g c =
+pub returns : goal.returns
+returns g c =
     let a = c.self.inside in
     let found = found_by (block_named c.args.name) (g.S.BlockStore.zone a.store) (g.S.BlockStore.rest a.store).slots
     a.names.items _ (Ok c.in_ok-place.place) c.deref.ensures.value c.in_ok-place.ensures in

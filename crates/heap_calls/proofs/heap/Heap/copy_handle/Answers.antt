@@ -1,16 +1,20 @@
+use Rattle.heap_calls.specs.Inner.Given.{KeepsNames}
+use Rattle.std.proofs.lemmas.List.{length-map}
+use Rattle.heap_calls.specs.Inner.Numbered.{name_of}
+use Rattle.std.proofs.Common.{refl}
 use Rattle.std.proofs.Common.{◌≡◌, List, length, sym, ◌∙◌, ap, arith, inl, inr, Some, slice_get, subst}
+use Rattle.heap_calls.proofs.Hearing.{hears-as, hears-none, stops-at-once, stops-on-the-way}
 use Rattle.heap_calls.proofs.Numbering.Reserved.{fits-same}
 use Rattle.block_store.specs.Block.{rename}
 use Rattle.block_store.specs.declared.sparing.Sparing.TheVariants.{One}
 use Rattle.heap_calls.specs.declared.anchor.Anchor.{Anchor}
 use Rattle.heap_calls.specs.State.{Memory}
-use Rattle.heap_calls.specs.Answer.{look_up}
-use Rattle.heap_calls.specs.Gone.{Gone, Tells, copy_slot_gone, hand_to_hand_gone}
+use Rattle.heap_calls.specs.Answer.{look_up, silent, searching, moving}
+use Rattle.heap_calls.specs.Gone.{Gone, Tells, copy_slot_gone, hand_to_hand_gone, Hears}
 use Rattle.heap_calls.specs.Refused.{copying_zone}
 use Rattle.heap_calls.specs.Inner.Numbered.{memory_of, handle_number, pointer_number}
 use Rattle.heap_calls.specs.Inner.Telling.{zone_slot_gone, new_gone}
 use Rattle.heap_calls.proofs.GoneCopies.{copy_gone-is, copy_gone-none, copy_gone-nil, copy_slot_gone-is, copying_zone-is}
-use Rattle.heap_calls.proofs.GoneForSizes.{tells-none}
 use Rattle.heap_calls.proofs.Numbering.Changing.{memory-same}
 use Rattle.heap_calls.proofs.NewBlocks.NewHandles.{kept-still}
 use Rattle.heap_calls.specs.declared.anchor.Anchor.TheVariants.{Handle}
@@ -26,10 +30,17 @@ use Rattle.heap_calls.proofs.NewBlocks.CopiedHandles.{not_found-still}
 use Rattle.heap_calls.proofs.NewBlocks.Naming.{Names, Copied, copy-names, copied_searches-is, copied_moves-is}
 use Rattle.heap_calls.proofs.NewBlocks.Naming.{named-packing}
 use Rattle.heap_calls.proofs.Room.MoveCounts.{not-moved}
-use Rattle.heap_calls.proofs.Numbering.Memories.{memory_as, placings_as, counted_as}
+use Rattle.heap_calls.proofs.Numbering.Memories.{memory_as, reply-as, placings_as, counted_as}
 use Rattle.heap_calls.proofs.heap.Heap.copy_handle.Given.{Over}
-use Rattle.heap_calls.proofs.heap.Heap.copy_handle.Goals.{After-bytes, In_ok-found, In_ok-made}
+use Rattle.heap_calls.proofs.heap.Heap.copy_handle.Goals.{After-bytes, In_ok-found, After-name_handle}
 use Rattle.heap_calls.proofs.heap.Heap.copy_handle.Goals as goal
+
+pub returns-in_err-reserve-clause-stops : goal.returns-in_err-reserve-clause-stops
+returns-in_err-reserve-clause-stops g c host =
+    stops-at-once g.S.BlockStore.TAKES_HOST g.K.PurgeSink.told g.K.PurgeSink.listens KeepsNames _ _ c.args.self.now _ c.args.sink.now (λ m. refl)
+    (rw c.reserve.ensures.items c.self.view_is)
+    (rw (← c.self.view_is) (let full = c.in_err-reserve.ensures.full in let fits = c.self.inside.fits in
+    omega (arith, length-map c.self.inside.names.items (name_of (g.S.BlockStore.rest c.self.inside.store).slots))))
 
 pub returns-in_err-found-clause-answer : goal.returns-in_err-found-clause-answer
 returns-in_err-found-clause-answer g c =
@@ -83,7 +94,7 @@ source g c =
       few = omega (arith, few, long);
     }
 
-made : (g : Over) (c : In_ok-made g) → Copied (g.S.BlockStore.zone c.self.inside.store) c.self.inside.names.items
+made : (g : Over) (c : After-name_handle g) → Copied (g.S.BlockStore.zone c.self.inside.store) c.self.inside.names.items
     c.args.handle c.in_ok-found.found (length c.bytes.result.now)
     → Names (hand_to_hand c.args.handle) (g.S.BlockStore.zone c.self.inside.store)
     (g.S.BlockStore.rest c.self.inside.store) c.self.inside.names.items c.in_ok-made.made.slot
@@ -95,47 +106,58 @@ made g c from =
 pub overflow_cast-size : goal.overflow_cast-size
 overflow_cast-size g c = let few = (source g c).few in omega arith
 
-pub returns-in_err-reserve-clause-host : goal.returns-in_err-reserve-clause-host
-returns-in_err-reserve-clause-host g c host = inr (inl (rw c.reserve.ensures.items c.self.view_is))
-
-pub returns-in_err-made-clause-kept : goal.returns-in_err-made-clause-kept
-returns-in_err-made-clause-kept g c host =
-    let a = c.self.inside in
-    kept-memory c.args.self.now.memory _ _ (g.S.BlockStore.rest a.store) (g.S.BlockStore.rest c.copy_block.new.store)
-    a.names.items _ a.log (memory_as c.self.view_is) c.in_ok-reserve.ensures.items c.self.invariant
-    c.in_err-made.ensures.kept
-
 pub invariant_of-self-in_err-made : goal.invariant_of-self-in_err-made
 invariant_of-self-in_err-made g c = rw c.in_ok-reserve.ensures.items
     (agrees-more _ _ _ _ c.self.invariant c.copy_block.ensures.nonrelocatable c.in_err-made.ensures.kept)
 
-pub returns-clause-answer : goal.returns-clause-answer
-returns-clause-answer g c =
+-- what the call answers where the host has memory
+told : (g : Over) (c : After-name_handle g) → Copied (g.S.BlockStore.zone c.self.inside.store) c.self.inside.names.items
+    c.args.handle c.in_ok-found.found (length c.bytes.result.now)
+    → moving (hand_to_hand_moves c.args.handle c.args.self.now.memory.heap)
+    (searching (hand_to_hand_searches c.args.handle c.args.self.now.memory.heap) (silent (hand_to_hand c.args.handle) c.args.self.now.memory))
+    ≡ (
+      c.name_handle.result,
+      memory_of (g.S.BlockStore.zone c.copy_block.new.store)
+          (g.S.BlockStore.rest c.copy_block.new.store) c.name_handle.new.names.items c.count.new.self,
+    )
+told g c from =
     let a = c.self.inside in
     let masters = g.met.S.BlockStore.masters a.store in
-    let from = source g (goal.at.returns-clause-answer g c).After-bytes in
     rw (c.name_handle.ensures.number, c.name_handle.ensures.entered, c.in_ok-reserve.ensures.items)
     (named-packing (hand_to_hand c.args.handle) (hand_to_hand_searches c.args.handle) (hand_to_hand_moves c.args.handle)
     c.args.self.now.memory (g.S.BlockStore.zone a.store) (g.S.BlockStore.zone c.copy_block.new.store)
     (g.S.BlockStore.rest a.store) (g.S.BlockStore.rest c.copy_block.new.store) a.names.items a.log c.count.new.self
     c.in_ok-made.made.slot (memory_as c.self.view_is)
-    (made g (goal.at.returns-clause-answer g c).In_ok-made from) c.in_ok-made.made.searches
+    (made g c from) c.in_ok-made.made.searches
     (c.in_ok-made.ensures.searches ∙ sym (copied_searches-is _ _ _ masters c.self.invariant c.args.handle
     c.in_ok-found.found _ from)) c.count.ensures
     _ (copied_moves-is _ _ _ masters c.self.invariant c.args.handle c.in_ok-found.found _ from)
     c.in_ok-made.ensures.moves)
 
+pub returns-in_err-name_handle-clause-answer : goal.returns-in_err-name_handle-clause-answer
+returns-in_err-name_handle-clause-answer g c =
+    let p = err_from_is_err_and c.from_residual-in_err-name_handle.result c.from_residual-in_err-name_handle.ensures.1 in
+    rw (p.1, p.2) (reply-as (told g (goal.at.returns-in_err-name_handle-clause-answer g c).After-name_handle
+    (source g (goal.at.returns-in_err-name_handle-clause-answer g c).After-bytes))
+    c.in_err-name_handle.was)
+
+pub returns-clause-answer : goal.returns-clause-answer
+returns-clause-answer g c =
+    reply-as (told g (goal.at.returns-clause-answer g c).After-name_handle
+    (source g (goal.at.returns-clause-answer g c).After-bytes)) c.in_ok-name_handle.was
+
 pub invariant_of-self-2 : goal.invariant_of-self-2
 invariant_of-self-2 g c = rw (c.name_handle.ensures.entered, c.in_ok-reserve.ensures.items)
-    (made g (goal.at.invariant_of-self-2 g c).In_ok-made
+    (made g (goal.at.invariant_of-self-2 g c).After-name_handle
     (source g (goal.at.invariant_of-self-2 g c).After-bytes)).agrees
 
-pub returns-in_err-reserve-clause-untold : goal.returns-in_err-reserve-clause-untold
-returns-in_err-reserve-clause-untold g c host =
-    inr (inl (rw c.reserve.ensures.items c.self.view_is, λ before was. was))
+pub invariant_of-self-in_err-name_handle : goal.invariant_of-self-in_err-name_handle
+invariant_of-self-in_err-name_handle g c = rw (c.name_handle.ensures.entered, c.in_ok-reserve.ensures.items)
+    (made g (goal.at.invariant_of-self-in_err-name_handle g c).After-name_handle
+    (source g (goal.at.invariant_of-self-in_err-name_handle g c).After-bytes)).agrees
 
-pub returns-in_err-made-clause-untold : goal.returns-in_err-made-clause-untold
-returns-in_err-made-clause-untold g c host =
+pub returns-in_err-made-clause-stops : goal.returns-in_err-made-clause-stops
+returns-in_err-made-clause-stops g c host =
     let a = c.self.inside in
     let zone = g.S.BlockStore.zone a.store in
     let zone' = g.S.BlockStore.zone c.copy_block.new.store in
@@ -144,12 +166,16 @@ returns-in_err-made-clause-untold g c host =
     let es = a.names.items in
     let masters = g.met.S.BlockStore.masters a.store in
     let f = c.in_ok-found.found in
-    let from = source g (goal.at.returns-in_err-made-clause-untold g c).After-bytes in
+    let from = source g (goal.at.returns-in_err-made-clause-stops g c).After-bytes in
     let slots = ap (λ (e : List Anchor). zone_slot_gone e (One f.slot) rest.unused zone)
     (c.deref-2.ensures.value ∙ c.in_ok-reserve.ensures.items)
     ∙ copy_slot_gone-is zone rest es masters c.self.invariant c.args.handle f _ from
     ∙ ap (λ (m : Memory). copy_slot_gone c.args.handle m.heap) (memory_as c.self.view_is) in
-    elim c.in_err-made.ensures.left [
+    stops-on-the-way g.S.BlockStore.TAKES_HOST g.K.PurgeSink.told g.K.PurgeSink.listens KeepsNames _ _ c.args.self.now _ c.args.sink.now _
+    (kept-memory c.args.self.now.memory _ _ (g.S.BlockStore.rest a.store) (g.S.BlockStore.rest c.copy_block.new.store)
+    a.names.items _ a.log (memory_as c.self.view_is) c.in_ok-reserve.ensures.items c.self.invariant
+    c.in_err-made.ensures.kept)
+    (elim c.in_err-made.ensures.left [
       | inl takes ↦ inl takes
       | inr left ↦ inr (elim left [
         | inl same ↦ inl (
@@ -170,22 +196,35 @@ returns-in_err-made-clause-untold g c host =
           subst (λ (l : List Gone). Tells g.K.PurgeSink.told l c.args.sink.now c.copy_block.new.sink) slots slot.3,
         )
       ])
-    ]
+    ])
+    (c.in_err-made.ensures.host refl)
 
-pub returns-clause-told : goal.returns-clause-told
-returns-clause-told g c some listens =
+-- what the sink hears
+heard : (g : Over) (c : After-name_handle g) → Copied (g.S.BlockStore.zone c.self.inside.store) c.self.inside.names.items
+    c.args.handle c.in_ok-found.found (length c.bytes.result.now)
+    → (done : Type 0)
+    → Hears g.K.PurgeSink.told g.K.PurgeSink.waits g.K.PurgeSink.listens done
+    (hand_to_hand_gone c.args.handle c.args.self.now.memory.heap) c.args.sink.now c.copy_block.new.sink
+heard g c from done =
     let a = c.self.inside in
     let zone = g.S.BlockStore.zone a.store in
     let rest = g.S.BlockStore.rest a.store in
     let es = a.names.items in
     let f = c.in_ok-found.found in
-    let from = source g (goal.at.returns-clause-told g c).After-bytes in
     let same = ap (λ (e : List Anchor). new_gone e (One f.slot) (length c.bytes.result.now) rest.unused zone)
     (c.deref-2.ensures.value ∙ c.in_ok-reserve.ensures.items)
     ∙ copy_gone-is zone rest es (g.met.S.BlockStore.masters a.store) c.self.invariant c.args.handle f _ from
     ∙ ap (λ (m : Memory). hand_to_hand_gone c.args.handle m.heap) (memory_as c.self.view_is) in
-    subst (λ (l : List Gone). Tells g.K.PurgeSink.told l c.args.sink.now c.copy_block.new.sink) same
-    (c.in_ok-made.ensures.told listens)
+    hears-as g.K.PurgeSink.told g.K.PurgeSink.waits g.K.PurgeSink.listens _ _ _ _ _ _
+    (λ some. refl) (same) c.in_ok-made.ensures.hears
+
+pub returns-in_err-name_handle-clause-hears : goal.returns-in_err-name_handle-clause-hears
+returns-in_err-name_handle-clause-hears g c = heard g (goal.at.returns-in_err-name_handle-clause-hears g c).After-name_handle
+    (source g (goal.at.returns-in_err-name_handle-clause-hears g c).After-bytes) _
+
+pub returns-clause-hears : goal.returns-clause-hears
+returns-clause-hears g c = heard g (goal.at.returns-clause-hears g c).After-name_handle
+    (source g (goal.at.returns-clause-hears g c).After-bytes) _
 
 pub same-self : goal.same-self
 same-self g c = fits-same _ _
@@ -193,20 +232,20 @@ same-self g c = fits-same _ _
 pub same-self-in_default : goal.same-self-in_default
 same-self-in_default g c = fits-same _ _
 
-pub returns-in_err-found-clause-told : goal.returns-in_err-found-clause-told
-returns-in_err-found-clause-told g c some listens =
+pub returns-in_err-found-clause-hears : goal.returns-in_err-found-clause-hears
+returns-in_err-found-clause-hears g c =
     let a = c.self.inside in
-    tells-none g.K.PurgeSink.told _ c.args.sink.now
+    hears-none g.K.PurgeSink.told g.K.PurgeSink.waits g.K.PurgeSink.listens _ _ c.args.sink.now c.requires.idle
     (copy_gone-none c.args.self.now.memory (g.S.BlockStore.zone a.store) (g.S.BlockStore.rest a.store) a.names.items
     c.deref.result.now a.log c.args.handle c.in_err-found.field-0.0 (memory_as c.self.view_is) c.deref.ensures.value
     (sym c.slot_of.ensures ∙ c.in_err-found.was))
 
-pub returns-in_default-clause-told : goal.returns-in_default-clause-told
-returns-in_default-clause-told g c some listens =
+pub returns-in_default-clause-hears : goal.returns-in_default-clause-hears
+returns-in_default-clause-hears g c =
     let a = c.self.inside in
     let f = c.in_ok-found.found in
-    let is = entry g (goal.at.returns-in_default-clause-told g c).In_ok-found in
-    tells-none g.K.PurgeSink.told _ c.args.sink.now
+    let is = entry g (goal.at.returns-in_default-clause-hears g c).In_ok-found in
+    hears-none g.K.PurgeSink.told g.K.PurgeSink.waits g.K.PurgeSink.listens _ _ c.args.sink.now c.requires.idle
     (copy_gone-nil c.args.self.now.memory (g.S.BlockStore.zone a.store) (g.S.BlockStore.rest a.store) a.names.items
     a.log
     c.args.handle f.number f.slot (memory_as c.self.view_is) is.0 is.1 c.self.invariant (omega arith)

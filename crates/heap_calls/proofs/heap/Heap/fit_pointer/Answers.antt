@@ -1,11 +1,14 @@
-use Rattle.std.proofs.Common.{arith, Err}
+use Rattle.std.proofs.Common.{◌≡◌, arith, Err}
 use Rattle.std.proofs.lemmas.Result.{err_from_is_err_and}
+use Rattle.heap_calls.specs.Answer.{silent, searching}
+use Rattle.heap_calls.specs.Pointers.{set_pointer_size}
+use Rattle.heap_calls.specs.Searches.{set_pointer_size_searches}
 use Rattle.heap_calls.proofs.Numbering.Changing.{agrees-placed}
 use Rattle.heap_calls.proofs.Numbering.Pointing.{IsHeld, pointer-held, target_in}
 use Rattle.heap_calls.proofs.Sizes.PointerSizes.{set_pointer_size-done, no_pointer}
-use Rattle.heap_calls.proofs.Numbering.Memories.{memory_as}
+use Rattle.heap_calls.proofs.Numbering.Memories.{memory_as, reply-as}
 use Rattle.heap_calls.proofs.heap.Heap.fit_pointer.Given.{Over}
-use Rattle.heap_calls.proofs.heap.Heap.fit_pointer.Goals.{In_ok-target}
+use Rattle.heap_calls.proofs.heap.Heap.fit_pointer.Goals.{In_ok-target, After-account}
 use Rattle.heap_calls.proofs.heap.Heap.fit_pointer.Goals as goal
 
 -- the pointer's block
@@ -46,13 +49,30 @@ invariant_of-self-2 g c =
     (g.S.BlockStore.rest c.fit_nonrelocatable.new.store) a.names.items c.self.invariant c.fit_nonrelocatable.ensures.nonrelocatable
     c.fit_nonrelocatable.ensures.rest
 
-pub returns-clause-answer : goal.returns-clause-answer
-returns-clause-answer g c =
+-- what the call answers where the pointer has a block
+told : (g : Over) (c : After-account g) → IsHeld (g.S.BlockStore.zone c.self.inside.store)
+    (g.S.BlockStore.rest c.self.inside.store).slots c.self.inside.names.items c.args.pointer c.in_ok-target.target
+    → searching (set_pointer_size_searches c.args.pointer c.args.size c.args.self.now.memory.heap)
+    (silent (set_pointer_size c.args.pointer c.args.size) c.args.self.now.memory)
+    ≡ (c.account.result, c.account.new.self.memory)
+told g c there =
     let a = c.self.inside in
     rw (c.account.ensures.reply, c.account.ensures.counted)
     (set_pointer_size-done c.args.self.now.memory (g.S.BlockStore.zone a.store) (g.S.BlockStore.zone
     c.fit_nonrelocatable.new.store)
     (g.S.BlockStore.rest a.store) (g.S.BlockStore.rest c.fit_nonrelocatable.new.store) a.names.items a.log c.args.pointer
     c.in_ok-target.target c.args.size c.in_ok-grown.grown.searches c.in_ok-grown.grown.done (memory_as c.self.view_is)
-    (target g (goal.at.returns-clause-answer g c).In_ok-target) c.self.invariant.lone (omega arith)
+    there c.self.invariant.lone (omega arith)
     c.fit_nonrelocatable.ensures.rest c.in_ok-grown.ensures.searches c.in_ok-grown.ensures.zone c.in_ok-grown.ensures.full)
+
+pub returns-in_err-account-clause-answer : goal.returns-in_err-account-clause-answer
+returns-in_err-account-clause-answer g c =
+    let p = err_from_is_err_and c.from_residual-in_err-account.result c.from_residual-in_err-account.ensures.1 in
+    rw (p.1, p.2) (reply-as (told g (goal.at.returns-in_err-account-clause-answer g c).After-account
+    (target g (goal.at.returns-in_err-account-clause-answer g c).In_ok-target))
+    c.in_err-account.was)
+
+pub returns-clause-answer : goal.returns-clause-answer
+returns-clause-answer g c =
+    reply-as (told g (goal.at.returns-clause-answer g c).After-account
+    (target g (goal.at.returns-clause-answer g c).In_ok-target)) c.in_ok-account.was

@@ -1,13 +1,15 @@
-use Rattle.std.proofs.Common.{Ok}
+use Rattle.std.proofs.Common.{◌≡◌, Ok}
 use Rattle.std.proofs.lemmas.Result.{err_from_is_err_and}
-use Rattle.heap_calls.specs.Answer.{set_handle_size}
+use Rattle.heap_calls.specs.Answer.{set_handle_size, silent, searching, moving}
 use Rattle.heap_calls.specs.Moves.{set_handle_size_moves}
 use Rattle.heap_calls.specs.Searches.{set_handle_size_searches}
 use Rattle.heap_calls.proofs.Numbering.Rebuilding.{reached_in, not-resized}
 use Rattle.heap_calls.proofs.Numbering.Changing.{agrees-kept}
 use Rattle.heap_calls.proofs.Sizes.Grown.{nothing-grown, grown-done, resize-tells}
 use Rattle.heap_calls.proofs.Numbering.Reserved.{fits-same}
-use Rattle.heap_calls.proofs.Numbering.Memories.{memory_as}
+use Rattle.heap_calls.proofs.Numbering.Memories.{memory_as, reply-as}
+use Rattle.heap_calls.proofs.heap.Heap.give_size.Given.{Over}
+use Rattle.heap_calls.proofs.heap.Heap.give_size.Goals.{After-account}
 use Rattle.heap_calls.proofs.heap.Heap.give_size.Goals as goal
 
 pub returns-in_err-held-clause-answer : goal.returns-in_err-held-clause-answer
@@ -20,8 +22,12 @@ returns-in_err-held-clause-answer g c =
     (set_handle_size_moves c.args.handle c.args.size) c.in_err-held.field-0.0
     c.args.handle _ c.deref.ensures.value c.in_err-held.ensures (not-resized c.args.handle c.args.size _))
 
-pub returns-clause-answer : goal.returns-clause-answer
-returns-clause-answer g c =
+-- what the call answers where the handle has a block
+told : (g : Over) (c : After-account g) → moving (set_handle_size_moves c.args.handle c.args.size
+    c.args.self.now.memory.heap) (searching (set_handle_size_searches c.args.handle c.args.size
+    c.args.self.now.memory.heap) (silent (set_handle_size c.args.handle c.args.size) c.args.self.now.memory))
+    ≡ (c.account.result, c.account.new.self.memory)
+told g c =
     let a = c.self.inside in
     let held = c.in_ok-held.held in
     let rest = g.S.BlockStore.rest a.store in
@@ -33,6 +39,16 @@ returns-clause-answer g c =
     _ (g.S.BlockStore.rest c.fit_block.new.store) c.in_ok-grown.ensures.rest c.in_ok-grown.grown.done
     c.in_ok-grown.grown.searches c.in_ok-grown.ensures.searches c.in_ok-grown.ensures.zone
     c.in_ok-grown.ensures.full c.fit_block.ensures.moves)
+
+pub returns-in_err-account-clause-answer : goal.returns-in_err-account-clause-answer
+returns-in_err-account-clause-answer g c =
+    let p = err_from_is_err_and c.from_residual-in_err-account.result c.from_residual-in_err-account.ensures.1 in
+    rw (p.1, p.2) (reply-as (told g (goal.at.returns-in_err-account-clause-answer g c).After-account)
+    c.in_err-account.was)
+
+pub returns-clause-answer : goal.returns-clause-answer
+returns-clause-answer g c =
+    reply-as (told g (goal.at.returns-clause-answer g c).After-account) c.in_ok-account.was
 
 pub invariant_of-self : goal.invariant_of-self
 invariant_of-self g c = agrees-kept _ _ _ _ _ c.self.invariant c.fit_block.ensures.nonrelocatable c.fit_block.ensures.rest

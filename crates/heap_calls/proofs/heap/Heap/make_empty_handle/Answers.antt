@@ -1,11 +1,17 @@
-use Rattle.std.proofs.Common.{List, inl, inr, refl, sym, ◌∙◌, ap, subst}
+use Rattle.std.proofs.lemmas.Result.{err_from_is_err_and}
+use Rattle.heap_calls.specs.Inner.Given.{KeepsMoves}
+use Rattle.std.proofs.lemmas.List.{length-map}
+use Rattle.heap_calls.specs.Inner.Numbered.{name_of}
+use Rattle.std.proofs.Common.{arith, ◌≡◌}
+use Rattle.std.proofs.Common.{List, inl, inr, refl, sym, ◌∙◌, ap}
 use Rattle.block_store.specs.declared.sparing.Sparing.TheVariants.{Nothing}
 use Rattle.heap_calls.specs.declared.anchor.Anchor.{Anchor}
 use Rattle.heap_calls.specs.State.{Memory}
-use Rattle.heap_calls.specs.Answer.{nothing}
-use Rattle.heap_calls.specs.Gone.{Gone, Tells, slot_gone}
+use Rattle.heap_calls.specs.Answer.{nothing, silent, searching}
+use Rattle.heap_calls.specs.Gone.{slot_gone, Hears, new_empty_handle_gone}
 use Rattle.heap_calls.specs.Inner.Numbered.{memory_of}
 use Rattle.heap_calls.specs.Inner.Telling.{zone_slot_gone}
+use Rattle.heap_calls.proofs.Hearing.{hears-as, stops-at-once, stops-unheard, both-or}
 use Rattle.heap_calls.proofs.GoneBlocks.{slot_gone-is}
 use Rattle.heap_calls.proofs.Numbering.Changing.{memory-same}
 use Rattle.heap_calls.specs.Slots.{new_empty_handle}
@@ -14,65 +20,89 @@ use Rattle.heap_calls.proofs.NewBlocks.Naming.{Names, empty-names, named-looking
 use Rattle.heap_calls.proofs.NewBlocks.NewHandles.{agrees-more}
 use Rattle.heap_calls.proofs.NewBlocks.Reserving.{empty_searches-is}
 use Rattle.heap_calls.proofs.NewBlocks.NewHandles.{kept-still}
-use Rattle.heap_calls.proofs.Numbering.Memories.{memory_as, placings_as, counted_as}
+use Rattle.heap_calls.proofs.Numbering.Memories.{memory_as, reply-as, placings_as, counted_as}
 use Rattle.heap_calls.proofs.heap.Heap.make_empty_handle.Given.{Over}
-use Rattle.heap_calls.proofs.heap.Heap.make_empty_handle.Goals.{In_ok-taken}
+use Rattle.heap_calls.proofs.heap.Heap.make_empty_handle.Goals.{After-name_handle}
 use Rattle.heap_calls.proofs.heap.Heap.make_empty_handle.Goals as goal
 
-pub returns-in_err-reserve-clause-host : goal.returns-in_err-reserve-clause-host
-returns-in_err-reserve-clause-host g c host = inr (rw c.reserve.ensures.items c.self.view_is)
-
-named : (g : Over) (c : In_ok-taken g) → Names new_empty_handle (g.S.BlockStore.zone c.self.inside.store)
+named : (g : Over) (c : After-name_handle g) → Names new_empty_handle (g.S.BlockStore.zone c.self.inside.store)
     (g.S.BlockStore.rest c.self.inside.store) c.self.inside.names.items c.in_ok-taken.taken.slot
     (g.S.BlockStore.zone c.make_slot.new.store) (g.S.BlockStore.rest c.make_slot.new.store)
 named g c = empty-names _ _ _ (g.met.S.BlockStore.masters c.self.inside.store) c.self.invariant _ _
     c.make_slot.ensures.nonrelocatable c.in_ok-taken.taken.slot c.in_ok-taken.ensures.slot
 
-pub returns-in_err-taken-clause-kept : goal.returns-in_err-taken-clause-kept
-returns-in_err-taken-clause-kept g c host =
-    let a = c.self.inside in
-    kept-still c.args.self.now.memory _ _ (g.S.BlockStore.rest a.store) (g.S.BlockStore.rest c.make_slot.new.store)
-    a.names.items _ a.log (memory_as c.self.view_is) c.in_ok-reserve.ensures.items c.self.invariant
-    c.in_err-taken.ensures.kept
-    c.make_slot.ensures.moves
+pub returns-in_err-reserve-clause-stops : goal.returns-in_err-reserve-clause-stops
+returns-in_err-reserve-clause-stops g c host =
+    stops-at-once g.S.BlockStore.TAKES_HOST g.K.PurgeSink.told g.K.PurgeSink.listens KeepsMoves _ _ c.args.self.now _ c.args.sink.now (λ m. refl)
+    (rw c.reserve.ensures.items c.self.view_is)
+    (rw (← c.self.view_is) (let full = c.in_err-reserve.ensures.full in let fits = c.self.inside.fits in
+    omega (arith, length-map c.self.inside.names.items (name_of (g.S.BlockStore.rest c.self.inside.store).slots))))
 
-pub returns-clause-answer : goal.returns-clause-answer
-returns-clause-answer g c =
+-- what the call answers where the host has memory
+told : (g : Over) (c : After-name_handle g) → searching (new_empty_handle_searches c.args.self.now.memory.heap)
+    (silent new_empty_handle c.args.self.now.memory)
+    ≡ (
+      c.name_handle.result,
+      memory_of (g.S.BlockStore.zone c.make_slot.new.store)
+          (g.S.BlockStore.rest c.make_slot.new.store) c.name_handle.new.names.items c.count.new.self,
+    )
+told g c =
     let a = c.self.inside in
     rw (c.name_handle.ensures.number, c.name_handle.ensures.entered, c.in_ok-reserve.ensures.items)
     (named-looking new_empty_handle new_empty_handle_searches (λ _. 0) c.args.self.now.memory (g.S.BlockStore.zone
     a.store)
     (g.S.BlockStore.zone c.make_slot.new.store) (g.S.BlockStore.rest a.store)
     (g.S.BlockStore.rest c.make_slot.new.store) a.names.items a.log c.count.new.self c.in_ok-taken.taken.slot
-    (memory_as c.self.view_is) (named g (goal.at.returns-clause-answer g c).In_ok-taken) c.in_ok-taken.taken.searches
+    (memory_as c.self.view_is) (named g c) c.in_ok-taken.taken.searches
     (c.in_ok-taken.ensures.searches ∙ sym (empty_searches-is _ _ _ (g.met.S.BlockStore.masters a.store)
     c.self.invariant)) c.count.ensures c.make_slot.ensures.moves)
 
+pub returns-in_err-name_handle-clause-answer : goal.returns-in_err-name_handle-clause-answer
+returns-in_err-name_handle-clause-answer g c =
+    let p = err_from_is_err_and c.from_residual-in_err-name_handle.result c.from_residual-in_err-name_handle.ensures.1 in
+    rw (p.1, p.2) (reply-as (told g (goal.at.returns-in_err-name_handle-clause-answer g c).After-name_handle)
+    c.in_err-name_handle.was)
+
+pub returns-clause-answer : goal.returns-clause-answer
+returns-clause-answer g c =
+    reply-as (told g (goal.at.returns-clause-answer g c).After-name_handle) c.in_ok-name_handle.was
+
 pub invariant_of-self-2 : goal.invariant_of-self-2
 invariant_of-self-2 g c = rw (c.name_handle.ensures.entered, c.in_ok-reserve.ensures.items)
-    (named g (goal.at.invariant_of-self-2 g c).In_ok-taken).agrees
+    (named g (goal.at.invariant_of-self-2 g c).After-name_handle).agrees
 
 pub invariant_of-self-in_err-taken : goal.invariant_of-self-in_err-taken
 invariant_of-self-in_err-taken g c = rw c.in_ok-reserve.ensures.items
     (agrees-more _ _ _ _ c.self.invariant c.make_slot.ensures.nonrelocatable c.in_err-taken.ensures.kept)
 
-pub returns-in_err-taken-clause-host : goal.returns-in_err-taken-clause-host
-returns-in_err-taken-clause-host g c host =
+pub returns-in_err-taken-clause-stops : goal.returns-in_err-taken-clause-stops
+returns-in_err-taken-clause-stops g c host =
     let a = c.self.inside in
     let zone = g.S.BlockStore.zone a.store in
     let rest = g.S.BlockStore.rest a.store in
     let rest' = g.S.BlockStore.rest c.make_slot.new.store in
     let items = c.reserve.new.self.items in
+    stops-unheard g.S.BlockStore.TAKES_HOST g.K.PurgeSink.told g.K.PurgeSink.listens KeepsMoves _ _ c.args.self.now _ c.args.sink.now _
+    (kept-still c.args.self.now.memory _ _ (g.S.BlockStore.rest a.store) (g.S.BlockStore.rest c.make_slot.new.store)
+    a.names.items _ a.log (memory_as c.self.view_is) c.in_ok-reserve.ensures.items c.self.invariant
+    c.in_err-taken.ensures.kept
+    c.make_slot.ensures.moves)
+    (both-or (
     elim c.in_err-taken.ensures.same [
       | inl takes ↦ inl takes
       | inr same ↦ inr (counted_as (ap (λ z. memory_of z rest' items a.log) same.0
           ∙ ap (λ (l : List Anchor). memory_of zone rest' l a.log) c.in_ok-reserve.ensures.items
           ∙ memory-same zone rest rest' a.names.items a.log same.1 ∙ (memory_as c.self.view_is))
           (same.1.placed ∙ placings_as c.self.view_is))
-    ]
+    ])
+    c.in_err-taken.ensures.untold)
+    (c.in_err-taken.ensures.host refl)
 
-pub returns-clause-told : goal.returns-clause-told
-returns-clause-told g c some listens =
+-- what the sink hears
+heard : (g : Over) (c : After-name_handle g) → (done : Type 0)
+    → Hears g.K.PurgeSink.told g.K.PurgeSink.waits g.K.PurgeSink.listens done
+    (new_empty_handle_gone c.args.self.now.memory.heap) c.args.sink.now c.make_slot.new.sink
+heard g c done =
     let a = c.self.inside in
     let zone = g.S.BlockStore.zone a.store in
     let rest = g.S.BlockStore.rest a.store in
@@ -82,5 +112,11 @@ returns-clause-told g c some listens =
     ∙ slot_gone-is zone rest es (g.met.S.BlockStore.masters a.store) c.self.invariant nothing Nothing (λ b. refl) refl
     (λ b. refl)
     ∙ ap (λ (m : Memory). slot_gone nothing m.heap) (memory_as c.self.view_is) in
-    subst (λ (l : List Gone). Tells g.K.PurgeSink.told l c.args.sink.now c.make_slot.new.sink) same
-    (c.in_ok-taken.ensures.told listens)
+    hears-as g.K.PurgeSink.told g.K.PurgeSink.waits g.K.PurgeSink.listens _ _ _ _ _ _
+    (λ some. refl) (same) c.in_ok-taken.ensures.hears
+
+pub returns-in_err-name_handle-clause-hears : goal.returns-in_err-name_handle-clause-hears
+returns-in_err-name_handle-clause-hears g c = heard g (goal.at.returns-in_err-name_handle-clause-hears g c).After-name_handle _
+
+pub returns-clause-hears : goal.returns-clause-hears
+returns-clause-hears g c = heard g (goal.at.returns-clause-hears g c).After-name_handle _

@@ -1,3 +1,6 @@
+use Rattle.heap_calls.specs.Inner.Given.{KeepsMoves}
+use Rattle.std.proofs.lemmas.List.{length-map}
+use Rattle.heap_calls.specs.Inner.Numbered.{name_of}
 use Rattle.std.proofs.Common.{◌≡◌, refl, ℕ, ◌++◌, ◌∷◌, [], length, Some, None, sym, ◌∙◌, ap, subst, arith, inr, Ok, Err}
 use Rattle.std.proofs.Common.{Option, List}
 use Rattle.mac_words.specs.declared.code.TheConstants.OsErr.{MEM_FULL}
@@ -10,6 +13,7 @@ use Rattle.heap_calls.specs.Inner.Telling.{pointer_gone}
 use Rattle.heap_calls.specs.Searches.{new_pointer_searches}
 use Rattle.heap_calls.specs.Inner.NewPointer.{IsNewNonrelocatable}
 use Rattle.heap_calls.specs.Inner.Numbered.{state_of, memory_of}
+use Rattle.heap_calls.proofs.Hearing.{hears-as, stops-at-once, stops-untouched}
 use Rattle.heap_calls.proofs.GoneBlocks.{pointer_gone-is}
 use Rattle.heap_calls.proofs.NewBlocks.NewHandles.{searched-done}
 use Rattle.heap_calls.proofs.Numbering.Changing.{agrees-placed, slots_kept, memory-same, unplaced, unplaced-is}
@@ -20,8 +24,12 @@ use Rattle.heap_calls.proofs.heap.Heap.make_pointer.Given.{Over}
 use Rattle.heap_calls.proofs.heap.Heap.make_pointer.Goals.{After-push_reserved, After-tell_nonrelocatable}
 use Rattle.heap_calls.proofs.heap.Heap.make_pointer.Goals as goal
 
-pub returns-in_err-reserve-clause-host : goal.returns-in_err-reserve-clause-host
-returns-in_err-reserve-clause-host g c host = inr (rw c.reserve.ensures.items c.self.view_is)
+pub returns-in_err-reserve-clause-stops : goal.returns-in_err-reserve-clause-stops
+returns-in_err-reserve-clause-stops g c host =
+    stops-at-once g.S.BlockStore.TAKES_HOST g.K.PurgeSink.told g.K.PurgeSink.listens KeepsMoves _ _ c.args.self.now _ c.args.sink.now (λ m. refl)
+    (rw c.reserve.ensures.items c.self.view_is)
+    (rw (← c.self.view_is) (let full = c.in_err-reserve.ensures.full in let fits = c.self.inside.fits in
+    omega (arith, length-map c.self.inside.names.items (name_of (g.S.BlockStore.rest c.self.inside.store).slots))))
 
 pub returns-in_default-clause-answer : goal.returns-in_default-clause-answer
 returns-in_default-clause-answer g c =
@@ -82,8 +90,11 @@ returns-clause-answer g c =
     ∙ ap (λ (l : List Anchor). (Ok c.len-number.result, memory_of zone' rest' l c.count.new.self))
     (sym (entered g (goal.at.returns-clause-answer g c).After-push_reserved))
 
-pub returns-in_err-tell_nonrelocatable-clause-host : goal.returns-in_err-tell_nonrelocatable-clause-host
-returns-in_err-tell_nonrelocatable-clause-host g c host = inr (rw c.in_ok-reserve.ensures.items c.self.view_is)
+pub returns-in_err-tell_nonrelocatable-clause-stops : goal.returns-in_err-tell_nonrelocatable-clause-stops
+returns-in_err-tell_nonrelocatable-clause-stops g c host =
+    stops-untouched g.S.BlockStore.TAKES_HOST g.K.PurgeSink.told g.K.PurgeSink.listens KeepsMoves _ _ c.args.self.now _
+    c.args.sink.now _ (λ m. refl) (rw c.in_ok-reserve.ensures.items c.self.view_is)
+    c.in_err-tell_nonrelocatable.ensures.untold (c.in_err-tell_nonrelocatable.ensures.host refl)
 
 -- the sink is told of the blocks of the call's row
 told : (g : Over) (c : After-tell_nonrelocatable g)
@@ -96,14 +107,12 @@ told g c =
     ∙ pointer_gone-is c.args.size zone (g.S.BlockStore.rest a.store).slots a.names.items
     ∙ ap (λ (m : Memory). new_pointer_gone c.args.size m.heap) (memory_as c.self.view_is)
 
-pub returns-in_default-clause-told : goal.returns-in_default-clause-told
-returns-in_default-clause-told g c some listens =
-    subst (λ (l : List Gone). Tells g.K.PurgeSink.told l c.args.sink.now c.tell_nonrelocatable.new.sink)
-    (told g (goal.at.returns-in_default-clause-told g c).After-tell_nonrelocatable)
-    (c.in_ok-tell_nonrelocatable.ensures.told listens)
+pub returns-in_default-clause-hears : goal.returns-in_default-clause-hears
+returns-in_default-clause-hears g c =
+    hears-as g.K.PurgeSink.told g.K.PurgeSink.waits g.K.PurgeSink.listens _ _ _ _ _ _
+    (λ some. refl) ((told g (goal.at.returns-in_default-clause-hears g c).After-tell_nonrelocatable)) c.in_ok-tell_nonrelocatable.ensures.hears
 
-pub returns-clause-told : goal.returns-clause-told
-returns-clause-told g c some listens =
-    subst (λ (l : List Gone). Tells g.K.PurgeSink.told l c.args.sink.now c.tell_nonrelocatable.new.sink)
-    (told g (goal.at.returns-clause-told g c).After-tell_nonrelocatable)
-    (c.in_ok-tell_nonrelocatable.ensures.told listens)
+pub returns-clause-hears : goal.returns-clause-hears
+returns-clause-hears g c =
+    hears-as g.K.PurgeSink.told g.K.PurgeSink.waits g.K.PurgeSink.listens _ _ _ _ _ _
+    (λ some. refl) ((told g (goal.at.returns-clause-hears g c).After-tell_nonrelocatable)) c.in_ok-tell_nonrelocatable.ensures.hears

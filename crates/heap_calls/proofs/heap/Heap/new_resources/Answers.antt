@@ -7,9 +7,10 @@ use Rattle.heap_calls.specs.declared.log.Log.{Log}
 use Rattle.heap_calls.specs.State.{Memory}
 use Rattle.heap_calls.specs.Gone.{Tells, all_gone}
 use Rattle.heap_calls.specs.Inside.{new_all}
-use Rattle.heap_calls.specs.Preloaded.{Stops}
+use Rattle.heap_calls.specs.Preloaded.{MadeSome}
 use Rattle.heap_calls.specs.Inner.Filling.{wanted_as}
 use Rattle.heap_calls.specs.Inner.Numbered.{memory_of}
+use Rattle.heap_calls.proofs.Hearing.{hears-if-on-ok}
 use Rattle.heap_calls.proofs.Filled.Several.{stops-first}
 use Rattle.heap_calls.proofs.NewBlocks.NewPointers.{on_err}
 use Rattle.heap_calls.proofs.Numbering.Memories.{memory_as}
@@ -38,16 +39,16 @@ returns-clause-answer g c =
     (memory_as c.in_ok-reserve-2.ensures.kept)
     (ap (λ (m : Memory). m.log.reserved) (memory_as c.self.view_is)))) c.add_resources.ensures.answer
 
-pub returns-clause-told : goal.returns-clause-told
-returns-clause-told g c =
+pub returns-clause-hears : goal.returns-clause-hears
+returns-clause-hears g c =
     let a = c.self-2.inside in
-    on_ok_weaker c.add_resources.result
-    (subst (λ (m : Memory). g.K.PurgeSink.listens c.args.sink.now ≡ true
-    → Tells g.K.PurgeSink.told (all_gone (map wanted_as c.args.wanted.now) m) c.args.sink.now c.add_resources.new.sink)
-    (back (g.S.BlockStore.zone a.store) (g.S.BlockStore.rest a.store) a.names.items a.log c.args.self.now.memory
-    c.reserve-2.new.self.memory c.self.inside.log.reserved _ (memory_as c.self-2.view_is)
-    (memory_as c.in_ok-reserve-2.ensures.kept)
-    (ap (λ (m : Memory). m.log.reserved) (memory_as c.self.view_is)))) c.add_resources.ensures.told
+    let K = g.K.PurgeSink in
+    let same = back (g.S.BlockStore.zone a.store) (g.S.BlockStore.rest a.store) a.names.items a.log
+    c.args.self.now.memory c.reserve-2.new.self.memory c.self.inside.log.reserved _ (memory_as c.self-2.view_is)
+    (memory_as c.in_ok-reserve-2.ensures.kept) (ap (λ (m : Memory). m.log.reserved) (memory_as c.self.view_is)) in
+    hears-if-on-ok K.told K.waits K.listens c.add_resources.result _ _ c.args.sink.now c.add_resources.new.sink
+    (ap (λ (m : Memory). all_gone (map wanted_as c.args.wanted.now) m) same) c.add_resources.ensures.told
+    c.add_resources.ensures.rests
 
 pub returns-clause-untold : goal.returns-clause-untold
 returns-clause-untold g c =
@@ -56,7 +57,7 @@ returns-clause-untold g c =
     (g.S.BlockStore.rest c.add_resources.new.store) c.add_resources.new.names.items c.add_resources.new.log in
     on_err_weaker c.add_resources.result (λ left. elim left [
       | inl takes ↦ inl takes
-      | inr stops ↦ inr (subst (λ (m : Memory). Stops g.K.PurgeSink.told (map wanted_as c.args.wanted.now) m
+      | inr stops ↦ inr (subst (λ (m : Memory). MadeSome g.K.PurgeSink.told (map wanted_as c.args.wanted.now) m
           c.add_resources.new.numbers.items now c.args.sink.now c.add_resources.new.sink)
           (back (g.S.BlockStore.zone a.store) (g.S.BlockStore.rest a.store) a.names.items a.log c.args.self.now.memory
           c.reserve-2.new.self.memory c.self.inside.log.reserved _ (memory_as c.self-2.view_is)

@@ -14,12 +14,12 @@ target g c =
     c.in_ok-target.target c.self.invariant (g.met.S.BlockStore.placed a.store) (g.met.S.BlockStore.tidied a.store)
     (omega arith) c.deref.ensures.value c.in_ok-target.ensures
 
-pub returns-clause-answer : goal.returns-clause-answer
-returns-clause-answer g c =
+pub returns : goal.returns
+returns g c =
     let a = c.self.inside in
     bytes-told (λ (x : List ℕ). x) (g.S.BlockStore.zone a.store) (g.S.BlockStore.rest a.store) a.names.items a.log
     c.args.self.now.memory c.args.pointer c.in_ok-target.target c.bytes.result.now (memory_as c.self.view_is)
-    (target g (goal.at.returns-clause-answer g c).In_ok-target) c.bytes.ensures
+    (target g (goal.at.returns g c).In_ok-target) c.bytes.ensures
 
 pub bytes-requires : goal.bytes-requires
 bytes-requires g c = (target g (goal.at.bytes-requires g c).In_ok-target).there

@@ -4,15 +4,15 @@ use Rattle.block_store.specs.Room.{purge}
 use Rattle.heap_calls.specs.Answer.{nothing, silent}
 use Rattle.heap_calls.specs.Purging.{blocks_purged, purge_mem}
 use Rattle.heap_calls.specs.Inner.Numbered.{memory_of}
-use Rattle.heap_calls.proofs.Numbering.PurgeTrials.{searching-done, blocks_purged-few, served_answer, purge_mem-done}
+use Rattle.heap_calls.proofs.Numbering.PurgeTrials.{searching-done, blocks_purged-few, purge_mem-done}
 use Rattle.heap_calls.proofs.Numbering.PurgeTrials.{purge_mem_searches-is}
 use Rattle.block_store.specs.Sparing.{purged}
 use Rattle.block_store.specs.declared.sparing.Sparing.TheVariants as sparing
 use Rattle.heap_calls.proofs.Numbering.Changing.{agrees-same}
 use Rattle.heap_calls.proofs.Room.Staying.{nonrelocatable-purged, nonrelocatable-same, nonrelocatable-then}
 use Rattle.block_store.specs.Rest.{counted}
-use Rattle.heap_calls.proofs.NewBlocks.Naming.{is-served}
 use Rattle.heap_calls.proofs.Numbering.Memories.{memory_as}
+use Rattle.heap_calls.specs.Inner.Reaching.{sized_reply}
 use Rattle.heap_calls.proofs.heap.Heap.purge_for.Goals as goal
 
 pub overflow_add-purges : goal.overflow_add-purges
@@ -37,15 +37,14 @@ returns-clause-answer g c =
     let served = c.has_room-served.result in
     let many : c.purges_for-purges.result ≡ blocks_purged _ zone =
     c.purges_for-purges.ensures ∙ ap (λ (p : Option ℕ). blocks_purged p zone) c.phys-bytes.ensures in
-    rw (c.account.ensures.reply, c.account.ensures.counted) (is-served _ served _
-    (searching-done _ _ (silent (purge_mem n) c.args.self.now.memory) (served_answer served) (memory_of zone' rest' es
+    rw (c.account.ensures.reply, c.account.ensures.counted) (searching-done _ _ (silent (purge_mem n) c.args.self.now.memory) (sized_reply served) (memory_of zone' rest' es
     a.log)
     (memory_of zone' rest' es (record a.log { searches = counted a.log.searches (c.purges_for-purges.result + 1) }))
     (purge_mem-done c.args.self.now.memory n zone zone' rest rest' es a.log served (memory_as c.self.view_is)
     (c.purge.ensures.zone ∙ ap (λ k. purge k nothing zone) many) c.purge.ensures.rest
     (c.has_room-served.ensures ∙ ap (λ (p : Option ℕ). has_room p zone') c.phys-bytes.ensures))
     (purge_mem_searches-is c.args.self.now.memory n zone rest es a.log (memory_as c.self.view_is)
-    ∙ ap (λ k. k + 1) (sym many)) refl))
+    ∙ ap (λ k. k + 1) (sym many)) refl)
 
 pub invariant_of-self : goal.invariant_of-self
 invariant_of-self g c =

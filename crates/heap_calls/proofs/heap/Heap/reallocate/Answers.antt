@@ -1,12 +1,14 @@
-use Rattle.std.proofs.Common.{is_some, refl, ◌∙◌, ap, subst, List, Ok, Err}
+use Rattle.std.proofs.Common.{◌≡◌, is_some, refl, ◌∙◌, ap, List, Ok, Err}
 use Rattle.std.proofs.lemmas.Result.{err_from_is_err_and}
-use Rattle.heap_calls.specs.Answer.{silent}
-use Rattle.heap_calls.specs.Gone.{Gone, Tells, reallocate_handle_gone}
+use Rattle.heap_calls.specs.Answer.{silent, searching, moving}
+use Rattle.heap_calls.specs.Gone.{reallocate_handle_gone}
 use Rattle.heap_calls.specs.Purging.{reallocate_handle}
+use Rattle.heap_calls.specs.Moves.{reallocate_handle_moves}
+use Rattle.heap_calls.specs.Searches.{reallocate_handle_searches}
 use Rattle.heap_calls.specs.Inner.Numbered.{memory_of}
 use Rattle.heap_calls.specs.Inner.Telling.{renewed_gone}
 use Rattle.heap_calls.specs.declared.anchor.Anchor.{Anchor}
-use Rattle.heap_calls.proofs.GoneForSizes.{tells-none}
+use Rattle.heap_calls.proofs.Hearing.{hears-as, hears-none}
 use Rattle.heap_calls.proofs.GonePlaces.{reallocate_gone-is, reallocate_gone-none}
 use Rattle.heap_calls.proofs.Numbering.Loosening.{loose_in, loose_not_searched, no_moves-loose}
 use Rattle.heap_calls.proofs.Room.MoveCounts.{not-moved, moving-done}
@@ -15,10 +17,11 @@ use Rattle.heap_calls.proofs.NewBlocks.Renewing.{reallocate_searches-is, realloc
 use Rattle.heap_calls.proofs.Numbering.Changing.{agrees-kept, unmoved}
 use Rattle.heap_calls.specs.declared.log.Log.{Log}
 use Rattle.block_store.specs.Rest.{counted}
-use Rattle.heap_calls.proofs.NewBlocks.Naming.{is-served}
-use Rattle.heap_calls.proofs.Numbering.PurgeTrials.{served_answer}
 use Rattle.heap_calls.proofs.Numbering.Reserved.{fits-same}
-use Rattle.heap_calls.proofs.Numbering.Memories.{memory_as}
+use Rattle.heap_calls.proofs.Numbering.Memories.{memory_as, reply-as}
+use Rattle.heap_calls.specs.Inner.Reaching.{sized_reply}
+use Rattle.heap_calls.proofs.heap.Heap.reallocate.Given.{Over}
+use Rattle.heap_calls.proofs.heap.Heap.reallocate.Goals.{After-account}
 use Rattle.heap_calls.proofs.heap.Heap.reallocate.Goals as goal
 
 pub returns-in_err-slot-clause-answer : goal.returns-in_err-slot-clause-answer
@@ -39,8 +42,12 @@ returns-in_err-slot-clause-answer g c =
     (memory_as c.self.view_is)
     found))
 
-pub returns-clause-answer : goal.returns-clause-answer
-returns-clause-answer g c =
+-- what the call answers where the handle is found
+told : (g : Over) (c : After-account g) → moving (reallocate_handle_moves c.args.handle c.args.size
+    c.args.self.now.memory.heap) (searching (reallocate_handle_searches c.args.handle c.args.size
+    c.args.self.now.memory.heap) (silent (reallocate_handle c.args.handle c.args.size) c.args.self.now.memory))
+    ≡ (c.account.result, c.account.new.self.memory)
+told g c =
     let a = c.self.inside in
     let zone = g.S.BlockStore.zone a.store in
     let zone' = g.S.BlockStore.zone c.renew_block.new.store in
@@ -51,10 +58,9 @@ returns-clause-answer g c =
     let log : Log = record a.log { searches = counted a.log.searches made.searches } in
     let found = loose_in zone rest.slots a.names.items _ c.args.handle (Ok c.in_ok-slot.slot) c.deref.ensures.value
     c.in_ok-slot.ensures in
-    rw (c.account.ensures.reply, c.account.ensures.counted, c.is_some.ensures) (is-served _ (is_some made.place) _
-    (moving-done _ _ _ (served_answer (is_some made.place)) zone' rest rest' a.names.items log
+    rw (c.account.ensures.reply, c.account.ensures.counted, c.is_some.ensures) (moving-done _ _ _ (sized_reply (is_some made.place)) zone' rest rest' a.names.items log
     (searching-done _ _ (silent (reallocate_handle c.args.handle c.args.size) value)
-    (served_answer (is_some made.place)) (memory_of zone' (unmoved rest rest') a.names.items a.log)
+    (sized_reply (is_some made.place)) (memory_of zone' (unmoved rest rest') a.names.items a.log)
     (memory_of zone' (unmoved rest rest') a.names.items log)
     (reallocate-told value zone zone' rest rest' a.names.items a.log c.args.handle found.0 c.in_ok-slot.slot c.args.size
     made (memory_as c.self.view_is) found.2 found.3 c.self.invariant.apart found.4 c.in_ok-room.ensures.answer)
@@ -64,7 +70,17 @@ returns-clause-answer g c =
     (reallocate_moves-is value zone zone' rest rest' a.names.items a.log c.args.handle found.0 c.in_ok-slot.slot
     c.args.size made (memory_as c.self.view_is) found.2 found.3 c.self.invariant.apart found.4
     c.in_ok-room.ensures.answer)
-    c.renew_block.ensures.moves))
+    c.renew_block.ensures.moves)
+
+pub returns-in_err-account-clause-answer : goal.returns-in_err-account-clause-answer
+returns-in_err-account-clause-answer g c =
+    let p = err_from_is_err_and c.from_residual-in_err-account.result c.from_residual-in_err-account.ensures.1 in
+    rw (p.1, p.2) (reply-as (told g (goal.at.returns-in_err-account-clause-answer g c).After-account)
+    c.in_err-account.was)
+
+pub returns-clause-answer : goal.returns-clause-answer
+returns-clause-answer g c =
+    reply-as (told g (goal.at.returns-clause-answer g c).After-account) c.in_ok-account.was
 
 pub invariant_of-self : goal.invariant_of-self
 invariant_of-self g c =
@@ -86,30 +102,40 @@ same-self g c = fits-same _ _
 pub same-self-in_err-tell_renewal : goal.same-self-in_err-tell_renewal
 same-self-in_err-tell_renewal g c = fits-same _ _
 
-pub returns-in_err-slot-clause-told : goal.returns-in_err-slot-clause-told
-returns-in_err-slot-clause-told g c some listens =
+pub returns-in_err-slot-clause-hears : goal.returns-in_err-slot-clause-hears
+returns-in_err-slot-clause-hears g c =
     let a = c.self.inside in
     let zone = g.S.BlockStore.zone a.store in
     let rest = g.S.BlockStore.rest a.store in
     let es = a.names.items in
     let found = loose_in zone rest.slots es _ c.args.handle (Err c.in_err-slot.field-0.0) c.deref.ensures.value
     c.in_err-slot.ensures in
-    tells-none g.K.PurgeSink.told (reallocate_handle_gone c.args.handle c.args.size c.args.self.now.memory.heap)
-    c.args.sink.now
+    hears-none g.K.PurgeSink.told g.K.PurgeSink.waits g.K.PurgeSink.listens _ _ c.args.sink.now c.requires.idle
     (reallocate_gone-none c.args.self.now.memory zone rest es a.log c.args.handle c.args.size c.in_err-slot.field-0.0
     (memory_as c.self.view_is) found)
 
-pub returns-clause-told : goal.returns-clause-told
-returns-clause-told g c some listens =
+-- the blocks that are purged
+gone : (g : Over) (c : After-account g) → renewed_gone c.deref-2.result.now c.in_ok-slot.slot c.args.size
+    (g.S.BlockStore.zone c.self.inside.store) ≡ reallocate_handle_gone c.args.handle c.args.size
+    c.args.self.now.memory.heap
+gone g c =
     let a = c.self.inside in
     let zone = g.S.BlockStore.zone a.store in
     let rest = g.S.BlockStore.rest a.store in
     let es = a.names.items in
     let slot = c.in_ok-slot.slot in
     let found = loose_in zone rest.slots es _ c.args.handle (Ok slot) c.deref.ensures.value c.in_ok-slot.ensures in
-    let same = ap (λ (e : List Anchor). renewed_gone e slot c.args.size zone) c.deref-2.ensures.value
+    ap (λ (e : List Anchor). renewed_gone e slot c.args.size zone) c.deref-2.ensures.value
     ∙ reallocate_gone-is c.args.self.now.memory zone rest es a.log c.args.handle found.0 slot c.args.size (memory_as
     c.self.view_is) found.2
-    found.3 c.self.invariant.apart found.4 in
-    subst (λ (l : List Gone). Tells g.K.PurgeSink.told l c.args.sink.now c.tell_renewal.new.sink) same
-    (c.in_ok-tell_renewal.ensures.told listens)
+    found.3 c.self.invariant.apart found.4
+
+pub returns-in_err-account-clause-hears : goal.returns-in_err-account-clause-hears
+returns-in_err-account-clause-hears g c =
+    hears-as g.K.PurgeSink.told g.K.PurgeSink.waits g.K.PurgeSink.listens _ _ _ _ _ _ (λ some. refl)
+    (gone g (goal.at.returns-in_err-account-clause-hears g c).After-account) c.in_ok-tell_renewal.ensures.hears
+
+pub returns-clause-hears : goal.returns-clause-hears
+returns-clause-hears g c =
+    hears-as g.K.PurgeSink.told g.K.PurgeSink.waits g.K.PurgeSink.listens _ _ _ _ _ _ (λ some. refl)
+    (gone g (goal.at.returns-clause-hears g c).After-account) c.in_ok-tell_renewal.ensures.hears

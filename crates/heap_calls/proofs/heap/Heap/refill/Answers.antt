@@ -1,29 +1,28 @@
-use Rattle.std.proofs.Common.{◌≡◌, ◌≢◌, ◌<◌, Some, Err, List, length, sym, ◌∙◌, ap, subst, refl, slice_get, is_some, arith}
+use Rattle.std.proofs.Common.{◌≡◌, ◌<◌, Some, List, length, sym, ◌∙◌, ap, refl, slice_get, is_some, arith}
 use Rattle.std.proofs.lemmas.Result.{err_from_is_err_and}
 use Rattle.block_store.specs.Rest.{counted}
 use Rattle.heap_calls.specs.declared.anchor.Anchor.{Anchor}
 use Rattle.heap_calls.specs.declared.anchor.Anchor.TheVariants.{Handle}
-use Rattle.heap_calls.specs.declared.refusal.Refusal.TheVariants.{HostMemory}
-use Rattle.heap_calls.specs.Gone.{Gone, Tells, refill_gone}
+use Rattle.heap_calls.specs.Gone.{refill_gone}
 use Rattle.heap_calls.specs.Inner.Telling.{renewed_gone}
-use Rattle.heap_calls.proofs.GoneForSizes.{tells-none}
+use Rattle.heap_calls.proofs.Hearing.{hears-as, hears-none}
 use Rattle.heap_calls.proofs.GonePlaces.{refill_gone-is, refill_gone-none}
 use Rattle.heap_calls.proofs.Numbering.Reserved.{fits-same}
 use Rattle.heap_calls.specs.declared.log.Log.{Log}
 use Rattle.heap_calls.specs.Answer.{silent}
-use Rattle.heap_calls.specs.Inside.{refill}
+use Rattle.heap_calls.specs.Inside.{refill, refill_inside}
 use Rattle.heap_calls.specs.Inner.Numbered.{memory_of, no_number}
 use Rattle.heap_calls.proofs.Filled.Refilled.{slot-emptied, refill_searches-is, refill_moves-is, refill-told, refill-refused}
-use Rattle.heap_calls.proofs.NewBlocks.Naming.{is-served}
 use Rattle.heap_calls.proofs.Numbering.Changing.{agrees-kept, unmoved}
 use Rattle.heap_calls.proofs.Numbering.Loosening.{handle_at-by}
 use Rattle.heap_calls.proofs.Numbering.Numbers.{is_relocatable-number, handle_number-at}
-use Rattle.heap_calls.proofs.Numbering.PurgeTrials.{served_answer, searching-done}
+use Rattle.heap_calls.proofs.Numbering.PurgeTrials.{searching-done}
 use Rattle.heap_calls.proofs.Numbering.Roles.{entry-of}
 use Rattle.heap_calls.proofs.Room.MoveCounts.{moving-done}
-use Rattle.heap_calls.proofs.Numbering.Memories.{memory_as}
+use Rattle.heap_calls.proofs.Numbering.Memories.{memory_as, reply-as}
+use Rattle.heap_calls.specs.Inner.Reaching.{sized_reply}
 use Rattle.heap_calls.proofs.heap.Heap.refill.Given.{Over}
-use Rattle.heap_calls.proofs.heap.Heap.refill.Goals.{In_ok-found}
+use Rattle.heap_calls.proofs.heap.Heap.refill.Goals.{In_ok-found, After-account}
 use Rattle.heap_calls.proofs.heap.Heap.refill.Goals as goal
 
 -- the handle's entry
@@ -56,8 +55,12 @@ invariant_of-self-2 g c =
     (g.S.BlockStore.rest a.store) (g.S.BlockStore.rest c.refill_block.new.store) a.names.items c.self.invariant
     c.refill_block.ensures.nonrelocatable c.in_ok-room.ensures.answer.slots
 
-pub returns-clause-answer : goal.returns-clause-answer
-returns-clause-answer g c =
+-- what the call answers where the handle is found
+told : (g : Over) (c : After-account g) → slice_get c.self.inside.names.items c.args.number
+    ≡ Some (Handle c.in_ok-found.found.slot c.in_ok-found.found.guarded)
+    → refill_inside c.args.number c.args.flags c.args.bytes.now c.args.self.now.memory
+    ≡ (c.account.result, c.account.new.self.memory)
+told g c at =
     let a = c.self.inside in
     let zone = g.S.BlockStore.zone a.store in
     let zone' = g.S.BlockStore.zone c.refill_block.new.store in
@@ -71,12 +74,10 @@ returns-clause-answer g c =
     let made = c.in_ok-room.room in
     let value = c.args.self.now.memory in
     let log : Log = record a.log { searches = counted a.log.searches made.searches } in
-    let at = entry g (goal.at.returns-clause-answer g c).In_ok-found in
     let found = handle_at-by zone rest.slots es (Some h) h slot refl at in
     let mine = sym (handle_number-at es h slot at c.self.invariant.apart) in
-    rw (c.account.ensures.reply, c.account.ensures.counted, c.is_some.ensures) (is-served _ (is_some made.place) _
-    (moving-done _ _ _ (served_answer (is_some made.place)) zone' rest rest' es log
-    (searching-done _ _ (silent (refill h flags x) value) (served_answer (is_some made.place))
+    rw (c.account.ensures.reply, c.account.ensures.counted, c.is_some.ensures) (moving-done _ _ _ (sized_reply (is_some made.place)) zone' rest rest' es log
+    (searching-done _ _ (silent (refill h flags x) value) (sized_reply (is_some made.place))
     (memory_of zone' (unmoved rest rest') es a.log) (memory_of zone' (unmoved rest rest') es log)
     (refill-told value zone zone' rest rest' es a.log h slot flags x made _ refl (memory_as c.self.view_is) found mine
     c.in_ok-room.ensures.answer)
@@ -85,7 +86,19 @@ returns-clause-answer g c =
     c.in_ok-room.ensures.answer) refl)
     (refill_moves-is value zone zone' rest rest' es a.log h slot flags x made _ refl (memory_as c.self.view_is) found
     mine
-    c.in_ok-room.ensures.answer) c.refill_block.ensures.moves))
+    c.in_ok-room.ensures.answer) c.refill_block.ensures.moves)
+
+pub returns-in_err-account-clause-answer : goal.returns-in_err-account-clause-answer
+returns-in_err-account-clause-answer g c =
+    let p = err_from_is_err_and c.from_residual-in_err-account.result c.from_residual-in_err-account.ensures.1 in
+    rw (p.1, p.2) (reply-as (told g (goal.at.returns-in_err-account-clause-answer g c).After-account
+    (entry g (goal.at.returns-in_err-account-clause-answer g c).In_ok-found))
+    c.in_err-account.was)
+
+pub returns-clause-answer : goal.returns-clause-answer
+returns-clause-answer g c =
+    reply-as (told g (goal.at.returns-clause-answer g c).After-account
+    (entry g (goal.at.returns-clause-answer g c).In_ok-found)) c.in_ok-account.was
 
 pub same-self : goal.same-self
 same-self g c = fits-same _ _
@@ -101,27 +114,38 @@ returns-in_err-found-clause-answer g c =
     a.names.items c.deref.result.now a.log c.args.number c.args.flags c.args.bytes.now c.in_err-found.field-0.0
     (memory_as c.self.view_is) c.deref.ensures.value (sym c.slot_of.ensures ∙ c.in_err-found.was))
 
-pub returns-in_err-found-clause-told : goal.returns-in_err-found-clause-told
-returns-in_err-found-clause-told g c some listens =
-    let p = err_from_is_err_and c.from_residual.result c.from_residual.ensures.1 in
+pub returns-in_err-found-clause-hears : goal.returns-in_err-found-clause-hears
+returns-in_err-found-clause-hears g c =
     let a = c.self.inside in
-    let coded : c.in_err-found.field-0.0 ≢ HostMemory = λ e. some (p.1 ∙ ap Err (p.2 ∙ e)) in
-    tells-none g.K.PurgeSink.told (refill_gone c.args.number (length c.args.bytes.now) c.args.self.now.memory.heap)
-    c.args.sink.now
+    hears-none g.K.PurgeSink.told g.K.PurgeSink.waits g.K.PurgeSink.listens _ _ c.args.sink.now c.requires.idle
     (refill_gone-none c.args.self.now.memory (g.S.BlockStore.zone a.store) (g.S.BlockStore.rest a.store) a.names.items
     c.deref.result.now a.log c.args.number (length c.args.bytes.now) c.in_err-found.field-0.0 (memory_as c.self.view_is)
-    c.deref.ensures.value (sym c.slot_of.ensures ∙ c.in_err-found.was) coded)
+    c.deref.ensures.value (sym c.slot_of.ensures ∙ c.in_err-found.was))
 
-pub returns-clause-told : goal.returns-clause-told
-returns-clause-told g c some listens =
+-- the blocks that are purged
+gone : (g : Over) (c : After-account g) → slice_get c.self.inside.names.items c.args.number
+    ≡ Some (Handle c.in_ok-found.found.slot c.in_ok-found.found.guarded)
+    → renewed_gone c.deref-2.result.now c.in_ok-found.found.slot (length c.args.bytes.now)
+    (g.S.BlockStore.zone c.self.inside.store) ≡ refill_gone c.args.number (length c.args.bytes.now)
+    c.args.self.now.memory.heap
+gone g c at =
     let a = c.self.inside in
     let zone = g.S.BlockStore.zone a.store in
     let slot = c.in_ok-found.found.slot in
     let n = length c.args.bytes.now in
-    let at = entry g (goal.at.returns-clause-told g c).In_ok-found in
     let small : c.args.number < no_number = omega arith in
-    let same = ap (λ (e : List Anchor). renewed_gone e slot n zone) c.deref-2.ensures.value
+    ap (λ (e : List Anchor). renewed_gone e slot n zone) c.deref-2.ensures.value
     ∙ refill_gone-is c.args.self.now.memory zone (g.S.BlockStore.rest a.store) a.names.items a.log c.args.number slot n
-    (memory_as c.self.view_is) at c.self.invariant.apart small c.requires.emptied in
-    subst (λ (l : List Gone). Tells g.K.PurgeSink.told l c.args.sink.now c.tell_refilling.new.sink) same
-    (c.in_ok-tell_refilling.ensures.told listens)
+    (memory_as c.self.view_is) at c.self.invariant.apart small c.requires.emptied
+
+pub returns-in_err-account-clause-hears : goal.returns-in_err-account-clause-hears
+returns-in_err-account-clause-hears g c =
+    hears-as g.K.PurgeSink.told g.K.PurgeSink.waits g.K.PurgeSink.listens _ _ _ _ _ _ (λ some. refl)
+    (gone g (goal.at.returns-in_err-account-clause-hears g c).After-account
+    (entry g (goal.at.returns-in_err-account-clause-hears g c).In_ok-found)) c.in_ok-tell_refilling.ensures.hears
+
+pub returns-clause-hears : goal.returns-clause-hears
+returns-clause-hears g c =
+    hears-as g.K.PurgeSink.told g.K.PurgeSink.waits g.K.PurgeSink.listens _ _ _ _ _ _ (λ some. refl)
+    (gone g (goal.at.returns-clause-hears g c).After-account
+    (entry g (goal.at.returns-clause-hears g c).In_ok-found)) c.in_ok-tell_refilling.ensures.hears

@@ -5,8 +5,8 @@ use Rattle.heap_calls.proofs.Numbering.Answering.{refused_for, on_found, found_i
 use Rattle.heap_calls.proofs.Numbering.Memories.{memory_as}
 use Rattle.heap_calls.proofs.heap.Heap.size_of.Goals as goal
 
-pub returns-in_err-place-clause-answer : goal.returns-in_err-place-clause-answer
-returns-in_err-place-clause-answer g c =
+pub returns-in_err-place : goal.returns-in_err-place
+returns-in_err-place g c =
     let p = err_from_is_err_and c.from_residual.result c.from_residual.ensures.1 in
     let a = c.self.inside in
     let found = found_in (g.S.BlockStore.zone a.store) (g.S.BlockStore.rest a.store).slots a.names.items _ c.args.handle
@@ -25,8 +25,8 @@ overflow_cast-result g c =
     let n : length c.bytes.result.now ≡ length (content_of found.1.here) = ap length bytes in
     omega (arith, found.5)
 
-pub returns-clause-answer : goal.returns-clause-answer
-returns-clause-answer g c =
+pub returns : goal.returns
+returns g c =
     let a = c.self.inside in
     let found = found_in (g.S.BlockStore.zone a.store) (g.S.BlockStore.rest a.store).slots a.names.items _ c.args.handle
     (Ok c.in_ok-place.place) c.deref.ensures.value c.in_ok-place.ensures in

@@ -1,10 +1,9 @@
-use Rattle.std.proofs.Common.{◌≡◌, ◌+◌, ℕ, Ok, Err, Result, sym, ◌∙◌, ap, arith, subst}
+use Rattle.std.proofs.Common.{◌≡◌, ◌+◌, ℕ, Ok, Err, sym, ◌∙◌, ap, arith}
 use Rattle.std.proofs.lemmas.Result.{err_from_is_err_and}
-use Rattle.mac_words.specs.declared.code.OsErr.{OsErr}
 use Rattle.block_store.specs.Block.{rename_block}
 use Rattle.block_store.specs.Room.{rename_spot}
 use Rattle.heap_calls.specs.State.{Memory}
-use Rattle.heap_calls.specs.Inner.Given.{IsAnswer, seen_flags}
+use Rattle.heap_calls.specs.Inner.Given.{seen_flags}
 use Rattle.heap_calls.specs.Purging.{bit, block_bits}
 use Rattle.heap_calls.specs.Answer.{handle_at}
 use Rattle.heap_calls.specs.Inner.Loose.{bits_of}
@@ -16,8 +15,8 @@ use Rattle.heap_calls.proofs.Numbering.Memories.{memory_as}
 use Rattle.heap_calls.proofs.heap.Heap.state_of.Goals.{then-is_resource, else-is_resource}
 use Rattle.heap_calls.proofs.heap.Heap.state_of.Goals as goal
 
-pub returns-in_err-place-clause-answer : goal.returns-in_err-place-clause-answer
-returns-in_err-place-clause-answer g c =
+pub returns-in_err-place : goal.returns-in_err-place
+returns-in_err-place g c =
     let p = err_from_is_err_and c.from_residual.result c.from_residual.ensures.1 in
     let a = c.self.inside in
     let zone = g.S.BlockStore.zone a.store in
@@ -26,13 +25,11 @@ returns-in_err-place-clause-answer g c =
     let e = c.in_err-place.field-0.0 in
     let found = found_in zone rest.slots a.names.items _ c.args.handle (Err e) c.deref.ensures.value
     c.in_err-place.ensures in
-    let Q : Result ℕ OsErr × Memory → Type 0 = λ x. IsAnswer x (Err e) value in
-    rw (p.1, p.2) (subst Q (sym (h_get_state-bits c.args.handle value zone rest a.names.items a.log (memory_as
-    c.self.view_is)))
-    (refused_for e zone rest a.names.items a.log c.args.handle value (memory_as c.self.view_is) found (bits_answer _)))
+    rw (p.1, p.2) (h_get_state-bits c.args.handle value zone rest a.names.items a.log (memory_as c.self.view_is)
+    ∙ refused_for e zone rest a.names.items a.log c.args.handle value (memory_as c.self.view_is) found (bits_answer _))
 
-pub returns-clause-answer : goal.returns-clause-answer
-returns-clause-answer g c =
+pub returns : goal.returns
+returns g c =
     let a = c.self.inside in
     let zone = g.S.BlockStore.zone a.store in
     let rest = g.S.BlockStore.rest a.store in

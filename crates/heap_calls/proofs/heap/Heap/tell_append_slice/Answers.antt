@@ -4,34 +4,35 @@ use Rattle.block_store.specs.Block.{is_relocatable}
 use Rattle.block_store.specs.declared.sparing.Sparing.TheVariants.{One}
 use Rattle.heap_calls.specs.declared.anchor.Anchor.{Anchor}
 use Rattle.heap_calls.specs.declared.reaching.Reached.{Reached}
-use Rattle.heap_calls.specs.declared.refusal.Refusal.{Refusal}
+use Rattle.mac_words.specs.declared.code.OsErr.{OsErr}
 use Rattle.heap_calls.specs.Gone.{Gone, Tells, pointer_and_hand_gone}
 use Rattle.heap_calls.specs.Inner.Appending.{length_of}
 use Rattle.heap_calls.specs.Inner.Reaching.{Reaches}
 use Rattle.heap_calls.specs.Inner.Telling.{fitted_gone}
+use Rattle.heap_calls.proofs.Hearing.{hears-none, hears-on-ok}
 use Rattle.heap_calls.proofs.GoneForSizes.{tells-none, not_reached-gone, pointer_and_hand-gone, nothing-appended}
 use Rattle.heap_calls.proofs.Numbering.Rebuilding.{reached_in}
 use Rattle.heap_calls.proofs.Numbering.Memories.{memory_as}
 use Rattle.heap_calls.proofs.heap.Heap.tell_append_slice.Goals as goal
 
-pub returns-in_default-clause-told : goal.returns-in_default-clause-told
-returns-in_default-clause-told g c listens =
+pub returns-in_default-clause-hears : goal.returns-in_default-clause-hears
+returns-in_default-clause-hears g c =
     let a = c.self.inside in
     let zone = g.S.BlockStore.zone a.store in
     let rest = g.S.BlockStore.rest a.store in
-    let P : Result Reached Refusal → Type 0 = λ r. Reaches zone rest.slots c.deref.result.now c.args.handle r in
-    tells-none g.K.PurgeSink.told _ c.args.sink.now
+    let P : Result Reached OsErr → Type 0 = λ r. Reaches zone rest.slots c.deref.result.now c.args.handle r in
+    hears-none g.K.PurgeSink.told g.K.PurgeSink.waits g.K.PurgeSink.listens _ _ c.args.sink.now c.requires.idle
     (not_reached-gone c.args.self.now.memory zone rest a.names.items a.log (memory_as c.self.view_is)
     (pointer_and_hand_gone c.args.handle c.args.bytes.now) c.in_default.field-0 c.args.handle _ c.deref.ensures.value
     (subst P c.in_default.is c.reach.ensures) (nothing-appended c.args.handle c.args.bytes.now _))
 
-pub returns-clause-told : goal.returns-clause-told
-returns-clause-told g c =
+pub returns-clause-hears : goal.returns-clause-hears
+returns-clause-hears g c =
     let a = c.self.inside in
     let zone = g.S.BlockStore.zone a.store in
     let rest = g.S.BlockStore.rest a.store in
     let held = c.in-Ok.held in
-    let P : Result Reached Refusal → Type 0 = λ r. Reaches zone rest.slots c.deref.result.now c.args.handle r in
+    let P : Result Reached OsErr → Type 0 = λ r. Reaches zone rest.slots c.deref.result.now c.args.handle r in
     let there = reached_in zone rest.slots a.names.items _ c.args.handle (Ok held) c.deref.ensures.value
     (subst P c.in-Ok.is c.reach.ensures) in
     let same = ap (λ (e : List Anchor). fitted_gone e (is_relocatable held.slot) (One held.slot)
@@ -40,6 +41,5 @@ returns-clause-told g c =
     ∙ pointer_and_hand-gone c.args.self.now.memory zone rest a.names.items a.log (memory_as c.self.view_is)
     c.self.invariant c.args.handle
     held there c.args.bytes.now in
-    on_ok_weaker c.tell_longer.result
-    (λ told listens. subst (λ (l : List Gone). Tells g.K.PurgeSink.told l c.args.sink.now c.tell_longer.new.sink) same told)
-    c.tell_longer.ensures.told
+    hears-on-ok g.K.PurgeSink.told g.K.PurgeSink.waits g.K.PurgeSink.listens c.tell_longer.result _ _ c.args.sink.now
+    c.tell_longer.new.sink (same) c.tell_longer.ensures.told c.tell_longer.ensures.rests

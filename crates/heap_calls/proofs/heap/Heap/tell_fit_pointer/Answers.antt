@@ -5,15 +5,16 @@ use Rattle.block_store.specs.declared.sparing.Sparing.TheVariants.{Nothing}
 use Rattle.heap_calls.specs.declared.anchor.Anchor.{Anchor}
 use Rattle.heap_calls.specs.Gone.{Gone, Tells}
 use Rattle.heap_calls.specs.Inner.Telling.{fitted_gone}
+use Rattle.heap_calls.proofs.Hearing.{hears-none, hears-on-ok}
 use Rattle.heap_calls.proofs.GoneForSizes.{tells-none, set_pointer_size-gone, no_pointer-gone}
 use Rattle.heap_calls.proofs.Numbering.Pointing.{pointer-held, target_in}
 use Rattle.heap_calls.proofs.Numbering.Memories.{memory_as}
 use Rattle.heap_calls.proofs.heap.Heap.tell_fit_pointer.Goals as goal
 
-pub returns-in_default-clause-told : goal.returns-in_default-clause-told
-returns-in_default-clause-told g c listens =
+pub returns-in_default-clause-hears : goal.returns-in_default-clause-hears
+returns-in_default-clause-hears g c =
     let a = c.self.inside in
-    tells-none g.K.PurgeSink.told _ c.args.sink.now
+    hears-none g.K.PurgeSink.told g.K.PurgeSink.waits g.K.PurgeSink.listens _ _ c.args.sink.now c.requires.idle
     (no_pointer-gone c.args.self.now.memory (g.S.BlockStore.zone a.store) (g.S.BlockStore.rest a.store) a.names.items
     a.log c.in_default.field-0 c.args.pointer c.args.size (memory_as c.self.view_is)
     (target_in a.names.items _ c.args.pointer (Err c.in_default.field-0) c.deref.ensures.value
@@ -27,8 +28,8 @@ tell_nonrelocatable-requires-clause-found g c =
     (omega arith) c.deref.ensures.value (sym c.in-Ok.is ∙ c.target_of.ensures) in
     (there.s, there.found, there.at, there.distance)
 
-pub returns-clause-told : goal.returns-clause-told
-returns-clause-told g c =
+pub returns-clause-hears : goal.returns-clause-hears
+returns-clause-hears g c =
     let a = c.self.inside in
     let zone = g.S.BlockStore.zone a.store in
     let there = pointer-held zone (g.S.BlockStore.rest a.store) a.names.items _ c.args.pointer
@@ -38,7 +39,5 @@ returns-clause-told g c =
     c.deref-2.ensures.value
     ∙ set_pointer_size-gone c.args.self.now.memory zone (g.S.BlockStore.rest a.store) a.names.items a.log c.args.pointer
     c.in-Ok.target c.args.size (memory_as c.self.view_is) there c.self.invariant.lone (omega arith) in
-    on_ok_weaker c.tell_nonrelocatable.result
-    (λ told listens. subst (λ (l : List Gone). Tells g.K.PurgeSink.told l c.args.sink.now c.tell_nonrelocatable.new.sink)
-    same told)
-    c.tell_nonrelocatable.ensures.told
+    hears-on-ok g.K.PurgeSink.told g.K.PurgeSink.waits g.K.PurgeSink.listens c.tell_nonrelocatable.result _ _ c.args.sink.now
+    c.tell_nonrelocatable.new.sink (same) c.tell_nonrelocatable.ensures.told c.tell_nonrelocatable.ensures.rests

@@ -7,12 +7,13 @@ use Rattle.heap_calls.specs.State.{Memory}
 use Rattle.heap_calls.specs.Answer.{nothing}
 use Rattle.heap_calls.specs.Gone.{Gone, Tells, more_masters_gone}
 use Rattle.heap_calls.specs.Inner.Telling.{base_gone}
+use Rattle.heap_calls.proofs.Hearing.{hears-as}
 use Rattle.heap_calls.proofs.GoneBlocks.{base_gone-is}
 use Rattle.heap_calls.proofs.Numbering.Memories.{memory_as}
 use Rattle.heap_calls.proofs.heap.Heap.tell_masters.Goals as goal
 
-pub returns-clause-told : goal.returns-clause-told
-returns-clause-told g c =
+pub returns-clause-hears : goal.returns-clause-hears
+returns-clause-hears g c =
     let a = c.self.inside in
     let zone = g.S.BlockStore.zone a.store in
     let rest = g.S.BlockStore.rest a.store in
@@ -21,7 +22,4 @@ returns-clause-told g c =
     (λ b. refl) refl (λ b. refl) Masters in
     let same = ap (λ (e : List Anchor). base_gone e 272 Nothing zone) c.deref.ensures.value ∙ row
     ∙ ap (λ (m : Memory). more_masters_gone m.heap) (memory_as c.self.view_is) in
-    on_ok_weaker c.tell_masters.result
-    (λ told listens. subst (λ (l : List Gone). Tells g.K.PurgeSink.told l c.args.sink.now c.tell_masters.new.sink)
-    same (told listens))
-    c.tell_masters.ensures.told
+    hears-as g.K.PurgeSink.told g.K.PurgeSink.waits g.K.PurgeSink.listens _ _ _ _ _ _ (λ ok. ok) (same) c.tell_masters.ensures.hears

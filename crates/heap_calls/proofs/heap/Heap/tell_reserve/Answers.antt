@@ -7,12 +7,13 @@ use Rattle.heap_calls.specs.State.{Memory}
 use Rattle.heap_calls.specs.Answer.{nothing}
 use Rattle.heap_calls.specs.Gone.{Gone, Tells, reserve_gone}
 use Rattle.heap_calls.specs.Inner.Telling.{base_gone}
+use Rattle.heap_calls.proofs.Hearing.{hears-on-ok}
 use Rattle.heap_calls.proofs.GoneBlocks.{base_gone-is}
 use Rattle.heap_calls.proofs.Numbering.Memories.{memory_as}
 use Rattle.heap_calls.proofs.heap.Heap.tell_reserve.Goals as goal
 
-pub returns-clause-told : goal.returns-clause-told
-returns-clause-told g c =
+pub returns-clause-hears : goal.returns-clause-hears
+returns-clause-hears g c =
     let a = c.self.inside in
     let zone = g.S.BlockStore.zone a.store in
     let rest = g.S.BlockStore.rest a.store in
@@ -23,7 +24,5 @@ returns-clause-told g c =
     ∙ ap (λ (m : Memory). reserve_gone (Some c.in-Some.bytes) m.heap) (memory_as c.self.view_is) in
     let wanted = ap (λ (p : Option ℕ). reserve_gone p c.args.self.now.memory.heap)
     (sym (c.phys.ensures) ∙ c.in-Some.is) in
-    on_ok_weaker c.tell_base.result
-    (λ told listens. subst (λ (l : List Gone). Tells g.K.PurgeSink.told l c.args.sink.now c.tell_base.new.sink)
-    (same ∙ sym wanted) told)
-    c.tell_base.ensures.told
+    hears-on-ok g.K.PurgeSink.told g.K.PurgeSink.waits g.K.PurgeSink.listens c.tell_base.result _ _ c.args.sink.now
+    c.tell_base.new.sink (same ∙ sym wanted) c.tell_base.ensures.told c.tell_base.ensures.rests

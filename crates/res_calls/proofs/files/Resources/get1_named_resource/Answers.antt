@@ -16,7 +16,10 @@ returns-clause-answer g c =
     (managers c.fetch_wanted.new.self c.fetch_wanted.new.heap.memory))
     c.self.view_is c.fetch_wanted.ensures.answer
 
-pub returns-clause-told : goal.returns-clause-told
-returns-clause-told g c some listens =
-    told_current g.K.PurgeSink.told c.args.sink.now c.fetch_wanted.new.sink within.Only (wanted.Named c.args.ty c.args.name) _
-    c.args.self.now c.args.heap.now.memory c.self.view_is (c.fetch_wanted.ensures.told some listens)
+pub returns-clause-hears : goal.returns-clause-hears
+returns-clause-hears g c = record {
+  tells = λ some listens.
+      told_current g.K.PurgeSink.told c.args.sink.now c.fetch_wanted.new.sink within.Only (wanted.Named c.args.ty c.args.name) _
+      c.args.self.now c.args.heap.now.memory c.self.view_is (c.fetch_wanted.ensures.hears.tells some listens);
+  rests = c.fetch_wanted.ensures.hears.rests;
+}

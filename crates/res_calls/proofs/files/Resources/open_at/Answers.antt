@@ -1,4 +1,4 @@
-use Rattle.std.proofs.Common.{ap, sym, ◌∙◌}
+use Rattle.std.proofs.Common.{refl, ap, sym, ◌∙◌}
 use Rattle.res_calls.specs.Files.{Resources}
 use Rattle.res_calls.specs.Given.{managers}
 use Rattle.res_calls.specs.View.{view_file}
@@ -54,7 +54,7 @@ returns-clause-told g c =
     if_some _ _ (view_file c.index.result.now) here (λ some listens. gone_opened g.K.PurgeSink.told c.args.sink.now
     c.open_read.new.sink c.index.result.now.fork.items c.args.self.now c.args.heap.now.memory c.in-Ok.read
     c.deref.result.now
-    low c.deref.ensures.value c.in-Ok.ensures (c.in_ok-open_read.ensures.told listens))
+    low c.deref.ensures.value c.in-Ok.ensures (c.in_ok-open_read.ensures.hears.tells refl listens))
 
 pub returns-in_err-open_read-clause-stopped : goal.returns-in_err-open_read-clause-stopped
 returns-in_err-open_read-clause-stopped g c =
