@@ -9,7 +9,7 @@ use crate::delivering::Target;
 use crate::extracting::{Extraction, Pieces};
 use crate::fault::ToolFault;
 use crate::packing::Packing;
-use crate::parsing::{argument, bad_value, flag, mistake, option, value};
+use crate::parsing::{Word, bad_value, mistake, value, with_words};
 use crate::request::Request;
 use crate::source_words::{derez_command, rez_command, show_command, source_request, style_in};
 use clap::{ArgMatches, Command};
@@ -286,117 +286,161 @@ const FIRST_HELP: &str = "File with the first fork; it is only read";
 
 const SECOND_HELP: &str = "File with the second fork; it is only read";
 
+const WRAP_WORDS: [Word; 3] = [
+    Word::Required("LIKE", LIKE_HELP),
+    Word::Required("FORK", FORK_HELP),
+    Word::Required("OUT", NEW_FILE_HELP),
+];
+
 fn wrap_command<'a>(alloc: Global) -> Result<Command<'a>, AllocError> {
-    Command::new(alloc, "wrap")
+    let command = Command::new(alloc, "wrap")
         .about(WRAP_ABOUT)
-        .after_help(WRAP_EXAMPLES)
-        .arg(argument(alloc, "LIKE", LIKE_HELP))?
-        .arg(argument(alloc, "FORK", FORK_HELP))?
-        .arg(argument(alloc, "OUT", NEW_FILE_HELP))
+        .after_help(WRAP_EXAMPLES);
+    with_words(alloc, command, &WRAP_WORDS)
 }
+
+const MERGE_WORDS: [Word; 5] = [
+    Word::Flag(REPLACE, REPLACE_HELP),
+    Word::Flag(BARE, BARE_HELP),
+    Word::Required("FORK", FORK_HELP),
+    Word::Required("OTHER", OTHER_HELP),
+    Word::Required("OUT", NEW_FORK_HELP),
+];
 
 fn merge_command<'a>(alloc: Global) -> Result<Command<'a>, AllocError> {
-    Command::new(alloc, "merge")
+    let command = Command::new(alloc, "merge")
         .about(MERGE_ABOUT)
-        .after_help(MERGE_EXAMPLES)
-        .arg(flag(alloc, REPLACE, REPLACE_HELP))?
-        .arg(flag(alloc, BARE, BARE_HELP))?
-        .arg(argument(alloc, "FORK", FORK_HELP))?
-        .arg(argument(alloc, "OTHER", OTHER_HELP))?
-        .arg(argument(alloc, "OUT", NEW_FORK_HELP))
+        .after_help(MERGE_EXAMPLES);
+    with_words(alloc, command, &MERGE_WORDS)
 }
+
+const DIFF_WORDS: [Word; 4] = [
+    Word::Flag(SOURCES, SOURCES_HELP),
+    Word::Flag(UTF8, UTF8_HELP),
+    Word::Required("FORK", FIRST_HELP),
+    Word::Required("OTHER", SECOND_HELP),
+];
 
 fn diff_command<'a>(alloc: Global) -> Result<Command<'a>, AllocError> {
-    Command::new(alloc, "diff")
+    let command = Command::new(alloc, "diff")
         .about(DIFF_ABOUT)
-        .after_help(DIFF_EXAMPLES)
-        .arg(flag(alloc, SOURCES, SOURCES_HELP))?
-        .arg(flag(alloc, UTF8, UTF8_HELP))?
-        .arg(argument(alloc, "FORK", FIRST_HELP))?
-        .arg(argument(alloc, "OTHER", SECOND_HELP))
+        .after_help(DIFF_EXAMPLES);
+    with_words(alloc, command, &DIFF_WORDS)
 }
+
+const REWRITE_WORDS: [Word; 3] = [
+    Word::Flag(BARE, BARE_HELP),
+    Word::Required("FORK", FORK_HELP),
+    Word::Required("OUT", NEW_FORK_HELP),
+];
 
 fn rewrite_command<'a>(alloc: Global) -> Result<Command<'a>, AllocError> {
-    Command::new(alloc, "rewrite")
+    let command = Command::new(alloc, "rewrite")
         .about(REWRITE_ABOUT)
-        .after_help(REWRITE_EXAMPLES)
-        .arg(flag(alloc, BARE, BARE_HELP))?
-        .arg(argument(alloc, "FORK", FORK_HELP))?
-        .arg(argument(alloc, "OUT", NEW_FORK_HELP))
+        .after_help(REWRITE_EXAMPLES);
+    with_words(alloc, command, &REWRITE_WORDS)
 }
+
+const GET_WORDS: [Word; 3] = [
+    Word::Required("FORK", FORK_HELP),
+    Word::Required("TYPE", TYPE_HELP),
+    Word::Number("ID", ID_HELP),
+];
 
 fn get_command<'a>(alloc: Global) -> Result<Command<'a>, AllocError> {
-    Command::new(alloc, "get")
+    let command = Command::new(alloc, "get")
         .about(GET_ABOUT)
-        .after_help(GET_EXAMPLES)
-        .arg(argument(alloc, "FORK", FORK_HELP))?
-        .arg(argument(alloc, "TYPE", TYPE_HELP))?
-        .arg(argument(alloc, "ID", ID_HELP).allow_negative_numbers(true))
+        .after_help(GET_EXAMPLES);
+    with_words(alloc, command, &GET_WORDS)
 }
+
+const EXTRACT_WORDS: [Word; 2] = [
+    Word::Required("FORK", FORK_HELP),
+    Word::Required("OUT", FILES_HELP),
+];
 
 fn extract_command<'a>(alloc: Global) -> Result<Command<'a>, AllocError> {
-    Command::new(alloc, "extract")
+    let command = Command::new(alloc, "extract")
         .about(EXTRACT_ABOUT)
-        .after_help(EXTRACT_EXAMPLES)
-        .arg(argument(alloc, "FORK", FORK_HELP))?
-        .arg(argument(alloc, "OUT", FILES_HELP))
+        .after_help(EXTRACT_EXAMPLES);
+    with_words(alloc, command, &EXTRACT_WORDS)
 }
+
+const PACK_WORDS: [Word; 2] = [
+    Word::Required("FOLDER", FOLDER_HELP),
+    Word::Required("OUT", NEW_FORK_HELP),
+];
 
 fn pack_command<'a>(alloc: Global) -> Result<Command<'a>, AllocError> {
-    Command::new(alloc, "pack")
+    let command = Command::new(alloc, "pack")
         .about(PACK_ABOUT)
-        .after_help(PACK_EXAMPLES)
-        .arg(argument(alloc, "FOLDER", FOLDER_HELP))?
-        .arg(argument(alloc, "OUT", NEW_FORK_HELP))
+        .after_help(PACK_EXAMPLES);
+    with_words(alloc, command, &PACK_WORDS)
 }
+
+const UNWRAP_WORDS: [Word; 2] = [
+    Word::Required("FILE", WRAPPED_HELP),
+    Word::Required("OUT", FILES_HELP),
+];
 
 fn unwrap_command<'a>(alloc: Global) -> Result<Command<'a>, AllocError> {
-    Command::new(alloc, "unwrap")
+    let command = Command::new(alloc, "unwrap")
         .about(UNWRAP_ABOUT)
-        .after_help(UNWRAP_EXAMPLES)
-        .arg(argument(alloc, "FILE", WRAPPED_HELP))?
-        .arg(argument(alloc, "OUT", FILES_HELP))
+        .after_help(UNWRAP_EXAMPLES);
+    with_words(alloc, command, &UNWRAP_WORDS)
 }
+
+const SET_WORDS: [Word; 9] = [
+    Word::Flag(BARE, BARE_HELP),
+    Word::Setting(NAME, "NAME", NAME_HELP),
+    Word::Setting(ATTRS, "ATTRS", ATTRS_HELP),
+    Word::Flag(REZ, REZ_HELP),
+    Word::Required("FORK", FORK_HELP),
+    Word::Required("TYPE", TYPE_HELP),
+    Word::Number("ID", ID_HELP),
+    Word::Required("FILE", FILE_HELP),
+    Word::Required("OUT", NEW_FORK_HELP),
+];
 
 fn set_command<'a>(alloc: Global) -> Result<Command<'a>, AllocError> {
-    Command::new(alloc, "set")
+    let command = Command::new(alloc, "set")
         .about(SET_ABOUT)
-        .after_help(SET_EXAMPLES)
-        .arg(flag(alloc, BARE, BARE_HELP))?
-        .arg(option(alloc, NAME, "NAME", NAME_HELP))?
-        .arg(option(alloc, ATTRS, "ATTRS", ATTRS_HELP))?
-        .arg(flag(alloc, REZ, REZ_HELP))?
-        .arg(argument(alloc, "FORK", FORK_HELP))?
-        .arg(argument(alloc, "TYPE", TYPE_HELP))?
-        .arg(argument(alloc, "ID", ID_HELP).allow_negative_numbers(true))?
-        .arg(argument(alloc, "FILE", FILE_HELP))?
-        .arg(argument(alloc, "OUT", NEW_FORK_HELP))
+        .after_help(SET_EXAMPLES);
+    with_words(alloc, command, &SET_WORDS)
 }
+
+const REMOVE_WORDS: [Word; 5] = [
+    Word::Flag(BARE, BARE_HELP),
+    Word::Required("FORK", FORK_HELP),
+    Word::Required("TYPE", TYPE_HELP),
+    Word::Number("ID", ID_HELP),
+    Word::Required("OUT", NEW_FORK_HELP),
+];
 
 fn remove_command<'a>(alloc: Global) -> Result<Command<'a>, AllocError> {
-    Command::new(alloc, "remove")
+    let command = Command::new(alloc, "remove")
         .about(REMOVE_ABOUT)
-        .after_help(REMOVE_EXAMPLES)
-        .arg(flag(alloc, BARE, BARE_HELP))?
-        .arg(argument(alloc, "FORK", FORK_HELP))?
-        .arg(argument(alloc, "TYPE", TYPE_HELP))?
-        .arg(argument(alloc, "ID", ID_HELP).allow_negative_numbers(true))?
-        .arg(argument(alloc, "OUT", NEW_FORK_HELP))
+        .after_help(REMOVE_EXAMPLES);
+    with_words(alloc, command, &REMOVE_WORDS)
 }
 
+const RENAME_WORDS: [Word; 9] = [
+    Word::NumberSetting(NEW_ID, "N", NEW_ID_HELP),
+    Word::Setting(NAME, "NAME", NAME_HELP),
+    Word::Flag(NO_NAME, NO_NAME_HELP),
+    Word::Setting(ATTRS, "ATTRS", ATTRS_HELP),
+    Word::Flag(BARE, BARE_HELP),
+    Word::Required("FORK", FORK_HELP),
+    Word::Required("TYPE", TYPE_HELP),
+    Word::Number("ID", ID_HELP),
+    Word::Required("OUT", NEW_FORK_HELP),
+];
+
 fn rename_command<'a>(alloc: Global) -> Result<Command<'a>, AllocError> {
-    Command::new(alloc, "rename")
+    let command = Command::new(alloc, "rename")
         .about(RENAME_ABOUT)
-        .after_help(RENAME_EXAMPLES)
-        .arg(option(alloc, NEW_ID, "N", NEW_ID_HELP).allow_negative_numbers(true))?
-        .arg(option(alloc, NAME, "NAME", NAME_HELP))?
-        .arg(flag(alloc, NO_NAME, NO_NAME_HELP))?
-        .arg(option(alloc, ATTRS, "ATTRS", ATTRS_HELP))?
-        .arg(flag(alloc, BARE, BARE_HELP))?
-        .arg(argument(alloc, "FORK", FORK_HELP))?
-        .arg(argument(alloc, "TYPE", TYPE_HELP))?
-        .arg(argument(alloc, "ID", ID_HELP).allow_negative_numbers(true))?
-        .arg(argument(alloc, "OUT", NEW_FORK_HELP))
+        .after_help(RENAME_EXAMPLES);
+    with_words(alloc, command, &RENAME_WORDS)
 }
 
 /// Returns the fault of a word that is no type.

@@ -42,6 +42,63 @@ pub fn option<'a>(alloc: Global, name: &'a str, value: &'a str, help: &'a str) -
         .help(help)
 }
 
+/// A word of a command: its name, for an option without its two hyphens, and its help.
+#[derive(Clone, Copy)]
+pub enum Word {
+    /// A required argument.
+    Required(&'static str, &'static str),
+    /// A required number, which may be negative.
+    Number(&'static str, &'static str),
+    /// An argument that may be left out.
+    Optional(&'static str, &'static str),
+    /// A number that may be left out, and may be negative.
+    OptionalNumber(&'static str, &'static str),
+    /// An argument that stands once or several times.
+    Several(&'static str, &'static str),
+    /// A flag.
+    Flag(&'static str, &'static str),
+    /// An option with a value, whose name stands before the help.
+    Setting(&'static str, &'static str, &'static str),
+    /// An option with a number, which may be negative.
+    NumberSetting(&'static str, &'static str, &'static str),
+    /// An option that may stand several times.
+    Settings(&'static str, &'static str, &'static str),
+}
+
+/// Returns a word as the parser has it.
+fn spelled<'a>(alloc: Global, word: Word) -> Arg<'a> {
+    match word {
+        Word::Required(name, help) => argument(alloc, name, help),
+        Word::Number(name, help) => argument(alloc, name, help).allow_negative_numbers(true),
+        Word::Optional(name, help) => argument(alloc, name, help).required(false),
+        Word::OptionalNumber(name, help) => argument(alloc, name, help)
+            .required(false)
+            .allow_negative_numbers(true),
+        Word::Several(name, help) => argument(alloc, name, help).num_args(1..),
+        Word::Flag(name, help) => flag(alloc, name, help),
+        Word::Setting(name, value, help) => option(alloc, name, value, help),
+        Word::NumberSetting(name, value, help) => {
+            option(alloc, name, value, help).allow_negative_numbers(true)
+        }
+        Word::Settings(name, value, help) => {
+            option(alloc, name, value, help).action(ArgAction::Append)
+        }
+    }
+}
+
+/// Returns a command with these words, in the order in which its help has them.
+pub fn with_words<'a>(
+    alloc: Global,
+    command: Command<'a>,
+    words: &'static [Word],
+) -> Result<Command<'a>, AllocError> {
+    let mut command = command;
+    for word in words {
+        command = command.arg(spelled(alloc, *word))?;
+    }
+    Ok(command)
+}
+
 /// Returns the value of an argument that the parser requires.
 pub fn value<'a>(matches: &ArgMatches<'a>, name: &str) -> &'a str {
     matches.get_str(name).unwrap_or("")

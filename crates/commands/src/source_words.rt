@@ -8,10 +8,10 @@ use crate::fault::ToolFault;
 use crate::fork_words::{
     FORK_HELP, ID_HELP, NEW_FORK_HELP, TYPE_HELP, UTF8, charset_in, key_in, type_in,
 };
-use crate::parsing::{argument, flag, option, value};
+use crate::parsing::{Word, value, with_words};
 use crate::request::Request;
 use crate::source_printing::{Part, Printing};
-use clap::{Arg, ArgAction, ArgMatches, Command};
+use clap::{ArgMatches, Command};
 use fork_commands::{Selection, SourceForm};
 use mac_roman::Charset;
 use rez_printing::Numbering;
@@ -120,52 +120,47 @@ const NUMBERS_HELP: &str = "Number the elements of arrays in comments";
 
 const SOURCE_UTF8_HELP: &str = "Print characters beyond ASCII in UTF-8, and not as escapes";
 
-/// Returns the option for files of declarations, which may be given several times.
-fn types_option<'a>(alloc: Global) -> Arg<'a> {
-    option(alloc, TYPES, "FILE", TYPES_HELP).action(ArgAction::Append)
-}
-
-/// Adds the options of the commands that print source.
-fn with_printing_options<'a>(
-    alloc: Global,
-    command: Command<'a>,
-) -> Result<Command<'a>, AllocError> {
-    command
-        .arg(types_option(alloc))?
-        .arg(flag(alloc, DATA, DATA_HELP))?
-        .arg(flag(alloc, NUMBERS, NUMBERS_HELP))?
-        .arg(flag(alloc, UTF8, SOURCE_UTF8_HELP))?
-        .arg(argument(alloc, "FORK", FORK_HELP))
-}
+/// The words of the commands that print source.
+const PRINTING_WORDS: [Word; 5] = [
+    Word::Settings(TYPES, "FILE", TYPES_HELP),
+    Word::Flag(DATA, DATA_HELP),
+    Word::Flag(NUMBERS, NUMBERS_HELP),
+    Word::Flag(UTF8, SOURCE_UTF8_HELP),
+    Word::Required("FORK", FORK_HELP),
+];
 
 pub fn derez_command<'a>(alloc: Global) -> Result<Command<'a>, AllocError> {
     let command = Command::new(alloc, "derez")
         .about(DEREZ_ABOUT)
         .after_help(DEREZ_EXAMPLES);
-    with_printing_options(alloc, command)
+    with_words(alloc, command, &PRINTING_WORDS)
 }
+
+const SHOWN_WORDS: [Word; 2] = [
+    Word::Optional("TYPE", TYPE_HELP),
+    Word::OptionalNumber("ID", ID_HELP),
+];
 
 pub fn show_command<'a>(alloc: Global) -> Result<Command<'a>, AllocError> {
     let command = Command::new(alloc, "show")
         .about(SHOW_ABOUT)
         .after_help(SHOW_EXAMPLES);
-    with_printing_options(alloc, command)?
-        .arg(argument(alloc, "TYPE", TYPE_HELP).required(false))?
-        .arg(
-            argument(alloc, "ID", ID_HELP)
-                .required(false)
-                .allow_negative_numbers(true),
-        )
+    let command = with_words(alloc, command, &PRINTING_WORDS)?;
+    with_words(alloc, command, &SHOWN_WORDS)
 }
 
+const REZ_WORDS: [Word; 4] = [
+    Word::Settings(TYPES, "FILE", TYPES_HELP),
+    Word::Setting(INTO, "FILE", INTO_HELP),
+    Word::Required("SOURCE", SOURCE_HELP),
+    Word::Required("OUT", NEW_FORK_HELP),
+];
+
 pub fn rez_command<'a>(alloc: Global) -> Result<Command<'a>, AllocError> {
-    Command::new(alloc, "rez")
+    let command = Command::new(alloc, "rez")
         .about(REZ_ABOUT)
-        .after_help(REZ_EXAMPLES)
-        .arg(types_option(alloc))?
-        .arg(option(alloc, INTO, "FILE", INTO_HELP))?
-        .arg(argument(alloc, "SOURCE", SOURCE_HELP))?
-        .arg(argument(alloc, "OUT", NEW_FORK_HELP))
+        .after_help(REZ_EXAMPLES);
+    with_words(alloc, command, &REZ_WORDS)
 }
 
 /// Returns the paths of the files of declarations, in the order of the words.

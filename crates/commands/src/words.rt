@@ -12,7 +12,7 @@ use crate::fork_words::{
 };
 use crate::listing::Spelling;
 use crate::parsing::{
-    SCRIPT_HELP, SIZE_HELP, SIZE_RULE, argument, bad_value, flag, mistake, usage, value,
+    SCRIPT_HELP, SIZE_HELP, SIZE_RULE, Word, bad_value, mistake, usage, value, with_words,
 };
 use crate::request::Request;
 use crate::running::Errand;
@@ -206,42 +206,55 @@ The status is 0 if all are canonical or accepted, else 1.
 A single fork that cannot be read is reported as 'macmem: FORK: fork CODE': -39
 (eofErr) no bytes, -199 (mapReadErr) damaged.";
 
+const SCRIPT_WORDS: [Word; 3] = [
+    Word::Flag(PROGRESS, PROGRESS_HELP),
+    Word::Required("SIZE", SIZE_HELP),
+    Word::Required("SCRIPT", SCRIPT_HELP),
+];
+
 fn script_command<'a>(alloc: Global) -> Result<Command<'a>, AllocError> {
-    Command::new(alloc, "script")
+    let command = Command::new(alloc, "script")
         .about(SCRIPT_ABOUT)
         .long_about(SCRIPT_LONG_ABOUT)
-        .after_help(CALLS)
-        .arg(flag(alloc, PROGRESS, PROGRESS_HELP))?
-        .arg(argument(alloc, "SIZE", SIZE_HELP))?
-        .arg(argument(alloc, "SCRIPT", SCRIPT_HELP))
+        .after_help(CALLS);
+    with_words(alloc, command, &SCRIPT_WORDS)
 }
+
+const RUN_WORDS: [Word; 4] = [
+    Word::Flag(BARE, RUN_BARE_HELP),
+    Word::Flag(PROGRESS, PROGRESS_HELP),
+    Word::Required("JOB", JOB_HELP),
+    Word::Required("OUT", OUT_HELP),
+];
 
 fn run_command<'a>(alloc: Global) -> Result<Command<'a>, AllocError> {
-    Command::new(alloc, "run")
+    let command = Command::new(alloc, "run")
         .about(RUN_ABOUT)
-        .long_about(RUN_LONG_ABOUT)
-        .arg(flag(alloc, BARE, RUN_BARE_HELP))?
-        .arg(flag(alloc, PROGRESS, PROGRESS_HELP))?
-        .arg(argument(alloc, "JOB", JOB_HELP))?
-        .arg(argument(alloc, "OUT", OUT_HELP))
+        .long_about(RUN_LONG_ABOUT);
+    with_words(alloc, command, &RUN_WORDS)
 }
+
+const MAP_WORDS: [Word; 4] = [
+    Word::Flag(TEXT, TEXT_HELP),
+    Word::Flag(UTF8, UTF8_HELP),
+    Word::Flag(VERBOSE, VERBOSE_HELP),
+    Word::Required("FORK", FORK_HELP),
+];
 
 fn map_command<'a>(alloc: Global) -> Result<Command<'a>, AllocError> {
-    Command::new(alloc, "map")
+    let command = Command::new(alloc, "map")
         .about(MAP_ABOUT)
-        .after_help(MAP_EXAMPLES)
-        .arg(flag(alloc, TEXT, TEXT_HELP))?
-        .arg(flag(alloc, UTF8, UTF8_HELP))?
-        .arg(flag(alloc, VERBOSE, VERBOSE_HELP))?
-        .arg(argument(alloc, "FORK", FORK_HELP))
+        .after_help(MAP_EXAMPLES);
+    with_words(alloc, command, &MAP_WORDS)
 }
 
+const CHECK_WORDS: [Word; 2] = [Word::Flag(WHY, WHY_HELP), Word::Several("FORK", FORKS_HELP)];
+
 fn check_command<'a>(alloc: Global) -> Result<Command<'a>, AllocError> {
-    Command::new(alloc, "check")
+    let command = Command::new(alloc, "check")
         .about(CHECK_ABOUT)
-        .after_help(CHECK_EXAMPLES)
-        .arg(flag(alloc, WHY, WHY_HELP))?
-        .arg(argument(alloc, "FORK", FORKS_HELP).num_args(1..))
+        .after_help(CHECK_EXAMPLES);
+    with_words(alloc, command, &CHECK_WORDS)
 }
 
 fn program<'a>(alloc: Global) -> Result<Command<'a>, AllocError> {
