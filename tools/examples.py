@@ -6,8 +6,8 @@ usage: tools/examples.py PROGRAM PAGE..
 An example is a block of a page (indented by four spaces, or between fences) of one of four forms:
 
 - Its first line begins with `$ `. Such a line is a command, and the lines after it, up to the next one or to the end of the block,
-  are what it prints. Commands are run by bash, one block after another in a folder of the page's own that has `examples/`, with
-  PROGRAM as `macmem` on the path.
+  are what it prints. Commands are run by bash, one block after another in a folder of the page's own that has `examples/` and
+  `tools/`, with PROGRAM as `macmem` on the path.
 - Its fence is followed by `script SIZE`. The left column is then a script, and the column beside it, two spaces or more away, has the
   lines of its transcript without the first and the last; a third column is a remark.
 - Its fence is followed by `script SIZE`, and the fence of the next block by `transcript`: the first is a script, and the second its
@@ -113,6 +113,7 @@ def main(program, pages):
         for number, page in enumerate(pages):
             folder = f"{room}/{number}"
             shutil.copytree(f"{top}/examples", f"{folder}/examples")
+            os.symlink(f"{top}/tools", f"{folder}/tools")
             with open(page, encoding="utf-8") as it:
                 text = it.read()
             found = blocks(text)
