@@ -41,7 +41,7 @@ MODES = {"REFUSE_AT": "allocation {} refused", "REFUSE_FROM": "allocation {} and
 OPTIONS = {"--counts", "--all"}
 # What the library counts: allocations, refusals, writes to the standard error, and the allocations before each of these.
 COUNTS = struct.Struct("131Q")
-COMMANDS = "script", "heap", "run", "map", "check", "get", "extract", "set", "diff", "rewrite", "derez", "show", "rez"
+COMMANDS = "script", "heap", "lint", "run", "map", "check", "get", "extract", "set", "diff", "rewrite", "derez", "show", "rez"
 # Commands that are tried with options too, but for those that are words alone.
 WITH_OPTIONS = "derez", "show", "rez"
 NAMED_OPTIONS = {"--rez", "--text", "--name", "--attrs"}
@@ -128,7 +128,7 @@ def is_input(words, parts):
     if words[0] not in COMMANDS or any(it.startswith("/") for it in words) or any(it in parts for it in OTHERS):
         return False
     is_plain = words[0] in WITH_OPTIONS or all(not it.startswith("-") or it in NAMED_OPTIONS for it in words)
-    return is_plain and int(parts.get("status", b"0")) == (words[0] == "diff" and bool(parts.get("stdout")))
+    return is_plain and int(parts.get("status", b"0")) == (words[0] in ("diff", "lint") and bool(parts.get("stdout")))
 
 
 def inputs_of_archive(path):

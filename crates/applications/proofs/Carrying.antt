@@ -5,7 +5,7 @@ use Rattle.mac_words.specs.declared.code.OsErr.{OsErr}
 use Rattle.mac_words.specs.declared.call.Call.{Call}
 use Rattle.mac_words.specs.declared.call.Call.TheVariants as call
 use Rattle.heap_calls.specs.State.{State, Memory}
-use Rattle.heap_calls.specs.Naming.{first_named, second_named}
+use Rattle.heap_calls.specs.Table.{first_named, second_named}
 use Rattle.script_text.specs.declared.script.Line.{Line}
 use Rattle.res_calls.specs.Asked.{named}
 use Rattle.applications.specs.Trying.{Running, Blocks, Tried, once, asked, resource_asked, code_told}

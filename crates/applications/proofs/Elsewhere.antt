@@ -11,9 +11,7 @@ use Rattle.block_store.specs.Block.{sizes, free, fresh}
 use Rattle.heap_calls.specs.State.{Memory, fresh_memory}
 use Rattle.mac_words.specs.Told.{Told}
 use Rattle.heap_calls.specs.Asked.{Asked}
-use Rattle.heap_calls.specs.Busy.{served}
-use Rattle.heap_calls.specs.GoneBy.{gone_in}
-use Rattle.heap_calls.specs.Naming.{first_named, second_named}
+use Rattle.heap_calls.specs.Table.{served, gone_in, first_named, second_named}
 use Rattle.heap_calls.proofs.Tries.Elsewhere.{elsewhere, served-elsewhere, gone-elsewhere as heap-gone-elsewhere}
 use Rattle.script_text.specs.declared.script.Line.{Line}
 use Rattle.res_calls.specs.Files.{Resources}

@@ -23,7 +23,7 @@ use Rattle.res_calls.specs.Asked.{ResourceAsked}
 use Rattle.res_calls.specs.Asked as finds
 use Rattle.res_calls.specs.Writing.{writes}
 use Rattle.mac_words.specs.declared.segment_call.SegmentCall.{SegmentCall}
-use Rattle.heap_calls.specs.GoneBy.{gone_in}
+use Rattle.heap_calls.specs.Table.{gone_in}
 use Rattle.res_calls.specs.Gone as purges
 use Rattle.res_calls.specs.Purging.{heard}
 use Rattle.res_calls.proofs.Storing.{gone-files}

@@ -11,7 +11,7 @@ use Rattle.res_calls.specs.Asked.{named}
 use Rattle.heap_calls.specs.State.{Memory}
 use Rattle.heap_calls.specs.Asked.{Asked}
 use Rattle.heap_calls.specs.Busy.{Places, idle, holds, busied, eased}
-use Rattle.heap_calls.specs.Naming.{first_named, second_named}
+use Rattle.heap_calls.specs.Table.{first_named, second_named}
 use Rattle.script_text.specs.declared.script.Line.{Line}
 use Rattle.applications.specs.Names.{Bindings}
 use Rattle.applications.specs.Trying.{Running, Blocks, Tried, once, asked, resource_asked, code_told}

@@ -10,10 +10,11 @@ use Rattle.block_store.specs.declared.flags.Flags.{Flags}
 use Rattle.block_store.specs.Block.{Block}
 use Rattle.heap_calls.specs.State.{Role, State, Memory}
 use Rattle.heap_calls.specs.Answer.{nothing}
-use Rattle.heap_calls.specs.Asked.{Asked, answered}
+use Rattle.heap_calls.specs.Asked.{Asked}
+use Rattle.heap_calls.specs.Table.{answered, served}
 use Rattle.heap_calls.specs.Asked as asks
-use Rattle.heap_calls.specs.Busy.{served}
-use Rattle.heap_calls.specs.Refused.{refused_zone, code_left, slotted_zone}
+use Rattle.heap_calls.specs.Refused.{refused_zone, code_left}
+use Rattle.heap_calls.specs.Slots.{slotted_zone}
 use Rattle.heap_calls.specs.Staying.{CostsAtMostMasters}
 use Rattle.heap_calls.specs.Inside.{new_inside, refill_inside, has_block}
 use Rattle.heap_calls.specs.Path.{Step, NewFilled, NewEmpty, Refill, Release, Cast, stepped, walk, reads, read_by, read_new}

@@ -14,7 +14,8 @@ use Rattle.mac_words.specs.declared.call.HeapCall.TheVariants as heap
 use Rattle.heap_calls.specs.State.{Memory}
 use Rattle.heap_calls.specs.Pointers.{pointed_at, show_pointer}
 use Rattle.heap_calls.specs.Answer.{Held, look_up, for_found, show, silent}
-use Rattle.heap_calls.specs.Busy.{served, barred, pointer_barred, unless_silent}
+use Rattle.heap_calls.specs.Busy.{barred, pointer_barred, unless_silent}
+use Rattle.heap_calls.specs.Table.{served}
 use Rattle.block_store.specs.Block.{content_of}
 use Rattle.script_text.specs.declared.word.CallWord.{CallWord}
 use Rattle.script_text.specs.Call.{word_of}

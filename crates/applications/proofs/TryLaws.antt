@@ -18,7 +18,7 @@ use Rattle.heap_calls.specs.State.{State, Memory, fresh_memory}
 use Rattle.mac_words.specs.Told.{Told, Done, Given, Fetched, Number, Numbers, Code, Bytes, Kind, Info, Entry, Refused}
 use Rattle.heap_calls.specs.Asked.{Asked}
 use Rattle.heap_calls.specs.Asked as asks
-use Rattle.heap_calls.specs.Busy.{served}
+use Rattle.heap_calls.specs.Table.{served, gone_in}
 use Rattle.heap_calls.proofs.Promises.Knowing.{Known, holds-known, known-fresh}
 use Rattle.heap_calls.proofs.Promises.StandingLaws.{next-new}
 use Rattle.heap_calls.proofs.Promises.FewSearches.{unsearched}
@@ -40,7 +40,6 @@ use Rattle.script_text.specs.declared.script.Line.{Line}
 use Rattle.heap_calls.specs.Path.{put_reads}
 use Rattle.applications.specs.Trying.{Running, Blocks, once, storing, asked, resource_asked, managers_of, program_of}
 use Rattle.applications.specs.Trying.{nowhere}
-use Rattle.heap_calls.specs.GoneBy.{gone_in}
 use Rattle.res_calls.specs.Gone as purges
 use Rattle.res_calls.specs.Purging.{heard, stored_gone}
 use Rattle.res_calls.proofs.Storing.{gone-files, heard-none}

@@ -15,11 +15,11 @@ use Rattle.heap_calls.specs.Emptying.{has_purgeable, takes_block}
 use Rattle.heap_calls.specs.Refused.{refused_zone, code_left}
 use Rattle.heap_calls.specs.Staying.{CostsAtMostMasters}
 use Rattle.heap_calls.specs.Busy.{idle}
-use Rattle.heap_calls.specs.GoneBy.{gone_in}
+use Rattle.heap_calls.specs.Table.{gone_in}
 use Rattle.script_text.specs.declared.script.Line.{Line}
 use Rattle.heap_calls.specs.Path.{put_reads}
 use Rattle.heap_calls.specs.Answer.{nothing}
-use Rattle.heap_calls.specs.Refused.{slotted_zone}
+use Rattle.heap_calls.specs.Slots.{slotted_zone}
 use Rattle.res_calls.specs.Fetch.{Reads}
 use Rattle.res_calls.specs.Disposing.{disposes_of, opens_file}
 use Rattle.res_calls.specs.Writing.{writes}

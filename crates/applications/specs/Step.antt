@@ -13,7 +13,7 @@ use Rattle.heap_calls.specs.State.{State, Memory}
 use Rattle.mac_words.specs.Told.{Told, Given, Fetched}
 use Rattle.heap_calls.specs.Asked.{Asked}
 use Rattle.heap_calls.specs.Busy.{busied, eased, with_busy, keep_code}
-use Rattle.heap_calls.specs.Naming.{first_named, second_named}
+use Rattle.heap_calls.specs.Table.{first_named, second_named}
 use Rattle.heap_calls.specs.Staying.{ease}
 use Rattle.res_calls.specs.Fetch.{Reads}
 use Rattle.res_calls.specs.Asked.{ResourceAsked, named}

@@ -18,9 +18,8 @@ use Rattle.heap_calls.specs.State.{Memory, fresh_memory}
 use Rattle.mac_words.specs.Told.{Told, Done, Given, Fetched, Number, Numbers, Code, Bytes, Kind, Info, Entry, Refused}
 use Rattle.heap_calls.specs.Asked.{Asked}
 use Rattle.heap_calls.specs.Asked as asks
-use Rattle.heap_calls.specs.Busy.{served}
+use Rattle.heap_calls.specs.Table.{served, gone_in}
 use Rattle.heap_calls.specs.Gone.{Gone}
-use Rattle.heap_calls.specs.GoneBy.{gone_in}
 use Rattle.fork_format.specs.Content.{Content}
 use Rattle.fork_format.specs.Canonical.{canon}
 use Rattle.res_map.specs.Map.{map_of}

@@ -1,7 +1,7 @@
 //! The handles and pointers that a call names.
 
 ghost use Rattle.std.specs.Prelude.{◌≡◌};
-ghost use Rattle.heap_calls.specs.Naming.{first_named, second_named};
+ghost use Rattle.heap_calls.specs.Table.{first_named, second_named};
 ghost use Rattle.res_calls.specs.Asked as finds;
 ghost use Rattle.applications.specs.Trying.{asked, resource_asked};
 

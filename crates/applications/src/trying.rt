@@ -2,9 +2,8 @@
 
 ghost use Rattle.std.specs.Prelude.{◌≡◌, [], true, false, IfOk, OnOk, OnErr, IsOk};
 ghost use Rattle.std.specs.Option.{option_map};
-ghost use Rattle.heap_calls.specs.Busy.{served};
+ghost use Rattle.heap_calls.specs.Table.{served, gone_in};
 ghost use Rattle.heap_calls.specs.Gone.{IsIdle, Hears};
-ghost use Rattle.heap_calls.specs.GoneBy.{gone_in};
 ghost use Rattle.applications.specs.Trying.{asked, once, storing, control_tried};
 ghost use Rattle.applications.specs.Step.{deed_of};
 ghost use Rattle.applications.specs.Laws.{writes_files};

@@ -86,6 +86,8 @@ fn a_host_that_refuses_memory_is_reported(rt: HostRuntime) -> Result<(), Fail> {
     const CASES: &[&[&str]] = &[
         &["macmem", "check", "large"],
         &["macmem", "script", "1024", "large"],
+        &["macmem", "lint", "large"],
+        &["macmem", "lint", "file", "closed", "large"],
         &["macmem", "run", "large", "out"],
     ];
     for words in CASES {

@@ -1,44 +1,47 @@
--- What a survey asks for, done of one file or of several.
-use Rattle.std.proofs.Common.{◌≡◌, ℕ, List, Option, inl, inr, subst}
+-- What a survey asks for, done of one path.
+use Rattle.std.proofs.Common.{◌≡◌, ℕ, List, Option, false, inl, inr, refl, subst}
 use Rattle.commands.specs.declared.ending.Ending.{Ending}
-use Rattle.commands.specs.declared.surveying.Survey.{Survey}
 use Rattle.commands.specs.declared.tasks.Task.{Task}
 use Rattle.commands.specs.declared.tasks.Work.TheVariants as work
 use Rattle.commands.specs.Accesses.{Access}
-use Rattle.commands.specs.Doing.{Looks, IsUnseen, Checks, IsUnchecked}
+use Rattle.commands.specs.Doing.{Looks, IsUnseen, ChecksOne, IsOneUnchecked}
 use Rattle.commands.specs.Fault.{Message}
-use Rattle.commands.specs.Surveying.{IsLone, Surveys, IsUnsurveyed}
-
-pub all_checked : (s : Survey) (ending : Ending) (p q : Option (List ℕ)) (old new : Option (List Access))
-    → Surveys s ending p q old new → Checks s ending p q old new
-all_checked s ending p q old new h = inr h
-
-pub all_unchecked : (s : Survey) (p q : Option (List ℕ)) (old new : Option (List Access)) (message : Message)
-    → IsUnsurveyed s p q old new message → IsUnchecked s p q old new message
-all_unchecked s p q old new message h = inr h
+use Rattle.commands.specs.Surveying.{Lists, IsFolderSurveyed, IsUnlisted}
 
 -- the host was asked whether a folder lies at the path, which nothing shows
-pub one_checked : (s : Survey) (task : Task) (ending : Ending) (p mid q : Option (List ℕ)) (old then new : Option (List Access))
-    → mid ≡ p → then ≡ old → task.work ≡ work.Check → IsLone s task.path.now → Looks task ending mid q then new
-    → Checks s ending p q old new
-one_checked s task ending p mid q old then new quiet same is lone h = inl (
-  task,
-  is,
-  lone,
-  subst (λ a. Looks task ending p q a new) same (subst (λ x. Looks task ending x q then new) quiet h),
-)
+still_checked : (path : List ℕ) (ending : Ending) (p mid q : Option (List ℕ)) (old then new : Option (List Access))
+    → mid ≡ p → then ≡ old → ChecksOne path ending mid q then new → ChecksOne path ending p q old new
+still_checked path ending p mid q old then new quiet same h =
+    subst (λ a. ChecksOne path ending p q a new) same (subst (λ x. ChecksOne path ending x q then new) quiet h)
 
-pub one_unchecked : (s : Survey) (task : Task) (p mid q : Option (List ℕ)) (old then new : Option (List Access))
-    (message : Message) → mid ≡ p → then ≡ old → task.work ≡ work.Check → IsLone s task.path.now
-    → IsUnseen task mid q then new message → IsUnchecked s p q old new message
-one_unchecked s task p mid q old then new message quiet same is lone h = inl (
-  task,
-  is,
-  lone,
-  subst (λ a. IsUnseen task p q a new message) same (subst (λ x. IsUnseen task x q then new message) quiet h),
-)
+still_unchecked : (path : List ℕ) (p mid q : Option (List ℕ)) (old then new : Option (List Access)) (message : Message)
+    → mid ≡ p → then ≡ old → IsOneUnchecked path mid q then new message → IsOneUnchecked path p q old new message
+still_unchecked path p mid q old then new message quiet same h =
+    subst (λ a. IsOneUnchecked path p q a new message) same
+    (subst (λ x. IsOneUnchecked path x q then new message) quiet h)
 
-pub still_unchecked : (s : Survey) (p mid q : Option (List ℕ)) (old then new : Option (List Access)) (message : Message)
-    → mid ≡ p → then ≡ old → IsUnchecked s mid q then new message → IsUnchecked s p q old new message
-still_unchecked s p mid q old then new message quiet same h =
-    subst (λ a. IsUnchecked s p q a new message) same (subst (λ x. IsUnchecked s x q then new message) quiet h)
+-- no folder does, and the file was looked at
+pub file_checked : (task : Task) (ending : Ending) (p mid q : Option (List ℕ)) (old then new : Option (List Access))
+    → mid ≡ p → then ≡ old → task.work ≡ work.Check → Looks task ending mid q then new
+    → ChecksOne task.path.now ending p q old new
+file_checked task ending p mid q old then new quiet same is h =
+    still_checked task.path.now ending p mid q old then new quiet same (inl (task, is, refl, h))
+
+pub file_unchecked : (task : Task) (p mid q : Option (List ℕ)) (old then new : Option (List Access)) (message : Message)
+    → mid ≡ p → then ≡ old → task.work ≡ work.Check → IsUnseen task mid q then new message
+    → IsOneUnchecked task.path.now p q old new message
+file_unchecked task p mid q old then new message quiet same is h =
+    still_unchecked task.path.now p mid q old then new message quiet same (inl (task, is, refl, h))
+
+-- one does, and its lines were printed
+pub folder_checked : (path : List ℕ) (ending : Ending) (p mid q : Option (List ℕ)) (old then new : Option (List Access))
+    → mid ≡ p → then ≡ old → Lists (IsFolderSurveyed path) false ending mid q then new
+    → ChecksOne path ending p q old new
+folder_checked path ending p mid q old then new quiet same h =
+    still_checked path ending p mid q old then new quiet same (inr h)
+
+pub folder_unchecked : (path : List ℕ) (p mid q : Option (List ℕ)) (old then new : Option (List Access)) (message : Message)
+    → mid ≡ p → then ≡ old → IsUnlisted (IsFolderSurveyed path) false mid q then new message
+    → IsOneUnchecked path p q old new message
+folder_unchecked path p mid q old then new message quiet same h =
+    still_unchecked path p mid q old then new message quiet same (inr h)

@@ -19,6 +19,7 @@ pub mod TwoFiles
 mod Wholes
 mod Writes
 mod Surveyed
+mod Linted
 mod Described
 mod Checked
 mod Opened

@@ -6,11 +6,10 @@ use Rattle.std.proofs.lemmas.Grind.{flat_map-append}
 use Rattle.std.proofs.lemmas.List.Folds.{list_all-append}
 use Rattle.commands.specs.Accesses.{Access, Read, Listed, Folder, Write, Failed, and_then}
 use Rattle.commands.specs.declared.delivering.Target.TheVariants.{Printed}
-use Rattle.commands.specs.declared.surveying.Survey.{Survey}
 use Rattle.commands.specs.Delivering.{IsUndelivered}
 use Rattle.commands.specs.Fault.{Message}
-use Rattle.commands.specs.Surveying.{IsSeen, AreSeen, IsSurveyed, AreSurveyed, line_of, is_good, is_reading, Went, OnlyReads}
-use Rattle.commands.specs.Surveying.{paths_of, IsUnsurveyed, Undelivered}
+use Rattle.commands.specs.Surveying.{IsSeen, AreSeen, IsFolderSurveyed, IsSurveyed, AreSurveyed, line_of, is_good, is_reading, Went, OnlyReads}
+use Rattle.commands.specs.Surveying.{IsUnlisted, Undelivered}
 use Rattle.commands.proofs.Accesses.{none, one_more}
 
 -- what holds in any case holds of a fault
@@ -18,7 +17,7 @@ pub for_err : {A E : Type 0} (r : Result A E) (Q : Type 0) → Q → IfErr r (λ
 for_err (Ok x) Q q = tt
 for_err (Err e) Q q = q
 
-both : {a b : Bool} → a ≡ true → b ≡ true → (a && b) ≡ true
+pub both : {a b : Bool} → a ≡ true → b ≡ true → (a && b) ≡ true
 both p q = cc
 
 -- a file that is seen is read
@@ -41,7 +40,8 @@ seen_reads path a h = both (seen_reads_one path a h) refl
 -- the files of a folder are read
 pub surveyed_reads : (path : List ℕ) (xs : List Access) → IsSurveyed path xs → list_all is_reading xs ≡ true
 surveyed_reads path xs (inl h) = all_seen_read (path ∷ []) xs h
-surveyed_reads path xs (inr (files, seen, is, h)) = ap (list_all is_reading) is ∙ all_seen_read files seen h
+surveyed_reads path xs (inr (inl (files, seen, is, h))) = ap (list_all is_reading) is ∙ all_seen_read files seen h
+surveyed_reads path xs (inr (inr is)) = ap (list_all is_reading) is
 
 -- what is read is only reading
 pub only_reads : (old new : Option (List Access)) (xs : List Access) → list_all is_reading xs ≡ true → new ≡ and_then old xs
@@ -138,10 +138,10 @@ listed_went why folder files old mid t p listed = record {
 pub folder_surveyed : {E : Type 0} (r : Result (Unit {0}) E) (why : Bool) (folder : List ℕ) (files : List (List ℕ))
     (old mid new : Option (List Access)) (t u : List ℕ) (p q : Bool) → mid ≡ and_then old (Listed folder files ∷ [])
     → OnOk r ((seen : List Access) × AreSeen files seen × Went why seen mid new t u p q)
-    → OnOk r ((xs : List Access) × IsSurveyed folder xs × Went why xs old new t u p q)
+    → OnOk r ((xs : List Access) × IsFolderSurveyed folder xs × Went why xs old new t u p q)
 folder_surveyed (Ok x) why folder files old mid new t u p q listed (seen, are, went) = (
   Listed folder files ∷ seen,
-  inr (files, seen, refl, are),
+  inl (files, seen, refl, are),
   went_on why (Listed folder files ∷ []) seen old mid new t t u p p q (listed_went why folder files old mid t p listed) went,
 )
 folder_surveyed (Err e) why folder files old mid new t u p q listed h = tt
@@ -153,11 +153,11 @@ folder_stopped (Ok x) folder files old mid new listed h = tt
 folder_stopped (Err e) folder files old mid new listed h = reads_on old mid new (Listed folder files ∷ []) refl listed h
 
 -- the lines were not printed to their end
-pub unsurveyed : (s : Survey) (xs : List Access) (sent : List ℕ) (p mid q : Option (List ℕ))
-    (old then new : Option (List Access)) (message : Message) → mid ≡ p → AreSurveyed (paths_of s) xs
-    → then ≡ and_then old xs → sent ≡ flat_map (line_of s.why) xs → IsUndelivered Printed sent mid q then new message
-    → IsUnsurveyed s p q old new message
-unsurveyed s xs sent p mid q old then new message silent are is all h = Undelivered xs are
+pub unlisted : (Are : List Access → Type 0) (why : Bool) (xs : List Access) (sent : List ℕ) (p mid q : Option (List ℕ))
+    (old then new : Option (List Access)) (message : Message) → mid ≡ p → Are xs → then ≡ and_then old xs
+    → sent ≡ flat_map (line_of why) xs → IsUndelivered Printed sent mid q then new message
+    → IsUnlisted Are why p q old new message
+unlisted Are why xs sent p mid q old then new message silent are is all h = Undelivered xs are
     (subst (λ x. IsUndelivered Printed x p q (and_then old xs) new message) all
     (subst (λ a. IsUndelivered Printed sent p q a new message) is
     (subst (λ x. IsUndelivered Printed sent x q then new message) silent h)))

@@ -12,13 +12,14 @@ use Rattle.commands.specs.declared.extracting.Pieces.{Pieces}
 use Rattle.commands.specs.declared.extracting.Pieces.TheVariants.{Resources, Forks}
 use Rattle.commands.specs.declared.source_printing.Part.{Part}
 use Rattle.commands.specs.declared.source_printing.Part.TheVariants.{Whole, Selected}
+use Rattle.commands.specs.Linting as linting
 use Rattle.commands.specs.SourcePrinting as printing
 use Rattle.commands.specs.Assembling as assembling
 use Rattle.commands.specs.declared.tasks.Work.{Work}
 use Rattle.commands.specs.declared.tasks.Work.TheVariants as work
 use Rattle.commands.specs.Surveying.{paths_of}
 use Rattle.commands.specs.declared.request.Request.{Request}
-use Rattle.commands.specs.declared.request.Request.TheVariants.{Look, Check, Run, Show, Convert, Combine, Extract, Pack, Print, Assemble}
+use Rattle.commands.specs.declared.request.Request.TheVariants.{Look, Check, Lint, Run, Show, Convert, Combine, Extract, Pack, Print, Assemble}
 
 -- Which words of a command line ask for a request. The first word is the program's name, and the second the command's.
 
@@ -73,6 +74,7 @@ part_word (Selected selection) = codes "show"
 abbrev pub command_of : Request → Option (List ℕ)
 command_of (Look task) = Some (look_word task.work)
 command_of (Check survey) = Some (codes "check")
+command_of (Lint l) = Some (codes "lint")
 command_of (Run errand) = Some (codes "run")
 command_of (Show zone) = Some (codes "heap")
 command_of (Convert c) = convert_word c.work c.target
@@ -125,6 +127,7 @@ path_in (NewFile path) = path.now ∷ []
 abbrev pub Names : Request → List (List ℕ) → Type 0
 Names (Look task) words = StandIn words (task.path.now ∷ [])
 Names (Check survey) words = StandIn words (paths_of survey)
+Names (Lint l) words = StandIn words (linting.paths_of l)
 Names (Run errand) words = StandIn words (errand.job.now ∷ errand.out.now ∷ [])
 Names (Show zone) words = HasValue words (codes "--job") zone.job.now × HasValue words (codes "--app") zone.app.now
 Names (Convert c) words = StandIn words (c.path.now ∷ path_in c.target)

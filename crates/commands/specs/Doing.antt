@@ -1,15 +1,16 @@
-use Rattle.std.specs.Prelude.{◌≡◌, ◌⊎◌, ℕ, Option, List, [], ◌∷◌}
+use Rattle.std.specs.Prelude.{◌≡◌, ◌⊎◌, ℕ, false, Option, Some, None, List, [], ◌∷◌}
 use Rattle.commands.specs.declared.ending.Ending.{Ending}
 use Rattle.commands.specs.declared.ending.Ending.TheVariants.{Done}
 use Rattle.commands.specs.declared.tasks.Task.{Task}
 use Rattle.commands.specs.declared.request.Request.{Request}
-use Rattle.commands.specs.declared.request.Request.TheVariants.{Look, Check, Run, Show, Convert, Combine, Extract, Pack, Print, Assemble}
+use Rattle.commands.specs.declared.request.Request.TheVariants.{Look, Check, Lint, Run, Show, Convert, Combine, Extract, Pack, Print, Assemble}
 use Rattle.commands.specs.Fault.{Message, IsUsage}
 use Rattle.commands.specs.Accesses.{Access, Read, and_then, IsUnread}
 use Rattle.commands.specs.Asking.{IsAskedBy}
 use Rattle.commands.specs.declared.tasks.Work.TheVariants as work
 use Rattle.commands.specs.declared.surveying.Survey.{Survey}
-use Rattle.commands.specs.Surveying.{IsLone, Surveys, IsUnsurveyed}
+use Rattle.commands.specs.Surveying.{lone_path, Lists, IsFolderSurveyed, IsUnlisted, Surveys, IsUnsurveyed}
+use Rattle.commands.specs.Linting.{Lints, IsUnlinted}
 use Rattle.commands.specs.Tasks.{Prints, IsRefusal, ending_for}
 use Rattle.commands.specs.Running.{Runs, IsStopped}
 use Rattle.commands.specs.JobZones.{Shows, IsUnshown}
@@ -36,35 +37,58 @@ pub data IsUnseen (task : Task) (p q : Option (List ℕ)) (old new : Option (Lis
   Refused : (bytes : List ℕ)
       → IsRefusal task.work task.path.now bytes p q (and_then old (Read task.path.now bytes ∷ [])) new message → IsUnseen task p q old new message
 
--- What a survey asks for was done: the form of the fork in the one file was printed, or the state of each file.
+-- The form of the fork in the file at a path was printed, or the lines of the folder at it, without reasons.
+abbrev pub ChecksOne
+    : List ℕ → Ending → Option (List ℕ) → Option (List ℕ) → Option (List Access) → Option (List Access) → Type 0
+ChecksOne path ending p q old new =
+    LooksAt path ending p q old new ⊎ Lists (IsFolderSurveyed path) false ending p q old new
+  where
+    LooksAt : List ℕ → Ending → Option (List ℕ) → Option (List ℕ) → Option (List Access) → Option (List Access) → Type 0
+    LooksAt path ending p q old new =
+        (task : Task) × (task.work ≡ work.Check) × (task.path.now ≡ path) × Looks task ending p q old new
+
+-- It was not, or not to its end.
+abbrev pub IsOneUnchecked
+    : List ℕ → Option (List ℕ) → Option (List ℕ) → Option (List Access) → Option (List Access) → Message → Type 0
+IsOneUnchecked path p q old new message =
+    IsUnseenAt path p q old new message ⊎ IsUnlisted (IsFolderSurveyed path) false p q old new message
+  where
+    IsUnseenAt
+        : List ℕ → Option (List ℕ) → Option (List ℕ) → Option (List Access) → Option (List Access) → Message → Type 0
+    IsUnseenAt path p q old new message =
+        (task : Task) × (task.work ≡ work.Check) × (task.path.now ≡ path) × IsUnseen task p q old new message
+
+-- What a survey asks for was done: the one path was checked, or the state of each file was printed in a line.
 abbrev pub Checks
     : Survey → Ending → Option (List ℕ) → Option (List ℕ) → Option (List Access) → Option (List Access) → Type 0
-Checks survey ending p q old new = LooksAtOne survey ending p q old new ⊎ Surveys survey ending p q old new
+Checks survey ending p q old new = ChecksFor (lone_path survey) survey ending p q old new
   where
-    LooksAtOne
-        : Survey → Ending → Option (List ℕ) → Option (List ℕ) → Option (List Access) → Option (List Access) → Type 0
-    LooksAtOne survey ending p q old new =
-        (task : Task) × (task.work ≡ work.Check) × IsLone survey task.path.now × Looks task ending p q old new
+    ChecksFor : Option (List ℕ) → Survey → Ending → Option (List ℕ) → Option (List ℕ)
+        → Option (List Access) → Option (List Access) → Type 0
+    ChecksFor (Some path) survey ending p q old new = ChecksOne path ending p q old new
+    ChecksFor None survey ending p q old new = Surveys survey ending p q old new
 
 -- It was not done, or not to its end.
 abbrev pub IsUnchecked
     : Survey → Option (List ℕ) → Option (List ℕ) → Option (List Access) → Option (List Access) → Message → Type 0
-IsUnchecked survey p q old new message = IsUnseenOne survey p q old new message ⊎ IsUnsurveyed survey p q old new message
+IsUnchecked survey p q old new message = IsUncheckedFor (lone_path survey) survey p q old new message
   where
-    IsUnseenOne
-        : Survey → Option (List ℕ) → Option (List ℕ) → Option (List Access) → Option (List Access) → Message → Type 0
-    IsUnseenOne survey p q old new message =
-        (task : Task) × (task.work ≡ work.Check) × IsLone survey task.path.now × IsUnseen task p q old new message
+    IsUncheckedFor : Option (List ℕ) → Survey → Option (List ℕ) → Option (List ℕ)
+        → Option (List Access) → Option (List Access) → Message → Type 0
+    IsUncheckedFor (Some path) survey p q old new message = IsOneUnchecked path p q old new message
+    IsUncheckedFor None survey p q old new message = IsUnsurveyed survey p q old new message
 
 -- In what follows `h` and `k` are the reports that the watch has heard before and after; they are said of a job.
 
--- What the request asks for was done: a task or a survey, a job was run to its end, the zone of one of its applications was
--- printed, what was made of one file or of two was delivered, what is in a file was written into a folder, the fork that a
--- folder states was written, a fork was printed as source, or the fork that a source states was written.
+-- What the request asks for was done: a task or a survey, the faulty lines of scripts were printed, a job was run to its end,
+-- the zone of one of its applications was printed, what was made of one file or of two was delivered, what is in a file was
+-- written into a folder, the fork that a folder states was written, a fork was printed as source, or the fork that a source
+-- states was written.
 abbrev pub IsDone : Request → Ending → Option (List ℕ) → Option (List ℕ) → Option (List ℕ) → Option (List ℕ)
     → Option (List Access) → Option (List Access) → Type 0
 IsDone (Look task) ending h k p q old new = Looks task ending p q old new
 IsDone (Check survey) ending h k p q old new = Checks survey ending p q old new
+IsDone (Lint linting) ending h k p q old new = Lints linting ending p q old new
 IsDone (Run errand) ending h k p q old new =
     (ending ≡ Done) × (q ≡ p) × Runs errand h k old new
 IsDone (Show zone) ending h k p q old new = (ending ≡ Done) × Shows zone p q old new
@@ -80,6 +104,7 @@ abbrev pub IsUndone : Request → Option (List ℕ) → Option (List ℕ) → Op
     → Option (List Access) → Option (List Access) → Message → Type 0
 IsUndone (Look task) h k p q old new message = IsUnseen task p q old new message
 IsUndone (Check survey) h k p q old new message = IsUnchecked survey p q old new message
+IsUndone (Lint linting) h k p q old new message = IsUnlinted linting p q old new message
 IsUndone (Run errand) h k p q old new message =
     (q ≡ p) × IsStopped errand h k old new message
 IsUndone (Show zone) h k p q old new message = IsUnshown zone p q old new message

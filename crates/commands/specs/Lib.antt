@@ -16,6 +16,7 @@ pub mod JobZones
 pub mod Extracting
 pub mod Packing
 pub mod Surveying
+pub mod Linting
 pub mod Declaring
 pub mod SourcePrinting
 pub mod Assembling

@@ -1,4 +1,4 @@
-use Rattle.std.specs.Prelude.{◌≡◌, ◌⊎◌, ℕ, Bool, true, false, not, ◌&&◌, Option, List, [], ◌∷◌, ◌++◌, map, codes}
+use Rattle.std.specs.Prelude.{◌≡◌, ◌⊎◌, ℕ, Bool, true, false, not, ◌&&◌, Option, Some, None, List, [], ◌∷◌, ◌++◌, map, codes}
 use Rattle.std.specs.List.{flat_map, list_all}
 use Rattle.std.specs.Io.KnownBytes.{append_known}
 use Rattle.fork_commands.specs.States.{state_words, has_content}
@@ -27,13 +27,17 @@ AreSeen [] seen = seen ≡ []
 AreSeen (path ∷ paths) [] = ⊥
 AreSeen (path ∷ paths) (access ∷ seen) = IsSeen path access × AreSeen paths seen
 
--- A path was surveyed: the file at it was, or the files below a folder were listed, and each of them was.
+-- A folder was surveyed: the files below it were listed, and each of them was read or refused; or the host refused the folder.
+abbrev pub IsFolderSurveyed : List ℕ → List Access → Type 0
+IsFolderSurveyed path accesses = AreListed path accesses ⊎ (accesses ≡ Failed path ∷ [])
+  where
+    AreListed : List ℕ → List Access → Type 0
+    AreListed path accesses =
+        (files : List (List ℕ)) × (seen : List Access) × (accesses ≡ Listed path files ∷ seen) × AreSeen files seen
+
+-- A path was surveyed: the file at it was, or the folder at it.
 abbrev pub IsSurveyed : List ℕ → List Access → Type 0
 IsSurveyed path accesses = AreSeen (path ∷ []) accesses ⊎ IsFolderSurveyed path accesses
-  where
-    IsFolderSurveyed : List ℕ → List Access → Type 0
-    IsFolderSurveyed path accesses =
-        (files : List (List ℕ)) × (seen : List Access) × (accesses ≡ Listed path files ∷ seen) × AreSeen files seen
 
 -- So were these paths, one after another.
 abbrev pub AreSurveyed : List (List ℕ) → List Access → Type 0
@@ -77,20 +81,36 @@ OnlyReads old new = (accesses : List Access) × (list_all is_reading accesses �
 abbrev pub paths_of : Survey → List (List ℕ)
 paths_of s = map (λ path. path.now) s.paths.items
 
--- A survey is of this one file or folder, and does not ask why.
-abbrev pub IsLone : Survey → List ℕ → Type 0
-IsLone survey path = (paths_of survey ≡ path ∷ []) × (survey.why ≡ false)
+-- The one path that is surveyed, if there is but one and it is not asked why.
+abbrev pub lone_path : Survey → Option (List ℕ)
+lone_path s = lone s.why (paths_of s)
+  where
+    lone : Bool → List (List ℕ) → Option (List ℕ)
+    lone false (path ∷ []) = Some path
+    lone why paths = None
 
--- All paths were surveyed, and the lines of all files were printed; the ending says whether each file has a fork with a content.
+-- Accesses of a kind were made, and the lines of their files were printed; the ending says whether each file has a fork with a
+-- content.
+abbrev pub Lists : (List Access → Type 0) → Bool → Ending → Option (List ℕ) → Option (List ℕ)
+    → Option (List Access) → Option (List Access) → Type 0
+Lists Are why ending p q old new =
+    (accesses : List Access) × Are accesses × (new ≡ and_then old accesses)
+    × (q ≡ append_known p (flat_map (line_of why) accesses)) × (ending ≡ ending_of (not (list_all is_good accesses)))
+
+-- The host was out of memory before all of them were made, and nothing was printed or written; or the lines were not printed to
+-- their end.
+pub data IsUnlisted (Are : List Access → Type 0) (why : Bool) (p q : Option (List ℕ)) (old new : Option (List Access))
+    (message : Message) : Type 0 where
+  Stopped : q ≡ p → OnlyReads old new → message ≡ HostMemory → IsUnlisted Are why p q old new message
+  Undelivered : (accesses : List Access) → Are accesses
+      → IsUndelivered Printed (flat_map (line_of why) accesses) p q (and_then old accesses) new message
+      → IsUnlisted Are why p q old new message
+
+-- All paths were surveyed, and the lines of all files were printed.
 abbrev pub Surveys : Survey → Ending → Option (List ℕ) → Option (List ℕ) → Option (List Access) → Option (List Access) → Type 0
-Surveys s ending p q old new =
-    (accesses : List Access) × AreSurveyed (paths_of s) accesses × (new ≡ and_then old accesses)
-    × (q ≡ append_known p (flat_map (line_of s.why) accesses)) × (ending ≡ ending_of (not (list_all is_good accesses)))
+Surveys s ending p q old new = Lists (AreSurveyed (paths_of s)) s.why ending p q old new
 
--- The host was out of memory before all paths were surveyed, and nothing was printed or written; or the lines were not printed
--- to their end.
-pub data IsUnsurveyed (s : Survey) (p q : Option (List ℕ)) (old new : Option (List Access)) (message : Message) : Type 0 where
-  Stopped : q ≡ p → OnlyReads old new → message ≡ HostMemory → IsUnsurveyed s p q old new message
-  Undelivered : (accesses : List Access) → AreSurveyed (paths_of s) accesses
-      → IsUndelivered Printed (flat_map (line_of s.why) accesses) p q (and_then old accesses) new message
-      → IsUnsurveyed s p q old new message
+-- They were not, or not to their end.
+abbrev pub IsUnsurveyed
+    : Survey → Option (List ℕ) → Option (List ℕ) → Option (List Access) → Option (List Access) → Message → Type 0
+IsUnsurveyed s p q old new message = IsUnlisted (AreSurveyed (paths_of s)) s.why p q old new message

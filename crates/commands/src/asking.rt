@@ -119,6 +119,7 @@ fn command_of(request: &Request<'_>) -> Option<&'static str>
     match request {
         Request::Look(task) => Some(look_word(task.work)),
         Request::Check(_) => Some("check"),
+        Request::Lint(_) => Some("lint"),
         Request::Run(_) => Some("run"),
         Request::Show(_) => Some("heap"),
         Request::Convert(conversion) => convert_word(conversion.work, conversion.target),
@@ -284,6 +285,7 @@ fn names(words: &[&str], request: &Request<'_>) -> bool
     match request {
         Request::Look(task) => stand_in(words, &[task.path]),
         Request::Check(survey) => stand_in(words, survey.paths.as_slice()),
+        Request::Lint(linting) => stand_in(words, linting.paths.as_slice()),
         Request::Run(errand) => stand_in(words, &[errand.job, errand.out]),
         Request::Show(zone) => {
             has_value(words, "--job", "--job=", zone.job)

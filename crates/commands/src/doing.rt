@@ -1,9 +1,9 @@
 //! From the words of the command line to what is printed or written: the words name a task, whose file is read and
-//! whose bytes are worked on, a survey of several files, or a job to be run or shown; or something is made of one file or
-//! of two, what is in a file is written into a folder, a folder is packed into a fork, a fork is printed as source, or the fork of a
-//! source is written. Between the words and the host stand only `tasks::do_task`, `surveying::print_survey`, `running::run_job`, `job_zones::show_in_job`,
-//! `converting::convert`, `combining::combine`, `extracting::extract`, `packing::pack`,
-//! `source_printing::print_source` and `assembling::assemble`.
+//! whose bytes are worked on, a survey of several files, scripts whose faulty lines are printed, or a job to be run or shown;
+//! or something is made of one file or of two, what is in a file is written into a folder, a folder is packed into a fork, a
+//! fork is printed as source, or the fork of a source is written. Between the words and the host stand only `tasks::do_task`, `surveying::print_survey`,
+//! `surveying::print_folder`, `linting::print_faults`, `running::run_job`, `job_zones::show_in_job`, `converting::convert`,
+//! `combining::combine`, `extracting::extract`, `packing::pack`, `source_printing::print_source` and `assembling::assemble`.
 
 ghost use Rattle.std.specs.Prelude.{◌≡◌, map, IfErr, IfOk};
 ghost use Rattle.commands.specs.declared.request.Request.{Request};
@@ -12,10 +12,9 @@ ghost use Rattle.commands.specs.Asking.{IsAskedBy};
 ghost use Rattle.commands.specs.Fault.{message_of};
 ghost use Rattle.commands.specs.Tasks.{IsQuiet};
 ghost use Rattle.commands.specs.Running.{Runs, IsStopped};
-ghost use Rattle.commands.specs.Surveying.{IsLone};
 ghost use Rattle.commands.specs.Extracting.{Extracts, IsUnextracted};
 ghost use Rattle.commands.specs.Packing.{Packs, IsUnpacked};
-ghost use Rattle.commands.specs.Doing.{Looks, IsUnseen, Checks, IsUnchecked, IsDone, IsUndone, IsNotDone};
+ghost use Rattle.commands.specs.Doing.{Looks, IsUnseen, ChecksOne, IsOneUnchecked, Checks, IsUnchecked, IsDone, IsUndone, IsNotDone};
 
 use crate::assembling::assemble;
 use crate::combining::combine;
@@ -26,11 +25,12 @@ use crate::fault::ToolFault;
 use crate::host::Host;
 use crate::input::read_input;
 use crate::job_zones::show_in_job;
+use crate::linting::print_faults;
 use crate::packing::{Packing, pack};
 use crate::request::Request;
 use crate::running::{Errand, run_job};
 use crate::source_printing::print_source;
-use crate::surveying::{Survey, print_survey};
+use crate::surveying::{Survey, print_folder, print_survey};
 use crate::tasks::{Task, Work, do_task};
 use crate::words::read_words;
 use applications::Watch;
@@ -103,35 +103,21 @@ fn write_packed<H: Host>(
     Ok(Ending::Done)
 }
 
-/// Prints the state of the files of a survey.
-#[tactic(auto, using(crate::proofs::Checked::all_checked))]
-fn check_all<H: Host>(alloc: Global, host: &mut H, survey: &Survey<'_>) -> Result<Ending, ToolFault>
-    ensures done { IfOk result (λ ending. Checks survey.now ending (H.printed host.old) (H.printed host.new)
-        (H.accesses host.old) (H.accesses host.new)) }
-    ensures undone { IfErr result (λ fault. IsUnchecked survey.now (H.printed host.old) (H.printed host.new)
-        (H.accesses host.old) (H.accesses host.new) (message_of fault)) }
-    ensures quiet { IfErr result (λ fault. IsQuiet (H.printed host.old) (H.printed host.new) (message_of fault)) }
-{
-    print_survey(alloc, host, survey)
-}
-
-/// Prints the form of the fork in the one file that is given, or the state of the files below the one folder.
+/// Prints the form of the fork in the file at a path, or the state of the files below the folder at it.
 fn check_one<H: Host, W: Watch>(
     alloc: Global,
     host: &mut H,
-    survey: &Survey<'_>,
     path: &str,
     watch: &mut W,
 ) -> Result<Ending, ToolFault>
-    requires { IsLone survey.now path.now }
-    ensures done { IfOk result (λ ending. Checks survey.now ending (H.printed host.old) (H.printed host.new)
+    ensures done { IfOk result (λ ending. ChecksOne path.now ending (H.printed host.old) (H.printed host.new)
         (H.accesses host.old) (H.accesses host.new)) }
-    ensures undone { IfErr result (λ fault. IsUnchecked survey.now (H.printed host.old) (H.printed host.new)
+    ensures undone { IfErr result (λ fault. IsOneUnchecked path.now (H.printed host.old) (H.printed host.new)
         (H.accesses host.old) (H.accesses host.new) (message_of fault)) }
     ensures quiet { IfErr result (λ fault. IsQuiet (H.printed host.old) (H.printed host.new) (message_of fault)) }
 {
     if host.is_folder(path) {
-        return check_all(alloc, host, survey);
+        return print_folder(alloc, host, path);
     }
     let task = Task {
         work: Work::Check,
@@ -141,7 +127,7 @@ fn check_one<H: Host, W: Watch>(
     look(alloc, host, task, watch)
 }
 
-/// Prints the state of the files of a survey, or the form of the fork in the one file that is given.
+/// Prints the form of the fork in the one file that is given, or else the state of the files of a survey.
 fn check<H: Host, W: Watch>(
     alloc: Global,
     host: &mut H,
@@ -155,8 +141,8 @@ fn check<H: Host, W: Watch>(
     ensures quiet { IfErr result (λ fault. IsQuiet (H.printed host.old) (H.printed host.new) (message_of fault)) }
 {
     match survey.lone_path() {
-        Some(path) => check_one(alloc, host, survey, path, watch),
-        None => check_all(alloc, host, survey),
+        Some(path) => check_one(alloc, host, path, watch),
+        None => print_survey(alloc, host, survey),
     }
 }
 
@@ -180,6 +166,7 @@ fn perform<H: Host, W: Watch>(
         Request::Convert(conversion) => convert(alloc, host, conversion),
         Request::Combine(combination) => combine(alloc, host, combination),
         Request::Check(survey) => check(alloc, host, &survey, watch),
+        Request::Lint(linting) => print_faults(alloc, host, &linting),
         Request::Extract(extraction) => write_resources(alloc, host, extraction),
         Request::Pack(packing) => write_packed(alloc, host, packing),
         Request::Print(printing) => print_source(alloc, host, &printing),

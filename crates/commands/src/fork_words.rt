@@ -9,9 +9,9 @@ use crate::delivering::Target;
 use crate::extracting::{Extraction, Pieces};
 use crate::fault::ToolFault;
 use crate::packing::Packing;
-use crate::parsing::{Word, bad_value, mistake, value, with_words};
+use crate::parsing::{Spoken, Word, bad_value, mistake, value, with_commands};
 use crate::request::Request;
-use crate::source_words::{derez_command, rez_command, show_command, source_request, style_in};
+use crate::source_words::{DEREZ, REZ, SHOW, source_request, style_in};
 use clap::{ArgMatches, Command};
 use fork_commands::{
     Edit, ForkWork, Naming, Packaging, PairWork, ResourceKey, Setting, SourceForm,
@@ -154,9 +154,9 @@ as -34 (dskFulErr). A file that exists already is reported as
 const FILE_HELP: &str = "File with the resource's bytes, or /dev/stdin; it is only read";
 
 /// The name of the flag for a file that is source of Rez, without its two hyphens.
-const REZ: &str = "rez";
+const STATED: &str = "rez";
 
-const REZ_HELP: &str = "Take FILE as source of Rez that states the resource";
+const STATED_HELP: &str = "Take FILE as source of Rez that states the resource";
 
 /// The name of the option for a name, without its two hyphens.
 const NAME: &str = "name";
@@ -286,162 +286,140 @@ const FIRST_HELP: &str = "File with the first fork; it is only read";
 
 const SECOND_HELP: &str = "File with the second fork; it is only read";
 
-const WRAP_WORDS: [Word; 3] = [
-    Word::Required("LIKE", LIKE_HELP),
-    Word::Required("FORK", FORK_HELP),
-    Word::Required("OUT", NEW_FILE_HELP),
-];
+const WRAP: Spoken = Spoken {
+    name: "wrap",
+    about: WRAP_ABOUT,
+    examples: WRAP_EXAMPLES,
+    words: &[
+        Word::Required("LIKE", LIKE_HELP),
+        Word::Required("FORK", FORK_HELP),
+        Word::Required("OUT", NEW_FILE_HELP),
+    ],
+};
 
-fn wrap_command<'a>(alloc: Global) -> Result<Command<'a>, AllocError> {
-    let command = Command::new(alloc, "wrap")
-        .about(WRAP_ABOUT)
-        .after_help(WRAP_EXAMPLES);
-    with_words(alloc, command, &WRAP_WORDS)
-}
+const MERGE: Spoken = Spoken {
+    name: "merge",
+    about: MERGE_ABOUT,
+    examples: MERGE_EXAMPLES,
+    words: &[
+        Word::Flag(REPLACE, REPLACE_HELP),
+        Word::Flag(BARE, BARE_HELP),
+        Word::Required("FORK", FORK_HELP),
+        Word::Required("OTHER", OTHER_HELP),
+        Word::Required("OUT", NEW_FORK_HELP),
+    ],
+};
 
-const MERGE_WORDS: [Word; 5] = [
-    Word::Flag(REPLACE, REPLACE_HELP),
-    Word::Flag(BARE, BARE_HELP),
-    Word::Required("FORK", FORK_HELP),
-    Word::Required("OTHER", OTHER_HELP),
-    Word::Required("OUT", NEW_FORK_HELP),
-];
+const DIFF: Spoken = Spoken {
+    name: "diff",
+    about: DIFF_ABOUT,
+    examples: DIFF_EXAMPLES,
+    words: &[
+        Word::Flag(SOURCES, SOURCES_HELP),
+        Word::Flag(UTF8, UTF8_HELP),
+        Word::Required("FORK", FIRST_HELP),
+        Word::Required("OTHER", SECOND_HELP),
+    ],
+};
 
-fn merge_command<'a>(alloc: Global) -> Result<Command<'a>, AllocError> {
-    let command = Command::new(alloc, "merge")
-        .about(MERGE_ABOUT)
-        .after_help(MERGE_EXAMPLES);
-    with_words(alloc, command, &MERGE_WORDS)
-}
+const REWRITE: Spoken = Spoken {
+    name: "rewrite",
+    about: REWRITE_ABOUT,
+    examples: REWRITE_EXAMPLES,
+    words: &[
+        Word::Flag(BARE, BARE_HELP),
+        Word::Required("FORK", FORK_HELP),
+        Word::Required("OUT", NEW_FORK_HELP),
+    ],
+};
 
-const DIFF_WORDS: [Word; 4] = [
-    Word::Flag(SOURCES, SOURCES_HELP),
-    Word::Flag(UTF8, UTF8_HELP),
-    Word::Required("FORK", FIRST_HELP),
-    Word::Required("OTHER", SECOND_HELP),
-];
+const GET: Spoken = Spoken {
+    name: "get",
+    about: GET_ABOUT,
+    examples: GET_EXAMPLES,
+    words: &[
+        Word::Required("FORK", FORK_HELP),
+        Word::Required("TYPE", TYPE_HELP),
+        Word::Number("ID", ID_HELP),
+    ],
+};
 
-fn diff_command<'a>(alloc: Global) -> Result<Command<'a>, AllocError> {
-    let command = Command::new(alloc, "diff")
-        .about(DIFF_ABOUT)
-        .after_help(DIFF_EXAMPLES);
-    with_words(alloc, command, &DIFF_WORDS)
-}
+const EXTRACT: Spoken = Spoken {
+    name: "extract",
+    about: EXTRACT_ABOUT,
+    examples: EXTRACT_EXAMPLES,
+    words: &[
+        Word::Required("FORK", FORK_HELP),
+        Word::Required("OUT", FILES_HELP),
+    ],
+};
 
-const REWRITE_WORDS: [Word; 3] = [
-    Word::Flag(BARE, BARE_HELP),
-    Word::Required("FORK", FORK_HELP),
-    Word::Required("OUT", NEW_FORK_HELP),
-];
+const PACK: Spoken = Spoken {
+    name: "pack",
+    about: PACK_ABOUT,
+    examples: PACK_EXAMPLES,
+    words: &[
+        Word::Required("FOLDER", FOLDER_HELP),
+        Word::Required("OUT", NEW_FORK_HELP),
+    ],
+};
 
-fn rewrite_command<'a>(alloc: Global) -> Result<Command<'a>, AllocError> {
-    let command = Command::new(alloc, "rewrite")
-        .about(REWRITE_ABOUT)
-        .after_help(REWRITE_EXAMPLES);
-    with_words(alloc, command, &REWRITE_WORDS)
-}
+const UNWRAP: Spoken = Spoken {
+    name: "unwrap",
+    about: UNWRAP_ABOUT,
+    examples: UNWRAP_EXAMPLES,
+    words: &[
+        Word::Required("FILE", WRAPPED_HELP),
+        Word::Required("OUT", FILES_HELP),
+    ],
+};
 
-const GET_WORDS: [Word; 3] = [
-    Word::Required("FORK", FORK_HELP),
-    Word::Required("TYPE", TYPE_HELP),
-    Word::Number("ID", ID_HELP),
-];
+const SET: Spoken = Spoken {
+    name: "set",
+    about: SET_ABOUT,
+    examples: SET_EXAMPLES,
+    words: &[
+        Word::Flag(BARE, BARE_HELP),
+        Word::Setting(NAME, "NAME", NAME_HELP),
+        Word::Setting(ATTRS, "ATTRS", ATTRS_HELP),
+        Word::Flag(STATED, STATED_HELP),
+        Word::Required("FORK", FORK_HELP),
+        Word::Required("TYPE", TYPE_HELP),
+        Word::Number("ID", ID_HELP),
+        Word::Required("FILE", FILE_HELP),
+        Word::Required("OUT", NEW_FORK_HELP),
+    ],
+};
 
-fn get_command<'a>(alloc: Global) -> Result<Command<'a>, AllocError> {
-    let command = Command::new(alloc, "get")
-        .about(GET_ABOUT)
-        .after_help(GET_EXAMPLES);
-    with_words(alloc, command, &GET_WORDS)
-}
+const REMOVE: Spoken = Spoken {
+    name: "remove",
+    about: REMOVE_ABOUT,
+    examples: REMOVE_EXAMPLES,
+    words: &[
+        Word::Flag(BARE, BARE_HELP),
+        Word::Required("FORK", FORK_HELP),
+        Word::Required("TYPE", TYPE_HELP),
+        Word::Number("ID", ID_HELP),
+        Word::Required("OUT", NEW_FORK_HELP),
+    ],
+};
 
-const EXTRACT_WORDS: [Word; 2] = [
-    Word::Required("FORK", FORK_HELP),
-    Word::Required("OUT", FILES_HELP),
-];
-
-fn extract_command<'a>(alloc: Global) -> Result<Command<'a>, AllocError> {
-    let command = Command::new(alloc, "extract")
-        .about(EXTRACT_ABOUT)
-        .after_help(EXTRACT_EXAMPLES);
-    with_words(alloc, command, &EXTRACT_WORDS)
-}
-
-const PACK_WORDS: [Word; 2] = [
-    Word::Required("FOLDER", FOLDER_HELP),
-    Word::Required("OUT", NEW_FORK_HELP),
-];
-
-fn pack_command<'a>(alloc: Global) -> Result<Command<'a>, AllocError> {
-    let command = Command::new(alloc, "pack")
-        .about(PACK_ABOUT)
-        .after_help(PACK_EXAMPLES);
-    with_words(alloc, command, &PACK_WORDS)
-}
-
-const UNWRAP_WORDS: [Word; 2] = [
-    Word::Required("FILE", WRAPPED_HELP),
-    Word::Required("OUT", FILES_HELP),
-];
-
-fn unwrap_command<'a>(alloc: Global) -> Result<Command<'a>, AllocError> {
-    let command = Command::new(alloc, "unwrap")
-        .about(UNWRAP_ABOUT)
-        .after_help(UNWRAP_EXAMPLES);
-    with_words(alloc, command, &UNWRAP_WORDS)
-}
-
-const SET_WORDS: [Word; 9] = [
-    Word::Flag(BARE, BARE_HELP),
-    Word::Setting(NAME, "NAME", NAME_HELP),
-    Word::Setting(ATTRS, "ATTRS", ATTRS_HELP),
-    Word::Flag(REZ, REZ_HELP),
-    Word::Required("FORK", FORK_HELP),
-    Word::Required("TYPE", TYPE_HELP),
-    Word::Number("ID", ID_HELP),
-    Word::Required("FILE", FILE_HELP),
-    Word::Required("OUT", NEW_FORK_HELP),
-];
-
-fn set_command<'a>(alloc: Global) -> Result<Command<'a>, AllocError> {
-    let command = Command::new(alloc, "set")
-        .about(SET_ABOUT)
-        .after_help(SET_EXAMPLES);
-    with_words(alloc, command, &SET_WORDS)
-}
-
-const REMOVE_WORDS: [Word; 5] = [
-    Word::Flag(BARE, BARE_HELP),
-    Word::Required("FORK", FORK_HELP),
-    Word::Required("TYPE", TYPE_HELP),
-    Word::Number("ID", ID_HELP),
-    Word::Required("OUT", NEW_FORK_HELP),
-];
-
-fn remove_command<'a>(alloc: Global) -> Result<Command<'a>, AllocError> {
-    let command = Command::new(alloc, "remove")
-        .about(REMOVE_ABOUT)
-        .after_help(REMOVE_EXAMPLES);
-    with_words(alloc, command, &REMOVE_WORDS)
-}
-
-const RENAME_WORDS: [Word; 9] = [
-    Word::NumberSetting(NEW_ID, "N", NEW_ID_HELP),
-    Word::Setting(NAME, "NAME", NAME_HELP),
-    Word::Flag(NO_NAME, NO_NAME_HELP),
-    Word::Setting(ATTRS, "ATTRS", ATTRS_HELP),
-    Word::Flag(BARE, BARE_HELP),
-    Word::Required("FORK", FORK_HELP),
-    Word::Required("TYPE", TYPE_HELP),
-    Word::Number("ID", ID_HELP),
-    Word::Required("OUT", NEW_FORK_HELP),
-];
-
-fn rename_command<'a>(alloc: Global) -> Result<Command<'a>, AllocError> {
-    let command = Command::new(alloc, "rename")
-        .about(RENAME_ABOUT)
-        .after_help(RENAME_EXAMPLES);
-    with_words(alloc, command, &RENAME_WORDS)
-}
+const RENAME: Spoken = Spoken {
+    name: "rename",
+    about: RENAME_ABOUT,
+    examples: RENAME_EXAMPLES,
+    words: &[
+        Word::NumberSetting(NEW_ID, "N", NEW_ID_HELP),
+        Word::Setting(NAME, "NAME", NAME_HELP),
+        Word::Flag(NO_NAME, NO_NAME_HELP),
+        Word::Setting(ATTRS, "ATTRS", ATTRS_HELP),
+        Word::Flag(BARE, BARE_HELP),
+        Word::Required("FORK", FORK_HELP),
+        Word::Required("TYPE", TYPE_HELP),
+        Word::Number("ID", ID_HELP),
+        Word::Required("OUT", NEW_FORK_HELP),
+    ],
+};
 
 /// Returns the fault of a word that is no type.
 fn bad_type(
@@ -592,7 +570,7 @@ fn packing<'a>(matches: &ArgMatches<'a>) -> Packing<'a> {
 fn getting<'a>(alloc: Global, matches: &ArgMatches<'a>) -> Result<Conversion<'a>, ToolFault>
     ensures { IfErr result (λ fault. IsUsage (message_of fault)) }
 {
-    let command = get_command(alloc)?.bin_name("macmem get")?;
+    let command = GET.command(alloc)?.bin_name("macmem get")?;
     let key = key_in(alloc, command, matches)?;
     Ok(Conversion {
         work: ForkWork::Get(key),
@@ -602,7 +580,7 @@ fn getting<'a>(alloc: Global, matches: &ArgMatches<'a>) -> Result<Conversion<'a>
 }
 
 fn set_named<'a>(alloc: Global) -> Result<Command<'a>, AllocError> {
-    set_command(alloc)?.bin_name("macmem set")
+    SET.command(alloc)?.bin_name("macmem set")
 }
 
 /// Returns the name in an option, if it is given.
@@ -641,7 +619,7 @@ fn attrs_in(
 
 /// Returns how a resource is set: to the bytes of a file, or to what a source states.
 fn set_work(setting: Setting, matches: &ArgMatches<'_>) -> PairWork {
-    if matches.get_flag(REZ) {
+    if matches.get_flag(STATED) {
         PairWork::SetStated(setting, packaging_in(matches))
     } else {
         PairWork::Set(setting, packaging_in(matches))
@@ -664,11 +642,11 @@ fn setting<'a>(alloc: Global, matches: &ArgMatches<'a>) -> Result<Combination<'a
 }
 
 fn remove_named<'a>(alloc: Global) -> Result<Command<'a>, AllocError> {
-    remove_command(alloc)?.bin_name("macmem remove")
+    REMOVE.command(alloc)?.bin_name("macmem remove")
 }
 
 fn rename_named<'a>(alloc: Global) -> Result<Command<'a>, AllocError> {
-    rename_command(alloc)?.bin_name("macmem rename")
+    RENAME.command(alloc)?.bin_name("macmem rename")
 }
 
 /// Returns the request that the words after `remove` make.
@@ -728,26 +706,68 @@ fn renaming<'a>(alloc: Global, matches: &ArgMatches<'a>) -> Result<Conversion<'a
     Ok(into_file(work, "FORK", matches))
 }
 
-/// Adds the commands that make something of forks.
+/// The commands that take resources out of a fork, or make a fork of them.
+const RESOURCE_COMMANDS: [Spoken; 3] = [GET, EXTRACT, PACK];
+
+/// The commands that change one resource of a fork.
+const CHANGE_COMMANDS: [Spoken; 3] = [SET, REMOVE, RENAME];
+
+/// The commands on whole forks.
+const WHOLE_COMMANDS: [Spoken; 3] = [MERGE, DIFF, REWRITE];
+
+/// The commands on forks as source.
+const SOURCE_COMMANDS: [Spoken; 3] = [DEREZ, SHOW, REZ];
+
+/// The commands on the files in which forks are wrapped.
+const WRAPPER_COMMANDS: [Spoken; 2] = [WRAP, UNWRAP];
+
+/// Returns a command with those that take resources out of a fork, or make a fork of them.
+fn with_resource_commands<'a>(
+    alloc: Global,
+    command: Command<'a>,
+) -> Result<Command<'a>, AllocError> {
+    with_commands(alloc, command, &RESOURCE_COMMANDS)
+}
+
+/// Returns a command with those that change one resource of a fork.
+fn with_change_commands<'a>(
+    alloc: Global,
+    command: Command<'a>,
+) -> Result<Command<'a>, AllocError> {
+    with_commands(alloc, command, &CHANGE_COMMANDS)
+}
+
+/// Returns a command with those on whole forks.
+fn with_whole_commands<'a>(alloc: Global, command: Command<'a>) -> Result<Command<'a>, AllocError> {
+    with_commands(alloc, command, &WHOLE_COMMANDS)
+}
+
+/// Returns a command with those on forks as source.
+fn with_source_commands<'a>(
+    alloc: Global,
+    command: Command<'a>,
+) -> Result<Command<'a>, AllocError> {
+    with_commands(alloc, command, &SOURCE_COMMANDS)
+}
+
+/// Returns a command with those on the files in which forks are wrapped.
+fn with_wrapper_commands<'a>(
+    alloc: Global,
+    command: Command<'a>,
+) -> Result<Command<'a>, AllocError> {
+    with_commands(alloc, command, &WRAPPER_COMMANDS)
+}
+
+/// Returns a command with those that make something of forks, in the order in which the help of the program has them.
 pub fn with_fork_commands<'a>(
     alloc: Global,
     command: Command<'a>,
 ) -> Result<Command<'a>, AllocError> {
-    command
-        .subcommand(get_command(alloc)?)?
-        .subcommand(extract_command(alloc)?)?
-        .subcommand(pack_command(alloc)?)?
-        .subcommand(set_command(alloc)?)?
-        .subcommand(remove_command(alloc)?)?
-        .subcommand(rename_command(alloc)?)?
-        .subcommand(merge_command(alloc)?)?
-        .subcommand(diff_command(alloc)?)?
-        .subcommand(rewrite_command(alloc)?)?
-        .subcommand(derez_command(alloc)?)?
-        .subcommand(show_command(alloc)?)?
-        .subcommand(rez_command(alloc)?)?
-        .subcommand(wrap_command(alloc)?)?
-        .subcommand(unwrap_command(alloc)?)
+    let command = with_resource_commands(alloc, command)?;
+    let command = with_change_commands(alloc, command)?;
+    let command = with_whole_commands(alloc, command)?;
+    let command = with_source_commands(alloc, command)?;
+    with_wrapper_commands(alloc, command)
 }
 
 /// Returns the request that the words after the name of one of these commands make.

@@ -17,6 +17,7 @@ mod gathering;
 mod host;
 mod input;
 mod job_zones;
+mod linting;
 mod listing;
 mod outputs;
 mod packing;

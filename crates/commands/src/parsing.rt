@@ -86,6 +86,41 @@ fn spelled<'a>(alloc: Global, word: Word) -> Arg<'a> {
     }
 }
 
+/// A command, as its help has it.
+pub struct Spoken {
+    /// Its name.
+    pub name: &'static str,
+    /// What it does, in a line.
+    pub about: &'static str,
+    /// What stands after the list of its words.
+    pub examples: &'static str,
+    /// Its words, in the order of the help.
+    pub words: &'static [Word],
+}
+
+impl Spoken {
+    /// Returns the command as the parser has it.
+    pub fn command<'a>(&'static self, alloc: Global) -> Result<Command<'a>, AllocError> {
+        let command = Command::new(alloc, self.name)
+            .about(self.about)
+            .after_help(self.examples);
+        with_words(alloc, command, self.words)
+    }
+}
+
+/// Returns a command with these commands, in the order in which its help has them.
+pub fn with_commands<'a>(
+    alloc: Global,
+    command: Command<'a>,
+    commands: &'static [Spoken],
+) -> Result<Command<'a>, AllocError> {
+    let mut command = command;
+    for spoken in commands {
+        command = command.subcommand(spoken.command(alloc)?)?;
+    }
+    Ok(command)
+}
+
 /// Returns a command with these words, in the order in which its help has them.
 pub fn with_words<'a>(
     alloc: Global,

@@ -5,6 +5,7 @@ use crate::combining::Combination;
 use crate::converting::Conversion;
 use crate::extracting::Extraction;
 use crate::job_zones::JobZone;
+use crate::linting::Linting;
 use crate::packing::Packing;
 use crate::running::Errand;
 use crate::source_printing::Printing;
@@ -18,6 +19,8 @@ pub enum Request<'a> {
     Look(Task<'a>),
     /// Files are read, and the state of each is printed.
     Check(Survey<'a>),
+    /// Scripts are read, and a line is printed for each of their faulty lines.
+    Lint(Linting<'a>),
     /// A job is run, and what it leaves is written.
     Run(Errand<'a>),
     /// A job is run, and the zone of one of its applications is printed.

@@ -8,7 +8,7 @@ use crate::fault::ToolFault;
 use crate::fork_words::{
     FORK_HELP, ID_HELP, NEW_FORK_HELP, TYPE_HELP, UTF8, charset_in, key_in, type_in,
 };
-use crate::parsing::{Word, value, with_words};
+use crate::parsing::{Spoken, Word, value};
 use crate::request::Request;
 use crate::source_printing::{Part, Printing};
 use clap::{ArgMatches, Command};
@@ -120,48 +120,48 @@ const NUMBERS_HELP: &str = "Number the elements of arrays in comments";
 
 const SOURCE_UTF8_HELP: &str = "Print characters beyond ASCII in UTF-8, and not as escapes";
 
-/// The words of the commands that print source.
-const PRINTING_WORDS: [Word; 5] = [
-    Word::Settings(TYPES, "FILE", TYPES_HELP),
-    Word::Flag(DATA, DATA_HELP),
-    Word::Flag(NUMBERS, NUMBERS_HELP),
-    Word::Flag(UTF8, SOURCE_UTF8_HELP),
-    Word::Required("FORK", FORK_HELP),
-];
+/// The command that prints a fork as source.
+pub const DEREZ: Spoken = Spoken {
+    name: "derez",
+    about: DEREZ_ABOUT,
+    examples: DEREZ_EXAMPLES,
+    words: &[
+        Word::Settings(TYPES, "FILE", TYPES_HELP),
+        Word::Flag(DATA, DATA_HELP),
+        Word::Flag(NUMBERS, NUMBERS_HELP),
+        Word::Flag(UTF8, SOURCE_UTF8_HELP),
+        Word::Required("FORK", FORK_HELP),
+    ],
+};
 
-pub fn derez_command<'a>(alloc: Global) -> Result<Command<'a>, AllocError> {
-    let command = Command::new(alloc, "derez")
-        .about(DEREZ_ABOUT)
-        .after_help(DEREZ_EXAMPLES);
-    with_words(alloc, command, &PRINTING_WORDS)
-}
+/// The command that prints some resources of a fork as source.
+pub const SHOW: Spoken = Spoken {
+    name: "show",
+    about: SHOW_ABOUT,
+    examples: SHOW_EXAMPLES,
+    words: &[
+        Word::Settings(TYPES, "FILE", TYPES_HELP),
+        Word::Flag(DATA, DATA_HELP),
+        Word::Flag(NUMBERS, NUMBERS_HELP),
+        Word::Flag(UTF8, SOURCE_UTF8_HELP),
+        Word::Required("FORK", FORK_HELP),
+        Word::Optional("TYPE", TYPE_HELP),
+        Word::OptionalNumber("ID", ID_HELP),
+    ],
+};
 
-const SHOWN_WORDS: [Word; 2] = [
-    Word::Optional("TYPE", TYPE_HELP),
-    Word::OptionalNumber("ID", ID_HELP),
-];
-
-pub fn show_command<'a>(alloc: Global) -> Result<Command<'a>, AllocError> {
-    let command = Command::new(alloc, "show")
-        .about(SHOW_ABOUT)
-        .after_help(SHOW_EXAMPLES);
-    let command = with_words(alloc, command, &PRINTING_WORDS)?;
-    with_words(alloc, command, &SHOWN_WORDS)
-}
-
-const REZ_WORDS: [Word; 4] = [
-    Word::Settings(TYPES, "FILE", TYPES_HELP),
-    Word::Setting(INTO, "FILE", INTO_HELP),
-    Word::Required("SOURCE", SOURCE_HELP),
-    Word::Required("OUT", NEW_FORK_HELP),
-];
-
-pub fn rez_command<'a>(alloc: Global) -> Result<Command<'a>, AllocError> {
-    let command = Command::new(alloc, "rez")
-        .about(REZ_ABOUT)
-        .after_help(REZ_EXAMPLES);
-    with_words(alloc, command, &REZ_WORDS)
-}
+/// The command that writes the fork that a source states.
+pub const REZ: Spoken = Spoken {
+    name: "rez",
+    about: REZ_ABOUT,
+    examples: REZ_EXAMPLES,
+    words: &[
+        Word::Settings(TYPES, "FILE", TYPES_HELP),
+        Word::Setting(INTO, "FILE", INTO_HELP),
+        Word::Required("SOURCE", SOURCE_HELP),
+        Word::Required("OUT", NEW_FORK_HELP),
+    ],
+};
 
 /// Returns the paths of the files of declarations, in the order of the words.
 fn types_in<'a>(alloc: Global, matches: &ArgMatches<'a>) -> Result<Vec<&'a str>, AllocError> {
@@ -197,7 +197,7 @@ fn form_in(matches: &ArgMatches<'_>) -> SourceForm {
 }
 
 fn show_named<'a>(alloc: Global) -> Result<Command<'a>, AllocError> {
-    show_command(alloc)?.bin_name("macmem show")
+    SHOW.command(alloc)?.bin_name("macmem show")
 }
 
 /// Returns the resources that the arguments of `show` name.

@@ -1,12 +1,15 @@
 //! A survey: several files are read, and the state of each is printed in a line.
 
-ghost use Rattle.std.specs.Prelude.{◌≡◌, ℕ, List, ◌∷◌, [], ◌++◌, map, OnOk, IfOk, IfErr, IfSome, true, false, not, ◌&&◌, codes, string_bytes};
+ghost use Rattle.std.specs.Prelude.{◌≡◌, ℕ, List, ◌∷◌, [], ◌++◌, map, OnOk, IfOk, IfErr, option_map, true, false, not, ◌&&◌, codes, string_bytes};
 ghost use Rattle.std.specs.List.{flat_map, list_all};
 ghost use Rattle.fork_commands.specs.States.{has_content};
 ghost use Rattle.commands.specs.Accesses.{Access, Read, Failed};
+ghost use Rattle.commands.specs.declared.delivering.Target.TheVariants.{Printed};
+ghost use Rattle.commands.specs.Delivering.{Delivers, IsUndelivered};
+ghost use Rattle.commands.specs.Ending.{ending_of};
 ghost use Rattle.commands.specs.Fault.{message_of};
 ghost use Rattle.commands.specs.Surveying.{IsSeen, AreSeen, IsSurveyed, AreSurveyed, line_of, is_good, Went, OnlyReads};
-ghost use Rattle.commands.specs.Surveying.{paths_of, IsLone, Surveys, IsUnsurveyed};
+ghost use Rattle.commands.specs.Surveying.{paths_of, lone_path, IsFolderSurveyed, Lists, IsUnlisted, Surveys, IsUnsurveyed};
 ghost use Rattle.commands.specs.Tasks.{IsQuiet};
 
 use crate::delivering::{Target, deliver};
@@ -28,7 +31,7 @@ pub struct Survey<'a> {
 impl<'a> Survey<'a> {
     /// Returns the one path that is surveyed, if there is but one, and it is not asked why.
     pub fn lone_path(&self) -> Option<&'a str>
-        ensures { IfSome result (λ path. IsLone self.now path.now) }
+        ensures { option_map (λ path. path.now) result ≡ lone_path self.now }
     {
         match self.paths.as_slice() {
             [path] if !self.why => Some(*path),
@@ -43,6 +46,19 @@ struct Lines {
     text: Vec<u8>,
     /// Whether each file so far has a fork with a content.
     good: bool,
+}
+
+impl Lines {
+    /// Returns the lines of no file.
+    fn new(alloc: Global) -> Lines
+        ensures text { result.text.items ≡ [] }
+        ensures good { result.good ≡ true }
+    {
+        Lines {
+            text: Vec::new(alloc),
+            good: true,
+        }
+    }
 }
 
 /// Appends the line of a file that was read.
@@ -125,7 +141,7 @@ fn survey_folder<H: Host>(
     lines: &mut Lines,
 ) -> Result<(), AllocError>
     ensures silent { H.printed host.new ≡ H.printed host.old }
-    ensures surveyed { OnOk result ((accesses : List Access) × IsSurveyed folder.now accesses
+    ensures surveyed { OnOk result ((accesses : List Access) × IsFolderSurveyed folder.now accesses
         × Went why accesses (H.accesses host.old) (H.accesses host.new)
         lines.old.text.items lines.new.text.items lines.old.good lines.new.good) }
     ensures stopped { IfErr result (λ _. OnlyReads (H.accesses host.old) (H.accesses host.new)) }
@@ -171,14 +187,23 @@ fn surveyed<H: Host>(
         × Went why accesses (H.accesses host.old) (H.accesses host.new) [] lines.text.items true lines.good) }
     ensures stopped { IfErr result (λ _. OnlyReads (H.accesses host.old) (H.accesses host.new)) }
 {
-    let mut lines = Lines {
-        text: Vec::new(alloc),
-        good: true,
-    };
+    let mut lines = Lines::new(alloc);
     for path in paths {
         survey_path(alloc, host, why, *path, &mut lines)?;
     }
     Ok(lines)
+}
+
+/// Prints the lines, and returns the ending that says whether each file has a fork with a content.
+fn print_lines<H: Host>(alloc: Global, host: &mut H, lines: &Lines) -> Result<Ending, ToolFault>
+    ensures delivered { OnOk result (Delivers Printed lines.now.text.items (H.printed host.old) (H.printed host.new)
+        (H.accesses host.old) (H.accesses host.new)) }
+    ensures ending { IfOk result (λ ending. ending ≡ ending_of (not lines.now.good)) }
+    ensures undelivered { IfErr result (λ fault. IsUndelivered Printed lines.now.text.items
+        (H.printed host.old) (H.printed host.new) (H.accesses host.old) (H.accesses host.new) (message_of fault)) }
+{
+    deliver(alloc, host, Target::Printed, lines.text.as_slice())?;
+    Ok(Ending::of(!lines.good))
 }
 
 /// Reads the files of a survey, one after another, and prints the state of each in a line, once all are read.
@@ -199,6 +224,23 @@ pub fn print_survey<H: Host>(
     ensures quiet { IfErr result (λ fault. IsQuiet (H.printed host.old) (H.printed host.new) (message_of fault)) }
 {
     let lines = surveyed(alloc, host, survey.why, survey.paths.as_slice())?;
-    deliver(alloc, host, Target::Printed, lines.text.as_slice())?;
-    Ok(Ending::of(!lines.good))
+    print_lines(alloc, host, &lines)
+}
+
+/// Reads the files below a folder, one after another, and prints the state of each in a line without a reason, once all are read.
+///
+/// # Errors
+///
+/// The host is out of memory, and then nothing is printed; or the lines can't be printed, or not to their end. A folder that can't
+/// be listed, or a file that can't be read, is no fault: its line says so.
+pub fn print_folder<H: Host>(alloc: Global, host: &mut H, folder: &str) -> Result<Ending, ToolFault>
+    ensures done { IfOk result (λ ending. Lists (IsFolderSurveyed folder.now) false ending
+        (H.printed host.old) (H.printed host.new) (H.accesses host.old) (H.accesses host.new)) }
+    ensures undone { IfErr result (λ fault. IsUnlisted (IsFolderSurveyed folder.now) false
+        (H.printed host.old) (H.printed host.new) (H.accesses host.old) (H.accesses host.new) (message_of fault)) }
+    ensures quiet { IfErr result (λ fault. IsQuiet (H.printed host.old) (H.printed host.new) (message_of fault)) }
+{
+    let mut lines = Lines::new(alloc);
+    survey_folder(alloc, host, false, folder, &mut lines)?;
+    print_lines(alloc, host, &lines)
 }

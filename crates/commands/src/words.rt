@@ -10,9 +10,11 @@ use crate::fault::ToolFault;
 use crate::fork_words::{
     BARE, FORK_HELP, UTF8, UTF8_HELP, charset_in, fork_request, with_fork_commands,
 };
+use crate::linting::Linting;
 use crate::listing::Spelling;
 use crate::parsing::{
-    SCRIPT_HELP, SIZE_HELP, SIZE_RULE, Word, bad_value, mistake, usage, value, with_words,
+    SCRIPT_HELP, SIZE_HELP, SIZE_RULE, Spoken, Word, bad_value, mistake, usage, value,
+    with_commands, with_words,
 };
 use crate::request::Request;
 use crate::running::Errand;
@@ -32,6 +34,7 @@ const VERSION: &str = "0.1.0 (table of types 1)";
 const PROGRAM_EXAMPLES: &str = "Examples:
   macmem script 1024 examples/first.script    run a script in 1024 bytes
   macmem heap 1024 examples/first.script      list the blocks that it leaves
+  macmem lint examples/first.script           say what is wrong with its lines
   macmem run examples/job/job OUT             run the applications of a job
   macmem map examples/Document.rsrc           list the resources of a fork
   macmem check examples/Document.rsrc         say whether a fork is canonical
@@ -43,8 +46,8 @@ Managers. 'macmem COMMAND --help' says more of a command; 'macmem script --help'
 lists the calls and the result codes.
 A word that begins with '-' is an option; after the word '--' it is an argument.
 Status: 0 done; 1 not done, with one line on the standard error, or 'diff' found
-that two forks differ, or 'check' or 'map' a file whose fork has no content;
-2 usage, help or version.";
+that two forks differ, 'check' or 'map' a file whose fork has no content, or
+'lint' a faulty line; 2 usage, help or version.";
 
 const SCRIPT_ABOUT: &str = "Runs a script of toolbox calls and prints its transcript";
 
@@ -66,7 +69,8 @@ A name is a letter or '_', then letters, digits and '_'; sizes, offsets and
 flags are decimal; bytes are written as \"Hi\" or $4869.
 A faulty line is reported as 'macmem: SCRIPT: line N: fault K': 1 unknown call,
 2 bad argument, 3 call not allowed in a grow-zone script, 4 line of more than
-65535 bytes.
+65535 bytes. 'macmem lint SCRIPT' says in words what is wrong, of every faulty
+line.
 The lines of a grow-zone script stand before the line of the call that found no
 room, and begin with '+'.
 
@@ -149,6 +153,25 @@ const WHY: &str = "why";
 const WHY_HELP: &str = "Print what differs from the canonical fork, and what is damaged";
 
 const FORKS_HELP: &str = "Files, or folders whose files are checked; they are only read";
+
+const LINT_ABOUT: &str = "Says in words what is wrong with each faulty line of scripts";
+
+const LINT_EXAMPLES: &str = "Example:
+  macmem lint note.script
+
+prints a line for each faulty line of the script: its path, line and column, and
+what is wrong:
+  note.script:1:13: argument 2 of NewHandle: expected a size in decimal digits, found '4K'; 4K is 4096
+  note.script:2:1: unknown call DisposHandle: did you mean DisposeHandle?
+
+Lines and columns are counted from 1, columns in bytes. A faulty line is taken
+to say nothing, and the lines after it are judged as if it were not there. A
+'grow' without 'end' and a SetGrowZone whose script is nowhere come last. Of a
+file that cannot be read the line is 'FILE: cannot read'.
+Nothing is run. The status is 0 if all files are read and no line is faulty,
+else 1. 'macmem script --help' lists the calls with their arguments.";
+
+const SCRIPTS_HELP: &str = "Files with one toolbox call a line, or /dev/stdin; they are only read";
 
 const MAP_ABOUT: &str = "Lists the resources of a fork, a line each";
 
@@ -234,27 +257,52 @@ fn run_command<'a>(alloc: Global) -> Result<Command<'a>, AllocError> {
     with_words(alloc, command, &RUN_WORDS)
 }
 
-const MAP_WORDS: [Word; 4] = [
-    Word::Flag(TEXT, TEXT_HELP),
-    Word::Flag(UTF8, UTF8_HELP),
-    Word::Flag(VERBOSE, VERBOSE_HELP),
-    Word::Required("FORK", FORK_HELP),
-];
+const MAP: Spoken = Spoken {
+    name: "map",
+    about: MAP_ABOUT,
+    examples: MAP_EXAMPLES,
+    words: &[
+        Word::Flag(TEXT, TEXT_HELP),
+        Word::Flag(UTF8, UTF8_HELP),
+        Word::Flag(VERBOSE, VERBOSE_HELP),
+        Word::Required("FORK", FORK_HELP),
+    ],
+};
 
-fn map_command<'a>(alloc: Global) -> Result<Command<'a>, AllocError> {
-    let command = Command::new(alloc, "map")
-        .about(MAP_ABOUT)
-        .after_help(MAP_EXAMPLES);
-    with_words(alloc, command, &MAP_WORDS)
+const LINT: Spoken = Spoken {
+    name: "lint",
+    about: LINT_ABOUT,
+    examples: LINT_EXAMPLES,
+    words: &[Word::Several("FILE", SCRIPTS_HELP)],
+};
+
+const CHECK: Spoken = Spoken {
+    name: "check",
+    about: CHECK_ABOUT,
+    examples: CHECK_EXAMPLES,
+    words: &[Word::Flag(WHY, WHY_HELP), Word::Several("FORK", FORKS_HELP)],
+};
+
+/// The commands that read files and print what is in them, in the order in which the help of the program has them.
+const READING_COMMANDS: [Spoken; 3] = [LINT, MAP, CHECK];
+
+/// Returns a command with those that run calls.
+fn with_running_commands<'a>(
+    alloc: Global,
+    command: Command<'a>,
+) -> Result<Command<'a>, AllocError> {
+    command
+        .subcommand(script_command(alloc)?)?
+        .subcommand(heap_command(alloc)?)?
+        .subcommand(run_command(alloc)?)
 }
 
-const CHECK_WORDS: [Word; 2] = [Word::Flag(WHY, WHY_HELP), Word::Several("FORK", FORKS_HELP)];
-
-fn check_command<'a>(alloc: Global) -> Result<Command<'a>, AllocError> {
-    let command = Command::new(alloc, "check")
-        .about(CHECK_ABOUT)
-        .after_help(CHECK_EXAMPLES);
-    with_words(alloc, command, &CHECK_WORDS)
+/// Returns a command with those that read files and print what is in them.
+fn with_reading_commands<'a>(
+    alloc: Global,
+    command: Command<'a>,
+) -> Result<Command<'a>, AllocError> {
+    with_commands(alloc, command, &READING_COMMANDS)
 }
 
 fn program<'a>(alloc: Global) -> Result<Command<'a>, AllocError> {
@@ -263,12 +311,9 @@ fn program<'a>(alloc: Global) -> Result<Command<'a>, AllocError> {
         .version(VERSION)
         .after_help(PROGRAM_EXAMPLES)
         .subcommand_required(true)
-        .arg_required_else_help(true)
-        .subcommand(script_command(alloc)?)?
-        .subcommand(heap_command(alloc)?)?
-        .subcommand(run_command(alloc)?)?
-        .subcommand(map_command(alloc)?)?
-        .subcommand(check_command(alloc)?)?;
+        .arg_required_else_help(true);
+    let command = with_running_commands(alloc, command)?;
+    let command = with_reading_commands(alloc, command)?;
     with_fork_commands(alloc, command)
 }
 
@@ -344,6 +389,13 @@ fn survey_in<'a>(alloc: Global, matches: &ArgMatches<'a>) -> Result<Survey<'a>, 
     })
 }
 
+/// Returns the request for faulty lines that the words after `lint` ask for.
+fn linting_in<'a>(alloc: Global, matches: &ArgMatches<'a>) -> Result<Linting<'a>, AllocError> {
+    Ok(Linting {
+        paths: Vec::from_slice(alloc, matches.get_strs("FILE").unwrap_or(&[]))?,
+    })
+}
+
 /// Returns the request that the words after the program's name make.
 fn asked<'a>(alloc: Global, matches: &ArgMatches<'a>) -> Result<Request<'a>, ToolFault>
     ensures { IfErr result (λ fault. IsUsage (message_of fault)) }
@@ -359,6 +411,7 @@ fn asked<'a>(alloc: Global, matches: &ArgMatches<'a>) -> Result<Request<'a>, Too
         })),
         Some(("map", inner)) => Ok(Request::Look(fork_task(listing_in(inner), inner))),
         Some(("check", inner)) => Ok(Request::Check(survey_in(alloc, inner)?)),
+        Some(("lint", inner)) => Ok(Request::Lint(linting_in(alloc, inner)?)),
         Some((name, inner)) => match fork_request(alloc, name, inner)? {
             Some(request) => Ok(request),
             None => Err(mistake(alloc, program(alloc)?, NO_COMMAND)),

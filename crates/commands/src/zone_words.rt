@@ -52,7 +52,8 @@ and each line begins with 'block', 'total', 'largest' or 'after'. With --steps
 the picture has a strip for the zone after line FROM and one after each further
 call up to line TO, with an arrow for each block that moved from one to the
 next.
-Faults are reported as 'macmem script' reports them.
+Faults are reported as 'macmem script' reports them; 'macmem lint SCRIPT' says
+in words what is wrong with each faulty line.
 
   macmem heap --at 2 --job examples/job/job --app editor
 

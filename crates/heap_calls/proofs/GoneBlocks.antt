@@ -9,9 +9,8 @@ use Rattle.std.specs.Prelude.{nat_le, nat_lt}
 use Rattle.block_store.specs.Block.{Block, Free, Nonrelocatable, Masters, Relocatable, size, sizes, is_purgeable, content_of}
 use Rattle.block_store.specs.Block.{rename, rename_block, tidy}
 use Rattle.block_store.specs.Find.{IsEdge}
-use Rattle.block_store.specs.Run.{run_spot, has_free}
 use Rattle.block_store.specs.Room.{Spot, spot_at, raised, may_be_purged, put_at_base, room}
-use Rattle.block_store.specs.Sparing.{spared, opened, purged}
+use Rattle.block_store.specs.Sparing.{spared, opened}
 use Rattle.block_store.specs.Inner.Stretch.{opened_block}
 use Rattle.block_store.specs.Seen.{seen}
 use Rattle.block_store.specs.declared.flags.Flags.{Flags}
@@ -175,9 +174,9 @@ edge-bottom (b ∷ above) = inl refl
 -- so many blocks of a store that are purged are those of its heap, from the bottom on
 pub told-all : (value : Memory) (zone : List Block) (rest : Rest) (es : List Anchor) (log : Log) (k k' : ℕ)
     → memory_of zone rest es log ≡ value → k ≡ k'
-    → gone_from es Nothing k (blocks_from 0 zone) ≡ gone (length value.heap.names) k' nothing value.heap.zone
+    → gone_from es Nothing k zone ≡ gone (length value.heap.names) k' nothing value.heap.zone
 told-all value zone rest es log k k' is same =
-    ap (gone_from es Nothing k) (from-bottom zone) ∙ sym (gone-named es k zone)
+    sym (gone-named es k zone)
     ∙ ap (λ n. gone n k nothing (rename (handle_number es) (pointer_number es) zone))
     (sym (length-map es (name_of rest.slots)))
     ∙ ap (λ (m : Memory). gone (length m.heap.names) k nothing m.heap.zone) is
@@ -186,17 +185,6 @@ told-all value zone rest es log k k' is same =
 pub some-map : {A B : Type 0} (f : A → B) (o : Option A) → is_some (option_map f o) ≡ is_some o
 some-map f None = refl
 some-map f (Some x) = refl
-
--- where there is a run for room at its base, its purges are those of the search
-pub base-told : (entries : List Anchor) (p k : ℕ) (sparing : Sparing) (zone : List Block)
-    → base p sparing zone ≡ run_spot (has_free p) (purged k sparing zone) → k + 1 ≡ base_searches p sparing zone
-    → is_some (run_spot (has_free p) (purged k sparing zone)) ≡ true
-    → gone_from entries sparing k (blocks_from 0 zone) ≡ base_gone entries p sparing zone
-base-told entries p k sparing zone least searches some =
-    ap (gone_from entries sparing k) (from-bottom zone)
-    ∙ ap (λ n. gone_from entries sparing n zone)
-    (let z : k ≡ base_searches p sparing zone - 1 = omega (arith, searches) in z)
-    ∙ sym (cond-true (is_some (base p sparing zone)) _ _ (ap is_some least ∙ some))
 
 -- the blocks of a store that are purged, where the names that a search spares are those of slots
 pub gone-spared : (entries : List Anchor) (sp : Block → Bool) (sparing : Sparing)

@@ -14,7 +14,7 @@ use Rattle.heap_calls.specs.declared.anchor.Found.{Found}
 use Rattle.heap_calls.specs.State.{State, Memory}
 use Rattle.heap_calls.specs.Answer.{look_up}
 use Rattle.heap_calls.specs.Gone.{hand_to_hand_gone, copy_slot_gone, found_gone, made_gone, slot_gone}
-use Rattle.heap_calls.specs.Refused.{copying_zone}
+use Rattle.heap_calls.specs.Copying.{copying_zone}
 use Rattle.heap_calls.specs.Inner.NewSlot.{zone_slotted}
 use Rattle.heap_calls.specs.Inner.Numbered.{state_of, memory_of, handle_number, pointer_number, no_number, Agrees}
 use Rattle.heap_calls.specs.Inner.Telling.{new_gone, zone_slot_gone}

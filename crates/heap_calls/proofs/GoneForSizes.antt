@@ -6,7 +6,7 @@ use Rattle.std.specs.Option.{option_map, IfSome}
 use Rattle.mac_words.specs.Size.{phys}
 use Rattle.mac_words.specs.declared.code.OsErr.{OsErr}
 use Rattle.mac_words.proofs.Plain.{is_some-map}
-use Rattle.block_store.specs.Block.{Block, size, rename, rename_block, tidy, is_mover}
+use Rattle.block_store.specs.Block.{Block, size, rename, rename_block, is_mover}
 use Rattle.block_store.specs.Block.{resized, is_relocatable, is_nonrelocatable, content_of}
 use Rattle.block_store.specs.Run.{segments}
 use Rattle.block_store.specs.Room.{Spot, spot, spot_at, rename_spot, may_be_purged, count_of, room, least}
@@ -21,7 +21,6 @@ use Rattle.block_store.proofs.Renamed.Renaming.{size-rename, is_mover-rename, sp
 use Rattle.block_store.proofs.Renamed.Renaming.{grow_up-rename, grow_mover-rename}
 use Rattle.block_store.proofs.Renamed.GrowRenaming.{resized-rename}
 use Rattle.heap_calls.specs.declared.anchor.Anchor.{Anchor}
-use Rattle.heap_calls.specs.declared.anchor.Anchor.TheVariants as entry
 use Rattle.heap_calls.specs.declared.anchor.Target.{Target}
 use Rattle.heap_calls.specs.declared.log.Log.{Log}
 use Rattle.heap_calls.specs.State.{State, Memory}
@@ -38,9 +37,9 @@ use Rattle.heap_calls.specs.Inner.Appending.{bytes_of, length_of}
 use Rattle.heap_calls.specs.Inner.Reaching.{Reaches}
 use Rattle.heap_calls.specs.declared.reaching.Reached.{Reached}
 use Rattle.heap_calls.specs.Inner.Pointing.{target_of}
-use Rattle.heap_calls.specs.Inner.Telling.{gone_named, gone_from, blocks_from, try_gone, still_gone, grown_gone, fitted_gone}
+use Rattle.heap_calls.specs.Inner.Telling.{gone_named, gone_from, try_gone, still_gone, grown_gone, fitted_gone}
 use Rattle.heap_calls.specs.Inner.Telling.{OpensNone}
-use Rattle.heap_calls.proofs.GoneBlocks.{gone-spared, from-behind, from-bottom}
+use Rattle.heap_calls.proofs.GoneBlocks.{gone-spared}
 use Rattle.heap_calls.proofs.Numbering.Looking.{room_searches-rename, enough-rename, growth-rename}
 use Rattle.heap_calls.proofs.Numbering.Pointing.{Lone, IsHeld, is_nonrelocatable-number, pointed_at-refused}
 use Rattle.heap_calls.proofs.Numbering.Answering.{content_of-rename}
@@ -101,12 +100,11 @@ module _ (entries : List Anchor) (nd : Sparing) (try : List Block → Option (Li
 
     pub try-told : k + 1 ≡ tries (λ j. try (purged j nd zone)) (most_purges nd zone)
         → is_some (try (purged k nd zone)) ≡ true
-        → gone_from entries nd k (blocks_from 0 zone) ≡ try_gone entries try nd zone
+        → gone_from entries nd k zone ≡ try_gone entries try nd zone
     try-told looks some =
         let many : k + 1 ≡ room_searches try (spared nd) zone =
         looks ∙ ap (room_searches try (spared nd)) closed in
-        ap (gone_from entries nd k) (from-bottom zone)
-        ∙ ap (λ n. gone_from entries nd n zone)
+        ap (λ n. gone_from entries nd n zone)
         (let z : k ≡ room_searches try (spared nd) zone - 1 = omega (arith, many) in z)
         ∙ sym (cond-true (is_some (room try (spared nd) zone)) _ _ (tried ∙ some))
 
@@ -125,7 +123,7 @@ module _ (entries : List Anchor) (nd : Sparing) (number n : ℕ) (zone : List Bl
         (grown n (spot (is_relocatable number) zone)) nd zone
         → is_some (grow_mover (is_relocatable number) (grown n (spot (is_relocatable number) zone)) (purged k nd zone))
         ≡ true
-        → gone_from entries nd k (blocks_from 0 zone)
+        → gone_from entries nd k zone
         ≡ try_gone entries (grow_mover (is_relocatable number) (grown n (spot (is_relocatable number) zone))) nd zone
     growth-told = try-told entries nd try zone (opened-stays (is_relocatable number) nd zone stays) k least_is
 
@@ -157,25 +155,30 @@ module _ (entries : List Anchor) (nd : Sparing) (place : ℕ) (zone : List Block
         ∙ ap (λ d. try_gone entries (enough d) nd run) (sym grows.more_is)
 
     -- or has room in the run above it
-    pub still-told : OpensNone nd → tidy zone ≡ zone → up ≡ false → (k looks taken : ℕ)
-        → IfSome (spot_at place zone) (λ s. taken ≡ size s.here)
+    pub still-told : OpensNone nd → up ≡ false → (k looks : ℕ)
         → IfSome (spot_at place zone) (λ s. FindsPurges more (spared nd) (segments s.above).first (Some k))
         → k + 1 ≡ looks
         → IfSome (spot_at place zone) (λ s. looks ≡ room_searches (enough more) (spared nd) (segments s.above).first)
-        → gone_from entries nd k (blocks_from (place + taken) zone) ≡ still_gone entries nd new grows.s
-    still-told whole tidied is k looks taken taken_is h counted seen =
+        → gone_from entries nd k grows.s.above ≡ still_gone entries nd new grows.s
+    still-told whole is k looks h counted seen =
         let found : FindsPurges more (spared nd) run (Some k) = spot_if (spot_at place zone) grows.s
         (λ s. FindsPurges more (spared nd) (segments s.above).first (Some k)) grows.at h in
         let many : looks ≡ room_searches (enough more) (spared nd) run = spot_if (spot_at place zone) grows.s
         (λ s. looks ≡ room_searches (enough more) (spared nd) (segments s.above).first) grows.at seen in
-        let here : taken ≡ size grows.s.here = spot_if (spot_at place zone) grows.s (λ s. taken ≡ size s.here) grows.at
-        taken_is in
-        ap (λ m. gone_from entries nd k (blocks_from (place + m) zone)) here
-        ∙ ap (gone_from entries nd k) (from-behind place zone grows.s tidied grows.at ∙ first-beyond grows.s.above)
+        ap (gone_from entries nd k) (first-beyond grows.s.above)
         ∙ gone_from-first entries nd whole k run (beyond (segments grows.s.above).rest) found.0
         ∙ ap (λ m. gone_from entries nd m run)
         (let z : k ≡ room_searches (enough more) (spared nd) run - 1 = omega (arith, many, counted) in z)
         ∙ sym (cond-true (is_some (room (enough more) (spared nd) run)) _ _ (ap is_some found.2)) ∙ sym (beside is)
+
+    -- or has none
+    pub still-untold : up ≡ false
+        → IfSome (spot_at place zone) (λ s. FindsPurges more (spared nd) (segments s.above).first None)
+        → still_gone entries nd new grows.s ≡ []
+    still-untold is h =
+        let none : FindsPurges more (spared nd) run None = spot_if (spot_at place zone) grows.s
+        (λ s. FindsPurges more (spared nd) (segments s.above).first None) grows.at h in
+        beside is ∙ cond-false (is_some (room (enough more) (spared nd) run)) _ _ (ap is_some none)
 
 -- a block that grows, and doesn't move
 pub stays-gone : (entries : List Anchor) (test : Block → Bool) (nd : Sparing) (n : ℕ) (zone : List Block) (s : Spot)

@@ -1,7 +1,7 @@
-use Rattle.std.proofs.Common.{◌≡◌, ◌≢◌, ℕ, ◌+◌, ◌-◌, ◌<◌, zero, suc, Bool, true, false, not, ◌&&◌, List, [], ◌∷◌, ◌++◌, length, map}
-use Rattle.std.proofs.Common.{refl, sym, ◌∙◌, ap, cond, arith, Option, Some, Result, Ok, Err, is_some, slice_get, inl, inr}
+use Rattle.std.proofs.Common.{◌≡◌, ℕ, ◌-◌, ◌<◌, zero, suc, Bool, true, false, not, ◌&&◌, List, [], ◌∷◌, ◌++◌, length, map}
+use Rattle.std.proofs.Common.{refl, sym, ◌∙◌, ap, cond, Option, Some, Result, Ok, Err, is_some, slice_get, inl, inr}
 use Rattle.std.specs.Option.{option_map}
-use Rattle.std.proofs.lemmas.Bool.{cond-true, false≢true}
+use Rattle.std.proofs.lemmas.Bool.{false≢true}
 use Rattle.std.proofs.lemmas.List.{map-id, length-map, length-replicate}
 use Rattle.mac_words.specs.Size.{phys, padded}
 use Rattle.mac_words.specs.declared.code.OsErr.{OsErr}
@@ -34,9 +34,8 @@ use Rattle.heap_calls.specs.Inner.NewBlock.{fresh_block}
 use Rattle.heap_calls.specs.Searches.{room_searches}
 use Rattle.heap_calls.specs.Inner.Numbered.{handle_number, pointer_number, name_of, no_number, state_of, memory_of}
 use Rattle.heap_calls.specs.Inner.Search.{placement, placement_searches, tries}
-use Rattle.heap_calls.specs.Inner.Telling.{gone_named, gone_from, blocks_from, placement_gone, renewed_gone}
+use Rattle.heap_calls.specs.Inner.Telling.{gone_named, gone_from, placement_gone, renewed_gone}
 use Rattle.heap_calls.proofs.Filled.Refilled.{freed-gone}
-use Rattle.heap_calls.proofs.GoneBlocks.{from-bottom}
 use Rattle.heap_calls.proofs.NewBlocks.NewHandles.{tries-same}
 use Rattle.heap_calls.proofs.NewBlocks.NewSlots.{tries-map}
 use Rattle.heap_calls.proofs.Numbering.Answering.{handle_at-refused}
@@ -52,7 +51,7 @@ use Rattle.block_store.specs.Rest.{Rest}
 use Rattle.heap_calls.specs.State.{State}
 use Rattle.heap_calls.specs.Answer.{nothing}
 use Rattle.heap_calls.specs.Slots.{slotted}
-use Rattle.heap_calls.specs.Refused.{slotted_zone}
+use Rattle.heap_calls.specs.Slots.{slotted_zone}
 use Rattle.heap_calls.specs.Gone.{slot_gone, ready_gone, block_gone, made_gone}
 use Rattle.heap_calls.specs.Inner.NewSlot.{zone_slotted}
 use Rattle.heap_calls.specs.Inner.Numbered.{state_of, Agrees}
@@ -61,17 +60,6 @@ use Rattle.heap_calls.proofs.GoneBlocks.{slot_gone-is}
 use Rattle.heap_calls.proofs.NewBlocks.NewHandles.{slotted-is}
 
 -- What a sink is told of blocks that are purged for the place of a relocatable block.
-
--- where there is a placement, its purges are those of the search
-pub placement-told : (entries : List Anchor) (p k : ℕ) (sparing : Sparing) (zone : List Block)
-    → placement p sparing zone ≡ place p (purged k sparing zone) → k + 1 ≡ placement_searches p sparing zone
-    → is_some (place p (purged k sparing zone)) ≡ true
-    → gone_from entries sparing k (blocks_from 0 zone) ≡ placement_gone entries p sparing zone
-placement-told entries p k sparing zone least searches some =
-    ap (gone_from entries sparing k) (from-bottom zone)
-    ∙ ap (λ n. gone_from entries sparing n zone)
-    (let z : k ≡ placement_searches p sparing zone - 1 = omega (arith, searches) in z)
-    ∙ sym (cond-true (is_some (placement p sparing zone)) _ _ (ap is_some least ∙ some))
 
 -- a search sees each block first as it sees the zone
 pub opened-each : (sparing : Sparing) (zone : List Block) → opened sparing zone ≡ map (opened_block sparing) zone

@@ -1,8 +1,11 @@
-use Rattle.std.proofs.Common.{◌≡◌, ◌++◌, ◌⊎◌, ◌∙◌, Bool, true, IsTrue, List, Option, Some, None, [], Result, Ok, Err, OnOk, IsOk, false, inl, inr, refl, sym, ap, subst}
+use Rattle.std.proofs.Common.{◌≡◌, ◌++◌, ◌⊎◌, ◌∙◌, Bool, true, IsTrue, List, Option, Some, [], Result, Ok, Err, OnOk, IsOk, false, inl, inr, refl, sym, ap, subst}
 use Rattle.std.proofs.lemmas.List.{append-nil}
 use Rattle.heap_calls.specs.State.{Memory, CountedMemory}
 use Rattle.heap_calls.specs.Gone.{Gone, Tells, TellsNothing, IsIdle, Rests, Hears}
-use Rattle.heap_calls.specs.Left.{Step, DidNothing, DidOneStep, DidAStep, Stops}
+use Rattle.block_store.specs.Block.{Block}
+use Rattle.block_store.specs.Rest.{Rest, IsRest}
+use Rattle.heap_calls.specs.Inner.Halting.{Halts}
+use Rattle.heap_calls.specs.Left.{Step, Stops}
 
 -- What a sink hears, step by step.
 
@@ -112,8 +115,27 @@ stops-on-the-way takes told listens keeps another first old new sink heard kept 
   ];
 }
 
+-- A step of the call over a store, which the host stopped.
+pub stops-halted : {A : Type 0} (takes : Bool) (told : A → List Gone → Type 0) (listens : A → Bool)
+    (keeps : Memory → Memory → Type 0) (another : Type 0) (first : Option Step) (old new : CountedMemory) (sink heard : A)
+    {zone zone' : List Block} {rest rest' : Rest} → keeps old.memory new.memory
+    → (zone' ≡ zone → IsRest rest rest' → new ≡ old) → Halts takes told listens zone rest zone' rest' sink heard
+    → Stops takes told listens keeps another first old new sink heard
+stops-halted takes told listens keeps another first old new sink heard kept back halts = record {
+  kept = kept;
+  left = elim halts [
+    | inl store ↦ inl store
+    | inr all ↦ inr (inl (record { same = back all.same all.kept; silent = all.silent; why = inl all.why }))
+  ];
+}
+
 -- Two things over a store that takes no host memory.
 pub both-or : {T A B : Type 0} → (T ⊎ A) → (T ⊎ B) → T ⊎ (A × B)
 both-or (inl store) right = inl store
 both-or (inr left) (inl store) = inl store
 both-or (inr left) (inr right) = inr (left, right)
+
+-- What holds in any case holds where there is a value.
+pub on_ok-always : {T E P : Type 0} (result : Result T E) → P → OnOk result P
+on_ok-always (Ok value) p = p
+on_ok-always (Err fault) p = tt

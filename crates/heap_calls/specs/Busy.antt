@@ -6,22 +6,6 @@ use Rattle.mac_words.specs.declared.code.TheConstants.OsErr.{LOCKED, PROFILE}
 use Rattle.heap_calls.specs.State.{Role, Plain, Resource, SystemResource, Meaning, Handle, Pointer, Disposed}
 use Rattle.heap_calls.specs.State.{State, Memory}
 use Rattle.heap_calls.specs.Answer.{Known, Held, handle_at, look_up}
-use Rattle.heap_calls.specs.Asked.{Asked, DisposeHandle, GetHandleSize, SetHandleSize}
-use Rattle.heap_calls.specs.Asked.{ReallocateHandle, EmptyHandle, HLock, HUnlock, HPurge, HNoPurge, HGetState}
-use Rattle.heap_calls.specs.Asked.{HSetState, MoveHHi, HLockHi, HandToHand, HandAndHand, PtrAndHand}
-use Rattle.heap_calls.specs.Asked.{DisposePtr, GetPtrSize, SetPtrSize, MemError, Put, Show, PutPtr, ShowPtr, Where}
-use Rattle.mac_words.specs.Told.{Told, Done, Given, Number, Bytes, Refused}
-use Rattle.heap_calls.specs.Asked.{telling, seeking, packing, answered}
-use Rattle.heap_calls.specs.Answer.{dispose_handle, get_handle_size, set_handle_size, h_lock, h_unlock, move_h_hi}
-use Rattle.heap_calls.specs.Answer.{h_lock_hi, put, show, noting, silent}
-use Rattle.heap_calls.specs.Pointers.{dispose_pointer, get_pointer_size, set_pointer_size, put_pointer, show_pointer}
-use Rattle.heap_calls.specs.Pointers.{place_of}
-use Rattle.heap_calls.specs.Purging.{h_purge, h_no_purge, h_get_state, h_set_state, empty_handle, reallocate_handle}
-use Rattle.heap_calls.specs.Copying.{hand_to_hand, hand_and_hand, pointer_and_hand}
-use Rattle.heap_calls.specs.Searches.{set_handle_size_searches, set_pointer_size_searches, reallocate_handle_searches}
-use Rattle.heap_calls.specs.Searches.{hand_to_hand_searches, hand_and_hand_searches, pointer_and_hand_searches}
-use Rattle.heap_calls.specs.Moves.{set_handle_size_moves, reallocate_handle_moves, hand_to_hand_moves}
-use Rattle.heap_calls.specs.Moves.{hand_and_hand_moves, pointer_and_hand_moves}
 
 -- Busy names: the handles and pointers that a waiting call names, while a grow-zone script runs. Inside Macintosh:
 -- Memory, chapter 1, "Low-Memory Conditions" and "Grow-Zone Functions".
@@ -132,54 +116,9 @@ next_barred (Ok held) other = other
 abbrev pub both_barred : Option ℕ → Option ℕ → Memory → Option OsErr
 both_barred from to m = option_or (barred from m) (next_barred (look_up from m.heap) (change_barred to m))
 
--- The code with which a busy name, or a System resource's handle, bars a call; a name that the call binds bars
--- nothing, and neither does anything a call without a name.
-abbrev pub gate : Asked → Memory → Option OsErr
-gate (DisposeHandle handle) m = barred handle m
-gate (GetHandleSize handle) m = barred handle m
-gate (SetHandleSize handle size) m = change_barred handle m
-gate (ReallocateHandle handle size) m = change_barred handle m
-gate (EmptyHandle handle) m = barred handle m
-gate (HLock handle) m = barred handle m
-gate (HUnlock handle) m = barred handle m
-gate (HPurge handle) m = barred handle m
-gate (HNoPurge handle) m = barred handle m
-gate (HGetState handle) m = barred handle m
-gate (HSetState handle state) m = barred handle m
-gate (MoveHHi handle) m = barred handle m
-gate (HLockHi handle) m = barred handle m
-gate (HandToHand handle) m = barred handle m
-gate (HandAndHand from to) m = both_barred from to m
-gate (PtrAndHand handle bytes) m = change_barred handle m
-gate (DisposePtr pointer) m = pointer_barred pointer m
-gate (GetPtrSize pointer) m = pointer_barred pointer m
-gate (SetPtrSize pointer size) m = pointer_barred pointer m
-gate (Put handle from bytes) m = change_barred handle m
-gate (Show handle) m = barred handle m
-gate (PutPtr pointer from bytes) m = pointer_barred pointer m
-gate (ShowPtr pointer) m = pointer_barred pointer m
-gate (Where name) m = either_barred name m
-gate asked m = None
-
--- Whether a call sets the code that MemError returns.
--- See decision 24 (`MemError` returns the code of the last call of its table).
-abbrev pub notes : Asked → Bool
-notes MemError = false
-notes (Put handle from bytes) = false
-notes (Show handle) = false
-notes (PutPtr pointer from bytes) = false
-notes (ShowPtr pointer) = false
-notes (Where name) = false
-notes asked = true
-
 -- The heap after a call that set this code.
 abbrev pub keep_code : OsErr → Memory → Memory
 keep_code code m = record m { log = record m.log { code = code } }
-
--- A call at its gate: where it is barred, nothing changes but the code that MemError returns.
-abbrev pub gated : Option OsErr → Asked → Memory → Told × Memory
-gated None asked m = answered asked m
-gated (Some code) asked m = (Refused code, if notes asked then keep_code code m else m)
 
 -- The answer of a method, unless the call is barred.
 abbrev pub unless : {T : Type 0} → Option OsErr → (Memory → Result T OsErr × Memory) → Memory → Result T OsErr × Memory
@@ -191,45 +130,3 @@ abbrev pub unless_silent : {T : Type 0} → Option OsErr → (Memory → Result 
     → Result T OsErr × Memory
 unless_silent None call m = call m
 unless_silent (Some code) call m = (Err code, m)
-
--- One try of a call: its reply, and the heap after it. It is the same as `gated (gate asked m) asked m`, written out
--- call by call.
--- See decision 36 (busy names are tested before a call's row).
-abbrev pub served : Asked → Memory → Told × Memory
-served (DisposeHandle handle) m = telling (λ _. Done) (unless (barred handle m) (noting (dispose_handle handle)) m)
-served (GetHandleSize handle) m = telling Number (unless (barred handle m) (noting (get_handle_size handle)) m)
-served (SetHandleSize handle size) m = telling (λ _. Done) (unless (change_barred handle m)
-    (packing (set_handle_size_moves handle size) (set_handle_size_searches handle size) (set_handle_size handle size))
-    m)
-served (ReallocateHandle handle size) m = telling (λ _. Done) (unless (change_barred handle m)
-    (packing (reallocate_handle_moves handle size) (reallocate_handle_searches handle size)
-    (reallocate_handle handle size)) m)
-served (EmptyHandle handle) m = telling (λ _. Done) (unless (barred handle m) (noting (empty_handle handle)) m)
-served (HLock handle) m = telling (λ _. Done) (unless (barred handle m) (noting (h_lock handle)) m)
-served (HUnlock handle) m = telling (λ _. Done) (unless (barred handle m) (noting (h_unlock handle)) m)
-served (HPurge handle) m = telling (λ _. Done) (unless (barred handle m) (noting (h_purge handle)) m)
-served (HNoPurge handle) m = telling (λ _. Done) (unless (barred handle m) (noting (h_no_purge handle)) m)
-served (HGetState handle) m = telling Number (unless (barred handle m) (noting (h_get_state handle)) m)
-served (HSetState handle state) m = telling (λ _. Done) (unless (barred handle m) (noting (h_set_state handle state)) m)
-served (MoveHHi handle) m = telling (λ _. Done) (unless (barred handle m) (noting (move_h_hi handle)) m)
-served (HLockHi handle) m = telling (λ _. Done) (unless (barred handle m) (noting (h_lock_hi handle)) m)
-served (HandToHand handle) m = telling Given (unless (barred handle m) (packing (hand_to_hand_moves handle)
-    (hand_to_hand_searches handle) (hand_to_hand handle)) m)
-served (HandAndHand from to) m = telling (λ _. Done) (unless (both_barred from to m)
-    (packing (hand_and_hand_moves from to) (hand_and_hand_searches from to) (hand_and_hand from to)) m)
-served (PtrAndHand handle bytes) m = telling (λ _. Done) (unless (change_barred handle m)
-    (packing (pointer_and_hand_moves handle bytes) (pointer_and_hand_searches handle bytes)
-    (pointer_and_hand handle bytes)) m)
-served (DisposePtr pointer) m = telling (λ _. Done) (unless (pointer_barred pointer m)
-    (noting (dispose_pointer pointer)) m)
-served (GetPtrSize pointer) m = telling Number (unless (pointer_barred pointer m) (noting (get_pointer_size pointer)) m)
-served (SetPtrSize pointer size) m = telling (λ _. Done) (unless (pointer_barred pointer m)
-    (seeking (set_pointer_size_searches pointer size) (set_pointer_size pointer size)) m)
-served (Put handle from bytes) m = telling (λ _. Done) (unless_silent (change_barred handle m)
-    (silent (put handle from bytes)) m)
-served (Show handle) m = telling Bytes (unless_silent (barred handle m) (silent (show handle)) m)
-served (PutPtr pointer from bytes) m = telling (λ _. Done) (unless_silent (pointer_barred pointer m)
-    (silent (put_pointer pointer from bytes)) m)
-served (ShowPtr pointer) m = telling Bytes (unless_silent (pointer_barred pointer m) (silent (show_pointer pointer)) m)
-served (Where name) m = telling Number (unless_silent (either_barred name m) (silent (place_of name)) m)
-served asked m = answered asked m

@@ -1,4 +1,4 @@
-use Rattle.std.specs.Prelude.{ℕ, ◌+◌, Bool, ◌||◌, Option, Some, None, Ok, List, ◌∷◌, ◌++◌, length, is_some}
+use Rattle.std.specs.Prelude.{ℕ, ◌+◌, Bool, ◌||◌, Option, Some, None, Result, Ok, Err, List, ◌∷◌, ◌++◌, length, is_some}
 use Rattle.std.specs.Prelude.{if◌then◌else◌}
 use Rattle.mac_words.specs.Size.{phys}
 use Rattle.mac_words.specs.declared.code.TheConstants.OsErr.{MEM_FULL}
@@ -6,9 +6,10 @@ use Rattle.block_store.specs.Block.{Block, is_relocatable, content_of, with_cont
 use Rattle.windows.specs.Writes.{written}
 use Rattle.block_store.specs.Room.{Spot, spot}
 use Rattle.block_store.specs.Grow.{grow}
+use Rattle.mac_words.specs.declared.code.OsErr.{OsErr}
 use Rattle.heap_calls.specs.State.{State}
-use Rattle.heap_calls.specs.Answer.{Answer, refused, on_block}
-use Rattle.heap_calls.specs.Slots.{slotted, if_ready, new_block}
+use Rattle.heap_calls.specs.Answer.{Answer, Held, refused, on_block}
+use Rattle.heap_calls.specs.Slots.{slotted, if_ready, new_block, slotted_zone}
 
 -- Copying and joining blocks. Inside Macintosh: Memory, chapter 2, "Manipulating Blocks of Memory".
 
@@ -55,3 +56,8 @@ hand_and_hand from to s =
 abbrev pub pointer_and_hand : Option ℕ → List ℕ → State → Answer (Unit {0})
 pointer_and_hand handle x s = on_block handle s (λ held. append (is_relocatable held.number) held.number
     (length (content_of held.at.here)) x s)
+
+-- The zone with an unused master pointer for the copy of a handle's block, which is not purged for it.
+abbrev pub copying_zone : Result Held OsErr → State → List Block
+copying_zone (Err code) s = s.zone
+copying_zone (Ok held) s = slotted_zone (is_relocatable held.number) s

@@ -3,7 +3,8 @@ use Rattle.block_store.specs.Block.{Block}
 use Rattle.heap_calls.specs.State.{State, Memory, CountedMemory}
 use Rattle.heap_calls.specs.Answer.{look_up}
 use Rattle.heap_calls.specs.Gone.{Gone, Tells, TellsNothing, slot_gone, copy_slot_gone}
-use Rattle.heap_calls.specs.Refused.{slotted_zone, copying_zone}
+use Rattle.heap_calls.specs.Slots.{slotted_zone}
+use Rattle.heap_calls.specs.Copying.{copying_zone}
 
 -- What a call leaves where the host is out of memory.
 

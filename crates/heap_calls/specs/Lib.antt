@@ -20,12 +20,11 @@ pub mod Emptying
 pub mod Refused
 pub mod Left
 pub mod Busy
-pub mod Naming
 pub mod Shown
 pub mod Staying
 pub mod Inside
 pub mod Path
-pub mod GoneBy
+pub mod Table
 pub mod ToldGone
 pub mod Preloaded
 pub mod Owned

@@ -4,7 +4,7 @@ use Rattle.mac_words.specs.declared.code.OsErr.{OsErr}
 use Rattle.block_store.specs.declared.flags.Flags.{Flags}
 use Rattle.block_store.specs.Block.{Block}
 use Rattle.heap_calls.specs.State.{Role, State, Memory}
-use Rattle.heap_calls.specs.Refused.{slotted_zone}
+use Rattle.heap_calls.specs.Slots.{slotted_zone}
 use Rattle.heap_calls.specs.Answer.{nothing}
 use Rattle.heap_calls.specs.Gone.{Gone, slot_gone, made_gone, refill_gone}
 use Rattle.heap_calls.specs.Inside.{new_inside, new_empty_inside, refill_inside, inside, released, cast, has_block}

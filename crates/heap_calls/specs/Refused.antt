@@ -1,46 +1,26 @@
-use Rattle.std.specs.Prelude.{ℕ, ◌≡◌, Bool, Option, Some, None, Result, Ok, Err, List, unwrap_or, if◌then◌else◌}
-use Rattle.std.specs.Option.{option_map}
-use Rattle.mac_words.specs.Size.{phys}
-use Rattle.mac_words.specs.declared.code.OsErr.{OsErr}
-use Rattle.block_store.specs.Block.{Block, is_relocatable}
-use Rattle.block_store.specs.Room.{purge}
-use Rattle.heap_calls.specs.State.{State, Memory}
-use Rattle.heap_calls.specs.Answer.{Held, look_up, nothing}
-use Rattle.heap_calls.specs.Slots.{slotted}
-use Rattle.heap_calls.specs.Purging.{blocks_purged}
+use Rattle.std.specs.Prelude.{◌≡◌, ℕ, Bool, Option, Some, None, List, if◌then◌else◌}
 use Rattle.mac_words.specs.Told.{Refused}
-use Rattle.heap_calls.specs.Asked.{Asked, NewHandle, HandToHand, PurgeMem}
-use Rattle.heap_calls.specs.Busy.{gate, notes, keep_code, served}
+use Rattle.mac_words.specs.declared.code.OsErr.{OsErr}
+use Rattle.block_store.specs.Block.{Block}
+use Rattle.heap_calls.specs.State.{State, Memory}
+use Rattle.heap_calls.specs.Answer.{look_up}
+use Rattle.heap_calls.specs.Slots.{slotted_zone}
+use Rattle.heap_calls.specs.Copying.{copying_zone}
+use Rattle.heap_calls.specs.Asked.{Asked}
+use Rattle.heap_calls.specs.Busy.{keep_code}
+use Rattle.heap_calls.specs.Table.{gate, notes, served, zone_left}
 use Rattle.heap_calls.specs.Counts.{CountsSearches, CountsMoves}
 
 -- What a refused call leaves, whether its row or a busy name refuses the call.
-
--- The zone with an unused master pointer: as it was where there is one, or where there is no room for more; else with
--- a new master pointer block, and with what the search for its room purged and moved.
-abbrev pub slotted_zone : (Block → Bool) → State → List Block
-slotted_zone spared s = unwrap_or (option_map (λ (ready : State). ready.zone) (slotted spared s)) s.zone
 
 -- All but the blocks of the zone is what it was; the zone has an unused master pointer.
 abbrev pub LeavesMasters : (Block → Bool) → Memory → Memory → Type 0
 LeavesMasters spared old new = new ≡ record old { heap = record old.heap { zone = slotted_zone spared old.heap } }
 
--- The zone with an unused master pointer for the copy of a handle's block, which is not purged for it.
-abbrev pub copying_zone : Result Held OsErr → State → List Block
-copying_zone (Err code) s = s.zone
-copying_zone (Ok held) s = slotted_zone (is_relocatable held.number) s
-
 -- All but the blocks of the zone is what it was; the zone has an unused master pointer for the copy of a handle's block.
 abbrev pub LeavesCopying : Option ℕ → Memory → Memory → Type 0
 LeavesCopying handle old new =
     new ≡ record old { heap = record old.heap { zone = copying_zone (look_up handle old.heap) old.heap } }
-
--- The zone after a call that its row refused: as it was, except that a master pointer block that was made for the
--- call stays, and that what PurgeMem purged stays purged.
-abbrev pub zone_left : Asked → State → List Block
-zone_left (NewHandle size) s = slotted_zone nothing s
-zone_left (HandToHand handle) s = copying_zone (look_up handle s) s
-zone_left (PurgeMem size) s = purge (blocks_purged (phys size) s.zone) nothing s.zone
-zone_left asked s = s.zone
 
 -- The zone after a refused call, by its gate: as it was where a busy name barred the call.
 abbrev pub zone_behind : Option OsErr → Asked → State → List Block

@@ -1,4 +1,5 @@
-use Rattle.std.specs.Prelude.{ℕ, Bool, Option, Some, None, List, length, replicate, is_some, nat_lt, if◌then◌else◌}
+use Rattle.std.specs.Prelude.{ℕ, Bool, Option, Some, None, List, length, replicate, is_some, nat_lt, unwrap_or}
+use Rattle.std.specs.Prelude.{if◌then◌else◌}
 use Rattle.std.specs.Option.{option_map}
 use Rattle.mac_words.specs.Size.{phys}
 use Rattle.mac_words.specs.declared.code.TheConstants.OsErr.{MEM_FULL}
@@ -43,3 +44,8 @@ new_handle n s = if_ready (slotted nothing s) s (λ ready. if is_some (phys n)
 -- NewEmptyHandle: a new handle with no block.
 abbrev pub new_empty_handle : State → Answer ℕ
 new_empty_handle s = if_ready (slotted nothing s) s (λ ready. given (Handle Plain) (Some ready.zone) ready)
+
+-- The zone with an unused master pointer: as it was where there is one, or where there is no room for more; else with
+-- a new master pointer block, and with what the search for its room purged and moved.
+abbrev pub slotted_zone : (Block → Bool) → State → List Block
+slotted_zone spared s = unwrap_or (option_map (λ (ready : State). ready.zone) (slotted spared s)) s.zone

@@ -2,10 +2,10 @@ use Rattle.std.specs.Prelude.{◌≡◌, ◌<◌, ℕ, ◌==◌, ◌||◌, true,
 use Rattle.block_store.specs.Block.{Block, is_relocatable, content_of}
 use Rattle.heap_calls.specs.State.{Memory}
 use Rattle.heap_calls.specs.Asked.{Asked}
-use Rattle.heap_calls.specs.Busy.{served}
+use Rattle.heap_calls.specs.Table.{served}
 use Rattle.heap_calls.specs.Emptying.{takes_block, has_purgeable}
 use Rattle.heap_calls.specs.Gone.{Gone}
-use Rattle.heap_calls.specs.GoneBy.{gone_in}
+use Rattle.heap_calls.specs.Table.{gone_in}
 use Rattle.heap_calls.specs.Inside.{has_block}
 use Rattle.heap_calls.specs.Path.{Step, stepped, gone_at, step_disposes}
 

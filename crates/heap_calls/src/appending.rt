@@ -12,7 +12,8 @@ ghost use Rattle.heap_calls.specs.Asked.{packing};
 ghost use Rattle.heap_calls.specs.Answer.{silent, searching, moving};
 ghost use Rattle.heap_calls.specs.Inner.Appending.{size_for, behind, lengthened, bytes_of, length_of};
 ghost use Rattle.heap_calls.specs.Copying.{hand_and_hand, pointer_and_hand};
-ghost use Rattle.heap_calls.specs.Gone.{Tells, TellsNothing, IsIdle, gone_unless, hand_and_hand_gone, pointer_and_hand_gone};
+ghost use Rattle.heap_calls.specs.Gone.{IsIdle, gone_unless, hand_and_hand_gone, pointer_and_hand_gone};
+ghost use Rattle.heap_calls.specs.Inner.Halting.{Halts};
 ghost use Rattle.heap_calls.specs.Inner.Given.{IsAnswer, KeepsNames};
 ghost use Rattle.heap_calls.specs.Inner.Growing.{Spares, Stays, fitted};
 ghost use Rattle.heap_calls.specs.Inner.GrowingInPlace.{made_zone};
@@ -22,7 +23,7 @@ ghost use Rattle.heap_calls.specs.Inner.Packed.{Packs};
 ghost use Rattle.heap_calls.specs.Inner.Telling.{fitted_gone};
 ghost use Rattle.heap_calls.specs.Searches.{size_searches, hand_and_hand_searches, pointer_and_hand_searches};
 ghost use Rattle.block_store.specs.declared.measures.TheConstants.{GREATEST_ZONE};
-ghost use Rattle.heap_calls.specs.Gone.{Hears, Rests};
+ghost use Rattle.heap_calls.specs.Gone.{Hears};
 ghost use Rattle.heap_calls.specs.Left.{Stops};
 
 use crate::anchor::Anchor;
@@ -31,7 +32,7 @@ use crate::heap::Heap;
 use crate::reaching::reach;
 use crate::refusal::Refusal;
 use crate::sink::PurgeSink;
-use crate::sizing::{fit_block, tell_fit};
+use crate::sizing::fit_block;
 use block_store::{BlockStore, Sparing};
 use std::alloc::AllocError;
 
@@ -61,8 +62,7 @@ impl<S: BlockStore> Heap<S> {
         if let Some(code) = self.both_barred(from, to) {
             return Ok(self.refuse(code)?);
         }
-        self.tell_append_handle(from, to, sink)?;
-        let answer = self.append_handle(from, to);
+        let answer = self.append_handle(from, to, sink);
         self.note_refusal(answer)
     }
 
@@ -92,104 +92,70 @@ impl<S: BlockStore> Heap<S> {
         if let Some(code) = self.change_barred(handle) {
             return Ok(self.refuse(code)?);
         }
-        self.tell_append_slice(handle, bytes, sink)?;
-        let answer = self.append_slice(handle, bytes);
+        let answer = self.append_slice(handle, bytes, sink);
         self.note_refusal(answer)
     }
 
-    /// Reports to a sink, if it listens, the blocks that `HandAndHand` is to purge.
-    fn tell_append_handle<K: PurgeSink>(
-        &self,
+    /// Appends the bytes of one handle's block to another's, counts the searches for room, and reports the blocks that
+    /// are purged to a sink, if it listens.
+    fn append_handle<K: PurgeSink>(
+        &mut self,
         from: Option<usize>,
         to: Option<usize>,
         sink: &mut K,
-    ) -> Result<(), AllocError>
+    ) -> Result<(), Refusal>
         requires idle { IsIdle K.told K.waits sink.old }
-        ensures hears { Hears K.told K.waits K.listens (IsOk result) (hand_and_hand_gone from to self.now.memory.heap)
-            sink.old sink.new }
-        ensures untold { OnErr result (TellsNothing K.told sink.old sink.new) }
-        ensures host { IsErr result → K.listens sink.old ≡ true }
-    {
-        if !sink.listens() {
-            return Ok(());
-        }
-        let Ok(source) = reach(&self.store, &self.names, from) else {
-            return Ok(());
-        };
-        let Ok(held) = reach(&self.store, &self.names, to) else {
-            return Ok(());
-        };
-        let more = length_at(&self.store, source.slot, source.place) as usize;
-        let sparing = Sparing::Two(source.slot, held.slot);
-        tell_longer(
-            &self.store,
-            &self.names,
-            held.slot,
-            held.place,
-            more,
-            sparing,
-            sink,
-        )
-    }
-
-    /// Reports to a sink, if it listens, the blocks that `PtrAndHand` is to purge.
-    fn tell_append_slice<K: PurgeSink>(
-        &self,
-        handle: Option<usize>,
-        bytes: &[u8],
-        sink: &mut K,
-    ) -> Result<(), AllocError>
-        requires idle { IsIdle K.told K.waits sink.old }
-        ensures hears { Hears K.told K.waits K.listens (IsOk result) (pointer_and_hand_gone handle bytes.now
-            self.now.memory.heap) sink.old sink.new }
-        ensures untold { OnErr result (TellsNothing K.told sink.old sink.new) }
-        ensures host { IsErr result → K.listens sink.old ≡ true }
-    {
-        if !sink.listens() {
-            return Ok(());
-        }
-        let Ok(held) = reach(&self.store, &self.names, handle) else {
-            return Ok(());
-        };
-        let sparing = Sparing::One(held.slot);
-        tell_longer(
-            &self.store,
-            &self.names,
-            held.slot,
-            held.place,
-            bytes.len(),
-            sparing,
-            sink,
-        )
-    }
-
-    /// Appends the bytes of one handle's block to another's, and counts the searches for room.
-    fn append_handle(&mut self, from: Option<usize>, to: Option<usize>) -> Result<(), Refusal>
         ensures answer { IsAnswer (moving (hand_and_hand_moves from to self.old.memory.heap)
             (searching (hand_and_hand_searches from to self.old.memory.heap) (silent (hand_and_hand from to)
             self.old.memory))) result self.new.memory }
-        ensures host { result ≡ Err Refusal.HostMemory → IsTrue S.TAKES_HOST }
-        ensures kept { result ≡ Err Refusal.HostMemory → KeepsNames self.old.memory self.new.memory }
+        ensures hears { Hears K.told K.waits K.listens (result ≢ Err Refusal.HostMemory) (hand_and_hand_gone from to
+            self.old.memory.heap) sink.old sink.new }
+        ensures stops { result ≡ Err Refusal.HostMemory → Stops S.TAKES_HOST K.told K.listens KeepsNames ⊥ None self.old
+            self.new sink.old sink.new }
         ensures lies { self.new.memory.window ≡ self.old.memory.window }
     {
         let source = reach(&self.store, &self.names, from)?;
         let held = reach(&self.store, &self.names, to)?;
         let more = length_at(&self.store, source.slot, source.place);
-        let grown = append_block(&mut self.store, source.slot, more, held.slot, held.place)?;
+        let grown = append_block(
+            &mut self.store,
+            &self.names,
+            source.slot,
+            more,
+            held.slot,
+            held.place,
+            sink,
+        )?;
         Ok(self.account(grown)?)
     }
 
-    /// Appends bytes to a handle's block, and counts the searches for room.
-    fn append_slice(&mut self, handle: Option<usize>, bytes: &[u8]) -> Result<(), Refusal>
+    /// Appends bytes to a handle's block, counts the searches for room, and reports the blocks that are purged to a
+    /// sink, if it listens.
+    fn append_slice<K: PurgeSink>(
+        &mut self,
+        handle: Option<usize>,
+        bytes: &[u8],
+        sink: &mut K,
+    ) -> Result<(), Refusal>
+        requires idle { IsIdle K.told K.waits sink.old }
         ensures answer { IsAnswer (moving (pointer_and_hand_moves handle bytes.now self.old.memory.heap)
             (searching (pointer_and_hand_searches handle bytes.now self.old.memory.heap)
             (silent (pointer_and_hand handle bytes.now) self.old.memory))) result self.new.memory }
-        ensures host { result ≡ Err Refusal.HostMemory → IsTrue S.TAKES_HOST }
-        ensures kept { result ≡ Err Refusal.HostMemory → KeepsNames self.old.memory self.new.memory }
+        ensures hears { Hears K.told K.waits K.listens (result ≢ Err Refusal.HostMemory) (pointer_and_hand_gone handle
+            bytes.now self.old.memory.heap) sink.old sink.new }
+        ensures stops { result ≡ Err Refusal.HostMemory → Stops S.TAKES_HOST K.told K.listens KeepsNames ⊥ None self.old
+            self.new sink.old sink.new }
         ensures lies { self.new.memory.window ≡ self.old.memory.window }
     {
         let held = reach(&self.store, &self.names, handle)?;
-        let grown = append_bytes(&mut self.store, held.slot, held.place, bytes)?;
+        let grown = append_bytes(
+            &mut self.store,
+            &self.names,
+            held.slot,
+            held.place,
+            bytes,
+            sink,
+        )?;
         Ok(self.account(grown)?)
     }
 }
@@ -217,14 +183,17 @@ fn joined_size(len: u32, more: usize) -> Option<u32>
 
 /// Changes the logical size of the block of `slot`, which stands at `place`, from `len` bytes to `len + more`, if a
 /// block can have that size and there is room.
-fn lengthen<S: BlockStore>(
+fn lengthen<S: BlockStore, K: PurgeSink>(
     store: &mut S,
+    names: &[Anchor],
     slot: u32,
     place: u32,
     len: u32,
     more: usize,
     sparing: Sparing,
+    sink: &mut K,
 ) -> Result<Grown, AllocError>
+    requires idle { IsIdle K.told K.waits sink.old }
     requires spared { Spares sparing (is_relocatable slot) }
     requires stays { Stays sparing (is_relocatable slot) }
     requires found { FindsLowest (is_relocatable slot) (S.zone store.old) (Some place) }
@@ -237,9 +206,12 @@ fn lengthen<S: BlockStore>(
         (length_of slot (S.zone store.old) + more) (S.zone store.old)) }
     ensures nonrelocatable { KeepsNonrelocatable (S.zone store.old) (S.zone store.new) }
     ensures rest { KeepsSlots (S.rest store.old) (S.rest store.new) }
-    ensures moves { Packs (size_moves (is_relocatable slot) (spared sparing)
-        (length_of slot (S.zone store.old) + more) (S.zone store.old)) (S.rest store.old) (S.rest store.new) }
-    ensures host { IsErr result → IsTrue S.TAKES_HOST }
+    ensures moves { OnOk result (Packs (size_moves (is_relocatable slot) (spared sparing)
+        (length_of slot (S.zone store.old) + more) (S.zone store.old)) (S.rest store.old) (S.rest store.new)) }
+    ensures hears { Hears K.told K.waits K.listens (IsOk result) (fitted_gone names.now (is_relocatable slot) sparing
+        (length_of slot (S.zone store.old) + more) (S.zone store.old)) sink.old sink.new }
+    ensures halts { OnErr result (Halts S.TAKES_HOST K.told K.listens (S.zone store.old) (S.rest store.old)
+        (S.zone store.new) (S.rest store.new) sink.old sink.new) }
 {
     let Some(size) = joined_size(len, more) else {
         return Ok(Grown {
@@ -247,35 +219,7 @@ fn lengthen<S: BlockStore>(
             searches: 0,
         });
     };
-    fit_block(store, slot, place, size, sparing)
-}
-
-/// Reports to a sink the blocks that are purged where the block of `slot`, which stands at `place`, gets `more` bytes
-/// more, if a block can have that size and there is room. If the sink finds the host out of memory, none is reported.
-fn tell_longer<S: BlockStore, K: PurgeSink>(
-    store: &S,
-    names: &[Anchor],
-    slot: u32,
-    place: u32,
-    more: usize,
-    sparing: Sparing,
-    sink: &mut K,
-) -> Result<(), AllocError>
-    requires spared { Spares sparing (is_relocatable slot) }
-    requires stays { Stays sparing (is_relocatable slot) }
-    requires found { FindsLowest (is_relocatable slot) (S.zone store.now) (Some place) }
-    requires idle { IsIdle K.told K.waits sink.old }
-    ensures told { OnOk result (Tells K.told (fitted_gone names.now (is_relocatable slot) sparing
-        (length_of slot (S.zone store.now) + more) (S.zone store.now)) sink.old sink.new) }
-    ensures untold { OnErr result (TellsNothing K.told sink.old sink.new) }
-    ensures rests { Rests K.told K.waits K.listens sink.old sink.new }
-    ensures host { IsErr result → K.listens sink.old ≡ true }
-{
-    let len = length_at(store, slot, place);
-    let Some(size) = joined_size(len, more) else {
-        return Ok(());
-    };
-    tell_fit(store, names, slot, place, size, sparing, sink)
+    fit_block(store, names, slot, place, size, sparing, sink)
 }
 
 /// Writes bytes after the first `len` bytes of the block of `slot`.
@@ -312,12 +256,15 @@ fn copy_behind<S: BlockStore>(store: &mut S, source: u32, bytes: u32, slot: u32,
 }
 
 /// Appends bytes to the block of `slot`, which stands at `place`.
-fn append_bytes<S: BlockStore>(
+fn append_bytes<S: BlockStore, K: PurgeSink>(
     store: &mut S,
+    names: &[Anchor],
     slot: u32,
     place: u32,
     bytes: &[u8],
+    sink: &mut K,
 ) -> Result<Grown, AllocError>
+    requires idle { IsIdle K.told K.waits sink.old }
     requires found { FindsLowest (is_relocatable slot) (S.zone store.old) (Some place) }
     ensures zone { IfOk result (λ grown. lengthened (is_relocatable slot) slot (length_of slot (S.zone store.old))
         bytes.now (S.zone store.old) ≡ made_zone grown.done (S.zone store.new)) }
@@ -326,13 +273,25 @@ fn append_bytes<S: BlockStore>(
         (length_of slot (S.zone store.old) + length bytes.now) (S.zone store.old)) }
     ensures nonrelocatable { KeepsNonrelocatable (S.zone store.old) (S.zone store.new) }
     ensures rest { KeepsSlots (S.rest store.old) (S.rest store.new) }
-    ensures moves { Packs (size_moves (is_relocatable slot) (is_relocatable slot)
+    ensures moves { OnOk result (Packs (size_moves (is_relocatable slot) (is_relocatable slot)
         (length_of slot (S.zone store.old) + length bytes.now) (S.zone store.old)) (S.rest store.old)
-        (S.rest store.new) }
-    ensures host { IsErr result → IsTrue S.TAKES_HOST }
+        (S.rest store.new)) }
+    ensures hears { Hears K.told K.waits K.listens (IsOk result) (fitted_gone names.now (is_relocatable slot) (Sparing.One slot)
+        (length_of slot (S.zone store.old) + length bytes.now) (S.zone store.old)) sink.old sink.new }
+    ensures halts { OnErr result (Halts S.TAKES_HOST K.told K.listens (S.zone store.old) (S.rest store.old)
+        (S.zone store.new) (S.rest store.new) sink.old sink.new) }
 {
     let len = length_at(store, slot, place);
-    let grown = lengthen(store, slot, place, len, bytes.len(), Sparing::One(slot))?;
+    let grown = lengthen(
+        store,
+        names,
+        slot,
+        place,
+        len,
+        bytes.len(),
+        Sparing::One(slot),
+        sink,
+    )?;
     if grown.done {
         write_behind(store, slot, len, bytes);
     }
@@ -341,13 +300,16 @@ fn append_bytes<S: BlockStore>(
 
 /// Appends the `more` bytes of the block of `source` to the block of `slot`, which stands at `place`; the two may be
 /// the same block.
-fn append_block<S: BlockStore>(
+fn append_block<S: BlockStore, K: PurgeSink>(
     store: &mut S,
+    names: &[Anchor],
     source: u32,
     more: u32,
     slot: u32,
     place: u32,
+    sink: &mut K,
 ) -> Result<Grown, AllocError>
+    requires idle { IsIdle K.told K.waits sink.old }
     requires source { IsSome (spot (is_relocatable source) (S.zone store.old)) }
     requires more { more ≡ length_of source (S.zone store.old) }
     requires found { FindsLowest (is_relocatable slot) (S.zone store.old) (Some place) }
@@ -359,18 +321,23 @@ fn append_block<S: BlockStore>(
         (spared (Sparing.Two source slot)) (length_of slot (S.zone store.old) + more) (S.zone store.old)) }
     ensures nonrelocatable { KeepsNonrelocatable (S.zone store.old) (S.zone store.new) }
     ensures rest { KeepsSlots (S.rest store.old) (S.rest store.new) }
-    ensures moves { Packs (size_moves (is_relocatable slot) (spared (Sparing.Two source slot))
-        (length_of slot (S.zone store.old) + more) (S.zone store.old)) (S.rest store.old) (S.rest store.new) }
-    ensures host { IsErr result → IsTrue S.TAKES_HOST }
+    ensures moves { OnOk result (Packs (size_moves (is_relocatable slot) (spared (Sparing.Two source slot))
+        (length_of slot (S.zone store.old) + more) (S.zone store.old)) (S.rest store.old) (S.rest store.new)) }
+    ensures hears { Hears K.told K.waits K.listens (IsOk result) (fitted_gone names.now (is_relocatable slot)
+        (Sparing.Two source slot) (length_of slot (S.zone store.old) + more) (S.zone store.old)) sink.old sink.new }
+    ensures halts { OnErr result (Halts S.TAKES_HOST K.told K.listens (S.zone store.old) (S.rest store.old)
+        (S.zone store.new) (S.rest store.new) sink.old sink.new) }
 {
     let len = length_at(store, slot, place);
     let grown = lengthen(
         store,
+        names,
         slot,
         place,
         len,
         more as usize,
         Sparing::Two(source, slot),
+        sink,
     )?;
     if grown.done {
         copy_behind(store, source, more, slot, len);

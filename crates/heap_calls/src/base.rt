@@ -1,13 +1,13 @@
 //! Room at the base of a run of movable blocks.
 
-ghost use Rattle.std.specs.Prelude.{◌≡◌, ◌⊎◌, ◌+◌, ◌≤◌, ◌<◌, ◌%◌, IfOk, OnErr, IsErr, IsTrue, MatchOption, is_some, OnOk, true};
+ghost use Rattle.std.specs.Prelude.{◌≡◌, ◌+◌, ◌≤◌, ◌<◌, ◌%◌, IfOk, OnErr, MatchOption, is_some};
 ghost use Rattle.block_store.specs.Sparing.{purged};
-ghost use Rattle.block_store.specs.Rest.{IsRest};
 ghost use Rattle.block_store.specs.Run.{run_spot, has_free};
 ghost use Rattle.heap_calls.specs.Inner.Base.{IsBaseAt, base, base_searches};
 ghost use Rattle.heap_calls.specs.Inner.Numbered.{KeepsNonrelocatable};
 ghost use Rattle.heap_calls.specs.Inner.NewSlot.{HasMore, IsMade, TakesSlot, zone_searches};
-ghost use Rattle.heap_calls.specs.Gone.{Tells, TellsNothing, IsIdle, Hears, Rests};
+ghost use Rattle.heap_calls.specs.Gone.{IsIdle, Hears};
+ghost use Rattle.heap_calls.specs.Inner.Halting.{Halts};
 ghost use Rattle.heap_calls.specs.Inner.Packed.{KeepsAllButPlaced, PacksNone};
 ghost use Rattle.heap_calls.specs.Inner.Telling.{base_gone, zone_slot_gone};
 ghost use Rattle.block_store.specs.declared.measures.TheConstants.{GREATEST_ZONE, MASTERS_SIZE};
@@ -17,7 +17,7 @@ use crate::anchor::Anchor;
 use crate::least::{Searched, count_for_run};
 use crate::search::Room;
 use crate::sink::PurgeSink;
-use crate::telling::tell;
+use crate::telling::purge_telling;
 use block_store::{BlockStore, MASTERS_SIZE, Sparing};
 use std::alloc::AllocError;
 
@@ -35,16 +35,20 @@ fn count_for_base<S: BlockStore>(store: &S, bytes: u32, sparing: Sparing) -> Sea
 }
 
 /// Makes a free block of `bytes` bytes at the base of the lowest run that has as many free bytes after as few purges
-/// as serve, and returns the place of that block; `None`, and nothing changes, where no run has them.
+/// as serve, and returns the place of that block; `None`, and nothing changes, where no run has them. The blocks that
+/// are purged for it are reported to a sink, if it listens.
 ///
 /// *Inside Macintosh: Memory*, chapter 1, "Memory Reservation".
-pub fn make_base<S: BlockStore>(
+pub fn make_base<S: BlockStore, K: PurgeSink>(
     store: &mut S,
+    names: &[Anchor],
     bytes: u32,
     sparing: Sparing,
+    sink: &mut K,
 ) -> Result<Room, AllocError>
     requires positive { 0 < bytes }
     requires even { bytes % 16 ≡ 0 }
+    requires idle { IsIdle K.told K.waits sink.old }
     ensures place { IfOk result (λ r. IsBaseAt bytes (base bytes sparing (S.zone store.old)) (S.zone store.new)
         r.place) }
     ensures none { IfOk result (λ r. MatchOption r.place (S.zone store.new ≡ S.zone store.old) (λ _. Unit {0})) }
@@ -52,7 +56,10 @@ pub fn make_base<S: BlockStore>(
     ensures few { IfOk result (λ r. r.searches ≤ GREATEST_ZONE + 1) }
     ensures nonrelocatable { KeepsNonrelocatable (S.zone store.old) (S.zone store.new) }
     ensures rest { KeepsAllButPlaced (S.rest store.old) (S.rest store.new) }
-    ensures host { IsErr result → IsTrue S.TAKES_HOST }
+    ensures hears { Hears K.told K.waits K.listens (IsOk result) (base_gone names.now bytes sparing (S.zone
+        store.old)) sink.old sink.new }
+    ensures halts { OnErr result (Halts S.TAKES_HOST K.told K.listens (S.zone store.old) (S.rest store.old)
+        (S.zone store.new) (S.rest store.new) sink.old sink.new) }
 {
     let counted = count_for_base(store, bytes, sparing);
     let searches = counted.purges + 1;
@@ -62,7 +69,7 @@ pub fn make_base<S: BlockStore>(
             searches,
         });
     }
-    store.purge(counted.purges, sparing);
+    purge_telling(store, names, counted.purges, sparing, sink)?;
     let Some(run) = store.find_run(bytes) else {
         unreachable!()
     };
@@ -73,32 +80,17 @@ pub fn make_base<S: BlockStore>(
     })
 }
 
-/// Reports to a sink the blocks that are purged for room of `bytes` bytes at the base of a run, if there is such room.
-/// If the sink finds the host out of memory, none is reported.
-pub fn tell_base<S: BlockStore, K: PurgeSink>(
-    store: &S,
-    names: &[Anchor],
-    bytes: u32,
-    sparing: Sparing,
-    sink: &mut K,
-) -> Result<(), AllocError>
-    requires idle { IsIdle K.told K.waits sink.old }
-    ensures told { OnOk result (Tells K.told (base_gone names.now bytes sparing (S.zone store.now)) sink.old sink.new) }
-    ensures untold { OnErr result (TellsNothing K.told sink.old sink.new) }
-    ensures rests { Rests K.told K.waits K.listens sink.old sink.new }
-    ensures host { IsErr result → K.listens sink.old ≡ true }
-{
-    let counted = count_for_base(store, bytes, sparing);
-    if !counted.there {
-        return Ok(());
-    }
-    tell(store, names, 0, counted.purges, sparing, sink)
-}
-
-/// Puts a master pointer block, with 64 unused slots, at the base of a run, where there is room for the block.
+/// Puts a master pointer block, with 64 unused slots, at the base of a run, where there is room for the block. The
+/// blocks that are purged for it are reported to a sink, if it listens.
 ///
 /// *Inside Macintosh: Memory*, chapter 2, "Allocating Master Pointers".
-pub fn make_masters<S: BlockStore>(store: &mut S, sparing: Sparing) -> Result<Room, AllocError>
+pub fn make_masters<S: BlockStore, K: PurgeSink>(
+    store: &mut S,
+    names: &[Anchor],
+    sparing: Sparing,
+    sink: &mut K,
+) -> Result<Room, AllocError>
+    requires idle { IsIdle K.told K.waits sink.old }
     ensures made { IfOk result (λ r. IsMade sparing (S.zone store.old) (S.rest store.old) r.place (S.zone store.new)
         (S.rest store.new)) }
     ensures nonrelocatable { KeepsNonrelocatable (S.zone store.old) (S.zone store.new) }
@@ -106,9 +98,12 @@ pub fn make_masters<S: BlockStore>(store: &mut S, sparing: Sparing) -> Result<Ro
     ensures searches { IfOk result (λ r. r.searches ≡ base_searches MASTERS_SIZE sparing (S.zone store.old)) }
     ensures few { IfOk result (λ r. r.searches ≤ GREATEST_ZONE + 1) }
     ensures moves { PacksNone (S.rest store.old) (S.rest store.new) }
-    ensures host { IsErr result → IsTrue S.TAKES_HOST }
+    ensures hears { Hears K.told K.waits K.listens (IsOk result) (base_gone names.now MASTERS_SIZE sparing (S.zone
+        store.old)) sink.old sink.new }
+    ensures halts { OnErr result (Halts S.TAKES_HOST K.told K.listens (S.zone store.old) (S.rest store.old)
+        (S.zone store.new) (S.rest store.new) sink.old sink.new) }
 {
-    let room = make_base(store, MASTERS_SIZE, sparing)?;
+    let room = make_base(store, names, MASTERS_SIZE, sparing, sink)?;
     if let Some(place) = room.place {
         store.add_masters(place)?;
     }
@@ -122,26 +117,6 @@ pub struct Taken {
     pub searches: u32,
 }
 
-/// Reports to a sink, if it listens, the blocks that are purged for a master pointer block. If the sink finds the host
-/// out of memory, none is reported.
-pub fn tell_masters<S: BlockStore, K: PurgeSink>(
-    store: &S,
-    names: &[Anchor],
-    sparing: Sparing,
-    sink: &mut K,
-) -> Result<(), AllocError>
-    requires idle { IsIdle K.told K.waits sink.old }
-    ensures hears { Hears K.told K.waits K.listens (IsOk result) (base_gone names.now MASTERS_SIZE sparing (S.zone
-        store.now)) sink.old sink.new }
-    ensures untold { OnErr result (TellsNothing K.told sink.old sink.new) }
-    ensures host { IsErr result → K.listens sink.old ≡ true }
-{
-    if !sink.listens() {
-        return Ok(());
-    }
-    tell_base(store, names, MASTERS_SIZE, sparing, sink)
-}
-
 /// Takes an unused slot for a new handle; where all slots are used, a master pointer block with 64 more is made first,
 /// and the blocks that are purged for it are reported to a sink, if it listens.
 pub fn make_slot<S: BlockStore, K: PurgeSink>(
@@ -153,9 +128,6 @@ pub fn make_slot<S: BlockStore, K: PurgeSink>(
     requires idle { IsIdle K.told K.waits sink.old }
     ensures hears { Hears K.told K.waits K.listens (IsOk result) (zone_slot_gone names.now sparing (S.rest
         store.old).unused (S.zone store.old)) sink.old sink.new }
-    ensures untold { OnErr result (IsTrue S.TAKES_HOST ⊎ TellsNothing K.told sink.old sink.new) }
-    ensures same { OnErr result (IsTrue S.TAKES_HOST
-        ⊎ ((S.zone store.new ≡ S.zone store.old) × IsRest (S.rest store.old) (S.rest store.new))) }
     ensures slot { IfOk result (λ r. TakesSlot sparing (S.zone store.old) (S.rest store.old) r.slot (S.zone store.new)
         (S.rest store.new)) }
     ensures nonrelocatable { KeepsNonrelocatable (S.zone store.old) (S.zone store.new) }
@@ -164,7 +136,8 @@ pub fn make_slot<S: BlockStore, K: PurgeSink>(
         (S.zone store.old)) }
     ensures few { IfOk result (λ r. r.searches ≤ GREATEST_ZONE + 1) }
     ensures moves { PacksNone (S.rest store.old) (S.rest store.new) }
-    ensures host { IsErr result → IsTrue S.TAKES_HOST ⊎ (K.listens sink.old ≡ true) }
+    ensures halts { OnErr result (Halts S.TAKES_HOST K.told K.listens (S.zone store.old) (S.rest store.old)
+        (S.zone store.new) (S.rest store.new) sink.old sink.new) }
 {
     if let Some(slot) = store.take_slot() {
         return Ok(Taken {
@@ -172,8 +145,7 @@ pub fn make_slot<S: BlockStore, K: PurgeSink>(
             searches: 0,
         });
     }
-    tell_masters(store, names, sparing, sink)?;
-    let room = make_masters(store, sparing)?;
+    let room = make_masters(store, names, sparing, sink)?;
     let searches = room.searches;
     let Some(_) = room.place else {
         return Ok(Taken {

@@ -5,6 +5,7 @@ ghost use Rattle.heap_calls.specs.Busy.{barred, change_barred, unless};
 ghost use Rattle.heap_calls.specs.Gone.{Tells, TellsNothing, IsIdle, gone_unless, reallocate_handle_gone, Hears};
 ghost use Rattle.heap_calls.specs.Inner.Telling.{renewed_gone};
 ghost use Rattle.heap_calls.specs.Inner.Given.{IsAnswer, KeepsNames};
+ghost use Rattle.heap_calls.specs.Inner.Halting.{Halts};
 ghost use Rattle.heap_calls.specs.Asked.{packing};
 ghost use Rattle.heap_calls.specs.Inner.Numbered.{Agrees, KeepsNonrelocatable};
 ghost use Rattle.heap_calls.specs.Answer.{noting, silent, searching, moving};
@@ -21,7 +22,7 @@ use crate::growing_in_place::Grown;
 use crate::heap::Heap;
 use crate::locking::can_move;
 use crate::refusal::Refusal;
-use crate::search::{Room, make_room, tell_placement};
+use crate::search::{Room, make_room};
 use crate::sink::PurgeSink;
 use block_store::{BlockStore, Sparing};
 use mac_words::{OsErr, phys};
@@ -101,8 +102,7 @@ impl<S: BlockStore> Heap<S> {
         ensures lies { self.new.memory.window ≡ self.old.memory.window }
     {
         let slot = loose_slot(&self.store, &self.names, handle)?;
-        tell_renewal(&self.store, &self.names, slot, size, sink)?;
-        let room = renew_block(&mut self.store, slot, size)?;
+        let room = renew_block(&mut self.store, &self.names, slot, size, sink)?;
         let grown = Grown {
             done: room.place.is_some(),
             searches: room.searches,
@@ -130,39 +130,26 @@ fn loose_slot<S: BlockStore>(
     Ok(found.slot)
 }
 
-/// Reports to a sink, if it listens, the blocks that are purged for a new block of `size` bytes for `slot`, whose old
-/// block, if there is one, counts as free. If the sink finds the host out of memory, none is reported.
-pub fn tell_renewal<S: BlockStore, K: PurgeSink>(
-    store: &S,
+/// Allocates a new block of `size` bytes, all 0, for `slot`, where there is room once the old block of `slot`, if
+/// there is one, is free. Nothing changes where there is no room. The blocks that are purged for it are reported to a
+/// sink, if it listens.
+pub fn renew_block<S: BlockStore, K: PurgeSink>(
+    store: &mut S,
     names: &[Anchor],
     slot: u32,
     size: u32,
     sink: &mut K,
-) -> Result<(), AllocError>
+) -> Result<Room, AllocError>
+    requires used { IsTrue (is_used ((S.rest store.old).slots slot)) }
     requires idle { IsIdle K.told K.waits sink.old }
-    ensures hears { Hears K.told K.waits K.listens (IsOk result) (renewed_gone names.now slot size (S.zone store.now))
-        sink.old sink.new }
-    ensures untold { OnErr result (TellsNothing K.told sink.old sink.new) }
-    ensures host { IsErr result → K.listens sink.old ≡ true }
-{
-    if !sink.listens() {
-        return Ok(());
-    }
-    match phys(size) {
-        Some(bytes) => tell_placement(store, names, bytes, Sparing::Freed(slot), sink),
-        None => Ok(()),
-    }
-}
-
-/// Allocates a new block of `size` bytes, all 0, for `slot`, where there is room once the old block of `slot`, if
-/// there is one, is free. Nothing changes where there is no room.
-pub fn renew_block<S: BlockStore>(store: &mut S, slot: u32, size: u32) -> Result<Room, AllocError>
-    requires { IsTrue (is_used ((S.rest store.old).slots slot)) }
     ensures answer { IsRenewed slot size (S.zone store.old) (S.rest store.old) result (S.zone store.new)
         (S.rest store.new) }
     ensures nonrelocatable { KeepsNonrelocatable (S.zone store.old) (S.zone store.new) }
-    ensures moves { Packs (renewed_moves slot size (S.zone store.old)) (S.rest store.old) (S.rest store.new) }
-    ensures host { IsErr result → IsTrue S.TAKES_HOST }
+    ensures moves { OnOk result (Packs (renewed_moves slot size (S.zone store.old)) (S.rest store.old) (S.rest
+        store.new)) }
+    ensures hears { Hears K.told K.waits K.listens (IsOk result) (renewed_gone names.now slot size (S.zone store.old)) sink.old sink.new }
+    ensures halts { OnErr result (Halts S.TAKES_HOST K.told K.listens (S.zone store.old) (S.rest store.old)
+        (S.zone store.new) (S.rest store.new) sink.old sink.new) }
 {
     let Some(bytes) = phys(size) else {
         return Ok(Room {
@@ -170,7 +157,7 @@ pub fn renew_block<S: BlockStore>(store: &mut S, slot: u32, size: u32) -> Result
             searches: 0,
         });
     };
-    let room = make_room(store, bytes, Sparing::Freed(slot));
+    let room = make_room(store, names, bytes, Sparing::Freed(slot), sink)?;
     let Some(place) = room.place else {
         return Ok(room);
     };

@@ -25,11 +25,12 @@ ghost use Rattle.block_store.specs.Run.{has};
 ghost use Rattle.block_store.specs.Slot.{is_used};
 ghost use Rattle.block_store.specs.declared.sparing.Sparing.TheVariants.{Nothing};
 ghost use Rattle.heap_calls.specs.Gone.{Hears, Rests};
+ghost use Rattle.heap_calls.specs.Inner.Halting.{Halts};
 ghost use Rattle.heap_calls.specs.Left.{Stops, Unreserved, slot_step};
 
 use crate::anchor::{Anchor, name_handle, slot_of};
 use crate::base::Taken;
-use crate::emptying::{renew_block, tell_renewal};
+use crate::emptying::renew_block;
 use crate::growing_in_place::Grown;
 use crate::heap::Heap;
 use crate::log::Log;
@@ -158,8 +159,7 @@ impl<S: BlockStore> Heap<S> {
         ensures lies { self.new.memory.window ≡ self.old.memory.window }
     {
         let found = slot_of(&self.names, Some(number))?;
-        tell_refilling(&self.store, &self.names, found.slot, bytes, sink)?;
-        let room = refill_block(&mut self.store, found.slot, bytes, flags)?;
+        let room = refill_block(&mut self.store, &self.names, found.slot, bytes, flags, sink)?;
         let grown = Grown {
             done: room.place.is_some(),
             searches: room.searches,
@@ -289,61 +289,55 @@ pub fn fill_block<S: BlockStore, K: PurgeSink>(
 }
 
 /// Puts a new block of as many bytes as `bytes` has, all 0, for `slot`, where there is room once the old block of
-/// `slot`, if there is one, is free. Nothing changes where there is no room.
-fn renew_block_for<S: BlockStore>(
+/// `slot`, if there is one, is free. Nothing changes where there is no room. The blocks that are purged for it are
+/// reported to a sink, if it listens.
+fn renew_block_for<S: BlockStore, K: PurgeSink>(
     store: &mut S,
-    slot: u32,
-    bytes: &[u8],
-) -> Result<Room, AllocError>
-    requires { IsTrue (is_used ((S.rest store.old).slots slot)) }
-    ensures answer { IsRenewed slot (length bytes.now) (S.zone store.old) (S.rest store.old) result
-        (S.zone store.new) (S.rest store.new) }
-    ensures nonrelocatable { KeepsNonrelocatable (S.zone store.old) (S.zone store.new) }
-    ensures moves { Packs (renewed_moves slot (length bytes.now) (S.zone store.old)) (S.rest store.old)
-        (S.rest store.new) }
-    ensures host { IsErr result → IsTrue S.TAKES_HOST }
-{
-    let size = size_of(bytes);
-    renew_block(store, slot, size)
-}
-
-/// Reports to a sink, if it listens, the blocks that are purged for a new block of these bytes for `slot`. If the sink
-/// finds the host out of memory, none is reported.
-fn tell_refilling<S: BlockStore, K: PurgeSink>(
-    store: &S,
     names: &[Anchor],
     slot: u32,
     bytes: &[u8],
     sink: &mut K,
-) -> Result<(), AllocError>
+) -> Result<Room, AllocError>
+    requires used { IsTrue (is_used ((S.rest store.old).slots slot)) }
     requires idle { IsIdle K.told K.waits sink.old }
-    ensures hears { Hears K.told K.waits K.listens (IsOk result) (renewed_gone names.now slot (length bytes.now) (S.zone
-        store.now)) sink.old sink.new }
-    ensures untold { OnErr result (TellsNothing K.told sink.old sink.new) }
-    ensures host { IsErr result → K.listens sink.old ≡ true }
+    ensures answer { IsRenewed slot (length bytes.now) (S.zone store.old) (S.rest store.old) result
+        (S.zone store.new) (S.rest store.new) }
+    ensures nonrelocatable { KeepsNonrelocatable (S.zone store.old) (S.zone store.new) }
+    ensures moves { OnOk result (Packs (renewed_moves slot (length bytes.now) (S.zone store.old)) (S.rest store.old)
+        (S.rest store.new)) }
+    ensures hears { Hears K.told K.waits K.listens (IsOk result) (renewed_gone names.now slot (length bytes.now)
+        (S.zone store.old)) sink.old sink.new }
+    ensures halts { OnErr result (Halts S.TAKES_HOST K.told K.listens (S.zone store.old) (S.rest store.old)
+        (S.zone store.new) (S.rest store.new) sink.old sink.new) }
 {
     let size = size_of(bytes);
-    tell_renewal(store, names, slot, size, sink)
+    renew_block(store, names, slot, size, sink)
 }
 
 /// Puts a new block of these bytes and properties, where there is room, for `slot`, which has none. Nothing changes
-/// where there is no room.
-fn refill_block<S: BlockStore>(
+/// where there is no room. The blocks that are purged for it are reported to a sink, if it listens.
+fn refill_block<S: BlockStore, K: PurgeSink>(
     store: &mut S,
+    names: &[Anchor],
     slot: u32,
     bytes: &[u8],
     flags: Flags,
+    sink: &mut K,
 ) -> Result<Room, AllocError>
+    requires idle { IsIdle K.told K.waits sink.old }
     requires used { IsTrue (is_used ((S.rest store.old).slots slot)) }
     requires none { has (is_relocatable slot) (S.zone store.old) ≡ false }
     ensures answer { IsRefilled slot flags bytes.now (S.zone store.old) (S.rest store.old) result (S.zone store.new)
         (S.rest store.new) }
     ensures nonrelocatable { KeepsNonrelocatable (S.zone store.old) (S.zone store.new) }
-    ensures moves { Packs (refilled_moves slot (length bytes.now) (S.zone store.old)) (S.rest store.old)
-        (S.rest store.new) }
-    ensures host { IsErr result → IsTrue S.TAKES_HOST }
+    ensures moves { OnOk result (Packs (refilled_moves slot (length bytes.now) (S.zone store.old)) (S.rest store.old)
+        (S.rest store.new)) }
+    ensures hears { Hears K.told K.waits K.listens (IsOk result) (renewed_gone names.now slot (length bytes.now)
+        (S.zone store.old)) sink.old sink.new }
+    ensures halts { OnErr result (Halts S.TAKES_HOST K.told K.listens (S.zone store.old) (S.rest store.old)
+        (S.zone store.new) (S.rest store.new) sink.old sink.new) }
 {
-    let room = renew_block_for(store, slot, bytes)?;
+    let room = renew_block_for(store, names, slot, bytes, sink)?;
     let Some(_) = room.place else {
         return Ok(room);
     };

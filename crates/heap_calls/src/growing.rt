@@ -1,7 +1,7 @@
 //! The growth of a block that may move.
 
 ghost use Rattle.std.specs.Prelude.{◌≡◌, ◌+◌, ◌-◌, ◌≤◌, ◌<◌, Some, None, IsSome, IfSome, IsSomeAnd, IsTrue};
-ghost use Rattle.std.specs.Prelude.{IsErr, OnOk, OnErr, IfOk, is_some, true, false};
+ghost use Rattle.std.specs.Prelude.{IsErr, IsOk, OnOk, OnErr, IfOk, is_some, true, false};
 ghost use Rattle.mac_words.specs.Size.{phys as physical_size};
 ghost use Rattle.block_store.specs.Block.{is_relocatable, resized, is_mover, size as size_of};
 ghost use Rattle.block_store.specs.Room.{spot, room};
@@ -16,7 +16,8 @@ ghost use Rattle.block_store.specs.Fewest.{smaller};
 ghost use Rattle.heap_calls.specs.Inner.Numbered.{KeepsNonrelocatable};
 ghost use Rattle.heap_calls.specs.Inner.Packed.{Packs};
 ghost use Rattle.heap_calls.specs.Inner.Telling.{try_gone};
-ghost use Rattle.heap_calls.specs.Gone.{Tells, TellsNothing, IsIdle, Rests};
+ghost use Rattle.heap_calls.specs.Gone.{IsIdle, Hears};
+ghost use Rattle.heap_calls.specs.Inner.Halting.{Halts};
 ghost use Rattle.heap_calls.specs.Searches.{room_searches};
 ghost use Rattle.block_store.specs.declared.measures.TheConstants.{GREATEST_ZONE};
 
@@ -25,7 +26,7 @@ use crate::growing_in_place::{Grown, bytes_at};
 use crate::least::Searched;
 use crate::search::{Placement, pack_placement, placement_now};
 use crate::sink::PurgeSink;
-use crate::telling::tell;
+use crate::telling::purge_telling;
 use block_store::{BlockStore, Sparing};
 use mac_words::phys;
 use std::alloc::AllocError;
@@ -224,13 +225,17 @@ pub fn bytes_of<S: BlockStore>(store: &S, number: u32) -> u32
 }
 
 /// Grows the unlocked block of `slot` to `bytes` bytes of content, new bytes 0, after as few purges as serve: into the
-/// free block above it, else at a place of its own, else as the last of its run.
-pub fn grow_movable<S: BlockStore>(
+/// free block above it, else at a place of its own, else as the last of its run. The blocks that are purged for it are
+/// reported to a sink, if it listens.
+pub fn grow_movable<S: BlockStore, K: PurgeSink>(
     store: &mut S,
+    names: &[Anchor],
     slot: u32,
     bytes: u32,
     sparing: Sparing,
+    sink: &mut K,
 ) -> Result<Grown, AllocError>
+    requires idle { IsIdle K.told K.waits sink.old }
     requires spared { Spares sparing (is_relocatable slot) }
     requires stays { Stays sparing (is_relocatable slot) }
     requires mover { IsSomeAnd (spot (is_relocatable slot) (S.zone store.old)) (λ s. IsTrue (is_mover s.here)) }
@@ -245,11 +250,14 @@ pub fn grow_movable<S: BlockStore>(
         (S.zone store.old))) }
     ensures nonrelocatable { KeepsNonrelocatable (S.zone store.old) (S.zone store.new) }
     ensures rest { KeepsSlots (S.rest store.old) (S.rest store.new) }
-    ensures moves { IfSome (spot (is_relocatable slot) (S.zone store.old)) (λ s.
+    ensures moves { OnOk result (IfSome (spot (is_relocatable slot) (S.zone store.old)) (λ s.
         Packs (room_moves (grow_mover (is_relocatable slot) (resized bytes s.here))
         (grow_moves (is_relocatable slot) (resized bytes s.here)) (spared sparing) (S.zone store.old))
-        (S.rest store.old) (S.rest store.new)) }
-    ensures host { IsErr result → IsTrue S.TAKES_HOST }
+        (S.rest store.old) (S.rest store.new))) }
+    ensures hears { Hears K.told K.waits K.listens (IsOk result) (try_gone names.now (grow_mover (is_relocatable slot)
+        (grown bytes (spot (is_relocatable slot) (S.zone store.old)))) sparing (S.zone store.old)) sink.old sink.new }
+    ensures halts { OnErr result (Halts S.TAKES_HOST K.told K.listens (S.zone store.old) (S.rest store.old)
+        (S.zone store.new) (S.rest store.new) sink.old sink.new) }
 {
     let Some(takes) = phys(bytes) else {
         unreachable!()
@@ -270,7 +278,7 @@ pub fn grow_movable<S: BlockStore>(
             searches,
         });
     }
-    store.purge(counted.purges, sparing);
+    purge_telling(store, names, counted.purges, sparing, sink)?;
     let Some(growth) = growth_now(store, slot, bytes, takes, more) else {
         unreachable!()
     };
@@ -279,40 +287,4 @@ pub fn grow_movable<S: BlockStore>(
         done: true,
         searches,
     })
-}
-
-/// Reports to a sink the blocks that are purged where the unlocked block of `slot` grows to `bytes` bytes of content,
-/// if there is room. If the sink finds the host out of memory, none is reported.
-pub fn tell_growth<S: BlockStore, K: PurgeSink>(
-    store: &S,
-    names: &[Anchor],
-    slot: u32,
-    bytes: u32,
-    sparing: Sparing,
-    sink: &mut K,
-) -> Result<(), AllocError>
-    requires spared { Spares sparing (is_relocatable slot) }
-    requires stays { Stays sparing (is_relocatable slot) }
-    requires mover { IsSomeAnd (spot (is_relocatable slot) (S.zone store.now)) (λ s. IsTrue (is_mover s.here)) }
-    requires more { IsToGrow (is_relocatable slot) bytes (S.zone store.now) }
-    requires fits { IsSome (physical_size bytes) }
-    requires idle { IsIdle K.told K.waits sink.old }
-    ensures told { OnOk result (Tells K.told (try_gone names.now (grow_mover (is_relocatable slot)
-        (grown bytes (spot (is_relocatable slot) (S.zone store.now)))) sparing (S.zone store.now)) sink.old sink.new) }
-    ensures untold { OnErr result (TellsNothing K.told sink.old sink.new) }
-    ensures rests { Rests K.told K.waits K.listens sink.old sink.new }
-    ensures host { IsErr result → K.listens sink.old ≡ true }
-{
-    let Some(takes) = phys(bytes) else {
-        unreachable!()
-    };
-    let more = takes - bytes_of(store, slot);
-    if growth_now(store, slot, bytes, takes, more).is_some() {
-        return Ok(());
-    }
-    let counted = count_for_growth(store, slot, bytes, takes, more, sparing);
-    if !counted.there {
-        return Ok(());
-    }
-    tell(store, names, 0, counted.purges, sparing, sink)
 }

@@ -1,7 +1,7 @@
 //! Growth of a block where it stands.
 
 ghost use Rattle.std.specs.Prelude.{◌≡◌, ◌≤◌, ◌<◌, ◌-◌, ◌+◌, ◌%◌, ◌++◌, ◌∷◌, true, false, Some, IsSome, IfSome};
-ghost use Rattle.std.specs.Prelude.{IsSomeAnd, IfOk, OnOk, OnErr, IsErr, IsTrue};
+ghost use Rattle.std.specs.Prelude.{IsSomeAnd, IfOk, OnOk, OnErr, IsErr, IsOk, IsTrue};
 ghost use Rattle.mac_words.specs.Size.{padded, phys as physical_size};
 ghost use Rattle.block_store.specs.Block.{size, resized};
 ghost use Rattle.block_store.specs.Find.{IsEdge};
@@ -13,8 +13,9 @@ ghost use Rattle.heap_calls.specs.Inner.GrowingInPlace.{made_zone, enough, seen_
 ghost use Rattle.heap_calls.specs.Inner.SearchLaws.{above-rises, above-ends};
 ghost use Rattle.heap_calls.specs.Inner.Least.{IsMost, enough_above};
 ghost use Rattle.heap_calls.specs.Inner.Numbered.{KeepsNonrelocatable};
-ghost use Rattle.heap_calls.specs.Inner.Telling.{OpensNone, still_gone};
-ghost use Rattle.heap_calls.specs.Gone.{Tells, TellsNothing, IsIdle, Rests};
+ghost use Rattle.heap_calls.specs.Inner.Telling.{OpensNone, gone_from, still_gone};
+ghost use Rattle.heap_calls.specs.Gone.{IsIdle, Hears};
+ghost use Rattle.heap_calls.specs.Inner.Halting.{Halts};
 ghost use Rattle.heap_calls.specs.Searches.{room_searches, in_place_searches};
 ghost use Rattle.block_store.specs.declared.measures.TheConstants.{GREATEST_ZONE};
 ghost use Rattle.heap_calls.specs.Inner.Packed.{KeepsAllButPlaced};
@@ -22,7 +23,7 @@ ghost use Rattle.heap_calls.specs.Inner.Packed.{KeepsAllButPlaced};
 use crate::anchor::Anchor;
 use crate::least::{Sought, least_search};
 use crate::sink::PurgeSink;
-use crate::telling::tell;
+use crate::telling::purge_above_telling;
 use block_store::{BlockStore, MASTERS_SIZE, Seen, Sparing};
 use mac_words::phys;
 use std::alloc::AllocError;
@@ -43,18 +44,23 @@ struct Fewest {
 
 /// Grows a nonrelocatable or locked block at `place` to `bytes` bytes of content where the block stands; nothing
 /// changes where there is no room. The block grows into the free block right above it where that is large enough; else
-/// the run above the block is packed upward, after as few purges as serve.
+/// the run above the block is packed upward, after as few purges as serve. The blocks that are purged for it are
+/// reported to a sink, if it listens.
 ///
 /// *Inside Macintosh: Memory*, chapter 2, "Changing the Sizes of Relocatable and Nonrelocatable Blocks".
-pub fn grow_in_place<S: BlockStore>(
+pub fn grow_in_place<S: BlockStore, K: PurgeSink>(
     store: &mut S,
+    names: &[Anchor],
     place: u32,
     bytes: u32,
     sparing: Sparing,
+    sink: &mut K,
 ) -> Result<Grown, AllocError>
     requires still { IsSomeAnd (spot_at place (S.zone store.old)) (λ s. in_run s.here ≡ false) }
     requires grows { IsSomeAnd (spot_at place (S.zone store.old)) (λ s. size s.here < size (resized bytes s.here)) }
     requires fits { IsSome (physical_size bytes) }
+    requires whole { OpensNone sparing }
+    requires idle { IsIdle K.told K.waits sink.old }
     ensures zone { IfOk result (λ grown. IfSome (spot_at place (S.zone store.old))
         (λ s. grow_nonrelocatable (spared sparing) (resized bytes s.here) s ≡ made_zone grown.done (S.zone store.new))) }
     ensures none { IfOk result (λ grown. grown.done ≡ false → S.zone store.new ≡ S.zone store.old) }
@@ -62,7 +68,10 @@ pub fn grow_in_place<S: BlockStore>(
         (λ s. grown.searches ≡ in_place_searches (spared sparing) (resized bytes s.here) s)) }
     ensures nonrelocatable { KeepsNonrelocatable (S.zone store.old) (S.zone store.new) }
     ensures rest { KeepsAllButPlaced (S.rest store.old) (S.rest store.new) }
-    ensures host { IsErr result → IsTrue S.TAKES_HOST }
+    ensures hears { IfSome (spot_at place (S.zone store.old)) (λ s. Hears K.told K.waits K.listens (IsOk result)
+        (still_gone names.now sparing (resized bytes s.here) s) sink.old sink.new) }
+    ensures halts { OnErr result (Halts S.TAKES_HOST K.told K.listens (S.zone store.old) (S.rest store.old)
+        (S.zone store.new) (S.rest store.new) sink.old sink.new) }
 {
     let taken = bytes_at(store, place);
     let wanted = padded_size(bytes);
@@ -81,46 +90,12 @@ pub fn grow_in_place<S: BlockStore>(
             searches: fewest.searches,
         });
     };
-    push_up(store, place, taken, more, purges, sparing)?;
+    push_up(store, names, place, taken, more, purges, sparing, sink)?;
     store.resize(place, bytes)?;
     Ok(Grown {
         done: true,
         searches: fewest.searches,
     })
-}
-
-/// Reports to a sink the blocks that are purged where the nonrelocatable or locked block at `place` grows to `bytes`
-/// bytes of content, if there is room. If the sink finds the host out of memory, none is reported.
-pub fn tell_in_place<S: BlockStore, K: PurgeSink>(
-    store: &S,
-    names: &[Anchor],
-    place: u32,
-    bytes: u32,
-    sparing: Sparing,
-    sink: &mut K,
-) -> Result<(), AllocError>
-    requires still { IsSomeAnd (spot_at place (S.zone store.now)) (λ s. in_run s.here ≡ false) }
-    requires grows { IsSomeAnd (spot_at place (S.zone store.now)) (λ s. size s.here < size (resized bytes s.here)) }
-    requires fits { IsSome (physical_size bytes) }
-    requires whole { OpensNone sparing }
-    requires idle { IsIdle K.told K.waits sink.old }
-    ensures told { OnOk result (IfSome (spot_at place (S.zone store.now))
-        (λ s. Tells K.told (still_gone names.now sparing (resized bytes s.here) s) sink.old sink.new)) }
-    ensures untold { OnErr result (TellsNothing K.told sink.old sink.new) }
-    ensures rests { Rests K.told K.waits K.listens sink.old sink.new }
-    ensures host { IsErr result → K.listens sink.old ≡ true }
-{
-    let taken = bytes_at(store, place);
-    let wanted = padded_size(bytes);
-    let more = wanted - taken;
-    if has_room_at(store, place + taken, more) {
-        return Ok(());
-    }
-    let fewest = least_purges(store, place, more, sparing);
-    let Some(purges) = fewest.purges else {
-        return Ok(());
-    };
-    tell(store, names, place + taken, purges, sparing, sink)
 }
 
 /// Returns the physical size of a block with `bytes` bytes of content.
@@ -237,14 +212,17 @@ fn least_purges<S: BlockStore>(store: &S, place: u32, bytes: u32, sparing: Spari
 }
 
 /// Packs the run above the block at `place` upward, after the given number of purges in the run, so that `bytes` free
-/// bytes stand at its bottom; `taken` is the physical size of the block.
-fn push_up<S: BlockStore>(
+/// bytes stand at its bottom; `taken` is the physical size of the block. The blocks that are purged are reported to a
+/// sink, if it listens.
+fn push_up<S: BlockStore, K: PurgeSink>(
     store: &mut S,
+    names: &[Anchor],
     place: u32,
     taken: u32,
     bytes: u32,
     purges: u32,
     sparing: Sparing,
+    sink: &mut K,
 ) -> Result<(), AllocError>
     requires still { IsSomeAnd (spot_at place (S.zone store.old))
         (λ s. (in_run s.here ≡ false) × (taken ≡ size s.here)) }
@@ -253,12 +231,16 @@ fn push_up<S: BlockStore>(
         × (has_free bytes (purge purges (spared sparing) (segments s.above).first) ≡ true)) }
     requires even { bytes % 16 ≡ 0 }
     requires some { 0 < bytes }
+    requires idle { IsIdle K.told K.waits sink.old }
     ensures zone { OnOk result (IfSome (spot_at place (S.zone store.old))
         (λ s. S.zone store.new ≡ s.below ++ s.here ∷ pushed_up bytes purges (spared sparing) s.above)) }
     ensures nonrelocatable { KeepsNonrelocatable (S.zone store.old) (S.zone store.new) }
     ensures rest { KeepsAllButPlaced (S.rest store.old) (S.rest store.new) }
-    ensures host { IsErr result → IsTrue S.TAKES_HOST }
+    ensures hears { IfSome (spot_at place (S.zone store.old)) (λ s. Hears K.told K.waits K.listens (IsOk result)
+        (gone_from names.now sparing purges s.above) sink.old sink.new) }
+    ensures halts { OnErr result (Halts S.TAKES_HOST K.told K.listens (S.zone store.old) (S.rest store.old)
+        (S.zone store.new) (S.rest store.new) sink.old sink.new) }
 {
-    store.purge_after(place, purges, sparing);
+    purge_above_telling(store, names, place, taken, purges, sparing, sink)?;
     store.raise(place + taken, bytes)
 }

@@ -7,8 +7,10 @@ ghost use Rattle.block_store.specs.declared.measures.TheConstants.{GREATEST_ZONE
 ghost use Rattle.block_store.specs.Compact.{largest_run};
 ghost use Rattle.block_store.specs.Rest.{Site};
 ghost use Rattle.heap_calls.specs.State.{State, Memory, used_slots, all_slots, fresh_memory};
-ghost use Rattle.heap_calls.specs.Asked.{Asked, answered};
-ghost use Rattle.heap_calls.specs.Busy.{idle, served, NoneGuarded};
+ghost use Rattle.heap_calls.specs.Asked.{Asked};
+ghost use Rattle.heap_calls.specs.Table.{answered};
+ghost use Rattle.heap_calls.specs.Busy.{idle, NoneGuarded};
+ghost use Rattle.heap_calls.specs.Table.{served};
 ghost use Rattle.heap_calls.specs.Counts.{CountsSearches, CountsMoves};
 ghost use Rattle.heap_calls.specs.History.{after_calls};
 ghost use Rattle.heap_calls.specs.Locked.{OneBlockEach};

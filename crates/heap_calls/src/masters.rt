@@ -12,7 +12,7 @@ ghost use Rattle.heap_calls.specs.Gone.{Hears};
 ghost use Rattle.heap_calls.specs.Left.{Stops, Unreserved};
 
 use crate::anchor::name_handle;
-use crate::base::{make_base, make_masters, make_slot, tell_base, tell_masters};
+use crate::base::{make_base, make_masters, make_slot};
 use crate::growing_in_place::Grown;
 use crate::heap::Heap;
 use crate::refusal::Refusal;
@@ -54,8 +54,7 @@ impl<S: BlockStore> Heap<S> {
             self.new sink.old sink.new }
         ensures lies { self.new.memory.window ≡ self.old.memory.window }
     {
-        self.tell_masters(sink)?;
-        let answer = self.add_masters();
+        let answer = self.add_masters(sink);
         self.note_refusal(answer)
     }
 
@@ -73,8 +72,7 @@ impl<S: BlockStore> Heap<S> {
             self.new sink.old sink.new }
         ensures lies { self.new.memory.window ≡ self.old.memory.window }
     {
-        self.tell_reserve(size, sink)?;
-        let answer = self.reserve_base(size);
+        let answer = self.reserve_base(size, sink);
         self.note_refusal(answer)
     }
 
@@ -96,43 +94,19 @@ impl<S: BlockStore> Heap<S> {
         Ok(name_handle(&mut self.names, taken.slot)?)
     }
 
-    /// Reports to a sink, if it listens, the blocks that `MoreMasters` is to purge.
-    fn tell_masters<K: PurgeSink>(&self, sink: &mut K) -> Result<(), AllocError>
+    /// Allocates a block of 64 master pointers, counts the searches for room, and reports the blocks that are purged to
+    /// a sink, if it listens.
+    fn add_masters<K: PurgeSink>(&mut self, sink: &mut K) -> Result<(), Refusal>
         requires idle { IsIdle K.told K.waits sink.old }
-        ensures hears { Hears K.told K.waits K.listens (IsOk result) (more_masters_gone self.now.memory.heap) sink.old
-            sink.new }
-        ensures untold { OnErr result (TellsNothing K.told sink.old sink.new) }
-        ensures host { IsErr result → K.listens sink.old ≡ true }
-    {
-        tell_masters(&self.store, &self.names, Sparing::Nothing, sink)
-    }
-
-    /// Reports to a sink, if it listens, the blocks that `ReserveMem` is to purge.
-    fn tell_reserve<K: PurgeSink>(&self, size: u32, sink: &mut K) -> Result<(), AllocError>
-        requires idle { IsIdle K.told K.waits sink.old }
-        ensures hears { Hears K.told K.waits K.listens (IsOk result) (reserve_gone (physical_size size)
-            self.now.memory.heap) sink.old sink.new }
-        ensures untold { OnErr result (TellsNothing K.told sink.old sink.new) }
-        ensures host { IsErr result → K.listens sink.old ≡ true }
-    {
-        if !sink.listens() {
-            return Ok(());
-        }
-        let Some(bytes) = phys(size) else {
-            return Ok(());
-        };
-        tell_base(&self.store, &self.names, bytes, Sparing::Nothing, sink)
-    }
-
-    /// Allocates a block of 64 master pointers, and counts the searches for room.
-    fn add_masters(&mut self) -> Result<(), Refusal>
         ensures answer { IsAnswer (searching (more_masters_searches self.old.memory.heap) (silent add_masters
             self.old.memory)) result self.new.memory }
-        ensures host { result ≡ Err Refusal.HostMemory → IsTrue S.TAKES_HOST }
-        ensures kept { result ≡ Err Refusal.HostMemory → KeepsMoves self.old.memory self.new.memory }
+        ensures hears { Hears K.told K.waits K.listens (result ≢ Err Refusal.HostMemory) (more_masters_gone
+            self.old.memory.heap) sink.old sink.new }
+        ensures stops { result ≡ Err Refusal.HostMemory → Stops S.TAKES_HOST K.told K.listens KeepsMoves ⊥ None self.old
+            self.new sink.old sink.new }
         ensures lies { self.new.memory.window ≡ self.old.memory.window }
     {
-        let room = make_masters(&mut self.store, Sparing::Nothing)?;
+        let room = make_masters(&mut self.store, &self.names, Sparing::Nothing, sink)?;
         let grown = Grown {
             done: room.place.is_some(),
             searches: room.searches,
@@ -140,18 +114,22 @@ impl<S: BlockStore> Heap<S> {
         Ok(self.account(grown)?)
     }
 
-    /// Makes room for a block at the base of a run, and counts the searches for room.
-    fn reserve_base(&mut self, size: u32) -> Result<(), Refusal>
+    /// Makes room for a block at the base of a run, counts the searches for room, and reports the blocks that are purged
+    /// to a sink, if it listens.
+    fn reserve_base<K: PurgeSink>(&mut self, size: u32, sink: &mut K) -> Result<(), Refusal>
+        requires idle { IsIdle K.told K.waits sink.old }
         ensures answer { IsAnswer (searching (reserve_searches (physical_size size) self.old.memory.heap)
             (silent (reserve_mem size) self.old.memory)) result self.new.memory }
-        ensures host { result ≡ Err Refusal.HostMemory → IsTrue S.TAKES_HOST }
-        ensures kept { result ≡ Err Refusal.HostMemory → KeepsMoves self.old.memory self.new.memory }
+        ensures hears { Hears K.told K.waits K.listens (result ≢ Err Refusal.HostMemory) (reserve_gone (physical_size
+            size) self.old.memory.heap) sink.old sink.new }
+        ensures stops { result ≡ Err Refusal.HostMemory → Stops S.TAKES_HOST K.told K.listens KeepsMoves ⊥ None self.old
+            self.new sink.old sink.new }
         ensures lies { self.new.memory.window ≡ self.old.memory.window }
     {
         let Some(bytes) = phys(size) else {
             return Err(Refusal::Code(OsErr::MEM_FULL));
         };
-        let room = make_base(&mut self.store, bytes, Sparing::Nothing)?;
+        let room = make_base(&mut self.store, &self.names, bytes, Sparing::Nothing, sink)?;
         let grown = Grown {
             done: room.place.is_some(),
             searches: room.searches,

@@ -2,7 +2,8 @@
 
 ghost use Rattle.heap_calls.specs.Inner.Numbered.{KeepsNonrelocatable};
 ghost use Rattle.std.specs.Prelude.{◌≡◌, ◌⊎◌, ◌≤◌, ◌+◌, true, false, IfOk, OnOk, OnErr, IsErr, IsTrue, IsOk};
-ghost use Rattle.heap_calls.specs.Gone.{Tells, TellsNothing, IsIdle, Hears};
+ghost use Rattle.heap_calls.specs.Gone.{IsIdle, Hears};
+ghost use Rattle.heap_calls.specs.Inner.Halting.{Halts};
 ghost use Rattle.heap_calls.specs.Inner.Telling.{fresh_gone, new_gone, LeavesSlot};
 ghost use Rattle.block_store.specs.Block.{is_relocatable};
 ghost use Rattle.block_store.specs.Rest.{KeepsSlots};
@@ -15,22 +16,26 @@ ghost use Rattle.heap_calls.specs.Inner.Packed.{Packs, content_moves, new_moves}
 
 use crate::anchor::Anchor;
 use crate::base::{Taken, make_slot};
-use crate::search::{Room, make_room, tell_placement};
+use crate::search::{Room, make_room};
 use crate::sink::PurgeSink;
 use block_store::{BlockStore, Sparing};
 use mac_words::phys;
 use std::alloc::AllocError;
 
 /// Puts a new block of `size` bytes, all 0, for `slot` where there is room, and returns the place of the block;
-/// `None` where the block would be too large or there is no room. The slot is then unused again.
+/// `None` where the block would be too large or there is no room. The slot is then unused again. The blocks that are
+/// purged for it are reported to a sink, if it listens.
 ///
 /// *Inside Macintosh: Memory*, chapter 1, "Allocating Blocks of Memory".
-fn add_block<S: BlockStore>(
+fn add_block<S: BlockStore, K: PurgeSink>(
     store: &mut S,
+    names: &[Anchor],
     slot: u32,
     size: u32,
     sparing: Sparing,
+    sink: &mut K,
 ) -> Result<Room, AllocError>
+    requires idle { IsIdle K.told K.waits sink.old }
     requires used { IsTrue (is_used ((S.rest store.old).slots slot)) }
     requires none { has (is_relocatable slot) (S.zone store.old) ≡ false }
     ensures added { IfOk result (λ r. IsAdded sparing slot size (S.zone store.old) (S.rest store.old) r.place
@@ -39,8 +44,11 @@ fn add_block<S: BlockStore>(
     ensures searches { IfOk result (λ r. r.searches ≡ place_searches sparing size (S.zone store.old)) }
     ensures nonrelocatable { KeepsNonrelocatable (S.zone store.old) (S.zone store.new) }
     ensures few { IfOk result (λ r. r.searches ≤ GREATEST_ZONE + 1) }
-    ensures moves { Packs (content_moves sparing size (S.zone store.old)) (S.rest store.old) (S.rest store.new) }
-    ensures host { IsErr result → IsTrue S.TAKES_HOST }
+    ensures moves { OnOk result (Packs (content_moves sparing size (S.zone store.old)) (S.rest store.old) (S.rest
+        store.new)) }
+    ensures hears { Hears K.told K.waits K.listens (IsOk result) (fresh_gone names.now sparing size (S.zone store.old)) sink.old sink.new }
+    ensures halts { OnErr result (Halts S.TAKES_HOST K.told K.listens (S.zone store.old)
+        (given_back slot (S.rest store.old)) (S.zone store.new) (S.rest store.new) sink.old sink.new) }
 {
     let Some(bytes) = phys(size) else {
         store.give_slot(slot);
@@ -49,7 +57,13 @@ fn add_block<S: BlockStore>(
             searches: 0,
         });
     };
-    let room = make_room(store, bytes, sparing);
+    let room = match make_room(store, names, bytes, sparing, sink) {
+        Ok(room) => room,
+        Err(error) => {
+            store.give_slot(slot);
+            return Err(error);
+        }
+    };
     let Some(place) = room.place else {
         store.give_slot(slot);
         return Ok(room);
@@ -60,30 +74,6 @@ fn add_block<S: BlockStore>(
             store.give_slot(slot);
             Err(error)
         }
-    }
-}
-
-/// Reports to a sink, if it listens, the blocks that are purged for the place of a new block of `size` bytes. If the
-/// sink finds the host out of memory, none is reported.
-fn tell_block<S: BlockStore, K: PurgeSink>(
-    store: &S,
-    names: &[Anchor],
-    size: u32,
-    sparing: Sparing,
-    sink: &mut K,
-) -> Result<(), AllocError>
-    requires idle { IsIdle K.told K.waits sink.old }
-    ensures hears { Hears K.told K.waits K.listens (IsOk result) (fresh_gone names.now sparing size (S.zone store.now))
-        sink.old sink.new }
-    ensures untold { OnErr result (TellsNothing K.told sink.old sink.new) }
-    ensures host { IsErr result → K.listens sink.old ≡ true }
-{
-    if !sink.listens() {
-        return Ok(());
-    }
-    match phys(size) {
-        Some(bytes) => tell_placement(store, names, bytes, sparing, sink),
-        None => Ok(()),
     }
 }
 
@@ -116,11 +106,7 @@ pub fn new_block<S: BlockStore, K: PurgeSink>(
     let Some(slot) = taken.slot else {
         return Ok(taken);
     };
-    if let Err(error) = tell_block(store, names, size, sparing, sink) {
-        store.give_slot(slot);
-        return Err(error);
-    }
-    let room = add_block(store, slot, size, sparing)?;
+    let room = add_block(store, names, slot, size, sparing, sink)?;
     let searches = taken.searches + room.searches;
     let Some(_) = room.place else {
         return Ok(Taken {

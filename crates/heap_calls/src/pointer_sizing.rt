@@ -6,7 +6,8 @@ ghost use Rattle.block_store.specs.Find.{FindsLowest};
 ghost use Rattle.heap_calls.specs.Asked.{seeking};
 ghost use Rattle.heap_calls.specs.Busy.{pointer_barred, unless};
 ghost use Rattle.heap_calls.specs.Answer.{nothing, noting, searching, silent};
-ghost use Rattle.heap_calls.specs.Gone.{Tells, TellsNothing, IsIdle, gone_unless, set_pointer_size_gone, Hears, Rests};
+ghost use Rattle.heap_calls.specs.Gone.{IsIdle, gone_unless, set_pointer_size_gone, Hears};
+ghost use Rattle.heap_calls.specs.Inner.Halting.{Halts};
 ghost use Rattle.heap_calls.specs.Inner.Given.{IsAnswer, KeepsMoves};
 ghost use Rattle.heap_calls.specs.Inner.Growing.{fitted};
 ghost use Rattle.heap_calls.specs.Inner.GrowingInPlace.{made_zone};
@@ -19,7 +20,7 @@ ghost use Rattle.heap_calls.specs.Left.{Stops};
 ghost use Rattle.std.specs.Prelude.{IsOk, None};
 
 use crate::anchor::{Anchor, target_of};
-use crate::growing_in_place::{Grown, bytes_at, grow_in_place, tell_in_place};
+use crate::growing_in_place::{Grown, bytes_at, grow_in_place};
 use crate::heap::Heap;
 use crate::refusal::Refusal;
 use crate::sink::PurgeSink;
@@ -53,55 +54,44 @@ impl<S: BlockStore> Heap<S> {
         if let Some(code) = self.pointer_barred(pointer) {
             return Ok(self.refuse(code)?);
         }
-        self.tell_fit_pointer(pointer, size, sink)?;
-        let answer = self.fit_pointer(pointer, size);
+        let answer = self.fit_pointer(pointer, size, sink);
         self.note_refusal(answer)
     }
 
-    /// Reports to a sink, if it listens, the blocks that `SetPtrSize` is to purge.
-    fn tell_fit_pointer<K: PurgeSink>(
-        &self,
+    /// Changes the logical size of a pointer's block, counts the searches for room, and reports the blocks that are
+    /// purged to a sink, if it listens.
+    fn fit_pointer<K: PurgeSink>(
+        &mut self,
         pointer: Option<usize>,
         size: u32,
         sink: &mut K,
-    ) -> Result<(), AllocError>
+    ) -> Result<(), Refusal>
         requires idle { IsIdle K.told K.waits sink.old }
-        ensures hears { Hears K.told K.waits K.listens (IsOk result) (set_pointer_size_gone pointer size
-            self.now.memory.heap) sink.old sink.new }
-        ensures untold { OnErr result (TellsNothing K.told sink.old sink.new) }
-        ensures host { IsErr result → K.listens sink.old ≡ true }
-    {
-        if !sink.listens() {
-            return Ok(());
-        }
-        let Ok(target) = target_of(&self.names, pointer) else {
-            return Ok(());
-        };
-        tell_nonrelocatable(&self.store, &self.names, target.place, size, sink)
-    }
-
-    /// Changes the logical size of a pointer's block, and counts the searches for room.
-    fn fit_pointer(&mut self, pointer: Option<usize>, size: u32) -> Result<(), Refusal>
         ensures answer { IsAnswer (searching (set_pointer_size_searches pointer size self.old.memory.heap)
             (silent (set_pointer_size pointer size) self.old.memory)) result self.new.memory }
-        ensures host { result ≡ Err Refusal.HostMemory → IsTrue S.TAKES_HOST }
-        ensures kept { result ≡ Err Refusal.HostMemory → KeepsMoves self.old.memory self.new.memory }
+        ensures hears { Hears K.told K.waits K.listens (result ≢ Err Refusal.HostMemory) (set_pointer_size_gone pointer
+            size self.old.memory.heap) sink.old sink.new }
+        ensures stops { result ≡ Err Refusal.HostMemory → Stops S.TAKES_HOST K.told K.listens KeepsMoves ⊥ None self.old
+            self.new sink.old sink.new }
         ensures lies { self.new.memory.window ≡ self.old.memory.window }
     {
         let target = target_of(&self.names, pointer)?;
-        let grown = fit_nonrelocatable(&mut self.store, target.place, size)?;
+        let grown = fit_nonrelocatable(&mut self.store, &self.names, target.place, size, sink)?;
         Ok(self.account(grown)?)
     }
 }
 
 /// Changes the logical size of the nonrelocatable block at `place` to `size` bytes: the block is cut, or grows, where
-/// it stands.
-fn fit_nonrelocatable<S: BlockStore>(
+/// it stands. The blocks that are purged for it are reported to a sink, if it listens.
+fn fit_nonrelocatable<S: BlockStore, K: PurgeSink>(
     store: &mut S,
+    names: &[Anchor],
     place: u32,
     size: u32,
+    sink: &mut K,
 ) -> Result<Grown, AllocError>
-    requires { FindsLowest (is_nonrelocatable place) (S.zone store.old) (Some place) }
+    requires found { FindsLowest (is_nonrelocatable place) (S.zone store.old) (Some place) }
+    requires idle { IsIdle K.told K.waits sink.old }
     ensures zone { IfOk result (λ grown. fitted (is_nonrelocatable place) nothing size (S.zone store.old)
         ≡ made_zone grown.done (S.zone store.new)) }
     ensures full { IfOk result (λ grown. grown.done ≡ false → S.zone store.new ≡ S.zone store.old) }
@@ -109,7 +99,10 @@ fn fit_nonrelocatable<S: BlockStore>(
         (S.zone store.old)) }
     ensures nonrelocatable { KeepsNonrelocatable (S.zone store.old) (S.zone store.new) }
     ensures rest { KeepsAllButPlaced (S.rest store.old) (S.rest store.new) }
-    ensures host { IsErr result → IsTrue S.TAKES_HOST }
+    ensures hears { Hears K.told K.waits K.listens (IsOk result) (fitted_gone names.now (is_nonrelocatable place)
+        Sparing.Nothing size (S.zone store.old)) sink.old sink.new }
+    ensures halts { OnErr result (Halts S.TAKES_HOST K.told K.listens (S.zone store.old) (S.rest store.old)
+        (S.zone store.new) (S.rest store.new) sink.old sink.new) }
 {
     let Some(bytes) = phys(size) else {
         return Ok(Grown {
@@ -124,31 +117,5 @@ fn fit_nonrelocatable<S: BlockStore>(
             searches: 0,
         });
     }
-    grow_in_place(store, place, size, Sparing::Nothing)
-}
-
-/// Reports to a sink the blocks that are purged where the nonrelocatable block at `place` gets `size` bytes, if there
-/// is room. If the sink finds the host out of memory, none is reported.
-fn tell_nonrelocatable<S: BlockStore, K: PurgeSink>(
-    store: &S,
-    names: &[Anchor],
-    place: u32,
-    size: u32,
-    sink: &mut K,
-) -> Result<(), AllocError>
-    requires found { FindsLowest (is_nonrelocatable place) (S.zone store.now) (Some place) }
-    requires idle { IsIdle K.told K.waits sink.old }
-    ensures told { OnOk result (Tells K.told
-        (fitted_gone names.now (is_nonrelocatable place) Sparing.Nothing size (S.zone store.now)) sink.old sink.new) }
-    ensures untold { OnErr result (TellsNothing K.told sink.old sink.new) }
-    ensures rests { Rests K.told K.waits K.listens sink.old sink.new }
-    ensures host { IsErr result → K.listens sink.old ≡ true }
-{
-    let Some(bytes) = phys(size) else {
-        return Ok(());
-    };
-    if bytes <= bytes_at(store, place) {
-        return Ok(());
-    }
-    tell_in_place(store, names, place, size, Sparing::Nothing, sink)
+    grow_in_place(store, names, place, size, Sparing::Nothing, sink)
 }

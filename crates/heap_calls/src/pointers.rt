@@ -2,6 +2,7 @@
 
 ghost use Rattle.std.specs.Prelude.{◌≡◌, ◌≢◌, ◌⊎◌, ◌≤◌, length, true, Err, IfOk, OnOk, OnErr, IsErr, IsTrue};
 ghost use Rattle.heap_calls.specs.Busy.{pointer_barred, unless, unless_silent};
+ghost use Rattle.heap_calls.specs.Inner.Halting.{Halts};
 ghost use Rattle.heap_calls.specs.Inner.Given.{IsAnswer, IsShown, KeepsMoves};
 ghost use Rattle.heap_calls.specs.Answer.{noting, searching, silent};
 ghost use Rattle.heap_calls.specs.Inner.NewPointer.{IsNewNonrelocatable, nonrelocatable_searches};
@@ -17,7 +18,7 @@ ghost use Rattle.heap_calls.specs.Left.{Stops, Unreserved};
 ghost use Rattle.std.specs.Prelude.{IsOk, None};
 
 use crate::anchor::{Anchor, target_of};
-use crate::base::{make_base, tell_base};
+use crate::base::make_base;
 use crate::heap::{Heap, find_block};
 use crate::refusal::Refusal;
 use crate::search::Room;
@@ -114,8 +115,7 @@ impl<S: BlockStore> Heap<S> {
         ensures lies { self.new.memory.window ≡ self.old.memory.window }
     {
         self.names.reserve(1)?;
-        tell_nonrelocatable(&self.store, &self.names, size, sink)?;
-        let room = add_nonrelocatable(&mut self.store, size)?;
+        let room = add_nonrelocatable(&mut self.store, &self.names, size, sink)?;
         self.log.count(room.searches);
         let Some(place) = room.place else {
             return Err(Refusal::Code(OsErr::MEM_FULL));
@@ -189,15 +189,23 @@ pub(crate) fn find_named<S: BlockStore>(
 }
 
 /// Puts a new nonrelocatable block of `size` bytes, all 0, at the base of a run, where there is room, and returns the
-/// place of the block.
+/// place of the block. The blocks that are purged for it are reported to a sink, if it listens.
 ///
 /// *Inside Macintosh: Memory*, chapter 1, "Memory Reservation".
-fn add_nonrelocatable<S: BlockStore>(store: &mut S, size: u32) -> Result<Room, AllocError>
+fn add_nonrelocatable<S: BlockStore, K: PurgeSink>(
+    store: &mut S,
+    names: &[Anchor],
+    size: u32,
+    sink: &mut K,
+) -> Result<Room, AllocError>
+    requires idle { IsIdle K.told K.waits sink.old }
     ensures put { IfOk result (λ r. IsNewNonrelocatable size (S.zone store.old) r.place (S.zone store.new)) }
     ensures searches { IfOk result (λ r. r.searches ≡ nonrelocatable_searches size (S.zone store.old)) }
     ensures nonrelocatable { OnErr result (KeepsNonrelocatable (S.zone store.old) (S.zone store.new)) }
     ensures rest { KeepsAllButPlaced (S.rest store.old) (S.rest store.new) }
-    ensures host { IsErr result → IsTrue S.TAKES_HOST }
+    ensures hears { Hears K.told K.waits K.listens (IsOk result) (pointer_gone names.now size (S.zone store.old)) sink.old sink.new }
+    ensures halts { OnErr result (Halts S.TAKES_HOST K.told K.listens (S.zone store.old) (S.rest store.old)
+        (S.zone store.new) (S.rest store.new) sink.old sink.new) }
 {
     let Some(bytes) = phys(size) else {
         return Ok(Room {
@@ -205,32 +213,9 @@ fn add_nonrelocatable<S: BlockStore>(store: &mut S, size: u32) -> Result<Room, A
             searches: 0,
         });
     };
-    let room = make_base(store, bytes, Sparing::Nothing)?;
+    let room = make_base(store, names, bytes, Sparing::Nothing, sink)?;
     if let Some(place) = room.place {
         store.carve_nonrelocatable(place, size)?;
     }
     Ok(room)
-}
-
-/// Reports to a sink, if it listens, the blocks that are purged for a new nonrelocatable block of `size` bytes. If the
-/// sink finds the host out of memory, none is reported.
-fn tell_nonrelocatable<S: BlockStore, K: PurgeSink>(
-    store: &S,
-    names: &[Anchor],
-    size: u32,
-    sink: &mut K,
-) -> Result<(), AllocError>
-    requires idle { IsIdle K.told K.waits sink.old }
-    ensures hears { Hears K.told K.waits K.listens (IsOk result) (pointer_gone names.now size (S.zone store.now))
-        sink.old sink.new }
-    ensures untold { OnErr result (TellsNothing K.told sink.old sink.new) }
-    ensures host { IsErr result → K.listens sink.old ≡ true }
-{
-    if !sink.listens() {
-        return Ok(());
-    }
-    match phys(size) {
-        Some(bytes) => tell_base(store, names, bytes, Sparing::Nothing, sink),
-        None => Ok(()),
-    }
 }

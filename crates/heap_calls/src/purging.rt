@@ -21,7 +21,7 @@ use crate::heap::Heap;
 use crate::least::{Sought, any_goes, least_search};
 use crate::refusal::Refusal;
 use crate::sink::PurgeSink;
-use crate::telling::tell;
+use crate::telling::purge_telling;
 use block_store::{BlockStore, GREATEST_ZONE, HEADER_SIZE, Sparing};
 use mac_words::{OsErr, phys};
 use std::alloc::AllocError;
@@ -50,9 +50,8 @@ impl<S: BlockStore> Heap<S> {
             self.new sink.old sink.new }
         ensures lies { self.new.memory.window ≡ self.old.memory.window }
     {
-        self.tell_purge_mem(size, sink)?;
-        let answer = self.purge_for(size);
-        Ok(self.note(answer)?)
+        let answer = self.purge_for(size, sink);
+        self.note_refusal(answer)
     }
 
     /// `PurgeSpace`: returns what could be allocated if every block that may be purged were purged; nothing is
@@ -92,69 +91,33 @@ impl<S: BlockStore> Heap<S> {
         ensures placed { self.new.placings ≡ self.old.placings }
         ensures lies { self.new.memory.window ≡ self.old.memory.window }
     {
-        self.tell_max_mem(sink)?;
-        Ok(self.purge_and_compact())
-    }
-
-    /// Reports to a sink, if it listens, the blocks that `PurgeMem` is to purge.
-    fn tell_purge_mem<K: PurgeSink>(&self, size: u32, sink: &mut K) -> Result<(), AllocError>
-        requires idle { IsIdle K.told K.waits sink.old }
-        ensures hears { Hears K.told K.waits K.listens (IsOk result) (purge_mem_gone size self.now.memory.heap) sink.old
-            sink.new }
-        ensures untold { OnErr result (TellsNothing K.told sink.old sink.new) }
-        ensures host { IsErr result → K.listens sink.old ≡ true }
-    {
-        if !sink.listens() {
-            return Ok(());
-        }
-        let purges = purges_for(&self.store, phys(size));
-        tell(&self.store, &self.names, 0, purges, Sparing::Nothing, sink)
-    }
-
-    /// Reports to a sink, if it listens, the blocks that `MaxMem` is to purge.
-    fn tell_max_mem<K: PurgeSink>(&self, sink: &mut K) -> Result<(), AllocError>
-        requires idle { IsIdle K.told K.waits sink.old }
-        ensures hears { Hears K.told K.waits K.listens (IsOk result) (max_mem_gone self.now.memory.heap) sink.old
-            sink.new }
-        ensures untold { OnErr result (TellsNothing K.told sink.old sink.new) }
-        ensures host { IsErr result → K.listens sink.old ≡ true }
-    {
-        if !sink.listens() {
-            return Ok(());
-        }
         let purges = self.store.purgeable(Sparing::Nothing);
-        tell(&self.store, &self.names, 0, purges, Sparing::Nothing, sink)
-    }
-
-    /// Purges every block that may be purged, compacts all runs of movable blocks, and returns the logical size in bytes
-    /// of the largest block that can then be allocated.
-    fn purge_and_compact(&mut self) -> u32
-        ensures answer { moving (max_mem_moves self.old.memory.heap) (noting max_mem self.old.memory)
-            ≡ (Ok result, self.new.memory) }
-        ensures placed { self.new.placings ≡ self.old.placings }
-    {
-        let purges = self.store.purgeable(Sparing::Nothing);
-        self.store.purge(purges, Sparing::Nothing);
+        purge_telling(&mut self.store, &self.names, purges, Sparing::Nothing, sink)?;
         compact(&mut self.store, None);
         self.log.code = OsErr::NO_ERR;
-        self.store.largest_free().saturating_sub(HEADER_SIZE)
+        Ok(self.store.largest_free().saturating_sub(HEADER_SIZE))
     }
 
-    /// Purges blocks, lowest first, until a block of `size` bytes of content has room, and counts the searches for
-    /// room.
-    fn purge_for(&mut self, size: u32) -> Result<(), OsErr>
-        ensures answer { searching (purge_mem_searches size self.old.memory.heap) (silent (purge_mem size)
-            self.old.memory) ≡ (result, self.new.memory) }
+    /// Purges blocks, lowest first, until a block of `size` bytes of content has room, counts the searches for room, and
+    /// reports the blocks to a sink, if it listens.
+    fn purge_for<K: PurgeSink>(&mut self, size: u32, sink: &mut K) -> Result<(), Refusal>
+        requires idle { IsIdle K.told K.waits sink.old }
+        ensures answer { IsAnswer (searching (purge_mem_searches size self.old.memory.heap) (silent (purge_mem size)
+            self.old.memory)) result self.new.memory }
+        ensures hears { Hears K.told K.waits K.listens (result ≢ Err Refusal.HostMemory) (purge_mem_gone size
+            self.old.memory.heap) sink.old sink.new }
+        ensures stops { result ≡ Err Refusal.HostMemory → Stops false K.told K.listens KeepsNames ⊥ None self.old
+            self.new sink.old sink.new }
         ensures lies { self.new.memory.window ≡ self.old.memory.window }
     {
         let bytes = phys(size);
         let purges = purges_for(&self.store, bytes);
-        self.store.purge(purges, Sparing::Nothing);
+        purge_telling(&mut self.store, &self.names, purges, Sparing::Nothing, sink)?;
         let served = has_room(&self.store, bytes);
-        self.account(Grown {
+        Ok(self.account(Grown {
             done: served,
             searches: purges + 1,
-        })
+        })?)
     }
 }
 

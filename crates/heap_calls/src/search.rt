@@ -1,13 +1,14 @@
 //! The search for room.
 
 ghost use Rattle.std.specs.Prelude.{◌≡◌, ◌+◌, ◌≤◌, ◌<◌, ℕ, false, true, List, MatchOption, Some, is_some, OnOk, OnErr};
-ghost use Rattle.std.specs.Prelude.{IsErr, IfSome};
+ghost use Rattle.std.specs.Prelude.{IfOk, IfSome, IsOk};
 ghost use Rattle.block_store.specs.Block.{Block, is_relocatable};
 ghost use Rattle.block_store.specs.Run.{has};
 ghost use Rattle.block_store.specs.Room.{place};
 ghost use Rattle.block_store.specs.Sparing.{opened, purged};
 ghost use Rattle.block_store.specs.Rest.{KeepsSlots};
-ghost use Rattle.heap_calls.specs.Gone.{Tells, TellsNothing, IsIdle, Rests};
+ghost use Rattle.heap_calls.specs.Gone.{IsIdle, Hears};
+ghost use Rattle.heap_calls.specs.Inner.Halting.{Unheard};
 ghost use Rattle.heap_calls.specs.Moves.{place_moves};
 ghost use Rattle.heap_calls.specs.Inner.Growing.{SameBlocks};
 ghost use Rattle.heap_calls.specs.Inner.Numbered.{KeepsNonrelocatable};
@@ -19,7 +20,7 @@ ghost use Rattle.block_store.specs.declared.measures.TheConstants.{GREATEST_ZONE
 use crate::anchor::Anchor;
 use crate::least::{Searched, count_for_run};
 use crate::sink::PurgeSink;
-use crate::telling::tell;
+use crate::telling::purge_telling;
 use block_store::{BlockStore, Sparing};
 use std::alloc::AllocError;
 
@@ -110,66 +111,55 @@ fn count_for_placement<S: BlockStore>(store: &S, bytes: u32, sparing: Sparing) -
     count_for_run(store, bytes, sparing)
 }
 
-/// Reports to a sink the blocks that are purged for the place of a relocatable block of `bytes` bytes, if there is such
-/// a place. If the sink finds the host out of memory, none is reported.
-pub fn tell_placement<S: BlockStore, K: PurgeSink>(
-    store: &S,
+/// Makes room for a relocatable block of `bytes` bytes, where there is any, and returns its place; nothing changes
+/// where there is none. The blocks that are purged for it are reported to a sink, if it listens. If the sink finds the
+/// host out of memory, nothing changes, and none is reported.
+pub fn make_room<S: BlockStore, K: PurgeSink>(
+    store: &mut S,
     names: &[Anchor],
     bytes: u32,
     sparing: Sparing,
     sink: &mut K,
-) -> Result<(), AllocError>
+) -> Result<Room, AllocError>
     requires positive { 0 < bytes }
     requires idle { IsIdle K.told K.waits sink.old }
-    ensures told { OnOk result (Tells K.told (placement_gone names.now bytes sparing (S.zone store.now)) sink.old
-        sink.new) }
-    ensures untold { OnErr result (TellsNothing K.told sink.old sink.new) }
-    ensures rests { Rests K.told K.waits K.listens sink.old sink.new }
-    ensures host { IsErr result → K.listens sink.old ≡ true }
-{
-    let found = count_for_placement(store, bytes, sparing);
-    if !found.there {
-        return Ok(());
-    }
-    tell(store, names, 0, found.purges, sparing, sink)
-}
-
-/// Makes room for a relocatable block of `bytes` bytes, where there is any, and returns its place; nothing changes
-/// where there is none.
-pub fn make_room<S: BlockStore>(store: &mut S, bytes: u32, sparing: Sparing) -> Room
-    requires { 0 < bytes }
-    ensures place { IsAt (placement bytes sparing (S.zone store.old)) (S.zone store.new) result.place }
-    ensures none { MatchOption result.place (S.zone store.new ≡ S.zone store.old) (λ _. Unit {0}) }
+    ensures place { IfOk result (λ r. IsAt (placement bytes sparing (S.zone store.old)) (S.zone store.new) r.place) }
+    ensures none { IfOk result (λ r. MatchOption r.place (S.zone store.new ≡ S.zone store.old) (λ _. Unit {0})) }
     ensures kept { (number : ℕ) → has (is_relocatable number) (S.zone store.old) ≡ false
         → has (is_relocatable number) (S.zone store.new) ≡ false }
     ensures nonrelocatable { KeepsNonrelocatable (S.zone store.old) (S.zone store.new) }
-    ensures searches { result.searches ≡ placement_searches bytes sparing (S.zone store.old) }
-    ensures few { result.searches ≤ GREATEST_ZONE + 1 }
+    ensures searches { IfOk result (λ r. r.searches ≡ placement_searches bytes sparing (S.zone store.old)) }
+    ensures few { IfOk result (λ r. r.searches ≤ GREATEST_ZONE + 1) }
     ensures rest { KeepsSlots (S.rest store.old) (S.rest store.new) }
-    ensures moves { Packs (placement_moves bytes sparing (S.zone store.old)) (S.rest store.old) (S.rest store.new) }
+    ensures moves { OnOk result (Packs (placement_moves bytes sparing (S.zone store.old)) (S.rest store.old)
+        (S.rest store.new)) }
+    ensures hears { Hears K.told K.waits K.listens (IsOk result) (placement_gone names.now bytes sparing
+        (S.zone store.old)) sink.old sink.new }
+    ensures halts { OnErr result (Unheard K.told K.listens (S.zone store.old) (S.rest store.old) (S.zone store.new)
+        (S.rest store.new) sink.old sink.new) }
 {
     if let Some(placement) = placement_at_once(store, bytes, sparing) {
         let place = pack_placement(store, bytes, placement);
-        return Room {
+        return Ok(Room {
             place: Some(place),
             searches: 1,
-        };
+        });
     }
     let counted = count_for_placement(store, bytes, sparing);
     let searches = counted.purges + 1;
     if !counted.there {
-        return Room {
+        return Ok(Room {
             place: None,
             searches,
-        };
+        });
     }
-    store.purge(counted.purges, sparing);
+    purge_telling(store, names, counted.purges, sparing, sink)?;
     let Some(placement) = placement_now(store, bytes) else {
         unreachable!()
     };
     let place = pack_placement(store, bytes, placement);
-    Room {
+    Ok(Room {
         place: Some(place),
         searches,
-    }
+    })
 }

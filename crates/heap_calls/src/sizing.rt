@@ -14,7 +14,8 @@ ghost use Rattle.heap_calls.specs.Inner.Numbered.{KeepsNonrelocatable};
 ghost use Rattle.heap_calls.specs.Inner.Given.{IsAnswer, KeepsNames};
 ghost use Rattle.heap_calls.specs.Answer.{set_handle_size, silent, searching, moving};
 ghost use Rattle.heap_calls.specs.Moves.{size_moves, set_handle_size_moves};
-ghost use Rattle.heap_calls.specs.Gone.{Tells, TellsNothing, IsIdle, gone_unless, set_handle_size_gone, Hears, Rests};
+ghost use Rattle.heap_calls.specs.Gone.{IsIdle, gone_unless, set_handle_size_gone, Hears};
+ghost use Rattle.heap_calls.specs.Inner.Halting.{Halts};
 ghost use Rattle.heap_calls.specs.Inner.Packed.{Packs};
 ghost use Rattle.heap_calls.specs.Inner.Telling.{fitted_gone};
 ghost use Rattle.heap_calls.specs.Searches.{size_searches, set_handle_size_searches};
@@ -24,8 +25,8 @@ ghost use Rattle.heap_calls.specs.Left.{Stops};
 ghost use Rattle.std.specs.Prelude.{IsOk, None};
 
 use crate::anchor::Anchor;
-use crate::growing::{bytes_of, grow_movable, tell_growth};
-use crate::growing_in_place::{Grown, grow_in_place, tell_in_place};
+use crate::growing::{bytes_of, grow_movable};
+use crate::growing_in_place::{Grown, grow_in_place};
 use crate::heap::Heap;
 use crate::locking::can_move;
 use crate::reaching::reach;
@@ -62,53 +63,39 @@ impl<S: BlockStore> Heap<S> {
         if let Some(code) = self.change_barred(handle) {
             return Ok(self.refuse(code)?);
         }
-        self.tell_give_size(handle, size, sink)?;
-        let answer = self.give_size(handle, size);
+        let answer = self.give_size(handle, size, sink);
         self.note_refusal(answer)
     }
 
-    /// Reports to a sink, if it listens, the blocks that `SetHandleSize` is to purge.
-    fn tell_give_size<K: PurgeSink>(
-        &self,
+    /// Changes the logical size of a handle's block, counts the searches for room, and reports the blocks that are
+    /// purged to a sink, if it listens.
+    fn give_size<K: PurgeSink>(
+        &mut self,
         handle: Option<usize>,
         size: u32,
         sink: &mut K,
-    ) -> Result<(), AllocError>
+    ) -> Result<(), Refusal>
         requires idle { IsIdle K.told K.waits sink.old }
-        ensures hears { Hears K.told K.waits K.listens (IsOk result) (set_handle_size_gone handle size
-            self.now.memory.heap) sink.old sink.new }
-        ensures untold { OnErr result (TellsNothing K.told sink.old sink.new) }
-        ensures host { IsErr result → K.listens sink.old ≡ true }
-    {
-        if !sink.listens() {
-            return Ok(());
-        }
-        let Ok(held) = reach(&self.store, &self.names, handle) else {
-            return Ok(());
-        };
-        tell_fit(
-            &self.store,
-            &self.names,
-            held.slot,
-            held.place,
-            size,
-            Sparing::One(held.slot),
-            sink,
-        )
-    }
-
-    /// Changes the logical size of a handle's block, and counts the searches for room.
-    fn give_size(&mut self, handle: Option<usize>, size: u32) -> Result<(), Refusal>
         ensures answer { IsAnswer (moving (set_handle_size_moves handle size self.old.memory.heap)
             (searching (set_handle_size_searches handle size self.old.memory.heap)
             (silent (set_handle_size handle size) self.old.memory))) result self.new.memory }
-        ensures host { result ≡ Err Refusal.HostMemory → IsTrue S.TAKES_HOST }
-        ensures kept { result ≡ Err Refusal.HostMemory → KeepsNames self.old.memory self.new.memory }
+        ensures hears { Hears K.told K.waits K.listens (result ≢ Err Refusal.HostMemory) (set_handle_size_gone handle
+            size self.old.memory.heap) sink.old sink.new }
+        ensures stops { result ≡ Err Refusal.HostMemory → Stops S.TAKES_HOST K.told K.listens KeepsNames ⊥ None self.old
+            self.new sink.old sink.new }
         ensures lies { self.new.memory.window ≡ self.old.memory.window }
     {
         let held = reach(&self.store, &self.names, handle)?;
         let sparing = Sparing::One(held.slot);
-        let grown = fit_block(&mut self.store, held.slot, held.place, size, sparing)?;
+        let grown = fit_block(
+            &mut self.store,
+            &self.names,
+            held.slot,
+            held.place,
+            size,
+            sparing,
+            sink,
+        )?;
         Ok(self.account(grown)?)
     }
 
@@ -131,17 +118,20 @@ impl<S: BlockStore> Heap<S> {
 }
 
 /// Changes the logical size of the block of `slot`, which stands at `place`, to `size` bytes, if a block can have
-/// that size and there is room.
-pub fn fit_block<S: BlockStore>(
+/// that size and there is room. The blocks that are purged for it are reported to a sink, if it listens.
+pub fn fit_block<S: BlockStore, K: PurgeSink>(
     store: &mut S,
+    names: &[Anchor],
     slot: u32,
     place: u32,
     size: u32,
     sparing: Sparing,
+    sink: &mut K,
 ) -> Result<Grown, AllocError>
     requires spared { Spares sparing (is_relocatable slot) }
     requires stays { Stays sparing (is_relocatable slot) }
     requires found { FindsLowest (is_relocatable slot) (S.zone store.old) (Some place) }
+    requires idle { IsIdle K.told K.waits sink.old }
     ensures zone { IfOk result (λ grown. fitted (is_relocatable slot) (spared sparing) size (S.zone store.old)
         ≡ made_zone grown.done (S.zone store.new)) }
     ensures full { IfOk result (λ grown. grown.done ≡ false → S.zone store.new ≡ S.zone store.old) }
@@ -149,9 +139,12 @@ pub fn fit_block<S: BlockStore>(
         (S.zone store.old)) }
     ensures nonrelocatable { KeepsNonrelocatable (S.zone store.old) (S.zone store.new) }
     ensures rest { KeepsSlots (S.rest store.old) (S.rest store.new) }
-    ensures moves { Packs (size_moves (is_relocatable slot) (spared sparing) size (S.zone store.old)) (S.rest store.old)
-        (S.rest store.new) }
-    ensures host { IsErr result → IsTrue S.TAKES_HOST }
+    ensures moves { OnOk result (Packs (size_moves (is_relocatable slot) (spared sparing) size (S.zone store.old))
+        (S.rest store.old) (S.rest store.new)) }
+    ensures hears { Hears K.told K.waits K.listens (IsOk result) (fitted_gone names.now (is_relocatable slot) sparing size
+        (S.zone store.old)) sink.old sink.new }
+    ensures halts { OnErr result (Halts S.TAKES_HOST K.told K.listens (S.zone store.old) (S.rest store.old)
+        (S.zone store.new) (S.rest store.new) sink.old sink.new) }
 {
     if phys(size).is_none() {
         return Ok(Grown {
@@ -159,22 +152,26 @@ pub fn fit_block<S: BlockStore>(
             searches: 0,
         });
     }
-    resize_block(store, slot, place, size, sparing)
+    resize_block(store, names, slot, place, size, sparing, sink)
 }
 
 /// Changes the logical size of the block of `slot`, which stands at `place`, to `size` bytes: the block is cut where
-/// it stands, or grows, and a locked block grows where it stands.
-fn resize_block<S: BlockStore>(
+/// it stands, or grows, and a locked block grows where it stands. The blocks that are purged for it are reported to a
+/// sink, if it listens.
+fn resize_block<S: BlockStore, K: PurgeSink>(
     store: &mut S,
+    names: &[Anchor],
     slot: u32,
     place: u32,
     size: u32,
     sparing: Sparing,
+    sink: &mut K,
 ) -> Result<Grown, AllocError>
     requires fits { IsSome (physical_size size) }
     requires spared { Spares sparing (is_relocatable slot) }
     requires stays { Stays sparing (is_relocatable slot) }
     requires found { FindsLowest (is_relocatable slot) (S.zone store.old) (Some place) }
+    requires idle { IsIdle K.told K.waits sink.old }
     ensures zone { IfOk result (λ grown. grow (is_relocatable slot) (spared sparing) size (S.zone store.old)
         ≡ made_zone grown.done (S.zone store.new)) }
     ensures full { IfOk result (λ grown. grown.done ≡ false → S.zone store.new ≡ S.zone store.old) }
@@ -182,9 +179,12 @@ fn resize_block<S: BlockStore>(
         (S.zone store.old)) }
     ensures nonrelocatable { KeepsNonrelocatable (S.zone store.old) (S.zone store.new) }
     ensures rest { KeepsSlots (S.rest store.old) (S.rest store.new) }
-    ensures moves { Packs (size_moves (is_relocatable slot) (spared sparing) size (S.zone store.old)) (S.rest store.old)
-        (S.rest store.new) }
-    ensures host { IsErr result → IsTrue S.TAKES_HOST }
+    ensures moves { OnOk result (Packs (size_moves (is_relocatable slot) (spared sparing) size (S.zone store.old))
+        (S.rest store.old) (S.rest store.new)) }
+    ensures hears { Hears K.told K.waits K.listens (IsOk result) (fitted_gone names.now (is_relocatable slot) sparing size
+        (S.zone store.old)) sink.old sink.new }
+    ensures halts { OnErr result (Halts S.TAKES_HOST K.told K.listens (S.zone store.old) (S.rest store.old)
+        (S.zone store.new) (S.rest store.new) sink.old sink.new) }
 {
     let Some(bytes) = phys(size) else {
         unreachable!()
@@ -197,40 +197,7 @@ fn resize_block<S: BlockStore>(
         });
     }
     if can_move(store.block_at(place)) {
-        return grow_movable(store, slot, size, sparing);
+        return grow_movable(store, names, slot, size, sparing, sink);
     }
-    grow_in_place(store, place, size, sparing)
-}
-
-/// Reports to a sink the blocks that are purged where the block of `slot`, which stands at `place`, gets `size` bytes,
-/// if a block can have that size and there is room. If the sink finds the host out of memory, none is reported.
-pub fn tell_fit<S: BlockStore, K: PurgeSink>(
-    store: &S,
-    names: &[Anchor],
-    slot: u32,
-    place: u32,
-    size: u32,
-    sparing: Sparing,
-    sink: &mut K,
-) -> Result<(), AllocError>
-    requires spared { Spares sparing (is_relocatable slot) }
-    requires stays { Stays sparing (is_relocatable slot) }
-    requires found { FindsLowest (is_relocatable slot) (S.zone store.now) (Some place) }
-    requires idle { IsIdle K.told K.waits sink.old }
-    ensures told { OnOk result (Tells K.told (fitted_gone names.now (is_relocatable slot) sparing size (S.zone store.now))
-        sink.old sink.new) }
-    ensures untold { OnErr result (TellsNothing K.told sink.old sink.new) }
-    ensures rests { Rests K.told K.waits K.listens sink.old sink.new }
-    ensures host { IsErr result → K.listens sink.old ≡ true }
-{
-    let Some(bytes) = phys(size) else {
-        return Ok(());
-    };
-    if bytes <= bytes_of(store, slot) {
-        return Ok(());
-    }
-    if can_move(store.block_at(place)) {
-        return tell_growth(store, names, slot, size, sparing, sink);
-    }
-    tell_in_place(store, names, place, size, sparing, sink)
+    grow_in_place(store, names, place, size, sparing, sink)
 }

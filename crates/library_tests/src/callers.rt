@@ -5,6 +5,7 @@ use arrayvec::ArrayVec;
 use block_store::{BlockStore, ListStore};
 use fork_format::{Content, read_fork, write_fork};
 use heap_calls::{Heap, NoSink, Refusal};
+use lint::script_faults;
 use mac_words::{Attrs, Name, OsErr, OsType, phys};
 use partitions::Grants;
 use res_map::ResFile;
@@ -100,5 +101,17 @@ fn a_script_is_read(rt: HostRuntime) -> Result<(), Fail> {
         Ok(_) => return Err(Fail::new("no fault")),
         Err(fault) => assert_eq!(rt; (fault.line, fault.kind), (2, FaultKind::BadArgument)),
     }
+    Ok(())
+}
+
+/// Shows `lint`: what is wrong with each faulty line of a script, in words.
+#[test]
+fn faulty_lines_are_said(rt: HostRuntime) -> Result<(), Fail> {
+    let mut said = String::new(rt.alloc());
+    for fault in &script_faults(rt.alloc(), b"FreeMem\nFreeMen\n")? {
+        write!(said, "note.script:{fault}")?;
+    }
+    let wanted = "note.script:2:1: unknown call FreeMen: did you mean FreeMem?";
+    assert_eq!(rt; said.as_str(), wanted);
     Ok(())
 }

@@ -15,7 +15,7 @@ use mac_words::{FileName, Label, Name, OsType};
 use std::alloc::{AllocError, Global};
 
 /// The greatest size, offset or index that an argument states.
-const GREATEST_SIZE: u32 = 2_147_483_647;
+pub const GREATEST_SIZE: u32 = 2_147_483_647;
 
 fn is_label_byte(byte: u8) -> bool
     ensures { result ≡ is_label_byte_of byte }
@@ -38,14 +38,15 @@ fn has_label_bytes(token: &[u8]) -> bool
     token.iter().all(|b| is_label_byte(*b))
 }
 
-fn is_label(token: &[u8]) -> bool
+/// Reports whether a token is a name of 1 to 63 letters, digits and underscores that begins with no digit.
+pub fn is_label(token: &[u8]) -> bool
     ensures { result ≡ is_some (label token.now) }
 {
     begins_label(token) && has_label_bytes(token) && token.len() <= 63
 }
 
 /// Returns the number that a token writes in one to `most` decimal digits, if it is at most `limit`.
-fn number_in(token: &[u8], most: usize, limit: u32) -> Option<u32>
+pub fn number_in(token: &[u8], most: usize, limit: u32) -> Option<u32>
     ensures { result ≡ number most limit token.now }
 {
     if token.is_empty() || token.len() > most {
@@ -75,7 +76,7 @@ fn number_up_to(digits: &[u8], limit: u32) -> Option<u32>
 }
 
 /// Returns the ID that a token writes: a number of 16 bits, with or without a minus.
-fn id_in(token: &[u8]) -> Option<i16>
+pub fn id_in(token: &[u8]) -> Option<i16>
     ensures { result ≡ id token.now }
 {
     match token {
@@ -97,7 +98,7 @@ fn digit_value(byte: u8) -> Option<u8>
 }
 
 /// Returns the byte that two hexadecimal digits write.
-fn byte_of(high: u8, low: u8) -> Option<u8>
+pub fn byte_of(high: u8, low: u8) -> Option<u8>
     ensures { result ≡ byte_at high low }
 {
     let high = digit_value(high)?;

@@ -5,7 +5,7 @@ ghost use Rattle.std.specs.Str.Lines.{lines, strip_carriage_return};
 ghost use Rattle.std.specs.List.{position};
 
 /// The greatest length of a line in bytes.
-pub(crate) const LONGEST_LINE: usize = 65_535;
+pub const LONGEST_LINE: usize = 65_535;
 
 fn line_end(text: &[u8]) -> Option<usize>
     ensures { result ≡ position (λ b. b == 10) text.now }

@@ -379,7 +379,8 @@ macro_rules! is_held {
 /// the part of the toolbox. Then the lines that make a grow-zone script and the calls that it may hold, and the result codes.
 pub const CALLS: &str = calls!(listed);
 
-pub(crate) static WORDS: [CallWord; 76] = calls!(words);
+/// The words of all calls, in the order of the tables.
+pub static WORDS: [CallWord; 76] = calls!(words);
 
 /// Returns the word that a token spells, if the word is one of the few of the token's length that are tried first.
 fn likely_word(token: &[u8]) -> Option<CallWord>
@@ -417,7 +418,7 @@ impl CallWord {
     }
 
     /// Reports whether a grow-zone script may hold the call.
-    pub(crate) fn is_allowed(self) -> bool
+    pub fn is_allowed(self) -> bool
         ensures { result ≡ may_stand self }
     {
         calls!(is_held self)
@@ -425,7 +426,7 @@ impl CallWord {
 
     /// Returns the word that a token spells, if the token spells one.
     #[tactic(auto, using(crate::proofs::Spelled::spelled_so))]
-    pub(crate) fn find(token: &[u8]) -> Option<CallWord>
+    pub fn find(token: &[u8]) -> Option<CallWord>
         ensures { result ≡ word_spelled token.now }
     {
         match likely_word(token) {

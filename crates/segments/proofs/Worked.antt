@@ -8,7 +8,7 @@ use Rattle.fork_format.specs.Content.{Ref, Group}
 use Rattle.res_map.specs.Map.{map_of}
 use Rattle.heap_calls.specs.State.{fresh_memory}
 use Rattle.heap_calls.specs.Asked.{Asked, HUnlock, EmptyHandle, PurgeMem, Show, Where}
-use Rattle.heap_calls.specs.Busy as heap
+use Rattle.heap_calls.specs.Table as heap
 use Rattle.res_calls.specs.Files.{fresh_resources}
 use Rattle.res_calls.specs.Fetch.{Managers}
 use Rattle.res_calls.specs.Rows.{preloaded}

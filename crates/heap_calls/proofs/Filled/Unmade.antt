@@ -8,7 +8,8 @@ use Rattle.heap_calls.specs.State.{Memory, CountedMemory}
 use Rattle.heap_calls.specs.Answer.{nothing}
 use Rattle.heap_calls.specs.Gone.{Gone, Tells, TellsNothing, slot_gone, made_gone}
 use Rattle.heap_calls.specs.Preloaded.{LeavesUnmade}
-use Rattle.heap_calls.specs.Refused.{LeavesMasters, slotted_zone}
+use Rattle.heap_calls.specs.Refused.{LeavesMasters}
+use Rattle.heap_calls.specs.Slots.{slotted_zone}
 use Rattle.heap_calls.specs.Inner.Numbered.{memory_of, heap_of, handle_number, pointer_number, Agrees}
 use Rattle.heap_calls.specs.Inner.NewSlot.{zone_slotted, HasMore}
 use Rattle.heap_calls.specs.Inner.Telling.{zone_slot_gone, new_gone, LeavesSlot}

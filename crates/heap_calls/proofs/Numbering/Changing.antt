@@ -27,13 +27,14 @@ use Rattle.block_store.proofs.Renamed.Renaming.{total-rename, free_of-rename, fr
 use Rattle.block_store.proofs.Renamed.Renaming.{put_in_place-rename}
 use Rattle.block_store.proofs.Zone.Tidy.{rename-unless, rename_nonrelocatable-unless, has-released}
 use Rattle.block_store.proofs.Nonrelocatable.Counts.{not_nonrelocatable-room}
-use Rattle.heap_calls.specs.State.{State, Memory, Meaning, Role, Plain, Resource, used_slots, all_slots, uses_slot}
+use Rattle.heap_calls.specs.State.{State, Memory, CountedMemory, Meaning, Role, Plain, Resource, used_slots, all_slots, uses_slot}
 use Rattle.heap_calls.specs.State as names
 use Rattle.heap_calls.specs.Answer.{Answer, Held, given, refused, without, written_at, for_found}
 use Rattle.heap_calls.specs.Answer.{silent}
 use Rattle.heap_calls.specs.declared.anchor.Anchor.{Anchor}
 use Rattle.heap_calls.specs.declared.anchor.Anchor.TheVariants.{Handle, Pointer, Disposed}
-use Rattle.heap_calls.specs.Inner.Numbered.{state_of, memory_of, name_of, handle_number, pointer_number, number_from}
+use Rattle.heap_calls.specs.Inner.Numbered.{state_of, memory_of, heap_of, name_of, handle_number, pointer_number, number_from}
+use Rattle.heap_calls.proofs.Numbering.Memories.{counted_as}
 use Rattle.heap_calls.specs.Inner.Numbered.{leads_to, points_to, no_number, role_of, KeepsNonrelocatable, Agrees}
 use Rattle.heap_calls.proofs.Numbering.Answering.{content_of-rename, with_content-rename, held}
 use Rattle.heap_calls.proofs.Room.Staying.{nonrelocatable-released, nonrelocatable-filled}
@@ -529,6 +530,14 @@ memory-same zone rest rest' es log now =
     }) (names-same rest.slots rest'.slots es (λ h s g at. now.slots s))
     ∙ ap (λ m. record { heap = state_of zone rest.slots es; log = log; moves = m; window = rest'.window }) now.moves
     ∙ ap (λ w. record { heap = state_of zone rest.slots es; log = log; moves = rest.moves; window = w }) now.window
+
+-- the same heap, over the same zone, slots and entries
+pub heap-same : (zone zone' : List Block) (rest rest' : Rest) (es es' : List Anchor) (log : Log) {old : CountedMemory}
+    → heap_of zone rest es log ≡ old → es' ≡ es → zone' ≡ zone → IsRest rest rest' → heap_of zone' rest' es' log ≡ old
+heap-same zone zone' rest rest' es es' log is entries same now =
+    ap (λ z. heap_of z rest' es' log) same ∙ ap (λ (l : List Anchor). heap_of zone rest' l log) entries
+    ∙ counted_as {held = heap_of zone rest' es log} {value = heap_of zone rest es log}
+    (memory-same zone rest rest' es log now) now.placed ∙ is
 
 -- what a call gives, told of the whole heap
 pub silent-done : {T : Type 0} (row : State → Answer T) (value : Memory) (zone zone' : List Block) (rest rest' : Rest)

@@ -32,7 +32,8 @@ use Rattle.heap_calls.specs.Pointers.{pointed_at, block_named, reserved, reserve
 use Rattle.heap_calls.specs.Purging.{is_resource, block_bits, emptied_at, is_loose, reallocated, blocks_purged}
 use Rattle.heap_calls.specs.Purging.{purgeable, purged_all}
 use Rattle.heap_calls.specs.Copying.{append, appended, written_in}
-use Rattle.heap_calls.specs.Asked.{Asked, answered}
+use Rattle.heap_calls.specs.Asked.{Asked}
+use Rattle.heap_calls.specs.Table.{answered}
 use Rattle.heap_calls.specs.Asked as asked
 use Rattle.heap_calls.specs.Locked.{OneBlockEach}
 use Rattle.block_store.proofs.Zone.Views.{map-some, grow-some}

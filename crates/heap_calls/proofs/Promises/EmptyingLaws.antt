@@ -33,7 +33,8 @@ use Rattle.heap_calls.specs.Purging.{is_resource, block_bits, emptied_at, is_loo
 use Rattle.heap_calls.specs.Purging.{purgeable}
 use Rattle.heap_calls.specs.Purging as purging
 use Rattle.heap_calls.specs.Copying.{append, appended, written_in}
-use Rattle.heap_calls.specs.Asked.{Asked, answered}
+use Rattle.heap_calls.specs.Asked.{Asked}
+use Rattle.heap_calls.specs.Table.{answered, row, may_purge}
 use Rattle.heap_calls.specs.Asked as asked
 use Rattle.heap_calls.specs.Locked.{OneBlockEach}
 use Rattle.heap_calls.specs.Emptying.{has_purgeable, PurgesOnlyPurgeable}
@@ -100,20 +101,7 @@ flags-rise of change rises (Some k) s = by_spot (look_up (Some k) s) (λ held is
 
 -- a call that may purge blocks for room
 abbrev pub purges : Asked → Bool
-purges (asked.NewHandle n) = true
-purges asked.NewEmptyHandle = true
-purges (asked.SetHandleSize handle n) = true
-purges (asked.ReallocateHandle handle n) = true
-purges (asked.HandToHand handle) = true
-purges (asked.HandAndHand from to) = true
-purges (asked.PtrAndHand handle x) = true
-purges (asked.NewPtr n) = true
-purges (asked.SetPtrSize pointer n) = true
-purges (asked.PurgeMem n) = true
-purges asked.MaxMem = true
-purges (asked.ReserveMem n) = true
-purges asked.MoreMasters = true
-purges a = false
+purges a = may_purge (row a)
 
 module _ (of : Block → ℕ) (none : (n : ℕ) → of (Free n) ≡ 0) (filled : (x : List ℕ) (b : Block)
     → of b ≡ of (with_content x b))

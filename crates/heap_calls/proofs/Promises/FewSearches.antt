@@ -27,11 +27,13 @@ use Rattle.heap_calls.specs.Searches.{in_place_searches, growth_searches, resize
 use Rattle.heap_calls.specs.Searches.{stretches, compact_mem_searches}
 use Rattle.heap_calls.specs.Searches.{reallocate_handle_searches}
 use Rattle.heap_calls.specs.Searches.{hand_and_hand_searches}
-use Rattle.heap_calls.specs.Asked.{Asked, answered}
+use Rattle.heap_calls.specs.Asked.{Asked}
+use Rattle.heap_calls.specs.Table as table
+use Rattle.heap_calls.specs.Table.{answered, Row, row, answer_of, searches_of}
 use Rattle.heap_calls.specs.Asked as asked
 use Rattle.block_store.proofs.Zone.Zones.{joined-is}
 use Rattle.block_store.proofs.Plain.Counters.{counted-none}
-use Rattle.heap_calls.specs.Counts.{row_searches}
+use Rattle.heap_calls.specs.Table.{row_searches}
 use Rattle.block_store.proofs.Zone.Keeping.{tidied, freed-is, unless-le, based-le}
 
 -- A call searches for room no more often than once for each block and once more.
@@ -353,22 +355,20 @@ row_few asked.MoreMasters m masters =
 row_few a m masters = omega arith
 
 -- and counts its searches
+searched-by : (r : Row) (m : Memory) → (answer_of r m).1.log.searches
+    ≡ counted m.log.searches (searches_of r m.heap)
+searched-by (table.Plain bar tell call) m = sym (counted-none m.log.searches)
+searched-by (table.Quiet bar tell call) m = sym (counted-none m.log.searches)
+searched-by (table.Seeks bar tell searches gone call) m = refl
+searched-by (table.Packs bar tell moves searches gone call) m = refl
+searched-by (table.Compacts moves searches call) m = refl
+searched-by table.PurgesAll m = sym (counted-none m.log.searches)
+searched-by table.LastCode m = sym (counted-none m.log.searches)
+searched-by (table.Leaves left r) m = searched-by r m
+
 pub row_searched : (a : Asked) (m : Memory) → (answered a m).1.log.searches
     ≡ counted m.log.searches (row_searches a m.heap)
-row_searched (asked.NewHandle n) m = refl
-row_searched asked.NewEmptyHandle m = refl
-row_searched (asked.SetHandleSize handle n) m = refl
-row_searched (asked.ReallocateHandle handle n) m = refl
-row_searched (asked.HandToHand handle) m = refl
-row_searched (asked.HandAndHand from to) m = refl
-row_searched (asked.PtrAndHand handle x) m = refl
-row_searched (asked.NewPtr n) m = refl
-row_searched (asked.SetPtrSize pointer n) m = refl
-row_searched (asked.CompactMem n) m = refl
-row_searched (asked.PurgeMem n) m = refl
-row_searched (asked.ReserveMem n) m = refl
-row_searched asked.MoreMasters m = refl
-row_searched a m = sym (counted-none m.log.searches)
+row_searched a m = searched-by (row a) m
 
 -- the row of a call searches so often
 abbrev pub RowSearchesFew : Asked → Memory → Type 0

@@ -24,7 +24,8 @@ use Rattle.heap_calls.specs.Purging.{is_resource, block_bits, emptied_at, is_loo
 use Rattle.heap_calls.specs.Purging.{purgeable, purged_all}
 use Rattle.heap_calls.specs.Copying.{append}
 use Rattle.mac_words.specs.Told.{Told, Done, Given, Refused}
-use Rattle.heap_calls.specs.Asked.{Asked, answered, told_as}
+use Rattle.heap_calls.specs.Asked.{Asked, told_as}
+use Rattle.heap_calls.specs.Table.{answered}
 use Rattle.heap_calls.specs.Asked as asked
 use Rattle.heap_calls.specs.LastPut.{put_by}
 use Rattle.block_store.proofs.Zone.Keeping.{SeesNoFree, purged-le, settled-le, reserved-le}

@@ -13,7 +13,8 @@ use Rattle.block_store.proofs.Zone.Totals.{total-append, total-le}
 use Rattle.heap_calls.specs.State.{Memory}
 use Rattle.heap_calls.specs.Answer.{flagged}
 use Rattle.heap_calls.specs.Purging.{is_loose}
-use Rattle.heap_calls.specs.Asked.{Asked, answered}
+use Rattle.heap_calls.specs.Asked.{Asked}
+use Rattle.heap_calls.specs.Table.{answered}
 use Rattle.heap_calls.specs.Asked as asked
 use Rattle.heap_calls.specs.Locked.{is_locked, locked_place, releases, OneBlockEach, StaysLocked}
 use Rattle.block_store.proofs.Zone.Keeping.{apart}

@@ -28,9 +28,13 @@ use Rattle.heap_calls.specs.Purging.{is_resource, block_bits, bit, emptied_at, i
 use Rattle.heap_calls.specs.Purging.{h_no_purge, h_get_state, h_set_state, empty_handle, reallocate_handle, purge_mem}
 use Rattle.heap_calls.specs.Copying.{append, appended, hand_to_hand, hand_and_hand, pointer_and_hand}
 use Rattle.mac_words.specs.Told.{Told, Done, Given, Number, Bytes, Refused}
-use Rattle.heap_calls.specs.Asked.{Asked, told_as, answered}
+use Rattle.heap_calls.specs.Asked.{Asked, told_as}
+use Rattle.heap_calls.specs.Table.{answered}
 use Rattle.heap_calls.specs.Asked as asked
-use Rattle.heap_calls.specs.Refused.{slotted_zone, copying_zone, zone_left, code_left}
+use Rattle.heap_calls.specs.Refused.{code_left}
+use Rattle.heap_calls.specs.Slots.{slotted_zone}
+use Rattle.heap_calls.specs.Copying.{copying_zone}
+use Rattle.heap_calls.specs.Table.{zone_left}
 use Rattle.heap_calls.proofs.Promises.KnownChanges.{none-spot, hoisted-all}
 use Rattle.heap_calls.proofs.Promises.Knowing.{look_up-spot}
 

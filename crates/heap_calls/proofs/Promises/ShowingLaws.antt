@@ -6,7 +6,8 @@ use Rattle.heap_calls.specs.State.{Memory}
 use Rattle.heap_calls.specs.Answer.{Held, look_up, for_found}
 use Rattle.heap_calls.specs.Pointers.{pointed_at}
 use Rattle.mac_words.specs.Told.{Bytes}
-use Rattle.heap_calls.specs.Asked.{Asked, answered, told_as}
+use Rattle.heap_calls.specs.Asked.{Asked, told_as}
+use Rattle.heap_calls.specs.Table.{answered}
 use Rattle.heap_calls.specs.Shown.{Shows}
 use Rattle.heap_calls.proofs.Promises.Knowing.{Known, look_up-spot, pointed_at-spot, known-at, known-pointed}
 

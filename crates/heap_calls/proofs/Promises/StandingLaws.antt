@@ -8,7 +8,8 @@ use Rattle.block_store.specs.Run.{in_run}
 use Rattle.block_store.proofs.Nonrelocatable.Counts.{not_nonrelocatable-relocatable}
 use Rattle.heap_calls.specs.State.{State, Memory}
 use Rattle.heap_calls.specs.Answer.{flagged}
-use Rattle.heap_calls.specs.Asked.{Asked, answered}
+use Rattle.heap_calls.specs.Asked.{Asked}
+use Rattle.heap_calls.specs.Table.{answered}
 use Rattle.heap_calls.specs.Asked as asked
 use Rattle.heap_calls.specs.Locked.{OneBlockEach}
 use Rattle.heap_calls.specs.Standing.{pointer_place, disposes, NextIsNew, StaysNonrelocatable}

@@ -17,7 +17,8 @@ use Rattle.block_store.proofs.Zone.Alike.{stands-is, stands-none, locks}
 use Rattle.heap_calls.specs.State.{State, Memory, Role, Plain, Resource, SystemResource, Disposed}
 use Rattle.heap_calls.specs.Answer.{Known, Held, look_up, handle_at, for_found, disposed_of, flagged, change_flags}
 use Rattle.heap_calls.specs.Pointers.{pointed_at, dispose_pointer}
-use Rattle.heap_calls.specs.Asked.{Asked, told_as, answered}
+use Rattle.heap_calls.specs.Asked.{Asked, told_as}
+use Rattle.heap_calls.specs.Table.{answered}
 use Rattle.heap_calls.specs.Asked as asked
 use Rattle.heap_calls.specs.Locked.{is_locked, locked_place, releases, OneBlockEach}
 use Rattle.heap_calls.specs.Standing.{pointer_place, disposes, NextIsNew}

@@ -8,7 +8,7 @@ use Rattle.block_store.specs.Block.{Block}
 use Rattle.heap_calls.specs.State.{State, Memory, Meaning}
 use Rattle.heap_calls.specs.Answer.{nothing}
 use Rattle.heap_calls.specs.Slots.{slotted}
-use Rattle.heap_calls.specs.Refused.{slotted_zone}
+use Rattle.heap_calls.specs.Slots.{slotted_zone}
 use Rattle.heap_calls.specs.Staying.{staying}
 use Rattle.heap_calls.specs.Inside.{has_block, refill_inside, new_inside, new_empty_inside}
 use Rattle.heap_calls.specs.Path.{Step, NewFilled, NewEmpty, Refill, Release, Cast, stepped, refusal, refusal_of}

@@ -29,7 +29,7 @@ use Rattle.heap_calls.specs.Path.{Step, NewFilled, NewEmpty, Refill, Release, Ca
 use Rattle.heap_calls.specs.Busy.{barred, change_barred, both_barred, pointer_barred}
 use Rattle.heap_calls.specs.Gone.{Gone, gone_of, gone, room_gone, slot_gone, ready_gone, block_gone, made_gone, found_gone}
 use Rattle.heap_calls.specs.Gone.{gone_unless, in_place_gone, growth_gone, size_gone, reserve_gone}
-use Rattle.heap_calls.specs.GoneBy.{gone_in}
+use Rattle.heap_calls.specs.Table.{gone_in}
 use Rattle.heap_calls.proofs.ToldGone.Sums.{Adds, room-told, purged-most, room-most}
 
 -- What a call tells of comes to no more than its zone did, by any measure of blocks by which each block that may be

@@ -21,12 +21,15 @@ use Rattle.block_store.proofs.Zone.Keeping.{unless, freed-is}
 use Rattle.heap_calls.specs.State.{State, Memory}
 use Rattle.heap_calls.specs.Answer.{Known, handle_at, nothing}
 use Rattle.heap_calls.specs.Purging.{is_loose}
-use Rattle.heap_calls.specs.Asked.{Asked, answered}
+use Rattle.heap_calls.specs.Asked.{Asked}
+use Rattle.heap_calls.specs.Table as table
+use Rattle.heap_calls.specs.Table.{answered, Row, row, may_purge, purged_by, gone_of_row, barred_by, bar_of}
 use Rattle.heap_calls.specs.Asked as asked
-use Rattle.heap_calls.specs.Busy.{gate, gated, notes, keep_code}
+use Rattle.heap_calls.specs.Busy.{keep_code}
+use Rattle.heap_calls.specs.Table.{gate, gated, notes}
 use Rattle.heap_calls.specs.Emptying.{takes_block}
 use Rattle.heap_calls.specs.Gone.{Gone, gone_of, gone_unless, found_gone, room_gone, refill_gone}
-use Rattle.heap_calls.specs.GoneBy.{gone_in}
+use Rattle.heap_calls.specs.Table.{gone_in}
 use Rattle.heap_calls.specs.ToldGone.{told_of, bytes_in, TellsWhatGoes, TellsOfPurgeable, StepTellsWhatGoes}
 use Rattle.heap_calls.specs.Inside.{has_block, refill_inside, released_as, cast_as}
 use Rattle.heap_calls.specs.Path.{Step, NewFilled, NewEmpty, Refill, Release, Cast, stepped, gone_at, step_disposes}
@@ -174,42 +177,36 @@ is_of-filled h x Masters = refl
 is_of-filled h x (Relocatable id flags content) = refl
 
 -- a call that purges nothing tells of nothing
+none-by : (r : Row) (s : State) → may_purge r ≡ false → purged_by r s ≡ []
+none-by (table.Plain bar tell call) s e = refl
+none-by (table.Quiet bar tell call) s e = refl
+none-by (table.Seeks bar tell searches gone call) s e = let f : true ≡ false = e in cc
+none-by (table.Packs bar tell moves searches gone call) s e = let f : true ≡ false = e in cc
+none-by (table.Compacts moves searches call) s e = refl
+none-by table.PurgesAll s e = let f : true ≡ false = e in cc
+none-by table.LastCode s e = refl
+none-by (table.Leaves left r) s e = none-by r s e
+
 row-none : (a : Asked) (s : State) → purges a ≡ false → row_gone a s ≡ []
-row-none (asked.NewHandle n) s e = let f : true ≡ false = e in cc
-row-none asked.NewEmptyHandle s e = let f : true ≡ false = e in cc
-row-none (asked.SetHandleSize handle n) s e = let f : true ≡ false = e in cc
-row-none (asked.ReallocateHandle handle n) s e = let f : true ≡ false = e in cc
-row-none (asked.HandToHand handle) s e = let f : true ≡ false = e in cc
-row-none (asked.HandAndHand from to) s e = let f : true ≡ false = e in cc
-row-none (asked.PtrAndHand handle x) s e = let f : true ≡ false = e in cc
-row-none (asked.NewPtr n) s e = let f : true ≡ false = e in cc
-row-none (asked.SetPtrSize pointer n) s e = let f : true ≡ false = e in cc
-row-none (asked.PurgeMem n) s e = let f : true ≡ false = e in cc
-row-none asked.MaxMem s e = let f : true ≡ false = e in cc
-row-none (asked.ReserveMem n) s e = let f : true ≡ false = e in cc
-row-none asked.MoreMasters s e = let f : true ≡ false = e in cc
-row-none a s e = refl
+row-none a s e = none-by (row a) s e
 
 -- what a try tells of, by its gate
 unless-none : (o : Option OsErr) → gone_unless o [] ≡ []
 unless-none None = refl
 unless-none (Some code) = refl
 
+gated-by : (r : Row) (m : Memory) → gone_of_row r m ≡ gone_unless (barred_by (bar_of r) m) (purged_by r m.heap)
+gated-by (table.Plain bar tell call) m = sym (unless-none (barred_by bar m))
+gated-by (table.Quiet bar tell call) m = sym (unless-none (barred_by bar m))
+gated-by (table.Seeks bar tell searches gone call) m = refl
+gated-by (table.Packs bar tell moves searches gone call) m = refl
+gated-by (table.Compacts moves searches call) m = refl
+gated-by table.PurgesAll m = refl
+gated-by table.LastCode m = refl
+gated-by (table.Leaves left r) m = gated-by r m
+
 gone-gated : (a : Asked) (m : Memory) → gone_in a m ≡ gone_unless (gate a m) (row_gone a m.heap)
-gone-gated (asked.NewHandle n) m = refl
-gone-gated asked.NewEmptyHandle m = refl
-gone-gated (asked.SetHandleSize handle n) m = refl
-gone-gated (asked.ReallocateHandle handle n) m = refl
-gone-gated (asked.HandToHand handle) m = refl
-gone-gated (asked.HandAndHand from to) m = refl
-gone-gated (asked.PtrAndHand handle x) m = refl
-gone-gated (asked.NewPtr n) m = refl
-gone-gated (asked.SetPtrSize pointer n) m = refl
-gone-gated (asked.PurgeMem n) m = refl
-gone-gated asked.MaxMem m = refl
-gone-gated (asked.ReserveMem n) m = refl
-gone-gated asked.MoreMasters m = refl
-gone-gated a m = sym (unless-none (gate a m))
+gone-gated a m = gated-by (row a) m
 
 module _ (h : ℕ) (m : Memory) (within : h < length m.heap.names)
     (once : (k : ℕ) → k < length m.heap.names → count (is_relocatable k) m.heap.zone ≤ 1)

@@ -30,15 +30,15 @@ use Rattle.heap_calls.specs.Slots.{slotted, if_ready, made, new_block}
 use Rattle.heap_calls.specs.Pointers.{pointed_at, reserved, reserve_mem}
 use Rattle.heap_calls.specs.Purging.{is_loose, reallocated, purgeable, blocks_purged, purged_all}
 use Rattle.heap_calls.specs.Copying.{append, appended, written_in}
-use Rattle.heap_calls.specs.Asked.{Asked, answered}
+use Rattle.heap_calls.specs.Asked.{Asked}
+use Rattle.heap_calls.specs.Table.{answered, row, purged_by}
 use Rattle.heap_calls.specs.Asked as asked
 use Rattle.heap_calls.specs.Inside.{has_block, refill, refill_inside}
 use Rattle.heap_calls.specs.Path.{NewFilled, NewEmpty, Refill, stepped, gone_at}
 use Rattle.heap_calls.specs.Gone.{Gone, gone_of, room_gone, slot_gone, ready_gone, block_gone, found_gone}
-use Rattle.heap_calls.specs.Gone.{size_gone, new_handle_gone, new_empty_handle_gone, set_handle_size_gone}
-use Rattle.heap_calls.specs.Gone.{reallocate_handle_gone, hand_to_hand_gone, hand_and_hand_gone, pointer_and_hand_gone}
-use Rattle.heap_calls.specs.Gone.{new_pointer_gone, set_pointer_size_gone, purge_mem_gone, max_mem_gone, reserve_gone}
-use Rattle.heap_calls.specs.Gone.{more_masters_gone, refill_gone}
+use Rattle.heap_calls.specs.Gone.{size_gone}
+use Rattle.heap_calls.specs.Gone.{reserve_gone}
+use Rattle.heap_calls.specs.Gone.{refill_gone}
 use Rattle.heap_calls.proofs.NewBlocks.CopiedHandles.{source-few}
 use Rattle.heap_calls.proofs.Promises.Knowing.{look_up-spot}
 use Rattle.heap_calls.proofs.Promises.LastPutLaws.{handle_at-name}
@@ -51,20 +51,7 @@ use Rattle.heap_calls.proofs.ToldGone.Changes.{purged-even, base-even, put-even,
 
 -- the blocks that a call's row purges, where no busy name bars it
 abbrev pub row_gone : Asked → State → List Gone
-row_gone (asked.NewHandle size) s = new_handle_gone size s
-row_gone asked.NewEmptyHandle s = new_empty_handle_gone s
-row_gone (asked.SetHandleSize handle size) s = set_handle_size_gone handle size s
-row_gone (asked.ReallocateHandle handle size) s = reallocate_handle_gone handle size s
-row_gone (asked.HandToHand handle) s = hand_to_hand_gone handle s
-row_gone (asked.HandAndHand from to) s = hand_and_hand_gone from to s
-row_gone (asked.PtrAndHand handle bytes) s = pointer_and_hand_gone handle bytes s
-row_gone (asked.NewPtr size) s = new_pointer_gone size s
-row_gone (asked.SetPtrSize pointer size) s = set_pointer_size_gone pointer size s
-row_gone (asked.PurgeMem size) s = purge_mem_gone size s
-row_gone asked.MaxMem s = max_mem_gone s
-row_gone (asked.ReserveMem size) s = reserve_gone (phys size) s
-row_gone asked.MoreMasters s = more_masters_gone s
-row_gone a s = []
+row_gone a s = purged_by (row a) s
 
 -- a handle with a block is one that was given
 pub look_up-within : (handle : Option ℕ) (s : State) (held : Held) → look_up handle s ≡ Ok held

@@ -4,12 +4,14 @@ use Rattle.std.specs.Option.{option_or}
 use Rattle.mac_words.specs.declared.code.OsErr.{OsErr}
 use Rattle.heap_calls.specs.State.{Role, Plain, Resource, SystemResource, Memory, Meaning, Handle, Pointer, Disposed}
 use Rattle.heap_calls.specs.Answer.{Known, Held, handle_at, known_as, look_up}
-use Rattle.heap_calls.specs.Asked.{Asked, answered}
-use Rattle.heap_calls.specs.Asked as asked
+use Rattle.heap_calls.specs.Asked.{Asked}
+use Rattle.heap_calls.specs.Table.{answered, Bar, row, bar_of, barred_by}
+use Rattle.heap_calls.specs.Table as table
 use Rattle.heap_calls.specs.Busy.{Places, idle, is_busy, bar, known_bars, pointer_bars, either_bars, barred}
 use Rattle.heap_calls.specs.Busy.{guard, known_guards, change_barred, NoneGuarded}
-use Rattle.heap_calls.specs.Busy.{pointer_barred, either_barred, next_barred, both_barred, gate, notes, keep_code}
-use Rattle.heap_calls.specs.Busy.{gated, served}
+use Rattle.heap_calls.specs.Busy.{pointer_barred, either_barred, next_barred, both_barred, keep_code}
+use Rattle.heap_calls.specs.Table.{gate, notes}
+use Rattle.heap_calls.specs.Table.{gated, served}
 use Rattle.heap_calls.specs.Refused.{BarredLeaves}
 use Rattle.heap_calls.proofs.Gates.Served.{served-gated}
 use Rattle.mac_words.specs.Told.{Told}
@@ -77,32 +79,16 @@ module _ (P : Option OsErr → Type 0) (m : Memory) (none : P None) (one : (n : 
         by_first (Err code) = by_held (look_up from m.heap)
         by_first (Ok known) = by_bar (is_busy known.number m.log.busy) (one known.number)
 
+    by-bar : (b : Bar) → P (barred_by b m)
+    by-bar table.Open = none
+    by-bar (table.OnHandle handle) = by-handle handle
+    by-bar (table.OnChange handle) = by-change handle
+    by-bar (table.OnBoth from to) = by-both from to
+    by-bar (table.OnPointer pointer) = by-pointer pointer
+    by-bar (table.OnEither name) = by-either name
+
     pub by-gate : (a : Asked) → P (gate a m)
-    by-gate (asked.DisposeHandle handle) = by-handle handle
-    by-gate (asked.GetHandleSize handle) = by-handle handle
-    by-gate (asked.SetHandleSize handle n) = by-change handle
-    by-gate (asked.ReallocateHandle handle n) = by-change handle
-    by-gate (asked.EmptyHandle handle) = by-handle handle
-    by-gate (asked.HLock handle) = by-handle handle
-    by-gate (asked.HUnlock handle) = by-handle handle
-    by-gate (asked.HPurge handle) = by-handle handle
-    by-gate (asked.HNoPurge handle) = by-handle handle
-    by-gate (asked.HGetState handle) = by-handle handle
-    by-gate (asked.HSetState handle byte) = by-handle handle
-    by-gate (asked.MoveHHi handle) = by-handle handle
-    by-gate (asked.HLockHi handle) = by-handle handle
-    by-gate (asked.HandToHand handle) = by-handle handle
-    by-gate (asked.HandAndHand from to) = by-both from to
-    by-gate (asked.PtrAndHand handle x) = by-change handle
-    by-gate (asked.DisposePtr pointer) = by-pointer pointer
-    by-gate (asked.GetPtrSize pointer) = by-pointer pointer
-    by-gate (asked.SetPtrSize pointer n) = by-pointer pointer
-    by-gate (asked.Put handle from x) = by-change handle
-    by-gate (asked.Show handle) = by-handle handle
-    by-gate (asked.PutPtr pointer from x) = by-pointer pointer
-    by-gate (asked.ShowPtr pointer) = by-pointer pointer
-    by-gate (asked.Where name) = by-either name
-    by-gate a = none
+    by-gate a = by-bar (bar_of (row a))
 
 -- a call that is barred changes nothing but the code
 pub served-barred : (a : Asked) (m : Memory) → BarredLeaves a m

@@ -19,8 +19,11 @@ use Rattle.heap_calls.specs.Slots.{more_masters}
 use Rattle.heap_calls.specs.Purging.{blocks_purged}
 use Rattle.heap_calls.specs.Asked.{Asked}
 use Rattle.heap_calls.specs.Asked as asked
-use Rattle.heap_calls.specs.Busy.{gate}
-use Rattle.heap_calls.specs.Refused.{slotted_zone, copying_zone, zone_left, zone_behind}
+use Rattle.heap_calls.specs.Table.{gate}
+use Rattle.heap_calls.specs.Refused.{zone_behind}
+use Rattle.heap_calls.specs.Slots.{slotted_zone}
+use Rattle.heap_calls.specs.Copying.{copying_zone}
+use Rattle.heap_calls.specs.Table.{zone_left}
 use Rattle.heap_calls.specs.Staying.{staying_of, CostsAtMostMasters, RefusedCostsAtMostMasters, StepCostsAtMostMasters}
 use Rattle.heap_calls.specs.Path.{Step, NewFilled, NewEmpty, Refill, Release, Cast, left_zone}
 use Rattle.heap_calls.proofs.Promises.AlikeCalls.{never, steady-never}

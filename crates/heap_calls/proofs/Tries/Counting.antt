@@ -6,10 +6,13 @@ use Rattle.block_store.specs.Block.{count, is_masters}
 use Rattle.block_store.specs.Rest.{counted}
 use Rattle.block_store.proofs.Plain.Counters.{counted-none}
 use Rattle.heap_calls.specs.State.{Memory}
-use Rattle.heap_calls.specs.Asked.{Asked, answered}
-use Rattle.heap_calls.specs.Asked as asked
-use Rattle.heap_calls.specs.Busy.{gate, gated, notes, keep_code}
-use Rattle.heap_calls.specs.Counts.{row_searches, row_moves, behind, CountsSearches, CountsMoves}
+use Rattle.heap_calls.specs.Asked.{Asked}
+use Rattle.heap_calls.specs.Table as table
+use Rattle.heap_calls.specs.Table.{answered, Row, row, answer_of, moves_of}
+use Rattle.heap_calls.specs.Busy.{keep_code}
+use Rattle.heap_calls.specs.Table.{gate, gated, notes}
+use Rattle.heap_calls.specs.Counts.{behind, CountsSearches, CountsMoves}
+use Rattle.heap_calls.specs.Table.{row_searches, row_moves}
 use Rattle.heap_calls.specs.FewSearches.{SearchesFew}
 use Rattle.heap_calls.proofs.Gates.Served.{served-gated}
 use Rattle.heap_calls.proofs.Promises.FewSearches.{row_few, row_searched}
@@ -17,16 +20,18 @@ use Rattle.heap_calls.proofs.Promises.FewSearches.{row_few, row_searched}
 -- What a try counts.
 
 -- a row counts its moves
+moved-by : (r : Row) (m : Memory) → (answer_of r m).1.moves ≡ counted m.moves (moves_of r m.heap)
+moved-by (table.Plain bar tell call) m = sym (counted-none m.moves)
+moved-by (table.Quiet bar tell call) m = sym (counted-none m.moves)
+moved-by (table.Seeks bar tell searches gone call) m = sym (counted-none m.moves)
+moved-by (table.Packs bar tell moves searches gone call) m = refl
+moved-by (table.Compacts moves searches call) m = refl
+moved-by table.PurgesAll m = refl
+moved-by table.LastCode m = sym (counted-none m.moves)
+moved-by (table.Leaves left r) m = moved-by r m
+
 moved : (a : Asked) (m : Memory) → (answered a m).1.moves ≡ counted m.moves (row_moves a m.heap)
-moved (asked.NewHandle n) m = refl
-moved (asked.SetHandleSize handle n) m = refl
-moved (asked.ReallocateHandle handle n) m = refl
-moved (asked.HandToHand handle) m = refl
-moved (asked.HandAndHand from to) m = refl
-moved (asked.PtrAndHand handle x) m = refl
-moved (asked.CompactMem n) m = refl
-moved asked.MaxMem m = refl
-moved a m = sym (counted-none m.moves)
+moved a m = moved-by (row a) m
 
 -- and so does a try; where it is barred, it counts nothing
 pub counts_searches : (a : Asked) (m : Memory) → CountsSearches a m

@@ -3,11 +3,14 @@ use Rattle.mac_words.specs.declared.code.OsErr.{OsErr}
 use Rattle.block_store.specs.Rest.{Site}
 use Rattle.heap_calls.specs.State.{Memory}
 use Rattle.mac_words.specs.Told.{Told, Refused}
-use Rattle.heap_calls.specs.Asked.{Asked, answered}
+use Rattle.heap_calls.specs.Asked.{Asked}
+use Rattle.heap_calls.specs.Table.{answered, Bar, Row, row, bar_of, barred_by, gone_of_row}
+use Rattle.heap_calls.specs.Table as table
 use Rattle.heap_calls.specs.Asked as asked
-use Rattle.heap_calls.specs.Gone.{gone_unless, set_pointer_size_gone}
-use Rattle.heap_calls.specs.GoneBy.{gone_in}
-use Rattle.heap_calls.specs.Busy.{gate, gated, notes, keep_code, served, pointer_barred, either_barred}
+use Rattle.heap_calls.specs.Gone.{gone_unless}
+use Rattle.heap_calls.specs.Table.{gone_in}
+use Rattle.heap_calls.specs.Busy.{keep_code, pointer_barred, either_barred}
+use Rattle.heap_calls.specs.Table.{gate, gated, notes, served}
 use Rattle.heap_calls.proofs.Gates.Served.{served-gated}
 
 -- What a call tells, and what it makes of the heap, doesn't hang on where the heap lies.
@@ -30,14 +33,16 @@ either-elsewhere : (window : Site) (name : Option ℕ) (m : Memory)
 either-elsewhere window None m = refl
 either-elsewhere window (Some n) m = refl
 
+bar-elsewhere : (window : Site) (b : Bar) (m : Memory) → barred_by b (elsewhere window m) ≡ barred_by b m
+bar-elsewhere window table.Open m = refl
+bar-elsewhere window (table.OnHandle handle) m = refl
+bar-elsewhere window (table.OnChange handle) m = refl
+bar-elsewhere window (table.OnBoth from to) m = refl
+bar-elsewhere window (table.OnPointer pointer) m = pointer-elsewhere window pointer m
+bar-elsewhere window (table.OnEither name) m = either-elsewhere window name m
+
 pub gate-elsewhere : (window : Site) (a : Asked) (m : Memory) → gate a (elsewhere window m) ≡ gate a m
-gate-elsewhere window (asked.DisposePtr pointer) m = pointer-elsewhere window pointer m
-gate-elsewhere window (asked.GetPtrSize pointer) m = pointer-elsewhere window pointer m
-gate-elsewhere window (asked.SetPtrSize pointer n) m = pointer-elsewhere window pointer m
-gate-elsewhere window (asked.PutPtr pointer from x) m = pointer-elsewhere window pointer m
-gate-elsewhere window (asked.ShowPtr pointer) m = pointer-elsewhere window pointer m
-gate-elsewhere window (asked.Where name) m = either-elsewhere window name m
-gate-elsewhere window a m = refl
+gate-elsewhere window a m = bar-elsewhere window (bar_of (row a)) m
 
 gated-elsewhere : (window : Site) (o : Option OsErr) (a : Asked) (m : Memory)
     → gated o a (elsewhere window m) ≡ ((gated o a m).0, elsewhere window (gated o a m).1)
@@ -58,7 +63,17 @@ served-elsewhere window a m =
     ∙ ap (λ (x : Told × Memory). (x.0, elsewhere window x.1)) (sym (served-gated a m))
 
 -- what a call purges
+gone-row : (window : Site) (r : Row) (m : Memory) → gone_of_row r (elsewhere window m) ≡ gone_of_row r m
+gone-row window (table.Plain bar tell call) m = refl
+gone-row window (table.Quiet bar tell call) m = refl
+gone-row window (table.Seeks bar tell searches gone call) m =
+    ap (λ o. gone_unless o (gone m.heap)) (bar-elsewhere window bar m)
+gone-row window (table.Packs bar tell moves searches gone call) m =
+    ap (λ o. gone_unless o (gone m.heap)) (bar-elsewhere window bar m)
+gone-row window (table.Compacts moves searches call) m = refl
+gone-row window table.PurgesAll m = refl
+gone-row window table.LastCode m = refl
+gone-row window (table.Leaves left r) m = gone-row window r m
+
 pub gone-elsewhere : (window : Site) (a : Asked) (m : Memory) → gone_in a (elsewhere window m) ≡ gone_in a m
-gone-elsewhere window (asked.SetPtrSize pointer n) m =
-    ap (λ o. gone_unless o (set_pointer_size_gone pointer n m.heap)) (pointer-elsewhere window pointer m)
-gone-elsewhere window a m = refl
+gone-elsewhere window a m = gone-row window (row a) m

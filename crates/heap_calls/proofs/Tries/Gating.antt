@@ -6,9 +6,11 @@ use Rattle.block_store.specs.Run.{has}
 use Rattle.block_store.specs.Rest.{counted}
 use Rattle.heap_calls.specs.State.{Memory}
 use Rattle.mac_words.specs.Told.{Told, Refused}
-use Rattle.heap_calls.specs.Asked.{Asked, answered}
+use Rattle.heap_calls.specs.Asked.{Asked}
+use Rattle.heap_calls.specs.Table.{answered}
 use Rattle.heap_calls.specs.Asked as asked
-use Rattle.heap_calls.specs.Busy.{gate, gated, notes, keep_code, served}
+use Rattle.heap_calls.specs.Busy.{keep_code}
+use Rattle.heap_calls.specs.Table.{gate, gated, notes, served}
 use Rattle.heap_calls.specs.LastPut.{put_by}
 use Rattle.heap_calls.specs.Locked.{OneBlockEach}
 use Rattle.heap_calls.specs.Emptying.{takes_block, has_purgeable}

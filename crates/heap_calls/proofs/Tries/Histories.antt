@@ -2,7 +2,7 @@ use Rattle.std.proofs.Common.{ℕ, List, [], ◌∷◌}
 use Rattle.block_store.specs.Rest.{Site}
 use Rattle.heap_calls.specs.State.{Memory, fresh_memory}
 use Rattle.heap_calls.specs.Asked.{Asked}
-use Rattle.heap_calls.specs.Busy.{served}
+use Rattle.heap_calls.specs.Table.{served}
 use Rattle.heap_calls.specs.History.{after_calls}
 use Rattle.heap_calls.specs.LastPut.{put_by}
 use Rattle.heap_calls.specs.Locked.{OneBlockEach}

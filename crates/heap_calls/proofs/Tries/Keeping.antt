@@ -11,11 +11,15 @@ use Rattle.heap_calls.specs.State.{State, Memory, used_slots, all_slots}
 use Rattle.heap_calls.specs.Answer.{Held, nothing, look_up}
 use Rattle.heap_calls.specs.Slots.{more_masters}
 use Rattle.heap_calls.specs.Purging.{blocks_purged}
-use Rattle.heap_calls.specs.Asked.{Asked, answered}
+use Rattle.heap_calls.specs.Asked.{Asked}
+use Rattle.heap_calls.specs.Table.{answered}
 use Rattle.heap_calls.specs.Asked as asked
-use Rattle.heap_calls.specs.Busy.{gate, served}
+use Rattle.heap_calls.specs.Table.{gate, served}
 use Rattle.heap_calls.specs.Locked.{OneBlockEach}
-use Rattle.heap_calls.specs.Refused.{slotted_zone, copying_zone, zone_left, zone_behind}
+use Rattle.heap_calls.specs.Refused.{zone_behind}
+use Rattle.heap_calls.specs.Slots.{slotted_zone}
+use Rattle.heap_calls.specs.Copying.{copying_zone}
+use Rattle.heap_calls.specs.Table.{zone_left}
 use Rattle.heap_calls.specs.Staying.{staying_of, staying, LessStaysLater, RefusedKeepsNoMore, KeepsBytes, KeepsMasters}
 use Rattle.heap_calls.proofs.Promises.AlikeCalls.{Leaves, never, steady-never, alike-answered}
 use Rattle.heap_calls.proofs.Promises.EmptyingLaws.{masters, of-answered, masters-goes, masters-sized, masters-filled}

@@ -23,9 +23,10 @@ use Rattle.heap_calls.specs.Pointers.{pointed, pointed_at, block_named, reserved
 use Rattle.heap_calls.specs.Pointers.{dispose_pointer}
 use Rattle.heap_calls.specs.Purging.{emptied_at, is_loose, reallocated, reallocate_handle}
 use Rattle.heap_calls.specs.Copying.{append, appended, hand_to_hand, hand_and_hand}
-use Rattle.heap_calls.specs.Asked.{Asked, answered}
+use Rattle.heap_calls.specs.Asked.{Asked}
+use Rattle.heap_calls.specs.Table.{answered}
 use Rattle.heap_calls.specs.Asked as asked
-use Rattle.heap_calls.specs.Busy.{served}
+use Rattle.heap_calls.specs.Table.{served}
 use Rattle.heap_calls.specs.Owned.{resource_meant, resource_role_at}
 use Rattle.heap_calls.proofs.Promises.Knowing.{pushed}
 use Rattle.heap_calls.proofs.Tries.Gating.{served-holds}

@@ -6,7 +6,8 @@ use Rattle.heap_calls.specs.State.{Memory, fresh_memory}
 use Rattle.heap_calls.specs.Asked.{Asked, NewHandle, DisposeHandle, EmptyHandle, HPurge, HLock, HandAndHand, MemError}
 use Rattle.mac_words.specs.Told.{Done, Bytes, Code, Refused}
 use Rattle.heap_calls.specs.Asked.{Show, NewPtr}
-use Rattle.heap_calls.specs.Busy.{idle, busied, eased, is_busy, with_busy, served}
+use Rattle.heap_calls.specs.Busy.{idle, busied, eased, is_busy, with_busy}
+use Rattle.heap_calls.specs.Table.{served}
 use Rattle.heap_calls.specs.Refused.{refused_zone}
 use Rattle.heap_calls.specs.Staying.{ease, staying, of_masters}
 

@@ -7,7 +7,7 @@ use Rattle.block_store.specs.Run.{has}
 use Rattle.heap_calls.specs.State.{State, Memory}
 use Rattle.heap_calls.specs.Asked.{Asked, told_as}
 use Rattle.heap_calls.specs.Asked as asked
-use Rattle.heap_calls.specs.Busy.{gate, served}
+use Rattle.heap_calls.specs.Table.{gate, served}
 use Rattle.heap_calls.specs.Locked.{OneBlockEach, locked_place, releases}
 use Rattle.heap_calls.specs.Standing.{NextIsNew, pointer_place, disposes}
 use Rattle.heap_calls.specs.Emptying.{takes_block, has_purgeable}

@@ -4,7 +4,8 @@ use Rattle.heap_calls.specs.State.{Memory, fresh_memory}
 use Rattle.mac_words.specs.Told.{Told, Done, Given, Number, Bytes, Code, Refused}
 use Rattle.heap_calls.specs.Asked.{Asked}
 use Rattle.heap_calls.specs.Asked as asks
-use Rattle.heap_calls.specs.Busy.{idle, busied, eased, is_busy, with_busy, served}
+use Rattle.heap_calls.specs.Busy.{idle, busied, eased, is_busy, with_busy}
+use Rattle.heap_calls.specs.Table.{served}
 use Rattle.block_store.specs.Rest.{Site}
 
 -- Calls while names are busy, by the definitions alone.

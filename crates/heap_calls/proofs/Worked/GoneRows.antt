@@ -3,9 +3,9 @@ use Rattle.block_store.specs.Rest.{Site}
 use Rattle.heap_calls.specs.State.{Memory, fresh_memory}
 use Rattle.heap_calls.specs.Asked.{Asked}
 use Rattle.heap_calls.specs.Asked as asks
-use Rattle.heap_calls.specs.Busy.{served}
+use Rattle.heap_calls.specs.Table.{served}
 use Rattle.heap_calls.specs.Gone.{Gone, reallocate_handle_gone, refill_gone}
-use Rattle.heap_calls.specs.GoneBy.{gone_in}
+use Rattle.heap_calls.specs.Table.{gone_in}
 use Rattle.heap_calls.specs.ToldGone.{told_of, bytes_in}
 use Rattle.heap_calls.specs.Inside.{has_block}
 

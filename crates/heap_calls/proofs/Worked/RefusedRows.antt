@@ -8,7 +8,8 @@ use Rattle.heap_calls.specs.Answer.{put, show}
 use Rattle.heap_calls.specs.Slots.{new_handle, new_empty_handle}
 use Rattle.heap_calls.specs.Purging.{h_purge, purge_mem}
 use Rattle.heap_calls.specs.Asked.{NewHandle, PurgeMem, NewPtr, Put}
-use Rattle.heap_calls.specs.Refused.{zone_left, code_left}
+use Rattle.heap_calls.specs.Refused.{code_left}
+use Rattle.heap_calls.specs.Table.{zone_left}
 use Rattle.heap_calls.specs.Staying.{ease}
 
 -- What refused calls leave, on small zones.

@@ -4,7 +4,7 @@ use Rattle.std.proofs.lemmas.Bool.Decides.{Decides-eqb}
 use Rattle.std.specs.Prelude.{option_to_list}
 use Rattle.heap_calls.specs.State.{State, Role}
 use Rattle.heap_calls.specs.Asked.{Asked}
-use Rattle.heap_calls.specs.Busy as heap
+use Rattle.heap_calls.specs.Table as heap
 use Rattle.heap_calls.specs.Owned.{resource_role_at}
 use Rattle.heap_calls.proofs.Tries.Roles.{served-roles}
 use Rattle.heap_calls.proofs.Steps.Roles.{MakesHandle, resource-role}

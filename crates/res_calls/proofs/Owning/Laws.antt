@@ -5,7 +5,7 @@ use Rattle.mac_words.specs.declared.code.OsErr.{OsErr}
 use Rattle.fork_format.specs.Content.{Content}
 use Rattle.heap_calls.specs.State.{Memory, Role}
 use Rattle.heap_calls.specs.Asked.{Asked}
-use Rattle.heap_calls.specs.Busy as heap
+use Rattle.heap_calls.specs.Table as heap
 use Rattle.heap_calls.specs.Owned.{resource_role_at}
 use Rattle.res_map.specs.Map.{Map, map_of, has_handle, is_handle}
 use Rattle.res_calls.specs.Files.{File, Resources, Found, find_open, fresh_resources}

@@ -3,7 +3,7 @@ use Rattle.mac_words.specs.Told.{Told}
 use Rattle.fork_format.specs.Content.{Ref, Group}
 use Rattle.res_map.specs.Map.{Map, map_of}
 use Rattle.heap_calls.specs.Asked.{Asked}
-use Rattle.heap_calls.specs.Busy as heap
+use Rattle.heap_calls.specs.Table as heap
 use Rattle.res_calls.specs.Fetch.{Managers}
 use Rattle.res_calls.specs.Asked.{ResourceAsked, served}
 

@@ -1,4 +1,4 @@
-use Rattle.std.proofs.Common.{◌≡◌, List, ℕ, map, string_bytes, sym, ap, subst}
+use Rattle.std.proofs.Common.{List, map, string_bytes, subst}
 use Rattle.std.specs.Prelude.{OnOk}
 use Rattle.commands.specs.Accesses.{Access}
 use Rattle.commands.specs.Surveying.{AreSeen, Went}

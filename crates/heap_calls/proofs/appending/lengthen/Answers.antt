@@ -17,3 +17,6 @@ returns-clause-searches g c = rw (sum g c) c.fit_block.ensures.searches
 
 pub returns-clause-moves : goal.returns-clause-moves
 returns-clause-moves g c = rw (sum g c) c.fit_block.ensures.moves
+
+pub returns-clause-hears : goal.returns-clause-hears
+returns-clause-hears g c = rw (sum g c) c.fit_block.ensures.hears

@@ -19,51 +19,51 @@ use Rattle.heap_calls.proofs.emptying.renew_block.Goals as goal
 pub returns-in_default-place-clause-answer : goal.returns-in_default-place-clause-answer
 returns-in_default-place-clause-answer g c =
     let zone = g.S.BlockStore.zone c.args.store.now in
-    let zone' = g.S.BlockStore.zone c.make_room-room.new.store in
-    let made = c.make_room-room.result in
+    let zone' = g.S.BlockStore.zone c.make_room.new.store in
+    let made = c.in_ok-room.room in
     let fits = sym c.phys.ensures ∙ c.in-Some.is in
     let Q : Option ℕ → Type 0 = λ o. MatchOption o ((renewed c.args.slot c.args.size zone ≡ None) × (zone' ≡ zone))
     (λ _. renewed c.args.slot c.args.size zone ≡ Some zone') in
     record {
       none = subst Q (sym c.in_default-place.is) (
         renewed-none c.args.slot zone c.args.size c.in-Some.bytes fits zone'
-            made.place c.in_default-place.is c.make_room-room.ensures.place,
-        at_none made.place _ _ c.in_default-place.is c.make_room-room.ensures.none,
+            made.place c.in_default-place.is c.in_ok-room.ensures.place,
+        at_none made.place _ _ c.in_default-place.is c.in_ok-room.ensures.none,
       );
       searches = renewed_searches-is c.args.slot zone c.args.size c.in-Some.bytes fits made.searches
-          c.make_room-room.ensures.searches;
-      slots = c.make_room-room.ensures.rest;
+          c.in_ok-room.ensures.searches;
+      slots = c.make_room.ensures.rest;
     }
 
 pub carve-requires-clause-room : goal.carve-requires-clause-room
 carve-requires-clause-room g c =
     renew-room c.args.slot (g.S.BlockStore.zone c.args.store.now) c.args.size c.in-Some.bytes
-    (sym c.phys.ensures ∙ c.in-Some.is) (g.S.BlockStore.zone c.make_room-room.new.store)
-    c.make_room-room.result.place c.in-Some-place.place c.in-Some-place.is c.make_room-room.ensures.place
+    (sym c.phys.ensures ∙ c.in-Some.is) (g.S.BlockStore.zone c.make_room.new.store)
+    c.in_ok-room.room.place c.in-Some-place.place c.in-Some-place.is c.in_ok-room.ensures.place
 
 pub carve-requires-clause-no_block : goal.carve-requires-clause-no_block
 carve-requires-clause-no_block g c =
     renew-gone c.args.slot (g.S.BlockStore.zone c.args.store.now) c.args.size c.in-Some.bytes
-    (sym c.phys.ensures ∙ c.in-Some.is) (g.S.BlockStore.zone c.make_room-room.new.store)
-    c.make_room-room.result.place c.in-Some-place.place c.in-Some-place.is c.make_room-room.ensures.place
+    (sym c.phys.ensures ∙ c.in-Some.is) (g.S.BlockStore.zone c.make_room.new.store)
+    c.in_ok-room.room.place c.in-Some-place.place c.in-Some-place.is c.in_ok-room.ensures.place
 
 pub returns-clause-answer : goal.returns-clause-answer
 returns-clause-answer g c =
     let zone = g.S.BlockStore.zone c.args.store.now in
-    let zone' = g.S.BlockStore.zone c.make_room-room.new.store in
+    let zone' = g.S.BlockStore.zone c.make_room.new.store in
     let after = g.S.BlockStore.zone c.carve.new.self in
-    let made = c.make_room-room.result in
+    let made = c.in_ok-room.room in
     let carved = c.in_ok-carve.ensures.rest in
-    let kept = c.make_room-room.ensures.rest in
+    let kept = c.make_room.ensures.rest in
     let fits = sym c.phys.ensures ∙ c.in-Some.is in
     let Q : Option ℕ → Type 0 = λ o. MatchOption o ((renewed c.args.slot c.args.size zone ≡ None) × (after ≡ zone))
     (λ _. renewed c.args.slot c.args.size zone ≡ Some after) in
     record {
       none = subst Q (sym c.in-Some-place.is) (renewed-some c.args.slot zone c.args.size c.in-Some.bytes fits zone'
-          made.place c.in-Some-place.place c.in-Some-place.is c.make_room-room.ensures.place after
+          made.place c.in-Some-place.place c.in-Some-place.is c.in_ok-room.ensures.place after
           c.in_ok-carve.ensures.ok);
       searches = renewed_searches-is c.args.slot zone c.args.size c.in-Some.bytes fits made.searches
-          c.make_room-room.ensures.searches;
+          c.in_ok-room.ensures.searches;
       slots = record {
         slots = λ k. carved.slots k ∙ kept.slots k;
         unused = carved.unused ∙ kept.unused;
@@ -76,17 +76,17 @@ returns-clause-answer g c =
 
 pub returns-in_err-carve-clause-nonrelocatable : goal.returns-in_err-carve-clause-nonrelocatable
 returns-in_err-carve-clause-nonrelocatable g c place = ap (has (is_nonrelocatable place)) c.in_err-carve.ensures.err
-    ∙ c.make_room-room.ensures.nonrelocatable place
+    ∙ c.make_room.ensures.nonrelocatable place
 
 pub returns-clause-nonrelocatable : goal.returns-clause-nonrelocatable
 returns-clause-nonrelocatable g c place =
     let wide = renew-room c.args.slot (g.S.BlockStore.zone c.args.store.now) c.args.size c.in-Some.bytes
-    (sym c.phys.ensures ∙ c.in-Some.is) (g.S.BlockStore.zone c.make_room-room.new.store)
-    c.make_room-room.result.place c.in-Some-place.place c.in-Some-place.is c.make_room-room.ensures.place in
-    nonrelocatable-carved c.in-Some-place.place (padded c.args.size) (g.S.BlockStore.zone c.make_room-room.new.store)
+    (sym c.phys.ensures ∙ c.in-Some.is) (g.S.BlockStore.zone c.make_room.new.store)
+    c.in_ok-room.room.place c.in-Some-place.place c.in-Some-place.is c.in_ok-room.ensures.place in
+    nonrelocatable-carved c.in-Some-place.place (padded c.args.size) (g.S.BlockStore.zone c.make_room.new.store)
     (g.S.BlockStore.zone c.carve.new.self) (fresh_block c.args.slot c.args.size) (λ p. refl) wide
     c.in_ok-carve.ensures.ok place
-    ∙ c.make_room-room.ensures.nonrelocatable place
+    ∙ c.make_room.ensures.nonrelocatable place
 
 pub returns-in_default-clause-moves : goal.returns-in_default-clause-moves
 returns-in_default-clause-moves g c =
@@ -96,20 +96,13 @@ returns-in_default-clause-moves g c =
 
 pub returns-in_default-place-clause-moves : goal.returns-in_default-place-clause-moves
 returns-in_default-place-clause-moves g c =
-    c.make_room-room.ensures.moves ∙ ap (counted (g.S.BlockStore.rest c.args.store.now).moves)
-    (renewed_moves-is c.args.slot (g.S.BlockStore.zone c.args.store.now) c.args.size c.in-Some.bytes
-    (sym c.phys.ensures ∙ c.in-Some.is))
-
-pub returns-in_err-carve-clause-moves : goal.returns-in_err-carve-clause-moves
-returns-in_err-carve-clause-moves g c =
-    c.in_err-carve.ensures.same.moves ∙ c.make_room-room.ensures.moves
-    ∙ ap (counted (g.S.BlockStore.rest c.args.store.now).moves)
+    c.in_ok-room.ensures.moves ∙ ap (counted (g.S.BlockStore.rest c.args.store.now).moves)
     (renewed_moves-is c.args.slot (g.S.BlockStore.zone c.args.store.now) c.args.size c.in-Some.bytes
     (sym c.phys.ensures ∙ c.in-Some.is))
 
 pub returns-clause-moves : goal.returns-clause-moves
 returns-clause-moves g c =
-    c.in_ok-carve.ensures.rest.moves ∙ c.make_room-room.ensures.moves
+    c.in_ok-carve.ensures.rest.moves ∙ c.in_ok-room.ensures.moves
     ∙ ap (counted (g.S.BlockStore.rest c.args.store.now).moves)
     (renewed_moves-is c.args.slot (g.S.BlockStore.zone c.args.store.now) c.args.size c.in-Some.bytes
     (sym c.phys.ensures ∙ c.in-Some.is))

@@ -11,19 +11,14 @@ use Rattle.heap_calls.proofs.filling.refill_block.Given.{Over}
 use Rattle.heap_calls.proofs.filling.refill_block.Goals.{In-Some}
 use Rattle.heap_calls.proofs.filling.refill_block.Goals as goal
 
-pub returns-in_err-room-clause-moves : goal.returns-in_err-room-clause-moves
-returns-in_err-room-clause-moves g c =
-    c.renew_block_for.ensures.moves ∙ ap (counted (g.S.BlockStore.rest c.args.store.now).moves)
-    (refilled_moves-is c.args.slot (g.S.BlockStore.zone c.args.store.now) c.requires.none (length c.args.bytes.now))
-
 pub returns-in_default-clause-moves : goal.returns-in_default-clause-moves
 returns-in_default-clause-moves g c =
-    c.renew_block_for.ensures.moves ∙ ap (counted (g.S.BlockStore.rest c.args.store.now).moves)
+    c.in_ok-room.ensures.moves ∙ ap (counted (g.S.BlockStore.rest c.args.store.now).moves)
     (refilled_moves-is c.args.slot (g.S.BlockStore.zone c.args.store.now) c.requires.none (length c.args.bytes.now))
 
 pub returns-clause-moves : goal.returns-clause-moves
 returns-clause-moves g c =
-    c.fill_new.ensures.rest.moves ∙ c.renew_block_for.ensures.moves
+    c.fill_new.ensures.rest.moves ∙ c.in_ok-room.ensures.moves
     ∙ ap (counted (g.S.BlockStore.rest c.args.store.now).moves)
     (refilled_moves-is c.args.slot (g.S.BlockStore.zone c.args.store.now) c.requires.none (length c.args.bytes.now))
 

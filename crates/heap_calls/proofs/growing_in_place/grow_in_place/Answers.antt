@@ -1,11 +1,16 @@
 use Rattle.std.proofs.Common.{◌≡◌, ◌+◌, ◌-◌, ◌≤◌, ◌<◌, ◌++◌, ◌∷◌, ◌⊎◌, inr, ℕ, Bool, false, Option, Some, None, List}
-use Rattle.std.proofs.Common.{sym, ◌∙◌, ap, subst, arith}
+use Rattle.std.proofs.Common.{sym, ◌∙◌, ap, subst, arith, rules}
 use Rattle.std.specs.Option.{IfSome, IsSome}
+use Rattle.std.specs.Prelude.{IsOk}
 use Rattle.block_store.specs.Block.{Block, size, resized}
 use Rattle.block_store.specs.Run.{segments}
 use Rattle.block_store.specs.Room.{Spot, spot_at}
 use Rattle.block_store.specs.Grow.{grow_up, grow_nonrelocatable, growth}
 use Rattle.block_store.specs.Sparing.{spared}
+use Rattle.heap_calls.specs.Gone.{Hears}
+use Rattle.heap_calls.specs.Inner.Telling.{gone_from, still_gone}
+use Rattle.heap_calls.proofs.GoneForSizes.{up-untold, still-told, still-untold}
+use Rattle.heap_calls.proofs.Hearing.{hears-none, hears-as}
 use Rattle.heap_calls.specs.Inner.GrowingInPlace.{FindsPurges, enough, pushed_up}
 use Rattle.heap_calls.specs.Searches.{room_searches, in_place_searches}
 use Rattle.heap_calls.proofs.Sizes.GrowingInPlace.{searches-up, searches-run, Grows, grows, spot_if, some_if, spot_and}
@@ -208,3 +213,59 @@ returns-clause-nonrelocatable g c place =
     (λ s. grow_nonrelocatable sp (resized c.args.bytes s.here) s ≡ Some zone') k.at (returns-clause-zone g c) in
     nonrelocatable-at c.args.place zone zone' k.s k.at (nonrelocatable-grow_nonrelocatable sp (resized c.args.bytes k.s.here) k.s zone'
     (alike-resized c.args.bytes k.s.here) grown) place
+
+-- What the sink hears.
+
+pub returns-then-has_room_at-clause-hears : goal.returns-then-has_room_at-clause-hears
+returns-then-has_room_at-clause-hears g c =
+    let zone = g.S.BlockStore.zone c.args.store.now in
+    let es = c.args.names.now in
+    let K = g.K.PurgeSink in
+    let k = grows c.args.place zone c.args.bytes c.bytes_at-taken.result c.padded_size-wanted.result
+    c.has_room_at.result c.requires.still c.requires.grows c.bytes_at-taken.ensures c.padded_size-wanted.ensures
+    c.has_room_at.ensures in
+    some_if (spot_at c.args.place zone) k.s (λ s. Hears K.told K.waits K.listens _
+    (still_gone es c.args.sparing (resized c.args.bytes s.here) s) c.args.sink.now c.args.sink.now) k.at
+    (hears-none K.told K.waits K.listens _ _ c.args.sink.now c.requires.idle
+    (up-untold es c.args.sparing c.args.place zone c.args.bytes _ c.has_room_at.result k c.if-has_room_at.true))
+
+pub returns-in_default-clause-hears : goal.returns-in_default-clause-hears
+returns-in_default-clause-hears g c =
+    let zone = g.S.BlockStore.zone c.args.store.now in
+    let es = c.args.names.now in
+    let sp = spared c.args.sparing in
+    let K = g.K.PurgeSink in
+    let more = c.padded_size-wanted.result - c.bytes_at-taken.result in
+    let k = grows c.args.place zone c.args.bytes c.bytes_at-taken.result c.padded_size-wanted.result
+    c.has_room_at.result c.requires.still c.requires.grows c.bytes_at-taken.ensures c.padded_size-wanted.ensures
+    c.has_room_at.ensures in
+    let F : Option ℕ → Type 0 = λ o. IfSome (spot_at c.args.place zone)
+    (λ s. FindsPurges more sp (segments s.above).first o) in
+    some_if (spot_at c.args.place zone) k.s (λ s. Hears K.told K.waits K.listens _
+    (still_gone es c.args.sparing (resized c.args.bytes s.here) s) c.args.sink.now c.args.sink.now) k.at
+    (hears-none K.told K.waits K.listens _ _ c.args.sink.now c.requires.idle
+    (still-untold es c.args.sparing c.args.place zone c.args.bytes more c.has_room_at.result k c.if-has_room_at.false
+    (subst F c.in_default.is c.least_purges-fewest.ensures.found)))
+
+pub returns-clause-hears : goal.returns-clause-hears
+returns-clause-hears g c =
+    let zone = g.S.BlockStore.zone c.args.store.now in
+    let es = c.args.names.now in
+    let sparing = c.args.sparing in
+    let K = g.K.PurgeSink in
+    let more = c.padded_size-wanted.result - c.bytes_at-taken.result in
+    let k = grows c.args.place zone c.args.bytes c.bytes_at-taken.result c.padded_size-wanted.result
+    c.has_room_at.result c.requires.still c.requires.grows c.bytes_at-taken.ensures c.padded_size-wanted.ensures
+    c.has_room_at.ensures in
+    let F : Option ℕ → Type 0 = λ o. IfSome (spot_at c.args.place zone)
+    (λ s. FindsPurges more (spared sparing) (segments s.above).first o) in
+    let C : Option ℕ → Type 0 = λ o. IfSome o (λ n. n + 1 ≡ c.least_purges-fewest.result.searches) in
+    let same = still-told es sparing c.args.place zone c.args.bytes more c.has_room_at.result k c.requires.whole
+    c.if-has_room_at.false c.in-Some.purges c.least_purges-fewest.result.searches
+    (subst F c.in-Some.is c.least_purges-fewest.ensures.found) (subst C c.in-Some.is c.least_purges-fewest.ensures.counted)
+    c.least_purges-fewest.ensures.searches in
+    let heard = spot_if (spot_at c.args.place zone) k.s (λ s. Hears K.told K.waits K.listens (IsOk c.push_up.result)
+    (gone_from es sparing c.in-Some.purges s.above) c.args.sink.now c.push_up.new.sink) k.at c.push_up.ensures.hears in
+    some_if (spot_at c.args.place zone) k.s (λ s. Hears K.told K.waits K.listens _
+    (still_gone es sparing (resized c.args.bytes s.here) s) c.args.sink.now c.push_up.new.sink) k.at
+    (hears-as K.told K.waits K.listens _ _ _ _ c.args.sink.now c.push_up.new.sink (λ done. search rules) same heard)

@@ -1,7 +1,5 @@
 use Rattle.std.proofs.Common.{inr, ◌∙◌, ℕ, Option, Some, None, sym, ap, subst}
 use Rattle.heap_calls.proofs.NewBlocks.NewSlots.{only-slot}
-use Rattle.block_store.specs.Block.{is_nonrelocatable}
-use Rattle.block_store.specs.Run.{has}
 use Rattle.block_store.specs.Rest.{counted}
 use Rattle.heap_calls.specs.Inner.NewBlock.{ready_count}
 use Rattle.heap_calls.specs.Inner.NewSlot.{TakesSlot}
@@ -9,7 +7,7 @@ use Rattle.heap_calls.specs.Inner.Packed.{content_moves, new_moves}
 use Rattle.heap_calls.proofs.Room.MoveCounts.{packs-none, packs-after}
 use Rattle.heap_calls.specs.Inner.Packed.{Packs}
 use Rattle.heap_calls.proofs.new_block.new_block.Given.{Over}
-use Rattle.heap_calls.proofs.new_block.new_block.Goals.{After-add_block}
+use Rattle.heap_calls.proofs.new_block.new_block.Goals.{In_ok-room}
 use Rattle.heap_calls.proofs.new_block.new_block.Goals as goal
 
 pub returns-in_default-place-clause-answer : goal.returns-in_default-place-clause-answer
@@ -42,7 +40,7 @@ returns-in_default-clause-moves g c =
     c.make_slot.ensures.moves (ap (λ o. ready_count o (content_moves c.args.sparing c.args.size)) none.0)
 
 -- the moves of a new block, where a slot was taken
-packed : (g : Over) (c : After-add_block g) → Packs
+packed : (g : Over) (c : In_ok-room g) → Packs
     (new_moves c.args.sparing c.args.size (g.S.BlockStore.rest c.args.store.now).unused
     (g.S.BlockStore.zone c.args.store.now)) (g.S.BlockStore.rest c.args.store.now)
     (g.S.BlockStore.rest c.add_block.new.store)
@@ -54,15 +52,14 @@ packed g c =
     rest1 in
     let taken : P (Some c.in-Some.slot) = subst P c.in-Some.is c.in_ok-taken.ensures.slot in
     packs-after rest rest1 (g.S.BlockStore.rest c.add_block.new.store) (content_moves c.args.sparing c.args.size zone1)
-    c.make_slot.ensures.moves c.add_block.ensures.moves
+    c.make_slot.ensures.moves c.in_ok-room.ensures.moves
     ∙ ap (λ o. counted rest.moves (ready_count o (content_moves c.args.sparing c.args.size))) (sym taken.ready)
 
 pub returns-in_default-place-clause-moves : goal.returns-in_default-place-clause-moves
-returns-in_default-place-clause-moves g c = packed g (goal.at.returns-in_default-place-clause-moves g c).After-add_block
+returns-in_default-place-clause-moves g c = packed g (goal.at.returns-in_default-place-clause-moves g c).In_ok-room
 
 pub returns-clause-moves : goal.returns-clause-moves
-returns-clause-moves g c = packed g (goal.at.returns-clause-moves g c).After-add_block
+returns-clause-moves g c = packed g (goal.at.returns-clause-moves g c).In_ok-room
 
-pub returns-in-Err-clause-nonrelocatable : goal.returns-in-Err-clause-nonrelocatable
-returns-in-Err-clause-nonrelocatable g c place = ap (has (is_nonrelocatable place)) c.give_slot.ensures.zone
-    ∙ c.make_slot.ensures.nonrelocatable place
+pub returns-in_err-taken-clause-nonrelocatable : goal.returns-in_err-taken-clause-nonrelocatable
+returns-in_err-taken-clause-nonrelocatable g c place = c.make_slot.ensures.nonrelocatable place

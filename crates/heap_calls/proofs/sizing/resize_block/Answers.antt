@@ -1,9 +1,16 @@
 use Rattle.std.proofs.Common.{◌≡◌, ◌<◌, ◌≤◌, Some, sym, ◌∙◌, ap, subst, Option, Bool, Result, Ok, Err, arith}
 use Rattle.std.specs.Option.{IsSomeAnd}
+use Rattle.std.specs.Prelude.{IsOk}
+use Rattle.std.proofs.lemmas.Result.{on_ok_weaker}
+use Rattle.heap_calls.specs.Gone.{Hears}
+use Rattle.heap_calls.specs.Inner.Telling.{still_gone}
+use Rattle.heap_calls.proofs.GoneForSizes.{stays-gone}
+use Rattle.heap_calls.proofs.Hearing.{hears-as, on_ok-always}
+use Rattle.heap_calls.proofs.Sizes.GrowingInPlace.{spot_if}
 use Rattle.block_store.specs.Block.{is_relocatable, is_nonrelocatable, resized, size as size_of}
 use Rattle.block_store.specs.Sparing.{spared}
 use Rattle.block_store.specs.Run.{has, in_run}
-use Rattle.block_store.specs.Room.{Spot, filled}
+use Rattle.block_store.specs.Room.{Spot, spot_at, filled}
 use Rattle.heap_calls.proofs.Numbering.Answering.{at_place}
 use Rattle.heap_calls.proofs.Sizes.Resizing.{stands-still, moves, searches-still, searches-moved, is-to-grow, is-to-fit}
 use Rattle.heap_calls.proofs.Sizes.Resizing.{grown-done}
@@ -76,18 +83,6 @@ returns-then-bytes-bytes_of-clause-nonrelocatable g c =
     λ place. ap (has (is_nonrelocatable place)) (done less) ∙ nonrelocatable-at c.args.place zone (filled new s) s c.requires.found.2
     (nonrelocatable-filled new s (alike-resized c.args.size s.here)) place
 
-pub returns-in_err-resize-clause-moves : goal.returns-in_err-resize-clause-moves
-returns-in_err-resize-clause-moves g c =
-    let zone = g.S.BlockStore.zone c.args.store.now in
-    let s = c.requires.found.0 in
-    let less = is-to-fit c.args.slot c.args.size c.in-Some.bytes c.bytes_of.result zone s c.requires.found.1
-    (sym c.phys.ensures ∙ c.in-Some.is) c.bytes_of.ensures c.if-bytes-bytes_of.true in
-    packs-none (g.S.BlockStore.rest c.args.store.now) (g.S.BlockStore.rest c.resize.new.self)
-    (size_moves (is_relocatable c.args.slot) (spared c.args.sparing) c.args.size zone)
-    c.resize.ensures.rest.moves
-    (cut-moves (is_relocatable c.args.slot) (spared c.args.sparing) c.args.size zone s c.requires.found.1
-    c.requires.fits less)
-
 pub returns-then-bytes-bytes_of-clause-moves : goal.returns-then-bytes-bytes_of-clause-moves
 returns-then-bytes-bytes_of-clause-moves g c =
     let zone = g.S.BlockStore.zone c.args.store.now in
@@ -107,8 +102,9 @@ returns-then-can_move-clause-moves g c =
     c.can_move.ensures c.if-can_move.true in
     let more = is-to-grow c.args.slot c.args.size c.in-Some.bytes c.bytes_of.result zone k.0 k.1
     (sym c.phys.ensures ∙ c.in-Some.is) c.bytes_of.ensures c.if-bytes-bytes_of.false in
-    moved-moves (is_relocatable c.args.slot) (spared c.args.sparing) c.args.size zone k.0 k.1 c.requires.fits k.2 more
-    (g.S.BlockStore.rest c.args.store.now) (g.S.BlockStore.rest c.grow_movable.new.store) c.grow_movable.ensures.moves
+    on_ok_weaker c.grow_movable.result (moved-moves (is_relocatable c.args.slot) (spared c.args.sparing) c.args.size zone
+    k.0 k.1 c.requires.fits k.2 more (g.S.BlockStore.rest c.args.store.now)
+    (g.S.BlockStore.rest c.grow_movable.new.store)) c.grow_movable.ensures.moves
 
 pub returns-clause-moves : goal.returns-clause-moves
 returns-clause-moves g c =
@@ -117,7 +113,23 @@ returns-clause-moves g c =
     c.block_at.ensures c.can_move.ensures c.if-can_move.false in
     let more = is-to-grow c.args.slot c.args.size c.in-Some.bytes c.bytes_of.result zone k.0 k.1
     (sym c.phys.ensures ∙ c.in-Some.is) c.bytes_of.ensures c.if-bytes-bytes_of.false in
-    packs-none (g.S.BlockStore.rest c.args.store.now) (g.S.BlockStore.rest c.grow_in_place.new.store)
+    on_ok-always c.grow_in_place.result (packs-none (g.S.BlockStore.rest c.args.store.now)
+    (g.S.BlockStore.rest c.grow_in_place.new.store)
     (size_moves (is_relocatable c.args.slot) (spared c.args.sparing) c.args.size zone)
     c.grow_in_place.ensures.rest.moves
-    (still-moves (is_relocatable c.args.slot) (spared c.args.sparing) c.args.size zone k.0 k.1 c.requires.fits k.3 more)
+    (still-moves (is_relocatable c.args.slot) (spared c.args.sparing) c.args.size zone k.0 k.1 c.requires.fits k.3 more))
+
+pub returns-clause-hears : goal.returns-clause-hears
+returns-clause-hears g c =
+    let zone = g.S.BlockStore.zone c.args.store.now in
+    let es = c.args.names.now in
+    let K = g.K.PurgeSink in
+    let k = stands-still c.args.slot zone c.args.place c.block_at.result c.can_move.result c.requires.found
+    c.block_at.ensures c.can_move.ensures c.if-can_move.false in
+    let more = is-to-grow c.args.slot c.args.size c.in-Some.bytes c.bytes_of.result zone k.0 k.1
+    (sym c.phys.ensures ∙ c.in-Some.is) c.bytes_of.ensures c.if-bytes-bytes_of.false in
+    let same = stays-gone es (is_relocatable c.args.slot) c.args.sparing c.args.size zone k.0 k.1 c.requires.fits more k.3 in
+    let heard = spot_if (spot_at c.args.place zone) k.0 (λ s. Hears K.told K.waits K.listens (IsOk c.grow_in_place.result)
+    (still_gone es c.args.sparing (resized c.args.size s.here) s) c.args.sink.now c.grow_in_place.new.sink) k.2
+    c.grow_in_place.ensures.hears in
+    hears-as K.told K.waits K.listens _ _ _ _ c.args.sink.now c.grow_in_place.new.sink (λ done. done) (sym same) heard

@@ -1,6 +1,6 @@
-use Rattle.std.proofs.Common.{◌≡◌, is_some, sym, ◌∙◌, refl}
+use Rattle.std.proofs.Common.{◌≡◌, is_some, sym, ◌∙◌, refl, List, ap}
 use Rattle.std.proofs.lemmas.Result.{err_from_is_err_and}
-use Rattle.heap_calls.specs.Answer.{silent, searching}
+use Rattle.heap_calls.specs.Answer.{silent, searching, nothing}
 use Rattle.heap_calls.specs.Pointers.{add_masters}
 use Rattle.heap_calls.specs.Searches.{more_masters_searches}
 use Rattle.heap_calls.proofs.NewBlocks.Naming.{Ends, masters-ends, served-looking}
@@ -10,6 +10,16 @@ use Rattle.heap_calls.proofs.Numbering.Memories.{memory_as, reply-as}
 use Rattle.heap_calls.specs.Inner.Reaching.{sized_reply}
 use Rattle.heap_calls.proofs.heap.Heap.add_masters.Given.{Over}
 use Rattle.heap_calls.proofs.heap.Heap.add_masters.Goals.{In_ok-room, After-account}
+use Rattle.heap_calls.proofs.Hearing.{stops-halted, hears-as}
+use Rattle.heap_calls.proofs.Numbering.Changing.{heap-same}
+use Rattle.block_store.specs.Block.{Masters}
+use Rattle.block_store.specs.declared.sparing.Sparing.TheVariants.{Nothing}
+use Rattle.heap_calls.specs.declared.anchor.Anchor.{Anchor}
+use Rattle.heap_calls.specs.State.{Memory}
+use Rattle.heap_calls.specs.Gone.{Hears, more_masters_gone}
+use Rattle.heap_calls.specs.Inner.Given.{KeepsMoves}
+use Rattle.heap_calls.specs.Inner.Telling.{base_gone}
+use Rattle.heap_calls.proofs.GoneBlocks.{base_gone-is}
 use Rattle.heap_calls.proofs.heap.Heap.add_masters.Goals as goal
 
 pub invariant_of-self : goal.invariant_of-self
@@ -18,14 +28,6 @@ invariant_of-self g c =
     agrees-more (g.S.BlockStore.zone c.make_masters.new.store) (g.S.BlockStore.rest a.store)
     (g.S.BlockStore.rest c.make_masters.new.store) a.names.items c.self.invariant c.make_masters.ensures.nonrelocatable
     c.in_err-room.ensures.kept
-
-pub returns-in_err-room-clause-kept : goal.returns-in_err-room-clause-kept
-returns-in_err-room-clause-kept g c host =
-    let a = c.self.inside in
-    kept-still c.args.self.now.memory (g.S.BlockStore.zone a.store) (g.S.BlockStore.zone c.make_masters.new.store)
-    (g.S.BlockStore.rest a.store) (g.S.BlockStore.rest c.make_masters.new.store)
-    a.names.items a.names.items a.log (memory_as c.self.view_is) refl c.self.invariant c.in_err-room.ensures.kept
-    c.make_masters.ensures.moves
 
 made : (g : Over) (c : In_ok-room g) → Ends add_masters (g.S.BlockStore.zone c.self.inside.store)
     (g.S.BlockStore.rest c.self.inside.store) c.self.inside.names.items
@@ -65,3 +67,36 @@ pub returns-clause-answer : goal.returns-clause-answer
 returns-clause-answer g c =
     reply-as (told g (goal.at.returns-clause-answer g c).After-account
     (made g (goal.at.returns-clause-answer g c).In_ok-room)) c.in_ok-account.was
+
+pub returns-in_err-room-clause-stops : goal.returns-in_err-room-clause-stops
+returns-in_err-room-clause-stops g c host =
+    let a = c.self.inside in
+    stops-halted g.S.BlockStore.TAKES_HOST g.K.PurgeSink.told g.K.PurgeSink.listens KeepsMoves _ _ c.args.self.now _
+    c.args.sink.now _ (kept-still c.args.self.now.memory (g.S.BlockStore.zone a.store) (g.S.BlockStore.zone c.make_masters.new.store)
+    (g.S.BlockStore.rest a.store) (g.S.BlockStore.rest c.make_masters.new.store)
+    a.names.items a.names.items a.log (memory_as c.self.view_is) refl c.self.invariant c.in_err-room.ensures.kept
+    c.make_masters.ensures.moves)
+    (heap-same (g.S.BlockStore.zone a.store) (g.S.BlockStore.zone c.make_masters.new.store) (g.S.BlockStore.rest a.store)
+    (g.S.BlockStore.rest c.make_masters.new.store) a.names.items a.names.items a.log c.self.view_is refl)
+    c.in_err-room.ensures.halts
+
+-- what the sink hears
+heard : (g : Over) (c : In_ok-room g) → (done : Type 0)
+    → Hears g.K.PurgeSink.told g.K.PurgeSink.waits g.K.PurgeSink.listens done
+    (more_masters_gone c.args.self.now.memory.heap) c.args.sink.now c.make_masters.new.sink
+heard g c done =
+    let a = c.self.inside in
+    let zone = g.S.BlockStore.zone a.store in
+    let rest = g.S.BlockStore.rest a.store in
+    let es = a.names.items in
+    let row = base_gone-is zone rest es (g.met.S.BlockStore.masters a.store) c.self.invariant nothing Nothing
+    (λ b. refl) refl (λ b. refl) Masters in
+    let same = ap (λ (e : List Anchor). base_gone e 272 Nothing zone) c.deref.ensures.value ∙ row
+    ∙ ap (λ (m : Memory). more_masters_gone m.heap) (memory_as c.self.view_is) in
+    hears-as g.K.PurgeSink.told g.K.PurgeSink.waits g.K.PurgeSink.listens _ _ _ _ _ _ (λ some. refl) same c.in_ok-room.ensures.hears
+
+pub returns-in_err-account-clause-hears : goal.returns-in_err-account-clause-hears
+returns-in_err-account-clause-hears g c = heard g (goal.at.returns-in_err-account-clause-hears g c).In_ok-room _
+
+pub returns-clause-hears : goal.returns-clause-hears
+returns-clause-hears g c = heard g (goal.at.returns-clause-hears g c).In_ok-room _

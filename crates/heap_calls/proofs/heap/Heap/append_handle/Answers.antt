@@ -1,4 +1,4 @@
-use Rattle.std.proofs.Common.{◌≡◌, Ok}
+use Rattle.std.proofs.Common.{◌≡◌, Ok, List, ℕ, ap, refl, ◌+◌, rules, ◌∙◌}
 use Rattle.std.proofs.lemmas.Result.{err_from_is_err_and}
 use Rattle.heap_calls.specs.Answer.{silent, searching, moving}
 use Rattle.heap_calls.specs.Copying.{hand_and_hand}
@@ -6,13 +6,22 @@ use Rattle.heap_calls.specs.Inner.Reaching.{Reaches}
 use Rattle.heap_calls.specs.Moves.{hand_and_hand_moves}
 use Rattle.heap_calls.specs.Searches.{hand_and_hand_searches}
 use Rattle.heap_calls.proofs.Numbering.Rebuilding.{reached_in}
-use Rattle.heap_calls.proofs.Numbering.Changing.{agrees-kept}
+use Rattle.heap_calls.proofs.Numbering.Changing.{agrees-kept, heap-same}
 use Rattle.heap_calls.proofs.Sizes.Behind.{hand-none, hand-nowhere}
 use Rattle.heap_calls.proofs.Sizes.Grown.{nothing-grown, grown-done, hand-tells}
 use Rattle.heap_calls.proofs.Numbering.Reserved.{fits-same}
 use Rattle.heap_calls.proofs.Numbering.Memories.{memory_as, reply-as}
 use Rattle.heap_calls.proofs.heap.Heap.append_handle.Given.{Over}
 use Rattle.heap_calls.proofs.heap.Heap.append_handle.Goals.{In_ok-source, After-account}
+use Rattle.heap_calls.proofs.Hearing.{stops-halted, hears-none, hears-as}
+use Rattle.block_store.specs.Block.{is_relocatable}
+use Rattle.block_store.specs.declared.sparing.Sparing.TheVariants.{Two}
+use Rattle.heap_calls.specs.declared.anchor.Anchor.{Anchor}
+use Rattle.heap_calls.specs.Gone.{Hears, hand_and_hand_gone}
+use Rattle.heap_calls.specs.Inner.Appending.{length_of}
+use Rattle.heap_calls.specs.Inner.Given.{KeepsNames}
+use Rattle.heap_calls.specs.Inner.Telling.{fitted_gone}
+use Rattle.heap_calls.proofs.GoneForSizes.{not_reached-gone, hand_and_hand-gone, nothing-from, nothing-to}
 use Rattle.heap_calls.proofs.heap.Heap.append_handle.Goals as goal
 
 -- where the bytes come from
@@ -62,7 +71,7 @@ told g c from =
     (grown-done c.args.self.now.memory _ rest _ _ (memory_as c.self.view_is) _ _ _ _ _ _ tells
     _ (g.S.BlockStore.rest c.append_block.new.store) c.in_ok-grown.ensures.rest c.in_ok-grown.grown.done
     c.in_ok-grown.grown.searches c.in_ok-grown.ensures.searches c.in_ok-grown.ensures.zone
-    c.in_ok-grown.ensures.full c.append_block.ensures.moves)
+    c.in_ok-grown.ensures.full c.in_ok-grown.ensures.moves)
 
 pub returns-in_err-account-clause-answer : goal.returns-in_err-account-clause-answer
 returns-in_err-account-clause-answer g c =
@@ -85,3 +94,57 @@ same-self g c = fits-same _ _
 
 pub same-self-in_err-held : goal.same-self-in_err-held
 same-self-in_err-held g c = fits-same _ _
+
+-- what the sink hears
+pub returns-in_err-source-clause-hears : goal.returns-in_err-source-clause-hears
+returns-in_err-source-clause-hears g c =
+    let a = c.self.inside in
+    hears-none g.K.PurgeSink.told g.K.PurgeSink.waits g.K.PurgeSink.listens _ _ c.args.sink.now c.requires.idle
+    (not_reached-gone c.args.self.now.memory (g.S.BlockStore.zone a.store) (g.S.BlockStore.rest a.store) a.names.items
+    a.log (memory_as c.self.view_is) (hand_and_hand_gone c.args.from c.args.to) c.in_err-source.field-0.0 c.args.from _
+    c.deref.ensures.value c.in_err-source.ensures (nothing-from c.args.from c.args.to _))
+
+pub returns-in_err-held-clause-hears : goal.returns-in_err-held-clause-hears
+returns-in_err-held-clause-hears g c =
+    let a = c.self.inside in
+    let from = source g (goal.at.returns-in_err-held-clause-hears g c).In_ok-source in
+    hears-none g.K.PurgeSink.told g.K.PurgeSink.waits g.K.PurgeSink.listens _ _ c.args.sink.now c.requires.idle
+    (not_reached-gone c.args.self.now.memory (g.S.BlockStore.zone a.store) (g.S.BlockStore.rest a.store) a.names.items
+    a.log (memory_as c.self.view_is) (hand_and_hand_gone c.args.from c.args.to) c.in_err-held.field-0.0 c.args.to _
+    c.deref-2.ensures.value c.in_err-held.ensures (λ code. nothing-to c.args.from c.args.to _ _ code from.1))
+
+heard : (g : Over) (c : After-account g) → (done : Type 0)
+    → Hears g.K.PurgeSink.told g.K.PurgeSink.waits g.K.PurgeSink.listens done
+    (hand_and_hand_gone c.args.from c.args.to c.args.self.now.memory.heap) c.args.sink.now c.append_block.new.sink
+heard g c done =
+    let a = c.self.inside in
+    let zone = g.S.BlockStore.zone a.store in
+    let rest = g.S.BlockStore.rest a.store in
+    let held = c.in_ok-held.held in
+    let slot = c.in_ok-source.source.slot in
+    let from = reached_in zone rest.slots a.names.items _ c.args.from (Ok c.in_ok-source.source) c.deref.ensures.value
+    c.in_ok-source.ensures in
+    let to = reached_in zone rest.slots a.names.items _ c.args.to (Ok held) c.deref-2.ensures.value
+    c.in_ok-held.ensures in
+    let same = ap (λ (e : List Anchor). fitted_gone e (is_relocatable held.slot) (Two slot held.slot)
+    (length_of held.slot zone + c.length_at-more.result) zone) c.deref-3.ensures.value
+    ∙ ap (λ (n : ℕ). fitted_gone a.names.items (is_relocatable held.slot) (Two slot held.slot)
+    (length_of held.slot zone + n) zone) c.length_at-more.ensures.is
+    ∙ hand_and_hand-gone c.args.self.now.memory zone rest a.names.items a.log (memory_as c.self.view_is)
+    c.self.invariant c.args.from c.args.to c.in_ok-source.source held from to in
+    hears-as g.K.PurgeSink.told g.K.PurgeSink.waits g.K.PurgeSink.listens _ _ _ _ _ _ (λ some. refl) same c.in_ok-grown.ensures.hears
+
+pub returns-in_err-account-clause-hears : goal.returns-in_err-account-clause-hears
+returns-in_err-account-clause-hears g c = heard g (goal.at.returns-in_err-account-clause-hears g c).After-account _
+
+pub returns-clause-hears : goal.returns-clause-hears
+returns-clause-hears g c = heard g (goal.at.returns-clause-hears g c).After-account _
+
+pub returns-in_err-grown-clause-stops : goal.returns-in_err-grown-clause-stops
+returns-in_err-grown-clause-stops g c host =
+    let a = c.self.inside in
+    stops-halted g.S.BlockStore.TAKES_HOST g.K.PurgeSink.told g.K.PurgeSink.listens KeepsNames _ _ c.args.self.now _
+    c.args.sink.now _ (search rules)
+    (heap-same (g.S.BlockStore.zone a.store) (g.S.BlockStore.zone c.append_block.new.store) (g.S.BlockStore.rest a.store)
+    (g.S.BlockStore.rest c.append_block.new.store) a.names.items a.names.items a.log c.self.view_is refl)
+    c.in_err-grown.ensures.halts

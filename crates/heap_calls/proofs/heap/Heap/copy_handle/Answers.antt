@@ -11,7 +11,7 @@ use Rattle.heap_calls.specs.declared.anchor.Anchor.{Anchor}
 use Rattle.heap_calls.specs.State.{Memory}
 use Rattle.heap_calls.specs.Answer.{look_up, silent, searching, moving}
 use Rattle.heap_calls.specs.Gone.{Gone, Tells, copy_slot_gone, hand_to_hand_gone, Hears}
-use Rattle.heap_calls.specs.Refused.{copying_zone}
+use Rattle.heap_calls.specs.Copying.{copying_zone}
 use Rattle.heap_calls.specs.Inner.Numbered.{memory_of, handle_number, pointer_number}
 use Rattle.heap_calls.specs.Inner.Telling.{zone_slot_gone, new_gone}
 use Rattle.heap_calls.proofs.GoneCopies.{copy_gone-is, copy_gone-none, copy_gone-nil, copy_slot_gone-is, copying_zone-is}

@@ -1,14 +1,23 @@
-use Rattle.std.proofs.Common.{◌≡◌, arith, Err}
+use Rattle.std.proofs.Common.{◌≡◌, arith, Err, List, ap, refl, ◌∙◌, rules}
 use Rattle.std.proofs.lemmas.Result.{err_from_is_err_and}
 use Rattle.heap_calls.specs.Answer.{silent, searching}
 use Rattle.heap_calls.specs.Pointers.{set_pointer_size}
 use Rattle.heap_calls.specs.Searches.{set_pointer_size_searches}
-use Rattle.heap_calls.proofs.Numbering.Changing.{agrees-placed}
+use Rattle.heap_calls.proofs.Numbering.Changing.{agrees-placed, heap-same}
 use Rattle.heap_calls.proofs.Numbering.Pointing.{IsHeld, pointer-held, target_in}
 use Rattle.heap_calls.proofs.Sizes.PointerSizes.{set_pointer_size-done, no_pointer}
 use Rattle.heap_calls.proofs.Numbering.Memories.{memory_as, reply-as}
 use Rattle.heap_calls.proofs.heap.Heap.fit_pointer.Given.{Over}
 use Rattle.heap_calls.proofs.heap.Heap.fit_pointer.Goals.{In_ok-target, After-account}
+use Rattle.heap_calls.proofs.Hearing.{stops-halted, hears-none, hears-as}
+use Rattle.block_store.specs.Block.{is_nonrelocatable}
+use Rattle.block_store.specs.declared.sparing.Sparing.TheVariants.{Nothing}
+use Rattle.heap_calls.specs.declared.anchor.Anchor.{Anchor}
+use Rattle.heap_calls.specs.Gone.{Hears, set_pointer_size_gone}
+use Rattle.heap_calls.specs.Inner.Given.{KeepsMoves}
+use Rattle.heap_calls.specs.Inner.Telling.{fitted_gone}
+use Rattle.heap_calls.proofs.GoneForSizes.{no_pointer-gone, set_pointer_size-gone}
+use Rattle.heap_calls.proofs.Numbering.Reserved.{fits-same}
 use Rattle.heap_calls.proofs.heap.Heap.fit_pointer.Goals as goal
 
 -- the pointer's block
@@ -30,9 +39,9 @@ returns-in_err-target-clause-answer g c =
     a.log e c.args.pointer c.args.size (memory_as c.self.view_is)
     (target_in a.names.items _ c.args.pointer (Err e) c.deref.ensures.value c.in_err-target.ensures))
 
-pub fit_nonrelocatable-requires : goal.fit_nonrelocatable-requires
-fit_nonrelocatable-requires g c =
-    let there = target g (goal.at.fit_nonrelocatable-requires g c).In_ok-target in
+pub fit_nonrelocatable-requires-clause-found : goal.fit_nonrelocatable-requires-clause-found
+fit_nonrelocatable-requires-clause-found g c =
+    let there = target g (goal.at.fit_nonrelocatable-requires-clause-found g c).In_ok-target in
     (there.s, there.found, there.at, there.distance)
 
 pub invariant_of-self : goal.invariant_of-self
@@ -76,3 +85,47 @@ pub returns-clause-answer : goal.returns-clause-answer
 returns-clause-answer g c =
     reply-as (told g (goal.at.returns-clause-answer g c).After-account
     (target g (goal.at.returns-clause-answer g c).In_ok-target)) c.in_ok-account.was
+
+-- what the sink hears
+pub returns-in_err-target-clause-hears : goal.returns-in_err-target-clause-hears
+returns-in_err-target-clause-hears g c =
+    let a = c.self.inside in
+    hears-none g.K.PurgeSink.told g.K.PurgeSink.waits g.K.PurgeSink.listens _ _ c.args.sink.now c.requires.idle
+    (no_pointer-gone c.args.self.now.memory (g.S.BlockStore.zone a.store) (g.S.BlockStore.rest a.store) a.names.items
+    a.log c.in_err-target.field-0.0 c.args.pointer c.args.size (memory_as c.self.view_is)
+    (target_in a.names.items _ c.args.pointer (Err c.in_err-target.field-0.0) c.deref.ensures.value
+    c.in_err-target.ensures))
+
+heard : (g : Over) (c : After-account g) → IsHeld (g.S.BlockStore.zone c.self.inside.store)
+    (g.S.BlockStore.rest c.self.inside.store).slots c.self.inside.names.items c.args.pointer c.in_ok-target.target
+    → (done : Type 0) → Hears g.K.PurgeSink.told g.K.PurgeSink.waits g.K.PurgeSink.listens done
+    (set_pointer_size_gone c.args.pointer c.args.size c.args.self.now.memory.heap) c.args.sink.now
+    c.fit_nonrelocatable.new.sink
+heard g c there done =
+    let a = c.self.inside in
+    let zone = g.S.BlockStore.zone a.store in
+    let same = ap (λ (e : List Anchor). fitted_gone e (is_nonrelocatable c.in_ok-target.target.place) Nothing c.args.size zone)
+    c.deref-2.ensures.value
+    ∙ set_pointer_size-gone c.args.self.now.memory zone (g.S.BlockStore.rest a.store) a.names.items a.log c.args.pointer
+    c.in_ok-target.target c.args.size (memory_as c.self.view_is) there c.self.invariant.lone (omega arith) in
+    hears-as g.K.PurgeSink.told g.K.PurgeSink.waits g.K.PurgeSink.listens _ _ _ _ _ _ (λ some. refl) same c.in_ok-grown.ensures.hears
+
+pub returns-in_err-account-clause-hears : goal.returns-in_err-account-clause-hears
+returns-in_err-account-clause-hears g c = heard g (goal.at.returns-in_err-account-clause-hears g c).After-account
+    (target g (goal.at.returns-in_err-account-clause-hears g c).In_ok-target) _
+
+pub returns-clause-hears : goal.returns-clause-hears
+returns-clause-hears g c = heard g (goal.at.returns-clause-hears g c).After-account
+    (target g (goal.at.returns-clause-hears g c).In_ok-target) _
+
+pub returns-in_err-grown-clause-stops : goal.returns-in_err-grown-clause-stops
+returns-in_err-grown-clause-stops g c host =
+    let a = c.self.inside in
+    stops-halted g.S.BlockStore.TAKES_HOST g.K.PurgeSink.told g.K.PurgeSink.listens KeepsMoves _ _ c.args.self.now _
+    c.args.sink.now _ (search rules)
+    (heap-same (g.S.BlockStore.zone a.store) (g.S.BlockStore.zone c.fit_nonrelocatable.new.store) (g.S.BlockStore.rest a.store)
+    (g.S.BlockStore.rest c.fit_nonrelocatable.new.store) a.names.items a.names.items a.log c.self.view_is refl)
+    c.in_err-grown.ensures.halts
+
+pub same-self : goal.same-self
+same-self g c = fits-same _ _

@@ -3,7 +3,7 @@ use Rattle.heap_calls.specs.Inner.Given.{KeepsMoves}
 use Rattle.std.proofs.lemmas.List.{length-map}
 use Rattle.heap_calls.specs.Inner.Numbered.{name_of}
 use Rattle.std.proofs.Common.{arith, ◌≡◌}
-use Rattle.std.proofs.Common.{List, inl, inr, refl, sym, ◌∙◌, ap}
+use Rattle.std.proofs.Common.{List, refl, sym, ◌∙◌, ap}
 use Rattle.block_store.specs.declared.sparing.Sparing.TheVariants.{Nothing}
 use Rattle.heap_calls.specs.declared.anchor.Anchor.{Anchor}
 use Rattle.heap_calls.specs.State.{Memory}
@@ -11,16 +11,16 @@ use Rattle.heap_calls.specs.Answer.{nothing, silent, searching}
 use Rattle.heap_calls.specs.Gone.{slot_gone, Hears, new_empty_handle_gone}
 use Rattle.heap_calls.specs.Inner.Numbered.{memory_of}
 use Rattle.heap_calls.specs.Inner.Telling.{zone_slot_gone}
-use Rattle.heap_calls.proofs.Hearing.{hears-as, stops-at-once, stops-unheard, both-or}
+use Rattle.heap_calls.proofs.Hearing.{hears-as, stops-at-once, stops-halted}
 use Rattle.heap_calls.proofs.GoneBlocks.{slot_gone-is}
-use Rattle.heap_calls.proofs.Numbering.Changing.{memory-same}
+use Rattle.heap_calls.proofs.Numbering.Changing.{heap-same}
 use Rattle.heap_calls.specs.Slots.{new_empty_handle}
 use Rattle.heap_calls.specs.Searches.{new_empty_handle_searches}
 use Rattle.heap_calls.proofs.NewBlocks.Naming.{Names, empty-names, named-looking}
 use Rattle.heap_calls.proofs.NewBlocks.NewHandles.{agrees-more}
 use Rattle.heap_calls.proofs.NewBlocks.Reserving.{empty_searches-is}
 use Rattle.heap_calls.proofs.NewBlocks.NewHandles.{kept-still}
-use Rattle.heap_calls.proofs.Numbering.Memories.{memory_as, reply-as, placings_as, counted_as}
+use Rattle.heap_calls.proofs.Numbering.Memories.{memory_as, reply-as}
 use Rattle.heap_calls.proofs.heap.Heap.make_empty_handle.Given.{Over}
 use Rattle.heap_calls.proofs.heap.Heap.make_empty_handle.Goals.{After-name_handle}
 use Rattle.heap_calls.proofs.heap.Heap.make_empty_handle.Goals as goal
@@ -75,29 +75,6 @@ pub invariant_of-self-in_err-taken : goal.invariant_of-self-in_err-taken
 invariant_of-self-in_err-taken g c = rw c.in_ok-reserve.ensures.items
     (agrees-more _ _ _ _ c.self.invariant c.make_slot.ensures.nonrelocatable c.in_err-taken.ensures.kept)
 
-pub returns-in_err-taken-clause-stops : goal.returns-in_err-taken-clause-stops
-returns-in_err-taken-clause-stops g c host =
-    let a = c.self.inside in
-    let zone = g.S.BlockStore.zone a.store in
-    let rest = g.S.BlockStore.rest a.store in
-    let rest' = g.S.BlockStore.rest c.make_slot.new.store in
-    let items = c.reserve.new.self.items in
-    stops-unheard g.S.BlockStore.TAKES_HOST g.K.PurgeSink.told g.K.PurgeSink.listens KeepsMoves _ _ c.args.self.now _ c.args.sink.now _
-    (kept-still c.args.self.now.memory _ _ (g.S.BlockStore.rest a.store) (g.S.BlockStore.rest c.make_slot.new.store)
-    a.names.items _ a.log (memory_as c.self.view_is) c.in_ok-reserve.ensures.items c.self.invariant
-    c.in_err-taken.ensures.kept
-    c.make_slot.ensures.moves)
-    (both-or (
-    elim c.in_err-taken.ensures.same [
-      | inl takes ↦ inl takes
-      | inr same ↦ inr (counted_as (ap (λ z. memory_of z rest' items a.log) same.0
-          ∙ ap (λ (l : List Anchor). memory_of zone rest' l a.log) c.in_ok-reserve.ensures.items
-          ∙ memory-same zone rest rest' a.names.items a.log same.1 ∙ (memory_as c.self.view_is))
-          (same.1.placed ∙ placings_as c.self.view_is))
-    ])
-    c.in_err-taken.ensures.untold)
-    (c.in_err-taken.ensures.host refl)
-
 -- what the sink hears
 heard : (g : Over) (c : After-name_handle g) → (done : Type 0)
     → Hears g.K.PurgeSink.told g.K.PurgeSink.waits g.K.PurgeSink.listens done
@@ -120,3 +97,14 @@ returns-in_err-name_handle-clause-hears g c = heard g (goal.at.returns-in_err-na
 
 pub returns-clause-hears : goal.returns-clause-hears
 returns-clause-hears g c = heard g (goal.at.returns-clause-hears g c).After-name_handle _
+
+pub returns-in_err-taken-clause-stops : goal.returns-in_err-taken-clause-stops
+returns-in_err-taken-clause-stops g c host =
+    let a = c.self.inside in
+    stops-halted g.S.BlockStore.TAKES_HOST g.K.PurgeSink.told g.K.PurgeSink.listens KeepsMoves _ _ c.args.self.now _
+    c.args.sink.now _ (kept-still c.args.self.now.memory _ _ (g.S.BlockStore.rest a.store) (g.S.BlockStore.rest c.make_slot.new.store)
+    a.names.items _ a.log (memory_as c.self.view_is) c.in_ok-reserve.ensures.items c.self.invariant
+    c.in_err-taken.ensures.kept c.make_slot.ensures.moves)
+    (heap-same (g.S.BlockStore.zone a.store) (g.S.BlockStore.zone c.make_slot.new.store) (g.S.BlockStore.rest a.store)
+    (g.S.BlockStore.rest c.make_slot.new.store) a.names.items _ a.log c.self.view_is c.in_ok-reserve.ensures.items)
+    c.in_err-taken.ensures.halts

@@ -1,27 +1,27 @@
 use Rattle.heap_calls.specs.Inner.Given.{KeepsMoves}
 use Rattle.std.proofs.lemmas.List.{length-map}
 use Rattle.heap_calls.specs.Inner.Numbered.{name_of}
-use Rattle.std.proofs.Common.{◌≡◌, refl, ℕ, ◌++◌, ◌∷◌, [], length, Some, None, sym, ◌∙◌, ap, subst, arith, inr, Ok, Err}
+use Rattle.std.proofs.Common.{◌≡◌, refl, ℕ, ◌++◌, ◌∷◌, [], length, Some, None, sym, ◌∙◌, ap, subst, arith, Ok, Err, rules}
 use Rattle.std.proofs.Common.{Option, List}
 use Rattle.mac_words.specs.declared.code.TheConstants.OsErr.{MEM_FULL}
 use Rattle.heap_calls.specs.State.{Memory}
 use Rattle.heap_calls.specs.declared.anchor.Anchor.{Anchor}
 use Rattle.heap_calls.specs.declared.anchor.Anchor.TheVariants.{Pointer}
 use Rattle.heap_calls.specs.Pointers.{new_pointer}
-use Rattle.heap_calls.specs.Gone.{Gone, Tells, new_pointer_gone}
+use Rattle.heap_calls.specs.Gone.{new_pointer_gone}
 use Rattle.heap_calls.specs.Inner.Telling.{pointer_gone}
 use Rattle.heap_calls.specs.Searches.{new_pointer_searches}
 use Rattle.heap_calls.specs.Inner.NewPointer.{IsNewNonrelocatable}
 use Rattle.heap_calls.specs.Inner.Numbered.{state_of, memory_of}
-use Rattle.heap_calls.proofs.Hearing.{hears-as, stops-at-once, stops-untouched}
+use Rattle.heap_calls.proofs.Hearing.{hears-as, stops-at-once, stops-halted}
 use Rattle.heap_calls.proofs.GoneBlocks.{pointer_gone-is}
 use Rattle.heap_calls.proofs.NewBlocks.NewHandles.{searched-done}
-use Rattle.heap_calls.proofs.Numbering.Changing.{agrees-placed, slots_kept, memory-same, unplaced, unplaced-is}
+use Rattle.heap_calls.proofs.Numbering.Changing.{agrees-placed, slots_kept, memory-same, unplaced, unplaced-is, heap-same}
 use Rattle.heap_calls.proofs.NewBlocks.NewPointers.{new_pointer-refused, new_pointer-done, new_pointer_searches-is}
 use Rattle.heap_calls.proofs.NewBlocks.NewPointers.{agrees-more}
 use Rattle.heap_calls.proofs.Numbering.Memories.{memory_as}
 use Rattle.heap_calls.proofs.heap.Heap.make_pointer.Given.{Over}
-use Rattle.heap_calls.proofs.heap.Heap.make_pointer.Goals.{After-push_reserved, After-tell_nonrelocatable}
+use Rattle.heap_calls.proofs.heap.Heap.make_pointer.Goals.{After-push_reserved, In_ok-room}
 use Rattle.heap_calls.proofs.heap.Heap.make_pointer.Goals as goal
 
 pub returns-in_err-reserve-clause-stops : goal.returns-in_err-reserve-clause-stops
@@ -90,14 +90,8 @@ returns-clause-answer g c =
     ∙ ap (λ (l : List Anchor). (Ok c.len-number.result, memory_of zone' rest' l c.count.new.self))
     (sym (entered g (goal.at.returns-clause-answer g c).After-push_reserved))
 
-pub returns-in_err-tell_nonrelocatable-clause-stops : goal.returns-in_err-tell_nonrelocatable-clause-stops
-returns-in_err-tell_nonrelocatable-clause-stops g c host =
-    stops-untouched g.S.BlockStore.TAKES_HOST g.K.PurgeSink.told g.K.PurgeSink.listens KeepsMoves _ _ c.args.self.now _
-    c.args.sink.now _ (λ m. refl) (rw c.in_ok-reserve.ensures.items c.self.view_is)
-    c.in_err-tell_nonrelocatable.ensures.untold (c.in_err-tell_nonrelocatable.ensures.host refl)
-
 -- the sink is told of the blocks of the call's row
-told : (g : Over) (c : After-tell_nonrelocatable g)
+told : (g : Over) (c : In_ok-room g)
     → pointer_gone c.deref.result.now c.args.size (g.S.BlockStore.zone c.self.inside.store)
     ≡ new_pointer_gone c.args.size c.args.self.now.memory.heap
 told g c =
@@ -110,9 +104,18 @@ told g c =
 pub returns-in_default-clause-hears : goal.returns-in_default-clause-hears
 returns-in_default-clause-hears g c =
     hears-as g.K.PurgeSink.told g.K.PurgeSink.waits g.K.PurgeSink.listens _ _ _ _ _ _
-    (λ some. refl) ((told g (goal.at.returns-in_default-clause-hears g c).After-tell_nonrelocatable)) c.in_ok-tell_nonrelocatable.ensures.hears
+    (λ some. refl) ((told g (goal.at.returns-in_default-clause-hears g c).In_ok-room)) c.in_ok-room.ensures.hears
 
 pub returns-clause-hears : goal.returns-clause-hears
 returns-clause-hears g c =
     hears-as g.K.PurgeSink.told g.K.PurgeSink.waits g.K.PurgeSink.listens _ _ _ _ _ _
-    (λ some. refl) ((told g (goal.at.returns-clause-hears g c).After-tell_nonrelocatable)) c.in_ok-tell_nonrelocatable.ensures.hears
+    (λ some. refl) ((told g (goal.at.returns-clause-hears g c).In_ok-room)) c.in_ok-room.ensures.hears
+
+pub returns-in_err-room-clause-stops : goal.returns-in_err-room-clause-stops
+returns-in_err-room-clause-stops g c host =
+    let a = c.self.inside in
+    stops-halted g.S.BlockStore.TAKES_HOST g.K.PurgeSink.told g.K.PurgeSink.listens KeepsMoves _ _ c.args.self.now _
+    c.args.sink.now _ (search rules)
+    (heap-same (g.S.BlockStore.zone a.store) (g.S.BlockStore.zone c.add_nonrelocatable.new.store) (g.S.BlockStore.rest a.store)
+    (g.S.BlockStore.rest c.add_nonrelocatable.new.store) a.names.items _ a.log c.self.view_is c.in_ok-reserve.ensures.items)
+    c.in_err-room.ensures.halts

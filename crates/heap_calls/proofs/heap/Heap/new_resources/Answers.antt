@@ -1,11 +1,11 @@
-use Rattle.std.proofs.Common.{ℕ, List, inl, inr, ◌≡◌, ◌∙◌, ap, map, true, subst}
+use Rattle.std.proofs.Common.{ℕ, List, inl, inr, ◌≡◌, ◌∙◌, ap, map, subst}
 use Rattle.std.proofs.lemmas.Result.{on_ok_weaker, on_err_weaker}
 use Rattle.block_store.specs.Block.{Block}
 use Rattle.block_store.specs.Rest.{Rest}
 use Rattle.heap_calls.specs.declared.anchor.Anchor.{Anchor}
 use Rattle.heap_calls.specs.declared.log.Log.{Log}
 use Rattle.heap_calls.specs.State.{Memory}
-use Rattle.heap_calls.specs.Gone.{Tells, all_gone}
+use Rattle.heap_calls.specs.Gone.{all_gone}
 use Rattle.heap_calls.specs.Inside.{new_all}
 use Rattle.heap_calls.specs.Preloaded.{MadeSome}
 use Rattle.heap_calls.specs.Inner.Filling.{wanted_as}

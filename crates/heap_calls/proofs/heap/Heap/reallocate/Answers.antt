@@ -1,4 +1,4 @@
-use Rattle.std.proofs.Common.{◌≡◌, is_some, refl, ◌∙◌, ap, List, Ok, Err}
+use Rattle.std.proofs.Common.{◌≡◌, is_some, refl, ◌∙◌, ap, List, Ok, Err, rules}
 use Rattle.std.proofs.lemmas.Result.{err_from_is_err_and}
 use Rattle.heap_calls.specs.Answer.{silent, searching, moving}
 use Rattle.heap_calls.specs.Gone.{reallocate_handle_gone}
@@ -8,13 +8,13 @@ use Rattle.heap_calls.specs.Searches.{reallocate_handle_searches}
 use Rattle.heap_calls.specs.Inner.Numbered.{memory_of}
 use Rattle.heap_calls.specs.Inner.Telling.{renewed_gone}
 use Rattle.heap_calls.specs.declared.anchor.Anchor.{Anchor}
-use Rattle.heap_calls.proofs.Hearing.{hears-as, hears-none}
+use Rattle.heap_calls.proofs.Hearing.{hears-as, hears-none, stops-halted}
 use Rattle.heap_calls.proofs.GonePlaces.{reallocate_gone-is, reallocate_gone-none}
 use Rattle.heap_calls.proofs.Numbering.Loosening.{loose_in, loose_not_searched, no_moves-loose}
 use Rattle.heap_calls.proofs.Room.MoveCounts.{not-moved, moving-done}
 use Rattle.heap_calls.proofs.Numbering.PurgeTrials.{searching-done}
 use Rattle.heap_calls.proofs.NewBlocks.Renewing.{reallocate_searches-is, reallocate_moves-is, reallocate-told}
-use Rattle.heap_calls.proofs.Numbering.Changing.{agrees-kept, unmoved}
+use Rattle.heap_calls.proofs.Numbering.Changing.{agrees-kept, unmoved, heap-same}
 use Rattle.heap_calls.specs.declared.log.Log.{Log}
 use Rattle.block_store.specs.Rest.{counted}
 use Rattle.heap_calls.proofs.Numbering.Reserved.{fits-same}
@@ -22,6 +22,7 @@ use Rattle.heap_calls.proofs.Numbering.Memories.{memory_as, reply-as}
 use Rattle.heap_calls.specs.Inner.Reaching.{sized_reply}
 use Rattle.heap_calls.proofs.heap.Heap.reallocate.Given.{Over}
 use Rattle.heap_calls.proofs.heap.Heap.reallocate.Goals.{After-account}
+use Rattle.heap_calls.specs.Inner.Given.{KeepsNames}
 use Rattle.heap_calls.proofs.heap.Heap.reallocate.Goals as goal
 
 pub returns-in_err-slot-clause-answer : goal.returns-in_err-slot-clause-answer
@@ -70,7 +71,7 @@ told g c =
     (reallocate_moves-is value zone zone' rest rest' a.names.items a.log c.args.handle found.0 c.in_ok-slot.slot
     c.args.size made (memory_as c.self.view_is) found.2 found.3 c.self.invariant.apart found.4
     c.in_ok-room.ensures.answer)
-    c.renew_block.ensures.moves)
+    c.in_ok-room.ensures.moves)
 
 pub returns-in_err-account-clause-answer : goal.returns-in_err-account-clause-answer
 returns-in_err-account-clause-answer g c =
@@ -98,9 +99,6 @@ invariant_of-self-2 g c =
 
 pub same-self : goal.same-self
 same-self g c = fits-same _ _
-
-pub same-self-in_err-tell_renewal : goal.same-self-in_err-tell_renewal
-same-self-in_err-tell_renewal g c = fits-same _ _
 
 pub returns-in_err-slot-clause-hears : goal.returns-in_err-slot-clause-hears
 returns-in_err-slot-clause-hears g c =
@@ -133,9 +131,18 @@ gone g c =
 pub returns-in_err-account-clause-hears : goal.returns-in_err-account-clause-hears
 returns-in_err-account-clause-hears g c =
     hears-as g.K.PurgeSink.told g.K.PurgeSink.waits g.K.PurgeSink.listens _ _ _ _ _ _ (λ some. refl)
-    (gone g (goal.at.returns-in_err-account-clause-hears g c).After-account) c.in_ok-tell_renewal.ensures.hears
+    (gone g (goal.at.returns-in_err-account-clause-hears g c).After-account) c.in_ok-room.ensures.hears
 
 pub returns-clause-hears : goal.returns-clause-hears
 returns-clause-hears g c =
     hears-as g.K.PurgeSink.told g.K.PurgeSink.waits g.K.PurgeSink.listens _ _ _ _ _ _ (λ some. refl)
-    (gone g (goal.at.returns-clause-hears g c).After-account) c.in_ok-tell_renewal.ensures.hears
+    (gone g (goal.at.returns-clause-hears g c).After-account) c.in_ok-room.ensures.hears
+
+pub returns-in_err-room-clause-stops : goal.returns-in_err-room-clause-stops
+returns-in_err-room-clause-stops g c host =
+    let a = c.self.inside in
+    stops-halted g.S.BlockStore.TAKES_HOST g.K.PurgeSink.told g.K.PurgeSink.listens KeepsNames _ _ c.args.self.now _
+    c.args.sink.now _ (search rules)
+    (heap-same (g.S.BlockStore.zone a.store) (g.S.BlockStore.zone c.renew_block.new.store) (g.S.BlockStore.rest a.store)
+    (g.S.BlockStore.rest c.renew_block.new.store) a.names.items a.names.items a.log c.self.view_is refl)
+    c.in_err-room.ensures.halts

@@ -1,11 +1,11 @@
-use Rattle.std.proofs.Common.{◌≡◌, ◌<◌, Some, List, length, sym, ◌∙◌, ap, refl, slice_get, is_some, arith}
+use Rattle.std.proofs.Common.{◌≡◌, ◌<◌, Some, List, length, sym, ◌∙◌, ap, refl, slice_get, is_some, arith, rules}
 use Rattle.std.proofs.lemmas.Result.{err_from_is_err_and}
 use Rattle.block_store.specs.Rest.{counted}
 use Rattle.heap_calls.specs.declared.anchor.Anchor.{Anchor}
 use Rattle.heap_calls.specs.declared.anchor.Anchor.TheVariants.{Handle}
 use Rattle.heap_calls.specs.Gone.{refill_gone}
 use Rattle.heap_calls.specs.Inner.Telling.{renewed_gone}
-use Rattle.heap_calls.proofs.Hearing.{hears-as, hears-none}
+use Rattle.heap_calls.proofs.Hearing.{hears-as, hears-none, stops-halted}
 use Rattle.heap_calls.proofs.GonePlaces.{refill_gone-is, refill_gone-none}
 use Rattle.heap_calls.proofs.Numbering.Reserved.{fits-same}
 use Rattle.heap_calls.specs.declared.log.Log.{Log}
@@ -13,7 +13,7 @@ use Rattle.heap_calls.specs.Answer.{silent}
 use Rattle.heap_calls.specs.Inside.{refill, refill_inside}
 use Rattle.heap_calls.specs.Inner.Numbered.{memory_of, no_number}
 use Rattle.heap_calls.proofs.Filled.Refilled.{slot-emptied, refill_searches-is, refill_moves-is, refill-told, refill-refused}
-use Rattle.heap_calls.proofs.Numbering.Changing.{agrees-kept, unmoved}
+use Rattle.heap_calls.proofs.Numbering.Changing.{agrees-kept, unmoved, heap-same}
 use Rattle.heap_calls.proofs.Numbering.Loosening.{handle_at-by}
 use Rattle.heap_calls.proofs.Numbering.Numbers.{is_relocatable-number, handle_number-at}
 use Rattle.heap_calls.proofs.Numbering.PurgeTrials.{searching-done}
@@ -23,6 +23,7 @@ use Rattle.heap_calls.proofs.Numbering.Memories.{memory_as, reply-as}
 use Rattle.heap_calls.specs.Inner.Reaching.{sized_reply}
 use Rattle.heap_calls.proofs.heap.Heap.refill.Given.{Over}
 use Rattle.heap_calls.proofs.heap.Heap.refill.Goals.{In_ok-found, After-account}
+use Rattle.heap_calls.specs.Inner.Given.{KeepsNames}
 use Rattle.heap_calls.proofs.heap.Heap.refill.Goals as goal
 
 -- the handle's entry
@@ -86,7 +87,7 @@ told g c at =
     c.in_ok-room.ensures.answer) refl)
     (refill_moves-is value zone zone' rest rest' es a.log h slot flags x made _ refl (memory_as c.self.view_is) found
     mine
-    c.in_ok-room.ensures.answer) c.refill_block.ensures.moves)
+    c.in_ok-room.ensures.answer) c.in_ok-room.ensures.moves)
 
 pub returns-in_err-account-clause-answer : goal.returns-in_err-account-clause-answer
 returns-in_err-account-clause-answer g c =
@@ -102,9 +103,6 @@ returns-clause-answer g c =
 
 pub same-self : goal.same-self
 same-self g c = fits-same _ _
-
-pub same-self-in_err-tell_refilling : goal.same-self-in_err-tell_refilling
-same-self-in_err-tell_refilling g c = fits-same _ _
 
 pub returns-in_err-found-clause-answer : goal.returns-in_err-found-clause-answer
 returns-in_err-found-clause-answer g c =
@@ -142,10 +140,19 @@ pub returns-in_err-account-clause-hears : goal.returns-in_err-account-clause-hea
 returns-in_err-account-clause-hears g c =
     hears-as g.K.PurgeSink.told g.K.PurgeSink.waits g.K.PurgeSink.listens _ _ _ _ _ _ (λ some. refl)
     (gone g (goal.at.returns-in_err-account-clause-hears g c).After-account
-    (entry g (goal.at.returns-in_err-account-clause-hears g c).In_ok-found)) c.in_ok-tell_refilling.ensures.hears
+    (entry g (goal.at.returns-in_err-account-clause-hears g c).In_ok-found)) c.in_ok-room.ensures.hears
 
 pub returns-clause-hears : goal.returns-clause-hears
 returns-clause-hears g c =
     hears-as g.K.PurgeSink.told g.K.PurgeSink.waits g.K.PurgeSink.listens _ _ _ _ _ _ (λ some. refl)
     (gone g (goal.at.returns-clause-hears g c).After-account
-    (entry g (goal.at.returns-clause-hears g c).In_ok-found)) c.in_ok-tell_refilling.ensures.hears
+    (entry g (goal.at.returns-clause-hears g c).In_ok-found)) c.in_ok-room.ensures.hears
+
+pub returns-in_err-room-clause-stops : goal.returns-in_err-room-clause-stops
+returns-in_err-room-clause-stops g c host =
+    let a = c.self.inside in
+    stops-halted g.S.BlockStore.TAKES_HOST g.K.PurgeSink.told g.K.PurgeSink.listens KeepsNames _ _ c.args.self.now _
+    c.args.sink.now _ (search rules)
+    (heap-same (g.S.BlockStore.zone a.store) (g.S.BlockStore.zone c.refill_block.new.store) (g.S.BlockStore.rest a.store)
+    (g.S.BlockStore.rest c.refill_block.new.store) a.names.items a.names.items a.log c.self.view_is refl)
+    c.in_err-room.ensures.halts

@@ -1,17 +1,26 @@
-use Rattle.std.proofs.Common.{◌≡◌, is_some, sym, ◌∙◌}
+use Rattle.std.proofs.Common.{◌≡◌, is_some, sym, ◌∙◌, List, Option, Some, ℕ, ap, refl, rules}
 use Rattle.std.proofs.lemmas.Result.{err_from_is_err_and}
 use Rattle.mac_words.specs.Size.{phys}
-use Rattle.heap_calls.specs.Answer.{silent, searching}
+use Rattle.heap_calls.specs.Answer.{silent, searching, nothing}
 use Rattle.heap_calls.specs.Pointers.{reserve_mem}
 use Rattle.heap_calls.specs.Searches.{reserve_searches}
 use Rattle.heap_calls.proofs.NewBlocks.Naming.{Ends, reserve-ends, served-looking}
 use Rattle.heap_calls.proofs.NewBlocks.Reserving.{reserve-too_large, reserve_searches-is}
-use Rattle.heap_calls.proofs.Numbering.Changing.{agrees-placed}
+use Rattle.heap_calls.proofs.Numbering.Changing.{agrees-placed, heap-same}
 use Rattle.heap_calls.proofs.Room.Placements.{at_none}
 use Rattle.heap_calls.proofs.Numbering.Memories.{memory_as, reply-as}
 use Rattle.heap_calls.specs.Inner.Reaching.{sized_reply}
 use Rattle.heap_calls.proofs.heap.Heap.reserve_base.Given.{Over}
 use Rattle.heap_calls.proofs.heap.Heap.reserve_base.Goals.{In_ok-room, After-account}
+use Rattle.heap_calls.proofs.Hearing.{stops-halted, hears-as}
+use Rattle.block_store.specs.Block.{Free}
+use Rattle.block_store.specs.declared.sparing.Sparing.TheVariants.{Nothing}
+use Rattle.heap_calls.specs.declared.anchor.Anchor.{Anchor}
+use Rattle.heap_calls.specs.State.{Memory}
+use Rattle.heap_calls.specs.Gone.{Hears, reserve_gone}
+use Rattle.heap_calls.specs.Inner.Given.{KeepsMoves}
+use Rattle.heap_calls.specs.Inner.Telling.{base_gone}
+use Rattle.heap_calls.proofs.GoneBlocks.{base_gone-is}
 use Rattle.heap_calls.proofs.heap.Heap.reserve_base.Goals as goal
 
 pub returns-in_default-clause-answer : goal.returns-in_default-clause-answer
@@ -64,3 +73,35 @@ invariant_of-self g c = agrees-placed _ _ _ _ _ c.self.invariant c.make_base.ens
 
 pub invariant_of-self-2 : goal.invariant_of-self-2
 invariant_of-self-2 g c = agrees-placed _ _ _ _ _ c.self.invariant c.make_base.ensures.nonrelocatable c.make_base.ensures.rest
+
+pub returns-in_err-room-clause-stops : goal.returns-in_err-room-clause-stops
+returns-in_err-room-clause-stops g c host =
+    let a = c.self.inside in
+    stops-halted g.S.BlockStore.TAKES_HOST g.K.PurgeSink.told g.K.PurgeSink.listens KeepsMoves _ _ c.args.self.now _
+    c.args.sink.now _ (search rules)
+    (heap-same (g.S.BlockStore.zone a.store) (g.S.BlockStore.zone c.make_base.new.store) (g.S.BlockStore.rest a.store)
+    (g.S.BlockStore.rest c.make_base.new.store) a.names.items a.names.items a.log c.self.view_is refl)
+    c.in_err-room.ensures.halts
+
+-- what the sink hears
+heard : (g : Over) (c : In_ok-room g) → (done : Type 0)
+    → Hears g.K.PurgeSink.told g.K.PurgeSink.waits g.K.PurgeSink.listens done
+    (reserve_gone (phys c.args.size) c.args.self.now.memory.heap) c.args.sink.now c.make_base.new.sink
+heard g c done =
+    let a = c.self.inside in
+    let zone = g.S.BlockStore.zone a.store in
+    let rest = g.S.BlockStore.rest a.store in
+    let es = a.names.items in
+    let row = base_gone-is zone rest es (g.met.S.BlockStore.masters a.store) c.self.invariant nothing Nothing
+    (λ b. refl) refl (λ b. refl) (Free c.in-Some.bytes) in
+    let same = ap (λ (e : List Anchor). base_gone e c.in-Some.bytes Nothing zone) c.deref.ensures.value ∙ row
+    ∙ ap (λ (m : Memory). reserve_gone (Some c.in-Some.bytes) m.heap) (memory_as c.self.view_is) in
+    let wanted = ap (λ (p : Option ℕ). reserve_gone p c.args.self.now.memory.heap)
+    (sym c.phys.ensures ∙ c.in-Some.is) in
+    hears-as g.K.PurgeSink.told g.K.PurgeSink.waits g.K.PurgeSink.listens _ _ _ _ _ _ (λ some. refl) (same ∙ sym wanted) c.in_ok-room.ensures.hears
+
+pub returns-in_err-account-clause-hears : goal.returns-in_err-account-clause-hears
+returns-in_err-account-clause-hears g c = heard g (goal.at.returns-in_err-account-clause-hears g c).In_ok-room _
+
+pub returns-clause-hears : goal.returns-clause-hears
+returns-clause-hears g c = heard g (goal.at.returns-clause-hears g c).In_ok-room _

@@ -1,0 +1,295 @@
+use Rattle.std.specs.Prelude.{ℕ, Bool, true, false, Option, Some, None, List, [], if◌then◌else◌}
+use Rattle.mac_words.specs.Size.{phys}
+use Rattle.mac_words.specs.Told.{Told, Done, Given, Number, Numbers, Code, Bytes, Refused}
+use Rattle.mac_words.specs.declared.code.OsErr.{OsErr}
+use Rattle.block_store.specs.Block.{Block}
+use Rattle.block_store.specs.Room.{purge}
+use Rattle.heap_calls.specs.State.{State, Memory}
+use Rattle.heap_calls.specs.Asked.{Asked, NewHandle, NewEmptyHandle, DisposeHandle, GetHandleSize, SetHandleSize}
+use Rattle.heap_calls.specs.Asked.{ReallocateHandle, EmptyHandle, HLock, HUnlock, HPurge, HNoPurge, HGetState, HSetState}
+use Rattle.heap_calls.specs.Asked.{MoveHHi, HLockHi, HandToHand, HandAndHand, PtrAndHand, NewPtr, DisposePtr, GetPtrSize}
+use Rattle.heap_calls.specs.Asked.{SetPtrSize, FreeMem, MaxBlock, PurgeSpace, CompactMem, PurgeMem, MaxMem, ReserveMem}
+use Rattle.heap_calls.specs.Asked.{MoreMasters, MemError, Put, Show, PutPtr, ShowPtr, Where}
+use Rattle.heap_calls.specs.Asked.{telling, seeking, packing}
+use Rattle.heap_calls.specs.Answer.{Answer, dispose_handle, get_handle_size, free_mem, set_handle_size, h_lock, h_unlock}
+use Rattle.heap_calls.specs.Answer.{move_h_hi, h_lock_hi, max_block, compact_mem, put, show, noting, silent, moving}
+use Rattle.heap_calls.specs.Answer.{look_up, nothing}
+use Rattle.heap_calls.specs.Slots.{new_handle, new_empty_handle, slotted_zone}
+use Rattle.heap_calls.specs.Pointers.{new_pointer, dispose_pointer, get_pointer_size, set_pointer_size, put_pointer}
+use Rattle.heap_calls.specs.Pointers.{show_pointer, place_of, reserve_mem, add_masters}
+use Rattle.heap_calls.specs.Purging.{h_purge, h_no_purge, h_get_state, h_set_state, empty_handle, reallocate_handle}
+use Rattle.heap_calls.specs.Purging.{purge_mem, purge_space, max_mem, blocks_purged}
+use Rattle.heap_calls.specs.Copying.{hand_to_hand, hand_and_hand, pointer_and_hand, copying_zone}
+use Rattle.heap_calls.specs.Searches.{new_handle_searches, new_empty_handle_searches, more_masters_searches}
+use Rattle.heap_calls.specs.Searches.{new_pointer_searches, reserve_searches, set_handle_size_searches}
+use Rattle.heap_calls.specs.Searches.{set_pointer_size_searches, reallocate_handle_searches, hand_to_hand_searches}
+use Rattle.heap_calls.specs.Searches.{hand_and_hand_searches, pointer_and_hand_searches, compact_mem_searches}
+use Rattle.heap_calls.specs.Searches.{purge_mem_searches}
+use Rattle.heap_calls.specs.Moves.{new_handle_moves, set_handle_size_moves, reallocate_handle_moves, hand_to_hand_moves}
+use Rattle.heap_calls.specs.Moves.{hand_and_hand_moves, pointer_and_hand_moves, compact_mem_moves, max_mem_moves}
+use Rattle.heap_calls.specs.Gone.{Gone, new_handle_gone, new_empty_handle_gone, set_handle_size_gone, reallocate_handle_gone}
+use Rattle.heap_calls.specs.Gone.{hand_to_hand_gone, hand_and_hand_gone, pointer_and_hand_gone, new_pointer_gone}
+use Rattle.heap_calls.specs.Gone.{set_pointer_size_gone, purge_mem_gone, max_mem_gone, reserve_gone, more_masters_gone}
+use Rattle.heap_calls.specs.Gone.{gone_unless}
+use Rattle.heap_calls.specs.Busy.{barred, change_barred, both_barred, pointer_barred, either_barred, keep_code, unless}
+use Rattle.heap_calls.specs.Busy.{unless_silent}
+
+-- The table of the Memory Manager's calls: a row a call. Inside Macintosh: Memory, chapter 2, "Memory Manager Routines".
+
+-- What may bar a call: nothing; a busy handle; a busy handle, or that of a System resource; the first of these of one
+-- handle, and the second of another; a busy pointer; a busy handle or pointer.
+-- See decision 36 (busy names are tested before a call's row).
+pub data Bar : Type 0 where
+  Open : Bar
+  OnHandle : (handle : Option ℕ) → Bar
+  OnChange : (handle : Option ℕ) → Bar
+  OnBoth : (from : Option ℕ) (to : Option ℕ) → Bar
+  OnPointer : (pointer : Option ℕ) → Bar
+  OnEither : (name : Option ℕ) → Bar
+
+-- The code with which a call is barred.
+abbrev pub barred_by : Bar → Memory → Option OsErr
+barred_by Open m = None
+barred_by (OnHandle handle) m = barred handle m
+barred_by (OnChange handle) m = change_barred handle m
+barred_by (OnBoth from to) m = both_barred from to m
+barred_by (OnPointer pointer) m = pointer_barred pointer m
+barred_by (OnEither name) m = either_barred name m
+
+-- The handles and the pointers on which a call is made.
+abbrev pub first_of : Bar → Option ℕ
+first_of Open = None
+first_of (OnHandle handle) = handle
+first_of (OnChange handle) = handle
+first_of (OnBoth from to) = from
+first_of (OnPointer pointer) = pointer
+first_of (OnEither name) = name
+
+abbrev pub second_of : Bar → Option ℕ
+second_of (OnBoth from to) = to
+second_of bar = None
+
+-- A row: what may bar the call, how a transcript prints its reply, and its answer. A plain call searches for no room,
+-- and sets the code that MemError returns; a quiet one doesn't set it; of one that searches for room the row has the
+-- searches that it makes and the blocks that it purges, and of one that packs runs also how many blocks it moves down.
+-- CompactMem packs and searches, and purges nothing; MaxMem purges and packs, and searches for nothing; MemError
+-- returns the code. Of a call whose refusal by its row leaves another zone than the one before, the row has that zone.
+-- See decision 24 (`MemError` returns the code of the last call of its table).
+pub data Row : Type 1 where
+  Plain : {T : Type 0} (bar : Bar) (tell : T → Told) (call : State → Answer T) → Row
+  Quiet : {T : Type 0} (bar : Bar) (tell : T → Told) (call : State → Answer T) → Row
+  Seeks : {T : Type 0} (bar : Bar) (tell : T → Told) (searches : State → ℕ) (gone : State → List Gone)
+      (call : State → Answer T) → Row
+  Packs : {T : Type 0} (bar : Bar) (tell : T → Told) (moves : State → ℕ) (searches : State → ℕ)
+      (gone : State → List Gone) (call : State → Answer T) → Row
+  Compacts : (moves : State → ℕ) (searches : State → ℕ) (call : State → Answer ℕ) → Row
+  PurgesAll : Row
+  LastCode : Row
+  Leaves : (left : State → List Block) (row : Row) → Row
+
+-- What may bar the call of a row, and whether it sets the code that MemError returns.
+abbrev pub bar_of : Row → Bar
+bar_of (Plain bar tell call) = bar
+bar_of (Quiet bar tell call) = bar
+bar_of (Seeks bar tell searches gone call) = bar
+bar_of (Packs bar tell moves searches gone call) = bar
+bar_of (Compacts moves searches call) = Open
+bar_of PurgesAll = Open
+bar_of LastCode = Open
+bar_of (Leaves left row) = bar_of row
+
+abbrev pub notes_code : Row → Bool
+notes_code (Plain bar tell call) = true
+notes_code (Quiet bar tell call) = false
+notes_code (Seeks bar tell searches gone call) = true
+notes_code (Packs bar tell moves searches gone call) = true
+notes_code (Compacts moves searches call) = true
+notes_code PurgesAll = true
+notes_code LastCode = false
+notes_code (Leaves left row) = notes_code row
+
+-- The reply of a row, and the heap after it, where nothing bars the call.
+abbrev pub answer_of : Row → Memory → Told × Memory
+answer_of (Plain bar tell call) m = telling tell (noting call m)
+answer_of (Quiet bar tell call) m = telling tell (silent call m)
+answer_of (Seeks bar tell searches gone call) m = telling tell (seeking searches call m)
+answer_of (Packs bar tell moves searches gone call) m = telling tell (packing moves searches call m)
+answer_of (Compacts moves searches call) m = telling Number (packing moves searches call m)
+answer_of PurgesAll m = telling Number (moving (max_mem_moves m.heap) (noting max_mem m))
+answer_of LastCode m = (Code m.log.code, m)
+answer_of (Leaves left row) m = answer_of row m
+
+-- The same in any case, as a method answers it.
+abbrev pub serve : Row → Memory → Told × Memory
+serve (Plain bar tell call) m = telling tell (unless (barred_by bar m) (noting call) m)
+serve (Quiet bar tell call) m = telling tell (unless_silent (barred_by bar m) (silent call) m)
+serve (Seeks bar tell searches gone call) m = telling tell (unless (barred_by bar m) (seeking searches call) m)
+serve (Packs bar tell moves searches gone call) m =
+    telling tell (unless (barred_by bar m) (packing moves searches call) m)
+serve (Compacts moves searches call) m = telling Number (packing moves searches call m)
+serve PurgesAll m = telling Number (moving (max_mem_moves m.heap) (noting max_mem m))
+serve LastCode m = (Code m.log.code, m)
+serve (Leaves left row) m = serve row m
+
+-- The searches for room of a row, and the blocks that it moves down, where nothing bars the call.
+abbrev pub searches_of : Row → State → ℕ
+searches_of (Plain bar tell call) s = 0
+searches_of (Quiet bar tell call) s = 0
+searches_of (Seeks bar tell searches gone call) s = searches s
+searches_of (Packs bar tell moves searches gone call) s = searches s
+searches_of (Compacts moves searches call) s = searches s
+searches_of PurgesAll s = 0
+searches_of LastCode s = 0
+searches_of (Leaves left row) s = searches_of row s
+
+abbrev pub moves_of : Row → State → ℕ
+moves_of (Plain bar tell call) s = 0
+moves_of (Quiet bar tell call) s = 0
+moves_of (Seeks bar tell searches gone call) s = 0
+moves_of (Packs bar tell moves searches gone call) s = moves s
+moves_of (Compacts moves searches call) s = moves s
+moves_of PurgesAll s = max_mem_moves s
+moves_of LastCode s = 0
+moves_of (Leaves left row) s = moves_of row s
+
+-- The blocks that one try of the call purges for room: none where it is barred.
+abbrev pub gone_of_row : Row → Memory → List Gone
+gone_of_row (Plain bar tell call) m = []
+gone_of_row (Quiet bar tell call) m = []
+gone_of_row (Seeks bar tell searches gone call) m = gone_unless (barred_by bar m) (gone m.heap)
+gone_of_row (Packs bar tell moves searches gone call) m = gone_unless (barred_by bar m) (gone m.heap)
+gone_of_row (Compacts moves searches call) m = []
+gone_of_row PurgesAll m = max_mem_gone m.heap
+gone_of_row LastCode m = []
+gone_of_row (Leaves left row) m = gone_of_row row m
+
+-- The same where nothing bars it, and whether it may purge any.
+abbrev pub purged_by : Row → State → List Gone
+purged_by (Plain bar tell call) s = []
+purged_by (Quiet bar tell call) s = []
+purged_by (Seeks bar tell searches gone call) s = gone s
+purged_by (Packs bar tell moves searches gone call) s = gone s
+purged_by (Compacts moves searches call) s = []
+purged_by PurgesAll s = max_mem_gone s
+purged_by LastCode s = []
+purged_by (Leaves left row) s = purged_by row s
+
+abbrev pub may_purge : Row → Bool
+may_purge (Plain bar tell call) = false
+may_purge (Quiet bar tell call) = false
+may_purge (Seeks bar tell searches gone call) = true
+may_purge (Packs bar tell moves searches gone call) = true
+may_purge (Compacts moves searches call) = false
+may_purge PurgesAll = true
+may_purge LastCode = false
+may_purge (Leaves left row) = may_purge row
+
+-- The zone that a refusal by the row leaves.
+abbrev pub left_by : Row → State → List Block
+left_by (Plain bar tell call) s = s.zone
+left_by (Quiet bar tell call) s = s.zone
+left_by (Seeks bar tell searches gone call) s = s.zone
+left_by (Packs bar tell moves searches gone call) s = s.zone
+left_by (Compacts moves searches call) s = s.zone
+left_by PurgesAll s = s.zone
+left_by LastCode s = s.zone
+left_by (Leaves left row) s = left s
+
+-- The reply of a call that returns no value.
+abbrev pub done : Unit {0} → Told
+done u = Done
+
+-- The table. A master pointer block that was made for a new handle stays where the call is then refused, and so does
+-- what PurgeMem purged.
+abbrev pub row : Asked → Row
+row (NewHandle size) = Leaves (slotted_zone nothing) (Packs Open Given (new_handle_moves size)
+    (new_handle_searches size) (new_handle_gone size) (new_handle size))
+row NewEmptyHandle = Seeks Open Given new_empty_handle_searches new_empty_handle_gone new_empty_handle
+row (DisposeHandle handle) = Plain (OnHandle handle) done (dispose_handle handle)
+row (GetHandleSize handle) = Plain (OnHandle handle) Number (get_handle_size handle)
+row (SetHandleSize handle size) = Packs (OnChange handle) done (set_handle_size_moves handle size)
+    (set_handle_size_searches handle size) (set_handle_size_gone handle size) (set_handle_size handle size)
+row (ReallocateHandle handle size) = Packs (OnChange handle) done (reallocate_handle_moves handle size)
+    (reallocate_handle_searches handle size) (reallocate_handle_gone handle size) (reallocate_handle handle size)
+row (EmptyHandle handle) = Plain (OnHandle handle) done (empty_handle handle)
+row (HLock handle) = Plain (OnHandle handle) done (h_lock handle)
+row (HUnlock handle) = Plain (OnHandle handle) done (h_unlock handle)
+row (HPurge handle) = Plain (OnHandle handle) done (h_purge handle)
+row (HNoPurge handle) = Plain (OnHandle handle) done (h_no_purge handle)
+row (HGetState handle) = Plain (OnHandle handle) Number (h_get_state handle)
+row (HSetState handle state) = Plain (OnHandle handle) done (h_set_state handle state)
+row (MoveHHi handle) = Plain (OnHandle handle) done (move_h_hi handle)
+row (HLockHi handle) = Plain (OnHandle handle) done (h_lock_hi handle)
+row (HandToHand handle) = Leaves (λ s. copying_zone (look_up handle s) s) (Packs (OnHandle handle) Given
+    (hand_to_hand_moves handle) (hand_to_hand_searches handle) (hand_to_hand_gone handle) (hand_to_hand handle))
+row (HandAndHand from to) = Packs (OnBoth from to) done (hand_and_hand_moves from to)
+    (hand_and_hand_searches from to) (hand_and_hand_gone from to) (hand_and_hand from to)
+row (PtrAndHand handle bytes) = Packs (OnChange handle) done (pointer_and_hand_moves handle bytes)
+    (pointer_and_hand_searches handle bytes) (pointer_and_hand_gone handle bytes) (pointer_and_hand handle bytes)
+row (NewPtr size) = Seeks Open Given (new_pointer_searches size) (new_pointer_gone size) (new_pointer size)
+row (DisposePtr pointer) = Plain (OnPointer pointer) done (dispose_pointer pointer)
+row (GetPtrSize pointer) = Plain (OnPointer pointer) Number (get_pointer_size pointer)
+row (SetPtrSize pointer size) = Seeks (OnPointer pointer) done (set_pointer_size_searches pointer size)
+    (set_pointer_size_gone pointer size) (set_pointer_size pointer size)
+row FreeMem = Plain Open Number free_mem
+row MaxBlock = Plain Open Number max_block
+row PurgeSpace = Plain Open (λ space. Numbers space.0 space.1) purge_space
+row (CompactMem size) = Compacts (compact_mem_moves size) (compact_mem_searches size) (compact_mem size)
+row (PurgeMem size) = Leaves (λ s. purge (blocks_purged (phys size) s.zone) nothing s.zone)
+    (Seeks Open done (purge_mem_searches size) (purge_mem_gone size) (purge_mem size))
+row MaxMem = PurgesAll
+row (ReserveMem size) = Seeks Open done (reserve_searches (phys size)) (reserve_gone (phys size)) (reserve_mem size)
+row MoreMasters = Seeks Open done more_masters_searches more_masters_gone add_masters
+row MemError = LastCode
+row (Put handle from bytes) = Quiet (OnChange handle) done (put handle from bytes)
+row (Show handle) = Quiet (OnHandle handle) Bytes (show handle)
+row (PutPtr pointer from bytes) = Quiet (OnPointer pointer) done (put_pointer pointer from bytes)
+row (ShowPtr pointer) = Quiet (OnPointer pointer) Bytes (show_pointer pointer)
+row (Where name) = Quiet (OnEither name) Number (place_of name)
+
+-- The reply of each call, and the heap after it, where nothing bars it.
+abbrev pub answered : Asked → Memory → Told × Memory
+answered asked m = answer_of (row asked) m
+
+-- The code with which a busy name, or a System resource's handle, bars a call; a name that the call binds bars nothing,
+-- and neither does anything a call without a name.
+abbrev pub gate : Asked → Memory → Option OsErr
+gate asked m = barred_by (bar_of (row asked)) m
+
+-- The handles and the pointers on which a call is made. A name that the call binds is none of them.
+abbrev pub first_named : Asked → Option ℕ
+first_named asked = first_of (bar_of (row asked))
+
+abbrev pub second_named : Asked → Option ℕ
+second_named asked = second_of (bar_of (row asked))
+
+-- Whether a call sets the code that MemError returns.
+abbrev pub notes : Asked → Bool
+notes asked = notes_code (row asked)
+
+-- A call at its gate: where it is barred, nothing changes but the code that MemError returns.
+abbrev pub gated_row : Option OsErr → Row → Memory → Told × Memory
+gated_row None r m = answer_of r m
+gated_row (Some code) r m = (Refused code, if notes_code r then keep_code code m else m)
+
+abbrev pub gated : Option OsErr → Asked → Memory → Told × Memory
+gated o asked m = gated_row o (row asked) m
+
+-- One try of a call: its reply, and the heap after it. It is the same as `gated (gate asked m) asked m`.
+abbrev pub served : Asked → Memory → Told × Memory
+served asked m = serve (row asked) m
+
+-- The searches for room of a call's row, and the blocks that it moves down.
+abbrev pub row_searches : Asked → State → ℕ
+row_searches asked s = searches_of (row asked) s
+
+abbrev pub row_moves : Asked → State → ℕ
+row_moves asked s = moves_of (row asked) s
+
+-- The blocks that one try of a call purges for room.
+abbrev pub gone_in : Asked → Memory → List Gone
+gone_in asked m = gone_of_row (row asked) m
+
+-- The zone after a call that its row refused.
+abbrev pub zone_left : Asked → State → List Block
+zone_left asked s = left_by (row asked) s

@@ -1,0 +1,7 @@
+mod Digits
+mod Checking
+mod Keeping
+mod Judged
+mod Firsts
+mod Stepping
+mod Lengths

@@ -1,0 +1,4 @@
+pub mod Faults
+pub mod Roles
+pub mod Judging
+pub mod Seen
