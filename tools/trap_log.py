@@ -114,10 +114,14 @@ def compare(path, transcript):
     return count
 
 
-if __name__ == "__main__":
-    if len(sys.argv) == 2:
-        script(sys.argv[1])
-    elif len(sys.argv) == 3:
-        sys.exit(1 if compare(sys.argv[1], sys.argv[2]) else 0)
-    else:
+def main(paths):
+    if len(paths) not in (1, 2):
         sys.exit(__doc__)
+    try:
+        return script(paths[0]) if len(paths) == 1 else int(compare(*paths) > 0)
+    except OSError as why:
+        sys.exit(f"{why.filename or 'standard output'}: {why.strerror}")
+
+
+if __name__ == "__main__":
+    sys.exit(main(sys.argv[1:]))
