@@ -14,3 +14,4 @@ pub mod GonePlaces
 pub mod GoneCopies
 pub mod Hearing
 mod Worked
+mod Same

@@ -30,3 +30,4 @@ pub mod Preloaded
 pub mod Owned
 pub mod Contents
 pub mod Stored
+pub mod Rows

@@ -1,0 +1,5 @@
+pub mod Agreeing
+pub mod NewBlocks
+pub mod Growing
+pub mod Resizing
+pub mod Even

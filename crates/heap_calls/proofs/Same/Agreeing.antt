@@ -1,0 +1,212 @@
+use Rattle.std.proofs.Common.{◌≡◌, ℕ, ◌+◌, ◌-◌, zero, suc, Bool, true, false, List, [], ◌∷◌, ◌++◌, Option, Some, None}
+use Rattle.std.proofs.Common.{refl, sym, ◌∙◌, ap, cond, arith, is_some, append-nil, append_assoc}
+use Rattle.std.specs.Prelude.{unwrap_or}
+use Rattle.mac_words.specs.Size.{phys}
+use Rattle.block_store.specs.Block.{Block}
+use Rattle.block_store.specs.Room.{room, purge, count_of, may_be_purged}
+use Rattle.moves.specs.Moves.{Move, Purge, Did, did, moved, gone_by, lowered_by, searches_by, lowest_gone}
+use Rattle.moves.specs.Seeking.{Sought, no_room, sought, purges_for, seek, if_fits, then_seek}
+use Rattle.moves.proofs.Paths.{did-append}
+use Rattle.heap_calls.specs.Searches.{room_searches}
+use Rattle.heap_calls.specs.Moves.{room_moves}
+use Rattle.heap_calls.specs.Gone.{Gone, gone_of, gone, room_gone}
+use Rattle.heap_calls.specs.Rows.{told_blocks}
+use Rattle.heap_calls.proofs.Room.LeastSearches.{least-of, tries-of}
+
+-- What the tables say of a search, and what its path does.
+
+-- the zone after a search, its searches, its moves and what it purges are those of the path
+pub record Agrees (n : ℕ) (spared : Block → Bool) (zone : List Block) (after : Option (List Block)) (searches moves : ℕ)
+    (purged : List Gone) (r : Sought) : Type 0 where
+  pub finds : is_some after ≡ r.found
+  pub leaves : unwrap_or after zone ≡ (did spared r.path zone).zone
+  pub looks : searches ≡ (did spared r.path zone).searches
+  pub lowers : moves ≡ (did spared r.path zone).lowered
+  pub tells : purged ≡ told_blocks n (did spared r.path zone).gone
+
+-- the same of what is equal
+pub agrees-as : {n : ℕ} {spared : Block → Bool} {zone : List Block} {r : Sought} (after after' : Option (List Block))
+    (searches searches' moves moves' : ℕ) (purged purged' : List Gone) → after' ≡ after → searches' ≡ searches
+    → moves' ≡ moves → purged' ≡ purged → Agrees n spared zone after searches moves purged r
+    → Agrees n spared zone after' searches' moves' purged' r
+agrees-as {zone = zone} after after' searches searches' moves moves' purged purged' same s m p a = record {
+  finds = ap is_some same ∙ a.finds;
+  leaves = ap (λ o. unwrap_or o zone) same ∙ a.leaves;
+  looks = s ∙ a.looks;
+  lowers = m ∙ a.lowers;
+  tells = p ∙ a.tells;
+}
+
+-- what goes is told of
+pub gone-told : (n k : ℕ) (spared : Block → Bool) (bs : List Block)
+    → gone n k spared bs ≡ told_blocks n (lowest_gone k spared bs)
+gone-told n zero spared bs = refl
+gone-told n (suc k) spared [] = refl
+gone-told n (suc k) spared (b ∷ bs) = rw (gone-told n k spared bs, gone-told n (suc k) spared bs)
+    (cases (may_be_purged spared b))
+  where
+    cases : (t : Bool)
+        → cond t (gone_of n b ++ told_blocks n (lowest_gone k spared bs)) (told_blocks n (lowest_gone (suc k) spared bs))
+        ≡ told_blocks n (cond t (b ∷ lowest_gone k spared bs) (lowest_gone (suc k) spared bs))
+    cases true = refl
+    cases false = refl
+
+pub told-append : (n : ℕ) (xs ys : List Block) → told_blocks n (xs ++ ys) ≡ told_blocks n xs ++ told_blocks n ys
+told-append n [] ys = refl
+told-append n (b ∷ xs) ys = ap (λ l. gone_of n b ++ l) (told-append n xs ys)
+    ∙ sym (append_assoc (gone_of n b) (told_blocks n xs) (told_blocks n ys))
+
+-- what is tried after as few purges as serve
+module _ (try : List Block → Option (List Block)) (spared : Block → Bool) (blocks : List Block)
+  where
+    abbrev pub fewest : ℕ
+    fewest = purges_for (λ z. is_some (try z)) spared blocks
+
+    abbrev ready : List Block
+    ready = purge fewest spared blocks
+
+    pub room-is : room try spared blocks ≡ try ready
+    room-is = least-of (λ j. try (purge j spared blocks)) (count_of spared blocks) fewest refl
+
+    pub searches-is : room_searches try spared blocks ≡ fewest + 1
+    searches-is = sym (tries-of (λ j. try (purge j spared blocks)) (count_of spared blocks) fewest refl)
+
+    pub moves-is : (moves : List Block → ℕ) → room_moves try moves spared blocks ≡ moves ready
+    moves-is moves = let back : room_searches try spared blocks - 1 ≡ fewest = omega (arith, searches-is) in
+        ap (λ (j : ℕ). moves (purge j spared blocks)) back
+
+    pub gone-is : (n : ℕ) → room_gone n try spared blocks
+        ≡ cond (is_some (try ready)) (told_blocks n (lowest_gone fewest spared blocks)) []
+    gone-is n =
+        let back : room_searches try spared blocks - 1 ≡ fewest = omega (arith, searches-is) in
+        ap (λ (t : Bool). cond t (gone n (room_searches try spared blocks - 1) spared blocks) []) (ap is_some room-is)
+        ∙ ap (λ (j : ℕ). cond (is_some (try ready)) (gone n j spared blocks) []) back
+        ∙ ap (λ l. cond (is_some (try ready)) l []) (gone-told n fewest spared blocks)
+
+-- a search for the place of a move that itself neither searches nor purges
+pub seek-agrees : (n : ℕ) (spared : Block → Bool) (m : Move) → searches_by m ≡ 0
+    → ((z : List Block) → gone_by spared m z ≡ []) → (moves : List Block → ℕ)
+    → ((z : List Block) → moves z ≡ lowered_by m z) → ((z : List Block) → moved spared m z ≡ None → moves z ≡ 0)
+    → (zone : List Block) → Agrees n spared zone (room (moved spared m) spared zone)
+    (room_searches (moved spared m) spared zone) (room_moves (moved spared m) moves spared zone)
+    (room_gone n (moved spared m) spared zone) (seek m spared zone)
+seek-agrees n spared m quiet still moves lowers none zone =
+    agrees-as (try ready) (room try spared zone) (k + 1) (room_searches try spared zone) (moves ready)
+    (room_moves try moves spared zone) (cond (is_some (try ready)) told []) (room_gone n try spared zone)
+    (room-is try spared zone) (searches-is try spared zone) (moves-is try spared zone moves) (gone-is try spared zone n)
+    (cases (try ready) refl)
+  where
+    try : List Block → Option (List Block)
+    try = moved spared m
+
+    k : ℕ
+    k = fewest try spared zone
+
+    ready : List Block
+    ready = purge k spared zone
+
+    told : List Gone
+    told = told_blocks n (lowest_gone k spared zone)
+
+    cases : (o : Option (List Block)) → try ready ≡ o → Agrees n spared zone o (k + 1) (moves ready)
+        (cond (is_some o) told []) (sought k (is_some o) (Purge k ∷ m ∷ []))
+    cases None e = record {
+      finds = refl;
+      leaves = refl;
+      looks = omega arith;
+      lowers = none ready e;
+      tells = refl;
+    }
+    cases (Some z) e = record {
+      finds = refl;
+      leaves = sym (ap (λ o. unwrap_or o ready) e);
+      looks = omega (arith, quiet);
+      lowers = (let l = lowers ready in omega arith);
+      tells = ap (told_blocks n) (sym (ap (λ l. lowest_gone k spared zone ++ (l ++ [])) (still ready)
+          ∙ append-nil (lowest_gone k spared zone)));
+    }
+
+-- a search where a block can have the size
+pub fits-agrees : {n : ℕ} {spared : Block → Bool} {zone : List Block} (size : ℕ) (after : Option (List Block))
+    (searches moves : ℕ) (purged : List Gone) (r : Sought) → Agrees n spared zone after searches moves purged r
+    → Agrees n spared zone (cond (is_some (phys size)) after None) (cond (is_some (phys size)) searches 0)
+    (cond (is_some (phys size)) moves 0) (cond (is_some (phys size)) purged []) (if_fits size r)
+fits-agrees {n = n} {spared = spared} {zone = zone} size after searches moves purged r a = cases (is_some (phys size))
+  where
+    cases : (t : Bool) → Agrees n spared zone (cond t after None) (cond t searches 0) (cond t moves 0)
+        (cond t purged []) (cond t r no_room)
+    cases true = a
+    cases false = record { finds = refl; leaves = refl; looks = refl; lowers = refl; tells = refl }
+
+-- what is said of what there is
+abbrev pub on_some : {A : Type 0} → A → (List Block → A) → Option (List Block) → A
+on_some none some None = none
+on_some none some (Some zone) = some zone
+
+-- one search after another
+pub record BothAgree (n : ℕ) (spared : Block → Bool) (zone : List Block) (first : Option (List Block))
+    (next : List Block → Option (List Block)) (searches moves : ℕ) (purged : List Gone) (r : Sought) : Type 0 where
+  pub finds : on_some false (λ z. is_some (next z)) first ≡ r.found
+  pub leaves : on_some zone (λ z. unwrap_or (next z) z) first ≡ (did spared r.path zone).zone
+  pub looks : searches ≡ (did spared r.path zone).searches
+  pub lowers : moves ≡ (did spared r.path zone).lowered
+  pub tells : purged ≡ told_blocks n (did spared r.path zone).gone
+
+module _ (n : ℕ) (spared : Block → Bool) (zone : List Block) (first : Option (List Block)) (searches moves : ℕ)
+    (purged : List Gone) (r : Sought) (a : Agrees n spared zone first searches moves purged r)
+    (next : List Block → Option (List Block)) (searches' moves' : List Block → ℕ) (purged' : List Block → List Gone)
+    (r' : List Block → Sought)
+    (b : (z : List Block) → Agrees n spared z (next z) (searches' z) (moves' z) (purged' z) (r' z))
+  where
+    abbrev done : Did
+    done = did spared r.path zone
+
+    abbrev more : Did
+    more = did spared (r' done.zone).path done.zone
+
+    -- by what the first one finds
+    pub then-agrees : BothAgree n spared zone first next (searches + on_some 0 searches' first)
+        (moves + on_some 0 moves' first) (purged ++ on_some [] purged' first) (then_seek spared zone r r')
+    then-agrees = cases first refl
+      where
+        cases : (o : Option (List Block)) → first ≡ o → BothAgree n spared zone o next
+            (searches + on_some 0 searches' o) (moves + on_some 0 moves' o) (purged ++ on_some [] purged' o)
+            (then_seek spared zone r r')
+        cases None e =
+            let none : r.found ≡ false = sym a.finds ∙ ap is_some e in
+            let same : then_seek spared zone r r' ≡ r = ap (λ t. cond t (record {
+              found = (r' done.zone).found;
+              path = r.path ++ (r' done.zone).path;
+            }) r) none in
+            let d = ap (λ (x : Sought). did spared x.path zone) same in
+            record {
+              finds = sym (ap (λ (x : Sought). x.found) same ∙ none);
+              leaves = sym (ap (λ o. unwrap_or o zone) e) ∙ a.leaves ∙ sym (ap (λ (x : Did). x.zone) d);
+              looks = (let l = a.looks in let x = ap (λ (x : Did). x.searches) d in omega arith);
+              lowers = (let l = a.lowers in let x = ap (λ (x : Did). x.lowered) d in omega arith);
+              tells = append-nil purged ∙ a.tells ∙ sym (ap (λ (x : Did). told_blocks n x.gone) d);
+            }
+        cases (Some z) e =
+            let some : r.found ≡ true = sym a.finds ∙ ap is_some e in
+            let same : then_seek spared zone r r' ≡ record {
+              found = (r' done.zone).found;
+              path = r.path ++ (r' done.zone).path;
+            } = ap (λ t. cond t (record {
+              found = (r' done.zone).found;
+              path = r.path ++ (r' done.zone).path;
+            }) r) some in
+            let d = ap (λ (x : Sought). did spared x.path zone) same
+            ∙ did-append spared r.path (r' done.zone).path zone in
+            let here : z ≡ done.zone = sym (ap (λ o. unwrap_or o zone) e) ∙ a.leaves in
+            let c = b done.zone in
+            record {
+              finds = ap (λ z. is_some (next z)) here ∙ c.finds ∙ sym (ap (λ (x : Sought). x.found) same);
+              leaves = ap (λ z. unwrap_or (next z) z) here ∙ c.leaves ∙ sym (ap (λ (x : Did). x.zone) d);
+              looks = (let l = a.looks in let l' = ap searches' here ∙ c.looks in let x = ap (λ (x : Did). x.searches) d
+                  in omega arith);
+              lowers = (let l = a.lowers in let l' = ap moves' here ∙ c.lowers in let x = ap (λ (x : Did). x.lowered) d
+                  in omega arith);
+              tells = ap (λ l. l ++ purged' z) a.tells
+                  ∙ ap (λ l. told_blocks n done.gone ++ l) (ap purged' here ∙ c.tells)
+                  ∙ sym (told-append n done.gone more.gone) ∙ sym (ap (λ (x : Did). told_blocks n x.gone) d);
+            }

@@ -1,0 +1,364 @@
+use Rattle.std.proofs.Common.{◌≡◌, ℕ, ◌+◌, ◌<◌, Bool, true, false, List, [], ◌∷◌, ◌++◌, length, replicate}
+use Rattle.std.proofs.Common.{Option, Some, None, Result, Ok, Err, refl, sym, ◌∙◌, ap, cond, arith, is_some}
+use Rattle.std.specs.Option.{option_map}
+use Rattle.std.specs.Prelude.{unwrap_or}
+use Rattle.std.proofs.lemmas.List.{length-replicate}
+use Rattle.mac_words.specs.Size.{phys}
+use Rattle.mac_words.specs.declared.code.OsErr.{OsErr}
+use Rattle.mac_words.specs.declared.code.TheConstants.OsErr.{MEM_FULL}
+use Rattle.mac_words.proofs.Plain.{is_some-map}
+use Rattle.block_store.specs.Block.{Block, Free, Nonrelocatable, Masters, Relocatable, size, is_relocatable, is_room, no_flags, content_of}
+use Rattle.block_store.specs.Run.{RunSpot, run_spot, has_free}
+use Rattle.block_store.specs.Room.{spot, filled, place, put_in_place, put_at_base, room}
+use Rattle.block_store.proofs.Regroup.MostRoom.{placed-is}
+use Rattle.moves.specs.Moves.{Put, Base, place_lowers, lowered_in}
+use Rattle.moves.specs.Seeking.{Sought, seek, if_fits, seek_slot, seek_block, seek_new}
+use Rattle.heap_calls.specs.State.{State, Plain, Meaning, Handle, Pointer}
+use Rattle.heap_calls.specs.Answer as today
+use Rattle.heap_calls.specs.Answer.{Answer, Held, look_up, nothing}
+use Rattle.heap_calls.specs.Slots as slots
+use Rattle.heap_calls.specs.Slots.{slotted, more_masters}
+use Rattle.heap_calls.specs.Pointers as pointers
+use Rattle.heap_calls.specs.Pointers.{reserved}
+use Rattle.heap_calls.specs.Copying as copying
+use Rattle.heap_calls.specs.Searches.{room_searches, slot_searches, ready_searches, block_searches}
+use Rattle.heap_calls.specs.Searches.{new_handle_searches, new_empty_handle_searches, more_masters_searches}
+use Rattle.heap_calls.specs.Searches.{reserve_searches, new_pointer_searches, hand_to_hand_searches, found_searches}
+use Rattle.heap_calls.specs.Moves.{run_moves, as_it_is, place_moves, put_moves, block_moves, new_handle_moves}
+use Rattle.heap_calls.specs.Moves.{hand_to_hand_moves}
+use Rattle.heap_calls.specs.Gone.{Gone, room_gone, slot_gone, ready_gone, block_gone, made_gone, new_handle_gone}
+use Rattle.heap_calls.specs.Gone.{reserve_gone, new_empty_handle_gone, more_masters_gone, new_pointer_gone, hand_to_hand_gone, found_gone}
+use Rattle.heap_calls.specs.Rows as rows
+use Rattle.heap_calls.specs.Rows.{Done, work, heap_after, purged_by, is_unused}
+use Rattle.heap_calls.proofs.Same.Agreeing.{Agrees, BothAgree, seek-agrees, fits-agrees, then-agrees, on_some}
+
+-- The calls that make a block: each table is what is read off the row's path.
+
+-- a row says what the four tables say
+pub record Same {T : Type 0} (answer : Answer T) (searches moves : ℕ) (gone : List Gone) (d : Done T) (s : State)
+    : Type 0 where
+  pub answers : answer ≡ (d.reply, heap_after d s)
+  pub looks : searches ≡ (work d s).searches
+  pub lowers : moves ≡ (work d s).lowered
+  pub tells : gone ≡ purged_by d s
+
+-- a block at the base of a run
+pub base-agrees : (n : ℕ) (spared : Block → Bool) (new : Block) (zone : List Block)
+    → Agrees n spared zone (room (put_at_base new) spared zone) (room_searches (put_at_base new) spared zone) 0
+    (room_gone n (put_at_base new) spared zone) (seek (Base new) spared zone)
+base-agrees n spared new zone =
+    seek-agrees n spared (Base new) refl (λ z. refl) (λ z. 0) (λ z. refl) (λ z e. refl) zone
+
+-- a relocatable block
+packs-same : (o : Option RunSpot) → run_moves as_it_is o ≡ lowered_in o
+packs-same None = refl
+packs-same (Some r) = refl
+
+pub place-same : (p : ℕ) (zone : List Block) → place_moves p zone ≡ place_lowers p zone
+place-same p zone =
+    ap (λ (m : ℕ). cond (is_some (spot (is_room p) zone)) 0 m) (packs-same (run_spot (has_free p) zone))
+
+-- where no place is found nothing is moved
+no-place : (new : Block) → 0 < size new → (zone : List Block) → put_in_place new zone ≡ None
+    → place_moves (size new) zone ≡ 0
+no-place new pos zone e =
+    cases (is_some (spot (is_room (size new)) zone)) (run_spot (has_free (size new)) zone)
+    (sym (placed-is (size new) zone pos) ∙ sym (is_some-map (filled new) (place (size new) zone)) ∙ ap is_some e)
+  where
+    cases : (t : Bool) (r : Option RunSpot) → is_some r ≡ false → cond {A = ℕ} t 0 (run_moves as_it_is r) ≡ 0
+    cases true r f = refl
+    cases false None f = refl
+    cases false (Some r) f = let g : true ≡ false = f in cc
+
+pub put-agrees : (n : ℕ) (spared : Block → Bool) (new : Block) → 0 < size new → (zone : List Block)
+    → Agrees n spared zone (room (put_in_place new) spared zone) (room_searches (put_in_place new) spared zone)
+    (put_moves new spared zone) (room_gone n (put_in_place new) spared zone) (seek (Put new) spared zone)
+put-agrees n spared new pos zone =
+    seek-agrees n spared (Put new) refl (λ z. refl) (place_moves (size new)) (place-same (size new)) (no-place new pos)
+    zone
+
+-- a master pointer
+abbrev pub slot_after : (Block → Bool) → State → Option (List Block)
+slot_after spared s = cond (is_unused s) (Some s.zone) (room (put_at_base Masters) spared s.zone)
+
+pub slot-agrees : (spared : Block → Bool) (s : State) → Agrees (length s.names) spared s.zone (slot_after spared s)
+    (slot_searches spared s) 0 (slot_gone spared s) (seek_slot (is_unused s) spared s.zone)
+slot-agrees spared s = cases (is_unused s)
+  where
+    cases : (t : Bool) → Agrees (length s.names) spared s.zone (cond t (Some s.zone) (room (put_at_base Masters) spared
+        s.zone)) (cond t 0 (room_searches (put_at_base Masters) spared s.zone)) 0
+        (cond t [] (room_gone (length s.names) (put_at_base Masters) spared s.zone)) (seek_slot t spared s.zone)
+    cases true = record { finds = refl; leaves = refl; looks = refl; lowers = refl; tells = refl }
+    cases false = base-agrees (length s.names) spared Masters s.zone
+
+-- the heap with a master pointer
+abbrev pub ready_with : State → List Block → State
+ready_with s zone = record s { zone = zone }
+
+pub slotted-is : (spared : Block → Bool) (s : State)
+    → slotted spared s ≡ option_map (ready_with s) (slot_after spared s)
+slotted-is spared s = cases (is_unused s)
+  where
+    cases : (t : Bool) → cond t (Some s) (more_masters spared s)
+        ≡ option_map (ready_with s) (cond t (Some s.zone) (room (put_at_base Masters) spared s.zone))
+    cases true = refl
+    cases false = refl
+
+-- what is counted and told of where there is a master pointer
+ready-searches : (spared : Block → Bool) (s : State) (count : State → ℕ)
+    → ready_searches (slotted spared s) count ≡ on_some 0 (λ z. count (ready_with s z)) (slot_after spared s)
+ready-searches spared s count = ap (λ o. ready_searches o count) (slotted-is spared s) ∙ cases (slot_after spared s)
+  where
+    cases : (o : Option (List Block)) → ready_searches (option_map (ready_with s) o) count
+        ≡ on_some 0 (λ z. count (ready_with s z)) o
+    cases None = refl
+    cases (Some z) = refl
+
+ready-gone : (spared : Block → Bool) (s : State) (gone : State → List Gone)
+    → ready_gone (slotted spared s) gone ≡ on_some [] (λ z. gone (ready_with s z)) (slot_after spared s)
+ready-gone spared s gone = ap (λ o. ready_gone o gone) (slotted-is spared s) ∙ cases (slot_after spared s)
+  where
+    cases : (o : Option (List Block)) → ready_gone (option_map (ready_with s) o) gone
+        ≡ on_some [] (λ z. gone (ready_with s z)) o
+    cases None = refl
+    cases (Some z) = refl
+
+-- a new number where there is room
+abbrev given_as : Meaning → State → Bool → List Block → Answer ℕ
+given_as name s found zone = (
+  cond found (Ok (length s.names)) (Err MEM_FULL),
+  record { zone = zone; names = cond found (s.names ++ name ∷ []) s.names },
+)
+
+given-as : (name : Meaning) (s : State) (o : Option (List Block))
+    → today.given name o s ≡ given_as name s (is_some o) (unwrap_or o s.zone)
+given-as name s None = refl
+given-as name s (Some zone) = refl
+
+-- a new handle's block, with these bytes
+module _ (spared : Block → Bool) (bytes : List ℕ) (s : State)
+  where
+    abbrev new : Block
+    new = Relocatable (length s.names) no_flags bytes
+
+    abbrev fits : Bool
+    fits = is_some (phys (length bytes))
+
+    abbrev next : List Block → Option (List Block)
+    next z = cond fits (room (put_in_place new) spared z) None
+
+    block-agrees : (z : List Block) → Agrees (length s.names) spared z (next z)
+        (cond fits (room_searches (put_in_place new) spared z) 0) (cond fits (put_moves new spared z) 0)
+        (cond fits (room_gone (length s.names) (put_in_place new) spared z) []) (seek_block new spared z)
+    block-agrees z = fits-agrees (length bytes) (room (put_in_place new) spared z)
+        (room_searches (put_in_place new) spared z) (put_moves new spared z)
+        (room_gone (length s.names) (put_in_place new) spared z) (seek (Put new) spared z)
+        (put-agrees (length s.names) spared new (omega arith) z)
+
+    both : BothAgree (length s.names) spared s.zone (slot_after spared s) next
+        (slot_searches spared s + on_some 0 (λ z. cond fits (room_searches (put_in_place new) spared z) 0)
+        (slot_after spared s)) (0 + on_some 0 (λ z. cond fits (put_moves new spared z) 0) (slot_after spared s))
+        (slot_gone spared s ++ on_some [] (λ z. cond fits (room_gone (length s.names) (put_in_place new) spared z) [])
+        (slot_after spared s)) (seek_new (is_unused s) new spared s.zone)
+    both = then-agrees (length s.names) spared s.zone (slot_after spared s) (slot_searches spared s) 0
+        (slot_gone spared s) (seek_slot (is_unused s) spared s.zone) (slot-agrees spared s) next
+        (λ z. cond fits (room_searches (put_in_place new) spared z) 0) (λ z. cond fits (put_moves new spared z) 0)
+        (λ z. cond fits (room_gone (length s.names) (put_in_place new) spared z) []) (seek_block new spared)
+        block-agrees
+
+    -- the answer where it is tested whether a block can have the size
+    abbrev answer : Answer ℕ
+    answer = slots.if_ready (slotted spared s) s
+        (λ ready. cond fits (slots.new_block spared bytes ready) (today.refused MEM_FULL ready))
+
+    answer-is : answer ≡ ((rows.made spared bytes s).reply, heap_after (rows.made spared bytes s) s)
+    answer-is =
+        ap (λ o. slots.if_ready o s (λ ready. cond fits (slots.new_block spared bytes ready)
+        (today.refused MEM_FULL ready))) (slotted-is spared s)
+        ∙ cases (slot_after spared s)
+        ∙ ap (λ t. given_as (Handle Plain) s t (on_some s.zone (λ z. unwrap_or (next z) z) (slot_after spared s)))
+        both.finds
+        ∙ ap (given_as (Handle Plain) s (seek_new (is_unused s) new spared s.zone).found) both.leaves
+      where
+        by_fit : (t : Bool) (z : List Block) → cond t (slots.new_block spared bytes (ready_with s z))
+            (today.refused MEM_FULL (ready_with s z))
+            ≡ given_as (Handle Plain) s (is_some (cond t (room (put_in_place new) spared z) None))
+            (unwrap_or (cond t (room (put_in_place new) spared z) None) z)
+        by_fit true z = given-as (Handle Plain) (ready_with s z) (room (put_in_place new) spared z)
+        by_fit false z = refl
+
+        cases : (o : Option (List Block)) → slots.if_ready (option_map (ready_with s) o) s
+            (λ ready. cond fits (slots.new_block spared bytes ready) (today.refused MEM_FULL ready))
+            ≡ given_as (Handle Plain) s (on_some false (λ z. is_some (next z)) o)
+            (on_some s.zone (λ z. unwrap_or (next z) z) o)
+        cases None = refl
+        cases (Some z) = by_fit fits z
+
+    pub made-same : Same answer
+        (slot_searches spared s + ready_searches (slotted spared s)
+        (λ ready. cond fits (block_searches spared bytes ready) 0))
+        (ready_searches (slotted spared s) (λ ready. cond fits (block_moves spared bytes ready) 0))
+        (made_gone spared bytes s) (rows.made spared bytes s) s
+    made-same = record {
+      answers = answer-is;
+      looks = ap (λ (m : ℕ). slot_searches spared s + m) (ready-searches spared s
+          (λ ready. cond fits (block_searches spared bytes ready) 0)) ∙ both.looks;
+      lowers = (let l = both.lowers in
+          let r = ready-searches spared s (λ ready. cond fits (block_moves spared bytes ready) 0) in omega arith);
+      tells = ap (λ l. slot_gone spared s ++ l) (ready-gone spared s (block_gone spared bytes)) ∙ both.tells;
+    }
+
+-- NewHandle
+pub new_handle-same : (n : ℕ) (s : State) → Same (slots.new_handle n s) (new_handle_searches n s) (new_handle_moves n s)
+    (new_handle_gone n s) (rows.new_handle n s) s
+new_handle-same n s =
+    let same = made-same nothing (replicate n 0) s in
+    let long = length-replicate n 0 in
+    record {
+      answers = ap (λ (m : ℕ). slots.if_ready (slotted nothing s) s (λ ready. cond (is_some (phys m))
+          (slots.new_block nothing (replicate n 0) ready) (today.refused MEM_FULL ready))) (sym long) ∙ same.answers;
+      looks = ap (λ (m : ℕ). slot_searches nothing s + ready_searches (slotted nothing s)
+          (λ ready. cond (is_some (phys m)) (block_searches nothing (replicate n 0) ready) 0)) (sym long) ∙ same.looks;
+      lowers = ap (λ (m : ℕ). ready_searches (slotted nothing s)
+          (λ ready. cond (is_some (phys m)) (block_moves nothing (replicate n 0) ready) 0)) (sym long) ∙ same.lowers;
+      tells = same.tells;
+    }
+
+-- NewEmptyHandle
+pub new_empty_handle-same : (s : State) → Same (slots.new_empty_handle s) (new_empty_handle_searches s) 0
+    (new_empty_handle_gone s) (rows.new_empty_handle s) s
+new_empty_handle-same s =
+    let a = slot-agrees nothing s in
+    record {
+      answers = ap (λ o. slots.if_ready o s (λ ready. today.given (Handle Plain) (Some ready.zone) ready))
+          (slotted-is nothing s) ∙ cases (slot_after nothing s)
+          ∙ ap (λ t. given_as (Handle Plain) s t (unwrap_or (slot_after nothing s) s.zone)) a.finds
+          ∙ ap (given_as (Handle Plain) s (seek_slot (is_unused s) nothing s.zone).found) a.leaves;
+      looks = a.looks;
+      lowers = a.lowers;
+      tells = a.tells;
+    }
+  where
+    cases : (o : Option (List Block)) → slots.if_ready (option_map (ready_with s) o) s
+        (λ ready. today.given (Handle Plain) (Some ready.zone) ready)
+        ≡ given_as (Handle Plain) s (is_some o) (unwrap_or o s.zone)
+    cases None = refl
+    cases (Some z) = refl
+
+-- a call that changes the zone where there is room
+pub rebuilt-is : (s : State) (o : Option (List Block)) → today.rebuilt o s
+    ≡ (cond (is_some o) (Ok tt) (Err MEM_FULL), ready_with s (unwrap_or o s.zone))
+rebuilt-is s None = refl
+rebuilt-is s (Some zone) = refl
+
+pub changed-same : (spared : Block → Bool) (s : State) (after : Option (List Block)) (searches moves : ℕ)
+    (gone : List Gone) (r : Sought) → Agrees (length s.names) spared s.zone after searches moves gone r
+    → Same (today.rebuilt after s) searches moves gone (rows.changed spared r s) s
+changed-same spared s after searches moves gone r a = record {
+  answers = rebuilt-is s after
+      ∙ ap (λ t. (cond t (Ok tt) (Err MEM_FULL), ready_with s (unwrap_or after s.zone))) a.finds
+      ∙ ap (λ z. (cond r.found (Ok tt) (Err MEM_FULL), ready_with s z)) a.leaves;
+  looks = a.looks;
+  lowers = a.lowers;
+  tells = a.tells;
+}
+
+-- MoreMasters
+pub more_masters-same : (s : State) → Same (pointers.add_masters s) (more_masters_searches s) 0 (more_masters_gone s)
+    (rows.more_masters s) s
+more_masters-same s =
+    let same = changed-same nothing s (room (put_at_base Masters) nothing s.zone) (more_masters_searches s) 0
+    (more_masters_gone s) (seek (Base Masters) nothing s.zone) (base-agrees (length s.names) nothing Masters s.zone) in
+    record {
+      answers = ap (λ o. today.rebuilt o s) (cases (room (put_at_base Masters) nothing s.zone)) ∙ same.answers;
+      looks = same.looks;
+      lowers = same.lowers;
+      tells = same.tells;
+    }
+  where
+    cases : (o : Option (List Block)) → option_map (λ (ready : State). ready.zone) (option_map (ready_with s) o) ≡ o
+    cases None = refl
+    cases (Some z) = refl
+
+-- NewPtr
+pub new_pointer-same : (n : ℕ) (s : State) → Same (pointers.new_pointer n s) (new_pointer_searches n s) 0
+    (new_pointer_gone n s) (rows.new_pointer n s) s
+new_pointer-same n s =
+    let a = fits-agrees n (room try nothing s.zone) (room_searches try nothing s.zone) 0
+    (room_gone (length s.names) try nothing s.zone) (seek (Base new) nothing s.zone)
+    (base-agrees (length s.names) nothing new s.zone) in
+    record {
+      answers = cases (is_some (phys n))
+          ∙ ap (λ t. given_as Pointer s t (unwrap_or (cond (is_some (phys n)) (room try nothing s.zone) None) s.zone))
+          a.finds
+          ∙ ap (given_as Pointer s (if_fits n (seek (Base new) nothing s.zone)).found) a.leaves;
+      looks = a.looks;
+      lowers = none (is_some (phys n)) ∙ a.lowers;
+      tells = a.tells;
+    }
+  where
+    new : Block
+    new = Nonrelocatable (length s.names) (replicate n 0)
+
+    try : List Block → Option (List Block)
+    try = put_at_base new
+
+    none : (t : Bool) → 0 ≡ cond {A = ℕ} t 0 0
+    none true = refl
+    none false = refl
+
+    cases : (t : Bool) → cond t (today.given Pointer (room try nothing s.zone) s) (today.refused MEM_FULL s)
+        ≡ given_as Pointer s (is_some (cond t (room try nothing s.zone) None))
+        (unwrap_or (cond t (room try nothing s.zone) None) s.zone)
+    cases true = given-as Pointer s (room try nothing s.zone)
+    cases false = refl
+
+-- ReserveMem
+pub reserve_mem-same : (n : ℕ) (s : State) → Same (pointers.reserve_mem n s) (reserve_searches (phys n) s) 0
+    (reserve_gone (phys n) s) (rows.reserve_mem n s) s
+reserve_mem-same n s = cases (phys n) refl
+  where
+    cases : (o : Option ℕ) → phys n ≡ o → Same (pointers.reserve_mem n s) (reserve_searches o s) 0 (reserve_gone o s)
+        (rows.reserve_mem n s) s
+    cases None e = rw e (record { answers = refl; looks = refl; lowers = refl; tells = refl })
+    cases (Some p) e = rw e (changed-same nothing s (room (reserved p) nothing s.zone)
+        (room_searches (reserved p) nothing s.zone) 0 (room_gone (length s.names) (reserved p) nothing s.zone)
+        (seek (Base (Free p)) nothing s.zone) (base-agrees (length s.names) nothing (Free p) s.zone))
+
+-- a refusal
+pub refused-same : {T : Type 0} (code : OsErr) (s : State)
+    → Same {T = T} (today.refused code s) 0 0 [] (rows.refused code s) s
+refused-same code s = record { answers = refl; looks = refl; lowers = refl; tells = refl }
+
+-- HandToHand, of a block that has a size that blocks can have
+pub hand_to_hand-same : (handle : Option ℕ) (s : State)
+    → ((held : Held) → look_up handle s ≡ Ok held → is_some (phys (length (content_of held.at.here))) ≡ true)
+    → Same (copying.hand_to_hand handle s) (hand_to_hand_searches handle s) (hand_to_hand_moves handle s)
+    (hand_to_hand_gone handle s) (rows.hand_to_hand handle s) s
+hand_to_hand-same handle s fits = cases (look_up handle s) refl
+  where
+    cases : (r : Result Held OsErr) → look_up handle s ≡ r
+        → Same (today.for_found r s (λ held. slots.if_ready (slotted (is_relocatable held.number) s) s
+        (slots.new_block (is_relocatable held.number) (content_of held.at.here))))
+        (found_searches r (λ held. slot_searches (is_relocatable held.number) s + ready_searches
+        (slotted (is_relocatable held.number) s) (block_searches (is_relocatable held.number)
+        (content_of held.at.here))))
+        (found_searches r (λ held. ready_searches (slotted (is_relocatable held.number) s)
+        (block_moves (is_relocatable held.number) (content_of held.at.here))))
+        (found_gone r (λ held. made_gone (is_relocatable held.number) (content_of held.at.here) s))
+        (rows.for_found r s (λ held. rows.made (is_relocatable held.number) (content_of held.at.here) s)) s
+    cases (Err code) e = refused-same code s
+    cases (Ok held) e =
+        let test = is_relocatable held.number in
+        let bytes = content_of held.at.here in
+        let same = made-same test bytes s in
+        let fit = sym (fits held e) in
+        record {
+          answers = ap (λ t. slots.if_ready (slotted test s) s (λ ready. cond t (slots.new_block test bytes ready)
+              (today.refused MEM_FULL ready))) fit ∙ same.answers;
+          looks = ap (λ t. slot_searches test s + ready_searches (slotted test s)
+              (λ ready. cond t (block_searches test bytes ready) 0)) fit ∙ same.looks;
+          lowers = ap (λ t. ready_searches (slotted test s) (λ ready. cond t (block_moves test bytes ready) 0)) fit
+              ∙ same.lowers;
+          tells = same.tells;
+        }

@@ -1,0 +1,147 @@
+use Rattle.std.specs.Prelude.{ℕ, ◌+◌, Bool, ◌||◌, Option, Some, None, Result, Ok, Err, List, [], ◌∷◌, ◌++◌, length}
+use Rattle.std.specs.Prelude.{replicate, nat_lt, if◌then◌else◌}
+use Rattle.mac_words.specs.Size.{phys}
+use Rattle.mac_words.specs.declared.code.OsErr.{OsErr}
+use Rattle.mac_words.specs.declared.code.TheConstants.OsErr.{MEM_FULL, PURGED}
+use Rattle.block_store.specs.Block.{Block, Free, Nonrelocatable, Masters, Relocatable, content_of, is_relocatable, no_flags}
+use Rattle.block_store.specs.Room.{spot}
+use Rattle.block_store.specs.Grow.{freed}
+use Rattle.moves.specs.Moves.{Move, Put, Base, Drop, Write, Did, did}
+use Rattle.moves.specs.Seeking.{Sought, no_room, seek, if_fits, seek_slot, seek_new, seek_size, around}
+use Rattle.heap_calls.specs.State.{Plain, Meaning, Handle, Pointer, State, used_slots, all_slots}
+use Rattle.heap_calls.specs.Answer.{Held, look_up, handle_at, nothing}
+use Rattle.heap_calls.specs.Pointers.{pointed_at}
+use Rattle.heap_calls.specs.Purging.{is_loose}
+use Rattle.heap_calls.specs.Gone.{Gone, gone_of}
+
+-- The calls that search for room, each as one path of moves. Inside Macintosh: Memory, chapter 2, "Memory Manager
+-- Routines".
+
+-- What a call did: its reply, or the code with which it is refused; what the numbers stand for after it; the blocks that
+-- its searches spare; and its path. The heap after the call, its searches, its moves, and what it purges are read off the
+-- path.
+pub record Done (T : Type 0) : Type 0 where
+  pub reply : Result T OsErr
+  pub names : List Meaning
+  pub spared : Block → Bool
+  pub path : List Move
+
+-- What the path of a call does in a heap.
+abbrev pub work : {T : Type 0} → Done T → State → Did
+work d s = did d.spared d.path s.zone
+
+-- The heap after the call.
+abbrev pub heap_after : {T : Type 0} → Done T → State → State
+heap_after d s = record { zone = (work d s).zone; names = d.names }
+
+-- The blocks that are told of, of those that are purged: those whose handles are among the first n.
+abbrev pub told_blocks : ℕ → List Block → List Gone
+told_blocks n [] = []
+told_blocks n (b ∷ above) = gone_of n b ++ told_blocks n above
+
+-- The blocks that the call purges.
+abbrev pub purged_by : {T : Type 0} → Done T → State → List Gone
+purged_by d s = told_blocks (length s.names) (work d s).gone
+
+-- A refusal with a code, which changes nothing.
+abbrev pub refused : {T : Type 0} → OsErr → State → Done T
+refused code s = record { reply = Err code; names = s.names; spared = nothing; path = [] }
+
+-- What a call did for what was found, or a refusal with the code that says why nothing was found.
+abbrev pub for_found : {A T : Type 0} → Result A OsErr → State → (A → Done T) → Done T
+for_found (Err code) s call = refused code s
+for_found (Ok found) s call = call found
+
+-- The reply where room was found; -108 (memFullErr) where there is none.
+abbrev pub reply_of : {T : Type 0} → Bool → T → Result T OsErr
+reply_of found value = if found then Ok value else Err MEM_FULL
+
+-- The next number, which stands for `name`, where room was found.
+abbrev pub given : Meaning → (Block → Bool) → Sought → State → Done ℕ
+given name spared sought s = record {
+  reply = reply_of sought.found (length s.names);
+  names = if sought.found then s.names ++ name ∷ [] else s.names;
+  spared = spared;
+  path = sought.path;
+}
+
+-- A call that changes the zone where room was found.
+abbrev pub changed : (Block → Bool) → Sought → State → Done (Unit {0})
+changed spared sought s =
+    record { reply = reply_of sought.found tt; names = s.names; spared = spared; path = sought.path }
+
+-- A master pointer is unused.
+abbrev pub is_unused : State → Bool
+is_unused s = nat_lt (used_slots s) (all_slots s)
+
+-- A new handle with a block of these bytes.
+abbrev pub made : (Block → Bool) → List ℕ → State → Done ℕ
+made spared bytes s = given (Handle Plain) spared
+    (seek_new (is_unused s) (Relocatable (length s.names) no_flags bytes) spared s.zone) s
+
+-- NewHandle: a new handle with a block of n bytes, all 0.
+abbrev pub new_handle : ℕ → State → Done ℕ
+new_handle n s = made nothing (replicate n 0) s
+
+-- NewEmptyHandle: a new handle with no block.
+abbrev pub new_empty_handle : State → Done ℕ
+new_empty_handle s = given (Handle Plain) nothing (seek_slot (is_unused s) nothing s.zone) s
+
+-- MoreMasters: a new master pointer block.
+abbrev pub more_masters : State → Done (Unit {0})
+more_masters s = changed nothing (seek (Base Masters) nothing s.zone) s
+
+-- NewPtr: a new pointer to a nonrelocatable block of n bytes, all 0.
+abbrev pub new_pointer : ℕ → State → Done ℕ
+new_pointer n s = given Pointer nothing
+    (if_fits n (seek (Base (Nonrelocatable (length s.names) (replicate n 0))) nothing s.zone)) s
+
+-- ReserveMem: a free block of n bytes as low in the zone as can be.
+abbrev pub reserve_mem : ℕ → State → Done (Unit {0})
+reserve_mem n s = changed nothing (room_for (phys n)) s
+  where
+    room_for : Option ℕ → Sought
+    room_for None = no_room
+    room_for (Some p) = seek (Base (Free p)) nothing s.zone
+
+-- HandToHand: a new handle with a copy of the bytes of another handle's block, which is not purged for the copy.
+abbrev pub hand_to_hand : Option ℕ → State → Done ℕ
+hand_to_hand handle s =
+    for_found (look_up handle s) s (λ held. made (is_relocatable held.number) (content_of held.at.here) s)
+
+-- SetHandleSize: the handle's block, which is spared, grows or is cut to n bytes.
+abbrev pub set_handle_size : Option ℕ → ℕ → State → Done (Unit {0})
+set_handle_size handle n s = for_found (look_up handle s) s (λ held. changed (is_relocatable held.number)
+    (seek_size n (is_relocatable held.number) s.zone held.at) s)
+
+-- SetPtrSize: the pointer's block grows or is cut to n bytes where it stands.
+abbrev pub set_pointer_size : Option ℕ → ℕ → State → Done (Unit {0})
+set_pointer_size pointer n s =
+    for_found (pointed_at pointer s) s (λ held. changed nothing (seek_size n nothing s.zone held.at) s)
+
+-- Bytes appended to a handle's block.
+abbrev pub append : (Block → Bool) → Held → List ℕ → State → Done (Unit {0})
+append spared held x s = changed spared (around [] (Write held.number len x ∷ [])
+    (seek_size (len + length x) spared s.zone held.at)) s
+  where
+    len : ℕ
+    len = length (content_of held.at.here)
+
+-- HandAndHand: the bytes of one handle's block appended to another's; both are spared.
+-- See decision 31 (`HandAndHand a b` refuses for `a` first, then for `b`).
+abbrev pub hand_and_hand : Option ℕ → Option ℕ → State → Done (Unit {0})
+hand_and_hand from to s = for_found (look_up from s) s (λ a. for_found (look_up to s) s (λ b.
+    append (λ block. is_relocatable a.number block || is_relocatable b.number block) b (content_of a.at.here) s))
+
+-- PtrAndHand: bytes appended to a handle's block, which is spared.
+abbrev pub pointer_and_hand : Option ℕ → List ℕ → State → Done (Unit {0})
+pointer_and_hand handle x s =
+    for_found (look_up handle s) s (λ held. append (is_relocatable held.number) held x s)
+
+-- ReallocateHandle: a new block of n bytes, all 0, for a handle, whose old block is freed first; -112 (memPurErr) where
+-- the old block is locked.
+abbrev pub reallocate_handle : Option ℕ → ℕ → State → Done (Unit {0})
+reallocate_handle handle n s = for_found (handle_at handle s) s (λ k. if is_loose (spot (is_relocatable k.number) s.zone)
+    then changed nothing (around (Drop k.number ∷ []) [] (if_fits n (seek
+    (Put (Relocatable k.number no_flags (replicate n 0))) nothing (freed (is_relocatable k.number) s.zone)))) s
+    else refused PURGED s)

@@ -1,0 +1,64 @@
+use Rattle.std.proofs.Common.{◌≡◌, ℕ, ◌+◌, Bool, true, false, List, [], ◌∷◌, refl, cond, is_some, nat_le}
+use Rattle.mac_words.specs.Size.{phys}
+use Rattle.block_store.specs.Block.{Block, Masters, size, is_mover, resized}
+use Rattle.block_store.specs.Run.{has_free, segments}
+use Rattle.block_store.specs.Room.{Spot, purge}
+use Rattle.block_store.specs.Grow.{growth, grow_up}
+use Rattle.moves.specs.Moves.{Move, Purge, Base, Grow, Extend, Push, Cut, did, untouched, moved, run_above}
+use Rattle.moves.specs.Seeking.{Sought, no_room, at_hand, sought, purges_for, seek, if_fits, seek_slot, seek_in_place}
+use Rattle.moves.specs.Seeking.{seek_resized, seek_size}
+
+-- Where no room is found a path only searches, and so many times wherever it begins.
+
+abbrev pub Only : (Block → Bool) → Sought → Type 0
+Only spared r = (n : ℕ) × ((zone : List Block) → did spared r.path zone ≡ record (untouched zone) { searches = n })
+
+abbrev pub Refuses : (Block → Bool) → Sought → Type 0
+Refuses spared r = r.found ≡ false → Only spared r
+
+module _ (spared : Block → Bool)
+  where
+    pub sought-refused : (k : ℕ) (found : Bool) (taking : List Move) → Refuses spared (sought k found taking)
+    sought-refused k true taking e = let f : true ≡ false = e in cc
+    sought-refused k false taking e = (k + 1 + 0, λ zone. refl)
+
+    pub seek-refused : (m : Move) (zone : List Block) → Refuses spared (seek m spared zone)
+    seek-refused m zone =
+        let k = purges_for (λ z. is_some (moved spared m z)) spared zone in
+        sought-refused k (is_some (moved spared m (purge k spared zone))) (Purge k ∷ m ∷ [])
+
+    pub fits-refused : (n : ℕ) (r : Sought) → Refuses spared r → Refuses spared (if_fits n r)
+    fits-refused n r only = cases (is_some (phys n))
+      where
+        cases : (t : Bool) → Refuses spared (cond t r no_room)
+        cases true = only
+        cases false = λ e. (0, λ zone. refl)
+
+    pub slot-refused : (unused : Bool) (zone : List Block) → Refuses spared (seek_slot unused spared zone)
+    slot-refused true zone e = let f : true ≡ false = e in cc
+    slot-refused false zone e = seek-refused (Base Masters) zone e
+
+    in-place-refused : (new : Block) (s : Spot) → Refuses spared (seek_in_place new spared s)
+    in-place-refused new s = cases (is_some (grow_up new s))
+      where
+        k : ℕ
+        k = purges_for (has_free (growth new s)) spared (segments s.above).first
+
+        cases : (t : Bool) → Refuses spared (cond t (sought 0 true (Extend new ∷ []))
+            (sought k (has_free (growth new s) (run_above k spared s)) (Push new k ∷ [])))
+        cases true = sought-refused 0 true (Extend new ∷ [])
+        cases false = sought-refused k (has_free (growth new s) (run_above k spared s)) (Push new k ∷ [])
+
+    resized-refused : (new : Block) (zone : List Block) (s : Spot) → Refuses spared (seek_resized new spared zone s)
+    resized-refused new zone s = cases (nat_le (size new) (size s.here)) (is_mover s.here)
+      where
+        cases : (t u : Bool) → Refuses spared
+            (cond t (at_hand (Cut new ∷ [])) (cond u (seek (Grow new) spared zone) (seek_in_place new spared s)))
+        cases true u = λ e. let f : true ≡ false = e in cc
+        cases false true = seek-refused (Grow new) zone
+        cases false false = in-place-refused new s
+
+    -- a block that does not get another size
+    pub size-refused : (n : ℕ) (zone : List Block) (s : Spot) → Refuses spared (seek_size n spared zone s)
+    size-refused n zone s = fits-refused n (seek_resized (resized n s.here) spared zone s)
+        (resized-refused (resized n s.here) zone s)
