@@ -4,7 +4,7 @@
 usage: tools/refuse_memory.py [--counts] [--all] PROGRAM [ARCHIVE..]
 
 The inputs are the scripts and the forks of examples/, and the commands of the archives (crates/worked_commands) that are done and
-have no absolute paths; with options those that print or take source, and those that compare. Each is run whole, and compared with its archive. Then its N-th allocation is refused, for
+have no absolute paths; with options those that print or take source, those that compare, and those that read a dump. Each is run whole, and compared with its archive. Then its N-th allocation is refused, for
 each N until a run meets no refusal: once that allocation alone, and once each from that one on. A run passes where it is like the
 whole one, or where its status is 1, it prints nothing, its standard error is the line 'macmem: no host memory', and it leaves what
 it is to leave:
@@ -41,10 +41,10 @@ MODES = {"REFUSE_AT": "allocation {} refused", "REFUSE_FROM": "allocation {} and
 OPTIONS = {"--counts", "--all"}
 # What the library counts: allocations, refusals, writes to the standard error, and the allocations before each of these.
 COUNTS = struct.Struct("131Q")
-COMMANDS = "script", "heap", "lint", "run", "map", "check", "get", "extract", "set", "diff", "rewrite", "derez", "show", "rez"
+COMMANDS = "script", "heap", "zone", "lint", "run", "map", "check", "get", "extract", "set", "diff", "rewrite", "derez", "show", "rez"
 # Commands that are tried with options too, but for those that are words alone.
 WITH_OPTIONS = "derez", "show", "rez"
-NAMED_OPTIONS = {"--rez", "--text", "--name", "--attrs"}
+NAMED_OPTIONS = {"--rez", "--text", "--name", "--attrs", "--base", "--check", "--find"}
 EVENTS = (b"launch", b"step", b"turn", b"quit", b"rest")
 INPUTS = (b"system", b"app", b"file")
 # Parts of an archive that say what its command does; a command with one of the first is not done, or is not compared here.

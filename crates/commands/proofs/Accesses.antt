@@ -5,7 +5,7 @@ use Rattle.script_text.specs.declared.fault.FaultKind.{FaultKind}
 use Rattle.script_text.specs.declared.fault.FaultKind.TheVariants as kinds
 use Rattle.script_text.specs.Reading.{FailsAt}
 use Rattle.script_text.specs.Script.{Spelled}
-use Rattle.commands.specs.Fault.{Message, Usage, CannotRead, Script, Fork, CannotWrite, HostMemory, NotLaunched, message_of}
+use Rattle.commands.specs.Fault.{Message, Usage, CannotRead, Script, Fork, CannotWrite, HostMemory, NotLaunched, Dump, message_of}
 use Rattle.commands.specs.declared.fault.ToolFault.{ToolFault}
 use Rattle.commands.specs.Tasks.{script_message}
 use Rattle.commands.specs.declared.host.WriteError.{WriteError}
@@ -70,6 +70,8 @@ unread_stops path old new (CannotWrite named) unread =
     absurd (let no : CannotWrite named ≡ CannotRead path = unread.0 in cc)
 unread_stops path old new (NotLaunched named app) unread =
     absurd (let no : NotLaunched named app ≡ CannotRead path = unread.0 in cc)
+unread_stops path old new (Dump named why) unread =
+    absurd (let no : Dump named why ≡ CannotRead path = unread.0 in cc)
 
 pub unread_given : (A : Type 0) (path : List ℕ) (old new : Option (List Access)) (message : Message)
     → IsUnread path old new message → IsStop {Y = A} (Err (CannotRead path)) message
@@ -80,6 +82,7 @@ unread_given A path old new (Script named line kind) unread = ap Err (sym unread
 unread_given A path old new (Fork named fault) unread = ap Err (sym unread.0)
 unread_given A path old new (CannotWrite named) unread = ap Err (sym unread.0)
 unread_given A path old new (NotLaunched named app) unread = ap Err (sym unread.0)
+unread_given A path old new (Dump named why) unread = ap Err (sym unread.0)
 
 -- the fault of a file's bytes, and of a script, comes after all that was read
 pub fork_ends : {A : Type 0} (path : List ℕ) (made : Result A FileFault) (mid new : Option (List Access))
@@ -91,6 +94,7 @@ fork_ends path made mid new (CannotRead named) fault same = absurd fault
 fork_ends path made mid new (Script named line kind) fault same = same
 fork_ends path made mid new (CannotWrite named) fault same = same
 fork_ends path made mid new (NotLaunched named app) fault same = same
+fork_ends path made mid new (Dump named why) fault same = same
 
 pub script_ends : (path : List ℕ) (line : ℕ) (kind : FaultKind) (mid new : Option (List Access)) (message : Message)
     → message ≡ script_message path line kind → new ≡ mid → Stops mid new message
@@ -120,6 +124,7 @@ stop_then r next (Script path line kind) stops = ap (λ x. given_then x next) st
 stop_then r next (Fork path fault) stops = ap (λ x. given_then x next) stops
 stop_then r next (CannotWrite path) stops = ap (λ x. given_then x next) stops
 stop_then r next (NotLaunched path app) stops = ap (λ x. given_then x next) stops
+stop_then r next (Dump path why) stops = ap (λ x. given_then x next) stops
 
 -- the fault of a call that stopped is passed on
 pub stop_given : {X Y : Type 0} (view : X → Y) (given : Result Y Message) (result : Result X ToolFault) (fault : ToolFault)

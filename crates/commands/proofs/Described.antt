@@ -12,7 +12,7 @@ use Rattle.commands.specs.declared.tasks.Work.{Work}
 use Rattle.commands.specs.declared.tasks.Work.TheVariants as work
 use Rattle.commands.specs.Accesses.{Access}
 use Rattle.commands.specs.Delivering.{IsUndelivered}
-use Rattle.commands.specs.Fault.{Message, Usage, CannotRead, Script, Fork, CannotWrite, HostMemory, NotLaunched}
+use Rattle.commands.specs.Fault.{Message, Usage, CannotRead, Script, Fork, CannotWrite, HostMemory, NotLaunched, Dump}
 use Rattle.commands.specs.Listing.{listing}
 use Rattle.commands.specs.Tasks.{IsPrinted, IsFault, IsRefusal}
 use Rattle.commands.specs.Work.{described, IsDescription}
@@ -49,6 +49,8 @@ refused_print w path bytes out p q old new (Fork named fault) is h =
     absurd (let no : Fork named fault ≡ CannotWrite (codes "-") = h.1.0 in cc)
 refused_print w path bytes out p q old new (NotLaunched named app) is h =
     absurd (let no : NotLaunched named app ≡ CannotWrite (codes "-") = h.1.0 in cc)
+refused_print w path bytes out p q old new (Dump named why) is h =
+    absurd (let no : Dump named why ≡ CannotWrite (codes "-") = h.1.0 in cc)
 
 -- the bytes are at fault, which is no fault of writing
 no_writing : (w : Work) (path bytes named : List ℕ) → IsFault w path bytes (CannotWrite named) → ⊥
@@ -57,6 +59,7 @@ no_writing (work.Heap asked) path bytes named h = h
 no_writing (work.Map spelling) path bytes named h = h
 no_writing (work.Describe spelling) path bytes named h = h
 no_writing work.Check path bytes named h = h
+no_writing (work.Zone asked) path bytes named h = h
 
 pub refused_bytes : (w : Work) (path bytes : List ℕ) (p : Option (List ℕ)) (old : Option (List Access)) (message : Message)
     → IsFault w path bytes message → IsRefusal w path bytes p p old old message
@@ -67,6 +70,7 @@ refused_bytes w path bytes p old (CannotRead named) h = (h, refl, refl)
 refused_bytes w path bytes p old (Script named line kind) h = (h, refl, refl)
 refused_bytes w path bytes p old (Fork named fault) h = (h, refl, refl)
 refused_bytes w path bytes p old (NotLaunched named app) h = (h, refl, refl)
+refused_bytes w path bytes p old (Dump named why) h = (h, refl, refl)
 
 -- what was to be printed, as it was sent
 pub refused_sent : (w : Work) (path bytes out sent : List ℕ) (p q : Option (List ℕ)) (old new : Option (List Access))

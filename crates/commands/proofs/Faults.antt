@@ -3,7 +3,7 @@ use Rattle.fork_commands.specs.declared.fault.FileFault.{FileFault}
 use Rattle.fork_commands.specs.declared.fault.WorkFault.{WorkFault}
 use Rattle.fork_commands.specs.declared.fault.WorkFault.TheVariants.{File, HostMemory as NoMemory}
 use Rattle.fork_commands.specs.Faults.{Stops}
-use Rattle.commands.specs.Fault.{Message, Usage, CannotRead, Script, Fork, CannotWrite, HostMemory, NotLaunched}
+use Rattle.commands.specs.Fault.{Message, Usage, CannotRead, Script, Fork, CannotWrite, HostMemory, NotLaunched, Dump}
 use Rattle.commands.specs.Accesses.{Access, IsUnwritten}
 use Rattle.commands.specs.Tasks.{fork_message, IsForkFault, IsQuiet}
 
@@ -27,6 +27,8 @@ loud_write path p q old new (Script named line kind) is =
     absurd (let no : Script named line kind ≡ CannotWrite path = is.0 in cc)
 loud_write path p q old new (NotLaunched named app) is =
     absurd (let no : NotLaunched named app ≡ CannotWrite path = is.0 in cc)
+loud_write path p q old new (Dump named why) is =
+    absurd (let no : Dump named why ≡ CannotWrite path = is.0 in cc)
 
 -- nothing was printed
 pub quiet_silent : (p q : Option (List ℕ)) (message : Message) → q ≡ p → IsQuiet p q message
@@ -37,3 +39,4 @@ quiet_silent p q (Usage text) same = same
 quiet_silent p q (CannotRead named) same = same
 quiet_silent p q (Script named line kind) same = same
 quiet_silent p q (NotLaunched named app) same = same
+quiet_silent p q (Dump named why) same = same

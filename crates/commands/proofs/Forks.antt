@@ -2,7 +2,7 @@
 use Rattle.std.proofs.Common.{◌≡◌, ◌∷◌, ◌∙◌, ℕ, List, [], Option, Result, Ok, Err, IfErr, sym, ap, subst}
 use Rattle.script_text.specs.Script.{Spelled}
 use Rattle.fork_commands.specs.Reading.{fork_in}
-use Rattle.commands.specs.Fault.{Message, Usage, CannotRead, Script, Fork, CannotWrite, HostMemory, NotLaunched, message_of}
+use Rattle.commands.specs.Fault.{Message, Usage, CannotRead, Script, Fork, CannotWrite, HostMemory, NotLaunched, Dump, message_of}
 use Rattle.commands.specs.declared.fault.ToolFault.{ToolFault}
 use Rattle.commands.specs.Accesses.{Access, Stops, IsUnread, and_then, reads_at}
 use Rattle.commands.specs.Gathering.{Found, source_of, fork_told, fork_at, script_at, app_of, app_at, GivenApp, IsStop, Reads, IsGiven}
@@ -25,6 +25,7 @@ fork_stop path file (CannotRead named) is = absurd is
 fork_stop path file (Script named line kind) is = absurd is
 fork_stop path file (CannotWrite named) is = absurd is
 fork_stop path file (NotLaunched named app) is = absurd is
+fork_stop path file (Dump named why) is = absurd is
 
 -- the fork's file, and the script's, can't be read
 pub fork_unread : {X : Type 0} (path : List ℕ) (old new : Option (List Access)) (result : Result X ToolFault)

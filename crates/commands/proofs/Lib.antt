@@ -21,6 +21,7 @@ mod Writes
 mod Surveyed
 mod Linted
 mod Described
+mod Dumped
 mod Checked
 mod Opened
 mod Packed

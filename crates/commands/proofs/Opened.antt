@@ -9,7 +9,7 @@ use Rattle.fork_commands.proofs.Opens.{no_fork}
 use Rattle.commands.specs.declared.extracting.Pieces.{Pieces}
 use Rattle.commands.specs.declared.extracting.Pieces.TheVariants.{Resources, Forks}
 use Rattle.commands.specs.Extracting.{to_write}
-use Rattle.commands.specs.Fault.{Message, Usage, CannotRead, Script, Fork, CannotWrite, HostMemory, NotLaunched}
+use Rattle.commands.specs.Fault.{Message, Usage, CannotRead, Script, Fork, CannotWrite, HostMemory, NotLaunched, Dump}
 use Rattle.commands.specs.Tasks.{IsForkFault}
 
 no_content : (bytes : List ℕ) (fault : FileFault) → opened bytes ≡ Err fault → content_in bytes ≡ Err fault
@@ -34,6 +34,7 @@ passed path made other (CannotRead named) next is = absurd is
 passed path made other (Script named line kind) next is = absurd is
 passed path made other (CannotWrite named) next is = absurd is
 passed path made other (NotLaunched named app) next is = absurd is
+passed path made other (Dump named why) next is = absurd is
 
 pub unlisted : (path bytes : List ℕ) (message : Message) → IsForkFault path (opened bytes) message
     → IsForkFault path (content_in bytes) message

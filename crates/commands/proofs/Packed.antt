@@ -5,7 +5,7 @@ use Rattle.fork_edits.specs.Contents.{Listed}
 use Rattle.fork_commands.specs.Packing.{listed_in, listed_paths, fork_of_files}
 use Rattle.commands.specs.declared.packing.Packing.{Packing}
 use Rattle.commands.specs.Accesses.{Access, Read, Write, and_then, reads_at, IsUnread, IsNextUnread, StopsReading, IsPartWritten}
-use Rattle.commands.specs.Fault.{Message, HostMemory, Usage, CannotRead, Script, Fork, CannotWrite, NotLaunched}
+use Rattle.commands.specs.Fault.{Message, HostMemory, Usage, CannotRead, Script, Fork, CannotWrite, NotLaunched, Dump}
 use Rattle.commands.specs.Packing.{list_path, reads_listed, Packs, IsUnpacked, ListUnread, ListFaulty, FileUnread, Unfit, Unwritten}
 use Rattle.commands.specs.Tasks.{IsForkFault}
 use Rattle.commands.proofs.Accesses.{none, one_more}
@@ -57,6 +57,7 @@ next_unread x rest old new (Script named line kind) unread = unread
 next_unread x rest old new (Fork named fault) unread = unread
 next_unread x rest old new (CannotWrite named) unread = unread
 next_unread x rest old new (NotLaunched named app) unread = unread
+next_unread x rest old new (Dump named why) unread = unread
 
 no_memory : (rest : List (List ℕ)) (old new : Option (List Access)) → new ≡ old → IsNextUnread rest old new HostMemory
 no_memory [] old new same = same

@@ -30,6 +30,7 @@ look_word (work.Heap asked) = codes "heap"
 look_word (work.Map spelling) = codes "map"
 look_word (work.Describe spelling) = codes "map"
 look_word work.Check = codes "check"
+look_word (work.Zone asked) = codes "zone"
 
 abbrev pub print_word : ForkWork → Option (List ℕ)
 print_word (Get key) = Some (codes "get")

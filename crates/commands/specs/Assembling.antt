@@ -11,7 +11,7 @@ use Rattle.commands.specs.declared.delivering.Target.TheVariants.{NewFile}
 use Rattle.commands.specs.Accesses.{Access, Read, and_then, reads_at, IsUnread, StopsReading}
 use Rattle.commands.specs.Declaring.{Knows, IsUnknown}
 use Rattle.commands.specs.Delivering.{Delivers, IsUndelivered}
-use Rattle.commands.specs.Fault.{Message, Usage, CannotRead, Script, Fork, CannotWrite, HostMemory, NotLaunched}
+use Rattle.commands.specs.Fault.{Message, Usage, CannotRead, Script, Fork, CannotWrite, HostMemory, NotLaunched, Dump}
 use Rattle.commands.specs.Tasks.{IsForkFault}
 
 -- The fork that a source of Rez states is written: files of declarations are read, then the source, then the files that its
@@ -45,6 +45,7 @@ IsSourceFault path made (CannotRead named) = ⊥
 IsSourceFault path made (Script named line kind) = ⊥
 IsSourceFault path made (CannotWrite named) = ⊥
 IsSourceFault path made (NotLaunched named app) = ⊥
+IsSourceFault path made (Dump named why) = ⊥
 
 -- The files that a text names were read, each once, in its order, and with them it states a fork.
 pub record States (source : List ℕ) (known : List Declared) (text fork : List ℕ) (old new : Option (List Access)) : Type 0 where

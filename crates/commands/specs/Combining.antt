@@ -10,7 +10,7 @@ use Rattle.commands.specs.Accesses.{Access, Read, and_then, IsUnread}
 use Rattle.commands.specs.declared.ending.Ending.{Ending}
 use Rattle.commands.specs.Delivering.{Delivers, IsUndelivered}
 use Rattle.commands.specs.Ending.{ending_of}
-use Rattle.commands.specs.Fault.{Message, Usage, CannotRead, Script, Fork, CannotWrite, HostMemory, NotLaunched}
+use Rattle.commands.specs.Fault.{Message, Usage, CannotRead, Script, Fork, CannotWrite, HostMemory, NotLaunched, Dump}
 
 -- Two files are read, and what is made of their bytes is printed or written. `p` and `q` are the bytes that have been
 -- printed before and after, `old` and `new` the accesses to files.
@@ -35,6 +35,7 @@ IsPairFault first second made (CannotRead named) = ⊥
 IsPairFault first second made (Script named line kind) = ⊥
 IsPairFault first second made (CannotWrite named) = ⊥
 IsPairFault first second made (NotLaunched named app) = ⊥
+IsPairFault first second made (Dump named why) = ⊥
 
 -- The names of the files in what is made: their paths as they were given.
 abbrev pub names_of : Combination → Names

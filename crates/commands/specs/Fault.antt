@@ -3,6 +3,7 @@ use Rattle.script_text.specs.Fault as script
 use Rattle.script_text.specs.declared.fault.FaultKind.{FaultKind}
 use Rattle.fork_commands.specs.declared.fault.FileFault.{FileFault}
 use Rattle.fork_commands.specs.Faults as file
+use Rattle.real_zone_view.specs.declared.dump.DumpFault.{DumpFault}
 use Rattle.commands.specs.declared.host.ReadError.{ReadError}
 use Rattle.commands.specs.declared.host.ReadError.TheVariants as read_error
 use Rattle.commands.specs.declared.host.WriteError.{WriteError}
@@ -21,6 +22,7 @@ pub data Message : Type 0 where
   CannotWrite : (path : List ℕ) → Message
   HostMemory : Message
   NotLaunched : (path : List ℕ) → (app : List ℕ) → Message
+  Dump : (path : List ℕ) → (fault : DumpFault) → Message
 
 abbrev pub message_of : ToolFault → Message
 message_of (fault.Usage text) = Usage (string_bytes text)
@@ -30,6 +32,7 @@ message_of (fault.Fork path why) = Fork (string_bytes path) why
 message_of (fault.CannotWrite path) = CannotWrite (string_bytes path)
 message_of fault.HostMemory = HostMemory
 message_of (fault.NotLaunched path app) = NotLaunched (string_bytes path) (string_bytes app)
+message_of (fault.Dump path why) = Dump (string_bytes path) why
 
 -- The fault of an input that could not be read, and of output that could not be written, with its path.
 abbrev pub read_message : List ℕ → ReadError → Message
@@ -49,8 +52,9 @@ IsUsage (Fork path why) = ⊥
 IsUsage (CannotWrite path) = ⊥
 IsUsage HostMemory = Unit {0}
 IsUsage (NotLaunched path app) = ⊥
+IsUsage (Dump path why) = ⊥
 
--- The number of the line that is printed: 0 for usage and help, 1 to 6 for the lines.
+-- The number of the line that is printed: 0 for usage and help, 1 to 7 for the lines.
 abbrev pub kind_of : ToolFault → ℕ
 kind_of (fault.Usage text) = 0
 kind_of (fault.CannotRead path) = 1
@@ -59,6 +63,7 @@ kind_of (fault.Fork path why) = 3
 kind_of (fault.CannotWrite path) = 4
 kind_of fault.HostMemory = 5
 kind_of (fault.NotLaunched path app) = 6
+kind_of (fault.Dump path why) = 7
 
 -- The status with which the program ends.
 abbrev pub status_of : ToolFault → ℕ
@@ -69,6 +74,7 @@ status_of (fault.Fork path why) = 1
 status_of (fault.CannotWrite path) = 1
 status_of fault.HostMemory = 1
 status_of (fault.NotLaunched path app) = 1
+status_of (fault.Dump path why) = 1
 
 -- The path that the line names.
 abbrev pub path_of : ToolFault → List ℕ
@@ -79,6 +85,7 @@ path_of (fault.Fork path why) = string_bytes path
 path_of (fault.CannotWrite path) = string_bytes path
 path_of fault.HostMemory = []
 path_of (fault.NotLaunched path app) = string_bytes path
+path_of (fault.Dump path why) = string_bytes path
 
 -- The line of the script, or of the source.
 abbrev pub line_of : ToolFault → ℕ
@@ -89,6 +96,7 @@ line_of (fault.Fork path why) = file.line_of why
 line_of (fault.CannotWrite path) = 0
 line_of fault.HostMemory = 0
 line_of (fault.NotLaunched path app) = 0
+line_of (fault.Dump path why) = 0
 
 -- The number of the script's fault, or of the fault of a file's bytes.
 abbrev pub number_of : ToolFault → ℤ
@@ -99,6 +107,7 @@ number_of (fault.Fork path why) = file.number_of why
 number_of (fault.CannotWrite path) = pos 0
 number_of fault.HostMemory = pos 0
 number_of (fault.NotLaunched path app) = pos 0
+number_of (fault.Dump path why) = pos 0
 
 -- The text of usage and help.
 abbrev pub text_of : ToolFault → List ℕ
@@ -109,3 +118,4 @@ text_of (fault.Fork path why) = []
 text_of (fault.CannotWrite path) = []
 text_of fault.HostMemory = []
 text_of (fault.NotLaunched path app) = []
+text_of (fault.Dump path why) = []

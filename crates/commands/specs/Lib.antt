@@ -4,6 +4,7 @@ pub mod Listing
 pub mod Printing
 pub mod Accesses
 pub mod Work
+pub mod Dumping
 pub mod Tasks
 pub mod Outputs
 pub mod Gathering

@@ -10,9 +10,11 @@ use Rattle.fork_commands.specs.Opening.{opened}
 use Rattle.fork_commands.specs.Reading.{content_in}
 use Rattle.fork_commands.specs.States.{has_content}
 use Rattle.commands.specs.Accesses.{Access, IsUnwritten}
+use Rattle.commands.specs.Dumping.{IsAnswer, IsDumpFault}
 use Rattle.commands.specs.Ending.{ending_of}
-use Rattle.commands.specs.Fault.{Message, Usage, CannotRead, Script, Fork, CannotWrite, HostMemory, NotLaunched}
+use Rattle.commands.specs.Fault.{Message, Usage, CannotRead, Script, Fork, CannotWrite, HostMemory, NotLaunched, Dump}
 use Rattle.fork_format.specs.View.{view}
+use Rattle.real_zone_view.specs.Answers.{is_good}
 use Rattle.commands.specs.Listing.{listing}
 use Rattle.commands.specs.Printing.{PrintsFront}
 use Rattle.commands.specs.Work.{IsTranscriptOf, IsZoneOf, IsListingOf, IsFormText, IsDescription}
@@ -47,6 +49,7 @@ IsScriptFault path text (CannotRead named) = ⊥
 IsScriptFault path text (Fork named fault) = ⊥
 IsScriptFault path text (CannotWrite named) = ⊥
 IsScriptFault path text (NotLaunched named app) = ⊥
+IsScriptFault path text (Dump named why) = ⊥
 
 -- The fault of the bytes of a file on which a work is done; if the host is out of memory nothing is said of them.
 abbrev pub IsForkFault : {A : Type 0} → List ℕ → Result A FileFault → Message → Type 0
@@ -57,6 +60,7 @@ IsForkFault path made (CannotRead named) = ⊥
 IsForkFault path made (Script named line kind) = ⊥
 IsForkFault path made (CannotWrite named) = ⊥
 IsForkFault path made (NotLaunched named app) = ⊥
+IsForkFault path made (Dump named why) = ⊥
 
 -- What is printed of a file's bytes.
 abbrev pub IsPrinted : Work → List ℕ → List ℕ → Type 0
@@ -65,6 +69,7 @@ IsPrinted (work.Heap asked) bytes out = IsZoneOf asked bytes out
 IsPrinted (work.Map spelling) bytes out = IsListingOf spelling bytes out
 IsPrinted (work.Describe spelling) bytes out = IsDescription spelling bytes out
 IsPrinted work.Check bytes out = IsFormText bytes out
+IsPrinted (work.Zone asked) bytes out = IsAnswer asked bytes out
 
 -- The fault of a file's bytes.
 abbrev pub IsFault : Work → List ℕ → List ℕ → Message → Type 0
@@ -73,6 +78,7 @@ IsFault (work.Heap asked) path bytes message = IsScriptFault path bytes message
 IsFault (work.Map spelling) path bytes message = IsForkFault path (content_in bytes) message
 IsFault (work.Describe spelling) path bytes message = IsForkFault path (opened bytes) message
 IsFault work.Check path bytes message = IsForkFault path (content_in bytes) message
+IsFault (work.Zone asked) path bytes message = IsDumpFault path asked bytes message
 
 -- What is said of a file, and whether it is its state.
 abbrev pub description_text : Description → List ℕ
@@ -83,13 +89,15 @@ abbrev pub is_state : Description → Bool
 is_state (said.Listing l) = false
 is_state (said.State text) = true
 
--- How a task ends: the description of a file that has no fork with a content says so.
+-- How a task ends: the description of a file that has no fork with a content says so, and so does the check of a zone that is damaged,
+-- and the search of a dump in which no zone stands.
 abbrev pub ending_for : Work → List ℕ → Ending
 ending_for (work.Script size) bytes = Done
 ending_for (work.Heap asked) bytes = Done
 ending_for (work.Map spelling) bytes = Done
 ending_for (work.Describe spelling) bytes = ending_of (not (has_content bytes))
 ending_for work.Check bytes = Done
+ending_for (work.Zone asked) bytes = ending_of (not (is_good asked bytes))
 
 -- All that a task prints of a file's bytes was printed.
 abbrev pub Prints : Work → List ℕ → Option (List ℕ) → Option (List ℕ) → Type 0

@@ -22,6 +22,7 @@ fn look_word(work: Work) -> &'static str
         Work::Heap(_) => "heap",
         Work::Map(_) | Work::Describe(_) => "map",
         Work::Check => "check",
+        Work::Zone(_) => "zone",
     }
 }
 

@@ -5,6 +5,7 @@ ghost use Rattle.commands.specs.Fault.{kind_of, status_of, path_of, line_of, num
 ghost use Rattle.commands.specs.declared.fault.ToolFault.TheVariants.{HostMemory};
 
 use fork_commands::FileFault;
+use real_zone_view::DumpFault;
 use script_text::FaultKind;
 use std::alloc::AllocError;
 use thiserror::Error;
@@ -60,10 +61,18 @@ pub enum ToolFault {
         /// The name as it was given.
         app: String,
     },
+    /// A memory dump has no zone where one is looked for, or is too long.
+    #[error("macmem: {path}: {fault}")]
+    Dump {
+        /// The dump's path as it was given.
+        path: String,
+        /// What is wrong with it.
+        fault: DumpFault,
+    },
 }
 
 impl ToolFault {
-    /// Returns the number of the line that is printed: 0 for usage and help, then 1 to 6 in the order of the variants.
+    /// Returns the number of the line that is printed: 0 for usage and help, then 1 to 7 in the order of the variants.
     pub fn kind(&self) -> u8
         ensures { result ≡ kind_of self.now }
     {
@@ -75,6 +84,7 @@ impl ToolFault {
             ToolFault::CannotWrite { .. } => 4,
             ToolFault::HostMemory => 5,
             ToolFault::NotLaunched { .. } => 6,
+            ToolFault::Dump { .. } => 7,
         }
     }
 
@@ -98,6 +108,7 @@ impl ToolFault {
             ToolFault::Fork { path, .. } => path.as_str(),
             ToolFault::CannotWrite { path } => path.as_str(),
             ToolFault::NotLaunched { path, .. } => path.as_str(),
+            ToolFault::Dump { path, .. } => path.as_str(),
             ToolFault::Usage { .. } | ToolFault::HostMemory => "",
         }
     }

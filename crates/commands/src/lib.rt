@@ -8,6 +8,8 @@ mod converting;
 mod declaring;
 mod delivering;
 mod doing;
+mod dump_words;
+mod dumping;
 mod ending;
 mod extracting;
 mod fault;

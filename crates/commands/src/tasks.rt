@@ -16,6 +16,7 @@ ghost use Rattle.commands.specs.Tasks.{script_message, fork_message, IsScriptFau
 ghost use Rattle.commands.specs.Tasks.{Prints, IsRefusal, description_text, is_state, ending_for};
 
 use crate::delivering::{STANDARD_OUTPUT, Target, deliver, unwritten};
+use crate::dumping::print_answer;
 use crate::ending::Ending;
 use crate::fault::ToolFault;
 use crate::host::{Host, WriteError};
@@ -25,6 +26,7 @@ use crate::work::{ZoneView, form_of, transcript_of, zone_of};
 use applications::{Unwatched, Watch};
 use fork_commands::{OpenFile, WorkFault, append_state, content_in, info_text, open_file};
 use fork_format::Content;
+use real_zone_view::DumpView;
 use script_text::{FaultKind, ScriptFault};
 use std::alloc::{AllocError, Global};
 
@@ -41,6 +43,8 @@ pub enum Work {
     Describe(Spelling),
     /// The resource fork in the bytes is compared with the canonical fork of its content.
     Check,
+    /// The bytes are a memory dump, of which this is asked.
+    Zone(DumpView),
 }
 
 /// A request to read a file and to print what a work makes of its bytes.
@@ -397,10 +401,11 @@ pub fn do_task<H: Host, W: Watch>(
     bytes: &[u8],
     watch: &mut W,
 ) -> Result<Ending, ToolFault>
-    // A script's transcript or its zone, a fork's listing, or the line with a fork's form is printed, and nothing else.
+    // A script's transcript or its zone, a fork's listing, the line with a fork's form, or what is asked of a dump is printed,
+    // and nothing else.
     ensures printed { OnOk result (Prints task.entry.work bytes.now (H.printed host.old) (H.printed host.new)) }
 
-    // The ending says whether a file that is described has a fork with a content.
+    // The ending says whether a file that is described has a fork with a content, a zone that is checked is whole, and a zone is found.
     ensures ending { IfOk result (λ ending. ending ≡ ending_for task.entry.work bytes.now) }
 
     // The bytes are faulty and nothing is printed, or printing failed.
@@ -416,5 +421,6 @@ pub fn do_task<H: Host, W: Watch>(
         Work::Map(spelling) => print_map(alloc, host, spelling, task.path, bytes),
         Work::Describe(spelling) => print_description(alloc, host, spelling, task.path, bytes),
         Work::Check => print_form(alloc, host, task.path, bytes),
+        Work::Zone(asked) => print_answer(alloc, host, asked, task.path, bytes),
     }
 }

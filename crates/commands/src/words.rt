@@ -1,4 +1,4 @@
-//! The words of the command line. Only this module, `fork_words`, `zone_words` and `parsing` use the
+//! The words of the command line. Only this module, `dump_words`, `fork_words`, `zone_words` and `parsing` use the
 //! parser.
 
 ghost use Rattle.std.specs.Prelude.{map, IfOk, IfErr};
@@ -6,6 +6,7 @@ ghost use Rattle.commands.specs.Asking.{IsAskedBy};
 ghost use Rattle.commands.specs.Fault.{message_of, IsUsage};
 
 use crate::asking::is_asked;
+use crate::dump_words::{zone_command, zone_request};
 use crate::fault::ToolFault;
 use crate::fork_words::{
     BARE, FORK_HELP, UTF8, UTF8_HELP, charset_in, fork_request, with_fork_commands,
@@ -36,6 +37,7 @@ const PROGRAM_EXAMPLES: &str = "Examples:
   macmem heap 1024 examples/first.script      list the blocks that it leaves
   macmem lint examples/first.script           say what is wrong with its lines
   macmem run examples/job/job OUT             run the applications of a job
+  macmem zone examples/memory.dump 0x400      list a zone of a real Macintosh
   macmem map examples/Document.rsrc           list the resources of a fork
   macmem check examples/Document.rsrc         say whether a fork is canonical
   macmem get examples/Document.rsrc STR 128   print the bytes of a resource
@@ -47,7 +49,8 @@ lists the calls and the result codes.
 A word that begins with '-' is an option; after the word '--' it is an argument.
 Status: 0 done; 1 not done, with one line on the standard error, or 'diff' found
 that two forks differ, 'check' or 'map' a file whose fork has no content, or
-'lint' a faulty line; 2 usage, help or version.";
+'lint' a faulty line, or 'zone' a damaged zone or none; 2 usage, help or
+version.";
 
 const SCRIPT_ABOUT: &str = "Runs a script of toolbox calls and prints its transcript";
 
@@ -302,7 +305,7 @@ fn with_reading_commands<'a>(
     alloc: Global,
     command: Command<'a>,
 ) -> Result<Command<'a>, AllocError> {
-    with_commands(alloc, command, &READING_COMMANDS)
+    with_commands(alloc, command, &READING_COMMANDS)?.subcommand(zone_command(alloc)?)
 }
 
 fn program<'a>(alloc: Global) -> Result<Command<'a>, AllocError> {
@@ -403,6 +406,7 @@ fn asked<'a>(alloc: Global, matches: &ArgMatches<'a>) -> Result<Request<'a>, Too
     match matches.subcommand() {
         Some(("script", inner)) => Ok(Request::Look(script_task(alloc, inner)?)),
         Some(("heap", inner)) => heap_request(alloc, inner),
+        Some(("zone", inner)) => zone_request(alloc, inner),
         Some(("run", inner)) => Ok(Request::Run(Errand {
             job: value(inner, "JOB"),
             out: value(inner, "OUT"),

@@ -39,3 +39,10 @@ returns-in-Check-clause-fault g c =
     (g.H.Host.printed c.args.host.now) (g.H.Host.printed c.print_form.new.host)
     (g.H.Host.accesses c.args.host.now) (g.H.Host.accesses c.print_form.new.host) (message_of fault)))
     (sym c.in-Check.is) c.print_form.ensures.fault
+
+pub returns-in-Zone-clause-fault : goal.returns-in-Zone-clause-fault
+returns-in-Zone-clause-fault g c =
+    subst (λ w. IfErr c.print_answer.result (λ fault. IsRefusal w c.args.task.path.now c.args.bytes.now
+    (g.H.Host.printed c.args.host.now) (g.H.Host.printed c.print_answer.new.host)
+    (g.H.Host.accesses c.args.host.now) (g.H.Host.accesses c.print_answer.new.host) (message_of fault)))
+    (sym c.in-Zone.is) c.print_answer.ensures.fault

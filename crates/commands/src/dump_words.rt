@@ -1,0 +1,263 @@
+//! The words of the command that reads a zone in a memory dump.
+
+ghost use Rattle.std.specs.Prelude.{IfErr, IfOk};
+ghost use Rattle.commands.specs.Fault.{message_of, IsUsage};
+
+use crate::fault::ToolFault;
+use crate::parsing::{argument, bad_value, flag, option, value};
+use crate::request::Request;
+use crate::tasks::{Task, Work};
+use clap::{Arg, ArgAction, ArgMatches, Command};
+use real_zone::Form;
+use real_zone_view::{Digits, DumpView, Fields, Place, Question, Style};
+use std::alloc::{AllocError, Global};
+
+const ZONE_ABOUT: &str = "Lists or checks a heap zone of a real Macintosh in a memory dump";
+
+const ZONE_EXAMPLES: &str = "Examples:
+  macmem zone --find examples/memory.dump
+
+prints the zones in the dump, first those that the globals SysZone (at 2A6) and
+ApplZone (at 2AA) name:
+  address       size bits global
+  00000400       200   24 SysZone
+  00000600       376   24 ApplZone
+
+  macmem zone examples/memory.dump 0x400
+
+prints the blocks of a zone, lowest first, and their totals:
+  zone 00000400: 24 bits, 200 bytes
+
+  address       size   logical what           master   locked purgeable resource
+  00000434        24        16 nonrelocatable -        -      -         -
+  0000044C        32        24 nonrelocatable -        -      -         -
+  0000046C        40        30 relocatable    00000444 locked -         resource
+  00000494        52         - free           -        -      -         -
+
+  what             blocks      bytes
+  free                  1         52
+  nonrelocatable        2         56
+  relocatable           1         40
+  locked                1         40
+  purgeable             0          0
+  all                   4        148
+
+  macmem zone --check examples/overrun.dump 0x600
+
+prints a line for each rule that a zone breaks, as MacsBug's HC does:
+  000006EC: BkLim does not agree with heap length
+  000006EC: nonrelocatable block: pointer to zone is bad
+
+The dump holds the bytes of memory, from the address BASE on: a file that QEMU's
+pmemsave, MAME's save or a monitor wrote. Addresses are decimal, or hexadecimal
+after 0x or $ ('$2A6' in quotes, since shells read $2).
+'address' is that of the block's header; 'size' is the physical size with the
+header, 'logical' the size of the content; 'master' is the address of the master
+pointer; 'purgeable' in the totals are the blocks that are not locked. With
+--plain a tab stands between fields, there are no titles, and a line begins with
+'zone', 'block' or 'total'.
+Without --24 and --32 the form is the one in which the zone is whole, or else
+the one in which more blocks stand one after the other.
+Status: 0 done; 1 with a line on the standard error where the dump has no such
+zone, as 'macmem: DUMP: no zone: 00000600: BkLim is bad'; 1 also where --check
+prints a line or --find finds no zone.";
+
+/// The ways in which the command is used.
+const ZONE_USAGE: &str = "macmem zone [OPTIONS] <DUMP> <ADDRESS>
+       macmem zone --find [OPTIONS] <DUMP>";
+
+const DUMP_HELP: &str = "File with the bytes of memory; it is only read";
+
+const ADDRESS_HELP: &str = "Address of the zone record, as 0x1E00, $1E00 or 7680";
+
+/// The rule for an address, which is printed where the word is none.
+const ADDRESS_RULE: &str =
+    "an address is 0 to 4294967295, or 1 to 8 hexadecimal digits after 0x or $";
+
+/// The name of the option for the address of the dump, without its two hyphens.
+const BASE: &str = "base";
+
+const BASE_HELP: &str = "Address of the dump's first byte; 0 without";
+
+/// The names of the flags for the two forms, without their two hyphens.
+const BITS_24: &str = "24";
+
+const BITS_32: &str = "32";
+
+const BITS_24_HELP: &str = "Take the zone for one of 24-bit addresses";
+
+const BITS_32_HELP: &str = "Take the zone for one of 32-bit addresses";
+
+/// The name of the flag for fields with tabs between them, without its two hyphens.
+const PLAIN: &str = "plain";
+
+const PLAIN_HELP: &str = "Print a tab between fields, and no titles";
+
+/// The name of the flag for sizes in hexadecimal, without its two hyphens.
+const HEX: &str = "hex";
+
+const HEX_HELP: &str = "Print sizes in hexadecimal";
+
+/// The name of the flag for all that is wrong, without its two hyphens.
+const CHECK: &str = "check";
+
+const CHECK_HELP: &str = "Print a line for each rule that the zone breaks";
+
+/// The name of the flag for the zones in a dump, without its two hyphens.
+const FIND: &str = "find";
+
+const FIND_HELP: &str = "Print the zones that stand in the dump";
+
+/// Returns the flag for what is wrong with a zone.
+fn check_flag<'a>(alloc: Global) -> Result<Arg<'a>, AllocError> {
+    flag(alloc, CHECK, CHECK_HELP)
+        .conflicts_with(PLAIN)?
+        .conflicts_with(HEX)?
+        .conflicts_with(FIND)
+}
+
+/// Returns the flag for one of the two forms.
+fn form_flag<'a>(
+    alloc: Global,
+    name: &'a str,
+    help: &'a str,
+    other: &'a str,
+) -> Result<Arg<'a>, AllocError> {
+    flag(alloc, name, help)
+        .conflicts_with(other)?
+        .conflicts_with(FIND)
+}
+
+/// Returns the argument for the address of a zone.
+fn address_argument<'a>(alloc: Global) -> Result<Arg<'a>, AllocError> {
+    Arg::new(alloc, "ADDRESS")
+        .action(ArgAction::Set)
+        .help(ADDRESS_HELP)
+        .required_unless_present(FIND)?
+        .conflicts_with(FIND)
+}
+
+/// Returns the command that reads a zone in a dump.
+pub fn zone_command<'a>(alloc: Global) -> Result<Command<'a>, AllocError> {
+    Command::new(alloc, "zone")
+        .about(ZONE_ABOUT)
+        .after_help(ZONE_EXAMPLES)
+        .override_usage(ZONE_USAGE)
+        .arg(form_flag(alloc, BITS_24, BITS_24_HELP, BITS_32)?)?
+        .arg(form_flag(alloc, BITS_32, BITS_32_HELP, BITS_24)?)?
+        .arg(option(alloc, BASE, "BASE", BASE_HELP))?
+        .arg(flag(alloc, PLAIN, PLAIN_HELP))?
+        .arg(flag(alloc, HEX, HEX_HELP))?
+        .arg(check_flag(alloc)?)?
+        .arg(flag(alloc, FIND, FIND_HELP))?
+        .arg(argument(alloc, "DUMP", DUMP_HELP))?
+        .arg(address_argument(alloc)?)
+}
+
+/// Returns the hexadecimal digits of an address, if it has a sign before them that says so.
+fn hex_digits(text: &str) -> Option<&str> {
+    match text.strip_prefix("0x") {
+        Some(digits) => Some(digits),
+        None => text.strip_prefix("$"),
+    }
+}
+
+/// Reads an address: in hexadecimal after `0x` or `$`, else in decimal. See decision 198 (a number of the command line may have
+/// zeros and a sign).
+fn address_of(text: &str) -> Option<u32> {
+    match hex_digits(text) {
+        Some(digits) => u32::from_str_radix(digits, 16).ok(),
+        None => text.parse::<u32>().ok(),
+    }
+}
+
+/// Returns the fault of a word that is no address.
+fn bad_address(alloc: Global, name: &str, text: &str) -> Result<ToolFault, AllocError>
+    ensures { IfOk result (λ fault. IsUsage (message_of fault)) }
+{
+    let command = zone_command(alloc)?.bin_name("macmem zone")?;
+    bad_value(alloc, command, name, text, ADDRESS_RULE)
+}
+
+/// Returns the address in a word.
+fn address_in(alloc: Global, name: &str, text: &str) -> Result<u32, ToolFault>
+    ensures { IfErr result (λ fault. IsUsage (message_of fault)) }
+{
+    match address_of(text) {
+        Some(address) => Ok(address),
+        None => Err(bad_address(alloc, name, text)?),
+    }
+}
+
+/// Returns the address of the dump's first byte.
+fn base_in(alloc: Global, matches: &ArgMatches<'_>) -> Result<u32, ToolFault>
+    ensures { IfErr result (λ fault. IsUsage (message_of fault)) }
+{
+    match matches.get_str(BASE) {
+        Some(text) => address_in(alloc, "BASE", text),
+        None => Ok(0),
+    }
+}
+
+/// Returns the form that the words give.
+fn form_in(matches: &ArgMatches<'_>) -> Option<Form> {
+    if matches.get_flag(BITS_24) {
+        Some(Form::Bits24)
+    } else if matches.get_flag(BITS_32) {
+        Some(Form::Bits32)
+    } else {
+        None
+    }
+}
+
+/// Returns how the text is to be laid out.
+fn style_in(matches: &ArgMatches<'_>) -> Style {
+    Style {
+        fields: if matches.get_flag(PLAIN) {
+            Fields::Tabs
+        } else {
+            Fields::Columns
+        },
+        digits: if matches.get_flag(HEX) {
+            Digits::Hexadecimal
+        } else {
+            Digits::Decimal
+        },
+    }
+}
+
+/// Returns what the words ask of the zone at an address.
+fn question_in(matches: &ArgMatches<'_>, place: Place) -> Question {
+    if matches.get_flag(CHECK) {
+        Question::Check(place)
+    } else {
+        Question::List(place, style_in(matches))
+    }
+}
+
+/// Returns what the words ask.
+fn question<'a>(alloc: Global, matches: &ArgMatches<'a>) -> Result<Question, ToolFault>
+    ensures { IfErr result (λ fault. IsUsage (message_of fault)) }
+{
+    if matches.get_flag(FIND) {
+        return Ok(Question::Find(style_in(matches)));
+    }
+    let place = Place {
+        address: address_in(alloc, "ADDRESS", value(matches, "ADDRESS"))?,
+        form: form_in(matches),
+    };
+    Ok(question_in(matches, place))
+}
+
+/// Returns the request that the words of the command make.
+pub fn zone_request<'a>(alloc: Global, matches: &ArgMatches<'a>) -> Result<Request<'a>, ToolFault>
+    ensures { IfErr result (λ fault. IsUsage (message_of fault)) }
+{
+    let base = base_in(alloc, matches)?;
+    let question = question(alloc, matches)?;
+    Ok(Request::Look(Task {
+        work: Work::Zone(DumpView { base, question }),
+        path: value(matches, "DUMP"),
+        watched: false,
+    }))
+}

@@ -1,0 +1,156 @@
+use Rattle.std.proofs.Common.{◌≡◌, ℕ, ◌+◌, ◌<◌, ◌≤◌, Bool, true, false, ◌&&◌, cond, not, List, [], ◌∷◌, ◌++◌, length, Option, Some, None}
+use Rattle.std.proofs.Common.{refl, sym, ◌∙◌, ap}
+use Rattle.std.specs.Prelude.{◌%◌, ◌==◌, nat_le, nat_lt}
+use Rattle.std.specs.List.{flat_map}
+use Rattle.std.specs.Option.{option_to_list, option_or}
+use Rattle.std.proofs.lemmas.Bool.{lt-leb, le-leb, leb-true, ltb-false, and_parts}
+use Rattle.real_zone.specs.Form.{header_size, alignment}
+use Rattle.real_zone.specs.Header.{tag_at, size_at, owner_at}
+use Rattle.real_zone.specs.Lists.{first}
+use Rattle.real_zone.specs.Blocks.{has_room, is_size, is_passable, places_from}
+use Rattle.real_zone.specs.Rules.{is_master_place, master_at, length_rule, kind_rule, owner_rule, handle_rule, block_rules}
+use Rattle.real_zone.specs.Rules.{keeps_rules, broken, block_damages}
+use Rattle.real_zone.specs.declared.form.Form.{Form}
+use Rattle.real_zone.specs.declared.form.Tag.TheVariants as tag
+use Rattle.real_zone.specs.declared.fault.Rule.{Rule}
+use Rattle.real_zone.specs.declared.fault.Rule.TheVariants as rule
+use Rattle.real_zone.specs.declared.fault.Damage.{Damage}
+use Rattle.real_zone.proofs.Tests.{here, past}
+use Rattle.real_zone.proofs.Firsts.{first_of_options, first-map_some, first-map_none, map-nothing, nothing, empty, first-append_some}
+use Rattle.real_zone.proofs.Walking.{next, rest_after, first_place, next_places, no_places}
+
+-- What is wrong with a block, and with blocks one after the other.
+
+-- the rules of a block with a header
+abbrev three : Form → ℕ → List ℕ → ℕ → List Rule
+three f zone bytes at = option_to_list (length_rule f bytes at) ++ option_to_list (kind_rule (tag_at bytes at) f bytes at)
+    ++ option_to_list (owner_rule (tag_at bytes at) f zone bytes at)
+
+-- no header would fit
+pub no_room : (f : Form) (zone : ℕ) (bytes : List ℕ) (at : ℕ) → length bytes < at + 12
+    → Some rule.HeapLength ≡ first (block_rules f zone bytes at)
+unfolding block_rules
+no_room f zone bytes at h =
+    sym (ap first (here (not (has_room bytes at)) (rule.HeapLength ∷ []) (three f zone bytes at)
+    (ap not (lt-leb (at + 12) (length bytes) h))))
+
+-- one would
+pub first_of_three : (f : Form) (zone : ℕ) (bytes : List ℕ) (at : ℕ) → at + 12 ≤ length bytes
+    → option_or (option_or (length_rule f bytes at) (kind_rule (tag_at bytes at) f bytes at))
+    (owner_rule (tag_at bytes at) f zone bytes at) ≡ first (block_rules f zone bytes at)
+unfolding block_rules
+first_of_three f zone bytes at h =
+    first_of_options (length_rule f bytes at) (kind_rule (tag_at bytes at) f bytes at)
+    (owner_rule (tag_at bytes at) f zone bytes at)
+    ∙ sym (ap first (past (not (has_room bytes at)) (rule.HeapLength ∷ []) (three f zone bytes at)
+    (ap not (le-leb (at + 12) (length bytes) h))))
+
+-- the first rule that is broken, with its address
+pub damaged : (f : Form) (zone : ℕ) (bytes : List ℕ) (at : ℕ) (r : Rule) → Some r ≡ first (block_rules f zone bytes at)
+    → Some (broken (zone + at) r) ≡ first (block_damages f zone bytes at)
+unfolding block_damages
+damaged f zone bytes at r h = first-map_some (broken (zone + at)) (block_rules f zone bytes at) r h
+
+pub undamaged : (f : Form) (zone : ℕ) (bytes : List ℕ) (at : ℕ) → None ≡ first (block_rules f zone bytes at)
+    → None ≡ first (block_damages f zone bytes at)
+unfolding block_damages
+undamaged f zone bytes at h = first-map_none (broken (zone + at)) (block_rules f zone bytes at) h
+
+-- a block that breaks no rule is passable
+sound : (f : Form) (zone : ℕ) (bytes : List ℕ) (at : ℕ) → block_rules f zone bytes at ≡ [] → is_passable f bytes at ≡ true
+unfolding block_rules is_passable length_rule
+sound f zone bytes at h =
+    cases (has_room bytes at) (is_size f (size_at f bytes at)) (nat_le (at + size_at f bytes at) (length bytes))
+    (nat_lt (length bytes) (at + size_at f bytes at)) (kind_rule (tag_at bytes at) f bytes at)
+    (owner_rule (tag_at bytes at) f zone bytes at)
+    (λ e. le-leb (at + size_at f bytes at) (length bytes) (ltb-false (length bytes) (at + size_at f bytes at) e)) h
+  where
+    cases : (a b c d : Bool) (k o : Option Rule) → (d ≡ false → c ≡ true)
+        → cond (not a) (rule.HeapLength ∷ []) (option_to_list (cond (not b) (Some rule.BlockLength)
+        (cond d (Some rule.HeapLength) None)) ++ option_to_list k ++ option_to_list o) ≡ [] → (a && b && c) ≡ true
+    cases false b c d k o r h = cc
+    cases true false c d k o r h = cc
+    cases true true c true k o r h = cc
+    cases true true c false k o r h = r refl
+
+pub passable : (f : Form) (zone : ℕ) (bytes : List ℕ) (at : ℕ) → None ≡ first (block_rules f zone bytes at)
+    → is_passable f bytes at ≡ true
+passable f zone bytes at h = sound f zone bytes at (nothing (block_rules f zone bytes at) h)
+
+pub passable_if_whole : (f : Form) (zone : ℕ) (bytes : List ℕ) (at : ℕ) → block_damages f zone bytes at ≡ []
+    → is_passable f bytes at ≡ true
+unfolding block_damages
+passable_if_whole f zone bytes at h =
+    sound f zone bytes at (map-nothing (broken (zone + at)) (block_rules f zone bytes at) h)
+
+-- a block that keeps all rules is passable, and its master pointer lies in the zone
+pub keeps_passable : (f : Form) (zone : ℕ) (bytes : List ℕ) (at : ℕ) → keeps_rules f zone bytes at ≡ true
+    → is_passable f bytes at ≡ true
+unfolding keeps_rules
+keeps_passable f zone bytes at h = sound f zone bytes at (empty (block_rules f zone bytes at) h)
+
+owner_sound : (f : Form) (zone : ℕ) (bytes : List ℕ) (at : ℕ) → block_rules f zone bytes at ≡ []
+    → owner_rule (tag_at bytes at) f zone bytes at ≡ None
+unfolding block_rules
+owner_sound f zone bytes at h =
+    cases (has_room bytes at) (length_rule f bytes at) (kind_rule (tag_at bytes at) f bytes at)
+    (owner_rule (tag_at bytes at) f zone bytes at) h
+  where
+    cases : (a : Bool) (l k o : Option Rule)
+        → cond (not a) (rule.HeapLength ∷ []) (option_to_list l ++ option_to_list k ++ option_to_list o) ≡ [] → o ≡ None
+    cases false l k o h = cc
+    cases true (Some x) k o h = cc
+    cases true None (Some x) o h = cc
+    cases true None None (Some x) h = cc
+    cases true None None None h = refl
+
+handle_inside : (f : Form) (zone : ℕ) (bytes : List ℕ) (at : ℕ) → handle_rule f zone bytes at ≡ None
+    → is_master_place f bytes (owner_at f bytes at) ≡ true
+unfolding handle_rule
+handle_inside f zone bytes at h =
+    cases (is_master_place f bytes (owner_at f bytes at))
+    (master_at f bytes (owner_at f bytes at) == zone + at + header_size f) h
+  where
+    cases : (a b : Bool)
+        → cond (not a) (Some rule.RelativeHandle) (cond (not b) (Some rule.MasterPointer) None) ≡ None → a ≡ true
+    cases true b h = refl
+    cases false b h = cc
+
+place_inside : (f : Form) (bytes : List ℕ) (at : ℕ) → is_master_place f bytes at ≡ true → at + 4 ≤ length bytes
+unfolding is_master_place
+place_inside f bytes at h =
+    leb-true (at + 4) (length bytes) (and_parts (nat_le 52 at) (nat_le (at + 4) (length bytes))
+    (and_parts (nat_le 52 at && nat_le (at + 4) (length bytes)) (at % alignment f == 0) h).0).1
+
+pub master_inside : (f : Form) (zone : ℕ) (bytes : List ℕ) (at : ℕ) → keeps_rules f zone bytes at ≡ true
+    → tag_at bytes at ≡ Some tag.Relocatable → owner_at f bytes at + 4 ≤ length bytes
+unfolding keeps_rules owner_rule
+master_inside f zone bytes at h is =
+    place_inside f bytes (owner_at f bytes at) (handle_inside f zone bytes at
+    (ap (λ t. owner_rule t f zone bytes at) (sym is)
+    ∙ owner_sound f zone bytes at (empty (block_rules f zone bytes at) h)))
+
+-- what is wrong from a place on
+abbrev pub damages_past : Form → ℕ → List ℕ → ℕ → List Damage
+damages_past f zone bytes at = flat_map (block_damages f zone bytes) (places_from f bytes at)
+
+-- nothing is wrong with a block, before others
+pub goes_on : (f : Form) (zone : ℕ) (bytes : List ℕ) (at : ℕ) (total : List Damage) → is_passable f bytes at ≡ true
+    → None ≡ first (block_damages f zone bytes at) → damages_past f zone bytes at ≡ total
+    → damages_past f zone bytes (next f bytes at) ≡ total
+goes_on f zone bytes at total p none e =
+    ap (λ l. l ++ damages_past f zone bytes (next f bytes at)) (sym (nothing (block_damages f zone bytes at) none))
+    ∙ sym (ap (flat_map (block_damages f zone bytes)) (next_places f bytes at p)) ∙ e
+
+-- something is
+pub stops : (f : Form) (zone : ℕ) (bytes : List ℕ) (at : ℕ) (d : Damage) (total : List Damage) → at < length bytes
+    → Some d ≡ first (block_damages f zone bytes at) → damages_past f zone bytes at ≡ total → Some d ≡ first total
+stops f zone bytes at d total h is e =
+    first-append_some (block_damages f zone bytes at) (flat_map (block_damages f zone bytes) (rest_after f bytes at)) d is
+    ∙ ap first (sym (ap (flat_map (block_damages f zone bytes)) (first_place f bytes at h)) ∙ e)
+
+-- no block is left
+pub ends : (f : Form) (zone : ℕ) (bytes : List ℕ) (at : ℕ) (total : List Damage) → length bytes ≤ at
+    → damages_past f zone bytes at ≡ total → None ≡ first total
+ends f zone bytes at total h e =
+    ap first (sym (ap (flat_map (block_damages f zone bytes)) (no_places f bytes at h)) ∙ e)

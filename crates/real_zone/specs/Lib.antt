@@ -1,0 +1,13 @@
+pub mod Numbers
+pub mod Form
+pub mod Header
+pub mod Lists
+pub mod Blocks
+pub mod Rules
+pub mod Masters
+pub mod Zone
+pub mod Record
+pub mod Seen
+pub mod Left
+pub mod Finding
+pub mod Judging

@@ -1,0 +1,29 @@
+//! Heap zones as a real Macintosh lays them, read from the bytes of a memory dump and checked block by block.
+#![tactic(auto)]
+
+mod block;
+mod blocks;
+mod checking;
+mod fault;
+mod finding;
+mod form;
+mod header;
+mod judging;
+mod masters;
+mod numbers;
+mod reading;
+mod rules;
+mod walk;
+mod zone;
+mod zone_record;
+
+pub use block::{Block, Kind, Master};
+pub use checking::check_zone;
+pub use fault::{Damage, Rule, ZoneFault};
+pub use finding::{FoundZone, ZoneGlobal, find_zones, form_of, global_of, zone_size};
+pub use form::Form;
+pub use judging::judged_form;
+pub use reading::read_zone;
+pub use walk::Blocks;
+pub use zone::RealZone;
+pub use zone_record::ZoneRecord;

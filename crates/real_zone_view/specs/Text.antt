@@ -1,0 +1,95 @@
+use Rattle.std.specs.Prelude.{ℕ, Bool, true, false, List, [], ◌++◌, codes}
+use Rattle.std.specs.List.{flat_map}
+use Rattle.real_zone.specs.declared.block.Block.{Block}
+use Rattle.real_zone.specs.declared.block.Kind.{Kind}
+use Rattle.real_zone.specs.declared.block.Kind.TheVariants as kind
+use Rattle.real_zone.specs.declared.form.Form.{Form}
+use Rattle.real_zone.specs.declared.form.Form.TheVariants as form
+use Rattle.real_zone_view.specs.Fields.{hex_text, left_field, right_field, size_field}
+use Rattle.real_zone_view.specs.declared.style.Fields.{Fields}
+use Rattle.real_zone_view.specs.declared.style.Fields.TheVariants as fields
+use Rattle.real_zone_view.specs.declared.style.Style.{Style}
+
+-- The blocks of a zone as they are written, a line for each.
+
+-- What a block is.
+abbrev pub kind_text : Kind → List ℕ
+kind_text kind.Free = codes "free"
+kind_text kind.Nonrelocatable = codes "nonrelocatable"
+kind_text (kind.Relocatable master) = codes "relocatable"
+
+-- The field of the logical size, of which a free block has none.
+unfoldable pub logical_field : Style → Kind → ℕ → List ℕ
+logical_field style kind.Free size = right_field style.fields 10 (codes "-")
+logical_field style kind.Nonrelocatable size = size_field style 10 size
+logical_field style (kind.Relocatable master) size = size_field style 10 size
+
+-- The field of the master pointer's address.
+unfoldable pub master_field : Fields → Kind → List ℕ
+master_field f kind.Free = left_field f 8 (codes "-")
+master_field f kind.Nonrelocatable = left_field f 8 (codes "-")
+master_field f (kind.Relocatable master) = left_field f 8 (hex_text master.address)
+
+-- What a relocatable block is marked as.
+abbrev pub is_locked : Kind → Bool
+is_locked kind.Free = false
+is_locked kind.Nonrelocatable = false
+is_locked (kind.Relocatable master) = master.is_locked
+
+abbrev pub is_purgeable : Kind → Bool
+is_purgeable kind.Free = false
+is_purgeable kind.Nonrelocatable = false
+is_purgeable (kind.Relocatable master) = master.is_purgeable
+
+abbrev pub is_resource : Kind → Bool
+is_resource kind.Free = false
+is_resource kind.Nonrelocatable = false
+is_resource (kind.Relocatable master) = master.is_resource
+
+-- A word where something holds, else `-`.
+abbrev pub marked : Bool → List ℕ → List ℕ
+marked true word = word
+marked false word = codes "-"
+
+-- What a line begins with where tabs stand between its fields.
+abbrev pub begin : Fields → List ℕ → List ℕ
+begin fields.Columns word = []
+begin fields.Tabs word = word ++ codes "\t"
+
+-- Where a block stands, and its sizes.
+unfoldable pub place_fields : Style → Block → List ℕ
+place_fields style block =
+    begin style.fields (codes "block") ++ hex_text block.address ++ size_field style 10 block.physical_size
+    ++ logical_field style block.kind block.logical_size
+
+-- What it is, and its master pointer.
+unfoldable pub kind_fields : Fields → Kind → List ℕ
+kind_fields f k = left_field f 14 (kind_text k) ++ master_field f k
+
+-- What it is marked as.
+unfoldable pub mark_fields : Fields → Kind → List ℕ
+mark_fields f k =
+    left_field f 6 (marked (is_locked k) (codes "locked")) ++ left_field f 9 (marked (is_purgeable k) (codes "purgeable"))
+    ++ left_field f 0 (marked (is_resource k) (codes "resource")) ++ codes "\n"
+
+-- The line of a block.
+unfoldable pub line_text : Style → Block → List ℕ
+line_text style block = place_fields style block ++ kind_fields style.fields block.kind ++ mark_fields style.fields block.kind
+
+-- The lines of blocks.
+abbrev pub lines_text : Style → List Block → List ℕ
+lines_text style blocks = flat_map (line_text style) blocks
+
+-- A line with titles, and another line without a word, which stand in columns alone.
+abbrev pub titled : Fields → List ℕ → List ℕ
+titled fields.Columns titles = titles
+titled fields.Tabs titles = []
+
+-- The titles of the columns.
+abbrev pub head_text : Fields → List ℕ
+head_text f = titled f (codes "address       size   logical what           master   locked purgeable resource\n")
+
+-- The bits of an address.
+abbrev pub bits_text : Form → List ℕ
+bits_text form.Bits24 = codes "24"
+bits_text form.Bits32 = codes "32"

@@ -1,0 +1,198 @@
+//! The lines of blocks as they are written.
+
+ghost use Rattle.std.specs.Prelude.{◌≡◌, ◌++◌, OnOk};
+ghost use Rattle.real_zone_view.specs.Text as spec;
+
+use crate::fields::{push_hex, push_left_field, push_right_field, push_size, put};
+use crate::style::{Fields, Style};
+use real_zone::{Block, Form, Kind};
+use std::alloc::{AllocError, Global};
+
+/// Returns what a block is.
+fn kind_text(kind: Kind) -> &'static [u8]
+    ensures { result.now ≡ spec.kind_text kind }
+{
+    match kind {
+        Kind::Free => b"free",
+        Kind::Nonrelocatable => b"nonrelocatable",
+        Kind::Relocatable(_) => b"relocatable",
+    }
+}
+
+/// Returns whether a block is locked.
+pub fn is_locked(kind: Kind) -> bool
+    ensures { result ≡ spec.is_locked kind }
+{
+    match kind {
+        Kind::Relocatable(master) => master.is_locked,
+        Kind::Free | Kind::Nonrelocatable => false,
+    }
+}
+
+/// Returns whether a block is purgeable.
+pub fn is_purgeable(kind: Kind) -> bool
+    ensures { result ≡ spec.is_purgeable kind }
+{
+    match kind {
+        Kind::Relocatable(master) => master.is_purgeable,
+        Kind::Free | Kind::Nonrelocatable => false,
+    }
+}
+
+/// Returns whether a block is a resource.
+fn is_resource(kind: Kind) -> bool
+    ensures { result ≡ spec.is_resource kind }
+{
+    match kind {
+        Kind::Relocatable(master) => master.is_resource,
+        Kind::Free | Kind::Nonrelocatable => false,
+    }
+}
+
+/// Returns a word where something holds, else `-`.
+fn marked(holds: bool, word: &[u8]) -> &[u8]
+    ensures { result.now ≡ spec.marked holds word.now }
+{
+    if holds { word } else { b"-" }
+}
+
+/// Appends what a line begins with where tabs stand between its fields.
+pub fn push_begin(text: &mut Vec<u8>, fields: Fields, word: &[u8]) -> Result<(), AllocError>
+    ensures { OnOk result (text.new.items ≡ text.old.items ++ spec.begin fields word.now) }
+{
+    match fields {
+        Fields::Columns => Ok(()),
+        Fields::Tabs => {
+            put(text, word)?;
+            put(text, b"\t")
+        }
+    }
+}
+
+/// Appends titles, which stand in columns alone.
+pub fn push_titles(text: &mut Vec<u8>, fields: Fields, titles: &[u8]) -> Result<(), AllocError>
+    ensures { OnOk result (text.new.items ≡ text.old.items ++ spec.titled fields titles.now) }
+{
+    match fields {
+        Fields::Columns => put(text, titles),
+        Fields::Tabs => Ok(()),
+    }
+}
+
+/// Returns the bits of an address.
+pub fn bits_text(form: Form) -> &'static [u8]
+    ensures { result.now ≡ spec.bits_text form }
+{
+    match form {
+        Form::Bits24 => b"24",
+        Form::Bits32 => b"32",
+    }
+}
+
+/// Appends the field of a logical size.
+#[tactic(auto, unfolding(crate::specs::Text::logical_field))]
+fn push_logical(text: &mut Vec<u8>, style: Style, kind: Kind, size: u32) -> Result<(), AllocError>
+    ensures { OnOk result (text.new.items ≡ text.old.items ++ spec.logical_field style kind size) }
+{
+    match kind {
+        Kind::Free => push_right_field(text, style.fields, 10, b"-"),
+        Kind::Nonrelocatable | Kind::Relocatable(_) => push_size(text, style, 10, size as u128),
+    }
+}
+
+/// Appends the field of the master pointer's address.
+#[tactic(auto, unfolding(crate::specs::Text::master_field))]
+fn push_master(
+    alloc: Global,
+    text: &mut Vec<u8>,
+    fields: Fields,
+    kind: Kind,
+) -> Result<(), AllocError>
+    ensures { OnOk result (text.new.items ≡ text.old.items ++ spec.master_field fields kind) }
+{
+    match kind {
+        Kind::Free | Kind::Nonrelocatable => push_left_field(text, fields, 8, b"-"),
+        Kind::Relocatable(master) => {
+            let mut address = Vec::new(alloc);
+            push_hex(&mut address, master.address as u128)?;
+            push_left_field(text, fields, 8, address.as_slice())
+        }
+    }
+}
+
+/// Appends where a block stands, and its sizes.
+#[tactic(auto, unfolding(crate::specs::Text::place_fields))]
+fn push_place(text: &mut Vec<u8>, style: Style, block: &Block) -> Result<(), AllocError>
+    ensures { OnOk result (text.new.items ≡ text.old.items ++ spec.place_fields style block.now) }
+{
+    push_begin(text, style.fields, b"block")?;
+    push_hex(text, block.address as u128)?;
+    push_size(text, style, 10, block.physical_size as u128)?;
+    push_logical(text, style, block.kind, block.logical_size)
+}
+
+/// Appends what a block is, and its master pointer.
+#[tactic(auto, unfolding(crate::specs::Text::kind_fields))]
+fn push_kind(
+    alloc: Global,
+    text: &mut Vec<u8>,
+    fields: Fields,
+    kind: Kind,
+) -> Result<(), AllocError>
+    ensures { OnOk result (text.new.items ≡ text.old.items ++ spec.kind_fields fields kind) }
+{
+    push_left_field(text, fields, 14, kind_text(kind))?;
+    push_master(alloc, text, fields, kind)
+}
+
+/// Appends what a block is marked as.
+#[tactic(auto, unfolding(crate::specs::Text::mark_fields))]
+fn push_marks(text: &mut Vec<u8>, fields: Fields, kind: Kind) -> Result<(), AllocError>
+    ensures { OnOk result (text.new.items ≡ text.old.items ++ spec.mark_fields fields kind) }
+{
+    push_left_field(text, fields, 6, marked(is_locked(kind), b"locked"))?;
+    push_left_field(text, fields, 9, marked(is_purgeable(kind), b"purgeable"))?;
+    push_left_field(text, fields, 0, marked(is_resource(kind), b"resource"))?;
+    put(text, b"\n")
+}
+
+/// Appends the line of a block.
+#[tactic(auto, unfolding(crate::specs::Text::line_text))]
+fn push_line(
+    alloc: Global,
+    text: &mut Vec<u8>,
+    style: Style,
+    block: &Block,
+) -> Result<(), AllocError>
+    ensures { OnOk result (text.new.items ≡ text.old.items ++ spec.line_text style block.now) }
+{
+    push_place(text, style, block)?;
+    push_kind(alloc, text, style.fields, block.kind)?;
+    push_marks(text, style.fields, block.kind)
+}
+
+/// Appends the lines of blocks.
+pub fn push_lines(
+    alloc: Global,
+    text: &mut Vec<u8>,
+    style: Style,
+    blocks: &[Block],
+) -> Result<(), AllocError>
+    ensures { OnOk result (text.new.items ≡ text.old.items ++ spec.lines_text style blocks.now) }
+{
+    for block in blocks {
+        push_line(alloc, text, style, block)?;
+    }
+    Ok(())
+}
+
+/// The titles of the columns.
+const TITLES: &[u8] =
+    b"address       size   logical what           master   locked purgeable resource\n";
+
+/// Appends the titles of the columns.
+pub fn push_head(text: &mut Vec<u8>, fields: Fields) -> Result<(), AllocError>
+    ensures { OnOk result (text.new.items ≡ text.old.items ++ spec.head_text fields) }
+{
+    push_titles(text, fields, TITLES)
+}

@@ -1,0 +1,65 @@
+//! The text of a zone.
+
+ghost use Rattle.std.specs.Prelude.{◌≡◌, ◌++◌, OnOk, IfOk};
+ghost use Rattle.real_zone.specs.Seen.{blocks_of};
+ghost use Rattle.real_zone_view.specs.Totals.{blocks_text, zone_text};
+
+use crate::style::Style;
+use crate::text::{push_head, push_lines};
+use crate::totals::push_totals;
+use real_zone::{Block, RealZone};
+use std::alloc::{AllocError, Global};
+
+/// Returns the blocks of a zone.
+fn gathered(alloc: Global, zone: &RealZone<'_>) -> Result<Vec<Block>, AllocError>
+    ensures { IfOk result (λ blocks. blocks.items ≡ blocks_of zone.now.form zone.now.address zone.now.bytes.now) }
+{
+    zone.blocks().collect(alloc)
+}
+
+/// Appends the text of blocks.
+#[tactic(auto, unfolding(crate::specs::Totals::blocks_text))]
+fn push_blocks(
+    alloc: Global,
+    text: &mut Vec<u8>,
+    style: Style,
+    blocks: &[Block],
+) -> Result<(), AllocError>
+    ensures { OnOk result (text.new.items ≡ text.old.items ++ blocks_text style blocks.now) }
+{
+    push_head(text, style.fields)?;
+    push_lines(alloc, text, style, blocks)?;
+    push_totals(text, style, blocks)
+}
+
+/// Appends the blocks of a zone: a line for each, in the order of their addresses, and then how many there are of each class and how
+/// many bytes these have.
+///
+/// # Errors
+///
+/// That the host is out of memory.
+pub fn push_zone(
+    alloc: Global,
+    text: &mut Vec<u8>,
+    style: Style,
+    zone: &RealZone<'_>,
+) -> Result<(), AllocError>
+    ensures { OnOk result (text.new.items
+        ≡ text.old.items ++ zone_text style zone.now.form zone.now.address zone.now.bytes.now) }
+{
+    let blocks = gathered(alloc, zone)?;
+    push_blocks(alloc, text, style, blocks.as_slice())
+}
+
+/// Returns the blocks of a zone as a text: what `push_zone` appends.
+///
+/// # Errors
+///
+/// That the host is out of memory.
+pub fn write_zone(alloc: Global, style: Style, zone: &RealZone<'_>) -> Result<Vec<u8>, AllocError>
+    ensures { IfOk result (λ text. text.items ≡ zone_text style zone.now.form zone.now.address zone.now.bytes.now) }
+{
+    let mut text = Vec::new(alloc);
+    push_zone(alloc, &mut text, style, zone)?;
+    Ok(text)
+}

@@ -1,0 +1,238 @@
+#!/usr/bin/env python3
+"""Lays heap zones as a real Macintosh does, and says what a reader is to print of them.
+
+usage: tools/real_zones.py [--seed N] [--count N] FOLDER
+       tools/real_zones.py --examples
+
+Writes FOLDER/stdin, a line for each dump: the form (24 or 32), the addresses of its first byte and of the zone, and its bytes, in
+hexadecimal; and
+FOLDER/stdout, what the program worked_zones is to print of them. Half of the zones are sound, and one rule is broken in each of the
+others. The layout is that of Inside Macintosh: Memory, chapter 2; nothing of it is taken from the reader.
+
+With --examples writes examples/memory.dump, the memory of a Macintosh with a system zone and an application zone, and
+examples/overrun.dump, in which a text was written past the end of a block of the application zone; and prints what macmem zone is to
+print of the two zones.
+"""
+import argparse
+import os
+import random
+
+FREE, NONRELOCATABLE, RELOCATABLE = 0, 1, 2
+NAMES = {FREE: "free", NONRELOCATABLE: "nonrelocatable", RELOCATABLE: "relocatable"}
+RECORD = 52
+
+
+class Block:
+    """A block that is to be laid: its kind, its logical size, and of a relocatable one the flags."""
+
+    def __init__(self, kind, logical, flags=0, masters=0):
+        self.kind, self.logical, self.flags, self.masters = kind, logical, flags, masters
+        self.place = self.size = self.correction = 0
+        self.master = None
+
+
+class Zone:
+    """A zone of 24 or 32 bits, whose sizes are multiples of `grain`."""
+
+    def __init__(self, form, grain, address, blocks):
+        self.form, self.grain, self.address, self.blocks = form, grain, address, blocks
+        self.header = 8 if form == 24 else 12
+        at = RECORD
+        for block in blocks:
+            size = max(12, self.header + block.logical)
+            size += -size % grain
+            block.place, block.size = at, size
+            block.correction = size - self.header - block.logical
+            at += size
+        self.length = at
+
+    def lay(self, draw):
+        """The bytes of the zone: record and blocks. Sets the master pointer of each relocatable block."""
+        self.bytes = bytearray(self.length)
+        slots = [b.place + self.header + 4 * i for b in self.blocks for i in range(b.masters)]
+        draw.shuffle(slots)
+        for block in self.blocks:
+            self.content(block, draw)
+            if block.kind == RELOCATABLE:
+                block.master = slots.pop()
+        for block in self.blocks:
+            self.head(block)
+            if block.kind == RELOCATABLE:
+                pointer = self.address + block.place + self.header
+                self.long(block.master, pointer | (block.flags << 24 if self.form == 24 else 0))
+        self.free_masters = slots
+        for slot, following in zip(slots, slots[1:] + [None]):
+            self.long(slot, 0 if following is None else self.address + following)
+        self.long(0, self.address + self.length)
+        self.long(8, self.address + slots[0] if slots else 0)
+        self.long(12, sum(b.size for b in self.blocks if b.kind == FREE))
+        self.bytes[20:22] = (64).to_bytes(2, "big")
+        return self.bytes
+
+    def content(self, block, draw):
+        start = block.place + self.header
+        for at in range(start, block.place + block.size):
+            self.bytes[at] = draw.choice((0, 0x55, 0xAA, 0xFF))
+
+    def head(self, block):
+        owner = {FREE: 0, NONRELOCATABLE: self.address, RELOCATABLE: block.master}[block.kind]
+        correction = 0 if block.kind == FREE else block.correction
+        if self.form == 24:
+            self.bytes[block.place] = block.kind << 6 | correction
+            self.bytes[block.place + 1:block.place + 4] = block.size.to_bytes(3, "big")
+            self.long(block.place + 4, owner)
+        else:
+            flags = block.flags if block.kind == RELOCATABLE else 0
+            self.bytes[block.place:block.place + 4] = bytes((block.kind << 6, flags, 0, correction))
+            self.long(block.place + 4, block.size)
+            self.long(block.place + 8, owner)
+
+    def long(self, at, number):
+        self.bytes[at:at + 4] = number.to_bytes(4, "big")
+
+    def owner_place(self, block):
+        return block.place + (4 if self.form == 24 else 8)
+
+
+def line_of(zone, block):
+    """The line that is printed of a block."""
+    logical = "-" if block.kind == FREE else str(block.logical)
+    master = "%08X" % (zone.address + block.master) if block.kind == RELOCATABLE else "-       "
+    flags = block.flags if block.kind == RELOCATABLE else 0
+    return "%08X%10d%10s %-15s%s %-7s%-10s%s\n" % (
+        zone.address + block.place, block.size, logical, NAMES[block.kind], master,
+        "locked" if flags & 0x80 else "-", "purgeable" if flags & 0x40 else "-", "resource" if flags & 0x20 else "-")
+
+
+def total_of(name, blocks):
+    return "%-15s%8d%11d\n" % (name, len(blocks), sum(b.size for b in blocks))
+
+
+def text_of(zone):
+    """What is printed of a sound zone."""
+    blocks = zone.blocks
+    kinds = {k: [b for b in blocks if b.kind == k] for k in NAMES}
+    moving = kinds[RELOCATABLE]
+    return (
+        "%08X: %d bits\n" % (zone.address, zone.form)
+        + "address       size   logical what           master   locked purgeable resource\n"
+        + "".join(line_of(zone, b) for b in blocks)
+        + "\nwhat             blocks      bytes\n"
+        + total_of("free", kinds[FREE]) + total_of("nonrelocatable", kinds[NONRELOCATABLE])
+        + total_of("relocatable", moving)
+        + total_of("locked", [b for b in moving if b.flags & 0x80])
+        + total_of("purgeable", [b for b in moving if b.flags & 0xC0 == 0x40])
+        + total_of("all", blocks))
+
+
+def random_zone(draw):
+    form = draw.choice((24, 32))
+    grain = draw.choice((2, 4)) if form == 24 else draw.choice((4, 16))
+    blocks = [Block(NONRELOCATABLE, 4 * 6, masters=6)]
+    moving = 0
+    for _ in range(draw.randint(3, 9)):
+        kind = draw.choice((FREE, NONRELOCATABLE, RELOCATABLE, RELOCATABLE))
+        if kind == RELOCATABLE and moving == 5:
+            kind = FREE
+        moving += kind == RELOCATABLE
+        blocks.append(Block(kind, draw.randint(4, 40), draw.choice((0, 0x80, 0x40, 0x60, 0x20, 0xE0))))
+    if not any(b.kind == RELOCATABLE for b in blocks):
+        blocks.append(Block(RELOCATABLE, 10, 0x80))
+    for block in blocks:
+        if block.kind == FREE:
+            block.flags = 0
+    return Zone(form, grain, 4 * draw.randint(0x400, 0x3F0000), blocks)
+
+
+def broken(zone, draw):
+    """Breaks one rule of a zone, and returns the line that is printed of it."""
+    moving = draw.choice([b for b in zone.blocks if b.kind == RELOCATABLE])
+    where = zone.address + moving.place
+    which = draw.randrange(8)
+    if which == 0:
+        zone.bytes[moving.place] |= 0xC0
+        return "%08X: block type is bad\n" % where
+    if which == 1:
+        zone.long(zone.owner_place(moving), 40)
+        return "%08X: relative handle is bad\n" % where
+    if which == 2:
+        zone.bytes[moving.master + 3] ^= 4
+        return "%08X: master pointer does not point at block\n" % where
+    if which == 3:
+        zone.long(zone.owner_place(zone.blocks[0]), zone.address + 4)
+        return "%08X: nonrelocatable block: pointer to zone is bad\n" % (zone.address + RECORD)
+    if which == 4:
+        zone.long(12, 1 + int.from_bytes(zone.bytes[12:16], "big"))
+        return "%08X: zcbFree does not agree with the free blocks\n" % zone.address
+    if which == 5:
+        zone.long(8, where + zone.header)
+        return "%08X: free master pointer list is bad\n" % (where + zone.header)
+    if which == 6:
+        zone.long(zone.free_masters[-1], zone.address + zone.free_masters[-1])
+        return "%08X: free master pointer list has no end\n" % (zone.address + zone.free_masters[-1])
+    size = zone.blocks[-1].place + (3 if zone.form == 24 else 7)
+    zone.bytes[size] ^= 1
+    return "%08X: block length is bad\n" % (zone.address + zone.blocks[-1].place)
+
+
+SYS_ZONE, APPL_ZONE = 0x2A6, 0x2AA
+TEXT = b"The quick brown fox jumps over the lazy dog."
+
+
+def example_zones():
+    """The two zones of the examples, and the block past whose end a text is written."""
+    system = Zone(24, 4, 0x400, [
+        Block(NONRELOCATABLE, 16, masters=4), Block(NONRELOCATABLE, 24), Block(RELOCATABLE, 30, 0xA0), Block(FREE, 44)])
+    short = Block(RELOCATABLE, 33, 0x40)
+    application = Zone(24, 4, 0x600, [
+        Block(NONRELOCATABLE, 24, masters=6), Block(RELOCATABLE, 100, 0x80), short, Block(RELOCATABLE, 20), Block(FREE, 56),
+        Block(RELOCATABLE, 40, 0x60)])
+    return system, application, short
+
+
+def write_examples():
+    draw = random.Random(1984)
+    system, application, short = example_zones()
+    dump = bytearray(0x800)
+    for zone in (system, application):
+        dump[zone.address:zone.address + zone.length] = zone.lay(draw)
+        print("%08X: %d bytes" % (zone.address, zone.length))
+        print(text_of(zone))
+    for at, zone in ((SYS_ZONE, system), (APPL_ZONE, application)):
+        dump[at:at + 4] = zone.address.to_bytes(4, "big")
+    folder = os.path.join(os.path.dirname(os.path.dirname(os.path.abspath(__file__))), "examples")
+    with open(os.path.join(folder, "memory.dump"), "wb") as file:
+        file.write(dump)
+    begin = application.address + short.place + application.header
+    dump[begin:begin + len(TEXT)] = TEXT
+    with open(os.path.join(folder, "overrun.dump"), "wb") as file:
+        file.write(dump)
+    print("overrun: a text of %d bytes from %08X on, in a block of %d bytes" % (len(TEXT), begin, short.logical))
+
+
+def main():
+    parser = argparse.ArgumentParser()
+    parser.add_argument("--seed", type=int, default=1984)
+    parser.add_argument("--count", type=int, default=40)
+    parser.add_argument("--examples", action="store_true")
+    parser.add_argument("folder", nargs="?")
+    words = parser.parse_args()
+    if words.examples:
+        return write_examples()
+    draw = random.Random(words.seed)
+    dumps, texts = [], []
+    for number in range(words.count):
+        zone = random_zone(draw)
+        zone.lay(draw)
+        texts.append(text_of(zone) if number % 2 == 0 else broken(zone, draw))
+        below, above = 4 * draw.randint(0, 8), draw.randint(0, 20)
+        dump = bytes(below) + bytes(zone.bytes) + bytes(above)
+        dumps.append("%d %X %X %s\n" % (zone.form, zone.address - below, zone.address, dump.hex().upper()))
+    with open(os.path.join(words.folder, "stdin"), "w") as file:
+        file.writelines(dumps)
+    with open(os.path.join(words.folder, "stdout"), "w") as file:
+        file.writelines(texts)
+
+
+if __name__ == "__main__":
+    main()
