@@ -3,15 +3,19 @@
 
 usage: tools/real_zones.py [--seed N] [--count N] FOLDER
        tools/real_zones.py --examples
+       tools/real_zones.py --large FILE
 
 Writes FOLDER/stdin, a line for each dump: the form (24 or 32), the addresses of its first byte and of the zone, and its bytes, in
 hexadecimal; and
 FOLDER/stdout, what the program worked_zones is to print of them. Half of the zones are sound, and one rule is broken in each of the
-others. The layout is that of Inside Macintosh: Memory, chapter 2; nothing of it is taken from the reader.
+others. The layout is that of Inside Macintosh: Memory, chapter 2, and of resource maps that of More Macintosh Toolbox, chapter 1;
+nothing of it is taken from the reader.
 
 With --examples writes examples/memory.dump, the memory of a Macintosh with a system zone and an application zone, and
 examples/overrun.dump, in which a text was written past the end of a block of the application zone; and prints what macmem zone is to
-print of the two zones.
+print of the two zones. The application zone has the map of a resource file.
+
+With --large writes FILE, a dump that is a zone of 16 MB with 100,000 blocks at the address 0x1000, in the form of 32 bits.
 """
 import argparse
 import os
@@ -29,6 +33,44 @@ class Block:
         self.kind, self.logical, self.flags, self.masters = kind, logical, flags, masters
         self.place = self.size = self.correction = 0
         self.master = None
+        self.map = None
+
+
+class Map:
+    """A resource map: its types in their order, each with its references, of which each is an ID and the block of its resource, None
+    where that is not loaded. A damaged one has a reference past its end."""
+
+    def __init__(self, types, is_damaged=False):
+        self.types, self.is_damaged = types, is_damaged
+
+    def size(self):
+        return 30 + sum(8 + 12 * len(references) for _, references in self.types) - (4 if self.is_damaged else 0)
+
+    def content(self, handle_of, high):
+        """The bytes of the map, where blocks have these handles, and their high byte is set so."""
+        size = 30 + sum(8 + 12 * len(references) for _, references in self.types)
+        fixed = bytes(range(1, 17)) + bytes((0, 0, 0, 0, 0, 2, 0, 0)) + word(28) + word(self.size())
+        entries, lists = b"", b""
+        for kind, references in self.types:
+            offset = 2 + 8 * len(self.types) + len(lists)
+            entries += kind + word(len(references) - 1) + word(offset)
+            for number, block in references:
+                handle = 0 if block is None else handle_of(block) | high << 24
+                lists += word(number) + b"\xFF\xFF" + bytes((0, 0, 1, 4)) + handle.to_bytes(4, "big")
+        content = fixed + word(len(self.types) - 1) + entries + lists
+        assert len(content) == size
+        return content[:self.size()]
+
+
+def word(number):
+    return (number & 0xFFFF).to_bytes(2, "big")
+
+
+def kind_text(kind):
+    """A resource type as it is printed."""
+    if all(32 <= byte <= 126 and byte != 39 for byte in kind):
+        return "'%s'" % kind.decode("ascii")
+    return "$" + kind.hex().upper()
 
 
 class Zone:
@@ -60,6 +102,12 @@ class Zone:
             if block.kind == RELOCATABLE:
                 pointer = self.address + block.place + self.header
                 self.long(block.master, pointer | (block.flags << 24 if self.form == 24 else 0))
+        for block in self.blocks:
+            if block.map is not None:
+                high = draw.choice((0, 0x20, 0xE0)) if self.form == 24 else 0
+                content = block.map.content(lambda b: self.address + b.master, high)
+                start = block.place + self.header
+                self.bytes[start:start + len(content)] = content
         self.free_masters = slots
         for slot, following in zip(slots, slots[1:] + [None]):
             self.long(slot, 0 if following is None else self.address + following)
@@ -68,6 +116,18 @@ class Zone:
         self.long(12, sum(b.size for b in self.blocks if b.kind == FREE))
         self.bytes[20:22] = (64).to_bytes(2, "big")
         return self.bytes
+
+    def resource_of(self, block):
+        """What is printed of a block as a resource."""
+        if block.kind != RELOCATABLE or not block.flags & 0x20:
+            return "-"
+        for other in self.blocks:
+            if other.kind == RELOCATABLE and other.map is not None and not other.map.is_damaged:
+                for kind, references in other.map.types:
+                    for number, named in references:
+                        if named is block:
+                            return "%s %d" % (kind_text(kind), number)
+        return "resource"
 
     def content(self, block, draw):
         start = block.place + self.header
@@ -101,7 +161,7 @@ def line_of(zone, block):
     flags = block.flags if block.kind == RELOCATABLE else 0
     return "%08X%10d%10s %-15s%s %-7s%-10s%s\n" % (
         zone.address + block.place, block.size, logical, NAMES[block.kind], master,
-        "locked" if flags & 0x80 else "-", "purgeable" if flags & 0x40 else "-", "resource" if flags & 0x20 else "-")
+        "locked" if flags & 0x80 else "-", "purgeable" if flags & 0x40 else "-", zone.resource_of(block))
 
 
 def total_of(name, blocks):
@@ -125,10 +185,25 @@ def text_of(zone):
         + total_of("all", blocks))
 
 
+KINDS = (b"ICN#", b"CODE", b"snd ", b"\0\0\0\1", b"it's", b"a<b&", b"caf\x8E")
+
+
+def random_map(draw, blocks):
+    """A map with resources of some blocks, and with others that are not loaded."""
+    left = [b for b in blocks if b.kind == RELOCATABLE and draw.randrange(3)]
+    types = []
+    for kind in draw.sample(KINDS, draw.randint(0, 3)):
+        references = []
+        for _ in range(draw.randint(1, 3)):
+            references.append((draw.randint(-32768, 32767), left.pop() if left and draw.randrange(3) else None))
+        types.append((kind, references))
+    return Map(types, bool(types) and draw.randrange(5) == 0)
+
+
 def random_zone(draw):
     form = draw.choice((24, 32))
     grain = draw.choice((2, 4)) if form == 24 else draw.choice((4, 16))
-    blocks = [Block(NONRELOCATABLE, 4 * 6, masters=6)]
+    blocks = [Block(NONRELOCATABLE, 4 * 10, masters=10)]
     moving = 0
     for _ in range(draw.randint(3, 9)):
         kind = draw.choice((FREE, NONRELOCATABLE, RELOCATABLE, RELOCATABLE))
@@ -141,6 +216,14 @@ def random_zone(draw):
     for block in blocks:
         if block.kind == FREE:
             block.flags = 0
+    named = list(blocks)
+    for _ in range(draw.randint(0, 3)):
+        laid = random_map(draw, named)
+        block = Block(draw.choice((RELOCATABLE, RELOCATABLE, RELOCATABLE, NONRELOCATABLE)), laid.size() + draw.randint(0, 5), 0)
+        if laid.is_damaged:
+            block.logical = laid.size()
+        block.map = laid
+        blocks.insert(draw.randint(1, len(blocks)), block)
     return Zone(form, grain, 4 * draw.randint(0x400, 0x3F0000), blocks)
 
 
@@ -184,9 +267,12 @@ def example_zones():
     system = Zone(24, 4, 0x400, [
         Block(NONRELOCATABLE, 16, masters=4), Block(NONRELOCATABLE, 24), Block(RELOCATABLE, 30, 0xA0), Block(FREE, 44)])
     short = Block(RELOCATABLE, 33, 0x40)
+    icons = Block(RELOCATABLE, 40, 0x60)
+    laid = Map([(b"ICN#", [(128, icons), (129, None)])])
+    file = Block(RELOCATABLE, laid.size())
+    file.map = laid
     application = Zone(24, 4, 0x600, [
-        Block(NONRELOCATABLE, 24, masters=6), Block(RELOCATABLE, 100, 0x80), short, Block(RELOCATABLE, 20), Block(FREE, 56),
-        Block(RELOCATABLE, 40, 0x60)])
+        Block(NONRELOCATABLE, 24, masters=6), Block(RELOCATABLE, 100, 0x80), short, Block(RELOCATABLE, 20), Block(FREE, 56), icons, file])
     return system, application, short
 
 
@@ -210,15 +296,29 @@ def write_examples():
     print("overrun: a text of %d bytes from %08X on, in a block of %d bytes" % (len(TEXT), begin, short.logical))
 
 
+def write_large(path):
+    """A zone of many blocks, of which two in five are free or nonrelocatable."""
+    draw = random.Random(1984)
+    kinds = (RELOCATABLE, FREE, RELOCATABLE, NONRELOCATABLE, RELOCATABLE)
+    blocks = [Block(NONRELOCATABLE, 4 * 60_000, masters=60_000)]
+    blocks += [Block(kinds[i % 5], draw.randint(100, 200), draw.choice((0, 0x40, 0x80)) if kinds[i % 5] == RELOCATABLE else 0)
+               for i in range(99_999)]
+    with open(path, "wb") as file:
+        file.write(Zone(32, 16, 0x1000, blocks).lay(draw))
+
+
 def main():
     parser = argparse.ArgumentParser()
     parser.add_argument("--seed", type=int, default=1984)
-    parser.add_argument("--count", type=int, default=40)
+    parser.add_argument("--count", type=int, default=60)
     parser.add_argument("--examples", action="store_true")
+    parser.add_argument("--large")
     parser.add_argument("folder", nargs="?")
     words = parser.parse_args()
     if words.examples:
         return write_examples()
+    if words.large:
+        return write_large(words.large)
     draw = random.Random(words.seed)
     dumps, texts = [], []
     for number in range(words.count):

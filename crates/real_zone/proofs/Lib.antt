@@ -9,4 +9,6 @@ pub mod Giving
 pub mod AllFound
 pub mod Fourths
 pub mod Judged
+pub mod Naming
 pub mod Worked
+pub mod WorkedMaps

@@ -32,6 +32,9 @@ passes f bytes at h =
       whole = leb-true (at + size_at f bytes at) (length bytes) a.1;
     }
 
+pub room : (f : Form) (bytes : List ℕ) (at : ℕ) → is_passable f bytes at ≡ true → at + 12 ≤ length bytes
+room f bytes at h = (passes f bytes at h).room
+
 -- where the next block stands
 abbrev pub next : Form → List ℕ → ℕ → ℕ
 next f bytes at = at + size_at f bytes at

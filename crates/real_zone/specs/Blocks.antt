@@ -1,5 +1,5 @@
 use Rattle.std.specs.Prelude.{ℕ, zero, suc, ◌+◌, ◌-◌, ◌%◌, ◌==◌, Bool, true, false, ◌&&◌, nat_le, if◌then◌else◌}
-use Rattle.std.specs.Prelude.{List, [], ◌∷◌, length, Option, Some, None, sum_by}
+use Rattle.std.specs.Prelude.{List, [], ◌∷◌, length, filter, Option, Some, None, sum_by}
 use Rattle.std.specs.List.{list_all}
 use Rattle.real_zone.specs.Form.{alignment}
 use Rattle.real_zone.specs.Header.{tag_at, size_at}
@@ -44,7 +44,15 @@ block_places form bytes = places_from form bytes 52
 abbrev pub is_tiled : Form → List ℕ → Bool
 is_tiled form bytes = list_all (is_passable form bytes) (block_places form bytes)
 
--- A kind is that of a free block, and that of a nonrelocatable one.
+-- Where the passable blocks stand from a place on, and those of a zone: all of them in a zone that the blocks tile, and else those up to
+-- the one that ends the walk.
+abbrev pub passed_from : Form → List ℕ → ℕ → List ℕ
+passed_from form bytes at = filter (is_passable form bytes) (places_from form bytes at)
+
+abbrev pub passed_places : Form → List ℕ → List ℕ
+passed_places form bytes = passed_from form bytes 52
+
+-- A kind is that of a free block, of a nonrelocatable one, and of a relocatable one.
 abbrev pub is_free : Option Tag → Bool
 is_free None = false
 is_free (Some tag.Free) = true
@@ -56,6 +64,12 @@ is_nonrelocatable None = false
 is_nonrelocatable (Some tag.Free) = false
 is_nonrelocatable (Some tag.Nonrelocatable) = true
 is_nonrelocatable (Some tag.Relocatable) = false
+
+abbrev pub is_relocatable : Option Tag → Bool
+is_relocatable None = false
+is_relocatable (Some tag.Free) = false
+is_relocatable (Some tag.Nonrelocatable) = false
+is_relocatable (Some tag.Relocatable) = true
 
 -- The size of a block if it is free, and the free bytes of a zone.
 unfoldable pub free_size : Form → List ℕ → ℕ → ℕ

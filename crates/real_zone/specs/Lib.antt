@@ -11,3 +11,4 @@ pub mod Seen
 pub mod Left
 pub mod Finding
 pub mod Judging
+pub mod Resources

@@ -1,4 +1,4 @@
-use Rattle.std.specs.Prelude.{ℕ, ◌+◌, ◌-◌, ◌==◌, Bool, not, bit_and, List, map, Option, Some, None}
+use Rattle.std.specs.Prelude.{ℕ, ◌+◌, ◌-◌, ◌==◌, Bool, not, bit_and, List, map, take, drop, Option, Some, None}
 use Rattle.real_zone.specs.Numbers.{number}
 use Rattle.real_zone.specs.Form.{header_size}
 use Rattle.real_zone.specs.Header.{tag_at, size_at, correction_at, owner_at}
@@ -43,6 +43,10 @@ kind_of (Some tag.Relocatable) form zone bytes at = kind.Relocatable (master_of 
 -- The logical size: the physical size less the header and the size correction.
 unfoldable pub logical_size : Form → List ℕ → ℕ → ℕ
 logical_size form bytes at = size_at form bytes at - (header_size form + correction_at form bytes at)
+
+-- The content of a block: the bytes between its header and its size correction.
+unfoldable pub content_at : Form → List ℕ → ℕ → List ℕ
+content_at form bytes at = take (logical_size form bytes at) (drop (at + header_size form) bytes)
 
 -- The block at a place.
 unfoldable pub block_at : Form → ℕ → List ℕ → ℕ → Block

@@ -1,6 +1,7 @@
 //! A block of a zone as it is seen.
 
 ghost use Rattle.std.specs.Prelude.{◌≡◌, ◌+◌, ◌≤◌, ◌<◌, ◌^◌, length, IsTrue};
+ghost use Rattle.real_zone.specs.Blocks.{is_passable};
 ghost use Rattle.real_zone.specs.Header.{owner_at, tag_at};
 ghost use Rattle.real_zone.specs.Rules.{keeps_rules};
 ghost use Rattle.real_zone.specs.Seen as spec;
@@ -92,6 +93,16 @@ fn logical_size_at(form: Form, bytes: &[u8], at: usize) -> usize
     ensures small { result < 2 ^ 32 }
 {
     physical_size(form, bytes, at).saturating_sub(form.header() + size_correction(form, bytes, at))
+}
+
+/// Returns the content of the block at an offset.
+#[tactic(auto, using(crate::proofs::Walking::room, crate::proofs::Naming::content_inside), unfolding(crate::specs::Seen::content_at))]
+pub fn content<'b>(form: Form, bytes: &'b [u8], at: usize) -> &'b [u8]
+    requires { IsTrue (is_passable form bytes.now at) }
+    ensures { result.now ≡ spec.content_at form bytes.now at }
+{
+    let start = at + form.header();
+    &bytes[start..start + logical_size_at(form, bytes, at)]
 }
 
 /// Returns the block at an offset.

@@ -12,6 +12,8 @@ mod judging;
 mod masters;
 mod numbers;
 mod reading;
+mod resource_map;
+mod resources;
 mod rules;
 mod walk;
 mod zone;
@@ -24,6 +26,8 @@ pub use finding::{FoundZone, ZoneGlobal, find_zones, form_of, global_of, zone_si
 pub use form::Form;
 pub use judging::judged_form;
 pub use reading::read_zone;
+pub use resource_map::Resource;
+pub use resources::resources_of;
 pub use walk::Blocks;
 pub use zone::RealZone;
 pub use zone_record::ZoneRecord;

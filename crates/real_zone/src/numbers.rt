@@ -1,6 +1,7 @@
 //! Numbers in the bytes of a dump, the highest byte first.
 
 ghost use Rattle.std.specs.Prelude.{◌≡◌, ◌+◌, ◌≤◌, ◌<◌, ◌^◌, length};
+ghost use Rattle.std.specs.Int.{w16, cast_signed};
 ghost use Rattle.real_zone.specs.Numbers.{number};
 
 use byteorder::{BigEndian, ByteOrder};
@@ -32,6 +33,15 @@ pub fn word(bytes: &[u8], at: usize) -> u16
     ensures { result ≡ number 2 at bytes.now }
 {
     BigEndian::read_u16(&bytes[at..])
+}
+
+/// Returns the signed number of two bytes at an offset.
+#[tactic(auto, unfolding(crate::specs::Numbers::number))]
+pub fn signed_word(bytes: &[u8], at: usize) -> i16
+    requires { at + 2 ≤ length bytes.now }
+    ensures { result ≡ cast_signed w16 (number 2 at bytes.now) }
+{
+    BigEndian::read_i16(&bytes[at..])
 }
 
 /// Returns the byte at an offset.

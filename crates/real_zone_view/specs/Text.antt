@@ -1,10 +1,13 @@
-use Rattle.std.specs.Prelude.{ℕ, Bool, true, false, List, [], ◌++◌, codes}
-use Rattle.std.specs.List.{flat_map}
+use Rattle.std.specs.Prelude.{ℕ, ◌==◌, Bool, true, false, ◌&&◌, not, nat_le, List, [], ◌++◌, codes, Option, Some, None, if◌then◌else◌}
+use Rattle.std.specs.Fmt.{signed_decimal}
+use Rattle.std.specs.List.{flat_map, list_all}
+use Rattle.byteorder.specs.Endian.{big_bytes}
 use Rattle.real_zone.specs.declared.block.Block.{Block}
 use Rattle.real_zone.specs.declared.block.Kind.{Kind}
 use Rattle.real_zone.specs.declared.block.Kind.TheVariants as kind
 use Rattle.real_zone.specs.declared.form.Form.{Form}
 use Rattle.real_zone.specs.declared.form.Form.TheVariants as form
+use Rattle.real_zone.specs.declared.resource_map.Resource.{Resource}
 use Rattle.real_zone_view.specs.Fields.{hex_text, left_field, right_field, size_field}
 use Rattle.real_zone_view.specs.declared.style.Fields.{Fields}
 use Rattle.real_zone_view.specs.declared.style.Fields.TheVariants as fields
@@ -41,15 +44,32 @@ is_purgeable kind.Free = false
 is_purgeable kind.Nonrelocatable = false
 is_purgeable (kind.Relocatable master) = master.is_purgeable
 
-abbrev pub is_resource : Kind → Bool
-is_resource kind.Free = false
-is_resource kind.Nonrelocatable = false
-is_resource (kind.Relocatable master) = master.is_resource
-
 -- A word where something holds, else `-`.
 abbrev pub marked : Bool → List ℕ → List ℕ
 marked true word = word
 marked false word = codes "-"
+
+-- The type of a resource: its four characters between quotes where each is a printable one of ASCII and none is a quote, else `$` and
+-- hexadecimal digits.
+abbrev pub is_plain : ℕ → Bool
+is_plain byte = nat_le 32 byte && nat_le byte 126 && not (byte == 39)
+
+abbrev pub is_plain_type : ℕ → Bool
+is_plain_type kind = list_all is_plain (big_bytes 4 kind)
+
+unfoldable pub type_text : ℕ → List ℕ
+type_text kind = if is_plain_type kind then codes "'" ++ big_bytes 4 kind ++ codes "'" else codes "$" ++ hex_text kind
+
+-- A resource: its type and its ID; where no resource map in the zone names it, a word.
+unfoldable pub resource_text : Option Resource → List ℕ
+resource_text None = codes "resource"
+resource_text (Some resource) = type_text resource.kind ++ codes " " ++ signed_decimal resource.id
+
+-- The resource whose block this is, by the resources of handles; else `-`.
+unfoldable pub owner_text : (ℕ → Option Resource) → Kind → List ℕ
+owner_text named kind.Free = codes "-"
+owner_text named kind.Nonrelocatable = codes "-"
+owner_text named (kind.Relocatable master) = if master.is_resource then resource_text (named master.address) else codes "-"
 
 -- What a line begins with where tabs stand between its fields.
 abbrev pub begin : Fields → List ℕ → List ℕ
@@ -66,19 +86,20 @@ place_fields style block =
 unfoldable pub kind_fields : Fields → Kind → List ℕ
 kind_fields f k = left_field f 14 (kind_text k) ++ master_field f k
 
--- What it is marked as.
-unfoldable pub mark_fields : Fields → Kind → List ℕ
-mark_fields f k =
+-- What it is marked as, and its resource.
+unfoldable pub mark_fields : Fields → (ℕ → Option Resource) → Kind → List ℕ
+mark_fields f named k =
     left_field f 6 (marked (is_locked k) (codes "locked")) ++ left_field f 9 (marked (is_purgeable k) (codes "purgeable"))
-    ++ left_field f 0 (marked (is_resource k) (codes "resource")) ++ codes "\n"
+    ++ left_field f 0 (owner_text named k) ++ codes "\n"
 
--- The line of a block.
-unfoldable pub line_text : Style → Block → List ℕ
-line_text style block = place_fields style block ++ kind_fields style.fields block.kind ++ mark_fields style.fields block.kind
+-- The line of a block, where handles have these resources.
+unfoldable pub line_text : Style → (ℕ → Option Resource) → Block → List ℕ
+line_text style named block =
+    place_fields style block ++ kind_fields style.fields block.kind ++ mark_fields style.fields named block.kind
 
 -- The lines of blocks.
-abbrev pub lines_text : Style → List Block → List ℕ
-lines_text style blocks = flat_map (line_text style) blocks
+abbrev pub lines_text : Style → (ℕ → Option Resource) → List Block → List ℕ
+lines_text style named blocks = flat_map (line_text style named) blocks
 
 -- A line with titles, and another line without a word, which stand in columns alone.
 abbrev pub titled : Fields → List ℕ → List ℕ

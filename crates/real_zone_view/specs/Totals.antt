@@ -1,6 +1,8 @@
-use Rattle.std.specs.Prelude.{ℕ, ◌+◌, Bool, true, false, ◌&&◌, not, List, [], ◌∷◌, ◌++◌, codes, decimal, if◌then◌else◌}
+use Rattle.std.specs.Prelude.{ℕ, ◌+◌, Bool, true, false, ◌&&◌, not, List, [], ◌∷◌, ◌++◌, codes, decimal, Option, if◌then◌else◌}
 use Rattle.real_zone.specs.declared.form.Form.{Form}
 use Rattle.real_zone.specs.Seen.{blocks_of}
+use Rattle.real_zone.specs.Resources.{resource_of}
+use Rattle.real_zone.specs.declared.resource_map.Resource.{Resource}
 use Rattle.real_zone.specs.declared.block.Block.{Block}
 use Rattle.real_zone.specs.declared.block.Kind.{Kind}
 use Rattle.real_zone.specs.declared.block.Kind.TheVariants as kind
@@ -78,10 +80,10 @@ totals_head f = titled f (codes "\nwhat             blocks      bytes\n")
 unfoldable pub totals_text : Style → List Block → List ℕ
 totals_text style blocks = totals_head style.fields ++ kinds_text style blocks ++ marks_text style blocks
 
--- The text of a zone's blocks: a line for each, and the totals.
-unfoldable pub blocks_text : Style → List Block → List ℕ
-blocks_text style blocks = head_text style.fields ++ lines_text style blocks ++ totals_text style blocks
+-- The text of a zone's blocks, where handles have these resources: a line for each, and the totals.
+unfoldable pub blocks_text : Style → (ℕ → Option Resource) → List Block → List ℕ
+blocks_text style named blocks = head_text style.fields ++ lines_text style named blocks ++ totals_text style blocks
 
--- The text of a zone.
+-- The text of a zone, whose resources are those that the resource maps in it name.
 abbrev pub zone_text : Style → Form → ℕ → List ℕ → List ℕ
-zone_text style form zone bytes = blocks_text style (blocks_of form zone bytes)
+zone_text style form zone bytes = blocks_text style (resource_of form bytes) (blocks_of form zone bytes)

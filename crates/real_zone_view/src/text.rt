@@ -1,12 +1,19 @@
 //! The lines of blocks as they are written.
 
 ghost use Rattle.std.specs.Prelude.{◌≡◌, ◌++◌, OnOk};
+ghost use Rattle.std.specs.BTreeMap.{get};
+ghost use Rattle.std.specs.Fmt.{signed_decimal};
+ghost use Rattle.std.specs.List.{list_all};
+ghost use Rattle.std.specs.Ordering.{nat_cmp};
 ghost use Rattle.real_zone_view.specs.Text as spec;
 
 use crate::fields::{push_hex, push_left_field, push_right_field, push_size, put};
 use crate::style::{Fields, Style};
-use real_zone::{Block, Form, Kind};
+use byteorder::{BigEndian, ByteOrder};
+use itoa::Buffer;
+use real_zone::{Block, Form, Kind, Resource};
 use std::alloc::{AllocError, Global};
+use std::collections::BTreeMap;
 
 /// Returns what a block is.
 fn kind_text(kind: Kind) -> &'static [u8]
@@ -35,16 +42,6 @@ pub fn is_purgeable(kind: Kind) -> bool
 {
     match kind {
         Kind::Relocatable(master) => master.is_purgeable,
-        Kind::Free | Kind::Nonrelocatable => false,
-    }
-}
-
-/// Returns whether a block is a resource.
-fn is_resource(kind: Kind) -> bool
-    ensures { result ≡ spec.is_resource kind }
-{
-    match kind {
-        Kind::Relocatable(master) => master.is_resource,
         Kind::Free | Kind::Nonrelocatable => false,
     }
 }
@@ -145,14 +142,95 @@ fn push_kind(
     push_master(alloc, text, fields, kind)
 }
 
-/// Appends what a block is marked as.
-#[tactic(auto, unfolding(crate::specs::Text::mark_fields))]
-fn push_marks(text: &mut Vec<u8>, fields: Fields, kind: Kind) -> Result<(), AllocError>
-    ensures { OnOk result (text.new.items ≡ text.old.items ++ spec.mark_fields fields kind) }
+/// Returns whether each byte of a type is a printable character of ASCII and none is a quote.
+fn is_plain(bytes: &[u8]) -> bool
+    ensures { result ≡ list_all spec.is_plain bytes.now }
 {
+    for byte in bytes {
+        let plain = 32 <= *byte && *byte <= 126 && *byte != 39;
+        if !plain {
+            return false;
+        }
+    }
+    true
+}
+
+/// Appends the type of a resource.
+#[tactic(auto, unfolding(crate::specs::Text::type_text))]
+fn push_type(text: &mut Vec<u8>, kind: u32) -> Result<(), AllocError>
+    ensures { OnOk result (text.new.items ≡ text.old.items ++ spec.type_text kind) }
+{
+    let mut bytes = [0; 4];
+    BigEndian::write_u32(&mut bytes, kind);
+    if is_plain(&bytes) {
+        put(text, b"'")?;
+        put(text, &bytes)?;
+        put(text, b"'")
+    } else {
+        put(text, b"$")?;
+        push_hex(text, kind as u128)
+    }
+}
+
+/// Appends an ID.
+fn push_id(text: &mut Vec<u8>, resource: Resource) -> Result<(), AllocError>
+    ensures { OnOk result (text.new.items ≡ text.old.items ++ signed_decimal resource.id) }
+{
+    put(text, Buffer::new().format(resource.id).as_bytes())
+}
+
+/// Appends a resource.
+#[tactic(auto, unfolding(crate::specs::Text::resource_text))]
+fn push_resource(text: &mut Vec<u8>, resource: Option<Resource>) -> Result<(), AllocError>
+    ensures { OnOk result (text.new.items ≡ text.old.items ++ spec.resource_text resource) }
+{
+    match resource {
+        Some(resource) => {
+            push_type(text, resource.kind)?;
+            put(text, b" ")?;
+            push_id(text, resource)
+        }
+        None => put(text, b"resource"),
+    }
+}
+
+/// Appends the resource whose block this is.
+#[tactic(auto, unfolding(crate::specs::Text::owner_text))]
+fn push_owner(
+    text: &mut Vec<u8>,
+    resources: &BTreeMap<u32, Resource>,
+    kind: Kind,
+) -> Result<(), AllocError>
+    ensures { OnOk result (text.new.items ≡ text.old.items ++ spec.owner_text (get nat_cmp resources.now) kind) }
+{
+    match kind {
+        Kind::Free | Kind::Nonrelocatable => put(text, b"-"),
+        Kind::Relocatable(master) => {
+            if master.is_resource {
+                push_resource(text, resources.get(&master.address).copied())
+            } else {
+                put(text, b"-")
+            }
+        }
+    }
+}
+
+/// Appends what a block is marked as, and its resource.
+#[tactic(auto, unfolding(crate::specs::Text::mark_fields))]
+fn push_marks(
+    alloc: Global,
+    text: &mut Vec<u8>,
+    fields: Fields,
+    resources: &BTreeMap<u32, Resource>,
+    kind: Kind,
+) -> Result<(), AllocError>
+    ensures { OnOk result (text.new.items ≡ text.old.items ++ spec.mark_fields fields (get nat_cmp resources.now) kind) }
+{
+    let mut owner = Vec::new(alloc);
+    push_owner(&mut owner, resources, kind)?;
     push_left_field(text, fields, 6, marked(is_locked(kind), b"locked"))?;
     push_left_field(text, fields, 9, marked(is_purgeable(kind), b"purgeable"))?;
-    push_left_field(text, fields, 0, marked(is_resource(kind), b"resource"))?;
+    push_left_field(text, fields, 0, owner.as_slice())?;
     put(text, b"\n")
 }
 
@@ -162,13 +240,14 @@ fn push_line(
     alloc: Global,
     text: &mut Vec<u8>,
     style: Style,
+    resources: &BTreeMap<u32, Resource>,
     block: &Block,
 ) -> Result<(), AllocError>
-    ensures { OnOk result (text.new.items ≡ text.old.items ++ spec.line_text style block.now) }
+    ensures { OnOk result (text.new.items ≡ text.old.items ++ spec.line_text style (get nat_cmp resources.now) block.now) }
 {
     push_place(text, style, block)?;
     push_kind(alloc, text, style.fields, block.kind)?;
-    push_marks(text, style.fields, block.kind)
+    push_marks(alloc, text, style.fields, resources, block.kind)
 }
 
 /// Appends the lines of blocks.
@@ -176,12 +255,14 @@ pub fn push_lines(
     alloc: Global,
     text: &mut Vec<u8>,
     style: Style,
+    resources: &BTreeMap<u32, Resource>,
     blocks: &[Block],
 ) -> Result<(), AllocError>
-    ensures { OnOk result (text.new.items ≡ text.old.items ++ spec.lines_text style blocks.now) }
+    ensures { OnOk result (text.new.items
+        ≡ text.old.items ++ spec.lines_text style (get nat_cmp resources.now) blocks.now) }
 {
     for block in blocks {
-        push_line(alloc, text, style, block)?;
+        push_line(alloc, text, style, resources, block)?;
     }
     Ok(())
 }

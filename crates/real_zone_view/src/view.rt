@@ -1,14 +1,17 @@
 //! The text of a zone.
 
 ghost use Rattle.std.specs.Prelude.{◌≡◌, ◌++◌, OnOk, IfOk};
+ghost use Rattle.std.specs.BTreeMap.{get};
+ghost use Rattle.std.specs.Ordering.{nat_cmp};
 ghost use Rattle.real_zone.specs.Seen.{blocks_of};
 ghost use Rattle.real_zone_view.specs.Totals.{blocks_text, zone_text};
 
 use crate::style::Style;
 use crate::text::{push_head, push_lines};
 use crate::totals::push_totals;
-use real_zone::{Block, RealZone};
+use real_zone::{Block, RealZone, Resource, resources_of};
 use std::alloc::{AllocError, Global};
+use std::collections::BTreeMap;
 
 /// Returns the blocks of a zone.
 fn gathered(alloc: Global, zone: &RealZone<'_>) -> Result<Vec<Block>, AllocError>
@@ -17,18 +20,19 @@ fn gathered(alloc: Global, zone: &RealZone<'_>) -> Result<Vec<Block>, AllocError
     zone.blocks().collect(alloc)
 }
 
-/// Appends the text of blocks.
+/// Appends the text of blocks, where handles have these resources.
 #[tactic(auto, unfolding(crate::specs::Totals::blocks_text))]
 fn push_blocks(
     alloc: Global,
     text: &mut Vec<u8>,
     style: Style,
+    resources: &BTreeMap<u32, Resource>,
     blocks: &[Block],
 ) -> Result<(), AllocError>
-    ensures { OnOk result (text.new.items ≡ text.old.items ++ blocks_text style blocks.now) }
+    ensures { OnOk result (text.new.items ≡ text.old.items ++ blocks_text style (get nat_cmp resources.now) blocks.now) }
 {
     push_head(text, style.fields)?;
-    push_lines(alloc, text, style, blocks)?;
+    push_lines(alloc, text, style, resources, blocks)?;
     push_totals(text, style, blocks)
 }
 
@@ -38,6 +42,7 @@ fn push_blocks(
 /// # Errors
 ///
 /// That the host is out of memory.
+#[tactic(auto, using(crate::proofs::Named::text_of_zone))]
 pub fn push_zone(
     alloc: Global,
     text: &mut Vec<u8>,
@@ -47,8 +52,10 @@ pub fn push_zone(
     ensures { OnOk result (text.new.items
         ≡ text.old.items ++ zone_text style zone.now.form zone.now.address zone.now.bytes.now) }
 {
+    let resources = resources_of(alloc, zone)?;
     let blocks = gathered(alloc, zone)?;
-    push_blocks(alloc, text, style, blocks.as_slice())
+    push_blocks(alloc, text, style, &resources, blocks.as_slice())?;
+    Ok(())
 }
 
 /// Returns the blocks of a zone as a text: what `push_zone` appends.

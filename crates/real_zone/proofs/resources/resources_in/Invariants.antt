@@ -1,0 +1,20 @@
+use Rattle.std.proofs.Common.{◌≡◌, ℕ, ◌-◌, ◌≤◌, length}
+use Rattle.std.specs.BTreeMap.{get}
+use Rattle.std.specs.Option.{option_or}
+use Rattle.std.specs.Ordering.{nat_cmp}
+use Rattle.real_zone.specs.Blocks.{passed_from}
+use Rattle.real_zone.specs.Lists.{first_found}
+use Rattle.real_zone.specs.Resources.{named_in_block, resource_of}
+use Rattle.real_zone.proofs.resources.resources_in.Given as goal
+
+-- what was entered, before the blocks that are left, is what all blocks name
+abbrev pub invariant-loop-at : goal.invariant-loop-at
+invariant-loop-at l = record {
+  inside : l.at ≤ length l.bytes;
+  entered : (handle : ℕ) → option_or (get nat_cmp l.resources handle)
+      (first_found (named_in_block l.form l.bytes handle) (passed_from l.form l.bytes l.at))
+      ≡ resource_of l.form l.bytes handle;
+}
+
+abbrev pub decreases-loop-at : goal.decreases-loop-at
+decreases-loop-at l = length l.bytes - l.at
